@@ -1,0 +1,16 @@
+//! Graph tables, small list types and the plain nets of dataflow graphs, on which every other crate stands.
+#![tactic(auto)]
+
+mod memory;
+mod quantity;
+mod role;
+mod rows;
+mod tables;
+mod text;
+
+pub use memory::NoMemory;
+pub use quantity::Quantity;
+pub use role::Role;
+pub use rows::Rows;
+pub use tables::{ActorRow, ChannelRow, GraphFile, Kind};
+pub use text::Text;

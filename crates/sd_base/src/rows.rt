@@ -1,0 +1,71 @@
+ghost use Rattle.std.specs.Prelude.{◌≡◌, ◌==◌, ◌<◌, [], ◌∷◌, ◌++◌, length, OnErr, OnOk};
+
+use std::alloc::{AllocFailed, Global};
+use std::marker::Model;
+
+/// A list in a table; contracts see its elements in order.
+#[derive(Debug, Drop)]
+pub struct Rows<T> {
+    items: Vec<T>,
+}
+
+impl<T> Model for Rows<T> {
+    ghost use Rattle.std.specs.Prelude.{List};
+    ghost use Rattle.std.specs.Coded.{coded_list};
+
+    ghost Value = { List T };
+
+    ghost coded = { coded_list T.code };
+
+    ghost view = { λ r. r.items.items };
+}
+
+impl<T> Rows<T> {
+    pub fn new(alloc: Global) -> Rows<T>
+        ensures { result ≡ [] }
+    {
+        Rows {
+            items: Vec::new(alloc),
+        }
+    }
+
+    /// Takes the elements as they are, without memory.
+    pub fn from_vec(items: Vec<T>) -> Rows<T>
+        ensures { result ≡ items.items }
+    {
+        Rows { items }
+    }
+
+    /// Gives the elements back, without memory.
+    pub fn into_vec(self) -> Vec<T>
+        ensures { result.items ≡ self }
+    {
+        let Rows { items } = self;
+        items
+    }
+
+    pub fn push(&mut self, item: T) -> Result<(), AllocFailed<T>>
+        ensures ok { OnOk result (self.new ≡ self.old ++ item ∷ []) }
+        ensures err { OnErr result (self.new ≡ self.old) }
+    {
+        self.items.push(item)
+    }
+
+    pub fn len(&self) -> usize
+        ensures { result ≡ length self.now }
+    {
+        self.items.len()
+    }
+
+    pub fn is_empty(&self) -> bool
+        ensures { result ≡ (length self.now == 0) }
+    {
+        self.items.is_empty()
+    }
+
+    pub fn as_slice(&self) -> &[T]
+        ensures { result.now ≡ self.now }
+    {
+        self.items.as_slice()
+    }
+}

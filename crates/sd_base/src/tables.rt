@@ -1,0 +1,41 @@
+use crate::{Rows, Text};
+
+/// Whether rates and times are single numbers or lists by phase.
+#[derive(Clone, Copy, Debug, PartialEq, Eq)]
+pub enum Kind {
+    /// Synchronous dataflow: each actor has one phase.
+    Sdf,
+    /// Cyclo-static dataflow: firing k of an actor with f phases uses phase `k mod f`.
+    Csdf,
+}
+
+/// A dataflow graph as a graph file spells it. Actors and channels are numbered from 0 in file order.
+#[derive(Debug, Drop)]
+pub struct GraphFile {
+    pub kind: Kind,
+    pub actors: Rows<ActorRow>,
+    pub channels: Rows<ChannelRow>,
+}
+
+/// An actor: its number of phases and, by phase, its execution times in time units. There are no
+/// times where the file gives none and none were needed.
+#[derive(Debug, Drop)]
+pub struct ActorRow {
+    pub name: Text,
+    pub phases: u32,
+    pub times: Rows<u64>,
+}
+
+/// A channel from the actor `source` to the actor `target`. A firing of the source puts `made` tokens
+/// of its phase on it at its end, and a firing of the target takes `taken` tokens of its phase from it
+/// at its start. It starts with `tokens` tokens; `size` is the memory that one token needs.
+#[derive(Debug, Drop)]
+pub struct ChannelRow {
+    pub name: Text,
+    pub source: u32,
+    pub target: u32,
+    pub made: Rows<u64>,
+    pub taken: Rows<u64>,
+    pub tokens: u64,
+    pub size: u64,
+}
