@@ -1,0 +1,19 @@
+//! The outside as the analyser sees it: a shelf of files and sinks of bytes, in memory and real.
+#![tactic(auto)]
+
+mod memory_shelf;
+mod memory_sink;
+mod real;
+mod sending;
+mod shelf;
+mod sink;
+
+pub use memory_shelf::MemoryShelf;
+pub use memory_sink::MemorySink;
+pub use real::{RealShelf, RealSink};
+pub use sending::send_all;
+pub use shelf::{Shelf, TakeError, know_shelf};
+pub use sink::{Failed, Sink, know_sink};
+
+#[cfg(test)]
+mod tests;

@@ -1,0 +1,76 @@
+ghost use Rattle.std.specs.Prelude.{◌≡◌, ℕ, ◌⊎◌, ◌<◌, ◌≤◌, ◌^◌, Bool, true, List, length, Option, None, Some, Result, Ok, Err, IfOk, IfSome, IsOk, IsErrOf};
+ghost use Rattle.sd_io.specs.Outside.{Rose};
+
+use sd_base::Rows;
+use std::alloc::{AllocError, AllocFailed, Global};
+use thiserror::Error;
+
+/// Why a file wasn't taken.
+#[derive(Clone, Copy, Debug, PartialEq, Eq, Error)]
+pub enum TakeError {
+    /// There is no such file, or reading it failed.
+    #[error("the file can't be read")]
+    Failed,
+    /// The file has more bytes than the limit.
+    #[error("the file is too long")]
+    TooLong,
+    /// There was no memory for its bytes.
+    #[error("out of memory")]
+    NoMemory,
+}
+
+impl From<AllocError> for TakeError {
+    ghost use Rattle.sd_io.specs.declared.shelf.TakeError.TheVariants.{NoMemory};
+
+    ghost from_gives = { λ _ e. e ≡ NoMemory };
+
+    fn from(_error: AllocError) -> TakeError {
+        TakeError::NoMemory
+    }
+}
+
+impl<T: Drop> From<AllocFailed<T>> for TakeError {
+    ghost use Rattle.sd_io.specs.declared.shelf.TakeError.TheVariants.{NoMemory};
+
+    ghost from_gives = { λ _ e. e ≡ NoMemory };
+
+    fn from(_error: AllocFailed<T>) -> TakeError {
+        TakeError::NoMemory
+    }
+}
+
+/// Files by name.
+pub trait Shelf {
+    /// Whether it tells its files.
+    ghost tells: { Self → Bool };
+
+    /// The bytes of the file of a name, where the shelf tells its files and there is one.
+    ghost file: { Self → List ℕ → Option (List ℕ) };
+
+    /// How many faults it counted; a count that stands at its end stays there.
+    ghost faults: { Self → ℕ };
+
+    /// Reads the file `name` whole, if it has at most `limit` bytes.
+    fn take(&mut self, alloc: Global, name: &str, limit: usize) -> Result<Rows<u8>, TakeError>
+        ensures ok { IfOk result (λ b. (tells self.old ≡ true → file self.old name.now ≡ Some b) × (length b ≤ limit)) }
+        ensures failed { IsErrOf result TakeError.Failed →
+            Rose (faults self.old) (faults self.new) ⊎ ((tells self.old ≡ true) × (file self.old name.now ≡ None)) }
+        ensures missing { tells self.old ≡ true → file self.old name.now ≡ None →
+            IsErrOf result TakeError.Failed ⊎ IsErrOf result TakeError.NoMemory }
+        ensures too_long { IsErrOf result TakeError.TooLong → tells self.old ≡ true →
+            IfSome (file self.old name.now) (λ b. limit < length b) }
+        ensures only_too_long { (b : List ℕ) → tells self.old ≡ true → file self.old name.now ≡ Some b → limit < length b →
+            Rose (faults self.old) (faults self.new) ⊎ (IsErrOf result TakeError.TooLong ⊎ IsErrOf result TakeError.NoMemory) }
+        ensures whole { (b : List ℕ) → tells self.old ≡ true → file self.old name.now ≡ Some b → length b ≤ limit →
+            Rose (faults self.old) (faults self.new) ⊎ (IsOk result ⊎ IsErrOf result TakeError.NoMemory) }
+        ensures stays { (n : List ℕ) → file self.new n ≡ file self.old n }
+        ensures telling { tells self.new ≡ tells self.old }
+        ensures grows { faults self.old ≤ faults self.new };
+
+    ghost counted: { (s : Self) → faults s < 2 ^ 64 };
+}
+
+/// The law of a shelf's count, for callers under a bound.
+pub fn know_shelf<S: Shelf>(shelf: &S)
+    ensures { S.faults shelf.now < 2 ^ 64 }
+{}
