@@ -2,6 +2,7 @@
 #![tactic(auto)]
 
 mod memory;
+mod numbers;
 mod quantity;
 mod role;
 mod rows;
@@ -9,6 +10,7 @@ mod tables;
 mod text;
 
 pub use memory::NoMemory;
+pub use numbers::{Fraction, gcd, lcm_within};
 pub use quantity::Quantity;
 pub use role::Role;
 pub use rows::Rows;

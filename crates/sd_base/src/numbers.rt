@@ -1,0 +1,137 @@
+ghost use Rattle.std.specs.Prelude.{◌≡◌, ◌==◌, ◌*◌, ◌≤◌, MatchOption};
+ghost use Rattle.std.specs.Ordering.{nat_cmp};
+ghost use Rattle.std.specs.Int.{IsGcd};
+ghost use Rattle.sd_base.specs.Numbers.{IsLcm, IsAboveLimit};
+
+use std::cmp::Ordering;
+
+/// The greatest common divisor; `gcd(0, 0)` is 0. Euclid's algorithm: steps logarithmic in the lesser number.
+pub fn gcd(a: u64, b: u64) -> u64
+    ensures { IsGcd a b result }
+{
+    let mut high = a;
+    let mut low = b;
+    'euclid: while low > 0 {
+        let rest = high % low;
+        high = low;
+        low = rest;
+    }
+    high
+}
+
+/// The least common multiple, where it is at most `limit`. Cost: that of one `gcd`.
+pub fn lcm_within(a: u64, b: u64, limit: u64) -> Option<u64>
+    requires first { 1 ≤ a }
+    requires second { 1 ≤ b }
+    ensures { MatchOption result (IsAboveLimit a b limit) (λ m. IsLcm a b m × (m ≤ limit)) }
+{
+    let part = a / gcd(a, b);
+    if part > limit / b {
+        return None;
+    }
+    Some(part * b)
+}
+
+/// A fraction in lowest terms; zero is 0/1.
+#[derive(Clone, Copy, Debug, PartialEq, Eq)]
+pub struct Fraction {
+    pub num: u64,
+    pub den: u64,
+    pub ghost positive: { 1 ≤ den },
+    pub ghost lowest: { IsGcd num den 1 },
+}
+
+impl Fraction {
+    /// The fraction n/d in lowest terms. Cost: that of one `gcd`.
+    pub fn new(n: u64, d: u64) -> Fraction
+        requires { 1 ≤ d }
+        ensures { result.num * d ≡ n * result.den }
+    {
+        let common = gcd(n, d);
+        Fraction {
+            num: n / common,
+            den: d / common,
+        }
+    }
+
+    pub fn num(&self) -> u64
+        ensures { result ≡ self.now.num }
+    {
+        self.num
+    }
+
+    pub fn den(&self) -> u64
+        ensures { result ≡ self.now.den }
+    {
+        self.den
+    }
+
+    /// The order of the two numbers; the products are below 2^128.
+    pub fn compare(&self, other: &Fraction) -> Ordering
+        ensures { result ≡ nat_cmp (self.now.num * other.now.den) (other.now.num * self.now.den) }
+    {
+        let left = u128::from(self.num) * u128::from(other.den);
+        let right = u128::from(other.num) * u128::from(self.den);
+        left.cmp(&right)
+    }
+
+    pub fn is_zero(&self) -> bool
+        ensures { result ≡ (self.now.num == 0) }
+    {
+        self.num == 0
+    }
+}
+
+#[cfg(test)]
+mod tests {
+    use super::*;
+
+    #[test]
+    fn greatest_divisors(rt: HostRuntime) {
+        for (a, b, g) in [
+            (12u64, 18u64, 6u64),
+            (7, 5, 1),
+            (0, 9, 9),
+            (9, 0, 9),
+            (0, 0, 0),
+        ] {
+            assert_eq!(rt; gcd(a, b), g, "of {a} and {b}");
+        }
+    }
+
+    #[test]
+    fn least_multiples_within_a_limit(rt: HostRuntime) {
+        assert_eq!(rt; lcm_within(4, 6, 12), Some(12));
+        assert_eq!(rt; lcm_within(4, 6, 11), None);
+        assert_eq!(rt; lcm_within(1, 1, 0), None);
+        assert_eq!(rt; lcm_within(u64::MAX, u64::MAX, u64::MAX), Some(u64::MAX));
+    }
+
+    #[test]
+    fn fractions_are_in_lowest_terms(rt: HostRuntime) {
+        let half = Fraction::new(3, 6);
+        assert_eq!(rt; half.num(), 1);
+        assert_eq!(rt; half.den(), 2);
+        let zero = Fraction::new(0, 6);
+        assert_eq!(rt; zero.num(), 0);
+        assert_eq!(rt; zero.den(), 1);
+        assert!(rt; zero.is_zero());
+        assert!(rt; !half.is_zero());
+        assert_eq!(rt; half, Fraction::new(5, 10));
+    }
+
+    #[test]
+    fn fractions_compare_as_numbers(rt: HostRuntime) {
+        let most = Fraction::new(u64::MAX, u64::MAX - 1);
+        let next = Fraction::new(u64::MAX - 1, u64::MAX - 2);
+        assert_eq!(rt; most.compare(&next), Ordering::Less);
+        assert_eq!(rt;
+            Fraction::new(2, 3).compare(&Fraction::new(3, 5)),
+            Ordering::Greater
+        );
+        assert_eq!(rt;
+            Fraction::new(2, 4).compare(&Fraction::new(1, 2)),
+            Ordering::Equal
+        );
+    }
+}
