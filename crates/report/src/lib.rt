@@ -1,0 +1,12 @@
+//! The lines that the analyser prints: answers, and one line for each refusal.
+#![tactic(auto)]
+
+mod answers;
+mod names;
+mod refusal;
+mod refusals;
+
+pub use answers::repetition_text;
+pub use names::escaped;
+pub use refusal::Refusal;
+pub use refusals::{MEMORY_LINE, refusal_text};
