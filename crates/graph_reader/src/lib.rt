@@ -41,3 +41,6 @@ fn is_same(a: &[u8], b: &[u8]) -> bool
 {
     a == b
 }
+
+#[cfg(test)]
+mod tests;
