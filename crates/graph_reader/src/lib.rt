@@ -1,0 +1,46 @@
+//! The strict reader of a graph file: it reads the written form of a plain chain, and nothing else.
+#![tactic(auto)]
+
+ghost use Rattle.std.specs.Prelude.{◌≡◌, ◌↔◌, true, IfOk, IsTrue};
+ghost use Rattle.sd_base.specs.Tables.{KeepsRules, IsTimed};
+ghost use Rattle.sd_base.specs.declared.tables.GraphFile.{GraphFile};
+ghost use Rattle.graph_reader.specs.Chain.{is_plain_chain};
+ghost use Rattle.graph_reader.specs.Written.{written};
+
+mod chain;
+mod error;
+mod plain;
+mod quotes;
+mod writing;
+
+use std::alloc::Global;
+
+use sd_base::GraphFile;
+
+pub use error::ReadError;
+
+/// Reads the table of a plain chain from its written form. Cost: linear in the bytes, and quadratic in
+/// the names, of which there are at most 128 of actors and 127 of channels.
+pub fn read_graph(alloc: Global, bytes: &[u8]) -> Result<GraphFile, ReadError>
+    ensures written { IfOk result (λ t. (is_plain_chain t ≡ true) × (bytes.now ≡ written t)) }
+{
+    let values = quotes::quoted_values(alloc, bytes)?;
+    let table = chain::chain_in(alloc, values.as_slice())?;
+    if !plain::is_plain_chain(&table) {
+        return Err(ReadError::Layout);
+    }
+    let text = writing::written(alloc, &table)?;
+    if !is_same(text.as_bytes(), bytes) {
+        return Err(ReadError::Layout);
+    }
+    Ok(table)
+}
+
+fn is_same(a: &[u8], b: &[u8]) -> bool
+    ensures { IsTrue result ↔ (a.now ≡ b.now) }
+{
+    a == b
+}
+
+#[cfg(test)]
+mod tests;
