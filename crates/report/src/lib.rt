@@ -9,4 +9,4 @@ mod refusals;
 pub use answers::repetition_text;
 pub use names::escaped;
 pub use refusal::Refusal;
-pub use refusals::{MEMORY_LINE, refusal_text};
+pub use refusals::{memory_text, refusal_text};

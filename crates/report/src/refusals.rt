@@ -1,6 +1,6 @@
 ghost use Rattle.std.specs.Prelude.{◌≡◌, IfOk, codes};
 ghost use Rattle.std.specs.String.{string_bytes};
-ghost use Rattle.report.specs.Lines.{above_reason, apart_reason, inconsistent_reason, line_of, ratio_reason, reason_of, scenario_prefix};
+ghost use Rattle.report.specs.Lines.{above_reason, apart_reason, inconsistent_reason, line_of, memory_line, ratio_reason, reason_of, scenario_prefix};
 
 use crate::Refusal;
 use crate::answers::bytes_of;
@@ -8,7 +8,12 @@ use sd_base::{NoMemory, Rows, Text};
 use std::alloc::{AllocError, Global};
 
 /// The line for want of memory, which takes none.
-pub const MEMORY_LINE: &[u8] = b"sdf3analysis: memory\n";
+#[tactic(auto, unfolding(crate::specs::Lines::memory_line))]
+pub fn memory_text() -> &'static [u8]
+    ensures { result.now ≡ memory_line }
+{
+    b"sdf3analysis: memory\n"
+}
 
 /// The line of a refusal.
 #[tactic(auto, unfolding(crate::specs::Lines::line_of))]

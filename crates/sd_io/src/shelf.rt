@@ -1,4 +1,4 @@
-ghost use Rattle.std.specs.Prelude.{◌≡◌, ℕ, ◌⊎◌, ◌<◌, ◌≤◌, ◌^◌, Bool, true, List, length, Option, None, Some, Result, Ok, Err, IfOk, IfSome, IsOk, IsErrOf};
+ghost use Rattle.std.specs.Prelude.{◌≡◌, ℕ, ◌⊎◌, ◌<◌, ◌≤◌, ◌^◌, Bool, true, List, length, Option, None, Some, Result, Ok, Err, IfOk, IsOk, IsErrOf, IsSomeAnd};
 ghost use Rattle.sd_io.specs.Outside.{Rose};
 
 use sd_base::Rows;
@@ -58,7 +58,7 @@ pub trait Shelf {
         ensures missing { tells self.old ≡ true → file self.old name.now ≡ None →
             IsErrOf result TakeError.Failed ⊎ IsErrOf result TakeError.NoMemory }
         ensures too_long { IsErrOf result TakeError.TooLong → tells self.old ≡ true →
-            IfSome (file self.old name.now) (λ b. limit < length b) }
+            IsSomeAnd (file self.old name.now) (λ b. limit < length b) }
         ensures only_too_long { (b : List ℕ) → tells self.old ≡ true → file self.old name.now ≡ Some b → limit < length b →
             Rose (faults self.old) (faults self.new) ⊎ (IsErrOf result TakeError.TooLong ⊎ IsErrOf result TakeError.NoMemory) }
         ensures whole { (b : List ℕ) → tells self.old ≡ true → file self.old name.now ≡ Some b → length b ≤ limit →

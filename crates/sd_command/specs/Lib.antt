@@ -1,0 +1,5 @@
+pub mod Words
+pub mod Statuses
+pub mod Runs
+pub mod Stops
+pub mod Sendings

@@ -1,0 +1,26 @@
+-- The exit status of each ending, and the ending of each refusal.
+use Rattle.std.specs.Prelude.{ℕ}
+use Rattle.report.specs.declared.refusal.Refusal.{Refusal}
+use Rattle.report.specs.declared.refusal.Refusal.TheVariants.{UsageWords, Layout, Above, Ratio, Inconsistent, Apart, ShelfGraph}
+use Rattle.sd_command.specs.declared.status.Status.{Status}
+use Rattle.sd_command.specs.declared.status.Status.TheVariants as statuses
+
+abbrev pub code_of : Status → ℕ
+code_of statuses.Done = 0
+code_of statuses.Usage = 2
+code_of statuses.Form = 3
+code_of statuses.Limit = 4
+code_of statuses.Inconsistent = 5
+code_of statuses.Connection = 6
+code_of statuses.ShelfFault = 10
+code_of statuses.SinkFault = 11
+code_of statuses.Memory = 12
+
+abbrev pub status_of : Refusal → Status
+status_of UsageWords = statuses.Usage
+status_of Layout = statuses.Form
+status_of (Above scenario quantity number) = statuses.Limit
+status_of (Ratio scenario number path) = statuses.Limit
+status_of (Inconsistent scenario walk num den) = statuses.Inconsistent
+status_of (Apart scenario a b) = statuses.Connection
+status_of ShelfGraph = statuses.ShelfFault
