@@ -1,0 +1,4 @@
+pub mod WalkLemmas
+pub mod Order
+pub mod Shortest
+pub mod Searching
