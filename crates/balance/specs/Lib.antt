@@ -1,2 +1,3 @@
 pub mod Walks
+pub mod Repetition
 pub mod Search
