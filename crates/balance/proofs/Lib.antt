@@ -5,3 +5,5 @@ pub mod Searching
 pub mod Fractions
 pub mod TableLemmas
 pub mod Outcomes
+pub mod Cycles
+pub mod Rounds

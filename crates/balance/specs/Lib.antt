@@ -1,3 +1,4 @@
 pub mod Walks
 pub mod Repetition
 pub mod Search
+pub mod Ratios

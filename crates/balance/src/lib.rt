@@ -1,6 +1,7 @@
 //! Balance of dataflow graphs: repetition vectors, unbalanced walks and connection.
 #![tactic(auto)]
 
+mod ratio;
 mod refusal;
 mod search;
 mod walk;
