@@ -1,0 +1,9 @@
+pub mod WalkLemmas
+pub mod Order
+pub mod Shortest
+pub mod Searching
+pub mod Fractions
+pub mod TableLemmas
+pub mod Outcomes
+pub mod Cycles
+pub mod Rounds

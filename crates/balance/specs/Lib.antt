@@ -1,0 +1,4 @@
+pub mod Walks
+pub mod Repetition
+pub mod Search
+pub mod Ratios

@@ -1,0 +1,46 @@
+-- Inside the crate: the ratios of the ways, by actor. No public clause cites this.
+use Rattle.std.specs.Prelude.{◌≡◌, ℕ, ◌*◌, ◌/◌, ◌<◌, ◌≤◌, Some, List, length, slice_get, slice_index, slice_index_or}
+use Rattle.std.specs.Int.{◌∣◌}
+use Rattle.balance.specs.declared.walk.WalkStep.{WalkStep}
+use Rattle.balance.specs.declared.walk.Link.{Link}
+use Rattle.balance.specs.declared.search.Found.{Found}
+use Rattle.balance.specs.declared.ratio.Ratio.{Ratio}
+use Rattle.balance.specs.Walks.{IsWay, IsLowest, walk_num, walk_den}
+
+abbrev pub one : Ratio
+one = record { num = 1; den = 1 }
+
+abbrev pub ratio_at : List Ratio → ℕ → Ratio
+ratio_at rs a = slice_index_or rs a one
+
+-- r is the ratio of a walk, within the limit
+abbrev pub IsRatio : List Link → List WalkStep → Ratio → Type 0
+IsRatio ls p r = IsLowest r.num r.den (walk_num ls p) (walk_den ls p) × (r.num ≤ 100000) × (r.den ≤ 100000)
+
+-- the actors of the entries before place k have the ratios of their ways
+abbrev pub AreRated : List Link → List Found → List Ratio → ℕ → Type 0
+AreRated ls found rs k = (j : ℕ) (x : Found) → j < k → slice_get found j ≡ Some x → IsRatio ls x.way (ratio_at rs x.actor)
+
+-- each actor has the ratio of its way
+pub record AreRatios (ls : List Link) (actors : ℕ) (rs : List Ratio) : Type 0 where
+  pub size : length rs ≡ actors
+  pub each : (b : ℕ) → b < actors → (p : List WalkStep) × IsWay ls b p × IsRatio ls p (ratio_at rs b)
+
+-- a channel keeps the ratios: that of its source, times made to taken, is that of its target
+abbrev pub Keeps : List Ratio → Link → Type 0
+Keeps rs l = (ratio_at rs l.source).num * l.made * (ratio_at rs l.target).den ≡ (ratio_at rs l.target).num * l.taken * (ratio_at rs l.source).den
+
+-- each denominator divides n
+abbrev pub DivideAll : List Ratio → ℕ → Type 0
+DivideAll rs n = (k : ℕ) (r : Ratio) → slice_get rs k ≡ Some r → r.den ∣ n
+
+-- the least common multiple of the denominators
+pub record IsCommon (rs : List Ratio) (m : ℕ) : Type 0 where
+  pub some : 0 < m
+  pub all : DivideAll rs m
+  pub least : (n : ℕ) → DivideAll rs n → m ∣ n
+
+-- the firings of a round, for the common multiple m
+pub record IsRoundBy (phases : List ℕ) (rs : List Ratio) (m : ℕ) (v : List ℕ) : Type 0 where
+  pub size : length v ≡ length phases
+  pub each : (b : ℕ) → b < length phases → slice_index v b ≡ (m / (ratio_at rs b).den) * (ratio_at rs b).num * slice_index phases b

@@ -1,0 +1,124 @@
+-- The repetition vector of a graph, or why there is none within the limits.
+use Rattle.std.specs.Prelude.{◌≡◌, ◌≢◌, ℕ, ◌+◌, ◌*◌, ◌<◌, ◌≤◌, ◌⊎◌, true, Result, Ok, Err, Some, List, [], ◌∷◌, ◌++◌, sum, length, slice_get}
+use Rattle.sd_base.specs.declared.tables.GraphFile.{GraphFile}
+use Rattle.sd_base.specs.Tables.{KeepsRules}
+use Rattle.sd_base.specs.Net.{IsRepetitionOf}
+use Rattle.balance.specs.declared.walk.WalkStep.{WalkStep}
+use Rattle.balance.specs.declared.walk.Link.{Link}
+use Rattle.balance.specs.declared.refusal.BalanceError.{BalanceError}
+use Rattle.balance.specs.declared.refusal.BalanceError.TheVariants.{Apart, RatioTooLarge, Unbalanced, RoundTooLarge, NoMemory}
+use Rattle.balance.specs.Walks.{links_of, IsWalk, IsWay, Precedes, walk_num, walk_den, IsLowest, turned}
+
+-- a walk leads from actor 0 to each actor
+abbrev pub IsConnected : GraphFile → Type 0
+IsConnected g = (b : ℕ) → b < length g.actors → (ss : List WalkStep) × IsWalk (links_of g) 0 ss b
+
+-- no part of a walk's ratio in lowest terms is above 100,000
+abbrev pub IsWithinLimit : List Link → List WalkStep → Type 0
+IsWithinLimit ls p = (n : ℕ) × (d : ℕ) × IsLowest n d (walk_num ls p) (walk_den ls p) × (n ≤ 100000) × (d ≤ 100000)
+
+-- some part is
+abbrev pub IsAboveLimit : List Link → List WalkStep → Type 0
+IsAboveLimit ls p = (n : ℕ) × (d : ℕ) × IsLowest n d (walk_num ls p) (walk_den ls p) × ((100000 < n) ⊎ (100000 < d))
+
+-- the ratios of the ways are within the limit
+abbrev pub WaysAreWithinLimit : List Link → Type 0
+WaysAreWithinLimit ls = (b : ℕ) (p : List WalkStep) → IsWay ls b p → IsWithinLimit ls p
+
+-- no walk is unbalanced: each closed one has the ratio 1
+abbrev pub IsConsistent : List Link → Type 0
+IsConsistent ls = (a : ℕ) (ss : List WalkStep) → IsWalk ls a ss a → walk_num ls ss ≡ walk_den ls ss
+
+-- what repetition vectors are looked for in: a connected graph whose ways are within the limit and that has no unbalanced walk
+pub record IsBalanced (g : GraphFile) : Type 0 where
+  pub connected : IsConnected g
+  pub within : WaysAreWithinLimit (links_of g)
+  pub consistent : IsConsistent (links_of g)
+
+-- v is the repetition vector, and a round has at most 100,000 firings
+pub record IsRound (g : GraphFile) (v : List ℕ) : Type 0 where
+  pub balanced : IsBalanced g
+  pub least : IsRepetitionOf g v
+  pub fits : sum v ≤ 100000
+
+-- a round has more than 100,000 firings
+pub record IsRoundTooLarge (g : GraphFile) : Type 0 where
+  pub balanced : IsBalanced g
+  pub round : List ℕ
+  pub least : IsRepetitionOf g round
+  pub above : 100000 < sum round
+
+-- no walk leads from actor 0 to b, the least such actor
+pub record IsApart (g : GraphFile) (a b : ℕ) : Type 0 where
+  pub first : a ≡ 0
+  pub actor : b < length g.actors
+  pub apart : (ss : List WalkStep) → IsWalk (links_of g) 0 ss b → ⊥
+  pub least : (c : ℕ) → c < b → (ss : List WalkStep) × IsWalk (links_of g) 0 ss c
+
+-- p is a way with a ratio above the limit, and precedes each other such way
+pub record IsFirstAboveLimit (ls : List Link) (p : List WalkStep) : Type 0 where
+  pub end : ℕ
+  pub way : IsWay ls end p
+  pub above : IsAboveLimit ls p
+  pub first : (b : ℕ) (q : List WalkStep) → IsWay ls b q → IsAboveLimit ls q → Precedes p q
+
+pub record IsRatioTooLarge (g : GraphFile) (p : List WalkStep) : Type 0 where
+  pub connected : IsConnected g
+  pub way : IsFirstAboveLimit (links_of g) p
+
+-- the ratio of the way to the source, times made to taken, is the ratio of the way to the target
+abbrev pub IsKept : List Link → ℕ → Type 0
+IsKept ls c = (l : Link) (p q : List WalkStep) → slice_get ls c ≡ Some l → IsWay ls l.source p → IsWay ls l.target q →
+    walk_num ls p * l.made * walk_den ls q ≡ walk_num ls q * l.taken * walk_den ls p
+
+-- two lists don't begin with the same step
+abbrev pub IsParted : List WalkStep → List WalkStep → Type 0
+IsParted [] ys = Unit {0}
+IsParted (x ∷ xs) [] = Unit {0}
+IsParted (x ∷ xs) (y ∷ ys) = x ≢ y
+
+-- the path from a to b in the tree of ways: back along the way to a, as far as the ways have no step in common, then on
+-- along the way to b
+pub record IsTreePath (ls : List Link) (a b : ℕ) (path : List WalkStep) : Type 0 where
+  pub common : List WalkStep
+  pub back : List WalkStep
+  pub on : List WalkStep
+  pub from : IsWay ls a (common ++ back)
+  pub to : IsWay ls b (common ++ on)
+  pub parted : IsParted back on
+  pub path_is : path ≡ turned back ++ on
+
+-- the first channel in file order that the ways' ratios don't keep, forward, then the tree's path from its target to its
+-- source: a closed walk whose ratio in lowest terms is num/den, and not 1
+pub record IsUnbalanced (g : GraphFile) (walk : List WalkStep) (num den : ℕ) : Type 0 where
+  pub connected : IsConnected g
+  pub within : WaysAreWithinLimit (links_of g)
+  pub channel : ℕ
+  pub link : Link
+  pub over : slice_get (links_of g) channel ≡ Some link
+  pub fails : IsKept (links_of g) channel → ⊥
+  pub first : (c : ℕ) → c < channel → IsKept (links_of g) c
+  pub path : List WalkStep
+  pub tree : IsTreePath (links_of g) link.target link.source path
+  pub walk_is : walk ≡ record { channel = channel; forward = true } ∷ path
+  pub closed : IsWalk (links_of g) link.source walk link.source
+  pub ratio : IsLowest num den (walk_num (links_of g) walk) (walk_den (links_of g) walk)
+  pub not_one : num ≢ den
+
+-- when each refusal comes; want of memory is free
+abbrev pub IsRefusal : GraphFile → BalanceError → Type 0
+IsRefusal g (Apart a b) = IsApart g a b
+IsRefusal g (RatioTooLarge path) = IsRatioTooLarge g path
+IsRefusal g (Unbalanced walk num den) = IsUnbalanced g walk num den
+IsRefusal g RoundTooLarge = IsRoundTooLarge g
+IsRefusal g NoMemory = Unit {0}
+
+-- an answer that fits the graph
+abbrev pub IsAnswer : GraphFile → Result (List ℕ) BalanceError → Type 0
+IsAnswer g (Ok v) = IsRound g v
+IsAnswer g (Err e) = IsRefusal g e
+
+-- at most one answer but want of memory fits a graph
+abbrev pub HasOneAnswer : Type 0
+HasOneAnswer = (g : GraphFile) → KeepsRules g → (x y : Result (List ℕ) BalanceError) → IsAnswer g x → IsAnswer g y →
+    x ≢ Err NoMemory → y ≢ Err NoMemory → x ≡ y

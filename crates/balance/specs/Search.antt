@@ -1,0 +1,94 @@
+-- Inside the crate: what the search for the ways has found so far. No public clause cites this.
+use Rattle.std.specs.Prelude.{◌≡◌, ℕ, ◌+◌, ◌*◌, ◌<◌, ◌≤◌, ◌⊎◌, Bool, true, false, Some, List, [], ◌∷◌, ◌++◌, length, slice_get, slice_index_or, slice_set}
+use Rattle.balance.specs.declared.walk.WalkStep.{WalkStep}
+use Rattle.balance.specs.declared.walk.Link.{Link}
+use Rattle.balance.specs.declared.search.Found.{Found}
+use Rattle.balance.specs.Walks.{IsWalk, IsWay, Precedes, step_to, step_from}
+
+-- the channel numbers of a walk as digits from 1 in base m, after those of acc
+abbrev pub key_from : ℕ → ℕ → List WalkStep → ℕ
+key_from m acc [] = acc
+key_from m acc (s ∷ ss) = key_from m (acc * m + s.channel + 1) ss
+
+-- how many marks are set
+abbrev pub trues : List Bool → ℕ
+trues [] = 0
+trues (true ∷ bs) = 1 + trues bs
+trues (false ∷ bs) = trues bs
+
+-- whether an actor is marked
+abbrev pub mark_at : List Bool → ℕ → Bool
+mark_at bs v = slice_index_or bs v false
+
+-- each channel's ends are actors
+pub record HasEnds (actors : ℕ) (ls : List Link) : Type 0 where
+  pub source : (k : ℕ) (l : Link) → slice_get ls k ≡ Some l → l.source < actors
+  pub target : (k : ℕ) (l : Link) → slice_get ls k ≡ Some l → l.target < actors
+
+-- an entry's way is an earlier entry's and one step
+pub record IsGrown (ls : List Link) (found : List Found) (j : ℕ) (x : Found) : Type 0 where
+  pub place : ℕ
+  pub entry : Found
+  pub step : WalkStep
+  pub link : Link
+  pub before : place < j
+  pub at : slice_get found place ≡ Some entry
+  pub over : slice_get ls step.channel ≡ Some link
+  pub from : entry.actor ≡ step_from link step.forward
+  pub to : x.actor ≡ step_to link step.forward
+  pub way : x.way ≡ entry.way ++ step ∷ []
+
+-- a search that has looked at all channels of the places before i, and at those below c of place i
+pub record IsSearch (ls : List Link) (m : ℕ) (found : List Found) (seen : ℕ → Bool) (i c : ℕ) : Type 0 where
+  pub marked : (v : ℕ) → seen v ≡ true → (j : ℕ) × (x : Found) × (slice_get found j ≡ Some x) × (x.actor ≡ v)
+  pub listed : (j : ℕ) (x : Found) → slice_get found j ≡ Some x → seen x.actor ≡ true
+  pub walks : (j : ℕ) (x : Found) → slice_get found j ≡ Some x → IsWalk ls 0 x.way x.actor
+  pub least : (j : ℕ) (x : Found) (ss : List WalkStep) → slice_get found j ≡ Some x → IsWalk ls 0 ss x.actor →
+      key_from m 0 x.way ≤ key_from m 0 ss
+  pub rising : (j k : ℕ) (x y : Found) → slice_get found j ≡ Some x → slice_get found k ≡ Some y → j < k →
+      key_from m 0 x.way < key_from m 0 y.way
+  pub last : (j : ℕ) (x y : Found) → slice_get found j ≡ Some x → slice_get found i ≡ Some y →
+      key_from m 0 x.way ≤ key_from m 0 y.way * m + c
+  pub looked : (s : WalkStep) (l : Link) (j : ℕ) (x : Found) → slice_get ls s.channel ≡ Some l → slice_get found j ≡ Some x →
+      x.actor ≡ step_from l s.forward → seen (step_to l s.forward) ≡ false → (i < j) ⊎ ((i ≡ j) × (c ≤ s.channel))
+  pub grown : (j : ℕ) (x : Found) → slice_get found j ≡ Some x → ((j ≡ 0) × (x.way ≡ [])) ⊎ IsGrown ls found j x
+
+-- the same of a search's lists, where actor 0 is marked, and as many actors are as are found
+pub record IsSearching (ls : List Link) (actors : ℕ) (found : List Found) (seen : List Bool) (i c : ℕ) : Type 0 where
+  pub search : IsSearch ls (length ls + 1) found (mark_at seen) i c
+  pub root : mark_at seen 0 ≡ true
+  pub size : length seen ≡ actors
+  pub count : trues seen ≡ length found
+
+-- one channel was looked at from place i: a step to an actor that was not seen was taken
+pub record IsTaken (found : List Found) (seen : List Bool) (found' : List Found) (seen' : List Bool) (i : ℕ) (s : WalkStep) (l : Link) : Type 0 where
+  pub entry : Found
+  pub new : Found
+  pub here : slice_get found i ≡ Some entry
+  pub from : entry.actor ≡ step_from l s.forward
+  pub free : mark_at seen (step_to l s.forward) ≡ false
+  pub list : found' ≡ found ++ new ∷ []
+  pub to : new.actor ≡ step_to l s.forward
+  pub way : new.way ≡ entry.way ++ s ∷ []
+  pub marks : seen' ≡ slice_set seen (step_to l s.forward) true
+
+-- or there was none
+pub record IsPassed (found : List Found) (seen : List Bool) (found' : List Found) (seen' : List Bool) (i : ℕ) (l : Link) : Type 0 where
+  pub same : found' ≡ found
+  pub marks : seen' ≡ seen
+  pub none : (y : Found) (f : Bool) → slice_get found i ≡ Some y → y.actor ≡ step_from l f → mark_at seen (step_to l f) ≡ true
+
+abbrev pub IsLooked : List Found → List Bool → List Found → List Bool → ℕ → ℕ → Link → Type 0
+IsLooked found seen found' seen' i c l =
+    ((f : Bool) × IsTaken found seen found' seen' i (record { channel = c; forward = f }) l) ⊎ IsPassed found seen found' seen' i l
+
+-- what the search has found at its end: the ways to all actors that a walk from actor 0 reaches, in their order
+pub record IsTree (ls : List Link) (actors : ℕ) (found : List Found) (seen : List Bool) : Type 0 where
+  pub ways : (j : ℕ) (x : Found) → slice_get found j ≡ Some x → IsWay ls x.actor x.way
+  pub rising : (j k : ℕ) (x y : Found) → slice_get found j ≡ Some x → slice_get found k ≡ Some y → j ≤ k → Precedes x.way y.way
+  pub apart : (j k : ℕ) (x y : Found) → slice_get found j ≡ Some x → slice_get found k ≡ Some y → j < k → x.actor ≡ y.actor → ⊥
+  pub grown : (j : ℕ) (x : Found) → slice_get found j ≡ Some x → ((j ≡ 0) × (x.way ≡ [])) ⊎ IsGrown ls found j x
+  pub whole : (ss : List WalkStep) (v : ℕ) → IsWalk ls 0 ss v → mark_at seen v ≡ true
+  pub marked : (v : ℕ) → mark_at seen v ≡ true → (j : ℕ) × (x : Found) × (slice_get found j ≡ Some x) × (x.actor ≡ v)
+  pub within : (j : ℕ) (x : Found) → slice_get found j ≡ Some x → x.actor < actors
+  pub size : length seen ≡ actors
