@@ -1,5 +1,5 @@
 -- The table of a plain chain is read again from its written form.
-use Rattle.std.proofs.Common.{◌≡◌, ℕ, suc, ◌+◌, ◌*◌, ◌<◌, ◌≤◌, ◌^◌, true, ◌&&◌, ◌==◌, List, [], ◌∷◌, ◌++◌, length, drop, map, refl, sym, ap, ◌∙◌, append_assoc, append-nil, arith, length-append}
+use Rattle.std.proofs.Common.{◌≡◌, ℕ, ◌+◌, ◌*◌, ◌≤◌, true, ◌&&◌, ◌==◌, List, [], ◌∷◌, ◌++◌, length, drop, map, refl, sym, ap, ◌∙◌, append-nil, arith, length-append}
 use Rattle.std.proofs.Math.Seq.{drop-append-add}
 use Rattle.std.proofs.lemmas.Bool.{and_parts, eqb-true}
 use Rattle.std.specs.List.{list_all}
@@ -50,7 +50,7 @@ ChainIsPlain-from_test t h =
       few_actors = bounds.1;
       joined = eqb-true (length t.channels + 1) (length t.actors) p3.1;
       actors = p4.1;
-      channels = p5.1
+      channels = p5.1;
     }
 
 abbrev first_values : List ℕ → List (List ℕ)
@@ -82,17 +82,17 @@ values_of-before : (ps none : List Piece) → values_of none ≡ [] → values_o
 values_of-before ps none e = values_of-append ps none ∙ ap (λ vs. values_of ps ++ vs) e ∙ append-nil (values_of ps)
 
 pieces-values : (a : ActorRow) (others : List ActorRow) (rows : List ChannelRow) →
-  values_of (pieces (a ∷ others) rows)
-  ≡ first_values a.name ++ (values_of (crossings 0 rows others) ++ (values_of (channels_from 0 rows (a ∷ others)) ++ (values_of (actor_times (a ∷ others)) ++ values_of (channel_sizes rows))))
+    values_of (pieces (a ∷ others) rows)
+    ≡ first_values a.name ++ (values_of (crossings 0 rows others) ++ (values_of (channels_from 0 rows (a ∷ others)) ++ (values_of (actor_times (a ∷ others)) ++ values_of (channel_sizes rows))))
 pieces-values a others rows =
     let rest = (channels_from 0 rows (a ∷ others) ++ before_properties) ++ (actor_times (a ∷ others) ++ (channel_sizes rows ++ after_properties)) in
     before-values a.name (crossings 0 rows others ++ actor_end) rest
     ∙ ap (λ vs. first_values a.name ++ vs) (values_of-around (crossings 0 rows others) actor_end rest end-values)
     ∙ ap (λ vs. first_values a.name ++ (values_of (crossings 0 rows others) ++ vs))
-      (values_of-around (channels_from 0 rows (a ∷ others)) before_properties (actor_times (a ∷ others) ++ (channel_sizes rows ++ after_properties)) before_properties-values
-      ∙ ap (λ vs. values_of (channels_from 0 rows (a ∷ others)) ++ vs)
-        (values_of-append (actor_times (a ∷ others)) (channel_sizes rows ++ after_properties)
-        ∙ ap (λ vs. values_of (actor_times (a ∷ others)) ++ vs) (values_of-before (channel_sizes rows) after_properties after_properties-values)))
+    (values_of-around (channels_from 0 rows (a ∷ others)) before_properties (actor_times (a ∷ others) ++ (channel_sizes rows ++ after_properties)) before_properties-values
+    ∙ ap (λ vs. values_of (channels_from 0 rows (a ∷ others)) ++ vs)
+    (values_of-append (actor_times (a ∷ others)) (channel_sizes rows ++ after_properties)
+    ∙ ap (λ vs. values_of (actor_times (a ∷ others)) ++ vs) (values_of-before (channel_sizes rows) after_properties after_properties-values)))
 
 crossings-length : (i : ℕ) (rows : List ChannelRow) (others : List ActorRow) → length rows ≡ length others → length (values_of (crossings i rows others)) ≡ 8 * length rows
 unfolding crossing out_port actor_end actor_start in_port
@@ -123,7 +123,7 @@ past front rest n k e = ap (λ j. drop j (front ++ rest)) e ∙ drop-append-add 
 
 -- a chain from the values of its blocks, each at its place
 chain_of-blocks : (a : ActorRow) (others : List ActorRow) (rows : List ChannelRow) → length rows ≡ length others → list_all is_plain_actor (a ∷ others) ≡ true → are_plain_channels 0 rows ≡ true →
-  chain_of (length rows) (values_of (pieces (a ∷ others) rows)) ≡ record { kind = Sdf; actors = a ∷ others; channels = rows }
+    chain_of (length rows) (values_of (pieces (a ∷ others) rows)) ≡ record { kind = Sdf; actors = a ∷ others; channels = rows }
 unfolding chain_of
 chain_of-blocks a others rows len k h =
     let m = length rows in
@@ -162,8 +162,8 @@ pieces-count a others rows len few =
     ap channel_count values ∙ omega arith
 
 rows-again : (actors : List ActorRow) (rows : List ChannelRow) → length rows + 1 ≡ length actors → length actors ≤ 128 → list_all is_plain_actor actors ≡ true → are_plain_channels 0 rows ≡ true →
-  let values = quoted_in (text_of (pieces actors rows)) in
-  chain_of (channel_count (length values)) values ≡ record { kind = Sdf; actors = actors; channels = rows }
+    let values = quoted_in (text_of (pieces actors rows)) in
+    chain_of (channel_count (length values)) values ≡ record { kind = Sdf; actors = actors; channels = rows }
 rows-again [] rows len few k h = absurd (omega (arith, len))
 rows-again (a ∷ others) rows len few k h =
     let same : length rows ≡ length others = omega arith in

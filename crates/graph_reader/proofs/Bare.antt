@@ -1,11 +1,11 @@
 -- No piece of a plain chain's written form has a quote.
-use Rattle.std.proofs.Common.{◌≡◌, ℕ, suc, ◌+◌, ◌<◌, ◌≤◌, ◌^◌, true, false, ◌&&◌, ◌==◌, List, [], ◌∷◌, ◌++◌, length, slice_index, refl, arith}
-use Rattle.std.proofs.lemmas.Bool.{and_parts, eqb-true}
+use Rattle.std.proofs.Common.{◌≡◌, ℕ, suc, ◌+◌, ◌<◌, ◌^◌, true, false, ◌==◌, List, [], ◌∷◌, ◌++◌, length, slice_index, refl, arith}
+use Rattle.std.proofs.lemmas.Bool.{and_parts}
 use Rattle.std.specs.List.{list_all}
 use Rattle.sd_base.specs.declared.tables.ActorRow.{ActorRow}
 use Rattle.sd_base.specs.declared.tables.ChannelRow.{ChannelRow}
 use Rattle.graph_reader.specs.Chain.{is_within, is_one_within, is_plain_actor, is_plain_channel, are_plain_channels}
-use Rattle.graph_reader.specs.Written.{Piece, pieces, before_actors, out_port, in_port, actor_start, actor_end, channel_from, channel_to, before_properties, actor_time, channel_size, after_properties, crossing, crossings, channels_from, actor_times, channel_sizes}
+use Rattle.graph_reader.specs.Written.{pieces, before_actors, out_port, in_port, actor_start, actor_end, channel_from, channel_to, before_properties, actor_time, channel_size, after_properties, crossing, crossings, channels_from, actor_times, channel_sizes}
 use Rattle.graph_reader.proofs.Values.{has_quote, HasNoQuotes, HasNoQuotes-append}
 use Rattle.graph_reader.proofs.Numbers.{decimal-bare}
 use Rattle.graph_reader.proofs.Names.{plain_name-bare}

@@ -1,5 +1,5 @@
 -- A number that was written is read, and its digits have no quote.
-use Rattle.std.proofs.Common.{◌≡◌, ℕ, ◌+◌, ◌-◌, ◌*◌, ◌/◌, ◌%◌, ◌<◌, ◌≤◌, ◌^◌, false, ◌==◌, if◌then◌else◌, nat_lt, List, [], ◌∷◌, ◌++◌, refl, sym, ap, ◌∙◌, arith}
+use Rattle.std.proofs.Common.{◌≡◌, ℕ, ◌+◌, ◌-◌, ◌*◌, ◌/◌, ◌%◌, ◌<◌, ◌^◌, false, ◌==◌, nat_lt, [], ◌∷◌, refl, ap, ◌∙◌, arith}
 use Rattle.std.proofs.lemmas.Bool.{ne_eqb, lt-ltb, or_from, cond-true}
 use Rattle.std.proofs.lemmas.List.Sums.{fold_push}
 use Rattle.std.proofs.lemmas.List.Folds.{list_any-append}
@@ -17,10 +17,10 @@ number_in-decimal n small =
     decimal_by_steps (λ m ds. m < 1000000000000000 → number_in ds ≡ m)
     (λ m digit below. with_digit-next 0 m (omega arith) digit ∙ omega arith)
     (λ m ds many front below.
-        fold_push with_digit 0 ds (48 + m % 10)
-        ∙ ap (λ k. with_digit k (48 + m % 10)) (front (omega arith))
-        ∙ with_digit-next (m / 10) (m % 10) (omega arith) (omega arith)
-        ∙ omega arith)
+    fold_push with_digit 0 ds (48 + m % 10)
+    ∙ ap (λ k. with_digit k (48 + m % 10)) (front (omega arith))
+    ∙ with_digit-next (m / 10) (m % 10) (omega arith) (omega arith)
+    ∙ omega arith)
     n (omega arith) small
 
 digit-bare : (d : ℕ) → has_quote ((48 + d) ∷ []) ≡ false

@@ -1,5 +1,5 @@
 -- The rows of a plain chain are read again from the values of its written form.
-use Rattle.std.proofs.Common.{◌≡◌, ℕ, suc, ◌+◌, ◌*◌, ◌<◌, ◌≤◌, ◌^◌, Bool, true, false, ◌&&◌, ◌==◌, nat_le, List, [], ◌∷◌, ◌++◌, length, drop, slice_index, refl, sym, ap, ◌∙◌, append_assoc, append-nil, arith, add-one}
+use Rattle.std.proofs.Common.{◌≡◌, ℕ, suc, ◌+◌, ◌<◌, ◌≤◌, true, ◌&&◌, ◌==◌, nat_le, List, [], ◌∷◌, ◌++◌, length, slice_index, refl, sym, ap, ◌∙◌, append_assoc, append-nil, arith}
 use Rattle.std.proofs.lemmas.Bool.{and_parts, eqb-true, leb-true}
 use Rattle.std.specs.List.{list_all}
 use Rattle.std.specs.Prelude.{codes}
@@ -56,7 +56,7 @@ ChannelIsPlain-from_test i c h =
       made = p4.1;
       taken = p5.1;
       tokens = leb-true c.tokens 1000000 p6.1;
-      size = p7.1
+      size = p7.1;
     }
 
 pub is_within-bounds : (low high n : ℕ) → is_within low high n ≡ true → (low ≤ n) × (n ≤ high)
@@ -135,7 +135,7 @@ channel_in-written i c ps cs zs h made_is taken_is name_is tokens_is size_is =
       made = made k;
       taken = taken k;
       tokens = tokens k;
-      size = size k
+      size = size k;
     }
 
 pub channels_in-written : (rows : List ChannelRow) (others : List ActorRow) (i : ℕ) (a : ActorRow) (done : List ChannelRow) (p q r : List (List ℕ)) → length rows ≡ length others → are_plain_channels i rows ≡ true → channels_in done i (length rows) (values_of (crossings i rows others) ++ p) (values_of (channels_from i rows (a ∷ others)) ++ q) (values_of (channel_sizes rows) ++ r) ≡ done ++ rows
@@ -153,6 +153,6 @@ channels_in-written (c ∷ rows) (b ∷ others) i a done p q r len h =
     let zs_is = size-values c (channel_sizes rows) r in
     (λ k. channels_in done i (suc (length rows)) (ps_is k) (cs_is k) (zs_is k))
     ∙ ap (λ d. channels_in (done ++ d ∷ []) (i + 1) (length rows) ps cs zs)
-      (channel_in-written i c (crossing_then i c b ps) (channel_then i c a b cs) (size_then c zs) plain refl refl refl refl refl)
+    (channel_in-written i c (crossing_then i c b ps) (channel_then i c a b cs) (size_then c zs) plain refl refl refl refl refl)
     ∙ channels_in-written rows others (i + 1) b (done ++ c ∷ []) p q r shorter parts.1
     ∙ append_assoc done (c ∷ []) rows

@@ -1,5 +1,5 @@
 -- A plain chain keeps the rules and limits of a graph table, and each actor has its time.
-use Rattle.std.proofs.Common.{◌≡◌, ℕ, zero, suc, ◌+◌, ◌<◌, ◌≤◌, true, ◌&&◌, ◌==◌, List, [], ◌∷◌, length, map, sum, get_or, slice_index, refl, sym, ap, ◌∙◌, subst, inr, arith, zero-add}
+use Rattle.std.proofs.Common.{◌≡◌, ℕ, zero, suc, ◌+◌, ◌<◌, ◌≤◌, true, ◌==◌, List, [], ◌∷◌, length, map, sum, get_or, slice_index, refl, sym, ap, ◌∙◌, subst, inr, arith, zero-add}
 use Rattle.std.proofs.lemmas.Bool.{and_parts, eqb-true}
 use Rattle.std.proofs.lemmas.List.Sums.{AllPass-from_list_all}
 use Rattle.std.specs.List.{All, list_all}
@@ -7,7 +7,7 @@ use Rattle.sd_base.specs.declared.tables.Kind.{Kind}
 use Rattle.sd_base.specs.declared.tables.GraphFile.{GraphFile}
 use Rattle.sd_base.specs.declared.tables.ActorRow.{ActorRow}
 use Rattle.sd_base.specs.declared.tables.ChannelRow.{ChannelRow}
-use Rattle.sd_base.specs.Tables.{phases_of, ActorKeepsRules, PortKeepsRules, ChannelKeepsRules, KeepsRules, IsTimed}
+use Rattle.sd_base.specs.Tables.{ActorKeepsRules, PortKeepsRules, ChannelKeepsRules, KeepsRules, IsTimed}
 use Rattle.graph_reader.specs.Chain.{is_within, is_one_within, is_plain_actor, is_plain_channel, are_plain_channels, is_plain_chain}
 use Rattle.graph_reader.proofs.Reread.{ActorIsPlain, ActorIsPlain-from_test, ChannelIsPlain, ChannelIsPlain-from_test, is_within-bounds}
 use Rattle.graph_reader.proofs.Again.{ChainIsPlain-from_test}
@@ -38,14 +38,14 @@ actor_rules kind a plain =
       few_phases = omega arith;
       one_phase = λ _. one;
       timed = inr (one-length 1 1000000000 a.times plain.times ∙ sym one);
-      times = one-bounds 1 1000000000 a.times plain.times
+      times = one-bounds 1 1000000000 a.times plain.times;
     }
 
 port_rules : (phases : ℕ) (rates : List ℕ) → phases ≡ 1 → is_one_within 1 1000000 rates ≡ true → PortKeepsRules phases rates
 port_rules phases rates one h = record {
   listed = one-length 1 1000000 rates h ∙ sym one;
   limited = λ k d lt. (one-bounds 1 1000000 rates h k d lt).1;
-  moves = one-sum 1 1000000 rates h
+  moves = one-sum 1 1000000 rates h;
 }
 
 one_phase-at : (actors : List ActorRow) (k : ℕ) → list_all is_plain_actor actors ≡ true → k < length actors → slice_index (map (λ a. a.phases) actors) k ≡ 1
@@ -80,7 +80,7 @@ channel_rules actors i c h lt plain =
       taken = port_rules (slice_index phases c.target) c.taken (ap (slice_index phases) target ∙ one_phase-at actors (i + 1) h lt) plain.taken;
       tokens = plain.tokens;
       some_size = bounds.0;
-      size = bounds.1
+      size = bounds.1;
     }
 
 pub keeps_rules : (t : GraphFile) → is_plain_chain t ≡ true → KeepsRules t
@@ -94,7 +94,7 @@ keeps_rules t h =
       few_actors = plain.few_actors;
       few_channels = omega arith;
       actors = λ k d lt. actor_rules t.kind (get_or t.actors k d) (ActorIsPlain-from_test (get_or t.actors k d) (all k d lt));
-      channels = λ k d lt. channel_rules t.actors k (get_or t.channels k d) plain.actors (omega arith) (subst (λ j. ChannelIsPlain j (get_or t.channels k d)) (zero-add k) (channel-at 0 t.channels k d plain.channels lt))
+      channels = λ k d lt. channel_rules t.actors k (get_or t.channels k d) plain.actors (omega arith) (subst (λ j. ChannelIsPlain j (get_or t.channels k d)) (zero-add k) (channel-at 0 t.channels k d plain.channels lt));
     }
 
 pub is_timed : (t : GraphFile) → is_plain_chain t ≡ true → IsTimed t
@@ -102,5 +102,5 @@ is_timed t h =
     let plain = ChainIsPlain-from_test t h in
     let all = AllPass-from_list_all is_plain_actor t.actors plain.actors in
     λ k d lt.
-      let a = ActorIsPlain-from_test (get_or t.actors k d) (all k d lt) in
-      one-length 1 1000000000 (get_or t.actors k d).times a.times ∙ sym a.phases
+    let a = ActorIsPlain-from_test (get_or t.actors k d) (all k d lt) in
+    one-length 1 1000000000 (get_or t.actors k d).times a.times ∙ sym a.phases

@@ -6,7 +6,7 @@ use Rattle.std.specs.List.{fold, list_any}
 use Rattle.std.specs.Prelude.{None}
 use Rattle.graph_reader.specs.declared.quotes.Quotes.{Quotes}
 use Rattle.graph_reader.specs.Written.{Piece, literal, quoted, text_of}
-use Rattle.graph_reader.specs.Loose.{quotes_after, no_quotes, quoted_in}
+use Rattle.graph_reader.specs.Loose.{quotes_after, quoted_in}
 
 abbrev pub has_quote : List ℕ → Bool
 has_quote bytes = list_any (λ b. b == 39) bytes
