@@ -1,2 +1,9 @@
 pub mod Pieces
 pub mod Steps
+pub mod Values
+pub mod Numbers
+pub mod Names
+pub mod Reread
+pub mod Bare
+pub mod Again
+pub mod Rules

@@ -1,8 +1,8 @@
 -- Steps of loops over the rows of a table.
-use Rattle.std.proofs.Common.{◌≡◌, ℕ, suc, ◌+◌, ◌-◌, ◌<◌, ◌≤◌, List, [], ◌∷◌, ◌++◌, length, get_or, drop, refl, sym, ap, ◌∙◌, arith, add-one, drop-cons, append_assoc, slice_index}
+use Rattle.std.proofs.Common.{◌≡◌, ℕ, suc, ◌+◌, ◌-◌, ◌<◌, List, [], ◌∷◌, ◌++◌, length, get_or, drop, refl, sym, ap, ◌∙◌, arith, add-one, drop-cons, append_assoc, slice_index}
 use Rattle.sd_base.specs.declared.tables.ActorRow.{ActorRow}
 use Rattle.sd_base.specs.declared.tables.ChannelRow.{ChannelRow}
-use Rattle.graph_reader.specs.Written.{Piece, pieces, before_actors, actor_start, actor_end, before_properties, after_properties, actor_time, actor_times, channel_size, channel_sizes, crossing, crossings, channel_from, channel_to, channels_from}
+use Rattle.graph_reader.specs.Written.{pieces, before_actors, actor_start, actor_end, before_properties, after_properties, actor_time, actor_times, channel_size, channel_sizes, crossing, crossings, channel_from, channel_to, channels_from}
 use Rattle.graph_reader.specs.Loose.{actor_in, actors_in, channel_in, channels_in}
 
 -- what is left at i is the element there, and what is left after it

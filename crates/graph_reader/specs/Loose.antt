@@ -1,5 +1,5 @@
 -- How the reader finds a table in any bytes: by the places of the values within single quotes. It tests nothing.
-use Rattle.std.specs.Prelude.{ℕ, zero, suc, ◌+◌, ◌-◌, ◌*◌, ◌/◌, ◌==◌, nat_lt, min, if◌then◌else◌, Option, Some, None, List, [], ◌∷◌, ◌++◌, length, drop}
+use Rattle.std.specs.Prelude.{ℕ, zero, suc, ◌+◌, ◌-◌, ◌*◌, ◌/◌, ◌==◌, nat_lt, min, if◌then◌else◌, Option, Some, None, List, [], ◌∷◌, ◌++◌, drop}
 use Rattle.std.specs.List.{fold, slice_index_or}
 use Rattle.std.specs.Str.Lossy.{utf8_lossy}
 use Rattle.sd_base.specs.declared.tables.Kind.TheVariants.{Sdf}

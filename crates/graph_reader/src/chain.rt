@@ -4,10 +4,10 @@ ghost use Rattle.std.specs.Prelude.{◌≡◌, ◌<◌, ◌≤◌, ◌∷◌, []
 ghost use Rattle.std.specs.Str.Lossy.{utf8_lossy};
 ghost use Rattle.graph_reader.specs.Loose.{with_digit, number_in, value_at, actor_in, channel_in, actors_in, channels_in, channel_count, chain_of};
 
+use sd_base::{ActorRow, ChannelRow, GraphFile, Kind, Rows, Text};
 use std::alloc::{AllocError, Global};
 
-use sd_base::{ActorRow, ChannelRow, GraphFile, Kind, Rows, Text};
-
+/// A number of 16 digits or more is far above each limit, so it may stay where it is.
 fn with_digit(n: u64, byte: u8) -> u64
     ensures { result ≡ with_digit n byte }
 {
@@ -28,6 +28,7 @@ fn number_in(digits: &[u8]) -> u64
     n
 }
 
+/// A value that is missing counts as empty: the text is compared in the end.
 fn value_at(values: &[Rows<u8>], i: usize) -> &[u8]
     ensures { result.now ≡ value_at values.now i }
 {
@@ -130,6 +131,8 @@ fn channels_in(
     Ok(rows)
 }
 
+/// How many channels a chain with this many values has. No plain chain has more than 127, so the
+/// work stays linear in the bytes, and no number overflows.
 fn channel_count(values: usize) -> usize
     ensures count { result ≡ channel_count values }
     ensures few { result ≤ 127 }

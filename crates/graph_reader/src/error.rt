@@ -8,7 +8,7 @@ use thiserror::Error;
 #[derive(Clone, Copy, Debug, PartialEq, Eq, Error)]
 pub enum ReadError {
     /// The bytes are not the written form of a plain chain.
-    #[error("layout")]
+    #[error("not the written form of a plain chain")]
     Layout,
     /// There was no memory for the table or for what is compared with the bytes.
     #[error("out of memory")]

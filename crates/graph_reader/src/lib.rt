@@ -13,16 +13,18 @@ mod plain;
 mod quotes;
 mod writing;
 
-use std::alloc::Global;
-
-use sd_base::GraphFile;
-
 pub use error::ReadError;
+use sd_base::GraphFile;
+use std::alloc::Global;
 
 /// Reads the table of a plain chain from its written form. Cost: linear in the bytes, and quadratic in
 /// the names, of which there are at most 128 of actors and 127 of channels.
+#[tactic(auto, using(crate::proofs::Again::again, crate::proofs::Rules::keeps_rules, crate::proofs::Rules::is_timed))]
 pub fn read_graph(alloc: Global, bytes: &[u8]) -> Result<GraphFile, ReadError>
     ensures written { IfOk result (λ t. (is_plain_chain t ≡ true) × (bytes.now ≡ written t)) }
+    ensures layout { result ≡ Err ReadError.Layout → (t : GraphFile) → is_plain_chain t ≡ true → bytes.now ≡ written t → ⊥ }
+    ensures keeps { IfOk result KeepsRules }
+    ensures timed { IfOk result IsTimed }
 {
     let values = quotes::quoted_values(alloc, bytes)?;
     let table = chain::chain_in(alloc, values.as_slice())?;

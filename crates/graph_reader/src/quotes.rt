@@ -3,41 +3,42 @@
 ghost use Rattle.std.specs.Prelude.{◌≡◌, IfOk, OnOk};
 ghost use Rattle.graph_reader.specs.Loose.{quotes_after, quoted_in};
 
-use std::alloc::{AllocError, Global};
-
 use sd_base::Rows;
+use std::alloc::{AllocError, Global};
 
 const QUOTE: u8 = b'\'';
 
-/// What was found so far: the values that have ended, and the one that has not.
+/// What was found so far: the values that have ended, and the one that is still read.
 #[derive(Drop)]
 struct Quotes {
     values: Rows<Rows<u8>>,
     current: Option<Rows<u8>>,
 }
 
-fn take(quotes: &mut Quotes, alloc: Global, byte: u8) -> Result<(), AllocError>
-    ensures { OnOk result (quotes.new ≡ quotes_after quotes.old byte) }
-{
-    match quotes.current.take() {
-        None => {
-            if byte == QUOTE {
-                quotes.current = Some(Rows::new(alloc));
+impl Quotes {
+    fn take(&mut self, alloc: Global, byte: u8) -> Result<(), AllocError>
+        ensures { OnOk result (self.new ≡ quotes_after self.old byte) }
+    {
+        match self.current.take() {
+            None => {
+                if byte == QUOTE {
+                    self.current = Some(Rows::new(alloc));
+                }
+            }
+            Some(mut value) => {
+                if byte == QUOTE {
+                    self.values.push(value)?;
+                } else {
+                    value.push(byte)?;
+                    self.current = Some(value);
+                }
             }
         }
-        Some(mut value) => {
-            if byte == QUOTE {
-                quotes.values.push(value)?;
-            } else {
-                value.push(byte)?;
-                quotes.current = Some(value);
-            }
-        }
+        Ok(())
     }
-    Ok(())
 }
 
-/// Every text that stands between an odd quote and the next one.
+/// Every text that stands between a quote and the next one, where quotes go in pairs.
 pub fn quoted_values(alloc: Global, bytes: &[u8]) -> Result<Rows<Rows<u8>>, AllocError>
     ensures { IfOk result (λ values. values ≡ quoted_in bytes.now) }
 {
@@ -46,7 +47,7 @@ pub fn quoted_values(alloc: Global, bytes: &[u8]) -> Result<Rows<Rows<u8>>, Allo
         current: None,
     };
     for byte in bytes {
-        take(&mut quotes, alloc, *byte)?;
+        quotes.take(alloc, *byte)?;
     }
     Ok(quotes.values)
 }

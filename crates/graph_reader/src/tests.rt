@@ -1,5 +1,4 @@
 use super::*;
-
 use sd_base::{Kind, Rows};
 use std::process::Abort;
 use std::test::Fail;
@@ -112,7 +111,8 @@ const INDENTED: &str = r#"<?xml version="1.0" encoding="UTF-8"?>
 
 /// Two actors `a` and NAME with a channel from 5 tokens a firing to 7, 3 tokens in it, of size 4.
 fn two(alloc: Global, name: &str) -> Result<String, Fail> {
-    Ok(format!(in alloc; r#"<?xml version="1.0" encoding="UTF-8"?>
+    Ok(format!(in alloc;
+        r#"<?xml version="1.0" encoding="UTF-8"?>
 <sdf3 type='sdf' version='1.0'>
 <applicationGraph name='g'>
 <sdf name='g' type='G'>
@@ -141,7 +141,8 @@ fn two(alloc: Global, name: &str) -> Result<String, Fail> {
 </sdfProperties>
 </applicationGraph>
 </sdf3>
-"#)?)
+"#
+    )?)
 }
 
 fn is_one(numbers: &Rows<u64>, n: u64) -> bool {

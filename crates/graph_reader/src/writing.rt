@@ -4,15 +4,16 @@ ghost use Rattle.std.specs.Prelude.{◌≡◌, ◌++◌, ◌≤◌, ◌<◌, ◌
 ghost use Rattle.std.specs.String.{string_bytes};
 ghost use Rattle.graph_reader.specs.Written.{text_of, before_actors, actor_start, actor_end, out_port, in_port, channel_from, channel_to, before_properties, actor_time, channel_size, after_properties, crossing, crossings, channels_from, actor_times, channel_sizes, written};
 
-use std::alloc::{AllocError, Global};
-
 use sd_base::{ActorRow, ChannelRow, GraphFile, Rows};
+use std::alloc::{AllocError, Global};
 
 #[tactic(auto, unfolding(crate::specs::Written::before_actors))]
 fn write_before_actors(out: &mut String) -> Result<(), AllocError>
     ensures { OnOk result (string_bytes out.new ≡ string_bytes out.old ++ text_of before_actors) }
 {
-    out.push_str("<?xml version=\"1.0\" encoding=\"UTF-8\"?>\n<sdf3 type='sdf' version='1.0'>\n<applicationGraph name='g'>\n<sdf name='g' type='G'>\n")
+    out.push_str(
+        "<?xml version=\"1.0\" encoding=\"UTF-8\"?>\n<sdf3 type='sdf' version='1.0'>\n<applicationGraph name='g'>\n<sdf name='g' type='G'>\n",
+    )
 }
 
 #[tactic(auto, unfolding(crate::specs::Written::actor_start))]
@@ -44,17 +45,28 @@ fn write_in_port(out: &mut String, i: usize, rate: u64) -> Result<(), AllocError
 }
 
 #[tactic(auto, unfolding(crate::specs::Written::channel_from))]
-fn write_channel_from(out: &mut String, i: usize, name: &str, source: &str) -> Result<(), AllocError>
+fn write_channel_from(
+    out: &mut String,
+    i: usize,
+    name: &str,
+    source: &str,
+) -> Result<(), AllocError>
     ensures { OnOk result (string_bytes out.new ≡ string_bytes out.old ++ text_of (channel_from i name.now source.now)) }
 {
-    write!(out, "<channel name='{name}' srcActor='{source}' srcPort='o{i}'")
+    write!(
+        out,
+        "<channel name='{name}' srcActor='{source}' srcPort='o{i}'"
+    )
 }
 
 #[tactic(auto, unfolding(crate::specs::Written::channel_to))]
 fn write_channel_to(out: &mut String, i: usize, target: &str, tokens: u64) -> Result<(), AllocError>
     ensures { OnOk result (string_bytes out.new ≡ string_bytes out.old ++ text_of (channel_to i target.now tokens)) }
 {
-    write!(out, " dstActor='{target}' dstPort='i{i}' initialTokens='{tokens}'/>\n")
+    write!(
+        out,
+        " dstActor='{target}' dstPort='i{i}' initialTokens='{tokens}'/>\n"
+    )
 }
 
 #[tactic(auto, unfolding(crate::specs::Written::before_properties))]
@@ -68,14 +80,20 @@ fn write_before_properties(out: &mut String) -> Result<(), AllocError>
 fn write_actor_time(out: &mut String, name: &str, time: u64) -> Result<(), AllocError>
     ensures { OnOk result (string_bytes out.new ≡ string_bytes out.old ++ text_of (actor_time name.now time)) }
 {
-    write!(out, "<actorProperties actor='{name}'>\n<processor type='p' default='true'>\n<executionTime time='{time}'/>\n</processor>\n</actorProperties>\n")
+    write!(
+        out,
+        "<actorProperties actor='{name}'>\n<processor type='p' default='true'>\n<executionTime time='{time}'/>\n</processor>\n</actorProperties>\n"
+    )
 }
 
 #[tactic(auto, unfolding(crate::specs::Written::channel_size))]
 fn write_channel_size(out: &mut String, name: &str, size: u64) -> Result<(), AllocError>
     ensures { OnOk result (string_bytes out.new ≡ string_bytes out.old ++ text_of (channel_size name.now size)) }
 {
-    write!(out, "<channelProperties channel='{name}'>\n<tokenSize sz='{size}'/>\n</channelProperties>\n")
+    write!(
+        out,
+        "<channelProperties channel='{name}'>\n<tokenSize sz='{size}'/>\n</channelProperties>\n"
+    )
 }
 
 #[tactic(auto, unfolding(crate::specs::Written::after_properties))]

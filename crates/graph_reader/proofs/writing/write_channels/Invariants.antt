@@ -1,4 +1,4 @@
-use Rattle.std.proofs.Common.{◌≡◌, ◌++◌, ◌+◌, drop}
+use Rattle.std.proofs.Common.{◌≡◌, ◌++◌, drop}
 use Rattle.std.specs.String.{string_bytes}
 use Rattle.graph_reader.specs.Written.{text_of, channels_from}
 use Rattle.graph_reader.proofs.writing.write_channels.Given as goal

@@ -1,4 +1,4 @@
-use Rattle.std.proofs.Common.{◌≡◌, ◌++◌, ◌+◌, drop}
+use Rattle.std.proofs.Common.{◌≡◌, ◌++◌, drop}
 use Rattle.std.specs.String.{string_bytes}
 use Rattle.graph_reader.specs.Written.{text_of, crossings}
 use Rattle.graph_reader.proofs.writing.write_crossings.Given as goal
