@@ -30,20 +30,22 @@ abbrev pub are_distinct : List (List ℕ) → Bool
 are_distinct [] = true
 are_distinct (name ∷ names) = not (list_any (bytes_eq name) names) && are_distinct names
 
--- one phase, with its time
+-- one phase, with its time; the greatest time is 1,000,000,000
 abbrev pub is_plain_actor : ActorRow → Bool
 is_plain_actor a = is_plain_name a.name && (a.phases == 1) && is_one_within 1 1000000000 a.times
 
--- channel i goes from actor i to actor i + 1
+-- channel i goes from actor i to actor i + 1; the greatest rate, number of tokens and size is 1,000,000
 abbrev pub is_plain_channel : ℕ → ChannelRow → Bool
 is_plain_channel i c =
     is_plain_name c.name && (c.source == i) && (c.target == i + 1) && is_one_within 1 1000000 c.made
     && is_one_within 1 1000000 c.taken && nat_le c.tokens 1000000 && is_within 1 1000000 c.size
 
+-- the channels from the i-th on
 abbrev pub are_plain_channels : ℕ → List ChannelRow → Bool
 are_plain_channels i [] = true
 are_plain_channels i (c ∷ cs) = is_plain_channel i c && are_plain_channels (i + 1) cs
 
+-- synchronous dataflow
 abbrev pub is_sdf : Kind → Bool
 is_sdf Sdf = true
 is_sdf Csdf = false

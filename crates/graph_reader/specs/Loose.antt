@@ -14,9 +14,11 @@ after_byte values None b = record { values = values; current = if b == 39 then S
 after_byte values (Some value) b =
     if b == 39 then record { values = values ++ value ∷ []; current = None } else record { values = values; current = Some (value ++ b ∷ []) }
 
+-- the same for what was found so far
 abbrev pub quotes_after : Quotes → ℕ → Quotes
 quotes_after q b = after_byte q.values q.current b
 
+-- nothing was found yet
 abbrev pub no_quotes : Quotes
 no_quotes = record { values = []; current = None }
 
@@ -24,10 +26,11 @@ no_quotes = record { values = []; current = None }
 abbrev pub quoted_in : List ℕ → List (List ℕ)
 quoted_in text = (fold quotes_after no_quotes text).values
 
--- the number of digits, which stays where it is at 10^15
+-- a number with one digit more; it stays where it is from 10^15 on
 abbrev pub with_digit : ℕ → ℕ → ℕ
 with_digit n b = if nat_lt n 1000000000000000 then n * 10 + (b - 48) else n
 
+-- the number that digits spell
 abbrev pub number_in : List ℕ → ℕ
 number_in digits = fold with_digit 0 digits
 

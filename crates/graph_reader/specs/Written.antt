@@ -25,30 +25,33 @@ before_actors =
     ∷ literal (codes ">\n<sdf name=") ∷ quoted (codes "g") ∷ literal (codes " type=") ∷ quoted (codes "G")
     ∷ literal (codes ">\n") ∷ []
 
--- the start tag of an actor, and its end tag
+-- the start tag of an actor, whose type is its name
 unfoldable pub actor_start : List ℕ → List Piece
 actor_start name = literal (codes "<actor name=") ∷ quoted name ∷ literal (codes " type=") ∷ quoted name ∷ literal (codes ">\n") ∷ []
 
+-- its end tag
 unfoldable pub actor_end : List Piece
 actor_end = literal (codes "</actor>\n") ∷ []
 
--- the port that channel i leaves by, and the one that it enters by; a port has the letter o or i and the channel's number
+-- the port that channel i leaves by; a port's name is the letter o or i and the channel's number
 unfoldable pub out_port : ℕ → ℕ → List Piece
 out_port i rate =
     literal (codes "<port name=") ∷ quoted (codes "o" ++ decimal i) ∷ literal (codes " type=") ∷ quoted (codes "out")
     ∷ literal (codes " rate=") ∷ quoted (decimal rate) ∷ literal (codes "/>\n") ∷ []
 
+-- the port that channel i enters by
 unfoldable pub in_port : ℕ → ℕ → List Piece
 in_port i rate =
     literal (codes "<port name=") ∷ quoted (codes "i" ++ decimal i) ∷ literal (codes " type=") ∷ quoted (codes "in")
     ∷ literal (codes " rate=") ∷ quoted (decimal rate) ∷ literal (codes "/>\n") ∷ []
 
--- the channel i from the actor named source to the one named target, in two halves
+-- the channel i up to the actor that it leaves
 unfoldable pub channel_from : ℕ → List ℕ → List ℕ → List Piece
 channel_from i name source =
     literal (codes "<channel name=") ∷ quoted name ∷ literal (codes " srcActor=") ∷ quoted source
     ∷ literal (codes " srcPort=") ∷ quoted (codes "o" ++ decimal i) ∷ []
 
+-- the rest of it, from the actor that it enters
 unfoldable pub channel_to : ℕ → List ℕ → ℕ → List Piece
 channel_to i target tokens =
     literal (codes " dstActor=") ∷ quoted target ∷ literal (codes " dstPort=") ∷ quoted (codes "i" ++ decimal i)
@@ -93,20 +96,23 @@ channels_from i (c ∷ cs) [] = []
 channels_from i (c ∷ cs) (a ∷ []) = []
 channels_from i (c ∷ cs) (a ∷ b ∷ bs) = channel_from i c.name a.name ++ (channel_to i b.name c.tokens ++ channels_from (i + 1) cs (b ∷ bs))
 
+-- the times of these actors
 abbrev pub actor_times : List ActorRow → List Piece
 actor_times [] = []
 actor_times (a ∷ more) = actor_time a.name (slice_index a.times 0) ++ actor_times more
 
+-- the sizes of these channels
 abbrev pub channel_sizes : List ChannelRow → List Piece
 channel_sizes [] = []
 channel_sizes (c ∷ cs) = channel_size c.name c.size ++ channel_sizes cs
 
--- the file of a chain: its actors with their ports, its channels, the times and the sizes
+-- the file of a chain: its actors with their ports, its channels, the times and the sizes; a chain has an actor
 abbrev pub pieces : List ActorRow → List ChannelRow → List Piece
 pieces [] cs = []
 pieces (a ∷ bs) cs =
     (before_actors ++ (actor_start a.name ++ (crossings 0 cs bs ++ actor_end)))
     ++ ((channels_from 0 cs (a ∷ bs) ++ before_properties) ++ (actor_times (a ∷ bs) ++ (channel_sizes cs ++ after_properties)))
 
+-- the file as bytes
 abbrev pub written : GraphFile → List ℕ
 written t = text_of (pieces t.actors t.channels)

@@ -69,7 +69,7 @@ const INDENTED: &str = r#"<?xml version="1.0" encoding="UTF-8"?>
 <sdf3 type="sdf" version="1.0"
     xmlns:xsi="http://www.w3.org/2001/XMLSchema-instance"
     xsi:noNamespaceSchemaLocation="sdf3-sdf.xsd">
-  <!-- the example of the storage papers -->
+  <!-- a chain of three actors -->
   <applicationGraph name='chain'>
     <sdf name='chain' type='Chain'>
       <actor name='a' type='A'>
