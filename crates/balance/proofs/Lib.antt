@@ -7,3 +7,4 @@ pub mod TableLemmas
 pub mod Outcomes
 pub mod Cycles
 pub mod Rounds
+pub mod TreePaths

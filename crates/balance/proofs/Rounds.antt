@@ -27,7 +27,7 @@ use Rattle.balance.proofs.Order.{no_longer}
 use Rattle.balance.proofs.WalkLemmas.{HasSums, parts_pos, Balanced, carried}
 use Rattle.balance.proofs.Shortest.{one_way}
 use Rattle.balance.proofs.Fractions.{one_lowest, lowest_pos, reduced, kept_by_lowest, lowest_by_kept}
-use Rattle.balance.proofs.TableLemmas.{at_All, has_sums, has_ends}
+use Rattle.balance.proofs.TableLemmas.{at_All, at_place, has_sums}
 use Rattle.balance.proofs.Cycles.{balanced_cycles, balances_firings, cycles_of}
 
 -- ---- common multiples
@@ -179,11 +179,6 @@ some_phase g rules a lt =
     let e : slice_index (phases_of g) a ≡ x.phases = get_or-map (λ (y : ActorRow). y.phases) g.actors a x 0 lt' ∙ ap (λ (y : ActorRow). y.phases) (get_or_from_slice_get g.actors a x x at) in
     let le = keeps.some_phase in
     omega arith
-  where
-    at_place : (xs : List ActorRow) (k : ℕ) → k < length xs → (x : ActorRow) × (slice_get xs k ≡ Some x)
-    at_place [] k lt = absurd (let none : ⊥ = omega arith in none)
-    at_place (x ∷ xs) zero lt = (x, refl)
-    at_place (x ∷ xs) (suc k) lt = at_place xs k (omega arith)
 
 cycle_pos : (w f : ℕ) → 1 ≤ w → w ≡ (w / f) * f → 0 < w / f
 cycle_pos w f some e = elim (cases_lt 0 (w / f)) [

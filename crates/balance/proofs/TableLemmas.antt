@@ -17,6 +17,12 @@ use Rattle.balance.proofs.WalkLemmas.{HasSums}
 pub at_All : {X : Type 0} (P : X → Type 0) (xs : List X) (k : ℕ) (x : X) → All P xs → slice_get xs k ≡ Some x → P x
 at_All P xs k x all is = subst P (get_or_from_slice_get xs k x x is) (all k x (slice_get_within xs k x is))
 
+-- the element at a place
+pub at_place : {A : Type 0} (xs : List A) (k : ℕ) → k < length xs → (x : A) × (slice_get xs k ≡ Some x)
+at_place [] k lt = absurd (let none : ⊥ = omega arith in none)
+at_place (x ∷ xs) zero lt = (x, refl)
+at_place (x ∷ xs) (suc k) lt = at_place xs k (omega arith)
+
 -- the channel of a link
 pub link_at : (cs : List ChannelRow) (k : ℕ) (l : Link) → slice_get (map link_of cs) k ≡ Some l → (c : ChannelRow) × (slice_get cs k ≡ Some c) × (l ≡ link_of c)
 link_at [] k l is = absurd (none-some l is)
