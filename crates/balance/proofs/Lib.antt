@@ -8,3 +8,6 @@ pub mod Outcomes
 pub mod Cycles
 pub mod Rounds
 pub mod TreePaths
+pub mod Rating
+pub mod Keeping
+pub mod Deciding

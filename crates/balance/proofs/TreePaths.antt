@@ -6,7 +6,8 @@ use Rattle.balance.specs.declared.walk.WalkStep.{WalkStep}
 use Rattle.balance.specs.declared.walk.Link.{Link}
 use Rattle.balance.specs.Walks.{IsWalk, IsWay, IsLowest, walk_num, walk_den, turned}
 use Rattle.balance.specs.Repetition.{IsTreePath}
-use Rattle.balance.proofs.WalkLemmas.{HasSums, parts_pos, walk-append, walk_split, same_end, walk-turned, num-append, den-append, num-turned, den-turned}
+use Rattle.balance.specs.Search.{HasSums}
+use Rattle.balance.proofs.WalkLemmas.{parts_pos, walk-append, walk_split, same_end, walk-turned, num-append, den-append, num-turned, den-turned}
 
 -- a tree path is a walk
 pub tree_walk : (ls : List Link) (a b : ℕ) (path : List WalkStep) → IsTreePath ls a b path → IsWalk ls a path b
