@@ -15,7 +15,7 @@ use Rattle.sd_base.specs.Net.{total, phase_entry, Channel, nowhere, file_channel
 use Rattle.balance.specs.declared.walk.Link.{Link}
 use Rattle.balance.specs.Walks.{links_of, link_of}
 use Rattle.balance.proofs.WalkLemmas.{Balanced}
-use Rattle.balance.proofs.TableLemmas.{rules_at}
+use Rattle.balance.proofs.TableLemmas.{rules_at, at_place}
 
 total-suc : (xs : List ℕ) (n : ℕ) → total xs (suc n) ≡ total xs n + phase_entry xs n
 unfolding total
@@ -72,11 +72,6 @@ file_at i (d ∷ cs) (suc k) c is =
 length-files : (i : ℕ) (cs : List ChannelRow) → length (file_channels_from i cs) ≡ length cs
 length-files i [] = refl
 length-files i (c ∷ cs) = ap suc (length-files (i + 1) cs)
-
-at_place : {A : Type 0} (xs : List A) (k : ℕ) → k < length xs → (x : A) × (slice_get xs k ≡ Some x)
-at_place [] k lt = absurd (let none : ⊥ = omega arith in none)
-at_place (x ∷ xs) zero lt = (x, refl)
-at_place (x ∷ xs) (suc k) lt = at_place xs k (omega arith)
 
 -- what balances a graph's channels by firings balances its links by cycles
 pub balanced_cycles : (g : GraphFile) → KeepsRules g → (w : List ℕ) → Balances (phases_of g) (file_channels g) w

@@ -7,3 +7,7 @@ pub mod TableLemmas
 pub mod Outcomes
 pub mod Cycles
 pub mod Rounds
+pub mod TreePaths
+pub mod Rating
+pub mod Keeping
+pub mod Deciding

@@ -14,7 +14,8 @@ use Rattle.balance.specs.declared.refusal.BalanceError.{BalanceError}
 use Rattle.balance.specs.declared.refusal.BalanceError.TheVariants.{Apart, RatioTooLarge, Unbalanced, RoundTooLarge, NoMemory}
 use Rattle.balance.specs.Walks.{links_of, IsWalk, IsWay, Precedes, walk_num, walk_den, IsLowest, turned}
 use Rattle.balance.specs.Repetition.{IsConnected, IsWithinLimit, IsAboveLimit, WaysAreWithinLimit, IsConsistent, IsBalanced, IsRound, IsRoundTooLarge, IsApart, IsFirstAboveLimit, IsRatioTooLarge, IsKept, IsParted, IsTreePath, IsUnbalanced, IsAnswer, HasOneAnswer}
-use Rattle.balance.proofs.WalkLemmas.{HasSums, parts_pos}
+use Rattle.balance.specs.Search.{HasSums}
+use Rattle.balance.proofs.WalkLemmas.{parts_pos}
 use Rattle.balance.proofs.Shortest.{same_ways, one_way}
 use Rattle.balance.proofs.Fractions.{one_lowest}
 use Rattle.balance.proofs.TableLemmas.{has_sums}
@@ -70,15 +71,17 @@ one_unbalanced g rules w w' n d n' d' h k =
     let channel : h.channel ≡ k.channel = elim (cases_order h.channel k.channel) [
           inl e ↦ e
         | inr ne ↦ elim ne [ inl lt ↦ absurd (h.fails (k.first h.channel lt)) | inr gt ↦ absurd (k.fails (h.first k.channel gt)) ] ] in
-    let link : h.link ≡ k.link = same_Some h.link k.link (sym h.over ∙ ap (slice_get ls) channel ∙ k.over) in
-    let tree : IsTreePath ls h.link.target h.link.source k.path =
-          subst (λ (l : Link). IsTreePath ls l.target l.source k.path) (sym link) k.tree in
-    let path : h.path ≡ k.path = one_tree_path ls h.link.target h.link.source h.path k.path h.tree tree in
+    let x = h.walk_over in
+    let y = k.walk_over in
+    let link : x.link ≡ y.link = same_Some x.link y.link (sym x.over ∙ ap (slice_get ls) channel ∙ y.over) in
+    let tree : IsTreePath ls x.link.target x.link.source y.path =
+          subst (λ (l : Link). IsTreePath ls l.target l.source y.path) (sym link) y.tree in
+    let path : x.path ≡ y.path = one_tree_path ls x.link.target x.link.source x.path y.path x.tree tree in
     let step : ℕ → WalkStep = λ c. record { channel = c; forward = true } in
-    let walk : w ≡ w' = h.walk_is ∙ ap (λ c. step c ∷ h.path) channel ∙ ap (λ (t : List WalkStep). step k.channel ∷ t) path ∙ sym k.walk_is in
+    let walk : w ≡ w' = x.walk_is ∙ ap (λ c. step c ∷ x.path) channel ∙ ap (λ (t : List WalkStep). step k.channel ∷ t) path ∙ sym y.walk_is in
     let pos = parts_pos ls (has_sums g rules) w in
-    let low' : IsLowest n' d' (walk_num ls w) (walk_den ls w) = subst (λ (t : List WalkStep). IsLowest n' d' (walk_num ls t) (walk_den ls t)) (sym walk) k.ratio in
-    let same = one_lowest n d n' d' (walk_num ls w) (walk_den ls w) h.ratio low' pos.0 pos.1 in
+    let low' : IsLowest n' d' (walk_num ls w) (walk_den ls w) = subst (λ (t : List WalkStep). IsLowest n' d' (walk_num ls t) (walk_den ls t)) (sym walk) y.ratio in
+    let same = one_lowest n d n' d' (walk_num ls w) (walk_den ls w) x.ratio low' pos.0 pos.1 in
     (walk, same.0, same.1)
 
 one_apart : (g : GraphFile) (a b a' b' : ℕ) → IsApart g a b → IsApart g a' b' → (a ≡ a') × (b ≡ b')
@@ -100,7 +103,7 @@ within_or_first g rules p within h = within_or_above (links_of g) (has_sums g ru
 
 consistent_or_not : (g : GraphFile) → KeepsRules g → (w : List WalkStep) (n d : ℕ) → IsConsistent (links_of g) → IsUnbalanced g w n d → ⊥
 consistent_or_not g rules w n d even h =
-    h.not_one (one_in_lowest (links_of g) (has_sums g rules) w n d h.ratio (even h.link.source w h.closed))
+    (let x = h.walk_over in x.not_one (one_in_lowest (links_of g) (has_sums g rules) w n d x.ratio (even x.link.source w x.closed)))
 
 one_first : (g : GraphFile) (p q : List WalkStep) → IsRatioTooLarge g p → IsRatioTooLarge g q → p ≡ q
 one_first g p q h k =

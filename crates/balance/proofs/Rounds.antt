@@ -1,16 +1,17 @@
 -- The round of a graph whose channels keep the ratios: it balances, it is the least, and it sums to at least the common
 -- multiple of the denominators.
 use Rattle.std.proofs.Common.{◌≡◌, ℕ, zero, suc, ◌+◌, ◌*◌, ◌/◌, ◌%◌, ◌<◌, ◌≤◌, Bool, true, false, Some, None, List, [], ◌∷◌, ◌++◌, length, map, sum, sym, refl, ap, subst, ◌∙◌, inl, inr, arith, get_or}
-use Rattle.std.specs.Prelude.{slice_get, slice_index_or, slice_index}
+use Rattle.std.specs.Prelude.{slice_get, slice_index_or, slice_index, All}
 use Rattle.std.specs.Int.{IsGcd, ◌∣◌}
-use Rattle.std.proofs.Math.Nat.{eq_of_mul-eq-mul_right, eq_of_mul-eq-mul_left, mul-pos, mul-div_cancel', mul-le-mul_right, mul-le-mul_left, one-dvd}
-use Rattle.std.proofs.lemmas.Nat.{mod_below}
+use Rattle.std.proofs.Math.Nat.{eq_of_mul-eq-mul_right, eq_of_mul-eq-mul_left, mul-pos, mul-div_cancel', mul-le-mul_right, mul-le-mul_left, one-dvd, div-le_self}
+use Rattle.std.proofs.lemmas.Nat.{mod_below, mul-le}
 use Rattle.std.proofs.lemmas.Nat.Gcd.{IsGcd-from_zero, IsGcd-from_mod, dvd_trans, dvd_refl}
 use Rattle.std.proofs.lemmas.Bool.{cases_lt, cases_eq}
-use Rattle.std.proofs.lemmas.List.{nil_from_length, get_or_past, length-map, length_push, get_or_append_left, get_or_push, get_or-map}
-use Rattle.std.proofs.lemmas.List.Sums.{get_or-le-sum_by}
+use Rattle.std.proofs.lemmas.List.{nil_from_length, get_or_default, get_or_past, length-map, length_push, get_or_append_left, get_or_push, get_or-map}
+use Rattle.std.proofs.lemmas.List.Sums.{get_or-le-sum_by, sum_by-le}
+use Rattle.std.proofs.lemmas.List.Elements.{All-from_get_or}
 use Rattle.std.proofs.lemmas.Option.{none-some, same_Some, slice_get_within, slice_get-get_or, get_or_from_slice_get}
-use Rattle.sd_base.specs.Numbers.{IsLcm}
+use Rattle.sd_base.specs.Numbers.{IsLcm, IsAboveLimit}
 use Rattle.sd_base.proofs.Divisors.{root_divides, quotient_pos, lcm_from_gcd}
 use Rattle.sd_base.specs.declared.tables.GraphFile.{GraphFile}
 use Rattle.sd_base.specs.declared.tables.ActorRow.{ActorRow}
@@ -22,12 +23,13 @@ use Rattle.balance.specs.declared.ratio.Ratio.{Ratio}
 use Rattle.balance.specs.Walks.{links_of, IsWalk, IsWay, IsLowest, step_to, walk_num, walk_den}
 use Rattle.balance.specs.Repetition.{IsConsistent, IsKept, IsWithinLimit, WaysAreWithinLimit}
 use Rattle.balance.specs.Search.{HasEnds}
-use Rattle.balance.specs.Ratios.{one, ratio_at, IsRatio, AreRatios, Keeps, DivideAll, IsCommon, IsRoundBy}
+use Rattle.balance.specs.Ratios.{one, ratio_at, IsSmall, IsRatio, AreRatios, Keeps, DivideAll, IsCommon, IsRoundBy}
 use Rattle.balance.proofs.Order.{no_longer}
-use Rattle.balance.proofs.WalkLemmas.{HasSums, parts_pos, Balanced, carried}
+use Rattle.balance.specs.Search.{HasSums}
+use Rattle.balance.proofs.WalkLemmas.{parts_pos, Balanced, carried}
 use Rattle.balance.proofs.Shortest.{one_way}
 use Rattle.balance.proofs.Fractions.{one_lowest, lowest_pos, reduced, kept_by_lowest, lowest_by_kept}
-use Rattle.balance.proofs.TableLemmas.{at_All, has_sums, has_ends}
+use Rattle.balance.proofs.TableLemmas.{phases_at, has_sums}
 use Rattle.balance.proofs.Cycles.{balanced_cycles, balances_firings, cycles_of}
 
 -- ---- common multiples
@@ -54,6 +56,37 @@ common_exists (r ∷ rs) pos =
     at : (n m : ℕ) → IsLcm r.den m n → IsCommon rs m → (k : ℕ) (s : Ratio) → slice_get (r ∷ rs) k ≡ Some s → s.den ∣ n
     at n m l c zero s is = subst (λ (t : Ratio). t.den ∣ n) (same_Some r s is) l.1
     at n m l c (suc k) s is = dvd_trans s.den (c.all k s is) l.2
+
+-- the least common multiple of the denominators before place i
+pub record IsCommonBelow (rs : List Ratio) (i m : ℕ) : Type 0 where
+  pub some : 0 < m
+  pub all : (k : ℕ) (r : Ratio) → k < i → slice_get rs k ≡ Some r → r.den ∣ m
+  pub least : (n : ℕ) → ((k : ℕ) (r : Ratio) → k < i → slice_get rs k ≡ Some r → r.den ∣ n) → m ∣ n
+
+pub common_start : (rs : List Ratio) → IsCommonBelow rs 0 1
+common_start rs = record { some = omega arith; all = λ k r lt is. absurd (let none : ⊥ = omega arith in none); least = λ n h. one-dvd n }
+
+pub common_more : (rs : List Ratio) (i m n : ℕ) (r : Ratio) → slice_get rs i ≡ Some r → IsLcm m r.den n → IsCommonBelow rs i m → IsCommonBelow rs (i + 1) n
+common_more rs i m n r at lcm c = record {
+    some = lcm.0;
+    all = λ k s lt is. elim (cases_eq k i) [
+        inl e ↦ subst (λ (t : Ratio). t.den ∣ n) (same_Some r s (sym at ∙ ap (slice_get rs) (sym e) ∙ is)) lcm.2
+      | inr ne ↦ dvd_trans s.den (c.all k s (omega arith) is) lcm.1
+      ];
+    least = λ z h. lcm.3 z (c.least z (λ k s lt is. h k s (omega arith) is)) (h i r (omega arith) at)
+  }
+
+pub common_end : (rs : List Ratio) (i m : ℕ) → length rs ≤ i → IsCommonBelow rs i m → IsCommon rs m
+common_end rs i m end c = record {
+    some = c.some;
+    all = λ k r is. c.all k r (let lt = slice_get_within rs k r is in omega arith) is;
+    least = λ n h. c.least n (λ k r lt is. h k r is)
+  }
+
+-- where the next common multiple is above the limit, so is each one of all
+pub common_above : (rs : List Ratio) (i m limit : ℕ) (r : Ratio) → slice_get rs i ≡ Some r → IsAboveLimit m r.den limit → IsCommonBelow rs i m
+    → (n : ℕ) → 0 < n → DivideAll rs n → limit < n
+common_above rs i m limit r at above c n some all = above n some (c.least n (λ k s lt is. all k s is)) (all i r at)
 
 -- ---- the ratios by actor
 pub in_range : (rs : List Ratio) (b : ℕ) → b < length rs → slice_get rs b ≡ Some (ratio_at rs b)
@@ -170,20 +203,8 @@ least_at n d t m x y em div some sd h =
     let up : 1 * (t * n) ≤ (x / m) * (t * n) = mul-le-mul_right (t * n) pos in
     omega arith
 
-pub some_phase : (g : GraphFile) → KeepsRules g → (a : ℕ) → a < length (phases_of g) → 1 ≤ slice_index (phases_of g) a
-some_phase g rules a lt =
-    let size : length (phases_of g) ≡ length g.actors = length-map g.actors (λ (x : ActorRow). x.phases) in
-    let lt' : a < length g.actors = omega arith in
-    let (x, at) = at_place g.actors a lt' in
-    let keeps : ActorKeepsRules g.kind x = at_All (λ (y : ActorRow). ActorKeepsRules g.kind y) g.actors a x rules.actors at in
-    let e : slice_index (phases_of g) a ≡ x.phases = get_or-map (λ (y : ActorRow). y.phases) g.actors a x 0 lt' ∙ ap (λ (y : ActorRow). y.phases) (get_or_from_slice_get g.actors a x x at) in
-    let le = keeps.some_phase in
-    omega arith
-  where
-    at_place : (xs : List ActorRow) (k : ℕ) → k < length xs → (x : ActorRow) × (slice_get xs k ≡ Some x)
-    at_place [] k lt = absurd (let none : ⊥ = omega arith in none)
-    at_place (x ∷ xs) zero lt = (x, refl)
-    at_place (x ∷ xs) (suc k) lt = at_place xs k (omega arith)
+some_phase : (g : GraphFile) → KeepsRules g → (a : ℕ) → a < length (phases_of g) → 1 ≤ slice_index (phases_of g) a
+some_phase g rules a lt = (phases_at g rules a lt).0
 
 cycle_pos : (w f : ℕ) → 1 ≤ w → w ≡ (w / f) * f → 0 < w / f
 cycle_pos w f some e = elim (cases_lt 0 (w / f)) [
@@ -275,3 +296,32 @@ pub round_exists : (g : GraphFile) (rs : List Ratio) (m : ℕ) → (v : List ℕ
 round_exists g rs m =
     let (v, size, is) = tabulated (length (phases_of g)) (λ b. (m / (ratio_at rs b).den) * (ratio_at rs b).num * slice_index (phases_of g) b) in
     (v, record { size = size; each = is })
+
+pub small_at : (ls : List Link) (actors : ℕ) (rs : List Ratio) → AreRatios ls actors rs → (b : ℕ) → IsSmall (ratio_at rs b)
+small_at ls actors rs are b = (let s = small ls actors rs are b in (s.0, s.1, den_pos ls actors rs are b))
+
+pub all_small : (ls : List Link) (actors : ℕ) (rs : List Ratio) → AreRatios ls actors rs → All IsSmall rs
+all_small ls actors rs are k d lt = subst (λ (r : Ratio). IsSmall r) (get_or_default rs k one d lt) (small_at ls actors rs are k)
+
+-- a round's sum is below 2^64
+pub round_fits : (g : GraphFile) → KeepsRules g → (rs : List Ratio) (m : ℕ) (v : List ℕ) → AreRatios (links_of g) (length g.actors) rs → m ≤ 100000
+    → IsRoundBy (phases_of g) rs m v → sum v ≤ 128 * 40960000000000
+round_fits g rules rs m v are low by =
+    let size : length (phases_of g) ≡ length g.actors = length-map g.actors (λ (x : ActorRow). x.phases) in
+    let each : (b : ℕ) → b < length v → slice_index v b ≤ 40960000000000 = λ b lt.
+          (let lt' : b < length (phases_of g) = (let e = by.size in omega arith) in
+           let s = small (links_of g) (length g.actors) rs are b in
+           let f = phases_at g rules b lt' in
+           let div : m / (ratio_at rs b).den ≤ m = div-le_self m (ratio_at rs b).den in
+           let div' : m / (ratio_at rs b).den ≤ 100000 = omega arith in
+           let one' : (m / (ratio_at rs b).den) * (ratio_at rs b).num ≤ 100000 * 100000 = mul-le (m / (ratio_at rs b).den) (ratio_at rs b).num 100000 100000 div' s.0 in
+           let two : (m / (ratio_at rs b).den) * (ratio_at rs b).num * slice_index (phases_of g) b ≤ 100000 * 100000 * 4096 =
+                 mul-le ((m / (ratio_at rs b).den) * (ratio_at rs b).num) (slice_index (phases_of g) b) (100000 * 100000) 4096 one' f.1 in
+           let e = by.each b lt' in
+           omega (arith, two, e)) in
+    let all : All (λ x. x ≤ 40960000000000) v = All-from_get_or (λ x. x ≤ 40960000000000) v 0 each in
+    let le : sum v ≤ length v * 40960000000000 = sum_by-le (λ (x : ℕ). x) 40960000000000 v all in
+    let few = rules.few_actors in
+    let e = by.size in
+    let up : length v * 40960000000000 ≤ 128 * 40960000000000 = (let short : length v ≤ 128 = omega arith in mul-le-mul_right 40960000000000 short) in
+    omega arith

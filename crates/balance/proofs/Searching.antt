@@ -12,6 +12,7 @@ use Rattle.balance.specs.Walks.{IsWalk, IsWay, Precedes, step_to, step_from}
 use Rattle.balance.specs.Search.{key_from, trues, mark_at, HasEnds, IsGrown, IsSearch, IsSearching, IsTaken, IsPassed, IsLooked, IsTree}
 use Rattle.balance.proofs.Order.{key-append, walk_below, precedes_from_key}
 use Rattle.balance.proofs.WalkLemmas.{walk-append, crossing_by}
+use Rattle.balance.proofs.TableLemmas.{at_place}
 
 -- one more element at the end of a list
 pub push_cases : {A : Type 0} (xs : List A) (y x : A) (j : ℕ) → slice_get (xs ++ y ∷ []) j ≡ Some x → (slice_get xs j ≡ Some x) ⊎ ((j ≡ length xs) × (x ≡ y))
@@ -207,7 +208,7 @@ next_place ls m found seen i low in_list f = record {
     least = f.least;
     rising = f.rising;
     last = λ j x y at at'.
-        let (z, here) = some_at found i in_list in
+        let (z, here) = at_place found i in_list in
         let le : key_from m 0 x.way ≤ key_from m 0 z.way * m + length ls = f.last j x z at here in
         let up : key_from m 0 z.way < key_from m 0 y.way = f.rising i (i + 1) z y here at' (omega arith) in
         let wide : (key_from m 0 z.way + 1) * m ≤ key_from m 0 y.way * m = mul-le-mul_right m (omega arith) in
@@ -218,11 +219,6 @@ next_place ls m found seen i low in_list f = record {
       ];
     grown = f.grown
   }
-  where
-    some_at : (xs : List Found) (k : ℕ) → k < length xs → (x : Found) × (slice_get xs k ≡ Some x)
-    some_at [] k lt = absurd (let none : ⊥ = omega arith in none)
-    some_at (x ∷ xs) zero lt = (x, refl)
-    some_at (x ∷ xs) (suc k) lt = some_at xs k (omega arith)
 
 -- past the last place there is nothing to look at
 past : (ls : List Link) (m : ℕ) (found : List Found) (seen : ℕ → Bool) (i c c' : ℕ) → length found ≤ i

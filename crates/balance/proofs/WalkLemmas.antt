@@ -7,7 +7,7 @@ use Rattle.std.proofs.lemmas.Option.{same_Some}
 use Rattle.balance.specs.declared.walk.WalkStep.{WalkStep}
 use Rattle.balance.specs.declared.walk.Link.{Link}
 use Rattle.balance.specs.Walks.{IsWalk, step_to, step_from, step_num, step_den, num_at, den_at, walk_num, walk_den, turned}
-use Rattle.balance.specs.Search.{key_from}
+use Rattle.balance.specs.Search.{key_from, HasSums}
 use Rattle.balance.proofs.Order.{key-append, key_grows}
 
 pub walk-append : (ls : List Link) (xs ys : List WalkStep) (a b c : ℕ) → IsWalk ls a xs b → IsWalk ls b ys c → IsWalk ls a (xs ++ ys) c
@@ -42,11 +42,6 @@ den-append ls [] ys = omega arith
 den-append ls (x ∷ xs) ys =
     ap (λ n. den_at (slice_get ls x.channel) x.forward * n) (den-append ls xs ys)
     ∙ num_assoc (den_at (slice_get ls x.channel) x.forward) (walk_den ls xs) (walk_den ls ys)
-
--- each channel moves tokens in a cycle of phases
-pub record HasSums (ls : List Link) : Type 0 where
-  pub made : (k : ℕ) (l : Link) → slice_get ls k ≡ Some l → 0 < l.made
-  pub taken : (k : ℕ) (l : Link) → slice_get ls k ≡ Some l → 0 < l.taken
 
 at_pos : (ls : List Link) → HasSums ls → (k : ℕ) (f : Bool) (o : Option Link) → slice_get ls k ≡ o → (0 < num_at o f) × (0 < den_at o f)
 at_pos ls sums k f None is = (omega arith, omega arith)

@@ -88,22 +88,26 @@ pub record IsTreePath (ls : List Link) (a b : ℕ) (path : List WalkStep) : Type
   pub parted : IsParted back on
   pub path_is : path ≡ turned back ++ on
 
--- the first channel in file order that the ways' ratios don't keep, forward, then the tree's path from its target to its
--- source: a closed walk whose ratio in lowest terms is num/den, and not 1
+-- the channel, forward, then the tree's path from its target to its source: a closed walk whose ratio in lowest terms is
+-- num/den, and not 1
+pub record IsClosedOver (ls : List Link) (channel : ℕ) (walk : List WalkStep) (num den : ℕ) : Type 0 where
+  pub link : Link
+  pub over : slice_get ls channel ≡ Some link
+  pub path : List WalkStep
+  pub tree : IsTreePath ls link.target link.source path
+  pub walk_is : walk ≡ record { channel = channel; forward = true } ∷ path
+  pub closed : IsWalk ls link.source walk link.source
+  pub ratio : IsLowest num den (walk_num ls walk) (walk_den ls walk)
+  pub not_one : num ≢ den
+
+-- the walk over the first channel in file order that doesn't keep the ratios of the ways
 pub record IsUnbalanced (g : GraphFile) (walk : List WalkStep) (num den : ℕ) : Type 0 where
   pub connected : IsConnected g
   pub within : WaysAreWithinLimit (links_of g)
   pub channel : ℕ
-  pub link : Link
-  pub over : slice_get (links_of g) channel ≡ Some link
   pub fails : IsKept (links_of g) channel → ⊥
   pub first : (c : ℕ) → c < channel → IsKept (links_of g) c
-  pub path : List WalkStep
-  pub tree : IsTreePath (links_of g) link.target link.source path
-  pub walk_is : walk ≡ record { channel = channel; forward = true } ∷ path
-  pub closed : IsWalk (links_of g) link.source walk link.source
-  pub ratio : IsLowest num den (walk_num (links_of g) walk) (walk_den (links_of g) walk)
-  pub not_one : num ≢ den
+  pub walk_over : IsClosedOver (links_of g) channel walk num den
 
 -- when each refusal comes; want of memory is free
 abbrev pub IsRefusal : GraphFile → BalanceError → Type 0

@@ -3,7 +3,8 @@ use Rattle.std.specs.Prelude.{◌≡◌, ℕ, ◌+◌, ◌*◌, ◌<◌, ◌≤�
 use Rattle.balance.specs.declared.walk.WalkStep.{WalkStep}
 use Rattle.balance.specs.declared.walk.Link.{Link}
 use Rattle.balance.specs.declared.search.Found.{Found}
-use Rattle.balance.specs.Walks.{IsWalk, IsWay, Precedes, step_to, step_from}
+use Rattle.balance.specs.Walks.{IsWalk, IsWay, Precedes, step_to, step_from, turned}
+use Rattle.balance.specs.Repetition.{IsParted}
 
 -- the channel numbers of a walk as digits from 1 in base m, after those of acc
 abbrev pub key_from : ℕ → ℕ → List WalkStep → ℕ
@@ -24,6 +25,13 @@ mark_at bs v = slice_index_or bs v false
 pub record HasEnds (actors : ℕ) (ls : List Link) : Type 0 where
   pub source : (k : ℕ) (l : Link) → slice_get ls k ≡ Some l → l.source < actors
   pub target : (k : ℕ) (l : Link) → slice_get ls k ≡ Some l → l.target < actors
+
+-- each channel moves tokens in a cycle of phases: 1 to 4,096 phases of at most 1,000,000 each
+pub record HasSums (ls : List Link) : Type 0 where
+  pub made : (k : ℕ) (l : Link) → slice_get ls k ≡ Some l → 0 < l.made
+  pub taken : (k : ℕ) (l : Link) → slice_get ls k ≡ Some l → 0 < l.taken
+  pub most_made : (k : ℕ) (l : Link) → slice_get ls k ≡ Some l → l.made ≤ 4096000000
+  pub most_taken : (k : ℕ) (l : Link) → slice_get ls k ≡ Some l → l.taken ≤ 4096000000
 
 -- an entry's way is an earlier entry's and one step
 pub record IsGrown (ls : List Link) (found : List Found) (j : ℕ) (x : Found) : Type 0 where
@@ -92,3 +100,16 @@ pub record IsTree (ls : List Link) (actors : ℕ) (found : List Found) (seen : L
   pub marked : (v : ℕ) → mark_at seen v ≡ true → (j : ℕ) × (x : Found) × (slice_get found j ≡ Some x) × (x.actor ≡ v)
   pub within : (j : ℕ) (x : Found) → slice_get found j ≡ Some x → x.actor < actors
   pub size : length seen ≡ actors
+
+-- an actor is among what was found
+abbrev pub IsFound : List Found → ℕ → Type 0
+IsFound found a = (j : ℕ) × (x : Found) × (slice_get found j ≡ Some x) × (x.actor ≡ a)
+
+-- a walk over a channel and then back along one way that was found and on along another, without what both begin with
+abbrev pub IsClosedBetween : List Found → ℕ → Link → List WalkStep → Type 0
+IsClosedBetween found c l walk =
+    (j : ℕ) × (k : ℕ) × (x : Found) × (y : Found) × (slice_get found j ≡ Some x) × (slice_get found k ≡ Some y)
+    × (x.actor ≡ l.target) × (y.actor ≡ l.source)
+    × (common : List WalkStep) × (back : List WalkStep) × (on : List WalkStep)
+    × (x.way ≡ common ++ back) × (y.way ≡ common ++ on) × IsParted back on
+    × (walk ≡ record { channel = c; forward = true } ∷ (turned back ++ on))

@@ -1,6 +1,167 @@
+use std::alloc::Global;
+
+use sd_base::Rows;
+
+use crate::refusal::BalanceError;
+use crate::search::Search;
+use crate::walk::{Link, WalkStep};
+
 /// The ratio of a walk in lowest terms.
 #[derive(Clone, Copy)]
 pub struct Ratio {
     pub num: u128,
     pub den: u128,
+}
+
+ghost use Rattle.std.specs.Prelude.{◌≡◌, ℕ, ◌*◌, ◌<◌, ◌≤◌, ◌↔◌, ◌∷◌, ◌++◌, [], List, true, Some, IsTrue, IfOk, IfErr, MatchOption, length, slice_get, replicate};
+ghost use Rattle.std.specs.Int.{IsGcd};
+ghost use Rattle.balance.specs.declared.refusal.BalanceError.TheVariants.{NoMemory};
+ghost use Rattle.balance.specs.Walks.{IsLowest, step_from, step_num, step_den};
+ghost use Rattle.balance.specs.Search.{HasEnds, HasSums, IsTree, mark_at};
+ghost use Rattle.balance.specs.Ratios.{one, ratio_at, IsSmall, AreRatios, Keeps, IsLastStep, IsLimitRefusal, IsSummed};
+
+/// The greatest part of a ratio.
+const RATIO_LIMIT: u128 = 100_000;
+
+/// By actor the ratio of its way. The search finds ways in their order, so that the first one with a ratio above the
+/// limit is the one to refuse, and the ratios before it, from which the others are made, are within the limit.
+pub fn ratios(alloc: Global, links: &[Link], search: &Search) -> Result<Vec<Ratio>, BalanceError>
+    requires sums { HasSums links.now }
+    requires ends { HasEnds (length search.now.seen.items) links.now }
+    requires tree { IsTree links.now (length search.now.seen.items) search.now.found.items search.now.seen.items }
+    requires connected { (b : ℕ) → b < length search.now.seen.items → mark_at search.now.seen.items b ≡ true }
+    ensures ok { IfOk result (λ rs. AreRatios links.now (length search.now.seen.items) rs.items) }
+    ensures refusal { IfErr result (IsLimitRefusal links.now) }
+{
+    let mut ratios = ones(alloc, search.seen.len())?;
+    for place in 1..search.found.len() {
+        let entry = &search.found[place];
+        let ratio = last_ratio(links, &ratios, entry.way.as_slice());
+        if ratio.num > RATIO_LIMIT || ratio.den > RATIO_LIMIT {
+            let path = Vec::from_slice(alloc, entry.way.as_slice())?;
+            return Err(BalanceError::RatioTooLarge {
+                path: Rows::from_vec(path),
+            });
+        }
+        ratios[entry.actor] = ratio;
+    }
+    Ok(ratios)
+}
+
+/// The ratio 1 for each actor.
+fn ones(alloc: Global, actors: usize) -> Result<Vec<Ratio>, BalanceError>
+    ensures ok { IfOk result (λ rs. rs.items ≡ replicate actors one) }
+    ensures refusal { IfErr result (λ e. e ≡ NoMemory) }
+{
+    let mut ratios = Vec::new(alloc);
+    for _actor in 0..actors {
+        ratios.push(Ratio { num: 1, den: 1 })?;
+    }
+    Ok(ratios)
+}
+
+/// The ratio of a way from that of the actor from which its last step leads.
+fn last_ratio(links: &[Link], ratios: &[Ratio], way: &[WalkStep]) -> Ratio
+    requires sums { HasSums links.now }
+    requires grown { IsLastStep links.now ratios.now way.now }
+    ensures { (rest : List WalkStep) (s : WalkStep) (l : Link) → way.now ≡ rest ++ s ∷ [] → slice_get links.now s.channel ≡ Some l →
+        IsLowest result.num result.den ((ratio_at ratios.now (step_from l s.forward)).num * step_num l s.forward) ((ratio_at ratios.now (step_from l s.forward)).den * step_den l s.forward) }
+{
+    let step = way[way.len() - 1];
+    let link = links[step.channel as usize];
+    stepped(ratio_of(ratios, start_of(link, step)), link, step)
+}
+
+/// The ratio of an actor.
+pub fn ratio_of(ratios: &[Ratio], actor: usize) -> Ratio
+    requires { actor < length ratios.now }
+    ensures { result ≡ ratio_at ratios.now actor }
+{
+    ratios[actor]
+}
+
+/// Where a step over a channel begins.
+fn start_of(link: Link, step: WalkStep) -> usize
+    ensures { result ≡ step_from link step.forward }
+{
+    if step.forward { link.source } else { link.target }
+}
+
+/// A ratio times that of a step. The products are at most 100,000 times 4,096,000,000.
+fn stepped(before: Ratio, link: Link, step: WalkStep) -> Ratio
+    requires small { IsSmall before }
+    requires sums { IsSummed link }
+    ensures { IsLowest result.num result.den (before.num * step_num link step.forward) (before.den * step_den link step.forward) }
+{
+    let (made, taken) = (u128::from(link.made), u128::from(link.taken));
+    if step.forward {
+        lowest(before.num * made, before.den * taken)
+    } else {
+        lowest(before.num * taken, before.den * made)
+    }
+}
+
+/// num/den in lowest terms.
+pub fn lowest(num: u128, den: u128) -> Ratio
+    requires { 0 < den }
+    ensures { IsLowest result.num result.den num den }
+{
+    let common = gcd(num, den);
+    Ratio {
+        num: num / common,
+        den: den / common,
+    }
+}
+
+/// The greatest common divisor by Euclid's algorithm.
+fn gcd(a: u128, b: u128) -> u128
+    ensures { IsGcd a b result }
+{
+    let mut high = a;
+    let mut low = b;
+    'euclid: while low > 0 {
+        let rest = high % low;
+        high = low;
+        low = rest;
+    }
+    high
+}
+
+/// The first channel that doesn't keep the ratios.
+pub fn first_failing(links: &[Link], ratios: &[Ratio]) -> Option<usize>
+    requires sums { HasSums links.now }
+    requires ends { HasEnds (length ratios.now) links.now }
+    requires small { (b : ℕ) → IsSmall (ratio_at ratios.now b) }
+    ensures { MatchOption result ((k : ℕ) (l : Link) → slice_get links.now k ≡ Some l → Keeps ratios.now l)
+        (λ c. (l : Link) × (slice_get links.now c ≡ Some l) × (Keeps ratios.now l → ⊥) × ((k : ℕ) (m : Link) → k < c → slice_get links.now k ≡ Some m → Keeps ratios.now m)) }
+{
+    for channel in 0..links.len() {
+        if !keeps(ratios, links[channel]) {
+            return Some(channel);
+        }
+    }
+    None
+}
+
+/// Whether a channel keeps the ratios.
+fn keeps(ratios: &[Ratio], link: Link) -> bool
+    requires source { link.source < length ratios.now }
+    requires target { link.target < length ratios.now }
+    requires sums { IsSummed link }
+    requires small { (b : ℕ) → IsSmall (ratio_at ratios.now b) }
+    ensures { IsTrue result ↔ Keeps ratios.now link }
+{
+    let (source, target) = (ratio_of(ratios, link.source), ratio_of(ratios, link.target));
+    product(source.num, link.made, target.den) == product(target.num, link.taken, source.den)
+}
+
+/// What the firings of a whole round of cycles move over a channel, but for a common factor: at most 100,000 times
+/// 4,096,000,000 times 100,000, which is above 2^64 and below 2^128.
+pub fn product(num: u128, sum: u64, den: u128) -> u128
+    requires num { num ≤ 100000 }
+    requires sum { sum ≤ 4096000000 }
+    requires den { den ≤ 100000 }
+    ensures { result ≡ num * sum * den }
+{
+    num * u128::from(sum) * den
 }

@@ -1,4 +1,4 @@
-ghost use Rattle.std.specs.Prelude.{◌≡◌, ℕ, ◌+◌, ◌<◌, ◌≤◌, [], ◌∷◌, ◌++◌, length, slice_get, slice_set, IfOk, OnOk, replicate, true, false};
+ghost use Rattle.std.specs.Prelude.{◌≡◌, ℕ, ◌+◌, ◌<◌, ◌≤◌, [], ◌∷◌, ◌++◌, length, slice_get, slice_set, IfOk, OnOk, MatchOption, replicate, true, false, ◌^◌};
 
 use std::alloc::{AllocError, Global};
 
@@ -20,7 +20,7 @@ pub struct Search {
     pub seen: Vec<bool>,
 }
 
-ghost use Rattle.balance.specs.Search.{HasEnds, IsSearching, IsLooked, IsTree};
+ghost use Rattle.balance.specs.Search.{HasEnds, IsSearching, IsLooked, IsTree, mark_at};
 
 /// The ways from actor 0 to all actors that walks reach. Breadth first, over the channels in their order, so that
 /// ways are found by rising numbers of steps, and of as many steps by rising lists of channels. It looks at each
@@ -64,6 +64,20 @@ pub fn unmarked(alloc: Global, actors: usize) -> Result<Vec<bool>, AllocError>
         marks.push(false)?;
     }
     Ok(marks)
+}
+
+/// The least actor that isn't marked.
+pub fn first_unmarked(marks: &[bool]) -> Option<u32>
+    requires { length marks.now < 2 ^ 32 }
+    ensures { MatchOption result ((b : ℕ) → b < length marks.now → mark_at marks.now b ≡ true)
+        (λ b. (b < length marks.now) × (mark_at marks.now b ≡ false) × ((c : ℕ) → c < b → mark_at marks.now c ≡ true)) }
+{
+    for actor in 0..marks.len() {
+        if !marks[actor] {
+            return Some(actor as u32);
+        }
+    }
+    None
 }
 
 /// Looks from the actor at a place over all channels.

@@ -1,0 +1,9 @@
+use Rattle.std.proofs.Common.{◌≡◌, ℕ, ◌<◌, ◌≤◌, Some}
+use Rattle.std.specs.Prelude.{slice_get}
+use Rattle.std.specs.Int.{◌∣◌}
+use Rattle.balance.specs.declared.ratio.Ratio.{Ratio}
+use Rattle.balance.proofs.round.common_den.Given as goal
+use Rattle.balance.proofs.Rounds.{IsCommonBelow}
+
+abbrev pub invariant-loop-ratio : goal.invariant-loop-ratio
+invariant-loop-ratio l = IsCommonBelow l.ratios l.ratio-index l.common × (l.common ≤ 100000)
