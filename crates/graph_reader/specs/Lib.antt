@@ -1,3 +1,4 @@
 pub mod Chain
 pub mod Written
 pub mod Loose
+pub mod Laws

@@ -6,6 +6,7 @@ ghost use Rattle.sd_base.specs.Tables.{KeepsRules, IsTimed};
 ghost use Rattle.sd_base.specs.declared.tables.GraphFile.{GraphFile};
 ghost use Rattle.graph_reader.specs.Chain.{is_plain_chain};
 ghost use Rattle.graph_reader.specs.Written.{written};
+ghost use Rattle.graph_reader.specs.Laws.{HasOneChain, ChainsKeepRules};
 
 mod chain;
 mod error;
@@ -37,6 +38,12 @@ pub fn read_graph(alloc: Global, bytes: &[u8]) -> Result<GraphFile, ReadError>
     }
     Ok(table)
 }
+
+/// Two plain chains of one written form are one, and a plain chain keeps the rules of a table.
+pub fn know_chains()
+    ensures one { HasOneChain }
+    ensures keeps { ChainsKeepRules }
+{}
 
 fn is_same(a: &[u8], b: &[u8]) -> bool
     ensures { IsTrue result ↔ (a.now ≡ b.now) }

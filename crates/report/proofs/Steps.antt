@@ -5,6 +5,8 @@ use Rattle.std.proofs.lemmas.List.{append_assoc, append-nil, at_drop_all}
 use Rattle.sd_base.specs.declared.tables.ActorRow.{ActorRow}
 use Rattle.sd_base.specs.declared.tables.GraphFile.{GraphFile}
 use Rattle.report.specs.Names.{escaped_byte, escaped_name}
+use Rattle.balance.specs.declared.walk.WalkStep.{WalkStep}
+use Rattle.report.specs.Walks.{more_steps, step_text}
 use Rattle.report.specs.Answers.{number_line, number_lines, repetition_header, repetition_lines}
 
 -- a piece more is written and a piece less is left
@@ -53,3 +55,26 @@ lines_end text whole rows vs i past kept =
 pub lines_start : (g : GraphFile) (vs text : List ℕ) → text ≡ repetition_header (length g.actors) → text ++ number_lines (drop 0 g.actors) (drop 0 vs) ≡ repetition_lines g vs
 unfolding repetition_lines
 lines_start g vs text is = ap (λ (l : List ℕ). l ++ number_lines g.actors vs) is
+
+walk-nil : (g : GraphFile) → more_steps g [] ≡ []
+unfolding more_steps
+walk-nil g = refl
+
+walk-drop : (g : GraphFile) (ss : List WalkStep) (i : ℕ) (d : WalkStep) → i < length ss
+    → more_steps g (drop i ss) ≡ (32 ∷ []) ++ (step_text g (get_or ss i d) ++ more_steps g (drop (i + 1) ss))
+unfolding more_steps
+walk-drop g ss i d h = rw (add-one, drop-cons ss i d h) refl
+
+-- one step of a walk more
+pub steps_next : (g : GraphFile) (text spaced new whole : List ℕ) (ss : List WalkStep) (i : ℕ) (d : WalkStep) → i < length ss
+    → text ++ more_steps g (drop i ss) ≡ whole → spaced ≡ text ++ 32 ∷ [] → new ≡ spaced ++ step_text g (get_or ss i d)
+    → new ++ more_steps g (drop (i + 1) ss) ≡ whole
+steps_next g text spaced new whole ss i d h kept space is =
+    next text ((32 ∷ []) ++ step_text g (get_or ss i d)) _ _ whole new
+    (walk-drop g ss i d h ∙ sym (append_assoc (32 ∷ []) (step_text g (get_or ss i d)) (more_steps g (drop (i + 1) ss)))) kept
+    (is ∙ ap (λ (l : List ℕ). l ++ step_text g (get_or ss i d)) space ∙ append_assoc text (32 ∷ []) (step_text g (get_or ss i d)))
+
+pub steps_end : (g : GraphFile) (text whole : List ℕ) (ss : List WalkStep) (i : ℕ) → length ss ≤ i
+    → text ++ more_steps g (drop i ss) ≡ whole → text ≡ whole
+steps_end g text whole ss i past kept =
+    sym (append-nil text) ∙ ap (λ (l : List ℕ). text ++ l) (sym (at_drop_all (λ r. more_steps g r) ss i past ∙ walk-nil g)) ∙ kept

@@ -5,8 +5,10 @@ mod answers;
 mod names;
 mod refusal;
 mod refusals;
+mod walks;
 
 pub use answers::repetition_text;
 pub use names::escaped;
 pub use refusal::Refusal;
 pub use refusals::{memory_text, refusal_text};
+pub use walks::walk_text;

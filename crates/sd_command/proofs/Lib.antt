@@ -1,2 +1,5 @@
 mod Causes
+mod Decided
+mod Shown
 mod FourWords
+mod WalkSteps

@@ -3,3 +3,4 @@ pub mod Statuses
 pub mod Runs
 pub mod Stops
 pub mod Sendings
+pub mod Endings

@@ -1,12 +1,15 @@
 -- What one run of the program shows: what was due to its words and files, and what it sent.
-use Rattle.std.specs.Prelude.{◌≡◌, ℕ, ◌<◌, ◌≤◌, ◌⊎◌, Bool, true, false, List, length, sum, Option, Some, None, IsSomeAnd, codes}
+use Rattle.std.specs.Prelude.{◌≡◌, ℕ, ◌<◌, ◌≤◌, ◌⊎◌, Bool, true, false, List, [], length, slice_index_or, Option, Some, None, IsSomeAnd, codes}
 use Rattle.sd_base.specs.declared.tables.GraphFile.{GraphFile}
-use Rattle.sd_base.specs.Net.{IsRepetitionOf}
 use Rattle.sd_io.specs.Outside.{Rose, SentPart, with_sent}
 use Rattle.graph_reader.specs.Chain.{is_plain_chain}
 use Rattle.graph_reader.specs.Written.{written}
 use Rattle.report.specs.declared.refusal.Refusal.{Refusal}
-use Rattle.report.specs.declared.refusal.Refusal.TheVariants.{UsageWords, Layout, Above, ShelfGraph}
+use Rattle.report.specs.declared.refusal.Refusal.TheVariants.{UsageWords, Layout, Above, Ratio, Inconsistent, Apart, ShelfGraph}
+use Rattle.balance.specs.declared.walk.WalkStep.{WalkStep}
+use Rattle.balance.specs.Repetition.{IsRound, IsApart, IsRatioTooLarge, IsUnbalanced, IsRoundTooLarge}
+use Rattle.report.specs.Names.{escaped_name}
+use Rattle.report.specs.Walks.{steps_text}
 use Rattle.report.specs.Lines.{line_of, memory_line}
 use Rattle.report.specs.Answers.{repetition_lines}
 use Rattle.sd_command.specs.Words.{Asks}
@@ -30,17 +33,34 @@ pub record Takes (given : Given) (name bytes : List ℕ) : Type 0 where
 abbrev pub Spells : List ℕ → GraphFile → Type 0
 Spells bytes graph = (is_plain_chain graph ≡ true) × (bytes ≡ written graph)
 
+-- the printed name of an actor
+abbrev pub actor_shown : GraphFile → ℕ → List ℕ
+actor_shown graph a = escaped_name (slice_index_or graph.actors a (record { name = []; phases = 0; times = [] })).name
+
+-- a refusal that is due to the balance of a graph
+abbrev pub IsBalanceRefusal : GraphFile → Refusal → Type 0
+IsBalanceRefusal graph (Apart scenario a b) = (scenario ≡ None)
+    × ((x y : ℕ) × IsApart graph x y × (a ≡ actor_shown graph x) × (b ≡ actor_shown graph y))
+IsBalanceRefusal graph (Ratio scenario number path) = (scenario ≡ None) × (number ≡ 100000)
+    × ((p : List WalkStep) × IsRatioTooLarge graph p × (path ≡ steps_text graph p))
+IsBalanceRefusal graph (Inconsistent scenario walk num den) = (scenario ≡ None)
+    × ((w : List WalkStep) × IsUnbalanced graph w num den × (walk ≡ steps_text graph w))
+IsBalanceRefusal graph (Above scenario quantity number) = (scenario ≡ None) × (quantity ≡ codes "round") × (number ≡ 100000) × IsRoundTooLarge graph
+IsBalanceRefusal graph UsageWords = ⊥
+IsBalanceRefusal graph Layout = ⊥
+IsBalanceRefusal graph ShelfGraph = ⊥
+
 -- a refusal that is due to the bytes of a graph file
 pub data IsGraphRefusal (bytes : List ℕ) (refusal : Refusal) : Type 0 where
   unread : refusal ≡ Layout → ((graph : GraphFile) → Spells bytes graph → ⊥) → IsGraphRefusal bytes refusal
+  of_balance : (graph : GraphFile) → Spells bytes graph → IsBalanceRefusal graph refusal → IsGraphRefusal bytes refusal
 
 -- the text that answers the bytes of a graph file, where no refusal is due to them
 pub record IsGraphAnswer (bytes text : List ℕ) : Type 0 where
   pub graph : GraphFile
   pub gamma : List ℕ
   pub spelled : Spells bytes graph
-  pub repetition : IsRepetitionOf graph gamma
-  pub small : sum gamma ≤ 100000
+  pub round : IsRound graph gamma
   pub shown : text ≡ repetition_lines graph gamma
 
 -- a refusal that is due: its cause stands in the words and files, and no earlier step has one

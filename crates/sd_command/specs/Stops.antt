@@ -1,11 +1,12 @@
 -- Inside the crate: why the steps of a command end without an answer. No public clause cites this.
 use Rattle.std.specs.Prelude.{◌≡◌, ℕ, ◌<◌, ◌⊎◌, Bool, true, List, length, Option, None, IsSomeAnd, codes}
+use Rattle.sd_base.specs.declared.tables.GraphFile.{GraphFile}
 use Rattle.sd_io.specs.Outside.{Rose}
 use Rattle.report.specs.declared.refusal.Refusal.{Refusal}
 use Rattle.report.specs.declared.refusal.Refusal.TheVariants.{Above, ShelfGraph}
 use Rattle.sd_command.specs.declared.stop.Stop.{Stop}
 use Rattle.sd_command.specs.declared.stop.Stop.TheVariants.{Refused, OutOfMemory}
-use Rattle.sd_command.specs.Runs.{Given, IsDue, IsGraphRefusal, IsShelfFault}
+use Rattle.sd_command.specs.Runs.{Given, IsDue, IsBalanceRefusal, IsGraphRefusal, IsShelfFault}
 
 -- a command is refused as is due, or for a fault of the shelf, or has no memory
 abbrev pub IsStop : Given → ℕ → ℕ → Stop → Type 0
@@ -23,3 +24,8 @@ IsTakingStop tells file old new OutOfMemory = Unit {0}
 abbrev pub IsGraphStop : List ℕ → Stop → Type 0
 IsGraphStop bytes (Refused refusal) = IsGraphRefusal bytes refusal
 IsGraphStop bytes OutOfMemory = Unit {0}
+
+-- and of its balance
+abbrev pub IsBalanceStop : GraphFile → Stop → Type 0
+IsBalanceStop graph (Refused refusal) = IsBalanceRefusal graph refusal
+IsBalanceStop graph OutOfMemory = Unit {0}

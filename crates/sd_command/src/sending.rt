@@ -2,10 +2,11 @@ ghost use Rattle.std.specs.Prelude.{◌≡◌, ℕ, ◌≤◌, ◌⊎◌, List, 
 ghost use Rattle.sd_io.specs.Outside.{Rose, SentPart, with_sent};
 ghost use Rattle.report.specs.Lines.{line_of, memory_line};
 ghost use Rattle.sd_command.specs.Statuses.{status_of};
-ghost use Rattle.sd_command.specs.Sendings.{SendsLine};
+ghost use Rattle.sd_command.specs.Sendings.{SendsLine, SendsStop};
 ghost use Rattle.sd_command.specs.declared.status.Status.TheVariants as statuses;
 
 use crate::status::{Status, status_for};
+use crate::stop::Stop;
 use report::{Refusal, memory_text, refusal_text};
 use sd_io::{Sink, send_all};
 use std::alloc::Global;
@@ -21,8 +22,19 @@ pub(crate) fn send_answer<K: Sink>(out: &mut K, text: &[u8]) -> Status
     }
 }
 
-/// Sends the line of a refusal.
-pub(crate) fn refuse<K: Sink>(alloc: Global, err: &mut K, refusal: &Refusal) -> Status
+/// Sends the line of what a command stopped for.
+pub(crate) fn send_stop<K: Sink>(alloc: Global, err: &mut K, stop: &Stop) -> Status
+    ensures sends { SendsStop stop.now result (K.sent err.old) (K.sent err.new) (K.faults err.old) (K.faults err.new) }
+    ensures grows { K.faults err.old ≤ K.faults err.new }
+{
+    match stop {
+        Stop::Refused(refusal) => refuse(alloc, err, refusal),
+        Stop::OutOfMemory => lack_memory(err),
+    }
+}
+
+// Sends the line of a refusal.
+fn refuse<K: Sink>(alloc: Global, err: &mut K, refusal: &Refusal) -> Status
     ensures sends { SendsLine (status_of refusal.now) (line_of refusal.now) result (K.sent err.old) (K.sent err.new) (K.faults err.old) (K.faults err.new)
         ⊎ SendsLine statuses.Memory memory_line result (K.sent err.old) (K.sent err.new) (K.faults err.old) (K.faults err.new) }
     ensures grows { K.faults err.old ≤ K.faults err.new }
@@ -36,8 +48,8 @@ pub(crate) fn refuse<K: Sink>(alloc: Global, err: &mut K, refusal: &Refusal) -> 
     }
 }
 
-/// Sends the line for want of memory, which takes none.
-pub(crate) fn lack_memory<K: Sink>(err: &mut K) -> Status
+// Sends the line for want of memory, which takes none.
+fn lack_memory<K: Sink>(err: &mut K) -> Status
     ensures sends { SendsLine statuses.Memory memory_line result (K.sent err.old) (K.sent err.new) (K.faults err.old) (K.faults err.new) }
     ensures grows { K.faults err.old ≤ K.faults err.new }
 {

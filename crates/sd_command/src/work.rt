@@ -1,12 +1,14 @@
 ghost use Rattle.std.specs.Prelude.{◌≡◌, ℕ, ◌≤◌, true, List, length, IfErr, IfOk, Some, None};
 ghost use Rattle.sd_base.specs.Tables.{KeepsRules};
-ghost use Rattle.report.specs.declared.refusal.Refusal.TheVariants.{Above};
-ghost use Rattle.sd_command.specs.declared.stop.Stop.TheVariants.{Refused};
+ghost use Rattle.balance.specs.Repetition.{IsRound};
+ghost use Rattle.report.specs.Answers.{repetition_lines};
 ghost use Rattle.sd_command.specs.Runs.{Given, IsAnswer, IsGraphAnswer};
-ghost use Rattle.sd_command.specs.Stops.{IsGraphStop, IsStop, IsTakingStop};
+ghost use Rattle.sd_command.specs.Stops.{IsBalanceStop, IsGraphStop, IsStop, IsTakingStop};
 
+use crate::balancing::{above, balance_refusal};
 use crate::stop::Stop;
 use crate::words::graph_asked;
+use balance::repetition;
 use graph_reader::{ReadError, read_graph};
 use report::{Refusal, repetition_text};
 use sd_base::{GraphFile, NoMemory, Rows, Text};
@@ -48,19 +50,13 @@ fn take_graph<S: Shelf>(alloc: Global, shelf: &mut S, name: &str) -> Result<Rows
     match shelf.take(alloc, name, FILE_BYTES) {
         Ok(bytes) => Ok(bytes),
         Err(TakeError::Failed) => Err(Stop::Refused(Refusal::ShelfGraph)),
-        Err(TakeError::TooLong) => Err(above(alloc, "file bytes", FILE_BYTES as u64)?),
+        Err(TakeError::TooLong) => Err(Stop::Refused(above(
+            alloc,
+            "file bytes",
+            FILE_BYTES as u64,
+        )?)),
         Err(TakeError::NoMemory) => Err(Stop::OutOfMemory),
     }
-}
-
-fn above(alloc: Global, quantity: &str, number: u64) -> Result<Stop, NoMemory>
-    ensures { IfOk result (λ stop. stop ≡ Refused (Above None quantity.now number)) }
-{
-    Ok(Stop::Refused(Refusal::Above {
-        scenario: None,
-        quantity: Text::new(String::from_str(alloc, quantity)?),
-        number,
-    }))
 }
 
 // The text that answers the bytes of a graph file.
@@ -69,8 +65,20 @@ fn repetition_answer(alloc: Global, bytes: &[u8]) -> Result<Rows<u8>, Stop>
     ensures stopped { IfErr result (IsGraphStop bytes.now) }
 {
     match read_graph(alloc, bytes) {
-        Ok(_) => Err(Stop::OutOfMemory),
+        Ok(graph) => graph_answer(alloc, &graph),
         Err(ReadError::Layout) => Err(Stop::Refused(Refusal::Layout)),
         Err(ReadError::NoMemory) => Err(Stop::OutOfMemory),
+    }
+}
+
+// The text that answers a graph.
+fn graph_answer(alloc: Global, graph: &GraphFile) -> Result<Rows<u8>, Stop>
+    requires { KeepsRules graph.now }
+    ensures ok { IfOk result (λ text. (gamma : List ℕ) × IsRound graph.now gamma × (text ≡ repetition_lines graph.now gamma)) }
+    ensures stopped { IfErr result (IsBalanceStop graph.now) }
+{
+    match repetition(alloc, graph) {
+        Ok(gamma) => Ok(repetition_text(alloc, graph, gamma.as_slice())?),
+        Err(error) => Err(Stop::Refused(balance_refusal(alloc, graph, &error)?)),
     }
 }

@@ -23,7 +23,7 @@ impl MemoryShelf {
     /// the calls that fail with a counted fault. A take of a name that isn't there counts none.
     pub fn new(files: Rows<(Text, Rows<u8>)>, failing: Rows<u64>) -> Result<MemoryShelf, NoMemory>
         requires { NamesDiffer files }
-        ensures { IfOk result (λ s. (s.files ≡ files) × (s.faults ≡ 0)) }
+        ensures { IfOk result (λ s. (s.files ≡ files) × (s.failing ≡ failing) × (s.calls ≡ 0) × (s.faults ≡ 0)) }
     {
         Ok(MemoryShelf {
             files,

@@ -30,7 +30,8 @@ impl MemorySink {
         failing: Rows<u64>,
     ) -> Result<MemorySink, NoMemory>
         requires { 0 < most }
-        ensures { IfOk result (λ s. (s.bytes.items ≡ []) × (s.faults ≡ 0)) }
+        ensures empty { IfOk result (λ s. (s.bytes.items ≡ []) × (s.faults ≡ 0)) }
+        ensures takes { IfOk result (λ s. (s.room ≡ room) × (s.most ≡ most) × (s.failing ≡ failing) × (s.sends ≡ 0)) }
     {
         Ok(MemorySink {
             bytes: Vec::with_capacity(alloc, room)?,

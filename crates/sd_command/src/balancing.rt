@@ -1,0 +1,91 @@
+ghost use Rattle.std.specs.Prelude.{◌≡◌, ℕ, ◌<◌, IfOk, None, List, length};
+ghost use Rattle.sd_base.specs.Tables.{KeepsRules};
+ghost use Rattle.balance.specs.Repetition.{IsApart, IsRatioTooLarge, IsRefusal, IsUnbalanced};
+ghost use Rattle.report.specs.declared.refusal.Refusal.TheVariants.{Above};
+ghost use Rattle.sd_command.specs.Runs.{IsBalanceRefusal};
+
+use balance::{BalanceError, WalkStep};
+use report::{Refusal, escaped, walk_text};
+use sd_base::{GraphFile, NoMemory, Text};
+use std::alloc::Global;
+
+/// The greatest number of either part of a ratio, and of the firings of a round.
+const GREATEST: u64 = 100_000;
+
+/// The refusal of a graph that has no repetition vector within the limits.
+pub(crate) fn balance_refusal(
+    alloc: Global,
+    graph: &GraphFile,
+    error: &BalanceError,
+) -> Result<Refusal, NoMemory>
+    requires keeps { KeepsRules graph.now }
+    requires cause { IsRefusal graph.now error.now }
+    ensures { IfOk result (IsBalanceRefusal graph.now) }
+{
+    match error {
+        BalanceError::Apart { a, b } => apart(alloc, graph, *a, *b),
+        BalanceError::RatioTooLarge { path } => ratio(alloc, graph, path.as_slice()),
+        BalanceError::Unbalanced { walk, num, den } => inconsistent(
+            alloc,
+            graph,
+            walk.as_slice(),
+            *num,
+            *den,
+        ),
+        BalanceError::RoundTooLarge => above(alloc, "round", GREATEST),
+        BalanceError::NoMemory => Err(NoMemory),
+    }
+}
+
+/// The refusal of a quantity that passes its greatest number.
+pub(crate) fn above(alloc: Global, quantity: &str, number: u64) -> Result<Refusal, NoMemory>
+    ensures { IfOk result (λ refusal. refusal ≡ Above None quantity.now number) }
+{
+    Ok(Refusal::Above {
+        scenario: None,
+        quantity: Text::new(String::from_str(alloc, quantity)?),
+        number,
+    })
+}
+
+fn apart(alloc: Global, graph: &GraphFile, a: u32, b: u32) -> Result<Refusal, NoMemory>
+    requires keeps { KeepsRules graph.now }
+    requires cause { IsApart graph.now a b }
+    ensures { IfOk result (IsBalanceRefusal graph.now) }
+{
+    let actors = graph.actors.as_slice();
+    Ok(Refusal::Apart {
+        scenario: None,
+        a: escaped(alloc, actors[a as usize].name.as_str())?,
+        b: escaped(alloc, actors[b as usize].name.as_str())?,
+    })
+}
+
+fn ratio(alloc: Global, graph: &GraphFile, path: &[WalkStep]) -> Result<Refusal, NoMemory>
+    requires { IsRatioTooLarge graph.now path.now }
+    ensures { IfOk result (IsBalanceRefusal graph.now) }
+{
+    Ok(Refusal::Ratio {
+        scenario: None,
+        number: GREATEST,
+        path: walk_text(alloc, graph, path)?,
+    })
+}
+
+fn inconsistent(
+    alloc: Global,
+    graph: &GraphFile,
+    walk: &[WalkStep],
+    num: u128,
+    den: u128,
+) -> Result<Refusal, NoMemory>
+    requires { IsUnbalanced graph.now walk.now num den }
+    ensures { IfOk result (IsBalanceRefusal graph.now) }
+{
+    Ok(Refusal::Inconsistent {
+        scenario: None,
+        walk: walk_text(alloc, graph, walk)?,
+        num,
+        den,
+    })
+}

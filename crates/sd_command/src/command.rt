@@ -1,0 +1,45 @@
+ghost use Rattle.std.specs.Prelude.{◌≡◌, ℕ, ◌≤◌, Bool, List};
+ghost use Rattle.sd_command.specs.Runs.{Given, Run, Shows};
+
+use crate::sending::{send_answer, send_stop};
+use crate::status::Status;
+use crate::work::answer;
+use sd_base::Text;
+use sd_io::{Shelf, Sink};
+use std::alloc::Global;
+use std::thread::Threads;
+
+/// Carries one command out: `words` are those after the program's name. The answer goes to `out`, the line of a
+/// refusal to `err`. All texts are made before anything is sent. The runtime is for the commands that fork.
+pub fn analyse<R: Threads + Sync, S: Shelf, K: Sink>(
+    _rt: &R,
+    alloc: Global,
+    words: &[Text],
+    shelf: &mut S,
+    out: &mut K,
+    err: &mut K,
+) -> Status
+    ensures shows { let run : Run = record {
+      given = record { words = words.now; tells = S.tells shelf.old; file = S.file shelf.old };
+      status = result;
+      file_after = S.file shelf.new;
+      out = K.sent out.old;
+      out_after = K.sent out.new;
+      err = K.sent err.old;
+      err_after = K.sent err.new;
+      shelf_faults = S.faults shelf.old;
+      shelf_faults_after = S.faults shelf.new;
+      out_faults = K.faults out.old;
+      out_faults_after = K.faults out.new;
+      err_faults = K.faults err.old;
+      err_faults_after = K.faults err.new;
+    } in (cut : Bool) × Shows run cut }
+    ensures shelf_grows { S.faults shelf.old ≤ S.faults shelf.new }
+    ensures out_grows { K.faults out.old ≤ K.faults out.new }
+    ensures err_grows { K.faults err.old ≤ K.faults err.new }
+{
+    match answer(alloc, words, shelf) {
+        Ok(text) => send_answer(out, text.as_slice()),
+        Err(stop) => send_stop(alloc, err, &stop),
+    }
+}
