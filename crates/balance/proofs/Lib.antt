@@ -11,3 +11,4 @@ pub mod TreePaths
 pub mod Rating
 pub mod Keeping
 pub mod Deciding
+pub mod Paths

@@ -1,4 +1,6 @@
 pub mod Walks
 pub mod Repetition
+pub mod Connection
 pub mod Search
 pub mod Ratios
+pub mod Reaching

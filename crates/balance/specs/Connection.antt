@@ -1,0 +1,49 @@
+-- Directed paths over pairs of actors, each from its first actor to its second.
+use Rattle.std.specs.Prelude.{◌≡◌, ℕ, ◌<◌, ◌⊎◌, Some, List, [], ◌∷◌, slice_get, All, Any}
+use Rattle.balance.specs.declared.connection.ConnectError.{ConnectError}
+use Rattle.balance.specs.declared.connection.ConnectError.TheVariants.{OneWay, NoMemory}
+
+-- the pairs with these numbers lead from actor a to actor b, each from where the one before ends
+abbrev pub IsPath : List (ℕ × ℕ) → ℕ → List ℕ → ℕ → Type 0
+IsPath ends a [] b = a ≡ b
+IsPath ends a (k ∷ ks) b = (e : ℕ × ℕ) × (slice_get ends k ≡ Some e) × (a ≡ e.0) × IsPath ends e.1 ks b
+
+-- a path leads from a to b
+abbrev pub Reaches : List (ℕ × ℕ) → ℕ → ℕ → Type 0
+Reaches ends a b = (ks : List ℕ) × IsPath ends a ks b
+
+-- both actors of each pair are below the number of actors
+abbrev pub AreActors : ℕ → List (ℕ × ℕ) → Type 0
+AreActors actors ends = All (λ e. (e.0 < actors) × (e.1 < actors)) ends
+
+abbrev pub IsStronglyConnected : ℕ → List (ℕ × ℕ) → Type 0
+IsStronglyConnected actors ends = (a b : ℕ) → a < actors → b < actors → Reaches ends a b
+
+-- x is the least actor that actor 0 doesn't reach
+pub record IsFirstUnreached (actors : ℕ) (ends : List (ℕ × ℕ)) (x : ℕ) : Type 0 where
+  pub actor : x < actors
+  pub unreached : Reaches ends 0 x → ⊥
+  pub least : (c : ℕ) → c < x → Reaches ends 0 c
+
+-- actor 0 reaches each actor, and x is the least one that doesn't reach it
+pub record IsFirstNotReaching (actors : ℕ) (ends : List (ℕ × ℕ)) (x : ℕ) : Type 0 where
+  pub reached : (c : ℕ) → c < actors → Reaches ends 0 c
+  pub actor : x < actors
+  pub not_reaching : Reaches ends x 0 → ⊥
+  pub least : (c : ℕ) → c < x → Reaches ends c 0
+
+-- when each refusal comes; want of memory is free
+abbrev pub IsConnectRefusal : ℕ → List (ℕ × ℕ) → ConnectError → Type 0
+IsConnectRefusal actors ends (OneWay from to) =
+    ((from ≡ 0) × IsFirstUnreached actors ends to) ⊎ ((to ≡ 0) × IsFirstNotReaching actors ends from)
+IsConnectRefusal actors ends NoMemory = Unit {0}
+
+-- some pair enters an actor
+abbrev pub HasInput : List (ℕ × ℕ) → ℕ → Type 0
+HasInput ends a = Any (λ e. e.1 ≡ a) ends
+
+-- a is the least actor that no pair enters
+pub record IsFirstWithoutInput (actors : ℕ) (ends : List (ℕ × ℕ)) (a : ℕ) : Type 0 where
+  pub actor : a < actors
+  pub none : HasInput ends a → ⊥
+  pub least : (c : ℕ) → c < a → HasInput ends c
