@@ -23,4 +23,4 @@ pub ratio_steps : (g : GraphFile) (p : List WalkStep) → IsRatioTooLarge g p �
 ratio_steps g p h = walk-channels g 0 h.way.end p h.way.way.0
 
 pub unbalanced_steps : (g : GraphFile) (w : List WalkStep) (num den : ℕ) → IsUnbalanced g w num den → All (λ s. s.channel < length g.channels) w
-unbalanced_steps g w num den h = walk-channels g h.link.source h.link.source w h.closed
+unbalanced_steps g w num den h = walk-channels g h.walk_over.link.source h.walk_over.link.source w h.walk_over.closed
