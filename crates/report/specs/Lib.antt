@@ -2,3 +2,4 @@ pub mod Names
 pub mod Answers
 pub mod Lines
 pub mod Walks
+pub mod Quantities

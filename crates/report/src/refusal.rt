@@ -6,8 +6,57 @@ use sd_base::Text;
 pub enum Refusal {
     /// The words aren't those of a command.
     UsageWords,
-    /// The graph file isn't in the strict layout of a chain.
-    Layout,
+    /// The text leaves the grammar, or ends too early, at this byte.
+    Text {
+        place: u64,
+    },
+    /// A document type declaration begins at this byte.
+    DocumentType {
+        place: u64,
+    },
+    /// A CDATA section begins at this byte.
+    CdataSection {
+        place: u64,
+    },
+    /// A processing instruction begins at this byte.
+    Instruction {
+        place: u64,
+    },
+    /// A numeric character reference begins at this byte.
+    CharReference {
+        place: u64,
+    },
+    /// An encoding other than UTF-8 is declared at this byte.
+    Encoding {
+        place: u64,
+    },
+    /// The graph isn't of a kind that the command reads.
+    WrongKind,
+    /// An element or attribute isn't there, in what is being read.
+    Missing {
+        what: Text,
+        of: Text,
+    },
+    /// A word names nothing.
+    Unknown {
+        what: Text,
+        name: Text,
+    },
+    /// What may stand once stands twice.
+    Twice {
+        what: Text,
+        name: Text,
+    },
+    /// A word isn't one of those allowed.
+    BadWord {
+        what: Text,
+        of: Text,
+    },
+    /// A number isn't of its form, or isn't allowed.
+    BadNumber {
+        what: Text,
+        of: Text,
+    },
     /// A quantity passes its greatest number.
     Above {
         scenario: Option<Text>,

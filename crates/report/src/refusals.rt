@@ -1,6 +1,6 @@
 ghost use Rattle.std.specs.Prelude.{◌≡◌, IfOk, codes};
 ghost use Rattle.std.specs.String.{string_bytes};
-ghost use Rattle.report.specs.Lines.{above_reason, apart_reason, inconsistent_reason, line_of, memory_line, ratio_reason, reason_of, scenario_prefix};
+ghost use Rattle.report.specs.Lines.{above_reason, apart_reason, inconsistent_reason, line_of, memory_line, place_reason, ratio_reason, reason_of, scenario_prefix, twice_reason, unknown_reason, within_reason};
 
 use crate::Refusal;
 use crate::answers::bytes_of;
@@ -31,7 +31,23 @@ fn reason_text(alloc: Global, refusal: &Refusal) -> Result<String, AllocError>
 {
     match refusal {
         Refusal::UsageWords => String::from_str(alloc, "usage: words"),
-        Refusal::Layout => String::from_str(alloc, "form: layout"),
+        Refusal::Text { place } => place_text(alloc, "text", *place),
+        Refusal::DocumentType { place } => place_text(alloc, "document type", *place),
+        Refusal::CdataSection { place } => place_text(alloc, "CDATA section", *place),
+        Refusal::Instruction { place } => place_text(alloc, "processing instruction", *place),
+        Refusal::CharReference { place } => place_text(alloc, "character reference", *place),
+        Refusal::Encoding { place } => place_text(alloc, "encoding", *place),
+        Refusal::WrongKind => String::from_str(alloc, "form: wrong kind"),
+        Refusal::Missing { what, of } => within_text(alloc, "missing", what.as_str(), of.as_str()),
+        Refusal::Unknown { what, name } => unknown_text(alloc, what.as_str(), name.as_str()),
+        Refusal::Twice { what, name } => twice_text(alloc, what.as_str(), name.as_str()),
+        Refusal::BadWord { what, of } => within_text(alloc, "bad word", what.as_str(), of.as_str()),
+        Refusal::BadNumber { what, of } => within_text(
+            alloc,
+            "bad number",
+            what.as_str(),
+            of.as_str(),
+        ),
         Refusal::Above {
             scenario,
             quantity,
@@ -63,6 +79,34 @@ fn reason_text(alloc: Global, refusal: &Refusal) -> Result<String, AllocError>
         }
         Refusal::ShelfGraph => String::from_str(alloc, "shelf: graph"),
     }
+}
+
+#[tactic(auto, unfolding(crate::specs::Lines::place_reason))]
+fn place_text(alloc: Global, what: &str, place: u64) -> Result<String, AllocError>
+    ensures { IfOk result (λ t. string_bytes t ≡ place_reason what.now place) }
+{
+    format!(in alloc; "form: {what} at byte {place}")
+}
+
+#[tactic(auto, unfolding(crate::specs::Lines::within_reason))]
+fn within_text(alloc: Global, fault: &str, what: &str, of: &str) -> Result<String, AllocError>
+    ensures { IfOk result (λ t. string_bytes t ≡ within_reason fault.now what.now of.now) }
+{
+    format!(in alloc; "form: {fault} {what} in {of}")
+}
+
+#[tactic(auto, unfolding(crate::specs::Lines::unknown_reason))]
+fn unknown_text(alloc: Global, what: &str, name: &str) -> Result<String, AllocError>
+    ensures { IfOk result (λ t. string_bytes t ≡ unknown_reason what.now name.now) }
+{
+    format!(in alloc; "form: unknown {what} {name}")
+}
+
+#[tactic(auto, unfolding(crate::specs::Lines::twice_reason))]
+fn twice_text(alloc: Global, what: &str, name: &str) -> Result<String, AllocError>
+    ensures { IfOk result (λ t. string_bytes t ≡ twice_reason what.now name.now) }
+{
+    format!(in alloc; "form: {what} {name} twice")
 }
 
 #[tactic(auto, unfolding(crate::specs::Lines::above_reason))]

@@ -1,18 +1,25 @@
 -- What one run of the program shows: what was due to its words and files, and what it sent.
-use Rattle.std.specs.Prelude.{◌≡◌, ℕ, ◌<◌, ◌≤◌, ◌⊎◌, Bool, true, false, List, [], length, slice_index_or, Option, Some, None, IsSomeAnd, codes}
+use Rattle.std.specs.Prelude.{◌≡◌, ◌≢◌, ℕ, ◌<◌, ◌≤◌, ◌⊎◌, Bool, true, false, List, [], length, slice_index_or, Option, Some, None, Ok, IsSomeAnd}
 use Rattle.sd_base.specs.declared.tables.GraphFile.{GraphFile}
 use Rattle.sd_io.specs.Outside.{Rose, SentPart, with_sent}
-use Rattle.graph_reader.specs.Chain.{is_plain_chain}
-use Rattle.graph_reader.specs.Written.{written}
+use Rattle.file_text.specs.Node.{Node}
+use Rattle.file_text.specs.Grammar.{IsText}
+use Rattle.graph_reader.specs.declared.error.ReadError.{ReadError}
+use Rattle.graph_reader.specs.declared.error.ReadError.TheVariants as reading
+use Rattle.graph_reader.specs.Reading.{IsFirstFault}
+use Rattle.graph_reader.specs.Sections.{table_of}
 use Rattle.report.specs.declared.refusal.Refusal.{Refusal}
-use Rattle.report.specs.declared.refusal.Refusal.TheVariants.{UsageWords, Layout, Above, Ratio, Inconsistent, Apart, ShelfGraph}
+use Rattle.report.specs.declared.refusal.Refusal.TheVariants.{UsageWords, Above, Ratio, Inconsistent, Apart, ShelfGraph}
 use Rattle.balance.specs.declared.walk.WalkStep.{WalkStep}
 use Rattle.balance.specs.Repetition.{IsRound, IsApart, IsRatioTooLarge, IsUnbalanced, IsRoundTooLarge}
+use Rattle.sd_base.specs.declared.quantity.Quantity.TheVariants as quantities
 use Rattle.report.specs.Names.{escaped_name}
+use Rattle.report.specs.Quantities.{quantity_text, greatest_of}
 use Rattle.report.specs.Walks.{steps_text}
 use Rattle.report.specs.Lines.{line_of, memory_line}
 use Rattle.report.specs.Answers.{repetition_lines}
 use Rattle.sd_command.specs.Words.{Asks}
+use Rattle.sd_command.specs.Readings.{reading_refusal}
 use Rattle.sd_command.specs.Statuses.{status_of}
 use Rattle.sd_command.specs.declared.status.Status.{Status}
 use Rattle.sd_command.specs.declared.status.Status.TheVariants as statuses
@@ -29,9 +36,9 @@ pub record Takes (given : Given) (name bytes : List ℕ) : Type 0 where
   pub fits : length bytes ≤ 4194304
   pub told : given.tells ≡ true → given.file name ≡ Some bytes
 
--- the bytes are the file of this graph
+-- the bytes spell a tree whose sections give this graph; times aren't needed
 abbrev pub Spells : List ℕ → GraphFile → Type 0
-Spells bytes graph = (is_plain_chain graph ≡ true) × (bytes ≡ written graph)
+Spells bytes graph = (e : Node) × IsText e bytes × (table_of false e ≡ Ok graph)
 
 -- the printed name of an actor
 abbrev pub actor_shown : GraphFile → ℕ → List ℕ
@@ -41,18 +48,16 @@ actor_shown graph a = escaped_name (slice_index_or graph.actors a (record { name
 abbrev pub IsBalanceRefusal : GraphFile → Refusal → Type 0
 IsBalanceRefusal graph (Apart scenario a b) = (scenario ≡ None)
     × ((x y : ℕ) × IsApart graph x y × (a ≡ actor_shown graph x) × (b ≡ actor_shown graph y))
-IsBalanceRefusal graph (Ratio scenario number path) = (scenario ≡ None) × (number ≡ 100000)
+IsBalanceRefusal graph (Ratio scenario number path) = (scenario ≡ None) × (number ≡ greatest_of quantities.Ratio)
     × ((p : List WalkStep) × IsRatioTooLarge graph p × (path ≡ steps_text graph p))
 IsBalanceRefusal graph (Inconsistent scenario walk num den) = (scenario ≡ None)
     × ((w : List WalkStep) × IsUnbalanced graph w num den × (walk ≡ steps_text graph w))
-IsBalanceRefusal graph (Above scenario quantity number) = (scenario ≡ None) × (quantity ≡ codes "round") × (number ≡ 100000) × IsRoundTooLarge graph
-IsBalanceRefusal graph UsageWords = ⊥
-IsBalanceRefusal graph Layout = ⊥
-IsBalanceRefusal graph ShelfGraph = ⊥
+IsBalanceRefusal graph (Above scenario quantity number) = (scenario ≡ None) × (quantity ≡ quantity_text quantities.Round) × (number ≡ greatest_of quantities.Round) × IsRoundTooLarge graph
+IsBalanceRefusal graph refusal = ⊥
 
 -- a refusal that is due to the bytes of a graph file
 pub data IsGraphRefusal (bytes : List ℕ) (refusal : Refusal) : Type 0 where
-  unread : refusal ≡ Layout → ((graph : GraphFile) → Spells bytes graph → ⊥) → IsGraphRefusal bytes refusal
+  unread : (error : ReadError) → error ≢ reading.NoMemory → IsFirstFault bytes false error → refusal ≡ reading_refusal error → IsGraphRefusal bytes refusal
   of_balance : (graph : GraphFile) → Spells bytes graph → IsBalanceRefusal graph refusal → IsGraphRefusal bytes refusal
 
 -- the text that answers the bytes of a graph file, where no refusal is due to them
@@ -67,7 +72,7 @@ pub record IsGraphAnswer (bytes text : List ℕ) : Type 0 where
 pub data IsDue (given : Given) (refusal : Refusal) : Type 0 where
   wrong_words : refusal ≡ UsageWords → ((name : List ℕ) → Asks given.words name → ⊥) → IsDue given refusal
   missing : refusal ≡ ShelfGraph → (name : List ℕ) → Asks given.words name → given.tells ≡ true → given.file name ≡ None → IsDue given refusal
-  too_long : refusal ≡ Above None (codes "file bytes") 4194304 → (name : List ℕ) → Asks given.words name
+  too_long : refusal ≡ Above None (quantity_text quantities.FileBytes) (greatest_of quantities.FileBytes) → (name : List ℕ) → Asks given.words name
       → (given.tells ≡ true → IsSomeAnd (given.file name) (λ bytes. 4194304 < length bytes)) → IsDue given refusal
   of_graph : (name bytes : List ℕ) → Asks given.words name → Takes given name bytes → IsGraphRefusal bytes refusal → IsDue given refusal
 

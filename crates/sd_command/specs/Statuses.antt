@@ -1,7 +1,7 @@
 -- The exit status of each ending, and the ending of each refusal.
 use Rattle.std.specs.Prelude.{ℕ}
 use Rattle.report.specs.declared.refusal.Refusal.{Refusal}
-use Rattle.report.specs.declared.refusal.Refusal.TheVariants.{UsageWords, Layout, Above, Ratio, Inconsistent, Apart, ShelfGraph}
+use Rattle.report.specs.declared.refusal.Refusal.TheVariants.{UsageWords, Text, DocumentType, CdataSection, Instruction, CharReference, Encoding, WrongKind, Missing, Unknown, Twice, BadWord, BadNumber, Above, Ratio, Inconsistent, Apart, ShelfGraph}
 use Rattle.sd_command.specs.declared.status.Status.{Status}
 use Rattle.sd_command.specs.declared.status.Status.TheVariants as statuses
 
@@ -18,7 +18,18 @@ code_of statuses.Memory = 12
 
 abbrev pub status_of : Refusal → Status
 status_of UsageWords = statuses.Usage
-status_of Layout = statuses.Form
+status_of (Text place) = statuses.Form
+status_of (DocumentType place) = statuses.Form
+status_of (CdataSection place) = statuses.Form
+status_of (Instruction place) = statuses.Form
+status_of (CharReference place) = statuses.Form
+status_of (Encoding place) = statuses.Form
+status_of WrongKind = statuses.Form
+status_of (Missing what of) = statuses.Form
+status_of (Unknown what name) = statuses.Form
+status_of (Twice what name) = statuses.Form
+status_of (BadWord what of) = statuses.Form
+status_of (BadNumber what of) = statuses.Form
 status_of (Above scenario quantity number) = statuses.Limit
 status_of (Ratio scenario number path) = statuses.Limit
 status_of (Inconsistent scenario walk num den) = statuses.Inconsistent

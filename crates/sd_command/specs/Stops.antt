@@ -1,6 +1,8 @@
 -- Inside the crate: why the steps of a command end without an answer. No public clause cites this.
-use Rattle.std.specs.Prelude.{◌≡◌, ℕ, ◌<◌, ◌⊎◌, Bool, true, List, length, Option, None, IsSomeAnd, codes}
+use Rattle.std.specs.Prelude.{◌≡◌, ℕ, ◌<◌, ◌⊎◌, Bool, true, List, length, Option, None, IsSomeAnd}
 use Rattle.sd_base.specs.declared.tables.GraphFile.{GraphFile}
+use Rattle.sd_base.specs.declared.quantity.Quantity.TheVariants as quantities
+use Rattle.report.specs.Quantities.{quantity_text, greatest_of}
 use Rattle.sd_io.specs.Outside.{Rose}
 use Rattle.report.specs.declared.refusal.Refusal.{Refusal}
 use Rattle.report.specs.declared.refusal.Refusal.TheVariants.{Above, ShelfGraph}
@@ -17,7 +19,7 @@ IsStop given old new OutOfMemory = Unit {0}
 abbrev pub IsTakingStop : Bool → Option (List ℕ) → ℕ → ℕ → Stop → Type 0
 IsTakingStop tells file old new (Refused refusal) =
     ((refusal ≡ ShelfGraph) × (Rose old new ⊎ ((tells ≡ true) × (file ≡ None))))
-    ⊎ ((refusal ≡ Above None (codes "file bytes") 4194304) × (tells ≡ true → IsSomeAnd file (λ bytes. 4194304 < length bytes)))
+    ⊎ ((refusal ≡ Above None (quantity_text quantities.FileBytes) (greatest_of quantities.FileBytes)) × (tells ≡ true → IsSomeAnd file (λ bytes. 4194304 < length bytes)))
 IsTakingStop tells file old new OutOfMemory = Unit {0}
 
 -- and of answering the bytes of a graph file

@@ -1,16 +1,13 @@
 ghost use Rattle.std.specs.Prelude.{◌≡◌, ℕ, ◌<◌, IfOk, None, List, length};
 ghost use Rattle.sd_base.specs.Tables.{KeepsRules};
 ghost use Rattle.balance.specs.Repetition.{IsApart, IsRatioTooLarge, IsRefusal, IsUnbalanced};
-ghost use Rattle.report.specs.declared.refusal.Refusal.TheVariants.{Above};
 ghost use Rattle.sd_command.specs.Runs.{IsBalanceRefusal};
 
+use crate::reading::above;
 use balance::{BalanceError, WalkStep};
-use report::{Refusal, escaped, walk_text};
-use sd_base::{GraphFile, NoMemory, Text};
+use report::{Refusal, escaped, greatest, walk_text};
+use sd_base::{GraphFile, NoMemory, Quantity};
 use std::alloc::Global;
-
-/// The greatest number of either part of a ratio, and of the firings of a round.
-const GREATEST: u64 = 100_000;
 
 /// The refusal of a graph that has no repetition vector within the limits.
 pub(crate) fn balance_refusal(
@@ -32,20 +29,9 @@ pub(crate) fn balance_refusal(
             *num,
             *den,
         ),
-        BalanceError::RoundTooLarge => above(alloc, "round", GREATEST),
+        BalanceError::RoundTooLarge => above(alloc, Quantity::Round),
         BalanceError::NoMemory => Err(NoMemory),
     }
-}
-
-/// The refusal of a quantity that passes its greatest number.
-pub(crate) fn above(alloc: Global, quantity: &str, number: u64) -> Result<Refusal, NoMemory>
-    ensures { IfOk result (λ refusal. refusal ≡ Above None quantity.now number) }
-{
-    Ok(Refusal::Above {
-        scenario: None,
-        quantity: Text::new(String::from_str(alloc, quantity)?),
-        number,
-    })
 }
 
 fn apart(alloc: Global, graph: &GraphFile, a: u32, b: u32) -> Result<Refusal, NoMemory>
@@ -67,7 +53,7 @@ fn ratio(alloc: Global, graph: &GraphFile, path: &[WalkStep]) -> Result<Refusal,
 {
     Ok(Refusal::Ratio {
         scenario: None,
-        number: GREATEST,
+        number: greatest(Quantity::Ratio),
         path: walk_text(alloc, graph, path)?,
     })
 }

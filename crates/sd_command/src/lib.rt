@@ -4,6 +4,7 @@
 mod balancing;
 mod command;
 mod laws;
+mod reading;
 mod sending;
 mod status;
 mod stop;

@@ -51,7 +51,18 @@ pub(crate) fn status_for(refusal: &Refusal) -> Status
 {
     match refusal {
         Refusal::UsageWords => Status::Usage,
-        Refusal::Layout => Status::Form,
+        Refusal::Text { .. }
+        | Refusal::DocumentType { .. }
+        | Refusal::CdataSection { .. }
+        | Refusal::Instruction { .. }
+        | Refusal::CharReference { .. }
+        | Refusal::Encoding { .. }
+        | Refusal::WrongKind
+        | Refusal::Missing { .. }
+        | Refusal::Unknown { .. }
+        | Refusal::Twice { .. }
+        | Refusal::BadWord { .. }
+        | Refusal::BadNumber { .. } => Status::Form,
         Refusal::Above { .. } | Refusal::Ratio { .. } => Status::Limit,
         Refusal::Inconsistent { .. } => Status::Inconsistent,
         Refusal::Apart { .. } => Status::Connection,

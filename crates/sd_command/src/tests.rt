@@ -3,6 +3,7 @@ ghost use Rattle.std.specs.Prelude.{◌<◌};
 
 mod files;
 mod repetition;
+mod texts;
 
 use crate::{Status, analyse};
 use sd_base::{Rows, Text};

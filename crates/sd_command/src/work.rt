@@ -5,13 +5,14 @@ ghost use Rattle.report.specs.Answers.{repetition_lines};
 ghost use Rattle.sd_command.specs.Runs.{Given, IsAnswer, IsGraphAnswer};
 ghost use Rattle.sd_command.specs.Stops.{IsBalanceStop, IsGraphStop, IsStop, IsTakingStop};
 
-use crate::balancing::{above, balance_refusal};
+use crate::balancing::balance_refusal;
+use crate::reading::{above, refusal_of};
 use crate::stop::Stop;
 use crate::words::graph_asked;
 use balance::repetition;
-use graph_reader::{ReadError, read_graph};
+use graph_reader::read_graph;
 use report::{Refusal, repetition_text};
-use sd_base::{GraphFile, NoMemory, Rows, Text};
+use sd_base::{GraphFile, Quantity, Rows, Text};
 use sd_io::{Shelf, TakeError};
 use std::alloc::Global;
 
@@ -50,11 +51,7 @@ fn take_graph<S: Shelf>(alloc: Global, shelf: &mut S, name: &str) -> Result<Rows
     match shelf.take(alloc, name, FILE_BYTES) {
         Ok(bytes) => Ok(bytes),
         Err(TakeError::Failed) => Err(Stop::Refused(Refusal::ShelfGraph)),
-        Err(TakeError::TooLong) => Err(Stop::Refused(above(
-            alloc,
-            "file bytes",
-            FILE_BYTES as u64,
-        )?)),
+        Err(TakeError::TooLong) => Err(Stop::Refused(above(alloc, Quantity::FileBytes)?)),
         Err(TakeError::NoMemory) => Err(Stop::OutOfMemory),
     }
 }
@@ -64,10 +61,9 @@ fn repetition_answer(alloc: Global, bytes: &[u8]) -> Result<Rows<u8>, Stop>
     ensures ok { IfOk result (IsGraphAnswer bytes.now) }
     ensures stopped { IfErr result (IsGraphStop bytes.now) }
 {
-    match read_graph(alloc, bytes) {
+    match read_graph(alloc, bytes, false) {
         Ok(graph) => graph_answer(alloc, &graph),
-        Err(ReadError::Layout) => Err(Stop::Refused(Refusal::Layout)),
-        Err(ReadError::NoMemory) => Err(Stop::OutOfMemory),
+        Err(error) => Err(Stop::Refused(refusal_of(alloc, &error)?)),
     }
 }
 

@@ -86,3 +86,49 @@ const PAIR_REST: &str = r#"</actor>
 </applicationGraph>
 </sdf3>
 "#;
+
+/// A chain of three as the tool set writes it: declaration, schema attributes, comment, two processors, memory and
+/// token sizes and a throughput constraint. `alpha: a 2 -> 3 b`, `beta: b 1 -> 2 c`.
+pub(crate) const CHAIN_OF_THREE: &str = r#"<?xml version="1.0" encoding="UTF-8"?>
+<sdf3 type="sdf" version="1.0"
+    xmlns:xsi="http://www.w3.org/2001/XMLSchema-instance"
+    xsi:noNamespaceSchemaLocation="sdf3-sdf.xsd">
+  <!-- three actors in a chain -->
+  <applicationGraph name='chain'>
+    <sdf name='chain' type='Chain'>
+      <actor name='a' type='A'>
+        <port name='p0' type='out' rate='2'/>
+      </actor>
+      <actor name='b' type='B'>
+        <port name='p0' type='in' rate='3'/>
+        <port name='p1' type='out' rate='1'/>
+      </actor>
+      <actor name='c' type='C'>
+        <port name='p0' type='in' rate='2'/>
+      </actor>
+      <channel name='alpha' srcActor='a' srcPort='p0' dstActor='b' dstPort='p0'/>
+      <channel name='beta' srcActor='b' srcPort='p1' dstActor='c' dstPort='p0'/>
+    </sdf>
+    <sdfProperties>
+      <actorProperties actor='a'>
+        <processor type='dsp'><executionTime time='9'/></processor>
+        <processor type='arm' default='true'>
+          <executionTime time='1'/>
+          <memory><stateSize max='16'/></memory>
+        </processor>
+      </actorProperties>
+      <actorProperties actor='b'>
+        <processor type='arm' default='true'><executionTime time='2'/></processor>
+      </actorProperties>
+      <actorProperties actor='c'>
+        <processor type='arm' default='true'><executionTime time='2'/></processor>
+      </actorProperties>
+      <channelProperties channel='alpha'><tokenSize sz='1'/></channelProperties>
+      <channelProperties channel='beta'><tokenSize sz='1'/></channelProperties>
+      <graphProperties>
+        <timeConstraints><throughput>0.125</throughput></timeConstraints>
+      </graphProperties>
+    </sdfProperties>
+  </applicationGraph>
+</sdf3>
+"#;
