@@ -1,9 +1,3 @@
-pub mod Pieces
-pub mod Steps
-pub mod Values
-pub mod Numbers
-pub mod Names
-pub mod Reread
-pub mod Bare
-pub mod Again
-pub mod Rules
+pub mod Trees
+pub mod Digits
+pub mod Faults

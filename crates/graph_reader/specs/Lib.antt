@@ -1,3 +1,5 @@
-pub mod Chain
-pub mod Written
-pub mod Loose
+pub mod Field
+pub mod Walk
+pub mod Numbers
+pub mod Sections
+pub mod Reading
