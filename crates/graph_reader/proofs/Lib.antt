@@ -1,3 +1,4 @@
 pub mod Trees
 pub mod Digits
 pub mod Faults
+pub mod Rules

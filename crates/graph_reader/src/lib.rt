@@ -30,6 +30,8 @@ use std::alloc::Global;
 pub fn read_graph(alloc: Global, bytes: &[u8], need_times: bool) -> Result<GraphFile, ReadError>
     ensures found { IfOk result (λ t. (e : Node) × IsText e bytes.now × (table_of need_times e ≡ Ok t)) }
     ensures fault { IfErr result (IsFirstFault bytes.now need_times) }
+    ensures keeps { IfOk result KeepsRules }
+    ensures timed { IfOk result (λ t. IsTrue need_times → IsTimed t) }
 {
     match read_tree(alloc, bytes) {
         Ok(tree) => table::table_of(alloc, &tree.root, need_times),
