@@ -1,9 +1,4 @@
-pub mod Pieces
-pub mod Steps
-pub mod Values
-pub mod Numbers
-pub mod Names
-pub mod Reread
-pub mod Bare
-pub mod Again
+pub mod Trees
+pub mod Digits
+pub mod Faults
 pub mod Rules

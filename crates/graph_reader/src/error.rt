@@ -1,24 +1,105 @@
-ghost use Rattle.std.specs.Prelude.{◌≡◌};
+ghost use Rattle.std.specs.Prelude.{◌≡◌, ◌≢◌, IfOk};
 ghost use Rattle.graph_reader.specs.declared.error.ReadError.TheVariants.{NoMemory};
 
-use std::alloc::AllocError;
+use crate::Field;
+use file_text::TextError;
+use sd_base::{Quantity, Text};
+use std::alloc::{AllocError, AllocFailed, Global};
 use thiserror::Error;
 
-/// Why there is no table.
-#[derive(Clone, Copy, Debug, PartialEq, Eq, Error)]
+/// Why a graph file has no table: the first rule that it breaks. `of` is the name of the actor or channel
+/// that is being read, or `file` where none is; names stand as the file has them.
+#[derive(Debug, Drop, Error)]
 pub enum ReadError {
-    /// The bytes are not the written form of a plain chain.
-    #[error("not the written form of a plain chain")]
-    Layout,
-    /// There was no memory for the table or for what is compared with the bytes.
+    /// The bytes spell no tree.
+    #[error("{fault}")]
+    Text { fault: TextError },
+    #[error("not a graph of this kind")]
+    WrongKind,
+    /// An element or attribute that has to be there isn't.
+    #[error("an element or attribute is missing")]
+    Missing { what: Field, of: Text },
+    /// The word stands for nothing.
+    #[error("a name stands for nothing")]
+    Unknown { what: Field, name: Text },
+    /// What may stand once stands again.
+    #[error("a name or element stands twice")]
+    Twice { what: Field, name: Text },
+    #[error("a word is none of those allowed")]
+    BadWord { what: Field, of: Text },
+    #[error("a number has a bad form or is 0")]
+    BadNumber { what: Field, of: Text },
+    /// A number or a count above its limit.
+    #[error("a limit is passed")]
+    Limit { what: Quantity },
     #[error("out of memory")]
     NoMemory,
 }
 
 impl From<AllocError> for ReadError {
-    ghost from_gives = { λ _ e. e ≡ NoMemory };
+    ghost from_gives = { λ _ error. error ≡ NoMemory };
 
     fn from(_error: AllocError) -> ReadError {
         ReadError::NoMemory
+    }
+}
+
+impl<T: Drop> From<AllocFailed<T>> for ReadError {
+    ghost from_gives = { λ _ error. error ≡ NoMemory };
+
+    fn from(_error: AllocFailed<T>) -> ReadError {
+        ReadError::NoMemory
+    }
+}
+
+/// A text of its own with these characters.
+pub fn copied(alloc: Global, text: &str) -> Result<Text, AllocError>
+    ensures { IfOk result (λ copy. copy ≡ text.now) }
+{
+    Ok(Text::new(String::from_str(alloc, text)?))
+}
+
+pub fn missing(alloc: Global, what: Field, of: &str) -> ReadError
+    ensures { result ≢ ReadError.NoMemory → result ≡ ReadError.Missing what of.now }
+{
+    match copied(alloc, of) {
+        Ok(of) => ReadError::Missing { what, of },
+        Err(_) => ReadError::NoMemory,
+    }
+}
+
+pub fn unknown(alloc: Global, what: Field, name: &str) -> ReadError
+    ensures { result ≢ ReadError.NoMemory → result ≡ ReadError.Unknown what name.now }
+{
+    match copied(alloc, name) {
+        Ok(name) => ReadError::Unknown { what, name },
+        Err(_) => ReadError::NoMemory,
+    }
+}
+
+pub fn twice(alloc: Global, what: Field, name: &str) -> ReadError
+    ensures { result ≢ ReadError.NoMemory → result ≡ ReadError.Twice what name.now }
+{
+    match copied(alloc, name) {
+        Ok(name) => ReadError::Twice { what, name },
+        Err(_) => ReadError::NoMemory,
+    }
+}
+
+pub fn bad_word(alloc: Global, what: Field, of: &str) -> ReadError
+    ensures { result ≢ ReadError.NoMemory → result ≡ ReadError.BadWord what of.now }
+{
+    match copied(alloc, of) {
+        Ok(of) => ReadError::BadWord { what, of },
+        Err(_) => ReadError::NoMemory,
+    }
+}
+
+pub fn bad_number(alloc: Global, what: Field, of: &str) -> ReadError
+    ensures { result ≢ ReadError.NoMemory → result ≡ ReadError.BadNumber what of.now }
+{
+    match copied(alloc, of) {
+        Ok(of) => ReadError::BadNumber { what, of },
+        Err(_) => ReadError::NoMemory,
     }
 }

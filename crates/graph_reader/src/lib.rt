@@ -1,43 +1,52 @@
-//! The strict reader of a graph file: it reads the written form of a plain chain, and nothing else.
+//! Graph files to tables: the table that a file spells, or the first rule that it breaks.
 #![tactic(auto)]
 
-ghost use Rattle.std.specs.Prelude.{◌≡◌, ◌↔◌, true, IfOk, IsTrue};
+ghost use Rattle.std.specs.Prelude.{◌≡◌, Ok, IsTrue, IfErr, IfOk};
 ghost use Rattle.sd_base.specs.Tables.{KeepsRules, IsTimed};
+<<<<<<< HEAD
 ghost use Rattle.sd_base.specs.declared.tables.GraphFile.{GraphFile};
 ghost use Rattle.graph_reader.specs.Chain.{is_plain_chain};
 ghost use Rattle.graph_reader.specs.Written.{written};
 ghost use Rattle.graph_reader.specs.Laws.{HasOneChain, ChainsKeepRules};
+=======
+ghost use Rattle.file_text.specs.Node.{Node};
+ghost use Rattle.file_text.specs.Grammar.{IsText};
+ghost use Rattle.graph_reader.specs.Reading.{IsFirstFault};
+ghost use Rattle.graph_reader.specs.Sections.{table_of};
+>>>>>>> h_b2
 
-mod chain;
+mod actors;
+mod channels;
+mod elements;
 mod error;
-mod plain;
-mod quotes;
-mod writing;
+mod field;
+mod names;
+mod numbers;
+mod properties;
+mod table;
 
 pub use error::ReadError;
+pub use field::Field;
+use file_text::{TextError, read_tree};
 use sd_base::GraphFile;
 use std::alloc::Global;
 
-/// Reads the table of a plain chain from its written form. Cost: linear in the bytes, and quadratic in
-/// the names, of which there are at most 128 of actors and 127 of channels.
-#[tactic(auto, using(crate::proofs::Again::again, crate::proofs::Rules::keeps_rules, crate::proofs::Rules::is_timed))]
-pub fn read_graph(alloc: Global, bytes: &[u8]) -> Result<GraphFile, ReadError>
-    ensures written { IfOk result (λ t. (is_plain_chain t ≡ true) × (bytes.now ≡ written t)) }
-    ensures layout { result ≡ Err ReadError.Layout → (t : GraphFile) → is_plain_chain t ≡ true → bytes.now ≡ written t → ⊥ }
+/// Reads the table of a graph file for synchronous dataflow. With `need_times` each actor must have an
+/// execution time. Cost: the one of reading the text, and for each actor, port and channel a comparison
+/// with each earlier one, of which there are at most 128, 1,024 and 256.
+pub fn read_graph(alloc: Global, bytes: &[u8], need_times: bool) -> Result<GraphFile, ReadError>
+    ensures found { IfOk result (λ t. (e : Node) × IsText e bytes.now × (table_of need_times e ≡ Ok t)) }
+    ensures fault { IfErr result (IsFirstFault bytes.now need_times) }
     ensures keeps { IfOk result KeepsRules }
-    ensures timed { IfOk result IsTimed }
+    ensures timed { IfOk result (λ t. IsTrue need_times → IsTimed t) }
 {
-    let values = quotes::quoted_values(alloc, bytes)?;
-    let table = chain::chain_in(alloc, values.as_slice())?;
-    if !plain::is_plain_chain(&table) {
-        return Err(ReadError::Layout);
+    match read_tree(alloc, bytes) {
+        Ok(tree) => table::table_of(alloc, &tree.root, need_times),
+        Err(TextError::NoMemory) => Err(ReadError::NoMemory),
+        Err(fault) => Err(ReadError::Text { fault }),
     }
-    let text = writing::written(alloc, &table)?;
-    if !is_same(text.as_bytes(), bytes) {
-        return Err(ReadError::Layout);
-    }
-    Ok(table)
 }
+<<<<<<< HEAD
 
 /// Two plain chains of one written form are one, and a plain chain keeps the rules of a table.
 pub fn know_chains()
@@ -53,3 +62,5 @@ fn is_same(a: &[u8], b: &[u8]) -> bool
 
 #[cfg(test)]
 mod tests;
+=======
+>>>>>>> h_b2

@@ -1,0 +1,11 @@
+//! Graph-file text to a tree of elements: the tree that the bytes spell, or the fault that a reader
+//! going from the left recognises first.
+#![tactic(auto)]
+
+mod error;
+mod read;
+mod tree;
+
+pub use error::{Construct, TextError};
+pub use read::read_tree;
+pub use tree::{Attribute, Element, Tree};

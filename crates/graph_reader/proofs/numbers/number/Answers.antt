@@ -1,0 +1,12 @@
+use Rattle.std.proofs.Common.{subst}
+use Rattle.graph_reader.specs.Walk.{Gives}
+use Rattle.graph_reader.specs.Numbers.{number, number_in}
+use Rattle.graph_reader.proofs.Digits.{formed-capped}
+use Rattle.graph_reader.proofs.numbers.number.Goals as goal
+
+pub returns-in-Some : goal.returns-in-Some
+unfolding number
+returns-in-Some c =
+    subst (λ read. Gives (λ n. n) c.within.result read)
+    (formed-capped c.args.what c.args.of.now c.args.quantity c.args.limit 1000000000000000 c.in-Some.n (number_in c.args.text.now) c.requires (rw c.as_bytes.ensures.value at c.in-Some.ensures))
+    c.within.ensures.gives

@@ -1,0 +1,16 @@
+use Rattle.std.proofs.Common.{◌≡◌, ◌+◌, ◌≤◌, [], length, map}
+use Rattle.std.specs.Prelude.{codes}
+use Rattle.file_text.specs.Node.{tree_of}
+use Rattle.graph_reader.specs.declared.field.Field.TheVariants as field
+use Rattle.graph_reader.specs.Field.{word_of}
+use Rattle.graph_reader.specs.Walk.{named, each}
+use Rattle.graph_reader.specs.Sections.{time_entry}
+use Rattle.graph_reader.proofs.properties.read_times.Given as goal
+
+abbrev pub invariant-loop-child : goal.invariant-loop-child
+invariant-loop-child l = record {
+  same : each (time_entry l.actors) l.times (named (codes "actorProperties") (map tree_of l.left)) ≡ each (time_entry l.actors) [] (named (codes "actorProperties") (map tree_of l.initial.left));
+}
+
+abbrev pub decreases-loop-child : goal.decreases-loop-child
+decreases-loop-child l = length l.left

@@ -1,0 +1,275 @@
+-- The rules of a graph file for synchronous dataflow, in the order in which they are tested.
+use Rattle.std.specs.Prelude.{ℕ, ◌+◌, Bool, true, false, ◌&&◌, ◌||◌, not, ◌==◌, nat_lt, if◌then◌else◌, List, [], ◌∷◌, ◌++◌, length, map, Option, Some, None, Result, Ok, Err, sum_by, codes}
+use Rattle.std.specs.List.{list_any, find}
+use Rattle.std.specs.Option.{option_or, option_and_then, option_map_or, option_to_list}
+use Rattle.std.specs.Str.{bytes_eq}
+use Rattle.sd_base.specs.declared.quantity.Quantity.TheVariants as quantity
+use Rattle.sd_base.specs.declared.tables.Kind.TheVariants.{Sdf}
+use Rattle.sd_base.specs.declared.tables.GraphFile.{GraphFile}
+use Rattle.sd_base.specs.declared.tables.ActorRow.{ActorRow}
+use Rattle.sd_base.specs.declared.tables.ChannelRow.{ChannelRow}
+use Rattle.file_text.specs.Node.{Node, name_of}
+use Rattle.graph_reader.specs.declared.field.Field.{Field}
+use Rattle.graph_reader.specs.declared.field.Field.TheVariants as field
+use Rattle.graph_reader.specs.declared.error.ReadError.{ReadError}
+use Rattle.graph_reader.specs.declared.error.ReadError.TheVariants.{WrongKind, Missing, Unknown, Twice, BadWord, Limit}
+use Rattle.graph_reader.specs.declared.actors.Direction.{Direction}
+use Rattle.graph_reader.specs.declared.actors.Direction.TheVariants.{In, Out}
+use Rattle.graph_reader.specs.declared.actors.Port.{Port}
+use Rattle.graph_reader.specs.declared.actors.Actor.{Actor}
+use Rattle.graph_reader.specs.declared.channels.End.{End}
+use Rattle.graph_reader.specs.declared.channels.Channel.{Channel}
+use Rattle.graph_reader.specs.declared.properties.TimeEntry.{TimeEntry}
+use Rattle.graph_reader.specs.declared.properties.SizeEntry.{SizeEntry}
+use Rattle.graph_reader.specs.Field.{word_of}
+use Rattle.graph_reader.specs.Walk.{◌>>=◌, file, children, first_child, attribute, required, at_most_one, one, each}
+use Rattle.graph_reader.specs.Numbers.{within, number, positive}
+
+-- ---- names
+
+abbrev pub is_among : List ℕ → List (List ℕ) → Bool
+is_among name names = list_any (λ other. bytes_eq other name) names
+
+-- a name that isn't empty, isn't too long, and isn't an earlier one
+abbrev pub tested_name : List ℕ → List (List ℕ) → List ℕ → Result (List ℕ) ReadError
+tested_name of earlier name =
+    if length name == 0 then Err (Missing field.Name of)
+    else if nat_lt 128 (length name) then Err (Limit quantity.NameBytes)
+    else if is_among name earlier then Err (Twice field.Name name)
+    else Ok name
+
+-- the name of an element of which each needs one of its own
+unfoldable pub new_name : List ℕ → List (List ℕ) → Node → Result (List ℕ) ReadError
+new_name of earlier e = do
+  name ← required field.Name of e
+  tested_name of earlier name
+
+abbrev pub tested_mention : Field → List (List ℕ) → List (List ℕ) → List ℕ → Result (List ℕ) ReadError
+tested_mention what names earlier name =
+    if not (is_among name names) then Err (Unknown what name)
+    else if is_among name earlier then Err (Twice what name)
+    else Ok name
+
+-- the name of what an element speaks of: one of these names, and none of which an earlier element speaks
+unfoldable pub mention : Field → List (List ℕ) → List (List ℕ) → Node → Result (List ℕ) ReadError
+mention what names earlier e = do
+  name ← required what file e
+  tested_mention what names earlier name
+
+-- ---- actors
+
+abbrev pub direction_in : List ℕ → List ℕ → Result Direction ReadError
+direction_in of word =
+    if bytes_eq word (codes "in") then Ok In
+    else if bytes_eq word (codes "out") then Ok Out
+    else Err (BadWord field.TypeWord of)
+
+-- a port of an actor, after the actor's earlier ones and with that many ports of other actors before it
+unfoldable pub port_of : List ℕ → ℕ → List Port → Node → Result Port ReadError
+port_of actor before done e = do
+  name ← new_name actor (map (λ (p : Port). p.name) done) e
+  count ← within quantity.Ports 1024 (before + length done + 1)
+  word ← required field.TypeWord actor e
+  direction ← direction_in actor word
+  text ← required field.Rate actor e
+  rate ← positive field.Rate actor quantity.Rate 1000000 text
+  Ok (record { name = name; direction = direction; rate = rate })
+
+abbrev pub port_count : List Actor → ℕ
+port_count actors = sum_by (λ (a : Actor). length a.ports) actors
+
+-- an actor, after the earlier ones
+unfoldable pub actor_of : List Actor → Node → Result Actor ReadError
+actor_of done e = do
+  name ← new_name file (map (λ (a : Actor). a.name) done) e
+  count ← within quantity.Actors 128 (length done + 1)
+  ports ← each (port_of name (port_count done)) [] (children (codes "port") e)
+  Ok (record { name = name; ports = ports })
+
+abbrev pub some_actor : List Actor → Result (List Actor) ReadError
+some_actor [] = Err (Missing field.Actor file)
+some_actor (a ∷ rest) = Ok (a ∷ rest)
+
+-- the actors of a section; there is one at least
+unfoldable pub actors_of : Node → Result (List Actor) ReadError
+actors_of section = do
+  actors ← each actor_of [] (children (word_of field.Actor) section)
+  some_actor actors
+
+-- ---- channels
+
+-- the number of the actor of this name, and the actor, where the list begins with number i
+abbrev pub numbered : ℕ → List ℕ → List Actor → Option (ℕ × Actor)
+numbered i name [] = None
+numbered i name (a ∷ rest) = if bytes_eq a.name name then Some (i, a) else numbered (i + 1) name rest
+
+abbrev pub is_same_direction : Direction → Direction → Bool
+is_same_direction In In = true
+is_same_direction Out Out = true
+is_same_direction In Out = false
+is_same_direction Out In = false
+
+abbrev pub is_port : Direction → List ℕ → Port → Bool
+is_port direction name p = bytes_eq p.name name && is_same_direction direction p.direction
+
+abbrev pub known : {A : Type 0} → Field → List ℕ → Option A → Result A ReadError
+known what name None = Err (Unknown what name)
+known what name (Some x) = Ok x
+
+-- the end of a channel: an actor, and a port of that direction of it
+unfoldable pub end_of : List Actor → Direction → Field → Field → List ℕ → Node → Result End ReadError
+end_of actors direction actor_word port_word of e = do
+  actor_name ← required actor_word of e
+  actor ← known actor_word actor_name (numbered 0 actor_name actors)
+  port_name ← required port_word of e
+  port ← known port_word port_name (find (is_port direction port_name) actor.1.ports)
+  Ok (record { actor = actor.0; port = port_name; rate = port.rate })
+
+abbrev pub is_same_port : End → End → Bool
+is_same_port a b = (a.actor == b.actor) && bytes_eq a.port b.port
+
+abbrev pub unused : Field → End → Bool → Result End ReadError
+unused what e used = if used then Err (Twice what e.port) else Ok e
+
+abbrev pub tokens_in : List ℕ → Option (List ℕ) → Result ℕ ReadError
+tokens_in of None = Ok 0
+tokens_in of (Some text) = number field.InitialTokens of quantity.Tokens 1000000 text
+
+-- a channel between ports of these actors, after the earlier ones; each port serves one channel
+unfoldable pub channel_of : List Actor → List Channel → Node → Result Channel ReadError
+channel_of actors done e = do
+  name ← new_name file (map (λ (c : Channel). c.name) done) e
+  count ← within quantity.Channels 256 (length done + 1)
+  start ← end_of actors Out field.SrcActor field.SrcPort name e
+  source ← unused field.SrcPort start (list_any (λ (c : Channel). is_same_port c.source start) done)
+  stop ← end_of actors In field.DstActor field.DstPort name e
+  target ← unused field.DstPort stop (list_any (λ (c : Channel). is_same_port c.target stop) done)
+  tokens ← tokens_in name (attribute (word_of field.InitialTokens) e)
+  Ok (record { name = name; source = source; target = target; tokens = tokens })
+
+-- the channels of a section
+unfoldable pub channels_of : List Actor → Node → Result (List Channel) ReadError
+channels_of actors section = each (channel_of actors) [] (children (word_of field.Channel) section)
+
+-- ---- properties
+
+abbrev pub is_word : List ℕ → Option (List ℕ) → Bool
+is_word word None = false
+is_word word (Some value) = bytes_eq value word
+
+-- a processor that is marked as the one that counts
+unfoldable pub is_default : Node → Bool
+is_default processor = is_word (codes "true") (attribute (codes "default") processor)
+
+abbrev pub first_by : (Node → Bool) → List Node → Option Node
+first_by test [] = None
+first_by test (e ∷ es) = option_or (find test (e ∷ es)) (Some e)
+
+-- the processor that counts: the first one so marked, or else the first
+unfoldable pub counting_processor : Node → Option Node
+counting_processor e = first_by is_default (children (codes "processor") e)
+
+-- the first execution time on the processor that counts
+unfoldable pub execution_of : Node → Option Node
+execution_of e = option_and_then (first_child (word_of field.ExecutionTime)) (counting_processor e)
+
+abbrev pub time_by : List ℕ → Option Node → Result (Option ℕ) ReadError
+time_by of None = Ok None
+time_by of (Some execution) = do
+  text ← required field.Time of execution
+  time ← positive field.Time of quantity.Time 1000000000 text
+  Ok (Some time)
+
+-- the time that an actor's properties give, if any
+unfoldable pub time_of : List ℕ → Node → Result (Option ℕ) ReadError
+time_of of e = time_by of (execution_of e)
+
+-- the time that is given for an actor, after the earlier ones
+unfoldable pub time_entry : List Actor → List TimeEntry → Node → Result TimeEntry ReadError
+time_entry actors done e = do
+  name ← mention field.Actor (map (λ (a : Actor). a.name) actors) (map (λ (t : TimeEntry). t.actor) done) e
+  time ← time_of name e
+  Ok (record { actor = name; time = time })
+
+-- the times that the properties give
+unfoldable pub times_of : List Actor → Option Node → Result (List TimeEntry) ReadError
+times_of actors None = Ok []
+times_of actors (Some properties) = each (time_entry actors) [] (children (codes "actorProperties") properties)
+
+-- a size of 0 is one of 1
+abbrev pub some_size : ℕ → ℕ
+some_size n = if n == 0 then 1 else n
+
+-- the size of the first token size
+unfoldable pub size_text : Node → Option (List ℕ)
+size_text e = option_and_then (attribute (word_of field.Sz)) (first_child (codes "tokenSize") e)
+
+abbrev pub size_in : List ℕ → Option (List ℕ) → Result ℕ ReadError
+size_in of None = Ok 1
+size_in of (Some text) = do
+  size ← number field.Sz of quantity.Size 1000000 text
+  Ok (some_size size)
+
+-- the size that a channel's properties give, and 1 where they give none
+unfoldable pub size_of : List ℕ → Node → Result ℕ ReadError
+size_of of e = size_in of (size_text e)
+
+-- the size that is given for a channel, after the earlier ones
+unfoldable pub size_entry : List Channel → List SizeEntry → Node → Result SizeEntry ReadError
+size_entry channels done e = do
+  name ← mention field.Channel (map (λ (c : Channel). c.name) channels) (map (λ (s : SizeEntry). s.channel) done) e
+  size ← size_of name e
+  Ok (record { channel = name; size = size })
+
+-- the sizes that the properties give
+unfoldable pub sizes_of : List Channel → Option Node → Result (List SizeEntry) ReadError
+sizes_of channels None = Ok []
+sizes_of channels (Some properties) = each (size_entry channels) [] (children (codes "channelProperties") properties)
+
+-- ---- the table
+
+-- the time that is given for an actor
+abbrev pub time_at : List TimeEntry → List ℕ → Option ℕ
+time_at times name = option_and_then (λ (t : TimeEntry). t.time) (find (λ (t : TimeEntry). bytes_eq t.actor name) times)
+
+-- the size that is given for a channel, else 1
+abbrev pub size_at : List SizeEntry → List ℕ → ℕ
+size_at sizes name = option_map_or (λ (s : SizeEntry). s.size) (find (λ (s : SizeEntry). bytes_eq s.channel name) sizes) 1
+
+abbrev pub actor_row : List TimeEntry → Actor → ActorRow
+actor_row times a = record { name = a.name; phases = 1; times = option_to_list (time_at times a.name) }
+
+abbrev pub channel_row : List SizeEntry → Channel → ChannelRow
+channel_row sizes c = record { name = c.name; source = c.source.actor; target = c.target.actor; made = c.source.rate ∷ []; taken = c.target.rate ∷ []; tokens = c.tokens; size = size_at sizes c.name }
+
+unfoldable pub table : List Actor → List Channel → List TimeEntry → List SizeEntry → GraphFile
+table actors channels times sizes = record { kind = Sdf; actors = map (actor_row times) actors; channels = map (channel_row sizes) channels }
+
+abbrev pub timed : GraphFile → Option ActorRow → Result GraphFile ReadError
+timed t None = Ok t
+timed t (Some a) = Err (Missing field.ExecutionTime a.name)
+
+-- each actor has a time, if times are needed
+unfoldable pub all_timed : Bool → GraphFile → Result GraphFile ReadError
+all_timed need_times t = if need_times then timed t (find (λ (a : ActorRow). length a.times == 0) t.actors) else Ok t
+
+unfoldable pub root_of : Node → Result Node ReadError
+root_of e = if bytes_eq (name_of e) (word_of field.Sdf3) then Ok e else Err (Missing field.Sdf3 file)
+
+unfoldable pub sdf_kind : List ℕ → Result (List ℕ) ReadError
+sdf_kind word = if bytes_eq word (word_of field.Sdf) then Ok word else Err WrongKind
+
+-- the table of a tree, or the first rule that the tree breaks
+unfoldable pub table_of : Bool → Node → Result GraphFile ReadError
+table_of need_times tree = do
+  root ← root_of tree
+  word ← required field.TypeWord file root
+  kind ← sdf_kind word
+  graph ← one field.ApplicationGraph root
+  section ← one field.Sdf graph
+  actors ← actors_of section
+  channels ← channels_of actors section
+  properties ← at_most_one field.SdfProperties graph
+  times ← times_of actors properties
+  sizes ← sizes_of channels properties
+  all_timed need_times (table actors channels times sizes)

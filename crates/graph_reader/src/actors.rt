@@ -1,0 +1,152 @@
+//! Actors with their ports.
+
+ghost use Rattle.std.specs.Prelude.{◌≡◌, ◌+◌, ◌≤◌, ℕ, [], length, codes, IfOk};
+ghost use Rattle.file_text.specs.Node.{tree_of};
+ghost use Rattle.graph_reader.specs.Walk.{Gives, each, children};
+ghost use Rattle.graph_reader.specs.Sections.{direction_in, port_of, port_count, actor_of, actors_of};
+
+use crate::elements::{elements_in, required, split_named};
+use crate::error::{bad_word, copied, missing};
+use crate::names::{Named, new_name};
+use crate::numbers::{positive, within};
+use crate::{Field, ReadError};
+use file_text::Element;
+use sd_base::{Quantity, Rows, Text};
+use std::alloc::Global;
+
+/// Whether tokens come in or go out at a port.
+#[derive(Clone, Copy, Debug, PartialEq, Eq)]
+pub enum Direction {
+    In,
+    Out,
+}
+
+#[derive(Debug, Drop)]
+pub struct Port {
+    pub name: Text,
+    pub direction: Direction,
+    pub rate: u64,
+}
+
+#[derive(Debug, Drop)]
+pub struct Actor {
+    pub name: Text,
+    pub ports: Rows<Port>,
+}
+
+impl Named for Port {
+    ghost name_of = { λ p. p.name };
+
+    fn name(&self) -> &Text {
+        &self.name
+    }
+}
+
+impl Named for Actor {
+    ghost name_of = { λ a. a.name };
+
+    fn name(&self) -> &Text {
+        &self.name
+    }
+}
+
+fn direction_in(alloc: Global, of: &str, word: &str) -> Result<Direction, ReadError>
+    ensures { Gives (λ d. d) result (direction_in of.now word.now) }
+{
+    if word == "in" {
+        return Ok(Direction::In);
+    }
+    if word == "out" {
+        return Ok(Direction::Out);
+    }
+    Err(bad_word(alloc, Field::TypeWord, of))
+}
+
+#[tactic(auto, unfolding(crate::specs::Sections::port_of))]
+fn read_port(
+    alloc: Global,
+    actor: &str,
+    before: u64,
+    done: &[Port],
+    element: &Element,
+) -> Result<Port, ReadError>
+    requires { before + length done.now ≤ 1024 }
+    ensures gives { Gives (λ p. p) result (port_of actor.now before done.now (tree_of element.now)) }
+    ensures few { IfOk result (λ _. before + length done.now + 1 ≤ 1024) }
+{
+    let name = new_name(alloc, actor, done, element)?;
+    within(Quantity::Ports, 1024, before + done.len() as u64 + 1)?;
+    let word = required(alloc, element, Field::TypeWord, actor)?;
+    let direction = direction_in(alloc, actor, word)?;
+    let text = required(alloc, element, Field::Rate, actor)?;
+    let rate = positive(alloc, text, Field::Rate, actor, Quantity::Rate, 1_000_000)?;
+    let name = copied(alloc, name)?;
+    Ok(Port {
+        name,
+        direction,
+        rate,
+    })
+}
+
+#[tactic(auto, unfolding(crate::specs::Walk::children))]
+fn read_ports(
+    alloc: Global,
+    actor: &str,
+    before: u64,
+    element: &Element,
+) -> Result<Rows<Port>, ReadError>
+    requires { before ≤ 1024 }
+    ensures gives { Gives (λ ps. ps) result (each (port_of actor.now before) [] (children (codes "port") (tree_of element.now))) }
+    ensures few { IfOk result (λ ps. before + length ps ≤ 1024) }
+{
+    let mut ports = Rows::new(alloc);
+    let mut left = elements_in(element);
+    while let Some((child, rest)) = split_named(left, "port") {
+        let port = read_port(alloc, actor, before, ports.as_slice(), child)?;
+        ports.push(port)?;
+        left = rest;
+    }
+    Ok(ports)
+}
+
+#[tactic(auto, unfolding(crate::specs::Sections::actor_of))]
+fn read_actor(
+    alloc: Global,
+    ports_before: u64,
+    done: &[Actor],
+    element: &Element,
+) -> Result<Actor, ReadError>
+    requires counted { ports_before ≡ port_count done.now }
+    requires few_ports { ports_before ≤ 1024 }
+    requires few_actors { length done.now ≤ 128 }
+    ensures gives { Gives (λ a. a) result (actor_of done.now (tree_of element.now)) }
+    ensures few_ports { IfOk result (λ a. ports_before + length a.ports ≤ 1024) }
+    ensures few_actors { IfOk result (λ _. length done.now + 1 ≤ 128) }
+{
+    let name = new_name(alloc, "file", done, element)?;
+    within(Quantity::Actors, 128, done.len() as u64 + 1)?;
+    let ports = read_ports(alloc, name, ports_before, element)?;
+    let name = copied(alloc, name)?;
+    Ok(Actor { name, ports })
+}
+
+/// The actors of a section, of which there is one at least.
+#[tactic(auto, unfolding(crate::specs::Sections::actors_of, crate::specs::Walk::children))]
+pub fn read_actors(alloc: Global, section: &Element) -> Result<Rows<Actor>, ReadError>
+    ensures gives { Gives (λ actors. actors) result (actors_of (tree_of section.now)) }
+    ensures few { IfOk result (λ actors. length actors ≤ 128) }
+{
+    let mut actors = Rows::new(alloc);
+    let mut ports: u64 = 0;
+    let mut left = elements_in(section);
+    while let Some((child, rest)) = split_named(left, Field::Actor.word()) {
+        let actor = read_actor(alloc, ports, actors.as_slice(), child)?;
+        ports += actor.ports.len() as u64;
+        actors.push(actor)?;
+        left = rest;
+    }
+    if actors.is_empty() {
+        return Err(missing(alloc, Field::Actor, "file"));
+    }
+    Ok(actors)
+}

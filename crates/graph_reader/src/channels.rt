@@ -1,0 +1,215 @@
+//! Channels between ports of actors.
+
+ghost use Rattle.std.specs.Prelude.{◌≡◌, ◌+◌, ◌≤◌, ◌<◌, ℕ, [], length, map, IfOk, MatchOption};
+ghost use Rattle.std.specs.List.{list_any, find};
+ghost use Rattle.std.specs.Option.{option_map, option_copied};
+ghost use Rattle.file_text.specs.Node.{tree_of};
+ghost use Rattle.graph_reader.specs.Walk.{Gives, each, children};
+ghost use Rattle.graph_reader.specs.Sections.{numbered, is_same_direction, is_port, end_of, is_same_port, tokens_in, channel_of, channels_of};
+
+use crate::actors::{Actor, Direction, Port};
+use crate::elements::{attribute, elements_in, required, split_named};
+use crate::error::{copied, twice, unknown};
+use crate::names::{Named, new_name};
+use crate::numbers::{number, within};
+use crate::{Field, ReadError};
+use file_text::Element;
+use sd_base::{Quantity, Rows, Text};
+use std::alloc::Global;
+
+/// Where a channel begins or ends: a port of the actor of this number, and the port's rate.
+#[derive(Debug, Drop)]
+pub struct End {
+    pub actor: u32,
+    pub port: Text,
+    pub rate: u64,
+}
+
+#[derive(Debug, Drop)]
+pub struct Channel {
+    pub name: Text,
+    pub source: End,
+    pub target: End,
+    pub tokens: u64,
+}
+
+impl Named for Channel {
+    ghost name_of = { λ c. c.name };
+
+    fn name(&self) -> &Text {
+        &self.name
+    }
+}
+
+/// Which end of a channel is read.
+#[derive(Clone, Copy, Debug)]
+struct Side {
+    direction: Direction,
+    actor: Field,
+    port: Field,
+}
+
+fn numbered<'a>(actors: &'a [Actor], name: &str) -> Option<(u32, &'a Actor)>
+    requires { length actors.now ≤ 128 }
+    ensures { option_map (λ r. (r.0, r.1.now)) result ≡ numbered 0 name.now actors.now }
+{
+    let mut i = 0;
+    let mut left = actors;
+    while let [first, rest @ ..] = left {
+        if first.name.as_str() == name {
+            return Some((i, first));
+        }
+        i += 1;
+        left = rest;
+    }
+    None
+}
+
+fn is_same_direction(a: Direction, b: Direction) -> bool
+    ensures { result ≡ is_same_direction a b }
+{
+    match (a, b) {
+        (Direction::In, Direction::In) => true,
+        (Direction::Out, Direction::Out) => true,
+        (Direction::In, Direction::Out) => false,
+        (Direction::Out, Direction::In) => false,
+    }
+}
+
+fn is_port(direction: Direction, name: &str, port: &Port) -> bool
+    ensures { result ≡ is_port direction name.now port.now }
+{
+    port.name.as_str() == name && is_same_direction(direction, port.direction)
+}
+
+fn port_named<'a>(ports: &'a [Port], direction: Direction, name: &str) -> Option<&'a Port>
+    ensures { option_copied result ≡ find (is_port direction name.now) ports.now }
+{
+    let mut left = ports;
+    while let [first, rest @ ..] = left {
+        if is_port(direction, name, first) {
+            return Some(first);
+        }
+        left = rest;
+    }
+    None
+}
+
+#[tactic(auto, unfolding(crate::specs::Sections::end_of))]
+fn read_end(
+    alloc: Global,
+    actors: &[Actor],
+    side: Side,
+    of: &str,
+    element: &Element,
+) -> Result<End, ReadError>
+    requires { length actors.now ≤ 128 }
+    ensures { Gives (λ e. e) result (end_of actors.now side.direction side.actor side.port of.now (tree_of element.now)) }
+{
+    let actor_name = required(alloc, element, side.actor, of)?;
+    let Some((number, actor)) = numbered(actors, actor_name) else {
+        return Err(unknown(alloc, side.actor, actor_name));
+    };
+    let port_name = required(alloc, element, side.port, of)?;
+    let Some(port) = port_named(actor.ports.as_slice(), side.direction, port_name) else {
+        return Err(unknown(alloc, side.port, port_name));
+    };
+    let rate = port.rate;
+    let name = copied(alloc, port_name)?;
+    Ok(End {
+        actor: number,
+        port: name,
+        rate,
+    })
+}
+
+fn is_same_port(a: &End, b: &End) -> bool
+    ensures { result ≡ is_same_port a.now b.now }
+{
+    a.actor == b.actor && a.port.as_str() == b.port.as_str()
+}
+
+fn is_source_used(channels: &[Channel], end: &End) -> bool
+    ensures { result ≡ list_any (λ c. is_same_port c.source end.now) channels.now }
+{
+    channels.iter().any(|c| is_same_port(&c.source, end))
+}
+
+fn is_target_used(channels: &[Channel], end: &End) -> bool
+    ensures { result ≡ list_any (λ c. is_same_port c.target end.now) channels.now }
+{
+    channels.iter().any(|c| is_same_port(&c.target, end))
+}
+
+fn tokens_in(alloc: Global, of: &str, text: Option<&str>) -> Result<u64, ReadError>
+    ensures { Gives (λ n. n) result (tokens_in of.now (option_map (λ v. v.now) text.entry)) }
+{
+    match text {
+        None => Ok(0),
+        Some(text) => number(alloc, text, Field::InitialTokens, of, Quantity::Tokens, 1_000_000),
+    }
+}
+
+const SOURCE: Side = Side {
+    direction: Direction::Out,
+    actor: Field::SrcActor,
+    port: Field::SrcPort,
+};
+
+const TARGET: Side = Side {
+    direction: Direction::In,
+    actor: Field::DstActor,
+    port: Field::DstPort,
+};
+
+#[tactic(auto, unfolding(crate::specs::Sections::channel_of))]
+fn read_channel(
+    alloc: Global,
+    actors: &[Actor],
+    done: &[Channel],
+    element: &Element,
+) -> Result<Channel, ReadError>
+    requires few_actors { length actors.now ≤ 128 }
+    requires few_channels { length done.now ≤ 256 }
+    ensures gives { Gives (λ c. c) result (channel_of actors.now done.now (tree_of element.now)) }
+    ensures few { IfOk result (λ _. length done.now + 1 ≤ 256) }
+{
+    let name = new_name(alloc, "file", done, element)?;
+    within(Quantity::Channels, 256, done.len() as u64 + 1)?;
+    let source = read_end(alloc, actors, SOURCE, name, element)?;
+    if is_source_used(done, &source) {
+        return Err(twice(alloc, Field::SrcPort, source.port.as_str()));
+    }
+    let target = read_end(alloc, actors, TARGET, name, element)?;
+    if is_target_used(done, &target) {
+        return Err(twice(alloc, Field::DstPort, target.port.as_str()));
+    }
+    let tokens = tokens_in(alloc, name, attribute(element, Field::InitialTokens.word()))?;
+    let name = copied(alloc, name)?;
+    Ok(Channel {
+        name,
+        source,
+        target,
+        tokens,
+    })
+}
+
+/// The channels of a section.
+#[tactic(auto, unfolding(crate::specs::Sections::channels_of, crate::specs::Walk::children))]
+pub fn read_channels(
+    alloc: Global,
+    actors: &[Actor],
+    section: &Element,
+) -> Result<Rows<Channel>, ReadError>
+    requires { length actors.now ≤ 128 }
+    ensures { Gives (λ cs. cs) result (channels_of actors.now (tree_of section.now)) }
+{
+    let mut channels = Rows::new(alloc);
+    let mut left = elements_in(section);
+    while let Some((child, rest)) = split_named(left, Field::Channel.word()) {
+        let channel = read_channel(alloc, actors, channels.as_slice(), child)?;
+        channels.push(channel)?;
+        left = rest;
+    }
+    Ok(channels)
+}

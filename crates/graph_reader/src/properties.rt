@@ -1,0 +1,186 @@
+//! What the properties give: times of actors, and sizes of tokens.
+
+ghost use Rattle.std.specs.Prelude.{◌≡◌, ℕ, [], map, codes};
+ghost use Rattle.std.specs.List.{find};
+ghost use Rattle.std.specs.Option.{option_map};
+ghost use Rattle.file_text.specs.Node.{tree_of};
+ghost use Rattle.graph_reader.specs.Walk.{Gives, each, children, named};
+ghost use Rattle.graph_reader.specs.Sections.{is_default, counting_processor, execution_of, time_of, time_entry, times_of, size_text, size_of, size_entry, sizes_of};
+
+use crate::actors::Actor;
+use crate::channels::Channel;
+use crate::elements::{attribute, elements_in, first_child, required, split_named};
+use crate::error::copied;
+use crate::names::{Named, mention};
+use crate::numbers::{number, positive};
+use crate::{Field, ReadError};
+use file_text::Element;
+use sd_base::{Quantity, Rows, Text};
+use std::alloc::Global;
+
+/// The time that is given for an actor, if any.
+#[derive(Debug, Drop)]
+pub struct TimeEntry {
+    pub actor: Text,
+    pub time: Option<u64>,
+}
+
+/// The size that is given for a channel.
+#[derive(Debug, Drop)]
+pub struct SizeEntry {
+    pub channel: Text,
+    pub size: u64,
+}
+
+impl Named for TimeEntry {
+    ghost name_of = { λ t. t.actor };
+
+    fn name(&self) -> &Text {
+        &self.actor
+    }
+}
+
+impl Named for SizeEntry {
+    ghost name_of = { λ s. s.channel };
+
+    fn name(&self) -> &Text {
+        &self.channel
+    }
+}
+
+#[tactic(auto, unfolding(crate::specs::Sections::is_default))]
+fn is_default(processor: &Element) -> bool
+    ensures { result ≡ is_default (tree_of processor.now) }
+{
+    match attribute(processor, "default") {
+        Some(value) => value == "true",
+        None => false,
+    }
+}
+
+/// The first processor so marked, or else the first.
+#[tactic(auto, unfolding(crate::specs::Sections::counting_processor, crate::specs::Walk::first_child, crate::specs::Walk::children))]
+fn counting_processor(element: &Element) -> Option<&Element>
+    ensures { option_map (λ p. tree_of p.now) result ≡ counting_processor (tree_of element.now) }
+{
+    let first = first_child(element, "processor")?;
+    let mut left = elements_in(element);
+    while let Some((processor, rest)) = split_named(left, "processor") {
+        if is_default(processor) {
+            return Some(processor);
+        }
+        left = rest;
+    }
+    Some(first)
+}
+
+#[tactic(auto, unfolding(crate::specs::Sections::execution_of))]
+fn execution_of(element: &Element) -> Option<&Element>
+    ensures { option_map (λ p. tree_of p.now) result ≡ execution_of (tree_of element.now) }
+{
+    first_child(counting_processor(element)?, Field::ExecutionTime.word())
+}
+
+#[tactic(auto, unfolding(crate::specs::Sections::time_of))]
+fn time_of(alloc: Global, of: &str, element: &Element) -> Result<Option<u64>, ReadError>
+    ensures { Gives (λ t. t) result (time_of of.now (tree_of element.now)) }
+{
+    let Some(execution) = execution_of(element) else {
+        return Ok(None);
+    };
+    let text = required(alloc, execution, Field::Time, of)?;
+    let time = positive(alloc, text, Field::Time, of, Quantity::Time, 1_000_000_000)?;
+    Ok(Some(time))
+}
+
+#[tactic(auto, unfolding(crate::specs::Sections::time_entry))]
+fn read_time(
+    alloc: Global,
+    actors: &[Actor],
+    done: &[TimeEntry],
+    element: &Element,
+) -> Result<TimeEntry, ReadError>
+    ensures { Gives (λ t. t) result (time_entry actors.now done.now (tree_of element.now)) }
+{
+    let name = mention(alloc, Field::Actor, actors, done, element)?;
+    let time = time_of(alloc, name, element)?;
+    let actor = copied(alloc, name)?;
+    Ok(TimeEntry { actor, time })
+}
+
+/// The times that the properties give.
+#[tactic(auto, unfolding(crate::specs::Sections::times_of, crate::specs::Walk::children))]
+pub fn read_times(
+    alloc: Global,
+    actors: &[Actor],
+    properties: Option<&Element>,
+) -> Result<Rows<TimeEntry>, ReadError>
+    ensures { Gives (λ ts. ts) result (times_of actors.now (option_map (λ e. tree_of e.now) properties.entry)) }
+{
+    let mut times = Rows::new(alloc);
+    let Some(element) = properties else {
+        return Ok(times);
+    };
+    let mut left = elements_in(element);
+    while let Some((child, rest)) = split_named(left, "actorProperties") {
+        let time = read_time(alloc, actors, times.as_slice(), child)?;
+        times.push(time)?;
+        left = rest;
+    }
+    Ok(times)
+}
+
+#[tactic(auto, unfolding(crate::specs::Sections::size_text))]
+fn size_text(element: &Element) -> Option<&str>
+    ensures { option_map (λ v. v.now) result ≡ size_text (tree_of element.now) }
+{
+    attribute(first_child(element, "tokenSize")?, Field::Sz.word())
+}
+
+#[tactic(auto, unfolding(crate::specs::Sections::size_of))]
+fn size_of(alloc: Global, of: &str, element: &Element) -> Result<u64, ReadError>
+    ensures { Gives (λ n. n) result (size_of of.now (tree_of element.now)) }
+{
+    let Some(text) = size_text(element) else {
+        return Ok(1);
+    };
+    let size = number(alloc, text, Field::Sz, of, Quantity::Size, 1_000_000)?;
+    Ok(if size == 0 { 1 } else { size })
+}
+
+#[tactic(auto, unfolding(crate::specs::Sections::size_entry))]
+fn read_size(
+    alloc: Global,
+    channels: &[Channel],
+    done: &[SizeEntry],
+    element: &Element,
+) -> Result<SizeEntry, ReadError>
+    ensures { Gives (λ s. s) result (size_entry channels.now done.now (tree_of element.now)) }
+{
+    let name = mention(alloc, Field::Channel, channels, done, element)?;
+    let size = size_of(alloc, name, element)?;
+    let channel = copied(alloc, name)?;
+    Ok(SizeEntry { channel, size })
+}
+
+/// The sizes that the properties give.
+#[tactic(auto, unfolding(crate::specs::Sections::sizes_of, crate::specs::Walk::children))]
+pub fn read_sizes(
+    alloc: Global,
+    channels: &[Channel],
+    properties: Option<&Element>,
+) -> Result<Rows<SizeEntry>, ReadError>
+    ensures { Gives (λ ss. ss) result (sizes_of channels.now (option_map (λ e. tree_of e.now) properties.entry)) }
+{
+    let mut sizes = Rows::new(alloc);
+    let Some(element) = properties else {
+        return Ok(sizes);
+    };
+    let mut left = elements_in(element);
+    while let Some((child, rest)) = split_named(left, "channelProperties") {
+        let size = read_size(alloc, channels, sizes.as_slice(), child)?;
+        sizes.push(size)?;
+        left = rest;
+    }
+    Ok(sizes)
+}
