@@ -1,3 +1,5 @@
 pub mod Node
 pub mod Grammar
 pub mod Fault
+pub mod Utf8
+pub mod Machine
