@@ -1,5 +1,5 @@
 -- What the classes of bytes say in the words of the grammar.
-use Rattle.std.proofs.Common.{◌≡◌, ◌≢◌, ℕ, ◌<◌, ◌≤◌, ◌⊎◌, refl, Bool, true, false, arith}
+use Rattle.std.proofs.Common.{◌≡◌, ◌≢◌, ℕ, ◌<◌, ◌≤◌, ◌⊎◌, refl, Bool, true, false, ◌||◌, ◌==◌, arith}
 use Rattle.std.proofs.lemmas.Bool.Decides.{nat_tests}
 use Rattle.file_text.specs.declared.class.Class.{Class}
 use Rattle.file_text.specs.declared.class.Class.TheVariants.{Wide, White, Control, Letter, Digit, Hyphen, Less, Greater, Slash, Bang, Question, Equals, Quote, Ampersand, Other}
@@ -47,6 +47,27 @@ start_of b = grind (arith, nat_tests)
 pub name_of : (b : ℕ) → is_name_byte b ≡ name_class (class_of b)
 name_of b = grind (arith, nat_tests)
 
+abbrev pub hyphen_class : Class → Bool
+hyphen_class Hyphen = true
+hyphen_class c = false
+
+abbrev pub greater_class : Class → Bool
+greater_class Greater = true
+greater_class c = false
+
+abbrev pub quote_class : Class → Bool
+quote_class Quote = true
+quote_class c = false
+
+hyphen_of : (b : ℕ) → (b == 45) ≡ hyphen_class (class_of b)
+hyphen_of b = grind (arith, nat_tests)
+
+greater_of : (b : ℕ) → (b == 62) ≡ greater_class (class_of b)
+greater_of b = grind (arith, nat_tests)
+
+quote_of : (b : ℕ) → ((b == 34) || (b == 39)) ≡ quote_class (class_of b)
+quote_of b = grind (arith, nat_tests)
+
 -- the bytes of a class of one byte or two
 abbrev pub Says : Class → ℕ → Type 0
 Says Hyphen b = b ≡ 45
@@ -89,6 +110,9 @@ pub record Known (c : Class) (b : ℕ) : Type 0 where
   pub plain : is_plain b ≡ plain_class c
   pub begins : is_name_start b ≡ start_class c
   pub named : is_name_byte b ≡ name_class c
+  pub hyphen : (b == 45) ≡ hyphen_class c
+  pub greater : (b == 62) ≡ greater_class c
+  pub quote : ((b == 34) || (b == 39)) ≡ quote_class c
   pub code : Says c b
 
 pub known : (b : ℕ) → Known (class_of b) b
@@ -98,6 +122,9 @@ known b = record {
   plain = plain_of b;
   begins = start_of b;
   named = name_of b;
+  hyphen = hyphen_of b;
+  greater = greater_of b;
+  quote = quote_of b;
   code = says b (class_of b) refl;
 }
 

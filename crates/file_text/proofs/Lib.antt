@@ -6,3 +6,7 @@ pub mod OverTags
 pub mod OverFillers
 pub mod OverElements
 pub mod OverTexts
+pub mod Standing
+pub mod OneMore
+pub mod KeepsText
+pub mod KeepsTags

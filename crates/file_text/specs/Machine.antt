@@ -132,17 +132,13 @@ declaring_step a declaring.Xm Letter b = if b == 108 then goes a (in_declaring d
 declaring_step a declaring.Xml White b = goes a (at_gap declaration [])
 declaring_step a d c b = leaves
 
--- a character between the tags of an element
-abbrev pub character_step : Around → Class → Step
-character_step (within o os) Control = leaves
-character_step (within o os) Ampersand = goes (within o os) (in_text_reference reference.Ampersand)
-character_step (within o os) c = goes (within o os) at_between
-character_step a c = leaves
-
 abbrev pub between_step : Around → Class → Step
 between_step a White = goes a at_between
 between_step a Less = goes a at_markup
-between_step a c = character_step a c
+between_step (within o os) Control = leaves
+between_step (within o os) Ampersand = goes (within o os) (in_text_reference reference.Ampersand)
+between_step (within o os) c = goes (within o os) at_between
+between_step a c = leaves
 
 -- a name begins an element
 abbrev pub open_step : Around → ℕ → Step
