@@ -65,7 +65,7 @@ enters strict a n xs u w t tagged white spelled =
       rw (spelled, tagged.spelled, front) (simp append_assoc), omega arith)
 
 -- an empty element ends
-empties : (strict : Bool) (a : Around) (n : List ℕ) (xs : List Attribute) (u w t : List ℕ) → Tagged strict a (tag n) xs u → IsWhite w → t ≡ u ++ (w ++ codes "/")
+pub empties : (strict : Bool) (a : Around) (n : List ℕ) (xs : List Attribute) (u w t : List ℕ) → Tagged strict a (tag n) xs u → IsWhite w → t ≡ u ++ (w ++ codes "/")
     → Reached strict (ended (open_of a) (node n xs no_node)) (t ++ 62 ∷ [])
 empties strict a n xs u w t tagged white spelled =
     let (v, reached, room, named, front) = tagged.is_front in
@@ -152,7 +152,7 @@ keeps_equals strict a h xs n t Quote b k (u, w, v, y, tagged, gap, named, new, w
 keeps_equals strict a h xs n t c b k has = tt
 
 -- a byte or an entity in a value
-value_byte : (strict : Bool) (a : Around) (h : Holder) (xs : List Attribute) (n : List ℕ) (q : ℕ) (v t : List ℕ) (b : ℕ) → IsTrue (is_plain b) → b ≢ q → Valued strict a h xs n q v t
+pub value_byte : (strict : Bool) (a : Around) (h : Holder) (xs : List Attribute) (n : List ℕ) (q : ℕ) (v t : List ℕ) (b : ℕ) → IsTrue (is_plain b) → b ≢ q → Valued strict a h xs n q v t
     → Valued strict a h xs n q (v ++ b ∷ []) (t ++ b ∷ [])
 value_byte strict a h xs n q v t b plain other has = record {
   front = has.front;
@@ -166,7 +166,7 @@ value_byte strict a h xs n q v t b plain other has = record {
   spelled = rw (has.spelled, items_text-one has.items (byte b)) (simp append_assoc);
 }
 
-value_entity : (strict : Bool) (a : Around) (h : Holder) (xs : List Attribute) (n : List ℕ) (q : ℕ) (v t : List ℕ) (e : Entity) → Valued strict a h xs n q v t
+pub value_entity : (strict : Bool) (a : Around) (h : Holder) (xs : List Attribute) (n : List ℕ) (q : ℕ) (v t : List ℕ) (e : Entity) → Valued strict a h xs n q v t
     → Valued strict a h xs n q (v ++ entity_value e ∷ []) (t ++ entity_text e)
 value_entity strict a h xs n q v t e has = record {
   front = has.front;

@@ -10,3 +10,4 @@ pub mod Standing
 pub mod OneMore
 pub mod KeepsText
 pub mod KeepsTags
+pub mod KeepsEnds
