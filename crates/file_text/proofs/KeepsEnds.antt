@@ -18,15 +18,15 @@ use Rattle.file_text.proofs.KeepsText.{After, when_same, from_prolog, keeps_star
 use Rattle.file_text.proofs.KeepsTags.{empties, value_entity, keeps_name, keeps_gap, keeps_valued, keeps_attribute, keeps_named, keeps_equals, keeps_value}
 
 -- what a further byte makes of an entity's text
-abbrev Refers : Reference → ℕ → Referred → Type 0
+abbrev pub Refers : Reference → ℕ → Referred → Type 0
 Refers r b (More s) = reference_text r ++ b ∷ [] ≡ reference_text s
 Refers r b (Done c) = (e : Entity) × (reference_text r ++ b ∷ [] ≡ entity_text e) × (c ≡ entity_value e)
 Refers r b Leaves = Unit {0}
 
-when_byte : (P : Referred → Type 0) (b k : ℕ) (s u : Referred) → (b ≡ k → P s) → P u → P (cond (eqb b k) s u)
+pub when_byte : (P : Referred → Type 0) (b k : ℕ) (s u : Referred) → (b ≡ k → P s) → P u → P (cond (eqb b k) s u)
 when_byte P b k s u p q = elim (cases_Bool (eqb b k)) [ inl e ↦ rw e (p (eqb-true b k e)) | inr e ↦ rw e q ]
 
-refers : (r : Reference) (b : ℕ) → Refers r b (referred r b)
+pub refers : (r : Reference) (b : ℕ) → Refers r b (referred r b)
 refers reference.Ampersand b =
     when_byte (λ s. Refers reference.Ampersand b s) b 108 _ _ (λ e. rw e refl)
       (when_byte (λ s. Refers reference.Ampersand b s) b 103 _ _ (λ e. rw e refl)

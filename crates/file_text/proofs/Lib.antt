@@ -11,3 +11,5 @@ pub mod OneMore
 pub mod KeepsText
 pub mod KeepsTags
 pub mod KeepsEnds
+pub mod Tidy
+pub mod TidyRuns

@@ -1,5 +1,5 @@
 -- The machine over bytes by which the reader goes. Nothing public speaks of it.
-use Rattle.std.specs.Prelude.{ℕ, suc, ◌+◌, Bool, true, false, ◌&&◌, ◌||◌, not, ◌==◌, nat_lt, nat_le, if◌then◌else◌, List, [], ◌∷◌, ◌++◌, length, codes}
+use Rattle.std.specs.Prelude.{◌≡◌, ℕ, suc, ◌+◌, ◌≤◌, Bool, true, false, ◌&&◌, ◌||◌, not, ◌==◌, nat_lt, nat_le, if◌then◌else◌, List, [], ◌∷◌, ◌++◌, length, codes}
 use Rattle.std.specs.Prelude.{Option, Some, None}
 use Rattle.std.specs.List.{list_any}
 use Rattle.std.specs.Str.{bytes_eq, str_to_ascii_lowercase}
@@ -17,10 +17,10 @@ use Rattle.file_text.specs.declared.reference.Reference.TheVariants as reference
 use Rattle.file_text.specs.declared.reference.Referred.{Referred}
 use Rattle.file_text.specs.declared.reference.Referred.TheVariants.{More, Done, Leaves}
 use Rattle.file_text.specs.declared.due.Due.{Due}
-use Rattle.file_text.specs.declared.due.Due.TheVariants.{Nothing}
+use Rattle.file_text.specs.declared.due.Due.TheVariants.{Nothing, Byte}
 use Rattle.file_text.specs.Node.{Node, node, no_node, nodes}
-use Rattle.file_text.specs.Grammar.{is_white}
-use Rattle.file_text.specs.Utf8.{due_after}
+use Rattle.file_text.specs.Grammar.{is_white, Each}
+use Rattle.file_text.specs.Utf8.{due_after, due_along}
 
 -- the part that a byte plays
 abbrev pub class_of : ℕ → Class
@@ -368,3 +368,58 @@ spelled_at due a x = None
 -- the tree of a text that may end here
 abbrev pub tree_at : State → Option Node
 tree_at s = spelled_at s.due s.spot.0 s.spot.1
+
+-- the bytes leave this due
+abbrev pub IsDue : List ℕ → Due → Type 0
+IsDue t due = due_along (Some Nothing) t ≡ Some due
+
+-- the names of open elements are whole
+abbrev pub AreWhole : List Opened → Type 0
+AreWhole os = Each (λ o. IsDue o.name Nothing) os
+
+abbrev pub IsWholeHolder : Holder → Type 0
+IsWholeHolder declaration = Unit {0}
+IsWholeHolder (tag name) = IsDue name Nothing
+
+-- characters may be cut only between the tags of an element
+abbrev pub IsTidyBetween : Due → Around → Type 0
+IsTidyBetween due (within o os) = Unit {0}
+IsTidyBetween due a = due ≡ Nothing
+
+abbrev pub mark_due : Mark → Due
+mark_due mark.First = Byte 0x80 0xBF 1
+mark_due mark.Second = Byte 0x80 0xBF 0
+mark_due mark.Whole = Nothing
+
+-- in a comment only in its body
+abbrev pub IsTidyComment : Due → Comment → Type 0
+IsTidyComment due comment.Body = Unit {0}
+IsTidyComment due k = due ≡ Nothing
+
+-- what is due at a shape is due at the end of the text that grows in it
+abbrev pub IsTidyShape : Due → Around → Shape → Type 0
+IsTidyShape due a (in_mark m) = due ≡ mark_due m
+IsTidyShape due a at_between = IsTidyBetween due a
+IsTidyShape due a (in_comment k) = IsTidyComment due k
+IsTidyShape due a (in_name name) = IsDue name due
+IsTidyShape due a (at_gap h attributes) = (due ≡ Nothing) × IsWholeHolder h
+IsTidyShape due a (in_attribute h attributes name) = IsWholeHolder h × IsDue name due
+IsTidyShape due a (at_named h attributes name) = (due ≡ Nothing) × IsWholeHolder h × IsDue name Nothing
+IsTidyShape due a (at_equals h attributes name) = (due ≡ Nothing) × IsWholeHolder h × IsDue name Nothing
+IsTidyShape due a (in_value h attributes name quote value) = IsWholeHolder h × IsDue name Nothing × IsDue value due
+IsTidyShape due a (in_value_reference h attributes name quote value r) = (due ≡ Nothing) × IsWholeHolder h × IsDue name Nothing × IsDue value Nothing
+IsTidyShape due a (at_valued h attributes) = (due ≡ Nothing) × IsWholeHolder h
+IsTidyShape due a (at_slash name attributes) = (due ≡ Nothing) × IsDue name Nothing
+IsTidyShape due a (in_closing left) = due_along (Some due) left ≡ Some Nothing
+IsTidyShape due a x = due ≡ Nothing
+
+-- what is due is within the bytes that continue a character
+abbrev pub IsProper : Due → Type 0
+IsProper Nothing = Unit {0}
+IsProper (Byte low high more) = (0x80 ≤ low) × (low ≤ high)
+
+-- characters are cut only in a text that grows
+pub record IsTidy (due : Due) (a : Around) (x : Shape) : Type 0 where
+  pub proper : IsProper due
+  pub whole : AreWhole (open_of a)
+  pub shape : IsTidyShape due a x
