@@ -13,3 +13,5 @@ pub mod KeepsTags
 pub mod KeepsEnds
 pub mod Tidy
 pub mod TidyRuns
+pub mod Endings
+pub mod Ends

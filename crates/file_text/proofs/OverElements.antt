@@ -92,12 +92,12 @@ nodes-list_of (node_then e es) = ap (node_then e) (nodes-list_of es)
 abbrev pub grown : Opened → List Node → Opened
 grown o es = record { name = o.name; attributes = o.attributes; children = o.children ++ es }
 
-empty_ends : (strict : Bool) (a : Around) (y : Shape) (n : List ℕ) (xs : List Attribute) → Ready a y (tag n) xs
+pub empty_ends : (strict : Bool) (a : Around) (y : Shape) (n : List ℕ) (xs : List Attribute) → Ready a y (tag n) xs
     → Along strict a y (codes "/>") (ended (open_of a) (node n xs no_node)) at_between
 unfolding table
 empty_ends strict a y n xs ready rest = ap (λ s. walk strict (follow strict s) (62 ∷ rest)) (ready.slash 47)
 
-tag_ends : (strict : Bool) (a : Around) (y : Shape) (n : List ℕ) (xs : List Attribute) → Ready a y (tag n) xs
+pub tag_ends : (strict : Bool) (a : Around) (y : Shape) (n : List ℕ) (xs : List Attribute) → Ready a y (tag n) xs
     → Along strict a y (62 ∷ []) (entered a n xs) at_between
 unfolding table
 tag_ends strict a y n xs ready rest = ap (λ s. walk strict (follow strict s) rest) (ready.greater 62)

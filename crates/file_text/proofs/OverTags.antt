@@ -64,7 +64,7 @@ if_new_new : (n : List ℕ) (as' : List Attribute) (s : Step) → has_name n as'
 if_new_new n as' s new = rw new refl
 
 -- white behind the name, and `=`
-over_equals : (strict : Bool) (a : Around) (h : Holder) (as' : List Attribute) (n : List ℕ) (w : List ℕ) → has_name n as' ≡ false → IsWhite w
+pub over_equals : (strict : Bool) (a : Around) (h : Holder) (as' : List Attribute) (n : List ℕ) (w : List ℕ) → has_name n as' ≡ false → IsWhite w
     → Along strict a (in_attribute h as' n) (w ++ 61 ∷ []) a (at_equals h as' n)
 unfolding table
 over_equals strict a h as' n [] new white rest =
@@ -78,7 +78,7 @@ regroup : (before after : List ℕ) (q : ℕ) (rest : List ℕ) (f : List ℕ �
     → f ((before ++ (61 ∷ (after ++ (q ∷ [])))) ++ rest) ≡ f ((before ++ 61 ∷ []) ++ (after ++ (q ∷ rest)))
 regroup before after q rest f = simp append_assoc
 
-over_quote : (strict : Bool) (a : Around) (h : Holder) (as' : List Attribute) (n : List ℕ) (q : ℕ) → (q ≡ 34) ⊎ (q ≡ 39)
+pub over_quote : (strict : Bool) (a : Around) (h : Holder) (as' : List Attribute) (n : List ℕ) (q : ℕ) → (q ≡ 34) ⊎ (q ≡ 39)
     → Along strict a (at_equals h as' n) (q ∷ []) a (in_value h as' n q [])
 unfolding table
 over_quote strict a h as' n q (inl e) rest = rw e refl
@@ -170,7 +170,7 @@ quote_ends strict a h as' n q v code e quote allowed =
     let same : eqb q q ≡ true = eq-eqb q q refl in
     rw class (rw same (ends_allowed strict a h as' n v allowed))
 
-over_end : (strict : Bool) (a : Around) (h : Holder) (as' : List Attribute) (n : List ℕ) (q : ℕ) (v : List ℕ) → (q ≡ 34) ⊎ (q ≡ 39)
+pub over_end : (strict : Bool) (a : Around) (h : Holder) (as' : List Attribute) (n : List ℕ) (q : ℕ) (v : List ℕ) → (q ≡ 34) ⊎ (q ≡ 39)
     → AllowedIn strict h (record { name = n; value = v } ∷ [])
     → Along strict a (in_value h as' n q v) (q ∷ []) a (at_valued h (as' ++ record { name = n; value = v } ∷ []))
 unfolding table

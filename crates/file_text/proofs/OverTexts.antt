@@ -18,7 +18,7 @@ ready_declaring : (a : Around) → Ready a (in_declaring declaring.Xml) declarat
 unfolding table
 ready_declaring a = record { slash = λ b. refl; greater = λ b. refl; question = λ b. refl; gap = λ b. refl }
 
-declaration_ends : (strict : Bool) (a : Around) (y : Shape) (xs : List Attribute) → xs ≢ [] → Ready a y declaration xs → Along strict a y (codes "?>") a at_between
+pub declaration_ends : (strict : Bool) (a : Around) (y : Shape) (xs : List Attribute) → xs ≢ [] → Ready a y declaration xs → Along strict a y (codes "?>") a at_between
 unfolding table
 declaration_ends strict a y [] some ready rest = absurd (some refl)
 declaration_ends strict a y (b ∷ xs) some ready rest = ap (λ s. walk strict (follow strict s) (62 ∷ rest)) (ready.question 63)

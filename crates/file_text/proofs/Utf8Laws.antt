@@ -34,7 +34,7 @@ four_due : (b : ℕ) → 0xF0 ≤ b → b < 0xF5 → due_after_first b ≡ Some 
 four_due b low high = grind (arith, nat_tests)
 
 -- what is due is met
-byte_due : (low high more b : ℕ) → low ≤ b → b ≤ high → due_after (Byte low high more) b ≡ Some (due_behind more)
+pub byte_due : (low high more b : ℕ) → low ≤ b → b ≤ high → due_after (Byte low high more) b ≡ Some (due_behind more)
 byte_due low high more b l h = grind (arith, nat_tests)
 
 pub ascii_along : (b : ℕ) (rest : List ℕ) → b < 128 → due_along (Some Nothing) (b ∷ rest) ≡ due_along (Some Nothing) rest
