@@ -15,3 +15,4 @@ pub mod Tidy
 pub mod TidyRuns
 pub mod Endings
 pub mod Ends
+pub mod Exact
