@@ -16,3 +16,5 @@ pub mod TidyRuns
 pub mod Endings
 pub mod Ends
 pub mod Exact
+pub mod Places
+pub mod Steps
