@@ -18,3 +18,4 @@ pub mod Ends
 pub mod Exact
 pub mod Places
 pub mod Steps
+pub mod Encodings

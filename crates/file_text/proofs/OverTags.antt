@@ -124,7 +124,7 @@ over_entity strict a h as' n q v quotation rest = refl
 over_entity strict a h as' n q v apostrophe rest = refl
 
 -- what stands in a value
-over_value : (strict : Bool) (a : Around) (h : Holder) (as' : List Attribute) (n : List ℕ) (q : ℕ) (v : List ℕ) (items : List Item) → Each (IsQuoted q) items
+pub over_value : (strict : Bool) (a : Around) (h : Holder) (as' : List Attribute) (n : List ℕ) (q : ℕ) (v : List ℕ) (items : List Item) → Each (IsQuoted q) items
     → Along strict a (in_value h as' n q v) (items_text items) a (in_value h as' n q (v ++ items_value items))
 unfolding table
 over_value strict a h as' n q v [] quoted rest = rw append-nil refl

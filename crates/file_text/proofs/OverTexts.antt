@@ -14,7 +14,7 @@ use Rattle.file_text.proofs.OverFillers.{over_body, over_outside}
 use Rattle.file_text.proofs.OverElements.{Begins, begins_between, over_element}
 
 -- the declaration
-ready_declaring : (a : Around) → Ready a (in_declaring declaring.Xml) declaration []
+pub ready_declaring : (a : Around) → Ready a (in_declaring declaring.Xml) declaration []
 unfolding table
 ready_declaring a = record { slash = λ b. refl; greater = λ b. refl; question = λ b. refl; gap = λ b. refl }
 
