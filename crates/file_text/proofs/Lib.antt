@@ -19,3 +19,4 @@ pub mod Exact
 pub mod Places
 pub mod Steps
 pub mod Encodings
+pub mod Known

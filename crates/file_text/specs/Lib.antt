@@ -3,3 +3,4 @@ pub mod Grammar
 pub mod Fault
 pub mod Utf8
 pub mod Machine
+pub mod Exit
