@@ -1,11 +1,11 @@
 -- The fault that a reader going from the left recognises first, said by prefixes of texts of the grammar.
-use Rattle.std.specs.Prelude.{◌≡◌, ℕ, ◌+◌, ◌<◌, ◌≤◌, ◌⊎◌, Bool, ◌&&◌, ◌||◌, ◌==◌, nat_le, IsTrue, List, [], ◌∷◌, ◌++◌, length, take, drop, slice_index, codes}
+use Rattle.std.specs.Prelude.{◌≡◌, ℕ, ◌+◌, ◌-◌, ◌<◌, ◌≤◌, ◌⊎◌, Bool, ◌&&◌, ◌||◌, ◌==◌, nat_le, IsTrue, List, [], ◌∷◌, ◌++◌, length, take, drop, slice_index, codes}
 use Rattle.file_text.specs.declared.error.Construct.TheVariants.{Doctype, Cdata, Instruction, Reference, Encoding}
 use Rattle.file_text.specs.declared.error.TextError.{TextError}
 use Rattle.file_text.specs.declared.error.TextError.TheVariants.{Syntax, Unsupported, TooDeep, NoMemory}
 use Rattle.file_text.specs.declared.tree.Attribute.{Attribute}
 use Rattle.file_text.specs.Node.{Node}
-use Rattle.file_text.specs.Grammar.{Each, Item, IsQuoted, IsHead, AreAttributes, IsUtf8Name, IsLooseText, items_text, items_value, mark}
+use Rattle.file_text.specs.Grammar.{Each, Item, IsQuoted, IsHead, AreAttributes, IsNew, AreDistinct, IsUtf8Name, IsLooseText, items_text, items_value, mark}
 
 -- some text of the grammar begins so
 abbrev pub IsPrefix : List ℕ → Type 0
@@ -32,16 +32,16 @@ IsStart bytes p = (p ≡ 0) ⊎ ((p ≡ 3) × Stands mark bytes 0)
 
 -- A fault other than Syntax, known where the bytes leave the grammar at n. A literal stands where markup or an entity
 -- may stand exactly if the grammar goes along with its first bytes and no further: in a comment it goes along with all
--- of it, in a tag with none. At the very start it goes along with `<?xml` and white.
+-- of it, in a tag with none. At the very start it goes along with `<?xml`, and leaves where no white follows.
 abbrev pub KnownAt : List ℕ → ℕ → TextError → Type 0
 KnownAt bytes n (Syntax place) = ⊥
 KnownAt bytes n (Unsupported p Doctype) = (n ≡ p + 2) × Stands (codes "<!DOCTYPE") bytes p
 KnownAt bytes n (Unsupported p Cdata) = (n ≡ p + 2) × Stands (codes "<![CDATA[") bytes p
 KnownAt bytes n (Unsupported p Reference) = (n ≡ p + 1) × Stands (codes "&#") bytes p
-KnownAt bytes n (Unsupported p Instruction) = Stands (codes "<?") bytes p
-    × ((n ≡ p + 1) ⊎ (IsStart bytes p × (p + 2 ≤ n) × (n < p + 6) × (n < length bytes)))
+KnownAt bytes n (Unsupported p Instruction) = ((n ≡ p + 1) × Stands (codes "<?") bytes p)
+    ⊎ (IsStart bytes p × (p + 2 ≤ n) × (n ≤ p + 5) × (n < length bytes) × Stands (take (n - p) (codes "<?xml")) bytes p)
 KnownAt bytes n (Unsupported p Encoding) = ⊥
--- the name of an element begins, and only the end of the innermost one could have been meant
+-- a name begins where an element may end and none may begin: so deep is it
 KnownAt bytes n (TooDeep p) = (n ≡ p + 1) × Stands (codes "<") bytes p × (n < length bytes)
     × IsTrue (begins_name (slice_index bytes n)) × IsPrefix (take n bytes ++ codes "/")
 KnownAt bytes n NoMemory = ⊥
@@ -57,6 +57,8 @@ pub record IsEncodingAt (bytes : List ℕ) (p : ℕ) : Type 0 where
   pub rest : List ℕ
   pub is_start : (start ≡ []) ⊎ (start ≡ mark)
   pub are_attributes : AreAttributes attributes middle
+  pub are_distinct : AreDistinct attributes
+  pub is_new : IsNew (codes "encoding") attributes
   pub is_head : IsHead (codes "encoding") quote head
   pub are_quoted : Each (IsQuoted quote) items
   pub other : IsUtf8Name (items_value items) → ⊥

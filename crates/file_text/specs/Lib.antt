@@ -1,3 +1,6 @@
 pub mod Node
 pub mod Grammar
 pub mod Fault
+pub mod Utf8
+pub mod Machine
+pub mod Exit

@@ -2,8 +2,16 @@
 //! going from the left recognises first.
 #![tactic(auto)]
 
+mod attributes;
+mod class;
+mod due;
 mod error;
+mod mode;
 mod read;
+mod reference;
+mod scanner;
+#[cfg(test)]
+mod tests;
 mod tree;
 
 pub use error::{Construct, TextError};

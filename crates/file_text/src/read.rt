@@ -4,15 +4,75 @@ ghost use Rattle.file_text.specs.Grammar.{IsText};
 ghost use Rattle.file_text.specs.Fault.{FirstFault};
 ghost use Rattle.file_text.specs.declared.error.TextError.TheVariants.{NoMemory};
 
-use crate::{TextError, Tree};
+use crate::scanner::{Scanner, Taken};
+use crate::{Construct, TextError, Tree};
 use std::alloc::Global;
 
-/// Reads a graph file's text, in one pass. Cost: linear in the bytes, but for the test that no name stands
-/// twice in a tag.
+/// Reads a graph file's text, in one pass. Cost: linear in the bytes, but for the names of the attributes of a
+/// tag, each of which is looked for among those before it at the cost of the logarithm of their count.
 pub fn read_tree(alloc: Global, bytes: &[u8]) -> Result<Tree, TextError>
     ensures spelled { IfOk result (λ tree. IsText (tree_of tree.root) bytes.now) }
     ensures only { (e : Node) → IsText e bytes.now → MatchResult result (λ tree. tree_of tree.root ≡ e) (λ error. error ≡ NoMemory) }
     ensures fault { IfErr result (λ error. (error ≡ NoMemory) ⊎ FirstFault bytes.now error) }
 {
-    Err(TextError::NoMemory)
+    let mut scanner = Scanner::new(alloc);
+    for (i, b) in bytes.iter().enumerate() {
+        match scanner.take(alloc, *b)? {
+            Taken::Goes => {}
+            Taken::Leaves => return Err(fault_at(bytes, i)),
+            Taken::TooDeep => return Err(TextError::TooDeep { place: i as u64 - 1 }),
+            Taken::OtherEncoding => {
+                return Err(TextError::Unsupported {
+                    place: value_start(bytes, i, scanner.quote()),
+                    what: Construct::Encoding,
+                });
+            }
+        }
+    }
+    match scanner.finish() {
+        Some(root) => Ok(Tree { root }),
+        None => Err(fault_at(bytes, bytes.len())),
+    }
+}
+
+/// The fault where the bytes leave the grammar at n.
+fn fault_at(bytes: &[u8], n: usize) -> TextError {
+    if n >= 2 && stands(bytes, n - 2, b"<!DOCTYPE") {
+        unsupported(n - 2, Construct::Doctype)
+    } else if n >= 2 && stands(bytes, n - 2, b"<![CDATA[") {
+        unsupported(n - 2, Construct::Cdata)
+    } else if n >= 1 && stands(bytes, n - 1, b"&#") {
+        unsupported(n - 1, Construct::Reference)
+    } else if n >= 1 && stands(bytes, n - 1, b"<?") {
+        unsupported(n - 1, Construct::Instruction)
+    } else if leaves_declaration(bytes, 0, n) {
+        unsupported(0, Construct::Instruction)
+    } else if stands(bytes, 0, b"\xEF\xBB\xBF") && leaves_declaration(bytes, 3, n) {
+        unsupported(3, Construct::Instruction)
+    } else {
+        TextError::Syntax { place: n as u64 }
+    }
+}
+
+fn unsupported(place: usize, what: Construct) -> TextError {
+    TextError::Unsupported { place: place as u64, what }
+}
+
+/// Whether the word stands at the place.
+fn stands(bytes: &[u8], place: usize, word: &[u8]) -> bool {
+    place <= bytes.len() && bytes[place..].starts_with(word)
+}
+
+/// Whether `<?` stands at the place, and n is within the length of `<?xml` and one white byte.
+fn leaves_declaration(bytes: &[u8], place: usize, n: usize) -> bool {
+    stands(bytes, place, b"<?") && n < bytes.len() && place + 2 <= n && n < place + 6
+}
+
+/// The place behind the last quote before `end`.
+fn value_start(bytes: &[u8], end: usize, quote: u8) -> u64 {
+    let mut place = end;
+    while place > 0 && bytes[place - 1] != quote {
+        place -= 1;
+    }
+    place as u64
 }

@@ -1,0 +1,63 @@
+ghost use Rattle.std.specs.Prelude.{◌≡◌};
+ghost use Rattle.file_text.specs.Utf8.{due_after, due_after_first, first_due};
+
+/// The bytes that a character still needs.
+#[derive(Clone, Copy)]
+pub(crate) enum Due {
+    Nothing,
+    /// A byte from `low` to `high`, and then `more` bytes from 0x80 to 0xBF.
+    Byte { low: u8, high: u8, more: u8 },
+}
+
+impl Due {
+    /// What is due after a further byte, or `None` where it breaks UTF-8.
+    pub(crate) fn after(self, b: u8) -> Option<Due>
+        ensures { result ≡ due_after self b }
+    {
+        match self {
+            Due::Nothing => Due::after_first(b),
+            Due::Byte { low, high, more } => {
+                if b < low || high < b {
+                    None
+                } else if more == 0 {
+                    Some(Due::Nothing)
+                } else {
+                    Some(Due::Byte {
+                        low: 0x80,
+                        high: 0xBF,
+                        more: more - 1,
+                    })
+                }
+            }
+        }
+    }
+
+    fn after_first(b: u8) -> Option<Due>
+        ensures { result ≡ due_after_first b }
+    {
+        match b {
+            0..=0x7F => Some(Due::Nothing),
+            0xC2..=0xDF => Some(Due::begun(b, 0)),
+            0xE0..=0xEF => Some(Due::begun(b, 1)),
+            0xF0..=0xF4 => Some(Due::begun(b, 2)),
+            _ => None,
+        }
+    }
+
+    /// What is due after the first byte of a character that has `more` bytes behind the second.
+    fn begun(b: u8, more: u8) -> Due
+        ensures { result ≡ first_due b more }
+    {
+        let low = match b {
+            0xE0 => 0xA0,
+            0xF0 => 0x90,
+            _ => 0x80,
+        };
+        let high = match b {
+            0xED => 0x9F,
+            0xF4 => 0x8F,
+            _ => 0xBF,
+        };
+        Due::Byte { low, high, more }
+    }
+}

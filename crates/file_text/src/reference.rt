@@ -1,0 +1,60 @@
+ghost use Rattle.std.specs.Prelude.{◌≡◌};
+ghost use Rattle.file_text.specs.Machine.{referred};
+
+/// What has been read of an entity.
+#[derive(Clone, Copy)]
+pub(crate) enum Reference {
+    Ampersand,
+    L,
+    Lt,
+    G,
+    Gt,
+    A,
+    Am,
+    Amp,
+    Ap,
+    Apo,
+    Apos,
+    Q,
+    Qu,
+    Quo,
+    Quot,
+}
+
+/// What a further byte makes of an entity.
+#[derive(Clone, Copy)]
+pub(crate) enum Referred {
+    More(Reference),
+    /// It ends it, and the entity stands for this character.
+    Done(u8),
+    Leaves,
+}
+
+impl Reference {
+    pub(crate) fn after(self, b: u8) -> Referred
+        ensures { result ≡ referred self b }
+    {
+        match (self, b) {
+            (Reference::Ampersand, b'l') => Referred::More(Reference::L),
+            (Reference::Ampersand, b'g') => Referred::More(Reference::G),
+            (Reference::Ampersand, b'a') => Referred::More(Reference::A),
+            (Reference::Ampersand, b'q') => Referred::More(Reference::Q),
+            (Reference::L, b't') => Referred::More(Reference::Lt),
+            (Reference::G, b't') => Referred::More(Reference::Gt),
+            (Reference::A, b'm') => Referred::More(Reference::Am),
+            (Reference::Am, b'p') => Referred::More(Reference::Amp),
+            (Reference::A, b'p') => Referred::More(Reference::Ap),
+            (Reference::Ap, b'o') => Referred::More(Reference::Apo),
+            (Reference::Apo, b's') => Referred::More(Reference::Apos),
+            (Reference::Q, b'u') => Referred::More(Reference::Qu),
+            (Reference::Qu, b'o') => Referred::More(Reference::Quo),
+            (Reference::Quo, b't') => Referred::More(Reference::Quot),
+            (Reference::Lt, b';') => Referred::Done(b'<'),
+            (Reference::Gt, b';') => Referred::Done(b'>'),
+            (Reference::Amp, b';') => Referred::Done(b'&'),
+            (Reference::Apos, b';') => Referred::Done(b'\''),
+            (Reference::Quot, b';') => Referred::Done(b'"'),
+            _ => Referred::Leaves,
+        }
+    }
+}
