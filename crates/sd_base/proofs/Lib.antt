@@ -1,1 +1,6 @@
+pub mod Sums
+pub mod Parts
+pub mod Admissibles
+pub mod Steps
+pub mod Existence
 pub mod Traces
