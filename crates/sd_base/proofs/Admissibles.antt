@@ -1,12 +1,12 @@
 -- What holds of each admissible schedule.
-use Rattle.std.proofs.Common.{◌≡◌, ℕ, zero, suc, ◌+◌, ◌-◌, ◌*◌, ◌%◌, ◌≤◌, ◌<◌, ◌⊎◌, List, [], ◌∷◌, length, inl, inr, ⊎_elim, subst, sym, refl, ap, ◌∙◌, arith, add-one}
-use Rattle.std.specs.Prelude.{slice_index, slice_index_or}
-use Rattle.std.proofs.lemmas.Bool.{cases_lt, cases_order}
-use Rattle.std.proofs.lemmas.List.{get_or_past}
+use Rattle.std.proofs.Common.{◌≡◌, ℕ, zero, suc, ◌+◌, ◌-◌, ◌*◌, ◌≤◌, ◌<◌, ◌⊎◌, List, [], ◌∷◌, length, inl, inr, ⊎_elim, subst, sym, refl, ap, ◌∙◌, arith, add-one}
+use Rattle.std.specs.Prelude.{slice_index_or}
+use Rattle.std.proofs.lemmas.Bool.{cases_lt}
+use Rattle.std.proofs.lemmas.List.{get_or_past, ext_get_or}
 use Rattle.sd_base.specs.Net.{Channel, Net, channel_at, phase_entry, total}
-use Rattle.sd_base.specs.Schedules.{time_of, phases_at, Needs, LastNeed, Schedule, count_of, start_of, end_of, Admissible, Earliest}
-use Rattle.sd_base.proofs.Sums.{total-zero, total-le, entry-shift, fewer-needed, needs-later}
-use Rattle.sd_base.proofs.Parts.{Timed, IsOwn, OneByOne}
+use Rattle.sd_base.specs.Schedules.{time_of, phases_at, Needs, Schedule, count_of, start_of, end_of, Admissible, Earliest}
+use Rattle.sd_base.proofs.Sums.{total-zero, entry-shift}
+use Rattle.sd_base.proofs.Parts.{IsOwn, OneByOne}
 
 -- who has a firing is an actor
 pub no_actor : (s : Schedule) (a k : ℕ) → k < count_of s a → a < length s
@@ -21,7 +21,7 @@ no_actor s a k below = each (cases_lt a (length s))
 pub is_actor : (net : Net) (s : Schedule) (a k : ℕ) → Admissible net s → k < count_of s a → a < length net.times
 is_actor net s a k good below = rw (good.actors) at (no_actor s a k below)
 
-one_time : (ts : List ℕ) (j k : ℕ) → length ts ≤ 1 → phase_entry ts j ≡ phase_entry ts k
+pub one_time : (ts : List ℕ) (j k : ℕ) → length ts ≤ 1 → phase_entry ts j ≡ phase_entry ts k
 one_time [] j k few = refl
 one_time (t ∷ []) j k few =
     let here : phase_entry (t ∷ []) (0 + j * 1) ≡ phase_entry (t ∷ []) 0 = entry-shift (t ∷ []) 0 j in
@@ -43,7 +43,7 @@ ends-rise net s own good a k below = each (own.own a (is_actor net s a (k + 1) g
         let i : ℕ = found.0 in
         let mine = found.1 in
         let there : k + 1 < count_of s (channel_at net i).target = rw mine.target below in
-        let ended = (good.fed i (k + 1) k mine.place there (mine.needs k)).1 in
+        let ended = (good.fed i (k + 1) k mine.place there (mine.last k).needed).1 in
         let at_source : end_of net s a k ≤ start_of s (channel_at net i).target (k + 1) = subst (λ (b : ℕ). end_of net s b k ≤ start_of s (channel_at net i).target (k + 1)) mine.source ended in
         let at_target : end_of net s a k ≤ start_of s a (k + 1) = subst (λ (b : ℕ). end_of net s a k ≤ start_of s b (k + 1)) mine.target at_source in
         omega arith
@@ -77,6 +77,7 @@ needed-tokens net s good i place = at (count_of s (channel_at net i).target) ref
   where
     c : Channel
     c = channel_at net i
+
     at : (n : ℕ) → count_of s (channel_at net i).target ≡ n → total (channel_at net i).taken n ≤ (channel_at net i).tokens + total (channel_at net i).made (count_of s (channel_at net i).source)
     at zero e = rw total-zero (omega arith)
     at (suc n) e = ⊎_elim
@@ -89,3 +90,18 @@ pub earliest-count : (net : Net) (t : ℕ) (s u : Schedule) → Earliest net t s
 earliest-count net t s u one other a = ⊎_elim
     (λ (more : count_of u a < count_of s a). absurd (let there = (other.least s one.admissible a (count_of u a) more (one.before a (count_of u a) more)).0 in omega arith))
     (λ (h : count_of s a ≤ count_of u a). h) (cases_lt (count_of u a) (count_of s a))
+
+-- two earliest schedules of one moment are one
+pub earliest-equal : (net : Net) (t : ℕ) (s u : Schedule) → Earliest net t s → Earliest net t u → s ≡ u
+earliest-equal net t s u one other = ext_get_or [] s u (one.admissible.actors ∙ sym other.admissible.actors) (λ a below. ext_get_or 0 (slice_index_or s a []) (slice_index_or u a []) (counts a) (starts a))
+  where
+    counts : (a : ℕ) → count_of s a ≡ count_of u a
+    counts a = omega (arith, earliest-count net t s u one other a, earliest-count net t u s other one a)
+
+    starts : (a k : ℕ) → k < count_of s a → start_of s a k ≡ start_of u a k
+    starts a k below =
+        let here = other.least s one.admissible a k below (one.before a k below) in
+        let no_later : start_of u a k ≤ start_of s a k = here.1 in
+        let back = one.least u other.admissible a k here.0 (other.before a k here.0) in
+        let no_sooner : start_of s a k ≤ start_of u a k = back.1 in
+        omega arith

@@ -2,15 +2,14 @@
 use Rattle.std.proofs.Common.{◌≡◌, ℕ, zero, suc, ◌+◌, ◌-◌, ◌*◌, ◌≤◌, ◌<◌, ◌⊎◌, Bool, true, false, not, ◌&&◌, ◌||◌, List, [], ◌∷◌, ◌++◌, length, map, replicate, inl, inr, ⊎_elim, subst, sym, refl, ap, ◌∙◌, arith, add-one, leb-true, leb-false, eqb-true, eq-eqb}
 use Rattle.std.specs.Prelude.{slice_index, slice_index_or, nat_le, ◌==◌, if◌then◌else◌}
 use Rattle.std.proofs.lemmas.Bool.{cases_lt, cases_order, cases_Bool, and_parts, and_cases, or_cases, or_parts, not-false, not-true, false≢true}
-use Rattle.std.proofs.lemmas.List.{get_or_past, get_or_append_left, get_or-append_right, get_or-replicate, length-append, length-replicate, length-map, get_or-map}
-use Rattle.std.proofs.Math.Nat.{mul-le-mul}
+use Rattle.std.proofs.lemmas.List.{get_or_past, get_or_append_left, get_or-append_right, get_or-replicate, length-append, length-replicate, length-map}
 use Rattle.sd_base.specs.Net.{Channel, Net, nowhere, channel_at, total}
-use Rattle.sd_base.specs.Schedules.{time_of, Needs, Lacks, Schedule, count_of, start_of, end_of, Admissible, Earliest, HasInputs}
+use Rattle.sd_base.specs.Schedules.{Needs, Schedule, count_of, start_of, end_of, Admissible, Earliest, HasInputs}
 use Rattle.sd_base.specs.SelfTimed.{ended_among, ended_by, allows, grown, fuel_of, started_at, earliest}
-use Rattle.sd_base.proofs.Sums.{total-zero, total-le, total-grows, fewer-needed, needs-later}
-use Rattle.sd_base.proofs.Parts.{Timed, OneByOne, Wired, Regular}
-use Rattle.sd_base.proofs.Admissibles.{is_actor, no_actor, ends-le}
-use Rattle.sd_base.proofs.Steps.{Ended, Able, Full, Extended, earliest_step}
+use Rattle.sd_base.proofs.Sums.{total-zero, total-le, total-grows}
+use Rattle.sd_base.proofs.Parts.{OneByOne, Wired, Regular}
+use Rattle.sd_base.proofs.Admissibles.{no_actor, ends-le}
+use Rattle.sd_base.proofs.Steps.{Ended, Able, Extended, earliest_step}
 
 -- ---- how many firings have ended
 
@@ -25,21 +24,21 @@ ended_among-more : (net : Net) (t : ℕ) (s : Schedule) → OneByOne net → Adm
 ended_among-more net t s own good a n c below among true test =
     let now : end_of net s a n ≤ t = leb-true _ _ test in
     let whole : c ≡ n = ⊎_elim
-        (λ (less : c < n). absurd (
-          let going : t < end_of net s a c = among.going c (omega arith) less in
-          let rise : end_of net s a c ≤ end_of net s a n = ends-le net s own good a c n (omega arith) below in omega arith))
-        (λ (h : n ≤ c). omega (arith, among.within)) (cases_lt c n) in
+    (λ (less : c < n). absurd (
+    let going : t < end_of net s a c = among.going c (omega arith) less in
+    let rise : end_of net s a c ≤ end_of net s a n = ends-le net s own good a c n (omega arith) below in omega arith))
+    (λ (h : n ≤ c). omega (arith, among.within)) (cases_lt c n) in
     record {
       within = omega arith;
       done = λ k at. ⊎_elim (λ (same : k ≡ n). rw same now) (λ (other : (k < n) ⊎ (n < k)). ⊎_elim (λ (less : k < n). among.done k (omega arith)) (λ (more : n < k). absurd (omega arith)) other) (cases_order k n);
-      going = λ k from at. absurd (omega arith)
+      going = λ k from at. absurd (omega arith);
     }
 ended_among-more net t s own good a n c below among false test =
     let not_now : t < end_of net s a n = leb-false _ _ test in
     record {
       within = omega (arith, among.within);
       done = λ k at. among.done k (omega arith);
-      going = λ k from at. ⊎_elim (λ (same : k ≡ n). rw same not_now) (λ (other : (k < n) ⊎ (n < k)). ⊎_elim (λ (less : k < n). among.going k (omega arith) less) (λ (more : n < k). absurd (omega arith)) other) (cases_order k n)
+      going = λ k from at. ⊎_elim (λ (same : k ≡ n). rw same not_now) (λ (other : (k < n) ⊎ (n < k)). ⊎_elim (λ (less : k < n). among.going k (omega arith) less) (λ (more : n < k). absurd (omega arith)) other) (cases_order k n);
     }
 
 ended_among-is : (net : Net) (t : ℕ) (s : Schedule) → OneByOne net → Admissible net s → (a n : ℕ) → n ≤ count_of s a → EndedAmong net t s a n (ended_among net t s a n)
@@ -65,18 +64,18 @@ allows-true (c ∷ cs) e a k holds zero below into = ⊎_elim
 allows-true (c ∷ cs) e a k holds (suc i) below into = allows-true cs e a k (and_parts _ _ holds).1 i (omega arith) into
 
 -- a channel of the list into a lacks tokens for firing k
-abbrev LacksAmong : List Channel → (ℕ → ℕ) → ℕ → ℕ → Type 0
+abbrev pub LacksAmong : List Channel → (ℕ → ℕ) → ℕ → ℕ → Type 0
 LacksAmong cs e a k = (i : ℕ) × (i < length cs) × ((slice_index_or cs i nowhere).target ≡ a) × Needs (slice_index_or cs i nowhere) k (e (slice_index_or cs i nowhere).source)
 
-allows-false : (cs : List Channel) (e : ℕ → ℕ) (a k : ℕ) → allows cs e a k ≡ false → LacksAmong cs e a k
+pub allows-false : (cs : List Channel) (e : ℕ → ℕ) (a k : ℕ) → allows cs e a k ≡ false → LacksAmong cs e a k
 allows-false [] e a k fails = absurd (false≢true (sym fails))
 allows-false (c ∷ cs) e a k fails = ⊎_elim
     (λ (here : (not (c.target == a) || nat_le (total c.taken (k + 1)) (c.tokens + total c.made (e c.source))) ≡ false).
-      let parts = or_parts _ _ here in
-      (0, omega arith, eqb-true c.target a (not-false _ parts.0), leb-false _ _ parts.1))
+    let parts = or_parts _ _ here in
+    (0, omega arith, eqb-true c.target a (not-false _ parts.0), leb-false _ _ parts.1))
     (λ (later : allows cs e a k ≡ false).
-      let found : LacksAmong cs e a k = allows-false cs e a k later in
-      (suc found.0, omega (arith, found.1), found.2, found.3))
+    let found : LacksAmong cs e a k = allows-false cs e a k later in
+    (suc found.0, omega (arith, found.1), found.2, found.3))
     (and_cases _ _ fails)
 
 -- n is the first firing from k on that isn't allowed
@@ -94,7 +93,7 @@ grown-more cs e a fuel k m from fails next true test =
     record {
       since = omega (arith, rest.since);
       through = λ j at below. ⊎_elim (λ (same : k ≡ j). rw (← same) test) (λ (other : (k < j) ⊎ (j < k)). ⊎_elim (λ (h : k < j). rest.through j (omega arith) below) (λ (h : j < k). absurd (omega arith)) other) (cases_order k j);
-      stops = rest.stops
+      stops = rest.stops;
     }
 grown-more cs e a fuel k m from fails next false test = record { since = omega arith; through = λ j at below. absurd (omega arith); stops = test }
 
@@ -161,12 +160,12 @@ able_now net t e s early ended = record { enough = λ i place. each i place (cou
     each i place zero same = rw total-zero (omega arith)
     each i place (suc n) same = ⊎_elim
         (λ (lack : Needs (channel_at net i) n (e (channel_at net i).source)). absurd (
-          let fed = early.admissible.fed i n (e (channel_at net i).source) place (omega (arith, same)) lack in
-          let there : e (channel_at net i).source < count_of s (channel_at net i).source = fed.0 in
-          let in_time : end_of net s (channel_at net i).source (e (channel_at net i).source) ≤ start_of s (channel_at net i).target n = fed.1 in
-          let going : t < end_of net s (channel_at net i).source (e (channel_at net i).source) = (ended (channel_at net i).source).going (e (channel_at net i).source) (omega arith) there in
-          let soon : start_of s (channel_at net i).target n < t = early.before (channel_at net i).target n (omega (arith, same)) in
-          omega arith))
+        let fed = early.admissible.fed i n (e (channel_at net i).source) place (omega (arith, same)) lack in
+        let there : e (channel_at net i).source < count_of s (channel_at net i).source = fed.0 in
+        let in_time : end_of net s (channel_at net i).source (e (channel_at net i).source) ≤ start_of s (channel_at net i).target n = fed.1 in
+        let going : t < end_of net s (channel_at net i).source (e (channel_at net i).source) = (ended (channel_at net i).source).going (e (channel_at net i).source) (omega arith) there in
+        let soon : start_of s (channel_at net i).target n < t = early.before (channel_at net i).target n (omega (arith, same)) in
+        omega arith))
         (λ (enough : total (channel_at net i).taken (n + 1) ≤ (channel_at net i).tokens + total (channel_at net i).made (e (channel_at net i).source)). rw (← add-one) enough)
         (cases_lt ((channel_at net i).tokens + total (channel_at net i).made (e (channel_at net i).source)) (total (channel_at net i).taken (n + 1)))
 
@@ -234,16 +233,16 @@ module _ (net : Net) (reg : Regular net) (fed : HasInputs net) (t : ℕ) (e : �
   next-able i place zero same = rw total-zero (omega arith)
   next-able i place (suc n) same = ⊎_elim
       (λ (old : n < count_of s (channel_at net i).target).
-        let able : Able net e (count_of s) = able_now net t e s early ended in
-        let stands : total (channel_at net i).taken (count_of s (channel_at net i).target) ≤ (channel_at net i).tokens + total (channel_at net i).made (e (channel_at net i).source) = able.enough i place in
-        let le : total (channel_at net i).taken (suc n) ≤ total (channel_at net i).taken (count_of s (channel_at net i).target) = total-le (channel_at net i).taken (omega arith) in
-        omega arith)
+      let able : Able net e (count_of s) = able_now net t e s early ended in
+      let stands : total (channel_at net i).taken (count_of s (channel_at net i).target) ≤ (channel_at net i).tokens + total (channel_at net i).made (e (channel_at net i).source) = able.enough i place in
+      let le : total (channel_at net i).taken (suc n) ≤ total (channel_at net i).taken (count_of s (channel_at net i).target) = total-le (channel_at net i).taken (omega arith) in
+      omega arith)
       (λ (new : count_of s (channel_at net i).target ≤ n).
-        let target : ℕ = (channel_at net i).target in
-        let actor : target < length net.times = reg.wired.targets i place in
-        let grew = next-grown target actor in
-        let there : n < grown net.channels e target (fuel_of net.channels e) (count_of s target) = omega (arith, next-count target (rw (early.admissible.actors) actor), same) in
-        rw (← add-one) (allows-true net.channels e target n (grew.through n new there) i place refl))
+      let target : ℕ = (channel_at net i).target in
+      let actor : target < length net.times = reg.wired.targets i place in
+      let grew = next-grown target actor in
+      let there : n < grown net.channels e target (fuel_of net.channels e) (count_of s target) = omega (arith, next-count target (rw (early.admissible.actors) actor), same) in
+      rw (← add-one) (allows-true net.channels e target n (grew.through n new there) i place refl))
       (cases_lt n (count_of s (channel_at net i).target))
 
   pub next-extended : Extended net t e s (started_at net.channels e t 0 s)
@@ -254,9 +253,9 @@ module _ (net : Net) (reg : Regular net) (fed : HasInputs net) (t : ℕ) (e : �
     added = next-added;
     able = record { enough = λ i place. next-able i place (count_of (started_at net.channels e t 0 s) (channel_at net i).target) refl };
     full = λ a below.
-      let grew = next-grown a below in
-      let actor : a < length s = rw (early.admissible.actors) below in
-      rw (next-count a actor) (allows-false net.channels e a (grown net.channels e a (fuel_of net.channels e) (count_of s a)) grew.stops)
+        let grew = next-grown a below in
+        let actor : a < length s = rw (early.admissible.actors) below in
+        rw (next-count a actor) (allows-false net.channels e a (grown net.channels e a (fuel_of net.channels e) (count_of s a)) grew.stops);
   }
 
 -- ---- the earliest schedules
@@ -272,10 +271,10 @@ earliest-none net = record {
   admissible = record {
     actors = length-map net.times (λ (row : List ℕ). []);
     rising = λ a k below. absurd (omega (arith, empty-count net.times a));
-    fed = λ i j m place below need. absurd (omega (arith, empty-count net.times (channel_at net i).target))
+    fed = λ i j m place below need. absurd (omega (arith, empty-count net.times (channel_at net i).target));
   };
   before = λ a k below. absurd (omega (arith, empty-count net.times a));
-  least = λ other good a k below by. absurd (omega arith)
+  least = λ other good a k below by. absurd (omega arith);
 }
 
 -- the schedule made moment by moment is the earliest one
@@ -286,9 +285,9 @@ earliest-is net reg fed (suc t) =
     let early = earliest-is net reg fed t in
     let ended : (a : ℕ) → Ended net t (earliest net t) a (ended_by net t (earliest net t) a) = ended-is net t (earliest net t) reg.own early.admissible in
     let ext : Extended net t (ended_by net t (earliest net t)) (earliest net t) (started_at net.channels (ended_by net t (earliest net t)) t 0 (earliest net t)) =
-        next-extended net reg fed t (ended_by net t (earliest net t)) (earliest net t) early ended in
+    next-extended net reg fed t (ended_by net t (earliest net t)) (earliest net t) early ended in
     let step : Earliest net (t + 1) (started_at net.channels (ended_by net t (earliest net t)) t 0 (earliest net t)) =
-        earliest_step net t (ended_by net t (earliest net t)) (earliest net t) (started_at net.channels (ended_by net t (earliest net t)) t 0 (earliest net t)) early ended ext reg.timed in
+    earliest_step net t (ended_by net t (earliest net t)) (earliest net t) (started_at net.channels (ended_by net t (earliest net t)) t 0 (earliest net t)) early ended ext reg.timed in
     rw add-one at step
 
 -- what one moment adds

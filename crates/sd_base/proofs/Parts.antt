@@ -1,13 +1,13 @@
 -- What the laws of nets say of parts of a net, in the forms that the lemmas take.
-use Rattle.std.proofs.Common.{◌≡◌, ℕ, zero, suc, ◌+◌, ◌*◌, ◌%◌, ◌≤◌, ◌<◌, ◌⊎◌, Bool, true, false, ◌&&◌, List, [], ◌∷◌, length, map, sum, inl, inr, ⊎_elim, subst, sym, refl, ap, ◌∙◌, arith, mod-lt, eqb-true}
+use Rattle.std.proofs.Common.{◌≡◌, ℕ, zero, suc, ◌+◌, ◌%◌, ◌≤◌, ◌<◌, ◌⊎◌, Bool, true, List, [], ◌∷◌, length, map, sum, inl, inr, ◌∙◌, arith, mod-lt, eqb-true}
 use Rattle.std.specs.Prelude.{slice_index, slice_index_or, ◌==◌}
 use Rattle.std.specs.List.{list_all, list_any}
-use Rattle.std.proofs.lemmas.Bool.{and_parts, or_cases, cases_lt, cases_Bool}
+use Rattle.std.proofs.lemmas.Bool.{and_parts, or_cases, cases_lt}
 use Rattle.std.proofs.lemmas.List.{get_or-map}
-use Rattle.sd_base.specs.Net.{Channel, Net, nowhere, channel_at, phase_entry, total, IsRepetition}
-use Rattle.sd_base.specs.Schedules.{time_of, phases_at, Needs}
+use Rattle.sd_base.specs.Net.{Channel, Net, nowhere, channel_at, total}
+use Rattle.sd_base.specs.Schedules.{time_of, phases_at, LastNeed}
 use Rattle.sd_base.specs.Lawful.{is_own, Lawful}
-use Rattle.sd_base.proofs.Sums.{total-zero, total-suc, total-turn}
+use Rattle.sd_base.proofs.Sums.{total-zero, total-suc}
 
 -- each firing takes at least one time unit
 pub record Timed (net : Net) : Type 0 where
@@ -18,7 +18,7 @@ pub record IsOwn (net : Net) (a i : ℕ) : Type 0 where
   pub place : i < length net.channels
   pub source : (channel_at net i).source ≡ a
   pub target : (channel_at net i).target ≡ a
-  pub needs : (k : ℕ) → Needs (channel_at net i) (k + 1) k
+  pub last : (k : ℕ) → LastNeed (channel_at net i) (k + 1) k
 
 -- an actor has one time, or an own channel
 pub record OneByOne (net : Net) : Type 0 where
@@ -58,9 +58,9 @@ balanced net laws =
       actors = laws.repetition.balances.actors ∙ many;
       fires = λ a below. laws.repetition.balances.fires a (omega arith);
       cycles = λ a below.
-        let cycle : slice_index net.round a % slice_index (map length net.times) a ≡ 0 = laws.repetition.balances.cycles a (omega arith) in
-        rw (phases-read net a below) at cycle;
-      kept = λ i below. laws.repetition.balances.kept i below
+          let cycle : slice_index net.round a % slice_index (map length net.times) a ≡ 0 = laws.repetition.balances.cycles a (omega arith) in
+          rw (phases-read net a below) at cycle;
+      kept = λ i below. laws.repetition.balances.kept i below;
     }
 
 -- a list of ones sums to its length
@@ -88,8 +88,8 @@ pub list_any-tells : (p : Channel → Bool) (cs : List Channel) → list_any p c
 list_any-tells p [] holds = cc
 list_any-tells p (c ∷ cs) holds = list_any-step p c cs holds (λ rest. list_any-tells p cs rest)
 
-one-needs : (tokens made taken k : ℕ) → tokens ≡ 1 → made ≡ k → taken ≡ k + 1 + 1 → tokens + made < taken
-one-needs tokens made taken k one at_made at_taken = omega arith
+own-last : (c : Channel) (k : ℕ) → c.tokens ≡ 1 → total c.made k ≡ k → total c.made (k + 1) ≡ k + 1 → total c.taken (k + 1 + 1) ≡ k + 1 + 1 → LastNeed c (k + 1) k
+own-last c k one made more taken = record { needed = omega arith; enough = omega arith }
 
 -- an own channel makes each firing need the one before
 pub own-tells : (net : Net) (laws : Lawful net) (a i : ℕ) → i < length net.channels → is_own a (channel_at net i) ≡ true → IsOwn net a i
@@ -107,10 +107,7 @@ own-tells net laws a i place holds =
       place = place;
       source = eqb-true c.source a source.0;
       target = eqb-true c.target a target.0;
-      needs = λ k.
-        let made : total c.made k ≡ k = all_one-total c.made k rates.0 some_made in
-        let taken : total c.taken (k + 1 + 1) ≡ k + 1 + 1 = all_one-total c.taken (k + 1 + 1) rates.1 some_taken in
-        one-needs c.tokens (total c.made k) (total c.taken (k + 1 + 1)) k one_token made taken
+      last = λ k. own-last c k one_token (all_one-total c.made k rates.0 some_made) (all_one-total c.made (k + 1) rates.0 some_made) (all_one-total c.taken (k + 1 + 1) rates.1 some_taken);
     }
 
 pub one_by_one : (net : Net) → Lawful net → OneByOne net
@@ -120,7 +117,7 @@ one_by_one net laws = record { own = λ a below. each a below (cases_lt (phases_
     each a below (inl few) = inl (omega arith)
     each a below (inr many) =
         let found : (i : ℕ) × (i < length net.channels) × (is_own a (slice_index_or net.channels i nowhere) ≡ true) =
-            list_any-tells (is_own a) net.channels (laws.one_by_one a below many) in
+        list_any-tells (is_own a) net.channels (laws.one_by_one a below many) in
         inr (found.0, own-tells net laws a found.0 found.1 found.2)
 
 -- what self-timed execution rests on

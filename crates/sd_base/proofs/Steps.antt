@@ -1,10 +1,9 @@
 -- One moment of the earliest schedule: adding all firings that can start makes the earliest schedule of the next moment.
-use Rattle.std.proofs.Common.{◌≡◌, ℕ, zero, suc, ◌+◌, ◌-◌, ◌≤◌, ◌<◌, ◌⊎◌, List, [], length, inl, inr, ⊎_elim, subst, sym, refl, ap, ◌∙◌, arith}
-use Rattle.std.specs.Prelude.{slice_index, slice_index_or}
-use Rattle.std.proofs.lemmas.Bool.{cases_lt, cases_order}
-use Rattle.sd_base.specs.Net.{Channel, Net, channel_at, phase_entry, total}
+use Rattle.std.proofs.Common.{◌≡◌, ℕ, ◌+◌, ◌≤◌, ◌<◌, length, ⊎_elim, subst, ◌∙◌, arith}
+use Rattle.std.proofs.lemmas.Bool.{cases_lt}
+use Rattle.sd_base.specs.Net.{Net, channel_at, total}
 use Rattle.sd_base.specs.Schedules.{time_of, Needs, Lacks, Schedule, count_of, start_of, end_of, Admissible, Earliest}
-use Rattle.sd_base.proofs.Sums.{total-le, fewer-needed, needs-later}
+use Rattle.sd_base.proofs.Sums.{total-le, needs-later}
 use Rattle.sd_base.proofs.Parts.{Timed}
 use Rattle.sd_base.proofs.Admissibles.{is_actor}
 
@@ -50,23 +49,25 @@ module _ (net : Net) (t : ℕ) (e : ℕ → ℕ) (s u : Schedule) (early : Earli
       (m < count_of u (channel_at net i).source) × (end_of net u (channel_at net i).source m ≤ start_of u (channel_at net i).target j)
   step-fed i j m place below need = ⊎_elim
       (λ (old : j < count_of s (channel_at net i).target).
-        let fed = early.admissible.fed i j m place old need in
-        let there : m < count_of s (channel_at net i).source = fed.0 in
-        let in_time : end_of net s (channel_at net i).source m ≤ start_of s (channel_at net i).target j = fed.1 in
-        (omega (arith, ext.longer (channel_at net i).source),
-         rw (ext.kept (channel_at net i).target j old) (rw (ext.kept (channel_at net i).source m there) in_time)))
+      let fed = early.admissible.fed i j m place old need in
+      let there : m < count_of s (channel_at net i).source = fed.0 in
+      let in_time : end_of net s (channel_at net i).source m ≤ start_of s (channel_at net i).target j = fed.1 in (
+        omega (arith, ext.longer (channel_at net i).source),
+        rw (ext.kept (channel_at net i).target j old) (rw (ext.kept (channel_at net i).source m there) in_time),
+      ))
       (λ (new : count_of s (channel_at net i).target ≤ j).
-        let source : ℕ = (channel_at net i).source in
-        let soon : m < e (channel_at net i).source = ⊎_elim (λ (h : m < e (channel_at net i).source). h) (λ (late : e (channel_at net i).source ≤ m). absurd (
-            let made : total (channel_at net i).made (e (channel_at net i).source) ≤ total (channel_at net i).made m = total-le (channel_at net i).made late in
-            let taken : total (channel_at net i).taken (j + 1) ≤ total (channel_at net i).taken (count_of u (channel_at net i).target) = total-le (channel_at net i).taken (omega arith) in
-            let enough : total (channel_at net i).taken (count_of u (channel_at net i).target) ≤ (channel_at net i).tokens + total (channel_at net i).made (e (channel_at net i).source) = ext.able.enough i place in
-            omega arith)) (cases_lt m (e (channel_at net i).source)) in
-        let within : e (channel_at net i).source ≤ count_of s (channel_at net i).source = (ended (channel_at net i).source).within in
-        let done : end_of net s (channel_at net i).source m ≤ t = (ended (channel_at net i).source).done m soon in
-        let there : m < count_of s (channel_at net i).source = omega arith in
-        (omega (arith, ext.longer (channel_at net i).source),
-         rw (ext.added (channel_at net i).target j new below) (rw (ext.kept (channel_at net i).source m there) done)))
+      let source : ℕ = (channel_at net i).source in
+      let soon : m < e (channel_at net i).source = ⊎_elim (λ (h : m < e (channel_at net i).source). h) (λ (late : e (channel_at net i).source ≤ m). absurd (
+      let made : total (channel_at net i).made (e (channel_at net i).source) ≤ total (channel_at net i).made m = total-le (channel_at net i).made late in
+      let taken : total (channel_at net i).taken (j + 1) ≤ total (channel_at net i).taken (count_of u (channel_at net i).target) = total-le (channel_at net i).taken (omega arith) in
+      let enough : total (channel_at net i).taken (count_of u (channel_at net i).target) ≤ (channel_at net i).tokens + total (channel_at net i).made (e (channel_at net i).source) = ext.able.enough i place in
+      omega arith)) (cases_lt m (e (channel_at net i).source)) in
+      let within : e (channel_at net i).source ≤ count_of s (channel_at net i).source = (ended (channel_at net i).source).within in
+      let done : end_of net s (channel_at net i).source m ≤ t = (ended (channel_at net i).source).done m soon in
+      let there : m < count_of s (channel_at net i).source = omega arith in (
+        omega (arith, ext.longer (channel_at net i).source),
+        rw (ext.added (channel_at net i).target j new below) (rw (ext.kept (channel_at net i).source m there) done),
+      ))
       (cases_lt j (count_of s (channel_at net i).target))
 
   pub step-admissible : Admissible net u
@@ -96,11 +97,11 @@ module _ (net : Net) (t : ℕ) (e : ℕ → ℕ) (s u : Schedule) (early : Earli
     before = λ a k below. let now : start_of u a k ≤ t = by_now a k below in omega arith;
     least = λ other good a k below by. ⊎_elim
         (λ (old : start_of other a k < t).
-          let mine = early.least other good a k below old in
-          let there : k < count_of s a = mine.0 in
-          (omega (arith, ext.longer a), rw (ext.kept a k there) mine.1))
+        let mine = early.least other good a k below old in
+        let there : k < count_of s a = mine.0 in
+        (omega (arith, ext.longer a), rw (ext.kept a k there) mine.1))
         (λ (now : t ≤ start_of other a k).
-          let there : k < count_of u a = step-has long other good a k below (omega arith) in
-          (there, omega (arith, by_now a k there)))
-        (cases_lt (start_of other a k) t)
+        let there : k < count_of u a = step-has long other good a k below (omega arith) in
+        (there, omega (arith, by_now a k there)))
+        (cases_lt (start_of other a k) t);
   }

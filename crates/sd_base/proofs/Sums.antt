@@ -2,8 +2,8 @@
 use Rattle.std.proofs.Common.{◌≡◌, ℕ, zero, suc, ◌+◌, ◌-◌, ◌*◌, ◌/◌, ◌%◌, ◌≤◌, ◌<◌, List, [], ◌∷◌, length, sum, subst, sym, refl, ap, ◌∙◌, arith, add-one, zero-add, div-add-mod'}
 use Rattle.std.proofs.Math.Nat.{add-mul-mod_self_right, mod-eq_of_lt}
 use Rattle.std.specs.Prelude.{slice_index, take}
-use Rattle.std.proofs.lemmas.List.{take_all, get_or_past}
-use Rattle.std.proofs.lemmas.List.Sums.{sum_by_more, get_or-le-sum_by}
+use Rattle.std.proofs.lemmas.List.{take_all}
+use Rattle.std.proofs.lemmas.List.Sums.{sum_by_more}
 use Rattle.sd_base.specs.Net.{Channel, phase_entry, total}
 use Rattle.sd_base.specs.Schedules.{Needs, LastNeed}
 

@@ -91,7 +91,7 @@ abbrev file : GraphFile
 file = record {
   kind = Csdf;
   actors = record { name = 97 ∷ []; phases = 1; times = 1 ∷ [] } ∷ record { name = 98 ∷ []; phases = 2; times = 2 ∷ 3 ∷ [] } ∷ [];
-  channels = record { name = 99 ∷ []; source = 0; target = 1; made = 1 ∷ []; taken = 1 ∷ 0 ∷ []; tokens = 4; size = 1 } ∷ []
+  channels = record { name = 99 ∷ []; source = 0; target = 1; made = 1 ∷ []; taken = 1 ∷ 0 ∷ []; tokens = 4; size = 1 } ∷ [];
 }
 
 abbrev file_channel_0 : Channel

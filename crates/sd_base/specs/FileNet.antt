@@ -32,5 +32,5 @@ abbrev pub net_of : GraphFile → List ℕ → Bool → Net
 net_of g gamma no_overlap = record {
   times = map (λ (a : ActorRow). a.times) g.actors;
   channels = file_channels g ++ own_channels_from no_overlap g.channels 0 g.actors;
-  round = gamma
+  round = gamma;
 }

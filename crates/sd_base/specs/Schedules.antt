@@ -52,6 +52,14 @@ pub record Admissible (net : Net) (s : Schedule) : Type 0 where
       (m < count_of s (channel_at net i).source)
       × (end_of net s (channel_at net i).source m ≤ start_of s (channel_at net i).target j)
 
+-- the same, asked of the last firing alone that each firing needs
+pub record AdmissibleByLast (net : Net) (s : Schedule) : Type 0 where
+  pub actors : length s ≡ length net.times
+  pub rising : (a k : ℕ) → k + 1 < count_of s a → start_of s a k ≤ start_of s a (k + 1)
+  pub fed : (i j m : ℕ) → i < length net.channels → j < count_of s (channel_at net i).target → LastNeed (channel_at net i) j m →
+      (m < count_of s (channel_at net i).source)
+      × (end_of net s (channel_at net i).source m ≤ start_of s (channel_at net i).target j)
+
 -- s has all firings that any admissible schedule starts before t, each no later, and no others
 pub record Earliest (net : Net) (t : ℕ) (s : Schedule) : Type 0 where
   pub admissible : Admissible net s

@@ -87,7 +87,7 @@ abbrev pub shape_of : Net → ℕ → Schedule → Shape
 shape_of net t s = record {
   tokens = map (tokens_of net t s) net.channels;
   phases = map (λ a. count_of s a % phases_at net a) (range_with_len 0 (length net.times));
-  remaining = map (remaining_of net t s) (range_with_len 0 (length net.times))
+  remaining = map (remaining_of net t s) (range_with_len 0 (length net.times));
 }
 
 -- the shape of self-timed execution at t, after the starts of that moment
