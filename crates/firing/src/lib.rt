@@ -1,0 +1,8 @@
+//! Dataflow nets as one trait with its laws, the net of a synchronous graph, and needs between firings.
+#![tactic(auto)]
+
+mod net;
+mod table;
+
+pub use net::{Firing, know_laws};
+pub use table::LoopTable;
