@@ -10,4 +10,5 @@ pub mod Liveness
 pub mod Ends
 pub mod Tight
 pub mod Wordings
+pub mod FileNets
 pub mod Traces
