@@ -2,7 +2,9 @@
 #![tactic(auto)]
 
 mod net;
+mod sums;
 mod table;
 
 pub use net::{Firing, know_laws};
+pub use sums::{made_sum, need, taken_sum};
 pub use table::LoopTable;

@@ -1,9 +1,10 @@
 -- Firings by whole rounds: they keep the tokens of each channel, and needs move with them.
-use Rattle.std.proofs.Common.{◌≡◌, ℕ, ◌+◌, ◌*◌, ◌/◌, ◌%◌, ◌≤◌, ◌<◌, [], length, sym, ap, ◌∙◌, arith, div-add-mod', mul_assoc}
+use Rattle.std.proofs.Common.{◌≡◌, ℕ, ◌+◌, ◌*◌, ◌/◌, ◌%◌, ◌≤◌, ◌<◌, [], length, sym, ap, ◌∙◌, arith, div-add-mod', mod-lt, mul_assoc, ⊎_elim}
+use Rattle.std.proofs.lemmas.Bool.{cases_lt}
 use Rattle.std.specs.Prelude.{slice_index, slice_index_or}
 use Rattle.sd_base.specs.Net.{Net, channel_at, total}
-use Rattle.sd_base.specs.Schedules.{time_of, phases_at, Needs, LastNeed}
-use Rattle.sd_base.proofs.Sums.{total-whole, total-times, entry-shift}
+use Rattle.sd_base.specs.Schedules.{time_of, phases_at, Needs, LastNeed, IsNeed}
+use Rattle.sd_base.proofs.Sums.{total-le, total-whole, total-times, entry-shift}
 use Rattle.sd_base.proofs.Parts.{Wired, Balanced}
 
 -- v firings of each actor are whole turns of its phases and keep the tokens of each channel
@@ -80,3 +81,20 @@ module _ (net : Net) (v : ℕ → ℕ) (whole : Whole net v) (i : ℕ) (place : 
       let e : m + v (channel_at net i).source + 1 ≡ (m + 1) + v (channel_at net i).source = omega arith in
       let enough : total (channel_at net i).taken (j + 1) ≤ (channel_at net i).tokens + total (channel_at net i).made (m + 1) = last.enough in
       record { needed = needs-shift j m last.needed; enough = rw e (omega (arith, made-shift (m + 1), taken-after j)) }
+
+-- the need of a firing is no more than the firings of as many rounds as reach it
+pub need-by_rounds : (net : Net) → Wired net → Balanced net → (i j n : ℕ) → i < length net.channels → IsNeed (channel_at net i) j n →
+    n ≤ (j / slice_index net.round (channel_at net i).target + 1) * slice_index net.round (channel_at net i).source
+need-by_rounds net wired bal i j n place need =
+    let target : ℕ = (channel_at net i).target in
+    let r : ℕ = j / slice_index net.round target + 1 in
+    let whole : Whole net (λ (a : ℕ). r * slice_index net.round a) = whole-rounds net r wired bal in
+    let kept : total (channel_at net i).made (r * slice_index net.round (channel_at net i).source) ≡ total (channel_at net i).taken (r * slice_index net.round target) = whole.kept i place in
+    let split : j / slice_index net.round target * slice_index net.round target + j % slice_index net.round target ≡ j = div-add-mod' j (slice_index net.round target) in
+    let below : j % slice_index net.round target < slice_index net.round target = mod-lt j (bal.fires target (wired.targets i place)) in
+    let more : r * slice_index net.round target ≡ j / slice_index net.round target * slice_index net.round target + slice_index net.round target = omega arith in
+    let reach : total (channel_at net i).taken (j + 1) ≤ total (channel_at net i).taken (r * slice_index net.round target) = total-le (channel_at net i).taken (omega arith) in
+    ⊎_elim (λ (late : r * slice_index net.round (channel_at net i).source < n). absurd (
+        let short : Needs (channel_at net i) j (r * slice_index net.round (channel_at net i).source) = need.least (r * slice_index net.round (channel_at net i).source) late in omega arith))
+      (λ (h : n ≤ r * slice_index net.round (channel_at net i).source). h)
+      (cases_lt (r * slice_index net.round (channel_at net i).source) n)
