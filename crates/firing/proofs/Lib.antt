@@ -1,1 +1,3 @@
 pub mod PortSums
+pub mod Singles
+pub mod SdfTables

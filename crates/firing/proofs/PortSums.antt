@@ -51,12 +51,12 @@ pub need-some : (c : Channel) (j taken tokens f turn q p : ℕ) → taken ≡ to
     IsNeed c j (q * f + p)
 need-some c j taken tokens f turn q p at_taken at_tokens short phases at_turn whole some enough least = record {
   enough =
-    let here : total c.made (q * f + p) ≡ total c.made p + q * turn = made-at p in
-    omega arith;
+      let here : total c.made (q * f + p) ≡ total c.made p + q * turn = made-at p in
+      omega arith;
   least = λ m below.
-    let here : total c.made (q * f + (p - 1)) ≡ total c.made (p - 1) + q * turn = made-at (p - 1) in
-    let le : total c.made m ≤ total c.made (q * f + (p - 1)) = total-le c.made (omega arith) in
-    omega arith
+      let here : total c.made (q * f + (p - 1)) ≡ total c.made (p - 1) + q * turn = made-at (p - 1) in
+      let le : total c.made m ≤ total c.made (q * f + (p - 1)) = total-le c.made (omega arith) in
+      omega arith;
 }
   where
     made-at : (k : ℕ) → total c.made (q * f + k) ≡ total c.made k + q * turn

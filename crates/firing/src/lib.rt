@@ -2,9 +2,11 @@
 #![tactic(auto)]
 
 mod net;
+mod sdf;
 mod sums;
 mod table;
 
 pub use net::{Firing, know_laws};
+pub use sdf::SdfNet;
 pub use sums::{made_sum, need, taken_sum};
 pub use table::LoopTable;

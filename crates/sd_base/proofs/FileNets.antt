@@ -48,11 +48,11 @@ each-append P xs ys front back i below = ⊎_elim
     (λ (later : length xs ≤ i). subst P (sym (get_or-append_right xs ys (length xs) i nowhere refl later)) (back (i - length xs) (omega (arith, length-append xs ys))))
     (cases_lt i (length xs))
 
-file-length : (n : ℕ) (rows : List ChannelRow) → length (file_channels_from n rows) ≡ length rows
+pub file-length : (n : ℕ) (rows : List ChannelRow) → length (file_channels_from n rows) ≡ length rows
 file-length n [] = refl
 file-length n (r ∷ rows) = ap suc (file-length (n + 1) rows)
 
-file-at : (n : ℕ) (rows : List ChannelRow) (i : ℕ) (d : ChannelRow) → i < length rows → slice_index_or (file_channels_from n rows) i nowhere ≡ file_channel (n + i) (slice_index_or rows i d)
+pub file-at : (n : ℕ) (rows : List ChannelRow) (i : ℕ) (d : ChannelRow) → i < length rows → slice_index_or (file_channels_from n rows) i nowhere ≡ file_channel (n + i) (slice_index_or rows i d)
 file-at n [] i d below = absurd (omega arith)
 file-at n (r ∷ rows) zero d below = let e : n + 0 ≡ n = omega arith in rw e refl
 file-at n (r ∷ rows) (suc i) d below = let e : n + suc i ≡ (n + 1) + i = omega arith in rw e (file-at (n + 1) rows i d (omega arith))
@@ -165,7 +165,7 @@ record GoodChannel (times : List (List ℕ)) (c : Channel) : Type 0 where
 nobody : ActorRow
 nobody = record { name = []; phases = 0; times = [] }
 
-nothing : ChannelRow
+pub nothing : ChannelRow
 nothing = record { name = []; source = 0; target = 0; made = []; taken = []; tokens = 0; size = 0 }
 
 module _ (g : GraphFile) (gamma : List ℕ) (apart : Bool) (rules : KeepsRules g) (timed : IsTimed g) (gives : IsRepetitionOf g gamma) (small : sum gamma ≤ 100000) where

@@ -6,5 +6,5 @@ abbrev pub invariant-loop-phase : goal.invariant-loop-phase
 invariant-loop-phase g l = record {
   sum : l.sum ≡ total (channel_at (g.F.Firing.net l.net) l.channel).made l.phase;
   small : l.sum ≤ l.phase * 1000000;
-  short : l.sum < l.wanted
+  short : l.sum < l.wanted;
 }

@@ -1,4 +1,4 @@
-use Rattle.std.proofs.Common.{◌/◌, ◌*◌, ◌^◌, ◌≤◌, ◌%◌, arith}
+use Rattle.std.proofs.Common.{arith}
 use Rattle.sd_base.specs.Net.{channel_at}
 use Rattle.firing.specs.Ports.{rates_at}
 use Rattle.firing.proofs.PortSums.{port-split, turns-fit}
