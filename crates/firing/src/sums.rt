@@ -7,7 +7,7 @@ use crate::net::{Firing, know_laws};
 
 /// An end of a channel: what its source makes, or what its target takes.
 #[derive(Clone, Copy, Debug)]
-pub(crate) enum Port {
+pub enum Port {
     Made,
     Taken,
 }
@@ -45,7 +45,7 @@ fn port_sum<F: Firing>(net: &F, channel: u32, port: Port, firings: u128) -> u128
 }
 
 /// How many phases the actor at an end of a channel has.
-fn phases_at<F: Firing>(net: &F, channel: u32, port: Port) -> u32
+pub(crate) fn phases_at<F: Firing>(net: &F, channel: u32, port: Port) -> u32
     requires { channel < length (F.net net.now).channels }
     ensures phases { result ≡ length (rates_at port (channel_at (F.net net.now) channel)) }
     ensures some { 0 < result }
@@ -58,7 +58,7 @@ fn phases_at<F: Firing>(net: &F, channel: u32, port: Port) -> u32
 }
 
 /// The rate at an end of a channel in a phase.
-fn rate<F: Firing>(net: &F, channel: u32, port: Port, phase: u32) -> u64
+pub(crate) fn rate<F: Firing>(net: &F, channel: u32, port: Port, phase: u32) -> u64
     requires channel { channel < length (F.net net.now).channels }
     requires phase { phase < length (rates_at port (channel_at (F.net net.now) channel)) }
     ensures rate { result ≡ slice_index (rates_at port (channel_at (F.net net.now) channel)) phase }
