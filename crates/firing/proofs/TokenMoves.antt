@@ -1,13 +1,15 @@
 -- Tokens that are taken and put channel by channel.
 use Rattle.std.proofs.Common.{◌≡◌, ◌≢◌, ℕ, ◌+◌, ◌-◌, ◌*◌, ◌%◌, ◌≤◌, ◌<◌, List, [], ◌∷◌, length, set, ⊎_elim, subst, sym, refl, ap, ◌∙◌, arith, zero-add}
 use Rattle.std.specs.Prelude.{slice_index}
-use Rattle.std.proofs.lemmas.Bool.{cases_lt}
+use Rattle.std.proofs.lemmas.Bool.{cases_lt, cases_eq}
 use Rattle.std.proofs.lemmas.List.{get_or-set_same, get_or-set_other, length-set}
 use Rattle.sd_base.specs.Net.{Net, channel_at, phase_entry, total}
-use Rattle.sd_base.proofs.Sums.{total-more, total-turn, total-turns}
+use Rattle.sd_base.specs.Schedules.{Needs}
+use Rattle.sd_base.specs.Lawful.{Lawful}
+use Rattle.sd_base.proofs.Sums.{total-more, total-turn, total-turns, total-bound}
 use Rattle.firing.specs.declared.sums.Port.{Port}
 use Rattle.firing.specs.declared.sums.Port.TheVariants.{Made, Taken}
-use Rattle.firing.specs.Wiring.{actor_at, IsListed, SufficesBefore, IsFirstLack, TakesTokens, PutsTokens}
+use Rattle.firing.specs.Wiring.{actor_at, IsListed, LacksNow, SufficesBefore, IsFirstLack, TakesTokens, PutsTokens, IsLevel}
 
 -- ---- sums over a span of firings
 
@@ -164,3 +166,65 @@ module _ (net : Net) (a k n : ℕ) (xs old now : List ℕ) (at all : ℕ) (liste
       let i : ℕ = slice_index xs at in
       changed-more net Made a xs old now (set now i (slice_index now i + all)) (λ c. total (channel_at net c).made k) (λ c. total (channel_at net c).made (k + n)) at i (slice_index now i + all)
       listed below refl (rw long (listed.place at below)) refl (omega arith) so_far
+
+-- ---- the level of the tokens
+
+-- new counts are old ones with n more firings of a
+pub record MoreBy (a n : ℕ) (old new : ℕ → ℕ) : Type 0 where
+  pub here : new a ≡ old a + n
+  pub others : (b : ℕ) → b ≢ a → new b ≡ old b
+
+pub level-takes : (net : Net) (a n : ℕ) (s more e : ℕ → ℕ) (old new : List ℕ) → IsLevel net s e old → TakesTokens net a (s a) n old new → length new ≡ length old → MoreBy a n s more → IsLevel net more e new
+level-takes net a n s more e old new level takes long counts = record {
+  long = long ∙ level.long;
+  each = λ i place. ⊎_elim
+      (λ (into : (channel_at net i).target ≡ a).
+        let was : slice_index old i + total (channel_at net i).taken (s (channel_at net i).target) ≡ (channel_at net i).tokens + total (channel_at net i).made (e (channel_at net i).source) = level.each i place in
+        let before : slice_index old i + total (channel_at net i).taken (s a) ≡ (channel_at net i).tokens + total (channel_at net i).made (e (channel_at net i).source) = rw into at was in
+        let moved : slice_index new i + total (channel_at net i).taken (s a + n) ≡ slice_index old i + total (channel_at net i).taken (s a) = takes.taken i place into in
+        rw (into, counts.here) (moved ∙ before))
+      (λ (away : (channel_at net i).target ≢ a).
+        rw (counts.others (channel_at net i).target away, takes.others i place away) (level.each i place))
+      (cases_eq (channel_at net i).target a)
+}
+
+pub level-puts : (net : Net) (a n : ℕ) (s e more : ℕ → ℕ) (old new : List ℕ) → IsLevel net s e old → PutsTokens net a (e a) n old new → length new ≡ length old → MoreBy a n e more → IsLevel net s more new
+level-puts net a n s e more old new level puts long counts = record {
+  long = long ∙ level.long;
+  each = λ i place. ⊎_elim
+      (λ (from : (channel_at net i).source ≡ a).
+        let was : slice_index old i + total (channel_at net i).taken (s (channel_at net i).target) ≡ (channel_at net i).tokens + total (channel_at net i).made (e (channel_at net i).source) = level.each i place in
+        let before : slice_index old i + total (channel_at net i).taken (s (channel_at net i).target) ≡ (channel_at net i).tokens + total (channel_at net i).made (e a) = rw from at was in
+        let moved : slice_index new i + total (channel_at net i).made (e a) ≡ slice_index old i + total (channel_at net i).made (e a + n) = puts.made i place from in
+        rw (from, counts.here) (omega arith))
+      (λ (away : (channel_at net i).source ≢ a).
+        rw (counts.others (channel_at net i).source away, puts.others i place away) (level.each i place))
+      (cases_eq (channel_at net i).source a)
+}
+
+-- a channel that has fewer tokens than a firing takes makes the firing need one that hasn't ended
+pub level-needs : (net : Net) (s e : ℕ → ℕ) (tokens : List ℕ) (a i : ℕ) → IsLevel net s e tokens → LacksNow net tokens a (s a) i → Needs (channel_at net i) (s a) (e (channel_at net i).source)
+level-needs net s e tokens a i level lacks =
+    let was : slice_index tokens i + total (channel_at net i).taken (s (channel_at net i).target) ≡ (channel_at net i).tokens + total (channel_at net i).made (e (channel_at net i).source) = level.each i lacks.place in
+    let here : slice_index tokens i + total (channel_at net i).taken (s a) ≡ (channel_at net i).tokens + total (channel_at net i).made (e (channel_at net i).source) = rw lacks.into at was in
+    let more : total (channel_at net i).taken (s a + 1) ≡ total (channel_at net i).taken (s a) + phase_entry (channel_at net i).taken (s a) = total-more (channel_at net i).taken (s a) in
+    let short : slice_index tokens i < phase_entry (channel_at net i).taken (s a) = lacks.short in
+    omega arith
+
+-- a channel with tokens enough feeds the next firing
+pub level-feeds : (net : Net) (s e : ℕ → ℕ) (tokens : List ℕ) (a i : ℕ) → IsLevel net s e tokens → i < length net.channels → (channel_at net i).target ≡ a → phase_entry (channel_at net i).taken (s a) ≤ slice_index tokens i →
+    total (channel_at net i).taken (s a + 1) ≤ (channel_at net i).tokens + total (channel_at net i).made (e (channel_at net i).source)
+level-feeds net s e tokens a i level place into enough =
+    let was : slice_index tokens i + total (channel_at net i).taken (s (channel_at net i).target) ≡ (channel_at net i).tokens + total (channel_at net i).made (e (channel_at net i).source) = level.each i place in
+    let here : slice_index tokens i + total (channel_at net i).taken (s a) ≡ (channel_at net i).tokens + total (channel_at net i).made (e (channel_at net i).source) = rw into at was in
+    let more : total (channel_at net i).taken (s a + 1) ≡ total (channel_at net i).taken (s a) + phase_entry (channel_at net i).taken (s a) = total-more (channel_at net i).taken (s a) in
+    omega arith
+
+-- tokens stay few
+pub level-small : (net : Net) (s e : ℕ → ℕ) (tokens : List ℕ) (most i : ℕ) → Lawful net → IsLevel net s e tokens → i < length net.channels → e (channel_at net i).source ≤ most →
+    slice_index tokens i ≤ 2000000000 + most * 1000000
+level-small net s e tokens most i laws level place few =
+    let was : slice_index tokens i + total (channel_at net i).taken (s (channel_at net i).target) ≡ (channel_at net i).tokens + total (channel_at net i).made (e (channel_at net i).source) = level.each i place in
+    let made : total (channel_at net i).made (e (channel_at net i).source) ≤ e (channel_at net i).source * 1000000 = total-bound (channel_at net i).made 1000000 (e (channel_at net i).source) (λ p. laws.small_made i p place) in
+    let start : (channel_at net i).tokens ≤ 2000000000 = laws.few_tokens i place in
+    omega arith

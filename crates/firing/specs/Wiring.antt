@@ -48,3 +48,10 @@ pub record PutsTokens (net : Net) (a k n : ℕ) (old new : List ℕ) : Type 0 wh
   pub made : (i : ℕ) → i < length net.channels → (channel_at net i).source ≡ a →
       slice_index new i + total (channel_at net i).made k ≡ slice_index old i + total (channel_at net i).made (k + n)
   pub others : (i : ℕ) → i < length net.channels → (channel_at net i).source ≢ a → slice_index new i ≡ slice_index old i
+
+-- the tokens on each channel are those that firings that have ended made, without those that firings that have started took
+pub record IsLevel (net : Net) (started ended : ℕ → ℕ) (tokens : List ℕ) : Type 0 where
+  pub long : length tokens ≡ length net.channels
+  pub each : (i : ℕ) → i < length net.channels →
+      slice_index tokens i + total (channel_at net i).taken (started (channel_at net i).target)
+      ≡ (channel_at net i).tokens + total (channel_at net i).made (ended (channel_at net i).source)

@@ -12,5 +12,5 @@ pub use net::{Firing, know_laws};
 pub use sdf::SdfNet;
 pub use sums::{Port, made_sum, need, taken_sum};
 pub use table::LoopTable;
-pub use tokens::{first_lack, put_tokens, take_tokens};
-pub use wiring::{inputs_by_actor, outputs_by_actor};
+pub use tokens::{first_lack, initial_tokens, put_tokens, take_tokens};
+pub use wiring::Wiring;

@@ -1,11 +1,13 @@
-ghost use Rattle.std.specs.Prelude.{◌≡◌, ℕ, ◌+◌, ◌*◌, ◌%◌, ◌^◌, ◌<◌, ◌≤◌, length, slice_index, MatchOption};
-ghost use Rattle.sd_base.specs.Net.{channel_at, phase_entry, total};
+ghost use Rattle.std.specs.Prelude.{◌≡◌, ℕ, ◌+◌, ◌*◌, ◌%◌, ◌^◌, ◌<◌, ◌≤◌, length, map, slice_index, IfOk, MatchOption};
+ghost use Rattle.sd_base.specs.Net.{Channel, channel_at, phase_entry, total};
 ghost use Rattle.firing.specs.declared.sums.Port.TheVariants.{Made, Taken};
 ghost use Rattle.firing.specs.Ports.{rates_at};
 ghost use Rattle.firing.specs.Wiring.{IsListed, SufficesBefore, IsFirstLack, TakesTokens, PutsTokens};
 
 use crate::net::{Firing, know_laws};
 use crate::sums::{Port, phases_at, rate};
+use sd_base::NoMemory;
+use std::alloc::Global;
 
 /// The first of the channels into an actor that has fewer tokens than a firing of it takes.
 pub fn first_lack<F: Firing>(
@@ -103,4 +105,15 @@ fn span_sum<F: Firing>(net: &F, channel: u32, port: Port, from: u64, firings: u6
         sum += rate(net, channel, port, ((from + k) % phases) as u32) as u128;
     }
     sum
+}
+
+/// The tokens with which each channel starts.
+pub fn initial_tokens<F: Firing>(alloc: Global, net: &F) -> Result<Vec<u128>, NoMemory>
+    ensures { IfOk result (λ v. v.items ≡ map (λ (c : Channel). c.tokens) (F.net net.now).channels) }
+{
+    let mut tokens = Vec::new(alloc);
+    for channel in 0..net.channels() {
+        tokens.push(net.tokens(channel) as u128)?;
+    }
+    Ok(tokens)
 }

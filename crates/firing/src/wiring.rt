@@ -1,4 +1,4 @@
-ghost use Rattle.std.specs.Prelude.{◌≡◌, ◌<◌, IfOk, length};
+ghost use Rattle.std.specs.Prelude.{◌≡◌, ◌<◌, [], IfOk, length, slice_index_or};
 ghost use Rattle.sd_base.specs.Net.{channel_at};
 ghost use Rattle.firing.specs.declared.sums.Port.TheVariants.{Made, Taken};
 ghost use Rattle.firing.specs.Wiring.{actor_at, IsListed, AreListed};
@@ -8,18 +8,40 @@ use crate::sums::Port;
 use sd_base::{NoMemory, Rows};
 use std::alloc::Global;
 
-/// By actor the channels into it, ascending. Cost: linear in the product of actors and channels.
-pub fn inputs_by_actor<F: Firing>(alloc: Global, net: &F) -> Result<Rows<Rows<u32>>, NoMemory>
-    ensures { IfOk result (λ rows. AreListed (F.net net.now) Taken rows) }
-{
-    channels_by_actor(alloc, net, Port::Taken)
+/// The channels of a net by actor, ascending.
+#[derive(Debug, Drop)]
+pub struct Wiring {
+    /// By actor the channels into it.
+    pub inputs: Rows<Rows<u32>>,
+    /// By actor the channels out of it.
+    pub outputs: Rows<Rows<u32>>,
 }
 
-/// By actor the channels out of it, ascending. Cost: linear in the product of actors and channels.
-pub fn outputs_by_actor<F: Firing>(alloc: Global, net: &F) -> Result<Rows<Rows<u32>>, NoMemory>
-    ensures { IfOk result (λ rows. AreListed (F.net net.now) Made rows) }
-{
-    channels_by_actor(alloc, net, Port::Made)
+impl Wiring {
+    /// The channels of a net by actor. Cost: linear in the product of actors and channels.
+    pub fn new<F: Firing>(alloc: Global, net: &F) -> Result<Wiring, NoMemory>
+        ensures inputs { IfOk result (λ w. AreListed (F.net net.now) Taken w.inputs) }
+        ensures outputs { IfOk result (λ w. AreListed (F.net net.now) Made w.outputs) }
+    {
+        Ok(Wiring {
+            inputs: channels_by_actor(alloc, net, Port::Taken)?,
+            outputs: channels_by_actor(alloc, net, Port::Made)?,
+        })
+    }
+
+    pub fn inputs_of(&self, actor: u32) -> &[u32]
+        requires { actor < length self.now.inputs }
+        ensures { result.now ≡ slice_index_or self.now.inputs actor [] }
+    {
+        self.inputs.as_slice()[actor as usize].as_slice()
+    }
+
+    pub fn outputs_of(&self, actor: u32) -> &[u32]
+        requires { actor < length self.now.outputs }
+        ensures { result.now ≡ slice_index_or self.now.outputs actor [] }
+    {
+        self.outputs.as_slice()[actor as usize].as_slice()
+    }
 }
 
 /// By actor the channels with an end at it.

@@ -1,5 +1,5 @@
 -- Firing actors one after another comes to an end.
-use Rattle.std.proofs.Common.{◌≡◌, ℕ, zero, suc, ◌+◌, ◌-◌, ◌≤◌, ◌<◌, ◌⊎◌, true, false, List, [], ◌∷◌, length, inl, inr, ⊎_elim, refl, arith}
+use Rattle.std.proofs.Common.{◌≡◌, ℕ, zero, suc, ◌+◌, ◌-◌, ◌≤◌, ◌<◌, ◌⊎◌, true, false, List, [], ◌∷◌, ◌++◌, length, inl, inr, ⊎_elim, refl, arith}
 use Rattle.std.specs.Prelude.{slice_index}
 use Rattle.std.proofs.lemmas.Bool.{cases_lt, cases_order, cases_eq, cases_Bool}
 use Rattle.sd_base.specs.Net.{Net}
@@ -9,7 +9,7 @@ use Rattle.sd_base.specs.Untimed.{none_fired, bump, CanFire, Fires, after, IsLiv
 use Rattle.sd_base.proofs.Existence.{allows-true, allows-false}
 use Rattle.sd_base.proofs.Blocking.{bump-same, bump-other, end-decides}
 
-sum_to : (ℕ → ℕ) → ℕ → ℕ
+unfoldable pub sum_to : (ℕ → ℕ) → ℕ → ℕ
 sum_to f zero = 0
 sum_to f (suc n) = sum_to f n + f n
 
@@ -45,15 +45,20 @@ find net v (suc n) = step (find net v n) (cases_lt (v n) (slice_index net.round 
         (λ (apart : (a < n) ⊎ (n < a)). ⊎_elim (λ (below : a < n). none a below small) (λ (above : n < a). absurd (omega arith)) apart) (cases_order a n))
 
 -- what is left of the round
-left_of : Net → (ℕ → ℕ) → ℕ
+unfoldable pub left_of : Net → (ℕ → ℕ) → ℕ
 left_of net v = sum_to (λ (a : ℕ). slice_index net.round a - v a) (length net.times)
 
-left-bump : (net : Net) (v : ℕ → ℕ) (a : ℕ) → a < length net.times → v a < slice_index net.round a → left_of net (bump v a) < left_of net v
+-- one more firing leaves less
+pub left-more : (net : Net) (v w : ℕ → ℕ) (a : ℕ) → a < length net.times → v a < slice_index net.round a → w a ≡ v a + 1 → ((b : ℕ) → (b ≡ a → ⊥) → w b ≡ v b) → left_of net w < left_of net v
 unfolding left_of
-left-bump net v a actor less = sum_to-lt (λ (b : ℕ). slice_index net.round b - bump v a b) (λ (b : ℕ). slice_index net.round b - v b) (length net.times) a each actor (omega (arith, bump-same v a))
+left-more net v w a actor less here others = sum_to-lt (λ (b : ℕ). slice_index net.round b - w b) (λ (b : ℕ). slice_index net.round b - v b) (length net.times) a each actor (omega arith)
   where
-    each : (b : ℕ) → b < length net.times → slice_index net.round b - bump v a b ≤ slice_index net.round b - v b
-    each b h = ⊎_elim (λ (same : b ≡ a). rw same (omega (arith, bump-same v a))) (λ (apart : b ≡ a → ⊥). omega (arith, bump-other v a b apart)) (cases_eq b a)
+    each : (b : ℕ) → b < length net.times → slice_index net.round b - w b ≤ slice_index net.round b - v b
+    each b h = ⊎_elim (λ (same : b ≡ a). rw same (omega arith)) (λ (apart : b ≡ a → ⊥). omega (arith, others b apart)) (cases_eq b a)
+
+left-bump : (net : Net) (v : ℕ → ℕ) (a : ℕ) → a < length net.times → v a < slice_index net.round a → left_of net (bump v a) < left_of net v
+left-bump net v a actor less = left-more net v (bump v a) a actor less (bump-same v a) (λ b apart. bump-other v a b apart)
+
 
 abbrev EndsFrom : Net → (ℕ → ℕ) → Type 0
 EndsFrom net v = (order : List ℕ) × Fires net v order × Closed net (after v order)
@@ -67,6 +72,15 @@ ends-from net (suc fuel) v few = step (find net v (length net.times)) (λ a less
         let rest : EndsFrom net (bump v found.0) = next found.0 (omega (arith, left-bump net v found.0 found.1 found.2)) in
         (found.0 ∷ rest.0, (found.1, found.2, found.3, rest.1), rest.2)
     step (inr none) next = ([], tt, none)
+
+-- one more firing at the end of an order
+pub fires-push : (net : Net) (order : List ℕ) (v : ℕ → ℕ) (a : ℕ) → Fires net v order → a < length net.times → after v order a < slice_index net.round a → CanFire net (after v order) a → Fires net v (order ++ a ∷ [])
+fires-push net [] v a fires actor less can = (actor, less, can, tt)
+fires-push net (b ∷ order) v a fires actor less can = (fires.0, fires.1, fires.2, fires-push net order (bump v b) a fires.3 actor less can)
+
+pub after-push : (order : List ℕ) (v : ℕ → ℕ) (a b : ℕ) → after v (order ++ a ∷ []) b ≡ bump (after v order) a b
+after-push [] v a b = refl
+after-push (c ∷ order) v a b = after-push order (bump v c) a b
 
 pub end-exists : (net : Net) → (v : ℕ → ℕ) × IsEnd net v
 end-exists net =
