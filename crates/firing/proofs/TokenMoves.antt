@@ -6,7 +6,7 @@ use Rattle.std.proofs.lemmas.List.{get_or-set_same, get_or-set_other, length-set
 use Rattle.sd_base.specs.Net.{Net, channel_at, phase_entry, total}
 use Rattle.sd_base.specs.Schedules.{Needs}
 use Rattle.sd_base.specs.Lawful.{Lawful}
-use Rattle.sd_base.proofs.Sums.{total-more, total-turn, total-turns, total-bound}
+use Rattle.sd_base.proofs.Sums.{total-le, total-more, total-turn, total-turns, total-bound}
 use Rattle.firing.specs.declared.sums.Port.{Port}
 use Rattle.firing.specs.declared.sums.Port.TheVariants.{Made, Taken}
 use Rattle.firing.specs.Wiring.{actor_at, IsListed, LacksNow, SufficesBefore, IsFirstLack, TakesTokens, PutsTokens, IsLevel}
@@ -228,3 +228,19 @@ level-small net s e tokens most i laws level place few =
     let made : total (channel_at net i).made (e (channel_at net i).source) ≤ e (channel_at net i).source * 1000000 = total-bound (channel_at net i).made 1000000 (e (channel_at net i).source) (λ p. laws.small_made i p place) in
     let start : (channel_at net i).tokens ≤ 2000000000 = laws.few_tokens i place in
     omega arith
+
+pub more-set : (counts : List ℕ) (a n : ℕ) → a < length counts → MoreBy a n (slice_index counts) (slice_index (set counts a (slice_index counts a + n)))
+more-set counts a n below = record {
+  here = get_or-set_same counts a (slice_index counts a + n) 0 below;
+  others = λ b away. get_or-set_other counts a b (slice_index counts a + n) 0 away
+}
+
+-- taking leaves no more
+pub takes-le : (net : Net) (a k n : ℕ) (old new : List ℕ) → TakesTokens net a k n old new → (i : ℕ) → i < length net.channels → slice_index new i ≤ slice_index old i
+takes-le net a k n old new takes i place = ⊎_elim
+    (λ (into : (channel_at net i).target ≡ a).
+      let moved : slice_index new i + total (channel_at net i).taken (k + n) ≡ slice_index old i + total (channel_at net i).taken k = takes.taken i place into in
+      let le : total (channel_at net i).taken k ≤ total (channel_at net i).taken (k + n) = total-le (channel_at net i).taken (omega arith) in
+      omega arith)
+    (λ (away : (channel_at net i).target ≢ a). let same : slice_index new i ≡ slice_index old i = takes.others i place away in omega arith)
+    (cases_eq (channel_at net i).target a)

@@ -85,14 +85,20 @@ short_or_whole v g (suc n) below = step (short_or_whole v g n (λ a h. below a (
         (cases_order a n))
 
 -- a run that ends has fired a whole round, or its counts block the net
-pub end-decides : (net : Net) (v : ℕ → ℕ) → IsEnd net v → IsLive net ⊎ Blocks net v
-end-decides net v end = ⊎_elim
+pub end-splits : (net : Net) (v : ℕ → ℕ) → IsEnd net v → ((a : ℕ) → a < length net.times → v a ≡ slice_index net.round a) ⊎ Blocks net v
+end-splits net v end = ⊎_elim
     (λ (short : (a : ℕ) × (a < length net.times) × (v a < slice_index net.round a)). inr (record { within = within; short = short; closed = end.closed }))
-    (λ (whole : (a : ℕ) → a < length net.times → v a ≡ slice_index net.round a). inl (end.order, record { fires = end.fires; whole = λ a actor. end.counts a actor ∙ whole a actor }))
+    (λ (whole : (a : ℕ) → a < length net.times → v a ≡ slice_index net.round a). inl whole)
     (short_or_whole v (slice_index net.round) (length net.times) within)
   where
     within : (a : ℕ) → a < length net.times → v a ≤ slice_index net.round a
     within a actor = omega (arith, end.counts a actor, run-within net end.order none_fired end.fires (λ b is. omega arith) a actor)
+
+pub end-decides : (net : Net) (v : ℕ → ℕ) → IsEnd net v → IsLive net ⊎ Blocks net v
+end-decides net v end = ⊎_elim
+    (λ (whole : (a : ℕ) → a < length net.times → v a ≡ slice_index net.round a). inl (end.order, record { fires = end.fires; whole = λ a actor. end.counts a actor ∙ whole a actor }))
+    (λ (blocks : Blocks net v). inr blocks)
+    (end-splits net v end)
 
 -- ---- schedules
 

@@ -59,7 +59,6 @@ left-more net v w a actor less here others = sum_to-lt (λ (b : ℕ). slice_inde
 left-bump : (net : Net) (v : ℕ → ℕ) (a : ℕ) → a < length net.times → v a < slice_index net.round a → left_of net (bump v a) < left_of net v
 left-bump net v a actor less = left-more net v (bump v a) a actor less (bump-same v a) (λ b apart. bump-other v a b apart)
 
-
 abbrev EndsFrom : Net → (ℕ → ℕ) → Type 0
 EndsFrom net v = (order : List ℕ) × Fires net v order × Closed net (after v order)
 

@@ -95,6 +95,6 @@ need-by_rounds net wired bal i j n place need =
     let more : r * slice_index net.round target ≡ j / slice_index net.round target * slice_index net.round target + slice_index net.round target = omega arith in
     let reach : total (channel_at net i).taken (j + 1) ≤ total (channel_at net i).taken (r * slice_index net.round target) = total-le (channel_at net i).taken (omega arith) in
     ⊎_elim (λ (late : r * slice_index net.round (channel_at net i).source < n). absurd (
-        let short : Needs (channel_at net i) j (r * slice_index net.round (channel_at net i).source) = need.least (r * slice_index net.round (channel_at net i).source) late in omega arith))
-      (λ (h : n ≤ r * slice_index net.round (channel_at net i).source). h)
-      (cases_lt (r * slice_index net.round (channel_at net i).source) n)
+    let short : Needs (channel_at net i) j (r * slice_index net.round (channel_at net i).source) = need.least (r * slice_index net.round (channel_at net i).source) late in omega arith))
+    (λ (h : n ≤ r * slice_index net.round (channel_at net i).source). h)
+    (cases_lt (r * slice_index net.round (channel_at net i).source) n)
