@@ -9,6 +9,7 @@ use Rattle.sd_base.specs.Lawful.{Lawful}
 use Rattle.sd_base.proofs.Sums.{total-le, total-more, total-turn, total-turns, total-bound}
 use Rattle.firing.specs.declared.sums.Port.{Port}
 use Rattle.firing.specs.declared.sums.Port.TheVariants.{Made, Taken}
+use Rattle.firing.proofs.Listings.{place_of}
 use Rattle.firing.specs.Wiring.{actor_at, IsListed, LacksNow, SufficesBefore, IsFirstLack, TakesTokens, PutsTokens, IsLevel}
 
 -- ---- sums over a span of firings
@@ -54,7 +55,7 @@ first-lack net xs tokens a k n i listed below at so_far short = record {
   lacks = record { place = rw at (listed.place n below); into = rw at (listed.there n below); short = short };
   first = λ m less into.
       let place : slice_index xs n < length net.channels = listed.place n below in
-      let found = listed.all m (omega arith) into in
+      let found = place_of net Taken a xs listed m (omega arith) into in
       let same : slice_index xs found.0 ≡ m = found.2 in
       let before : found.0 < n = earlier net Taken a xs listed found.0 n below found.1 (omega arith) in
       subst (λ (x : ℕ). phase_entry (channel_at net x).taken k ≤ slice_index tokens x) same (so_far found.0 before);
@@ -63,7 +64,7 @@ first-lack net xs tokens a k n i listed below at so_far short = record {
 pub no-lack : (net : Net) (xs tokens : List ℕ) (a k n : ℕ) → IsListed net Taken a xs → length xs ≤ n →
     ((j : ℕ) → j < n → phase_entry (channel_at net (slice_index xs j)).taken k ≤ slice_index tokens (slice_index xs j)) → SufficesBefore net tokens a k (length net.channels)
 no-lack net xs tokens a k n listed past so_far m place into =
-    let found = listed.all m place into in
+    let found = place_of net Taken a xs listed m place into in
     let same : slice_index xs found.0 ≡ m = found.2 in
     let before : found.0 < n = omega (arith, found.1) in
     subst (λ (x : ℕ). phase_entry (channel_at net x).taken k ≤ slice_index tokens x) same (so_far found.0 before)
@@ -111,7 +112,7 @@ pub takes-all : (net : Net) (a k n : ℕ) (xs old new : List ℕ) → IsListed n
     Changed xs old new (λ i. total (channel_at net i).taken (k + n)) (λ i. total (channel_at net i).taken k) (length xs) → TakesTokens net a k n old new
 takes-all net a k n xs old new listed changed = record {
   taken = λ i place into.
-      let found = listed.all i place into in
+      let found = place_of net Taken a xs listed i place into in
       subst (λ (c : ℕ). slice_index new c + total (channel_at net c).taken (k + n) ≡ slice_index old c + total (channel_at net c).taken k) found.2 (changed.done found.0 found.1);
   others = λ i place away. changed.rest i (not_listed net Taken a xs listed i (length xs) (omega arith) away);
 }
@@ -120,7 +121,7 @@ pub puts-all : (net : Net) (a k n : ℕ) (xs old new : List ℕ) → IsListed ne
     Changed xs old new (λ i. total (channel_at net i).made k) (λ i. total (channel_at net i).made (k + n)) (length xs) → PutsTokens net a k n old new
 puts-all net a k n xs old new listed changed = record {
   made = λ i place into.
-      let found = listed.all i place into in
+      let found = place_of net Made a xs listed i place into in
       subst (λ (c : ℕ). slice_index new c + total (channel_at net c).made k ≡ slice_index old c + total (channel_at net c).made (k + n)) found.2 (changed.done found.0 found.1);
   others = λ i place away. changed.rest i (not_listed net Made a xs listed i (length xs) (omega arith) away);
 }
@@ -244,3 +245,11 @@ takes-le net a k n old new takes i place = ⊎_elim
       omega arith)
     (λ (away : (channel_at net i).target ≢ a). let same : slice_index new i ≡ slice_index old i = takes.others i place away in omega arith)
     (cases_eq (channel_at net i).target a)
+
+-- ---- whole lists of channels
+
+pub takes-done : (net : Net) (a k n : ℕ) (xs old new : List ℕ) (done : ℕ) → IsListed net Taken a xs → done ≡ length xs → TakesSoFar net k n xs old new done → TakesTokens net a k n old new
+takes-done net a k n xs old new done listed whole so_far = takes-all net a k n xs old new listed (subst (TakesSoFar net k n xs old new) whole so_far)
+
+pub puts-done : (net : Net) (a k n : ℕ) (xs old new : List ℕ) (done : ℕ) → IsListed net Made a xs → done ≡ length xs → PutsSoFar net k n xs old new done → PutsTokens net a k n old new
+puts-done net a k n xs old new done listed whole so_far = puts-all net a k n xs old new listed (subst (PutsSoFar net k n xs old new) whole so_far)

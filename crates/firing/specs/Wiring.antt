@@ -1,5 +1,6 @@
 -- The channels of a net by actor, and the tokens on channels.
-use Rattle.std.specs.Prelude.{◌≡◌, ◌≢◌, ℕ, ◌+◌, ◌≤◌, ◌<◌, List, [], length, slice_index, slice_index_or}
+use Rattle.std.specs.Prelude.{◌≡◌, ◌≢◌, ℕ, ◌+◌, ◌≤◌, ◌<◌, Bool, true, List, [], length, slice_index, slice_index_or, ◌==◌}
+use Rattle.std.specs.List.{list_any}
 use Rattle.sd_base.specs.Net.{Channel, Net, channel_at, phase_entry, total}
 use Rattle.firing.specs.declared.sums.Port.{Port}
 use Rattle.firing.specs.declared.sums.Port.TheVariants.{Made, Taken}
@@ -14,7 +15,7 @@ pub record IsListed (net : Net) (port : Port) (a : ℕ) (xs : List ℕ) : Type 0
   pub rising : (j k : ℕ) → j < k → k < length xs → slice_index xs j < slice_index xs k
   pub place : (j : ℕ) → j < length xs → slice_index xs j < length net.channels
   pub there : (j : ℕ) → j < length xs → actor_at port (channel_at net (slice_index xs j)) ≡ a
-  pub all : (i : ℕ) → i < length net.channels → actor_at port (channel_at net i) ≡ a → (j : ℕ) × (j < length xs) × (slice_index xs j ≡ i)
+  pub all : (i : ℕ) → i < length net.channels → actor_at port (channel_at net i) ≡ a → list_any (λ x. x == i) xs ≡ true
 
 -- by actor the channels with that end at it
 pub record AreListed (net : Net) (port : Port) (rows : List (List ℕ)) : Type 0 where
