@@ -1,9 +1,8 @@
 -- Sums over whole cycles of phases: a net is balanced by firings where its links are by cycles.
-use Rattle.std.proofs.Common.{◌≡◌, ℕ, zero, suc, ◌+◌, ◌*◌, ◌/◌, ◌%◌, ◌<◌, ◌≤◌, Some, None, List, [], ◌∷◌, length, take, map, sum, sym, refl, ap, subst, ◌∙◌, inl, inr, arith}
+use Rattle.std.proofs.Common.{◌≡◌, ℕ, zero, suc, ◌+◌, ◌*◌, ◌/◌, ◌%◌, ◌<◌, ◌≤◌, Some, List, [], ◌∷◌, length, take, sum, sym, refl, ap, subst, ◌∙◌, arith}
 use Rattle.std.specs.Prelude.{slice_get, slice_index_or, slice_index}
-use Rattle.std.proofs.Math.Nat.{div-add-mod', mul-mod_left, mul-div_cancel, mul-pos}
+use Rattle.std.proofs.Math.Nat.{div-add-mod', mul-mod_left, mul-pos}
 use Rattle.std.proofs.lemmas.Nat.{mod-mul-add}
-use Rattle.std.proofs.lemmas.Bool.{cases_lt}
 use Rattle.std.proofs.lemmas.List.{take_all}
 use Rattle.std.proofs.lemmas.List.Sums.{sum_by_more}
 use Rattle.std.proofs.lemmas.Option.{none-some, same_Some, slice_get_within, slice_get-map}
@@ -79,18 +78,18 @@ pub balanced_cycles : (g : GraphFile) → KeepsRules g → (w : List ℕ) → Ba
 balanced_cycles g rules w b k l is =
     let (c, at, same, keeps) = rules_at g rules k l is in
     let lt : k < length (file_channels g) =
-          (let e = length-files 0 g.channels in let in_list = slice_get_within g.channels k c at in omega (arith, e, in_list)) in
+    (let e = length-files 0 g.channels in let in_list = slice_get_within g.channels k c at in omega (arith, e, in_list)) in
     let ch : slice_index_or (file_channels g) k nowhere ≡ file_channel (0 + k) c = file_at 0 g.channels k c at in
     let kept : total c.made (slice_index w c.source) ≡ total c.taken (slice_index w c.target) =
-          subst (λ (x : Channel). total x.made (slice_index w x.source) ≡ total x.taken (slice_index w x.target)) ch (b.kept k lt) in
+    subst (λ (x : Channel). total x.made (slice_index w x.source) ≡ total x.taken (slice_index w x.target)) ch (b.kept k lt) in
     let fs : ℕ = slice_index (phases_of g) c.source in
     let ft : ℕ = slice_index (phases_of g) c.target in
     let left : total c.made (slice_index w c.source) ≡ (slice_index w c.source / fs) * sum c.made =
-          total_by c.made fs (slice_index w c.source) (slice_index w c.source / fs) keeps.made.listed (cycles_of (slice_index w c.source) fs (b.cycles c.source keeps.source)) in
+    total_by c.made fs (slice_index w c.source) (slice_index w c.source / fs) keeps.made.listed (cycles_of (slice_index w c.source) fs (b.cycles c.source keeps.source)) in
     let right : total c.taken (slice_index w c.target) ≡ (slice_index w c.target / ft) * sum c.taken =
-          total_by c.taken ft (slice_index w c.target) (slice_index w c.target / ft) keeps.taken.listed (cycles_of (slice_index w c.target) ft (b.cycles c.target keeps.target)) in
+    total_by c.taken ft (slice_index w c.target) (slice_index w c.target / ft) keeps.taken.listed (cycles_of (slice_index w c.target) ft (b.cycles c.target keeps.target)) in
     subst (λ (x : Link). (slice_index w x.source / slice_index (phases_of g) x.source) * x.made ≡ (slice_index w x.target / slice_index (phases_of g) x.target) * x.taken)
-      (sym same) (sym left ∙ kept ∙ right)
+    (sym same) (sym left ∙ kept ∙ right)
 
 -- and the other way round
 pub balances_firings : (g : GraphFile) → KeepsRules g → (q : ℕ → ℕ) (v : List ℕ) → length v ≡ length (phases_of g)
@@ -98,24 +97,24 @@ pub balances_firings : (g : GraphFile) → KeepsRules g → (q : ℕ → ℕ) (v
     → ((a : ℕ) → a < length (phases_of g) → slice_index v a ≡ q a * slice_index (phases_of g) a)
     → Balanced (links_of g) q → Balances (phases_of g) (file_channels g) v
 balances_firings g rules q v size some pos is even = record {
-    actors = size;
-    fires = λ a lt.
+  actors = size;
+  fires = λ a lt.
       (let e = is a lt in
-       let p : 0 < q a * slice_index (phases_of g) a = mul-pos (pos a) (some a lt) in
-       omega (arith, e, p));
-    cycles = λ a lt. ap (λ n. n % slice_index (phases_of g) a) (is a lt) ∙ mul-mod_left (q a) (slice_index (phases_of g) a);
-    kept = λ k lt.
+      let p : 0 < q a * slice_index (phases_of g) a = mul-pos (pos a) (some a lt) in
+      omega (arith, e, p));
+  cycles = λ a lt. ap (λ n. n % slice_index (phases_of g) a) (is a lt) ∙ mul-mod_left (q a) (slice_index (phases_of g) a);
+  kept = λ k lt.
       (let in_list : k < length g.channels = (let e = length-files 0 g.channels in omega (arith, e, lt)) in
-       let (c, at) = at_place g.channels k in_list in
-       let link : slice_get (links_of g) k ≡ Some (link_of c) = slice_get-map link_of g.channels k ∙ ap (option_map link_of) at in
-       let (c', at', same, keeps') = rules_at g rules k (link_of c) link in
-       let ce : c' ≡ c = same_Some c' c (sym at' ∙ at) in
-       let keeps : ChannelKeepsRules (phases_of g) c = subst (λ (x : ChannelRow). ChannelKeepsRules (phases_of g) x) ce keeps' in
-       let ch : slice_index_or (file_channels g) k nowhere ≡ file_channel (0 + k) c = file_at 0 g.channels k c at in
-       let left : total c.made (slice_index v c.source) ≡ q c.source * sum c.made =
-             total_by c.made (slice_index (phases_of g) c.source) (slice_index v c.source) (q c.source) keeps.made.listed (is c.source keeps.source) in
-       let right : total c.taken (slice_index v c.target) ≡ q c.target * sum c.taken =
-             total_by c.taken (slice_index (phases_of g) c.target) (slice_index v c.target) (q c.target) keeps.taken.listed (is c.target keeps.target) in
-       let here : total c.made (slice_index v c.source) ≡ total c.taken (slice_index v c.target) = left ∙ even k (link_of c) link ∙ sym right in
-       subst (λ (x : Channel). total x.made (slice_index v x.source) ≡ total x.taken (slice_index v x.target)) (sym ch) here)
-  }
+      let (c, at) = at_place g.channels k in_list in
+      let link : slice_get (links_of g) k ≡ Some (link_of c) = slice_get-map link_of g.channels k ∙ ap (option_map link_of) at in
+      let (c', at', same, keeps') = rules_at g rules k (link_of c) link in
+      let ce : c' ≡ c = same_Some c' c (sym at' ∙ at) in
+      let keeps : ChannelKeepsRules (phases_of g) c = subst (λ (x : ChannelRow). ChannelKeepsRules (phases_of g) x) ce keeps' in
+      let ch : slice_index_or (file_channels g) k nowhere ≡ file_channel (0 + k) c = file_at 0 g.channels k c at in
+      let left : total c.made (slice_index v c.source) ≡ q c.source * sum c.made =
+      total_by c.made (slice_index (phases_of g) c.source) (slice_index v c.source) (q c.source) keeps.made.listed (is c.source keeps.source) in
+      let right : total c.taken (slice_index v c.target) ≡ q c.target * sum c.taken =
+      total_by c.taken (slice_index (phases_of g) c.target) (slice_index v c.target) (q c.target) keeps.taken.listed (is c.target keeps.target) in
+      let here : total c.made (slice_index v c.source) ≡ total c.taken (slice_index v c.target) = left ∙ even k (link_of c) link ∙ sym right in
+      subst (λ (x : Channel). total x.made (slice_index v x.source) ≡ total x.taken (slice_index v x.target)) (sym ch) here);
+}

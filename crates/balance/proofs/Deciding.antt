@@ -1,5 +1,5 @@
 -- What each step of `repetition` decides.
-use Rattle.std.proofs.Common.{◌≡◌, ℕ, ◌<◌, Bool, true, false, List, length, sym, refl, subst, ◌∙◌, sum, arith}
+use Rattle.std.proofs.Common.{◌≡◌, ℕ, ◌<◌, Bool, true, false, List, length, sym, refl, subst, ◌∙◌, arith}
 use Rattle.std.proofs.lemmas.Bool.{false≢true}
 use Rattle.sd_base.specs.declared.tables.GraphFile.{GraphFile}
 use Rattle.balance.specs.declared.walk.WalkStep.{WalkStep}
@@ -23,11 +23,11 @@ connected_from g found seen tree all b lt =
 pub apart_from : (g : GraphFile) (found : List Found) (seen : List Bool) (b : ℕ) → IsTree (links_of g) (length g.actors) found seen
     → b < length seen → mark_at seen b ≡ false → ((c : ℕ) → c < b → mark_at seen c ≡ true) → IsApart g 0 b
 apart_from g found seen b tree lt off before = record {
-    first = refl;
-    actor = (let e = tree.size in omega arith);
-    apart = λ ss walk. false≢true (sym off ∙ tree.whole ss b walk);
-    least = λ c below. walk_to (links_of g) (length g.actors) found seen tree c (before c below)
-  }
+  first = refl;
+  actor = (let e = tree.size in omega arith);
+  apart = λ ss walk. false≢true (sym off ∙ tree.whole ss b walk);
+  least = λ c below. walk_to (links_of g) (length g.actors) found seen tree c (before c below);
+}
 
 pub by_limit : (g : GraphFile) → IsConnected g → (e : BalanceError) → IsLimitRefusal (links_of g) e → IsRefusal g e
 by_limit g all (RatioTooLarge path) h = record { connected = all; way = h }

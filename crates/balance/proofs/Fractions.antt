@@ -1,7 +1,7 @@
 -- Ratios in lowest terms.
-use Rattle.std.proofs.Common.{◌≡◌, ℕ, zero, suc, ◌+◌, ◌*◌, ◌/◌, ◌<◌, ◌≤◌, sym, refl, ap, subst, ◌∙◌, inl, inr, arith}
+use Rattle.std.proofs.Common.{◌≡◌, ℕ, ◌*◌, ◌/◌, ◌<◌, sym, ap, inl, inr, arith}
 use Rattle.std.specs.Int.{IsGcd, ◌∣◌}
-use Rattle.std.proofs.Math.Nat.{eq_of_mul-eq-mul_right, mul-pos, mul-div_cancel', mul-le-mul_right}
+use Rattle.std.proofs.Math.Nat.{eq_of_mul-eq-mul_right, mul-pos}
 use Rattle.std.proofs.lemmas.Nat.Gcd.{dvd_antisymm, IsGcd-swap}
 use Rattle.std.proofs.lemmas.Bool.{cases_lt}
 use Rattle.sd_base.proofs.Divisors.{root_divides, quotients, quotient_pos, reduced_same, gcd_pos}
@@ -14,13 +14,13 @@ times_zero a b e = omega (arith, ap (λ n. a * n) e)
 -- the numerator is above 0 where the ratio is
 pub lowest_pos : (n d N D : ℕ) → IsLowest n d N D → 0 < N → 0 < n
 lowest_pos n d N D (e, coprime, some) sn = elim (cases_lt 0 n) [
-      inl h ↦ h
-    | inr h ↦
-        let z : n ≡ 0 = omega arith in
-        let none : n * D ≡ 0 = omega (arith, ap (λ t. t * D) z) in
-        let more : 0 < d * N = mul-pos some sn in
-        absurd (omega arith)
-    ]
+  | inl h ↦ h
+  | inr h ↦
+      let z : n ≡ 0 = omega arith in
+      let none : n * D ≡ 0 = omega (arith, ap (λ t. t * D) z) in
+      let more : 0 < d * N = mul-pos some sn in
+      absurd (omega arith)
+]
 
 swap_product : (n d N D : ℕ) → n * D ≡ d * N → d * N ≡ n * D
 swap_product n d N D e = sym e
@@ -68,12 +68,12 @@ pub kept_by_lowest : (n d N D n' d' N' D' x y : ℕ) → IsLowest n d N D → Is
     → n * x * d' ≡ n' * y * d → N * x * D' ≡ N' * y * D
 kept_by_lowest n d N D n' d' N' D' x y (e, _, some) (e', _, some') h =
     let cross : N * x * D' * (d * d') ≡ N' * y * D * (d * d') =
-          omega (arith, ap (λ t. t * (x * d' * D')) e, ap (λ t. t * (y * d * D)) e', ap (λ t. t * (D * D')) h) in
+    omega (arith, ap (λ t. t * (x * d' * D')) e, ap (λ t. t * (y * d * D)) e', ap (λ t. t * (D * D')) h) in
     eq_of_mul-eq-mul_right (d * d') (mul-pos some some') (N * x * D') (N' * y * D) cross
 
 pub lowest_by_kept : (n d N D n' d' N' D' x y : ℕ) → IsLowest n d N D → IsLowest n' d' N' D' → 0 < D → 0 < D'
     → N * x * D' ≡ N' * y * D → n * x * d' ≡ n' * y * d
 lowest_by_kept n d N D n' d' N' D' x y (e, _, some) (e', _, some') sd sd' h =
     let cross : n * x * d' * (D * D') ≡ n' * y * d * (D * D') =
-          omega (arith, ap (λ t. t * (x * d' * D')) e, ap (λ t. t * (y * d * D)) e', ap (λ t. t * (d * d')) h) in
+    omega (arith, ap (λ t. t * (x * d' * D')) e, ap (λ t. t * (y * d * D)) e', ap (λ t. t * (d * d')) h) in
     eq_of_mul-eq-mul_right (D * D') (mul-pos sd sd') (n * x * d') (n' * y * d) cross

@@ -1,5 +1,5 @@
 -- The refusal for the first channel that doesn't keep the ratios.
-use Rattle.std.proofs.Common.{◌≡◌, ℕ, ◌+◌, ◌*◌, ◌<◌, ◌≤◌, Bool, true, Some, List, [], ◌∷◌, ◌++◌, length, sym, refl, ap, subst, ◌∙◌, arith}
+use Rattle.std.proofs.Common.{◌≡◌, ℕ, ◌*◌, ◌<◌, Bool, true, Some, List, ◌∷◌, ◌++◌, length, sym, refl, subst, arith}
 use Rattle.std.specs.Prelude.{slice_get}
 use Rattle.balance.specs.declared.walk.WalkStep.{WalkStep}
 use Rattle.balance.specs.declared.walk.Link.{Link}
@@ -10,8 +10,7 @@ use Rattle.balance.specs.declared.refusal.BalanceError.TheVariants.{Apart, Ratio
 use Rattle.balance.specs.Walks.{IsWay, IsWalk, IsLowest, walk_num, walk_den, turned}
 use Rattle.balance.specs.Repetition.{IsTreePath, IsClosedOver}
 use Rattle.balance.specs.Search.{HasSums, HasEnds, IsTree, IsFound, IsClosedBetween, mark_at}
-use Rattle.balance.specs.Ratios.{ratio_at, IsSmall, IsSummed, AreRatios, Keeps, IsClosedRefusal, IsKeptRefusal}
-use Rattle.balance.proofs.WalkLemmas.{parts_pos}
+use Rattle.balance.specs.Ratios.{ratio_at, IsSummed, AreRatios, Keeps, IsClosedRefusal, IsKeptRefusal}
 use Rattle.balance.proofs.Shortest.{one_way}
 use Rattle.balance.proofs.Rounds.{kept_from, keeps_from, num_pos, den_pos}
 use Rattle.balance.proofs.TreePaths.{closed_walk, closed_ratio, parts_equal}
@@ -37,7 +36,7 @@ ready ls actors found seen rs sums ends tree connected are c l is =
       from = omega arith;
       to = omega arith;
       sums = (sums.made c l is, sums.taken c l is, sums.most_made c l is, sums.most_taken c l is);
-      positive = num_pos ls actors rs sums are l.target
+      positive = num_pos ls actors rs sums are l.target;
     }
 
 -- the ratio of an actor is that of its way
@@ -58,10 +57,10 @@ closed_over ls actors found seen rs sums ends tree are c l is fails walk num den
     let to : IsWay ls l.source (common ++ on) = subst (λ (t : List WalkStep). IsWay ls l.source t) way' (subst (λ n. IsWay ls n y.way) end' (tree.ways k y at')) in
     let path_of : IsTreePath ls l.target l.source path = record { common = common; back = back; on = on; from = from; to = to; parted = parted; path_is = refl } in
     let ratio : IsLowest num den (walk_num ls (step ∷ path)) (walk_den ls (step ∷ path)) =
-          closed_ratio ls sums c l path is path_of (ratio_at rs l.source).num (ratio_at rs l.source).den (ratio_at rs l.target).num (ratio_at rs l.target).den num den
-            (num_pos ls actors rs sums are l.source) (den_pos ls actors rs are l.target)
-            (ratio_of_way ls actors rs are l.source (ends.source c l is) (common ++ on) to)
-            (ratio_of_way ls actors rs are l.target (ends.target c l is) (common ++ back) from) low in
+    closed_ratio ls sums c l path is path_of (ratio_at rs l.source).num (ratio_at rs l.source).den (ratio_at rs l.target).num (ratio_at rs l.target).den num den
+    (num_pos ls actors rs sums are l.source) (den_pos ls actors rs are l.target)
+    (ratio_of_way ls actors rs are l.source (ends.source c l is) (common ++ on) to)
+    (ratio_of_way ls actors rs are l.target (ends.target c l is) (common ++ back) from) low in
     record {
       link = l;
       over = is;
@@ -71,17 +70,18 @@ closed_over ls actors found seen rs sums ends tree are c l is fails walk num den
       closed = subst (λ (t : List WalkStep). IsWalk ls l.source t l.source) (sym walk_is) (closed_walk ls c l path is path_of);
       ratio = subst (λ (t : List WalkStep). IsLowest num den (walk_num ls t) (walk_den ls t)) (sym walk_is) ratio;
       not_one = λ same. fails (sym (parts_equal num den ((ratio_at rs l.source).num * l.made * (ratio_at rs l.target).den)
-        ((ratio_at rs l.target).num * l.taken * (ratio_at rs l.source).den) low same))
+          ((ratio_at rs l.target).num * l.taken * (ratio_at rs l.source).den) low same));
     }
 
 pub kept_refusal : (ls : List Link) (actors : ℕ) (found : List Found) (seen : List Bool) (rs : List Ratio) → HasSums ls → HasEnds actors ls → IsTree ls actors found seen
     → AreRatios ls actors rs → (c : ℕ) (l : Link) → slice_get ls c ≡ Some l → (Keeps rs l → ⊥) → ((k : ℕ) (m : Link) → k < c → slice_get ls k ≡ Some m → Keeps rs m)
     → (e : BalanceError) → IsClosedRefusal found rs c l e → IsKeptRefusal ls e
-kept_refusal ls actors found seen rs sums ends tree are c l is fails before (Unbalanced walk num den) (between, low) =
-    ( c
-    , λ kept. fails (keeps_from ls actors rs sums ends are c l is kept)
-    , λ k lt m p q at w w'. kept_from ls actors rs ends are k m at (before k m lt at) m p q at w w'
-    , closed_over ls actors found seen rs sums ends tree are c l is fails walk num den between low )
+kept_refusal ls actors found seen rs sums ends tree are c l is fails before (Unbalanced walk num den) (between, low) = (
+  c,
+  λ kept. fails (keeps_from ls actors rs sums ends are c l is kept),
+  λ k lt m p q at w w'. kept_from ls actors rs ends are k m at (before k m lt at) m p q at w w',
+  closed_over ls actors found seen rs sums ends tree are c l is fails walk num den between low,
+)
 kept_refusal ls actors found seen rs sums ends tree are c l is fails before (Apart a b) h = absurd h
 kept_refusal ls actors found seen rs sums ends tree are c l is fails before (RatioTooLarge path) h = absurd h
 kept_refusal ls actors found seen rs sums ends tree are c l is fails before RoundTooLarge h = absurd h

@@ -1,8 +1,8 @@
 -- At most one answer fits a graph.
-use Rattle.std.proofs.Common.{◌≡◌, ◌≢◌, ℕ, zero, suc, ◌+◌, ◌*◌, ◌<◌, ◌≤◌, ◌⊎◌, true, Some, None, Result, Ok, Err, List, [], ◌∷◌, ◌++◌, length, sum, sym, refl, ap, subst, ◌∙◌, inl, inr, arith}
+use Rattle.std.proofs.Common.{◌≡◌, ℕ, ◌*◌, ◌<◌, ◌≤◌, true, Ok, Err, List, [], ◌∷◌, ◌++◌, length, sum, sym, refl, ap, subst, ◌∙◌, inl, inr, arith}
 use Rattle.std.specs.Prelude.{slice_get, slice_index}
 use Rattle.std.proofs.Math.Nat.{eq_of_mul-eq-mul_right}
-use Rattle.std.proofs.lemmas.Bool.{cases_order, cases_lt}
+use Rattle.std.proofs.lemmas.Bool.{cases_order}
 use Rattle.std.proofs.lemmas.Option.{same_Some}
 use Rattle.std.proofs.lemmas.List.{ext_get_or}
 use Rattle.sd_base.specs.declared.tables.GraphFile.{GraphFile}
@@ -10,10 +10,9 @@ use Rattle.sd_base.specs.Tables.{KeepsRules, phases_of}
 use Rattle.sd_base.specs.Net.{IsRepetitionOf}
 use Rattle.balance.specs.declared.walk.WalkStep.{WalkStep}
 use Rattle.balance.specs.declared.walk.Link.{Link}
-use Rattle.balance.specs.declared.refusal.BalanceError.{BalanceError}
 use Rattle.balance.specs.declared.refusal.BalanceError.TheVariants.{Apart, RatioTooLarge, Unbalanced, RoundTooLarge, NoMemory}
-use Rattle.balance.specs.Walks.{links_of, IsWalk, IsWay, Precedes, walk_num, walk_den, IsLowest, turned}
-use Rattle.balance.specs.Repetition.{IsConnected, IsWithinLimit, IsAboveLimit, WaysAreWithinLimit, IsConsistent, IsBalanced, IsRound, IsRoundTooLarge, IsApart, IsFirstAboveLimit, IsRatioTooLarge, IsKept, IsParted, IsTreePath, IsUnbalanced, IsAnswer, HasOneAnswer}
+use Rattle.balance.specs.Walks.{links_of, walk_num, walk_den, IsLowest, turned}
+use Rattle.balance.specs.Repetition.{IsConnected, IsWithinLimit, IsAboveLimit, WaysAreWithinLimit, IsConsistent, IsRound, IsRoundTooLarge, IsApart, IsRatioTooLarge, IsParted, IsTreePath, IsUnbalanced, HasOneAnswer}
 use Rattle.balance.specs.Search.{HasSums}
 use Rattle.balance.proofs.WalkLemmas.{parts_pos}
 use Rattle.balance.proofs.Shortest.{same_ways, one_way}
@@ -23,11 +22,11 @@ use Rattle.balance.proofs.TableLemmas.{has_sums}
 pub one_round : (g : GraphFile) (v w : List ℕ) → IsRepetitionOf g v → IsRepetitionOf g w → v ≡ w
 one_round g v w h k =
     ext_get_or 0 v w (h.balances.actors ∙ sym k.balances.actors)
-      (λ i lt.
-        let lt' : i < length (phases_of g) = subst (λ n. i < n) h.balances.actors lt in
-        let le : slice_index v i ≤ slice_index w i = h.least w k.balances i lt' in
-        let ge : slice_index w i ≤ slice_index v i = k.least v h.balances i lt' in
-        omega arith)
+    (λ i lt.
+    let lt' : i < length (phases_of g) = subst (λ n. i < n) h.balances.actors lt in
+    let le : slice_index v i ≤ slice_index w i = h.least w k.balances i lt' in
+    let ge : slice_index w i ≤ slice_index v i = k.least v h.balances i lt' in
+    omega arith)
 
 -- a walk's ratio isn't within the limit and above it
 pub within_or_above : (ls : List Link) → HasSums ls → (p : List WalkStep) → IsWithinLimit ls p → IsAboveLimit ls p → ⊥
@@ -69,13 +68,14 @@ one_unbalanced : (g : GraphFile) → KeepsRules g → (w w' : List WalkStep) (n 
 one_unbalanced g rules w w' n d n' d' h k =
     let ls : List Link = links_of g in
     let channel : h.channel ≡ k.channel = elim (cases_order h.channel k.channel) [
-          inl e ↦ e
-        | inr ne ↦ elim ne [ inl lt ↦ absurd (h.fails (k.first h.channel lt)) | inr gt ↦ absurd (k.fails (h.first k.channel gt)) ] ] in
+      | inl e ↦ e
+      | inr ne ↦ elim ne [ inl lt ↦ absurd (h.fails (k.first h.channel lt)) | inr gt ↦ absurd (k.fails (h.first k.channel gt)) ]
+    ] in
     let x = h.walk_over in
     let y = k.walk_over in
     let link : x.link ≡ y.link = same_Some x.link y.link (sym x.over ∙ ap (slice_get ls) channel ∙ y.over) in
     let tree : IsTreePath ls x.link.target x.link.source y.path =
-          subst (λ (l : Link). IsTreePath ls l.target l.source y.path) (sym link) y.tree in
+    subst (λ (l : Link). IsTreePath ls l.target l.source y.path) (sym link) y.tree in
     let path : x.path ≡ y.path = one_tree_path ls x.link.target x.link.source x.path y.path x.tree tree in
     let step : ℕ → WalkStep = λ c. record { channel = c; forward = true } in
     let walk : w ≡ w' = x.walk_is ∙ ap (λ c. step c ∷ x.path) channel ∙ ap (λ (t : List WalkStep). step k.channel ∷ t) path ∙ sym y.walk_is in
@@ -85,15 +85,16 @@ one_unbalanced g rules w w' n d n' d' h k =
     (walk, same.0, same.1)
 
 one_apart : (g : GraphFile) (a b a' b' : ℕ) → IsApart g a b → IsApart g a' b' → (a ≡ a') × (b ≡ b')
-one_apart g a b a' b' h k =
-    ( h.first ∙ sym k.first
-    , elim (cases_order b b') [
-        inl e ↦ e
-      | inr ne ↦ elim ne [
-          inl lt ↦ (let w = k.least b lt in absurd (h.apart w.0 w.1))
-        | inr gt ↦ (let w = h.least b' gt in absurd (k.apart w.0 w.1))
-        ]
-      ] )
+one_apart g a b a' b' h k = (
+  h.first ∙ sym k.first,
+  elim (cases_order b b') [
+    | inl e ↦ e
+    | inr ne ↦ elim ne [
+      | inl lt ↦ (let w = k.least b lt in absurd (h.apart w.0 w.1))
+      | inr gt ↦ (let w = h.least b' gt in absurd (k.apart w.0 w.1))
+    ]
+  ],
+)
 
 connected_or_apart : (g : GraphFile) (a b : ℕ) → IsConnected g → IsApart g a b → ⊥
 connected_or_apart g a b all h = (let w = all b h.actor in h.apart w.0 w.1)
@@ -139,7 +140,7 @@ has_one_answer g rules (Err (Unbalanced w n d)) (Err (Apart a b)) h k free free'
 has_one_answer g rules (Err (Unbalanced w n d)) (Err (RatioTooLarge p)) h k free free' = absurd (within_or_first g rules p h.within k)
 has_one_answer g rules (Err (Unbalanced w n d)) (Err (Unbalanced w' n' d')) h k free free' =
     (let e = one_unbalanced g rules w w' n d n' d' h k in
-     ap (λ (t : List WalkStep). Err (Unbalanced t n d)) e.0 ∙ ap (λ t. Err (Unbalanced w' t d)) e.1 ∙ ap (λ t. Err (Unbalanced w' n' t)) e.2)
+    ap (λ (t : List WalkStep). Err (Unbalanced t n d)) e.0 ∙ ap (λ t. Err (Unbalanced w' t d)) e.1 ∙ ap (λ t. Err (Unbalanced w' n' t)) e.2)
 has_one_answer g rules (Err (Unbalanced w n d)) (Err RoundTooLarge) h k free free' = absurd (consistent_or_not g rules w n d k.balanced.consistent h)
 has_one_answer g rules (Err RoundTooLarge) (Ok v) h k free free' = absurd (round_or_too_large g v k h)
 has_one_answer g rules (Err RoundTooLarge) (Err (Apart a b)) h k free free' = absurd (connected_or_apart g a b h.balanced.connected k)

@@ -1,8 +1,8 @@
 -- Directed paths, and the sweeps that mark what they lead to.
-use Rattle.std.proofs.Common.{◌≡◌, ℕ, zero, suc, ◌+◌, ◌<◌, ◌≤◌, ◌⊎◌, Bool, true, false, Some, List, [], ◌∷◌, ◌++◌, length, replicate, sym, refl, ap, subst, ◌∙◌, inl, inr, arith}
+use Rattle.std.proofs.Common.{◌≡◌, ℕ, ◌+◌, ◌<◌, ◌≤◌, Bool, true, false, Some, List, [], ◌∷◌, ◌++◌, length, replicate, sym, refl, ap, subst, ◌∙◌, inl, inr, arith}
 use Rattle.std.specs.Prelude.{slice_get, slice_set}
-use Rattle.std.proofs.lemmas.Bool.{cases_eq, cases_Bool, false≢true}
-use Rattle.std.proofs.lemmas.List.{length-set, length-replicate}
+use Rattle.std.proofs.lemmas.Bool.{cases_eq, false≢true}
+use Rattle.std.proofs.lemmas.List.{length-set}
 use Rattle.std.proofs.lemmas.Option.{same_Some, slice_get_within}
 use Rattle.balance.specs.declared.connection.Direction.{Direction}
 use Rattle.balance.specs.declared.connection.Direction.TheVariants.{Along, Against}
@@ -10,7 +10,7 @@ use Rattle.balance.specs.Connection.{IsPath, Reaches, AreActors}
 use Rattle.balance.specs.Search.{mark_at, trues}
 use Rattle.balance.specs.Reaching.{pair_from, pair_to, Leads, AreLed, AreClosed, AreKept}
 use Rattle.balance.proofs.TableLemmas.{at_All}
-use Rattle.balance.proofs.Searching.{trues-set, mark_set, mark_kept, mark_only, mark-replicate}
+use Rattle.balance.proofs.Searching.{trues-set, mark_kept, mark_only, mark-replicate}
 
 pub path-append : (ends : List (ℕ × ℕ)) (xs ys : List ℕ) (a b c : ℕ) → IsPath ends a xs b → IsPath ends b ys c → IsPath ends a (xs ++ ys) c
 path-append ends [] ys a b c h k = subst (λ n. IsPath ends n ys c) (sym h) k
@@ -54,13 +54,13 @@ pub record IsSweep (d : Direction) (ends : List (ℕ × ℕ)) (start marks : Lis
 
 pub sweep_start : (d : Direction) (ends : List (ℕ × ℕ)) (marks : List Bool) → AreLed d ends marks → IsSweep d ends marks marks 0 false
 sweep_start d ends marks led = record {
-    size = refl;
-    led = led;
-    kept = λ v on. on;
-    more = λ e. absurd (false≢true e);
-    least = omega arith;
-    idle = λ e. (refl, λ j f lt is on. absurd (let none : ⊥ = omega arith in none))
-  }
+  size = refl;
+  led = led;
+  kept = λ v on. on;
+  more = λ e. absurd (false≢true e);
+  least = omega arith;
+  idle = λ e. (refl, λ j f lt is on. absurd (let none : ⊥ = omega arith in none));
+}
 
 pub sweep_marked : (d : Direction) (ends : List (ℕ × ℕ)) (start marks : List Bool) (k : ℕ) (grew : Bool) (e : ℕ × ℕ) → slice_get ends k ≡ Some e
     → pair_to d e < length start → mark_at marks (pair_from d e) ≡ true → mark_at marks (pair_to d e) ≡ false
@@ -72,31 +72,34 @@ sweep_marked d ends start marks k grew e is lt on off f =
     record {
       size = length-set marks u true ∙ f.size;
       led = λ v m. elim (mark_only marks u v m) [
-          inl same ↦ subst (λ n. Leads d ends n) (sym same) (leads_more d ends k e is (f.led (pair_from d e) on))
+        | inl same ↦ subst (λ n. Leads d ends n) (sym same) (leads_more d ends k e is (f.led (pair_from d e) on))
         | inr was ↦ f.led v was
-        ];
+      ];
       kept = λ v m. mark_kept marks u v (f.kept v m);
       more = λ _. (let le = f.least in omega arith);
       least = (let le = f.least in omega arith);
-      idle = λ t. absurd (false≢true (sym t))
+      idle = λ t. absurd (false≢true (sym t));
     }
 
 pub sweep_idle : (d : Direction) (ends : List (ℕ × ℕ)) (start marks : List Bool) (k : ℕ) (grew : Bool) (e : ℕ × ℕ) → slice_get ends k ≡ Some e
     → (mark_at marks (pair_from d e) ≡ true → mark_at marks (pair_to d e) ≡ true)
     → IsSweep d ends start marks k grew → IsSweep d ends start marks (k + 1) grew
 sweep_idle d ends start marks k grew e is here f = record {
-    size = f.size;
-    led = f.led;
-    kept = f.kept;
-    more = f.more;
-    least = f.least;
-    idle = λ t. ((f.idle t).0, λ j x lt at on. elim (cases_eq j k) [
-        inl same ↦
+  size = f.size;
+  led = f.led;
+  kept = f.kept;
+  more = f.more;
+  least = f.least;
+  idle = λ t. (
+    (f.idle t).0,
+    λ j x lt at on. elim (cases_eq j k) [
+      | inl same ↦
           let pair : x ≡ e = same_Some x e (sym at ∙ ap (slice_get ends) same ∙ is) in
           subst (λ (y : ℕ × ℕ). mark_at marks (pair_to d y) ≡ true) (sym pair) (here (subst (λ (y : ℕ × ℕ). mark_at marks (pair_from d y) ≡ true) pair on))
       | inr ne ↦ (f.idle t).1 j x (omega arith) at on
-      ])
-  }
+    ],
+  );
+}
 
 pub sweep_closed : (d : Direction) (ends : List (ℕ × ℕ)) (start marks : List Bool) (k : ℕ) (grew : Bool) → length ends ≤ k → IsSweep d ends start marks k grew
     → grew ≡ false → AreClosed d ends marks
@@ -111,6 +114,6 @@ pair_within Against actors ends k e are is = (let h = at_All (λ (p : ℕ × ℕ
 -- at first actor 0 alone is marked
 pub root_led : (d : Direction) (ends : List (ℕ × ℕ)) (actors : ℕ) → AreLed d ends (slice_set (replicate actors false) 0 true)
 root_led d ends actors v on = elim (mark_only (replicate actors false) 0 v on) [
-      inl same ↦ subst (λ n. Leads d ends n) (sym same) (leads_none d ends)
-    | inr was ↦ absurd (false≢true (sym (mark-replicate actors v) ∙ was))
-    ]
+  | inl same ↦ subst (λ n. Leads d ends n) (sym same) (leads_none d ends)
+  | inr was ↦ absurd (false≢true (sym (mark-replicate actors v) ∙ was))
+]

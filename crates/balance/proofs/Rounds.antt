@@ -1,13 +1,13 @@
 -- The round of a graph whose channels keep the ratios: it balances, it is the least, and it sums to at least the common
 -- multiple of the denominators.
-use Rattle.std.proofs.Common.{◌≡◌, ℕ, zero, suc, ◌+◌, ◌*◌, ◌/◌, ◌%◌, ◌<◌, ◌≤◌, Bool, true, false, Some, None, List, [], ◌∷◌, ◌++◌, length, map, sum, sym, refl, ap, subst, ◌∙◌, inl, inr, arith, get_or}
-use Rattle.std.specs.Prelude.{slice_get, slice_index_or, slice_index, All}
+use Rattle.std.proofs.Common.{◌≡◌, ℕ, zero, suc, ◌+◌, ◌*◌, ◌/◌, ◌%◌, ◌<◌, ◌≤◌, Bool, true, false, Some, List, [], ◌∷◌, ◌++◌, length, sum, sym, refl, ap, subst, ◌∙◌, inl, inr, arith}
+use Rattle.std.specs.Prelude.{slice_get, slice_index, All}
 use Rattle.std.specs.Int.{IsGcd, ◌∣◌}
 use Rattle.std.proofs.Math.Nat.{eq_of_mul-eq-mul_right, eq_of_mul-eq-mul_left, mul-pos, mul-div_cancel', mul-le-mul_right, mul-le-mul_left, one-dvd, div-le_self}
 use Rattle.std.proofs.lemmas.Nat.{mod_below, mul-le}
 use Rattle.std.proofs.lemmas.Nat.Gcd.{IsGcd-from_zero, IsGcd-from_mod, dvd_trans, dvd_refl}
 use Rattle.std.proofs.lemmas.Bool.{cases_lt, cases_eq}
-use Rattle.std.proofs.lemmas.List.{nil_from_length, get_or_default, get_or_past, length-map, length_push, get_or_append_left, get_or_push, get_or-map}
+use Rattle.std.proofs.lemmas.List.{nil_from_length, get_or_default, get_or_past, length-map, length_push, get_or_append_left, get_or_push}
 use Rattle.std.proofs.lemmas.List.Sums.{get_or-le-sum_by, sum_by-le}
 use Rattle.std.proofs.lemmas.List.Elements.{All-from_get_or}
 use Rattle.std.proofs.lemmas.Option.{none-some, same_Some, slice_get_within, slice_get-get_or, get_or_from_slice_get}
@@ -15,12 +15,12 @@ use Rattle.sd_base.specs.Numbers.{IsLcm, IsAboveLimit}
 use Rattle.sd_base.proofs.Divisors.{root_divides, quotient_pos, lcm_from_gcd}
 use Rattle.sd_base.specs.declared.tables.GraphFile.{GraphFile}
 use Rattle.sd_base.specs.declared.tables.ActorRow.{ActorRow}
-use Rattle.sd_base.specs.Tables.{KeepsRules, ActorKeepsRules, phases_of}
-use Rattle.sd_base.specs.Net.{Balances, file_channels, IsRepetitionOf}
+use Rattle.sd_base.specs.Tables.{KeepsRules, phases_of}
+use Rattle.sd_base.specs.Net.{IsRepetitionOf}
 use Rattle.balance.specs.declared.walk.WalkStep.{WalkStep}
 use Rattle.balance.specs.declared.walk.Link.{Link}
 use Rattle.balance.specs.declared.ratio.Ratio.{Ratio}
-use Rattle.balance.specs.Walks.{links_of, IsWalk, IsWay, IsLowest, step_to, walk_num, walk_den}
+use Rattle.balance.specs.Walks.{links_of, IsWalk, IsLowest, step_to, walk_num, walk_den}
 use Rattle.balance.specs.Repetition.{IsConsistent, IsKept, IsWithinLimit, WaysAreWithinLimit}
 use Rattle.balance.specs.Search.{HasEnds}
 use Rattle.balance.specs.Ratios.{one, ratio_at, IsSmall, IsRatio, AreRatios, Keeps, DivideAll, IsCommon, IsRoundBy}
@@ -36,12 +36,12 @@ use Rattle.balance.proofs.Cycles.{balanced_cycles, balances_firings, cycles_of}
 gcd_exists : (fuel a b : ℕ) → b < fuel → (g : ℕ) × IsGcd a b g
 gcd_exists zero a b lt = absurd (let none : ⊥ = omega arith in none)
 gcd_exists (suc fuel) a b lt = elim (cases_lt 0 b) [
-      inl some ↦
-        let low : a % b < b = mod_below a b some in
-        let (g, is) = gcd_exists fuel b (a % b) (omega arith) in
-        (g, IsGcd-from_mod a b g is)
-    | inr none ↦ (a, IsGcd-from_zero a b (omega arith))
-    ]
+  | inl some ↦
+      let low : a % b < b = mod_below a b some in
+      let (g, is) = gcd_exists fuel b (a % b) (omega arith) in
+      (g, IsGcd-from_mod a b g is)
+  | inr none ↦ (a, IsGcd-from_zero a b (omega arith))
+]
 
 lcm_exists : (a b : ℕ) → 0 < a → 0 < b → (m : ℕ) × IsLcm a b m
 lcm_exists a b sa sb = (let (g, is) = gcd_exists (suc b) a b (omega arith) in ((a / g) * b, lcm_from_gcd a b g sa sb is))
@@ -68,20 +68,20 @@ common_start rs = record { some = omega arith; all = λ k r lt is. absurd (let n
 
 pub common_more : (rs : List Ratio) (i m n : ℕ) (r : Ratio) → slice_get rs i ≡ Some r → IsLcm m r.den n → IsCommonBelow rs i m → IsCommonBelow rs (i + 1) n
 common_more rs i m n r at lcm c = record {
-    some = lcm.0;
-    all = λ k s lt is. elim (cases_eq k i) [
-        inl e ↦ subst (λ (t : Ratio). t.den ∣ n) (same_Some r s (sym at ∙ ap (slice_get rs) (sym e) ∙ is)) lcm.2
-      | inr ne ↦ dvd_trans s.den (c.all k s (omega arith) is) lcm.1
-      ];
-    least = λ z h. lcm.3 z (c.least z (λ k s lt is. h k s (omega arith) is)) (h i r (omega arith) at)
-  }
+  some = lcm.0;
+  all = λ k s lt is. elim (cases_eq k i) [
+    | inl e ↦ subst (λ (t : Ratio). t.den ∣ n) (same_Some r s (sym at ∙ ap (slice_get rs) (sym e) ∙ is)) lcm.2
+    | inr ne ↦ dvd_trans s.den (c.all k s (omega arith) is) lcm.1
+  ];
+  least = λ z h. lcm.3 z (c.least z (λ k s lt is. h k s (omega arith) is)) (h i r (omega arith) at);
+}
 
 pub common_end : (rs : List Ratio) (i m : ℕ) → length rs ≤ i → IsCommonBelow rs i m → IsCommon rs m
 common_end rs i m end c = record {
-    some = c.some;
-    all = λ k r is. c.all k r (let lt = slice_get_within rs k r is in omega arith) is;
-    least = λ n h. c.least n (λ k r lt is. h k r is)
-  }
+  some = c.some;
+  all = λ k r is. c.all k r (let lt = slice_get_within rs k r is in omega arith) is;
+  least = λ n h. c.least n (λ k r lt is. h k r is);
+}
 
 -- where the next common multiple is above the limit, so is each one of all
 pub common_above : (rs : List Ratio) (i m limit : ℕ) (r : Ratio) → slice_get rs i ≡ Some r → IsAboveLimit m r.den limit → IsCommonBelow rs i m
@@ -95,9 +95,9 @@ in_range rs b lt = slice_get-get_or rs b one lt
 at_actor : (ls : List Link) (actors : ℕ) (rs : List Ratio) → AreRatios ls actors rs → (P : Ratio → Type 0) → P one
     → ((b : ℕ) (p : List WalkStep) → IsRatio ls p (ratio_at rs b) → P (ratio_at rs b)) → (b : ℕ) → P (ratio_at rs b)
 at_actor ls actors rs are P base each b = elim (cases_lt b actors) [
-      inl lt ↦ (let (p, way, ratio) = are.each b lt in each b p ratio)
-    | inr ge ↦ (let e = are.size in subst P (sym (get_or_past rs b one (omega arith))) base)
-    ]
+  | inl lt ↦ (let (p, way, ratio) = are.each b lt in each b p ratio)
+  | inr ge ↦ (let e = are.size in subst P (sym (get_or_past rs b one (omega arith))) base)
+]
 
 pub den_pos : (ls : List Link) (actors : ℕ) (rs : List Ratio) → AreRatios ls actors rs → (b : ℕ) → 0 < (ratio_at rs b).den
 den_pos ls actors rs are b = at_actor ls actors rs are (λ r. 0 < r.den) (omega arith) (λ a p ratio. ratio.0.2) b
@@ -105,7 +105,7 @@ den_pos ls actors rs are b = at_actor ls actors rs are (λ r. 0 < r.den) (omega 
 pub num_pos : (ls : List Link) (actors : ℕ) (rs : List Ratio) → HasSums ls → AreRatios ls actors rs → (b : ℕ) → 0 < (ratio_at rs b).num
 num_pos ls actors rs sums are b =
     at_actor ls actors rs are (λ r. 0 < r.num) (omega arith)
-      (λ a p ratio. lowest_pos (ratio_at rs a).num (ratio_at rs a).den (walk_num ls p) (walk_den ls p) ratio.0 (parts_pos ls sums p).0) b
+    (λ a p ratio. lowest_pos (ratio_at rs a).num (ratio_at rs a).den (walk_num ls p) (walk_den ls p) ratio.0 (parts_pos ls sums p).0) b
 
 pub small : (ls : List Link) (actors : ℕ) (rs : List Ratio) → AreRatios ls actors rs → (b : ℕ) → ((ratio_at rs b).num ≤ 100000) × ((ratio_at rs b).den ≤ 100000)
 small ls actors rs are b =
@@ -113,9 +113,9 @@ small ls actors rs are b =
 
 pub den_divides_common : (rs : List Ratio) (m : ℕ) → DivideAll rs m → (b : ℕ) → (ratio_at rs b).den ∣ m
 den_divides_common rs m all b = elim (cases_lt b (length rs)) [
-      inl lt ↦ all b (ratio_at rs b) (in_range rs b lt)
-    | inr ge ↦ subst (λ (r : Ratio). r.den ∣ m) (sym (get_or_past rs b one ge)) (one-dvd m)
-    ]
+  | inl lt ↦ all b (ratio_at rs b) (in_range rs b lt)
+  | inr ge ↦ subst (λ (r : Ratio). r.den ∣ m) (sym (get_or_past rs b one ge)) (one-dvd m)
+]
 
 pub walk_end : (ls : List Link) (actors : ℕ) → HasEnds actors ls → (ss : List WalkStep) (a b : ℕ) → a < actors → IsWalk ls a ss b → b < actors
 walk_end ls actors ends [] a b lt h = subst (λ n. n < actors) h lt
@@ -130,7 +130,7 @@ ways_within ls actors rs ends some are b p way =
     let lt : b < actors = walk_end ls actors ends p 0 b some way.0 in
     let (q, way', ratio) = are.each b lt in
     subst (λ (t : List WalkStep). IsWithinLimit ls t) (one_way ls b q p way' way)
-      ((ratio_at rs b).num, (ratio_at rs b).den, ratio.0, ratio.1, ratio.2)
+    ((ratio_at rs b).num, (ratio_at rs b).den, ratio.0, ratio.1, ratio.2)
 
 -- ---- channels that keep the ratios
 pub kept_from : (ls : List Link) (actors : ℕ) (rs : List Ratio) → HasEnds actors ls → AreRatios ls actors rs → (c : ℕ) (l : Link) → slice_get ls c ≡ Some l
@@ -141,11 +141,11 @@ kept_from ls actors rs ends are c l over keeps k p q is way way' =
     let (p', w, r) = are.each k.source (ends.source c k is) in
     let (q', w', r') = are.each k.target (ends.target c k is) in
     let low : IsLowest (ratio_at rs k.source).num (ratio_at rs k.source).den (walk_num ls p) (walk_den ls p) =
-          subst (λ (t : List WalkStep). IsLowest (ratio_at rs k.source).num (ratio_at rs k.source).den (walk_num ls t) (walk_den ls t)) (one_way ls k.source p' p w way) r.0 in
+    subst (λ (t : List WalkStep). IsLowest (ratio_at rs k.source).num (ratio_at rs k.source).den (walk_num ls t) (walk_den ls t)) (one_way ls k.source p' p w way) r.0 in
     let low' : IsLowest (ratio_at rs k.target).num (ratio_at rs k.target).den (walk_num ls q) (walk_den ls q) =
-          subst (λ (t : List WalkStep). IsLowest (ratio_at rs k.target).num (ratio_at rs k.target).den (walk_num ls t) (walk_den ls t)) (one_way ls k.target q' q w' way') r'.0 in
+    subst (λ (t : List WalkStep). IsLowest (ratio_at rs k.target).num (ratio_at rs k.target).den (walk_num ls t) (walk_den ls t)) (one_way ls k.target q' q w' way') r'.0 in
     kept_by_lowest (ratio_at rs k.source).num (ratio_at rs k.source).den (walk_num ls p) (walk_den ls p)
-      (ratio_at rs k.target).num (ratio_at rs k.target).den (walk_num ls q) (walk_den ls q) k.made k.taken low low' keeps'
+    (ratio_at rs k.target).num (ratio_at rs k.target).den (walk_num ls q) (walk_den ls q) k.made k.taken low low' keeps'
 
 pub keeps_from : (ls : List Link) (actors : ℕ) (rs : List Ratio) → HasSums ls → HasEnds actors ls → AreRatios ls actors rs → (c : ℕ) (l : Link) → slice_get ls c ≡ Some l
     → IsKept ls c → Keeps rs l
@@ -153,8 +153,8 @@ keeps_from ls actors rs sums ends are c l over kept =
     let (p, w, r) = are.each l.source (ends.source c l over) in
     let (q, w', r') = are.each l.target (ends.target c l over) in
     lowest_by_kept (ratio_at rs l.source).num (ratio_at rs l.source).den (walk_num ls p) (walk_den ls p)
-      (ratio_at rs l.target).num (ratio_at rs l.target).den (walk_num ls q) (walk_den ls q) l.made l.taken r.0 r'.0
-      (parts_pos ls sums p).1 (parts_pos ls sums q).1 (kept l p q over w w')
+    (ratio_at rs l.target).num (ratio_at rs l.target).den (walk_num ls q) (walk_den ls q) l.made l.taken r.0 r'.0
+    (parts_pos ls sums p).1 (parts_pos ls sums q).1 (kept l p q over w w')
 
 -- ---- the vector by cycles
 abbrev pub quotas : List Ratio → ℕ → ℕ → ℕ
@@ -167,7 +167,7 @@ quotas_pos ls actors rs m sums are common a =
 even : (m ns ds nt dt x y M T : ℕ) → ds * x ≡ m → dt * y ≡ m → 0 < ds → 0 < dt → ns * M * dt ≡ nt * T * ds → (x * ns) * M ≡ (y * nt) * T
 even m ns ds nt dt x y M T ex ey ss st h =
     let cross : (x * ns) * M * (ds * dt) ≡ (y * nt) * T * (ds * dt) =
-          omega (arith, ap (λ t. t * (ns * M * dt)) ex, ap (λ t. t * (nt * T * ds)) ey, ap (λ t. t * m) h) in
+    omega (arith, ap (λ t. t * (ns * M * dt)) ex, ap (λ t. t * (nt * T * ds)) ey, ap (λ t. t * m) h) in
     eq_of_mul-eq-mul_right (ds * dt) (mul-pos ss st) ((x * ns) * M) ((y * nt) * T) cross
 
 quotas_balanced : (ls : List Link) (actors : ℕ) (rs : List Ratio) (m : ℕ) → AreRatios ls actors rs → IsCommon rs m
@@ -176,9 +176,9 @@ quotas_balanced ls actors rs m are common keeps k l is =
     let s = ratio_at rs l.source in
     let t = ratio_at rs l.target in
     even m s.num s.den t.num t.den (m / s.den) (m / t.den) l.made l.taken
-      (mul-div_cancel' s.den (den_divides_common rs m common.all l.source))
-      (mul-div_cancel' t.den (den_divides_common rs m common.all l.target))
-      (den_pos ls actors rs are l.source) (den_pos ls actors rs are l.target) (keeps k l is)
+    (mul-div_cancel' s.den (den_divides_common rs m common.all l.source))
+    (mul-div_cancel' t.den (den_divides_common rs m common.all l.target))
+    (den_pos ls actors rs are l.source) (den_pos ls actors rs are l.target) (keeps k l is)
 
 pub dens_pos : (ls : List Link) (actors : ℕ) (rs : List Ratio) → AreRatios ls actors rs → (k : ℕ) (r : Ratio) → slice_get rs k ≡ Some r → 0 < r.den
 dens_pos ls actors rs are k r is = subst (λ (t : Ratio). 0 < t.den) (get_or_from_slice_get rs k r one is) (den_pos ls actors rs are k)
@@ -189,7 +189,7 @@ pub consistent_from : (ls : List Link) (actors : ℕ) (rs : List Ratio) → HasS
 consistent_from ls actors rs sums are keeps a ss walk =
     let (m, common) = common_exists rs (dens_pos ls actors rs are) in
     let e : quotas rs m a * walk_den ls ss ≡ quotas rs m a * walk_num ls ss =
-          carried ls (quotas rs m) (quotas_balanced ls actors rs m are common keeps) ss a a walk in
+    carried ls (quotas rs m) (quotas_balanced ls actors rs m are common keeps) ss a a walk in
     eq_of_mul-eq-mul_left (quotas rs m a) (quotas_pos ls actors rs m sums are common a) (walk_num ls ss) (walk_den ls ss) (sym e)
 
 -- what is a multiple of the common multiple at actor 0 is at least the quota elsewhere
@@ -208,12 +208,12 @@ some_phase g rules a lt = (phases_at g rules a lt).0
 
 cycle_pos : (w f : ℕ) → 1 ≤ w → w ≡ (w / f) * f → 0 < w / f
 cycle_pos w f some e = elim (cases_lt 0 (w / f)) [
-      inl h ↦ h
-    | inr h ↦
-        let z : w / f ≡ 0 = omega arith in
-        let e' : (w / f) * f ≡ 0 * f = ap (λ n. n * f) z in
-        absurd (omega arith)
-    ]
+  | inl h ↦ h
+  | inr h ↦
+      let z : w / f ≡ 0 = omega arith in
+      let e' : (w / f) * f ≡ 0 * f = ap (λ n. n * f) z in
+      absurd (omega arith)
+]
 
 -- the vector by the least common multiple is the repetition vector
 pub round_is : (g : GraphFile) → KeepsRules g → (rs : List Ratio) (m : ℕ) (v : List ℕ) → AreRatios (links_of g) (length g.actors) rs → IsCommon rs m
@@ -225,33 +225,33 @@ round_is g rules rs m v are common keeps by =
     let size : length (phases_of g) ≡ length g.actors = length-map g.actors (λ (x : ActorRow). x.phases) in
     record {
       balances = balances_firings g rules (quotas rs m) v by.size (some_phase g rules) (quotas_pos ls actors rs m sums are common) by.each
-        (quotas_balanced ls actors rs m are common keeps);
+          (quotas_balanced ls actors rs m are common keeps);
       least = λ w b a lt.
-        (let q : ℕ → ℕ = λ x. slice_index w x / slice_index (phases_of g) x in
-         let even' : Balanced ls q = balanced_cycles g rules w b in
-         let whole : (x : ℕ) → x < length (phases_of g) → slice_index w x ≡ q x * slice_index (phases_of g) x =
-               λ x below. cycles_of (slice_index w x) (slice_index (phases_of g) x) (b.cycles x below) in
-         let some : 0 < length (phases_of g) = (let r = rules.some_actor in omega arith) in
-         let start : 0 < q 0 = cycle_pos (slice_index w 0) (slice_index (phases_of g) 0) (b.fires 0 some) (whole 0 some) in
-         let spread : (x : ℕ) → x < actors → q x * (ratio_at rs x).den ≡ q 0 * (ratio_at rs x).num =
-               λ x below. (let (p, way, ratio) = are.each x below in
-                 reduced (q x) (q 0) (walk_num ls p) (walk_den ls p) (ratio_at rs x).num (ratio_at rs x).den
-                   (carried ls q even' p 0 x way.0) ratio.0.0 (parts_pos ls sums p).0) in
-         let divide : DivideAll rs (q 0) =
-               λ k r is.
-                 (let in_list : k < length rs = slice_get_within rs k r is in
-                  let below : k < actors = (let e = are.size in omega arith) in
-                  let same : ratio_at rs k ≡ r = get_or_from_slice_get rs k r one is in
-                  let (p, way, ratio) = are.each k below in
-                  subst (λ (t : Ratio). t.den ∣ q 0) same
-                    (root_divides (ratio_at rs k).num (ratio_at rs k).den (q 0) (q k) ratio.0.1 (spread k below))) in
-         let lt' : a < actors = omega arith in
-         let le : quotas rs m a ≤ q a =
-               least_at (ratio_at rs a).num (ratio_at rs a).den (m / (ratio_at rs a).den) m (q 0) (q a)
-                 (mul-div_cancel' (ratio_at rs a).den (den_divides_common rs m common.all a)) (common.least (q 0) divide) start
-                 (den_pos ls actors rs are a) (spread a lt') in
-         let up : quotas rs m a * slice_index (phases_of g) a ≤ q a * slice_index (phases_of g) a = mul-le-mul_right (slice_index (phases_of g) a) le in
-         omega (arith, up, by.each a lt, whole a lt))
+          (let q : ℕ → ℕ = λ x. slice_index w x / slice_index (phases_of g) x in
+          let even' : Balanced ls q = balanced_cycles g rules w b in
+          let whole : (x : ℕ) → x < length (phases_of g) → slice_index w x ≡ q x * slice_index (phases_of g) x =
+          λ x below. cycles_of (slice_index w x) (slice_index (phases_of g) x) (b.cycles x below) in
+          let some : 0 < length (phases_of g) = (let r = rules.some_actor in omega arith) in
+          let start : 0 < q 0 = cycle_pos (slice_index w 0) (slice_index (phases_of g) 0) (b.fires 0 some) (whole 0 some) in
+          let spread : (x : ℕ) → x < actors → q x * (ratio_at rs x).den ≡ q 0 * (ratio_at rs x).num =
+          λ x below. (let (p, way, ratio) = are.each x below in
+          reduced (q x) (q 0) (walk_num ls p) (walk_den ls p) (ratio_at rs x).num (ratio_at rs x).den
+          (carried ls q even' p 0 x way.0) ratio.0.0 (parts_pos ls sums p).0) in
+          let divide : DivideAll rs (q 0) =
+          λ k r is.
+          (let in_list : k < length rs = slice_get_within rs k r is in
+          let below : k < actors = (let e = are.size in omega arith) in
+          let same : ratio_at rs k ≡ r = get_or_from_slice_get rs k r one is in
+          let (p, way, ratio) = are.each k below in
+          subst (λ (t : Ratio). t.den ∣ q 0) same
+          (root_divides (ratio_at rs k).num (ratio_at rs k).den (q 0) (q k) ratio.0.1 (spread k below))) in
+          let lt' : a < actors = omega arith in
+          let le : quotas rs m a ≤ q a =
+          least_at (ratio_at rs a).num (ratio_at rs a).den (m / (ratio_at rs a).den) m (q 0) (q a)
+          (mul-div_cancel' (ratio_at rs a).den (den_divides_common rs m common.all a)) (common.least (q 0) divide) start
+          (den_pos ls actors rs are a) (spread a lt') in
+          let up : quotas rs m a * slice_index (phases_of g) a ≤ q a * slice_index (phases_of g) a = mul-le-mul_right (slice_index (phases_of g) a) le in
+          omega (arith, up, by.each a lt, whole a lt));
     }
 
 -- the ratio of actor 0 is 1
@@ -261,7 +261,7 @@ first_is_one ls actors rs some are =
     let short : length p ≤ 0 = no_longer p [] (way.1 [] refl) in
     let none : p ≡ [] = nil_from_length p (omega arith) in
     let low : IsLowest (ratio_at rs 0).num (ratio_at rs 0).den 1 1 =
-          subst (λ (t : List WalkStep). IsLowest (ratio_at rs 0).num (ratio_at rs 0).den (walk_num ls t) (walk_den ls t)) none ratio.0 in
+    subst (λ (t : List WalkStep). IsLowest (ratio_at rs 0).num (ratio_at rs 0).den (walk_num ls t) (walk_den ls t)) none ratio.0 in
     one_lowest (ratio_at rs 0).num (ratio_at rs 0).den 1 1 1 1 low (refl, (dvd_refl 1, dvd_refl 1, λ d p q. p), omega arith) (omega arith) (omega arith)
 
 -- a round has at least as many firings as the common multiple
@@ -275,7 +275,7 @@ round_above g rules rs m v are by =
     let whole : 1 * (m / 1) ≡ m = mul-div_cancel' 1 (one-dvd m) in
     let e : slice_index v 0 ≡ (m / (ratio_at rs 0).den) * (ratio_at rs 0).num * slice_index (phases_of g) 0 = by.each 0 lt in
     let e' : slice_index v 0 ≡ (m / 1) * 1 * slice_index (phases_of g) 0 =
-          e ∙ ap (λ d. (m / d) * (ratio_at rs 0).num * slice_index (phases_of g) 0) firsts.1 ∙ ap (λ n. (m / 1) * n * slice_index (phases_of g) 0) firsts.0 in
+    e ∙ ap (λ d. (m / d) * (ratio_at rs 0).num * slice_index (phases_of g) 0) firsts.1 ∙ ap (λ n. (m / 1) * n * slice_index (phases_of g) 0) firsts.0 in
     let up : (m / 1) * 1 * 1 ≤ (m / 1) * 1 * slice_index (phases_of g) 0 = mul-le-mul_left ((m / 1) * 1) (some_phase g rules 0 lt) in
     let le : slice_index v 0 ≤ sum v = get_or-le-sum_by (λ (x : ℕ). x) v 0 0 (let s = by.size in omega arith) in
     omega arith
@@ -284,13 +284,14 @@ round_above g rules rs m v are by =
 pub tabulated : (n : ℕ) (f : ℕ → ℕ) → (v : List ℕ) × (length v ≡ n) × ((a : ℕ) → a < n → slice_index v a ≡ f a)
 tabulated zero f = ([], refl, λ a lt. absurd (let none : ⊥ = omega arith in none))
 tabulated (suc n) f =
-    let (v, size, is) = tabulated n f in
-    ( v ++ f n ∷ []
-    , (let e = length_push v (f n) in omega arith)
-    , λ a lt. elim (cases_eq a n) [
-        inl e ↦ get_or_push v (f n) 0 a (size ∙ sym e) ∙ ap f (sym e)
-      | inr ne ↦ get_or_append_left v (f n ∷ []) 0 a (omega arith) ∙ is a (omega arith)
-      ] )
+    let (v, size, is) = tabulated n f in (
+      v ++ f n ∷ [],
+      (let e = length_push v (f n) in omega arith),
+      λ a lt. elim (cases_eq a n) [
+        | inl e ↦ get_or_push v (f n) 0 a (size ∙ sym e) ∙ ap f (sym e)
+        | inr ne ↦ get_or_append_left v (f n ∷ []) 0 a (omega arith) ∙ is a (omega arith)
+      ],
+    )
 
 pub round_exists : (g : GraphFile) (rs : List Ratio) (m : ℕ) → (v : List ℕ) × IsRoundBy (phases_of g) rs m v
 round_exists g rs m =
@@ -309,16 +310,16 @@ pub round_fits : (g : GraphFile) → KeepsRules g → (rs : List Ratio) (m : ℕ
 round_fits g rules rs m v are low by =
     let size : length (phases_of g) ≡ length g.actors = length-map g.actors (λ (x : ActorRow). x.phases) in
     let each : (b : ℕ) → b < length v → slice_index v b ≤ 40960000000000 = λ b lt.
-          (let lt' : b < length (phases_of g) = (let e = by.size in omega arith) in
-           let s = small (links_of g) (length g.actors) rs are b in
-           let f = phases_at g rules b lt' in
-           let div : m / (ratio_at rs b).den ≤ m = div-le_self m (ratio_at rs b).den in
-           let div' : m / (ratio_at rs b).den ≤ 100000 = omega arith in
-           let one' : (m / (ratio_at rs b).den) * (ratio_at rs b).num ≤ 100000 * 100000 = mul-le (m / (ratio_at rs b).den) (ratio_at rs b).num 100000 100000 div' s.0 in
-           let two : (m / (ratio_at rs b).den) * (ratio_at rs b).num * slice_index (phases_of g) b ≤ 100000 * 100000 * 4096 =
-                 mul-le ((m / (ratio_at rs b).den) * (ratio_at rs b).num) (slice_index (phases_of g) b) (100000 * 100000) 4096 one' f.1 in
-           let e = by.each b lt' in
-           omega (arith, two, e)) in
+    (let lt' : b < length (phases_of g) = (let e = by.size in omega arith) in
+    let s = small (links_of g) (length g.actors) rs are b in
+    let f = phases_at g rules b lt' in
+    let div : m / (ratio_at rs b).den ≤ m = div-le_self m (ratio_at rs b).den in
+    let div' : m / (ratio_at rs b).den ≤ 100000 = omega arith in
+    let one' : (m / (ratio_at rs b).den) * (ratio_at rs b).num ≤ 100000 * 100000 = mul-le (m / (ratio_at rs b).den) (ratio_at rs b).num 100000 100000 div' s.0 in
+    let two : (m / (ratio_at rs b).den) * (ratio_at rs b).num * slice_index (phases_of g) b ≤ 100000 * 100000 * 4096 =
+    mul-le ((m / (ratio_at rs b).den) * (ratio_at rs b).num) (slice_index (phases_of g) b) (100000 * 100000) 4096 one' f.1 in
+    let e = by.each b lt' in
+    omega (arith, two, e)) in
     let all : All (λ x. x ≤ 40960000000000) v = All-from_get_or (λ x. x ≤ 40960000000000) v 0 each in
     let le : sum v ≤ length v * 40960000000000 = sum_by-le (λ (x : ℕ). x) 40960000000000 v all in
     let few = rules.few_actors in

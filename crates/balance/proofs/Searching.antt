@@ -1,15 +1,15 @@
 -- The breadth-first search: what it has found so far, one step of it, and what it has found at its end.
-use Rattle.std.proofs.Common.{◌≡◌, ℕ, zero, suc, ◌+◌, ◌*◌, ◌<◌, ◌≤◌, ◌⊎◌, Bool, true, false, Some, None, List, [], ◌∷◌, ◌++◌, length, replicate, sym, refl, ap, subst, ◌∙◌, inl, inr, arith, length-append}
+use Rattle.std.proofs.Common.{◌≡◌, ℕ, zero, suc, ◌+◌, ◌*◌, ◌<◌, ◌≤◌, ◌⊎◌, Bool, true, false, Some, List, [], ◌∷◌, ◌++◌, length, replicate, sym, refl, ap, subst, ◌∙◌, inl, inr, arith, length-append}
 use Rattle.std.specs.Prelude.{slice_get, slice_set}
 use Rattle.std.proofs.lemmas.List.{get_or_past, get_or-set_same, get_or-set_other, length-set, length-replicate}
 use Rattle.std.proofs.Math.Nat.{mul-le-mul_right}
 use Rattle.std.proofs.lemmas.Bool.{cases_Bool, cases_lt, cases_eq, false≢true}
-use Rattle.std.proofs.lemmas.Option.{same_Some, none-some, slice_get_within, slice_get-get_or}
+use Rattle.std.proofs.lemmas.Option.{same_Some, none-some, slice_get_within}
 use Rattle.balance.specs.declared.walk.WalkStep.{WalkStep}
 use Rattle.balance.specs.declared.walk.Link.{Link}
 use Rattle.balance.specs.declared.search.Found.{Found}
-use Rattle.balance.specs.Walks.{IsWalk, IsWay, Precedes, step_to, step_from}
-use Rattle.balance.specs.Search.{key_from, trues, mark_at, HasEnds, IsGrown, IsSearch, IsSearching, IsTaken, IsPassed, IsLooked, IsTree}
+use Rattle.balance.specs.Walks.{IsWalk, IsWay, step_to, step_from}
+use Rattle.balance.specs.Search.{key_from, trues, mark_at, HasEnds, IsGrown, IsSearch, IsSearching, IsLooked, IsTree}
 use Rattle.balance.proofs.Order.{key-append, walk_below, precedes_from_key}
 use Rattle.balance.proofs.WalkLemmas.{walk-append, crossing_by}
 use Rattle.balance.proofs.TableLemmas.{at_place}
@@ -36,23 +36,24 @@ next_is_least : (ls : List Link) (m : ℕ) (found : List Found) (seen : ℕ → 
     → key_from m 0 y.way * m + c + 1 ≤ key_from m 0 ss
 next_is_least ls m found seen i c y f some low at root u free ss walk =
     crossing_by ls m 0 seen (key_from m 0 y.way * m + c + 1) some
-      (λ s l is on off.
-        let (j, x, here, end) = f.marked (step_from l s.forward) on in
-        ( key_from m 0 x.way
-        , (λ ts h. f.least j x ts here (subst (λ n. IsWalk ls 0 ts n) (sym end) h))
-        , elim (f.looked s l j x is here end off) [
-            inl later ↦
-              let up : key_from m 0 y.way < key_from m 0 x.way = f.rising i j y x at here later in
-              let wide : (key_from m 0 y.way + 1) * m ≤ key_from m 0 x.way * m = mul-le-mul_right m (omega arith) in
-              omega (arith, wide, low)
-          | inr same ↦
-              let e : y ≡ x = same_Some y x (sym at ∙ ap (slice_get found) same.0 ∙ here) in
-              let e' : key_from m 0 y.way ≡ key_from m 0 x.way = ap (λ (t : Found). key_from m 0 t.way) e in
-              let wide : key_from m 0 y.way * m ≡ key_from m 0 x.way * m = ap (λ n. n * m) e' in
-              let le = same.1 in
-              omega (arith, wide, le)
-          ] ))
-      ss [] 0 u refl root walk free
+    (λ s l is on off.
+    let (j, x, here, end) = f.marked (step_from l s.forward) on in (
+      key_from m 0 x.way,
+      (λ ts h. f.least j x ts here (subst (λ n. IsWalk ls 0 ts n) (sym end) h)),
+      elim (f.looked s l j x is here end off) [
+        | inl later ↦
+            let up : key_from m 0 y.way < key_from m 0 x.way = f.rising i j y x at here later in
+            let wide : (key_from m 0 y.way + 1) * m ≤ key_from m 0 x.way * m = mul-le-mul_right m (omega arith) in
+            omega (arith, wide, low)
+        | inr same ↦
+            let e : y ≡ x = same_Some y x (sym at ∙ ap (slice_get found) same.0 ∙ here) in
+            let e' : key_from m 0 y.way ≡ key_from m 0 x.way = ap (λ (t : Found). key_from m 0 t.way) e in
+            let wide : key_from m 0 y.way * m ≡ key_from m 0 x.way * m = ap (λ n. n * m) e' in
+            let le = same.1 in
+            omega (arith, wide, le)
+      ],
+    ))
+    ss [] 0 u refl root walk free
 
 same_or_back : (l : Link) (f g : Bool) → (f ≡ g) ⊎ (step_to l g ≡ step_from l f)
 same_or_back l true true = inl refl
@@ -62,8 +63,18 @@ same_or_back l false false = inl refl
 
 grown_more : (ls : List Link) (found more : List Found) (j : ℕ) (x : Found) → IsGrown ls found j x → IsGrown ls (found ++ more) j x
 grown_more ls found more j x g =
-    record { place = g.place; entry = g.entry; step = g.step; link = g.link; before = g.before; at = push_old found more g.entry g.place g.at;
-             over = g.over; from = g.from; to = g.to; way = g.way }
+    record {
+      place = g.place;
+      entry = g.entry;
+      step = g.step;
+      link = g.link;
+      before = g.before;
+      at = push_old found more g.entry g.place g.at;
+      over = g.over;
+      from = g.from;
+      to = g.to;
+      way = g.way;
+    }
 
 -- what changes where a step to an actor that was not seen is taken
 record Taking (ls : List Link) (found : List Found) (seen : ℕ → Bool) (found' : List Found) (seen' : ℕ → Bool) (i : ℕ) (s : WalkStep) (l : Link) (y new : Found) : Type 0 where
@@ -88,89 +99,100 @@ added' : (ls : List Link) (m : ℕ) (found : List Found) (seen seen' : ℕ → B
 added' ls m found seen seen' i s l y new some low root t f =
     let u : ℕ = step_to l s.forward in
     let number : key_from m 0 new.way ≡ key_from m 0 y.way * m + s.channel + 1 =
-          ap (λ (w : List WalkStep). key_from m 0 w) t.way ∙ key-append m 0 y.way (s ∷ []) in
+    ap (λ (w : List WalkStep). key_from m 0 w) t.way ∙ key-append m 0 y.way (s ∷ []) in
     record {
       marked = λ v on. elim (t.only v on) [
-          inl e ↦ (length found, new, push_new found new, t.to ∙ sym e)
+        | inl e ↦ (length found, new, push_new found new, t.to ∙ sym e)
         | inr was ↦ let (j, x, at, end) = f.marked v was in (j, x, push_old found (new ∷ []) x j at, end)
-        ];
+      ];
       listed = λ j x at. elim (push_cases found new x j at) [
-          inl old ↦ t.kept x.actor (f.listed j x old)
+        | inl old ↦ t.kept x.actor (f.listed j x old)
         | inr e ↦ subst (λ (z : Found). seen' z.actor ≡ true) (sym e.1) (subst (λ n. seen' n ≡ true) (sym t.to) t.set)
-        ];
+      ];
       walks = λ j x at. elim (push_cases found new x j at) [
-          inl old ↦ f.walks j x old
+        | inl old ↦ f.walks j x old
         | inr e ↦
             let step : IsWalk ls y.actor (s ∷ []) u = (l, t.over, t.from, refl) in
             let long : IsWalk ls 0 (y.way ++ s ∷ []) u = walk-append ls y.way (s ∷ []) 0 y.actor u (f.walks i y t.here) step in
             let here : IsWalk ls 0 new.way new.actor =
-                  subst (λ n. IsWalk ls 0 new.way n) (sym t.to) (subst (λ (w : List WalkStep). IsWalk ls 0 w u) (sym t.way) long) in
+            subst (λ n. IsWalk ls 0 new.way n) (sym t.to) (subst (λ (w : List WalkStep). IsWalk ls 0 w u) (sym t.way) long) in
             subst (λ (z : Found). IsWalk ls 0 z.way z.actor) (sym e.1) here
-        ];
+      ];
       least = λ j x ss at walk. elim (push_cases found new x j at) [
-          inl old ↦ f.least j x ss old walk
+        | inl old ↦ f.least j x ss old walk
         | inr e ↦
             let walk' : IsWalk ls 0 ss u = subst (λ n. IsWalk ls 0 ss n) (ap (λ (z : Found). z.actor) e.1 ∙ t.to) walk in
             let bound : key_from m 0 y.way * m + s.channel + 1 ≤ key_from m 0 ss = next_is_least ls m found seen i s.channel y f some low t.here root u t.free ss walk' in
             let e' : key_from m 0 x.way ≡ key_from m 0 new.way = ap (λ (z : Found). key_from m 0 z.way) e.1 in
             omega arith
-        ];
+      ];
       rising = λ j k x z at at' lt. elim (push_cases found new z k at') [
-          inl old' ↦ elim (push_cases found new x j at) [
-              inl old ↦ f.rising j k x z old old' lt
-            | inr e ↦ (let in_list : k < length found = slice_get_within found k z old' in let e0 = e.0 in absurd (omega arith))
-            ]
+        | inl old' ↦ elim (push_cases found new x j at) [
+          | inl old ↦ f.rising j k x z old old' lt
+          | inr e ↦ (let in_list : k < length found = slice_get_within found k z old' in let e0 = e.0 in absurd (omega arith))
+        ]
         | inr e' ↦ elim (push_cases found new x j at) [
-              inl old ↦
-                let le : key_from m 0 x.way ≤ key_from m 0 y.way * m + s.channel = f.last j x y old t.here in
-                let same : key_from m 0 z.way ≡ key_from m 0 new.way = ap (λ (w : Found). key_from m 0 w.way) e'.1 in
-                omega arith
-            | inr e ↦ (let e0 = e.0 in let e1 = e'.0 in absurd (omega arith))
-            ]
-        ];
+          | inl old ↦
+              let le : key_from m 0 x.way ≤ key_from m 0 y.way * m + s.channel = f.last j x y old t.here in
+              let same : key_from m 0 z.way ≡ key_from m 0 new.way = ap (λ (w : Found). key_from m 0 w.way) e'.1 in
+              omega arith
+          | inr e ↦ (let e0 = e.0 in let e1 = e'.0 in absurd (omega arith))
+        ]
+      ];
       last = λ j x z at at'.
-        let in_list : i < length found = slice_get_within found i y t.here in
-        let same : z ≡ y = elim (push_cases found new z i at') [
-              inl old ↦ same_Some z y (sym old ∙ t.here)
-            | inr e ↦ (let e0 = e.0 in absurd (omega arith)) ] in
-        let e' : key_from m 0 z.way * m ≡ key_from m 0 y.way * m = ap (λ (w : Found). key_from m 0 w.way * m) same in
-        elim (push_cases found new x j at) [
-          inl old ↦ (let le : key_from m 0 x.way ≤ key_from m 0 y.way * m + s.channel = f.last j x y old t.here in omega arith)
-        | inr e ↦ (let e'' : key_from m 0 x.way ≡ key_from m 0 new.way = ap (λ (w : Found). key_from m 0 w.way) e.1 in omega arith)
-        ];
+          let in_list : i < length found = slice_get_within found i y t.here in
+          let same : z ≡ y = elim (push_cases found new z i at') [
+            | inl old ↦ same_Some z y (sym old ∙ t.here)
+            | inr e ↦ (let e0 = e.0 in absurd (omega arith))
+          ] in
+          let e' : key_from m 0 z.way * m ≡ key_from m 0 y.way * m = ap (λ (w : Found). key_from m 0 w.way * m) same in
+          elim (push_cases found new x j at) [
+            | inl old ↦ (let le : key_from m 0 x.way ≤ key_from m 0 y.way * m + s.channel = f.last j x y old t.here in omega arith)
+            | inr e ↦ (let e'' : key_from m 0 x.way ≡ key_from m 0 new.way = ap (λ (w : Found). key_from m 0 w.way) e.1 in omega arith)
+          ];
       looked = λ r k j x is at end off.
-        let off' : seen (step_to k r.forward) ≡ false = was_free seen seen' t.kept (step_to k r.forward) off in
-        elim (push_cases found new x j at) [
-          inl old ↦ elim (f.looked r k j x is old end off') [
-              inl later ↦ inl later
-            | inr same ↦
-                let same0 = same.0 in
-                let same1 = same.1 in
-                elim (cases_eq s.channel r.channel) [
-                  inl e ↦
-                    let link : k ≡ l = same_Some k l (sym is ∙ ap (slice_get ls) (sym e) ∙ t.over) in
-                    let here : x ≡ y = same_Some x y (sym old ∙ ap (slice_get found) (sym same.0) ∙ t.here) in
-                    elim (same_or_back l s.forward r.forward) [
-                      inl fwd ↦
-                        let to : step_to k r.forward ≡ u = ap (λ (z : Link). step_to z r.forward) link ∙ ap (λ (g : Bool). step_to l g) (sym fwd) in
-                        absurd (false≢true (sym off ∙ ap seen' to ∙ t.set))
-                    | inr back ↦
-                        let to : step_to k r.forward ≡ y.actor = ap (λ (z : Link). step_to z r.forward) link ∙ back ∙ sym t.from in
-                        absurd (false≢true (sym off ∙ ap seen' to ∙ t.kept y.actor (f.listed i y t.here)))
-                    ]
-                | inr ne ↦ inr (same.0, omega arith)
-                ]
+          let off' : seen (step_to k r.forward) ≡ false = was_free seen seen' t.kept (step_to k r.forward) off in
+          elim (push_cases found new x j at) [
+            | inl old ↦ elim (f.looked r k j x is old end off') [
+              | inl later ↦ inl later
+              | inr same ↦
+                  let same0 = same.0 in
+                  let same1 = same.1 in
+                  elim (cases_eq s.channel r.channel) [
+                    | inl e ↦
+                        let link : k ≡ l = same_Some k l (sym is ∙ ap (slice_get ls) (sym e) ∙ t.over) in
+                        let here : x ≡ y = same_Some x y (sym old ∙ ap (slice_get found) (sym same.0) ∙ t.here) in
+                        elim (same_or_back l s.forward r.forward) [
+                          | inl fwd ↦
+                              let to : step_to k r.forward ≡ u = ap (λ (z : Link). step_to z r.forward) link ∙ ap (λ (g : Bool). step_to l g) (sym fwd) in
+                              absurd (false≢true (sym off ∙ ap seen' to ∙ t.set))
+                          | inr back ↦
+                              let to : step_to k r.forward ≡ y.actor = ap (λ (z : Link). step_to z r.forward) link ∙ back ∙ sym t.from in
+                              absurd (false≢true (sym off ∙ ap seen' to ∙ t.kept y.actor (f.listed i y t.here)))
+                        ]
+                    | inr ne ↦ inr (same.0, omega arith)
+                  ]
             ]
-        | inr e ↦ (let in_list : i < length found = slice_get_within found i y t.here in let e0 = e.0 in inl (omega arith))
-        ];
+            | inr e ↦ (let in_list : i < length found = slice_get_within found i y t.here in let e0 = e.0 in inl (omega arith))
+          ];
       grown = λ j x at. elim (push_cases found new x j at) [
-          inl old ↦ elim (f.grown j x old) [ inl root' ↦ inl root' | inr g ↦ inr (grown_more ls found (new ∷ []) j x g) ]
+        | inl old ↦ elim (f.grown j x old) [ inl root' ↦ inl root' | inr g ↦ inr (grown_more ls found (new ∷ []) j x g) ]
         | inr e ↦
             let in_list : i < length found = slice_get_within found i y t.here in
             let e0 = e.0 in
-            inr (record { place = i; entry = y; step = s; link = l; before = omega arith; at = push_old found (new ∷ []) y i t.here;
-                          over = t.over; from = t.from; to = ap (λ (z : Found). z.actor) e.1 ∙ t.to; way = ap (λ (z : Found). z.way) e.1 ∙ t.way })
-        ]
+            inr (record {
+              place = i;
+              entry = y;
+              step = s;
+              link = l;
+              before = omega arith;
+              at = push_old found (new ∷ []) y i t.here;
+              over = t.over;
+              from = t.from;
+              to = ap (λ (z : Found). z.actor) e.1 ∙ t.to;
+              way = ap (λ (z : Found). z.way) e.1 ∙ t.way;
+            })
+      ];
     }
 
 -- the search after a channel with no step to an actor that was not seen
@@ -178,66 +200,66 @@ passed : (ls : List Link) (m : ℕ) (found : List Found) (seen : ℕ → Bool) (
     → ((y : Found) (f : Bool) → slice_get found i ≡ Some y → y.actor ≡ step_from l f → seen (step_to l f) ≡ true)
     → IsSearch ls m found seen i c → IsSearch ls m found seen i (c + 1)
 passed ls m found seen i c l over none f = record {
-    marked = f.marked;
-    listed = f.listed;
-    walks = f.walks;
-    least = f.least;
-    rising = f.rising;
-    last = λ j x y at at'. (let le = f.last j x y at at' in omega arith);
-    looked = λ s k j x is at end off. elim (f.looked s k j x is at end off) [
-        inl later ↦ inl later
-      | inr same ↦ elim (cases_eq c s.channel) [
-          inl e ↦
-            let link : k ≡ l = same_Some k l (sym is ∙ ap (slice_get ls) (sym e) ∙ over) in
-            let here : slice_get found i ≡ Some x = ap (slice_get found) same.0 ∙ at in
-            let on : seen (step_to l s.forward) ≡ true = none x s.forward here (end ∙ ap (λ (z : Link). step_from z s.forward) link) in
-            absurd (false≢true (sym off ∙ ap (λ (z : Link). seen (step_to z s.forward)) link ∙ on))
-        | inr ne ↦ (let same1 = same.1 in inr (same.0, omega arith))
-        ]
-      ];
-    grown = f.grown
-  }
+  marked = f.marked;
+  listed = f.listed;
+  walks = f.walks;
+  least = f.least;
+  rising = f.rising;
+  last = λ j x y at at'. (let le = f.last j x y at at' in omega arith);
+  looked = λ s k j x is at end off. elim (f.looked s k j x is at end off) [
+    | inl later ↦ inl later
+    | inr same ↦ elim (cases_eq c s.channel) [
+      | inl e ↦
+          let link : k ≡ l = same_Some k l (sym is ∙ ap (slice_get ls) (sym e) ∙ over) in
+          let here : slice_get found i ≡ Some x = ap (slice_get found) same.0 ∙ at in
+          let on : seen (step_to l s.forward) ≡ true = none x s.forward here (end ∙ ap (λ (z : Link). step_from z s.forward) link) in
+          absurd (false≢true (sym off ∙ ap (λ (z : Link). seen (step_to z s.forward)) link ∙ on))
+      | inr ne ↦ (let same1 = same.1 in inr (same.0, omega arith))
+    ]
+  ];
+  grown = f.grown;
+}
 
 -- the search after the last channel of a place
 next_place : (ls : List Link) (m : ℕ) (found : List Found) (seen : ℕ → Bool) (i : ℕ) → length ls < m → i < length found
     → IsSearch ls m found seen i (length ls) → IsSearch ls m found seen (i + 1) 0
 next_place ls m found seen i low in_list f = record {
-    marked = f.marked;
-    listed = f.listed;
-    walks = f.walks;
-    least = f.least;
-    rising = f.rising;
-    last = λ j x y at at'.
-        let (z, here) = at_place found i in_list in
-        let le : key_from m 0 x.way ≤ key_from m 0 z.way * m + length ls = f.last j x z at here in
-        let up : key_from m 0 z.way < key_from m 0 y.way = f.rising i (i + 1) z y here at' (omega arith) in
-        let wide : (key_from m 0 z.way + 1) * m ≤ key_from m 0 y.way * m = mul-le-mul_right m (omega arith) in
-        omega (arith, wide, le);
-    looked = λ s k j x is at end off. elim (f.looked s k j x is at end off) [
-        inl later ↦ elim (cases_eq (i + 1) j) [ inl e ↦ inr (e, omega arith) | inr ne ↦ inl (omega arith) ]
-      | inr same ↦ (let in_links : s.channel < length ls = slice_get_within ls s.channel k is in let same1 = same.1 in absurd (omega arith))
-      ];
-    grown = f.grown
-  }
+  marked = f.marked;
+  listed = f.listed;
+  walks = f.walks;
+  least = f.least;
+  rising = f.rising;
+  last = λ j x y at at'.
+      let (z, here) = at_place found i in_list in
+      let le : key_from m 0 x.way ≤ key_from m 0 z.way * m + length ls = f.last j x z at here in
+      let up : key_from m 0 z.way < key_from m 0 y.way = f.rising i (i + 1) z y here at' (omega arith) in
+      let wide : (key_from m 0 z.way + 1) * m ≤ key_from m 0 y.way * m = mul-le-mul_right m (omega arith) in
+      omega (arith, wide, le);
+  looked = λ s k j x is at end off. elim (f.looked s k j x is at end off) [
+    | inl later ↦ elim (cases_eq (i + 1) j) [ inl e ↦ inr (e, omega arith) | inr ne ↦ inl (omega arith) ]
+    | inr same ↦ (let in_links : s.channel < length ls = slice_get_within ls s.channel k is in let same1 = same.1 in absurd (omega arith))
+  ];
+  grown = f.grown;
+}
 
 -- past the last place there is nothing to look at
 past : (ls : List Link) (m : ℕ) (found : List Found) (seen : ℕ → Bool) (i c c' : ℕ) → length found ≤ i
     → IsSearch ls m found seen i c → IsSearch ls m found seen (i + 1) c'
 past ls m found seen i c c' none f = record {
-    marked = f.marked;
-    listed = f.listed;
-    walks = f.walks;
-    least = f.least;
-    rising = f.rising;
-    last = λ j x y at at'. (let lt : i + 1 < length found = slice_get_within found (i + 1) y at' in absurd (omega arith));
-    looked = λ s k j x is at end off.
+  marked = f.marked;
+  listed = f.listed;
+  walks = f.walks;
+  least = f.least;
+  rising = f.rising;
+  last = λ j x y at at'. (let lt : i + 1 < length found = slice_get_within found (i + 1) y at' in absurd (omega arith));
+  looked = λ s k j x is at end off.
       let lt : j < length found = slice_get_within found j x at in
       elim (f.looked s k j x is at end off) [
-        inl later ↦ absurd (omega arith)
-      | inr same ↦ (let same0 = same.0 in absurd (omega arith))
+        | inl later ↦ absurd (omega arith)
+        | inr same ↦ (let same0 = same.0 in absurd (omega arith))
       ];
-    grown = f.grown
-  }
+  grown = f.grown;
+}
 
 -- once each place was looked at, no walk leaves what is seen
 closed : (ls : List Link) (m : ℕ) (found : List Found) (seen : ℕ → Bool) (i c : ℕ) → length found ≤ i → IsSearch ls m found seen i c
@@ -245,14 +267,14 @@ closed : (ls : List Link) (m : ℕ) (found : List Found) (seen : ℕ → Bool) (
 closed ls m found seen i c all f [] a b on h = ap seen (sym h) ∙ on
 closed ls m found seen i c all f (s ∷ ss) a b on (l, is, from, rest) =
     elim (cases_Bool (seen (step_to l s.forward))) [
-      inl more ↦ closed ls m found seen i c all f ss (step_to l s.forward) b more rest
-    | inr off ↦
-        let (j, x, at, end) = f.marked a on in
-        let lt : j < length found = slice_get_within found j x at in
-        elim (f.looked s l j x is at (end ∙ from) off) [
-          inl later ↦ absurd (omega arith)
-        | inr same ↦ (let same0 = same.0 in absurd (omega arith))
-        ]
+      | inl more ↦ closed ls m found seen i c all f ss (step_to l s.forward) b more rest
+      | inr off ↦
+          let (j, x, at, end) = f.marked a on in
+          let lt : j < length found = slice_get_within found j x at in
+          elim (f.looked s l j x is at (end ∙ from) off) [
+            | inl later ↦ absurd (omega arith)
+            | inr same ↦ (let same0 = same.0 in absurd (omega arith))
+          ]
     ]
 
 -- ---- marks
@@ -274,9 +296,9 @@ trues-replicate (suc n) = trues-replicate n
 
 pub mark_within : (bs : List Bool) (v : ℕ) → mark_at bs v ≡ true → v < length bs
 mark_within bs v on = elim (cases_lt v (length bs)) [
-      inl lt ↦ lt
-    | inr ge ↦ absurd (false≢true (sym (get_or_past bs v false ge) ∙ on))
-    ]
+  | inl lt ↦ lt
+  | inr ge ↦ absurd (false≢true (sym (get_or_past bs v false ge) ∙ on))
+]
 
 pub mark-replicate : (n v : ℕ) → mark_at (replicate n false) v ≡ false
 mark-replicate zero v = refl
@@ -288,15 +310,15 @@ mark_set bs u lt = get_or-set_same bs u true false lt
 
 pub mark_kept : (bs : List Bool) (u v : ℕ) → mark_at bs v ≡ true → mark_at (slice_set bs u true) v ≡ true
 mark_kept bs u v on = elim (cases_eq v u) [
-      inl e ↦ subst (λ n. mark_at (slice_set bs u true) n ≡ true) (sym e) (mark_set bs u (subst (λ n. n < length bs) e (mark_within bs v on)))
-    | inr ne ↦ get_or-set_other bs u v true false ne ∙ on
-    ]
+  | inl e ↦ subst (λ n. mark_at (slice_set bs u true) n ≡ true) (sym e) (mark_set bs u (subst (λ n. n < length bs) e (mark_within bs v on)))
+  | inr ne ↦ get_or-set_other bs u v true false ne ∙ on
+]
 
 pub mark_only : (bs : List Bool) (u v : ℕ) → mark_at (slice_set bs u true) v ≡ true → (v ≡ u) ⊎ (mark_at bs v ≡ true)
 mark_only bs u v on = elim (cases_eq v u) [
-      inl e ↦ inl e
-    | inr ne ↦ inr (sym (get_or-set_other bs u v true false ne) ∙ on)
-    ]
+  | inl e ↦ inl e
+  | inr ne ↦ inr (sym (get_or-set_other bs u v true false ne) ∙ on)
+]
 
 -- ---- one channel, one place, and the whole search
 end_within : (ls : List Link) (actors : ℕ) → HasEnds actors ls → (k : ℕ) (l : Link) (f : Bool) → slice_get ls k ≡ Some l → step_to l f < actors
@@ -308,28 +330,43 @@ pub looked_more : (ls : List Link) (actors : ℕ) (found found' : List Found) (s
     → HasEnds actors ls → slice_get ls c ≡ Some l → IsLooked found seen found' seen' i c l
     → IsSearching ls actors found seen i c → IsSearching ls actors found' seen' i (c + 1)
 looked_more ls actors found found' seen seen' i c l ends over look f = elim look [
-      inl step ↦
-        let t = step.1 in
-        let s : WalkStep = record { channel = c; forward = step.0 } in
-        let u : ℕ = step_to l step.0 in
-        let lt : u < length seen = (let e = end_within ls actors ends c l step.0 over in let e' = f.size in omega arith) in
-        let low : c < length ls = slice_get_within ls c l over in
-        let taking : Taking ls found (mark_at seen) (found ++ t.new ∷ []) (mark_at (slice_set seen u true)) i s l t.entry t.new =
-              record { here = t.here; over = over; from = t.from; free = t.free; to = t.to; way = t.way; list = refl;
-                       kept = λ v on. mark_kept seen u v on; set = mark_set seen u lt; only = λ v on. mark_only seen u v on } in
-        let next : IsSearching ls actors (found ++ t.new ∷ []) (slice_set seen u true) i (c + 1) = record {
-              search = added' ls (length ls + 1) found (mark_at seen) (mark_at (slice_set seen u true)) i s l t.entry t.new (omega arith) (omega arith) f.root taking f.search;
-              root = mark_kept seen u 0 f.root;
-              size = length-set seen u true ∙ f.size;
-              count = (let a = trues-set seen u lt t.free in let b = f.count in let d = length-append found (t.new ∷ []) in omega (arith, a, b, d)) } in
-        subst (λ (bs : List Bool). IsSearching ls actors found' bs i (c + 1)) (sym t.marks)
-          (subst (λ (xs : List Found). IsSearching ls actors xs (slice_set seen u true) i (c + 1)) (sym t.list) next)
-    | inr pass ↦
-        let next : IsSearching ls actors found seen i (c + 1) = record {
-              search = passed ls (length ls + 1) found (mark_at seen) i c l over pass.none f.search; root = f.root; size = f.size; count = f.count } in
-        subst (λ (bs : List Bool). IsSearching ls actors found' bs i (c + 1)) (sym pass.marks)
-          (subst (λ (xs : List Found). IsSearching ls actors xs seen i (c + 1)) (sym pass.same) next)
-    ]
+  | inl step ↦
+      let t = step.1 in
+      let s : WalkStep = record { channel = c; forward = step.0 } in
+      let u : ℕ = step_to l step.0 in
+      let lt : u < length seen = (let e = end_within ls actors ends c l step.0 over in let e' = f.size in omega arith) in
+      let low : c < length ls = slice_get_within ls c l over in
+      let taking : Taking ls found (mark_at seen) (found ++ t.new ∷ []) (mark_at (slice_set seen u true)) i s l t.entry t.new =
+      record {
+        here = t.here;
+        over = over;
+        from = t.from;
+        free = t.free;
+        to = t.to;
+        way = t.way;
+        list = refl;
+        kept = λ v on. mark_kept seen u v on;
+        set = mark_set seen u lt;
+        only = λ v on. mark_only seen u v on;
+      } in
+      let next : IsSearching ls actors (found ++ t.new ∷ []) (slice_set seen u true) i (c + 1) = record {
+        search = added' ls (length ls + 1) found (mark_at seen) (mark_at (slice_set seen u true)) i s l t.entry t.new (omega arith) (omega arith) f.root taking f.search;
+        root = mark_kept seen u 0 f.root;
+        size = length-set seen u true ∙ f.size;
+        count = (let a = trues-set seen u lt t.free in let b = f.count in let d = length-append found (t.new ∷ []) in omega (arith, a, b, d));
+      } in
+      subst (λ (bs : List Bool). IsSearching ls actors found' bs i (c + 1)) (sym t.marks)
+      (subst (λ (xs : List Found). IsSearching ls actors xs (slice_set seen u true) i (c + 1)) (sym t.list) next)
+  | inr pass ↦
+      let next : IsSearching ls actors found seen i (c + 1) = record {
+        search = passed ls (length ls + 1) found (mark_at seen) i c l over pass.none f.search;
+        root = f.root;
+        size = f.size;
+        count = f.count;
+      } in
+      subst (λ (bs : List Bool). IsSearching ls actors found' bs i (c + 1)) (sym pass.marks)
+      (subst (λ (xs : List Found). IsSearching ls actors xs seen i (c + 1)) (sym pass.same) next)
+]
 
 pub place_more : (ls : List Link) (actors : ℕ) (found : List Found) (seen : List Bool) (i : ℕ) → i < length found
     → IsSearching ls actors found seen i (length ls) → IsSearching ls actors found seen (i + 1) 0
@@ -356,14 +393,14 @@ started ls actors x some root none =
     record {
       search = record {
         marked = λ v on. elim (mark_only bs 0 v on) [
-            inl e ↦ (0, x, refl, root ∙ sym e)
+          | inl e ↦ (0, x, refl, root ∙ sym e)
           | inr was ↦ absurd (false≢true (sym (mark-replicate actors v) ∙ was))
-          ];
+        ];
         listed = λ j y at. (let e = single x y j at in
             subst (λ n. mark_at (slice_set bs 0 true) n ≡ true) (sym root ∙ sym (ap (λ (z : Found). z.actor) e.1)) (mark_set bs 0 lt));
         walks = λ j y at. (let e = single x y j at in
             subst (λ (z : Found). IsWalk ls 0 z.way z.actor) (sym e.1)
-              (subst (λ (w : List WalkStep). IsWalk ls 0 w x.actor) (sym none) (sym root)));
+            (subst (λ (w : List WalkStep). IsWalk ls 0 w x.actor) (sym none) (sym root)));
         least = λ j y ss at walk. (let e = single x y j at in
             let same : key_from (length ls + 1) 0 y.way ≡ key_from (length ls + 1) 0 x.way = ap (λ (z : Found). key_from (length ls + 1) 0 z.way) e.1 in
             omega (arith, same, empty));
@@ -372,11 +409,11 @@ started ls actors x some root none =
             let same : key_from (length ls + 1) 0 y.way ≡ key_from (length ls + 1) 0 x.way = ap (λ (w : Found). key_from (length ls + 1) 0 w.way) e.1 in
             omega (arith, same, empty));
         looked = λ s l j y is at end off. (let e = single x y j at in inr (sym e.0, omega arith));
-        grown = λ j y at. (let e = single x y j at in inl (e.0, ap (λ (z : Found). z.way) e.1 ∙ none))
+        grown = λ j y at. (let e = single x y j at in inl (e.0, ap (λ (z : Found). z.way) e.1 ∙ none));
       };
       root = mark_set bs 0 lt;
       size = length-set bs 0 true ∙ size;
-      count = (let a = trues-set bs 0 lt (mark-replicate actors 0) in let b = trues-replicate actors in omega (arith, a, b))
+      count = (let a = trues-set bs 0 lt (mark-replicate actors 0) in let b = trues-replicate actors in omega (arith, a, b));
     }
 
 -- at the end of the search
@@ -387,29 +424,29 @@ finished ls actors found seen i c end f =
     let m : ℕ = length ls + 1 in
     let s = f.search in
     let way : (j : ℕ) (x : Found) → slice_get found j ≡ Some x → IsWay ls x.actor x.way =
-          λ j x at. (s.walks j x at, λ q walk. precedes_from_key m (omega arith) x.way q (walk_below ls m (omega arith) q 0 x.actor walk) (s.least j x q at walk)) in
+    λ j x at. (s.walks j x at, λ q walk. precedes_from_key m (omega arith) x.way q (walk_below ls m (omega arith) q 0 x.actor walk) (s.least j x q at walk)) in
     record {
       ways = way;
       rising = λ j k x y at at' le. elim (cases_eq j k) [
-          inl e ↦ (let same : x ≡ y = same_Some x y (sym at ∙ ap (slice_get found) e ∙ at') in
-              (way j x at).1 y.way (subst (λ (z : Found). IsWalk ls 0 y.way z.actor) (sym same) (s.walks k y at')))
+        | inl e ↦ (let same : x ≡ y = same_Some x y (sym at ∙ ap (slice_get found) e ∙ at') in
+            (way j x at).1 y.way (subst (λ (z : Found). IsWalk ls 0 y.way z.actor) (sym same) (s.walks k y at')))
         | inr ne ↦ (let lt = s.rising j k x y at at' (omega arith) in
-              precedes_from_key m (omega arith) x.way y.way (walk_below ls m (omega arith) y.way 0 y.actor (s.walks k y at')) (omega arith))
-        ];
+            precedes_from_key m (omega arith) x.way y.way (walk_below ls m (omega arith) y.way 0 y.actor (s.walks k y at')) (omega arith))
+      ];
       apart = λ j k x y at at' lt e.
-        (let le = s.least k y x.way at' (subst (λ n. IsWalk ls 0 x.way n) e (s.walks j x at)) in
-         let up = s.rising j k x y at at' lt in
-         omega arith);
+          (let le = s.least k y x.way at' (subst (λ n. IsWalk ls 0 x.way n) e (s.walks j x at)) in
+          let up = s.rising j k x y at at' lt in
+          omega arith);
       grown = s.grown;
       whole = λ ss v walk. closed ls m found (mark_at seen) i c all s ss 0 v f.root walk;
       marked = s.marked;
       within = λ j x at. (let lt = mark_within seen x.actor (s.listed j x at) in let e = f.size in omega arith);
-      size = f.size
+      size = f.size;
     }
 
 -- looking loses nothing
 pub looked_keeps : (found found' : List Found) (seen seen' : List Bool) (i c : ℕ) (l : Link) → IsLooked found seen found' seen' i c l → length found ≤ length found'
 looked_keeps found found' seen seen' i c l look = elim look [
-      inl step ↦ (let t = step.1 in let e = ap (λ (xs : List Found). length xs) t.list in let d = length-append found (t.new ∷ []) in omega (arith, e, d))
-    | inr pass ↦ (let e = ap (λ (xs : List Found). length xs) pass.same in omega (arith, e))
-    ]
+  | inl step ↦ (let t = step.1 in let e = ap (λ (xs : List Found). length xs) t.list in let d = length-append found (t.new ∷ []) in omega (arith, e, d))
+  | inr pass ↦ (let e = ap (λ (xs : List Found). length xs) pass.same in omega (arith, e))
+]

@@ -1,5 +1,5 @@
 -- The way to an actor is one: it goes over no self-loop, so its channels say its steps.
-use Rattle.std.proofs.Common.{◌≡◌, ℕ, ◌+◌, ◌<◌, ◌≤◌, Bool, true, false, Some, List, [], ◌∷◌, ◌++◌, length, map, sym, refl, ap, subst, ◌∙◌, inl, inr, arith, length-append, append_assoc}
+use Rattle.std.proofs.Common.{◌≡◌, ℕ, ◌≤◌, Bool, true, false, Some, List, [], ◌∷◌, ◌++◌, length, map, sym, refl, ap, subst, ◌∙◌, arith, length-append, append_assoc}
 use Rattle.std.specs.Prelude.{slice_get}
 use Rattle.std.proofs.lemmas.Option.{same_Some}
 use Rattle.balance.specs.declared.walk.WalkStep.{WalkStep}
@@ -19,18 +19,19 @@ self_step l false e = e
 loops_cut : (ls : List Link) (front rest : List WalkStep) (b : ℕ) → IsWalk ls 0 (front ++ rest) b
     → ((q : List WalkStep) → IsWalk ls 0 q b → length (front ++ rest) ≤ length q) → NoLoops ls rest
 loops_cut ls front [] b h short = tt
-loops_cut ls front (s ∷ rest) b h short =
-    ( (λ l is self.
-        let (v, before, (l', is', from, after)) = walk_split ls front (s ∷ rest) 0 b h in
-        let same : l ≡ l' = same_Some l l' (sym is ∙ is') in
-        let loop : l'.source ≡ l'.target = subst (λ (x : Link). x.source ≡ x.target) same self in
-        let back : v ≡ step_to l' s.forward = from ∙ sym (self_step l' s.forward loop) in
-        let cut : IsWalk ls 0 (front ++ rest) b = walk-append ls front rest 0 v b before (subst (λ n. IsWalk ls n rest b) (sym back) after) in
-        let le : length (front ++ (s ∷ rest)) ≤ length (front ++ rest) = short (front ++ rest) cut in
-        absurd (omega (arith, le, length-append front (s ∷ rest), length-append front rest)))
-    , (let e : (front ++ s ∷ []) ++ rest ≡ front ++ (s ∷ rest) = append_assoc front (s ∷ []) rest in
-       loops_cut ls (front ++ s ∷ []) rest b (subst (λ (t : List WalkStep). IsWalk ls 0 t b) (sym e) h)
-         (λ q k. subst (λ (t : List WalkStep). length t ≤ length q) (sym e) (short q k))) )
+loops_cut ls front (s ∷ rest) b h short = (
+  (λ l is self.
+      let (v, before, (l', is', from, after)) = walk_split ls front (s ∷ rest) 0 b h in
+      let same : l ≡ l' = same_Some l l' (sym is ∙ is') in
+      let loop : l'.source ≡ l'.target = subst (λ (x : Link). x.source ≡ x.target) same self in
+      let back : v ≡ step_to l' s.forward = from ∙ sym (self_step l' s.forward loop) in
+      let cut : IsWalk ls 0 (front ++ rest) b = walk-append ls front rest 0 v b before (subst (λ n. IsWalk ls n rest b) (sym back) after) in
+      let le : length (front ++ (s ∷ rest)) ≤ length (front ++ rest) = short (front ++ rest) cut in
+      absurd (omega (arith, le, length-append front (s ∷ rest), length-append front rest))),
+  (let e : (front ++ s ∷ []) ++ rest ≡ front ++ (s ∷ rest) = append_assoc front (s ∷ []) rest in
+      loops_cut ls (front ++ s ∷ []) rest b (subst (λ (t : List WalkStep). IsWalk ls 0 t b) (sym e) h)
+      (λ q k. subst (λ (t : List WalkStep). length t ≤ length q) (sym e) (short q k))),
+)
 
 pub no_loops : (ls : List Link) (b : ℕ) (p : List WalkStep) → IsWay ls b p → NoLoops ls p
 no_loops ls b p (walk, first) = loops_cut ls [] p b walk (λ q k. no_longer p q (first q k))
@@ -59,7 +60,7 @@ same_walk ls (x ∷ p) (y ∷ q) a b c (here, none) (l, is, from, rest) (l', is'
     let from'' : a ≡ step_from l y.forward = subst (λ (t : Link). a ≡ step_from t y.forward) link from' in
     let fwd : x.forward ≡ y.forward = same_direction l x.forward y.forward (here l is) (sym from ∙ from'') in
     let rest'' : IsWalk ls (step_to l x.forward) q c =
-          subst (λ (f : Bool). IsWalk ls (step_to l f) q c) (sym fwd) (subst (λ (t : Link). IsWalk ls (step_to t y.forward) q c) link rest') in
+    subst (λ (f : Bool). IsWalk ls (step_to l f) q c) (sym fwd) (subst (λ (t : Link). IsWalk ls (step_to t y.forward) q c) link rest') in
     let tail : p ≡ q = same_walk ls p q (step_to l x.forward) b c none rest rest'' more in
     let head : x ≡ y = same_step x y ch fwd in
     cc

@@ -1,6 +1,6 @@
 -- What the rules of a graph table say of its links.
-use Rattle.std.proofs.Common.{◌≡◌, ℕ, zero, suc, ◌+◌, ◌*◌, ◌<◌, ◌≤◌, Some, None, List, [], ◌∷◌, length, map, sum, sym, refl, ap, subst, ◌∙◌, arith}
-use Rattle.std.specs.Prelude.{slice_get, slice_index_or, slice_index, All}
+use Rattle.std.proofs.Common.{◌≡◌, ℕ, zero, suc, ◌*◌, ◌<◌, ◌≤◌, Some, List, [], ◌∷◌, length, map, sum, sym, refl, ap, subst, ◌∙◌, arith}
+use Rattle.std.specs.Prelude.{slice_get, slice_index, All}
 use Rattle.std.proofs.lemmas.Option.{same_Some, none-some, slice_get_within, get_or_from_slice_get}
 use Rattle.std.proofs.lemmas.List.{length-map, get_or-map}
 use Rattle.std.proofs.lemmas.List.Sums.{sum_by-le}
@@ -57,13 +57,13 @@ port_limit g rules a rates lt keeps =
 
 pub has_sums : (g : GraphFile) → KeepsRules g → HasSums (links_of g)
 has_sums g rules = record {
-    made = λ k l is. (let (c, at, same, keeps) = rules_at g rules k l is in subst (λ (x : Link). 0 < x.made) (sym same) keeps.made.moves);
-    taken = λ k l is. (let (c, at, same, keeps) = rules_at g rules k l is in subst (λ (x : Link). 0 < x.taken) (sym same) keeps.taken.moves);
-    most_made = λ k l is. (let (c, at, same, keeps) = rules_at g rules k l is in
-        subst (λ (x : Link). x.made ≤ 4096000000) (sym same) (port_limit g rules c.source c.made keeps.source keeps.made));
-    most_taken = λ k l is. (let (c, at, same, keeps) = rules_at g rules k l is in
-        subst (λ (x : Link). x.taken ≤ 4096000000) (sym same) (port_limit g rules c.target c.taken keeps.target keeps.taken))
-  }
+  made = λ k l is. (let (c, at, same, keeps) = rules_at g rules k l is in subst (λ (x : Link). 0 < x.made) (sym same) keeps.made.moves);
+  taken = λ k l is. (let (c, at, same, keeps) = rules_at g rules k l is in subst (λ (x : Link). 0 < x.taken) (sym same) keeps.taken.moves);
+  most_made = λ k l is. (let (c, at, same, keeps) = rules_at g rules k l is in
+      subst (λ (x : Link). x.made ≤ 4096000000) (sym same) (port_limit g rules c.source c.made keeps.source keeps.made));
+  most_taken = λ k l is. (let (c, at, same, keeps) = rules_at g rules k l is in
+      subst (λ (x : Link). x.taken ≤ 4096000000) (sym same) (port_limit g rules c.target c.taken keeps.target keeps.taken));
+}
 
 pub has_ends : (g : GraphFile) → KeepsRules g → HasEnds (length g.actors) (links_of g)
 has_ends g rules =
@@ -72,7 +72,7 @@ has_ends g rules =
       source = λ k l is. (let (c, at, same, keeps) = rules_at g rules k l is in
           subst (λ n. l.source < n) size (subst (λ (x : Link). x.source < length (phases_of g)) (sym same) keeps.source));
       target = λ k l is. (let (c, at, same, keeps) = rules_at g rules k l is in
-          subst (λ n. l.target < n) size (subst (λ (x : Link). x.target < length (phases_of g)) (sym same) keeps.target))
+          subst (λ n. l.target < n) size (subst (λ (x : Link). x.target < length (phases_of g)) (sym same) keeps.target));
     }
 
 -- the sums that the links need

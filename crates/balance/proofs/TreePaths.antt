@@ -1,10 +1,10 @@
 -- The closed walk over a channel that doesn't keep the ratios, and its ratio.
-use Rattle.std.proofs.Common.{◌≡◌, ◌≢◌, ℕ, ◌+◌, ◌*◌, ◌<◌, ◌≤◌, true, Some, List, [], ◌∷◌, ◌++◌, sym, refl, ap, subst, ◌∙◌, arith}
+use Rattle.std.proofs.Common.{◌≡◌, ℕ, ◌*◌, ◌<◌, true, Some, List, ◌∷◌, ◌++◌, sym, refl, ap, subst, ◌∙◌, arith}
 use Rattle.std.specs.Prelude.{slice_get}
 use Rattle.std.proofs.Math.Nat.{eq_of_mul-eq-mul_right, mul-pos}
 use Rattle.balance.specs.declared.walk.WalkStep.{WalkStep}
 use Rattle.balance.specs.declared.walk.Link.{Link}
-use Rattle.balance.specs.Walks.{IsWalk, IsWay, IsLowest, walk_num, walk_den, turned}
+use Rattle.balance.specs.Walks.{IsWalk, IsLowest, walk_num, walk_den, turned}
 use Rattle.balance.specs.Repetition.{IsTreePath}
 use Rattle.balance.specs.Search.{HasSums}
 use Rattle.balance.proofs.WalkLemmas.{parts_pos, walk-append, walk_split, same_end, walk-turned, num-append, den-append, num-turned, den-turned}
@@ -16,7 +16,7 @@ tree_walk ls a b path t =
     let (u, to_u, on) = walk_split ls t.common t.on 0 b t.to.0 in
     let same : v ≡ u = same_end ls t.common 0 v u to_v to_u in
     let whole : IsWalk ls a (turned t.back ++ t.on) b =
-          walk-append ls (turned t.back) t.on a v b (walk-turned ls t.back v a back) (subst (λ n. IsWalk ls n t.on b) (sym same) on) in
+    walk-append ls (turned t.back) t.on a v b (walk-turned ls t.back v a back) (subst (λ n. IsWalk ls n t.on b) (sym same) on) in
     subst (λ (p : List WalkStep). IsWalk ls a p b) (sym t.path_is) whole
 
 pub closed_walk : (ls : List Link) (c : ℕ) (l : Link) (path : List WalkStep) → slice_get ls c ≡ Some l → IsTreePath ls l.target l.source path
@@ -28,7 +28,7 @@ crossed : (M T ns ds nt dt Nc Dc Nb Db No Do : ℕ) → nt * (Dc * Db) ≡ dt * 
     → (M * (Db * No)) * (nt * T * ds) ≡ (T * (Nb * Do)) * (ns * M * dt)
 crossed M T ns ds nt dt Nc Dc Nb Db No Do et es sn sd =
     let left : (M * (Db * No)) * (nt * T * ds) * (Dc * Nc) ≡ (T * (Nb * Do)) * (ns * M * dt) * (Dc * Nc) =
-          omega (arith, ap (λ x. x * (M * T * ds * Nc * No)) et, ap (λ x. x * (M * T * dt * Nc * Nb)) es) in
+    omega (arith, ap (λ x. x * (M * T * ds * Nc * No)) et, ap (λ x. x * (M * T * dt * Nc * Nb)) es) in
     eq_of_mul-eq-mul_right (Dc * Nc) (mul-pos sd sn) ((M * (Db * No)) * (nt * T * ds)) ((T * (Nb * Do)) * (ns * M * dt)) left
 
 -- a ratio in lowest terms is in lowest terms of each equal ratio
@@ -46,20 +46,20 @@ pub closed_ratio : (ls : List Link) → HasSums ls → (c : ℕ) (l : Link) (pat
 closed_ratio ls sums c l path is t ns ds nt dt num den sns sdt es et low =
     let pc = parts_pos ls sums t.common in
     let es' : ns * (walk_den ls t.common * walk_den ls t.on) ≡ ds * (walk_num ls t.common * walk_num ls t.on) =
-          ap (λ x. ns * x) (sym (den-append ls t.common t.on)) ∙ es ∙ ap (λ x. ds * x) (num-append ls t.common t.on) in
+    ap (λ x. ns * x) (sym (den-append ls t.common t.on)) ∙ es ∙ ap (λ x. ds * x) (num-append ls t.common t.on) in
     let et' : nt * (walk_den ls t.common * walk_den ls t.back) ≡ dt * (walk_num ls t.common * walk_num ls t.back) =
-          ap (λ x. nt * x) (sym (den-append ls t.common t.back)) ∙ et ∙ ap (λ x. dt * x) (num-append ls t.common t.back) in
+    ap (λ x. nt * x) (sym (den-append ls t.common t.back)) ∙ et ∙ ap (λ x. dt * x) (num-append ls t.common t.back) in
     let cross = crossed l.made l.taken ns ds nt dt (walk_num ls t.common) (walk_den ls t.common) (walk_num ls t.back) (walk_den ls t.back) (walk_num ls t.on) (walk_den ls t.on)
-          et' es' pc.0 pc.1 in
+    et' es' pc.0 pc.1 in
     let num_is : walk_num ls path ≡ walk_den ls t.back * walk_num ls t.on =
-          ap (walk_num ls) t.path_is ∙ num-append ls (turned t.back) t.on ∙ ap (λ x. x * walk_num ls t.on) (num-turned ls t.back) in
+    ap (walk_num ls) t.path_is ∙ num-append ls (turned t.back) t.on ∙ ap (λ x. x * walk_num ls t.on) (num-turned ls t.back) in
     let den_is : walk_den ls path ≡ walk_num ls t.back * walk_den ls t.on =
-          ap (walk_den ls) t.path_is ∙ den-append ls (turned t.back) t.on ∙ ap (λ x. x * walk_den ls t.on) (den-turned ls t.back) in
+    ap (walk_den ls) t.path_is ∙ den-append ls (turned t.back) t.on ∙ ap (λ x. x * walk_den ls t.on) (den-turned ls t.back) in
     let big : 0 < ns * l.made * dt = mul-pos (mul-pos sns (sums.made c l is)) sdt in
     let found : IsLowest num den (l.made * (walk_den ls t.back * walk_num ls t.on)) (l.taken * (walk_num ls t.back * walk_den ls t.on)) =
-          lowest_of_equal num den (ns * l.made * dt) (nt * l.taken * ds) (l.made * (walk_den ls t.back * walk_num ls t.on)) (l.taken * (walk_num ls t.back * walk_den ls t.on)) low cross big in
+    lowest_of_equal num den (ns * l.made * dt) (nt * l.taken * ds) (l.made * (walk_den ls t.back * walk_num ls t.on)) (l.taken * (walk_num ls t.back * walk_den ls t.on)) low cross big in
     rw is (subst (λ x. IsLowest num den (l.made * x) (l.taken * walk_den ls path)) (sym num_is)
-      (subst (λ y. IsLowest num den (l.made * (walk_den ls t.back * walk_num ls t.on)) (l.taken * y)) (sym den_is) found))
+    (subst (λ y. IsLowest num den (l.made * (walk_den ls t.back * walk_num ls t.on)) (l.taken * y)) (sym den_is) found))
 
 -- equal parts only where the two products are equal
 pub parts_equal : (n d X Y : ℕ) → IsLowest n d X Y → n ≡ d → Y ≡ X

@@ -1,7 +1,7 @@
 -- Walks: joined, turned round, their ratios, and the first step out of a set.
-use Rattle.std.proofs.Common.{◌≡◌, ℕ, zero, suc, ◌+◌, ◌*◌, ◌<◌, ◌≤◌, ◌⊎◌, Bool, true, false, not, Option, Some, None, List, [], ◌∷◌, ◌++◌, length, sym, refl, ap, subst, ◌∙◌, inl, inr, arith}
+use Rattle.std.proofs.Common.{◌≡◌, ℕ, ◌+◌, ◌*◌, ◌<◌, ◌≤◌, Bool, true, false, not, Option, Some, None, List, [], ◌∷◌, ◌++◌, sym, refl, ap, subst, ◌∙◌, inl, inr, arith}
 use Rattle.std.specs.Prelude.{slice_get}
-use Rattle.std.proofs.Math.Nat.{mul-le-mul_right, mul-pos, eq_of_mul-eq-mul_right}
+use Rattle.std.proofs.Math.Nat.{mul-le-mul_right, mul-pos}
 use Rattle.std.proofs.lemmas.Bool.{cases_Bool, false≢true}
 use Rattle.std.proofs.lemmas.Option.{same_Some}
 use Rattle.balance.specs.declared.walk.WalkStep.{WalkStep}
@@ -72,7 +72,7 @@ pub carried : (ls : List Link) (q : ℕ → ℕ) → Balanced ls q → (ss : Lis
 carried ls q even [] a b h = omega (arith, ap q h)
 carried ls q even (s ∷ ss) a b (l, is, from, rest) =
     let here : q (step_to l s.forward) * step_den l s.forward ≡ q a * step_num l s.forward =
-          one_step ls q even s.channel l is s.forward ∙ ap (λ n. q n * step_num l s.forward) (sym from) in
+    one_step ls q even s.channel l is s.forward ∙ ap (λ n. q n * step_num l s.forward) (sym from) in
     let more : q b * walk_den ls ss ≡ q (step_to l s.forward) * walk_num ls ss = carried ls q even ss (step_to l s.forward) b rest in
     rw is (joined (q a) (q (step_to l s.forward)) (q b) (step_num l s.forward) (step_den l s.forward) (walk_num ls ss) (walk_den ls ss) here more)
 
@@ -98,8 +98,8 @@ pub walk-turned : (ls : List Link) (ss : List WalkStep) (a b : ℕ) → IsWalk l
 walk-turned ls [] a b h = sym h
 walk-turned ls (s ∷ ss) a b (l, is, from, rest) =
     walk-append ls (turned ss) (record { channel = s.channel; forward = not s.forward } ∷ []) b (step_to l s.forward) a
-      (walk-turned ls ss (step_to l s.forward) b rest)
-      (l, is, sym (not_from l s.forward), not_to l s.forward ∙ sym from)
+    (walk-turned ls ss (step_to l s.forward) b rest)
+    (l, is, sym (not_from l s.forward), not_to l s.forward ∙ sym from)
 
 pub num-turned : (ls : List Link) (ss : List WalkStep) → walk_num ls (turned ss) ≡ walk_den ls ss
 num-turned ls [] = refl
@@ -122,25 +122,25 @@ den-turned ls (s ∷ ss) =
 -- the first step out of what was seen, where each such step's start has a number that no walk to it undercuts
 pub crossing_by : (ls : List Link) (m root : ℕ) (seen : ℕ → Bool) (bound : ℕ) → 0 < m
     → ((s : WalkStep) (l : Link) → slice_get ls s.channel ≡ Some l → seen (step_from l s.forward) ≡ true → seen (step_to l s.forward) ≡ false
-        → (w : ℕ) × ((ss : List WalkStep) → IsWalk ls root ss (step_from l s.forward) → w ≤ key_from m 0 ss) × (bound ≤ w * m + s.channel + 1))
+    → (w : ℕ) × ((ss : List WalkStep) → IsWalk ls root ss (step_from l s.forward) → w ≤ key_from m 0 ss) × (bound ≤ w * m + s.channel + 1))
     → (ss front : List WalkStep) (v u : ℕ) → IsWalk ls root front v → seen v ≡ true → IsWalk ls v ss u → seen u ≡ false
     → bound ≤ key_from m (key_from m 0 front) ss
 crossing_by ls m root seen bound some out [] front v u before was h free = absurd (false≢true (sym free ∙ ap seen (sym h) ∙ was))
 crossing_by ls m root seen bound some out (s ∷ ss) front v u before was (l, is, from, rest) free =
     elim (cases_Bool (seen (step_to l s.forward))) [
-      inl on ↦
-        let front' : List WalkStep = front ++ s ∷ [] in
-        let reach : IsWalk ls root front' (step_to l s.forward) = walk-append ls front (s ∷ []) root v (step_to l s.forward) before (l, is, from, refl) in
-        let same : key_from m (key_from m 0 front') ss ≡ key_from m (key_from m 0 front * m + s.channel + 1) ss =
-              ap (λ n. key_from m n ss) (key-append m 0 front (s ∷ [])) in
-        let back = crossing_by ls m root seen bound some out ss front' (step_to l s.forward) u reach on rest free in
-        subst (λ n. bound ≤ n) same back
-    | inr off ↦
-        let low = out s l is (ap seen (sym from) ∙ was) off in
-        let here : low.0 ≤ key_from m 0 front = low.1 front (subst (λ n. IsWalk ls root front n) from before) in
-        let up : low.0 * m ≤ key_from m 0 front * m = mul-le-mul_right m here in
-        let more : key_from m 0 front * m + s.channel + 1 ≤ key_from m (key_from m 0 front * m + s.channel + 1) ss =
-              key_grows m some ss (key_from m 0 front * m + s.channel + 1) in
-        let low' : bound ≤ low.0 * m + s.channel + 1 = low.2 in
-        omega arith
+      | inl on ↦
+          let front' : List WalkStep = front ++ s ∷ [] in
+          let reach : IsWalk ls root front' (step_to l s.forward) = walk-append ls front (s ∷ []) root v (step_to l s.forward) before (l, is, from, refl) in
+          let same : key_from m (key_from m 0 front') ss ≡ key_from m (key_from m 0 front * m + s.channel + 1) ss =
+          ap (λ n. key_from m n ss) (key-append m 0 front (s ∷ [])) in
+          let back = crossing_by ls m root seen bound some out ss front' (step_to l s.forward) u reach on rest free in
+          subst (λ n. bound ≤ n) same back
+      | inr off ↦
+          let low = out s l is (ap seen (sym from) ∙ was) off in
+          let here : low.0 ≤ key_from m 0 front = low.1 front (subst (λ n. IsWalk ls root front n) from before) in
+          let up : low.0 * m ≤ key_from m 0 front * m = mul-le-mul_right m here in
+          let more : key_from m 0 front * m + s.channel + 1 ≤ key_from m (key_from m 0 front * m + s.channel + 1) ss =
+          key_grows m some ss (key_from m 0 front * m + s.channel + 1) in
+          let low' : bound ≤ low.0 * m + s.channel + 1 = low.2 in
+          omega arith
     ]

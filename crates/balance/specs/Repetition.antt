@@ -1,5 +1,5 @@
 -- The repetition vector of a graph, or why there is none within the limits.
-use Rattle.std.specs.Prelude.{◌≡◌, ◌≢◌, ℕ, ◌+◌, ◌*◌, ◌<◌, ◌≤◌, ◌⊎◌, true, Result, Ok, Err, Some, List, [], ◌∷◌, ◌++◌, sum, length, slice_get}
+use Rattle.std.specs.Prelude.{◌≡◌, ◌≢◌, ℕ, ◌*◌, ◌<◌, ◌≤◌, ◌⊎◌, true, Result, Ok, Err, Some, List, [], ◌∷◌, ◌++◌, sum, length, slice_get}
 use Rattle.sd_base.specs.declared.tables.GraphFile.{GraphFile}
 use Rattle.sd_base.specs.Tables.{KeepsRules}
 use Rattle.sd_base.specs.Net.{IsRepetitionOf}

@@ -1,20 +1,23 @@
-use std::alloc::{AllocError, Global};
-
-use sd_base::Rows;
-
-use crate::ratio::{Ratio, first_failing, lowest, product, ratio_of};
-use crate::refusal::BalanceError;
-use crate::search::{Found, Search};
-use crate::walk::{Link, WalkStep};
-
 ghost use Rattle.std.specs.Prelude.{◌≡◌, ℕ, ◌≤◌, ◌<◌, ◌++◌, Some, true, IfOk, IfErr, OnOk, length, take, drop, slice_get};
 ghost use Rattle.balance.specs.Walks.{turned};
 ghost use Rattle.balance.specs.Repetition.{IsParted};
 ghost use Rattle.balance.specs.Search.{HasEnds, HasSums, IsFound, IsTree, IsClosedBetween, mark_at};
 ghost use Rattle.balance.specs.Ratios.{ratio_at, IsSmall, IsSummed, AreRatios, Keeps, IsClosedRefusal, IsKeptRefusal};
 
+use crate::ratio::{Ratio, first_failing, lowest, product, ratio_of};
+use crate::refusal::BalanceError;
+use crate::search::{Found, Search};
+use crate::walk::{Link, WalkStep};
+use sd_base::Rows;
+use std::alloc::{AllocError, Global};
+
 /// Whether all channels keep the ratios; else the refusal for the first that doesn't.
-pub fn all_kept(alloc: Global, links: &[Link], search: &Search, ratios: &[Ratio]) -> Result<(), BalanceError>
+pub fn all_kept(
+    alloc: Global,
+    links: &[Link],
+    search: &Search,
+    ratios: &[Ratio],
+) -> Result<(), BalanceError>
     requires few { length links.now ≤ 256 }
     requires sums { HasSums links.now }
     requires ends { HasEnds (length search.now.seen.items) links.now }
@@ -32,7 +35,13 @@ pub fn all_kept(alloc: Global, links: &[Link], search: &Search, ratios: &[Ratio]
 }
 
 /// The refusal for a channel that doesn't keep the ratios: the walk over it, and its ratio by those of its ends.
-pub fn unbalanced(alloc: Global, found: &[Found], ratios: &[Ratio], channel: u32, link: Link) -> Result<BalanceError, AllocError>
+pub fn unbalanced(
+    alloc: Global,
+    found: &[Found],
+    ratios: &[Ratio],
+    channel: u32,
+    link: Link,
+) -> Result<BalanceError, AllocError>
     requires source { IsFound found.now link.source }
     requires target { IsFound found.now link.target }
     requires from { link.source < length ratios.now }
@@ -56,7 +65,12 @@ pub fn unbalanced(alloc: Global, found: &[Found], ratios: &[Ratio], channel: u32
 }
 
 /// The channel, forward, and then the path from its target to its source between the ways that were found.
-fn closed_walk(alloc: Global, found: &[Found], channel: u32, link: Link) -> Result<Rows<WalkStep>, AllocError>
+fn closed_walk(
+    alloc: Global,
+    found: &[Found],
+    channel: u32,
+    link: Link,
+) -> Result<Rows<WalkStep>, AllocError>
     requires source { IsFound found.now link.source }
     requires target { IsFound found.now link.target }
     ensures { IfOk result (IsClosedBetween found.now channel link) }

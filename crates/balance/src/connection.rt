@@ -1,11 +1,9 @@
-use std::alloc::{AllocError, AllocFailed, Global};
-
-use thiserror::Error;
-
-use crate::search::{first_unmarked, unmarked};
-
 ghost use Rattle.std.specs.Prelude.{◌≡◌};
 ghost use Rattle.balance.specs.declared.connection.ConnectError.TheVariants.{NoMemory};
+
+use crate::search::{first_unmarked, unmarked};
+use std::alloc::{AllocError, AllocFailed, Global};
+use thiserror::Error;
 
 /// Why a net isn't strongly connected.
 #[derive(Debug, Drop, Error)]
@@ -49,7 +47,11 @@ ghost use Rattle.balance.specs.Reaching.{AreClosed, AreKept, AreLed, Leads, pair
 
 /// Whether directed paths over the pairs `ends` lead from each actor to each other one. Cost: at most actors times
 /// pairs.
-pub fn strongly_connected(alloc: Global, actors: u32, ends: &[(u32, u32)]) -> Result<(), ConnectError>
+pub fn strongly_connected(
+    alloc: Global,
+    actors: u32,
+    ends: &[(u32, u32)],
+) -> Result<(), ConnectError>
     requires some { 1 ≤ actors }
     requires ends { AreActors actors ends.now }
     ensures connected { OnOk result (IsStronglyConnected actors ends.now) }
@@ -88,7 +90,12 @@ fn has_input(actor: u32, ends: &[(u32, u32)]) -> bool
 
 /// By actor whether a path leads to it from actor 0, or from it to actor 0. Each sweep over the pairs but the last marks
 /// an actor.
-fn reached(alloc: Global, actors: u32, ends: &[(u32, u32)], direction: Direction) -> Result<Vec<bool>, AllocError>
+fn reached(
+    alloc: Global,
+    actors: u32,
+    ends: &[(u32, u32)],
+    direction: Direction,
+) -> Result<Vec<bool>, AllocError>
     requires some { 1 ≤ actors }
     requires ends { AreActors actors ends.now }
     ensures size { IfOk result (λ marks. length marks.items ≡ actors) }

@@ -9,24 +9,21 @@ mod round;
 mod search;
 mod walk;
 
-pub use connection::{ConnectError, no_input, strongly_connected};
-pub use refusal::BalanceError;
-pub use walk::WalkStep;
-
 ghost use Rattle.std.specs.Prelude.{◌≡◌, ℕ, ◌<◌, IfOk, IfErr, length, true};
 ghost use Rattle.sd_base.specs.Tables.{KeepsRules};
 ghost use Rattle.balance.specs.Walks.{links_of};
 ghost use Rattle.balance.specs.Search.{IsTree, mark_at};
 ghost use Rattle.balance.specs.Repetition.{IsRound, IsRefusal, HasOneAnswer};
 
-use std::alloc::Global;
-
-use sd_base::{GraphFile, Rows};
-
 use closed::all_kept;
+pub use connection::{ConnectError, no_input, strongly_connected};
 use ratio::ratios;
+pub use refusal::BalanceError;
 use round::round;
+use sd_base::{GraphFile, Rows};
 use search::{Search, first_unmarked, ways};
+use std::alloc::Global;
+pub use walk::WalkStep;
 use walk::{Link, links};
 
 /// The repetition vector: by actor, in file order, its firings in a round. They make as many tokens on every channel as
@@ -49,7 +46,12 @@ pub fn repetition(alloc: Global, graph: &GraphFile) -> Result<Rows<u64>, Balance
 }
 
 /// The repetition vector of a connected graph.
-fn within_limits(alloc: Global, graph: &GraphFile, links: &[Link], search: &Search) -> Result<Rows<u64>, BalanceError>
+fn within_limits(
+    alloc: Global,
+    graph: &GraphFile,
+    links: &[Link],
+    search: &Search,
+) -> Result<Rows<u64>, BalanceError>
     requires rules { KeepsRules graph.now }
     requires links { links.now ≡ links_of graph.now }
     requires tree { IsTree links.now (length graph.now.actors) search.now.found.items search.now.seen.items }
@@ -65,8 +67,7 @@ fn within_limits(alloc: Global, graph: &GraphFile, links: &[Link], search: &Sear
 /// At most one of the answers of `repetition` but want of memory fits a graph.
 pub fn one_answer()
     ensures { HasOneAnswer }
-{
-}
+{}
 
 #[cfg(test)]
 mod tests;

@@ -1,10 +1,8 @@
-use std::alloc::Global;
-
-use sd_base::Rows;
-
 use crate::refusal::BalanceError;
 use crate::search::Search;
 use crate::walk::{Link, WalkStep};
+use sd_base::Rows;
+use std::alloc::Global;
 
 /// The ratio of a walk in lowest terms.
 #[derive(Clone, Copy)]
@@ -84,7 +82,11 @@ pub fn ratio_of(ratios: &[Ratio], actor: usize) -> Ratio
 fn start_of(link: Link, step: WalkStep) -> usize
     ensures { result ≡ step_from link step.forward }
 {
-    if step.forward { link.source } else { link.target }
+    if step.forward {
+        link.source
+    } else {
+        link.target
+    }
 }
 
 /// A ratio times that of a step. The products are at most 100,000 times 4,096,000,000.

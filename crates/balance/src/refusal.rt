@@ -1,23 +1,26 @@
-use std::alloc::{AllocError, AllocFailed};
-
-use sd_base::Rows;
-use thiserror::Error;
-
-use crate::walk::WalkStep;
-
 ghost use Rattle.std.specs.Prelude.{◌≡◌};
 ghost use Rattle.balance.specs.declared.refusal.BalanceError.TheVariants.{NoMemory};
+
+use crate::walk::WalkStep;
+use sd_base::Rows;
+use std::alloc::{AllocError, AllocFailed};
+use thiserror::Error;
 
 /// Why a graph has no repetition vector within the limits. They are tested in this order.
 #[derive(Debug, Drop, Error)]
 pub enum BalanceError {
     /// No walk leads from actor `a`, which is actor 0, to actor `b`, the least such one.
     #[error("actors {a} and {b} are apart")]
-    Apart { a: u32, b: u32 },
+    Apart {
+        a: u32,
+        b: u32,
+    },
     /// The ratio along the way to some actor, in lowest terms, has a part above 100,000. Of several ways it is the one
     /// with the fewest steps, and of these the one with the least list of channels.
     #[error("a ratio is above 100000")]
-    RatioTooLarge { path: Rows<WalkStep> },
+    RatioTooLarge {
+        path: Rows<WalkStep>,
+    },
     /// A closed walk whose ratio isn't 1 but num/den, in lowest terms.
     #[error("a closed walk has the ratio {num}/{den}")]
     Unbalanced {

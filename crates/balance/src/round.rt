@@ -1,16 +1,14 @@
-use std::alloc::{AllocError, Global};
-
-use sd_base::{GraphFile, Rows, lcm_within};
-
-use crate::ratio::Ratio;
-use crate::refusal::BalanceError;
-use crate::walk::Link;
-
 ghost use Rattle.std.specs.Prelude.{◌≡◌, ℕ, ◌<◌, ◌≤◌, ◌^◌, List, All, IfOk, IfErr, MatchOption, Some, length, slice_get, sum};
 ghost use Rattle.sd_base.specs.Tables.{KeepsRules, phases_of};
 ghost use Rattle.sd_base.specs.Net.{IsRepetitionOf};
 ghost use Rattle.balance.specs.Walks.{links_of};
 ghost use Rattle.balance.specs.Ratios.{IsSmall, AreRatios, Keeps, DivideAll, IsCommon, IsRoundBy, IsRoundRefusal};
+
+use crate::ratio::Ratio;
+use crate::refusal::BalanceError;
+use crate::walk::Link;
+use sd_base::{GraphFile, Rows, lcm_within};
+use std::alloc::{AllocError, Global};
 
 /// The greatest sum of a repetition vector.
 const ROUND_LIMIT: u64 = 100_000;
@@ -53,7 +51,12 @@ fn common_den(ratios: &[Ratio]) -> Option<u64>
 }
 
 /// By actor its ratio times the cycles of actor 0, times its phases: at most 100,000 times 100,000 times 4,096.
-fn firings(alloc: Global, graph: &GraphFile, ratios: &[Ratio], cycles: u64) -> Result<Vec<u64>, AllocError>
+fn firings(
+    alloc: Global,
+    graph: &GraphFile,
+    ratios: &[Ratio],
+    cycles: u64,
+) -> Result<Vec<u64>, AllocError>
     requires rules { KeepsRules graph.now }
     requires size { length ratios.now ≡ length graph.now.actors }
     requires small { All IsSmall ratios.now }

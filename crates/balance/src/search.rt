@@ -1,10 +1,8 @@
 ghost use Rattle.std.specs.Prelude.{◌≡◌, ℕ, ◌+◌, ◌<◌, ◌≤◌, [], ◌∷◌, ◌++◌, length, slice_get, slice_set, IfOk, OnOk, MatchOption, replicate, true, false, ◌^◌};
 
-use std::alloc::{AllocError, Global};
-
-use sd_base::Rows;
-
 use crate::walk::{Link, WalkStep};
+use sd_base::Rows;
+use std::alloc::{AllocError, Global};
 
 /// An actor that the search has found, with its way from actor 0.
 #[derive(Drop)]
@@ -96,7 +94,13 @@ fn visit(alloc: Global, search: &mut Search, links: &[Link], place: usize) -> Re
 
 /// Looks from the actor at a place over one channel, forward and else backward, and takes a step to an actor that
 /// isn't found yet.
-fn look(alloc: Global, search: &mut Search, place: usize, channel: u32, link: Link) -> Result<(), AllocError>
+fn look(
+    alloc: Global,
+    search: &mut Search,
+    place: usize,
+    channel: u32,
+    link: Link,
+) -> Result<(), AllocError>
     requires listed { place < length search.old.found.items }
     requires source { link.source < length search.old.seen.items }
     requires target { link.target < length search.old.seen.items }
@@ -121,7 +125,13 @@ fn look(alloc: Global, search: &mut Search, place: usize, channel: u32, link: Li
 }
 
 /// Finds the actor `to` by one step from the actor at a place.
-fn take(alloc: Global, search: &mut Search, place: usize, step: WalkStep, to: usize) -> Result<(), AllocError>
+fn take(
+    alloc: Global,
+    search: &mut Search,
+    place: usize,
+    step: WalkStep,
+    to: usize,
+) -> Result<(), AllocError>
     requires listed { place < length search.old.found.items }
     requires marked { to < length search.old.seen.items }
     ensures { OnOk result ((entry : _) × (new : _) × (slice_get search.old.found.items place ≡ Some entry) × (search.new.found.items ≡ search.old.found.items ++ new ∷ [])
@@ -134,7 +144,11 @@ fn take(alloc: Global, search: &mut Search, place: usize, step: WalkStep, to: us
 }
 
 /// A way and one step more.
-fn extended(alloc: Global, way: &Rows<WalkStep>, step: WalkStep) -> Result<Rows<WalkStep>, AllocError>
+fn extended(
+    alloc: Global,
+    way: &Rows<WalkStep>,
+    step: WalkStep,
+) -> Result<Rows<WalkStep>, AllocError>
     ensures { IfOk result (λ longer. longer ≡ way.now ++ step ∷ []) }
 {
     let mut longer = Vec::from_slice(alloc, way.as_slice())?;

@@ -1,6 +1,5 @@
-use std::alloc::{AllocError, Global};
-
 use sd_base::{ChannelRow, GraphFile};
+use std::alloc::{AllocError, Global};
 
 /// A step of a walk over a channel, from its source to its target where it goes forward, else from its
 /// target to its source.

@@ -1,1 +1,15 @@
 pub mod Divisors
+pub mod Sums
+pub mod Parts
+pub mod Admissibles
+pub mod Steps
+pub mod Existence
+pub mod Counts
+pub mod Rounds
+pub mod Blocking
+pub mod Liveness
+pub mod Ends
+pub mod Tight
+pub mod Wordings
+pub mod FileNets
+pub mod Traces

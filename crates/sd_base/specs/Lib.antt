@@ -1,3 +1,9 @@
 pub mod Tables
 pub mod Net
 pub mod Numbers
+pub mod Schedules
+pub mod Untimed
+pub mod SelfTimed
+pub mod Rates
+pub mod Lawful
+pub mod FileNet

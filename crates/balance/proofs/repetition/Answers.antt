@@ -1,4 +1,4 @@
-use Rattle.std.proofs.Common.{◌≡◌, ℕ, ◌<◌, List, length, sym, subst, ap, ◌∙◌, arith, Bool, true, false}
+use Rattle.std.proofs.Common.{◌≡◌, ◌<◌, List, length, sym, subst, ◌∙◌, Bool, true, false}
 use Rattle.balance.specs.declared.walk.Link.{Link}
 use Rattle.balance.specs.Walks.{links_of}
 use Rattle.balance.specs.Search.{HasEnds, IsTree, mark_at}
@@ -16,11 +16,11 @@ returns-in-Some-clause-refusal c =
     let e = c.deref.ensures.value ∙ c.in_ok-links.ensures in
     let s = c.in_ok-search.search in
     let tree : IsTree (links_of c.args.graph.now) (length c.args.graph.now.actors) s.found.items s.seen.items =
-          subst (λ n. IsTree (links_of c.args.graph.now) n s.found.items s.seen.items) c.len.ensures
-            (subst (λ (ls : List Link). IsTree ls c.len.result s.found.items s.seen.items) e c.in_ok-search.ensures) in
+    subst (λ n. IsTree (links_of c.args.graph.now) n s.found.items s.seen.items) c.len.ensures
+    (subst (λ (ls : List Link). IsTree ls c.len.result s.found.items s.seen.items) e c.in_ok-search.ensures) in
     let (lt, off, before) = c.in-Some.ensures in
     let m = c.deref-2.ensures.value in
     apart_from c.args.graph.now s.found.items s.seen.items c.in-Some.b tree
-      (subst (λ (bs : List Bool). c.in-Some.b < length bs) m lt)
-      (subst (λ (bs : List Bool). mark_at bs c.in-Some.b ≡ false) m off)
-      (λ k below. subst (λ (bs : List Bool). mark_at bs k ≡ true) m (before k below))
+    (subst (λ (bs : List Bool). c.in-Some.b < length bs) m lt)
+    (subst (λ (bs : List Bool). mark_at bs c.in-Some.b ≡ false) m off)
+    (λ k below. subst (λ (bs : List Bool). mark_at bs k ≡ true) m (before k below))

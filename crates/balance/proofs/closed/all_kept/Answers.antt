@@ -1,4 +1,4 @@
-use Rattle.std.proofs.Common.{◌≡◌, ℕ, ◌<◌, ◌≤◌, List, Some, length, sym, subst, ap, ◌∙◌, arith}
+use Rattle.std.proofs.Common.{◌≡◌, ℕ, List, Some, length, sym, subst, ap, ◌∙◌, arith}
 use Rattle.std.specs.Prelude.{slice_get, slice_index_or}
 use Rattle.std.proofs.lemmas.Option.{slice_get_within, get_or_from_slice_get}
 use Rattle.balance.specs.declared.walk.Link.{Link}
@@ -6,7 +6,7 @@ use Rattle.balance.specs.declared.search.Found.{Found}
 use Rattle.balance.specs.Search.{IsFound}
 use Rattle.balance.specs.Ratios.{IsClosedRefusal}
 use Rattle.balance.proofs.Rounds.{small_at}
-use Rattle.balance.proofs.Keeping.{IsReady, ready, kept_refusal}
+use Rattle.balance.proofs.Keeping.{ready, kept_refusal}
 use Rattle.balance.proofs.closed.all_kept.Goals as goal
 
 none : Link
@@ -34,7 +34,7 @@ unbalanced-requires-clause-source c =
     let s = c.args.search.now in
     let l : Link = slice_index_or c.args.links.now c.in-Some.channel none in
     let r = ready c.args.links.now (length s.seen.items) s.found.items s.seen.items c.args.ratios.now c.requires.sums c.requires.ends c.requires.tree c.requires.connected c.requires.rated
-          c.in-Some.channel l (read c.args.links.now c.in-Some.channel c.in-Some.ensures.0 c.in-Some.ensures.1) in
+    c.in-Some.channel l (read c.args.links.now c.in-Some.channel c.in-Some.ensures.0 c.in-Some.ensures.1) in
     subst (λ (xs : List Found). IsFound xs l.source) (sym c.deref.ensures.value) r.source
 
 pub unbalanced-requires-clause-target : goal.unbalanced-requires-clause-target
@@ -43,7 +43,7 @@ unbalanced-requires-clause-target c =
     let s = c.args.search.now in
     let l : Link = slice_index_or c.args.links.now c.in-Some.channel none in
     let r = ready c.args.links.now (length s.seen.items) s.found.items s.seen.items c.args.ratios.now c.requires.sums c.requires.ends c.requires.tree c.requires.connected c.requires.rated
-          c.in-Some.channel l (read c.args.links.now c.in-Some.channel c.in-Some.ensures.0 c.in-Some.ensures.1) in
+    c.in-Some.channel l (read c.args.links.now c.in-Some.channel c.in-Some.ensures.0 c.in-Some.ensures.1) in
     subst (λ (xs : List Found). IsFound xs l.target) (sym c.deref.ensures.value) r.target
 
 pub unbalanced-requires-clause-from : goal.unbalanced-requires-clause-from
@@ -51,28 +51,28 @@ unfolding none
 unbalanced-requires-clause-from c =
     let s = c.args.search.now in
     (ready c.args.links.now (length s.seen.items) s.found.items s.seen.items c.args.ratios.now c.requires.sums c.requires.ends c.requires.tree c.requires.connected c.requires.rated
-      c.in-Some.channel (slice_index_or c.args.links.now c.in-Some.channel none) (read c.args.links.now c.in-Some.channel c.in-Some.ensures.0 c.in-Some.ensures.1)).from
+    c.in-Some.channel (slice_index_or c.args.links.now c.in-Some.channel none) (read c.args.links.now c.in-Some.channel c.in-Some.ensures.0 c.in-Some.ensures.1)).from
 
 pub unbalanced-requires-clause-to : goal.unbalanced-requires-clause-to
 unfolding none
 unbalanced-requires-clause-to c =
     let s = c.args.search.now in
     (ready c.args.links.now (length s.seen.items) s.found.items s.seen.items c.args.ratios.now c.requires.sums c.requires.ends c.requires.tree c.requires.connected c.requires.rated
-      c.in-Some.channel (slice_index_or c.args.links.now c.in-Some.channel none) (read c.args.links.now c.in-Some.channel c.in-Some.ensures.0 c.in-Some.ensures.1)).to
+    c.in-Some.channel (slice_index_or c.args.links.now c.in-Some.channel none) (read c.args.links.now c.in-Some.channel c.in-Some.ensures.0 c.in-Some.ensures.1)).to
 
 pub unbalanced-requires-clause-sums : goal.unbalanced-requires-clause-sums
 unfolding none
 unbalanced-requires-clause-sums c =
     let s = c.args.search.now in
     (ready c.args.links.now (length s.seen.items) s.found.items s.seen.items c.args.ratios.now c.requires.sums c.requires.ends c.requires.tree c.requires.connected c.requires.rated
-      c.in-Some.channel (slice_index_or c.args.links.now c.in-Some.channel none) (read c.args.links.now c.in-Some.channel c.in-Some.ensures.0 c.in-Some.ensures.1)).sums
+    c.in-Some.channel (slice_index_or c.args.links.now c.in-Some.channel none) (read c.args.links.now c.in-Some.channel c.in-Some.ensures.0 c.in-Some.ensures.1)).sums
 
 pub unbalanced-requires-clause-positive : goal.unbalanced-requires-clause-positive
 unfolding none
 unbalanced-requires-clause-positive c =
     let s = c.args.search.now in
     (ready c.args.links.now (length s.seen.items) s.found.items s.seen.items c.args.ratios.now c.requires.sums c.requires.ends c.requires.tree c.requires.connected c.requires.rated
-      c.in-Some.channel (slice_index_or c.args.links.now c.in-Some.channel none) (read c.args.links.now c.in-Some.channel c.in-Some.ensures.0 c.in-Some.ensures.1)).positive
+    c.in-Some.channel (slice_index_or c.args.links.now c.in-Some.channel none) (read c.args.links.now c.in-Some.channel c.in-Some.ensures.0 c.in-Some.ensures.1)).positive
 
 pub unbalanced-requires-clause-small : goal.unbalanced-requires-clause-small
 unbalanced-requires-clause-small c = small_at c.args.links.now (length c.args.search.now.seen.items) c.args.ratios.now c.requires.rated
@@ -84,6 +84,6 @@ returns-clause-refusal c =
     let (l, at, fails, before) = c.in-Some.ensures in
     let same = get_or_from_slice_get c.args.links.now c.in-Some.channel l none at in
     let closed = subst (λ (x : Link). IsClosedRefusal s.found.items c.args.ratios.now c.in-Some.channel x c.in_ok-unbalanced.field-0) same
-          (subst (λ (xs : List Found). IsClosedRefusal xs c.args.ratios.now c.in-Some.channel (slice_index_or c.args.links.now c.in-Some.channel none) c.in_ok-unbalanced.field-0) c.deref.ensures.value c.in_ok-unbalanced.ensures) in
+    (subst (λ (xs : List Found). IsClosedRefusal xs c.args.ratios.now c.in-Some.channel (slice_index_or c.args.links.now c.in-Some.channel none) c.in_ok-unbalanced.field-0) c.deref.ensures.value c.in_ok-unbalanced.ensures) in
     kept_refusal c.args.links.now (length s.seen.items) s.found.items s.seen.items c.args.ratios.now c.requires.sums c.requires.ends c.requires.tree c.requires.rated
-      c.in-Some.channel l at fails before c.in_ok-unbalanced.field-0 closed
+    c.in-Some.channel l at fails before c.in_ok-unbalanced.field-0 closed

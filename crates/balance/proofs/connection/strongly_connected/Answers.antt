@@ -1,4 +1,4 @@
-use Rattle.std.proofs.Common.{◌≡◌, ℕ, ◌<◌, List, Bool, length, true, sym, subst, ap, ◌∙◌, arith}
+use Rattle.std.proofs.Common.{◌≡◌, ℕ, ◌<◌, List, Bool, length, true, subst, ap, arith}
 use Rattle.balance.specs.Search.{mark_at}
 use Rattle.balance.proofs.Paths.{through}
 use Rattle.balance.proofs.connection.strongly_connected.Goals as goal
@@ -11,8 +11,8 @@ mark marks read actors v e size all lt =
 pub returns-clause-connected : goal.returns-clause-connected
 returns-clause-connected c =
     λ a b la lb.
-      through c.args.ends.now a 0 b
-        (c.in_ok-to_first.ensures.led a
-          (mark c.in_ok-to_first.to_first.items c.deref-2.result.now c.args.actors a c.deref-2.ensures.value c.in_ok-to_first.ensures.size c.in_default-first_unmarked.ensures la))
-        (c.in_ok-from_first.ensures.led b
-          (mark c.in_ok-from_first.from_first.items c.deref.result.now c.args.actors b c.deref.ensures.value c.in_ok-from_first.ensures.size c.in_default.ensures lb))
+    through c.args.ends.now a 0 b
+    (c.in_ok-to_first.ensures.led a
+    (mark c.in_ok-to_first.to_first.items c.deref-2.result.now c.args.actors a c.deref-2.ensures.value c.in_ok-to_first.ensures.size c.in_default-first_unmarked.ensures la))
+    (c.in_ok-from_first.ensures.led b
+    (mark c.in_ok-from_first.from_first.items c.deref.result.now c.args.actors b c.deref.ensures.value c.in_ok-from_first.ensures.size c.in_default.ensures lb))

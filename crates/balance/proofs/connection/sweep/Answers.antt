@@ -1,4 +1,4 @@
-use Rattle.std.proofs.Common.{◌≡◌, ℕ, ◌<◌, ◌+◌, ◌∙◌, List, Bool, Some, true, false, length, sym, subst, ap, arith}
+use Rattle.std.proofs.Common.{◌≡◌, ℕ, ◌+◌, ◌∙◌, List, Bool, Some, true, false, length, sym, subst, ap}
 use Rattle.std.specs.Prelude.{slice_get, slice_index_or, slice_set}
 use Rattle.std.proofs.lemmas.Option.{slice_get-get_or}
 use Rattle.balance.specs.Search.{mark_at}
@@ -20,17 +20,17 @@ loop-pair-preserved c =
     let from : c.directed-from.result.0 ≡ pair_from d e = c.directed-from.ensures.from in
     let to : c.directed-from.result.1 ≡ pair_to d e = c.directed-from.ensures.to in
     elim c.if-spread.branch [
-      then-spread w ↦
-        let h = c.spread.ensures.marked w.if-spread.true in
-        let next = sweep_marked d ends start marks k c.loop-pair.grew e at within.1 (subst (λ n. mark_at marks n ≡ true) from h.0) (subst (λ n. mark_at marks n ≡ false) to h.1) c.loop-pair.invariant in
-        let new : c.spread.new.marks.items ≡ slice_set marks (pair_to d e) true = h.2 ∙ ap (λ n. slice_set marks n true) to in
-        rw w.grew-is (subst (λ (bs : List Bool). IsSweep d ends start bs (k + 1) true) (sym new) next)
-    | else-spread w ↦
-        let h = c.spread.ensures.idle w.if-spread.false in
-        let idle : mark_at marks (pair_from d e) ≡ true → mark_at marks (pair_to d e) ≡ true =
-              λ on. subst (λ n. mark_at marks n ≡ true) to (h.1 (subst (λ n. mark_at marks n ≡ true) (sym from) on)) in
-        let next = sweep_idle d ends start marks k c.loop-pair.grew e at idle c.loop-pair.invariant in
-        rw w.grew-is (subst (λ (bs : List Bool). IsSweep d ends start bs (k + 1) c.loop-pair.grew) (sym h.0) next)
+      | then-spread w ↦
+          let h = c.spread.ensures.marked w.if-spread.true in
+          let next = sweep_marked d ends start marks k c.loop-pair.grew e at within.1 (subst (λ n. mark_at marks n ≡ true) from h.0) (subst (λ n. mark_at marks n ≡ false) to h.1) c.loop-pair.invariant in
+          let new : c.spread.new.marks.items ≡ slice_set marks (pair_to d e) true = h.2 ∙ ap (λ n. slice_set marks n true) to in
+          rw w.grew-is (subst (λ (bs : List Bool). IsSweep d ends start bs (k + 1) true) (sym new) next)
+      | else-spread w ↦
+          let h = c.spread.ensures.idle w.if-spread.false in
+          let idle : mark_at marks (pair_from d e) ≡ true → mark_at marks (pair_to d e) ≡ true =
+          λ on. subst (λ n. mark_at marks n ≡ true) to (h.1 (subst (λ n. mark_at marks n ≡ true) (sym from) on)) in
+          let next = sweep_idle d ends start marks k c.loop-pair.grew e at idle c.loop-pair.invariant in
+          rw w.grew-is (subst (λ (bs : List Bool). IsSweep d ends start bs (k + 1) c.loop-pair.grew) (sym h.0) next)
     ]
 
 pub returns-clause-closed : goal.returns-clause-closed

@@ -1,4 +1,3 @@
-use Rattle.std.proofs.Common.{arith}
 use Rattle.std.proofs.lemmas.Nat.Gcd.{IsGcd-swap}
 use Rattle.sd_base.proofs.Divisors.{gcd_pos}
 use Rattle.balance.proofs.Fractions.{lowest_by}

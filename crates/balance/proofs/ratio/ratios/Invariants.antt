@@ -1,4 +1,4 @@
-use Rattle.std.proofs.Common.{◌≡◌, ◌≤◌, length}
+use Rattle.std.proofs.Common.{◌≡◌, length}
 use Rattle.balance.specs.Ratios.{AreRated}
 use Rattle.balance.proofs.ratio.ratios.Given as goal
 

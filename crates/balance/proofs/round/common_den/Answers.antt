@@ -1,4 +1,4 @@
-use Rattle.std.proofs.Common.{◌≡◌, ℕ, ◌<◌, ◌≤◌, Some, length, arith}
+use Rattle.std.proofs.Common.{arith}
 use Rattle.std.proofs.lemmas.Option.{slice_get-get_or}
 use Rattle.std.specs.Prelude.{slice_index_or}
 use Rattle.balance.specs.declared.ratio.Ratio.{Ratio}
@@ -16,16 +16,17 @@ unfolding none
 returns-in_err-common c =
     let at = slice_get-get_or c.args.ratios.now c.loop-ratio.ratio-index none c.loop-ratio-test.true in
     rw c.from_residual.ensures
-      (common_above c.args.ratios.now c.loop-ratio.ratio-index c.loop-ratio.common 100000 (slice_index_or c.args.ratios.now c.loop-ratio.ratio-index none) at
-        c.in_err-common.ensures c.loop-ratio.invariant.0)
+    (common_above c.args.ratios.now c.loop-ratio.ratio-index c.loop-ratio.common 100000 (slice_index_or c.args.ratios.now c.loop-ratio.ratio-index none) at
+    c.in_err-common.ensures c.loop-ratio.invariant.0)
 
 pub loop-ratio-preserved : goal.loop-ratio-preserved
 unfolding none
 loop-ratio-preserved c =
-    let at = slice_get-get_or c.args.ratios.now c.loop-ratio.ratio-index none c.loop-ratio-test.true in
-    ( common_more c.args.ratios.now c.loop-ratio.ratio-index c.loop-ratio.common c.in_ok-common.common (slice_index_or c.args.ratios.now c.loop-ratio.ratio-index none) at
-        c.in_ok-common.ensures.0 c.loop-ratio.invariant.0
-    , c.in_ok-common.ensures.1 )
+    let at = slice_get-get_or c.args.ratios.now c.loop-ratio.ratio-index none c.loop-ratio-test.true in (
+      common_more c.args.ratios.now c.loop-ratio.ratio-index c.loop-ratio.common c.in_ok-common.common (slice_index_or c.args.ratios.now c.loop-ratio.ratio-index none) at
+          c.in_ok-common.ensures.0 c.loop-ratio.invariant.0,
+      c.in_ok-common.ensures.1,
+    )
 
 pub returns : goal.returns
 returns c = (common_end c.args.ratios.now c.loop-ratio.ratio-index c.loop-ratio.common c.loop-ratio-test.false c.loop-ratio.invariant.0, c.loop-ratio.invariant.1)

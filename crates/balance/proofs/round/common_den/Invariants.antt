@@ -1,7 +1,4 @@
-use Rattle.std.proofs.Common.{◌≡◌, ℕ, ◌<◌, ◌≤◌, Some}
-use Rattle.std.specs.Prelude.{slice_get}
-use Rattle.std.specs.Int.{◌∣◌}
-use Rattle.balance.specs.declared.ratio.Ratio.{Ratio}
+use Rattle.std.proofs.Common.{◌≤◌}
 use Rattle.balance.proofs.round.common_den.Given as goal
 use Rattle.balance.proofs.Rounds.{IsCommonBelow}
 

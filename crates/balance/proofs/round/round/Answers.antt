@@ -1,4 +1,4 @@
-use Rattle.std.proofs.Common.{◌≡◌, ◌<◌, ◌≤◌, List, ℕ, length, sum, ap, subst, sym, ◌∙◌, arith}
+use Rattle.std.proofs.Common.{◌≡◌, ◌<◌, ◌≤◌, List, ℕ, length, sum, ap, subst, sym, arith}
 use Rattle.sd_base.specs.Net.{IsRepetitionOf}
 use Rattle.balance.specs.Walks.{links_of}
 use Rattle.balance.proofs.Rounds.{common_exists, dens_pos, round_exists, round_is, round_above, all_small, round_fits}
@@ -30,10 +30,11 @@ pub returns-then-total-gt-ROUND_LIMIT-clause-refusal : goal.returns-then-total-g
 returns-then-total-gt-ROUND_LIMIT-clause-refusal c =
     let e : sum c.deref.result.now ≡ sum c.in_ok-round.round.items = ap sum c.deref.ensures.value in
     let above = c.if-total-gt-ROUND_LIMIT.true in
-    let is = c.total.ensures in
-    ( c.in_ok-round.round.items
-    , round_is c.args.graph.now c.requires.rules c.args.ratios.now c.in-Some.cycles c.in_ok-round.round.items c.requires.rated c.in-Some.ensures.0 c.requires.kept c.in_ok-round.ensures
-    , omega arith )
+    let is = c.total.ensures in (
+      c.in_ok-round.round.items,
+      round_is c.args.graph.now c.requires.rules c.args.ratios.now c.in-Some.cycles c.in_ok-round.round.items c.requires.rated c.in-Some.ensures.0 c.requires.kept c.in_ok-round.ensures,
+      omega arith,
+    )
 
 pub returns-clause-ok : goal.returns-clause-ok
 returns-clause-ok c =
@@ -43,5 +44,5 @@ returns-clause-ok c =
     let is = c.total.ensures in
     let le : sum v ≤ 100000 = omega arith in
     let least : IsRepetitionOf c.args.graph.now v =
-          round_is c.args.graph.now c.requires.rules c.args.ratios.now c.in-Some.cycles v c.requires.rated c.in-Some.ensures.0 c.requires.kept c.in_ok-round.ensures in
+    round_is c.args.graph.now c.requires.rules c.args.ratios.now c.in-Some.cycles v c.requires.rated c.in-Some.ensures.0 c.requires.kept c.in_ok-round.ensures in
     subst (λ (t : List ℕ). IsRepetitionOf c.args.graph.now t × (sum t ≤ 100000)) (sym c.from_vec.ensures) (least, le)

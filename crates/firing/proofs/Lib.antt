@@ -1,0 +1,5 @@
+pub mod PortSums
+pub mod Singles
+pub mod SdfTables
+pub mod Listings
+pub mod TokenMoves

@@ -1,0 +1,16 @@
+//! Dataflow nets as one trait with its laws, the net of a synchronous graph, and needs between firings.
+#![tactic(auto)]
+
+mod net;
+mod sdf;
+mod sums;
+mod table;
+mod tokens;
+mod wiring;
+
+pub use net::{Firing, know_laws};
+pub use sdf::SdfNet;
+pub use sums::{Port, made_sum, need, taken_sum};
+pub use table::LoopTable;
+pub use tokens::{first_lack, initial_tokens, put_tokens, take_tokens};
+pub use wiring::Wiring;

@@ -1,0 +1,128 @@
+ghost use Rattle.std.specs.Prelude.{◌≡◌, ◌+◌, ◌-◌, ◌*◌, ◌^◌, ◌<◌, ◌≤◌, length, slice_index};
+ghost use Rattle.sd_base.specs.Net.{channel_at, total};
+ghost use Rattle.sd_base.specs.Schedules.{IsNeed};
+ghost use Rattle.firing.specs.Ports.{rates_at};
+
+use crate::net::{Firing, know_laws};
+
+/// An end of a channel: what its source makes, or what its target takes.
+#[derive(Clone, Copy, Debug)]
+pub enum Port {
+    Made,
+    Taken,
+}
+
+/// The tokens that the first `firings` firings of the source put on a channel. Cost: linear in the phases
+/// of the source.
+pub fn made_sum<F: Firing>(net: &F, channel: u32, firings: u128) -> u128
+    requires channel { channel < length (F.net net.now).channels }
+    requires few { firings ≤ 2 ^ 96 }
+    ensures { result ≡ total (channel_at (F.net net.now) channel).made firings }
+{
+    port_sum(net, channel, Port::Made, firings)
+}
+
+/// The tokens that the first `firings` firings of the target take from a channel. Cost: linear in the
+/// phases of the target.
+pub fn taken_sum<F: Firing>(net: &F, channel: u32, firings: u128) -> u128
+    requires channel { channel < length (F.net net.now).channels }
+    requires few { firings ≤ 2 ^ 96 }
+    ensures { result ≡ total (channel_at (F.net net.now) channel).taken firings }
+{
+    port_sum(net, channel, Port::Taken, firings)
+}
+
+/// The sum over whole turns of the phases and a rest.
+fn port_sum<F: Firing>(net: &F, channel: u32, port: Port, firings: u128) -> u128
+    requires channel { channel < length (F.net net.now).channels }
+    requires few { firings ≤ 2 ^ 96 }
+    ensures { result ≡ total (rates_at port (channel_at (F.net net.now) channel)) firings }
+{
+    let phases = phases_at(net, channel, port);
+    let turn = turn_sum(net, channel, port, phases);
+    let rest = turn_sum(net, channel, port, (firings % phases as u128) as u32);
+    firings / phases as u128 * turn + rest
+}
+
+/// How many phases the actor at an end of a channel has.
+pub(crate) fn phases_at<F: Firing>(net: &F, channel: u32, port: Port) -> u32
+    requires { channel < length (F.net net.now).channels }
+    ensures phases { result ≡ length (rates_at port (channel_at (F.net net.now) channel)) }
+    ensures some { 0 < result }
+{
+    know_laws(net);
+    match port {
+        Port::Made => net.phases(net.source(channel)),
+        Port::Taken => net.phases(net.target(channel)),
+    }
+}
+
+/// The rate at an end of a channel in a phase.
+pub(crate) fn rate<F: Firing>(net: &F, channel: u32, port: Port, phase: u32) -> u64
+    requires channel { channel < length (F.net net.now).channels }
+    requires phase { phase < length (rates_at port (channel_at (F.net net.now) channel)) }
+    ensures rate { result ≡ slice_index (rates_at port (channel_at (F.net net.now) channel)) phase }
+    ensures small { result ≤ 1000000 }
+{
+    know_laws(net);
+    match port {
+        Port::Made => net.made(channel, phase),
+        Port::Taken => net.taken(channel, phase),
+    }
+}
+
+/// The sum over the first phases of one turn.
+fn turn_sum<F: Firing>(net: &F, channel: u32, port: Port, phases: u32) -> u128
+    requires channel { channel < length (F.net net.now).channels }
+    requires phases { phases ≤ length (rates_at port (channel_at (F.net net.now) channel)) }
+    ensures sum { result ≡ total (rates_at port (channel_at (F.net net.now) channel)) phases }
+    ensures small { result ≤ phases * 1000000 }
+{
+    let mut sum = 0u128;
+    for phase in 0..phases {
+        sum += rate(net, channel, port, phase) as u128;
+    }
+    sum
+}
+
+/// The least number of firings of the source of a channel with which there are tokens enough for firing
+/// number `firing` of its target. Cost: linear in the phases of both.
+pub fn need<F: Firing>(net: &F, channel: u32, firing: u64) -> u64
+    requires channel { channel < length (F.net net.now).channels }
+    requires few { firing ≤ 2 ^ 40 }
+    ensures { IsNeed (channel_at (F.net net.now) channel) firing result }
+{
+    know_laws(net);
+    let taken = taken_sum(net, channel, firing as u128 + 1);
+    let tokens = net.tokens(channel) as u128;
+    if taken <= tokens {
+        return 0;
+    }
+    let lack = taken - tokens;
+    let phases = phases_at(net, channel, Port::Made);
+    let turn = turn_sum(net, channel, Port::Made, phases);
+    let turns = (lack - 1) / turn;
+    let rest = firings_making(net, channel, lack - turns * turn);
+    (turns * phases as u128 + rest as u128) as u64
+}
+
+/// The least number of firings of the source, within one turn of its phases, that make so many tokens.
+fn firings_making<F: Firing>(net: &F, channel: u32, wanted: u128) -> u32
+    requires channel { channel < length (F.net net.now).channels }
+    requires some { 1 ≤ wanted }
+    requires enough { wanted ≤ total (channel_at (F.net net.now) channel).made (length (channel_at (F.net net.now) channel).made) }
+    ensures some { 1 ≤ result }
+    ensures turn { result ≤ length (channel_at (F.net net.now) channel).made }
+    ensures enough { wanted ≤ total (channel_at (F.net net.now) channel).made result }
+    ensures least { total (channel_at (F.net net.now) channel).made (result - 1) < wanted }
+{
+    let phases = phases_at(net, channel, Port::Made);
+    let mut sum = 0u128;
+    for phase in 0..phases {
+        sum += rate(net, channel, Port::Made, phase) as u128;
+        if sum >= wanted {
+            return phase + 1;
+        }
+    }
+    unreachable!()
+}

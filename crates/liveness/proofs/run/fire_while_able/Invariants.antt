@@ -1,0 +1,17 @@
+use Rattle.std.proofs.Common.{◌≡◌, ◌<◌}
+use Rattle.std.specs.Prelude.{slice_index}
+use Rattle.std.specs.Bool.{MatchBool}
+use Rattle.sd_base.proofs.Ends.{left_of}
+use Rattle.liveness.specs.Runs.{IsRun}
+use Rattle.liveness.proofs.run.fire_while_able.Given as goal
+
+abbrev pub invariant-firings : goal.invariant-firings
+invariant-firings g l = record {
+  run : IsRun (g.F.Firing.net l.net) l.counts l.tokens l.order.items;
+  fired : MatchBool l.fired
+      (left_of (g.F.Firing.net l.net) (slice_index l.counts) < left_of (g.F.Firing.net l.net) (slice_index l.initial.counts))
+      (l.counts ≡ l.initial.counts);
+}
+
+abbrev pub decreases-firings : goal.decreases-firings
+decreases-firings g l = left_of (g.F.Firing.net l.net) (slice_index l.counts)

@@ -1,0 +1,7 @@
+//! Whether a round of a net can be completed: the order of a round, or the counts at which the net is blocked.
+#![tactic(auto)]
+
+mod round;
+mod run;
+
+pub use round::{Round, one_round};

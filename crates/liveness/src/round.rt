@@ -1,0 +1,107 @@
+ghost use Rattle.std.specs.Prelude.{◌≡◌, ◌≤◌, ◌<◌, ◌↔◌, ℕ, IsTrue, IfOk, MatchOption, length, slice_index};
+ghost use Rattle.sd_base.specs.Untimed.{IsLive, Closed};
+ghost use Rattle.firing.specs.declared.sums.Port.TheVariants.{Made, Taken};
+ghost use Rattle.firing.specs.Wiring.{AreListed, IsLevel};
+
+use crate::run::finish;
+use firing::{Firing, Wiring, first_lack, initial_tokens};
+use sd_base::{NoMemory, Rows};
+use std::alloc::Global;
+
+/// What firing actors one after another, at most a round of each, comes to.
+#[derive(Debug, Drop)]
+pub enum Round {
+    /// A round, with its firings in an order in which they can fire.
+    Live {
+        order: Rows<u32>,
+    },
+    /// No round can be completed. By actor the firings after which none can go on, and the first channel
+    /// in the net's order on which an actor below its round lacks tokens.
+    Blocked {
+        counts: Rows<u64>,
+        lacks: Rows<Option<u32>>,
+    },
+}
+
+ghost use Rattle.liveness.specs.Rounds.{NamesLacks, IsFirstLacking, IsAnswer, is_live};
+
+/// Fires a round, or as much of it as can fire. Cost: linear in the firings of a round times the channels.
+pub fn one_round<F: Firing>(alloc: Global, net: &F) -> Result<Round, NoMemory>
+    ensures answer { IfOk result (IsAnswer (F.net net.now)) }
+    ensures exact { IfOk result (λ round. IsTrue (is_live round) ↔ IsLive (F.net net.now)) }
+{
+    let wiring = Wiring::new(alloc, net)?;
+    let mut counts = vec![in alloc; 0u64; net.actors() as usize]?;
+    let mut tokens = initial_tokens(alloc, net)?;
+    let mut order = Vec::new(alloc);
+    finish(net, &wiring, &mut counts, &mut tokens, &mut order)?;
+    if is_whole(net, counts.as_slice()) {
+        return Ok(Round::Live {
+            order: Rows::from_vec(order),
+        });
+    }
+    let lacks = lacking_channels(alloc, net, &wiring, counts.as_slice(), tokens.as_slice())?;
+    Ok(Round::Blocked {
+        counts: Rows::from_vec(counts),
+        lacks,
+    })
+}
+
+/// Whether each actor has fired its round.
+fn is_whole<F: Firing>(net: &F, counts: &[u64]) -> bool
+    requires { length counts.now ≡ length (F.net net.now).times }
+    ensures { IsTrue result ↔ ((a : ℕ) → a < length (F.net net.now).times →
+        slice_index counts.now a ≡ slice_index (F.net net.now).round a) }
+{
+    for actor in 0..net.actors() {
+        if counts[actor as usize] != net.round(actor) {
+            return false;
+        }
+    }
+    true
+}
+
+/// By actor the first channel on which it lacks tokens, if it is below its round.
+fn lacking_channels<F: Firing>(
+    alloc: Global,
+    net: &F,
+    wiring: &Wiring,
+    counts: &[u64],
+    tokens: &[u128],
+) -> Result<Rows<Option<u32>>, NoMemory>
+    requires actors { length counts.now ≡ length (F.net net.now).times }
+    requires inputs { AreListed (F.net net.now) Taken wiring.now.inputs }
+    requires level { IsLevel (F.net net.now) (slice_index counts.now) (slice_index counts.now) tokens.now }
+    requires closed { Closed (F.net net.now) (slice_index counts.now) }
+    ensures { IfOk result (NamesLacks (F.net net.now) (slice_index counts.now)) }
+{
+    let mut lacks = Rows::new(alloc);
+    for actor in 0..net.actors() {
+        lacks.push(lacking_channel(net, wiring, actor, counts, tokens))?;
+    }
+    Ok(lacks)
+}
+
+/// The first channel on which an actor lacks tokens, if it is below its round.
+fn lacking_channel<F: Firing>(
+    net: &F,
+    wiring: &Wiring,
+    actor: u32,
+    counts: &[u64],
+    tokens: &[u128],
+) -> Option<u32>
+    requires actor { actor < length (F.net net.now).times }
+    requires actors { length counts.now ≡ length (F.net net.now).times }
+    requires inputs { AreListed (F.net net.now) Taken wiring.now.inputs }
+    requires level { IsLevel (F.net net.now) (slice_index counts.now) (slice_index counts.now) tokens.now }
+    requires closed { Closed (F.net net.now) (slice_index counts.now) }
+    ensures { MatchOption result (slice_index (F.net net.now).round actor ≤ slice_index counts.now actor)
+        (λ i. (slice_index counts.now actor < slice_index (F.net net.now).round actor)
+        × IsFirstLacking (F.net net.now) (slice_index counts.now) actor i) }
+{
+    let count = counts[actor as usize];
+    if count >= net.round(actor) {
+        return None;
+    }
+    first_lack(net, wiring.inputs_of(actor), tokens, actor, count)
+}

@@ -1,0 +1,133 @@
+ghost use Rattle.std.specs.Prelude.{◌≡◌, ◌<◌, IfOk, OnOk, MatchBool, length, slice_index};
+ghost use Rattle.sd_base.specs.Untimed.{Closed};
+ghost use Rattle.sd_base.proofs.Ends.{left_of};
+ghost use Rattle.firing.specs.declared.sums.Port.TheVariants.{Made, Taken};
+ghost use Rattle.firing.specs.Wiring.{AreListed};
+ghost use Rattle.liveness.specs.Runs.{IsRun, IsStopped};
+
+use firing::{Firing, Wiring, first_lack, know_laws, put_tokens, take_tokens};
+use sd_base::NoMemory;
+
+/// Fires actors one after another until none can fire within its round.
+pub(crate) fn run_out<F: Firing>(
+    net: &F,
+    wiring: &Wiring,
+    counts: &mut [u64],
+    tokens: &mut [u128],
+    order: &mut Vec<u32>,
+) -> Result<(), NoMemory>
+    requires inputs { AreListed (F.net net.now) Taken wiring.now.inputs }
+    requires outputs { AreListed (F.net net.now) Made wiring.now.outputs }
+    requires run { IsRun (F.net net.now) counts.old tokens.old order.old.items }
+    ensures run { OnOk result (IsRun (F.net net.now) counts.new tokens.new order.new.items) }
+    ensures closed { OnOk result (Closed (F.net net.now) (slice_index counts.new)) }
+{
+    'turns: while one_turn(net, wiring, counts, tokens, order)? {}
+    Ok(())
+}
+
+/// Gives each actor its turn, and tells whether any fired.
+fn one_turn<F: Firing>(
+    net: &F,
+    wiring: &Wiring,
+    counts: &mut [u64],
+    tokens: &mut [u128],
+    order: &mut Vec<u32>,
+) -> Result<bool, NoMemory>
+    requires inputs { AreListed (F.net net.now) Taken wiring.now.inputs }
+    requires outputs { AreListed (F.net net.now) Made wiring.now.outputs }
+    requires run { IsRun (F.net net.now) counts.old tokens.old order.old.items }
+    ensures run { OnOk result (IsRun (F.net net.now) counts.new tokens.new order.new.items) }
+    ensures fired { IfOk result (λ b. MatchBool b
+        (left_of (F.net net.now) (slice_index counts.new) < left_of (F.net net.now) (slice_index counts.old))
+        (Closed (F.net net.now) (slice_index counts.new))) }
+{
+    let mut fired = false;
+    for actor in 0..net.actors() {
+        if fire_while_able(net, wiring, actor, counts, tokens, order)? {
+            fired = true;
+        }
+    }
+    Ok(fired)
+}
+
+/// Fires an actor as often as it can within its round, and tells whether it fired.
+fn fire_while_able<F: Firing>(
+    net: &F,
+    wiring: &Wiring,
+    actor: u32,
+    counts: &mut [u64],
+    tokens: &mut [u128],
+    order: &mut Vec<u32>,
+) -> Result<bool, NoMemory>
+    requires actor { actor < length (F.net net.now).times }
+    requires inputs { AreListed (F.net net.now) Taken wiring.now.inputs }
+    requires outputs { AreListed (F.net net.now) Made wiring.now.outputs }
+    requires run { IsRun (F.net net.now) counts.old tokens.old order.old.items }
+    ensures run { OnOk result (IsRun (F.net net.now) counts.new tokens.new order.new.items) }
+    ensures fired { IfOk result (λ b. MatchBool b
+        (left_of (F.net net.now) (slice_index counts.new) < left_of (F.net net.now) (slice_index counts.old))
+        ((counts.new ≡ counts.old) × IsStopped (F.net net.now) (slice_index counts.new) actor)) }
+{
+    let mut fired = false;
+    'firings: while fire_if_able(net, wiring, actor, counts, tokens, order)? {
+        fired = true;
+    }
+    Ok(fired)
+}
+
+/// Fires an actor once if it can within its round, and tells whether it did.
+fn fire_if_able<F: Firing>(
+    net: &F,
+    wiring: &Wiring,
+    actor: u32,
+    counts: &mut [u64],
+    tokens: &mut [u128],
+    order: &mut Vec<u32>,
+) -> Result<bool, NoMemory>
+    requires actor { actor < length (F.net net.now).times }
+    requires inputs { AreListed (F.net net.now) Taken wiring.now.inputs }
+    requires outputs { AreListed (F.net net.now) Made wiring.now.outputs }
+    requires run { IsRun (F.net net.now) counts.old tokens.old order.old.items }
+    ensures run { OnOk result (IsRun (F.net net.now) counts.new tokens.new order.new.items) }
+    ensures fired { IfOk result (λ b. MatchBool b
+        (left_of (F.net net.now) (slice_index counts.new) < left_of (F.net net.now) (slice_index counts.old))
+        ((counts.new ≡ counts.old) × IsStopped (F.net net.now) (slice_index counts.new) actor)) }
+{
+    know_laws(net);
+    let count = counts[actor as usize];
+    if count >= net.round(actor) {
+        return Ok(false);
+    }
+    let inputs = wiring.inputs_of(actor);
+    if let Some(_lacking) = first_lack(net, inputs, tokens, actor, count) {
+        return Ok(false);
+    }
+    order.push(actor)?;
+    take_tokens(net, inputs, tokens, actor, count, 1);
+    put_tokens(net, wiring.outputs_of(actor), tokens, actor, count, 1);
+    counts[actor as usize] = count + 1;
+    Ok(true)
+}
+/// Fires actors one after another until none can fire within its round.
+pub(crate) fn finish<F: Firing>(
+    net: &F,
+    wiring: &Wiring,
+    counts: &mut Vec<u64>,
+    tokens: &mut Vec<u128>,
+    order: &mut Vec<u32>,
+) -> Result<(), NoMemory>
+    requires inputs { AreListed (F.net net.now) Taken wiring.now.inputs }
+    requires outputs { AreListed (F.net net.now) Made wiring.now.outputs }
+    requires run { IsRun (F.net net.now) counts.old.items tokens.old.items order.old.items }
+    ensures run { OnOk result (IsRun (F.net net.now) counts.new.items tokens.new.items order.new.items) }
+    ensures closed { OnOk result (Closed (F.net net.now) (slice_index counts.new.items)) }
+{
+    run_out(
+        net,
+        wiring,
+        counts.as_mut_slice(),
+        tokens.as_mut_slice(),
+        order,
+    )
+}
