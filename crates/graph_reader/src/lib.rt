@@ -3,17 +3,10 @@
 
 ghost use Rattle.std.specs.Prelude.{◌≡◌, Ok, IsTrue, IfErr, IfOk};
 ghost use Rattle.sd_base.specs.Tables.{KeepsRules, IsTimed};
-<<<<<<< HEAD
-ghost use Rattle.sd_base.specs.declared.tables.GraphFile.{GraphFile};
-ghost use Rattle.graph_reader.specs.Chain.{is_plain_chain};
-ghost use Rattle.graph_reader.specs.Written.{written};
-ghost use Rattle.graph_reader.specs.Laws.{HasOneChain, ChainsKeepRules};
-=======
 ghost use Rattle.file_text.specs.Node.{Node};
 ghost use Rattle.file_text.specs.Grammar.{IsText};
 ghost use Rattle.graph_reader.specs.Reading.{IsFirstFault};
 ghost use Rattle.graph_reader.specs.Sections.{table_of};
->>>>>>> h_b2
 
 mod actors;
 mod channels;
@@ -46,21 +39,3 @@ pub fn read_graph(alloc: Global, bytes: &[u8], need_times: bool) -> Result<Graph
         Err(fault) => Err(ReadError::Text { fault }),
     }
 }
-<<<<<<< HEAD
-
-/// Two plain chains of one written form are one, and a plain chain keeps the rules of a table.
-pub fn know_chains()
-    ensures one { HasOneChain }
-    ensures keeps { ChainsKeepRules }
-{}
-
-fn is_same(a: &[u8], b: &[u8]) -> bool
-    ensures { IsTrue result ↔ (a.now ≡ b.now) }
-{
-    a == b
-}
-
-#[cfg(test)]
-mod tests;
-=======
->>>>>>> h_b2
