@@ -1,5 +1,4 @@
 mod Causes
-mod Decided
 mod Shown
 mod FourWords
 mod WalkSteps

@@ -3,7 +3,6 @@
 
 mod balancing;
 mod command;
-mod laws;
 mod reading;
 mod sending;
 mod status;
@@ -12,7 +11,6 @@ mod words;
 mod work;
 
 pub use command::analyse;
-pub use laws::know_endings;
 pub use status::Status;
 
 #[cfg(test)]

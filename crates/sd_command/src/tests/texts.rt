@@ -1,5 +1,5 @@
-use super::files::CHAIN_OF_THREE;
 use super::expect;
+use super::files::CHAIN_OF_THREE;
 use crate::Status;
 use std::test::Fail;
 
@@ -7,14 +7,8 @@ const REPETITION: [&str; 4] = ["--algo", "repetition", "--graph", "f"];
 
 /// Files that break one rule, or two of which the first counts, each with its line.
 const REFUSED: [(&str, &str); 56] = [
-    (
-        "",
-        "sdf3analysis: form: text at byte 0\n",
-    ),
-    (
-        "<sdf3></sdf>",
-        "sdf3analysis: form: text at byte 11\n",
-    ),
+    ("", "sdf3analysis: form: text at byte 0\n"),
+    ("<sdf3></sdf>", "sdf3analysis: form: text at byte 11\n"),
     (
         "<a>&#65;</a>",
         "sdf3analysis: form: character reference at byte 3\n",
@@ -23,10 +17,7 @@ const REFUSED: [(&str, &str); 56] = [
         "<!DOCTYPE a>",
         "sdf3analysis: form: document type at byte 0\n",
     ),
-    (
-        "<!D",
-        "sdf3analysis: form: text at byte 2\n",
-    ),
+    ("<!D", "sdf3analysis: form: text at byte 2\n"),
     (
         "<a><![CDATA[x]]></a>",
         "sdf3analysis: form: CDATA section at byte 3\n",
@@ -43,22 +34,10 @@ const REFUSED: [(&str, &str); 56] = [
         "<?xml version='1.0' encoding='latin1'?><a/>",
         "sdf3analysis: form: encoding at byte 30\n",
     ),
-    (
-        "<a b='1' b='2'/>",
-        "sdf3analysis: form: text at byte 10\n",
-    ),
-    (
-        "<a/>",
-        "sdf3analysis: form: missing sdf3 in file\n",
-    ),
-    (
-        "<sdf3/>",
-        "sdf3analysis: form: missing type in file\n",
-    ),
-    (
-        "<sdf3 type='csdf'/>",
-        "sdf3analysis: form: wrong kind\n",
-    ),
+    ("<a b='1' b='2'/>", "sdf3analysis: form: text at byte 10\n"),
+    ("<a/>", "sdf3analysis: form: missing sdf3 in file\n"),
+    ("<sdf3/>", "sdf3analysis: form: missing type in file\n"),
+    ("<sdf3 type='csdf'/>", "sdf3analysis: form: wrong kind\n"),
     (
         "<sdf3 type='sdf'/>",
         "sdf3analysis: form: missing applicationGraph in file\n",
@@ -254,13 +233,23 @@ const READ: [(&str, &str); 4] = [
 ];
 
 fn status_of(line: &str) -> Status {
-    if line.starts_with("sdf3analysis: limit") { Status::Limit } else { Status::Form }
+    if line.starts_with("sdf3analysis: limit") {
+        Status::Limit
+    } else {
+        Status::Form
+    }
 }
 
 #[test]
 fn each_rule_has_its_line(rt: HostRuntime) -> Result<(), Fail> {
     for (file, line) in &REFUSED {
-        expect(&rt, rt.alloc(), &REPETITION, file.as_bytes(), (status_of(line), "", line))?;
+        expect(
+            &rt,
+            rt.alloc(),
+            &REPETITION,
+            file.as_bytes(),
+            (status_of(line), "", line),
+        )?;
     }
     Ok(())
 }
@@ -268,7 +257,13 @@ fn each_rule_has_its_line(rt: HostRuntime) -> Result<(), Fail> {
 #[test]
 fn files_of_other_tools_are_read(rt: HostRuntime) -> Result<(), Fail> {
     for (file, text) in &READ {
-        expect(&rt, rt.alloc(), &REPETITION, file.as_bytes(), (Status::Done, text, ""))?;
+        expect(
+            &rt,
+            rt.alloc(),
+            &REPETITION,
+            file.as_bytes(),
+            (Status::Done, text, ""),
+        )?;
     }
     Ok(())
 }
@@ -276,7 +271,13 @@ fn files_of_other_tools_are_read(rt: HostRuntime) -> Result<(), Fail> {
 #[test]
 fn a_chain_as_the_tool_set_writes_it_fires_three_two_one(rt: HostRuntime) -> Result<(), Fail> {
     let expected = (Status::Done, "repetition 3\na 3\nb 2\nc 1\n", "");
-    expect(&rt, rt.alloc(), &REPETITION, CHAIN_OF_THREE.as_bytes(), expected)
+    expect(
+        &rt,
+        rt.alloc(),
+        &REPETITION,
+        CHAIN_OF_THREE.as_bytes(),
+        expected,
+    )
 }
 
 #[test]
@@ -285,7 +286,13 @@ fn a_cut_file_is_refused_where_it_ends(rt: HostRuntime) -> Result<(), Fail> {
     for cut in [1usize, 2, 7, 37, 38, 100, 257, 500, 900, 1500] {
         if cut < whole.len() {
             let place = format!(in rt.alloc(); "sdf3analysis: form: text at byte {cut}\n")?;
-            expect(&rt, rt.alloc(), &REPETITION, &whole[..cut], (Status::Form, "", place.as_str()))?;
+            expect(
+                &rt,
+                rt.alloc(),
+                &REPETITION,
+                &whole[..cut],
+                (Status::Form, "", place.as_str()),
+            )?;
         }
     }
     Ok(())
