@@ -117,7 +117,7 @@ actor_of done e =
     skip _ (Sections.new_name file (map (λ (a : Actor). a.name) done) e) _ (λ name.
     skip _ (Numbers.within quantity.Actors 128 (length done + 1)) _ (λ count.
     then (AllByRecursion PortFits) _ (Walk.each (Sections.port_of name (Sections.port_count done)) [] (Walk.children (codes "port") e)) _
-        (each-all PortFits (Sections.port_of name (Sections.port_count done)) (port_of name (Sections.port_count done)) [] (Walk.children (codes "port") e) tt) (λ ports fit. fit)))
+    (each-all PortFits (Sections.port_of name (Sections.port_count done)) (port_of name (Sections.port_count done)) [] (Walk.children (codes "port") e) tt) (λ ports fit. fit)))
 
 actor_counted : (done : List Actor) (e : Node) → IfOk (Sections.actor_of done e) (λ _. length done + 1 ≤ 128)
 unfolding Sections.actor_of
@@ -160,7 +160,7 @@ numbered-if P what of i name [] all = tt
 numbered-if P what of i name (a ∷ rest) all =
     let Q : ℕ × Actor → Type 0 = λ r. (r.0 < i + length (a ∷ rest)) × P r.1 in
     let later : IfOk (Sections.known what of (Sections.numbered (i + 1) name rest)) Q =
-        weaker (λ r. (r.0 < i + 1 + length rest) × P r.1) Q (Sections.known what of (Sections.numbered (i + 1) name rest)) (numbered-if P what of (i + 1) name rest all.1) (λ r h. (omega (arith, h.0), h.1)) in
+    weaker (λ r. (r.0 < i + 1 + length rest) × P r.1) Q (Sections.known what of (Sections.numbered (i + 1) name rest)) (numbered-if P what of (i + 1) name rest all.1) (λ r h. (omega (arith, h.0), h.1)) in
     elim (bytes_eq a.name name) as (λ b. IfOk (Sections.known what of (cond b (Some (i, a)) (Sections.numbered (i + 1) name rest))) Q) [ true ↦ (omega arith, all.0) | false ↦ later ]
 
 record EndFits (actors : ℕ) (e : End) : Type 0 where
@@ -397,10 +397,10 @@ found t (a ∷ rows) keep =
     let Q : List ActorRow → GraphFile → Type 0 = λ others u. (u ≡ t) × AllByRecursion IsTimedRow others in
     let o = find (λ (b : ActorRow). length b.times == 0) rows in
     let cases : (b : Bool) → (length a.times == 0) ≡ b → IfOk (Sections.timed t (cond b (Some a) o)) (Q (a ∷ rows)) =
-        λ b. elim b as (λ v. (length a.times == 0) ≡ v → IfOk (Sections.timed t (cond v (Some a) o)) (Q (a ∷ rows))) [
-          | true ↦ λ h. tt
-          | false ↦ λ h. weaker (Q rows) (Q (a ∷ rows)) (Sections.timed t o) (found t rows keep.1) (λ u rest. (rest.0, (timed_row a keep.0 h, rest.1)))
-        ] in
+    λ b. elim b as (λ v. (length a.times == 0) ≡ v → IfOk (Sections.timed t (cond v (Some a) o)) (Q (a ∷ rows))) [
+      | true ↦ λ h. tt
+      | false ↦ λ h. weaker (Q rows) (Q (a ∷ rows)) (Sections.timed t o) (found t rows keep.1) (λ u rest. (rest.0, (timed_row a keep.0 h, rest.1)))
+    ] in
     cases (length a.times == 0) refl
 
 abbrev Keeps : Bool → GraphFile → Type 0
@@ -411,10 +411,13 @@ unfolding Sections.all_timed
 all_timed need_times t keeps keep =
     choice (Keeps need_times) need_times _ (Ok t)
     (λ h. weaker (λ u. (u ≡ t) × AllByRecursion IsTimedRow t.actors) (Keeps need_times) (Sections.timed t (find (λ (a : ActorRow). length a.times == 0) t.actors)) (found t t.actors keep)
-        (λ u all. subst (Keeps need_times) (sym all.0) (keeps, λ needed. All-from_recursion IsTimedRow t.actors all.1)))
-    (λ h. (keeps, λ needed.
-    let no : false ≡ true = sym h ∙ needed in
-    absurd cc))
+    (λ u all. subst (Keeps need_times) (sym all.0) (keeps, λ needed. All-from_recursion IsTimedRow t.actors all.1)))
+    (λ h. (
+      keeps,
+      λ needed.
+          let no : false ≡ true = sym h ∙ needed in
+          absurd cc,
+    ))
 
 table-rows : (actors : List Actor) (channels : List Channel) (times : List TimeEntry) (sizes : List SizeEntry) → AllByRecursion TimeEntryFits times → AllByRecursion (ActorKeepsRules Sdf) (Sections.table actors channels times sizes).actors
 unfolding Sections.table

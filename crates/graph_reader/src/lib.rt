@@ -39,3 +39,6 @@ pub fn read_graph(alloc: Global, bytes: &[u8], need_times: bool) -> Result<Graph
         Err(fault) => Err(ReadError::Text { fault }),
     }
 }
+
+#[cfg(test)]
+mod tests;
