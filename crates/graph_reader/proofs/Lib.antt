@@ -2,3 +2,4 @@ pub mod Trees
 pub mod Digits
 pub mod Faults
 pub mod Rules
+pub mod Steps

@@ -31,24 +31,7 @@ use Rattle.graph_reader.specs.Walk
 use Rattle.graph_reader.specs.Walk.{◌>>=◌, file, Gives}
 use Rattle.graph_reader.specs.Numbers
 use Rattle.graph_reader.specs.Sections
-
--- a fact of a first step, used for the steps after it
-then : {A B : Type 0} (P : A → Type 0) (Q : B → Type 0) (r : Result A ReadError) (f : A → Result B ReadError) → IfOk r P → ((x : A) → P x → IfOk (f x) Q) → IfOk (r >>= f) Q
-then P Q (Ok x) f p q = q x p
-then P Q (Err e) f p q = tt
-
--- a first step of which nothing is used
-skip : {A B : Type 0} (Q : B → Type 0) (r : Result A ReadError) (f : A → Result B ReadError) → ((x : A) → IfOk (f x) Q) → IfOk (r >>= f) Q
-skip Q (Ok x) f q = q x
-skip Q (Err e) f q = tt
-
-weaker : {A : Type 0} (P Q : A → Type 0) (r : Result A ReadError) → IfOk r P → ((x : A) → P x → Q x) → IfOk r Q
-weaker P Q (Ok x) p q = q x p
-weaker P Q (Err e) p q = tt
-
-choice : {A : Type 0} (Q : A → Type 0) (b : Bool) (x y : Result A ReadError) → (b ≡ true → IfOk x Q) → (b ≡ false → IfOk y Q) → IfOk (cond b x y) Q
-choice Q true x y p q = p refl
-choice Q false x y p q = q refl
+use Rattle.graph_reader.proofs.Steps.{then, skip, weaker, choice, both}
 
 push-all : {A : Type 0} (P : A → Type 0) (done : List A) (a : A) → AllByRecursion P done → P a → AllByRecursion P (done ++ a ∷ [])
 push-all P [] a p q = (q, tt)
@@ -125,10 +108,6 @@ actor_counted done e =
     skip _ (Sections.new_name file (map (λ (a : Actor). a.name) done) e) _ (λ name.
     then (λ m. (m ≡ length done + 1) × (length done + 1 ≤ 128)) _ (Numbers.within quantity.Actors 128 (length done + 1)) _ (within quantity.Actors 128 (length done + 1)) (λ count few.
     skip _ (Walk.each (Sections.port_of name (Sections.port_count done)) [] (Walk.children (codes "port") e)) _ (λ ports. few.1)))
-
-both : {A : Type 0} (P Q : A → Type 0) (r : Result A ReadError) → IfOk r P → IfOk r Q → IfOk r (λ x. P x × Q x)
-both P Q (Ok x) p q = (p, q)
-both P Q (Err e) p q = tt
 
 record ActorsFit (actors : List Actor) : Type 0 where
   some : 1 ≤ length actors
