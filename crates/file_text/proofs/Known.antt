@@ -49,22 +49,26 @@ at_place bytes m n x e is = rw e at is
 
 marks : (bytes : List ℕ) (n : ℕ) (f : TextError) → KnownAt bytes n f → Marks f (slice_index bytes (n - 1)) (slice_index bytes n)
 marks bytes n (Syntax p) known = absurd known
-marks bytes n (Unsupported p Doctype) (place, stands) =
-    (at_place bytes (p + 1) (n - 1) 33 (omega arith) (stands_at (codes "<!DOCTYPE") bytes p 1 stands (omega arith)),
-      at_place bytes (p + 2) n 68 (omega arith) (stands_at (codes "<!DOCTYPE") bytes p 2 stands (omega arith)))
-marks bytes n (Unsupported p Cdata) (place, stands) =
-    (at_place bytes (p + 1) (n - 1) 33 (omega arith) (stands_at (codes "<![CDATA[") bytes p 1 stands (omega arith)),
-      at_place bytes (p + 2) n 91 (omega arith) (stands_at (codes "<![CDATA[") bytes p 2 stands (omega arith)))
+marks bytes n (Unsupported p Doctype) (place, stands) = (
+  at_place bytes (p + 1) (n - 1) 33 (omega arith) (stands_at (codes "<!DOCTYPE") bytes p 1 stands (omega arith)),
+  at_place bytes (p + 2) n 68 (omega arith) (stands_at (codes "<!DOCTYPE") bytes p 2 stands (omega arith)),
+)
+marks bytes n (Unsupported p Cdata) (place, stands) = (
+  at_place bytes (p + 1) (n - 1) 33 (omega arith) (stands_at (codes "<![CDATA[") bytes p 1 stands (omega arith)),
+  at_place bytes (p + 2) n 91 (omega arith) (stands_at (codes "<![CDATA[") bytes p 2 stands (omega arith)),
+)
 marks bytes n (Unsupported p Reference) (place, stands) =
     at_place bytes (p + 0) (n - 1) 38 (omega arith) (stands_at (codes "&#") bytes p 0 stands (omega arith))
 marks bytes n (Unsupported p Instruction) (inl (place, stands)) =
-    inl (at_place bytes (p + 0) (n - 1) 60 (omega arith) (stands_at (codes "<?") bytes p 0 stands (omega arith)),
-      at_place bytes (p + 1) n 63 (omega arith) (stands_at (codes "<?") bytes p 1 stands (omega arith)))
+    inl (
+      at_place bytes (p + 0) (n - 1) 60 (omega arith) (stands_at (codes "<?") bytes p 0 stands (omega arith)),
+      at_place bytes (p + 1) n 63 (omega arith) (stands_at (codes "<?") bytes p 1 stands (omega arith)),
+    )
 marks bytes n (Unsupported p Instruction) (inr (start, low, high, within, stands)) =
     let size = xml_length (n - p) (omega arith) in
     inr (subst (λ (x : ℕ). 63 ≤ x)
-      (sym (stands_at (take (n - p) (codes "<?xml")) bytes p (n - p - 1) stands (omega arith)) ∙ ap (λ k. slice_index bytes k) (omega arith))
-      (xml_end (n - p) (omega arith) (omega arith)))
+    (sym (stands_at (take (n - p) (codes "<?xml")) bytes p (n - p - 1) stands (omega arith)) ∙ ap (λ k. slice_index bytes k) (omega arith))
+    (xml_end (n - p) (omega arith) (omega arith)))
 marks bytes n (Unsupported p Encoding) known = absurd known
 marks bytes n (TooDeep p) (place, stands, within, begins, viable) =
     (at_place bytes (p + 0) (n - 1) 60 (omega arith) (stands_at (codes "<") bytes p 0 stands (omega arith)), no_question (slice_index bytes n) begins)
@@ -119,7 +123,7 @@ instruction_apart bytes n p q place stands (start, low, high, within, whole) =
     let less : slice_index bytes (p + 0) ≡ 60 = stands_at (codes "<?") bytes p 0 stands (omega arith) in
     let other : 63 ≤ slice_index (take (n - q) (codes "<?xml")) (n - q - 1) = xml_end (n - q) (omega arith) (omega arith) in
     let here : slice_index bytes (q + (n - q - 1)) ≡ slice_index (take (n - q) (codes "<?xml")) (n - q - 1) =
-        stands_at (take (n - q) (codes "<?xml")) bytes q (n - q - 1) whole (omega arith) in
+    stands_at (take (n - q) (codes "<?xml")) bytes q (n - q - 1) whole (omega arith) in
     let same : slice_index bytes (q + (n - q - 1)) ≡ slice_index bytes (p + 0) = ap (λ k. slice_index bytes k) (omega arith) in
     omega arith
 

@@ -20,3 +20,5 @@ pub mod Places
 pub mod Steps
 pub mod Encodings
 pub mod Known
+pub mod Faults
+pub mod Trees

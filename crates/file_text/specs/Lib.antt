@@ -4,3 +4,4 @@ pub mod Fault
 pub mod Utf8
 pub mod Machine
 pub mod Exit
+pub mod Laws

@@ -27,7 +27,12 @@ impl Attributes {
         self.names.contains(name)
     }
 
-    pub(crate) fn push(&mut self, alloc: Global, name: String, value: String) -> Result<(), AllocError> {
+    pub(crate) fn push(
+        &mut self,
+        alloc: Global,
+        name: String,
+        value: String,
+    ) -> Result<(), AllocError> {
         self.names.insert(String::from_str(alloc, name.as_str())?)?;
         self.rows.push(Attribute {
             name: Text::new(name),

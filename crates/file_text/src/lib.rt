@@ -6,14 +6,17 @@ mod attributes;
 mod class;
 mod due;
 mod error;
+mod laws;
 mod mode;
 mod read;
 mod reference;
 mod scanner;
+mod taken;
 #[cfg(test)]
 mod tests;
 mod tree;
 
 pub use error::{Construct, TextError};
+pub use laws::know_texts;
 pub use read::read_tree;
 pub use tree::{Attribute, Element, Tree};

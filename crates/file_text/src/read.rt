@@ -4,7 +4,8 @@ ghost use Rattle.file_text.specs.Grammar.{IsText};
 ghost use Rattle.file_text.specs.Fault.{FirstFault};
 ghost use Rattle.file_text.specs.declared.error.TextError.TheVariants.{NoMemory};
 
-use crate::scanner::{Scanner, Taken};
+use crate::scanner::Scanner;
+use crate::taken::Taken;
 use crate::{Construct, TextError, Tree};
 use std::alloc::Global;
 
@@ -20,10 +21,12 @@ pub fn read_tree(alloc: Global, bytes: &[u8]) -> Result<Tree, TextError>
         match scanner.take(alloc, *b)? {
             Taken::Goes => {}
             Taken::Leaves => return Err(fault_at(bytes, i)),
-            Taken::TooDeep => return Err(TextError::TooDeep { place: i as u64 - 1 }),
+            Taken::TooDeep => return Err(TextError::TooDeep {
+                place: i as u64 - 1,
+            }),
             Taken::OtherEncoding => {
                 return Err(TextError::Unsupported {
-                    place: value_start(bytes, i, scanner.quote()),
+                    place: value_start(bytes, i, *b),
                     what: Construct::Encoding,
                 });
             }
@@ -55,7 +58,10 @@ fn fault_at(bytes: &[u8], n: usize) -> TextError {
 }
 
 fn unsupported(place: usize, what: Construct) -> TextError {
-    TextError::Unsupported { place: place as u64, what }
+    TextError::Unsupported {
+        place: place as u64,
+        what,
+    }
 }
 
 /// Whether the word stands at the place.

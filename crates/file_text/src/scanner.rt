@@ -3,6 +3,7 @@ use crate::class::{Class, class_at};
 use crate::due::Due;
 use crate::mode::{Comment, Declaring, Mark, Mode};
 use crate::reference::{Reference, Referred};
+use crate::taken::Taken;
 use crate::{Attribute, Element};
 use sd_base::{Rows, Text};
 use std::alloc::{AllocError, Global};
@@ -10,19 +11,6 @@ use std::mem;
 
 /// The greatest count of elements that are open at one place.
 const MOST_OPEN: usize = 32;
-
-/// What a further byte makes of a text.
-#[derive(Clone, Copy)]
-pub(crate) enum Taken {
-    /// The text goes on.
-    Goes,
-    /// No text of the grammar goes on so.
-    Leaves,
-    /// A name begins an element inside the greatest count of others.
-    TooDeep,
-    /// A value ends that declares an encoding other than UTF-8.
-    OtherEncoding,
-}
 
 /// An element whose end tag is still to come.
 #[derive(Drop)]
@@ -130,15 +118,17 @@ impl Scanner {
 
     /// The outermost element, where the text may end here.
     pub(crate) fn finish(self) -> Option<Element> {
-        let Scanner { due, mode, frames, root, tag: _ } = self;
+        let Scanner {
+            due,
+            mode,
+            frames,
+            root,
+            tag: _,
+        } = self;
         match (due, mode) {
             (Due::Nothing, Mode::Between) if frames.is_empty() => root,
             _ => None,
         }
-    }
-
-    pub(crate) fn quote(&self) -> u8 {
-        self.tag.quote
     }
 
     fn goes(&mut self, mode: Mode) -> Taken {
@@ -176,9 +166,13 @@ impl Scanner {
 
     fn declaring(&mut self, alloc: Global, read: Declaring, class: Class, b: u8) -> Taken {
         match (read, class) {
-            (Declaring::Question, Class::Letter) if b == b'x' => self.goes(Mode::Declaring(Declaring::X)),
+            (Declaring::Question, Class::Letter) if b == b'x' => self.goes(Mode::Declaring(
+                Declaring::X,
+            )),
             (Declaring::X, Class::Letter) if b == b'm' => self.goes(Mode::Declaring(Declaring::Xm)),
-            (Declaring::Xm, Class::Letter) if b == b'l' => self.goes(Mode::Declaring(Declaring::Xml)),
+            (Declaring::Xm, Class::Letter) if b == b'l' => self.goes(Mode::Declaring(
+                Declaring::Xml,
+            )),
             (Declaring::Xml, Class::White) => {
                 self.tag = Tag::new(alloc, Holder::Declaration);
                 self.goes(Mode::Gap)
@@ -229,7 +223,9 @@ impl Scanner {
             (Comment::Dash, Class::Hyphen) => self.goes(Mode::Comment(Comment::Body)),
             (Comment::Bang | Comment::Dash, _) => Taken::Leaves,
             (Comment::Body, Class::Hyphen) => self.goes(Mode::Comment(Comment::Hyphen)),
-            (Comment::Hyphen | Comment::Hyphens, Class::Hyphen) => self.goes(Mode::Comment(Comment::Hyphens)),
+            (Comment::Hyphen | Comment::Hyphens, Class::Hyphen) => self.goes(Mode::Comment(
+                Comment::Hyphens,
+            )),
             (Comment::Hyphens, Class::Greater) => self.goes(Mode::Between),
             (_, Class::Control) => Taken::Leaves,
             _ => self.goes(Mode::Comment(Comment::Body)),
@@ -271,7 +267,9 @@ impl Scanner {
         match (self.tag.holder, class) {
             (Holder::Tag, Class::Slash) => Ok(self.goes(Mode::Slash)),
             (Holder::Tag, Class::Greater) => self.enter(alloc),
-            (Holder::Declaration, Class::Question) if !self.tag.attributes.is_empty() => Ok(self.goes(Mode::Ending)),
+            (Holder::Declaration, Class::Question) if !self.tag.attributes.is_empty() => Ok(
+                self.goes(Mode::Ending),
+            ),
             _ => Ok(Taken::Leaves),
         }
     }
@@ -283,8 +281,14 @@ impl Scanner {
     }
 
     fn close_tag(&mut self, alloc: Global) -> Frame {
-        let Tag { holder: _, name, attributes, attribute: _, quote: _, value: _ } =
-            mem::replace(&mut self.tag, Tag::new(alloc, Holder::Tag));
+        let Tag {
+            holder: _,
+            name,
+            attributes,
+            attribute: _,
+            quote: _,
+            value: _,
+        } = mem::replace(&mut self.tag, Tag::new(alloc, Holder::Tag));
         Frame {
             name: Text::new(text_of(name)),
             attributes: attributes.into_rows(),
@@ -305,7 +309,10 @@ impl Scanner {
     }
 
     fn is_new(&self) -> bool {
-        !self.tag.attributes.has(str::from_utf8(self.tag.attribute.as_slice()).unwrap())
+        !self
+            .tag
+            .attributes
+            .has(str::from_utf8(self.tag.attribute.as_slice()).unwrap())
     }
 
     fn named(&mut self, class: Class) -> Taken {
@@ -346,7 +353,9 @@ impl Scanner {
         }
         let name = mem::replace(&mut self.tag.attribute, Vec::new(alloc));
         let value = mem::replace(&mut self.tag.value, Vec::new(alloc));
-        self.tag.attributes.push(alloc, text_of(name), text_of(value))?;
+        self.tag
+            .attributes
+            .push(alloc, text_of(name), text_of(value))?;
         Ok(self.goes(Mode::Valued))
     }
 
@@ -354,7 +363,8 @@ impl Scanner {
         match self.tag.holder {
             Holder::Tag => false,
             Holder::Declaration => {
-                self.tag.attribute.as_slice() == b"encoding".as_slice() && !is_utf8_name(self.tag.value.as_slice())
+                self.tag.attribute.as_slice() == b"encoding".as_slice()
+                    && !is_utf8_name(self.tag.value.as_slice())
             }
         }
     }
@@ -395,7 +405,13 @@ impl Scanner {
         }
     }
 
-    fn closing(&mut self, alloc: Global, matched: usize, class: Class, b: u8) -> Result<Taken, AllocError> {
+    fn closing(
+        &mut self,
+        alloc: Global,
+        matched: usize,
+        class: Class,
+        b: u8,
+    ) -> Result<Taken, AllocError> {
         let Some(frame) = self.frames.last() else {
             return Ok(Taken::Leaves);
         };
@@ -413,7 +429,9 @@ impl Scanner {
 
     fn matched(&mut self, goes: bool, matched: usize, class: Class) -> Taken {
         match class {
-            Class::Letter | Class::Digit | Class::Hyphen | Class::Wide if goes => self.goes(Mode::Closing(matched + 1)),
+            Class::Letter | Class::Digit | Class::Hyphen | Class::Wide if goes => self.goes(
+                Mode::Closing(matched + 1),
+            ),
             _ => Taken::Leaves,
         }
     }
@@ -427,8 +445,16 @@ impl Scanner {
 
     /// Puts an element that has ended into the one around it.
     fn put(&mut self, frame: Frame) -> Result<Taken, AllocError> {
-        let Frame { name, attributes, children } = frame;
-        let element = Element { name, attributes, children };
+        let Frame {
+            name,
+            attributes,
+            children,
+        } = frame;
+        let element = Element {
+            name,
+            attributes,
+            children,
+        };
         match self.frames.pop() {
             Some(mut parent) => {
                 parent.children.push(element)?;

@@ -17,8 +17,8 @@ drop-prefix_len p [] = refl
 drop-prefix_len p (x ∷ xs) =
     elim (p x) as (λ b. drop (cond b (1 + prefix_len p xs) 0) (x ∷ xs) ≡ cond b (drop_while p xs) (x ∷ xs)) [
       | true ↦
-        let one : 1 + prefix_len p xs ≡ suc (prefix_len p xs) = omega arith in
-        rw one (drop-prefix_len p xs)
+          let one : 1 + prefix_len p xs ≡ suc (prefix_len p xs) = omega arith in
+          rw one (drop-prefix_len p xs)
       | false ↦ refl
     ]
 
@@ -56,11 +56,11 @@ within-capped quantity limit c n m lt is =
     let choose : Bool → ℕ → Result ℕ ReadError = λ b k. cond b (Err (Limit quantity)) (Ok k) in
     elim (cases_lt limit n) [
       | inl above ↦
-        let other : limit < m = omega arith in
-        ap (λ b. choose b m) (lt-ltb limit m other) ∙ sym (ap (λ b. choose b n) (lt-ltb limit n above))
+          let other : limit < m = omega arith in
+          ap (λ b. choose b m) (lt-ltb limit m other) ∙ sym (ap (λ b. choose b n) (lt-ltb limit n above))
       | inr below ↦
-        let same : m ≡ n = omega arith in
-        rw same refl
+          let same : m ≡ n = omega arith in
+          rw same refl
     ]
 
 pub formed-capped : (what : Field) (of : List ℕ) (quantity : Quantity) (limit c m : ℕ) (o : Option ℕ) → limit < c → Some m ≡ option_map (λ n. min n c) o → within quantity limit m ≡ (formed what of o >>= λ n. within quantity limit n)

@@ -127,7 +127,7 @@ actor_of done e =
     then (Sections.new_name file (map (λ (a : Actor). a.name) done) e) _ (new_name file (map (λ (a : Actor). a.name) done) e) (λ name.
     then (Numbers.within quantity.Actors 128 (length done + 1)) _ (within quantity.Actors 128 (length done + 1)) (λ count.
     then (Walk.each (Sections.port_of name (Sections.port_count done)) [] (Walk.children (codes "port") e)) _
-        (each (Sections.port_of name (Sections.port_count done)) (port_of name (Sections.port_count done)) [] (Walk.children (codes "port") e)) (λ ports. tt)))
+    (each (Sections.port_of name (Sections.port_count done)) (port_of name (Sections.port_count done)) [] (Walk.children (codes "port") e)) (λ ports. tt)))
 
 some_actor : (actors : List Actor) → Rules (Sections.some_actor actors)
 some_actor [] = tt

@@ -31,24 +31,7 @@ use Rattle.graph_reader.specs.Walk
 use Rattle.graph_reader.specs.Walk.{◌>>=◌, file, Gives}
 use Rattle.graph_reader.specs.Numbers
 use Rattle.graph_reader.specs.Sections
-
--- a fact of a first step, used for the steps after it
-then : {A B : Type 0} (P : A → Type 0) (Q : B → Type 0) (r : Result A ReadError) (f : A → Result B ReadError) → IfOk r P → ((x : A) → P x → IfOk (f x) Q) → IfOk (r >>= f) Q
-then P Q (Ok x) f p q = q x p
-then P Q (Err e) f p q = tt
-
--- a first step of which nothing is used
-skip : {A B : Type 0} (Q : B → Type 0) (r : Result A ReadError) (f : A → Result B ReadError) → ((x : A) → IfOk (f x) Q) → IfOk (r >>= f) Q
-skip Q (Ok x) f q = q x
-skip Q (Err e) f q = tt
-
-weaker : {A : Type 0} (P Q : A → Type 0) (r : Result A ReadError) → IfOk r P → ((x : A) → P x → Q x) → IfOk r Q
-weaker P Q (Ok x) p q = q x p
-weaker P Q (Err e) p q = tt
-
-choice : {A : Type 0} (Q : A → Type 0) (b : Bool) (x y : Result A ReadError) → (b ≡ true → IfOk x Q) → (b ≡ false → IfOk y Q) → IfOk (cond b x y) Q
-choice Q true x y p q = p refl
-choice Q false x y p q = q refl
+use Rattle.graph_reader.proofs.Steps.{then, skip, weaker, choice, both}
 
 push-all : {A : Type 0} (P : A → Type 0) (done : List A) (a : A) → AllByRecursion P done → P a → AllByRecursion P (done ++ a ∷ [])
 push-all P [] a p q = (q, tt)
@@ -117,7 +100,7 @@ actor_of done e =
     skip _ (Sections.new_name file (map (λ (a : Actor). a.name) done) e) _ (λ name.
     skip _ (Numbers.within quantity.Actors 128 (length done + 1)) _ (λ count.
     then (AllByRecursion PortFits) _ (Walk.each (Sections.port_of name (Sections.port_count done)) [] (Walk.children (codes "port") e)) _
-        (each-all PortFits (Sections.port_of name (Sections.port_count done)) (port_of name (Sections.port_count done)) [] (Walk.children (codes "port") e) tt) (λ ports fit. fit)))
+    (each-all PortFits (Sections.port_of name (Sections.port_count done)) (port_of name (Sections.port_count done)) [] (Walk.children (codes "port") e) tt) (λ ports fit. fit)))
 
 actor_counted : (done : List Actor) (e : Node) → IfOk (Sections.actor_of done e) (λ _. length done + 1 ≤ 128)
 unfolding Sections.actor_of
@@ -125,10 +108,6 @@ actor_counted done e =
     skip _ (Sections.new_name file (map (λ (a : Actor). a.name) done) e) _ (λ name.
     then (λ m. (m ≡ length done + 1) × (length done + 1 ≤ 128)) _ (Numbers.within quantity.Actors 128 (length done + 1)) _ (within quantity.Actors 128 (length done + 1)) (λ count few.
     skip _ (Walk.each (Sections.port_of name (Sections.port_count done)) [] (Walk.children (codes "port") e)) _ (λ ports. few.1)))
-
-both : {A : Type 0} (P Q : A → Type 0) (r : Result A ReadError) → IfOk r P → IfOk r Q → IfOk r (λ x. P x × Q x)
-both P Q (Ok x) p q = (p, q)
-both P Q (Err e) p q = tt
 
 record ActorsFit (actors : List Actor) : Type 0 where
   some : 1 ≤ length actors
@@ -160,7 +139,7 @@ numbered-if P what of i name [] all = tt
 numbered-if P what of i name (a ∷ rest) all =
     let Q : ℕ × Actor → Type 0 = λ r. (r.0 < i + length (a ∷ rest)) × P r.1 in
     let later : IfOk (Sections.known what of (Sections.numbered (i + 1) name rest)) Q =
-        weaker (λ r. (r.0 < i + 1 + length rest) × P r.1) Q (Sections.known what of (Sections.numbered (i + 1) name rest)) (numbered-if P what of (i + 1) name rest all.1) (λ r h. (omega (arith, h.0), h.1)) in
+    weaker (λ r. (r.0 < i + 1 + length rest) × P r.1) Q (Sections.known what of (Sections.numbered (i + 1) name rest)) (numbered-if P what of (i + 1) name rest all.1) (λ r h. (omega (arith, h.0), h.1)) in
     elim (bytes_eq a.name name) as (λ b. IfOk (Sections.known what of (cond b (Some (i, a)) (Sections.numbered (i + 1) name rest))) Q) [ true ↦ (omega arith, all.0) | false ↦ later ]
 
 record EndFits (actors : ℕ) (e : End) : Type 0 where
@@ -397,10 +376,10 @@ found t (a ∷ rows) keep =
     let Q : List ActorRow → GraphFile → Type 0 = λ others u. (u ≡ t) × AllByRecursion IsTimedRow others in
     let o = find (λ (b : ActorRow). length b.times == 0) rows in
     let cases : (b : Bool) → (length a.times == 0) ≡ b → IfOk (Sections.timed t (cond b (Some a) o)) (Q (a ∷ rows)) =
-        λ b. elim b as (λ v. (length a.times == 0) ≡ v → IfOk (Sections.timed t (cond v (Some a) o)) (Q (a ∷ rows))) [
-          | true ↦ λ h. tt
-          | false ↦ λ h. weaker (Q rows) (Q (a ∷ rows)) (Sections.timed t o) (found t rows keep.1) (λ u rest. (rest.0, (timed_row a keep.0 h, rest.1)))
-        ] in
+    λ b. elim b as (λ v. (length a.times == 0) ≡ v → IfOk (Sections.timed t (cond v (Some a) o)) (Q (a ∷ rows))) [
+      | true ↦ λ h. tt
+      | false ↦ λ h. weaker (Q rows) (Q (a ∷ rows)) (Sections.timed t o) (found t rows keep.1) (λ u rest. (rest.0, (timed_row a keep.0 h, rest.1)))
+    ] in
     cases (length a.times == 0) refl
 
 abbrev Keeps : Bool → GraphFile → Type 0
@@ -411,10 +390,13 @@ unfolding Sections.all_timed
 all_timed need_times t keeps keep =
     choice (Keeps need_times) need_times _ (Ok t)
     (λ h. weaker (λ u. (u ≡ t) × AllByRecursion IsTimedRow t.actors) (Keeps need_times) (Sections.timed t (find (λ (a : ActorRow). length a.times == 0) t.actors)) (found t t.actors keep)
-        (λ u all. subst (Keeps need_times) (sym all.0) (keeps, λ needed. All-from_recursion IsTimedRow t.actors all.1)))
-    (λ h. (keeps, λ needed.
-    let no : false ≡ true = sym h ∙ needed in
-    absurd cc))
+    (λ u all. subst (Keeps need_times) (sym all.0) (keeps, λ needed. All-from_recursion IsTimedRow t.actors all.1)))
+    (λ h. (
+      keeps,
+      λ needed.
+          let no : false ≡ true = sym h ∙ needed in
+          absurd cc,
+    ))
 
 table-rows : (actors : List Actor) (channels : List Channel) (times : List TimeEntry) (sizes : List SizeEntry) → AllByRecursion TimeEntryFits times → AllByRecursion (ActorKeepsRules Sdf) (Sections.table actors channels times sizes).actors
 unfolding Sections.table

@@ -3,3 +3,4 @@ pub mod Walk
 pub mod Numbers
 pub mod Sections
 pub mod Reading
+pub mod Laws

@@ -146,7 +146,14 @@ fn tokens_in(alloc: Global, of: &str, text: Option<&str>) -> Result<u64, ReadErr
 {
     match text {
         None => Ok(0),
-        Some(text) => number(alloc, text, Field::InitialTokens, of, Quantity::Tokens, 1_000_000),
+        Some(text) => number(
+            alloc,
+            text,
+            Field::InitialTokens,
+            of,
+            Quantity::Tokens,
+            1_000_000,
+        ),
     }
 }
 

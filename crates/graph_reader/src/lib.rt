@@ -13,6 +13,7 @@ mod channels;
 mod elements;
 mod error;
 mod field;
+mod laws;
 mod names;
 mod numbers;
 mod properties;
@@ -21,6 +22,7 @@ mod table;
 pub use error::ReadError;
 pub use field::Field;
 use file_text::{TextError, read_tree};
+pub use laws::know_files;
 use sd_base::GraphFile;
 use std::alloc::Global;
 
@@ -39,3 +41,6 @@ pub fn read_graph(alloc: Global, bytes: &[u8], need_times: bool) -> Result<Graph
         Err(fault) => Err(ReadError::Text { fault }),
     }
 }
+
+#[cfg(test)]
+mod tests;

@@ -1,9 +1,10 @@
 //! Runs of the top call over a shelf and sinks in memory.
 ghost use Rattle.std.specs.Prelude.{◌<◌};
 
+mod balanced;
 mod files;
 mod repetition;
-mod texts;
+mod rules;
 
 use crate::{Status, analyse};
 use sd_base::{Rows, Text};

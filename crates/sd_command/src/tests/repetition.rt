@@ -12,12 +12,6 @@ fn a_chain_of_three_fires_three_two_one(rt: HostRuntime) -> Result<(), Fail> {
 }
 
 #[test]
-fn another_layout_is_refused(rt: HostRuntime) -> Result<(), Fail> {
-    let expected = (Status::Form, "", "sdf3analysis: form: layout\n");
-    expect(&rt, rt.alloc(), &REPETITION, b"<sdf3></sdf3>\n", expected)
-}
-
-#[test]
 fn a_ratio_of_a_million_is_too_large(rt: HostRuntime) -> Result<(), Fail> {
     let file = pair(rt.alloc(), 1_000_000)?;
     let expected = (

@@ -1,0 +1,32 @@
+-- Laws of graph files: the bytes decide their table or their first fault.
+use Rattle.std.specs.Prelude.{◌≡◌, ◌≢◌, ℕ, Bool, List, Ok}
+use Rattle.sd_base.specs.declared.tables.GraphFile.{GraphFile}
+use Rattle.sd_base.specs.Tables.{KeepsRules}
+use Rattle.file_text.specs.Node.{Node}
+use Rattle.file_text.specs.Grammar.{IsText}
+use Rattle.graph_reader.specs.declared.error.ReadError.{ReadError}
+use Rattle.graph_reader.specs.declared.error.ReadError.TheVariants.{NoMemory}
+use Rattle.graph_reader.specs.Reading.{IsFirstFault}
+use Rattle.graph_reader.specs.Sections.{table_of}
+
+-- the bytes spell a tree whose sections give this table
+abbrev pub Gives : List ℕ → Bool → GraphFile → Type 0
+Gives bytes need_times t = (e : Node) × IsText e bytes × (table_of need_times e ≡ Ok t)
+
+-- bytes have one table
+abbrev pub HasOneTable : Type 0
+HasOneTable = (bytes : List ℕ) (need_times : Bool) (t u : GraphFile) → Gives bytes need_times t → Gives bytes need_times u → t ≡ u
+
+-- and one first fault
+abbrev pub HasOneFault : Type 0
+HasOneFault = (bytes : List ℕ) (need_times : Bool) (x y : ReadError) → x ≢ NoMemory → y ≢ NoMemory →
+    IsFirstFault bytes need_times x → IsFirstFault bytes need_times y → x ≡ y
+
+-- bytes that have a table have no fault
+abbrev pub ReadHasNoFault : Type 0
+ReadHasNoFault = (bytes : List ℕ) (need_times : Bool) (t : GraphFile) (x : ReadError) → x ≢ NoMemory →
+    Gives bytes need_times t → IsFirstFault bytes need_times x → ⊥
+
+-- a table that is read keeps the rules
+abbrev pub ReadKeepsRules : Type 0
+ReadKeepsRules = (bytes : List ℕ) (need_times : Bool) (t : GraphFile) → Gives bytes need_times t → KeepsRules t

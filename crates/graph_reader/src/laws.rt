@@ -1,0 +1,13 @@
+ghost use Rattle.graph_reader.specs.Laws.{HasOneFault, HasOneTable, ReadHasNoFault, ReadKeepsRules};
+
+use file_text::know_texts;
+
+/// The bytes decide whether they have a table, and which, or what their first fault is.
+pub fn know_files()
+    ensures table { HasOneTable }
+    ensures fault { HasOneFault }
+    ensures either { ReadHasNoFault }
+    ensures keeps { ReadKeepsRules }
+{
+    know_texts();
+}
