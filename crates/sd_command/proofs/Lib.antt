@@ -1,4 +1,5 @@
 mod Causes
+mod Decided
 mod Shown
 mod FourWords
 mod WalkSteps

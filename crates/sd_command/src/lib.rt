@@ -3,6 +3,7 @@
 
 mod balancing;
 mod command;
+mod laws;
 mod reading;
 mod sending;
 mod status;
@@ -11,6 +12,7 @@ mod words;
 mod work;
 
 pub use command::analyse;
+pub use laws::know_endings;
 pub use status::Status;
 
 #[cfg(test)]
