@@ -1,0 +1,99 @@
+#!/usr/bin/env python3
+"""How fast the program reads graph files: makes its own files, runs the built program on each, and prints a table.
+
+    bench/reader.py [MIB]        the greatest file in MiB, 4 by default
+
+Build the program first, by a run of ./sdf3analysis. A row is the least wall-clock time of five runs.
+"""
+import os
+import subprocess
+import sys
+import tempfile
+import time
+
+ROOT = os.path.dirname(os.path.dirname(os.path.abspath(__file__)))
+PROGRAM = os.path.join(ROOT, "crates", "sdf3analysis", "out", "sdf3analysis")
+LIMIT = 4 * 1024 * 1024
+
+
+def sdf(inner):
+    return "<sdf3 type='sdf'><applicationGraph><sdf>" + inner + "</sdf></applicationGraph></sdf3>"
+
+
+def channel(i):
+    return f"<channel name='c{i}' srcActor='a' srcPort='o{i}' dstActor='b' dstPort='i{i}' initialTokens='0'/>\n"
+
+
+def filled(size, start, piece, end):
+    """A text of about this size: the start, pieces by number, the end."""
+    parts, length, i = [start], len(start) + len(end), 0
+    while length < size:
+        part = piece(i)
+        parts.append(part)
+        length += len(part)
+        i += 1
+    parts.append(end)
+    return "".join(parts)[: LIMIT + 1]
+
+
+def channels(size):
+    return filled(size, "<sdf3 type='sdf'><applicationGraph><sdf>", channel, "</sdf></applicationGraph></sdf3>")
+
+
+def attributes(count):
+    return "<a " + " ".join(f"n{i}=''" for i in range(count)) + "/>"
+
+
+def chain(actors, names):
+    """A chain of actors with the longest names that are allowed, and passed-over elements of other names."""
+    inner = []
+    for i in range(actors):
+        ports = (f"<port name='o' type='out' rate='1'/>" if i < actors - 1 else "") + (
+            f"<port name='i' type='in' rate='1'/>" if i else "")
+        inner.append(f"<actor name='{'a' * 120}{i}'>{ports}</actor>")
+    for i in range(actors - 1):
+        inner.append(f"<channel name='c{i}' srcActor='{'a' * 120}{i}' srcPort='o' dstActor='{'a' * 120}{i + 1}' dstPort='i'/>")
+    inner.extend(f"<other name='n{i}'/>" for i in range(names))
+    return sdf("".join(inner))
+
+
+def cases(size):
+    yield "channels, a tenth", channels(size // 10)
+    yield "channels", channels(size)
+    yield "open tags", "<a>" * (size // 3)
+    yield "half-open tags", "<a " * (size // 3)
+    yield "hyphens in a comment", "<a><!--" + "-" * (size - 20)
+    yield "broken UTF-8 at the end", "<a>" + "x" * (size - 10)
+    yield "10,000 attributes", attributes(10_000)
+    yield "100,000 attributes", attributes(100_000)
+    yield "128 actors", chain(128, 0)
+    yield "128 actors, 3,000 other names", chain(128, 3_000)
+    yield "128 actors, 30,000 other names", chain(128, 30_000)
+
+
+def least_time(path):
+    best = None
+    for _ in range(5):
+        start = time.perf_counter()
+        done = subprocess.run([PROGRAM, "--algo", "repetition", "--graph", path], capture_output=True)
+        took = time.perf_counter() - start
+        best = took if best is None else min(best, took)
+    return best, done.returncode
+
+
+def main():
+    size = min(LIMIT, int(float(sys.argv[1]) * 1024 * 1024) if len(sys.argv) > 1 else LIMIT)
+    print(f"{'file':32} {'bytes':>9} {'status':>6} {'ms':>8} {'MB/s':>8}")
+    with tempfile.TemporaryDirectory() as folder:
+        for name, text in cases(size):
+            data = text.encode()
+            if name.startswith("broken"):
+                data += b"\xe2\x82\x41"
+            path = os.path.join(folder, "graph.xml")
+            with open(path, "wb") as file:
+                file.write(data)
+            seconds, status = least_time(path)
+            print(f"{name:32} {len(data):9} {status:6} {seconds * 1e3:8.1f} {len(data) / seconds / 1e6:8.1f}")
+
+
+main()
