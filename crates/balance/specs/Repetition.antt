@@ -29,7 +29,8 @@ WaysAreWithinLimit ls = (b : ℕ) (p : List WalkStep) → IsWay ls b p → HasRa
 abbrev pub IsConsistent : List Link → Type 0
 IsConsistent ls = (a : ℕ) (ss : List WalkStep) → IsWalk ls a ss a → walk_num ls ss ≡ walk_den ls ss
 
--- what repetition vectors are looked for in: a connected graph whose ways are within the limit and that has no unbalanced walk
+-- where a repetition vector is looked for: a connected graph whose ways are within the limit and that has no unbalanced
+-- walk
 pub record IsBalanced (g : GraphFile) : Type 0 where
   pub connected : IsConnected g
   pub within : WaysAreWithinLimit (links_of g)
@@ -62,6 +63,7 @@ pub record IsFirstAboveLimit (ls : List Link) (p : List WalkStep) : Type 0 where
   pub above : HasRatioAboveLimit ls p
   pub first : (b : ℕ) (q : List WalkStep) → IsWay ls b q → HasRatioAboveLimit ls q → Precedes p q
 
+-- in a connected graph that way is the refusal's
 pub record IsRatioTooLarge (g : GraphFile) (p : List WalkStep) : Type 0 where
   pub connected : IsConnected g
   pub way : IsFirstAboveLimit (links_of g) p
