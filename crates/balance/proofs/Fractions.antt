@@ -1,15 +1,11 @@
 -- Ratios in lowest terms.
-use Rattle.std.proofs.Common.{◌≡◌, ℕ, ◌*◌, ◌/◌, ◌<◌, sym, ap, inl, inr, arith}
+use Rattle.std.proofs.Common.{◌≡◌, ℕ, ◌*◌, ◌/◌, ◌<◌, ap, inl, inr, arith}
 use Rattle.std.specs.Int.{IsGcd, ◌∣◌}
 use Rattle.std.proofs.Math.Nat.{eq_of_mul-eq-mul_right, mul-pos}
 use Rattle.std.proofs.lemmas.Nat.Gcd.{dvd_antisymm, IsGcd-swap}
 use Rattle.std.proofs.lemmas.Bool.{cases_lt}
 use Rattle.sd_base.proofs.Divisors.{root_divides, quotients, quotient_pos, reduced_same, gcd_pos}
 use Rattle.balance.specs.Walks.{IsLowest}
-
--- a product of which one factor is 0
-times_zero : (a b : ℕ) → b ≡ 0 → a * b ≡ 0
-times_zero a b e = omega (arith, ap (λ n. a * n) e)
 
 -- the numerator is above 0 where the ratio is
 pub lowest_pos : (n d N D : ℕ) → IsLowest n d N D → 0 < N → 0 < n
@@ -21,9 +17,6 @@ lowest_pos n d N D (e, coprime, some) sn = elim (cases_lt 0 n) [
       let more : 0 < d * N = mul-pos some sn in
       absurd (omega arith)
 ]
-
-swap_product : (n d N D : ℕ) → n * D ≡ d * N → d * N ≡ n * D
-swap_product n d N D e = sym e
 
 -- the denominator divides that of each fraction of the same value
 den_divides : (n d n' d' N D : ℕ) → IsLowest n d N D → n' * D ≡ d' * N → 0 < D → 0 < N → d ∣ d'
@@ -60,10 +53,6 @@ reduced y x N D n d h e some =
     eq_of_mul-eq-mul_right N some (y * d) (x * n) cross
 
 -- whether two ratios and a factor agree is the same of their lowest terms
-pub cross_same : (n d N D n' d' N' D' x y : ℕ) → n * D ≡ d * N → n' * D' ≡ d' * N'
-    → (n * x * d') * (D * D') ≡ (N * x * D') * (d * d')
-cross_same n d N D n' d' N' D' x y e e' = omega (arith, ap (λ t. t * (x * d' * D')) e)
-
 pub kept_by_lowest : (n d N D n' d' N' D' x y : ℕ) → IsLowest n d N D → IsLowest n' d' N' D'
     → n * x * d' ≡ n' * y * d → N * x * D' ≡ N' * y * D
 kept_by_lowest n d N D n' d' N' D' x y (e, _, some) (e', _, some') h =

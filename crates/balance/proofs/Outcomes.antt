@@ -12,7 +12,7 @@ use Rattle.balance.specs.declared.walk.WalkStep.{WalkStep}
 use Rattle.balance.specs.declared.walk.Link.{Link}
 use Rattle.balance.specs.declared.refusal.BalanceError.TheVariants.{Apart, RatioTooLarge, Unbalanced, RoundTooLarge, NoMemory}
 use Rattle.balance.specs.Walks.{links_of, walk_num, walk_den, IsLowest, turned}
-use Rattle.balance.specs.Repetition.{IsConnected, IsWithinLimit, IsAboveLimit, WaysAreWithinLimit, IsConsistent, IsRound, IsRoundTooLarge, IsApart, IsRatioTooLarge, IsParted, IsTreePath, IsUnbalanced, HasOneAnswer}
+use Rattle.balance.specs.Repetition.{IsConnected, HasRatioWithinLimit, HasRatioAboveLimit, WaysAreWithinLimit, IsConsistent, IsRound, IsRoundTooLarge, IsApart, IsRatioTooLarge, IsParted, IsTreePath, IsUnbalanced, HasOneAnswer}
 use Rattle.balance.specs.Search.{HasSums}
 use Rattle.balance.proofs.WalkLemmas.{parts_pos}
 use Rattle.balance.proofs.Shortest.{same_ways, one_way}
@@ -29,7 +29,7 @@ one_round g v w h k =
     omega arith)
 
 -- a walk's ratio isn't within the limit and above it
-pub within_or_above : (ls : List Link) → HasSums ls → (p : List WalkStep) → IsWithinLimit ls p → IsAboveLimit ls p → ⊥
+pub within_or_above : (ls : List Link) → HasSums ls → (p : List WalkStep) → HasRatioWithinLimit ls p → HasRatioAboveLimit ls p → ⊥
 within_or_above ls sums p (n, d, low, nle, dle) (n', d', low', over) =
     let pos = parts_pos ls sums p in
     let same = one_lowest n d n' d' (walk_num ls p) (walk_den ls p) low low' pos.0 pos.1 in

@@ -1,5 +1,5 @@
 -- Directed paths, and the sweeps that mark what they lead to.
-use Rattle.std.proofs.Common.{◌≡◌, ℕ, ◌+◌, ◌<◌, ◌≤◌, Bool, true, false, Some, List, [], ◌∷◌, ◌++◌, length, replicate, sym, refl, ap, subst, ◌∙◌, inl, inr, arith}
+use Rattle.std.proofs.Common.{◌≡◌, ℕ, ◌+◌, ◌<◌, ◌≤◌, Bool, true, false, Some, List, [], ◌∷◌, ◌++◌, length, sym, refl, ap, subst, ◌∙◌, inl, inr, arith}
 use Rattle.std.specs.Prelude.{slice_get, slice_set}
 use Rattle.std.proofs.lemmas.Bool.{cases_eq, false≢true}
 use Rattle.std.proofs.lemmas.List.{length-set}
@@ -10,7 +10,7 @@ use Rattle.balance.specs.Connection.{IsPath, Reaches, AreActors}
 use Rattle.balance.specs.Search.{mark_at, trues}
 use Rattle.balance.specs.Reaching.{pair_from, pair_to, Leads, AreLed, AreClosed, AreKept}
 use Rattle.balance.proofs.TableLemmas.{at_All}
-use Rattle.balance.proofs.Searching.{trues-set, mark_kept, mark_only, mark-replicate}
+use Rattle.balance.proofs.Searching.{trues-set, mark_kept, mark_only}
 
 pub path-append : (ends : List (ℕ × ℕ)) (xs ys : List ℕ) (a b c : ℕ) → IsPath ends a xs b → IsPath ends b ys c → IsPath ends a (xs ++ ys) c
 path-append ends [] ys a b c h k = subst (λ n. IsPath ends n ys c) (sym h) k
@@ -51,16 +51,6 @@ pub record IsSweep (d : Direction) (ends : List (ℕ × ℕ)) (start marks : Lis
   pub more : grew ≡ true → trues start < trues marks
   pub least : trues start ≤ trues marks
   pub idle : grew ≡ false → (marks ≡ start) × ((j : ℕ) (e : ℕ × ℕ) → j < k → slice_get ends j ≡ Some e → mark_at marks (pair_from d e) ≡ true → mark_at marks (pair_to d e) ≡ true)
-
-pub sweep_start : (d : Direction) (ends : List (ℕ × ℕ)) (marks : List Bool) → AreLed d ends marks → IsSweep d ends marks marks 0 false
-sweep_start d ends marks led = record {
-  size = refl;
-  led = led;
-  kept = λ v on. on;
-  more = λ e. absurd (false≢true e);
-  least = omega arith;
-  idle = λ e. (refl, λ j f lt is on. absurd (let none : ⊥ = omega arith in none));
-}
 
 pub sweep_marked : (d : Direction) (ends : List (ℕ × ℕ)) (start marks : List Bool) (k : ℕ) (grew : Bool) (e : ℕ × ℕ) → slice_get ends k ≡ Some e
     → pair_to d e < length start → mark_at marks (pair_from d e) ≡ true → mark_at marks (pair_to d e) ≡ false
@@ -110,10 +100,3 @@ pub pair_within : (d : Direction) (actors : ℕ) (ends : List (ℕ × ℕ)) (k :
     → (pair_from d e < actors) × (pair_to d e < actors)
 pair_within Along actors ends k e are is = at_All (λ (p : ℕ × ℕ). (p.0 < actors) × (p.1 < actors)) ends k e are is
 pair_within Against actors ends k e are is = (let h = at_All (λ (p : ℕ × ℕ). (p.0 < actors) × (p.1 < actors)) ends k e are is in (h.1, h.0))
-
--- at first actor 0 alone is marked
-pub root_led : (d : Direction) (ends : List (ℕ × ℕ)) (actors : ℕ) → AreLed d ends (slice_set (replicate actors false) 0 true)
-root_led d ends actors v on = elim (mark_only (replicate actors false) 0 v on) [
-  | inl same ↦ subst (λ n. Leads d ends n) (sym same) (leads_none d ends)
-  | inr was ↦ absurd (false≢true (sym (mark-replicate actors v) ∙ was))
-]

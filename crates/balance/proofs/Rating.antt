@@ -10,7 +10,7 @@ use Rattle.balance.specs.declared.walk.Link.{Link}
 use Rattle.balance.specs.declared.search.Found.{Found}
 use Rattle.balance.specs.declared.ratio.Ratio.{Ratio}
 use Rattle.balance.specs.Walks.{IsWay, IsLowest, Precedes, step_from, step_num, step_den, num_at, den_at, walk_num, walk_den}
-use Rattle.balance.specs.Repetition.{IsFirstAboveLimit, IsAboveLimit, IsWithinLimit}
+use Rattle.balance.specs.Repetition.{IsFirstAboveLimit, HasRatioAboveLimit, HasRatioWithinLimit}
 use Rattle.balance.specs.Search.{HasSums, IsTree, IsGrown, mark_at}
 use Rattle.balance.specs.Ratios.{one, ratio_at, IsSmall, IsRatio, AreRated, AreRatios, IsLastStep}
 use Rattle.balance.proofs.WalkLemmas.{num-append, den-append, parts_pos}
@@ -106,7 +106,7 @@ rated_all ls actors found seen rs j tree rated size all connected = record {
 
 -- the first entry with a ratio above the limit is the way to refuse
 pub first_above : (ls : List Link) (actors : ℕ) (found : List Found) (seen : List Bool) (rs : List Ratio) (j : ℕ) (x : Found) → HasSums ls → IsTree ls actors found seen
-    → AreRated ls found rs j → slice_get found j ≡ Some x → IsAboveLimit ls x.way → IsFirstAboveLimit ls x.way
+    → AreRated ls found rs j → slice_get found j ≡ Some x → HasRatioAboveLimit ls x.way → IsFirstAboveLimit ls x.way
 first_above ls actors found seen rs j x sums tree rated at above = record {
   end = x.actor;
   way = tree.ways j x at;
@@ -117,8 +117,8 @@ first_above ls actors found seen rs j x sums tree rated at above = record {
       elim (cases_lt k j) [
         | inl lt ↦
             let r = rated k z lt at' in
-            let low : IsWithinLimit ls z.way = ((ratio_at rs z.actor).num, (ratio_at rs z.actor).den, r.0, r.1, r.2) in
-            absurd (within_or_above ls sums q (subst (λ (p : List WalkStep). IsWithinLimit ls p) same low) over)
+            let low : HasRatioWithinLimit ls z.way = ((ratio_at rs z.actor).num, (ratio_at rs z.actor).den, r.0, r.1, r.2) in
+            absurd (within_or_above ls sums q (subst (λ (p : List WalkStep). HasRatioWithinLimit ls p) same low) over)
         | inr ge ↦ subst (λ (p : List WalkStep). Precedes x.way p) same (tree.rising j k x z at at' ge)
       ]);
 }

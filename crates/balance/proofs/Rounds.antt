@@ -21,7 +21,7 @@ use Rattle.balance.specs.declared.walk.WalkStep.{WalkStep}
 use Rattle.balance.specs.declared.walk.Link.{Link}
 use Rattle.balance.specs.declared.ratio.Ratio.{Ratio}
 use Rattle.balance.specs.Walks.{links_of, IsWalk, IsLowest, step_to, walk_num, walk_den}
-use Rattle.balance.specs.Repetition.{IsConsistent, IsKept, IsWithinLimit, WaysAreWithinLimit}
+use Rattle.balance.specs.Repetition.{IsConsistent, IsKept, HasRatioWithinLimit, WaysAreWithinLimit}
 use Rattle.balance.specs.Search.{HasEnds}
 use Rattle.balance.specs.Ratios.{one, ratio_at, IsSmall, IsRatio, AreRatios, Keeps, DivideAll, IsCommon, IsRoundBy}
 use Rattle.balance.proofs.Order.{no_longer}
@@ -129,7 +129,7 @@ pub ways_within : (ls : List Link) (actors : ℕ) (rs : List Ratio) → HasEnds 
 ways_within ls actors rs ends some are b p way =
     let lt : b < actors = walk_end ls actors ends p 0 b some way.0 in
     let (q, way', ratio) = are.each b lt in
-    subst (λ (t : List WalkStep). IsWithinLimit ls t) (one_way ls b q p way' way)
+    subst (λ (t : List WalkStep). HasRatioWithinLimit ls t) (one_way ls b q p way' way)
     ((ratio_at rs b).num, (ratio_at rs b).den, ratio.0, ratio.1, ratio.2)
 
 -- ---- channels that keep the ratios

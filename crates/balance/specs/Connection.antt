@@ -16,6 +16,7 @@ Reaches ends a b = (ks : List ℕ) × IsPath ends a ks b
 abbrev pub AreActors : ℕ → List (ℕ × ℕ) → Type 0
 AreActors actors ends = All (λ e. (e.0 < actors) × (e.1 < actors)) ends
 
+-- a path leads from each actor to each
 abbrev pub IsStronglyConnected : ℕ → List (ℕ × ℕ) → Type 0
 IsStronglyConnected actors ends = (a b : ℕ) → a < actors → b < actors → Reaches ends a b
 

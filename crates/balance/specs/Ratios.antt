@@ -49,7 +49,8 @@ IsLimitRefusal ls RoundTooLarge = ⊥
 abbrev pub IsClosedRefusal : List Found → List Ratio → ℕ → Link → BalanceError → Type 0
 IsClosedRefusal found rs c l (Unbalanced walk num den) =
     IsClosedBetween found c l walk
-    × IsLowest num den ((ratio_at rs l.source).num * l.made * (ratio_at rs l.target).den) ((ratio_at rs l.target).num * l.taken * (ratio_at rs l.source).den)
+    × IsLowest num den ((ratio_at rs l.source).num * l.made * (ratio_at rs l.target).den)
+    ((ratio_at rs l.target).num * l.taken * (ratio_at rs l.source).den)
 IsClosedRefusal found rs c l (RatioTooLarge path) = ⊥
 IsClosedRefusal found rs c l NoMemory = ⊥
 IsClosedRefusal found rs c l (Apart a b) = ⊥
@@ -83,7 +84,9 @@ pub record AreRatios (ls : List Link) (actors : ℕ) (rs : List Ratio) : Type 0 
 
 -- a channel keeps the ratios: that of its source, times made to taken, is that of its target
 abbrev pub Keeps : List Ratio → Link → Type 0
-Keeps rs l = (ratio_at rs l.source).num * l.made * (ratio_at rs l.target).den ≡ (ratio_at rs l.target).num * l.taken * (ratio_at rs l.source).den
+Keeps rs l =
+    (ratio_at rs l.source).num * l.made * (ratio_at rs l.target).den
+    ≡ (ratio_at rs l.target).num * l.taken * (ratio_at rs l.source).den
 
 -- each denominator divides n
 abbrev pub DivideAll : List Ratio → ℕ → Type 0

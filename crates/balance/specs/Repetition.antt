@@ -14,22 +14,23 @@ abbrev pub IsConnected : GraphFile → Type 0
 IsConnected g = (b : ℕ) → b < length g.actors → (ss : List WalkStep) × IsWalk (links_of g) 0 ss b
 
 -- no part of a walk's ratio in lowest terms is above 100,000
-abbrev pub IsWithinLimit : List Link → List WalkStep → Type 0
-IsWithinLimit ls p = (n : ℕ) × (d : ℕ) × IsLowest n d (walk_num ls p) (walk_den ls p) × (n ≤ 100000) × (d ≤ 100000)
+abbrev pub HasRatioWithinLimit : List Link → List WalkStep → Type 0
+HasRatioWithinLimit ls p = (n : ℕ) × (d : ℕ) × IsLowest n d (walk_num ls p) (walk_den ls p) × (n ≤ 100000) × (d ≤ 100000)
 
 -- some part is
-abbrev pub IsAboveLimit : List Link → List WalkStep → Type 0
-IsAboveLimit ls p = (n : ℕ) × (d : ℕ) × IsLowest n d (walk_num ls p) (walk_den ls p) × ((100000 < n) ⊎ (100000 < d))
+abbrev pub HasRatioAboveLimit : List Link → List WalkStep → Type 0
+HasRatioAboveLimit ls p = (n : ℕ) × (d : ℕ) × IsLowest n d (walk_num ls p) (walk_den ls p) × ((100000 < n) ⊎ (100000 < d))
 
 -- the ratios of the ways are within the limit
 abbrev pub WaysAreWithinLimit : List Link → Type 0
-WaysAreWithinLimit ls = (b : ℕ) (p : List WalkStep) → IsWay ls b p → IsWithinLimit ls p
+WaysAreWithinLimit ls = (b : ℕ) (p : List WalkStep) → IsWay ls b p → HasRatioWithinLimit ls p
 
 -- no walk is unbalanced: each closed one has the ratio 1
 abbrev pub IsConsistent : List Link → Type 0
 IsConsistent ls = (a : ℕ) (ss : List WalkStep) → IsWalk ls a ss a → walk_num ls ss ≡ walk_den ls ss
 
--- what repetition vectors are looked for in: a connected graph whose ways are within the limit and that has no unbalanced walk
+-- where a repetition vector is looked for: a connected graph whose ways are within the limit and that has no unbalanced
+-- walk
 pub record IsBalanced (g : GraphFile) : Type 0 where
   pub connected : IsConnected g
   pub within : WaysAreWithinLimit (links_of g)
@@ -59,9 +60,10 @@ pub record IsApart (g : GraphFile) (a b : ℕ) : Type 0 where
 pub record IsFirstAboveLimit (ls : List Link) (p : List WalkStep) : Type 0 where
   pub end : ℕ
   pub way : IsWay ls end p
-  pub above : IsAboveLimit ls p
-  pub first : (b : ℕ) (q : List WalkStep) → IsWay ls b q → IsAboveLimit ls q → Precedes p q
+  pub above : HasRatioAboveLimit ls p
+  pub first : (b : ℕ) (q : List WalkStep) → IsWay ls b q → HasRatioAboveLimit ls q → Precedes p q
 
+-- in a connected graph that way is the refusal's
 pub record IsRatioTooLarge (g : GraphFile) (p : List WalkStep) : Type 0 where
   pub connected : IsConnected g
   pub way : IsFirstAboveLimit (links_of g) p

@@ -48,7 +48,7 @@ abbrev pub den_at : Option Link → Bool → ℕ
 den_at (Some l) f = step_den l f
 den_at None f = 1
 
--- the ratio of a walk is the product of the ratios of its steps
+-- the ratio of a walk is the product of the ratios of its steps: the numerators' product to the denominators'
 abbrev pub walk_num : List Link → List WalkStep → ℕ
 walk_num ls [] = 1
 walk_num ls (s ∷ ss) = num_at (slice_get ls s.channel) s.forward * walk_num ls ss

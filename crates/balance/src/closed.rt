@@ -91,7 +91,8 @@ fn closed_walk(
 /// The way to an actor.
 fn way_to(found: &[Found], actor: usize) -> &[WalkStep]
     requires { IsFound found.now actor }
-    ensures { (j : ℕ) × (x : Found) × (slice_get found.now j ≡ Some x) × (x.actor ≡ actor) × (result.now ≡ x.way) }
+    ensures { (j : ℕ) × (x : Found) × (slice_get found.now j ≡ Some x) × (x.actor ≡ actor)
+        × (result.now ≡ x.way) }
 {
     for entry in found {
         if entry.actor == actor {

@@ -72,7 +72,8 @@ pub fn strongly_connected(
 pub fn no_input(actors: u32, ends: &[(u32, u32)]) -> Option<u32>
     requires some { 1 ≤ actors }
     requires ends { AreActors actors ends.now }
-    ensures { MatchOption result ((a : ℕ) → a < actors → HasInput ends.now a) (IsFirstWithoutInput actors ends.now) }
+    ensures { MatchOption result ((a : ℕ) → a < actors → HasInput ends.now a)
+        (IsFirstWithoutInput actors ends.now) }
 {
     for actor in 0..actors {
         if !has_input(actor, ends) {
@@ -146,8 +147,10 @@ fn directed(pair: (u32, u32), direction: Direction) -> (usize, usize)
 fn spread(from: usize, to: usize, marks: &mut Vec<bool>) -> bool
     requires from { from < length marks.old.items }
     requires to { to < length marks.old.items }
-    ensures marked { result ≡ true → (mark_at marks.old.items from ≡ true) × (mark_at marks.old.items to ≡ false) × (marks.new.items ≡ slice_set marks.old.items to true) }
-    ensures idle { result ≡ false → (marks.new.items ≡ marks.old.items) × (mark_at marks.old.items from ≡ true → mark_at marks.old.items to ≡ true) }
+    ensures marked { result ≡ true → (mark_at marks.old.items from ≡ true) × (mark_at marks.old.items to ≡ false)
+        × (marks.new.items ≡ slice_set marks.old.items to true) }
+    ensures idle { result ≡ false → (marks.new.items ≡ marks.old.items)
+        × (mark_at marks.old.items from ≡ true → mark_at marks.old.items to ≡ true) }
 {
     if marks[from] && !marks[to] {
         marks[to] = true;

@@ -30,8 +30,9 @@ use walk::{Link, links};
 /// they take, and no such vector is smaller (Lee and Messerschmitt, 1987). The answer is one, up to want of memory, by
 /// `one_answer`.
 ///
-/// Cost: one look at each channel for each actor, and one ratio for each actor and channel, by logarithmic numbers of
-/// divisions; a way has at most 127 steps, and 128 ways are kept.
+/// Cost: the search looks at each channel once for each actor, at most 128 times 256 looks, and keeps at most 128 ways
+/// of at most 127 steps. All else is linear in actors, channels and phases but for greatest common divisors, of which
+/// there are two for each actor.
 pub fn repetition(alloc: Global, graph: &GraphFile) -> Result<Rows<u64>, BalanceError>
     requires { KeepsRules graph.now }
     ensures round { IfOk result (IsRound graph.now) }

@@ -62,8 +62,11 @@ fn ones(alloc: Global, actors: usize) -> Result<Vec<Ratio>, BalanceError>
 fn last_ratio(links: &[Link], ratios: &[Ratio], way: &[WalkStep]) -> Ratio
     requires sums { HasSums links.now }
     requires grown { IsLastStep links.now ratios.now way.now }
-    ensures { (rest : List WalkStep) (s : WalkStep) (l : Link) → way.now ≡ rest ++ s ∷ [] → slice_get links.now s.channel ≡ Some l →
-        IsLowest result.num result.den ((ratio_at ratios.now (step_from l s.forward)).num * step_num l s.forward) ((ratio_at ratios.now (step_from l s.forward)).den * step_den l s.forward) }
+    ensures { (rest : List WalkStep) (s : WalkStep) (l : Link) →
+        way.now ≡ rest ++ s ∷ [] → slice_get links.now s.channel ≡ Some l →
+        IsLowest result.num result.den
+        ((ratio_at ratios.now (step_from l s.forward)).num * step_num l s.forward)
+        ((ratio_at ratios.now (step_from l s.forward)).den * step_den l s.forward) }
 {
     let step = way[way.len() - 1];
     let link = links[step.channel as usize];
@@ -93,7 +96,8 @@ fn start_of(link: Link, step: WalkStep) -> usize
 fn stepped(before: Ratio, link: Link, step: WalkStep) -> Ratio
     requires small { IsSmall before }
     requires sums { IsSummed link }
-    ensures { IsLowest result.num result.den (before.num * step_num link step.forward) (before.den * step_den link step.forward) }
+    ensures { IsLowest result.num result.den
+        (before.num * step_num link step.forward) (before.den * step_den link step.forward) }
 {
     let (made, taken) = (u128::from(link.made), u128::from(link.taken));
     if step.forward {
@@ -135,7 +139,8 @@ pub fn first_failing(links: &[Link], ratios: &[Ratio]) -> Option<usize>
     requires ends { HasEnds (length ratios.now) links.now }
     requires small { (b : ℕ) → IsSmall (ratio_at ratios.now b) }
     ensures { MatchOption result ((k : ℕ) (l : Link) → slice_get links.now k ≡ Some l → Keeps ratios.now l)
-        (λ c. (l : Link) × (slice_get links.now c ≡ Some l) × (Keeps ratios.now l → ⊥) × ((k : ℕ) (m : Link) → k < c → slice_get links.now k ≡ Some m → Keeps ratios.now m)) }
+        (λ c. (l : Link) × (slice_get links.now c ≡ Some l) × (Keeps ratios.now l → ⊥)
+        × ((k : ℕ) (m : Link) → k < c → slice_get links.now k ≡ Some m → Keeps ratios.now m)) }
 {
     for channel in 0..links.len() {
         if !keeps(ratios, links[channel]) {

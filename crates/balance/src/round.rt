@@ -41,7 +41,8 @@ fn total(round: &[u64]) -> u64
 /// The least common multiple of the denominators, where it is within the limit: the cycles of actor 0.
 fn common_den(ratios: &[Ratio]) -> Option<u64>
     requires { All IsSmall ratios.now }
-    ensures { MatchOption result ((n : ℕ) → 0 < n → DivideAll ratios.now n → 100000 < n) (λ m. IsCommon ratios.now m × (m ≤ 100000)) }
+    ensures { MatchOption result ((n : ℕ) → 0 < n → DivideAll ratios.now n → 100000 < n)
+        (λ m. IsCommon ratios.now m × (m ≤ 100000)) }
 {
     let mut common = 1;
     for ratio in ratios {

@@ -41,7 +41,8 @@ pub fn ways(alloc: Global, actors: usize, links: &[Link]) -> Result<Search, Allo
 /// Actor 0 alone is found.
 fn begin(alloc: Global, actors: usize) -> Result<Search, AllocError>
     requires { 1 ≤ actors }
-    ensures { IfOk result (λ s. (x : _) × (s.found.items ≡ x ∷ []) × (x.actor ≡ 0) × (x.way ≡ []) × (s.seen.items ≡ slice_set (replicate actors false) 0 true)) }
+    ensures { IfOk result (λ s. (x : _) × (s.found.items ≡ x ∷ []) × (x.actor ≡ 0) × (x.way ≡ [])
+        × (s.seen.items ≡ slice_set (replicate actors false) 0 true)) }
 {
     let mut seen = unmarked(alloc, actors)?;
     seen[0] = true;
@@ -68,7 +69,8 @@ pub fn unmarked(alloc: Global, actors: usize) -> Result<Vec<bool>, AllocError>
 pub fn first_unmarked(marks: &[bool]) -> Option<u32>
     requires { length marks.now < 2 ^ 32 }
     ensures { MatchOption result ((b : ℕ) → b < length marks.now → mark_at marks.now b ≡ true)
-        (λ b. (b < length marks.now) × (mark_at marks.now b ≡ false) × ((c : ℕ) → c < b → mark_at marks.now c ≡ true)) }
+        (λ b. (b < length marks.now) × (mark_at marks.now b ≡ false)
+        × ((c : ℕ) → c < b → mark_at marks.now c ≡ true)) }
 {
     for actor in 0..marks.len() {
         if !marks[actor] {
@@ -83,8 +85,10 @@ fn visit(alloc: Global, search: &mut Search, links: &[Link], place: usize) -> Re
     requires few { length links.now ≤ 256 }
     requires ends { HasEnds (length search.old.seen.items) links.now }
     requires listed { place < length search.old.found.items }
-    requires before { IsSearching links.now (length search.old.seen.items) search.old.found.items search.old.seen.items place 0 }
-    ensures { OnOk result (IsSearching links.now (length search.old.seen.items) search.new.found.items search.new.seen.items (place + 1) 0) }
+    requires before { IsSearching links.now (length search.old.seen.items)
+        search.old.found.items search.old.seen.items place 0 }
+    ensures { OnOk result (IsSearching links.now (length search.old.seen.items)
+        search.new.found.items search.new.seen.items (place + 1) 0) }
 {
     for channel in 0..links.len() {
         look(alloc, search, place, channel as u32, links[channel])?;
@@ -104,7 +108,8 @@ fn look(
     requires listed { place < length search.old.found.items }
     requires source { link.source < length search.old.seen.items }
     requires target { link.target < length search.old.seen.items }
-    ensures { OnOk result (IsLooked search.old.found.items search.old.seen.items search.new.found.items search.new.seen.items place channel link) }
+    ensures { OnOk result (IsLooked search.old.found.items search.old.seen.items
+        search.new.found.items search.new.seen.items place channel link) }
 {
     let from = search.found[place].actor;
     if from == link.source && !search.seen[link.target] {
@@ -134,8 +139,9 @@ fn take(
 ) -> Result<(), AllocError>
     requires listed { place < length search.old.found.items }
     requires marked { to < length search.old.seen.items }
-    ensures { OnOk result ((entry : _) × (new : _) × (slice_get search.old.found.items place ≡ Some entry) × (search.new.found.items ≡ search.old.found.items ++ new ∷ [])
-        × (new.actor ≡ to) × (new.way ≡ entry.way ++ step ∷ []) × (search.new.seen.items ≡ slice_set search.old.seen.items to true)) }
+    ensures { OnOk result ((entry : _) × (new : _) × (slice_get search.old.found.items place ≡ Some entry)
+        × (search.new.found.items ≡ search.old.found.items ++ new ∷ []) × (new.actor ≡ to)
+        × (new.way ≡ entry.way ++ step ∷ []) × (search.new.seen.items ≡ slice_set search.old.seen.items to true)) }
 {
     let way = extended(alloc, &search.found[place].way, step)?;
     search.found.push(Found { actor: to, way })?;

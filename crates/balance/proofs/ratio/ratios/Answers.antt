@@ -8,7 +8,7 @@ use Rattle.balance.specs.declared.walk.Link.{Link}
 use Rattle.balance.specs.declared.ratio.Ratio.{Ratio}
 use Rattle.balance.specs.declared.search.Found.{Found}
 use Rattle.balance.specs.Walks.{IsLowest, step_from, step_num, step_den, walk_num, walk_den}
-use Rattle.balance.specs.Repetition.{IsFirstAboveLimit, IsAboveLimit}
+use Rattle.balance.specs.Repetition.{IsFirstAboveLimit, HasRatioAboveLimit}
 use Rattle.balance.specs.Ratios.{one, ratio_at, AreRated, IsLastStep}
 use Rattle.balance.proofs.Rating.{last_step, last_value, rated_start, rated_more, rated_all, first_above}
 use Rattle.balance.proofs.ratio.ratios.Goals as goal
@@ -59,7 +59,7 @@ returns-then-ratio-gt-RATIO_LIMIT-clause-refusal c =
     c.requires.sums c.requires.tree c.loop-place.invariant.0 c.loop-place.auto.place at c.deref.ensures.value c.as_slice.ensures
     c.last_ratio-ratio.result.num c.last_ratio-ratio.result.den c.last_ratio-ratio.ensures in
     let path : c.from_vec.result ≡ x.way = c.from_vec.ensures ∙ c.in_ok-path.ensures.items ∙ c.as_slice-then-ratio-gt-RATIO_LIMIT.ensures in
-    let above : IsAboveLimit c.args.links.now x.way = (c.last_ratio-ratio.result.num, c.last_ratio-ratio.result.den, low, elim c.then-ratio-gt-RATIO_LIMIT.either [ inl h ↦ inl h | inr h ↦ inr h.1 ]) in
+    let above : HasRatioAboveLimit c.args.links.now x.way = (c.last_ratio-ratio.result.num, c.last_ratio-ratio.result.den, low, elim c.then-ratio-gt-RATIO_LIMIT.either [ inl h ↦ inl h | inr h ↦ inr h.1 ]) in
     subst (λ (w : List WalkStep). IsFirstAboveLimit c.args.links.now w) (sym path)
     (first_above c.args.links.now (length s.seen.items) s.found.items s.seen.items c.loop-place.ratios.items c.loop-place.place x c.requires.sums c.requires.tree
     c.loop-place.invariant.0 at above)
