@@ -1,5 +1,7 @@
 pub mod Field
+pub mod Refusal
 pub mod Walk
 pub mod Numbers
 pub mod Sections
 pub mod Reading
+pub mod Spelled
