@@ -1,9 +1,8 @@
 -- What a tree spells is read of it.
-use Rattle.std.proofs.Common.{◌≡◌, ◌≢◌, ℕ, zero, suc, ◌+◌, ◌<◌, ◌≤◌, Bool, true, false, cond, nat_lt, ◌==◌, not, List, [], ◌∷◌, ◌++◌, length, map, get_or, Option, Some, None, Result, Ok, Err, refl, sym, ap, ◌∙◌, subst, inl, inr, arith}
-use Rattle.std.specs.Prelude.{IfOk, IsTrue, ◌↔◌, codes}
+use Rattle.std.proofs.Common.{◌≡◌, ◌≢◌, ℕ, suc, ◌+◌, ◌<◌, ◌≤◌, Bool, true, false, cond, ◌==◌, List, [], ◌∷◌, ◌++◌, length, map, Option, Some, None, Ok, Err, refl, sym, ap, ◌∙◌, subst, arith}
+use Rattle.std.specs.Prelude.{IsTrue, codes}
 use Rattle.std.specs.List.{All, list_any, find}
 use Rattle.std.specs.Option.{option_to_list}
-use Rattle.std.specs.Str.{bytes_eq}
 use Rattle.std.proofs.lemmas.Bool.{le-ltb, ne_eqb}
 use Rattle.std.proofs.lemmas.Slice.Eq.{bytes_eq-Decides}
 use Rattle.sd_base.specs.declared.quantity.Quantity.{Quantity}
@@ -15,7 +14,6 @@ use Rattle.file_text.specs.Node.{Node, name_of}
 use Rattle.file_text.specs.Grammar.{Each}
 use Rattle.graph_reader.specs.declared.field.Field.{Field}
 use Rattle.graph_reader.specs.declared.field.Field.TheVariants as field
-use Rattle.graph_reader.specs.declared.error.ReadError.{ReadError}
 use Rattle.graph_reader.specs.declared.error.ReadError.TheVariants as error
 use Rattle.graph_reader.specs.declared.actors.Direction.{Direction}
 use Rattle.graph_reader.specs.declared.actors.Direction.TheVariants.{In, Out}
@@ -119,7 +117,7 @@ actor_of done e a is new =
     then-ok (Sections.new_name file (map (λ (b : Actor). b.name) done) e) _ a.name (Ok a) (new_name (λ (b : Actor). b.name) file done e a.name is.name new.0) (
     then-ok (Numbers.within quantity.Actors 128 (length done + 1)) _ (length done + 1) (Ok a) (within quantity.Actors 128 (length done + 1) new.1.0) (
     then-ok (Walk.each (Sections.port_of a.name before) [] (Walk.children (codes "port") e)) _ a.ports (Ok a)
-        (each-given Spelled.IsPort (Related PortsDiffer (Counted before 1024)) (Sections.port_of a.name before) (port_of a.name before) [] (Walk.children (codes "port") e) a.ports is.ports after) refl))
+    (each-given Spelled.IsPort (Related PortsDiffer (Counted before 1024)) (Sections.port_of a.name before) (port_of a.name before) [] (Walk.children (codes "port") e) a.ports is.ports after) refl))
 
 counted-actors : (done actors : List Actor) → length done + length actors ≤ 128 → Sections.port_count done + Sections.port_count actors ≤ 1024 → AfterEach ActorCounted done actors
 counted-actors done [] few few_ports = tt
@@ -206,7 +204,7 @@ time_entry : (actors : List Actor) (done : List TimeEntry) (e : Node) (t : TimeE
 unfolding Sections.time_entry
 time_entry actors done e t is new =
     then-ok (Sections.mention field.Actor (map (λ (a : Actor). a.name) actors) (map (λ (s : TimeEntry). s.actor) done) e) _ t.actor (Ok t)
-        (mention (λ (a : Actor). a.name) (λ (s : TimeEntry). s.actor) field.Actor actors done e t.actor is.actor is.known new.0) (
+    (mention (λ (a : Actor). a.name) (λ (s : TimeEntry). s.actor) field.Actor actors done e t.actor is.actor is.known new.0) (
     then-ok (Sections.time_of t.actor e) _ t.time (Ok t) (time_of t.actor e t.time is.time) refl)
 
 times_of : (actors : List Actor) (o : Option Node) (times : List TimeEntry) → Spelled.AreTimes actors o times → Sections.times_of actors o ≡ Ok times
@@ -231,7 +229,7 @@ size_entry : (channels : List Channel) (done : List SizeEntry) (e : Node) (s : S
 unfolding Sections.size_entry
 size_entry channels done e s is new =
     then-ok (Sections.mention field.Channel (map (λ (c : Channel). c.name) channels) (map (λ (r : SizeEntry). r.channel) done) e) _ s.channel (Ok s)
-        (mention (λ (c : Channel). c.name) (λ (r : SizeEntry). r.channel) field.Channel channels done e s.channel is.channel is.known new.0) (
+    (mention (λ (c : Channel). c.name) (λ (r : SizeEntry). r.channel) field.Channel channels done e s.channel is.channel is.known new.0) (
     then-ok (Sections.size_of s.channel e) _ s.size (Ok s) (size_of s.channel e s.size is.size) refl)
 
 sizes_of : (channels : List Channel) (o : Option Node) (sizes : List SizeEntry) → Spelled.AreSizes channels o sizes → Sections.sizes_of channels o ≡ Ok sizes

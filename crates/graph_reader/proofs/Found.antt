@@ -1,10 +1,10 @@
 -- What is read of a tree is what the tree spells.
-use Rattle.std.proofs.Common.{◌≡◌, ◌≢◌, ℕ, zero, suc, ◌+◌, ◌<◌, ◌≤◌, Bool, true, false, cond, nat_lt, ◌==◌, ◌||◌, not, List, [], ◌∷◌, ◌++◌, length, map, Option, Some, None, Result, Ok, Err, refl, sym, ap, ◌∙◌, subst, inl, inr, arith}
+use Rattle.std.proofs.Common.{◌≡◌, ◌≢◌, ℕ, ◌+◌, ◌<◌, ◌≤◌, Bool, true, false, cond, nat_lt, ◌==◌, ◌||◌, not, List, [], ◌∷◌, ◌++◌, length, map, Option, Some, None, Ok, Err, refl, sym, ap, ◌∙◌, subst, inl, inr, arith}
 use Rattle.std.specs.Prelude.{IfOk, IsTrue, codes}
 use Rattle.std.specs.List.{list_any, find}
 use Rattle.std.specs.Option.{option_to_list}
 use Rattle.std.specs.Str.{bytes_eq}
-use Rattle.std.proofs.lemmas.Bool.{cases_lt, lt-ltb, le-ltb, ltb-false, eqb-false, eqb-true}
+use Rattle.std.proofs.lemmas.Bool.{cases_lt, lt-ltb, le-ltb, ltb-false, eqb-false}
 use Rattle.std.proofs.lemmas.Slice.Eq.{bytes_eq-Decides}
 use Rattle.sd_base.specs.declared.quantity.Quantity.{Quantity}
 use Rattle.sd_base.specs.declared.quantity.Quantity.TheVariants as quantity
@@ -15,7 +15,6 @@ use Rattle.file_text.specs.Node.{Node, name_of}
 use Rattle.file_text.specs.Grammar.{Each}
 use Rattle.graph_reader.specs.declared.field.Field.{Field}
 use Rattle.graph_reader.specs.declared.field.Field.TheVariants as field
-use Rattle.graph_reader.specs.declared.error.ReadError.{ReadError}
 use Rattle.graph_reader.specs.declared.error.ReadError.TheVariants as error
 use Rattle.graph_reader.specs.declared.actors.Direction.{Direction}
 use Rattle.graph_reader.specs.declared.actors.Direction.TheVariants.{In, Out}
@@ -32,7 +31,7 @@ use Rattle.graph_reader.specs.Numbers
 use Rattle.graph_reader.specs.Sections
 use Rattle.graph_reader.specs.Spelled
 use Rattle.graph_reader.specs.Spelled.{Pairwise, EachTwo, Has, IsNumber, HasPositive, HasName}
-use Rattle.graph_reader.proofs.Steps.{then, skip, weaker, choice, both}
+use Rattle.graph_reader.proofs.Steps.{then, weaker, choice}
 use Rattle.graph_reader.proofs.Places.{AfterEach, Follows, each-gives, Related, two-from_after, count-from_after, Counted, few-from_counted, Each-from_none, Each-both, differ, length-push, port_count-cons, port_count-push}
 
 required : (what : Field) (of : List ℕ) (e : Node) → IfOk (Walk.required what of e) (Has what e)
@@ -157,7 +156,7 @@ actor_of done e =
     then (IsNew (λ (a : Actor). a.name) done e) _ (Sections.new_name file (map (λ (a : Actor). a.name) done) e) _ (new_name (λ (a : Actor). a.name) file done e) (λ name new.
     then (λ m. (m ≡ length done + 1) × (length done + 1 ≤ 128)) _ (Numbers.within quantity.Actors 128 (length done + 1)) _ (within quantity.Actors 128 (length done + 1)) (λ count few.
     then (Follows Spelled.IsPort (Related PortsDiffer (Counted (Sections.port_count done) 1024)) [] (Walk.children (codes "port") e)) _ (Walk.each (Sections.port_of name (Sections.port_count done)) [] (Walk.children (codes "port") e)) _
-        (each-gives Spelled.IsPort (Related PortsDiffer (Counted (Sections.port_count done) 1024)) (Sections.port_of name (Sections.port_count done)) (port_of name (Sections.port_count done)) [] (Walk.children (codes "port") e)) (λ ports f.
+    (each-gives Spelled.IsPort (Related PortsDiffer (Counted (Sections.port_count done) 1024)) (Sections.port_of name (Sections.port_count done)) (port_of name (Sections.port_count done)) [] (Walk.children (codes "port") e)) (λ ports f.
     let pairs : Pairwise Spelled.IsPort (Walk.children (codes "port") e) ports = subst (Pairwise Spelled.IsPort (Walk.children (codes "port") e)) (sym f.1) f.2 in
     let after : AfterEach (Related PortsDiffer (Counted (Sections.port_count done) 1024)) [] ports = subst (AfterEach (Related PortsDiffer (Counted (Sections.port_count done) 1024)) []) (sym f.1) f.3 in
     let counted = count-from_after PortsDiffer (Counted (Sections.port_count done) 1024) ports after in
@@ -239,13 +238,15 @@ channel_of actors done e =
     let targets : Each (λ (d : Channel). Sections.is_same_port d.target target ≡ false) done = subst (λ x. Each (λ (d : Channel). Sections.is_same_port d.target x ≡ false) done) (sym target_is.0) (Each-from_none (λ (c : Channel). Sections.is_same_port c.target stop) done target_is.1) in
     let made : Channel = record { name = name; source = source; target = target; tokens = tokens } in
     let named = Each-both (λ (d : Channel). d.name ≢ name) (λ (d : Channel). Sections.is_same_port d.source source ≡ false) (λ (d : Channel). (d.name ≢ name) × (Sections.is_same_port d.source source ≡ false)) done new.1 sources (λ d p q. (p, q)) in
-    let apart = Each-both (λ (d : Channel). (d.name ≢ name) × (Sections.is_same_port d.source source ≡ false)) (λ (d : Channel). Sections.is_same_port d.target target ≡ false) (λ d. Spelled.AreApart d made) done named targets (λ d p q. record { names = p.0; sources = p.1; targets = q }) in
-    (record {
-      name = new.0;
-      source = subst (Spelled.IsEnd actors Out field.SrcActor field.SrcPort e) (sym source_is.0) is_start;
-      target = subst (Spelled.IsEnd actors In field.DstActor field.DstPort e) (sym target_is.0) is_stop;
-      tokens = are_tokens;
-    }, (apart, omega (arith, few.1))))))))))
+    let apart = Each-both (λ (d : Channel). (d.name ≢ name) × (Sections.is_same_port d.source source ≡ false)) (λ (d : Channel). Sections.is_same_port d.target target ≡ false) (λ d. Spelled.AreApart d made) done named targets (λ d p q. record { names = p.0; sources = p.1; targets = q }) in (
+      record {
+        name = new.0;
+        source = subst (Spelled.IsEnd actors Out field.SrcActor field.SrcPort e) (sym source_is.0) is_start;
+        target = subst (Spelled.IsEnd actors In field.DstActor field.DstPort e) (sym target_is.0) is_stop;
+        tokens = are_tokens;
+      },
+      (apart, omega (arith, few.1)),
+    ))))))))
 
 channels_of : (actors : List Actor) (section : Node) → IfOk (Sections.channels_of actors section) (Spelled.AreChannels actors section)
 unfolding Sections.channels_of
@@ -281,7 +282,7 @@ time_entry : (actors : List Actor) (done : List TimeEntry) (e : Node) → IfOk (
 unfolding Sections.time_entry
 time_entry actors done e =
     then (IsMention (λ (a : Actor). a.name) (λ (t : TimeEntry). t.actor) field.Actor actors done e) _ (Sections.mention field.Actor (map (λ (a : Actor). a.name) actors) (map (λ (t : TimeEntry). t.actor) done) e) _
-        (mention (λ (a : Actor). a.name) (λ (t : TimeEntry). t.actor) field.Actor actors done e) (λ name is.
+    (mention (λ (a : Actor). a.name) (λ (t : TimeEntry). t.actor) field.Actor actors done e) (λ name is.
     then (Spelled.IsTime (Sections.execution_of e)) _ (Sections.time_of name e) _ (time_of name e) (λ time timed.
     (record { actor = is.0; known = is.1; time = timed }, (is.2, tt))))
 
@@ -311,7 +312,7 @@ size_entry : (channels : List Channel) (done : List SizeEntry) (e : Node) → If
 unfolding Sections.size_entry
 size_entry channels done e =
     then (IsMention (λ (c : Channel). c.name) (λ (s : SizeEntry). s.channel) field.Channel channels done e) _ (Sections.mention field.Channel (map (λ (c : Channel). c.name) channels) (map (λ (s : SizeEntry). s.channel) done) e) _
-        (mention (λ (c : Channel). c.name) (λ (s : SizeEntry). s.channel) field.Channel channels done e) (λ name is.
+    (mention (λ (c : Channel). c.name) (λ (s : SizeEntry). s.channel) field.Channel channels done e) (λ name is.
     then (Spelled.IsSize (Sections.size_text e)) _ (Sections.size_of name e) _ (size_of name e) (λ size sized.
     (record { channel = is.0; known = is.1; size = sized }, (is.2, tt))))
 
@@ -379,13 +380,22 @@ table_of need_times tree =
     then (Spelled.AreSizes channels properties) _ (Sections.sizes_of channels properties) _ (sizes_of channels properties) (λ sizes are_sizes.
     weaker (λ u. u ≡ Sections.table actors channels times sizes) (λ t. (IsTrue need_times → IsTimed t) → Spelled.IsTable need_times tree t) (Sections.all_timed need_times (Sections.table actors channels times sizes)) (all_timed need_times (Sections.table actors channels times sizes)) (λ t is_table given.
     record {
-      graph = graph; section = section; properties = properties;
-      actors = actors; channels = channels; times = times; sizes = sizes;
+      graph = graph;
+      section = section;
+      properties = properties;
+      actors = actors;
+      channels = channels;
+      times = times;
+      sizes = sizes;
       root = is_root.1;
       kind = subst (λ r. Has field.TypeWord r (word_of field.Sdf)) is_root.0 (has ∙ ap Some is_kind);
       one_graph = subst (λ r. Walk.children (word_of field.ApplicationGraph) r ≡ graph ∷ []) is_root.0 one_graph;
-      one_section = one_section; no_second = no_second;
-      are_actors = are_actors; are_channels = are_channels; are_times = are_times; are_sizes = are_sizes;
+      one_section = one_section;
+      no_second = no_second;
+      are_actors = are_actors;
+      are_channels = are_channels;
+      are_times = are_times;
+      are_sizes = are_sizes;
       is_table = is_table;
       timed = given;
     })))))))))))

@@ -1,5 +1,5 @@
 -- Elements and what is read of them, place by place; names that differ.
-use Rattle.std.proofs.Common.{◌≡◌, ◌≢◌, ℕ, zero, suc, ◌+◌, ◌<◌, ◌≤◌, Bool, true, false, cond, not, List, [], ◌∷◌, ◌++◌, length, map, Result, Ok, Err, refl, sym, ap, ◌∙◌, subst, arith, append_assoc, add-zero}
+use Rattle.std.proofs.Common.{◌≡◌, ◌≢◌, ℕ, ◌+◌, ◌≤◌, Bool, true, false, List, [], ◌∷◌, ◌++◌, length, map, Result, Ok, refl, sym, ap, ◌∙◌, arith, append_assoc}
 use Rattle.std.specs.Prelude.{IfOk}
 use Rattle.std.specs.List.{list_any}
 use Rattle.std.specs.Str.{bytes_eq}
@@ -96,9 +96,9 @@ count-from_after R N xs h = (split R N [] xs h).after
 join : {X : Type 0} (R : X → X → Type 0) (N : List X → X → Type 0) (done xs : List X) → EachTwo R xs → Each (λ y. Each (R y) xs) done → AfterEach N done xs → AfterEach (Related R N) done xs
 join R N done [] two others after = tt
 join R N done (x ∷ xs) two others after = (
-    (Each-weaker (λ y. Each (R y) (x ∷ xs)) (λ y. R y x) done others (λ y h. h.0), after.0),
-    join R N (done ++ x ∷ []) xs two.1 (Each-push (λ y. Each (R y) xs) done x (Each-weaker (λ y. Each (R y) (x ∷ xs)) (λ y. Each (R y) xs) done others (λ y h. h.1)) two.0) after.1
-  )
+  (Each-weaker (λ y. Each (R y) (x ∷ xs)) (λ y. R y x) done others (λ y h. h.0), after.0),
+  join R N (done ++ x ∷ []) xs two.1 (Each-push (λ y. Each (R y) xs) done x (Each-weaker (λ y. Each (R y) (x ∷ xs)) (λ y. Each (R y) xs) done others (λ y h. h.1)) two.0) after.1,
+)
 
 pub after-from_two : {X : Type 0} (R : X → X → Type 0) (N : List X → X → Type 0) (xs : List X) → EachTwo R xs → AfterEach N [] xs → AfterEach (Related R N) [] xs
 after-from_two R N xs two after = join R N [] xs two tt after

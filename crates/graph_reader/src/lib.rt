@@ -48,8 +48,7 @@ pub fn read_graph(alloc: Global, bytes: &[u8], need_times: bool) -> Result<Graph
 /// it, said without an order.
 pub fn walk_is_exact()
     ensures { (need_times : Bool) (e : Node) (t : GraphFile) → (table_of need_times e ≡ Ok t) ↔ IsTable need_times e t }
-{
-}
+{}
 
 #[cfg(test)]
 mod tests;

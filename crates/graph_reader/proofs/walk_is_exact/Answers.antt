@@ -10,6 +10,6 @@ use Rattle.graph_reader.proofs.walk_is_exact.Goals as goal
 
 pub returns : goal.returns
 returns c = λ need_times e t. (
-    (λ read. if-ok (λ u. (IsTrue need_times → IsTimed u) → IsTable need_times e u) (Sections.table_of need_times e) t (Found.table_of need_times e) read (is_timed need_times e (Ok t) read)),
-    Again.table_of need_times e t
-  )
+  (λ read. if-ok (λ u. (IsTrue need_times → IsTimed u) → IsTable need_times e u) (Sections.table_of need_times e) t (Found.table_of need_times e) read (is_timed need_times e (Ok t) read)),
+  Again.table_of need_times e t,
+)
