@@ -1,5 +1,5 @@
 -- What refuses a tree is a broken rule of its sections: no fault of a text, and no want of memory.
-use Rattle.std.proofs.Common.{◌≡◌, ℕ, ◌+◌, Bool, true, false, cond, ◌==◌, nat_lt, not, List, [], ◌∷◌, ◌++◌, length, map, Option, Some, None, Result, Ok, Err, subst}
+use Rattle.std.proofs.Common.{◌≡◌, ℕ, ◌+◌, Bool, true, false, cond, ◌==◌, nat_lt, not, List, [], ◌∷◌, ◌++◌, length, map, Option, Some, None, Result, Ok, Err, subst, sym, ap, ◌∙◌, ◌⊎◌, inl, inr}
 use Rattle.std.specs.Prelude.{IfErr, codes}
 use Rattle.std.specs.List.{list_any, find}
 use Rattle.std.specs.Str.{bytes_eq}
@@ -25,6 +25,10 @@ use Rattle.graph_reader.specs.Walk
 use Rattle.graph_reader.specs.Walk.{◌>>=◌, file, Fails, Gives}
 use Rattle.graph_reader.specs.Reading.{IsFirstFault}
 use Rattle.file_text.specs.Grammar.{IsText}
+use Rattle.file_text.specs.Fault.{FirstFault}
+use Rattle.file_text.specs.declared.error.TextError.{TextError}
+use Rattle.file_text.specs.declared.error.TextError.TheVariants as text
+use Rattle.graph_reader.specs.Refusal.{text_refusal}
 use Rattle.graph_reader.specs.Numbers
 use Rattle.graph_reader.specs.Sections
 
@@ -257,3 +261,17 @@ fault_is bytes need_times e spelled refusal fails = (e, spelled, fails (λ same.
 pub first_fault : (bytes : List ℕ) (need_times : Bool) (e : Node) → IsText e bytes → (result : Result GraphFile ReadError) → Gives (λ t. t) result (Sections.table_of need_times e) → IfErr result (IsFirstFault bytes need_times)
 first_fault bytes need_times e spelled (Ok t) gives = tt
 first_fault bytes need_times e spelled (Err refusal) gives = fault_is bytes need_times e spelled refusal gives
+
+refused : (bytes : List ℕ) (need_times : Bool) (fault : TextError) → (fault ≡ text.NoMemory) ⊎ FirstFault bytes fault → IsFirstFault bytes need_times (text_refusal fault)
+refused bytes need_times text.NoMemory h = tt
+refused bytes need_times (text.Syntax place) h = elim h [ inl e ↦ absurd cc | inr first ↦ first ]
+refused bytes need_times (text.Unsupported place what) h = elim h [ inl e ↦ absurd cc | inr first ↦ first ]
+refused bytes need_times (text.TooDeep place) h = elim h [ inl e ↦ absurd cc | inr first ↦ first ]
+
+-- the first fault of a text refuses it
+pub text_fault : (bytes : List ℕ) (need_times : Bool) (fault : TextError) (refusal : ReadError) → refusal ≡ text_refusal fault → (fault ≡ text.NoMemory) ⊎ FirstFault bytes fault → IsFirstFault bytes need_times refusal
+text_fault bytes need_times fault refusal is h = subst (IsFirstFault bytes need_times) (sym is) (refused bytes need_times fault h)
+
+-- a text that is spelled is refused for want of memory alone
+pub text_exact : (fault : TextError) (refusal : ReadError) (read : Result GraphFile ReadError) → refusal ≡ text_refusal fault → fault ≡ text.NoMemory → Fails refusal read
+text_exact fault refusal read is none other = absurd (other (is ∙ ap text_refusal none))

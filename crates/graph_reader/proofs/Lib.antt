@@ -4,3 +4,6 @@ pub mod Faults
 pub mod Rules
 pub mod Steps
 pub mod Decided
+pub mod Places
+pub mod Found
+pub mod Again

@@ -1,5 +1,5 @@
 -- A table that is read keeps the rules and limits of graph tables.
-use Rattle.std.proofs.Common.{◌≡◌, ℕ, zero, suc, ◌+◌, ◌<◌, ◌≤◌, Bool, true, false, cond, nat_lt, ◌==◌, List, [], ◌∷◌, ◌++◌, length, map, sum, get_or, slice_index, Option, Some, None, Result, Ok, Err, refl, sym, ap, ◌∙◌, subst, inl, inr, arith, add-one}
+use Rattle.std.proofs.Common.{◌≡◌, ℕ, zero, suc, ◌+◌, ◌<◌, ◌≤◌, Bool, true, false, cond, ◌==◌, List, [], ◌∷◌, ◌++◌, length, map, slice_index, Option, Some, None, Result, Ok, Err, refl, sym, ap, ◌∙◌, subst, inl, inr, arith}
 use Rattle.std.specs.Prelude.{IfOk, IfSome, IsTrue, ◌≢◌, codes}
 use Rattle.std.specs.List.{All, AllByRecursion, list_any, find}
 use Rattle.std.specs.Option.{option_to_list, option_map_or, option_and_then}
@@ -11,13 +11,12 @@ use Rattle.sd_base.specs.declared.quantity.Quantity.TheVariants as quantity
 use Rattle.sd_base.specs.declared.tables.Kind.TheVariants.{Sdf}
 use Rattle.sd_base.specs.declared.tables.GraphFile.{GraphFile}
 use Rattle.sd_base.specs.declared.tables.ActorRow.{ActorRow}
-use Rattle.sd_base.specs.declared.tables.ChannelRow.{ChannelRow}
 use Rattle.sd_base.specs.Tables.{ActorKeepsRules, PortKeepsRules, ChannelKeepsRules, KeepsRules, IsTimed}
 use Rattle.file_text.specs.Node.{Node}
 use Rattle.graph_reader.specs.declared.field.Field.{Field}
 use Rattle.graph_reader.specs.declared.field.Field.TheVariants as field
 use Rattle.graph_reader.specs.declared.error.ReadError.{ReadError}
-use Rattle.graph_reader.specs.declared.error.ReadError.TheVariants.{Limit, BadNumber}
+use Rattle.graph_reader.specs.declared.error.ReadError.TheVariants.{BadNumber}
 use Rattle.graph_reader.specs.declared.actors.Direction.{Direction}
 use Rattle.graph_reader.specs.declared.actors.Direction.TheVariants.{In, Out}
 use Rattle.graph_reader.specs.declared.actors.Port.{Port}

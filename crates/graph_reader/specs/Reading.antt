@@ -1,6 +1,5 @@
 -- The fault that refuses a graph file.
-use Rattle.std.specs.Prelude.{◌≡◌, ℕ, Bool, List, Result, Ok, Err}
-use Rattle.file_text.specs.declared.error.TextError.{TextError}
+use Rattle.std.specs.Prelude.{◌≡◌, ℕ, Bool, List, Err}
 use Rattle.file_text.specs.declared.error.TextError.TheVariants as text
 use Rattle.file_text.specs.Node.{Node}
 use Rattle.file_text.specs.Grammar.{IsText}

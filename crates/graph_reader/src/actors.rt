@@ -96,7 +96,8 @@ fn read_ports(
     element: &Element,
 ) -> Result<Rows<Port>, ReadError>
     requires { before ≤ 1024 }
-    ensures gives { Gives (λ ps. ps) result (each (port_of actor.now before) [] (children (codes "port") (tree_of element.now))) }
+    ensures gives { let elements = children (codes "port") (tree_of element.now) in
+        Gives (λ ps. ps) result (each (port_of actor.now before) [] elements) }
     ensures few { IfOk result (λ ps. before + length ps ≤ 1024) }
 {
     let mut ports = Rows::new(alloc);

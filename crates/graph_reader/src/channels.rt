@@ -104,7 +104,8 @@ fn read_end(
     element: &Element,
 ) -> Result<End, ReadError>
     requires { length actors.now ≤ 128 }
-    ensures { Gives (λ e. e) result (end_of actors.now side.direction side.actor side.port of.now (tree_of element.now)) }
+    ensures { let end = end_of actors.now side.direction side.actor side.port of.now (tree_of element.now) in
+        Gives (λ e. e) result end }
 {
     let actor_name = required(alloc, element, side.actor, of)?;
     let Some((number, actor)) = numbered(actors, actor_name) else {

@@ -26,7 +26,8 @@ pub fn elements_in(element: &Element) -> &[Element]
 
 /// The first element so named, and the elements after it.
 pub fn split_named<'a>(elements: &'a [Element], word: &str) -> Option<(&'a Element, &'a [Element])>
-    ensures found { MatchOption result (named word.now (map tree_of elements.now) ≡ []) (λ r. named word.now (map tree_of elements.now) ≡ tree_of r.0.now ∷ named word.now (map tree_of r.1.now)) }
+    ensures found { let left = named word.now (map tree_of elements.now) in
+        MatchOption result (left ≡ []) (λ r. left ≡ tree_of r.0.now ∷ named word.now (map tree_of r.1.now)) }
     ensures shorter { IfSome result (λ r. length r.1.now < length elements.now) }
 {
     let mut left = elements;

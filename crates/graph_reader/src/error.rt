@@ -1,5 +1,6 @@
 ghost use Rattle.std.specs.Prelude.{◌≡◌, ◌≢◌, IfOk};
 ghost use Rattle.graph_reader.specs.declared.error.ReadError.TheVariants.{NoMemory};
+ghost use Rattle.graph_reader.specs.Refusal.{text_refusal};
 
 use crate::Field;
 use file_text::TextError;
@@ -49,6 +50,17 @@ impl<T: Drop> From<AllocFailed<T>> for ReadError {
 
     fn from(_error: AllocFailed<T>) -> ReadError {
         ReadError::NoMemory
+    }
+}
+
+impl From<TextError> for ReadError {
+    ghost from_gives = { λ fault error. error ≡ text_refusal fault };
+
+    fn from(fault: TextError) -> ReadError {
+        match fault {
+            TextError::NoMemory => ReadError::NoMemory,
+            fault => ReadError::Text { fault },
+        }
     }
 }
 

@@ -85,7 +85,8 @@ pub fn mention<'a, R: Named, E: Named>(
     earlier: &[E],
     element: &'a Element,
 ) -> Result<&'a str, ReadError>
-    ensures { Gives (λ v. v.now) result (mention what (map R.name_of rows.now) (map E.name_of earlier.now) (tree_of element.now)) }
+    ensures { let names = map R.name_of rows.now in
+        Gives (λ v. v.now) result (mention what names (map E.name_of earlier.now) (tree_of element.now)) }
 {
     let name = required(alloc, element, what, "file")?;
     if !is_taken(rows, name) {

@@ -115,7 +115,8 @@ pub fn read_times(
     actors: &[Actor],
     properties: Option<&Element>,
 ) -> Result<Rows<TimeEntry>, ReadError>
-    ensures { Gives (λ ts. ts) result (times_of actors.now (option_map (λ e. tree_of e.now) properties.entry)) }
+    ensures { let tree = option_map (λ e. tree_of e.now) properties.entry in
+        Gives (λ ts. ts) result (times_of actors.now tree) }
 {
     let mut times = Rows::new(alloc);
     let Some(element) = properties else {
@@ -170,7 +171,8 @@ pub fn read_sizes(
     channels: &[Channel],
     properties: Option<&Element>,
 ) -> Result<Rows<SizeEntry>, ReadError>
-    ensures { Gives (λ ss. ss) result (sizes_of channels.now (option_map (λ e. tree_of e.now) properties.entry)) }
+    ensures { let tree = option_map (λ e. tree_of e.now) properties.entry in
+        Gives (λ ss. ss) result (sizes_of channels.now tree) }
 {
     let mut sizes = Rows::new(alloc);
     let Some(element) = properties else {

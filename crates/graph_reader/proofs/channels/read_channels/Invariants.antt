@@ -1,5 +1,4 @@
-use Rattle.std.proofs.Common.{◌≡◌, ◌+◌, ◌≤◌, [], length, map}
-use Rattle.std.specs.Prelude.{codes}
+use Rattle.std.proofs.Common.{◌≡◌, ◌≤◌, [], length, map}
 use Rattle.file_text.specs.Node.{tree_of, children_of}
 use Rattle.graph_reader.specs.declared.field.Field.TheVariants as field
 use Rattle.graph_reader.specs.Field.{word_of}

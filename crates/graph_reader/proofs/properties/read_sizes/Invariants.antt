@@ -1,8 +1,6 @@
-use Rattle.std.proofs.Common.{◌≡◌, ◌+◌, ◌≤◌, [], length, map}
+use Rattle.std.proofs.Common.{◌≡◌, [], length, map}
 use Rattle.std.specs.Prelude.{codes}
 use Rattle.file_text.specs.Node.{tree_of}
-use Rattle.graph_reader.specs.declared.field.Field.TheVariants as field
-use Rattle.graph_reader.specs.Field.{word_of}
 use Rattle.graph_reader.specs.Walk.{named, each}
 use Rattle.graph_reader.specs.Sections.{size_entry}
 use Rattle.graph_reader.proofs.properties.read_sizes.Given as goal

@@ -1,0 +1,165 @@
+-- The table that a tree spells, said of both at once, without an order of tests.
+use Rattle.std.specs.Prelude.{◌≡◌, ◌≢◌, ℕ, ◌≤◌, Bool, false, IsTrue, List, [], ◌∷◌, length, Option, Some, None, codes}
+use Rattle.std.specs.List.{find}
+use Rattle.std.specs.Option.{option_to_list}
+use Rattle.sd_base.specs.declared.tables.GraphFile.{GraphFile}
+use Rattle.sd_base.specs.Tables.{IsTimed}
+use Rattle.file_text.specs.Node.{Node, name_of}
+use Rattle.file_text.specs.Grammar.{Each}
+use Rattle.graph_reader.specs.declared.field.Field.{Field}
+use Rattle.graph_reader.specs.declared.field.Field.TheVariants as field
+use Rattle.graph_reader.specs.declared.actors.Direction.{Direction}
+use Rattle.graph_reader.specs.declared.actors.Direction.TheVariants.{In, Out}
+use Rattle.graph_reader.specs.declared.actors.Port.{Port}
+use Rattle.graph_reader.specs.declared.actors.Actor.{Actor}
+use Rattle.graph_reader.specs.declared.channels.End.{End}
+use Rattle.graph_reader.specs.declared.channels.Channel.{Channel}
+use Rattle.graph_reader.specs.declared.properties.TimeEntry.{TimeEntry}
+use Rattle.graph_reader.specs.declared.properties.SizeEntry.{SizeEntry}
+use Rattle.graph_reader.specs.Field.{word_of}
+use Rattle.graph_reader.specs.Walk.{children, attribute}
+use Rattle.graph_reader.specs.Numbers.{number_in}
+use Rattle.graph_reader.specs.Sections.{port_count, numbered, is_port, is_same_port, execution_of, size_text, some_size, table}
+
+-- the relation holds of elements and what is read of them, place by place
+abbrev pub Pairwise : {X : Type 0} → (Node → X → Type 0) → List Node → List X → Type 0
+Pairwise R [] [] = Unit {0}
+Pairwise R (e ∷ es) (x ∷ xs) = R e x × Pairwise R es xs
+Pairwise R [] (x ∷ xs) = ⊥
+Pairwise R (e ∷ es) [] = ⊥
+
+-- the relation holds of each two, the earlier one first
+abbrev pub EachTwo : {X : Type 0} → (X → X → Type 0) → List X → Type 0
+EachTwo R [] = Unit {0}
+EachTwo R (x ∷ xs) = Each (R x) xs × EachTwo R xs
+
+-- the element has an attribute of this name and value
+abbrev pub Has : Field → Node → List ℕ → Type 0
+Has what e value = attribute (word_of what) e ≡ Some value
+
+-- the text is a number of this value, up to a limit
+abbrev pub IsNumber : ℕ → List ℕ → ℕ → Type 0
+IsNumber limit text n = (number_in text ≡ Some n) × (n ≤ limit)
+
+-- an attribute is a number that isn't 0, up to a limit
+abbrev pub HasPositive : Field → ℕ → Node → ℕ → Type 0
+HasPositive what limit e n = (text : List ℕ) × Has what e text × IsNumber limit text n × (1 ≤ n)
+
+-- the element's name, of 1 to 128 bytes
+pub record HasName (e : Node) (name : List ℕ) : Type 0 where
+  pub has : Has field.Name e name
+  pub some : 1 ≤ length name
+  pub short : length name ≤ 128
+
+abbrev pub direction_word : Direction → List ℕ
+direction_word In = codes "in"
+direction_word Out = codes "out"
+
+pub record IsPort (e : Node) (p : Port) : Type 0 where
+  pub name : HasName e p.name
+  pub direction : Has field.TypeWord e (direction_word p.direction)
+  pub rate : HasPositive field.Rate 1000000 e p.rate
+
+-- an actor's ports have names of their own
+pub record IsActor (e : Node) (a : Actor) : Type 0 where
+  pub name : HasName e a.name
+  pub ports : Pairwise IsPort (children (codes "port") e) a.ports
+  pub apart : EachTwo (λ (p q : Port). p.name ≢ q.name) a.ports
+
+-- actors have names of their own; there are 1 to 128, with at most 1,024 ports
+pub record AreActors (section : Node) (actors : List Actor) : Type 0 where
+  pub rows : Pairwise IsActor (children (word_of field.Actor) section) actors
+  pub apart : EachTwo (λ (a b : Actor). a.name ≢ b.name) actors
+  pub some : 1 ≤ length actors
+  pub few : length actors ≤ 128
+  pub few_ports : port_count actors ≤ 1024
+
+-- an end of a channel: the number of the actor that is named, and the rate of the port of it that is named
+pub record IsEnd (actors : List Actor) (direction : Direction) (actor_word port_word : Field) (e : Node) (x : End) : Type 0 where
+  pub actor_name : List ℕ
+  pub actor : Actor
+  pub port : Port
+  pub has_actor : Has actor_word e actor_name
+  pub is_actor : numbered 0 actor_name actors ≡ Some (x.actor, actor)
+  pub has_port : Has port_word e x.port
+  pub is_port : find (is_port direction x.port) actor.ports ≡ Some port
+  pub rate : port.rate ≡ x.rate
+
+-- initial tokens: as many as are given, or none
+abbrev pub AreTokens : Option (List ℕ) → ℕ → Type 0
+AreTokens None n = n ≡ 0
+AreTokens (Some text) n = IsNumber 1000000 text n
+
+pub record IsChannel (actors : List Actor) (e : Node) (c : Channel) : Type 0 where
+  pub name : HasName e c.name
+  pub source : IsEnd actors Out field.SrcActor field.SrcPort e c.source
+  pub target : IsEnd actors In field.DstActor field.DstPort e c.target
+  pub tokens : AreTokens (attribute (word_of field.InitialTokens) e) c.tokens
+
+-- two channels have different names, and different ports at each end
+pub record AreApart (c d : Channel) : Type 0 where
+  pub names : c.name ≢ d.name
+  pub sources : is_same_port c.source d.source ≡ false
+  pub targets : is_same_port c.target d.target ≡ false
+
+pub record AreChannels (actors : List Actor) (section : Node) (channels : List Channel) : Type 0 where
+  pub rows : Pairwise (IsChannel actors) (children (word_of field.Channel) section) channels
+  pub apart : EachTwo AreApart channels
+  pub few : length channels ≤ 256
+
+-- the time of an execution, if there is one
+abbrev pub IsTime : Option Node → Option ℕ → Type 0
+IsTime None time = time ≡ None
+IsTime (Some execution) time = (n : ℕ) × (time ≡ Some n) × HasPositive field.Time 1000000000 execution n
+
+-- what properties say of an actor
+pub record IsTimeEntry (actors : List Actor) (e : Node) (t : TimeEntry) : Type 0 where
+  pub actor : Has field.Actor e t.actor
+  pub known : Each (λ (a : Actor). a.name ≢ t.actor) actors → ⊥
+  pub time : IsTime (execution_of e) t.time
+
+-- each entry is of another actor
+abbrev pub AreTimes : List Actor → Option Node → List TimeEntry → Type 0
+AreTimes actors None times = times ≡ []
+AreTimes actors (Some properties) times =
+    Pairwise (IsTimeEntry actors) (children (codes "actorProperties") properties) times
+    × EachTwo (λ (s t : TimeEntry). s.actor ≢ t.actor) times
+
+-- the size of a token: 1 where none is given
+abbrev pub IsSize : Option (List ℕ) → ℕ → Type 0
+IsSize None size = size ≡ 1
+IsSize (Some text) size = (n : ℕ) × IsNumber 1000000 text n × (size ≡ some_size n)
+
+-- what properties say of a channel
+pub record IsSizeEntry (channels : List Channel) (e : Node) (s : SizeEntry) : Type 0 where
+  pub channel : Has field.Channel e s.channel
+  pub known : Each (λ (c : Channel). c.name ≢ s.channel) channels → ⊥
+  pub size : IsSize (size_text e) s.size
+
+-- each entry is of another channel
+abbrev pub AreSizes : List Channel → Option Node → List SizeEntry → Type 0
+AreSizes channels None sizes = sizes ≡ []
+AreSizes channels (Some properties) sizes =
+    Pairwise (IsSizeEntry channels) (children (codes "channelProperties") properties) sizes
+    × EachTwo (λ (s t : SizeEntry). s.channel ≢ t.channel) sizes
+
+-- the tree spells the table
+pub record IsTable (need_times : Bool) (tree : Node) (t : GraphFile) : Type 0 where
+  pub graph : Node
+  pub section : Node
+  pub properties : Option Node
+  pub actors : List Actor
+  pub channels : List Channel
+  pub times : List TimeEntry
+  pub sizes : List SizeEntry
+  pub root : name_of tree ≡ word_of field.Sdf3
+  pub kind : Has field.TypeWord tree (word_of field.Sdf)
+  pub one_graph : children (word_of field.ApplicationGraph) tree ≡ graph ∷ []
+  pub one_section : children (word_of field.Sdf) graph ≡ section ∷ []
+  pub no_second : children (word_of field.SdfProperties) graph ≡ option_to_list properties
+  pub are_actors : AreActors section actors
+  pub are_channels : AreChannels actors section channels
+  pub are_times : AreTimes actors properties times
+  pub are_sizes : AreSizes channels properties sizes
+  pub is_table : t ≡ table actors channels times sizes
+  pub timed : IsTrue need_times → IsTimed t
