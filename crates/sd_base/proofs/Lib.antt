@@ -12,3 +12,4 @@ pub mod Tight
 pub mod Wordings
 pub mod FileNets
 pub mod Traces
+pub mod Shapes
