@@ -13,3 +13,4 @@ pub mod Wordings
 pub mod FileNets
 pub mod Traces
 pub mod Shapes
+pub mod Futures
