@@ -1,10 +1,12 @@
 -- After equal shapes self-timed execution goes on alike.
-use Rattle.std.proofs.Common.{◌≡◌, ℕ, zero, suc, ◌+◌, ◌-◌, ◌≤◌, ◌<◌, length, ⊎_elim, sym, refl, ap, ◌∙◌, arith}
+use Rattle.std.proofs.Common.{◌≡◌, ℕ, zero, suc, ◌+◌, ◌-◌, ◌≤◌, ◌<◌, length, inl, inr, ⊎_elim, sym, ap, ◌∙◌, arith}
 use Rattle.std.proofs.lemmas.Bool.{cases_lt}
 use Rattle.sd_base.specs.Net.{Net, channel_at, total}
 use Rattle.sd_base.specs.Schedules.{time_of, Needs, Lacks, Schedule, count_of, start_of, end_of, HasInputs}
-use Rattle.sd_base.specs.SelfTimed.{ended_by, earliest, shape_of}
+use Rattle.sd_base.specs.SelfTimed.{ended_by, earliest, IsEvent, shape_of, shape_at}
+use Rattle.sd_base.specs.Futures.{Repeats}
 use Rattle.sd_base.proofs.Parts.{Wired, Regular}
+use Rattle.sd_base.proofs.Admissibles.{is_actor}
 use Rattle.sd_base.proofs.Steps.{Ended, Able, Full, Extended}
 use Rattle.sd_base.proofs.Existence.{extended-is}
 use Rattle.sd_base.proofs.Counts.{decided, able-along, full-along, early_at, ended_at, ended-by-is, ended-at-is, ended-same, able-at, full-at, past_none}
@@ -22,6 +24,9 @@ pub record Step (net : Net) (x : ℕ) (s u : Schedule) (e f : ℕ → ℕ) : Typ
   pub able : Able net f (count_of u)
   pub full : Full net f (count_of u)
   pub past : (a : ℕ) → length net.times ≤ a → count_of u a ≡ 0
+
+shape-read : (net : Net) (x : ℕ) → shape_at net x ≡ shape_of net x (earliest net (suc x))
+shape-read net x = let e : x + 1 ≡ suc x = omega arith in ap (λ (n : ℕ). shape_of net x (earliest net n)) e
 
 -- what has ended stays so
 ended-grows : (net : Net) (x : ℕ) (s u : Schedule) (e f : ℕ → ℕ) → Step net x s u e f → (a : ℕ) → e a ≤ f a
@@ -159,3 +164,88 @@ module _ (net : Net) (reg : Regular net) (fed : HasInputs net) where
         (ended_at net (d + r)) (ended_at net (d + t)) (ended_at net (suc (d + r))) (ended_at net (suc (d + t)))
         (next_is (d + r)) (next_is (d + t)) (futures v base r t whole alike d)
       ))
+
+  module _ (v : ℕ → ℕ) (r t : ℕ) (whole : Whole net v) (alike : Alike v (ended_at net r) r t) where
+    at_distance : (d : ℕ) → Alike v (ended_at net r) (d + r) (d + t)
+    at_distance d = futures v (ended_at net r) r t whole alike d
+
+    -- who ends after a moment hasn't ended by then
+    past-base : (d a k : ℕ) → k < count_of (earliest net (suc (d + r))) a → r < end_of net (earliest net (suc (d + r))) a k → ended_at net r a ≤ k
+    past-base d a k there late = ⊎_elim
+        (λ (early : k < ended_at net r a). absurd (
+        let within : ended_at net r a ≤ count_of (earliest net (suc r)) a = (ended-at-is net reg fed r a).within in
+        let done : end_of net (earliest net (suc r)) a k ≤ r = (ended-at-is net reg fed r a).done k early in
+        let same : start_of (earliest net (suc (d + r))) a k ≡ start_of (earliest net (suc r)) a k =
+        (earliest-within net (suc r) (suc (d + r)) (earliest net (suc r)) (earliest net (suc (d + r))) (early_at net reg fed (suc r)) (early_at net reg fed (suc (d + r))) (omega arith) a k (omega arith)).1 in
+        omega arith))
+        (λ (h : ended_at net r a ≤ k). h) (cases_lt k (ended_at net r a))
+
+    repeat-start : (d a k : ℕ) → k < count_of (earliest net (suc (d + r))) a → r < end_of net (earliest net (suc (d + r))) a k →
+        start_of (earliest net (suc (d + t))) a (k + v a) + r ≡ start_of (earliest net (suc (d + r))) a k + t
+    repeat-start d a k there late =
+        let ends : end_of net (earliest net (suc (d + t))) a (k + v a) + (d + r) ≡ end_of net (earliest net (suc (d + r))) a k + (d + t) = (at_distance d).ends a k (past-base d a k there late) there in
+        let actor : a < length net.times = is_actor net (earliest net (suc (d + r))) a k (early_at net reg fed (suc (d + r))).admissible there in
+        omega (arith, time-shift net v whole a k actor)
+
+    event-on : (d : ℕ) → IsEvent net (suc (d + r)) → IsEvent net (suc (d + t))
+    event-on d (inl none) = absurd (omega arith)
+    event-on d (inr (a, k, there, ends)) =
+        let from : ended_at net r a ≤ k = past-base d a k there (omega (arith, ends)) in
+        let on : end_of net (earliest net (suc (d + t))) a (k + v a) + (d + r) ≡ end_of net (earliest net (suc (d + r))) a k + (d + t) = (at_distance d).ends a k from there in
+        inr (a, k + v a, omega (arith, there, (at_distance d).counts a), omega (arith, ends))
+
+    event-back : (d : ℕ) → IsEvent net (suc (d + t)) → IsEvent net (suc (d + r))
+    event-back d (inl none) = absurd (omega arith)
+    event-back d (inr (a, k, there, ends)) =
+        let late : ended_at net (d + t) a ≤ k = ⊎_elim
+        (λ (early : k < ended_at net (d + t) a). absurd (
+        let done : end_of net (earliest net (suc (d + t))) a k ≤ d + t = (ended-at-is net reg fed (d + t) a).done k early in omega (arith, ends)))
+        (λ (h : ended_at net (d + t) a ≤ k). h) (cases_lt k (ended_at net (d + t) a)) in
+        let place : (k - v a) + v a ≡ k = omega (arith, (at_distance d).ended a) in
+        let here : k - v a < count_of (earliest net (suc (d + r))) a = omega (arith, there, (at_distance d).counts a) in
+        let on : end_of net (earliest net (suc (d + t))) a ((k - v a) + v a) + (d + r) ≡ end_of net (earliest net (suc (d + r))) a (k - v a) + (d + t) =
+        (at_distance d).ends a (k - v a) (omega (arith, (at_distance d).since a, (at_distance d).ended a)) here in
+        let mine : end_of net (earliest net (suc (d + t))) a k + (d + r) ≡ end_of net (earliest net (suc (d + r))) a (k - v a) + (d + t) = rw place at on in
+        inr (a, k - v a, here, omega (arith, ends))
+
+    repeat-shape : (d : ℕ) → shape_of net (d + r) (earliest net (suc (d + r))) ≡ shape_of net (d + t) (earliest net (suc (d + t)))
+    repeat-shape d = shifted-shape net v whole (ended_at net r) (d + r) (d + t) (earliest net (suc (d + r))) (earliest net (suc (d + t))) (at_distance d)
+
+    next-of : (x d : ℕ) → x + d + 1 ≡ suc (d + x)
+    next-of x d = omega arith
+
+    pub repeats : Repeats net r t v
+    repeats = record {
+      counts = λ d a. rw (next-of t d) (rw (next-of r d) ((at_distance d).counts a));
+      starts = λ d a k. rw (next-of t d) (rw (next-of r d) (repeat-start d a k));
+      events = λ d some.
+          let here : r + d ≡ suc ((d - 1) + r) = omega arith in
+          let there : t + d ≡ suc ((d - 1) + t) = omega arith in
+          rw here (rw there (event-on (d - 1), event-back (d - 1)));
+      shapes = λ d.
+          let here : r + d ≡ d + r = omega arith in
+          let there : t + d ≡ d + t = omega arith in
+          rw here (rw there (shape-read net (d + r) ∙ (repeat-shape d ∙ sym (shape-read net (d + t)))));
+    }
+
+  -- moments with equal shapes
+  module _ (r t : ℕ) (later : r < t) (same : shape_at net r ≡ shape_at net t) where
+    pub since-then : ℕ → ℕ
+    since-then = between (earliest net (suc r)) (earliest net (suc t))
+
+    alike-shapes : SameShape net r t (earliest net (suc r)) (earliest net (suc t)) (ended_at net r) (ended_at net t)
+    alike-shapes = same-shape net r t (earliest net (suc r)) (earliest net (suc t)) (able-at net reg fed r) (able-at net reg fed t) (ended-at-is net reg fed r) (ended-at-is net reg fed t) (sym (shape-read net r) ∙ (same ∙ shape-read net t))
+
+    rises : (a : ℕ) → count_of (earliest net (suc r)) a ≤ count_of (earliest net (suc t)) a
+    rises = count-rises (suc r) (suc t) (omega arith)
+
+    pub same-alike : Alike since-then (ended_at net r) r t
+    unfolding since-then
+    same-alike = same-shifted net r t (earliest net (suc r)) (earliest net (suc t)) (ended_at net r) (ended_at net t) reg.wired rises (past_none net reg fed (suc t)) (λ a. (ended-at-is net reg fed r a).within) (λ a. (ended-at-is net reg fed t a).within) alike-shapes
+
+    pub since-whole : Whole net since-then
+    unfolding since-then
+    since-whole = same-whole net r t (earliest net (suc r)) (earliest net (suc t)) (ended_at net r) (ended_at net t) reg.wired rises (past_none net reg fed (suc t)) (λ a. (ended-at-is net reg fed r a).within) (λ a. (ended-at-is net reg fed t a).within) alike-shapes
+
+    pub equal-futures : Repeats net r t since-then
+    equal-futures = repeats since-then r t since-whole same-alike
