@@ -13,4 +13,6 @@ pub mod Wordings
 pub mod FileNets
 pub mod Traces
 pub mod Shapes
-pub mod Futures
+pub mod Alike
+pub mod Proportions
+pub mod Returns

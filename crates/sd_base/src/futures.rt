@@ -1,0 +1,9 @@
+//! Laws of self-timed execution after a shape that comes again, each on a function that does nothing.
+ghost use Rattle.sd_base.specs.Futures.{EqualFutures, WholeRounds};
+
+/// Where the shape of self-timed execution comes again, all that follows comes again too, as much later
+/// and with as many more firings (Ghamarian et al. 2006). Between event moments these are whole rounds.
+pub fn equal_shapes_have_equal_futures()
+    ensures futures { EqualFutures }
+    ensures rounds { WholeRounds }
+{}
