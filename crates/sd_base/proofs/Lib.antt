@@ -16,3 +16,4 @@ pub mod Shapes
 pub mod Alike
 pub mod Proportions
 pub mod Returns
+pub mod LoopRates
