@@ -1,8 +1,10 @@
 -- The firings round a loop give the rate of a net.
-use Rattle.std.proofs.Common.{◌≡◌, ℕ, zero, suc, ◌+◌, ◌-◌, ◌*◌, ◌≤◌, ◌<◌, Bool, true, false, cond, ltb, List, [], ◌∷◌, length, ⊎_elim, subst, sym, refl, ap, ◌∙◌, arith, mul-le-mul_left, mul-le-mul_right, ltb-true, ltb-false}
-use Rattle.std.proofs.Math.Nat.{le_of_mul-le-mul_left}
+use Rattle.std.proofs.Common.{◌≡◌, ℕ, zero, suc, ◌+◌, ◌-◌, ◌*◌, ◌/◌, ◌%◌, ◌≤◌, ◌<◌, Bool, true, false, cond, ltb, List, [], ◌∷◌, length, ⊎_elim, subst, sym, refl, ap, ◌∙◌, arith, mul-le-mul_left, mul-le-mul_right, ltb-true, lt-ltb, mod-lt, div-add-mod'}
+use Rattle.std.proofs.Math.Nat.{le_of_mul-le-mul_left, le_of_mul-le-mul_right, eq_of_mul-eq-mul_right, mul-lt-mul_of_pos_right, add-mul-mod_self_right, mod-eq_of_lt}
+use Rattle.std.proofs.lemmas.Nat.Gcd.{IsGcd-from_zero, IsGcd-from_mod, same_from_IsGcd}
 use Rattle.std.specs.Prelude.{slice_index, slice_index_or, count_by, nat_lt}
 use Rattle.std.specs.Int.{IsGcd}
+use Rattle.std.proofs.lemmas.List.{get_or_past}
 use Rattle.std.proofs.lemmas.List.Sums.{sum_by-cons}
 use Rattle.std.proofs.lemmas.Bool.{cases_lt, cases_Bool}
 use Rattle.sd_base.specs.Net.{Net}
@@ -11,10 +13,11 @@ use Rattle.sd_base.specs.SelfTimed.{earliest, shape_at}
 use Rattle.sd_base.specs.Lawful.{Lawful}
 use Rattle.sd_base.specs.Rates.{IsLoopTable, RateBy, Rate}
 use Rattle.sd_base.specs.Futures.{Repeats}
-use Rattle.sd_base.proofs.Parts.{Regular, regular}
+use Rattle.sd_base.proofs.Parts.{Regular, regular, balanced}
 use Rattle.sd_base.proofs.Ends.{sum_to}
-use Rattle.sd_base.proofs.Counts.{early_at}
+use Rattle.sd_base.proofs.Counts.{early_at, past_none}
 use Rattle.sd_base.proofs.Alike.{count-rises, since-then, equal-futures}
+use Rattle.sd_base.proofs.Returns.{repeats-by}
 
 -- a count that rises by r in each p keeps near the line of slope r/p
 module _ (n : ℕ → ℕ) (e p r b : ℕ) (some : 0 < p) (rises : (x y : ℕ) → x ≤ y → n x ≤ n y) (turns : (t : ℕ) → e < t → n (t + p) ≡ n t + r)
@@ -136,3 +139,111 @@ module _ (net : Net) (reg : Regular net) (fed : HasInputs net) (entry period rou
 
   pub loop-rate : IsGcd p q 1 → Rate net p q
   loop-rate lowest = record { positive = some-time; lowest = lowest; slack = slack_of; bounds = bounded }
+
+-- a loop's table gives the rate
+module _ (net : Net) (laws : Lawful net) (fed : HasInputs net) (entry period rounds : ℕ) (before : List ℕ) (starts : List (List ℕ)) (table : IsLoopTable net entry period rounds before starts) where
+  passes_on : entry < entry + period
+  passes_on = omega (arith, table.loop.passes)
+
+  table-counts : (a : ℕ) → count_of (earliest net (entry + period + 1)) a ≡ count_of (earliest net (entry + 1)) a + rounds * slice_index net.round a
+  table-counts a = ⊎_elim
+      (λ (actor : a < length net.times). omega (arith, table.earlier a actor, table.whole a actor, table.all a actor))
+      (λ (past : length net.times ≤ a).
+      let no_round : slice_index net.round a ≡ 0 = get_or_past net.round a 0 (omega (arith, (balanced net laws).actors)) in
+      let nothing : rounds * slice_index net.round a ≡ rounds * 0 = ap (λ (x : ℕ). rounds * x) no_round in
+      omega (arith, past_none net (regular net laws) fed (entry + period + 1) a past, past_none net (regular net laws) fed (entry + 1) a past))
+      (cases_lt a (length net.times))
+
+  pub table-repeats : Repeats net entry (entry + period) (λ a. rounds * slice_index net.round a)
+  table-repeats = repeats-by net entry (entry + period) (since-then net (regular net laws) fed entry (entry + period) passes_on table.loop.same) (λ a. rounds * slice_index net.round a) table-counts
+      (equal-futures net (regular net laws) fed entry (entry + period) passes_on table.loop.same)
+
+  pub table-rate : (p q g : ℕ) → rounds ≡ g * p → period ≡ g * q → IsGcd p q 1 → Rate net p q
+  table-rate p q g turns time lowest = loop-rate net (regular net laws) fed entry period rounds p q g table-repeats table.loop.passes turns time lowest
+
+-- ---- at most one rate
+
+count-all : (t : ℕ) (xs : List ℕ) → ((k : ℕ) → k < length xs → slice_index xs k < t) → length xs ≤ count_by (λ x. nat_lt x t) xs
+count-all t [] before = omega arith
+count-all t (x ∷ xs) before =
+    let first : nat_lt x t ≡ true = lt-ltb x t (before 0 (omega arith)) in
+    rw (count-cons t x xs) (rw first (omega (arith, count-all t xs (λ k there. before (suc k) (omega arith)))))
+
+-- lines of which one never gets above the other by more than b rise in their order
+slopes : (x y b : ℕ) → ((t : ℕ) → x * t ≤ y * t + b) → x ≤ y
+slopes x y b below = ⊎_elim
+    (λ (more : y < x). absurd (
+    let far : x * (b + 1) ≤ y * (b + 1) + b = below (b + 1) in
+    let steep : (y + 1) * (b + 1) ≤ x * (b + 1) = mul-le-mul_right (b + 1) (omega arith) in
+    omega arith))
+    (λ (h : x ≤ y). h) (cases_lt y x)
+
+rate-le : (net : Net) (p q x y b c : ℕ) → 1 ≤ length net.times → 1 ≤ slice_index net.round 0 → RateBy net p q b → RateBy net x y c → p * y ≤ x * q
+rate-le net p q x y b c some fires one other =
+    let scaled : p * y * slice_index net.round 0 ≤ x * q * slice_index net.round 0 = slopes (p * y * slice_index net.round 0) (x * q * slice_index net.round 0) (q * c + y * b) lines in
+    le_of_mul-le-mul_right scaled fires
+  where
+    lines : (t : ℕ) → p * y * slice_index net.round 0 * t ≤ x * q * slice_index net.round 0 * t + (q * c + y * b)
+    lines t =
+        let found = one.below t in
+        let s : Schedule = found.0 in
+        let n : ℕ = count_of s 0 in
+        let all : n ≤ count_by (λ z. nat_lt z t) (slice_index_or found.0 0 []) = count-all t (slice_index_or found.0 0 []) (λ k there. found.1.before 0 k there) in
+        let low : p * slice_index net.round 0 * t ≤ q * n + b = found.2 0 some in
+        let high : y * count_by (λ z. nat_lt z t) (slice_index_or found.0 0 []) ≤ x * slice_index net.round 0 * t + c = other.above found.0 t 0 found.1.admissible some in
+        let mine : y * n ≤ y * count_by (λ z. nat_lt z t) (slice_index_or found.0 0 []) = mul-le-mul_left y all in
+        let up : y * (p * slice_index net.round 0 * t) ≤ y * (q * n + b) = mul-le-mul_left y low in
+        let down : q * (y * n) ≤ q * (x * slice_index net.round 0 * t + c) = mul-le-mul_left q (omega arith) in
+        omega arith
+
+mod-scaled : (k a b : ℕ) → 0 < k → 0 < b → (a * k) % (b * k) ≡ (a % b) * k
+mod-scaled k a b some there =
+    let split : a / b * b + a % b ≡ a = div-add-mod' a b in
+    let scaled : (a / b * b + a % b) * k ≡ a * k = ap (λ (x : ℕ). x * k) split in
+    let parts : a * k ≡ (a % b) * k + a / b * (b * k) = omega arith in
+    let less : (a % b) * k < b * k = mul-lt-mul_of_pos_right (mod-lt a there) some in
+    ap (λ (x : ℕ). x % (b * k)) parts ∙ (add-mul-mod_self_right ((a % b) * k) (a / b) (b * k) ∙ mod-eq_of_lt less)
+
+-- a greatest common divisor grows with its numbers
+scaled_gcd : (fuel a b : ℕ) → b < fuel → (g : ℕ) × ((k : ℕ) → 0 < k → IsGcd (a * k) (b * k) (g * k))
+scaled_gcd zero a b below = absurd (omega arith)
+scaled_gcd (suc fuel) a b below = ⊎_elim
+    (λ (some : 0 < b).
+    let rest : a % b < b = mod-lt a some in
+    let found = scaled_gcd fuel b (a % b) (omega arith) in
+    (found.0, λ k there. IsGcd-from_mod (a * k) (b * k) (found.0 * k) (rw (mod-scaled k a b there some) (found.1 k there))))
+    (λ (none : b ≤ 0).
+    let zero_here : b ≡ 0 = omega arith in
+    (a, λ k there. IsGcd-from_zero (a * k) (b * k) (ap (λ (x : ℕ). x * k) zero_here ∙ omega arith)))
+    (cases_lt 0 b)
+
+lowest-scaled : (a b k : ℕ) → 0 < k → IsGcd a b 1 → IsGcd (a * k) (b * k) k
+lowest-scaled a b k there lowest =
+    let found = scaled_gcd (suc b) a b (omega arith) in
+    let e : a * 1 ≡ a = omega arith in
+    let f : b * 1 ≡ b = omega arith in
+    let h : found.0 * 1 ≡ found.0 = omega arith in
+    let unit : IsGcd (a * 1) (b * 1) (found.0 * 1) = found.1 1 (omega arith) in
+    let whole : IsGcd a b found.0 = rw e at (rw f at (rw h at unit)) in
+    let one : found.0 ≡ 1 = same_from_IsGcd a b found.0 1 whole lowest in
+    let times : found.0 * k ≡ k = ap (λ (x : ℕ). x * k) one ∙ omega arith in
+    let big : IsGcd (a * k) (b * k) (found.0 * k) = found.1 k there in
+    rw times at big
+
+-- equal fractions in lowest terms have equal parts
+same_fraction : (p q x y : ℕ) → 1 ≤ q → 1 ≤ y → IsGcd p q 1 → IsGcd x y 1 → p * y ≡ x * q → (p ≡ x) × (q ≡ y)
+same_fraction p q x y some there one other cross =
+    let left : IsGcd (p * y) (q * y) y = lowest-scaled p q y there one in
+    let right : IsGcd (x * q) (y * q) q = lowest-scaled x y q some other in
+    let swap : y * q ≡ q * y = omega arith in
+    let moved : IsGcd (p * y) (q * y) q = rw cross (rw swap at right) in
+    let same : q ≡ y = same_from_IsGcd (p * y) (q * y) q y moved left in
+    let mine : p * q ≡ x * q = ap (λ (z : ℕ). p * z) same ∙ cross in
+    (eq_of_mul-eq-mul_right q some p x mine, same)
+
+pub one-rate : (net : Net) (p q x y : ℕ) → Lawful net → Rate net p q → Rate net x y → (p ≡ x) × (q ≡ y)
+one-rate net p q x y laws one other =
+    let fires : 1 ≤ slice_index net.round 0 = (balanced net laws).fires 0 laws.some_actor in
+    let up : p * y ≤ x * q = rate-le net p q x y one.slack other.slack laws.some_actor fires one.bounds other.bounds in
+    let down : x * q ≤ p * y = rate-le net x y p q other.slack one.slack laws.some_actor fires other.bounds one.bounds in
+    same_fraction p q x y one.positive other.positive one.lowest other.lowest (omega arith)

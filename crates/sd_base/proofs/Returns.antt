@@ -22,6 +22,18 @@ repeats-along net r t v w same again = record {
   shapes = again.shapes;
 }
 
+-- the first counts decide by how much each actor is further on
+pub repeats-by : (net : Net) (r t : ℕ) (v w : ℕ → ℕ) → ((a : ℕ) → count_of (earliest net (t + 1)) a ≡ count_of (earliest net (r + 1)) a + w a) → Repeats net r t v → Repeats net r t w
+repeats-by net r t v w counts again = repeats-along net r t v w same again
+  where
+    same : (a : ℕ) → v a ≡ w a
+    same a =
+        let here : r + 0 + 1 ≡ r + 1 = omega arith in
+        let there : t + 0 + 1 ≡ t + 1 = omega arith in
+        let first : count_of (earliest net (t + 0 + 1)) a ≡ count_of (earliest net (r + 0 + 1)) a + v a = again.counts 0 a in
+        let mine : count_of (earliest net (t + 1)) a ≡ count_of (earliest net (r + 1)) a + v a = rw here at (rw there at first) in
+        omega (arith, counts a)
+
 module _ (net : Net) (laws : Lawful net) (fed : HasInputs net) (r t : ℕ) (later : r < t) (same : shape_at net r ≡ shape_at net t) where
   since : ℕ → ℕ
   since = since-then net (regular net laws) fed r t later same
