@@ -2,14 +2,14 @@
 use Rattle.std.proofs.Common.{◌≡◌, ℕ, zero, suc, ◌+◌, ◌-◌, ◌≤◌, ◌<◌, length, inl, inr, ⊎_elim, sym, ap, ◌∙◌, arith}
 use Rattle.std.proofs.lemmas.Bool.{cases_lt}
 use Rattle.sd_base.specs.Net.{Net, channel_at, total}
-use Rattle.sd_base.specs.Schedules.{time_of, Needs, Lacks, Schedule, count_of, start_of, end_of, HasInputs}
+use Rattle.sd_base.specs.Schedules.{Needs, Lacks, Schedule, count_of, start_of, end_of, HasInputs}
 use Rattle.sd_base.specs.SelfTimed.{ended_by, earliest, IsEvent, shape_of, shape_at}
 use Rattle.sd_base.specs.Futures.{Repeats}
 use Rattle.sd_base.proofs.Parts.{Wired, Regular}
 use Rattle.sd_base.proofs.Admissibles.{is_actor}
 use Rattle.sd_base.proofs.Steps.{Ended, Able, Full, Extended}
 use Rattle.sd_base.proofs.Existence.{extended-is}
-use Rattle.sd_base.proofs.Counts.{decided, able-along, full-along, early_at, ended_at, ended-by-is, ended-at-is, ended-same, able-at, full-at, past_none}
+use Rattle.sd_base.proofs.Counts.{decided, early_at, ended_at, ended-by-is, ended-at-is, ended-same, able-at, full-at, past_none}
 use Rattle.sd_base.proofs.Rounds.{Whole, made-shift, taken-shift, needs-shift, time-shift}
 use Rattle.sd_base.proofs.Tight.{earliest-within}
 use Rattle.sd_base.proofs.Shapes.{SameShape, same-shape, Shifted, between, same-shifted, same-whole, shifted-shape}
@@ -160,9 +160,9 @@ module _ (net : Net) (reg : Regular net) (fed : HasInputs net) where
       let here : suc d + r ≡ suc (d + r) = omega arith in
       let there : suc d + t ≡ suc (d + t) = omega arith in
       rw here (rw there (
-        shifted_step net reg.wired v base whole (d + r) (d + t) (earliest net (suc (d + r))) (earliest net (suc (d + t))) (earliest net (suc (suc (d + r)))) (earliest net (suc (suc (d + t))))
-        (ended_at net (d + r)) (ended_at net (d + t)) (ended_at net (suc (d + r))) (ended_at net (suc (d + t)))
-        (next_is (d + r)) (next_is (d + t)) (futures v base r t whole alike d)
+      shifted_step net reg.wired v base whole (d + r) (d + t) (earliest net (suc (d + r))) (earliest net (suc (d + t))) (earliest net (suc (suc (d + r)))) (earliest net (suc (suc (d + t))))
+      (ended_at net (d + r)) (ended_at net (d + t)) (ended_at net (suc (d + r))) (ended_at net (suc (d + t)))
+      (next_is (d + r)) (next_is (d + t)) (futures v base r t whole alike d)
       ))
 
   module _ (v : ℕ → ℕ) (r t : ℕ) (whole : Whole net v) (alike : Alike v (ended_at net r) r t) where

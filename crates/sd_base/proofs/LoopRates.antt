@@ -1,15 +1,15 @@
 -- The firings round a loop give the rate of a net.
-use Rattle.std.proofs.Common.{◌≡◌, ℕ, zero, suc, ◌+◌, ◌-◌, ◌*◌, ◌/◌, ◌%◌, ◌≤◌, ◌<◌, Bool, true, false, cond, ltb, List, [], ◌∷◌, length, ⊎_elim, subst, sym, refl, ap, ◌∙◌, arith, mul-le-mul_left, mul-le-mul_right, ltb-true, lt-ltb, mod-lt, div-add-mod'}
+use Rattle.std.proofs.Common.{◌≡◌, ℕ, zero, suc, ◌+◌, ◌-◌, ◌*◌, ◌/◌, ◌%◌, ◌≤◌, ◌<◌, Bool, true, false, cond, List, [], ◌∷◌, length, ⊎_elim, subst, refl, ap, ◌∙◌, arith, mul-le-mul_left, mul-le-mul_right, ltb-true, lt-ltb, mod-lt, div-add-mod'}
 use Rattle.std.proofs.Math.Nat.{le_of_mul-le-mul_left, le_of_mul-le-mul_right, eq_of_mul-eq-mul_right, mul-lt-mul_of_pos_right, add-mul-mod_self_right, mod-eq_of_lt}
 use Rattle.std.proofs.lemmas.Nat.Gcd.{IsGcd-from_zero, IsGcd-from_mod, same_from_IsGcd}
 use Rattle.std.specs.Prelude.{slice_index, slice_index_or, count_by, nat_lt}
 use Rattle.std.specs.Int.{IsGcd}
 use Rattle.std.proofs.lemmas.List.{get_or_past}
 use Rattle.std.proofs.lemmas.List.Sums.{sum_by-cons}
-use Rattle.std.proofs.lemmas.Bool.{cases_lt, cases_Bool}
+use Rattle.std.proofs.lemmas.Bool.{cases_lt}
 use Rattle.sd_base.specs.Net.{Net}
-use Rattle.sd_base.specs.Schedules.{Schedule, count_of, start_of, Admissible, Earliest, HasInputs}
-use Rattle.sd_base.specs.SelfTimed.{earliest, shape_at}
+use Rattle.sd_base.specs.Schedules.{Schedule, count_of, Admissible, Earliest, HasInputs}
+use Rattle.sd_base.specs.SelfTimed.{earliest}
 use Rattle.sd_base.specs.Lawful.{Lawful}
 use Rattle.sd_base.specs.Rates.{IsLoopTable, RateBy, Rate}
 use Rattle.sd_base.specs.Futures.{Repeats}

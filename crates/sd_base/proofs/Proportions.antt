@@ -1,10 +1,10 @@
 -- On a connected net whole turns that keep the tokens of each channel are whole rounds.
-use Rattle.std.proofs.Common.{◌≡◌, ℕ, zero, suc, ◌+◌, ◌-◌, ◌*◌, ◌/◌, ◌%◌, ◌≤◌, ◌<◌, ◌⊎◌, List, [], ◌∷◌, length, map, sum, inl, inr, ⊎_elim, subst, sym, ap, ◌∙◌, arith, div-add-mod', mod-lt}
+use Rattle.std.proofs.Common.{◌≡◌, ℕ, ◌+◌, ◌-◌, ◌*◌, ◌/◌, ◌%◌, ◌≤◌, ◌<◌, List, [], ◌∷◌, length, map, sum, inl, inr, ⊎_elim, subst, sym, ap, ◌∙◌, arith, div-add-mod', mod-lt}
 use Rattle.std.proofs.Math.Nat.{mul-sub, mul-mod_left, eq_of_mul-eq-mul_right, le_of_mul-le-mul_right, mul-le-mul}
-use Rattle.std.specs.Prelude.{slice_index, slice_index_or}
+use Rattle.std.specs.Prelude.{slice_index}
 use Rattle.std.specs.List.{range_with_len}
 use Rattle.std.proofs.lemmas.Bool.{cases_lt}
-use Rattle.std.proofs.lemmas.List.{get_or_past, length-map}
+use Rattle.std.proofs.lemmas.List.{length-map}
 use Rattle.std.proofs.lemmas.List.FromFn.{get_or-map-range_with_len, length-map-range_with_len}
 use Rattle.sd_base.specs.Net.{Net, channel_at, total, Balances}
 use Rattle.sd_base.specs.Schedules.{phases_at}

@@ -1,6 +1,6 @@
 -- Between moments with equal shapes each actor starts whole rounds, and at least one where a firing ends.
-use Rattle.std.proofs.Common.{◌≡◌, ℕ, suc, ◌+◌, ◌-◌, ◌*◌, ◌≤◌, ◌<◌, length, inl, inr, ⊎_elim, sym, ap, ◌∙◌, arith}
-use Rattle.std.specs.Prelude.{slice_index, slice_index_or}
+use Rattle.std.proofs.Common.{◌≡◌, ℕ, suc, ◌+◌, ◌*◌, ◌≤◌, ◌<◌, length, inl, inr, ⊎_elim, sym, ap, arith}
+use Rattle.std.specs.Prelude.{slice_index}
 use Rattle.std.proofs.lemmas.Bool.{cases_lt}
 use Rattle.std.proofs.lemmas.List.{get_or_past}
 use Rattle.sd_base.specs.Net.{Net}
@@ -11,7 +11,7 @@ use Rattle.sd_base.specs.Futures.{Repeats, IsConnected}
 use Rattle.sd_base.proofs.Parts.{regular, balanced}
 use Rattle.sd_base.proofs.Counts.{early_at, ended_at, ended-at-is, ended-by-is, ended-same, past_none}
 use Rattle.sd_base.proofs.Tight.{earliest-within}
-use Rattle.sd_base.proofs.Alike.{Alike, since-then, same-alike, since-whole, equal-futures, count-rises}
+use Rattle.sd_base.proofs.Alike.{Alike, since-then, same-alike, since-whole, equal-futures}
 use Rattle.sd_base.proofs.Proportions.{rounds_in, whole_rounds}
 
 repeats-along : (net : Net) (r t : ℕ) (v w : ℕ → ℕ) → ((a : ℕ) → v a ≡ w a) → Repeats net r t v → Repeats net r t w

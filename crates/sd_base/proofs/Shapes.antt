@@ -1,20 +1,17 @@
 -- Equal shapes: what has started and ended between them is whole turns, and what runs has as long to go.
-use Rattle.std.proofs.Common.{◌≡◌, ℕ, suc, ◌+◌, ◌-◌, ◌*◌, ◌/◌, ◌%◌, ◌≤◌, ◌<◌, List, [], length, map, ⊎_elim, sym, refl, ap, ◌∙◌, arith, add-one, div-add-mod'}
+use Rattle.std.proofs.Common.{◌≡◌, ℕ, ◌+◌, ◌-◌, ◌*◌, ◌/◌, ◌%◌, ◌≤◌, ◌<◌, List, [], length, ⊎_elim, sym, refl, ap, ◌∙◌, arith, div-add-mod'}
 use Rattle.std.proofs.Math.Nat.{add-mul-mod_self_right, mul-sub, mul_comm}
 use Rattle.std.specs.Prelude.{slice_index, slice_index_or}
-use Rattle.std.specs.List.{range_with_len}
 use Rattle.std.proofs.lemmas.Bool.{cases_lt}
 use Rattle.std.proofs.lemmas.List.{get_or-map, ext_get_or, length-map}
 use Rattle.std.proofs.lemmas.List.FromFn.{get_or-map-range_with_len, length-map-range_with_len}
 use Rattle.sd_base.specs.Net.{Net, nowhere, channel_at, total}
-use Rattle.sd_base.specs.Schedules.{phases_at, Schedule, count_of, start_of, end_of, HasInputs}
-use Rattle.sd_base.specs.SelfTimed.{ended_by, earliest, Shape, remaining_of, tokens_of, shape_of, shape_at}
+use Rattle.sd_base.specs.Schedules.{phases_at, Schedule, count_of, end_of}
+use Rattle.sd_base.specs.SelfTimed.{ended_by, Shape, remaining_of, tokens_of, shape_of}
 use Rattle.sd_base.proofs.Sums.{total-whole}
-use Rattle.sd_base.proofs.Parts.{Wired, Regular}
+use Rattle.sd_base.proofs.Parts.{Wired}
 use Rattle.sd_base.proofs.Steps.{Ended, Able}
-use Rattle.sd_base.proofs.Counts.{early_at, ended_at, ended-at-is, able-at, past_none}
 use Rattle.sd_base.proofs.Rounds.{Whole, made-shift, taken-shift}
-use Rattle.sd_base.proofs.Tight.{earliest-within}
 
 -- ---- what a shape shows
 
