@@ -17,3 +17,4 @@ pub mod Alike
 pub mod Proportions
 pub mod Returns
 pub mod LoopRates
+pub mod FutureTraces

@@ -7,6 +7,7 @@ use Rattle.sd_base.specs.Net.{Net}
 use Rattle.sd_base.specs.Schedules.{count_of, start_of, end_of, HasInputs}
 use Rattle.sd_base.specs.SelfTimed.{earliest, IsEvent, shape_at}
 use Rattle.sd_base.specs.Lawful.{Lawful}
+use Rattle.sd_base.specs.Rates.{IsLoop}
 use Rattle.sd_base.specs.Futures.{Repeats, IsConnected}
 use Rattle.sd_base.proofs.Parts.{regular, balanced}
 use Rattle.sd_base.proofs.Counts.{early_at, ended_at, ended-at-is, ended-by-is, ended-same, past_none}
@@ -92,3 +93,22 @@ module _ (net : Net) (laws : Lawful net) (fed : HasInputs net) (r t : ℕ) (late
     pub at-least_one : IsEvent net t → 1 ≤ rounds
     at-least_one (inl first) = absurd (omega arith)
     at-least_one (inr (a, k, there, ends)) = some-rounds a (ends-more a k there ends)
+
+-- round a loop each actor starts one whole number of rounds, at least 1
+pub loop-whole : (net : Net) (entry period : ℕ) → Lawful net → HasInputs net → IsConnected net → IsLoop net entry period →
+    (n : ℕ) × (1 ≤ n) × ((a : ℕ) → count_of (earliest net (entry + period + 1)) a ≡ count_of (earliest net (entry + 1)) a + n * slice_index net.round a)
+loop-whole net entry period laws fed connected loop = (rounds_of, at-least_one net laws fed entry (entry + period) later loop.same connected loop.repeats, counts)
+  where
+    later : entry < entry + period
+    later = omega (arith, loop.passes)
+
+    rounds_of : ℕ
+    rounds_of = rounds net laws fed entry (entry + period) later loop.same connected
+
+    counts : (a : ℕ) → count_of (earliest net (entry + period + 1)) a ≡ count_of (earliest net (entry + 1)) a + rounds_of * slice_index net.round a
+    counts a =
+        let here : entry + 0 + 1 ≡ entry + 1 = omega arith in
+        let there : entry + period + 0 + 1 ≡ entry + period + 1 = omega arith in
+        let first : count_of (earliest net (entry + period + 0 + 1)) a ≡ count_of (earliest net (entry + 0 + 1)) a + rounds_of * slice_index net.round a =
+        (repeats-rounds net laws fed entry (entry + period) later loop.same connected).counts 0 a in
+        rw here at (rw there at first)

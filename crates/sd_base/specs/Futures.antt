@@ -32,10 +32,10 @@ IsWalk net a (i ∷ walk) b =
 abbrev pub IsConnected : Net → Type 0
 IsConnected net = (a : ℕ) → a < length net.times → (walk : List ℕ) × IsWalk net 0 walk a
 
--- between event moments with equal shapes each actor starts one whole number of rounds, at least 1
+-- from a moment to an event moment of equal shape each actor starts one whole number of rounds, at least 1
 abbrev pub WholeRounds : Type 0
 WholeRounds =
-    (net : Net) (r t : ℕ) → Lawful net → HasInputs net → IsConnected net → IsEvent net r → IsEvent net t → r < t → shape_at net r ≡ shape_at net t →
+    (net : Net) (r t : ℕ) → Lawful net → HasInputs net → IsConnected net → IsEvent net t → r < t → shape_at net r ≡ shape_at net t →
     (n : ℕ) × (1 ≤ n) × Repeats net r t (λ a. n * slice_index net.round a)
 
 -- the rounds round a loop by its period, in lowest terms, are the rate

@@ -2,7 +2,7 @@
 ghost use Rattle.sd_base.specs.Futures.{EqualFutures, LoopRate, OneRate, WholeRounds};
 
 /// Where the shape of self-timed execution comes again, all that follows comes again too, as much later
-/// and with as many more firings (Ghamarian et al. 2006). Between event moments these are whole rounds.
+/// and with as many more firings (Ghamarian et al. 2006). Up to an event moment these are whole rounds.
 pub fn equal_shapes_have_equal_futures()
     ensures futures { EqualFutures }
     ensures rounds { WholeRounds }
