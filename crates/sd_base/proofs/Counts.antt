@@ -108,7 +108,7 @@ module _ (net : Net) (reg : Regular net) (fed : HasInputs net) where
   pub able-at : (t : ℕ) → Able net (ended_at net t) (count_of (earliest net (suc t)))
   able-at t = able-along net (ended_by net t (earliest net t)) (ended_at net t) (count_of (earliest net (suc t))) (count_of (earliest net (suc t))) reg.wired (λ a actor. ended-same t a) (λ a actor. refl) (extended-is net reg fed t).able
 
-  past_none : (t a : ℕ) → length net.times ≤ a → count_of (earliest net t) a ≡ 0
+  pub past_none : (t a : ℕ) → length net.times ≤ a → count_of (earliest net t) a ≡ 0
   past_none t a past = ap length (get_or_past (earliest net t) a [] (omega (arith, (early_at t).admissible.actors)))
 
   pub first-ended : (a : ℕ) → ended_at net 0 a ≡ 0

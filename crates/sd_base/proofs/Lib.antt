@@ -13,3 +13,9 @@ pub mod Tight
 pub mod Wordings
 pub mod FileNets
 pub mod Traces
+pub mod Shapes
+pub mod Alike
+pub mod Proportions
+pub mod Returns
+pub mod LoopRates
+pub mod FutureTraces

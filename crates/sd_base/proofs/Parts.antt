@@ -48,7 +48,7 @@ timed net laws = record { some = λ a k below. laws.some_time a (k % phases_at n
 pub wired : (net : Net) → Lawful net → Wired net
 wired net laws = record { sources = laws.sources; targets = laws.targets; made_phases = laws.made_phases; taken_phases = laws.taken_phases; some_made = laws.some_made; some_taken = laws.some_taken }
 
-phases-read : (net : Net) (a : ℕ) → a < length net.times → slice_index (map length net.times) a ≡ phases_at net a
+pub phases-read : (net : Net) (a : ℕ) → a < length net.times → slice_index (map length net.times) a ≡ phases_at net a
 phases-read net a below = get_or-map length net.times a [] 0 below
 
 pub balanced : (net : Net) → Lawful net → Balanced net

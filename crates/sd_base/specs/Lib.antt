@@ -5,5 +5,6 @@ pub mod Schedules
 pub mod Untimed
 pub mod SelfTimed
 pub mod Rates
+pub mod Futures
 pub mod Lawful
 pub mod FileNet

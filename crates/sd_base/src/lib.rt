@@ -1,6 +1,7 @@
 //! Graph tables, small list types and the plain nets of dataflow graphs, on which every other crate stands.
 #![tactic(auto)]
 
+pub mod futures;
 pub mod laws;
 mod memory;
 mod numbers;
