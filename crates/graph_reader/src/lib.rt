@@ -24,9 +24,8 @@ mod table;
 
 pub use error::ReadError;
 pub use field::Field;
-use file_text::{TextError, read_tree};
-pub use laws::know_files;
 use file_text::read_tree;
+pub use laws::know_files;
 use sd_base::GraphFile;
 use std::alloc::Global;
 
