@@ -247,7 +247,7 @@ split_at : (bytes : List ℕ) (n : ℕ) → n < length bytes → bytes ≡ take 
 split_at bytes n lt = sym (take-append-drop n bytes) ∙ ap (λ t. take n bytes ++ t) (rw add-one (drop-cons bytes n 0 lt))
 
 -- what is read where another encoding is found is one that is declared
-encoding_in : (bytes : List ℕ) (n p : ℕ) (a : Around) (x : Shape) → n < length bytes → IsPrefix (take (n + 1) bytes) → Has true a x (take n bytes) → IsOther x (slice_index bytes n)
+pub encoding_in : (bytes : List ℕ) (n p : ℕ) (a : Around) (x : Shape) → n < length bytes → IsPrefix (take (n + 1) bytes) → Has true a x (take n bytes) → IsOther x (slice_index bytes n)
     → BehindQuote bytes n (slice_index bytes n) p → IsEncodingAt bytes p
 encoding_in bytes n p a (in_value declaration xs name q v) lt viable has (same, other) behind =
     let (is_prolog, (u, is_start, begun)) = has.tagged.is_front in
@@ -280,3 +280,32 @@ encoding_in bytes n p a (in_value declaration xs name q v) lt viable has (same, 
       viable = subst (λ (m : ℕ). IsPrefix (take m bytes)) (omega arith) viable;
     }
 encoding_in bytes n p a x lt viable has other behind = absurd other
+
+-- the text before the opening quote
+before_quote : (bytes : List ℕ) (p : ℕ) → IsEncodingAt bytes p → List ℕ
+before_quote bytes p is = is.start ++ (codes "<?xml" ++ (is.middle ++ (is.is_head.gap ++ (codes "encoding" ++ (is.is_head.before ++ (61 ∷ is.is_head.after))))))
+
+front_quote : (bytes : List ℕ) (p : ℕ) (is : IsEncodingAt bytes p) → front bytes p is ≡ before_quote bytes p is ++ (is.quote ∷ items_text is.items)
+unfolding before_quote
+front_quote bytes p is = rw is.is_head.spelled (simp append_assoc)
+
+place_behind : (bytes : List ℕ) (p : ℕ) (is : IsEncodingAt bytes p) → p ≡ length (before_quote bytes p is) + 1
+unfolding before_quote
+place_behind bytes p is =
+    let whole : is.start ++ (codes "<?xml" ++ (is.middle ++ is.head))
+          ≡ (is.start ++ (codes "<?xml" ++ (is.middle ++ (is.is_head.gap ++ (codes "encoding" ++ (is.is_head.before ++ (61 ∷ is.is_head.after))))))) ++ is.quote ∷ [] =
+        rw is.is_head.spelled (simp append_assoc) in
+    is.place ∙ ap length whole
+    ∙ length-append (is.start ++ (codes "<?xml" ++ (is.middle ++ (is.is_head.gap ++ (codes "encoding" ++ (is.is_head.before ++ (61 ∷ is.is_head.after))))))) (is.quote ∷ [])
+
+-- such an encoding has one place
+pub encoding_same : (bytes : List ℕ) (p q : ℕ) → IsEncodingAt bytes p → IsEncodingAt bytes q → p ≡ q
+encoding_same bytes p q a b =
+    let closings : closing bytes p a ≡ closing bytes q b = one_closing bytes (closing bytes p a) (closing bytes q b) (stopped bytes p a) (stopped bytes q b) in
+    let quotes : a.quote ≡ b.quote = sym (quote_at bytes p a) ∙ ap (λ n. slice_index bytes n) closings ∙ quote_at bytes q b in
+    let fronts : front bytes p a ≡ front bytes q b = sym (take_front bytes p a) ∙ ap (λ n. take n bytes) closings ∙ take_front bytes q b in
+    let same : before_quote bytes p a ++ (a.quote ∷ items_text a.items) ≡ before_quote bytes q b ++ (a.quote ∷ items_text b.items) =
+        sym (front_quote bytes p a) ∙ fronts ∙ front_quote bytes q b ∙ ap (λ x. before_quote bytes q b ++ (x ∷ items_text b.items)) (sym quotes) in
+    let lacks : Lacks a.quote (items_text b.items) = rw quotes (items_lack b.quote b.items b.is_head.is_quote b.are_quoted) in
+    let lengths = last_quote a.quote (before_quote bytes p a) (before_quote bytes q b) (items_text a.items) (items_text b.items) same (items_lack a.quote a.items a.is_head.is_quote a.are_quoted) lacks in
+    place_behind bytes p a ∙ ap (λ n. n + 1) lengths ∙ sym (place_behind bytes q b)

@@ -48,7 +48,7 @@ sounds strict e t spot due =
     }, closed.allowed)
 
 -- the two parts of a state
-both_parts : (d : Option Due) (o : Option Spot) (s : State) → both d o ≡ Some s → (d ≡ Some s.due) × (o ≡ Some s.spot)
+pub both_parts : (d : Option Due) (o : Option Spot) (s : State) → both d o ≡ Some s → (d ≡ Some s.due) × (o ≡ Some s.spot)
 both_parts None o s e = cc
 both_parts (Some d) None s e = cc
 both_parts (Some d) (Some p) s e =

@@ -20,3 +20,4 @@ pub mod Places
 pub mod Steps
 pub mod Encodings
 pub mod Known
+pub mod Faults

@@ -16,6 +16,8 @@ use Rattle.file_text.specs.declared.reference.Reference.{Reference}
 use Rattle.file_text.specs.declared.reference.Reference.TheVariants as reference
 use Rattle.file_text.specs.declared.reference.Referred.{Referred}
 use Rattle.file_text.specs.declared.reference.Referred.TheVariants.{More, Done, Leaves}
+use Rattle.file_text.specs.declared.taken.Taken.{Taken}
+use Rattle.file_text.specs.declared.taken.Taken.TheVariants as taken
 use Rattle.file_text.specs.declared.due.Due.{Due}
 use Rattle.file_text.specs.declared.due.Due.TheVariants.{Nothing, Byte}
 use Rattle.file_text.specs.Node.{Node, node, no_node, nodes}
@@ -368,6 +370,14 @@ spelled_at due a x = None
 -- the tree of a text that may end here
 abbrev pub tree_at : State → Option Node
 tree_at s = spelled_at s.due s.spot.0 s.spot.1
+
+-- what the reader answers to a byte, and where it then stands
+abbrev pub Takes : Option Due → Step → Taken → State → Type 0
+Takes None step answer s = answer ≡ taken.Leaves
+Takes (Some due) (goes a x) answer s = (answer ≡ taken.Goes) × (s ≡ record { due = due; spot = (a, x) })
+Takes (Some due) leaves answer s = answer ≡ taken.Leaves
+Takes (Some due) too_deep answer s = answer ≡ taken.TooDeep
+Takes (Some due) (other_encoding a x) answer s = answer ≡ taken.OtherEncoding
 
 -- the bytes leave this due
 abbrev pub IsDue : List ℕ → Due → Type 0

@@ -10,6 +10,7 @@ mod mode;
 mod read;
 mod reference;
 mod scanner;
+mod taken;
 #[cfg(test)]
 mod tests;
 mod tree;

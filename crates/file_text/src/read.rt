@@ -4,7 +4,8 @@ ghost use Rattle.file_text.specs.Grammar.{IsText};
 ghost use Rattle.file_text.specs.Fault.{FirstFault};
 ghost use Rattle.file_text.specs.declared.error.TextError.TheVariants.{NoMemory};
 
-use crate::scanner::{Scanner, Taken};
+use crate::scanner::Scanner;
+use crate::taken::Taken;
 use crate::{Construct, TextError, Tree};
 use std::alloc::Global;
 
@@ -23,7 +24,7 @@ pub fn read_tree(alloc: Global, bytes: &[u8]) -> Result<Tree, TextError>
             Taken::TooDeep => return Err(TextError::TooDeep { place: i as u64 - 1 }),
             Taken::OtherEncoding => {
                 return Err(TextError::Unsupported {
-                    place: value_start(bytes, i, scanner.quote()),
+                    place: value_start(bytes, i, *b),
                     what: Construct::Encoding,
                 });
             }

@@ -3,6 +3,7 @@ use crate::class::{Class, class_at};
 use crate::due::Due;
 use crate::mode::{Comment, Declaring, Mark, Mode};
 use crate::reference::{Reference, Referred};
+use crate::taken::Taken;
 use crate::{Attribute, Element};
 use sd_base::{Rows, Text};
 use std::alloc::{AllocError, Global};
@@ -10,19 +11,6 @@ use std::mem;
 
 /// The greatest count of elements that are open at one place.
 const MOST_OPEN: usize = 32;
-
-/// What a further byte makes of a text.
-#[derive(Clone, Copy)]
-pub(crate) enum Taken {
-    /// The text goes on.
-    Goes,
-    /// No text of the grammar goes on so.
-    Leaves,
-    /// A name begins an element inside the greatest count of others.
-    TooDeep,
-    /// A value ends that declares an encoding other than UTF-8.
-    OtherEncoding,
-}
 
 /// An element whose end tag is still to come.
 #[derive(Drop)]
@@ -135,10 +123,6 @@ impl Scanner {
             (Due::Nothing, Mode::Between) if frames.is_empty() => root,
             _ => None,
         }
-    }
-
-    pub(crate) fn quote(&self) -> u8 {
-        self.tag.quote
     }
 
     fn goes(&mut self, mode: Mode) -> Taken {
