@@ -1,7 +1,6 @@
 -- The machine over bytes by which the reader goes. Nothing public speaks of it.
 use Rattle.std.specs.Prelude.{◌≡◌, ℕ, suc, ◌+◌, ◌≤◌, Bool, true, false, ◌&&◌, ◌||◌, not, ◌==◌, nat_lt, nat_le, if◌then◌else◌, List, [], ◌∷◌, ◌++◌, length, codes}
 use Rattle.std.specs.Prelude.{Option, Some, None}
-use Rattle.std.specs.List.{list_any}
 use Rattle.std.specs.Str.{bytes_eq, str_to_ascii_lowercase}
 use Rattle.file_text.specs.declared.tree.Attribute.{Attribute}
 use Rattle.file_text.specs.declared.class.Class.{Class}
@@ -22,6 +21,7 @@ use Rattle.file_text.specs.declared.due.Due.{Due}
 use Rattle.file_text.specs.declared.due.Due.TheVariants.{Nothing, Byte}
 use Rattle.file_text.specs.Node.{Node, node, no_node, nodes}
 use Rattle.file_text.specs.Grammar.{is_white, Each}
+use Rattle.file_text.specs.Names.{has_name}
 use Rattle.file_text.specs.Utf8.{due_after, due_along}
 
 -- the part that a byte plays
@@ -196,10 +196,6 @@ gap_step a h attributes c b = end_step a h attributes c
 abbrev pub valued_step : Around → Holder → List Attribute → Class → Step
 valued_step a h attributes White = goes a (at_gap h attributes)
 valued_step a h attributes c = end_step a h attributes c
-
--- whether an attribute of the list has the name
-abbrev pub has_name : List ℕ → List Attribute → Bool
-has_name name attributes = list_any (λ x. bytes_eq name x.name) attributes
 
 -- the name of an attribute ends
 abbrev pub if_new : List ℕ → List Attribute → Step → Step
