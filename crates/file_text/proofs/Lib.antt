@@ -21,3 +21,4 @@ pub mod Steps
 pub mod Encodings
 pub mod Known
 pub mod Faults
+pub mod Sees

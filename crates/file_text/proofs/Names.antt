@@ -61,3 +61,26 @@ pub distinct_one_more : (done : List Attribute) (a : Attribute) → AreDistinct 
 distinct_one_more [] a h new = (tt, tt)
 distinct_one_more (d ∷ done) a h new =
     (each-append (λ x. x.name ≢ d.name) done (a ∷ []) h.0 (λ e. new.0 (sym e), tt), distinct_one_more done a h.1 new.1)
+
+or_nothing : (x : Bool) → (x || false) ≡ x
+or_nothing true = refl
+or_nothing false = refl
+
+or_assoc : (x y z : Bool) → ((x || y) || z) ≡ (x || (y || z))
+or_assoc true y z = refl
+or_assoc false y z = refl
+
+cond_or : (x y : Bool) → cond x true y ≡ (y || x)
+cond_or true true = refl
+cond_or true false = refl
+cond_or false true = refl
+cond_or false false = refl
+
+any_more : (name : List ℕ) (xs : List Attribute) (x : Attribute) → has_name name (xs ++ x ∷ []) ≡ (has_name name xs || bytes_eq x.name name)
+any_more name [] x = or_nothing (bytes_eq x.name name)
+any_more name (y ∷ xs) x = ap (λ b. bytes_eq y.name name || b) (any_more name xs x) ∙ sym (or_assoc (bytes_eq y.name name) (has_name name xs) (bytes_eq x.name name))
+
+-- the names of attributes and one more
+pub has_name_more : (name n : List ℕ) (xs : List Attribute) (x : Attribute) (before : Bool) → x.name ≡ n → before ≡ has_name name xs
+    → cond (bytes_eq n name) true before ≡ has_name name (xs ++ x ∷ [])
+has_name_more name n xs x before same known = rw (known, ← same) (cond_or (bytes_eq x.name name) (has_name name xs) ∙ sym (any_more name xs x))

@@ -134,12 +134,16 @@ declaring_step a declaring.Xm Letter b = if b == 108 then goes a (in_declaring d
 declaring_step a declaring.Xml White b = goes a (at_gap declaration [])
 declaring_step a d c b = leaves
 
+-- a character in an element
+abbrev pub character_step : Around → Class → Step
+character_step a Control = leaves
+character_step a Ampersand = goes a (in_text_reference reference.Ampersand)
+character_step a c = goes a at_between
+
 abbrev pub between_step : Around → Class → Step
 between_step a White = goes a at_between
 between_step a Less = goes a at_markup
-between_step (within o os) Control = leaves
-between_step (within o os) Ampersand = goes (within o os) (in_text_reference reference.Ampersand)
-between_step (within o os) c = goes (within o os) at_between
+between_step (within o os) c = character_step (within o os) c
 between_step a c = leaves
 
 -- a name begins an element

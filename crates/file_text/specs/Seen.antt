@@ -1,5 +1,5 @@
 -- The reader's own values, seen as the machine's.
-use Rattle.std.specs.Prelude.{◌≡◌, ℕ, List, [], ◌∷◌, map, drop}
+use Rattle.std.specs.Prelude.{ℕ, Bool, true, false, List, [], ◌∷◌, map, drop}
 use Rattle.std.specs.Prelude.{Option, Some, None}
 use Rattle.file_text.specs.declared.tree.Element.{Element}
 use Rattle.file_text.specs.declared.mode.Mode.{Mode}
@@ -28,6 +28,11 @@ around_in [] (Some e) = epilog (tree_of e)
 
 abbrev pub around_of : Scanner → Around
 around_of s = around_in (stack_on [] s.frames.items) s.root
+
+-- whether the root has ended
+abbrev pub is_closed : Around → Bool
+is_closed (epilog e) = true
+is_closed a = false
 
 abbrev pub held_by : Held → List ℕ → Holder
 held_by held.Declaration name = declaration

@@ -1,6 +1,6 @@
-ghost use Rattle.std.specs.Prelude.{◌∷◌, [], Some, IfOk};
-ghost use Rattle.file_text.specs.Machine.{Takes, goes, in_name, between_step, markup_step, open_step, comment_step, text_reference_step, referred};
-ghost use Rattle.file_text.specs.Seen.{around_of, state_of};
+ghost use Rattle.std.specs.Prelude.{◌≡◌, ◌∷◌, [], Some, IfOk};
+ghost use Rattle.file_text.specs.Machine.{Takes, goes, in_name, character_step, between_step, markup_step, open_step, comment_step, text_reference_step, referred};
+ghost use Rattle.file_text.specs.Seen.{around_of, is_closed, state_of};
 
 use crate::class::Class;
 use crate::mode::{Comment, Mode};
@@ -20,7 +20,20 @@ impl Scanner {
         match class {
             Class::White => self.goes(Mode::Between),
             Class::Less => self.goes(Mode::Markup),
-            _ if self.frames.is_empty() => Taken::Leaves,
+            _ => {
+                if self.frames.is_empty() {
+                    Taken::Leaves
+                } else {
+                    self.character(class)
+                }
+            }
+        }
+    }
+
+    fn character(&mut self, class: Class) -> Taken
+        ensures { Takes (Some self.old.due) (character_step (around_of self.old) class) result (state_of self.new) }
+    {
+        match class {
             Class::Control => Taken::Leaves,
             Class::Ampersand => self.goes(Mode::TextReference(Reference::Ampersand)),
             _ => self.goes(Mode::Between),
@@ -41,13 +54,20 @@ impl Scanner {
     fn open(&mut self, alloc: Global, b: u8) -> Result<Taken, AllocError>
         ensures { IfOk result (λ answer. Takes (Some self.old.due) (open_step (around_of self.old) b) answer (state_of self.new)) }
     {
-        if self.frames.is_empty() && self.root.is_some() {
+        if self.is_closed() {
             Ok(Taken::Leaves)
         } else if self.frames.len() >= MOST_OPEN {
             Ok(Taken::TooDeep)
         } else {
             self.begin_tag(alloc, b)
         }
+    }
+
+    /// Whether the root has ended.
+    fn is_closed(&self) -> bool
+        ensures { result ≡ is_closed (around_of self.now) }
+    {
+        self.frames.is_empty() && self.root.is_some()
     }
 
     pub(crate) fn begin_tag(&mut self, alloc: Global, b: u8) -> Result<Taken, AllocError>
