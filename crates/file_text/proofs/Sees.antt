@@ -8,8 +8,9 @@ use Rattle.file_text.specs.declared.class.Class.{Class}
 use Rattle.file_text.specs.declared.class.Class.TheVariants.{Wide, White, Control, Letter, Digit, Hyphen, Less, Greater, Slash, Bang, Question, Equals, Quote, Ampersand, Other}
 use Rattle.file_text.specs.declared.taken.Taken.TheVariants as taken
 use Rattle.file_text.specs.declared.due.Due.{Due}
+use Rattle.file_text.specs.declared.due.Due.TheVariants.{Nothing}
 use Rattle.file_text.specs.Node.{Node, tree_of}
-use Rattle.file_text.specs.Machine.{Around, prolog, within, epilog, Opened, open_of, entered, ended, Shape, in_name, in_closing, at_between, Step, goes, leaves, too_deep, between_step, character_step, open_step, close_step, State, Takes}
+use Rattle.file_text.specs.Machine.{Around, prolog, within, epilog, Opened, open_of, entered, ended, Shape, in_name, in_closing, at_between, Step, goes, leaves, too_deep, between_step, character_step, open_step, close_step, closing_step, State, spelled_at, Takes}
 use Rattle.file_text.specs.Seen.{opened_of, stack_on, around_in, is_closed, name_in}
 use Rattle.file_text.proofs.Standing.{IsInside}
 
@@ -74,3 +75,50 @@ pub inside_open : (a : Around) → IsInside a → is_closed a ≡ false
 inside_open prolog is = refl
 inside_open (within o os) is = refl
 inside_open (epilog e) is = absurd is
+
+pub inside_untold : (a : Around) → IsInside a → spelled_at Nothing a at_between ≡ None
+inside_untold prolog is = refl
+inside_untold (within o os) is = refl
+inside_untold (epilog e) is = absurd is
+
+-- the name of the innermost element
+last_name : (os : List Opened) (fs : List Frame) (f : Frame) (k : ℕ) (root : Option Element) → length fs ≡ suc k → Some f ≡ slice_get fs k → name_in (around_in (stack_on os fs) root) ≡ f.name
+last_name os [] f k root size e = cc
+last_name os (g ∷ []) f zero root size e = ap (λ (h : Frame). h.name) (let same : Some f ≡ Some g = e in let is : g ≡ f = cc in is)
+last_name os (g ∷ []) f (suc k) root size e = absurd (omega arith)
+last_name os (g ∷ h ∷ fs) f zero root size e = absurd (omega arith)
+last_name os (g ∷ h ∷ fs) f (suc k) root size e = last_name (opened_of g ∷ os) (h ∷ fs) f k root (omega arith) e
+
+no_last : (fs : List Frame) (f : Frame) → length fs ≡ 0 → Some f ≡ slice_get fs 0 → ⊥
+no_last [] f size e = cc
+no_last (g ∷ fs) f size e = absurd (omega arith)
+
+suc-sub-one : (k : ℕ) → suc k - 1 ≡ k
+suc-sub-one k = omega arith
+
+last_at : (fs : List Frame) (f : Frame) (n : ℕ) (root : Option Element) → length fs ≡ n → Some f ≡ slice_get fs (n - 1) → name_in (around_in (stack_on [] fs) root) ≡ f.name
+last_at fs f zero root size e = absurd (no_last fs f size e)
+last_at fs f (suc k) root size e = last_name [] fs f k root size (rw (suc-sub-one k) at e)
+
+pub innermost_name : (fs : List Frame) (f : Frame) (root : Option Element) → Some f ≡ slice_get fs (length fs - 1) → name_in (around_in (stack_on [] fs) root) ≡ f.name
+innermost_name fs f root e = last_at fs f (length fs) root refl e
+
+suc_one : (k : ℕ) → suc (k + 1) ≡ suc k + 1
+suc_one k = omega arith
+
+-- what is left of a name
+pub drop_some : (t : List ℕ) (k x : ℕ) → slice_get t k ≡ Some x → drop k t ≡ x ∷ drop (k + 1) t
+drop_some [] k x e = cc
+drop_some (y ∷ t) zero x e = let same : y ≡ x = cc in rw same refl
+drop_some (y ∷ t) (suc k) x e = drop_some t k x e ∙ ap (λ (n : ℕ). x ∷ drop n (y ∷ t)) (suc_one k)
+
+pub drop_none : (t : List ℕ) (k : ℕ) → slice_get t k ≡ None → drop k t ≡ []
+drop_none [] zero e = refl
+drop_none [] (suc k) e = refl
+drop_none (y ∷ t) zero e = cc
+drop_none (y ∷ t) (suc k) e = drop_none t k e
+
+pub closing_other : (a : Around) (c : Class) (b : ℕ) → (c ≡ White → ⊥) → (c ≡ Greater → ⊥) → closing_step a [] c b ≡ leaves
+closing_other a White b no_white no_greater = absurd (no_white refl)
+closing_other a Greater b no_white no_greater = absurd (no_greater refl)
+closing_other a c b no_white no_greater = refl

@@ -99,10 +99,14 @@ open_of (epilog e) = []
 abbrev pub entered : Around → List ℕ → List Attribute → Around
 entered a name attributes = within (record { name = name; attributes = attributes; children = [] }) (open_of a)
 
+-- an open element with one more in it
+abbrev pub grown : Opened → Node → Opened
+grown o e = record o { children = o.children ++ e ∷ [] }
+
 -- an element has ended in these open ones
 abbrev pub ended : List Opened → Node → Around
 ended [] e = epilog e
-ended (o ∷ os) e = within (record o { children = o.children ++ e ∷ [] }) os
+ended (o ∷ os) e = within (grown o e) os
 
 abbrev pub node_of : Opened → Node
 node_of o = node o.name o.attributes (nodes o.children)

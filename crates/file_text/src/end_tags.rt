@@ -1,5 +1,5 @@
-ghost use Rattle.std.specs.Prelude.{◌≡◌, ◌+◌, ◌^◌, ◌<◌, [], ◌∷◌, ◌++◌, Some, IfOk, OnSome, drop, slice_get};
-ghost use Rattle.file_text.specs.Machine.{Takes, goes, at_between, ended, node_of, closing_step, match_step, leave_step};
+ghost use Rattle.std.specs.Prelude.{◌≡◌, ◌+◌, ◌^◌, ◌<◌, [], Some, IfOk, OnSome, drop, slice_get};
+ghost use Rattle.file_text.specs.Machine.{Takes, goes, within, at_between, ended, grown, node_of, closing_step, match_step, leave_step};
 ghost use Rattle.file_text.specs.Node.{tree_of};
 ghost use Rattle.file_text.specs.Seen.{around_of, name_in, opened_of, stack_on, state_of};
 
@@ -30,8 +30,10 @@ impl Scanner {
         ensures found { result ≡ slice_get (name_in (around_of self.now)) matched }
         ensures fits { OnSome result (matched + 1 < 2 ^ 64) }
     {
-        let frame = self.frames.last()?;
-        frame.name.as_str().as_bytes().get(matched).copied()
+        match self.frames.last() {
+            Some(frame) => byte_at(frame.name.as_str().as_bytes(), matched),
+            None => None,
+        }
     }
 
     /// A byte in the name of an end tag.
@@ -60,31 +62,44 @@ impl Scanner {
     pub(crate) fn put(&mut self, frame: Frame) -> Result<Taken, AllocError>
         ensures { IfOk result (λ answer. Takes (Some self.old.due) (goes (ended (stack_on [] self.old.frames.items) (node_of (opened_of frame))) at_between) answer (state_of self.new)) }
     {
-        let Frame {
-            name,
-            attributes,
-            children,
-        } = frame;
-        let element = Element {
-            name,
-            attributes,
-            children,
-        };
+        let element = frame.into_element();
         match self.frames.pop() {
-            Some(parent) => {
-                let parent = parent.with(element)?;
-                self.frames.push(parent)?;
+            Some(parent) => self.put_in(parent, element),
+            None => {
+                self.root = Some(element);
+                Ok(self.goes(Mode::Between))
             }
-            None => self.root = Some(element),
         }
+    }
+
+    fn put_in(&mut self, parent: Frame, element: Element) -> Result<Taken, AllocError>
+        ensures { IfOk result (λ answer. Takes (Some self.old.due) (goes (within (grown (opened_of parent) (tree_of element)) (stack_on [] self.old.frames.items)) at_between) answer (state_of self.new)) }
+    {
+        self.frames.push(parent.with(element)?)?;
         Ok(self.goes(Mode::Between))
     }
 }
 
 impl Frame {
+    /// The element, which has ended.
+    fn into_element(self) -> Element
+        ensures { tree_of result ≡ node_of (opened_of self) }
+    {
+        let Frame {
+            name,
+            attributes,
+            children,
+        } = self;
+        Element {
+            name,
+            attributes,
+            children,
+        }
+    }
+
     /// The open element and one more in it.
     fn with(self, element: Element) -> Result<Frame, AllocError>
-        ensures { IfOk result (λ r. opened_of r ≡ record (opened_of self) { children = (opened_of self).children ++ tree_of element ∷ [] }) }
+        ensures { IfOk result (λ r. opened_of r ≡ grown (opened_of self) (tree_of element)) }
     {
         let Frame {
             name,
@@ -98,4 +113,11 @@ impl Frame {
             children,
         })
     }
+}
+
+fn byte_at(name: &[u8], place: usize) -> Option<u8>
+    ensures found { result ≡ slice_get name.now place }
+    ensures fits { OnSome result (place + 1 < 2 ^ 64) }
+{
+    name.get(place).copied()
 }

@@ -1,4 +1,4 @@
-ghost use Rattle.std.specs.Prelude.{◌≡◌, [], IfOk, option_map};
+ghost use Rattle.std.specs.Prelude.{◌≡◌, IfOk, IsTrue, IsFalse, None, option_map};
 ghost use Rattle.file_text.specs.Node.{tree_of};
 ghost use Rattle.file_text.specs.Machine.{class_of, table, Takes, IsTidy, start, tree_at};
 ghost use Rattle.file_text.specs.Utf8.{due_after};
@@ -106,16 +106,25 @@ impl Scanner {
     pub(crate) fn finish(self) -> Option<Element>
         ensures { option_map tree_of result ≡ tree_at (state_of self) }
     {
+        let may_end = self.may_end();
         let Scanner {
-            due,
-            mode,
-            frames,
+            due: _,
+            mode: _,
+            frames: _,
             root,
             tag: _,
         } = self;
-        match (due, mode) {
-            (Due::Nothing, Mode::Between) if frames.is_empty() => root,
-            _ => None,
+        if may_end { root } else { None }
+    }
+
+    /// Whether the text may end here, if there has been a root.
+    fn may_end(&self) -> bool
+        ensures ended { IsTrue result → tree_at (state_of self.now) ≡ option_map tree_of self.now.root }
+        ensures open { IsFalse result → tree_at (state_of self.now) ≡ None }
+    {
+        match (self.due, self.mode) {
+            (Due::Nothing, Mode::Between) => self.frames.is_empty(),
+            _ => false,
         }
     }
 
