@@ -1,5 +1,5 @@
 -- What the reader's loop says where it stops. Nothing public speaks of it.
-use Rattle.std.specs.Prelude.{◌≡◌, ℕ, List}
+use Rattle.std.specs.Prelude.{◌≡◌, ◌≢◌, ℕ, ◌-◌, ◌<◌, ◌≤◌, List, slice_index}
 use Rattle.file_text.specs.declared.error.TextError.{TextError}
 use Rattle.file_text.specs.declared.error.TextError.TheVariants.{Syntax, Unsupported}
 use Rattle.file_text.specs.Fault.{KnownAt}
@@ -14,3 +14,9 @@ abbrev pub FaultAt : List ℕ → ℕ → TextError → Type 0
 FaultAt bytes n (Syntax p) = (p ≡ n) × ((f : TextError) → IsLiteral f → KnownAt bytes n f → ⊥)
 FaultAt bytes n (Unsupported p what) = KnownAt bytes n (Unsupported p what)
 FaultAt bytes n f = ⊥
+
+-- the place behind the last quote before a place
+pub record BehindQuote (bytes : List ℕ) (n quote p : ℕ) : Type 0 where
+  pub within : p ≤ n
+  pub behind : 0 < p → slice_index bytes (p - 1) ≡ quote
+  pub last : (k : ℕ) → p ≤ k → k < n → slice_index bytes k ≢ quote

@@ -70,6 +70,7 @@ impl Scanner {
     }
 
     /// Takes one more byte.
+    #[tactic(auto, unfolding(crate::specs::Machine::table))]
     pub(crate) fn take(&mut self, alloc: Global, b: u8) -> Result<Taken, AllocError>
         requires { IsTidy self.old.due (around_of self.old) (shape_of self.old) }
         ensures { IfOk result (λ answer. Takes (due_after self.old.due b) (table (around_of self.old) (shape_of self.old) (class_of b) b) answer (state_of self.new)) }
