@@ -22,3 +22,4 @@ pub mod Encodings
 pub mod Known
 pub mod Faults
 pub mod Sees
+pub mod Outcomes

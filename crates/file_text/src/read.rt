@@ -2,7 +2,7 @@ ghost use Rattle.std.specs.Prelude.{◌≡◌, ◌<◌, ◌≤◌, ◌↔◌, �
 ghost use Rattle.file_text.specs.Node.{Node, tree_of};
 ghost use Rattle.file_text.specs.Grammar.{IsText};
 ghost use Rattle.file_text.specs.Fault.{FirstFault, Stands, LeavesDeclaration};
-ghost use Rattle.file_text.specs.Exit.{FaultAt, BehindQuote};
+ghost use Rattle.file_text.specs.Exit.{IsStop, FaultAt, BehindQuote};
 ghost use Rattle.file_text.specs.declared.error.TextError.TheVariants.{NoMemory};
 
 use crate::scanner::Scanner;
@@ -21,19 +21,30 @@ pub fn read_tree(alloc: Global, bytes: &[u8]) -> Result<Tree, TextError>
     for (i, b) in bytes.iter().enumerate() {
         match scanner.take(alloc, *b)? {
             Taken::Goes => {}
-            Taken::Leaves => return Err(fault_at(bytes, i)),
-            Taken::TooDeep => return Err(TextError::TooDeep { place: i as u64 - 1 }),
-            Taken::OtherEncoding => {
-                return Err(TextError::Unsupported {
-                    place: value_start(bytes, i, *b),
-                    what: Construct::Encoding,
-                });
-            }
+            stop => return Err(fault_of(bytes, i, stop)),
         }
     }
     match scanner.finish() {
         Some(root) => Ok(Tree { root }),
         None => Err(fault_at(bytes, bytes.len())),
+    }
+}
+
+/// The fault of bytes along which the scanner stops at byte n.
+fn fault_of(bytes: &[u8], n: usize, stop: Taken) -> TextError
+    requires { IsStop bytes.now n stop }
+    ensures { FirstFault bytes.now result }
+{
+    match stop {
+        Taken::Goes => unreachable!(),
+        Taken::Leaves => fault_at(bytes, n),
+        Taken::TooDeep => TextError::TooDeep {
+            place: n as u64 - 1,
+        },
+        Taken::OtherEncoding => TextError::Unsupported {
+            place: value_start(bytes, n, bytes[n]),
+            what: Construct::Encoding,
+        },
     }
 }
 
