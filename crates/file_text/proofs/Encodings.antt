@@ -13,6 +13,7 @@ use Rattle.file_text.specs.declared.due.Due.TheVariants.{Nothing}
 use Rattle.file_text.specs.Node.{Node}
 use Rattle.file_text.specs.Grammar.{Each, Item, byte, entity, comment, IsQuoted, Entity, less, greater, ampersand, quotation, apostrophe, entity_text, item_text, items_text, items_value, IsHead, AreAttributes, IsNew, AreDistinct, IsUtf8Name, Spells, IsText}
 use Rattle.file_text.specs.Fault.{IsPrefix, LeavesAt, IsEncodingAt}
+use Rattle.file_text.specs.Exit.{BehindQuote}
 use Rattle.file_text.specs.Utf8.{due_after, due_along}
 use Rattle.file_text.specs.Machine.{class_of, Around, prolog, Shape, at_start, in_declaring, in_value, Holder, declaration, Step, other_encoding, at_valued, value_end, declares_other, Spot, follow, advance, walk, State, both, move, run, start, table}
 use Rattle.file_text.proofs.Names.{bytes_same, bytes_other, new_name, each_right}
@@ -217,12 +218,6 @@ last_quote q [] [] x y e h k = refl
 last_quote q [] (z ∷ u) x y e h k = absurd (lacks_quote q u y x (let rest : x ≡ u ++ (q ∷ y) = cc in rest) h)
 last_quote q (z ∷ t) [] x y e h k = absurd (lacks_quote q t x y (let rest : t ++ (q ∷ x) ≡ y = cc in sym rest) k)
 last_quote q (z ∷ t) (w ∷ u) x y e h k = let rest : t ++ (q ∷ x) ≡ u ++ (q ∷ y) = cc in omega (arith, last_quote q t u x y rest h k)
-
--- the place behind the last quote before a place
-pub record BehindQuote (bytes : List ℕ) (n quote p : ℕ) : Type 0 where
-  pub within : p ≤ n
-  pub behind : 0 < p → slice_index bytes (p - 1) ≡ quote
-  pub last : (k : ℕ) → p ≤ k → k < n → slice_index bytes k ≢ quote
 
 lacks_index : (q : ℕ) (t : List ℕ) (k : ℕ) → Lacks q t → k < length t → slice_index t k ≢ q
 lacks_index q [] k h lt = absurd (omega arith)

@@ -13,7 +13,8 @@ use Rattle.file_text.specs.declared.due.Due.TheVariants.{Nothing, Byte}
 use Rattle.file_text.specs.Node.{Node, node, no_node}
 use Rattle.file_text.specs.Grammar.{Each, is_name_byte, is_plain, IsName, IsNew}
 use Rattle.file_text.specs.Utf8.{due_behind, due_after, due_along}
-use Rattle.file_text.specs.Machine.{class_of, Around, prolog, within, epilog, Opened, open_of, ended, node_of, Holder, declaration, tag, Shape, at_start, in_mark, at_first, in_declaring, at_between, at_markup, in_comment, in_name, at_gap, in_attribute, at_named, at_equals, in_value, in_value_reference, at_valued, at_slash, at_ending, in_text_reference, in_closing, Step, goes, has_name, table, Spot, follow, advance, walk, IsDue, AreWhole, IsProper}
+use Rattle.file_text.specs.Names.{has_name}
+use Rattle.file_text.specs.Machine.{class_of, Around, prolog, within, epilog, Opened, open_of, ended, node_of, Holder, declaration, tag, Shape, at_start, in_mark, at_first, in_declaring, at_between, at_markup, in_comment, in_name, at_gap, in_attribute, at_named, at_equals, in_value, in_value_reference, at_valued, at_slash, at_ending, in_text_reference, in_closing, Step, goes, table, Spot, follow, advance, walk, IsDue, AreWhole, IsProper}
 use Rattle.file_text.proofs.Utf8Laws.{due_along-append, byte_due}
 use Rattle.file_text.proofs.Walks.{Along, stay, then, at_name, over_name}
 use Rattle.file_text.proofs.Names.{new_name}

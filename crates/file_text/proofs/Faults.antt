@@ -17,7 +17,7 @@ use Rattle.file_text.specs.Grammar.{is_name_start, items_text, IsText, IsLooseTe
 use Rattle.file_text.specs.Fault.{IsPrefix, LeavesAt, Stands, begins_name, KnownAt, IsEncodingAt, FirstFault}
 use Rattle.file_text.specs.Utf8.{due_after, due_after_first}
 use Rattle.file_text.specs.Machine.{class_of, Around, prolog, within, epilog, Opened, Shape, at_first, at_markup, in_comment, in_closing, in_name, Step, goes, leaves, too_deep, other_encoding, open_step, close_step, comment_step, Spot, follow, advance, State, both, move, run, start, tree_at, table, IsTidyShape}
-use Rattle.file_text.specs.Exit.{IsLiteral, FaultAt}
+use Rattle.file_text.specs.Exit.{IsLiteral, FaultAt, BehindQuote}
 use Rattle.file_text.proofs.Classes.{start_of, by_start}
 use Rattle.file_text.proofs.Walks.{at_begin}
 use Rattle.file_text.proofs.Tidy.{ascii_after}
@@ -25,7 +25,7 @@ use Rattle.file_text.proofs.Standing.{Has}
 use Rattle.file_text.proofs.Steps.{IsDeep, Shows, shows, IsBehindLess, LeadsBehind, behind_less}
 use Rattle.file_text.proofs.Exact.{both_parts, tidy_at, has_at, run-append, alive, loose}
 use Rattle.file_text.proofs.Places.{run_more, leaves_at, one_place, spelled_stays}
-use Rattle.file_text.proofs.Encodings.{BehindQuote, encoding_in, viable_run, no_encoding, spelled_no_encoding, encoding_same}
+use Rattle.file_text.proofs.Encodings.{encoding_in, viable_run, no_encoding, spelled_no_encoding, encoding_same}
 use Rattle.file_text.proofs.Known.{stands_at, known_same}
 
 -- a byte with which a name begins begins a character, and the other way round

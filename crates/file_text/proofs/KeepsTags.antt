@@ -12,7 +12,8 @@ use Rattle.file_text.specs.declared.reference.Referred.{Referred}
 use Rattle.file_text.specs.declared.reference.Referred.TheVariants.{More, Done, Leaves}
 use Rattle.file_text.specs.Node.{node, no_node}
 use Rattle.file_text.specs.Grammar.{Each, is_white, is_plain, is_name_byte, IsWhite, IsGap, IsName, Entity, less, greater, ampersand, quotation, apostrophe, entity_text, entity_value, byte, entity, items_text, items_value, IsQuoted, IsHead, IsAttribute, AreAttributes, IsNew, AreDistinct, IsUtf8Name, IsTag, IsElement, IsContent, IsDeclaration, IsProlog}
-use Rattle.file_text.specs.Machine.{Around, prolog, within, epilog, Opened, open_of, entered, ended, Holder, declaration, tag, Shape, at_between, in_name, at_gap, in_attribute, at_named, at_equals, in_value, in_value_reference, at_valued, at_slash, at_ending, in_text_reference, Step, goes, leaves, other_encoding, end_step, name_step, gap_step, valued_step, has_name, if_new, attribute_step, named_step, equals_step, declares_other, value_end, value_step, referred, value_reference_step, text_reference_step, slash_step, ending_step, follow}
+use Rattle.file_text.specs.Names.{has_name}
+use Rattle.file_text.specs.Machine.{Around, prolog, within, epilog, Opened, open_of, entered, ended, Holder, declaration, tag, Shape, at_between, in_name, at_gap, in_attribute, at_named, at_equals, in_value, in_value_reference, at_valued, at_slash, at_ending, in_text_reference, Step, goes, leaves, other_encoding, end_step, name_step, gap_step, valued_step, if_new, attribute_step, named_step, equals_step, declares_other, value_end, value_step, referred, value_reference_step, text_reference_step, slash_step, ending_step, follow}
 use Rattle.file_text.proofs.Classes.{Known}
 use Rattle.file_text.proofs.Names.{each-append, name_is_new, bytes_same, distinct_one_more}
 use Rattle.file_text.proofs.OverTags.{Allowed, AllowedIn}

@@ -1,12 +1,15 @@
 -- The faults that are known where bytes leave the grammar: one at most.
-use Rattle.std.proofs.Common.{◌≡◌, ◌≢◌, ℕ, zero, suc, ◌+◌, ◌-◌, ◌<◌, ◌≤◌, ◌⊎◌, inl, inr, refl, sym, ◌∙◌, ap, subst, Bool, true, false, List, [], ◌∷◌, ◌++◌, length, take, drop, slice_index, get_or, Option, Some, None, codes, if◌then◌else◌, ◌==◌, arith}
+use Rattle.std.proofs.Common.{◌≡◌, ◌≢◌, ℕ, zero, suc, ◌+◌, ◌-◌, ◌<◌, ◌≤◌, ◌⊎◌, inl, inr, refl, sym, ◌∙◌, ap, subst, Bool, true, false, List, [], ◌∷◌, ◌++◌, length, take, drop, slice_index, get_or, Option, Some, None, codes, if◌then◌else◌, ◌==◌, min, eqb, bytes_eq, Decides, arith}
+use Rattle.std.proofs.lemmas.Bool.{cases_lt}
 use Rattle.std.proofs.lemmas.Bool.Decides.{nat_tests}
-use Rattle.std.proofs.lemmas.List.{get_or-take, get_or-drop}
+use Rattle.std.proofs.lemmas.List.{get_or-take, get_or-drop, take_rest}
+use Rattle.std.proofs.lemmas.Slice.Eq.{bytes_eq-Decides}
+use Rattle.std.specs.List.{starts_with}
 use Rattle.file_text.specs.declared.error.Construct.TheVariants.{Doctype, Cdata, Instruction, Reference, Encoding}
 use Rattle.file_text.specs.declared.error.TextError.{TextError}
 use Rattle.file_text.specs.declared.error.TextError.TheVariants.{Syntax, Unsupported, TooDeep, NoMemory}
 use Rattle.file_text.specs.Grammar.{mark}
-use Rattle.file_text.specs.Fault.{Stands, IsStart, KnownAt, begins_name}
+use Rattle.file_text.specs.Fault.{Stands, IsStart, LeavesDeclaration, KnownAt, begins_name}
 
 -- the bytes of a word that stands at a place
 pub stands_at : (word bytes : List ℕ) (p k : ℕ) → Stands word bytes p → k < length word → slice_index bytes (p + k) ≡ slice_index word k
@@ -64,10 +67,12 @@ marks bytes n (Unsupported p Instruction) (inl (place, stands)) =
       at_place bytes (p + 0) (n - 1) 60 (omega arith) (stands_at (codes "<?") bytes p 0 stands (omega arith)),
       at_place bytes (p + 1) n 63 (omega arith) (stands_at (codes "<?") bytes p 1 stands (omega arith)),
     )
-marks bytes n (Unsupported p Instruction) (inr (start, low, high, within, stands)) =
+marks bytes n (Unsupported p Instruction) (inr (start, is)) =
+    let low = is.low in
+    let high = is.high in
     let size = xml_length (n - p) (omega arith) in
     inr (subst (λ (x : ℕ). 63 ≤ x)
-    (sym (stands_at (take (n - p) (codes "<?xml")) bytes p (n - p - 1) stands (omega arith)) ∙ ap (λ k. slice_index bytes k) (omega arith))
+    (sym (stands_at (take (n - p) (codes "<?xml")) bytes p (n - p - 1) is.stands (omega arith)) ∙ ap (λ k. slice_index bytes k) (omega arith))
     (xml_end (n - p) (omega arith) (omega arith)))
 marks bytes n (Unsupported p Encoding) known = absurd known
 marks bytes n (TooDeep p) (place, stands, within, begins, viable) =
@@ -117,24 +122,30 @@ start_less bytes p k low high stands =
 
 -- behind a `<` the very start is left only with a `?`
 instruction_apart : (bytes : List ℕ) (n p q : ℕ) → n ≡ p + 1 → Stands (codes "<?") bytes p
-    → IsStart bytes q × (q + 2 ≤ n) × (n ≤ q + 5) × (n < length bytes) × Stands (take (n - q) (codes "<?xml")) bytes q → ⊥
-instruction_apart bytes n p q place stands (start, low, high, within, whole) =
+    → LeavesDeclaration bytes q n → ⊥
+instruction_apart bytes n p q place stands is =
+    let low = is.low in
+    let high = is.high in
     let size = xml_length (n - q) (omega arith) in
     let less : slice_index bytes (p + 0) ≡ 60 = stands_at (codes "<?") bytes p 0 stands (omega arith) in
     let other : 63 ≤ slice_index (take (n - q) (codes "<?xml")) (n - q - 1) = xml_end (n - q) (omega arith) (omega arith) in
     let here : slice_index bytes (q + (n - q - 1)) ≡ slice_index (take (n - q) (codes "<?xml")) (n - q - 1) =
-    stands_at (take (n - q) (codes "<?xml")) bytes q (n - q - 1) whole (omega arith) in
+    stands_at (take (n - q) (codes "<?xml")) bytes q (n - q - 1) is.stands (omega arith) in
     let same : slice_index bytes (q + (n - q - 1)) ≡ slice_index bytes (p + 0) = ap (λ k. slice_index bytes k) (omega arith) in
     omega arith
 
 instruction_same : (bytes : List ℕ) (n p q : ℕ) → KnownAt bytes n (Unsupported p Instruction) → KnownAt bytes n (Unsupported q Instruction) → p ≡ q
 instruction_same bytes n p q (inl a) (inl b) = omega arith
 instruction_same bytes n p q (inl (place, stands)) (inr b) =
-    absurd (instruction_apart bytes n p q place stands b)
+    absurd (instruction_apart bytes n p q place stands b.1)
 instruction_same bytes n p q (inr a) (inl (place, stands)) =
-    absurd (instruction_apart bytes n q p place stands a)
+    absurd (instruction_apart bytes n q p place stands a.1)
 instruction_same bytes n p q (inr a) (inr b) =
-    one_start bytes p q a.0 b.0 (start_less bytes p (n - p) (omega arith) (omega arith) a.4) (start_less bytes q (n - q) (omega arith) (omega arith) b.4)
+    let low_p = a.1.low in
+    let high_p = a.1.high in
+    let low_q = b.1.low in
+    let high_q = b.1.high in
+    one_start bytes p q a.0 b.0 (start_less bytes p (n - p) (omega arith) (omega arith) a.1.stands) (start_less bytes q (n - q) (omega arith) (omega arith) b.1.stands)
 
 same_place : (bytes : List ℕ) (n : ℕ) (f g : TextError) → KnownAt bytes n f → KnownAt bytes n g → kind f ≡ kind g → f ≡ g
 same_place bytes n (Syntax p) g a b e = absurd a
@@ -156,3 +167,24 @@ same_place bytes n f g a b e = absurd (omega arith)
 pub known_same : (bytes : List ℕ) (n : ℕ) (f g : TextError) → KnownAt bytes n f → KnownAt bytes n g → f ≡ g
 known_same bytes n f g a b =
     same_place bytes n f g a b (kind_told f (slice_index bytes (n - 1)) (slice_index bytes n) (marks bytes n f a) ∙ sym (kind_told g (slice_index bytes (n - 1)) (slice_index bytes n) (marks bytes n g b)))
+
+-- what a test of a slice's beginning says
+drop_past : (n : ℕ) (bytes : List ℕ) → length bytes ≤ n → drop n bytes ≡ []
+drop_past zero [] past = refl
+drop_past zero (b ∷ bytes) past = absurd (omega arith)
+drop_past (suc n) [] past = refl
+drop_past (suc n) (b ∷ bytes) past = drop_past n bytes (omega arith)
+
+drop_min : (place : ℕ) (bytes : List ℕ) → drop (min place (length bytes)) bytes ≡ drop place bytes
+drop_min place bytes = elim (cases_lt (length bytes) place) [
+  | inl past ↦ drop_past (min place (length bytes)) bytes (omega arith) ∙ sym (drop_past place bytes (omega arith))
+  | inr fits ↦ ap (λ k. drop k bytes) (omega arith)
+]
+
+pub begins_stands : (word bytes : List ℕ) (place m : ℕ) (r : Bool) → m ≡ min place (length bytes) → r ≡ starts_with eqb (take (length bytes - m) (drop m bytes)) word
+    → Decides r (Stands word bytes place)
+begins_stands word bytes place m r at_m test =
+    let whole : take (length bytes - m) (drop m bytes) ≡ drop place bytes = take_rest bytes m ∙ ap (λ k. drop k bytes) at_m ∙ drop_min place bytes in
+    let same : r ≡ bytes_eq word (take (length word) (drop place bytes)) = test ∙ ap (λ t. bytes_eq word (take (length word) t)) whole in
+    let decides = bytes_eq-Decides word (take (length word) (drop place bytes)) in
+    ((λ e. sym (decides.0 (sym same ∙ e))), (λ e. same ∙ decides.1 (sym e)))

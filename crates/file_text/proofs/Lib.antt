@@ -21,4 +21,6 @@ pub mod Steps
 pub mod Encodings
 pub mod Known
 pub mod Faults
+pub mod Sees
+pub mod Outcomes
 pub mod Trees

@@ -4,7 +4,7 @@ use Rattle.std.proofs.lemmas.Slice.Eq.{bytes_eq-Decides}
 use Rattle.std.proofs.lemmas.Bool.{false≢true, or_cases, cases_Bool}
 use Rattle.file_text.specs.declared.tree.Attribute.{Attribute}
 use Rattle.file_text.specs.Grammar.{Each, IsNew, AreDistinct}
-use Rattle.file_text.specs.Machine.{has_name}
+use Rattle.file_text.specs.Names.{has_name}
 
 pub bytes_same : (xs ys : List ℕ) → bytes_eq xs ys ≡ true → xs ≡ ys
 bytes_same xs ys e = (bytes_eq-Decides xs ys).0 e
@@ -26,13 +26,13 @@ false_parts false y e = (refl, e)
 
 pub new_name : (name : List ℕ) (as' : List Attribute) → IsNew name as' → has_name name as' ≡ false
 new_name name [] h = refl
-new_name name (x ∷ xs) h = or_false (bytes_eq name x.name) (has_name name xs) (bytes_differ name x.name (λ e. h.0 (sym e))) (new_name name xs h.1)
+new_name name (x ∷ xs) h = or_false (bytes_eq x.name name) (has_name name xs) (bytes_differ x.name name h.0) (new_name name xs h.1)
 
 pub name_is_new : (name : List ℕ) (as' : List Attribute) → has_name name as' ≡ false → IsNew name as'
 name_is_new name [] h = tt
 name_is_new name (x ∷ xs) h =
-    let parts = false_parts (bytes_eq name x.name) (has_name name xs) h in
-    (λ e. bytes_other name x.name parts.0 (sym e), name_is_new name xs parts.1)
+    let parts = false_parts (bytes_eq x.name name) (has_name name xs) h in
+    (bytes_other x.name name parts.0, name_is_new name xs parts.1)
 
 pub each-append : {X : Type 0} (P : X → Type 0) (xs ys : List X) → Each P xs → Each P ys → Each P (xs ++ ys)
 each-append P [] ys p q = q
@@ -61,3 +61,26 @@ pub distinct_one_more : (done : List Attribute) (a : Attribute) → AreDistinct 
 distinct_one_more [] a h new = (tt, tt)
 distinct_one_more (d ∷ done) a h new =
     (each-append (λ x. x.name ≢ d.name) done (a ∷ []) h.0 (λ e. new.0 (sym e), tt), distinct_one_more done a h.1 new.1)
+
+or_nothing : (x : Bool) → (x || false) ≡ x
+or_nothing true = refl
+or_nothing false = refl
+
+or_assoc : (x y z : Bool) → ((x || y) || z) ≡ (x || (y || z))
+or_assoc true y z = refl
+or_assoc false y z = refl
+
+cond_or : (x y : Bool) → cond x true y ≡ (y || x)
+cond_or true true = refl
+cond_or true false = refl
+cond_or false true = refl
+cond_or false false = refl
+
+any_more : (name : List ℕ) (xs : List Attribute) (x : Attribute) → has_name name (xs ++ x ∷ []) ≡ (has_name name xs || bytes_eq x.name name)
+any_more name [] x = or_nothing (bytes_eq x.name name)
+any_more name (y ∷ xs) x = ap (λ b. bytes_eq y.name name || b) (any_more name xs x) ∙ sym (or_assoc (bytes_eq y.name name) (has_name name xs) (bytes_eq x.name name))
+
+-- the names of attributes and one more
+pub has_name_more : (name n : List ℕ) (xs : List Attribute) (x : Attribute) (before : Bool) → x.name ≡ n → before ≡ has_name name xs
+    → cond (bytes_eq n name) true before ≡ has_name name (xs ++ x ∷ [])
+has_name_more name n xs x before same known = rw (known, ← same) (cond_or (bytes_eq x.name name) (has_name name xs) ∙ sym (any_more name xs x))

@@ -30,6 +30,13 @@ begins_name b = (nat_le 65 b && nat_le b 90) || ((nat_le 97 b && nat_le b 122) |
 abbrev pub IsStart : List ℕ → ℕ → Type 0
 IsStart bytes p = (p ≡ 0) ⊎ ((p ≡ 3) × Stands mark bytes 0)
 
+-- a beginning of `<?xml` of at least two bytes stands from p to n, and a byte behind it
+pub record LeavesDeclaration (bytes : List ℕ) (p n : ℕ) : Type 0 where
+  pub low : p + 2 ≤ n
+  pub high : n ≤ p + 5
+  pub within : n < length bytes
+  pub stands : Stands (take (n - p) (codes "<?xml")) bytes p
+
 -- A fault other than Syntax, known where the bytes leave the grammar at n. A literal stands where markup or an entity
 -- may stand exactly if the grammar goes along with its first bytes and no further: in a comment it goes along with all
 -- of it, in a tag with none. At the very start it goes along with `<?xml`, and leaves where no white follows.
@@ -39,7 +46,7 @@ KnownAt bytes n (Unsupported p Doctype) = (n ≡ p + 2) × Stands (codes "<!DOCT
 KnownAt bytes n (Unsupported p Cdata) = (n ≡ p + 2) × Stands (codes "<![CDATA[") bytes p
 KnownAt bytes n (Unsupported p Reference) = (n ≡ p + 1) × Stands (codes "&#") bytes p
 KnownAt bytes n (Unsupported p Instruction) = ((n ≡ p + 1) × Stands (codes "<?") bytes p)
-    ⊎ (IsStart bytes p × (p + 2 ≤ n) × (n ≤ p + 5) × (n < length bytes) × Stands (take (n - p) (codes "<?xml")) bytes p)
+    ⊎ (IsStart bytes p × LeavesDeclaration bytes p n)
 KnownAt bytes n (Unsupported p Encoding) = ⊥
 -- a name begins where an element may end and none may begin: so deep is it
 KnownAt bytes n (TooDeep p) = (n ≡ p + 1) × Stands (codes "<") bytes p × (n < length bytes)

@@ -1,7 +1,6 @@
 -- The machine over bytes by which the reader goes. Nothing public speaks of it.
 use Rattle.std.specs.Prelude.{◌≡◌, ℕ, suc, ◌+◌, ◌≤◌, Bool, true, false, ◌&&◌, ◌||◌, not, ◌==◌, nat_lt, nat_le, if◌then◌else◌, List, [], ◌∷◌, ◌++◌, length, codes}
 use Rattle.std.specs.Prelude.{Option, Some, None}
-use Rattle.std.specs.List.{list_any}
 use Rattle.std.specs.Str.{bytes_eq, str_to_ascii_lowercase}
 use Rattle.file_text.specs.declared.tree.Attribute.{Attribute}
 use Rattle.file_text.specs.declared.class.Class.{Class}
@@ -22,6 +21,7 @@ use Rattle.file_text.specs.declared.due.Due.{Due}
 use Rattle.file_text.specs.declared.due.Due.TheVariants.{Nothing, Byte}
 use Rattle.file_text.specs.Node.{Node, node, no_node, nodes}
 use Rattle.file_text.specs.Grammar.{is_white, Each}
+use Rattle.file_text.specs.Names.{has_name}
 use Rattle.file_text.specs.Utf8.{due_after, due_along}
 
 -- the part that a byte plays
@@ -99,10 +99,14 @@ open_of (epilog e) = []
 abbrev pub entered : Around → List ℕ → List Attribute → Around
 entered a name attributes = within (record { name = name; attributes = attributes; children = [] }) (open_of a)
 
+-- an open element with one more in it
+abbrev pub grown : Opened → Node → Opened
+grown o e = record o { children = o.children ++ e ∷ [] }
+
 -- an element has ended in these open ones
 abbrev pub ended : List Opened → Node → Around
 ended [] e = epilog e
-ended (o ∷ os) e = within (record o { children = o.children ++ e ∷ [] }) os
+ended (o ∷ os) e = within (grown o e) os
 
 abbrev pub node_of : Opened → Node
 node_of o = node o.name o.attributes (nodes o.children)
@@ -134,12 +138,16 @@ declaring_step a declaring.Xm Letter b = if b == 108 then goes a (in_declaring d
 declaring_step a declaring.Xml White b = goes a (at_gap declaration [])
 declaring_step a d c b = leaves
 
+-- a character in an element
+abbrev pub character_step : Around → Class → Step
+character_step a Control = leaves
+character_step a Ampersand = goes a (in_text_reference reference.Ampersand)
+character_step a c = goes a at_between
+
 abbrev pub between_step : Around → Class → Step
 between_step a White = goes a at_between
 between_step a Less = goes a at_markup
-between_step (within o os) Control = leaves
-between_step (within o os) Ampersand = goes (within o os) (in_text_reference reference.Ampersand)
-between_step (within o os) c = goes (within o os) at_between
+between_step (within o os) c = character_step (within o os) c
 between_step a c = leaves
 
 -- a name begins an element
@@ -196,10 +204,6 @@ gap_step a h attributes c b = end_step a h attributes c
 abbrev pub valued_step : Around → Holder → List Attribute → Class → Step
 valued_step a h attributes White = goes a (at_gap h attributes)
 valued_step a h attributes c = end_step a h attributes c
-
--- whether an attribute of the list has the name
-abbrev pub has_name : List ℕ → List Attribute → Bool
-has_name name attributes = list_any (λ x. bytes_eq name x.name) attributes
 
 -- the name of an attribute ends
 abbrev pub if_new : List ℕ → List Attribute → Step → Step

@@ -5,15 +5,19 @@
 mod attributes;
 mod class;
 mod due;
+mod end_tags;
 mod error;
 mod laws;
 mod mode;
 mod read;
 mod reference;
 mod scanner;
+mod starts;
+mod tags;
 mod taken;
 #[cfg(test)]
 mod tests;
+mod texts;
 mod tree;
 
 pub use error::{Construct, TextError};

@@ -7,7 +7,7 @@ pub(crate) enum Mode {
     Start,
     Mark(Mark),
     /// The `<` at the very start, where a declaration may begin.
-    Opened,
+    First,
     Declaring(Declaring),
     /// White or characters between tags, or the end of a tag or a comment.
     Between,

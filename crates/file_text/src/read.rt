@@ -1,7 +1,8 @@
-ghost use Rattle.std.specs.Prelude.{◌≡◌, ◌⊎◌, IfErr, IfOk, MatchResult};
+ghost use Rattle.std.specs.Prelude.{◌≡◌, ◌<◌, ◌≤◌, ◌↔◌, ◌⊎◌, length, IsTrue, IfErr, IfOk, MatchResult};
 ghost use Rattle.file_text.specs.Node.{Node, tree_of};
 ghost use Rattle.file_text.specs.Grammar.{IsText};
-ghost use Rattle.file_text.specs.Fault.{FirstFault};
+ghost use Rattle.file_text.specs.Fault.{FirstFault, Stands, LeavesDeclaration};
+ghost use Rattle.file_text.specs.Exit.{IsStop, FaultAt, BehindQuote};
 ghost use Rattle.file_text.specs.declared.error.TextError.TheVariants.{NoMemory};
 
 use crate::scanner::Scanner;
@@ -20,16 +21,7 @@ pub fn read_tree(alloc: Global, bytes: &[u8]) -> Result<Tree, TextError>
     for (i, b) in bytes.iter().enumerate() {
         match scanner.take(alloc, *b)? {
             Taken::Goes => {}
-            Taken::Leaves => return Err(fault_at(bytes, i)),
-            Taken::TooDeep => return Err(TextError::TooDeep {
-                place: i as u64 - 1,
-            }),
-            Taken::OtherEncoding => {
-                return Err(TextError::Unsupported {
-                    place: value_start(bytes, i, *b),
-                    what: Construct::Encoding,
-                });
-            }
+            stop => return Err(fault_of(bytes, i, stop)),
         }
     }
     match scanner.finish() {
@@ -38,8 +30,28 @@ pub fn read_tree(alloc: Global, bytes: &[u8]) -> Result<Tree, TextError>
     }
 }
 
-/// The fault where the bytes leave the grammar at n.
-fn fault_at(bytes: &[u8], n: usize) -> TextError {
+/// The fault of bytes along which the scanner stops at byte n.
+fn fault_of(bytes: &[u8], n: usize, stop: Taken) -> TextError
+    requires { IsStop bytes.now n stop }
+    ensures { FirstFault bytes.now result }
+{
+    match stop {
+        Taken::Goes => unreachable!(),
+        Taken::Leaves => fault_at(bytes, n),
+        Taken::TooDeep => TextError::TooDeep {
+            place: n as u64 - 1,
+        },
+        Taken::OtherEncoding => TextError::Unsupported {
+            place: value_start(bytes, n, bytes[n]),
+            what: Construct::Encoding,
+        },
+    }
+}
+
+/// The fault that the bytes show where they leave the grammar at n.
+fn fault_at(bytes: &[u8], n: usize) -> TextError
+    ensures { FaultAt bytes.now n result }
+{
     if n >= 2 && stands(bytes, n - 2, b"<!DOCTYPE") {
         unsupported(n - 2, Construct::Doctype)
     } else if n >= 2 && stands(bytes, n - 2, b"<![CDATA[") {
@@ -57,7 +69,9 @@ fn fault_at(bytes: &[u8], n: usize) -> TextError {
     }
 }
 
-fn unsupported(place: usize, what: Construct) -> TextError {
+fn unsupported(place: usize, what: Construct) -> TextError
+    ensures { result ≡ TextError.Unsupported place what }
+{
     TextError::Unsupported {
         place: place as u64,
         what,
@@ -65,17 +79,28 @@ fn unsupported(place: usize, what: Construct) -> TextError {
 }
 
 /// Whether the word stands at the place.
-fn stands(bytes: &[u8], place: usize, word: &[u8]) -> bool {
-    place <= bytes.len() && bytes[place..].starts_with(word)
+fn stands(bytes: &[u8], place: usize, word: &[u8]) -> bool
+    ensures { IsTrue result ↔ Stands word.now bytes.now place }
+{
+    bytes[place.min(bytes.len())..].starts_with(word)
 }
 
-/// Whether `<?` stands at the place, and n is within the length of `<?xml` and one white byte.
-fn leaves_declaration(bytes: &[u8], place: usize, n: usize) -> bool {
-    stands(bytes, place, b"<?") && n < bytes.len() && place + 2 <= n && n < place + 6
+/// Whether a beginning of `<?xml` stands from the place to n, with a byte behind it.
+fn leaves_declaration(bytes: &[u8], place: usize, n: usize) -> bool
+    requires { place < 4 }
+    ensures { IsTrue result ↔ LeavesDeclaration bytes.now place n }
+{
+    place + 2 <= n
+        && n <= place + 5
+        && n < bytes.len()
+        && stands(bytes, place, &b"<?xml"[..n - place])
 }
 
 /// The place behind the last quote before `end`.
-fn value_start(bytes: &[u8], end: usize, quote: u8) -> u64 {
+fn value_start(bytes: &[u8], end: usize, quote: u8) -> u64
+    requires { end ≤ length bytes.now }
+    ensures { BehindQuote bytes.now end quote result }
+{
     let mut place = end;
     while place > 0 && bytes[place - 1] != quote {
         place -= 1;

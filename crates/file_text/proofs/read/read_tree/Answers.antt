@@ -1,0 +1,44 @@
+use Rattle.std.proofs.Common.{◌≡◌, ap, sym, ◌∙◌, inr, Some, true, take, length}
+use Rattle.std.proofs.lemmas.List.{take_all}
+use Rattle.file_text.specs.Machine.{run, start}
+use Rattle.file_text.specs.Node.{tree_of}
+use Rattle.file_text.specs.Seen.{state_of}
+use Rattle.file_text.proofs.Exact.{tidy_at}
+use Rattle.file_text.proofs.Faults.{no_fault}
+use Rattle.file_text.proofs.Outcomes.{goes_on, read_text, read_only, early_fault}
+use Rattle.file_text.proofs.read.read_tree.Goals as goal
+
+pub take-requires : goal.take-requires
+take-requires c = tidy_at true (take c.loop-i.i c.args.bytes.now) (state_of c.loop-i.scanner) c.loop-i.invariant
+
+pub returns-in_default : goal.returns-in_default
+returns-in_default c = record {
+  spelled = tt;
+  only = λ e is. absurd (no_fault c.args.bytes.now e c.fault_of.result is c.fault_of.ensures);
+  fault = inr c.fault_of.ensures;
+}
+
+pub loop-i-preserved : goal.loop-i-preserved
+loop-i-preserved c =
+    goes_on c.args.bytes.now c.loop-i.i (state_of c.loop-i.scanner) (state_of c.take.new.self) c.loop-i-test.true c.loop-i.invariant (rw c.in-Goes.is at c.in_ok-stop.ensures)
+
+pub returns-in-Some-clause-spelled : goal.returns-in-Some-clause-spelled
+returns-in-Some-clause-spelled c =
+    let all : take c.loop-i.i c.args.bytes.now ≡ c.args.bytes.now = take_all c.loop-i.i c.args.bytes.now c.loop-i-test.false in
+    read_text c.args.bytes.now (state_of c.loop-i.scanner) (tree_of c.in-Some.root) (rw all at c.loop-i.invariant) (sym c.in-Some.ensures)
+
+pub returns-in-Some-clause-only : goal.returns-in-Some-clause-only
+returns-in-Some-clause-only c = λ e is.
+    let all : take c.loop-i.i c.args.bytes.now ≡ c.args.bytes.now = take_all c.loop-i.i c.args.bytes.now c.loop-i-test.false in
+    read_only c.args.bytes.now (state_of c.loop-i.scanner) (tree_of c.in-Some.root) e (rw all at c.loop-i.invariant) (sym c.in-Some.ensures) is
+
+pub returns-in-None-clause-only : goal.returns-in-None-clause-only
+returns-in-None-clause-only c = λ e is.
+    let all : take c.loop-i.i c.args.bytes.now ≡ c.args.bytes.now = take_all c.loop-i.i c.args.bytes.now c.loop-i-test.false in
+    absurd (no_fault c.args.bytes.now e c.fault_at.result is
+    (early_fault c.args.bytes.now (state_of c.loop-i.scanner) c.fault_at.result (rw all at c.loop-i.invariant) (sym c.in-None.ensures) c.fault_at.ensures))
+
+pub returns-in-None-clause-fault : goal.returns-in-None-clause-fault
+returns-in-None-clause-fault c =
+    let all : take c.loop-i.i c.args.bytes.now ≡ c.args.bytes.now = take_all c.loop-i.i c.args.bytes.now c.loop-i-test.false in
+    inr (early_fault c.args.bytes.now (state_of c.loop-i.scanner) c.fault_at.result (rw all at c.loop-i.invariant) (sym c.in-None.ensures) c.fault_at.ensures)
