@@ -14,6 +14,7 @@ abbrev pub drop_while : (ℕ → Bool) → List ℕ → List ℕ
 drop_while test [] = []
 drop_while test (b ∷ bs) = if test b then drop_while test bs else (b ∷ bs)
 
+-- a number with one more digit, which is a byte
 abbrev pub with_digit : ℕ → ℕ → ℕ
 with_digit n b = n * 10 + (b - 48)
 
@@ -21,9 +22,11 @@ with_digit n b = n * 10 + (b - 48)
 unfoldable pub value : List ℕ → ℕ
 value digits = fold with_digit 0 digits
 
+-- the digits after white
 abbrev pub digits_in : List ℕ → List ℕ
 digits_in text = take_while is_ascii_digit (drop_while is_white text)
 
+-- what stands after white, digits and white
 abbrev pub after_number : List ℕ → List ℕ
 after_number text = drop_while is_white (drop_while is_ascii_digit (drop_while is_white text))
 
@@ -35,6 +38,7 @@ number_in text = if nat_lt 0 (length (digits_in text)) && (length (after_number 
 unfoldable pub within : Quantity → ℕ → ℕ → Result ℕ ReadError
 within what limit n = if nat_lt limit n then Err (Limit what) else Ok n
 
+-- a number that has to be well formed
 abbrev pub formed : Field → List ℕ → Option ℕ → Result ℕ ReadError
 formed what of None = Err (BadNumber what of)
 formed what of (Some n) = Ok n

@@ -27,6 +27,7 @@ use Rattle.graph_reader.specs.Numbers.{within, number, positive}
 
 -- ---- names
 
+-- whether the name is one of these
 abbrev pub is_among : List ℕ → List (List ℕ) → Bool
 is_among name names = list_any (λ other. bytes_eq other name) names
 
@@ -44,6 +45,7 @@ new_name of earlier e = do
   name ← required field.Name of e
   tested_name of earlier name
 
+-- a name that is one of these, and isn't an earlier one
 abbrev pub tested_mention : Field → List (List ℕ) → List (List ℕ) → List ℕ → Result (List ℕ) ReadError
 tested_mention what names earlier name =
     if not (is_among name names) then Err (Unknown what name)
@@ -58,6 +60,7 @@ mention what names earlier e = do
 
 -- ---- actors
 
+-- the direction that a word says
 abbrev pub direction_in : List ℕ → List ℕ → Result Direction ReadError
 direction_in of word =
     if bytes_eq word (codes "in") then Ok In
@@ -75,6 +78,7 @@ port_of actor before done e = do
   rate ← positive field.Rate actor quantity.Rate 1000000 text
   Ok (record { name = name; direction = direction; rate = rate })
 
+-- the ports of some actors
 abbrev pub port_count : List Actor → ℕ
 port_count actors = sum_by (λ (a : Actor). length a.ports) actors
 
@@ -86,6 +90,7 @@ actor_of done e = do
   ports ← each (port_of name (port_count done)) [] (children (codes "port") e)
   Ok (record { name = name; ports = ports })
 
+-- there is an actor
 abbrev pub some_actor : List Actor → Result (List Actor) ReadError
 some_actor [] = Err (Missing field.Actor file)
 some_actor (a ∷ rest) = Ok (a ∷ rest)
@@ -103,15 +108,18 @@ abbrev pub numbered : ℕ → List ℕ → List Actor → Option (ℕ × Actor)
 numbered i name [] = None
 numbered i name (a ∷ rest) = if bytes_eq a.name name then Some (i, a) else numbered (i + 1) name rest
 
+-- whether the directions are one
 abbrev pub is_same_direction : Direction → Direction → Bool
 is_same_direction In In = true
 is_same_direction Out Out = true
 is_same_direction In Out = false
 is_same_direction Out In = false
 
+-- whether a port has this direction and name
 abbrev pub is_port : Direction → List ℕ → Port → Bool
 is_port direction name p = bytes_eq p.name name && is_same_direction direction p.direction
 
+-- what a name stands for
 abbrev pub known : {A : Type 0} → Field → List ℕ → Option A → Result A ReadError
 known what name None = Err (Unknown what name)
 known what name (Some x) = Ok x
@@ -125,12 +133,15 @@ end_of actors direction actor_word port_word of e = do
   port ← known port_word port_name (find (is_port direction port_name) actor.1.ports)
   Ok (record { actor = actor.0; port = port_name; rate = port.rate })
 
+-- whether two ends are at one port
 abbrev pub is_same_port : End → End → Bool
 is_same_port a b = (a.actor == b.actor) && bytes_eq a.port b.port
 
+-- an end at a port that no earlier channel uses
 abbrev pub unused : Field → End → Bool → Result End ReadError
 unused what e used = if used then Err (Twice what e.port) else Ok e
 
+-- the initial tokens, which are 0 where none are given
 abbrev pub tokens_in : List ℕ → Option (List ℕ) → Result ℕ ReadError
 tokens_in of None = Ok 0
 tokens_in of (Some text) = number field.InitialTokens of quantity.Tokens 1000000 text
@@ -153,6 +164,7 @@ channels_of actors section = each (channel_of actors) [] (children (word_of fiel
 
 -- ---- properties
 
+-- whether a value is there, and is this word
 abbrev pub is_word : List ℕ → Option (List ℕ) → Bool
 is_word word None = false
 is_word word (Some value) = bytes_eq value word
@@ -161,6 +173,7 @@ is_word word (Some value) = bytes_eq value word
 unfoldable pub is_default : Node → Bool
 is_default processor = is_word (codes "true") (attribute (codes "default") processor)
 
+-- the first element that passes a test, or else the first
 abbrev pub first_by : (Node → Bool) → List Node → Option Node
 first_by test [] = None
 first_by test (e ∷ es) = option_or (find test (e ∷ es)) (Some e)
@@ -173,6 +186,7 @@ counting_processor e = first_by is_default (children (codes "processor") e)
 unfoldable pub execution_of : Node → Option Node
 execution_of e = option_and_then (first_child (word_of field.ExecutionTime)) (counting_processor e)
 
+-- the time of an execution
 abbrev pub time_by : List ℕ → Option Node → Result (Option ℕ) ReadError
 time_by of None = Ok None
 time_by of (Some execution) = do
@@ -204,6 +218,7 @@ some_size n = if n == 0 then 1 else n
 unfoldable pub size_text : Node → Option (List ℕ)
 size_text e = option_and_then (attribute (word_of field.Sz)) (first_child (codes "tokenSize") e)
 
+-- the size that a text gives; 1 where there is none
 abbrev pub size_in : List ℕ → Option (List ℕ) → Result ℕ ReadError
 size_in of None = Ok 1
 size_in of (Some text) = do
@@ -236,15 +251,19 @@ time_at times name = option_and_then (λ (t : TimeEntry). t.time) (find (λ (t :
 abbrev pub size_at : List SizeEntry → List ℕ → ℕ
 size_at sizes name = option_map_or (λ (s : SizeEntry). s.size) (find (λ (s : SizeEntry). bytes_eq s.channel name) sizes) 1
 
+-- the row of an actor, which has one phase
 abbrev pub actor_row : List TimeEntry → Actor → ActorRow
 actor_row times a = record { name = a.name; phases = 1; times = option_to_list (time_at times a.name) }
 
+-- the row of a channel
 abbrev pub channel_row : List SizeEntry → Channel → ChannelRow
 channel_row sizes c = record { name = c.name; source = c.source.actor; target = c.target.actor; made = c.source.rate ∷ []; taken = c.target.rate ∷ []; tokens = c.tokens; size = size_at sizes c.name }
 
+-- the table of these actors and channels
 unfoldable pub table : List Actor → List Channel → List TimeEntry → List SizeEntry → GraphFile
 table actors channels times sizes = record { kind = Sdf; actors = map (actor_row times) actors; channels = map (channel_row sizes) channels }
 
+-- a table in which no actor without a time is found
 abbrev pub timed : GraphFile → Option ActorRow → Result GraphFile ReadError
 timed t None = Ok t
 timed t (Some a) = Err (Missing field.ExecutionTime a.name)
@@ -253,9 +272,11 @@ timed t (Some a) = Err (Missing field.ExecutionTime a.name)
 unfoldable pub all_timed : Bool → GraphFile → Result GraphFile ReadError
 all_timed need_times t = if need_times then timed t (find (λ (a : ActorRow). length a.times == 0) t.actors) else Ok t
 
+-- the root is named as it has to be
 unfoldable pub root_of : Node → Result Node ReadError
 root_of e = if bytes_eq (name_of e) (word_of field.Sdf3) then Ok e else Err (Missing field.Sdf3 file)
 
+-- the kind is synchronous dataflow
 unfoldable pub sdf_kind : List ℕ → Result (List ℕ) ReadError
 sdf_kind word = if bytes_eq word (word_of field.Sdf) then Ok word else Err WrongKind
 

@@ -51,10 +51,12 @@ pub record HasName (e : Node) (name : List ℕ) : Type 0 where
   pub some : 1 ≤ length name
   pub short : length name ≤ 128
 
+-- the word for a direction
 abbrev pub direction_word : Direction → List ℕ
 direction_word In = codes "in"
 direction_word Out = codes "out"
 
+-- an element spells a port
 pub record IsPort (e : Node) (p : Port) : Type 0 where
   pub name : HasName e p.name
   pub direction : Has field.TypeWord e (direction_word p.direction)
@@ -90,6 +92,7 @@ abbrev pub AreTokens : Option (List ℕ) → ℕ → Type 0
 AreTokens None n = n ≡ 0
 AreTokens (Some text) n = IsNumber 1000000 text n
 
+-- an element spells a channel between ports of these actors
 pub record IsChannel (actors : List Actor) (e : Node) (c : Channel) : Type 0 where
   pub name : HasName e c.name
   pub source : IsEnd actors Out field.SrcActor field.SrcPort e c.source
@@ -102,6 +105,7 @@ pub record AreApart (c d : Channel) : Type 0 where
   pub sources : is_same_port c.source d.source ≡ false
   pub targets : is_same_port c.target d.target ≡ false
 
+-- the channels of a section; there are at most 256
 pub record AreChannels (actors : List Actor) (section : Node) (channels : List Channel) : Type 0 where
   pub rows : Pairwise (IsChannel actors) (children (word_of field.Channel) section) channels
   pub apart : EachTwo AreApart channels

@@ -30,6 +30,7 @@ file = codes "file"
 abbrev pub named : List ℕ → List Node → List Node
 named word es = filter (λ e. bytes_eq (name_of e) word) es
 
+-- the value of the first attribute named so
 abbrev pub first_value : List ℕ → List Attribute → Option (List ℕ)
 first_value word [] = None
 first_value word (a ∷ rest) = if bytes_eq a.name word then Some a.value else first_value word rest
@@ -38,6 +39,7 @@ first_value word (a ∷ rest) = if bytes_eq a.name word then Some a.value else f
 unfoldable pub children : List ℕ → Node → List Node
 children word e = named word (children_of e)
 
+-- the first of some elements
 abbrev pub first : List Node → Option Node
 first [] = None
 first (e ∷ es) = Some e
@@ -50,6 +52,7 @@ first_child word e = first (children word e)
 unfoldable pub attribute : List ℕ → Node → Option (List ℕ)
 attribute word e = first_value word (attributes_of e)
 
+-- a value that has to be there
 abbrev pub present : Field → List ℕ → Option (List ℕ) → Result (List ℕ) ReadError
 present what of None = Err (Missing what of)
 present what of (Some value) = Ok value
@@ -58,6 +61,7 @@ present what of (Some value) = Ok value
 unfoldable pub required : Field → List ℕ → Node → Result (List ℕ) ReadError
 required what of e = present what of (attribute (word_of what) e)
 
+-- at most one element
 abbrev pub not_two : Field → List Node → Result (Option Node) ReadError
 not_two what [] = Ok None
 not_two what (e ∷ []) = Ok (Some e)
@@ -67,6 +71,7 @@ not_two what (e ∷ (f ∷ rest)) = Err (Twice what (word_of what))
 unfoldable pub at_most_one : Field → Node → Result (Option Node) ReadError
 at_most_one what e = not_two what (children (word_of what) e)
 
+-- an element that has to be there
 abbrev pub there : Field → Option Node → Result Node ReadError
 there what None = Err (Missing what file)
 there what (Some e) = Ok e
