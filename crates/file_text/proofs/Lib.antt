@@ -23,4 +23,4 @@ pub mod Known
 pub mod Faults
 pub mod Sees
 pub mod Outcomes
-pub mod Trees
+pub mod Whole

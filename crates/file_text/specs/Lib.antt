@@ -6,4 +6,3 @@ pub mod Names
 pub mod Machine
 pub mod Exit
 pub mod Seen
-pub mod Laws

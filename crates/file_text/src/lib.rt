@@ -21,6 +21,6 @@ mod texts;
 mod tree;
 
 pub use error::{Construct, TextError};
-pub use laws::know_texts;
+pub use laws::answers_are_one;
 pub use read::read_tree;
 pub use tree::{Attribute, Element, Tree};

@@ -1,6 +1,6 @@
 ghost use Rattle.graph_reader.specs.Laws.{HasOneFault, HasOneTable, ReadHasNoFault, ReadKeepsRules};
 
-use file_text::know_texts;
+use file_text::answers_are_one;
 
 /// The bytes decide whether they have a table, and which, or what their first fault is.
 pub fn know_files()
@@ -9,5 +9,5 @@ pub fn know_files()
     ensures either { ReadHasNoFault }
     ensures keeps { ReadKeepsRules }
 {
-    know_texts();
+    answers_are_one();
 }
