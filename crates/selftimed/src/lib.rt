@@ -1,0 +1,5 @@
+//! Self-timed execution: an engine that starts each firing as soon as it can, event by event.
+#![tactic(auto)]
+
+mod running;
+mod starts;
