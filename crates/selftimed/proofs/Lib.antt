@@ -1,3 +1,4 @@
 pub mod Shifts
 pub mod Batches
 pub mod Endings
+pub mod Starting

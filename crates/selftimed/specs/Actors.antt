@@ -1,6 +1,11 @@
 -- Where the actors stand in an execution.
 use Rattle.std.specs.Prelude.{◌≡◌, ℕ, ◌+◌, ◌-◌, ◌^◌, ◌≤◌, ◌<◌, Bool, true, false, List, [], ◌∷◌, length, drop, slice_index, slice_index_or, min, Option, Some, None}
+use Rattle.std.specs.List.{sum_by}
 use Rattle.sd_base.specs.Net.{Net, channel_at}
+use Rattle.sd_base.specs.Schedules.{Lacks}
+use Rattle.sd_base.proofs.Steps.{Able}
+use Rattle.sd_base.proofs.Ends.{sum_to}
+use Rattle.selftimed.specs.Starts.{AddsEnds, StartsAll}
 use Rattle.firing.specs.Wiring.{PutsTokens, IsLevel}
 use Rattle.selftimed.specs.declared.actors.ActorState.{ActorState}
 
@@ -60,3 +65,27 @@ pub record Stand (net : Net) (actors : List ActorState) (tokens : List ℕ) : Ty
   pub counts : (a : ℕ) → a < length net.times → ended_in actors a + length (running_in actors a) ≡ started_in actors a
   pub few : (a : ℕ) → a < length net.times → started_in actors a ≤ 2 ^ 32
   pub level : IsLevel net (started_in actors) (ended_in actors) tokens
+
+-- n firings of an actor start at a moment, and no more can
+pub record StartsOne (net : Net) (a moment n : ℕ) (tokens left : List ℕ) (old new : ActorState) : Type 0 where
+  pub started : new.started ≡ old.started + n
+  pub ended : new.ended ≡ old.ended
+  pub calm : new.touched ≡ false
+  pub all : StartsAll net a moment old.started n tokens left old.running new.running
+
+-- with what has ended more firings can start than a bound
+abbrev pub CanOverrun : Net → (ℕ → ℕ) → ℕ → Type 0
+CanOverrun net e most = (m : ℕ → ℕ) × Able net e m × (most < sum_to m (length net.times))
+
+-- each firing that can starts at a moment, and no more can
+pub record StartedAll (net : Net) (moment : ℕ) (old new : List ActorState) : Type 0 where
+  pub ended : (b : ℕ) → ended_in new b ≡ ended_in old b
+  pub more : (b : ℕ) → b < length net.times → started_in old b ≤ started_in new b
+  pub ends : (b : ℕ) → b < length net.times → AddsEnds net b moment (started_in old b) (started_in new b - started_in old b) (running_in old b) (running_in new b)
+  pub lacks : (b : ℕ) → b < length net.times → Lacks net (ended_in old) b (started_in new b)
+  pub calm : (b : ℕ) → b < length net.times → touched_in new b ≡ false
+
+-- the number of all starts
+pub record Counted (actors : List ActorState) (all most : ℕ) : Type 0 where
+  pub total : all ≡ sum_by (λ (s : ActorState). s.started) actors
+  pub within : all ≤ most

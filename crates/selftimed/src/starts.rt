@@ -1,10 +1,14 @@
-ghost use Rattle.std.specs.Prelude.{◌≡◌, ◌+◌, ◌^◌, ◌<◌, ◌≤◌, length, IfOk, OnOk, MatchOption};
+ghost use Rattle.std.specs.Prelude.{◌≡◌, ℕ, ◌+◌, false, ◌^◌, ◌<◌, ◌≤◌, length, IfOk, OnOk, MatchBool, MatchOption};
+ghost use Rattle.std.specs.Bool.{OnTrue};
+ghost use Rattle.sd_base.specs.Schedules.{Lacks};
 ghost use Rattle.firing.specs.declared.sums.Port.TheVariants.{Taken};
-ghost use Rattle.firing.specs.Wiring.{IsListed, SufficesBefore};
+ghost use Rattle.firing.specs.Wiring.{IsListed, AreListed, LacksNow, SufficesBefore};
+ghost use Rattle.selftimed.specs.Actors.{started_in, ended_in, touched_in, Stand, Counted, StartsOne, StartedAll, CanOverrun};
 ghost use Rattle.selftimed.specs.Starts.{AddsEnds, Feeds, StartsAll, Overfills};
 
+use crate::actors::ActorState;
 use crate::running::Running;
-use firing::{Firing, first_lack, know_laws, take_tokens};
+use firing::{Firing, Wiring, first_lack, know_laws, take_tokens};
 use sd_base::NoMemory;
 
 /// Starts firings of an actor at a moment, from number `from` on, until a channel into it lacks tokens.
@@ -97,4 +101,75 @@ fn push_ends<F: Firing>(
         running.push(moment + net.time(actor, phase))?;
     }
     Ok(())
+}
+
+/// Starts the firings of the touched actors. False: more than `most` firings could have started in all;
+/// the actors and the tokens are then anything.
+pub(crate) fn start_all<F: Firing>(
+    net: &F,
+    wiring: &Wiring,
+    moment: u64,
+    most: u64,
+    all: &mut u64,
+    actors: &mut [ActorState],
+    tokens: &mut [u128],
+) -> Result<bool, NoMemory>
+    requires inputs { AreListed (F.net net.now) Taken wiring.now.inputs }
+    requires stand { Stand (F.net net.now) actors.old tokens.old }
+    requires counted { Counted actors.old all.old most }
+    requires lacks {
+        (b : ℕ) → b < length (F.net net.now).times → touched_in actors.old b ≡ false →
+        Lacks (F.net net.now) (ended_in actors.old) b (started_in actors.old b)
+    }
+    requires few { most ≤ 2 ^ 32 }
+    requires soon { moment ≤ 2 ^ 62 }
+    ensures started {
+        IfOk result (λ fits. MatchBool fits (StartedAll (F.net net.now) moment actors.old actors.new)
+        (CanOverrun (F.net net.now) (ended_in actors.old) most))
+    }
+    ensures stand { IfOk result (λ fits. OnTrue fits (Stand (F.net net.now) actors.new tokens.new)) }
+    ensures counted { IfOk result (λ fits. OnTrue fits (Counted actors.new all.new most)) }
+{
+    for actor in 0..net.actors() {
+        let inputs = wiring.inputs_of(actor);
+        match start_one(net, inputs, actor, moment, most - *all, &mut actors[actor as usize], tokens)? {
+            Some(firings) => *all += firings,
+            None => return Ok(false),
+        }
+    }
+    Ok(true)
+}
+
+/// Starts the firings of an actor if it is touched, and tells how many there are. None: more than `room`
+/// can start; the state and the tokens are then anything.
+fn start_one<F: Firing>(
+    net: &F,
+    inputs: &[u32],
+    actor: u32,
+    moment: u64,
+    room: u64,
+    state: &mut ActorState,
+    tokens: &mut [u128],
+) -> Result<Option<u64>, NoMemory>
+    requires actor { actor < length (F.net net.now).times }
+    requires listed { IsListed (F.net net.now) Taken actor inputs.now }
+    requires tokens { length tokens.old ≡ length (F.net net.now).channels }
+    requires few { state.old.started + room ≤ 2 ^ 32 }
+    requires soon { moment ≤ 2 ^ 62 }
+    requires lacks { state.old.touched ≡ false → (i : ℕ) × LacksNow (F.net net.now) tokens.old actor state.old.started i }
+    ensures {
+        IfOk result (λ o. MatchOption o (Overfills (F.net net.now) tokens.old actor state.old.started room)
+        (λ n. (n ≤ room) × StartsOne (F.net net.now) actor moment n tokens.old tokens.new state.old state.new))
+    }
+{
+    if !state.touched {
+        return Ok(Some(0));
+    }
+    state.touched = false;
+    let from = state.started;
+    let started = start_actor(net, inputs, actor, moment, from, room, tokens, &mut state.running)?;
+    if let Some(firings) = started {
+        state.started = from + firings;
+    }
+    Ok(started)
 }
