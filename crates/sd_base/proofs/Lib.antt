@@ -10,5 +10,6 @@ pub mod Liveness
 pub mod Ends
 pub mod Tight
 pub mod Wordings
+pub mod Events
 pub mod FileNets
 pub mod Traces

@@ -25,14 +25,14 @@ running_in actors a = (slice_index_or actors a idle).running
 abbrev pub touched_in : List ActorState → ℕ → Bool
 touched_in actors a = (slice_index_or actors a idle).touched
 
--- the earlier of a moment and the first end of an actor's firings
+-- the earlier of a moment and the first end of a list
+abbrev pub earlier : Option ℕ → List ℕ → Option ℕ
+earlier o [] = o
+earlier None (e ∷ es) = Some e
+earlier (Some t) (e ∷ es) = Some (min t e)
+
 abbrev pub earlier_end : Option ℕ → ActorState → Option ℕ
 earlier_end first s = earlier first s.running
-  where
-    earlier : Option ℕ → List ℕ → Option ℕ
-    earlier o [] = o
-    earlier None (e ∷ es) = Some e
-    earlier (Some t) (e ∷ es) = Some (min t e)
 
 -- the firings of an actor that ended by a moment are off its list, and the next one ends later
 pub record EndsOne (moment : ℕ) (old new : ActorState) : Type 0 where

@@ -1,3 +1,5 @@
 pub mod Queue
 pub mod Starts
 pub mod Actors
+pub mod Stands
+pub mod Moves

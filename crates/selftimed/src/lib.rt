@@ -3,5 +3,8 @@
 
 mod actors;
 mod ends;
+mod engine;
 mod running;
 mod starts;
+
+pub use engine::{Engine, Move, Stage};
