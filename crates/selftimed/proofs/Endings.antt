@@ -1,9 +1,9 @@
 -- Ends of firings, actor by actor.
-use Rattle.std.proofs.Common.{◌≡◌, ◌≢◌, ℕ, zero, suc, ◌+◌, ◌-◌, ◌*◌, ◌≤◌, ◌<◌, ◌^◌, Bool, true, false, List, [], ◌∷◌, length, set, drop, ⊎_elim, subst, sym, refl, ap, ◌∙◌, arith}
+use Rattle.std.proofs.Common.{◌≡◌, ◌≢◌, ℕ, ◌+◌, ◌-◌, ◌*◌, ◌≤◌, ◌<◌, ◌^◌, true, false, List, length, set, ⊎_elim, subst, sym, refl, ap, ◌∙◌, arith}
 use Rattle.std.specs.Prelude.{slice_index, slice_index_or}
-use Rattle.std.proofs.lemmas.Bool.{cases_lt, cases_eq, cases_order, false≢true}
+use Rattle.std.proofs.lemmas.Bool.{cases_lt, cases_eq, false≢true}
 use Rattle.std.proofs.lemmas.List.{length-set, get_or-set_same, get_or-set_other, length-drop}
-use Rattle.sd_base.specs.Net.{Net, channel_at, total}
+use Rattle.sd_base.specs.Net.{Net, channel_at}
 use Rattle.sd_base.specs.Lawful.{Lawful}
 use Rattle.firing.specs.declared.sums.Port.TheVariants.{Made}
 use Rattle.firing.specs.Wiring.{IsListed, PutsTokens, IsLevel}
@@ -30,8 +30,12 @@ touches-none net channels old = record { long = refl; started = λ b. refl; ende
 
 pub touches-all : (net : Net) (channels : List ℕ) (old new : List ActorState) (done : ℕ) → length channels ≤ done → TouchesSoFar net channels old new done → Touches net channels old new
 touches-all net channels old new done past so_far = record {
-  long = so_far.long; started = so_far.started; ended = so_far.ended; running = so_far.running; kept = so_far.kept;
-  there = λ j h. so_far.there j (omega arith)
+  long = so_far.long;
+  started = so_far.started;
+  ended = so_far.ended;
+  running = so_far.running;
+  kept = so_far.kept;
+  there = λ j h. so_far.there j (omega arith);
 }
 
 -- one more actor is touched
@@ -57,17 +61,17 @@ module _ (net : Net) (channels : List ℕ) (old now : List ActorState) (done t :
     running = λ b. keeps (λ (s : ActorState). s.running) refl b ∙ so_far.running b;
     kept = λ b off. ⊎_elim
         (λ (e : b ≡ t).
-          let yes : touched_in (set now t (record base { touched = true })) b ≡ true = rw e (ap (λ (s : ActorState). s.touched) here) in
-          absurd (false≢true (sym off ∙ yes)))
+        let yes : touched_in (set now t (record base { touched = true })) b ≡ true = rw e (ap (λ (s : ActorState). s.touched) here) in
+        absurd (false≢true (sym off ∙ yes)))
         (λ (away : b ≢ t). so_far.kept b (sym (ap (λ (s : ActorState). s.touched) (read b away)) ∙ off))
         (cases_eq b t);
     there = λ j h. ⊎_elim
         (λ (before : j < done). ⊎_elim
-          (λ (e : (channel_at net (slice_index channels j)).target ≡ t). rw e (ap (λ (s : ActorState). s.touched) here))
-          (λ (away : (channel_at net (slice_index channels j)).target ≢ t). ap (λ (s : ActorState). s.touched) (read (channel_at net (slice_index channels j)).target away) ∙ so_far.there j before)
-          (cases_eq (channel_at net (slice_index channels j)).target t))
+        (λ (e : (channel_at net (slice_index channels j)).target ≡ t). rw e (ap (λ (s : ActorState). s.touched) here))
+        (λ (away : (channel_at net (slice_index channels j)).target ≢ t). ap (λ (s : ActorState). s.touched) (read (channel_at net (slice_index channels j)).target away) ∙ so_far.there j before)
+        (cases_eq (channel_at net (slice_index channels j)).target t))
         (λ (now_one : done ≤ j). let same : j ≡ done = omega arith in rw (same, ← into) (ap (λ (s : ActorState). s.touched) here))
-        (cases_lt j done)
+        (cases_lt j done);
   }
 
 -- ---- ends of all actors
@@ -85,8 +89,13 @@ pub record EndsSoFar (net : Net) (moment : ℕ) (first now : List ActorState) (t
 
 pub ends-none : (net : Net) (moment : ℕ) (first : List ActorState) (tokens : List ℕ) → Stand net first tokens → EndsSoFar net moment first first tokens 0
 ends-none net moment first tokens stand = record {
-  long = refl; ones = λ b h. absurd (omega arith); started = λ b h. refl; ended = λ b h. refl; running = λ b h. refl; stand = stand;
-  touched = λ i place h. absurd (omega arith)
+  long = refl;
+  ones = λ b h. absurd (omega arith);
+  started = λ b h. refl;
+  ended = λ b h. refl;
+  running = λ b h. refl;
+  stand = stand;
+  touched = λ i place h. absurd (omega arith);
 }
 
 -- the same but for what is touched besides
@@ -111,7 +120,7 @@ ends_one-along moment old s t started ended running one = record {
   within = rw (← ended) one.within;
   rest = rw (← ended) (sym running ∙ one.rest);
   past = rw (← ended) one.past;
-  next = rw (← ended) one.next
+  next = rw (← ended) one.next;
 }
 
 module _ (net : Net) (moment : ℕ) (first now : List ActorState) (tokens left : List ℕ) (a : ℕ) (s : ActorState) (new : List ActorState) (actor : a < length net.times)
@@ -161,13 +170,13 @@ module _ (net : Net) (moment : ℕ) (first now : List ActorState) (tokens left :
     long = kept.long ∙ (length-set now a s ∙ so_far.stand.long);
     counts = λ b is. ⊎_elim
         (λ (e : b ≡ a).
-          let rest : length s.running ≡ length (running_in now a) - (s.ended - ended_in now a) = ap length one.rest ∙ length-drop (s.ended - ended_in now a) (running_in now a) in
-          let was : ended_in now a + length (running_in now a) ≡ started_in now a = so_far.stand.counts a actor in
-          rw (e, ended-here, running-here, started-here, one.started) (omega (arith, rest, one.within, one.later)))
+        let rest : length s.running ≡ length (running_in now a) - (s.ended - ended_in now a) = ap length one.rest ∙ length-drop (s.ended - ended_in now a) (running_in now a) in
+        let was : ended_in now a + length (running_in now a) ≡ started_in now a = so_far.stand.counts a actor in
+        rw (e, ended-here, running-here, started-here, one.started) (omega (arith, rest, one.within, one.later)))
         (λ (away : b ≢ a). rw (ended-other b away, running-other b away, started-other b away) (so_far.stand.counts b is))
         (cases_eq b a);
     few = λ b is. rw (started-all b) (so_far.stand.few b is);
-    level = level
+    level = level;
   }
 
   first-here : started_in first a ≡ started_in now a
@@ -187,7 +196,7 @@ module _ (net : Net) (moment : ℕ) (first now : List ActorState) (tokens left :
     touched = λ i there below off. ⊎_elim
         (λ (e : (channel_at net i).source ≡ a). rw e (ended-here ∙ (fed i there e off ∙ so_far.ended a (omega arith))))
         (λ (away : (channel_at net i).source ≢ a). ended-other (channel_at net i).source away ∙ so_far.touched i there (omega arith) (untouched (channel_at net i).target off))
-        (cases_eq (channel_at net i).source a)
+        (cases_eq (channel_at net i).source a);
   }
     where
       untouched : (b : ℕ) → touched_in new b ≡ false → touched_in now b ≡ false
@@ -195,6 +204,7 @@ module _ (net : Net) (moment : ℕ) (first now : List ActorState) (tokens left :
           (λ (e : b ≡ a). rw e (sym still ∙ (sym (ap (λ (x : ActorState). x.touched) mid-here) ∙ rw e at (kept.kept b off))))
           (λ (away : b ≢ a). sym (ap (λ (x : ActorState). x.touched) (mid-other b away)) ∙ kept.kept b off)
           (cases_eq b a)
+
       mine : EndsOne moment (slice_index_or first a idle) (slice_index_or new a idle)
       mine = record {
         started = started-here ∙ (one.started ∙ so_far.started a (omega arith));
@@ -202,14 +212,14 @@ module _ (net : Net) (moment : ℕ) (first now : List ActorState) (tokens left :
         within = rw (← so_far.ended a (omega arith), ended-here, ← so_far.running a (omega arith)) one.within;
         rest = rw (running-here, ended-here, ← so_far.ended a (omega arith), ← so_far.running a (omega arith)) one.rest;
         past = rw (ended-here, ← so_far.ended a (omega arith), ← so_far.running a (omega arith)) one.past;
-        next = rw (ended-here, ← so_far.ended a (omega arith), ← so_far.running a (omega arith)) one.next
+        next = rw (ended-here, ← so_far.ended a (omega arith), ← so_far.running a (omega arith)) one.next;
       }
 
 pub ends-all : (net : Net) (moment : ℕ) (first now : List ActorState) (tokens : List ℕ) (done : ℕ) → Lawful net → length net.times ≤ done → EndsSoFar net moment first now tokens done → EndsAll net moment first now
 ends-all net moment first now tokens done laws past so_far = record {
   long = so_far.long;
   each = λ b is. so_far.ones b (omega arith);
-  untouched = λ i there off. let source : (channel_at net i).source < length net.times = laws.sources i there in so_far.touched i there (omega arith) off
+  untouched = λ i there off. let source : (channel_at net i).source < length net.times = laws.sources i there in so_far.touched i there (omega arith) off;
 }
 
 -- tokens are few enough to add to
@@ -236,7 +246,7 @@ pub ends-step : (net : Net) (moment : ℕ) (first now : List ActorState) (tokens
     EndsSoFar net moment first new left (a + 1)
 ends-step net moment first now tokens left a base s new was actor so_far one still kept puts longer fed =
     ends-more net moment first now tokens left a s new actor so_far
-      (subst (λ (x : ActorState). EndsOne moment x s) was one)
-      (subst (λ (x : ActorState). s.touched ≡ x.touched) was still) kept
-      (subst (λ (x : ActorState). PutsTokens net a x.ended (s.ended - x.ended) tokens left) was puts) longer
-      (λ i there from off. subst (λ (x : ActorState). s.ended ≡ x.ended) was (fed i there from off))
+    (subst (λ (x : ActorState). EndsOne moment x s) was one)
+    (subst (λ (x : ActorState). s.touched ≡ x.touched) was still) kept
+    (subst (λ (x : ActorState). PutsTokens net a x.ended (s.ended - x.ended) tokens left) was puts) longer
+    (λ i there from off. subst (λ (x : ActorState). s.ended ≡ x.ended) was (fed i there from off))

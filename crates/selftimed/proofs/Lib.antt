@@ -2,3 +2,5 @@ pub mod Shifts
 pub mod Batches
 pub mod Endings
 pub mod Starting
+pub mod Moving
+pub mod Beginning

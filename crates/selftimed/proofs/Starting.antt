@@ -2,7 +2,7 @@
 use Rattle.std.proofs.Common.{◌≡◌, ◌≢◌, ℕ, zero, suc, ◌+◌, ◌-◌, ◌≤◌, ◌<◌, ◌^◌, Bool, true, false, List, [], ◌∷◌, length, set, take, ⊎_elim, subst, sym, refl, ap, ◌∙◌, arith}
 use Rattle.std.specs.Prelude.{slice_index, slice_index_or, if◌then◌else◌, ◌==◌}
 use Rattle.std.specs.List.{sum_by}
-use Rattle.std.proofs.lemmas.Bool.{cases_lt, cases_eq}
+use Rattle.std.proofs.lemmas.Bool.{cases_eq}
 use Rattle.std.proofs.lemmas.List.{length-set, get_or-set_same, get_or-set_other, take_all}
 use Rattle.std.proofs.lemmas.List.Sums.{sum_by-set, sum_by_more, get_or-le-sum_by}
 use Rattle.sd_base.specs.Net.{Net, channel_at, phase_entry, total}
@@ -10,12 +10,11 @@ use Rattle.sd_base.specs.Schedules.{Needs, Lacks}
 use Rattle.sd_base.proofs.Sums.{total-more}
 use Rattle.sd_base.proofs.Steps.{Able}
 use Rattle.sd_base.proofs.Ends.{sum_to}
-use Rattle.firing.specs.Wiring.{LacksNow, TakesTokens, IsLevel}
+use Rattle.firing.specs.Wiring.{LacksNow, IsLevel}
 use Rattle.firing.proofs.TokenMoves.{MoreBy, level-takes, level-needs}
-use Rattle.selftimed.specs.Starts.{AddsEnds, Feeds, StartsAll, Overfills}
+use Rattle.selftimed.specs.Starts.{AddsEnds, Overfills}
 use Rattle.selftimed.specs.declared.actors.ActorState.{ActorState}
 use Rattle.selftimed.specs.Actors.{idle, started_in, ended_in, running_in, touched_in, Stand, Counted, StartsOne, StartedAll, CanOverrun}
-use Rattle.selftimed.proofs.Batches.{adds-none}
 
 -- ---- sums over actors
 
@@ -30,7 +29,7 @@ sum_to-take actors (suc n) within =
 pub sum_to-all : (actors : List ActorState) (n : ℕ) → length actors ≡ n → sum_to (started_in actors) n ≡ sum_by (λ (s : ActorState). s.started) actors
 sum_to-all actors n long = sum_to-take actors n (omega arith) ∙ ap (sum_by (λ (s : ActorState). s.started)) (take_all n actors (omega arith))
 
-sum_to-same : (f g : ℕ → ℕ) (n : ℕ) → ((b : ℕ) → b < n → g b ≡ f b) → sum_to g n ≡ sum_to f n
+pub sum_to-same : (f g : ℕ → ℕ) (n : ℕ) → ((b : ℕ) → b < n → g b ≡ f b) → sum_to g n ≡ sum_to f n
 unfolding sum_to
 sum_to-same f g zero same = refl
 sum_to-same f g (suc n) same = omega (arith, sum_to-same f g n (λ b h. same b (omega arith)), same n (omega arith))
@@ -43,7 +42,7 @@ sum_to-more f g (suc n) a k below here others = ⊎_elim
     (λ (away : n ≢ a). omega (arith, sum_to-more f g n a k (omega arith) here others, others n away))
     (cases_eq n a)
 
-started-le : (actors : List ActorState) (all most b : ℕ) → Counted actors all most → b < length actors → started_in actors b ≤ all
+pub started-le : (actors : List ActorState) (all most b : ℕ) → Counted actors all most → b < length actors → started_in actors b ≤ all
 started-le actors all most b counted place = omega (arith, counted.total, get_or-le-sum_by (λ (s : ActorState). s.started) actors b idle place)
 
 -- ---- what lacks
@@ -74,13 +73,26 @@ pub record StartsSoFar (net : Net) (moment : ℕ) (first now : List ActorState) 
 
 pub starts-none : (net : Net) (moment : ℕ) (first : List ActorState) (tokens : List ℕ) (all most : ℕ) → Stand net first tokens → Counted first all most → StartsSoFar net moment first first tokens all most 0
 starts-none net moment first tokens all most stand counted = record {
-  long = refl; ended = λ b. refl; more = λ b h. absurd (omega arith); ends = λ b h. absurd (omega arith); lacks = λ b h. absurd (omega arith); calm = λ b h. absurd (omega arith);
-  started = λ b h. refl; running = λ b h. refl; touched = λ b h. refl; stand = stand; counted = counted
+  long = refl;
+  ended = λ b. refl;
+  more = λ b h. absurd (omega arith);
+  ends = λ b h. absurd (omega arith);
+  lacks = λ b h. absurd (omega arith);
+  calm = λ b h. absurd (omega arith);
+  started = λ b h. refl;
+  running = λ b h. refl;
+  touched = λ b h. refl;
+  stand = stand;
+  counted = counted;
 }
 
 pub starts-all : (net : Net) (moment : ℕ) (first now : List ActorState) (tokens : List ℕ) (all most done : ℕ) → length net.times ≤ done → StartsSoFar net moment first now tokens all most done → StartedAll net moment first now
 starts-all net moment first now tokens all most done past so_far = record {
-  ended = so_far.ended; more = λ b h. so_far.more b (omega arith); ends = λ b h. so_far.ends b (omega arith); lacks = λ b h. so_far.lacks b (omega arith); calm = λ b h. so_far.calm b (omega arith)
+  ended = so_far.ended;
+  more = λ b h. so_far.more b (omega arith);
+  ends = λ b h. so_far.ends b (omega arith);
+  lacks = λ b h. so_far.lacks b (omega arith);
+  calm = λ b h. so_far.calm b (omega arith);
 }
 
 module _ (net : Net) (moment : ℕ) (first now : List ActorState) (tokens : List ℕ) (all most a : ℕ) (actor : a < length net.times) (few : most ≤ 2 ^ 32) (so_far : StartsSoFar net moment first now tokens all most a) where
@@ -134,9 +146,9 @@ module _ (net : Net) (moment : ℕ) (first now : List ActorState) (tokens : List
     counted : Counted (set now a s) (all + n) most
     counted = record {
       total =
-        let sums : sum_by (λ (x : ActorState). x.started) (set now a s) + started_in now a ≡ sum_by (λ (x : ActorState). x.started) now + s.started = sum_by-set (λ (x : ActorState). x.started) now a s idle place in
-        omega (arith, so_far.counted.total, one.started);
-      within = omega (arith, so_far.counted.within)
+          let sums : sum_by (λ (x : ActorState). x.started) (set now a s) + started_in now a ≡ sum_by (λ (x : ActorState). x.started) now + s.started = sum_by-set (λ (x : ActorState). x.started) now a s idle place in
+          omega (arith, so_far.counted.total, one.started);
+      within = omega (arith, so_far.counted.within);
     }
 
     stand : Stand net (set now a s) left
@@ -144,15 +156,15 @@ module _ (net : Net) (moment : ℕ) (first now : List ActorState) (tokens : List
       long = length-set now a s ∙ so_far.stand.long;
       counts = λ b is. ⊎_elim
           (λ (e : b ≡ a).
-            let long : length s.running ≡ length (running_in now a) + n = one.all.ends.long in
-            let was : ended_in now a + length (running_in now a) ≡ started_in now a = so_far.stand.counts a actor in
-            rw (e, ended-all a, running-here, started-here) (omega arith))
+          let long : length s.running ≡ length (running_in now a) + n = one.all.ends.long in
+          let was : ended_in now a + length (running_in now a) ≡ started_in now a = so_far.stand.counts a actor in
+          rw (e, ended-all a, running-here, started-here) (omega arith))
           (λ (away : b ≢ a). rw (ended-all b, running-other b away, started-other b away) (so_far.stand.counts b is))
           (cases_eq b a);
       few = λ b is.
-        let there : b < length (set now a s) = omega (arith, length-set now a s, so_far.stand.long) in
-        omega (arith, started-le (set now a s) (all + n) most b counted there, counted.within);
-      level = level
+          let there : b < length (set now a s) = omega (arith, length-set now a s, so_far.stand.long) in
+          omega (arith, started-le (set now a s) (all + n) most b counted there, counted.within);
+      level = level;
     }
 
     lack-here : Lacks net (ended_in first) a (started_in (set now a s) a)
@@ -160,7 +172,7 @@ module _ (net : Net) (moment : ℕ) (first now : List ActorState) (tokens : List
         let found = one.all.lacks in
         let short : LacksNow net left a (started_in (set now a s) a) found.0 = rw started-here found.1 in
         let need : Needs (channel_at net found.0) (started_in (set now a s) a) (ended_in (set now a s) (channel_at net found.0).source) =
-            level-needs net (started_in (set now a s)) (ended_in (set now a s)) left a found.0 level short in
+        level-needs net (started_in (set now a s)) (ended_in (set now a s)) left a found.0 level short in
         (found.0, short.place, short.into, rw (ended-all (channel_at net found.0).source ∙ so_far.ended (channel_at net found.0).source) at need)
 
     pub starts-more : StartsSoFar net moment first (set now a s) left (all + n) most (a + 1)
@@ -187,7 +199,7 @@ module _ (net : Net) (moment : ℕ) (first now : List ActorState) (tokens : List
       running = λ b above. running-other b (λ e. absurd (omega arith)) ∙ so_far.running b (omega arith);
       touched = λ b above. touched-other b (λ e. absurd (omega arith)) ∙ so_far.touched b (omega arith);
       stand = stand;
-      counted = counted
+      counted = counted;
     }
       where
         ends-here : AddsEnds net a moment (started_in first a) (started_in (set now a s) a - started_in first a) (running_in first a) (running_in (set now a s) a)
@@ -201,21 +213,27 @@ module _ (net : Net) (moment : ℕ) (first now : List ActorState) (tokens : List
     where
       m : ℕ → ℕ
       m b = if b == a then started_in now b + over.0 else started_in now b
+
       m-here : m a ≡ started_in now a + over.0
       m-here = rw (Rattle.std.proofs.Common.eq-eqb a a refl) refl
+
       m-other : (b : ℕ) → b ≢ a → m b ≡ started_in now b
       m-other b away = rw (Rattle.std.proofs.Common.ne_eqb b a away) refl
+
       able : Able net (ended_in first) m
-      able = record { enough = λ i there. rw (← so_far.ended (channel_at net i).source) (⊎_elim
-          (λ (into : (channel_at net i).target ≡ a).
+      able = record {
+        enough = λ i there. rw (← so_far.ended (channel_at net i).source) (⊎_elim
+            (λ (into : (channel_at net i).target ≡ a).
             let feeds : total (channel_at net i).taken (started_in now a + over.0) ≤ slice_index tokens i + total (channel_at net i).taken (started_in now a) = over.2 i there into in
             let was : slice_index tokens i + total (channel_at net i).taken (started_in now (channel_at net i).target) ≡ (channel_at net i).tokens + total (channel_at net i).made (ended_in now (channel_at net i).source) = so_far.stand.level.each i there in
             let at_a : slice_index tokens i + total (channel_at net i).taken (started_in now a) ≡ (channel_at net i).tokens + total (channel_at net i).made (ended_in now (channel_at net i).source) = rw into at was in
             rw (into, m-here) (omega arith))
-          (λ (away : (channel_at net i).target ≢ a).
+            (λ (away : (channel_at net i).target ≢ a).
             let was : slice_index tokens i + total (channel_at net i).taken (started_in now (channel_at net i).target) ≡ (channel_at net i).tokens + total (channel_at net i).made (ended_in now (channel_at net i).source) = so_far.stand.level.each i there in
             rw (m-other (channel_at net i).target away) (omega arith))
-          (cases_eq (channel_at net i).target a)) }
+            (cases_eq (channel_at net i).target a));
+      }
+
       much : most < sum_to m (length net.times)
       much =
           let sums : sum_to m (length net.times) ≡ sum_to (started_in now) (length net.times) + over.0 = sum_to-more (started_in now) m (length net.times) a over.0 actor m-here m-other in

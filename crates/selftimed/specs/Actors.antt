@@ -6,7 +6,7 @@ use Rattle.sd_base.specs.Schedules.{Lacks}
 use Rattle.sd_base.proofs.Steps.{Able}
 use Rattle.sd_base.proofs.Ends.{sum_to}
 use Rattle.selftimed.specs.Starts.{AddsEnds, StartsAll}
-use Rattle.firing.specs.Wiring.{PutsTokens, IsLevel}
+use Rattle.firing.specs.Wiring.{IsLevel}
 use Rattle.selftimed.specs.declared.actors.ActorState.{ActorState}
 
 -- what stands for an actor past the last one

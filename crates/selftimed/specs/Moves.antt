@@ -1,5 +1,5 @@
 -- What a step of an engine does.
-use Rattle.std.specs.Prelude.{◌≡◌, ℕ, ◌+◌, ◌≤◌, ◌<◌, ◌⊎◌, List, length, map, sum}
+use Rattle.std.specs.Prelude.{◌≡◌, ℕ, ◌+◌, ◌≤◌, ◌<◌, ◌⊎◌, length, map, sum}
 use Rattle.sd_base.specs.Net.{Net}
 use Rattle.sd_base.specs.Schedules.{Schedule, Lacks, HasInputs, Earliest, count_of}
 use Rattle.sd_base.specs.SelfTimed.{ended_by, earliest, IsEvent, starts_by}

@@ -1,8 +1,8 @@
 -- Where an execution stands against the earliest schedule.
-use Rattle.std.specs.Prelude.{◌≡◌, ℕ, suc, ◌+◌, ◌*◌, ◌≤◌, ◌<◌, Bool, true, false, List, length, slice_index, ◌==◌}
+use Rattle.std.specs.Prelude.{◌≡◌, ℕ, suc, ◌+◌, ◌*◌, ◌≤◌, ◌<◌, true, false, List, length, slice_index, ◌==◌}
 use Rattle.std.specs.List.{list_any}
 use Rattle.sd_base.specs.Net.{Channel, Net}
-use Rattle.sd_base.specs.Schedules.{count_of, end_of}
+use Rattle.sd_base.specs.Schedules.{Lacks, count_of, end_of}
 use Rattle.sd_base.specs.SelfTimed.{allows, ended_by, earliest, is_event}
 use Rattle.sd_base.proofs.Ends.{sum_to}
 use Rattle.selftimed.specs.declared.actors.ActorState.{ActorState}
@@ -27,3 +27,9 @@ pub record Stands (net : Net) (moment most : ℕ) (actors : List ActorState) (to
   pub calm : (a : ℕ) → a < length net.times → touched_in actors a ≡ false
   pub clock : moment ≤ 1000000000 * sum_to (ended_in actors) (length net.times)
   pub event : is_event net moment ≡ true
+
+-- the starts of moment 0 are made: the execution stands at 0, or nothing can start
+pub record Begins (net : Net) (most : ℕ) (actors : List ActorState) (tokens : List ℕ) (all : ℕ) : Type 0 where
+  pub stands : Stands net 0 most actors tokens all
+  pub again : all ≡ 0 → IsFresh net most actors tokens all
+  pub stuck : all ≡ 0 → (a : ℕ) → a < length net.times → Lacks net (λ b. 0) a 0

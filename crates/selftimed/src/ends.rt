@@ -7,7 +7,13 @@ use crate::actors::{ActorState, ended_by};
 use firing::{Firing, Wiring, put_tokens};
 
 /// Ends the firings whose end has come, and touches the actors whose channels gain tokens.
-pub(crate) fn end_all<F: Firing>(net: &F, wiring: &Wiring, moment: u64, actors: &mut [ActorState], tokens: &mut [u128])
+pub(crate) fn end_all<F: Firing>(
+    net: &F,
+    wiring: &Wiring,
+    moment: u64,
+    actors: &mut [ActorState],
+    tokens: &mut [u128],
+)
     requires outputs { AreListed (F.net net.now) Made wiring.now.outputs }
     requires stand { Stand (F.net net.now) actors.old tokens.old }
     ensures ended { EndsAll (F.net net.now) moment actors.old actors.new }
@@ -15,7 +21,14 @@ pub(crate) fn end_all<F: Firing>(net: &F, wiring: &Wiring, moment: u64, actors: 
 {
     for actor in 0..net.actors() {
         let outputs = wiring.outputs_of(actor);
-        let ended = end_actor(net, outputs, actor, moment, &mut actors[actor as usize], tokens);
+        let ended = end_actor(
+            net,
+            outputs,
+            actor,
+            moment,
+            &mut actors[actor as usize],
+            tokens,
+        );
         if ended {
             touch_targets(net, outputs, actors);
         }
@@ -23,7 +36,14 @@ pub(crate) fn end_all<F: Firing>(net: &F, wiring: &Wiring, moment: u64, actors: 
 }
 
 /// Ends the firings of an actor whose end has come, and tells whether there were any.
-fn end_actor<F: Firing>(net: &F, outputs: &[u32], actor: u32, moment: u64, state: &mut ActorState, tokens: &mut [u128]) -> bool
+fn end_actor<F: Firing>(
+    net: &F,
+    outputs: &[u32],
+    actor: u32,
+    moment: u64,
+    state: &mut ActorState,
+    tokens: &mut [u128],
+) -> bool
     requires actor { actor < length (F.net net.now).times }
     requires listed { IsListed (F.net net.now) Made actor outputs.now }
     requires tokens { length tokens.old ≡ length (F.net net.now).channels }

@@ -6,5 +6,6 @@ mod ends;
 mod engine;
 mod running;
 mod starts;
+mod steps;
 
 pub use engine::{Engine, Move, Stage};

@@ -117,22 +117,26 @@ pub(crate) fn start_all<F: Firing>(
     requires inputs { AreListed (F.net net.now) Taken wiring.now.inputs }
     requires stand { Stand (F.net net.now) actors.old tokens.old }
     requires counted { Counted actors.old all.old most }
-    requires lacks {
-        (b : ℕ) → b < length (F.net net.now).times → touched_in actors.old b ≡ false →
-        Lacks (F.net net.now) (ended_in actors.old) b (started_in actors.old b)
-    }
+    requires lacks { (b : ℕ) → b < length (F.net net.now).times → touched_in actors.old b ≡ false →
+        Lacks (F.net net.now) (ended_in actors.old) b (started_in actors.old b) }
     requires few { most ≤ 2 ^ 32 }
     requires soon { moment ≤ 2 ^ 62 }
-    ensures started {
-        IfOk result (λ fits. MatchBool fits (StartedAll (F.net net.now) moment actors.old actors.new)
-        (CanOverrun (F.net net.now) (ended_in actors.old) most))
-    }
+    ensures started { IfOk result (λ fits. MatchBool fits (StartedAll (F.net net.now) moment actors.old actors.new)
+        (CanOverrun (F.net net.now) (ended_in actors.old) most)) }
     ensures stand { IfOk result (λ fits. OnTrue fits (Stand (F.net net.now) actors.new tokens.new)) }
     ensures counted { IfOk result (λ fits. OnTrue fits (Counted actors.new all.new most)) }
 {
     for actor in 0..net.actors() {
         let inputs = wiring.inputs_of(actor);
-        match start_one(net, inputs, actor, moment, most - *all, &mut actors[actor as usize], tokens)? {
+        match start_one(
+            net,
+            inputs,
+            actor,
+            moment,
+            most - *all,
+            &mut actors[actor as usize],
+            tokens,
+        )? {
             Some(firings) => *all += firings,
             None => return Ok(false),
         }
@@ -157,17 +161,24 @@ fn start_one<F: Firing>(
     requires few { state.old.started + room ≤ 2 ^ 32 }
     requires soon { moment ≤ 2 ^ 62 }
     requires lacks { state.old.touched ≡ false → (i : ℕ) × LacksNow (F.net net.now) tokens.old actor state.old.started i }
-    ensures {
-        IfOk result (λ o. MatchOption o (Overfills (F.net net.now) tokens.old actor state.old.started room)
-        (λ n. (n ≤ room) × StartsOne (F.net net.now) actor moment n tokens.old tokens.new state.old state.new))
-    }
+    ensures { IfOk result (λ o. MatchOption o (Overfills (F.net net.now) tokens.old actor state.old.started room)
+        (λ n. (n ≤ room) × StartsOne (F.net net.now) actor moment n tokens.old tokens.new state.old state.new)) }
 {
     if !state.touched {
         return Ok(Some(0));
     }
     state.touched = false;
     let from = state.started;
-    let started = start_actor(net, inputs, actor, moment, from, room, tokens, &mut state.running)?;
+    let started = start_actor(
+        net,
+        inputs,
+        actor,
+        moment,
+        from,
+        room,
+        tokens,
+        &mut state.running,
+    )?;
     if let Some(firings) = started {
         state.started = from + firings;
     }

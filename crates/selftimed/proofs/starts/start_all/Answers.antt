@@ -1,7 +1,5 @@
-use Rattle.std.proofs.Common.{◌≡◌, ℕ, ◌-◌, ◌<◌, length, subst, ap, sym, ◌∙◌, arith}
-use Rattle.std.specs.Prelude.{slice_index_or}
+use Rattle.std.proofs.Common.{◌-◌, ◌<◌, length, subst, arith}
 use Rattle.std.proofs.lemmas.List.{get_or_default}
-use Rattle.firing.specs.Wiring.{LacksNow}
 use Rattle.selftimed.specs.Starts.{Overfills}
 use Rattle.selftimed.specs.declared.actors.ActorState.{ActorState}
 use Rattle.selftimed.specs.Actors.{idle, StartsOne}
@@ -21,7 +19,7 @@ returns-in-None-clause-started g c =
     let place : c.loop-actor.actor < length c.loop-actor.actors = omega (arith, c.loop-actor.invariant.stand.long) in
     let was = get_or_default c.loop-actor.actors c.loop-actor.actor c.index-actors-actor.result idle place in
     starts-over (g.F.Firing.net c.args.net.now) c.args.moment c.args.actors.now c.loop-actor.actors c.loop-actor.tokens c.loop-actor.all c.args.most c.loop-actor.actor actor c.requires.few c.loop-actor.invariant
-      (subst (λ (x : ActorState). Overfills (g.F.Firing.net c.args.net.now) c.loop-actor.tokens c.loop-actor.actor x.started (c.args.most - c.loop-actor.all)) was (rw c.in-None.is at c.in_ok-firings.ensures))
+    (subst (λ (x : ActorState). Overfills (g.F.Firing.net c.args.net.now) c.loop-actor.tokens c.loop-actor.actor x.started (c.args.most - c.loop-actor.all)) was (rw c.in-None.is at c.in_ok-firings.ensures))
 
 pub loop-actor-preserved : goal.loop-actor-preserved
 loop-actor-preserved g c =
@@ -30,5 +28,5 @@ loop-actor-preserved g c =
     let was = get_or_default c.loop-actor.actors c.loop-actor.actor c.index-actors-actor.result idle place in
     let done = rw c.in-Some.is at c.in_ok-firings.ensures in
     starts-more (g.F.Firing.net c.args.net.now) c.args.moment c.args.actors.now c.loop-actor.actors c.loop-actor.tokens c.loop-actor.all c.args.most c.loop-actor.actor actor c.requires.few c.loop-actor.invariant
-      c.start_one.new.tokens c.start_one.new.state c.in-Some.firings done.0
-      (subst (λ (x : ActorState). StartsOne (g.F.Firing.net c.args.net.now) c.loop-actor.actor c.args.moment c.in-Some.firings c.loop-actor.tokens c.start_one.new.tokens x c.start_one.new.state) was done.1) c.start_one.auto.tokens
+    c.start_one.new.tokens c.start_one.new.state c.in-Some.firings done.0
+    (subst (λ (x : ActorState). StartsOne (g.F.Firing.net c.args.net.now) c.loop-actor.actor c.args.moment c.in-Some.firings c.loop-actor.tokens c.start_one.new.tokens x c.start_one.new.state) was done.1) c.start_one.auto.tokens
