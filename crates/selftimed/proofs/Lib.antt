@@ -4,3 +4,4 @@ pub mod Endings
 pub mod Starting
 pub mod Moving
 pub mod Beginning
+pub mod Advancing

@@ -13,6 +13,10 @@ use Rattle.selftimed.specs.declared.actors.ActorState.{ActorState}
 abbrev pub idle : ActorState
 idle = record { started = 0; ended = 0; running = []; touched = false }
 
+-- an actor of which nothing has started, to be looked at
+abbrev pub fresh_one : ActorState
+fresh_one = record { started = 0; ended = 0; running = []; touched = true }
+
 abbrev pub started_in : List ActorState → ℕ → ℕ
 started_in actors a = (slice_index_or actors a idle).started
 

@@ -1,7 +1,9 @@
-ghost use Rattle.std.specs.Prelude.{◌≡◌, ℕ, ◌<◌, ◌≤◌, None, fold, length, slice_index};
-ghost use Rattle.selftimed.specs.Actors.{earlier_end};
+ghost use Rattle.std.specs.Prelude.{◌≡◌, ℕ, ◌<◌, ◌≤◌, None, fold, IfOk, length, replicate, slice_index};
+ghost use Rattle.selftimed.specs.Actors.{earlier_end, fresh_one};
 
 use crate::running::Running;
+use sd_base::NoMemory;
+use std::alloc::Global;
 
 /// Where an actor stands: how many of its firings have started and ended, the ends of those between, and
 /// whether a channel into it has gained tokens since its last starts.
@@ -11,6 +13,22 @@ pub(crate) struct ActorState {
     pub(crate) ended: u64,
     pub(crate) running: Running,
     pub(crate) touched: bool,
+}
+
+/// Actors of which nothing has started, all to be looked at.
+pub(crate) fn new_actors(alloc: Global, count: u32) -> Result<Vec<ActorState>, NoMemory>
+    ensures { IfOk result (λ v. v.items ≡ replicate count fresh_one) }
+{
+    let mut actors = Vec::new(alloc);
+    for _actor in 0..count {
+        actors.push(ActorState {
+            started: 0,
+            ended: 0,
+            running: Running::new(alloc),
+            touched: true,
+        })?;
+    }
+    Ok(actors)
 }
 
 /// The first moment at which a running firing ends.

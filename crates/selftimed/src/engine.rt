@@ -1,13 +1,15 @@
 ghost use Rattle.std.specs.Prelude.{◌≡◌, ℕ, ◌+◌, ◌^◌, ◌<◌, ◌≤◌, length, IfOk, IfErr};
 ghost use Rattle.sd_base.specs.Schedules.{count_of};
 ghost use Rattle.sd_base.specs.SelfTimed.{earliest};
+ghost use Rattle.selftimed.specs.Moves.{IsMove};
 ghost use Rattle.firing.specs.declared.sums.Port.TheVariants.{Made, Taken};
 ghost use Rattle.firing.specs.Wiring.{AreListed};
 ghost use Rattle.selftimed.specs.declared.engine.Stage.{Stage};
 ghost use Rattle.selftimed.specs.Stands.{IsFresh, Stands};
 
-use crate::actors::ActorState;
-use firing::{Firing, Wiring};
+use crate::actors::{ActorState, new_actors, next_end};
+use crate::steps::{begin, step_to};
+use firing::{Firing, Wiring, initial_tokens};
 use sd_base::NoMemory;
 use std::alloc::Global;
 
@@ -53,4 +55,84 @@ pub struct Engine<'a, F: Firing> {
     ghost outputs: { AreListed (F.net net.now) Made wiring.outputs },
     ghost fresh: { stage ≡ Stage.Fresh → IsFresh (F.net net.now) most actors.items tokens.items all },
     ghost stands: { stage ≡ Stage.Running → Stands (F.net net.now) moment most actors.items tokens.items all },
+}
+
+impl<'a, F: Firing> Engine<'a, F> {
+    pub fn new(alloc: Global, net: &'a F, most: u64) -> Result<Engine<'a, F>, NoMemory>
+        requires { most ≤ 2 ^ 32 }
+        ensures net { IfOk result (λ e. e.net.now ≡ net.now) }
+        ensures stage { IfOk result (λ e. e.stage ≡ Stage.Fresh) }
+        ensures most { IfOk result (λ e. e.most ≡ most) }
+    {
+        let wiring = Wiring::new(alloc, net)?;
+        let actors = new_actors(alloc, net.actors())?;
+        let tokens = initial_tokens(alloc, net)?;
+        Ok(Engine {
+            net,
+            stage: Stage::Fresh,
+            moment: 0,
+            most,
+            wiring,
+            all: 0,
+            actors,
+            tokens,
+        })
+    }
+
+    /// Goes to the next event and makes its starts.
+    pub fn advance(&mut self) -> Result<Move, NoMemory>
+        ensures net { self.new.net ≡ self.old.net }
+        ensures most { self.new.most ≡ self.old.most }
+        ensures moved { IfOk result (λ move. IsMove (F.net self.old.net.now) self.old.most self.old.stage self.old.moment move self.new.stage self.new.moment) }
+        ensures lost { IfErr result (λ e. self.new.stage ≡ Stage.OutOfMemory) }
+    {
+        match self.stage {
+            Stage::Fresh => {
+                self.stage = Stage::OutOfMemory;
+                let fits = begin(
+                    self.net,
+                    &self.wiring,
+                    self.most,
+                    &mut self.all,
+                    &mut self.actors,
+                    &mut self.tokens,
+                )?;
+                if !fits {
+                    self.stage = Stage::Spent;
+                    return Ok(Move::Spent);
+                }
+                if self.all == 0 {
+                    self.stage = Stage::Fresh;
+                    return Ok(Move::Stuck);
+                }
+                self.moment = 0;
+                self.stage = Stage::Running;
+                Ok(Move::Stepped)
+            }
+            Stage::Running => {
+                let Some(moment) = next_end(self.actors.as_slice()) else {
+                    return Ok(Move::Stuck);
+                };
+                self.stage = Stage::OutOfMemory;
+                let fits = step_to(
+                    self.net,
+                    &self.wiring,
+                    moment,
+                    self.most,
+                    &mut self.all,
+                    &mut self.actors,
+                    &mut self.tokens,
+                )?;
+                if !fits {
+                    self.stage = Stage::Spent;
+                    return Ok(Move::Spent);
+                }
+                self.moment = moment;
+                self.stage = Stage::Running;
+                Ok(Move::Stepped)
+            }
+            Stage::Spent => Ok(Move::Spent),
+            Stage::OutOfMemory => Err(NoMemory),
+        }
+    }
 }
