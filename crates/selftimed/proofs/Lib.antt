@@ -5,3 +5,5 @@ pub mod Starting
 pub mod Moving
 pub mod Beginning
 pub mod Advancing
+pub mod Shaping
+pub mod Standing

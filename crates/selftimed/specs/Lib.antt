@@ -2,4 +2,5 @@ pub mod Queue
 pub mod Starts
 pub mod Actors
 pub mod Stands
+pub mod Shapes
 pub mod Moves

@@ -1,6 +1,7 @@
-ghost use Rattle.std.specs.Prelude.{◌≡◌, ℕ, ◌+◌, ◌^◌, ◌<◌, ◌≤◌, length, IfOk, IfErr};
+ghost use Rattle.std.specs.Prelude.{◌≡◌, ◌↔◌, IsTrue, ℕ, ◌+◌, ◌^◌, ◌<◌, ◌≤◌, length, IfOk, IfErr};
 ghost use Rattle.sd_base.specs.Schedules.{count_of};
-ghost use Rattle.sd_base.specs.SelfTimed.{earliest};
+ghost use Rattle.sd_base.specs.SelfTimed.{earliest, shape_at};
+ghost use Rattle.selftimed.specs.Shapes.{form};
 ghost use Rattle.selftimed.specs.Moves.{IsMove};
 ghost use Rattle.firing.specs.declared.sums.Port.TheVariants.{Made, Taken};
 ghost use Rattle.firing.specs.Wiring.{AreListed};
@@ -8,6 +9,9 @@ ghost use Rattle.selftimed.specs.declared.engine.Stage.{Stage};
 ghost use Rattle.selftimed.specs.Stands.{IsFresh, Stands};
 
 use crate::actors::{ActorState, new_actors, next_end};
+use crate::shape::{
+    Shape, phases_of, remaining_of, same_phases, same_remaining, same_tokens, tokens_of,
+};
 use crate::steps::{begin, step_to};
 use firing::{Firing, Wiring, initial_tokens};
 use sd_base::NoMemory;
@@ -134,5 +138,56 @@ impl<'a, F: Firing> Engine<'a, F> {
             Stage::Spent => Ok(Move::Spent),
             Stage::OutOfMemory => Err(NoMemory),
         }
+    }
+}
+
+impl<'a, F: Firing> Engine<'a, F> {
+    /// How many firings of an actor have started.
+    pub fn started(&self, actor: u32) -> u64
+        requires { actor < length (F.net self.now.net.now).times }
+        ensures fresh { self.now.stage ≡ Stage.Fresh → result ≡ 0 }
+        ensures running { self.now.stage ≡ Stage.Running → result ≡ count_of (earliest (F.net self.now.net.now) (self.now.moment + 1)) actor }
+    {
+        match self.actors.as_slice().get(actor as usize) {
+            Some(state) => state.started,
+            None => 0,
+        }
+    }
+
+    /// The moment of the last event.
+    pub fn moment(&self) -> u64
+        ensures { result ≡ self.now.moment }
+    {
+        self.moment
+    }
+
+    /// What stands after the starts of the last event.
+    pub fn shape(&self, alloc: Global) -> Result<Shape, NoMemory>
+        requires { self.now.stage ≡ Stage.Running }
+        ensures { IfOk result (λ shape. form shape ≡ shape_at (F.net self.now.net.now) self.now.moment) }
+    {
+        Ok(Shape {
+            tokens: tokens_of(alloc, self.tokens.as_slice())?,
+            phases: phases_of(alloc, self.net, self.actors.as_slice())?,
+            remaining: remaining_of(alloc, self.moment, self.actors.as_slice())?,
+        })
+    }
+
+    /// Whether a shape is what stands after the starts of the last event.
+    pub fn same_shape(&self, other: &Shape) -> bool
+        requires { self.now.stage ≡ Stage.Running }
+        ensures { IsTrue result ↔ (shape_at (F.net self.now.net.now) self.now.moment ≡ form other.now) }
+    {
+        if !same_tokens(self.tokens.as_slice(), other.tokens.as_slice()) {
+            return false;
+        }
+        if !same_phases(self.net, self.actors.as_slice(), other.phases.as_slice()) {
+            return false;
+        }
+        same_remaining(
+            self.moment,
+            self.actors.as_slice(),
+            other.remaining.as_slice(),
+        )
     }
 }

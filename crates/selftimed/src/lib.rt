@@ -5,7 +5,9 @@ mod actors;
 mod ends;
 mod engine;
 mod running;
+mod shape;
 mod starts;
 mod steps;
 
 pub use engine::{Engine, Move, Stage};
+pub use shape::Shape;
