@@ -13,12 +13,12 @@ unfoldable pub sum_to : (ℕ → ℕ) → ℕ → ℕ
 sum_to f zero = 0
 sum_to f (suc n) = sum_to f n + f n
 
-sum_to-le : (f g : ℕ → ℕ) (n : ℕ) → ((b : ℕ) → b < n → f b ≤ g b) → sum_to f n ≤ sum_to g n
+pub sum_to-le : (f g : ℕ → ℕ) (n : ℕ) → ((b : ℕ) → b < n → f b ≤ g b) → sum_to f n ≤ sum_to g n
 unfolding sum_to
 sum_to-le f g zero below = omega arith
 sum_to-le f g (suc n) below = omega (arith, sum_to-le f g n (λ b h. below b (omega arith)), below n (omega arith))
 
-sum_to-lt : (f g : ℕ → ℕ) (n a : ℕ) → ((b : ℕ) → b < n → f b ≤ g b) → a < n → f a < g a → sum_to f n < sum_to g n
+pub sum_to-lt : (f g : ℕ → ℕ) (n a : ℕ) → ((b : ℕ) → b < n → f b ≤ g b) → a < n → f a < g a → sum_to f n < sum_to g n
 unfolding sum_to
 sum_to-lt f g zero a below place less = absurd (omega arith)
 sum_to-lt f g (suc n) a below place less = ⊎_elim

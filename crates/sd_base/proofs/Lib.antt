@@ -11,6 +11,7 @@ pub mod Liveness
 pub mod Ends
 pub mod Tight
 pub mod Wordings
+pub mod Events
 pub mod FileNets
 pub mod Traces
 pub mod Shapes

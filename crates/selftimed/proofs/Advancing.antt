@@ -1,0 +1,92 @@
+-- What an engine answers.
+use Rattle.std.proofs.Common.{◌≡◌, ℕ, zero, suc, ◌+◌, ◌≤◌, ◌<◌, ◌⊎◌, List, length, map, fold, replicate, None, Some, inr, sym, refl, ap, ◌∙◌, arith}
+use Rattle.std.specs.Prelude.{slice_index, slice_index_or}
+use Rattle.std.proofs.lemmas.Bool.{false≢true}
+use Rattle.std.proofs.lemmas.List.{get_or-map, get_or-replicate, length-map, length-replicate}
+use Rattle.std.specs.List.{sum_by}
+use Rattle.sd_base.specs.Net.{Channel, Net, nowhere, channel_at}
+use Rattle.sd_base.specs.Schedules.{count_of}
+use Rattle.sd_base.specs.SelfTimed.{earliest, starts_by}
+use Rattle.sd_base.specs.Lawful.{Lawful}
+use Rattle.sd_base.proofs.Parts.{regular}
+use Rattle.sd_base.proofs.Counts.{early_at}
+use Rattle.sd_base.proofs.Ends.{sum_to}
+use Rattle.sd_base.proofs.Sums.{total-zero}
+use Rattle.selftimed.specs.declared.actors.ActorState.{ActorState}
+use Rattle.selftimed.specs.declared.engine.Stage.{Stage}
+use Rattle.selftimed.specs.declared.engine.Stage.TheVariants.{Fresh, Running}
+use Rattle.selftimed.specs.Actors.{idle, fresh_one, started_in, ended_in, running_in, earlier_end}
+use Rattle.selftimed.specs.Stands.{IsFresh, Stands, Begins}
+use Rattle.selftimed.specs.Moves.{ComesNext, IsStuck, Overruns, Steps}
+use Rattle.selftimed.proofs.Starting.{sum_to-all, sum_to-same}
+use Rattle.selftimed.proofs.Moving.{no-end, inputs-from, starts-sum, next-event, stuck-ended, stuck-lacks}
+
+module _ (net : Net) (laws : Lawful net) (now most : ℕ) (actors : List ActorState) (tokens : List ℕ) (all : ℕ) (stands : Stands net now most actors tokens all) where
+  pub within-most : starts_by net now ≤ most
+  within-most =
+      let long : length (earliest net (suc now)) ≡ length net.times = (early_at net (regular net laws) (inputs-from net stands.fed) (suc now)).admissible.actors in
+      let e : now + 1 ≡ suc now = omega arith in
+      let counts : sum_to (started_in actors) (length net.times) ≡ sum_to (count_of (earliest net (suc now))) (length net.times) = sum_to-same (count_of (earliest net (suc now))) (started_in actors) (length net.times) stands.counts in
+      rw e (omega (arith, starts-sum (earliest net (suc now)) (length net.times) long, sum_to-all actors (length net.times) stands.stand.long, stands.counted.total, stands.counted.within))
+
+  pub moved-stuck : (stage : Stage) → stage ≡ Running → fold earlier_end None actors ≡ None → (stage ≡ stage) × (now ≡ now) × IsStuck net stage now
+  moved-stuck stage runs none =
+      let e : now + 1 ≡ suc now = omega arith in
+      let quiet = (no-end actors None none).1 in
+      (refl, refl, rw (runs, e) (stuck-ended net laws now most actors tokens all stands quiet, stuck-lacks net laws now most actors tokens all stands quiet))
+
+  pub moved-on : (t : ℕ) → fold earlier_end None actors ≡ Some t → (stage : Stage) → stage ≡ Running → ComesNext net stage now t
+  moved-on t first stage runs = rw runs (next-event net laws now most actors tokens all stands t first)
+
+pub moved-spent : (net : Net) (laws : Lawful net) (now most : ℕ) (actors : List ActorState) (tokens : List ℕ) (all : ℕ) (stands : Stands net now most actors tokens all) (t : ℕ) →
+    fold earlier_end None actors ≡ Some t → (stage : Stage) → stage ≡ Running → Overruns net t most →
+    (Stage.Spent ≡ Stage.Spent) × ((stage ≡ Stage.Spent) ⊎ ((u : ℕ) × ComesNext net stage now u × Overruns net u most))
+moved-spent net laws now most actors tokens all stands t first stage runs over = (refl, inr (t, moved-on net laws now most actors tokens all stands t first stage runs, over))
+
+pub moved-step : (net : Net) (laws : Lawful net) (now most : ℕ) (actors : List ActorState) (tokens : List ℕ) (all : ℕ) (stands : Stands net now most actors tokens all) (t : ℕ) →
+    fold earlier_end None actors ≡ Some t → (stage : Stage) → stage ≡ Running → (new : List ActorState) (left : List ℕ) (total_now : ℕ) → Stands net t most new left total_now → Steps net most stage now Running t
+moved-step net laws now most actors tokens all stands t first stage runs new left total_now then = record {
+  runs = refl;
+  next = moved-on net laws now most actors tokens all stands t first stage runs;
+  inputs = inputs-from net stands.fed;
+  within = within-most net laws t most new left total_now then;
+}
+
+pub begun-step : (net : Net) (laws : Lawful net) (now most : ℕ) (stage : Stage) → stage ≡ Fresh → (new : List ActorState) (left : List ℕ) (total_now : ℕ) → Begins net most new left total_now → Steps net most stage now Running 0
+begun-step net laws now most stage is new left total_now begins = record {
+  runs = refl;
+  next = rw is refl;
+  inputs = inputs-from net begins.stands.fed;
+  within = within-most net laws 0 most new left total_now begins.stands;
+}
+
+-- ---- a new engine
+
+none-started : (n : ℕ) → sum_by (λ (s : ActorState). s.started) (replicate n fresh_one) ≡ 0
+none-started zero = refl
+none-started (suc n) = none-started n
+
+pub new-fresh : (net : Net) (laws : Lawful net) (most : ℕ) (actors : List ActorState) (tokens : List ℕ) → actors ≡ replicate (length net.times) fresh_one → tokens ≡ map (λ (c : Channel). c.tokens) net.channels → IsFresh net most actors tokens 0
+new-fresh net laws most actors tokens is initial = record {
+  stand = record {
+    long = rw is (length-replicate {A = ActorState} (length net.times) fresh_one);
+    counts = λ a actor. rw (ended_in, running_in, started_in, at_actor a actor) refl;
+    few = λ a actor. rw (none a actor) (omega arith);
+    level = record {
+      long = rw initial (length-map net.channels (λ (c : Channel). c.tokens));
+      each = λ i place.
+          let read : slice_index tokens i ≡ (channel_at net i).tokens = rw initial (get_or-map (λ (c : Channel). c.tokens) net.channels i nowhere 0 place) in
+          let source : ended_in actors (channel_at net i).source ≡ 0 = ap (λ (x : ActorState). x.ended) (at_actor (channel_at net i).source (laws.sources i place)) in
+          rw (none (channel_at net i).target (laws.targets i place), source) (omega (arith, read, total-zero (channel_at net i).taken, total-zero (channel_at net i).made));
+    };
+  };
+  counted = record { total = rw is (sym (none-started (length net.times))); within = omega arith };
+  started = none;
+  lacks = λ a actor calm. absurd (false≢true (sym calm ∙ ap (λ (x : ActorState). x.touched) (at_actor a actor)));
+}
+  where
+    at_actor : (a : ℕ) → a < length net.times → slice_index_or actors a idle ≡ fresh_one
+    at_actor a actor = rw is (get_or-replicate {A = ActorState} (length net.times) a fresh_one idle actor)
+
+    none : (a : ℕ) → a < length net.times → started_in actors a ≡ 0
+    none a actor = ap (λ (x : ActorState). x.started) (at_actor a actor)

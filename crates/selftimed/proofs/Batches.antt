@@ -1,0 +1,178 @@
+-- Firings of one actor that start at one moment.
+use Rattle.std.proofs.Common.{◌≡◌, ℕ, ◌+◌, ◌-◌, ◌*◌, ◌/◌, ◌%◌, ◌≤◌, ◌<◌, List, [], ◌∷◌, ◌++◌, length, sum, ⊎_elim, subst, sym, refl, ap, ◌∙◌, arith, mul-le-mul_right, div-mul-le_self, zero-add}
+use Rattle.std.specs.Prelude.{slice_index, slice_index_or}
+use Rattle.std.proofs.lemmas.Bool.{cases_lt}
+use Rattle.std.proofs.lemmas.Nat.{le-div}
+use Rattle.std.proofs.lemmas.List.{get_or_append_left, get_or_push, length_push}
+use Rattle.sd_base.specs.Net.{Net, channel_at, phase_entry, total}
+use Rattle.sd_base.specs.Schedules.{time_of, phases_at}
+use Rattle.sd_base.specs.Lawful.{Lawful}
+use Rattle.sd_base.proofs.Sums.{total-more}
+use Rattle.sd_base.proofs.Admissibles.{one_time}
+use Rattle.firing.specs.declared.sums.Port.TheVariants.{Taken}
+use Rattle.firing.specs.Wiring.{IsListed, SufficesBefore, IsFirstLack, TakesTokens}
+use Rattle.firing.proofs.Listings.{place_of}
+use Rattle.firing.proofs.TokenMoves.{span-one}
+use Rattle.selftimed.specs.Starts.{AddsEnds, Feeds, StartsAll, Overfills}
+
+-- ---- how many start together
+
+pub feeds-one : (net : Net) (tokens : List ℕ) (a k : ℕ) → SufficesBefore net tokens a k (length net.channels) → Feeds net tokens a k 1
+feeds-one net tokens a k enough i place into =
+    let here : phase_entry (channel_at net i).taken k ≤ slice_index tokens i = enough i place into in
+    rw total-more (omega arith)
+
+-- a list of one number has it at each firing
+one-entry : (xs : List ℕ) (k : ℕ) → length xs ≡ 1 → phase_entry xs k ≡ slice_index xs 0
+one-entry [] k one = absurd (omega arith)
+one-entry (x ∷ []) k one = one_time (x ∷ []) k 0 (omega arith)
+one-entry (x ∷ y ∷ xs) k one = absurd (omega arith)
+
+one-sum : (xs : List ℕ) → length xs ≡ 1 → sum xs ≡ slice_index xs 0
+one-sum [] one = absurd (omega arith)
+one-sum (x ∷ []) one = zero-add x
+one-sum (x ∷ y ∷ xs) one = absurd (omega arith)
+
+-- as many as the channels that were looked at feed, of an actor of one phase
+pub record BatchSoFar (net : Net) (xs tokens : List ℕ) (most best done : ℕ) : Type 0 where
+  pub some : 1 ≤ best
+  pub within : best ≤ most
+  pub fed : (j : ℕ) → j < done → best * slice_index (channel_at net (slice_index xs j)).taken 0 ≤ slice_index tokens (slice_index xs j)
+
+pub batch-none : (net : Net) (xs tokens : List ℕ) (most : ℕ) → 1 ≤ most → BatchSoFar net xs tokens most most 0
+batch-none net xs tokens most some = record { some = some; within = omega arith; fed = λ j h. absurd (omega arith) }
+
+module _ (net : Net) (laws : Lawful net) (a : ℕ) (xs tokens : List ℕ) (firing : ℕ) (listed : IsListed net Taken a xs) (one : phases_at net a ≡ 1) (enough : SufficesBefore net tokens a firing (length net.channels)) where
+  taken-one : (j : ℕ) → j < length xs → length (channel_at net (slice_index xs j)).taken ≡ 1
+  taken-one j below = laws.taken_phases (slice_index xs j) (listed.place j below) ∙ (ap (phases_at net) (listed.there j below) ∙ one)
+
+  pub rate-some : (j : ℕ) → j < length xs → 0 < slice_index (channel_at net (slice_index xs j)).taken 0
+  rate-some j below = rw (one-sum (channel_at net (slice_index xs j)).taken (taken-one j below)) at (laws.some_taken (slice_index xs j) (listed.place j below))
+
+  feeds-some : (j : ℕ) → j < length xs → 1 ≤ slice_index tokens (slice_index xs j) / slice_index (channel_at net (slice_index xs j)).taken 0
+  feeds-some j below =
+      let here : phase_entry (channel_at net (slice_index xs j)).taken firing ≤ slice_index tokens (slice_index xs j) = enough (slice_index xs j) (listed.place j below) (listed.there j below) in
+      let same : phase_entry (channel_at net (slice_index xs j)).taken firing ≡ slice_index (channel_at net (slice_index xs j)).taken 0 = one-entry (channel_at net (slice_index xs j)).taken firing (taken-one j below) in
+      le-div 1 (slice_index tokens (slice_index xs j)) (slice_index (channel_at net (slice_index xs j)).taken 0) (rate-some j below) (omega arith)
+
+  pub batch-lower : (most best done feeds : ℕ) → done < length xs → feeds ≡ slice_index tokens (slice_index xs done) / slice_index (channel_at net (slice_index xs done)).taken 0 → feeds < best →
+      BatchSoFar net xs tokens most best done → BatchSoFar net xs tokens most feeds (done + 1)
+  batch-lower most best done feeds below at less so_far = record {
+    some = rw at (feeds-some done below);
+    within = omega (arith, so_far.within);
+    fed = λ j h. ⊎_elim
+        (λ (old : j < done).
+        let le : feeds * slice_index (channel_at net (slice_index xs j)).taken 0 ≤ best * slice_index (channel_at net (slice_index xs j)).taken 0 = mul-le-mul_right (slice_index (channel_at net (slice_index xs j)).taken 0) (omega arith) in
+        omega (arith, so_far.fed j old))
+        (λ (new : done ≤ j).
+        let same : j ≡ done = omega arith in
+        rw (same, at) (div-mul-le_self (slice_index tokens (slice_index xs done)) (slice_index (channel_at net (slice_index xs done)).taken 0)))
+        (cases_lt j done);
+  }
+
+  pub batch-keep : (most best done feeds : ℕ) → done < length xs → feeds ≡ slice_index tokens (slice_index xs done) / slice_index (channel_at net (slice_index xs done)).taken 0 → best ≤ feeds →
+      BatchSoFar net xs tokens most best done → BatchSoFar net xs tokens most best (done + 1)
+  batch-keep most best done feeds below at more so_far = record {
+    some = so_far.some;
+    within = so_far.within;
+    fed = λ j h. ⊎_elim
+        (λ (old : j < done). so_far.fed j old)
+        (λ (new : done ≤ j).
+        let same : j ≡ done = omega arith in
+        let part : slice_index tokens (slice_index xs done) / slice_index (channel_at net (slice_index xs done)).taken 0 * slice_index (channel_at net (slice_index xs done)).taken 0 ≤ slice_index tokens (slice_index xs done) = div-mul-le_self (slice_index tokens (slice_index xs done)) (slice_index (channel_at net (slice_index xs done)).taken 0) in
+        let le : best * slice_index (channel_at net (slice_index xs done)).taken 0 ≤ slice_index tokens (slice_index xs done) / slice_index (channel_at net (slice_index xs done)).taken 0 * slice_index (channel_at net (slice_index xs done)).taken 0 = mul-le-mul_right (slice_index (channel_at net (slice_index xs done)).taken 0) (omega arith) in
+        rw same (omega arith))
+        (cases_lt j done);
+  }
+
+  pub batch-feeds : (most best done : ℕ) → length xs ≤ done → BatchSoFar net xs tokens most best done → Feeds net tokens a firing best
+  batch-feeds most best done past so_far i place into =
+      let found = place_of net Taken a xs listed i place into in
+      let j : ℕ = found.0 in
+      let len : length (channel_at net i).taken ≡ 1 = laws.taken_phases i place ∙ (ap (phases_at net) into ∙ one) in
+      let span : total (channel_at net i).taken firing + best * slice_index (channel_at net i).taken 0 ≡ total (channel_at net i).taken (firing + best) = span-one (channel_at net i).taken firing best 1 (slice_index (channel_at net i).taken 0) (sym len) refl refl in
+      let fed : best * slice_index (channel_at net (slice_index xs j)).taken 0 ≤ slice_index tokens (slice_index xs j) = so_far.fed j (omega (arith, found.1)) in
+      let here : best * slice_index (channel_at net i).taken 0 ≤ slice_index tokens i = subst (λ (c : ℕ). best * slice_index (channel_at net c).taken 0 ≤ slice_index tokens c) found.2 fed in
+      omega arith
+
+-- ---- their ends
+
+pub adds-none : (net : Net) (a moment k : ℕ) (old : List ℕ) → AddsEnds net a moment k 0 old old
+adds-none net a moment k old = record { long = omega arith; kept = λ j h. refl; added = λ j h. absurd (omega arith) }
+
+pub adds-more : (net : Net) (a moment k n : ℕ) (old now new : List ℕ) (end : ℕ) → new ≡ now ++ end ∷ [] → end ≡ moment + time_of net a (k + n) → AddsEnds net a moment k n old now → AddsEnds net a moment k (n + 1) old new
+adds-more net a moment k n old now new end push at so_far = subst (AddsEnds net a moment k (n + 1) old) (sym push) (record {
+  long = length_push now end ∙ omega (arith, so_far.long);
+  kept = λ j h. get_or_append_left now (end ∷ []) 0 j (omega (arith, so_far.long)) ∙ so_far.kept j h;
+  added = λ j h. ⊎_elim
+      (λ (old_one : j < n). get_or_append_left now (end ∷ []) 0 (length old + j) (omega (arith, so_far.long)) ∙ so_far.added j old_one)
+      (λ (new_one : n ≤ j).
+      let same : j ≡ n = omega arith in
+      let last : slice_index (now ++ end ∷ []) (length old + j) ≡ end = get_or_push now end 0 (length old + j) (omega (arith, so_far.long)) in
+      last ∙ rw same at)
+      (cases_lt j n);
+})
+
+pub adds-then : (net : Net) (a moment k n m : ℕ) (old now new : List ℕ) → AddsEnds net a moment k n old now → AddsEnds net a moment (k + n) m now new → AddsEnds net a moment k (n + m) old new
+adds-then net a moment k n m old now new first second = record {
+  long = omega (arith, first.long, second.long);
+  kept = λ j h. second.kept j (omega (arith, first.long)) ∙ first.kept j h;
+  added = λ j h. ⊎_elim
+      (λ (early : j < n). second.kept (length old + j) (omega (arith, first.long)) ∙ first.added j early)
+      (λ (late : n ≤ j).
+      let e : length old + j ≡ length now + (j - n) = omega (arith, first.long) in
+      let f : (k + n) + (j - n) ≡ k + j = omega arith in
+      rw e (rw f at (second.added (j - n) (omega arith))))
+      (cases_lt j n);
+}
+
+-- ---- their tokens
+
+pub takes-none : (net : Net) (a k : ℕ) (old : List ℕ) → TakesTokens net a k 0 old old
+takes-none net a k old =
+    let e : k + 0 ≡ k = omega arith in
+    record { taken = λ i place into. rw e refl; others = λ i place away. refl }
+
+pub takes-then : (net : Net) (a k n m : ℕ) (old now new : List ℕ) → TakesTokens net a k n old now → TakesTokens net a (k + n) m now new → TakesTokens net a k (n + m) old new
+takes-then net a k n m old now new first second =
+    let e : k + (n + m) ≡ (k + n) + m = omega arith in
+    record {
+      taken = λ i place into. rw e (second.taken i place into ∙ first.taken i place into);
+      others = λ i place away. second.others i place away ∙ first.others i place away;
+    }
+
+-- ---- the starts so far
+
+pub record StartSoFar (net : Net) (a moment k room : ℕ) (tokens left runs more : List ℕ) (n : ℕ) : Type 0 where
+  pub within : n ≤ room
+  pub takes : TakesTokens net a k n tokens left
+  pub ends : AddsEnds net a moment k n runs more
+
+pub start-none : (net : Net) (a moment k room : ℕ) (tokens runs : List ℕ) → StartSoFar net a moment k room tokens tokens runs runs 0
+start-none net a moment k room tokens runs = record { within = omega arith; takes = takes-none net a k tokens; ends = adds-none net a moment k runs }
+
+pub start-more : (net : Net) (a moment k room : ℕ) (tokens left after runs more most : List ℕ) (n m : ℕ) → StartSoFar net a moment k room tokens left runs more n → m ≤ room - n →
+    TakesTokens net a (k + n) m left after → AddsEnds net a moment (k + n) m more most → StartSoFar net a moment k room tokens after runs most (n + m)
+start-more net a moment k room tokens left after runs more most n m so_far fits takes ends = record {
+  within = omega (arith, so_far.within);
+  takes = takes-then net a k n m tokens left after so_far.takes takes;
+  ends = adds-then net a moment k n m runs more most so_far.ends ends;
+}
+
+pub start-all : (net : Net) (a moment k room : ℕ) (tokens left runs more : List ℕ) (n i : ℕ) → StartSoFar net a moment k room tokens left runs more n → IsFirstLack net left a (k + n) i →
+    (n ≤ room) × StartsAll net a moment k n tokens left runs more
+start-all net a moment k room tokens left runs more n i so_far lack = (so_far.within, record { takes = so_far.takes; ends = so_far.ends; lacks = (i, lack.lacks) })
+
+pub start-over : (net : Net) (a moment k room : ℕ) (tokens left runs more : List ℕ) (n m : ℕ) → StartSoFar net a moment k room tokens left runs more n → room - n < m → Feeds net left a (k + n) m → Overfills net tokens a k room
+start-over net a moment k room tokens left runs more n m so_far much feeds = (
+  n + m,
+  omega (arith, so_far.within),
+  λ i place into.
+      let e : k + (n + m) ≡ (k + n) + m = omega arith in
+      let here : total (channel_at net i).taken ((k + n) + m) ≤ slice_index left i + total (channel_at net i).taken (k + n) = feeds i place into in
+      let was : slice_index left i + total (channel_at net i).taken (k + n) ≡ slice_index tokens i + total (channel_at net i).taken k = so_far.takes.taken i place into in
+      rw e (omega arith),
+)
+
+pub end-at : (net : Net) (a moment k n phases time : ℕ) → phases ≡ phases_at net a → time ≡ slice_index (slice_index_or net.times a []) ((k + n) % phases) → moment + time ≡ moment + time_of net a (k + n)
+end-at net a moment k n phases time many here = ap (λ (x : ℕ). moment + x) (rw (← many) here)

@@ -1,0 +1,365 @@
+-- From one event to the next.
+use Rattle.std.proofs.Common.{◌≡◌, ◌≢◌, ℕ, zero, suc, ◌+◌, ◌-◌, ◌*◌, ◌%◌, ◌≤◌, ◌<◌, ◌^◌, ◌⊎◌, Bool, true, false, List, [], ◌∷◌, Option, Some, None, length, map, fold, take, drop, min, sum, replicate, inl, inr, ⊎_elim, subst, sym, refl, ap, ◌∙◌, arith, mod-lt}
+use Rattle.std.specs.Prelude.{slice_index, slice_index_or, ◌==◌}
+use Rattle.std.specs.List.{list_any}
+use Rattle.std.specs.Bool.{MatchBool, OnTrue}
+use Rattle.std.proofs.lemmas.Bool.{cases_lt, cases_eq, cases_Bool, false≢true}
+use Rattle.std.proofs.lemmas.List.{get_or-drop, length-drop, get_or-map, length-map, take_all}
+use Rattle.std.proofs.lemmas.List.Sums.{sum_by_more}
+use Rattle.sd_base.specs.Net.{Channel, Net, nowhere, channel_at, total}
+use Rattle.sd_base.specs.Schedules.{time_of, phases_at, Lacks, Schedule, count_of, start_of, end_of, Earliest, HasInputs}
+use Rattle.sd_base.specs.SelfTimed.{ended_by, earliest, IsEvent, is_event}
+use Rattle.sd_base.specs.Lawful.{Lawful}
+use Rattle.sd_base.proofs.Parts.{Regular, regular, list_any-tells}
+use Rattle.sd_base.proofs.Admissibles.{is_actor, ends-le, earliest-equal}
+use Rattle.sd_base.proofs.Steps.{Ended, Able, Full, Extended}
+use Rattle.sd_base.proofs.Existence.{extended-is}
+use Rattle.sd_base.proofs.Counts.{Same, Quiet, ended_at, early_at, ended-at-is, full-at, decided-le, quiet-until, advance-ended, advance-counts, full-along, able-along}
+use Rattle.sd_base.proofs.Ends.{sum_to, sum_to-le, sum_to-lt}
+use Rattle.sd_base.proofs.Events.{is_event-end, event-tells}
+use Rattle.selftimed.specs.declared.actors.ActorState.{ActorState}
+use Rattle.selftimed.specs.Actors.{started_in, ended_in, running_in, touched_in, earlier, earlier_end, EndsAll, Stand, Counted, StartedAll, CanOverrun}
+use Rattle.selftimed.specs.Stands.{Stands}
+use Rattle.selftimed.specs.Moves.{IsNext, Overruns}
+use Rattle.selftimed.proofs.Starting.{sum_to-all, sum_to-same}
+
+-- ---- the first end
+
+pub record FirstEnd (o : Option ℕ) (xs : List ActorState) (t : ℕ) : Type 0 where
+  pub below_o : (u : ℕ) → o ≡ Some u → t ≤ u
+  pub below : (a : ℕ) → a < length xs → 0 < length (running_in xs a) → t ≤ slice_index (running_in xs a) 0
+  pub there : (o ≡ Some t) ⊎ ((a : ℕ) × (a < length xs) × (0 < length (running_in xs a)) × (slice_index (running_in xs a) 0 ≡ t))
+
+earlier-below : (o : Option ℕ) (es : List ℕ) (t : ℕ) → ((v : ℕ) → earlier o es ≡ Some v → t ≤ v) → ((u : ℕ) → o ≡ Some u → t ≤ u) × (0 < length es → t ≤ slice_index es 0)
+earlier-below o [] t least = (least, λ some. absurd (omega arith))
+earlier-below None (e ∷ es) t least = ((λ u is. cc), λ some. least e refl)
+earlier-below (Some v) (e ∷ es) t least =
+    let low : t ≤ min v e = least (min v e) refl in
+    ((λ u is. let same : v ≡ u = cc in omega arith), λ some. omega arith)
+
+earlier-there : (o : Option ℕ) (es : List ℕ) (t : ℕ) → earlier o es ≡ Some t → (o ≡ Some t) ⊎ ((0 < length es) × (slice_index es 0 ≡ t))
+earlier-there o [] t is = inl is
+earlier-there None (e ∷ es) t is = let same : e ≡ t = cc in inr (omega arith, same)
+earlier-there (Some v) (e ∷ es) t is = let same : min v e ≡ t = cc in ⊎_elim
+    (λ (less : v < e). inl (ap Some (omega arith)))
+    (λ (more : e ≤ v). inr (omega arith, omega arith))
+    (cases_lt v e)
+
+pub first-end : (xs : List ActorState) (o : Option ℕ) (t : ℕ) → fold earlier_end o xs ≡ Some t → FirstEnd o xs t
+first-end [] o t is = record { below_o = λ u at. let same : Some u ≡ Some t = sym at ∙ is in let e : u ≡ t = cc in omega arith; below = λ a h. absurd (omega arith); there = inl is }
+first-end (x ∷ xs) o t is =
+    let rest : FirstEnd (earlier_end o x) xs t = first-end xs (earlier_end o x) t is in
+    let low = earlier-below o x.running t rest.below_o in
+    record {
+      below_o = low.0;
+      below = first-below x xs o t rest low.1;
+      there = ⊎_elim
+          (λ (e : earlier_end o x ≡ Some t). ⊎_elim (λ (at : o ≡ Some t). inl at) (λ (at : (0 < length x.running) × (slice_index x.running 0 ≡ t)). inr (0, omega arith, at.0, at.1)) (earlier-there o x.running t e))
+          (λ (found : (a : ℕ) × (a < length xs) × (0 < length (running_in xs a)) × (slice_index (running_in xs a) 0 ≡ t)). inr (suc found.0, omega (arith, found.1), found.2, found.3))
+          rest.there;
+    }
+  where
+    first-below : (x : ActorState) (xs : List ActorState) (o : Option ℕ) (t : ℕ) → FirstEnd (earlier_end o x) xs t → (0 < length x.running → t ≤ slice_index x.running 0) →
+        (a : ℕ) → a < length (x ∷ xs) → 0 < length (running_in (x ∷ xs) a) → t ≤ slice_index (running_in (x ∷ xs) a) 0
+    first-below x xs o t rest low zero h some = low some
+    first-below x xs o t rest low (suc a) h some = rest.below a (omega arith) some
+
+earlier-none : (o : Option ℕ) (es : List ℕ) → earlier o es ≡ None → (o ≡ None) × (length es ≡ 0)
+earlier-none o [] is = (is, refl)
+earlier-none None (e ∷ es) is = cc
+earlier-none (Some v) (e ∷ es) is = cc
+
+-- where there is no first end nothing runs
+pub no-end : (xs : List ActorState) (o : Option ℕ) → fold earlier_end o xs ≡ None → (o ≡ None) × ((a : ℕ) → a < length xs → length (running_in xs a) ≡ 0)
+no-end [] o is = (is, λ a h. absurd (omega arith))
+no-end (x ∷ xs) o is =
+    let rest = no-end xs (earlier_end o x) is in
+    let here = earlier-none o x.running rest.0 in
+    (here.0, each x xs here.1 rest.1)
+  where
+    each : (x : ActorState) (xs : List ActorState) → length x.running ≡ 0 → ((a : ℕ) → a < length xs → length (running_in xs a) ≡ 0) → (a : ℕ) → a < length (x ∷ xs) → length (running_in (x ∷ xs) a) ≡ 0
+    each x xs here rest zero h = here
+    each x xs here rest (suc a) h = rest a (omega arith)
+
+-- ---- inputs
+
+pub inputs-from : (net : Net) → ((a : ℕ) → a < length net.times → list_any (λ (c : Channel). c.target == a) net.channels ≡ true) → HasInputs net
+inputs-from net fed a actor =
+    let found : (i : ℕ) × (i < length net.channels) × (((slice_index_or net.channels i nowhere).target == a) ≡ true) = list_any-tells (λ (c : Channel). c.target == a) net.channels (fed a actor) in
+    (found.0, found.1, Rattle.std.proofs.Common.eqb-true (channel_at net found.0).target a found.2)
+
+list_any-from : (p : Channel → Bool) (cs : List Channel) (i : ℕ) → i < length cs → p (slice_index_or cs i nowhere) ≡ true → list_any p cs ≡ true
+list_any-from p [] i below holds = absurd (omega arith)
+list_any-from p (c ∷ cs) zero below holds = Rattle.std.proofs.lemmas.Bool.or_left _ _ holds
+list_any-from p (c ∷ cs) (suc i) below holds = Rattle.std.proofs.lemmas.Bool.or_right _ _ (list_any-from p cs i (omega arith) holds)
+
+pub fed-from : (net : Net) (e n : ℕ → ℕ) → Full net e n → (a : ℕ) → a < length net.times → list_any (λ (c : Channel). c.target == a) net.channels ≡ true
+fed-from net e n full a actor =
+    let lack : Lacks net e a (n a) = full a actor in
+    list_any-from (λ (c : Channel). c.target == a) net.channels lack.0 lack.1 (Rattle.std.proofs.Common.eq-eqb (channel_at net lack.0).target a lack.2)
+
+-- ---- counts of all starts
+
+starts-take : (s : Schedule) (n : ℕ) → n ≤ length s → sum_to (count_of s) n ≡ sum (take n (map length s))
+unfolding sum_to
+starts-take s zero within = refl
+starts-take s (suc n) within =
+    let there : n < length (map length s) = rw length-map within in
+    let more : sum (take (n + 1) (map length s)) ≡ sum (take n (map length s)) + slice_index (map length s) n = sum_by_more (λ (x : ℕ). x) (map length s) n 0 there in
+    let read : slice_index (map length s) n ≡ count_of s n = get_or-map length s n [] 0 within in
+    let e : suc n ≡ n + 1 = omega arith in
+    rw e (omega (arith, more, read, starts-take s n (omega arith)))
+
+pub starts-sum : (s : Schedule) (n : ℕ) → length s ≡ n → sum_to (count_of s) n ≡ sum (map length s)
+starts-sum s n long = starts-take s n (omega arith) ∙ ap sum (take_all n (map length s) (omega (arith, length-map s length)))
+
+-- ---- the next event
+
+module _ (net : Net) (laws : Lawful net) (now most : ℕ) (old : List ActorState) (tokens : List ℕ) (all : ℕ) (stands : Stands net now most old tokens all) where
+  fed : HasInputs net
+  fed = inputs-from net stands.fed
+
+  reg : Regular net
+  reg = regular net laws
+
+  base-ended : (a : ℕ) → a < length net.times → Ended net now (earliest net (suc now)) a (ended_in old a)
+  base-ended a actor = subst (Ended net now (earliest net (suc now)) a) (sym (stands.ended a actor)) (ended-at-is net reg fed now a)
+
+  -- the firing at a place of the list of those that run
+  run-end : (a k : ℕ) → a < length net.times → ended_in old a ≤ k → k < count_of (earliest net (suc now)) a →
+      (k - ended_in old a < length (running_in old a)) × (slice_index (running_in old a) (k - ended_in old a) ≡ end_of net (earliest net (suc now)) a k)
+  run-end a k actor from below =
+      let many : ended_in old a + length (running_in old a) ≡ started_in old a = stands.stand.counts a actor in
+      let inside : k - ended_in old a < length (running_in old a) = omega (arith, stands.counts a actor) in
+      let e : ended_in old a + (k - ended_in old a) ≡ k = omega arith in
+      (inside, rw e at (stands.ends a (k - ended_in old a) actor inside))
+
+  -- where nothing runs all that has started has ended
+  pub stuck-ended : ((a : ℕ) → a < length old → length (running_in old a) ≡ 0) → (a : ℕ) → a < length net.times → ended_by net now (earliest net (suc now)) a ≡ count_of (earliest net (suc now)) a
+  stuck-ended none a actor =
+      let many : ended_in old a + length (running_in old a) ≡ started_in old a = stands.stand.counts a actor in
+      omega (arith, stands.counts a actor, stands.ended a actor, none a (rw stands.stand.long actor))
+
+  pub stuck-lacks : ((a : ℕ) → a < length old → length (running_in old a) ≡ 0) → (a : ℕ) → a < length net.times → Lacks net (count_of (earliest net (suc now))) a (count_of (earliest net (suc now)) a)
+  stuck-lacks none = full-along net (ended_at net now) (count_of (earliest net (suc now))) (count_of (earliest net (suc now))) (count_of (earliest net (suc now))) reg.wired (stuck-ended none) (λ a actor. refl) (full-at net reg fed now)
+
+  module _ (t : ℕ) (first : fold earlier_end None old ≡ Some t) where
+    head : FirstEnd None old t
+    head = first-end old None t first
+
+    quiet : Quiet net now t
+    quiet = record {
+      still = λ a k from below.
+          let actor : a < length net.times = is_actor net (earliest net (suc now)) a k (early_at net reg fed (suc now)).admissible below in
+          let from_old : ended_in old a ≤ k = omega (arith, stands.ended a actor) in
+          let many : ended_in old a + length (running_in old a) ≡ started_in old a = stands.stand.counts a actor in
+          let some : 0 < length (running_in old a) = omega (arith, stands.counts a actor) in
+          let low : t ≤ slice_index (running_in old a) 0 = head.below a (rw stands.stand.long actor) some in
+          let front : slice_index (running_in old a) 0 ≡ end_of net (earliest net (suc now)) a (ended_in old a + 0) = stands.ends a 0 actor some in
+          let e : ended_in old a + 0 ≡ ended_in old a = omega arith in
+          let front_at : slice_index (running_in old a) 0 ≡ end_of net (earliest net (suc now)) a (ended_in old a) = rw e at front in
+          let rise : end_of net (earliest net (suc now)) a (ended_in old a) ≤ end_of net (earliest net (suc now)) a k = ends-le net (earliest net (suc now)) reg.own (early_at net reg fed (suc now)).admissible a (ended_in old a) k from_old below in
+          omega arith;
+    }
+
+    -- who ends then
+    ending : (a : ℕ) × (a < length net.times) × (0 < length (running_in old a)) × (slice_index (running_in old a) 0 ≡ t)
+    ending = ⊎_elim
+        (λ (e : None ≡ Some t). cc)
+        (λ (found : (a : ℕ) × (a < length old) × (0 < length (running_in old a)) × (slice_index (running_in old a) 0 ≡ t)). (found.0, rw stands.stand.long at found.1, found.2, found.3))
+        head.there
+
+    ending-end : (ended_in old ending.0 < count_of (earliest net (suc now)) ending.0) × (end_of net (earliest net (suc now)) ending.0 (ended_in old ending.0) ≡ t)
+    ending-end =
+        let many : ended_in old ending.0 + length (running_in old ending.0) ≡ started_in old ending.0 = stands.stand.counts ending.0 ending.1 in
+        let at : slice_index (running_in old ending.0) 0 ≡ end_of net (earliest net (suc now)) ending.0 (ended_in old ending.0 + 0) = stands.ends ending.0 0 ending.1 ending.2 in
+        let e : ended_in old ending.0 + 0 ≡ ended_in old ending.0 = omega arith in
+        let here : slice_index (running_in old ending.0) 0 ≡ t = ending.3 in
+        let front : slice_index (running_in old ending.0) 0 ≡ end_of net (earliest net (suc now)) ending.0 (ended_in old ending.0) = rw e at at in
+        (omega (arith, ending.2, stands.counts ending.0 ending.1), sym front ∙ here)
+
+    later : now < t
+    later =
+        let going : now < end_of net (earliest net (suc now)) ending.0 (ended_in old ending.0) = (base-ended ending.0 ending.1).going (ended_in old ending.0) (omega arith) ending-end.0 in
+        omega (arith, ending-end.1)
+
+    same : Same (earliest net (suc now)) (earliest net t)
+    same = quiet-until net reg fed now t quiet later
+
+    -- the event is there
+    event : is_event net t ≡ true
+    event = is_event-end net t ending.0 (ended_in old ending.0) ending.1 (omega (arith, ending-end.0, same.counts ending.0))
+        (rw (← same.starts ending.0 (ended_in old ending.0) ending-end.0) ending-end.1)
+
+    no-event : (u : ℕ) → now < u → u < t → IsEvent net u → ⊥
+    no-event u after before at = ⊎_elim
+        (λ (zero_at : u ≡ 0). absurd (omega arith))
+        (λ (found : (a : ℕ) × (k : ℕ) × (k < count_of (earliest net u) a) × (end_of net (earliest net u) a k ≡ u)).
+        let sooner : Quiet net now u = record { still = λ a k from below. let late : t ≤ end_of net (earliest net (suc now)) a k = quiet.still a k from below in omega arith } in
+        let match : Same (earliest net (suc now)) (earliest net u) = quiet-until net reg fed now u sooner after in
+        let there : found.1 < count_of (earliest net (suc now)) found.0 = omega (arith, found.2, match.counts found.0) in
+        let actor : found.0 < length net.times = is_actor net (earliest net (suc now)) found.0 found.1 (early_at net reg fed (suc now)).admissible there in
+        let at_u : end_of net (earliest net (suc now)) found.0 found.1 ≡ u = rw (match.starts found.0 found.1 there) found.3 in
+        ⊎_elim
+        (λ (past : found.1 < ended_in old found.0). let done : end_of net (earliest net (suc now)) found.0 found.1 ≤ now = (base-ended found.0 actor).done found.1 past in absurd (omega arith))
+        (λ (still : ended_in old found.0 ≤ found.1). let late : t ≤ end_of net (earliest net (suc now)) found.0 found.1 = quiet.still found.0 found.1 (rw (stands.ended found.0 actor) at still) there in absurd (omega arith))
+        (cases_lt found.1 (ended_in old found.0)))
+        at
+
+    pub next-event : IsNext net now t
+    next-event = record { later = later; event = event-tells net t event; quiet = no-event }
+
+    -- the moment stays small
+    pub soon : t ≤ 1000000000 * sum_to (ended_in old) (length net.times) + 1000000000
+    soon =
+        let started : start_of (earliest net (suc now)) ending.0 (ended_in old ending.0) < suc now = (early_at net reg fed (suc now)).before ending.0 (ended_in old ending.0) ending-end.0 in
+        let short : time_of net ending.0 (ended_in old ending.0) ≤ 1000000000 = laws.short_times ending.0 (ended_in old ending.0 % phases_at net ending.0) ending.1 (mod-lt (ended_in old ending.0) (laws.some_phase ending.0 ending.1)) in
+        omega (arith, ending-end.1, stands.clock)
+
+    ended-few : sum_to (ended_in old) (length net.times) ≤ all
+    ended-few =
+        let le : sum_to (ended_in old) (length net.times) ≤ sum_to (started_in old) (length net.times) = sum_to-le (ended_in old) (started_in old) (length net.times) (λ b is. omega (arith, stands.stand.counts b is)) in
+        omega (arith, sum_to-all old (length net.times) stands.stand.long, stands.counted.total)
+
+    pub moment-small : most ≤ 2 ^ 32 → t ≤ 2 ^ 62
+    moment-small few = omega (arith, soon, ended-few, stands.counted.within)
+
+    module _ (mid : List ActorState) (ends : EndsAll net t old mid) where
+      -- what has ended by then
+      mid-ended : (a : ℕ) → a < length net.times → Ended net t (earliest net (suc now)) a (ended_in mid a)
+      mid-ended a actor =
+          let one = ends.each a actor in
+          let n : ℕ = ended_in mid a - ended_in old a in
+          let many : ended_in old a + length (running_in old a) ≡ started_in old a = stands.stand.counts a actor in
+          let whole : ended_in old a + n ≡ ended_in mid a = omega (arith, one.later) in
+          record {
+            within = omega (arith, one.within, stands.counts a actor);
+            done = λ k below. ⊎_elim
+                (λ (past : k < ended_in old a). let done : end_of net (earliest net (suc now)) a k ≤ now = (base-ended a actor).done k past in omega (arith, later))
+                (λ (from : ended_in old a ≤ k).
+                let here = run-end a k actor from (omega (arith, one.within, stands.counts a actor)) in
+                let past : slice_index (running_in old a) (k - ended_in old a) ≤ t = one.past (k - ended_in old a) (omega arith) in
+                omega (arith, here.1))
+                (cases_lt k (ended_in old a));
+            going = λ k from below.
+                let there : ended_in mid a < count_of (earliest net (suc now)) a = omega arith in
+                let here = run-end a (ended_in mid a) actor one.later there in
+                let next : t < slice_index (running_in old a) (ended_in mid a - ended_in old a) = one.next here.0 in
+                let rise : end_of net (earliest net (suc now)) a (ended_in mid a) ≤ end_of net (earliest net (suc now)) a k = ends-le net (earliest net (suc now)) reg.own (early_at net reg fed (suc now)).admissible a (ended_in mid a) k from below in
+                omega (arith, here.1);
+          }
+
+      -- an actor whose channels gained nothing lacks what it lacked
+      pub mid-lacks : (b : ℕ) → b < length net.times → touched_in mid b ≡ false → Lacks net (ended_in mid) b (started_in mid b)
+      mid-lacks b actor calm =
+          let lack : Lacks net (ended_at net now) b (count_of (earliest net (suc now)) b) = full-at net reg fed now b actor in
+          let source : (channel_at net lack.0).source < length net.times = laws.sources lack.0 lack.1 in
+          let still : ended_in mid (channel_at net lack.0).source ≡ ended_in old (channel_at net lack.0).source = ends.untouched lack.0 lack.1 (rw lack.2 calm) in
+          let count : started_in mid b ≡ count_of (earliest net (suc now)) b = (ends.each b actor).started ∙ stands.counts b actor in
+          (lack.0, lack.1, lack.2, rw (count, still, stands.ended (channel_at net lack.0).source source) lack.3)
+
+      pub mid-counted : Counted mid all most
+      mid-counted =
+          let long : length mid ≡ length net.times = ends.long ∙ stands.stand.long in
+          record {
+            total = omega (
+              arith,
+              stands.counted.total,
+              sum_to-all old (length net.times) stands.stand.long,
+              sum_to-all mid (length net.times) long,
+              sum_to-same (started_in old) (started_in mid) (length net.times) (λ b is. (ends.each b is).started),
+            );
+            within = stands.counted.within;
+          }
+
+      -- counts that are able with what has ended by then are within those of the earliest schedule
+      pub able-within : (m : ℕ → ℕ) → Able net (ended_in mid) m → (a : ℕ) → a < length net.times → m a ≤ count_of (earliest net (suc t)) a
+      able-within m able a actor =
+          decided-le net (ended_at net t) (count_of (earliest net (suc t))) m (full-at net reg fed t)
+          (able-along net (ended_in mid) (ended_at net t) m m reg.wired (advance-ended net reg fed now t quiet later (ended_in mid) mid-ended) (λ b is. refl) able) a actor
+
+      pub overruns : CanOverrun net (ended_in mid) most → Overruns net t most
+      overruns can s early =
+          let at_next : Earliest net (t + 1) (earliest net (suc t)) = rw Rattle.std.proofs.Common.add-one (early_at net reg fed (suc t)) in
+          let same_one : s ≡ earliest net (suc t) = earliest-equal net (t + 1) s (earliest net (suc t)) early at_next in
+          let long : length (earliest net (suc t)) ≡ length net.times = (early_at net reg fed (suc t)).admissible.actors in
+          let le : sum_to can.0 (length net.times) ≤ sum_to (count_of (earliest net (suc t))) (length net.times) = sum_to-le can.0 (count_of (earliest net (suc t))) (length net.times) (able-within can.0 can.1) in
+          let much : most < sum_to can.0 (length net.times) = can.2 in
+          rw same_one (omega (arith, starts-sum (earliest net (suc t)) (length net.times) long))
+
+      module _ (new : List ActorState) (left : List ℕ) (total_now : ℕ) (started : StartedAll net t mid new) (stand : Stand net new left) (counted : Counted new total_now most) where
+        new-able : Able net (ended_in mid) (started_in new)
+        new-able = record {
+          enough = λ i there.
+              let level : slice_index left i + total (channel_at net i).taken (started_in new (channel_at net i).target) ≡ (channel_at net i).tokens + total (channel_at net i).made (ended_in new (channel_at net i).source) = stand.level.each i there in
+              rw (← started.ended (channel_at net i).source) (omega arith);
+        }
+
+        new-counts : (a : ℕ) → a < length net.times → started_in new a ≡ count_of (earliest net (suc t)) a
+        new-counts a actor = advance-counts net reg fed now t quiet later (ended_in mid) mid-ended (started_in new) new-able started.lacks a actor
+
+        new-ends : (a k : ℕ) → a < length net.times → k < length (running_in new a) → slice_index (running_in new a) k ≡ end_of net (earliest net (suc t)) a (ended_in new a + k)
+        new-ends a k actor below =
+            let one = ends.each a actor in
+            let adds = started.ends a actor in
+            let n : ℕ = ended_in mid a - ended_in old a in
+            let ext : Extended net t (ended_by net t (earliest net t)) (earliest net t) (earliest net (suc t)) = extended-is net reg fed t in
+            let many : ended_in old a + length (running_in old a) ≡ started_in old a = stands.stand.counts a actor in
+            let rest : length (running_in mid a) ≡ length (running_in old a) - n = ap length one.rest ∙ length-drop n (running_in old a) in
+            let was : started_in old a ≡ count_of (earliest net t) a = stands.counts a actor ∙ same.counts a in
+            let mid_started : started_in mid a ≡ started_in old a = one.started in
+            rw (started.ended a) (⊎_elim
+            (λ (early : k < length (running_in mid a)).
+            let place : n + k < length (running_in old a) = omega arith in
+            let read : slice_index (running_in mid a) k ≡ slice_index (running_in old a) (n + k) = ap (λ (xs : List ℕ). slice_index xs k) one.rest ∙ get_or-drop n (running_in old a) k 0 in
+            let value : slice_index (running_in old a) (n + k) ≡ end_of net (earliest net (suc now)) a (ended_in old a + (n + k)) = stands.ends a (n + k) actor place in
+            let e : ended_in old a + (n + k) ≡ ended_in mid a + k = omega (arith, one.later) in
+            let there : ended_in mid a + k < count_of (earliest net (suc now)) a = omega (arith, stands.counts a actor, one.later) in
+            let kept : start_of (earliest net (suc t)) a (ended_in mid a + k) ≡ start_of (earliest net (suc now)) a (ended_in mid a + k) =
+            ext.kept a (ended_in mid a + k) (omega (arith, same.counts a)) ∙ sym (same.starts a (ended_in mid a + k) there) in
+            adds.kept k early ∙ (read ∙ ((rw e at value) ∙ ap (λ (x : ℕ). x + time_of net a (ended_in mid a + k)) (sym kept))))
+            (λ (late : length (running_in mid a) ≤ k).
+            let j : ℕ = k - length (running_in mid a) in
+            let few : j < started_in new a - started_in mid a = omega (arith, adds.long) in
+            let added : slice_index (running_in new a) (length (running_in mid a) + j) ≡ t + time_of net a (started_in mid a + j) = adds.added j few in
+            let e : length (running_in mid a) + j ≡ k = omega arith in
+            let f : started_in mid a + j ≡ ended_in mid a + k = omega (arith, one.later, one.within) in
+            let there : ended_in mid a + k < count_of (earliest net (suc t)) a = omega (arith, new-counts a actor) in
+            let start : start_of (earliest net (suc t)) a (ended_in mid a + k) ≡ t = ext.added a (ended_in mid a + k) (omega arith) there in
+            (rw (e, f) at added) ∙ ap (λ (x : ℕ). x + time_of net a (ended_in mid a + k)) (sym start))
+            (cases_lt k (length (running_in mid a))))
+
+        new-clock : t ≤ 1000000000 * sum_to (ended_in new) (length net.times)
+        new-clock =
+            let one = ends.each ending.0 ending.1 in
+            let more : ended_in old ending.0 < ended_in mid ending.0 = ⊎_elim
+            (λ (h : ended_in old ending.0 < ended_in mid ending.0). h)
+            (λ (none : ended_in mid ending.0 ≤ ended_in old ending.0).
+            let zero_n : ended_in mid ending.0 - ended_in old ending.0 ≡ 0 = omega arith in
+            let next : t < slice_index (running_in old ending.0) 0 = rw zero_n at (one.next (omega (arith, ending.2))) in
+            let at : slice_index (running_in old ending.0) 0 ≡ t = ending.3 in
+            absurd (omega arith))
+            (cases_lt (ended_in old ending.0) (ended_in mid ending.0)) in
+            let grows : sum_to (ended_in old) (length net.times) < sum_to (ended_in mid) (length net.times) = sum_to-lt (ended_in old) (ended_in mid) (length net.times) ending.0 (λ b is. (ends.each b is).later) ending.1 more in
+            let kept : sum_to (ended_in new) (length net.times) ≡ sum_to (ended_in mid) (length net.times) = sum_to-same (ended_in mid) (ended_in new) (length net.times) (λ b is. started.ended b) in
+            omega (arith, soon)
+
+        pub next-stands : Stands net t most new left total_now
+        next-stands = record {
+          stand = stand;
+          counted = counted;
+          fed = stands.fed;
+          counts = new-counts;
+          ended = λ a actor. started.ended a ∙ advance-ended net reg fed now t quiet later (ended_in mid) mid-ended a actor;
+          ends = new-ends;
+          calm = started.calm;
+          clock = new-clock;
+          event = event;
+        }
+
+-- what the ends and starts of the next event come to
+pub next-move : (net : Net) (laws : Lawful net) (now most t : ℕ) (old mid new : List ActorState) (tokens left : List ℕ) (all total_now : ℕ) (stands : Stands net now most old tokens all) → fold earlier_end None old ≡ Some t → EndsAll net t old mid → (fits : Bool) →
+    MatchBool fits (StartedAll net t mid new) (CanOverrun net (ended_in mid) most) → OnTrue fits (Stand net new left) → OnTrue fits (Counted new total_now most) →
+    MatchBool fits (Stands net t most new left total_now) (Overruns net t most)
+next-move net laws now most t old mid new tokens left all total_now stands first ends true started stand counted = next-stands net laws now most old tokens all stands t first mid ends new left total_now started stand counted
+next-move net laws now most t old mid new tokens left all total_now stands first ends false can stand counted = overruns net laws now most old tokens all stands t first mid ends can

@@ -1,0 +1,5 @@
+use Rattle.selftimed.proofs.Endings.{TouchesSoFar}
+use Rattle.selftimed.proofs.ends.touch_targets.Given as goal
+
+abbrev pub invariant-loop-channel : goal.invariant-loop-channel
+invariant-loop-channel g l = TouchesSoFar (g.F.Firing.net l.net) l.channels l.initial.actors l.actors l.channel-index

@@ -1,0 +1,8 @@
+use Rattle.std.proofs.Common.{◌≡◌, ◌%◌, map}
+use Rattle.std.specs.List.{range_with_len}
+use Rattle.sd_base.specs.Schedules.{phases_at}
+use Rattle.selftimed.specs.Actors.{started_in}
+use Rattle.selftimed.proofs.shape.phases_of.Given as goal
+
+abbrev pub invariant-loop-actor : goal.invariant-loop-actor
+invariant-loop-actor g l = l.rows ≡ map (λ a. started_in l.actors a % phases_at (g.F.Firing.net l.net) a) (range_with_len 0 l.actor)

@@ -1,0 +1,193 @@
+ghost use Rattle.std.specs.Prelude.{◌≡◌, ◌↔◌, IsTrue, ℕ, ◌+◌, ◌^◌, ◌<◌, ◌≤◌, length, IfOk, IfErr};
+ghost use Rattle.sd_base.specs.Schedules.{count_of};
+ghost use Rattle.sd_base.specs.SelfTimed.{earliest, shape_at};
+ghost use Rattle.selftimed.specs.Shapes.{form};
+ghost use Rattle.selftimed.specs.Moves.{IsMove};
+ghost use Rattle.firing.specs.declared.sums.Port.TheVariants.{Made, Taken};
+ghost use Rattle.firing.specs.Wiring.{AreListed};
+ghost use Rattle.selftimed.specs.declared.engine.Stage.{Stage};
+ghost use Rattle.selftimed.specs.Stands.{IsFresh, Stands};
+
+use crate::actors::{ActorState, new_actors, next_end};
+use crate::shape::{
+    Shape, phases_of, remaining_of, same_phases, same_remaining, same_tokens, tokens_of,
+};
+use crate::steps::{begin, step_to};
+use firing::{Firing, Wiring, initial_tokens};
+use sd_base::NoMemory;
+use std::alloc::Global;
+
+/// Where an engine is in its run.
+#[derive(Clone, Copy, Debug, PartialEq, Eq)]
+pub enum Stage {
+    /// Nothing has started.
+    Fresh,
+    /// The starts so far are the earliest schedule up to and with the moment.
+    Running,
+    /// More starts were due than the engine may make.
+    Spent,
+    /// Memory ran out in a step.
+    OutOfMemory,
+}
+
+/// What a step of an engine did.
+#[derive(Clone, Copy, Debug, PartialEq, Eq)]
+pub enum Move {
+    /// It went to the next event and made its starts.
+    Stepped,
+    /// Nothing runs and nothing can start.
+    Stuck,
+    /// The starts of the next event would pass the engine's bound.
+    Spent,
+}
+
+/// Self-timed execution of a net, event by event, of at most `most` starts (Ghamarian et al. 2006). What
+/// it is asked after it was spent, or memory ran out, has no meaning.
+#[derive(Drop)]
+pub struct Engine<'a, F: Firing> {
+    pub net: &'a F,
+    pub stage: Stage,
+    /// The moment of the last event, in time units.
+    pub moment: u64,
+    pub most: u64,
+    wiring: Wiring,
+    all: u64,
+    actors: Vec<ActorState>,
+    tokens: Vec<u128>,
+    ghost few: { most ≤ 2 ^ 32 },
+    ghost inputs: { AreListed (F.net net.now) Taken wiring.inputs },
+    ghost outputs: { AreListed (F.net net.now) Made wiring.outputs },
+    ghost fresh: { stage ≡ Stage.Fresh → IsFresh (F.net net.now) most actors.items tokens.items all },
+    ghost stands: { stage ≡ Stage.Running → Stands (F.net net.now) moment most actors.items tokens.items all },
+}
+
+impl<'a, F: Firing> Engine<'a, F> {
+    pub fn new(alloc: Global, net: &'a F, most: u64) -> Result<Engine<'a, F>, NoMemory>
+        requires { most ≤ 2 ^ 32 }
+        ensures net { IfOk result (λ e. e.net.now ≡ net.now) }
+        ensures stage { IfOk result (λ e. e.stage ≡ Stage.Fresh) }
+        ensures most { IfOk result (λ e. e.most ≡ most) }
+    {
+        let wiring = Wiring::new(alloc, net)?;
+        let actors = new_actors(alloc, net.actors())?;
+        let tokens = initial_tokens(alloc, net)?;
+        Ok(Engine {
+            net,
+            stage: Stage::Fresh,
+            moment: 0,
+            most,
+            wiring,
+            all: 0,
+            actors,
+            tokens,
+        })
+    }
+
+    /// Goes to the next event and makes its starts.
+    pub fn advance(&mut self) -> Result<Move, NoMemory>
+        ensures net { self.new.net ≡ self.old.net }
+        ensures most { self.new.most ≡ self.old.most }
+        ensures moved { IfOk result (λ move. IsMove (F.net self.old.net.now) self.old.most self.old.stage self.old.moment move self.new.stage self.new.moment) }
+        ensures lost { IfErr result (λ e. self.new.stage ≡ Stage.OutOfMemory) }
+    {
+        match self.stage {
+            Stage::Fresh => {
+                self.stage = Stage::OutOfMemory;
+                let fits = begin(
+                    self.net,
+                    &self.wiring,
+                    self.most,
+                    &mut self.all,
+                    &mut self.actors,
+                    &mut self.tokens,
+                )?;
+                if !fits {
+                    self.stage = Stage::Spent;
+                    return Ok(Move::Spent);
+                }
+                if self.all == 0 {
+                    self.stage = Stage::Fresh;
+                    return Ok(Move::Stuck);
+                }
+                self.moment = 0;
+                self.stage = Stage::Running;
+                Ok(Move::Stepped)
+            }
+            Stage::Running => {
+                let Some(moment) = next_end(self.actors.as_slice()) else {
+                    return Ok(Move::Stuck);
+                };
+                self.stage = Stage::OutOfMemory;
+                let fits = step_to(
+                    self.net,
+                    &self.wiring,
+                    moment,
+                    self.most,
+                    &mut self.all,
+                    &mut self.actors,
+                    &mut self.tokens,
+                )?;
+                if !fits {
+                    self.stage = Stage::Spent;
+                    return Ok(Move::Spent);
+                }
+                self.moment = moment;
+                self.stage = Stage::Running;
+                Ok(Move::Stepped)
+            }
+            Stage::Spent => Ok(Move::Spent),
+            Stage::OutOfMemory => Err(NoMemory),
+        }
+    }
+}
+
+impl<'a, F: Firing> Engine<'a, F> {
+    /// How many firings of an actor have started.
+    pub fn started(&self, actor: u32) -> u64
+        requires { actor < length (F.net self.now.net.now).times }
+        ensures fresh { self.now.stage ≡ Stage.Fresh → result ≡ 0 }
+        ensures running { self.now.stage ≡ Stage.Running → result ≡ count_of (earliest (F.net self.now.net.now) (self.now.moment + 1)) actor }
+    {
+        match self.actors.as_slice().get(actor as usize) {
+            Some(state) => state.started,
+            None => 0,
+        }
+    }
+
+    /// The moment of the last event.
+    pub fn moment(&self) -> u64
+        ensures { result ≡ self.now.moment }
+    {
+        self.moment
+    }
+
+    /// What stands after the starts of the last event.
+    pub fn shape(&self, alloc: Global) -> Result<Shape, NoMemory>
+        requires { self.now.stage ≡ Stage.Running }
+        ensures { IfOk result (λ shape. form shape ≡ shape_at (F.net self.now.net.now) self.now.moment) }
+    {
+        Ok(Shape {
+            tokens: tokens_of(alloc, self.tokens.as_slice())?,
+            phases: phases_of(alloc, self.net, self.actors.as_slice())?,
+            remaining: remaining_of(alloc, self.moment, self.actors.as_slice())?,
+        })
+    }
+
+    /// Whether a shape is what stands after the starts of the last event.
+    pub fn same_shape(&self, other: &Shape) -> bool
+        requires { self.now.stage ≡ Stage.Running }
+        ensures { IsTrue result ↔ (shape_at (F.net self.now.net.now) self.now.moment ≡ form other.now) }
+    {
+        if !same_tokens(self.tokens.as_slice(), other.tokens.as_slice()) {
+            return false;
+        }
+        if !same_phases(self.net, self.actors.as_slice(), other.phases.as_slice()) {
+            return false;
+        }
+        same_remaining(
+            self.moment,
+            self.actors.as_slice(),
+            other.remaining.as_slice(),
+        )
+    }
+}

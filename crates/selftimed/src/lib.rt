@@ -1,0 +1,13 @@
+//! Self-timed execution: an engine that starts each firing as soon as it can, event by event.
+#![tactic(auto)]
+
+mod actors;
+mod ends;
+mod engine;
+mod running;
+mod shape;
+mod starts;
+mod steps;
+
+pub use engine::{Engine, Move, Stage};
+pub use shape::Shape;

@@ -1,0 +1,148 @@
+ghost use Rattle.std.specs.Prelude.{◌≡◌, ◌↔◌, ℕ, ◌-◌, ◌%◌, ◌<◌, ◌≤◌, IfOk, IsTrue, length, map, slice_index};
+ghost use Rattle.sd_base.specs.Schedules.{phases_at};
+ghost use Rattle.selftimed.specs.Shapes.{phases_now, remaining_now, IsPast};
+
+use crate::actors::ActorState;
+use firing::{Firing, know_laws};
+use sd_base::{NoMemory, Rows};
+use std::alloc::Global;
+
+/// What stands at an event: by channel the tokens, by actor the phase of its next firing, and by actor the
+/// remaining times of its running firings.
+#[derive(Debug, Drop)]
+pub struct Shape {
+    pub tokens: Rows<u128>,
+    pub phases: Rows<u32>,
+    pub remaining: Rows<Rows<u64>>,
+}
+
+/// A copy of tokens.
+pub(crate) fn tokens_of(alloc: Global, tokens: &[u128]) -> Result<Rows<u128>, NoMemory>
+    ensures { IfOk result (λ rows. rows ≡ tokens.now) }
+{
+    let mut rows = Rows::new(alloc);
+    for count in tokens {
+        rows.push(*count)?;
+    }
+    Ok(rows)
+}
+
+/// By actor the phase of its next firing.
+pub(crate) fn phases_of<F: Firing>(
+    alloc: Global,
+    net: &F,
+    actors: &[ActorState],
+) -> Result<Rows<u32>, NoMemory>
+    requires { length actors.now ≡ length (F.net net.now).times }
+    ensures { IfOk result (λ rows. rows ≡ phases_now (F.net net.now) actors.now) }
+{
+    let mut rows = Rows::new(alloc);
+    for actor in 0..net.actors() {
+        rows.push(phase_of(net, actor, &actors[actor as usize]))?;
+    }
+    Ok(rows)
+}
+
+/// The phase of an actor's next firing.
+fn phase_of<F: Firing>(net: &F, actor: u32, state: &ActorState) -> u32
+    requires { actor < length (F.net net.now).times }
+    ensures { result ≡ state.now.started % phases_at (F.net net.now) actor }
+{
+    know_laws(net);
+    (state.started % net.phases(actor) as u64) as u32
+}
+
+/// By actor the remaining times of its running firings.
+pub(crate) fn remaining_of(
+    alloc: Global,
+    moment: u64,
+    actors: &[ActorState],
+) -> Result<Rows<Rows<u64>>, NoMemory>
+    requires { IsPast moment actors.now }
+    ensures { IfOk result (λ rows. rows ≡ remaining_now moment actors.now) }
+{
+    let mut rows = Rows::new(alloc);
+    for state in actors {
+        rows.push(times_of(alloc, moment, state.running.as_slice())?)?;
+    }
+    Ok(rows)
+}
+
+/// The times from a moment to each end.
+fn times_of(alloc: Global, moment: u64, ends: &[u64]) -> Result<Rows<u64>, NoMemory>
+    requires { (k : ℕ) → k < length ends.now → moment ≤ slice_index ends.now k }
+    ensures { IfOk result (λ row. row ≡ map (λ end. end - moment) ends.now) }
+{
+    let mut row = Rows::new(alloc);
+    for end in ends {
+        row.push(*end - moment)?;
+    }
+    Ok(row)
+}
+
+/// Whether two lists of tokens are equal.
+pub(crate) fn same_tokens(left: &[u128], right: &[u128]) -> bool
+    ensures { IsTrue result ↔ (left.now ≡ right.now) }
+{
+    if left.len() != right.len() {
+        return false;
+    }
+    for (k, count) in left.iter().enumerate() {
+        if *count != right[k] {
+            return false;
+        }
+    }
+    true
+}
+
+/// Whether these are the phases of the actors' next firings.
+pub(crate) fn same_phases<F: Firing>(net: &F, actors: &[ActorState], phases: &[u32]) -> bool
+    requires { length actors.now ≡ length (F.net net.now).times }
+    ensures { IsTrue result ↔ (phases_now (F.net net.now) actors.now ≡ phases.now) }
+{
+    if phases.len() != actors.len() {
+        return false;
+    }
+    for actor in 0..net.actors() {
+        if phase_of(net, actor, &actors[actor as usize]) != phases[actor as usize] {
+            return false;
+        }
+    }
+    true
+}
+
+/// Whether these are the remaining times of the actors' running firings.
+pub(crate) fn same_remaining(moment: u64, actors: &[ActorState], remaining: &[Rows<u64>]) -> bool
+    requires { IsPast moment actors.now }
+    ensures { IsTrue result ↔ (remaining_now moment actors.now ≡ remaining.now) }
+{
+    if remaining.len() != actors.len() {
+        return false;
+    }
+    for (actor, state) in actors.iter().enumerate() {
+        if !same_times(
+            moment,
+            state.running.as_slice(),
+            remaining[actor].as_slice(),
+        ) {
+            return false;
+        }
+    }
+    true
+}
+
+/// Whether these are the times from a moment to each end.
+fn same_times(moment: u64, ends: &[u64], times: &[u64]) -> bool
+    requires { (k : ℕ) → k < length ends.now → moment ≤ slice_index ends.now k }
+    ensures { IsTrue result ↔ (map (λ end. end - moment) ends.now ≡ times.now) }
+{
+    if ends.len() != times.len() {
+        return false;
+    }
+    for (k, end) in ends.iter().enumerate() {
+        if *end - moment != times[k] {
+            return false;
+        }
+    }
+    true
+}
