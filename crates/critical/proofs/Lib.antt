@@ -1,0 +1,3 @@
+mod Slopes
+mod Spans
+mod UpperSides
