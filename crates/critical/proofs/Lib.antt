@@ -1,3 +1,4 @@
+mod Chains
 mod Slopes
 mod Spans
 mod UpperSides
