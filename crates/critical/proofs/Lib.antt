@@ -1,4 +1,5 @@
 mod Chains
 mod Slopes
+mod Storage
 mod Spans
 mod UpperSides

@@ -4,5 +4,6 @@
 
 mod cycle;
 pub mod laws;
+mod spaces;
 
 pub use cycle::{CycleStep, FiringNo, NeedCycle};
