@@ -3,3 +3,4 @@ mod Slopes
 mod Storage
 mod Spans
 mod UpperSides
+mod Traces
