@@ -1,5 +1,5 @@
 -- Starts before a moment, and lines that bound counts.
-use Rattle.std.proofs.Common.{◌≡◌, ℕ, zero, suc, ◌+◌, ◌-◌, ◌*◌, ◌≤◌, ◌<◌, Bool, true, false, cond, List, [], ◌∷◌, length, ⊎_elim, subst, refl, ap, ◌∙◌, arith, mul-le-mul_left, mul-le-mul_right, ltb-true}
+use Rattle.std.proofs.Common.{◌≡◌, ℕ, zero, suc, ◌+◌, ◌-◌, ◌*◌, ◌≤◌, ◌<◌, Bool, true, false, cond, List, [], ◌∷◌, length, ⊎_elim, refl, arith, mul-le-mul_right, ltb-true}
 use Rattle.std.proofs.Math.Nat.{le_of_mul-le-mul_left}
 use Rattle.std.specs.Prelude.{slice_index, slice_index_or, count_by, nat_lt}
 use Rattle.std.proofs.lemmas.List.Sums.{sum_by-cons}

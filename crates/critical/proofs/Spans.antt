@@ -1,5 +1,5 @@
 -- The firings of a chain stand in each admissible schedule that has the last of them, as far apart as their times say.
-use Rattle.std.proofs.Common.{◌≡◌, ℕ, zero, suc, ◌+◌, ◌-◌, ◌*◌, ◌/◌, ◌%◌, ◌≤◌, ◌<◌, List, [], ◌∷◌, length, ⊎_elim, subst, refl, ap, ◌∙◌, arith, mul-le-mul_left, mul-le-mul, mul-le-mul_right, mod-lt, div-add-mod'}
+use Rattle.std.proofs.Common.{◌≡◌, ℕ, zero, suc, ◌+◌, ◌-◌, ◌*◌, ◌/◌, ◌%◌, ◌≤◌, ◌<◌, List, [], ◌∷◌, length, ⊎_elim, subst, arith, mul-le-mul_left, mul-le-mul, mod-lt, div-add-mod'}
 use Rattle.std.proofs.lemmas.Bool.{cases_lt}
 use Rattle.std.specs.Prelude.{slice_index}
 use Rattle.critical.specs.declared.cycle.FiringNo.{FiringNo}
@@ -11,7 +11,7 @@ use Rattle.sd_base.specs.Lawful.{Lawful}
 use Rattle.sd_base.proofs.Parts.{timed, wired, balanced}
 use Rattle.sd_base.proofs.Rounds.{Whole, whole-times, whole-rounds, time-shift, needs-shift}
 use Rattle.sd_base.proofs.Admissibles.{starts-le}
-use Rattle.critical.specs.Cycles.{IsStep, IsChain, last_of, time_along, HoldsOn}
+use Rattle.critical.specs.Cycles.{IsChain, last_of, time_along, HoldsOn}
 
 -- in s, firing k of a starts at least as long before firing n of b as the time says
 pub record Spans (s : Schedule) (a k time b n : ℕ) : Type 0 where

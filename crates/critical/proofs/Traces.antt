@@ -1,5 +1,5 @@
 -- Need cycles of small nets, by the definitions.
-use Rattle.std.proofs.Common.{◌≡◌, ℕ, ◌<◌, ◌≤◌, [], ◌∷◌, refl, lit<, arith}
+use Rattle.std.proofs.Common.{ℕ, [], ◌∷◌, refl, lit<, arith}
 use Rattle.sd_base.specs.declared.role.Role.TheVariants.{Token}
 use Rattle.critical.specs.declared.cycle.FiringNo.{FiringNo}
 use Rattle.critical.specs.declared.cycle.CycleStep.{CycleStep}

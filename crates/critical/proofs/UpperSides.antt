@@ -1,5 +1,5 @@
 -- A need cycle bounds the rate, and all counts where each actor leads to each.
-use Rattle.std.proofs.Common.{◌≡◌, ℕ, zero, suc, ◌+◌, ◌-◌, ◌*◌, ◌/◌, ◌%◌, ◌≤◌, ◌<◌, ◌⊎◌, inl, inr, List, [], ◌∷◌, length, ⊎_elim, subst, sym, refl, ap, ◌∙◌, arith, mul-le-mul_left, mul-le-mul_right, mul-le-mul, mod-lt, div-add-mod'}
+use Rattle.std.proofs.Common.{◌≡◌, ℕ, ◌+◌, ◌-◌, ◌*◌, ◌/◌, ◌%◌, ◌≤◌, ◌<◌, ◌⊎◌, inl, inr, List, [], ◌∷◌, length, ⊎_elim, subst, sym, refl, ap, arith, mul-le-mul_left, mul-le-mul_right, mod-lt, div-add-mod'}
 use Rattle.std.proofs.Math.Nat.{le_of_mul-le-mul_left, le_of_mul-le-mul_right}
 use Rattle.std.proofs.lemmas.Bool.{cases_lt}
 use Rattle.std.specs.Prelude.{slice_index, slice_index_or, count_by, nat_lt}
@@ -7,9 +7,9 @@ use Rattle.critical.specs.declared.cycle.NeedCycle.{NeedCycle}
 use Rattle.sd_base.specs.Net.{Net, channel_at, total}
 use Rattle.sd_base.specs.Schedules.{Needs, Schedule, count_of, start_of, end_of, Admissible}
 use Rattle.sd_base.specs.Lawful.{Lawful}
-use Rattle.sd_base.specs.Rates.{RateBy, Rate}
+use Rattle.sd_base.specs.Rates.{Rate}
 use Rattle.sd_base.proofs.Sums.{total-times, total-grows, total-le}
-use Rattle.sd_base.proofs.Parts.{timed, wired, balanced}
+use Rattle.sd_base.proofs.Parts.{wired, balanced}
 use Rattle.sd_base.proofs.Rounds.{Whole, whole-round}
 use Rattle.sd_base.proofs.Ends.{sum_to}
 use Rattle.sd_base.proofs.LoopRates.{sum_to-part}

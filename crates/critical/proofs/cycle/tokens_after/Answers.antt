@@ -1,5 +1,5 @@
-use Rattle.std.proofs.Common.{◌+◌, ◌*◌, ◌≤◌, arith}
-use Rattle.sd_base.specs.Net.{channel_at, total}
+use Rattle.std.proofs.Common.{arith}
+use Rattle.sd_base.specs.Net.{channel_at}
 use Rattle.sd_base.proofs.Sums.{total-bound}
 use Rattle.critical.proofs.cycle.tokens_after.Goals as goal
 
