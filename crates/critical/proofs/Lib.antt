@@ -1,6 +1,9 @@
+mod Agreements
 mod Chains
+mod CriticalCycles
 mod Slopes
 mod Storage
 mod Spans
 mod UpperSides
 mod Traces
+mod Trails

@@ -2,9 +2,9 @@
 use Rattle.std.specs.Prelude.{◌≡◌, ℕ, ◌+◌, ◌*◌, ◌≤◌, ◌<◌, List, [], ◌∷◌, length, slice_index, slice_index_or, count_by, nat_lt}
 use Rattle.critical.specs.declared.cycle.NeedCycle.{NeedCycle}
 use Rattle.sd_base.specs.Net.{Net, channel_at}
-use Rattle.sd_base.specs.Schedules.{Schedule, Admissible}
+use Rattle.sd_base.specs.Schedules.{Schedule, Admissible, HasInputs}
 use Rattle.sd_base.specs.Lawful.{Lawful}
-use Rattle.sd_base.specs.Rates.{Rate}
+use Rattle.sd_base.specs.Rates.{IsLoopTable, Rate}
 use Rattle.critical.specs.Cycles.{HoldsOn}
 
 -- the channels with these numbers lead from a to b, each along its direction
@@ -33,3 +33,15 @@ abbrev pub CyclesMeetTheUpperSide : Type 0
 CyclesMeetTheUpperSide =
     (net : Net) (cycle : NeedCycle) (p q g : ℕ) → Lawful net → IsStronglyConnected net → HoldsOn net cycle →
     cycle.rounds ≡ g * p → cycle.time ≡ g * q → HasUpperSide net p q
+
+-- a need cycle with as many rounds per time as these rounds per this period
+pub record HasCriticalCycle (net : Net) (period rounds : ℕ) : Type 0 where
+  pub cycle : NeedCycle
+  pub holds : HoldsOn net cycle
+  pub rate : cycle.rounds * period ≡ rounds * cycle.time
+
+-- a net that comes round a loop has a need cycle whose rounds by its time are the loop's rounds by its period
+abbrev pub LoopsHaveACriticalCycle : Type 0
+LoopsHaveACriticalCycle =
+    (net : Net) (entry period rounds : ℕ) (before : List ℕ) (starts : List (List ℕ)) → Lawful net → HasInputs net →
+    IsLoopTable net entry period rounds before starts → HasCriticalCycle net period rounds
