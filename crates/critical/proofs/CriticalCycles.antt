@@ -1,12 +1,11 @@
 -- A net that comes round a loop has a need cycle with the loop's rounds per time.
-use Rattle.std.proofs.Common.{◌≡◌, ℕ, zero, suc, ◌+◌, ◌-◌, ◌*◌, ◌%◌, ◌≤◌, ◌<◌, ⊎_elim, List, [], ◌∷◌, length, subst, sym, refl, ap, ◌∙◌, arith, mul-le-mul, mod-lt}
+use Rattle.std.proofs.Common.{◌≡◌, ℕ, suc, ◌+◌, ◌*◌, ◌%◌, ◌≤◌, ◌<◌, ⊎_elim, List, length, subst, sym, refl, ap, ◌∙◌, arith, mul-le-mul, mod-lt}
 use Rattle.std.proofs.lemmas.Bool.{cases_lt}
 use Rattle.std.specs.Prelude.{slice_index}
 use Rattle.critical.specs.declared.cycle.FiringNo.{FiringNo}
 use Rattle.critical.specs.declared.cycle.CycleStep.{CycleStep}
-use Rattle.critical.specs.declared.cycle.NeedCycle.{NeedCycle}
 use Rattle.sd_base.specs.Net.{Net}
-use Rattle.sd_base.specs.Schedules.{count_of, start_of, Earliest, HasInputs}
+use Rattle.sd_base.specs.Schedules.{count_of, start_of, HasInputs}
 use Rattle.sd_base.specs.SelfTimed.{earliest}
 use Rattle.sd_base.specs.Lawful.{Lawful}
 use Rattle.sd_base.specs.Rates.{IsLoopTable}
@@ -16,10 +15,10 @@ use Rattle.sd_base.proofs.Counts.{early_at}
 use Rattle.sd_base.proofs.Ends.{sum_to}
 use Rattle.sd_base.proofs.LoopRates.{sum_to-part, table-repeats}
 use Rattle.sd_base.proofs.Admissibles.{is_actor}
-use Rattle.critical.specs.Cycles.{IsStep, IsChain, last_of, time_along, HoldsOn}
+use Rattle.critical.specs.Cycles.{IsChain, last_of, time_along}
 use Rattle.critical.specs.Bounds.{HasCriticalCycle}
 use Rattle.critical.proofs.Spans.{some-time}
-use Rattle.critical.proofs.Agreements.{Agree, agree, pair-small, pair-first, pair-second}
+use Rattle.critical.proofs.Agreements.{agree, pair-small, pair-first, pair-second}
 use Rattle.critical.proofs.Trails.{Trail, start_at, trail, steps_of, trail-chain, trail-last, trail-time, closes}
 
 module _ (net : Net) (laws : Lawful net) (fed : HasInputs net) (entry period rounds : ℕ) (again : Repeats net entry (entry + period) (λ a. rounds * slice_index net.round a)) (some : 1 ≤ rounds) where
@@ -60,10 +59,10 @@ module _ (net : Net) (laws : Lawful net) (fed : HasInputs net) (entry period rou
         let takes : 1 ≤ time_along net (way.at (p + suc d)) (steps_of way.at way.channel p (suc d)) = some-time net laws (way.at (p + suc d)) (steps_of way.at way.channel p (suc d)) (omega arith) chain in
         let there : (way.at p).number < count_of (earliest net u) (way.at p).actor = way.there p (omega arith) in
         let found = closes net laws fed entry period rounds again u (way.at (p + suc d)).actor long (way.at (p + suc d)).number (way.at p).number
-            (time_along net (way.at (p + suc d)) (steps_of way.at way.channel p (suc d)))
-            (subst (λ (a : ℕ). (way.at p).number < count_of (earliest net u) a) (sym same_actor) there) (way.there (p + suc d) within) (way.late (p + suc d) within)
-            (spans ∙ ap (λ (a : ℕ). start_of (earliest net u) a (way.at p).number) (sym same_actor)) takes
-            (subst (λ (a : ℕ). (way.at (p + suc d)).number % (rounds * slice_index net.round (way.at (p + suc d)).actor) ≡ (way.at p).number % (rounds * slice_index net.round a)) (sym same_actor) same_place) in
+        (time_along net (way.at (p + suc d)) (steps_of way.at way.channel p (suc d)))
+        (subst (λ (a : ℕ). (way.at p).number < count_of (earliest net u) a) (sym same_actor) there) (way.there (p + suc d) within) (way.late (p + suc d) within)
+        (spans ∙ ap (λ (a : ℕ). start_of (earliest net u) a (way.at p).number) (sym same_actor)) takes
+        (subst (λ (a : ℕ). (way.at (p + suc d)).number % (rounds * slice_index net.round (way.at (p + suc d)).actor) ≡ (way.at p).number % (rounds * slice_index net.round a)) (sym same_actor) same_place) in
         let n : ℕ = found.0 in
         let number : (way.at p).number ≡ (way.at (p + suc d)).number + found.0 * (rounds * slice_index net.round (way.at (p + suc d)).actor) = found.2 in
         let time : time_along net (way.at (p + suc d)) (steps_of way.at way.channel p (suc d)) ≡ found.0 * period = found.3 in
@@ -100,11 +99,13 @@ module _ (net : Net) (laws : Lawful net) (fed : HasInputs net) (entry period rou
       let k : ℕ = count_of (earliest net (entry + d + 1)) 0 in
       let pass : 1 ≤ rounds * slice_index net.round 0 = some-pass 0 laws.some_actor in
       let counts : count_of (earliest net (entry + period + d + 1)) 0 ≡ count_of (earliest net (entry + d + 1)) 0 + rounds * slice_index net.round 0 = again.counts d 0 in
-      let there : count_of (earliest net (entry + d + 1)) 0 < count_of (earliest net (entry + period + d + 1)) 0 = omega arith in
-      (there, ⊎_elim (λ (h : entry + d < start_of (earliest net (entry + period + d + 1)) 0 (count_of (earliest net (entry + d + 1)) 0)). h)
-      (λ (soon : start_of (earliest net (entry + period + d + 1)) 0 (count_of (earliest net (entry + d + 1)) 0) ≤ entry + d). absurd (
-      let early : count_of (earliest net (entry + d + 1)) 0 < count_of (earliest net (entry + d + 1)) 0 = ((early_at net (regular net laws) fed (entry + d + 1)).least (earliest net (entry + period + d + 1)) (early_at net (regular net laws) fed (entry + period + d + 1)).admissible 0 (count_of (earliest net (entry + d + 1)) 0) there (omega arith)).0 in omega arith))
-      (cases_lt (entry + d) (start_of (earliest net (entry + period + d + 1)) 0 (count_of (earliest net (entry + d + 1)) 0))))
+      let there : count_of (earliest net (entry + d + 1)) 0 < count_of (earliest net (entry + period + d + 1)) 0 = omega arith in (
+        there,
+        ⊎_elim (λ (h : entry + d < start_of (earliest net (entry + period + d + 1)) 0 (count_of (earliest net (entry + d + 1)) 0)). h)
+            (λ (soon : start_of (earliest net (entry + period + d + 1)) 0 (count_of (earliest net (entry + d + 1)) 0) ≤ entry + d). absurd (
+            let early : count_of (earliest net (entry + d + 1)) 0 < count_of (earliest net (entry + d + 1)) 0 = ((early_at net (regular net laws) fed (entry + d + 1)).least (earliest net (entry + period + d + 1)) (early_at net (regular net laws) fed (entry + period + d + 1)).admissible 0 (count_of (earliest net (entry + d + 1)) 0) there (omega arith)).0 in omega arith))
+            (cases_lt (entry + d) (start_of (earliest net (entry + period + d + 1)) 0 (count_of (earliest net (entry + d + 1)) 0))),
+      )
 
   pub critical-cycle : HasCriticalCycle net period rounds
   critical-cycle =

@@ -5,14 +5,14 @@ use Rattle.std.specs.Prelude.{slice_index}
 use Rattle.critical.specs.declared.cycle.FiringNo.{FiringNo}
 use Rattle.critical.specs.declared.cycle.CycleStep.{CycleStep}
 use Rattle.sd_base.specs.Net.{Net, channel_at}
-use Rattle.sd_base.specs.Schedules.{time_of, Schedule, count_of, start_of, end_of, Admissible, Earliest, HasInputs}
+use Rattle.sd_base.specs.Schedules.{time_of, Schedule, count_of, start_of, HasInputs}
 use Rattle.sd_base.specs.SelfTimed.{earliest}
 use Rattle.sd_base.specs.Lawful.{Lawful}
 use Rattle.sd_base.specs.Futures.{Repeats}
 use Rattle.sd_base.proofs.Parts.{regular}
 use Rattle.sd_base.proofs.Counts.{early_at}
-use Rattle.sd_base.proofs.Tight.{tight, TightNeed, earliest-within}
-use Rattle.sd_base.proofs.Admissibles.{is_actor, starts-le}
+use Rattle.sd_base.proofs.Tight.{tight, earliest-within}
+use Rattle.sd_base.proofs.Admissibles.{starts-le}
 use Rattle.critical.specs.Cycles.{IsStep, IsChain, last_of, time_along}
 
 abbrev pub start_at : Schedule → FiringNo → ℕ
@@ -93,7 +93,7 @@ module _ (net : Net) (s : Schedule) (low n : ℕ) (x : FiringNo) (way : Trail ne
   trail-time (suc d) within =
       let e : suc (p + d) ≡ p + suc d = omega arith in
       let just : start_at s (way.at (p + suc d)) + time_of net (way.at (p + suc d)).actor (way.at (p + suc d)).number ≡ start_at s (way.at (p + d)) =
-          subst (λ (k : ℕ). start_at s (way.at k) + time_of net (way.at k).actor (way.at k).number ≡ start_at s (way.at (p + d))) e (way.just (p + d) (omega arith)) in
+      subst (λ (k : ℕ). start_at s (way.at k) + time_of net (way.at k).actor (way.at k).number ≡ start_at s (way.at (p + d))) e (way.just (p + d) (omega arith)) in
       omega (arith, trail-time d (omega arith))
 
 -- starts after the entry repeat with the period
@@ -105,9 +105,9 @@ module _ (net : Net) (laws : Lawful net) (fed : HasInputs net) (entry period rou
       let here : entry + (u - (entry + 1)) + 1 ≡ u = omega arith in
       let far : entry + period + (u - (entry + 1)) + 1 ≡ u + period = omega arith in
       let starts : start_of (earliest net (u + period)) a (k + rounds * slice_index net.round a) + entry ≡ start_of (earliest net u) a k + (entry + period) =
-          rw far at (rw here at (again.starts (u - (entry + 1)) a k (rw here (omega arith)) (rw here (omega arith)))) in
+      rw far at (rw here at (again.starts (u - (entry + 1)) a k (rw here (omega arith)) (rw here (omega arith)))) in
       let same : start_of (earliest net (u + period)) a (k + rounds * slice_index net.round a) ≡ start_of (earliest net u) a (k + rounds * slice_index net.round a) =
-          (earliest-within net u (u + period) (earliest net u) (earliest net (u + period)) (early_at net (regular net laws) fed u) (early_at net (regular net laws) fed (u + period)) (omega arith) a (k + rounds * slice_index net.round a) there).1 in
+      (earliest-within net u (u + period) (earliest net u) (earliest net (u + period)) (early_at net (regular net laws) fed u) (early_at net (regular net laws) fed (u + period)) (omega arith) a (k + rounds * slice_index net.round a) there).1 in
       omega arith
 
   passes-on : (n k : ℕ) → k + n * (rounds * slice_index net.round a) < count_of (earliest net u) a → entry < start_of (earliest net u) a k →
@@ -117,7 +117,7 @@ module _ (net : Net) (laws : Lawful net) (fed : HasInputs net) (entry period rou
       let e : k + suc n * (rounds * slice_index net.round a) ≡ k + n * (rounds * slice_index net.round a) + rounds * slice_index net.round a = omega arith in
       let before : start_of (earliest net u) a (k + n * (rounds * slice_index net.round a)) ≡ start_of (earliest net u) a k + n * period = passes-on n k (omega arith) late in
       let next : start_of (earliest net u) a (k + n * (rounds * slice_index net.round a) + rounds * slice_index net.round a) ≡ start_of (earliest net u) a (k + n * (rounds * slice_index net.round a)) + period =
-          next-pass (k + n * (rounds * slice_index net.round a)) (rw e at there) (omega arith) in
+      next-pass (k + n * (rounds * slice_index net.round a)) (rw e at there) (omega arith) in
       rw e (omega arith)
 
   -- two firings of an actor at one place of a pass are as many passes apart in time as in number
@@ -130,10 +130,10 @@ module _ (net : Net) (laws : Lawful net) (fed : HasInputs net) (entry period rou
       let one : y / (rounds * slice_index net.round a) * (rounds * slice_index net.round a) + y % (rounds * slice_index net.round a) ≡ y = div-add-mod' y (rounds * slice_index net.round a) in
       let two : z / (rounds * slice_index net.round a) * (rounds * slice_index net.round a) + z % (rounds * slice_index net.round a) ≡ z = div-add-mod' z (rounds * slice_index net.round a) in
       let turns : y / (rounds * slice_index net.round a) ≤ z / (rounds * slice_index net.round a) = ⊎_elim
-          (λ (less : z / (rounds * slice_index net.round a) < y / (rounds * slice_index net.round a)). absurd (
-          let scaled : z / (rounds * slice_index net.round a) * (rounds * slice_index net.round a) ≤ y / (rounds * slice_index net.round a) * (rounds * slice_index net.round a) = mul-le-mul_right (rounds * slice_index net.round a) (omega arith) in omega arith))
-          (λ (h : y / (rounds * slice_index net.round a) ≤ z / (rounds * slice_index net.round a)). h)
-          (cases_lt (z / (rounds * slice_index net.round a)) (y / (rounds * slice_index net.round a))) in
+      (λ (less : z / (rounds * slice_index net.round a) < y / (rounds * slice_index net.round a)). absurd (
+      let scaled : z / (rounds * slice_index net.round a) * (rounds * slice_index net.round a) ≤ y / (rounds * slice_index net.round a) * (rounds * slice_index net.round a) = mul-le-mul_right (rounds * slice_index net.round a) (omega arith) in omega arith))
+      (λ (h : y / (rounds * slice_index net.round a) ≤ z / (rounds * slice_index net.round a)). h)
+      (cases_lt (z / (rounds * slice_index net.round a)) (y / (rounds * slice_index net.round a))) in
       let n : ℕ = z / (rounds * slice_index net.round a) - y / (rounds * slice_index net.round a) in
       at n (let sum : n + y / (rounds * slice_index net.round a) ≡ z / (rounds * slice_index net.round a) = omega arith in
       let scaled : (n + y / (rounds * slice_index net.round a)) * (rounds * slice_index net.round a) ≡ z / (rounds * slice_index net.round a) * (rounds * slice_index net.round a) = ap (λ (k : ℕ). k * (rounds * slice_index net.round a)) sum in
