@@ -1,6 +1,7 @@
 mod Agreements
 mod Chains
 mod CriticalCycles
+mod LaterCycles
 mod Slopes
 mod Storage
 mod Spans

@@ -1,4 +1,5 @@
 //! Laws of need cycles, each on a function that does nothing.
+ghost use Rattle.critical.specs.Rounds.{CyclesHoldByRounds};
 ghost use Rattle.critical.specs.Bounds.{CyclesBoundTheRate, CyclesMeetTheUpperSide, LoopsHaveACriticalCycle};
 
 /// A need cycle bounds the rate by its rounds per its time (Reiter 1968), and where each actor leads to
@@ -12,4 +13,9 @@ pub fn cycles_bound_the_rate()
 /// rate of the loop (Ghamarian et al. 2006).
 pub fn loops_have_a_critical_cycle()
     ensures { LoopsHaveACriticalCycle }
+{}
+
+/// A need cycle holds exactly where it holds with all its firings any whole rounds later.
+pub fn cycles_hold_by_rounds()
+    ensures { CyclesHoldByRounds }
 {}
