@@ -46,9 +46,7 @@ agree-step n f small lower = each (find f (f (suc n)) (suc n))
     each : Found f (f (suc n)) (suc n) → Agree f (suc n)
     each (inl (i, below, e)) = let last : suc n ≡ i + suc (n - i) = omega arith in record { p = i; d = n - i; within = omega arith; same = e ∙ ap f last }
     each (inr none) =
-        let z : ℕ = f (suc n) in
         let found = lower (λ i. other (f i) n (f (suc n)) (cases_lt (f i) n)) (λ i below. other-small (f i) n (f (suc n)) (cases_lt (f i) n) (small i (omega arith)) (small (suc n) (omega arith)) (none i below)) in
-        let q : ℕ = found.p + suc found.d in
         record {
           p = found.p;
           d = found.d;

@@ -3,7 +3,6 @@ use Rattle.std.proofs.Common.{◌≡◌, ℕ, suc, ◌+◌, ◌*◌, ◌%◌, �
 use Rattle.std.proofs.lemmas.Bool.{cases_lt}
 use Rattle.std.specs.Prelude.{slice_index}
 use Rattle.critical.specs.declared.cycle.FiringNo.{FiringNo}
-use Rattle.critical.specs.declared.cycle.CycleStep.{CycleStep}
 use Rattle.sd_base.specs.Net.{Net}
 use Rattle.sd_base.specs.Schedules.{count_of, start_of, HasInputs}
 use Rattle.sd_base.specs.SelfTimed.{earliest}
@@ -22,10 +21,7 @@ use Rattle.critical.proofs.Agreements.{agree, pair-small, pair-first, pair-secon
 use Rattle.critical.proofs.Trails.{Trail, start_at, trail, steps_of, trail-chain, trail-last, trail-time, closes}
 
 module _ (net : Net) (laws : Lawful net) (fed : HasInputs net) (entry period rounds : ℕ) (again : Repeats net entry (entry + period) (λ a. rounds * slice_index net.round a)) (some : 1 ≤ rounds) where
-  -- the firings of an actor in a pass, and of all actors
-  abbrev pass_of : ℕ → ℕ
-  pass_of a = rounds * slice_index net.round a
-
+  -- the firings of all actors in a pass
   abbrev all_of : ℕ
   all_of = sum_to (λ a. rounds * slice_index net.round a) (length net.times)
 
@@ -50,9 +46,6 @@ module _ (net : Net) (laws : Lawful net) (fed : HasInputs net) (entry period rou
     from-places : (p d : ℕ) → p + suc d ≤ length net.times * all_of → (way.at (p + suc d)).actor ≡ (way.at p).actor →
         (way.at (p + suc d)).number % (rounds * slice_index net.round (way.at (p + suc d)).actor) ≡ (way.at p).number % (rounds * slice_index net.round (way.at p).actor) → HasCriticalCycle net period rounds
     from-places p d within same_actor same_place =
-        let from : FiringNo = way.at (p + suc d) in
-        let to : FiringNo = way.at p in
-        let steps : List CycleStep = steps_of way.at way.channel p (suc d) in
         let chain : IsChain net (way.at (p + suc d)) (steps_of way.at way.channel p (suc d)) = trail-chain net (earliest net u) entry (length net.times * all_of) x way p (suc d) within in
         let last : last_of (way.at (p + suc d)) (steps_of way.at way.channel p (suc d)) ≡ way.at p = trail-last net (earliest net u) entry (length net.times * all_of) x way p (suc d) in
         let spans : start_at (earliest net u) (way.at (p + suc d)) + time_along net (way.at (p + suc d)) (steps_of way.at way.channel p (suc d)) ≡ start_at (earliest net u) (way.at p) = trail-time net (earliest net u) entry (length net.times * all_of) x way p (suc d) within in
@@ -63,7 +56,6 @@ module _ (net : Net) (laws : Lawful net) (fed : HasInputs net) (entry period rou
         (subst (λ (a : ℕ). (way.at p).number < count_of (earliest net u) a) (sym same_actor) there) (way.there (p + suc d) within) (way.late (p + suc d) within)
         (spans ∙ ap (λ (a : ℕ). start_of (earliest net u) a (way.at p).number) (sym same_actor)) takes
         (subst (λ (a : ℕ). (way.at (p + suc d)).number % (rounds * slice_index net.round (way.at (p + suc d)).actor) ≡ (way.at p).number % (rounds * slice_index net.round a)) (sym same_actor) same_place) in
-        let n : ℕ = found.0 in
         let number : (way.at p).number ≡ (way.at (p + suc d)).number + found.0 * (rounds * slice_index net.round (way.at (p + suc d)).actor) = found.2 in
         let time : time_along net (way.at (p + suc d)) (steps_of way.at way.channel p (suc d)) ≡ found.0 * period = found.3 in
         let turned : 1 ≤ found.0 * rounds = mul-le-mul found.1 some in
@@ -83,20 +75,19 @@ module _ (net : Net) (laws : Lawful net) (fed : HasInputs net) (entry period rou
     pub from-trail : HasCriticalCycle net period rounds
     unfolding place_of
     from-trail =
-        let found = agree (length net.times * all_of) (λ m. place_of (way.at m)) (λ m below. pair-small (way.at m).actor _ all_of (length net.times) (actor-at m (omega arith)) (place-in (way.at m) (actor-at m (omega arith)))) in
+        let found = agree (length net.times * all_of) (λ m. place_of (way.at m)) (λ m below. pair-small (way.at m).actor ((way.at m).number % (rounds * slice_index net.round (way.at m).actor)) all_of (length net.times) (actor-at m (omega arith)) (place-in (way.at m) (actor-at m (omega arith)))) in
         let here = actor-at found.p (omega (arith, found.within)) in
         let there = actor-at (found.p + suc found.d) found.within in
         let one = place-in (way.at found.p) here in
         let other = place-in (way.at (found.p + suc found.d)) there in
         from-places found.p found.d found.within
-        (sym (pair-first (way.at found.p).actor (way.at (found.p + suc found.d)).actor _ _ all_of one other found.same))
-        (sym (pair-second (way.at found.p).actor (way.at (found.p + suc found.d)).actor _ _ all_of one other found.same))
+        (sym (pair-first (way.at found.p).actor (way.at (found.p + suc found.d)).actor ((way.at found.p).number % (rounds * slice_index net.round (way.at found.p).actor)) ((way.at (found.p + suc found.d)).number % (rounds * slice_index net.round (way.at (found.p + suc found.d)).actor)) all_of one other found.same))
+        (sym (pair-second (way.at found.p).actor (way.at (found.p + suc found.d)).actor ((way.at found.p).number % (rounds * slice_index net.round (way.at found.p).actor)) ((way.at (found.p + suc found.d)).number % (rounds * slice_index net.round (way.at (found.p + suc found.d)).actor)) all_of one other found.same))
 
   -- a firing that starts late enough
   late-firing : (d : ℕ) → (count_of (earliest net (entry + d + 1)) 0 < count_of (earliest net (entry + period + d + 1)) 0)
       × (entry + d < start_of (earliest net (entry + period + d + 1)) 0 (count_of (earliest net (entry + d + 1)) 0))
   late-firing d =
-      let k : ℕ = count_of (earliest net (entry + d + 1)) 0 in
       let pass : 1 ≤ rounds * slice_index net.round 0 = some-pass 0 laws.some_actor in
       let counts : count_of (earliest net (entry + period + d + 1)) 0 ≡ count_of (earliest net (entry + d + 1)) 0 + rounds * slice_index net.round 0 = again.counts d 0 in
       let there : count_of (earliest net (entry + d + 1)) 0 < count_of (earliest net (entry + period + d + 1)) 0 = omega arith in (
@@ -109,9 +100,6 @@ module _ (net : Net) (laws : Lawful net) (fed : HasInputs net) (entry period rou
 
   pub critical-cycle : HasCriticalCycle net period rounds
   critical-cycle =
-      let n : ℕ = length net.times * all_of in
-      let d : ℕ = length net.times * all_of * 1000000000 in
-      let u : ℕ = entry + period + length net.times * all_of * 1000000000 + 1 in
       let late = late-firing (length net.times * all_of * 1000000000) in
       let x : FiringNo = record { actor = 0; number = count_of (earliest net (entry + length net.times * all_of * 1000000000 + 1)) 0 } in
       from-trail (entry + period + length net.times * all_of * 1000000000 + 1) (omega arith) x

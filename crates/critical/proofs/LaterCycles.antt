@@ -9,7 +9,7 @@ use Rattle.sd_base.specs.Schedules.{time_of, LastNeed}
 use Rattle.sd_base.specs.Lawful.{Lawful}
 use Rattle.sd_base.proofs.Parts.{wired, balanced}
 use Rattle.sd_base.proofs.Rounds.{Whole, whole-rounds, time-shift, made-shift, taken-shift, needs-unshift, last-shift}
-use Rattle.critical.specs.Cycles.{IsStep, IsChain, last_of, time_along, HoldsOn}
+use Rattle.critical.specs.Cycles.{IsChain, last_of, time_along, HoldsOn}
 use Rattle.critical.specs.Rounds.{later_firing, later_steps, later_cycle}
 use Rattle.critical.proofs.Spans.{first-actor}
 
@@ -31,25 +31,24 @@ module _ (net : Net) (v : ℕ → ℕ) (whole : Whole net v) (i : ℕ) (place : 
       last-unshift j m (subst (λ (y : ℕ). LastNeed (channel_at net i) (j + v y) (m + v (channel_at net i).source)) (sym to) (subst (λ (x : ℕ). LastNeed (channel_at net i) (j + v b) (m + v x)) (sym from) last))
 
 module _ (net : Net) (laws : Lawful net) (n : ℕ) where
-  rounds_of : ℕ → ℕ
-  rounds_of a = n * slice_index net.round a
-
   rounds-whole : Whole net (λ (a : ℕ). n * slice_index net.round a)
   rounds-whole = whole-rounds net n (wired net laws) (balanced net laws)
 
   chain-up : (from : FiringNo) (steps : List CycleStep) → IsChain net from steps → IsChain net (later_firing net n from) (later_steps net n steps)
   chain-up from [] chain = tt
   chain-up from (step ∷ steps) chain =
-      let one = chain.0 in
-      (record { place = one.place; source = one.source; target = one.target; last = last-up net (λ (a : ℕ). n * slice_index net.round a) rounds-whole step.channel one.place from.actor step.to.actor step.to.number from.number one.source one.target one.last },
-      chain-up step.to steps chain.1)
+      let one = chain.0 in (
+        record { place = one.place; source = one.source; target = one.target; last = last-up net (λ (a : ℕ). n * slice_index net.round a) rounds-whole step.channel one.place from.actor step.to.actor step.to.number from.number one.source one.target one.last },
+        chain-up step.to steps chain.1,
+      )
 
   chain-down : (from : FiringNo) (steps : List CycleStep) → IsChain net (later_firing net n from) (later_steps net n steps) → IsChain net from steps
   chain-down from [] chain = tt
   chain-down from (step ∷ steps) chain =
-      let one = chain.0 in
-      (record { place = one.place; source = one.source; target = one.target; last = last-down net (λ (a : ℕ). n * slice_index net.round a) rounds-whole step.channel one.place from.actor step.to.actor step.to.number from.number one.source one.target one.last },
-      chain-down step.to steps chain.1)
+      let one = chain.0 in (
+        record { place = one.place; source = one.source; target = one.target; last = last-down net (λ (a : ℕ). n * slice_index net.round a) rounds-whole step.channel one.place from.actor step.to.actor step.to.number from.number one.source one.target one.last },
+        chain-down step.to steps chain.1,
+      )
 
   last-later : (from : FiringNo) (steps : List CycleStep) → last_of (later_firing net n from) (later_steps net n steps) ≡ later_firing net n (last_of from steps)
   last-later from [] = refl

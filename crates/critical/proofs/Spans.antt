@@ -98,7 +98,6 @@ module _ (net : Net) (laws : Lawful net) (cycle : NeedCycle) (holds : HoldsOn ne
       where
         after : (x : ℕ) → n ≡ cycle.first.number + turn + x → cycle.time * (n + 1) ≤ turn * t + cycle.time * (cycle.first.number + turn)
         after x e =
-            let i : ℕ = x / turn in
             let split : x / turn * turn + x % turn ≡ x = div-add-mod' x turn in
             let rest : x % turn < turn = mod-lt x some-turn in
             let again : suc (x / turn) * turn ≡ x / turn * turn + turn = omega arith in

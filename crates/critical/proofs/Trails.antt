@@ -101,7 +101,6 @@ module _ (net : Net) (laws : Lawful net) (fed : HasInputs net) (entry period rou
   next-pass : (k : ℕ) → k + rounds * slice_index net.round a < count_of (earliest net u) a → entry < start_of (earliest net u) a k →
       start_of (earliest net u) a (k + rounds * slice_index net.round a) ≡ start_of (earliest net u) a k + period
   next-pass k there late =
-      let d : ℕ = u - (entry + 1) in
       let here : entry + (u - (entry + 1)) + 1 ≡ u = omega arith in
       let far : entry + period + (u - (entry + 1)) + 1 ≡ u + period = omega arith in
       let starts : start_of (earliest net (u + period)) a (k + rounds * slice_index net.round a) + entry ≡ start_of (earliest net u) a k + (entry + period) =
@@ -125,7 +124,6 @@ module _ (net : Net) (laws : Lawful net) (fed : HasInputs net) (entry period rou
       1 ≤ time → y % (rounds * slice_index net.round a) ≡ z % (rounds * slice_index net.round a) →
       (n : ℕ) × (1 ≤ n) × (z ≡ y + n * (rounds * slice_index net.round a)) × (time ≡ n * period)
   closes y z time there also late takes some same =
-      let g : ℕ = rounds * slice_index net.round a in
       let more : y < z = ⊎_elim (λ (h : y < z). h) (λ (h : z ≤ y). absurd (let rise : start_of (earliest net u) a z ≤ start_of (earliest net u) a y = starts-le net (earliest net u) (early_at net (regular net laws) fed u).admissible a z y h also in omega arith)) (cases_lt y z) in
       let one : y / (rounds * slice_index net.round a) * (rounds * slice_index net.round a) + y % (rounds * slice_index net.round a) ≡ y = div-add-mod' y (rounds * slice_index net.round a) in
       let two : z / (rounds * slice_index net.round a) * (rounds * slice_index net.round a) + z % (rounds * slice_index net.round a) ≡ z = div-add-mod' z (rounds * slice_index net.round a) in

@@ -45,9 +45,7 @@ module _ (net : Net) (laws : Lawful net) (cycle : NeedCycle) (holds : HoldsOn ne
       lines : (t : ℕ) → cycle.time * p * round_at * t ≤ q * cycle.rounds * round_at * t + (q * (cycle.time * (cycle.first.number + cycle.rounds * round_at)) + cycle.time * rate.slack)
       lines t =
           let found = rate.bounds.below t in
-          let s : Schedule = found.0 in
           let a : ℕ = cycle.first.actor in
-          let n : ℕ = count_of found.0 cycle.first.actor in
           let low : p * slice_index net.round cycle.first.actor * t ≤ q * count_of found.0 cycle.first.actor + rate.slack = found.2 a (first-actor net laws cycle.first cycle.steps holds.some_step holds.chain) in
           let high : cycle.time * count_of found.0 cycle.first.actor ≤ cycle.rounds * slice_index net.round cycle.first.actor * t + cycle.time * (cycle.first.number + cycle.rounds * slice_index net.round cycle.first.actor) =
           count-bounded net found.0 found.1.admissible t cycle.first.actor cycle.time _ (found.1.before cycle.first.actor) (own-late found.0 found.1.admissible t) in
@@ -66,10 +64,6 @@ module _ (net : Net) (laws : Lawful net) (s : Schedule) (good : Admissible net s
       Needs (channel_at net i) ((r + (channel_at net i).tokens + 1) * slice_index net.round (channel_at net i).target) (r * slice_index net.round (channel_at net i).source)
   rounds-need i r place =
       let whole : Whole net (slice_index net.round) = whole-round net (wired net laws) (balanced net laws) in
-      let c = channel_at net i in
-      let x : ℕ = slice_index net.round (channel_at net i).source in
-      let y : ℕ = slice_index net.round (channel_at net i).target in
-      let moved : ℕ = total (channel_at net i).made (slice_index net.round (channel_at net i).source) in
       let made = whole.made i place in
       let taken = whole.taken i place in
       let in_all : total (channel_at net i).made (r * slice_index net.round (channel_at net i).source) ≡ r * total (channel_at net i).made (slice_index net.round (channel_at net i).source) = total-times (channel_at net i).made (slice_index net.round (channel_at net i).source) made.0 r made.1 in
@@ -123,7 +117,6 @@ module _ (net : Net) (laws : Lawful net) (cycle : NeedCycle) (holds : HoldsOn ne
     rounds-late : (r : ℕ) → Started s t cycle.first.actor (r * slice_index net.round cycle.first.actor) → cycle.time * r ≤ cycle.rounds * t + cycle.time * (cycle.first.number + cycle.rounds)
     unfolding round_at
     rounds-late r started =
-        let g : ℕ = slice_index net.round cycle.first.actor in
         let fires : 1 ≤ slice_index net.round cycle.first.actor = some-round net laws cycle holds in
         let late : cycle.time * (r * slice_index net.round cycle.first.actor + 1) ≤ cycle.rounds * slice_index net.round cycle.first.actor * t + cycle.time * (cycle.first.number + cycle.rounds * slice_index net.round cycle.first.actor) =
         own-late net laws cycle holds s good t (r * slice_index net.round cycle.first.actor) started in
@@ -178,7 +171,6 @@ module _ (net : Net) (laws : Lawful net) (cycle : NeedCycle) (holds : HoldsOn ne
   upper-side p q g turns time = (
     sum_to slack_of (length net.times),
     λ s t a good actor.
-        let n : ℕ = count_by (λ x. nat_lt x t) (slice_index_or s a []) in
         let late : cycle.time * count_by (λ x. nat_lt x t) (slice_index_or s a []) ≤ cycle.rounds * slice_index net.round a * t + sum_to slack_of (length net.times) = counts-late s good t a actor in
         let left : cycle.time * count_by (λ x. nat_lt x t) (slice_index_or s a []) ≡ (g * q) * count_by (λ x. nat_lt x t) (slice_index_or s a []) = ap (λ (x : ℕ). x * count_by (λ x. nat_lt x t) (slice_index_or s a [])) time in
         let right : cycle.rounds * slice_index net.round a * t ≡ (g * p) * slice_index net.round a * t = ap (λ (x : ℕ). x * slice_index net.round a * t) turns in
