@@ -1,0 +1,46 @@
+-- Walking along the steps of a chain.
+use Rattle.std.proofs.Common.{◌≡◌, ℕ, ◌+◌, ◌*◌, ◌≤◌, ◌<◌, List, [], ◌∷◌, length, drop, subst, sym, refl, ap, ◌∙◌, arith, add-one, drop-cons}
+use Rattle.std.specs.Prelude.{slice_index_or}
+use Rattle.critical.specs.declared.cycle.FiringNo.{FiringNo}
+use Rattle.critical.specs.declared.cycle.CycleStep.{CycleStep}
+use Rattle.sd_base.specs.Net.{Net}
+use Rattle.sd_base.specs.Schedules.{time_of}
+use Rattle.critical.specs.Cycles.{IsStep, IsChain, last_of, time_along}
+
+-- after the first i steps the chain stands at a firing, so much time on, and the other steps decide the rest
+pub record Follows (net : Net) (from : FiringNo) (steps : List CycleStep) (i : ℕ) (at : FiringNo) (time : ℕ) : Type 0 where
+  pub chain : IsChain net from steps → IsChain net at (drop i steps)
+  pub back : IsChain net at (drop i steps) → IsChain net from steps
+  pub last : last_of from steps ≡ last_of at (drop i steps)
+  pub all : time_along net from steps ≡ time + time_along net at (drop i steps)
+  pub small : time ≤ i * 1000000000
+
+pub follows-none : (net : Net) (from : FiringNo) (steps : List CycleStep) → Follows net from steps 0 from 0
+follows-none net from steps = record { chain = λ c. c; back = λ c. c; last = refl; all = omega arith; small = omega arith }
+
+-- the step at place i comes first among those from i on
+pub step-split : (steps : List CycleStep) (i : ℕ) (none : CycleStep) → i < length steps → drop i steps ≡ slice_index_or steps i none ∷ drop (i + 1) steps
+step-split steps i none below = rw add-one (drop-cons steps i none below)
+
+module _ (net : Net) (from : FiringNo) (steps : List CycleStep) (i : ℕ) (at : FiringNo) (time : ℕ) (walk : Follows net from steps i at time) where
+  pub follows-next : (step : CycleStep) → drop i steps ≡ step ∷ drop (i + 1) steps → IsStep net at step → (more : ℕ) → more ≡ time_of net at.actor at.number → more ≤ 1000000000 →
+      Follows net from steps (i + 1) step.to (time + more)
+  follows-next step split leads more takes short =
+      let same_last : last_of at (drop i steps) ≡ last_of step.to (drop (i + 1) steps) = ap (last_of at) split in
+      let same_time : time_along net at (drop i steps) ≡ time_of net at.actor at.number + time_along net step.to (drop (i + 1) steps) = ap (time_along net at) split in
+      record {
+        chain = λ c. (subst (λ (rest : List CycleStep). IsChain net at rest) split (walk.chain c)).1;
+        back = λ c. walk.back (subst (λ (rest : List CycleStep). IsChain net at rest) (sym split) (leads, c));
+        last = walk.last ∙ same_last;
+        all = omega (arith, walk.all);
+        small = omega (arith, walk.small);
+      }
+
+  pub follows-stop : (step : CycleStep) → drop i steps ≡ step ∷ drop (i + 1) steps → ¬ IsStep net at step → ¬ IsChain net from steps
+  follows-stop step split stops = λ c. stops (subst (λ (rest : List CycleStep). IsChain net at rest) split (walk.chain c)).0
+
+  pub follows-all : drop i steps ≡ [] → IsChain net from steps × (at ≡ last_of from steps) × (time ≡ time_along net from steps)
+  follows-all done =
+      let same_last : last_of at (drop i steps) ≡ at = ap (last_of at) done in
+      let same_time : time_along net at (drop i steps) ≡ 0 = ap (time_along net at) done in
+      (walk.back (subst (λ (rest : List CycleStep). IsChain net at rest) (sym done) tt), sym (walk.last ∙ same_last), omega (arith, walk.all))

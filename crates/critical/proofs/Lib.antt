@@ -1,0 +1,10 @@
+mod Agreements
+mod Chains
+mod CriticalCycles
+mod LaterCycles
+mod Slopes
+mod Storage
+mod Spans
+mod UpperSides
+mod Traces
+mod Trails

@@ -1,0 +1,47 @@
+-- What a need cycle says of the rate of a net.
+use Rattle.std.specs.Prelude.{◌≡◌, ℕ, ◌+◌, ◌*◌, ◌≤◌, ◌<◌, List, [], ◌∷◌, length, slice_index, slice_index_or, count_by, nat_lt}
+use Rattle.critical.specs.declared.cycle.NeedCycle.{NeedCycle}
+use Rattle.sd_base.specs.Net.{Net, channel_at}
+use Rattle.sd_base.specs.Schedules.{Schedule, Admissible, HasInputs}
+use Rattle.sd_base.specs.Lawful.{Lawful}
+use Rattle.sd_base.specs.Rates.{IsLoopTable, Rate}
+use Rattle.critical.specs.Cycles.{HoldsOn}
+
+-- the channels with these numbers lead from a to b, each along its direction
+abbrev pub IsPath : Net → ℕ → List ℕ → ℕ → Type 0
+IsPath net a [] b = a ≡ b
+IsPath net a (i ∷ path) b =
+    (i < length net.channels) × ((channel_at net i).source ≡ a) × IsPath net (channel_at net i).target path b
+
+-- a path leads from each actor to each
+abbrev pub IsStronglyConnected : Net → Type 0
+IsStronglyConnected net = (a b : ℕ) → a < length net.times → b < length net.times → (path : List ℕ) × IsPath net a path b
+
+-- up to a constant, no admissible schedule has more starts before any moment than p rounds in q time units
+abbrev pub HasUpperSide : Net → ℕ → ℕ → Type 0
+HasUpperSide net p q =
+    (b : ℕ) × ((s : Schedule) (t a : ℕ) → Admissible net s → a < length net.times →
+    q * count_by (λ x. nat_lt x t) (slice_index_or s a []) ≤ p * slice_index net.round a * t + b)
+
+-- the rounds of a need cycle by its time are at least the rate
+abbrev pub CyclesBoundTheRate : Type 0
+CyclesBoundTheRate =
+    (net : Net) (cycle : NeedCycle) (p q : ℕ) → Lawful net → HoldsOn net cycle → Rate net p q → p * cycle.time ≤ cycle.rounds * q
+
+-- where each actor leads to each, the rounds of a need cycle by its time, reduced by any common factor, are an upper side
+abbrev pub CyclesMeetTheUpperSide : Type 0
+CyclesMeetTheUpperSide =
+    (net : Net) (cycle : NeedCycle) (p q g : ℕ) → Lawful net → IsStronglyConnected net → HoldsOn net cycle →
+    cycle.rounds ≡ g * p → cycle.time ≡ g * q → HasUpperSide net p q
+
+-- a need cycle with as many rounds per time as these rounds per this period
+pub record HasCriticalCycle (net : Net) (period rounds : ℕ) : Type 0 where
+  pub cycle : NeedCycle
+  pub holds : HoldsOn net cycle
+  pub rate : cycle.rounds * period ≡ rounds * cycle.time
+
+-- a net that comes round a loop has a need cycle whose rounds by its time are the loop's rounds by its period
+abbrev pub LoopsHaveACriticalCycle : Type 0
+LoopsHaveACriticalCycle =
+    (net : Net) (entry period rounds : ℕ) (before : List ℕ) (starts : List (List ℕ)) → Lawful net → HasInputs net →
+    IsLoopTable net entry period rounds before starts → HasCriticalCycle net period rounds

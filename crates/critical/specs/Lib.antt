@@ -1,0 +1,4 @@
+pub mod Cycles
+pub mod Bounds
+pub mod Spaces
+pub mod Rounds

@@ -1,0 +1,128 @@
+ghost use Rattle.std.specs.Prelude.{◌≡◌, ◌+◌, ◌*◌, ◌^◌, ◌<◌, ◌≤◌, ◌↔◌, IsTrue, MatchOption, length, slice_index};
+ghost use Rattle.sd_base.specs.Net.{channel_at, total};
+ghost use Rattle.sd_base.specs.Schedules.{time_of, LastNeed};
+ghost use Rattle.critical.specs.Cycles.{IsStep, IsChain, last_of, time_along, HoldsOn};
+
+use firing::{Firing, know_laws, made_sum, taken_sum};
+use sd_base::Rows;
+
+/// A firing: an actor and the number of its firing, both from 0.
+#[derive(Clone, Copy, Debug, PartialEq, Eq)]
+pub struct FiringNo {
+    pub actor: u32,
+    pub number: u64,
+}
+
+/// A step of a chain of needs: along a channel of the net, to a firing of its target.
+#[derive(Clone, Copy, Debug, PartialEq, Eq)]
+pub struct CycleStep {
+    pub channel: u32,
+    pub to: FiringNo,
+}
+
+/// A need cycle. From `first` on, each step's firing needs the firing before it, as its last need on the
+/// step's channel; the last firing is `rounds` rounds after the first, of the same actor. `time` is the sum
+/// of the times of all firings but the last, in time units.
+#[derive(Debug, Drop)]
+pub struct NeedCycle {
+    pub time: u64,
+    pub rounds: u64,
+    pub first: FiringNo,
+    pub steps: Rows<CycleStep>,
+}
+
+impl NeedCycle {
+    /// Whether this is a need cycle on a net, with its time and rounds. Cost: linear in the steps and the
+    /// phases of the actors at their channels.
+    pub fn holds<F: Firing>(&self, net: &F) -> bool
+        ensures { IsTrue result ↔ HoldsOn (F.net net.now) self.now }
+    {
+        know_laws(net);
+        if self.rounds == 0 || self.steps.is_empty() {
+            return false;
+        }
+        match end_of_chain(net, self.first, self.steps.as_slice()) {
+            Some(end) => end.time == self.time as u128 && self.closes_at(net, end.last),
+            None => false,
+        }
+    }
+
+    /// Whether a firing is that of the first actor as many rounds later as the cycle has.
+    fn closes_at<F: Firing>(&self, net: &F, last: FiringNo) -> bool
+        requires { self.now.first.actor < length (F.net net.now).times }
+        ensures { IsTrue result ↔ ((last.actor ≡ self.now.first.actor)
+            × (last.number ≡ self.now.first.number + self.now.rounds * slice_index (F.net net.now).round self.now.first.actor)) }
+    {
+        let turn = self.rounds as u128 * net.round(self.first.actor) as u128;
+        last.actor == self.first.actor && last.number as u128 == self.first.number as u128 + turn
+    }
+}
+
+/// Where a chain ends: its last firing, and the times of all its firings but that one.
+#[derive(Clone, Copy)]
+struct ChainEnd {
+    last: FiringNo,
+    time: u128,
+}
+
+/// The end of a chain, and None where the steps are no chain from there on.
+fn end_of_chain<F: Firing>(net: &F, from: FiringNo, steps: &[CycleStep]) -> Option<ChainEnd>
+    ensures { MatchOption result (¬ IsChain (F.net net.now) from steps.now) (λ e. IsChain (F.net net.now) from steps.now
+        × (e.last ≡ last_of from steps.now) × (e.time ≡ time_along (F.net net.now) from steps.now)) }
+{
+    let mut end = ChainEnd {
+        last: from,
+        time: 0,
+    };
+    for step in steps {
+        if !is_step(net, end.last, *step) {
+            return None;
+        }
+        end = ChainEnd {
+            last: step.to,
+            time: end.time + time_at(net, end.last) as u128,
+        };
+    }
+    Some(end)
+}
+
+/// Whether a step leads on from a firing.
+fn is_step<F: Firing>(net: &F, from: FiringNo, step: CycleStep) -> bool
+    ensures { IsTrue result ↔ IsStep (F.net net.now) from step }
+{
+    step.channel < net.channels()
+        && net.source(step.channel) == from.actor
+        && net.target(step.channel) == step.to.actor
+        && is_last_need(net, step.channel, step.to.number, from.number)
+}
+
+/// Whether firing `number` of the source of a channel is the last need of firing `later` of its target.
+fn is_last_need<F: Firing>(net: &F, channel: u32, later: u64, number: u64) -> bool
+    requires { channel < length (F.net net.now).channels }
+    ensures { IsTrue result ↔ LastNeed (channel_at (F.net net.now) channel) later number }
+{
+    let wanted = taken_sum(net, channel, later as u128 + 1);
+    tokens_after(net, channel, number as u128) < wanted
+        && wanted <= tokens_after(net, channel, number as u128 + 1)
+}
+
+/// The tokens that a channel has had after so many firings of its source, with those that it started with.
+fn tokens_after<F: Firing>(net: &F, channel: u32, firings: u128) -> u128
+    requires channel { channel < length (F.net net.now).channels }
+    requires few { firings ≤ 2 ^ 64 }
+    ensures { result ≡ (channel_at (F.net net.now) channel).tokens + total (channel_at (F.net net.now) channel).made firings }
+{
+    know_laws(net);
+    net.tokens(channel) as u128 + made_sum(net, channel, firings)
+}
+
+/// The time of a firing.
+fn time_at<F: Firing>(net: &F, firing: FiringNo) -> u64
+    requires { firing.actor < length (F.net net.now).times }
+    ensures time { result ≡ time_of (F.net net.now) firing.actor firing.number }
+    ensures short { result ≤ 1000000000 }
+{
+    know_laws(net);
+    let phases = net.phases(firing.actor) as u64;
+    net.time(firing.actor, (firing.number % phases) as u32)
+}
