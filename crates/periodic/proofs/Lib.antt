@@ -1,0 +1,4 @@
+pub mod Recurring
+pub mod Feeding
+pub mod Bounds
+pub mod Cuts
