@@ -11,7 +11,7 @@ use Rattle.sd_base.proofs.Parts.{regular, wired, balanced}
 use Rattle.sd_base.proofs.Ends.{sum_to}
 use Rattle.sd_base.proofs.LoopRates.{sum_to-part}
 use Rattle.sd_base.proofs.Counts.{early_at}
-use Rattle.periodic.specs.Periods.{start_in, start_at, IsCut, Holds, RoundsBelow}
+use Rattle.periodic.specs.Periods.{start_at, IsCut, Holds, RoundsBelow}
 use Rattle.periodic.proofs.Recurring.{some-turn}
 
 -- rounds by a moment that the start of firing c has reached
@@ -59,10 +59,16 @@ module _ (net : Net) (period rounds : ℕ) (starts : List (List ℕ)) (laws : La
 
   rounds-below : (b : ℕ) × ((t : ℕ) → (s : Schedule) × Earliest net t s × ((a : ℕ) → a < length net.times → rounds * slice_index net.round a * t ≤ period * count_of s a + b))
   unfolding slack_of
-  rounds-below =
-      (sum_to slack_of (length net.times), λ t. (earliest net t, early_at net (regular net laws) inputs t, λ a actor.
-      let part : rounds * slice_index net.round a * sum (slice_index_or starts a []) ≤ sum_to slack_of (length net.times) = sum_to-part slack_of (length net.times) a actor in
-      omega (arith, actor-bound t a actor)))
+  rounds-below = (
+    sum_to slack_of (length net.times),
+    λ t. (
+      earliest net t,
+      early_at net (regular net laws) inputs t,
+      λ a actor.
+          let part : rounds * slice_index net.round a * sum (slice_index_or starts a []) ≤ sum_to slack_of (length net.times) = sum_to-part slack_of (length net.times) a actor in
+          omega (arith, actor-bound t a actor),
+    ),
+  )
 
 pub rounds_below : RoundsBelow
 rounds_below net period rounds starts laws inputs holds = rounds-below net period rounds starts laws inputs holds

@@ -1,18 +1,18 @@
 -- A periodic schedule holds exactly where the finite tests do.
-use Rattle.std.proofs.Common.{◌≡◌, ℕ, zero, suc, ◌+◌, ◌-◌, ◌*◌, ◌/◌, ◌%◌, ◌≤◌, ◌<◌, ◌↔◌, Bool, true, false, List, [], length, map, ⊎_elim, subst, sym, refl, ap, ◌∙◌, arith, ltb-true, ltb-false, mul-le-mul}
-use Rattle.std.specs.Prelude.{slice_index, slice_index_or, nat_lt, if◌then◌else◌}
+use Rattle.std.proofs.Common.{◌≡◌, ℕ, zero, suc, ◌+◌, ◌-◌, ◌*◌, ◌/◌, ◌%◌, ◌≤◌, ◌<◌, ◌↔◌, Bool, true, false, List, [], length, map, true≢false, ⊎_elim, subst, sym, refl, ap, ◌∙◌, arith, ltb-true, ltb-false, mul-le-mul}
+use Rattle.std.specs.Prelude.{slice_index_or, nat_lt, if◌then◌else◌, IsTrue}
 use Rattle.std.specs.List.{range_with_len}
 use Rattle.std.proofs.lemmas.Bool.{cases_lt}
 use Rattle.std.proofs.lemmas.List.FromFn.{length-map-range_with_len, get_or-map-range_with_len}
-use Rattle.sd_base.specs.Net.{Channel, Net, channel_at, total}
-use Rattle.sd_base.specs.Schedules.{time_of, Needs, LastNeed, Schedule, count_of, start_of, end_of, Admissible}
+use Rattle.sd_base.specs.Net.{Net, channel_at}
+use Rattle.sd_base.specs.Schedules.{time_of, LastNeed, Schedule, count_of, start_of, end_of, Admissible}
 use Rattle.sd_base.specs.Lawful.{Lawful}
 use Rattle.sd_base.proofs.Parts.{wired, balanced, one_by_one}
 use Rattle.sd_base.proofs.Admissibles.{no_actor}
-use Rattle.periodic.specs.Periods.{start_in, start_at, IsCut, HasRounds, Holds}
-use Rattle.periodic.specs.Turns.{Rises, FirstNeedy, InTime, IsFed}
-use Rattle.periodic.proofs.Recurring.{start-later, start-listed, all-rise, listed-rise, starts-in_order, some-turn, whole-starts}
-use Rattle.periodic.proofs.Feeding.{end_at, AllFed, all-fed}
+use Rattle.periodic.specs.Periods.{start_at, IsCut, HasRounds, Holds}
+use Rattle.periodic.specs.Turns.{Rises, IsFed}
+use Rattle.periodic.proofs.Recurring.{start-later, all-rise, listed-rise, starts-in_order, some-turn, whole-starts}
+use Rattle.periodic.proofs.Feeding.{AllFed, all-fed}
 
 -- ---- the first number at which a rising function has reached t
 
@@ -149,8 +149,10 @@ module _ (net : Net) (laws : Lawful net) (period rounds : ℕ) (starts : List (L
     pub holds-rises : (a : ℕ) → a < length net.times → Rises period (slice_index_or starts a [])
     holds-rises a actor = listed-rise period (slice_index_or starts a []) (some-turn net (wired net laws) (balanced net laws) rounds starts holds.turns holds.listed a actor) (λ k. holds-rise a k actor)
 
-    pub holds-fed : (i : ℕ) → i < length net.channels → IsFed net period starts i
-    holds-fed i place k below q n first last =
+    holds-ends : (i : ℕ) → i < length net.channels → (k q n : ℕ) → LastNeed (channel_at net i) (k + q * count_of starts (channel_at net i).target) n →
+        start_at period starts (channel_at net i).source n + time_of net (channel_at net i).source n
+        ≤ start_at period starts (channel_at net i).target (k + q * count_of starts (channel_at net i).target)
+    holds-ends i place k q n last =
         let source : ℕ = (channel_at net i).source in
         let target : ℕ = (channel_at net i).target in
         let from : source < length net.times = laws.sources i place in
@@ -167,3 +169,18 @@ module _ (net : Net) (laws : Lawful net) (period rounds : ℕ) (starts : List (L
         let left : start_of cut.0 source n ≡ start_at period starts source n = is.moments source n from started in
         let right : start_of cut.0 target j ≡ start_at period starts target j = is.moments target j to there in
         omega arith
+
+    pub holds-fed : (i : ℕ) → i < length net.channels → IsFed net period starts i
+    holds-fed i place = record { each = λ k below. record { ends = λ q n first last. holds-ends i place k q n last } }
+
+-- ---- what the two halves of the test decide, where the numbers are right
+
+module _ (net : Net) (laws : Lawful net) (period rounds : ℕ) (starts rows : List (List ℕ)) (same : rows ≡ starts) (listed : HasRounds net rounds rows) where
+  pub fed-decides : 1 ≤ period → 1 ≤ rounds → ((a : ℕ) → a < length net.times → Rises period (slice_index_or rows a [])) → (fed : Bool) →
+      IsTrue fed ↔ ((i : ℕ) → i < length net.channels → IsFed net period rows i) → IsTrue fed ↔ Holds net period rounds starts
+  fed-decides passes turns rises fed tests =
+      (λ yes. rw (← same) (tests-hold net laws period rounds rows passes turns listed rises (tests.0 yes)), λ holds. tests.1 (holds-fed net laws period rounds rows (rw same holds)))
+
+  pub rise-decides : (rise : Bool) → rise ≡ false → IsTrue rise ↔ ((a : ℕ) → a < length net.times → Rises period (slice_index_or rows a [])) → IsTrue rise ↔ Holds net period rounds starts
+  rise-decides rise fails tests =
+      (λ yes. absurd (true≢false (sym yes ∙ fails)), λ holds. tests.1 (holds-rises net laws period rounds rows (rw same holds)))

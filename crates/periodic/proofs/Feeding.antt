@@ -1,17 +1,17 @@
 -- The finite tests say that every need of every firing ends in time.
 use Rattle.std.proofs.Common.{◌≡◌, ℕ, zero, suc, ◌+◌, ◌-◌, ◌*◌, ◌/◌, ◌%◌, ◌≤◌, ◌<◌, ◌⊎◌, List, [], length, inl, inr, ⊎_elim, subst, sym, refl, ap, ◌∙◌, arith, mod-lt, div-add-mod'}
 use Rattle.std.proofs.lemmas.Bool.{cases_lt}
-use Rattle.std.specs.Prelude.{slice_index, slice_index_or}
-use Rattle.sd_base.specs.Net.{Channel, Net, channel_at, total}
+use Rattle.std.specs.Prelude.{slice_index_or}
+use Rattle.sd_base.specs.Net.{Net, channel_at, total}
 use Rattle.sd_base.specs.Schedules.{time_of, phases_at, Needs, LastNeed, count_of}
 use Rattle.sd_base.proofs.Sums.{total-le, total-grows, needs-later, fewer-needed, total-zero}
-use Rattle.sd_base.proofs.Parts.{IsOwn, OneByOne, Wired, Balanced}
+use Rattle.sd_base.proofs.Parts.{IsOwn, OneByOne, Wired}
 use Rattle.sd_base.proofs.Admissibles.{one_time}
 use Rattle.sd_base.proofs.Tight.{last_need}
 use Rattle.sd_base.proofs.Rounds.{Whole, time-shift, needs-unshift}
-use Rattle.periodic.specs.Periods.{start_in, start_at, HasRounds}
-use Rattle.periodic.specs.Turns.{Rises, FirstNeedy, InTime, IsFed}
-use Rattle.periodic.proofs.Recurring.{start-later, all-rise, some-turn, whole-starts}
+use Rattle.periodic.specs.Periods.{start_at}
+use Rattle.periodic.specs.Turns.{FirstNeedy, IsFed}
+use Rattle.periodic.proofs.Recurring.{start-later}
 
 -- when firing k of a ends
 abbrev pub end_at : Net → ℕ → List (List ℕ) → ℕ → ℕ → ℕ
@@ -74,7 +74,7 @@ module _ (net : Net) (own : OneByOne net) (wired : Wired net) (period : ℕ) (st
     own-tested r q k below at first =
         let last : LastNeed (channel_at net i) (r + q * count_of starts a) k = rw at (mine.last k) in
         let test : end_at net period starts (channel_at net i).source k ≤ start_at period starts (channel_at net i).target (r + q * count_of starts (channel_at net i).target) =
-        tests i mine.place r (rw mine.target below) q k (rw mine.target first) (rw mine.target last) in
+        ((tests i mine.place).each r (rw mine.target below)).ends q k (rw mine.target first) (rw mine.target last) in
         let from : end_at net period starts a k ≤ start_at period starts (channel_at net i).target (r + q * count_of starts (channel_at net i).target) =
         subst (λ (b : ℕ). end_at net period starts b k ≤ start_at period starts (channel_at net i).target (r + q * count_of starts (channel_at net i).target)) mine.source test in
         let to : end_at net period starts a k ≤ start_at period starts a (r + q * count_of starts a) =
@@ -144,7 +144,7 @@ module _ (net : Net) (own : OneByOne net) (wired : Wired net) (period : ℕ) (st
     tested k q m below first need =
         let last = some-last net wired i (k + q * count_of starts (channel_at net i).target) m place need in
         let test : end_at net period starts (channel_at net i).source last.0 ≤ start_at period starts (channel_at net i).target (k + q * count_of starts (channel_at net i).target) =
-        tests i place k below q last.0 first last.2 in
+        ((tests i place).each k below).ends q last.0 first last.2 in
         omega (arith, ends-in_order (channel_at net i).source m last.0 (wired.sources i place) last.1)
 
     by-turns : (k q m : ℕ) → k < count_of starts (channel_at net i).target → Needs (channel_at net i) (k + q * count_of starts (channel_at net i).target) m →

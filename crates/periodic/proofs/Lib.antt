@@ -2,3 +2,4 @@ pub mod Recurring
 pub mod Feeding
 pub mod Bounds
 pub mod Cuts
+pub mod Needies

@@ -1,13 +1,13 @@
 -- Starts that come again every period: they move by whole periods, and rise where the listed ones do.
-use Rattle.std.proofs.Common.{◌≡◌, ℕ, zero, suc, ◌+◌, ◌-◌, ◌*◌, ◌/◌, ◌%◌, ◌≤◌, ◌<◌, ◌⊎◌, List, [], length, ⊎_elim, subst, sym, refl, ap, ◌∙◌, arith, mod-lt, div-add-mod', mul-le-mul}
+use Rattle.std.proofs.Common.{◌≡◌, ℕ, zero, suc, ◌+◌, ◌-◌, ◌*◌, ◌/◌, ◌%◌, ◌≤◌, ◌<◌, List, length, ⊎_elim, subst, arith, mod-lt, div-add-mod', mul-le-mul}
 use Rattle.std.proofs.Math.Nat.{add-mul-mod_self_right, add-mul-div_right, mod-eq_of_lt, div-eq_of_lt}
 use Rattle.std.proofs.lemmas.Bool.{cases_lt}
-use Rattle.std.specs.Prelude.{slice_index, slice_index_or}
-use Rattle.sd_base.specs.Net.{Net, channel_at, total}
-use Rattle.sd_base.specs.Schedules.{time_of, phases_at, count_of}
+use Rattle.std.specs.Prelude.{slice_index}
+use Rattle.sd_base.specs.Net.{Net, channel_at}
+use Rattle.sd_base.specs.Schedules.{count_of}
 use Rattle.sd_base.proofs.Parts.{Wired, Balanced}
 use Rattle.sd_base.proofs.Rounds.{Whole, whole-rounds}
-use Rattle.periodic.specs.Periods.{start_in, start_at, HasRounds}
+use Rattle.periodic.specs.Periods.{start_in, HasRounds}
 use Rattle.periodic.specs.Turns.{Rises}
 
 -- q turns on, a firing starts q periods later

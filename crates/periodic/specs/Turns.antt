@@ -1,5 +1,5 @@
 -- The finitely many tests that decide whether a periodic schedule holds.
-use Rattle.std.specs.Prelude.{◌≡◌, ℕ, ◌+◌, ◌-◌, ◌*◌, ◌≤◌, ◌<◌, List, [], length, slice_index, slice_index_or}
+use Rattle.std.specs.Prelude.{ℕ, ◌+◌, ◌-◌, ◌*◌, ◌≤◌, ◌<◌, List, length, slice_index}
 use Rattle.sd_base.specs.Net.{Channel, Net, channel_at}
 use Rattle.sd_base.specs.Schedules.{time_of, Needs, LastNeed, count_of}
 use Rattle.periodic.specs.Periods.{start_at}
@@ -15,13 +15,12 @@ pub record FirstNeedy (c : Channel) (turn k q : ℕ) : Type 0 where
   pub first : (p : ℕ) → p < q → Needs c (k + p * turn) 0 → ⊥
 
 -- the last need of that firing ends before it starts
-abbrev pub InTime : Net → ℕ → List (List ℕ) → ℕ → ℕ → Type 0
-InTime net period starts i k =
-    (q n : ℕ) → FirstNeedy (channel_at net i) (count_of starts (channel_at net i).target) k q →
-    LastNeed (channel_at net i) (k + q * count_of starts (channel_at net i).target) n →
-    start_at period starts (channel_at net i).source n + time_of net (channel_at net i).source n
-    ≤ start_at period starts (channel_at net i).target (k + q * count_of starts (channel_at net i).target)
+pub record InTime (net : Net) (period : ℕ) (starts : List (List ℕ)) (i k : ℕ) : Type 0 where
+  pub ends : (q n : ℕ) → FirstNeedy (channel_at net i) (count_of starts (channel_at net i).target) k q →
+      LastNeed (channel_at net i) (k + q * count_of starts (channel_at net i).target) n →
+      start_at period starts (channel_at net i).source n + time_of net (channel_at net i).source n
+      ≤ start_at period starts (channel_at net i).target (k + q * count_of starts (channel_at net i).target)
 
 -- so it is on channel i for each firing of a turn of the target
-abbrev pub IsFed : Net → ℕ → List (List ℕ) → ℕ → Type 0
-IsFed net period starts i = (k : ℕ) → k < count_of starts (channel_at net i).target → InTime net period starts i k
+pub record IsFed (net : Net) (period : ℕ) (starts : List (List ℕ)) (i : ℕ) : Type 0 where
+  pub each : (k : ℕ) → k < count_of starts (channel_at net i).target → InTime net period starts i k

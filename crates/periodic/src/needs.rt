@@ -57,6 +57,7 @@ fn last_short<F: Firing>(net: &F, channel: u32, phases: u32, wanted: u128) -> u3
     ensures short { total (channel_at (F.net net.now) channel).made result < wanted }
     ensures enough { wanted ≤ total (channel_at (F.net net.now) channel).made (result + 1) }
 {
+    know_laws(net);
     let mut sum = 0u128;
     for phase in 0..phases {
         sum += net.made(channel, phase) as u128;

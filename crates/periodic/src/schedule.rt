@@ -3,7 +3,7 @@ ghost use Rattle.sd_base.specs.Schedules.{start_of};
 ghost use Rattle.periodic.specs.Periods.{HasRounds, Holds};
 
 use crate::turns::{all_fed, all_rise, has_rounds};
-use firing::Firing;
+use firing::{Firing, know_laws};
 use sd_base::Rows;
 
 /// A periodic schedule. By actor, `starts` has the start moments of its firings in `rounds` rounds; with n
@@ -22,6 +22,7 @@ impl Periodic {
         requires small { (a k : ℕ) → start_of self.now.starts a k ≤ 2 ^ 100 }
         ensures { IsTrue result ↔ Holds (F.net net.now) self.now.period self.now.rounds self.now.starts }
     {
+        know_laws(net);
         let rows = self.starts.as_slice();
         if self.period == 0 || self.rounds == 0 || !has_rounds(net, self.rounds, rows) {
             return false;

@@ -16,8 +16,7 @@ pub(crate) fn has_rounds<F: Firing>(net: &F, rounds: u64, rows: &[Rows<u128>]) -
         return false;
     }
     for actor in 0..net.actors() {
-        let starts = rows[actor as usize].len() as u128;
-        if starts != rounds as u128 * net.round(actor) as u128 {
+        if row(rows, actor).len() as u128 != rounds as u128 * net.round(actor) as u128 {
             return false;
         }
     }
@@ -32,7 +31,7 @@ pub(crate) fn all_rise<F: Firing>(net: &F, rounds: u64, period: u64, rows: &[Row
     ensures { IsTrue result ↔ ((a : ℕ) → a < length (F.net net.now).times → Rises period (slice_index_or rows.now a [])) }
 {
     for actor in 0..net.actors() {
-        if !rises(period, rows[actor as usize].as_slice()) {
+        if !rises(period, row(rows, actor)) {
             return false;
         }
     }
@@ -69,13 +68,7 @@ pub(crate) fn all_fed<F: Firing>(net: &F, rounds: u64, period: u64, rows: &[Rows
 }
 
 /// Whether the tested needs of each firing on a channel end in time.
-fn is_fed<F: Firing>(
-    net: &F,
-    channel: u32,
-    rounds: u64,
-    period: u64,
-    rows: &[Rows<u128>],
-) -> bool
+fn is_fed<F: Firing>(net: &F, channel: u32, rounds: u64, period: u64, rows: &[Rows<u128>]) -> bool
     requires channel { channel < length (F.net net.now).channels }
     requires turns { 1 ≤ rounds }
     requires rounds { HasRounds (F.net net.now) rounds rows.now }
@@ -83,7 +76,7 @@ fn is_fed<F: Firing>(
     ensures { IsTrue result ↔ IsFed (F.net net.now) period rows.now channel }
 {
     know_laws(net);
-    for place in 0..rows[net.target(channel) as usize].len() {
+    for place in 0..row(rows, net.target(channel)).len() {
         if !in_time(net, channel, place, rounds, period, rows) {
             return false;
         }
@@ -109,13 +102,21 @@ fn in_time<F: Firing>(
 {
     know_laws(net);
     let source = net.source(channel);
-    let from = rows[source as usize].as_slice();
-    let to = rows[net.target(channel) as usize].as_slice();
+    let from = row(rows, source);
+    let to = row(rows, net.target(channel));
     let turn = to.len() as u128;
     let firing = place as u128 + first_needy(net, channel, place as u128, rounds, turn) * turn;
     let last = last_need(net, channel, firing);
     let time = net.time(source, (last % net.phases(source) as u128) as u32);
     start(period, from, last) + time as u128 <= start(period, to, firing)
+}
+
+/// The listed starts of an actor.
+fn row(rows: &[Rows<u128>], actor: u32) -> &[u128]
+    requires { actor < length rows.now }
+    ensures { result.now ≡ slice_index_or rows.now actor [] }
+{
+    rows[actor as usize].as_slice()
 }
 
 /// The start of a firing of an actor.
