@@ -118,12 +118,10 @@ cut-admissible net period starts t s laws rise fed is = record {
 }
 
 module _ (net : Net) (laws : Lawful net) (period rounds : ℕ) (starts : List (List ℕ)) where
-  pub tests-hold : 1 ≤ period → 1 ≤ rounds → HasRounds net rounds starts → ((a : ℕ) → a < length net.times → Rises period (slice_index_or starts a [])) →
-      ((i : ℕ) → i < length net.channels → IsFed net period starts i) → Holds net period rounds starts
-  tests-hold passes turns listed rises tests =
+  pub fed-hold : 1 ≤ period → 1 ≤ rounds → HasRounds net rounds starts → ((a k : ℕ) → a < length net.times → start_at period starts a k ≤ start_at period starts a (k + 1)) →
+      AllFed net period starts → Holds net period rounds starts
+  fed-hold passes turns listed rise fed =
       let some : (a : ℕ) → a < length net.times → 0 < count_of starts a = some-turn net (wired net laws) (balanced net laws) rounds starts turns listed in
-      let rise : (a k : ℕ) → a < length net.times → start_at period starts a k ≤ start_at period starts a (k + 1) = λ a k actor. all-rise period (slice_index_or starts a []) (some a actor) (rises a actor) k in
-      let fed : AllFed net period starts = all-fed net (one_by_one net laws) (wired net laws) period starts (whole-starts net (wired net laws) (balanced net laws) rounds starts turns listed) some rise tests in
       record {
         passes = passes;
         turns = turns;
@@ -132,6 +130,14 @@ module _ (net : Net) (laws : Lawful net) (period rounds : ℕ) (starts : List (L
             let is : IsCut net period starts t (cut_at net period starts t) = cut-is net period starts passes some rise t in
             (cut_at net period starts t, is, cut-admissible net period starts t (cut_at net period starts t) laws rise fed is);
       }
+
+  pub tests-hold : 1 ≤ period → 1 ≤ rounds → HasRounds net rounds starts → ((a : ℕ) → a < length net.times → Rises period (slice_index_or starts a [])) →
+      ((i : ℕ) → i < length net.channels → IsFed net period starts i) → Holds net period rounds starts
+  tests-hold passes turns listed rises tests =
+      let some : (a : ℕ) → a < length net.times → 0 < count_of starts a = some-turn net (wired net laws) (balanced net laws) rounds starts turns listed in
+      let rise : (a k : ℕ) → a < length net.times → start_at period starts a k ≤ start_at period starts a (k + 1) = λ a k actor. all-rise period (slice_index_or starts a []) (some a actor) (rises a actor) k in
+      let fed : AllFed net period starts = all-fed net (one_by_one net laws) (wired net laws) period starts (whole-starts net (wired net laws) (balanced net laws) rounds starts turns listed) some rise tests in
+      fed-hold passes turns listed rise fed
 
   module _ (holds : Holds net period rounds starts) where
     holds-rise : (a k : ℕ) → a < length net.times → start_at period starts a k ≤ start_at period starts a (k + 1)

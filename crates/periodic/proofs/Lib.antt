@@ -3,3 +3,4 @@ pub mod Feeding
 pub mod Bounds
 pub mod Cuts
 pub mod Needies
+pub mod Virtual

@@ -6,5 +6,5 @@ mod needs;
 mod schedule;
 mod turns;
 
-pub use laws::schedules_bound_the_rate;
+pub use laws::{loop_schedules_hold, schedules_bound_the_rate};
 pub use schedule::Periodic;
