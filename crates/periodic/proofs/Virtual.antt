@@ -1,9 +1,9 @@
 -- The periodic schedule of a loop holds: far enough on it is the earliest schedule, but for a constant.
-use Rattle.std.proofs.Common.{◌≡◌, ℕ, zero, suc, ◌+◌, ◌-◌, ◌*◌, ◌/◌, ◌%◌, ◌≤◌, ◌<◌, List, [], length, ⊎_elim, subst, sym, ap, ◌∙◌, arith, mod-lt, div-add-mod', mul-le-mul_left, mul-le-mul_right}
+use Rattle.std.proofs.Common.{◌≡◌, ℕ, zero, suc, ◌+◌, ◌-◌, ◌*◌, ◌/◌, ◌%◌, ◌≤◌, ◌<◌, List, [], length, ⊎_elim, sym, ap, ◌∙◌, arith, mod-lt, div-add-mod', mul-le-mul_left, mul-le-mul_right}
 use Rattle.std.proofs.lemmas.Bool.{cases_lt}
 use Rattle.std.specs.Prelude.{slice_index, slice_index_or}
 use Rattle.sd_base.specs.Net.{Net, channel_at}
-use Rattle.sd_base.specs.Schedules.{time_of, Needs, Schedule, count_of, start_of, end_of, Admissible, Earliest, HasInputs}
+use Rattle.sd_base.specs.Schedules.{time_of, Needs, count_of, start_of, end_of, Earliest, HasInputs}
 use Rattle.sd_base.specs.SelfTimed.{earliest}
 use Rattle.sd_base.specs.Lawful.{Lawful}
 use Rattle.sd_base.specs.Rates.{IsLoopTable}
@@ -13,10 +13,10 @@ use Rattle.sd_base.proofs.Counts.{early_at}
 use Rattle.sd_base.proofs.Tight.{earliest-within}
 use Rattle.sd_base.proofs.Rounds.{Whole, whole-rounds, whole-times, time-shift, needs-shift}
 use Rattle.sd_base.proofs.LoopRates.{table-repeats}
-use Rattle.periodic.specs.Periods.{start_in, start_at, HasRounds, Holds}
+use Rattle.periodic.specs.Periods.{start_at, Holds}
 use Rattle.periodic.specs.Loops.{IsLoopSchedule, LoopHolds}
 use Rattle.periodic.proofs.Recurring.{start-later, start-listed, some-turn}
-use Rattle.periodic.proofs.Feeding.{end_at, AllFed}
+use Rattle.periodic.proofs.Feeding.{AllFed}
 use Rattle.periodic.proofs.Cuts.{fed-hold}
 
 module _ (net : Net) (laws : Lawful net) (inputs : HasInputs net) (entry period rounds : ℕ) (before : List ℕ) (starts rows : List (List ℕ))

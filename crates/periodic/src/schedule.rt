@@ -31,8 +31,3 @@ impl Periodic {
             && all_fed(net, self.rounds, self.period, rows)
     }
 }
-
-#[cfg(test)]
-mod test {
-    use super::Periodic;
-}
