@@ -1,0 +1,6 @@
+pub mod Recurring
+pub mod Feeding
+pub mod Bounds
+pub mod Cuts
+pub mod Needies
+pub mod Virtual

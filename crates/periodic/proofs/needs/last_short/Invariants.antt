@@ -1,0 +1,10 @@
+use Rattle.std.proofs.Common.{◌≡◌, ◌*◌, ◌<◌, ◌≤◌}
+use Rattle.sd_base.specs.Net.{channel_at, total}
+use Rattle.periodic.proofs.needs.last_short.Given as goal
+
+abbrev pub invariant-loop-phase : goal.invariant-loop-phase
+invariant-loop-phase g l = record {
+  sum : l.sum ≡ total (channel_at (g.F.Firing.net l.net) l.channel).made l.phase;
+  small : l.sum ≤ l.phase * 1000000;
+  short : l.sum < l.wanted;
+}

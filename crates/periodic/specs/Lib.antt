@@ -1,0 +1,3 @@
+pub mod Periods
+pub mod Turns
+pub mod Loops

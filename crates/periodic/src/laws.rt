@@ -1,0 +1,14 @@
+ghost use Rattle.periodic.specs.Loops.{LoopHolds};
+ghost use Rattle.periodic.specs.Periods.{RoundsBelow};
+
+/// A periodic schedule that holds on a net whose actors all have an input shows that self-timed execution
+/// completes no fewer than its rounds in each of its periods, up to a constant. It does nothing.
+pub fn schedules_bound_the_rate()
+    ensures { RoundsBelow }
+{}
+
+/// The schedule of the loop of self-timed execution, read at the second pass and continued backwards to
+/// firing 0, holds on the net. It does nothing.
+pub fn loop_schedules_hold()
+    ensures { LoopHolds }
+{}

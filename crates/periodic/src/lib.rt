@@ -1,0 +1,10 @@
+//! Periodic schedules: whether one holds on a net for ever, by finitely many tests, and what it shows of the rate.
+#![tactic(auto)]
+
+mod laws;
+mod needs;
+mod schedule;
+mod turns;
+
+pub use laws::{loop_schedules_hold, schedules_bound_the_rate};
+pub use schedule::Periodic;
