@@ -4,7 +4,7 @@ ghost use Rattle.sd_base.specs.Schedules.{time_of, LastNeed};
 ghost use Rattle.critical.specs.Cycles.{IsStep, IsChain, last_of, time_along, HoldsOn};
 
 use firing::{Firing, know_laws, made_sum, taken_sum};
-use sd_base::Rows;
+use sd_base::{Fraction, Rows};
 
 /// A firing: an actor and the number of its firing, both from 0.
 #[derive(Clone, Copy, Debug, PartialEq, Eq)]
@@ -32,6 +32,14 @@ pub struct NeedCycle {
 }
 
 impl NeedCycle {
+    /// The bound on rates, in rounds per time unit.
+    pub fn bound(&self) -> Fraction
+        requires { 1 ≤ self.now.time }
+        ensures { result.num * self.now.time ≡ self.now.rounds * result.den }
+    {
+        Fraction::new(self.rounds, self.time)
+    }
+
     /// Whether this is a need cycle on a net, with its time and rounds. Cost: linear in the steps and the
     /// phases of the actors at their channels.
     pub fn holds<F: Firing>(&self, net: &F) -> bool
