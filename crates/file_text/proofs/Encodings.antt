@@ -70,20 +70,21 @@ over_front : (bytes : List ℕ) (p : ℕ) (is : IsEncodingAt bytes p)
 over_front bytes p is =
     let (x, outer, declares, along_start) = over_start true is.start is.is_start in
     let (y, ready, along_middle) = over_attributes true prolog (in_declaring declaring.Xml) declaration [] is.attributes is.middle (ready_declaring prolog) is.are_distinct
-        (new_allowed is.attributes is.is_new) is.are_attributes in
+    (new_allowed is.attributes is.is_new) is.are_attributes in
     let v : Shape = in_value declaration is.attributes (codes "encoding") is.quote (items_value is.items) in
     then true prolog at_start is.start prolog x (codes "<?xml" ++ (is.middle ++ (is.head ++ items_text is.items))) prolog v along_start
-      (then true prolog x (codes "<?xml") prolog (in_declaring declaring.Xml) (is.middle ++ (is.head ++ items_text is.items)) prolog v declares
-        (then true prolog (in_declaring declaring.Xml) is.middle prolog y (is.head ++ items_text is.items) prolog v along_middle
-          (then true prolog y is.head prolog (in_value declaration is.attributes (codes "encoding") is.quote []) (items_text is.items) prolog v
-            (over_head true prolog y declaration is.attributes (codes "encoding") is.quote is.head ready (new_name (codes "encoding") is.attributes is.is_new) is.is_head)
-            (over_value true prolog declaration is.attributes (codes "encoding") is.quote [] is.items is.are_quoted))))
+    (then true prolog x (codes "<?xml") prolog (in_declaring declaring.Xml) (is.middle ++ (is.head ++ items_text is.items)) prolog v declares
+    (then true prolog (in_declaring declaring.Xml) is.middle prolog y (is.head ++ items_text is.items) prolog v along_middle
+    (then true prolog y is.head prolog (in_value declaration is.attributes (codes "encoding") is.quote []) (items_text is.items) prolog v
+    (over_head true prolog y declaration is.attributes (codes "encoding") is.quote is.head ready (new_name (codes "encoding") is.attributes is.is_new) is.is_head)
+    (over_value true prolog declaration is.attributes (codes "encoding") is.quote [] is.items is.are_quoted))))
 
 -- and stops there
 is_other : (v : List ℕ) → (IsUtf8Name v → ⊥) → declares_other (codes "encoding") v ≡ true
 is_other v other = elim (cases_Bool (bytes_eq (str_to_ascii_lowercase v) (codes "utf-8"))) [
-    inl e ↦ absurd (other (bytes_same (str_to_ascii_lowercase v) (codes "utf-8") e))
-  | inr e ↦ rw e refl ]
+  | inl e ↦ absurd (other (bytes_same (str_to_ascii_lowercase v) (codes "utf-8") e))
+  | inr e ↦ rw e refl
+]
 
 stops_quote : (xs : List Attribute) (n : List ℕ) (q : ℕ) (v : List ℕ) (code : ℕ) → q ≡ code → class_of code ≡ Quote → declares_other n v ≡ true
     → advance true (prolog, in_value declaration xs n q v) q ≡ None
@@ -122,17 +123,17 @@ stopped bytes p is =
     let (loose_state, loose_run) = viable_run (take c bytes) (prefix_take c (c + 1) bytes (omega arith) is.viable) in
     let due : due_along (Some Nothing) (take c bytes) ≡ Some loose_state.due = (parts false (take c bytes) loose_state loose_run).0 in
     let along : walk true (Some (prolog, at_start)) (take c bytes) ≡ Some (prolog, in_value declaration is.attributes (codes "encoding") is.quote v) =
-        rw (take_front bytes p is) (rw append-nil at (over_front bytes p is [])) in
+    rw (take_front bytes p is) (rw append-nil at (over_front bytes p is [])) in
     let s : State = record { due = loose_state.due; spot = (prolog, in_value declaration is.attributes (codes "encoding") is.quote v) } in
     let before : run true (Some start) (take c bytes) ≡ Some s = run_parts true (take c bytes) ∙ rw (due, along) refl in
     let stops : advance true (prolog, in_value declaration is.attributes (codes "encoding") is.quote v) is.quote ≡ None =
-        stops_here is.attributes (codes "encoding") is.quote v is.is_head.is_quote (is_other v is.other) in
+    stops_here is.attributes (codes "encoding") is.quote v is.is_head.is_quote (is_other v is.other) in
     record {
       state = s;
       before = before;
       over = run_more true bytes c s (closing_within bytes p is) before
-        ∙ ap (λ b. move true s b) (quote_at bytes p is)
-        ∙ both-none_spot (due_after loose_state.due is.quote) (advance true s.spot is.quote) stops;
+          ∙ ap (λ b. move true s b) (quote_at bytes p is)
+          ∙ both-none_spot (due_after loose_state.due is.quote) (advance true s.spot is.quote) stops;
     }
 
 -- behind a stop there is no run
@@ -147,8 +148,9 @@ some_none o s p q = let both : Some s ≡ None = sym p ∙ q in cc
 -- a strict run to where the bytes leave the grammar has met no such encoding
 pub no_encoding : (bytes : List ℕ) (n : ℕ) (s : State) (p : ℕ) → run true (Some start) (take n bytes) ≡ Some s → LeavesAt bytes n → IsEncodingAt bytes p → ⊥
 no_encoding bytes n s p here leaves is = elim (cases_lt (closing bytes p is) n) [
-    inl before ↦ some_none (run true (Some start) (take n bytes)) s here (none_behind bytes (closing bytes p is + 1) n (omega arith) (stopped bytes p is).over)
-  | inr behind ↦ leaves.stops (let within = closing_within bytes p is in omega arith) (prefix_take (n + 1) (closing bytes p is + 1) bytes (omega arith) is.viable) ]
+  | inl before ↦ some_none (run true (Some start) (take n bytes)) s here (none_behind bytes (closing bytes p is + 1) n (omega arith) (stopped bytes p is).over)
+  | inr behind ↦ leaves.stops (let within = closing_within bytes p is in omega arith) (prefix_take (n + 1) (closing bytes p is + 1) bytes (omega arith) is.viable)
+]
 
 -- a text that is spelled declares none
 pub spelled_no_encoding : (bytes : List ℕ) (e : Node) (p : ℕ) → IsText e bytes → IsEncodingAt bytes p → ⊥
@@ -161,9 +163,10 @@ spelled_no_encoding bytes e p (xs, spells, fits) is =
 -- there is at most one closing quote
 one_closing : (bytes : List ℕ) (m n : ℕ) → Stopped bytes m → Stopped bytes n → m ≡ n
 one_closing bytes m n p q = elim (cases_order m n) [
-    inl same ↦ same
+  | inl same ↦ same
   | inr (inl lt) ↦ absurd (some_none (run true (Some start) (take n bytes)) q.state q.before (none_behind bytes (m + 1) n (omega arith) p.over))
-  | inr (inr gt) ↦ absurd (some_none (run true (Some start) (take m bytes)) p.state p.before (none_behind bytes (n + 1) m (omega arith) q.over)) ]
+  | inr (inr gt) ↦ absurd (some_none (run true (Some start) (take m bytes)) p.state p.before (none_behind bytes (n + 1) m (omega arith) q.over))
+]
 
 -- no quote stands in a value
 abbrev pub Lacks : ℕ → List ℕ → Type 0
@@ -230,13 +233,14 @@ value_place bytes g items n q p within e lacks is =
     let whole : n ≡ length (g ++ q ∷ []) + length items = sym (length-take-le n bytes within) ∙ ap length e ∙ length-append (g ++ q ∷ []) items in
     let size : length (g ++ q ∷ []) ≡ length g + 1 = length-append g (q ∷ []) in
     let quote : slice_index bytes (length g) ≡ q =
-        sym (get_or-take n bytes (length g) 0 (omega arith)) ∙ ap (λ s. slice_index s (length g)) (e ∙ append_assoc g (q ∷ []) items) ∙ get_or_at g q items 0 (length g) refl in
+    sym (get_or-take n bytes (length g) 0 (omega arith)) ∙ ap (λ s. slice_index s (length g)) (e ∙ append_assoc g (q ∷ []) items) ∙ get_or_at g q items 0 (length g) refl in
     elim (cases_order p (length (g ++ q ∷ []))) [
-      inl same ↦ same
-    | inr (inl lt) ↦ absurd (is.last (length g) (omega arith) (omega arith) quote)
-    | inr (inr gt) ↦ absurd (let p_within = is.within in
-        lacks_index q items (p - 1 - length (g ++ q ∷ [])) lacks (omega arith)
-          (sym (in_front bytes (g ++ q ∷ []) items n (p - 1) e (omega arith) (omega arith)) ∙ is.behind (omega arith))) ]
+      | inl same ↦ same
+      | inr (inl lt) ↦ absurd (is.last (length g) (omega arith) (omega arith) quote)
+      | inr (inr gt) ↦ absurd (let p_within = is.within in
+          lacks_index q items (p - 1 - length (g ++ q ∷ [])) lacks (omega arith)
+          (sym (in_front bytes (g ++ q ∷ []) items n (p - 1) e (omega arith) (omega arith)) ∙ is.behind (omega arith)))
+    ]
 
 split_at : (bytes : List ℕ) (n : ℕ) → n < length bytes → bytes ≡ take n bytes ++ (slice_index bytes n ∷ drop (n + 1) bytes)
 split_at bytes n lt = sym (take-append-drop n bytes) ∙ ap (λ t. take n bytes ++ t) (rw add-one (drop-cons bytes n 0 lt))
@@ -248,12 +252,12 @@ encoding_in bytes n p a (in_value declaration xs name q v) lt viable has (same, 
     let (is_prolog, (u, is_start, begun)) = has.tagged.is_front in
     let named : name ≡ codes "encoding" = bytes_same name (codes "encoding") (and_parts (bytes_eq name (codes "encoding")) (not (bytes_eq (str_to_ascii_lowercase v) (codes "utf-8"))) other).0 in
     let no_utf8 : bytes_eq (str_to_ascii_lowercase v) (codes "utf-8") ≡ false =
-        not-true (bytes_eq (str_to_ascii_lowercase v) (codes "utf-8")) (and_parts (bytes_eq name (codes "encoding")) (not (bytes_eq (str_to_ascii_lowercase v) (codes "utf-8"))) other).1 in
+    not-true (bytes_eq (str_to_ascii_lowercase v) (codes "utf-8")) (and_parts (bytes_eq name (codes "encoding")) (not (bytes_eq (str_to_ascii_lowercase v) (codes "utf-8"))) other).1 in
     let head = has.is_head in
     let g : List ℕ = u ++ (codes "<?xml" ++ (has.tagged.middle ++ (head.gap ++ (name ++ (head.before ++ (61 ∷ head.after)))))) in
     let read : take n bytes ≡ (g ++ q ∷ []) ++ items_text has.items = rw (has.spelled, has.tagged.spelled, begun, head.spelled) (simp append_assoc) in
     let place : p ≡ length (g ++ q ∷ []) =
-        value_place bytes g (items_text has.items) n q p (omega arith) read (items_lack q has.items head.is_quote has.are_quoted) (rw same at behind) in
+    value_place bytes g (items_text has.items) n q p (omega arith) read (items_lack q has.items head.is_quote has.are_quoted) (rw same at behind) in
     let size : n ≡ length (g ++ q ∷ []) + length (items_text has.items) = sym (length-take-le n bytes (omega arith)) ∙ ap length read ∙ length-append (g ++ q ∷ []) (items_text has.items) in
     record {
       start = u;
@@ -288,8 +292,8 @@ place_behind : (bytes : List ℕ) (p : ℕ) (is : IsEncodingAt bytes p) → p �
 unfolding before_quote
 place_behind bytes p is =
     let whole : is.start ++ (codes "<?xml" ++ (is.middle ++ is.head))
-          ≡ (is.start ++ (codes "<?xml" ++ (is.middle ++ (is.is_head.gap ++ (codes "encoding" ++ (is.is_head.before ++ (61 ∷ is.is_head.after))))))) ++ is.quote ∷ [] =
-        rw is.is_head.spelled (simp append_assoc) in
+    ≡ (is.start ++ (codes "<?xml" ++ (is.middle ++ (is.is_head.gap ++ (codes "encoding" ++ (is.is_head.before ++ (61 ∷ is.is_head.after))))))) ++ is.quote ∷ [] =
+    rw is.is_head.spelled (simp append_assoc) in
     is.place ∙ ap length whole
     ∙ length-append (is.start ++ (codes "<?xml" ++ (is.middle ++ (is.is_head.gap ++ (codes "encoding" ++ (is.is_head.before ++ (61 ∷ is.is_head.after))))))) (is.quote ∷ [])
 
@@ -300,7 +304,7 @@ encoding_same bytes p q a b =
     let quotes : a.quote ≡ b.quote = sym (quote_at bytes p a) ∙ ap (λ n. slice_index bytes n) closings ∙ quote_at bytes q b in
     let fronts : front bytes p a ≡ front bytes q b = sym (take_front bytes p a) ∙ ap (λ n. take n bytes) closings ∙ take_front bytes q b in
     let same : before_quote bytes p a ++ (a.quote ∷ items_text a.items) ≡ before_quote bytes q b ++ (a.quote ∷ items_text b.items) =
-        sym (front_quote bytes p a) ∙ fronts ∙ front_quote bytes q b ∙ ap (λ x. before_quote bytes q b ++ (x ∷ items_text b.items)) (sym quotes) in
+    sym (front_quote bytes p a) ∙ fronts ∙ front_quote bytes q b ∙ ap (λ x. before_quote bytes q b ++ (x ∷ items_text b.items)) (sym quotes) in
     let lacks : Lacks a.quote (items_text b.items) = rw quotes (items_lack b.quote b.items b.is_head.is_quote b.are_quoted) in
     let lengths = last_quote a.quote (before_quote bytes p a) (before_quote bytes q b) (items_text a.items) (items_text b.items) same (items_lack a.quote a.items a.is_head.is_quote a.are_quoted) lacks in
     place_behind bytes p a ∙ ap (λ n. n + 1) lengths ∙ sym (place_behind bytes q b)

@@ -49,12 +49,12 @@ whole_end n whole = due_along-append (Some Nothing) n (62 ∷ []) ∙ ap (λ o. 
 finish_all : (os : List Opened) (o : Opened) → Each (λ p. IsName p.name) (o ∷ os) → AreWhole (o ∷ os) → Finishes Nothing (within o os) at_between
 finish_all [] o names whole =
     by_way Nothing Nothing (within o []) at_between (60 ∷ (47 ∷ (o.name ++ ([] ++ 62 ∷ [])))) (epilog (node_of o)) at_between
-      (over_end_tag false o [] [] names.0 tt) (whole_end o.name whole.0)
-      (record { rest = []; root = node_of o; reads = refl; whole = refl })
+    (over_end_tag false o [] [] names.0 tt) (whole_end o.name whole.0)
+    (record { rest = []; root = node_of o; reads = refl; whole = refl })
 finish_all (p ∷ os) o names whole =
     by_way Nothing Nothing (within o (p ∷ os)) at_between (60 ∷ (47 ∷ (o.name ++ ([] ++ 62 ∷ [])))) (ended (p ∷ os) (node_of o)) at_between
-      (over_end_tag false o (p ∷ os) [] names.0 tt) (whole_end o.name whole.0)
-      (finish_all os (record { name = p.name; attributes = p.attributes; children = p.children ++ node_of o ∷ [] }) names.1 whole.1)
+    (over_end_tag false o (p ∷ os) [] names.0 tt) (whole_end o.name whole.0)
+    (finish_all os (record { name = p.name; attributes = p.attributes; children = p.children ++ node_of o ∷ [] }) names.1 whole.1)
 
 pub finish_between : (a : Around) → Env a → Finishes Nothing a at_between
 unfolding table
@@ -70,7 +70,7 @@ finish_ended (o ∷ os) e names whole = finish_all os (record { name = o.name; a
 finish_tag : (a : Around) (y : Shape) (n : List ℕ) (xs : List Attribute) → Env a → Ready a y (tag n) xs → Finishes Nothing a y
 finish_tag a y n xs env ready =
     by_way Nothing Nothing a y (codes "/>") (ended (open_of a) (node n xs no_node)) at_between (empty_ends false a y n xs ready) refl
-      (finish_ended (open_of a) (node n xs no_node) env.names env.whole)
+    (finish_ended (open_of a) (node n xs no_node) env.names env.whole)
 
 finish_declared : (a : Around) (y : Shape) (xs : List Attribute) → Env a → xs ≢ [] → Ready a y declaration xs → Finishes Nothing a y
 finish_declared a y xs env some ready =
@@ -96,8 +96,8 @@ finish_gap a (tag n) xs env = finish_tag a (at_gap (tag n) xs) n xs env (ready_g
 finish_gap a declaration (x ∷ xs) env = finish_declared a (at_gap declaration (x ∷ xs)) (x ∷ xs) env (λ e. cc) (ready_gap a declaration (x ∷ xs))
 finish_gap a declaration [] env =
     by_way Nothing Nothing a (at_gap declaration []) (97 ∷ 61 ∷ 34 ∷ 34 ∷ []) a (at_valued declaration (record { name = 97 ∷ []; value = [] } ∷ [])) (λ rest. refl) refl
-      (finish_declared a (at_valued declaration (record { name = 97 ∷ []; value = [] } ∷ [])) (record { name = 97 ∷ []; value = [] } ∷ []) env (λ e. cc)
-        (ready_valued a declaration (record { name = 97 ∷ []; value = [] } ∷ [])))
+    (finish_declared a (at_valued declaration (record { name = 97 ∷ []; value = [] } ∷ [])) (record { name = 97 ∷ []; value = [] } ∷ []) env (λ e. cc)
+    (ready_valued a declaration (record { name = 97 ∷ []; value = [] } ∷ [])))
 
 pub finish_valued : (a : Around) (h : Holder) (xs : List Attribute) → Env a → Finishes Nothing a (at_valued h xs)
 unfolding table
@@ -118,8 +118,8 @@ quote_due q (inr e) = rw e refl
 pub finish_value : (a : Around) (h : Holder) (xs : List Attribute) (n : List ℕ) (q : ℕ) (v : List ℕ) → (q ≡ 34) ⊎ (q ≡ 39) → Env a → Finishes Nothing a (in_value h xs n q v)
 finish_value a h xs n q v quote env =
     by_way Nothing Nothing a (in_value h xs n q v) (q ∷ []) a (at_valued h (xs ++ record { name = n; value = v } ∷ []))
-      (over_end false a h xs n q v quote (any_allowed h (record { name = n; value = v }))) (quote_due q quote)
-      (finish_valued a h (xs ++ record { name = n; value = v } ∷ []) env)
+    (over_end false a h xs n q v quote (any_allowed h (record { name = n; value = v }))) (quote_due q quote)
+    (finish_valued a h (xs ++ record { name = n; value = v } ∷ []) env)
 
 pub finish_equals : (a : Around) (h : Holder) (xs : List Attribute) (n : List ℕ) → Env a → Finishes Nothing a (at_equals h xs n)
 unfolding table
@@ -167,8 +167,8 @@ finish_attribute a h xs n env =
     let long : names_size xs < length (n ++ letters k) = omega (arith, length-append n (letters k), length-letters k) in
     let new : has_name (n ++ letters k) xs ≡ false = new_name (n ++ letters k) xs (longer_new (n ++ letters k) xs long) in
     by_way Nothing Nothing a (in_attribute h xs n) (letters k) a (in_attribute h xs (n ++ letters k))
-      (over_name false a (λ m. in_attribute h xs m)
-        (λ m c e. at_name (λ d. follow false (table a (in_attribute h xs m) d c) ≡ Some (a, in_attribute h xs (m ++ c ∷ []))) c e refl refl refl refl) n (letters k) (letters_named k))
-      (letters_due k)
-      (by_way Nothing Nothing a (in_attribute h xs (n ++ letters k)) (61 ∷ []) a (at_equals h xs (n ++ letters k))
-        (over_equals false a h xs (n ++ letters k) [] new tt) refl (finish_equals a h xs (n ++ letters k) env))
+    (over_name false a (λ m. in_attribute h xs m)
+    (λ m c e. at_name (λ d. follow false (table a (in_attribute h xs m) d c) ≡ Some (a, in_attribute h xs (m ++ c ∷ []))) c e refl refl refl refl) n (letters k) (letters_named k))
+    (letters_due k)
+    (by_way Nothing Nothing a (in_attribute h xs (n ++ letters k)) (61 ∷ []) a (at_equals h xs (n ++ letters k))
+    (over_equals false a h xs (n ++ letters k) [] new tt) refl (finish_equals a h xs (n ++ letters k) env))

@@ -236,13 +236,13 @@ ends_mark : (a : Around) (m : Mark) (d : Due) → a ≡ prolog → IsTidyShape d
 unfolding table
 ends_mark a mark_read.First d is due = subst (λ (c : Around). Finishes d c (in_mark mark_read.First)) (sym is)
     (subst (λ (e : Due). Finishes e prolog (in_mark mark_read.First)) (sym due)
-      (record { rest = 0xBB ∷ 0xBF ∷ codes "<a/>"; root = node (codes "a") [] no_node; reads = refl; whole = refl }))
+    (record { rest = 0xBB ∷ 0xBF ∷ codes "<a/>"; root = node (codes "a") [] no_node; reads = refl; whole = refl }))
 ends_mark a mark_read.Second d is due = subst (λ (c : Around). Finishes d c (in_mark mark_read.Second)) (sym is)
     (subst (λ (e : Due). Finishes e prolog (in_mark mark_read.Second)) (sym due)
-      (record { rest = 0xBF ∷ codes "<a/>"; root = node (codes "a") [] no_node; reads = refl; whole = refl }))
+    (record { rest = 0xBF ∷ codes "<a/>"; root = node (codes "a") [] no_node; reads = refl; whole = refl }))
 ends_mark a mark_read.Whole d is due = subst (λ (c : Around). Finishes d c (in_mark mark_read.Whole)) (sym is)
     (subst (λ (e : Due). Finishes e prolog (in_mark mark_read.Whole)) (sym due)
-      (record { rest = codes "<a/>"; root = node (codes "a") [] no_node; reads = refl; whole = refl }))
+    (record { rest = codes "<a/>"; root = node (codes "a") [] no_node; reads = refl; whole = refl }))
 
 ends_first : (a : Around) → a ≡ prolog → Finishes Nothing a at_first
 unfolding table
@@ -288,7 +288,7 @@ ends_slash : (a : Around) (n : List ℕ) (xs : List Attribute) → Env a → Fin
 unfolding table
 ends_slash a n xs env =
     by_way Nothing Nothing a (at_slash n xs) (codes ">") (ended (open_of a) (node n xs no_node)) at_between (λ rest. refl) refl
-      (finish_ended (open_of a) (node n xs no_node) env.names env.whole)
+    (finish_ended (open_of a) (node n xs no_node) env.names env.whole)
 
 ends_ending : (a : Around) → Env a → Finishes Nothing a at_ending
 unfolding table
@@ -302,8 +302,8 @@ unfolding table
 ends_closing prolog left t d env has due = absurd has
 ends_closing (within o os) left t d env (u, p, w, before, same, white, place, spelled) due =
     by_way d Nothing (within o os) (in_closing left) left (within o os) (in_closing []) (over_matched false (within o os) left (left_named p left o.name same env.names.0)) due
-      (by_way Nothing Nothing (within o os) (in_closing []) (codes ">") (ended os (node_of o)) at_between (λ rest. refl) refl
-        (finish_ended os (node_of o) env.names.1 env.whole.1))
+    (by_way Nothing Nothing (within o os) (in_closing []) (codes ">") (ended os (node_of o)) at_between (λ rest. refl) refl
+    (finish_ended os (node_of o) env.names.1 env.whole.1))
 ends_closing (epilog e) left t d env has due = absurd has
 
 -- from each shape
@@ -325,7 +325,7 @@ finishes d a (in_value h xs n q v) t env has tidy =
     fill_growing d a (λ m. in_value h xs n q m) v tidy.proper (λ m b. refl) (λ m. finish_value a h xs n q m has.is_head.is_quote env)
 finishes d a (in_value_reference h xs n q v r) t env has tidy = nothing_due d a (in_value_reference h xs n q v r) tidy.shape.0
     (by_way Nothing Nothing a (in_value_reference h xs n q v r) (reference_rest r) a (in_value h xs n q (v ++ reference_code r ∷ [])) (value_reference_rest a h xs n q v r) (reference_due r)
-      (finish_value a h xs n q (v ++ reference_code r ∷ []) has.1.is_head.is_quote env))
+    (finish_value a h xs n q (v ++ reference_code r ∷ []) has.1.is_head.is_quote env))
 finishes d a (at_valued h xs) t env has tidy = nothing_due d a (at_valued h xs) tidy.shape.0 (finish_valued a h xs env)
 finishes d a (at_slash n xs) t env has tidy = nothing_due d a (at_slash n xs) tidy.shape.0 (ends_slash a n xs env)
 finishes d a at_ending t env has tidy = nothing_due d a at_ending tidy.shape (ends_ending a env)

@@ -34,18 +34,21 @@ completes strict xs e t is allowed =
 pub sounds : (strict : Bool) (e : Node) (t : List ℕ) → walk strict (Some (prolog, at_start)) t ≡ Some (epilog e, at_between) → due_along (Some Nothing) t ≡ Some Nothing
     → (xs : List Attribute) × Spells xs e t × Each (Allowed strict) xs
 sounds strict e t spot due =
-    let closed : IsClosed strict e t = subst (λ (o : Option Spot). Holds strict o t) spot (holds strict t) in
-    (closed.declared, record {
-      prolog = closed.front;
-      root = closed.root;
-      misc = closed.misc;
-      is_prolog = closed.is_front;
-      is_root = closed.is_root;
-      is_misc = closed.is_misc;
-      spelled = closed.spelled;
-      shallow = closed.shallow;
-      utf8 = IsUtf8-due_along t due;
-    }, closed.allowed)
+    let closed : IsClosed strict e t = subst (λ (o : Option Spot). Holds strict o t) spot (holds strict t) in (
+      closed.declared,
+      record {
+        prolog = closed.front;
+        root = closed.root;
+        misc = closed.misc;
+        is_prolog = closed.is_front;
+        is_root = closed.is_root;
+        is_misc = closed.is_misc;
+        spelled = closed.spelled;
+        shallow = closed.shallow;
+        utf8 = IsUtf8-due_along t due;
+      },
+      closed.allowed,
+    )
 
 -- the two parts of a state
 pub both_parts : (d : Option Due) (o : Option Spot) (s : State) → both d o ≡ Some s → (d ≡ Some s.due) × (o ≡ Some s.spot)
@@ -78,7 +81,7 @@ alive t s e =
     let (due, spot) = parts false t s e in
     let whole : due_along (Some Nothing) (t ++ f.rest) ≡ Some Nothing = due_along-append (Some Nothing) t f.rest ∙ ap (λ o. due_along o f.rest) due ∙ f.whole in
     let read : walk false (Some (prolog, at_start)) (t ++ f.rest) ≡ Some (epilog f.root, at_between) =
-        walk-append false (Some (prolog, at_start)) t f.rest ∙ ap (λ o. walk false o f.rest) spot ∙ f.reads in
+    walk-append false (Some (prolog, at_start)) t f.rest ∙ ap (λ o. walk false o f.rest) spot ∙ f.reads in
     let (xs, is, allowed) = sounds false f.root (t ++ f.rest) read whole in
     (f.rest, f.root, (xs, is))
 

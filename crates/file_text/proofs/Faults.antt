@@ -105,10 +105,17 @@ deep_known bytes n s d (within o os) at_markup lt here spot due begins =
     let none : s.due ≡ Nothing = subst (λ (p : Spot). IsTidyShape s.due p.0 p.1) spot tidy.shape in
     let (u, goes_on) = slash_goes o os s.due none in
     let slash : run false (Some start) (take n bytes ++ codes "/") ≡ Some u =
-        run-append false (Some start) (take n bytes) (codes "/") ∙ ap (λ o. run false o (codes "/")) (loose (take n bytes) s here)
-        ∙ ap (λ (p : Spot). run false (both (due_after s.due 47) (advance false p 47)) []) spot ∙ ap (λ o. run false o []) goes_on in
-    (behind.0, (omega arith, stands_less bytes (n - 1) (omega arith) behind.1, lt,
-      start_begins (slice_index bytes n) d begins (rw none at due), alive (take n bytes ++ codes "/") u slash))
+    run-append false (Some start) (take n bytes) (codes "/") ∙ ap (λ o. run false o (codes "/")) (loose (take n bytes) s here)
+    ∙ ap (λ (p : Spot). run false (both (due_after s.due 47) (advance false p 47)) []) spot ∙ ap (λ o. run false o []) goes_on in (
+      behind.0,
+      (
+        omega arith,
+        stands_less bytes (n - 1) (omega arith) behind.1,
+        lt,
+        start_begins (slice_index bytes n) d begins (rw none at due),
+        alive (take n bytes ++ codes "/") u slash,
+      ),
+    )
 deep_known bytes n s d a x lt here spot due deep = absurd deep
 
 both-none_spot : (d : Option Due) (o : Option Spot) → o ≡ None → both d o ≡ None
@@ -140,7 +147,7 @@ run_one strict (Some s) = refl
 before_last : (bytes : List ℕ) (p : ℕ) (s : State) (o : Option State) → p < length bytes → run true (Some start) (take (p + 1) bytes) ≡ Some s → run true (Some start) (take p bytes) ≡ o → Before bytes p s
 before_last bytes p s None lt here e =
     let none : run true (Some start) (take (p + 1) bytes) ≡ None =
-        ap (λ t. run true (Some start) t) (take_more bytes p 0 lt) ∙ run-append true (Some start) (take p bytes) (slice_index bytes p ∷ []) ∙ ap (λ o. run true o (slice_index bytes p ∷ [])) e in
+    ap (λ t. run true (Some start) t) (take_more bytes p 0 lt) ∙ run-append true (Some start) (take p bytes) (slice_index bytes p ∷ []) ∙ ap (λ o. run true o (slice_index bytes p ∷ [])) e in
     let both : None ≡ Some s = sym none ∙ here in
     cc
 before_last bytes p s (Some t) lt here e = record {
@@ -183,10 +190,11 @@ not_deep bytes n p s here refuses (place, stands, lt, begins, viable) =
     let behind : IsBehindLess s.spot.1 = behind_step (table last.state.spot.0 last.state.spot.1 Less 60) s.spot (behind_less last.state.spot.0 last.state.spot.1) spot_less in
     let (u, goes_on) = viable_run (take n bytes ++ codes "/") viable in
     let slash : both (due_after s.due 47) (advance false s.spot 47) ≡ Some u =
-        sym (run-append false (Some start) (take n bytes) (codes "/") ∙ ap (λ o. run false o (codes "/")) (loose (take n bytes) s here) ∙ run_one false (move false s 47)) ∙ goes_on in
+    sym (run-append false (Some start) (take n bytes) (codes "/") ∙ ap (λ o. run false o (codes "/")) (loose (take n bytes) s here) ∙ run_one false (move false s 47)) ∙ goes_on in
     elim refuses [
-      inl no_due ↦ begins_due (slice_index bytes n) begins (rw none at no_due)
-    | inr refusal ↦ slash_refused s.spot.0 s.spot.1 (slice_index bytes n) behind (λ e. spot_none (due_after s.due 47) (advance false s.spot 47) u slash e) (begins_start (slice_index bytes n) begins) refusal ]
+      | inl no_due ↦ begins_due (slice_index bytes n) begins (rw none at no_due)
+      | inr refusal ↦ slash_refused s.spot.0 s.spot.1 (slice_index bytes n) behind (λ e. spot_none (due_after s.due 47) (advance false s.spot 47) u slash e) (begins_start (slice_index bytes n) begins) refusal
+    ]
 
 -- the fault where a byte is refused, and where the bytes end too early
 pub record Stops (bytes : List ℕ) (n : ℕ) : Type 0 where
@@ -240,7 +248,7 @@ deep_fault bytes n s d lt here due step =
     let stops : move false s (slice_index bytes n) ≡ None = both-none_spot (due_after s.due (slice_index bytes n)) (advance false s.spot (slice_index bytes n)) (rw step refl) in
     let there = leaves_at bytes n s (omega arith) here (λ _. stops) (λ e. absurd (omega arith)) in
     let known = deep_known bytes n s d s.spot.0 s.spot.1 lt here refl due
-        (subst (λ (x : Step). Shows s.spot.0 s.spot.1 (slice_index bytes n) x) step (shows s.spot.0 s.spot.1 (slice_index bytes n))) in
+    (subst (λ (x : Step). Shows s.spot.0 s.spot.1 (slice_index bytes n) x) step (shows s.spot.0 s.spot.1 (slice_index bytes n))) in
     (known.0, ((λ p. no_encoding bytes n s p here there), (n, there, known.1)))
 
 -- another encoding
@@ -251,4 +259,4 @@ other_fault bytes n p s d c y lt here due step behind =
     let goes_on : move false s (slice_index bytes n) ≡ Some (record { due = d; spot = (c, y) }) = rw (due, step) refl in
     let next : run false (Some start) (take (n + 1) bytes) ≡ Some (record { due = d; spot = (c, y) }) = run_more false bytes n s lt (loose (take n bytes) s here) ∙ goes_on in
     encoding_in bytes n p s.spot.0 s.spot.1 lt (alive (take (n + 1) bytes) (record { due = d; spot = (c, y) }) next) (has_at true (take n bytes) s here)
-      (subst (λ (x : Step). Shows s.spot.0 s.spot.1 (slice_index bytes n) x) step (shows s.spot.0 s.spot.1 (slice_index bytes n))) behind
+    (subst (λ (x : Step). Shows s.spot.0 s.spot.1 (slice_index bytes n) x) step (shows s.spot.0 s.spot.1 (slice_index bytes n))) behind

@@ -29,9 +29,9 @@ when_byte P b k s u p q = elim (cases_Bool (eqb b k)) [ inl e ↦ rw e (p (eqb-t
 pub refers : (r : Reference) (b : ℕ) → Refers r b (referred r b)
 refers reference.Ampersand b =
     when_byte (λ s. Refers reference.Ampersand b s) b 108 _ _ (λ e. rw e refl)
-      (when_byte (λ s. Refers reference.Ampersand b s) b 103 _ _ (λ e. rw e refl)
-        (when_byte (λ s. Refers reference.Ampersand b s) b 97 _ _ (λ e. rw e refl)
-          (when_byte (λ s. Refers reference.Ampersand b s) b 113 _ _ (λ e. rw e refl) tt)))
+    (when_byte (λ s. Refers reference.Ampersand b s) b 103 _ _ (λ e. rw e refl)
+    (when_byte (λ s. Refers reference.Ampersand b s) b 97 _ _ (λ e. rw e refl)
+    (when_byte (λ s. Refers reference.Ampersand b s) b 113 _ _ (λ e. rw e refl) tt)))
 refers reference.L b = when_byte (λ s. Refers reference.L b s) b 116 _ _ (λ e. rw e refl) tt
 refers reference.G b = when_byte (λ s. Refers reference.G b s) b 116 _ _ (λ e. rw e refl) tt
 refers reference.A b =
@@ -76,24 +76,27 @@ keeps_slash strict a n xs t c b k has = tt
 declares : (strict : Bool) (xs : List Attribute) (u w t : List ℕ) → Tagged strict prolog declaration xs u → xs ≢ [] → IsWhite w → t ≡ u ++ (w ++ codes "?")
     → Reached strict prolog (t ++ 62 ∷ [])
 declares strict xs u w t tagged some white spelled =
-    let (same, (start, is_start, front)) = tagged.is_front in
-    (xs, record {
-      start = start;
-      declaration = codes "<?xml" ++ (tagged.middle ++ (w ++ codes "?>"));
-      misc = [];
-      is_start = is_start;
-      is_declaration = inr (record {
-        middle = tagged.middle;
-        gap = w;
-        some = some;
-        are_attributes = tagged.are_attributes;
-        are_distinct = tagged.are_distinct;
-        white = white;
-        spelled = refl;
-      });
-      is_misc = ([], tt, refl);
-      spelled = rw (spelled, tagged.spelled, front) (simp (append_assoc, append-nil));
-    }, tagged.allowed)
+    let (same, (start, is_start, front)) = tagged.is_front in (
+      xs,
+      record {
+        start = start;
+        declaration = codes "<?xml" ++ (tagged.middle ++ (w ++ codes "?>"));
+        misc = [];
+        is_start = is_start;
+        is_declaration = inr (record {
+          middle = tagged.middle;
+          gap = w;
+          some = some;
+          are_attributes = tagged.are_attributes;
+          are_distinct = tagged.are_distinct;
+          white = white;
+          spelled = refl;
+        });
+        is_misc = ([], tt, refl);
+        spelled = rw (spelled, tagged.spelled, front) (simp (append_assoc, append-nil));
+      },
+      tagged.allowed,
+    )
 
 not_within : (o : Opened) (os : List Opened) → within o os ≡ prolog → ⊥
 not_within o os e = cc
@@ -112,17 +115,21 @@ leaves_element : (strict : Bool) (o : Opened) (os : List Opened) (u p w t : List
     → Reached strict (ended os (node_of o)) (t ++ 62 ∷ [])
 leaves_element strict o os u p w t (front, opening, before, (tag_text, inner, is_tag, content, opens), spelled_before, deep) same white spelled =
     let name : p ≡ o.name = sym (append-nil p) ∙ same in
-    let element : IsElement (node_of o) (tag_text ++ (62 ∷ (inner ++ (60 ∷ (47 ∷ (o.name ++ (w ++ 62 ∷ []))))))) =
-        (tag_text, 62 ∷ (inner ++ (60 ∷ (47 ∷ (o.name ++ (w ++ 62 ∷ []))))), is_tag,
-          inr (record { inner = inner; gap = w; content = content; white = white; spelled = refl }), refl) in
+    let element : IsElement (node_of o) (tag_text ++ (62 ∷ (inner ++ (60 ∷ (47 ∷ (o.name ++ (w ++ 62 ∷ []))))))) = (
+      tag_text,
+      62 ∷ (inner ++ (60 ∷ (47 ∷ (o.name ++ (w ++ 62 ∷ []))))),
+      is_tag,
+      inr (record { inner = inner; gap = w; content = content; white = white; spelled = refl }),
+      refl,
+    ) in
     subst (λ (s : List ℕ). Reached strict (ended os (node_of o)) s) (sym (rw (spelled, spelled_before, opens, name) (simp append_assoc)))
-      (closes strict os (node_of o) front (tag_text ++ (62 ∷ (inner ++ (60 ∷ (47 ∷ (o.name ++ (w ++ 62 ∷ []))))))) before element (omega arith))
+    (closes strict os (node_of o) front (tag_text ++ (62 ∷ (inner ++ (60 ∷ (47 ∷ (o.name ++ (w ++ 62 ∷ []))))))) before element (omega arith))
 
 matches : (strict : Bool) (o : Opened) (os : List Opened) (x : ℕ) (left t : List ℕ) (b : ℕ) → IsClosing strict (within o os) (x ∷ left) t
     → After strict (cond (eqb x b) (goes (within o os) (in_closing left)) leaves) (t ++ b ∷ [])
 matches strict o os x left t b (u, p, w, before, same, white, inl none, spelled) =
     when_same (λ s. After strict s (t ++ b ∷ [])) x b (goes (within o os) (in_closing left)) leaves
-      (λ e. (u, p ++ x ∷ [], [], before, append_assoc p (x ∷ []) left ∙ same, tt, inl refl, rw (spelled, none, ← e) (simp append_assoc))) tt
+    (λ e. (u, p ++ x ∷ [], [], before, append_assoc p (x ∷ []) left ∙ same, tt, inl refl, rw (spelled, none, ← e) (simp append_assoc))) tt
 matches strict o os x left t b (u, p, w, before, same, white, inr none, spelled) = cc
 
 keeps_closing : (strict : Bool) (a : Around) (left t : List ℕ) (c : Class) (b : ℕ) → Known c b → Has strict a (in_closing left) t → After strict (closing_step a left c b) (t ++ b ∷ [])
@@ -167,7 +174,7 @@ holds_from strict None front t has = tt
 holds_from strict (Some s) front [] has = rw append-nil has
 holds_from strict (Some s) front (b ∷ t) has =
     subst (λ (u : List ℕ). Holds strict (walk strict (advance strict s b) t) u) (append_assoc front (b ∷ []) t)
-      (holds_from strict (advance strict s b) (front ++ b ∷ []) t (keeps strict s.0 s.1 front b has))
+    (holds_from strict (advance strict s b) (front ++ b ∷ []) t (keeps strict s.0 s.1 front b has))
 
 pub holds : (strict : Bool) (t : List ℕ) → Holds strict (walk strict (Some (prolog, at_start)) t) t
 holds strict t = holds_from strict (Some (prolog, at_start)) [] t (refl, refl)

@@ -60,10 +60,14 @@ enters : (strict : Bool) (a : Around) (n : List ℕ) (xs : List Attribute) (u w 
     → Reached strict (entered a n xs) (t ++ 62 ∷ [])
 enters strict a n xs u w t tagged white spelled =
     let (v, reached, room, named, front) = tagged.is_front in
-    let fits = some_room a room in
-    (v, (60 ∷ (n ++ (tagged.middle ++ w))) ++ (62 ∷ []), open_before strict a v room reached,
+    let fits = some_room a room in (
+      v,
+      (60 ∷ (n ++ (tagged.middle ++ w))) ++ (62 ∷ []),
+      open_before strict a v room reached,
       (60 ∷ (n ++ (tagged.middle ++ w)), [], opened_text n xs tagged.middle w named tagged.are_attributes tagged.are_distinct white, ([], tt, refl), refl),
-      rw (spelled, tagged.spelled, front) (simp append_assoc), omega arith)
+      rw (spelled, tagged.spelled, front) (simp append_assoc),
+      omega arith,
+    )
 
 -- an empty element ends
 pub empties : (strict : Bool) (a : Around) (n : List ℕ) (xs : List Attribute) (u w t : List ℕ) → Tagged strict a (tag n) xs u → IsWhite w → t ≡ u ++ (w ++ codes "/")
@@ -72,9 +76,9 @@ empties strict a n xs u w t tagged white spelled =
     let (v, reached, room, named, front) = tagged.is_front in
     let fits = some_room a room in
     let element : IsElement (node n xs no_node) ((60 ∷ (n ++ (tagged.middle ++ w))) ++ codes "/>") =
-        (60 ∷ (n ++ (tagged.middle ++ w)), codes "/>", opened_text n xs tagged.middle w named tagged.are_attributes tagged.are_distinct white, inl (refl, refl), refl) in
+    (60 ∷ (n ++ (tagged.middle ++ w)), codes "/>", opened_text n xs tagged.middle w named tagged.are_attributes tagged.are_distinct white, inl (refl, refl), refl) in
     subst (λ (s : List ℕ). Reached strict (ended (open_of a) (node n xs no_node)) s) (sym (rw (spelled, tagged.spelled, front) (simp append_assoc)))
-      (closes strict (open_of a) (node n xs no_node) v ((60 ∷ (n ++ (tagged.middle ++ w))) ++ codes "/>") (open_before strict a v room reached) element (omega arith))
+    (closes strict (open_of a) (node n xs no_node) v ((60 ∷ (n ++ (tagged.middle ++ w))) ++ codes "/>") (open_before strict a v room reached) element (omega arith))
 
 -- behind the attributes
 keeps_end : (strict : Bool) (a : Around) (h : Holder) (xs : List Attribute) (u w t : List ℕ) (c : Class) (b : ℕ) → Known c b → Tagged strict a h xs u → IsWhite w → t ≡ u ++ w
@@ -121,10 +125,10 @@ keeps_attribute strict a h xs n t Hyphen b k has = attribute_grows strict a h xs
 keeps_attribute strict a h xs n t Wide b k has = attribute_grows strict a h xs n t b k.named has
 keeps_attribute strict a h xs n t White b k (u, w, tagged, gap, named, spelled) =
     when_new (λ s. After strict s (t ++ b ∷ [])) n xs (goes a (at_named h xs n))
-      (λ new. (u, w, b ∷ [], tagged, gap, named, new, (k.white, tt), rw spelled (simp append_assoc))) tt
+    (λ new. (u, w, b ∷ [], tagged, gap, named, new, (k.white, tt), rw spelled (simp append_assoc))) tt
 keeps_attribute strict a h xs n t Equals b k (u, w, tagged, gap, named, spelled) =
     when_new (λ s. After strict s (t ++ b ∷ [])) n xs (goes a (at_equals h xs n))
-      (λ new. (u, w, [], [], tagged, gap, named, new, tt, tt, rw (spelled, k.code) (simp append_assoc))) tt
+    (λ new. (u, w, [], [], tagged, gap, named, new, tt, tt, rw (spelled, k.code) (simp append_assoc))) tt
 keeps_attribute strict a h xs n t c b k has = tt
 
 pub keeps_named : (strict : Bool) (a : Around) (h : Holder) (xs : List Attribute) (n t : List ℕ) (c : Class) (b : ℕ) → Known c b → Has strict a (at_named h xs n) t
@@ -193,7 +197,7 @@ attribute_ends strict a h xs n q v t has allowed = record {
   middle = has.tagged.middle ++ (has.head ++ (items_text has.items ++ (q ∷ [])));
   is_front = has.tagged.is_front;
   are_attributes = attributes_more xs has.tagged.middle (record { name = n; value = v }) (has.head ++ (items_text has.items ++ (q ∷ []))) has.tagged.are_attributes
-    (record { quote = q; head = has.head; items = has.items; is_head = has.is_head; are_quoted = has.are_quoted; value = has.value_is; spelled = refl });
+      (record { quote = q; head = has.head; items = has.items; is_head = has.is_head; are_quoted = has.are_quoted; value = has.value_is; spelled = refl });
   are_distinct = distinct_one_more xs (record { name = n; value = v }) has.tagged.are_distinct has.is_new;
   allowed = allowed_more strict h xs (record { name = n; value = v }) has.tagged.allowed allowed;
   spelled = rw (has.spelled, has.tagged.spelled) (simp append_assoc);
@@ -218,8 +222,9 @@ value_ends : (strict : Bool) (a : Around) (h : Holder) (xs : List Attribute) (n 
     → After strict (value_end a h xs n v) (t ++ q ∷ [])
 value_ends strict a (tag m) xs n q v t has = attribute_ends strict a (tag m) xs n q v t has tt
 value_ends strict a declaration xs n q v t has = elim (cases_Bool (declares_other n v)) [
-    inl e ↦ rw e (other_ends strict a xs n q v t has)
-  | inr e ↦ rw e (attribute_ends strict a declaration xs n q v t has (allowed_if_fits strict n v e, tt)) ]
+  | inl e ↦ rw e (other_ends strict a xs n q v t has)
+  | inr e ↦ rw e (attribute_ends strict a declaration xs n q v t has (allowed_if_fits strict n v e, tt))
+]
 
 first_false : (x y : Bool) → (x || y) ≡ false → x ≡ false
 first_false false y e = refl
@@ -237,8 +242,9 @@ not_quote b q e (inr is) same = eqb-false b 39 (second_false (eqb b 34) (eqb b 3
 pub keeps_value : (strict : Bool) (a : Around) (h : Holder) (xs : List Attribute) (n : List ℕ) (q : ℕ) (v t : List ℕ) (c : Class) (b : ℕ) → Known c b → Has strict a (in_value h xs n q v) t
     → After strict (value_step a h xs n q v c b) (t ++ b ∷ [])
 keeps_value strict a h xs n q v t Quote b k has = elim (cases_Bool (eqb b q)) [
-    inl e ↦ rw e (rw (eqb-true b q e) (value_ends strict a h xs n q v t has))
-  | inr e ↦ rw e (value_byte strict a h xs n q v t b k.plain (eqb-false b q e) has) ]
+  | inl e ↦ rw e (rw (eqb-true b q e) (value_ends strict a h xs n q v t has))
+  | inr e ↦ rw e (value_byte strict a h xs n q v t b k.plain (eqb-false b q e) has)
+]
 keeps_value strict a h xs n q v t Less b k has = tt
 keeps_value strict a h xs n q v t Control b k has = tt
 keeps_value strict a h xs n q v t Ampersand b k has = (t, has, rw k.code refl)

@@ -30,15 +30,19 @@ from_prolog strict a t e reached = subst (λ (d : Around). Reached strict d t) (
 
 -- the start alone
 pub reached_start : (strict : Bool) (t : List ℕ) → IsStartText t → Reached strict prolog t
-reached_start strict t is = ([], record {
-  start = t;
-  declaration = [];
-  misc = [];
-  is_start = is;
-  is_declaration = inl (refl, refl);
-  is_misc = ([], tt, refl);
-  spelled = sym (append-nil t);
-}, tt)
+reached_start strict t is = (
+  [],
+  record {
+    start = t;
+    declaration = [];
+    misc = [];
+    is_start = is;
+    is_declaration = inl (refl, refl);
+    is_misc = ([], tt, refl);
+    spelled = sym (append-nil t);
+  },
+  tt,
+)
 
 pub reached_white : (strict : Bool) (a : Around) (t : List ℕ) (c : Class) (b : ℕ) → Known c b → Reached strict a t → is_white b ≡ true → is_plain b ≡ true → Reached strict a (t ++ b ∷ [])
 reached_white strict a t c b k reached white plain = reached_item strict a t (byte b) reached white plain
@@ -78,16 +82,21 @@ keeps_declaring strict a declaring.X t Letter b k (is, (u, start, spelled)) =
     when_same (λ s. After strict s (t ++ b ∷ [])) b 109 (goes a (in_declaring declaring.Xm)) leaves (λ e. (is, (u, start, rw (spelled, e) (simp append_assoc)))) tt
 keeps_declaring strict a declaring.Xm t Letter b k (is, (u, start, spelled)) =
     when_same (λ s. After strict s (t ++ b ∷ [])) b 108 (goes a (in_declaring declaring.Xml)) leaves (λ e. (is, (u, start, rw (spelled, e) (simp append_assoc)))) tt
-keeps_declaring strict a declaring.Xml t White b k (is, (u, start, spelled)) =
-    (t, b ∷ [], record {
-      front = t;
-      middle = [];
-      is_front = (is, (u, start, spelled));
-      are_attributes = refl;
-      are_distinct = tt;
-      allowed = tt;
-      spelled = sym (append-nil t);
-    }, gap_one b k.white, refl)
+keeps_declaring strict a declaring.Xml t White b k (is, (u, start, spelled)) = (
+  t,
+  b ∷ [],
+  record {
+    front = t;
+    middle = [];
+    is_front = (is, (u, start, spelled));
+    are_attributes = refl;
+    are_distinct = tt;
+    allowed = tt;
+    spelled = sym (append-nil t);
+  },
+  gap_one b k.white,
+  refl,
+)
 keeps_declaring strict a d t c b k has = tt
 
 -- between tags
@@ -105,8 +114,9 @@ opens_here strict a t b reached room named = (t, reached, room, named, simp appe
 keeps_open : (strict : Bool) (a : Around) (t : List ℕ) (b : ℕ) → Reached strict a t → IsName (b ∷ []) → After strict (open_step a b) ((t ++ codes "<") ++ b ∷ [])
 keeps_open strict prolog t b reached named = opens_here strict prolog t b reached tt named
 keeps_open strict (within o os) t b reached named = elim (cases_Bool (ltb (suc (length os)) 32)) [
-    inl e ↦ rw e (opens_here strict (within o os) t b reached (ltb-true (suc (length os)) 32 e) named)
-  | inr e ↦ rw e tt ]
+  | inl e ↦ rw e (opens_here strict (within o os) t b reached (ltb-true (suc (length os)) 32 e) named)
+  | inr e ↦ rw e tt
+]
 keeps_open strict (epilog e) t b reached named = tt
 
 keeps_close : (strict : Bool) (a : Around) (t : List ℕ) (b : ℕ) → b ≡ 47 → Reached strict a t → After strict (close_step a) ((t ++ codes "<") ++ b ∷ [])
@@ -139,18 +149,25 @@ body_goes strict a t u body b reached clean other spelled =
     (u, codes "<!--" ++ (body ++ b ∷ []), reached, (body ++ b ∷ [], clean, other_end body b other, refl), rw spelled (simp append_assoc))
 
 keeps_body : (strict : Bool) (a : Around) (t : List ℕ) (c : Class) (b : ℕ) → Known c b → Has strict a (in_comment part.Body) t → After strict (comment_step a part.Body c) (t ++ b ∷ [])
-keeps_body strict a t Hyphen b k (u, v, reached, (body, clean, none, piece), spelled) =
-    (u, codes "<!--" ++ (body ++ 45 ∷ []), reached,
-      (body, clean_more body 45 clean refl (λ c e _. no_hyphen_end body c none e), none, refl), rw (spelled, piece, k.code) (simp append_assoc))
+keeps_body strict a t Hyphen b k (u, v, reached, (body, clean, none, piece), spelled) = (
+  u,
+  codes "<!--" ++ (body ++ 45 ∷ []),
+  reached,
+  (body, clean_more body 45 clean refl (λ c e _. no_hyphen_end body c none e), none, refl),
+  rw (spelled, piece, k.code) (simp append_assoc),
+)
 keeps_body strict a t Control b k has = tt
 keeps_body strict a t c b k (u, v, reached, (body, clean, none, piece), spelled) =
     body_goes strict a t u body b reached (clean_more body b clean k.character (λ d e _. no_hyphen_end body d none e)) k.hyphen (rw piece at spelled)
 
 keeps_hyphen : (strict : Bool) (a : Around) (t : List ℕ) (c : Class) (b : ℕ) → Known c b → Has strict a (in_comment part.Hyphen) t → After strict (comment_step a part.Hyphen c) (t ++ b ∷ [])
-keeps_hyphen strict a t Hyphen b k (u, v, reached, (body, clean, none, piece), spelled) =
-    (u, codes "<!--" ++ (body ++ 45 ∷ 45 ∷ []), reached,
-      (body, subst Clean (append_assoc body (45 ∷ []) (45 ∷ [])) (clean_more (body ++ 45 ∷ []) 45 clean refl (λ c e _. one_hyphen_end body c none e)), refl),
-      rw (spelled, piece, k.code) (simp append_assoc))
+keeps_hyphen strict a t Hyphen b k (u, v, reached, (body, clean, none, piece), spelled) = (
+  u,
+  codes "<!--" ++ (body ++ 45 ∷ 45 ∷ []),
+  reached,
+  (body, subst Clean (append_assoc body (45 ∷ []) (45 ∷ [])) (clean_more (body ++ 45 ∷ []) 45 clean refl (λ c e _. one_hyphen_end body c none e)), refl),
+  rw (spelled, piece, k.code) (simp append_assoc),
+)
 keeps_hyphen strict a t Control b k has = tt
 keeps_hyphen strict a t c b k (u, v, reached, (body, clean, none, piece), spelled) =
     body_goes strict a t u (body ++ 45 ∷ []) b reached (clean_more (body ++ 45 ∷ []) b clean k.character (λ d e _. one_hyphen_end body d none e)) k.hyphen (rw piece at spelled)
@@ -159,17 +176,20 @@ hyphen_no_end : ◌≡◌ {A = ℕ} 45 62 → ⊥
 hyphen_no_end e = cc
 
 keeps_hyphens : (strict : Bool) (a : Around) (t : List ℕ) (c : Class) (b : ℕ) → Known c b → Has strict a (in_comment part.Hyphens) t → After strict (comment_step a part.Hyphens c) (t ++ b ∷ [])
-keeps_hyphens strict a t Hyphen b k (u, v, reached, (body, clean, piece), spelled) =
-    (u, codes "<!--" ++ ((body ++ 45 ∷ []) ++ 45 ∷ 45 ∷ []), reached,
-      (body ++ 45 ∷ [], subst Clean (simp append_assoc) (clean_more (body ++ 45 ∷ 45 ∷ []) 45 clean refl (λ c e f. hyphen_no_end f)), refl),
-      rw (spelled, piece, k.code) (simp append_assoc))
+keeps_hyphens strict a t Hyphen b k (u, v, reached, (body, clean, piece), spelled) = (
+  u,
+  codes "<!--" ++ ((body ++ 45 ∷ []) ++ 45 ∷ 45 ∷ []),
+  reached,
+  (body ++ 45 ∷ [], subst Clean (simp append_assoc) (clean_more (body ++ 45 ∷ 45 ∷ []) 45 clean refl (λ c e f. hyphen_no_end f)), refl),
+  rw (spelled, piece, k.code) (simp append_assoc),
+)
 keeps_hyphens strict a t Greater b k (u, v, reached, (body, clean, piece), spelled) =
     let is = body_from_clean body clean in
     subst (λ (s : List ℕ). Reached strict a s) (rw (spelled, piece, k.code) (simp append_assoc)) (reached_item strict a u (comment body) reached is is)
 keeps_hyphens strict a t Control b k has = tt
 keeps_hyphens strict a t c b k (u, v, reached, (body, clean, piece), spelled) =
     body_goes strict a t u (body ++ 45 ∷ 45 ∷ []) b reached
-      (clean_more (body ++ 45 ∷ 45 ∷ []) b clean k.character (λ d e f. eqb-false b 62 k.greater f)) k.hyphen (rw piece at spelled)
+    (clean_more (body ++ 45 ∷ 45 ∷ []) b clean k.character (λ d e f. eqb-false b 62 k.greater f)) k.hyphen (rw piece at spelled)
 
 nothing_ends : (c : List ℕ) → [] ≡ c ++ 45 ∷ [] → ⊥
 nothing_ends [] e = cc

@@ -52,24 +52,28 @@ at_place bytes m n x e is = rw e at is
 
 marks : (bytes : List ℕ) (n : ℕ) (f : TextError) → KnownAt bytes n f → Marks f (slice_index bytes (n - 1)) (slice_index bytes n)
 marks bytes n (Syntax p) known = absurd known
-marks bytes n (Unsupported p Doctype) (place, stands) =
-    (at_place bytes (p + 1) (n - 1) 33 (omega arith) (stands_at (codes "<!DOCTYPE") bytes p 1 stands (omega arith)),
-      at_place bytes (p + 2) n 68 (omega arith) (stands_at (codes "<!DOCTYPE") bytes p 2 stands (omega arith)))
-marks bytes n (Unsupported p Cdata) (place, stands) =
-    (at_place bytes (p + 1) (n - 1) 33 (omega arith) (stands_at (codes "<![CDATA[") bytes p 1 stands (omega arith)),
-      at_place bytes (p + 2) n 91 (omega arith) (stands_at (codes "<![CDATA[") bytes p 2 stands (omega arith)))
+marks bytes n (Unsupported p Doctype) (place, stands) = (
+  at_place bytes (p + 1) (n - 1) 33 (omega arith) (stands_at (codes "<!DOCTYPE") bytes p 1 stands (omega arith)),
+  at_place bytes (p + 2) n 68 (omega arith) (stands_at (codes "<!DOCTYPE") bytes p 2 stands (omega arith)),
+)
+marks bytes n (Unsupported p Cdata) (place, stands) = (
+  at_place bytes (p + 1) (n - 1) 33 (omega arith) (stands_at (codes "<![CDATA[") bytes p 1 stands (omega arith)),
+  at_place bytes (p + 2) n 91 (omega arith) (stands_at (codes "<![CDATA[") bytes p 2 stands (omega arith)),
+)
 marks bytes n (Unsupported p Reference) (place, stands) =
     at_place bytes (p + 0) (n - 1) 38 (omega arith) (stands_at (codes "&#") bytes p 0 stands (omega arith))
 marks bytes n (Unsupported p Instruction) (inl (place, stands)) =
-    inl (at_place bytes (p + 0) (n - 1) 60 (omega arith) (stands_at (codes "<?") bytes p 0 stands (omega arith)),
-      at_place bytes (p + 1) n 63 (omega arith) (stands_at (codes "<?") bytes p 1 stands (omega arith)))
+    inl (
+      at_place bytes (p + 0) (n - 1) 60 (omega arith) (stands_at (codes "<?") bytes p 0 stands (omega arith)),
+      at_place bytes (p + 1) n 63 (omega arith) (stands_at (codes "<?") bytes p 1 stands (omega arith)),
+    )
 marks bytes n (Unsupported p Instruction) (inr (start, is)) =
     let low = is.low in
     let high = is.high in
     let size = xml_length (n - p) (omega arith) in
     inr (subst (λ (x : ℕ). 63 ≤ x)
-      (sym (stands_at (take (n - p) (codes "<?xml")) bytes p (n - p - 1) is.stands (omega arith)) ∙ ap (λ k. slice_index bytes k) (omega arith))
-      (xml_end (n - p) (omega arith) (omega arith)))
+    (sym (stands_at (take (n - p) (codes "<?xml")) bytes p (n - p - 1) is.stands (omega arith)) ∙ ap (λ k. slice_index bytes k) (omega arith))
+    (xml_end (n - p) (omega arith) (omega arith)))
 marks bytes n (Unsupported p Encoding) known = absurd known
 marks bytes n (TooDeep p) (place, stands, within, begins, viable) =
     (at_place bytes (p + 0) (n - 1) 60 (omega arith) (stands_at (codes "<") bytes p 0 stands (omega arith)), no_question (slice_index bytes n) begins)
@@ -126,7 +130,7 @@ instruction_apart bytes n p q place stands is =
     let less : slice_index bytes (p + 0) ≡ 60 = stands_at (codes "<?") bytes p 0 stands (omega arith) in
     let other : 63 ≤ slice_index (take (n - q) (codes "<?xml")) (n - q - 1) = xml_end (n - q) (omega arith) (omega arith) in
     let here : slice_index bytes (q + (n - q - 1)) ≡ slice_index (take (n - q) (codes "<?xml")) (n - q - 1) =
-        stands_at (take (n - q) (codes "<?xml")) bytes q (n - q - 1) is.stands (omega arith) in
+    stands_at (take (n - q) (codes "<?xml")) bytes q (n - q - 1) is.stands (omega arith) in
     let same : slice_index bytes (q + (n - q - 1)) ≡ slice_index bytes (p + 0) = ap (λ k. slice_index bytes k) (omega arith) in
     omega arith
 
@@ -173,8 +177,9 @@ drop_past (suc n) (b ∷ bytes) past = drop_past n bytes (omega arith)
 
 drop_min : (place : ℕ) (bytes : List ℕ) → drop (min place (length bytes)) bytes ≡ drop place bytes
 drop_min place bytes = elim (cases_lt (length bytes) place) [
-    inl past ↦ drop_past (min place (length bytes)) bytes (omega arith) ∙ sym (drop_past place bytes (omega arith))
-  | inr fits ↦ ap (λ k. drop k bytes) (omega arith) ]
+  | inl past ↦ drop_past (min place (length bytes)) bytes (omega arith) ∙ sym (drop_past place bytes (omega arith))
+  | inr fits ↦ ap (λ k. drop k bytes) (omega arith)
+]
 
 pub begins_stands : (word bytes : List ℕ) (place m : ℕ) (r : Bool) → m ≡ min place (length bytes) → r ≡ starts_with eqb (take (length bytes - m) (drop m bytes)) word
     → Decides r (Stands word bytes place)

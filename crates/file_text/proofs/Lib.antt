@@ -23,3 +23,4 @@ pub mod Known
 pub mod Faults
 pub mod Sees
 pub mod Outcomes
+pub mod Whole

@@ -77,9 +77,14 @@ prolog_item xs t x is outside = record {
 
 -- between the tags of the innermost element
 pub open_item : (strict : Bool) (o : Opened) (os : List Opened) (t : List ℕ) (x : Item) → IsOpen strict (o ∷ os) t → IsBetween x → IsOpen strict (o ∷ os) (t ++ item_text x)
-open_item strict o os t x (u, v, before, (tag_text, inner, is_tag, content, opening), spelled, deep) is =
-    (u, v ++ item_text x, before, (tag_text, inner ++ item_text x, is_tag, content_item (nodes o.children) inner x content is, rw opening (simp append_assoc)),
-      rw spelled (simp append_assoc), deep)
+open_item strict o os t x (u, v, before, (tag_text, inner, is_tag, content, opening), spelled, deep) is = (
+  u,
+  v ++ item_text x,
+  before,
+  (tag_text, inner ++ item_text x, is_tag, content_item (nodes o.children) inner x content is, rw opening (simp append_assoc)),
+  rw spelled (simp append_assoc),
+  deep,
+)
 
 -- white or a comment between tags
 pub reached_item : (strict : Bool) (a : Around) (t : List ℕ) (x : Item) → Reached strict a t → IsOutside x → IsBetween x → Reached strict a (t ++ item_text x)
@@ -113,9 +118,14 @@ closes strict [] e u r (declared, is, allowed) element deep = record {
   shallow = omega arith;
   spelled = rw append-nil refl;
 }
-closes strict (o ∷ os) e t r (u, v, before, (tag_text, inner, is_tag, content, opening), spelled, deep_before) element deep =
-    (u, v ++ r, before, (tag_text, inner ++ r, is_tag, content_node o.children inner e r content element, rw opening (simp append_assoc)),
-      rw spelled (simp append_assoc), (let more = depths-more o.children e in omega arith))
+closes strict (o ∷ os) e t r (u, v, before, (tag_text, inner, is_tag, content, opening), spelled, deep_before) element deep = (
+  u,
+  v ++ r,
+  before,
+  (tag_text, inner ++ r, is_tag, content_node o.children inner e r content element, rw opening (simp append_assoc)),
+  rw spelled (simp append_assoc),
+  (let more = depths-more o.children e in omega arith),
+)
 
 -- an attribute behind others
 pub attributes_more : (xs : List Attribute) (t : List ℕ) (a : Attribute) (u : List ℕ) → AreAttributes xs t → IsAttribute a u → AreAttributes (xs ++ a ∷ []) (t ++ u)

@@ -31,7 +31,7 @@ pub begins_between : (strict : Bool) (a : Around) → HasRoom a → Begins stric
 unfolding table
 begins_between strict a room b start rest =
     ap (λ o. walk strict o rest)
-      (at_begin (λ c. follow strict (table a at_markup c b) ≡ Some (a, in_name (b ∷ []))) b start (ap (follow strict) (opens a b room)) (ap (follow strict) (opens a b room)))
+    (at_begin (λ c. follow strict (table a at_markup c b) ≡ Some (a, in_name (b ∷ []))) b start (ap (follow strict) (opens a b room)) (ap (follow strict) (opens a b room)))
 
 or_left : (x y : Bool) → x ≡ true → (x || y) ≡ true
 or_left true y e = refl
@@ -46,7 +46,7 @@ over_element_name : (strict : Bool) (a : Around) (n w : List ℕ) → Each (λ b
 unfolding table
 over_element_name strict a n w h =
     over_name strict a (λ m. in_name m)
-      (λ m c e. at_name (λ k. follow strict (table a (in_name m) k c) ≡ Some (a, in_name (m ++ c ∷ []))) c e refl refl refl refl) n w h
+    (λ m c e. at_name (λ k. follow strict (table a (in_name m) k c) ≡ Some (a, in_name (m ++ c ∷ []))) c e refl refl refl refl) n w h
 
 pub over_begun : (strict : Bool) (a : Around) (x : Shape) (n : List ℕ) → IsName n → Begins strict a x → Along strict a x (60 ∷ n) a (in_name n)
 over_begun strict a x [] named begins rest = absurd named
@@ -57,10 +57,13 @@ pub over_tag : (strict : Bool) (a : Around) (x : Shape) (n : List ℕ) (xs : Lis
     → (y : Shape) × Ready a y (tag n) xs × Along strict a x t a y
 over_tag strict a x n xs t is begins =
     let (y, ready_y, along_y) = over_attributes strict a (in_name n) (tag n) [] xs is.middle (ready_name a n) is.are_distinct tt is.are_attributes in
-    let (z, ready_z, along_z) = over_tag_white strict a y (tag n) xs is.gap ready_y is.white in
-    (z, ready_z, rw is.spelled
-      (then strict a x (60 ∷ n) a (in_name n) (is.middle ++ is.gap) a z (over_begun strict a x n is.is_name begins)
-        (then strict a (in_name n) is.middle a y is.gap a z along_y along_z)))
+    let (z, ready_z, along_z) = over_tag_white strict a y (tag n) xs is.gap ready_y is.white in (
+      z,
+      ready_z,
+      rw is.spelled
+          (then strict a x (60 ∷ n) a (in_name n) (is.middle ++ is.gap) a z (over_begun strict a x n is.is_name begins)
+          (then strict a (in_name n) is.middle a y is.gap a z along_y along_z)),
+    )
 
 -- the name in an end tag
 pub over_matched : (strict : Bool) (a : Around) (n : List ℕ) → Each (λ b. IsTrue (is_name_byte b)) n → Along strict a (in_closing n) n a (in_closing [])
@@ -69,7 +72,7 @@ over_matched strict a [] h rest = refl
 over_matched strict a (b ∷ bs) h rest =
     let same : eqb b b ≡ true = eq-eqb b b refl in
     ap (λ o. walk strict o (bs ++ rest))
-      (at_name (λ c. follow strict (table a (in_closing (b ∷ bs)) c b) ≡ Some (a, in_closing bs)) b h.0 (rw same refl) (rw same refl) (rw same refl) (rw same refl))
+    (at_name (λ c. follow strict (table a (in_closing (b ∷ bs)) c b) ≡ Some (a, in_closing bs)) b h.0 (rw same refl) (rw same refl) (rw same refl) (rw same refl))
     ∙ over_matched strict a bs h.1 rest
 
 -- an end tag
@@ -78,11 +81,11 @@ pub over_end_tag : (strict : Bool) (o : Opened) (os : List Opened) (gap : List �
 unfolding table
 over_end_tag strict o os gap named white =
     then strict (within o os) at_between (60 ∷ 47 ∷ []) (within o os) (in_closing o.name) (o.name ++ (gap ++ 62 ∷ [])) (ended os (node_of o)) at_between
-      (λ rest. refl)
-      (then strict (within o os) (in_closing o.name) o.name (within o os) (in_closing []) (gap ++ 62 ∷ []) (ended os (node_of o)) at_between
-        (over_matched strict (within o os) o.name (name_bytes o.name named))
-        (then strict (within o os) (in_closing []) gap (within o os) (in_closing []) (62 ∷ []) (ended os (node_of o)) at_between
-          (over_white strict (within o os) (in_closing []) (λ b. refl) gap white) (λ rest. refl)))
+    (λ rest. refl)
+    (then strict (within o os) (in_closing o.name) o.name (within o os) (in_closing []) (gap ++ 62 ∷ []) (ended os (node_of o)) at_between
+    (over_matched strict (within o os) o.name (name_bytes o.name named))
+    (then strict (within o os) (in_closing []) gap (within o os) (in_closing []) (62 ∷ []) (ended os (node_of o)) at_between
+    (over_white strict (within o os) (in_closing []) (λ b. refl) gap white) (λ rest. refl)))
 
 pub nodes-list_of : (es : Nodes) → nodes (list_of es) ≡ es
 nodes-list_of no_node = refl
@@ -119,29 +122,29 @@ mutual
       let (y, ready, along) = over_tag strict a x n xs u is_tag begins in
       let o : Opened = record { name = n; attributes = xs; children = [] } in
       let inner : Along strict (within o (open_of a)) at_between is_rest.inner (within (grown o (list_of es)) (open_of a)) at_between =
-          over_content es is_rest.inner strict o (open_of a) is_rest.content (omega arith) in
+      over_content es is_rest.inner strict o (open_of a) is_rest.content (omega arith) in
       let closed : ended (open_of a) (node_of (grown o (list_of es))) ≡ ended (open_of a) (node n xs es) =
-          ap (λ ds. ended (open_of a) (node n xs ds)) (nodes-list_of es) in
+      ap (λ ds. ended (open_of a) (node n xs ds)) (nodes-list_of es) in
       rw (spelled, is_rest.spelled)
-        (subst (λ (d : Around). Along strict a x (u ++ (62 ∷ (is_rest.inner ++ (60 ∷ (47 ∷ (n ++ (is_rest.gap ++ 62 ∷ []))))))) d at_between) closed
-          (then strict a x u a y _ _ at_between along
-            (then strict a y (62 ∷ []) (entered a n xs) at_between _ _ at_between (tag_ends strict a y n xs ready)
-              (then strict (within o (open_of a)) at_between is_rest.inner (within (grown o (list_of es)) (open_of a)) at_between _ _ at_between inner
-                (over_end_tag strict (grown o (list_of es)) (open_of a) is_rest.gap is_tag.is_name is_rest.white)))))
+      (subst (λ (d : Around). Along strict a x (u ++ (62 ∷ (is_rest.inner ++ (60 ∷ (47 ∷ (n ++ (is_rest.gap ++ 62 ∷ []))))))) d at_between) closed
+      (then strict a x u a y _ _ at_between along
+      (then strict a y (62 ∷ []) (entered a n xs) at_between _ _ at_between (tag_ends strict a y n xs ready)
+      (then strict (within o (open_of a)) at_between is_rest.inner (within (grown o (list_of es)) (open_of a)) at_between _ _ at_between inner
+      (over_end_tag strict (grown o (list_of es)) (open_of a) is_rest.gap is_tag.is_name is_rest.white)))))
 
   pub over_content : (es : Nodes) (t : List ℕ) (strict : Bool) (o : Opened) (os : List Opened) → IsContent es t → depths es + length (o ∷ os) ≤ 32
       → Along strict (within o os) at_between t (within (grown o (list_of es)) os) at_between
   over_content no_node t strict o os filler deep =
       subst (λ (c : List Node). Along strict (within o os) at_between t (within (record { name = o.name; attributes = o.attributes; children = c }) os) at_between)
-        (sym (append-nil o.children)) (over_filler strict o os t filler)
+      (sym (append-nil o.children)) (over_filler strict o os t filler)
   over_content (node_then e es) t strict o os (u, v, w, filler, first, others, spelled) deep =
       let deep_first : depth e + length (o ∷ os) ≤ 32 = omega arith in
       let along_first : Along strict (within o os) at_between v (within (grown o (e ∷ [])) os) at_between =
-          over_element e v strict (within o os) at_between first deep_first (begins_between strict (within o os) (room_within e o os deep_first)) in
+      over_element e v strict (within o os) at_between first deep_first (begins_between strict (within o os) (room_within e o os deep_first)) in
       let along_others : Along strict (within (grown o (e ∷ [])) os) at_between w (within (grown (grown o (e ∷ [])) (list_of es)) os) at_between =
-          over_content es w strict (grown o (e ∷ [])) os others (omega arith) in
+      over_content es w strict (grown o (e ∷ [])) os others (omega arith) in
       rw spelled
-        (subst (λ (c : List Node). Along strict (within o os) at_between (u ++ (v ++ w)) (within (record { name = o.name; attributes = o.attributes; children = c }) os) at_between)
-          (append_assoc o.children (e ∷ []) (list_of es))
-          (then strict (within o os) at_between u (within o os) at_between (v ++ w) (within (grown (grown o (e ∷ [])) (list_of es)) os) at_between (over_filler strict o os u filler)
-            (then strict (within o os) at_between v (within (grown o (e ∷ [])) os) at_between w (within (grown (grown o (e ∷ [])) (list_of es)) os) at_between along_first along_others)))
+      (subst (λ (c : List Node). Along strict (within o os) at_between (u ++ (v ++ w)) (within (record { name = o.name; attributes = o.attributes; children = c }) os) at_between)
+      (append_assoc o.children (e ∷ []) (list_of es))
+      (then strict (within o os) at_between u (within o os) at_between (v ++ w) (within (grown (grown o (e ∷ [])) (list_of es)) os) at_between (over_filler strict o os u filler)
+      (then strict (within o os) at_between v (within (grown o (e ∷ [])) os) at_between w (within (grown (grown o (e ∷ [])) (list_of es)) os) at_between along_first along_others)))

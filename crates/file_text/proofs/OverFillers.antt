@@ -37,27 +37,31 @@ ends_here b rest e = rw e refl
 -- the body of a comment, behind no hyphen, one, and more
 mutual
   unfolding table
+
   over_plain : (bs : List ℕ) (strict : Bool) (a : Around) → IsBody bs → Along strict a (in_comment part.Body) (bs ++ codes "-->") a at_between
   over_plain [] strict a h rest = refl
   over_plain (b ∷ bs) strict a h rest = elim (body_step a (class_of b) (character b h.0)) [
-      inl e ↦ ap (λ c. walk strict (follow strict (comment_step a part.Body c)) ((bs ++ codes "-->") ++ rest)) e
+    | inl e ↦ ap (λ c. walk strict (follow strict (comment_step a part.Body c)) ((bs ++ codes "-->") ++ rest)) e
         ∙ over_hyphen bs strict a (subst (λ (x : ℕ). IsBody (x ∷ bs)) (is_hyphen b e) h) rest
-    | inr e ↦ ap (λ s. walk strict (follow strict s) ((bs ++ codes "-->") ++ rest)) e ∙ over_plain bs strict a h.2 rest ]
+    | inr e ↦ ap (λ s. walk strict (follow strict s) ((bs ++ codes "-->") ++ rest)) e ∙ over_plain bs strict a h.2 rest
+  ]
 
   over_hyphen : (bs : List ℕ) (strict : Bool) (a : Around) → IsBody (45 ∷ bs) → Along strict a (in_comment part.Hyphen) (bs ++ codes "-->") a at_between
   over_hyphen [] strict a h rest = refl
   over_hyphen (b ∷ bs) strict a h rest = elim (hyphen_step a (class_of b) (character b h.2.0)) [
-      inl e ↦ ap (λ c. walk strict (follow strict (comment_step a part.Hyphen c)) ((bs ++ codes "-->") ++ rest)) e
+    | inl e ↦ ap (λ c. walk strict (follow strict (comment_step a part.Hyphen c)) ((bs ++ codes "-->") ++ rest)) e
         ∙ over_hyphens bs strict a (subst (λ (x : ℕ). IsBody (45 ∷ x ∷ bs)) (is_hyphen b e) h) rest
-    | inr e ↦ ap (λ s. walk strict (follow strict s) ((bs ++ codes "-->") ++ rest)) e ∙ over_plain bs strict a h.2.2 rest ]
+    | inr e ↦ ap (λ s. walk strict (follow strict s) ((bs ++ codes "-->") ++ rest)) e ∙ over_plain bs strict a h.2.2 rest
+  ]
 
   over_hyphens : (bs : List ℕ) (strict : Bool) (a : Around) → IsBody (45 ∷ 45 ∷ bs) → Along strict a (in_comment part.Hyphens) (bs ++ codes "-->") a at_between
   over_hyphens [] strict a h rest = refl
   over_hyphens (b ∷ bs) strict a h rest = elim (hyphens_step a (class_of b) (character b h.2.2.0)) [
-      inl e ↦ ap (λ c. walk strict (follow strict (comment_step a part.Hyphens c)) ((bs ++ codes "-->") ++ rest)) e
+    | inl e ↦ ap (λ c. walk strict (follow strict (comment_step a part.Hyphens c)) ((bs ++ codes "-->") ++ rest)) e
         ∙ over_hyphens bs strict a (subst (λ (x : ℕ). IsBody (45 ∷ x ∷ bs)) (is_hyphen b e) h.2) rest
     | inr (inl e) ↦ absurd (h.1 (ends_here b (bs ++ codes "-->") (says b Greater e)))
-    | inr (inr e) ↦ ap (λ s. walk strict (follow strict s) ((bs ++ codes "-->") ++ rest)) e ∙ over_plain bs strict a h.2.2.2 rest ]
+    | inr (inr e) ↦ ap (λ s. walk strict (follow strict s) ((bs ++ codes "-->") ++ rest)) e ∙ over_plain bs strict a h.2.2.2 rest
+  ]
 
 -- a comment from its body on
 pub over_body : (strict : Bool) (a : Around) (body : List ℕ) → IsBody body → Along strict a (in_comment part.Body) (body ++ codes "-->") a at_between
@@ -89,10 +93,10 @@ over_items strict o os (byte b ∷ items) h rest =
     ap (λ s. walk strict (follow strict s) (items_text items ++ rest)) (plain_between o os (class_of b) (sym (plain_of b) ∙ h.0)) ∙ over_items strict o os items h.1 rest
 over_items strict o os (entity e ∷ items) h rest =
     then strict (within o os) at_between (entity_text e) (within o os) at_between (items_text items) (within o os) at_between
-      (over_text_entity strict o os e) (over_items strict o os items h.1) rest
+    (over_text_entity strict o os e) (over_items strict o os items h.1) rest
 over_items strict o os (comment body ∷ items) h rest =
     then strict (within o os) at_between (item_text (comment body)) (within o os) at_between (items_text items) (within o os) at_between
-      (over_comment strict (within o os) body h.0) (over_items strict o os items h.1) rest
+    (over_comment strict (within o os) body h.0) (over_items strict o os items h.1) rest
 
 pub over_filler : (strict : Bool) (o : Opened) (os : List Opened) (t : List ℕ) → IsFiller t → Along strict (within o os) at_between t (within o os) at_between
 over_filler strict o os t (items, each, spelled) = rw spelled (over_items strict o os items each)
@@ -106,4 +110,4 @@ over_outside strict a (byte b ∷ items) h rest =
 over_outside strict a (entity e ∷ items) h rest = absurd h.0
 over_outside strict a (comment body ∷ items) h rest =
     then strict a at_between (item_text (comment body)) a at_between (items_text items) a at_between
-      (over_comment strict a body h.0) (over_outside strict a items h.1) rest
+    (over_comment strict a body h.0) (over_outside strict a items h.1) rest

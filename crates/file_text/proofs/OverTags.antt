@@ -56,10 +56,10 @@ unfolding table
 over_attribute_name strict a h as' [] named rest = absurd named
 over_attribute_name strict a h as' (b ∷ bs) named rest =
     ap (λ o. walk strict o (bs ++ rest))
-      (at_begin (λ c. follow strict (table a (at_gap h as') c b) ≡ Some (a, in_attribute h as' (b ∷ []))) b named.0 refl refl)
+    (at_begin (λ c. follow strict (table a (at_gap h as') c b) ≡ Some (a, in_attribute h as' (b ∷ []))) b named.0 refl refl)
     ∙ over_name strict a (λ m. in_attribute h as' m)
-        (λ m c e. at_name (λ k. follow strict (table a (in_attribute h as' m) k c) ≡ Some (a, in_attribute h as' (m ++ c ∷ []))) c e refl refl refl refl)
-        (b ∷ []) bs named.1 rest
+    (λ m c e. at_name (λ k. follow strict (table a (in_attribute h as' m) k c) ≡ Some (a, in_attribute h as' (m ++ c ∷ []))) c e refl refl refl refl)
+    (b ∷ []) bs named.1 rest
 
 if_new_new : (n : List ℕ) (as' : List Attribute) (s : Step) → has_name n as' ≡ false → if_new n as' s ≡ s
 if_new_new n as' s new = rw new refl
@@ -73,7 +73,7 @@ over_equals strict a h as' n [] new white rest =
 over_equals strict a h as' n (b ∷ w) new white rest =
     let ends : Along strict a (at_named h as' n) (61 ∷ []) a (at_equals h as' n) = λ rest. refl in
     then strict a (in_attribute h as' n) (b ∷ w) a (at_named h as' n) (61 ∷ []) a (at_equals h as' n)
-      (over_gap strict a (in_attribute h as' n) (at_named h as' n) (λ c. rw new refl) (λ c. refl) (b ∷ w) (white, λ e. cc)) ends rest
+    (over_gap strict a (in_attribute h as' n) (at_named h as' n) (λ c. rw new refl) (λ c. refl) (b ∷ w) (white, λ e. cc)) ends rest
 
 regroup : (before after : List ℕ) (q : ℕ) (rest : List ℕ) (f : List ℕ → Option Spot)
     → f ((before ++ (61 ∷ (after ++ (q ∷ [])))) ++ rest) ≡ f ((before ++ 61 ∷ []) ++ (after ++ (q ∷ rest)))
@@ -101,10 +101,10 @@ pub over_head : (strict : Bool) (a : Around) (x : Shape) (h : Holder) (as' : Lis
 unfolding table
 over_head strict a x h as' n q t ready new head = rw head.spelled
     (then strict a x head.gap a (at_gap h as') _ a (in_value h as' n q [])
-      (over_gap strict a x (at_gap h as') (λ c. ap (follow strict) (ready.gap c)) (λ c. refl) head.gap head.is_gap)
-      (then strict a (at_gap h as') n a (in_attribute h as' n) _ a (in_value h as' n q [])
-        (over_attribute_name strict a h as' n head.is_name)
-        (λ rest. over_end_of_head strict a h as' n q head.before head.after new head.white_before head.white_after head.is_quote rest)))
+    (over_gap strict a x (at_gap h as') (λ c. ap (follow strict) (ready.gap c)) (λ c. refl) head.gap head.is_gap)
+    (then strict a (at_gap h as') n a (in_attribute h as' n) _ a (in_value h as' n q [])
+    (over_attribute_name strict a h as' n head.is_name)
+    (λ rest. over_end_of_head strict a h as' n q head.before head.after new head.white_before head.white_after head.is_quote rest)))
 
 -- a plain byte of a value that isn't its quote
 value_byte : (a : Around) (h : Holder) (as' : List Attribute) (n : List ℕ) (q : ℕ) (v : List ℕ) (c : Class) (b : ℕ) → plain_class c ≡ true → eqb b q ≡ false
@@ -131,14 +131,14 @@ unfolding table
 over_value strict a h as' n q v [] quoted rest = rw append-nil refl
 over_value strict a h as' n q v (byte b ∷ items) quoted rest =
     ap (λ s. walk strict (follow strict s) (items_text items ++ rest))
-      (value_byte a h as' n q v (class_of b) b (sym (plain_of b) ∙ quoted.0.0) (ne_eqb b q quoted.0.1))
+    (value_byte a h as' n q v (class_of b) b (sym (plain_of b) ∙ quoted.0.0) (ne_eqb b q quoted.0.1))
     ∙ over_value strict a h as' n q (v ++ b ∷ []) items quoted.1 rest
     ∙ ap (λ m. walk strict (Some (a, in_value h as' n q m)) rest) (append_assoc v (b ∷ []) (items_value items))
 over_value strict a h as' n q v (entity e ∷ items) quoted rest =
     then strict a (in_value h as' n q v) (entity_text e) a (in_value h as' n q (v ++ entity_value e ∷ [])) (items_text items)
-      a (in_value h as' n q ((v ++ entity_value e ∷ []) ++ items_value items))
-      (over_entity strict a h as' n q v e)
-      (over_value strict a h as' n q (v ++ entity_value e ∷ []) items quoted.1) rest
+    a (in_value h as' n q ((v ++ entity_value e ∷ []) ++ items_value items))
+    (over_entity strict a h as' n q v e)
+    (over_value strict a h as' n q (v ++ entity_value e ∷ []) items quoted.1) rest
     ∙ ap (λ m. walk strict (Some (a, in_value h as' n q m)) rest) (append_assoc v (entity_value e ∷ []) (items_value items))
 over_value strict a h as' n q v (comment body ∷ items) quoted rest = absurd quoted.0
 
@@ -151,7 +151,7 @@ not_other true false h = sym (h refl)
 fits_no_other : (n v : List ℕ) → (n ≡ codes "encoding" → IsUtf8Name v) → declares_other n v ≡ false
 fits_no_other n v fits =
     not_other (bytes_eq n (codes "encoding")) (bytes_eq (str_to_ascii_lowercase v) (codes "utf-8"))
-      (λ e. (bytes_eq-Decides (str_to_ascii_lowercase v) (codes "utf-8")).1 (fits (bytes_same n (codes "encoding") e)))
+    (λ e. (bytes_eq-Decides (str_to_ascii_lowercase v) (codes "utf-8")).1 (fits (bytes_same n (codes "encoding") e)))
 
 -- a value ends
 ends_allowed : (strict : Bool) (a : Around) (h : Holder) (as' : List Attribute) (n v : List ℕ) → AllowedIn strict h (record { name = n; value = v } ∷ [])
@@ -159,7 +159,7 @@ ends_allowed : (strict : Bool) (a : Around) (h : Holder) (as' : List Attribute) 
 ends_allowed strict a (tag t) as' n v allowed = refl
 ends_allowed false a declaration as' n v allowed = elim (declares_other n v) as (λ d.
     follow false (cond d (other_encoding a (at_valued declaration (as' ++ record { name = n; value = v } ∷ []))) (goes a (at_valued declaration (as' ++ record { name = n; value = v } ∷ []))))
-      ≡ Some (a, at_valued declaration (as' ++ record { name = n; value = v } ∷ []))) [ true ↦ refl | false ↦ refl ]
+    ≡ Some (a, at_valued declaration (as' ++ record { name = n; value = v } ∷ []))) [ true ↦ refl | false ↦ refl ]
 ends_allowed true a declaration as' n v allowed = rw (fits_no_other n v allowed.0) refl
 
 quote_ends : (strict : Bool) (a : Around) (h : Holder) (as' : List Attribute) (n : List ℕ) (q : ℕ) (v : List ℕ) (code : ℕ) → q ≡ code → class_of code ≡ Quote
@@ -183,11 +183,11 @@ over_attribute : (strict : Bool) (a : Around) (x : Shape) (h : Holder) (done : L
     → IsNew b.name done → AllowedIn strict h (b ∷ []) → IsAttribute b t → Along strict a x t a (at_valued h (done ++ b ∷ []))
 over_attribute strict a x h done b t ready new allowed is = rw is.spelled
     (then strict a x is.head a (in_value h done b.name is.quote []) _ a (at_valued h (done ++ b ∷ []))
-      (over_head strict a x h done b.name is.quote is.head ready (new_name b.name done new) is.is_head)
-      (then strict a (in_value h done b.name is.quote []) (items_text is.items) a (in_value h done b.name is.quote b.value) (is.quote ∷ []) a (at_valued h (done ++ b ∷ []))
-        (subst (λ (v : List ℕ). Along strict a (in_value h done b.name is.quote []) (items_text is.items) a (in_value h done b.name is.quote v)) (sym is.value)
-          (over_value strict a h done b.name is.quote [] is.items is.are_quoted))
-        (over_end strict a h done b.name is.quote b.value is.is_head.is_quote allowed)))
+    (over_head strict a x h done b.name is.quote is.head ready (new_name b.name done new) is.is_head)
+    (then strict a (in_value h done b.name is.quote []) (items_text is.items) a (in_value h done b.name is.quote b.value) (is.quote ∷ []) a (at_valued h (done ++ b ∷ []))
+    (subst (λ (v : List ℕ). Along strict a (in_value h done b.name is.quote []) (items_text is.items) a (in_value h done b.name is.quote v)) (sym is.value)
+    (over_value strict a h done b.name is.quote [] is.items is.are_quoted))
+    (over_end strict a h done b.name is.quote b.value is.is_head.is_quote allowed)))
 
 allowed_first : (strict : Bool) (h : Holder) (b : Attribute) (xs : List Attribute) → AllowedIn strict h (b ∷ xs) → AllowedIn strict h (b ∷ [])
 allowed_first strict (tag t) b xs allowed = tt
@@ -205,7 +205,9 @@ over_attributes strict a x h done [] t ready distinct allowed empty =
 over_attributes strict a x h done (b ∷ xs) t ready distinct allowed (u, v, first, others, spelled) =
     let regrouped : (done ++ b ∷ []) ++ xs ≡ done ++ b ∷ xs = append_assoc done (b ∷ []) xs in
     let (y, ready_y, along) = over_attributes strict a (at_valued h (done ++ b ∷ [])) h (done ++ b ∷ []) xs v (ready_valued a h (done ++ b ∷ []))
-        (subst AreDistinct (sym regrouped) distinct) (allowed_rest strict h b xs allowed) others in
-    (y, subst (λ (d : List Attribute). Ready a y h d) regrouped ready_y,
+    (subst AreDistinct (sym regrouped) distinct) (allowed_rest strict h b xs allowed) others in (
+      y,
+      subst (λ (d : List Attribute). Ready a y h d) regrouped ready_y,
       rw spelled (then strict a x u a (at_valued h (done ++ b ∷ [])) v a y
-        (over_attribute strict a x h done b u ready (distinct_new done b xs distinct) (allowed_first strict h b xs allowed) first) along))
+          (over_attribute strict a x h done b u ready (distinct_new done b xs distinct) (allowed_first strict h b xs allowed) first) along),
+    )

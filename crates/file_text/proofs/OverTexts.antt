@@ -34,9 +34,9 @@ over_declared strict x xs t declares is allowed =
     let (y, ready_y, along_y) = over_attributes strict prolog (in_declaring declaring.Xml) declaration [] xs is.middle (ready_declaring prolog) is.are_distinct allowed is.are_attributes in
     let (z, ready_z, along_z) = over_tag_white strict prolog y declaration xs is.gap ready_y is.white in
     rw is.spelled
-      (then strict prolog x (codes "<?xml") prolog (in_declaring declaring.Xml) _ prolog at_between declares
-        (then strict prolog (in_declaring declaring.Xml) is.middle prolog y _ prolog at_between along_y
-          (then strict prolog y is.gap prolog z (codes "?>") prolog at_between along_z (declaration_ends strict prolog z xs is.some ready_z))))
+    (then strict prolog x (codes "<?xml") prolog (in_declaring declaring.Xml) _ prolog at_between declares
+    (then strict prolog (in_declaring declaring.Xml) is.middle prolog y _ prolog at_between along_y
+    (then strict prolog y is.gap prolog z (codes "?>") prolog at_between along_z (declaration_ends strict prolog z xs is.some ready_z))))
 
 -- a shape before the root
 pub record Outer (strict : Bool) (x : Shape) : Type 0 where
@@ -73,16 +73,20 @@ over_first_misc : (strict : Bool) (x : Shape) (items : List Item) → Each IsOut
     → (y : Shape) × Outer strict y × Along strict prolog x (items_text items) prolog y
 unfolding table
 over_first_misc strict x [] h outer = (x, outer, stay strict prolog x)
-over_first_misc strict x (byte b ∷ items) h outer =
-    (at_between, outer_between strict,
-      λ rest. ap (λ o. walk strict o (items_text items ++ rest)) (at_white (λ c. follow strict (table prolog x c b) ≡ Some (prolog, at_between)) b h.0 (ap (follow strict) (outer.white b)))
-        ∙ over_outside strict prolog items h.1 rest)
+over_first_misc strict x (byte b ∷ items) h outer = (
+  at_between,
+  outer_between strict,
+  λ rest. ap (λ o. walk strict o (items_text items ++ rest)) (at_white (λ c. follow strict (table prolog x c b) ≡ Some (prolog, at_between)) b h.0 (ap (follow strict) (outer.white b)))
+      ∙ over_outside strict prolog items h.1 rest,
+)
 over_first_misc strict x (entity e ∷ items) h outer = absurd h.0
-over_first_misc strict x (comment body ∷ items) h outer =
-    (at_between, outer_between strict,
-      then strict prolog x (item_text (comment body)) prolog at_between (items_text items) prolog at_between
-        (λ rest. outer.bang (45 ∷ 45 ∷ ((body ++ codes "-->") ++ rest)) ∙ over_body strict prolog body h.0 rest)
-        (over_outside strict prolog items h.1))
+over_first_misc strict x (comment body ∷ items) h outer = (
+  at_between,
+  outer_between strict,
+  then strict prolog x (item_text (comment body)) prolog at_between (items_text items) prolog at_between
+      (λ rest. outer.bang (45 ∷ 45 ∷ ((body ++ codes "-->") ++ rest)) ∙ over_body strict prolog body h.0 rest)
+      (over_outside strict prolog items h.1),
+)
 
 -- the start of a text
 pub over_start : (strict : Bool) (t : List ℕ) → (t ≡ []) ⊎ (t ≡ mark) → (y : Shape) × Outer strict y × Declares strict y × Along strict prolog at_start t prolog y
@@ -101,10 +105,13 @@ over_prolog strict xs t is allowed =
     let (u, outer_u, declares_u, along_u) = over_start strict is.start is.is_start in
     let (v, outer_v, along_v) = over_declaration strict u xs is.declaration outer_u declares_u is.is_declaration allowed in
     let (items, each, spelled) = is.is_misc in
-    let (w, outer_w, along_w) = over_first_misc strict v items each outer_v in
-    (w, outer_w, rw (is.spelled, spelled)
-      (then strict prolog at_start is.start prolog u _ prolog w along_u
-        (then strict prolog u is.declaration prolog v (items_text items) prolog w along_v along_w)))
+    let (w, outer_w, along_w) = over_first_misc strict v items each outer_v in (
+      w,
+      outer_w,
+      rw (is.spelled, spelled)
+          (then strict prolog at_start is.start prolog u _ prolog w along_u
+          (then strict prolog u is.declaration prolog v (items_text items) prolog w along_v along_w)),
+    )
 
 over_misc : (strict : Bool) (a : Around) (t : List ℕ) → IsMisc t → Along strict a at_between t a at_between
 over_misc strict a t (items, each, spelled) = rw spelled (over_outside strict a items each)
@@ -115,11 +122,11 @@ pub reads : (strict : Bool) (xs : List Attribute) (e : Node) (t : List ℕ) → 
 reads strict xs e t is allowed =
     let (y, outer_y, along_y) = over_prolog strict xs is.prolog is.is_prolog allowed in
     let whole : Along strict prolog at_start t (epilog e) at_between =
-        rw is.spelled
-          (then strict prolog at_start is.prolog prolog y _ (epilog e) at_between along_y
-            (then strict prolog y is.root (epilog e) at_between is.misc (epilog e) at_between
-              (over_element e is.root strict prolog y is.is_root (omega (arith, is.shallow)) outer_y.begins)
-              (over_misc strict (epilog e) is.misc is.is_misc))) in
+    rw is.spelled
+    (then strict prolog at_start is.prolog prolog y _ (epilog e) at_between along_y
+    (then strict prolog y is.root (epilog e) at_between is.misc (epilog e) at_between
+    (over_element e is.root strict prolog y is.is_root (omega (arith, is.shallow)) outer_y.begins)
+    (over_misc strict (epilog e) is.misc is.is_misc))) in
     rw append-nil at (whole [])
 
 -- what a text declares is allowed

@@ -27,16 +27,18 @@ not_before bytes m n p q lt = p.stops (let within = q.within in omega arith) (pr
 -- there is one
 pub one_place : (bytes : List ℕ) (m n : ℕ) → LeavesAt bytes m → LeavesAt bytes n → m ≡ n
 one_place bytes m n p q = elim (cases_order m n) [
-    inl same ↦ same
+  | inl same ↦ same
   | inr (inl lt) ↦ absurd (not_before bytes m n p q lt)
-  | inr (inr gt) ↦ absurd (not_before bytes n m q p gt) ]
+  | inr (inr gt) ↦ absurd (not_before bytes n m q p gt)
+]
 
 -- the bytes of a text leave it nowhere
 pub spelled_stays : (bytes : List ℕ) (e : Node) (n : ℕ) → IsLooseText e bytes → LeavesAt bytes n → ⊥
 spelled_stays bytes e n (xs, is) p = elim (cases_order n (length bytes)) [
-    inl same ↦ p.ends same e (xs, is)
+  | inl same ↦ p.ends same e (xs, is)
   | inr (inl lt) ↦ p.stops lt (drop (n + 1) bytes, e, (xs, subst (λ (s : List ℕ). Spells xs e s) (sym (take-append-drop (n + 1) bytes)) is))
-  | inr (inr gt) ↦ absurd (let within = p.within in omega arith) ]
+  | inr (inr gt) ↦ absurd (let within = p.within in omega arith)
+]
 
 run_one : (strict : Bool) (o : Option State) → run strict o [] ≡ o
 run_one strict None = refl
@@ -65,8 +67,8 @@ leaves_at bytes n s within is stops ends = record {
   viable = alive (take n bytes) s (loose (take n bytes) s is);
   stops = λ lt p. dead (take (n + 1) bytes) (run_more false bytes n s lt (loose (take n bytes) s is) ∙ stops lt) p;
   ends = λ whole e is_text.
-    let all : take n bytes ≡ bytes = take_all n bytes (omega arith) in
-    let read = completes false is_text.0 e bytes is_text.1 (all_allowed is_text.0) in
-    let here : run false (Some start) bytes ≡ Some s = rw all at (loose (take n bytes) s is) in
-    not_finished s e (ends whole) (sym here ∙ read);
+      let all : take n bytes ≡ bytes = take_all n bytes (omega arith) in
+      let read = completes false is_text.0 e bytes is_text.1 (all_allowed is_text.0) in
+      let here : run false (Some start) bytes ≡ Some s = rw all at (loose (take n bytes) s is) in
+      not_finished s e (ends whole) (sym here ∙ read);
 }

@@ -160,13 +160,15 @@ plain_equals a h xs n c b = tt
 shows_value_end : (a : Around) (h : Holder) (xs : List Attribute) (n : List ℕ) (q : ℕ) (v : List ℕ) (b : ℕ) → b ≡ q → Shows a (in_value h xs n q v) b (value_end a h xs n v)
 shows_value_end a (tag m) xs n q v b same = tt
 shows_value_end a declaration xs n q v b same = elim (cases_Bool (declares_other n v)) [
-    inl other ↦ rw other (same, other)
-  | inr fits ↦ rw fits tt ]
+  | inl other ↦ rw other (same, other)
+  | inr fits ↦ rw fits tt
+]
 
 shows_value : (a : Around) (h : Holder) (xs : List Attribute) (n : List ℕ) (q : ℕ) (v : List ℕ) (c : Class) (b : ℕ) → Shows a (in_value h xs n q v) b (value_step a h xs n q v c b)
 shows_value a h xs n q v Quote b = elim (cases_Bool (eqb b q)) [
-    inl same ↦ rw same (shows_value_end a h xs n q v b (eqb-true b q same))
-  | inr other ↦ rw other tt ]
+  | inl same ↦ rw same (shows_value_end a h xs n q v b (eqb-true b q same))
+  | inr other ↦ rw other tt
+]
 shows_value a h xs n q v Less b = tt
 shows_value a h xs n q v Control b = tt
 shows_value a h xs n q v Ampersand b = tt

@@ -101,16 +101,16 @@ tidy_start strict d e a White b k whole shape = (whole, between_nothing e a (k.a
 tidy_start strict d e a Less b k whole shape = (whole, (k.ascii tt).1)
 tidy_start strict d e a Wide b k whole shape =
     when_tidy (λ s. TidyAfter strict e s) b 0xEF (goes a (in_mark mark_read.First)) leaves
-      (λ code. (whole, after_code d e Nothing b 0xEF (Byte 0x80 0xBF 1) shape k.after code refl)) tt
+    (λ code. (whole, after_code d e Nothing b 0xEF (Byte 0x80 0xBF 1) shape k.after code refl)) tt
 tidy_start strict d e a c b k whole shape = tt
 
 pub tidy_mark : (strict : Bool) (d e : Due) (a : Around) (m : Mark) (c : Class) (b : ℕ) → Dues d e c b → AreWhole (open_of a) → IsTidyShape d a (in_mark m) → TidyAfter strict e (mark_step a m c b)
 tidy_mark strict d e a mark_read.First Wide b k whole shape =
     when_tidy (λ s. TidyAfter strict e s) b 0xBB (goes a (in_mark mark_read.Second)) leaves
-      (λ code. (whole, after_code d e (Byte 0x80 0xBF 1) b 0xBB (Byte 0x80 0xBF 0) shape k.after code refl)) tt
+    (λ code. (whole, after_code d e (Byte 0x80 0xBF 1) b 0xBB (Byte 0x80 0xBF 0) shape k.after code refl)) tt
 tidy_mark strict d e a mark_read.Second Wide b k whole shape =
     when_tidy (λ s. TidyAfter strict e s) b 0xBF (goes a (in_mark mark_read.Whole)) leaves
-      (λ code. (whole, after_code d e (Byte 0x80 0xBF 0) b 0xBF Nothing shape k.after code refl)) tt
+    (λ code. (whole, after_code d e (Byte 0x80 0xBF 0) b 0xBF Nothing shape k.after code refl)) tt
 tidy_mark strict d e a mark_read.Whole White b k whole shape = (whole, between_nothing e a (k.ascii tt).1)
 tidy_mark strict d e a mark_read.Whole Less b k whole shape = (whole, (k.ascii tt).1)
 tidy_mark strict d e a m c b k whole shape = tt
@@ -147,8 +147,9 @@ tidy_between strict d e a c b k whole = tt
 pub tidy_open : (strict : Bool) (d e : Due) (a : Around) (b : ℕ) → due_after d b ≡ Some e → AreWhole (open_of a) → d ≡ Nothing → TidyAfter strict e (open_step a b)
 tidy_open strict d e prolog b after whole none = (whole, name_begins d e b none after)
 tidy_open strict d e (within o os) b after whole none = elim (cases_Bool (ltb (suc (length os)) 32)) [
-    inl fits ↦ rw fits (whole, name_begins d e b none after)
-  | inr full ↦ rw full tt ]
+  | inl fits ↦ rw fits (whole, name_begins d e b none after)
+  | inr full ↦ rw full tt
+]
 tidy_open strict d e (epilog x) b after whole none = tt
 
 pub tidy_close : (strict : Bool) (e : Due) (a : Around) → e ≡ Nothing → AreWhole (open_of a) → TidyAfter strict e (close_step a)
@@ -244,14 +245,16 @@ tidy_other false e a xs n v none whole = (whole, (none, tt))
 pub tidy_value_end : (strict : Bool) (e : Due) (a : Around) (h : Holder) (xs : List Attribute) (n v : List ℕ) → e ≡ Nothing → AreWhole (open_of a) → IsWholeHolder h → TidyAfter strict e (value_end a h xs n v)
 tidy_value_end strict e a (tag m) xs n v none whole holder = (whole, (none, holder))
 tidy_value_end strict e a declaration xs n v none whole holder = elim (cases_Bool (declares_other n v)) [
-    inl other ↦ rw other (tidy_other strict e a xs n v none whole)
-  | inr fits ↦ rw fits (whole, (none, tt)) ]
+  | inl other ↦ rw other (tidy_other strict e a xs n v none whole)
+  | inr fits ↦ rw fits (whole, (none, tt))
+]
 
 pub tidy_value : (strict : Bool) (d e : Due) (a : Around) (h : Holder) (xs : List Attribute) (n : List ℕ) (q : ℕ) (v : List ℕ) (c : Class) (b : ℕ) → Dues d e c b → AreWhole (open_of a)
     → IsWholeHolder h × IsDue n Nothing × IsDue v d → TidyAfter strict e (value_step a h xs n q v c b)
 tidy_value strict d e a h xs n q v Quote b k whole shape = elim (cases_Bool (eqb b q)) [
-    inl same ↦ rw same (tidy_value_end strict e a h xs n v (k.ascii tt).1 whole shape.0)
-  | inr other ↦ rw other (whole, (shape.0, shape.1, due_more v d e b shape.2 k.after)) ]
+  | inl same ↦ rw same (tidy_value_end strict e a h xs n v (k.ascii tt).1 whole shape.0)
+  | inr other ↦ rw other (whole, (shape.0, shape.1, due_more v d e b shape.2 k.after))
+]
 tidy_value strict d e a h xs n q v Less b k whole shape = tt
 tidy_value strict d e a h xs n q v Control b k whole shape = tt
 tidy_value strict d e a h xs n q v Ampersand b k whole shape = (whole, ((k.ascii tt).1, shape.0, shape.1, whole_now v d shape.2 (k.ascii tt).0))

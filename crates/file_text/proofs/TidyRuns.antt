@@ -28,9 +28,9 @@ ascii_code b k e low = omega arith
 ascii_read : (r : Reference) (b : ℕ) → IsAsciiRead b (referred r b)
 ascii_read reference.Ampersand b =
     when_byte (λ s. IsAsciiRead b s) b 108 _ _ (λ e. omega arith)
-      (when_byte (λ s. IsAsciiRead b s) b 103 _ _ (λ e. omega arith)
-        (when_byte (λ s. IsAsciiRead b s) b 97 _ _ (λ e. omega arith)
-          (when_byte (λ s. IsAsciiRead b s) b 113 _ _ (λ e. omega arith) tt)))
+    (when_byte (λ s. IsAsciiRead b s) b 103 _ _ (λ e. omega arith)
+    (when_byte (λ s. IsAsciiRead b s) b 97 _ _ (λ e. omega arith)
+    (when_byte (λ s. IsAsciiRead b s) b 113 _ _ (λ e. omega arith) tt)))
 ascii_read reference.L b = when_byte (λ s. IsAsciiRead b s) b 116 _ _ (λ e. omega arith) tt
 ascii_read reference.G b = when_byte (λ s. IsAsciiRead b s) b 116 _ _ (λ e. omega arith) tt
 ascii_read reference.A b =
@@ -90,7 +90,7 @@ tidy_match : (strict : Bool) (d e : Due) (a : Around) (x : ℕ) (left : List ℕ
     → TidyAfter strict e (cond (eqb x b) (goes a (in_closing left)) leaves)
 tidy_match strict d e a x left b after whole due =
     when_tidy (λ s. TidyAfter strict e s) x b (goes a (in_closing left)) leaves
-      (λ same. (whole, (let next : due_after d x ≡ Some e = rw same after in sym (ap (λ o. due_along o left) next) ∙ due))) tt
+    (λ same. (whole, (let next : due_after d x ≡ Some e = rw same after in sym (ap (λ o. due_along o left) next) ∙ due))) tt
 
 tidy_closing : (strict : Bool) (d e : Due) (a : Around) (left : List ℕ) (c : Class) (b : ℕ) → Dues d e c b → AreWhole (open_of a) → due_along (Some d) left ≡ Some Nothing
     → TidyAfter strict e (closing_step a left c b)

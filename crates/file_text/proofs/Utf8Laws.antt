@@ -48,7 +48,7 @@ two_along f s rest l h a b =
     let high : second_byte_max f ≡ 0xBF = grind (arith, nat_tests) in
     let first : due_along (Some Nothing) (f ∷ s ∷ rest) ≡ due_along (Some (first_due f 0)) (s ∷ rest) = ap (λ d. due_along d (s ∷ rest)) (two_due f l h) in
     let second : due_along (Some (first_due f 0)) (s ∷ rest) ≡ due_along (Some Nothing) rest =
-        ap (λ d. due_along d rest) (byte_due (second_byte_min f) (second_byte_max f) 0 s (omega arith) (omega arith)) in
+    ap (λ d. due_along d rest) (byte_due (second_byte_min f) (second_byte_max f) 0 s (omega arith) (omega arith)) in
     first ∙ second
 
 pub three_along : (f s t : ℕ) (rest : List ℕ) → 0xE0 ≤ f → f < 0xF0 → second_byte_min f ≤ s → s ≤ second_byte_max f → 0x80 ≤ t → t ≤ 0xBF
@@ -100,15 +100,16 @@ Fits c = (c < 55296) ⊎ ((57344 ≤ c) × (c < 1114112))
 
 char_along : (c : ℕ) (rest : List ℕ) → Fits c → due_along (Some Nothing) (encode_utf8 c ++ rest) ≡ due_along (Some Nothing) rest
 char_along c rest fits = elim (size c) [
-    inl low ↦ rw (encode_ascii c low) (ascii_along c rest low)
+  | inl low ↦ rw (encode_ascii c low) (ascii_along c rest low)
   | inr (inl two) ↦ rw (encode_two c two.0 two.1) (two_along (192 + c / 64) (128 + c % 64) rest (omega arith) (omega arith) (omega arith) (omega arith))
   | inr (inr (inl three)) ↦ rw (encode_three c three.0 three.1)
       (let second = second_of_three c three.0 three.1 fits in
-       three_along (224 + c / 4096) (128 + (c / 64) % 64) (128 + c % 64) rest (omega arith) (omega arith) second.0 second.1 (omega arith) (omega arith))
+      three_along (224 + c / 4096) (128 + (c / 64) % 64) (128 + c % 64) rest (omega arith) (omega arith) second.0 second.1 (omega arith) (omega arith))
   | inr (inr (inr four)) ↦ rw (encode_four c four)
       (let least : c < 1114112 = grind arith in
-       let second = second_of_four c four least in
-       four_along (240 + c / 262144) (128 + (c / 4096) % 64) (128 + (c / 64) % 64) (128 + c % 64) rest (omega arith) (omega arith) second.0 second.1 (omega arith) (omega arith) (omega arith) (omega arith)) ]
+      let second = second_of_four c four least in
+      four_along (240 + c / 262144) (128 + (c / 4096) % 64) (128 + (c / 64) % 64) (128 + c % 64) rest (omega arith) (omega arith) second.0 second.1 (omega arith) (omega arith) (omega arith) (omega arith))
+]
 
 chars_along : (cs : List ℕ) → all_scalars cs ≡ true → due_along (Some Nothing) (encode_utf8_all cs) ≡ Some Nothing
 chars_along [] h = refl
@@ -164,7 +165,7 @@ utf8_two : (f s : ℕ) → 0xC2 ≤ f → f < 0xE0 → 0x80 ≤ s → s ≤ 0xBF
 utf8_two f s l h a b =
     let c : ℕ = (f - 192) * 64 + (s - 128) in
     one_char c (f ∷ s ∷ []) (inl (omega arith))
-      (encode_two c (omega arith) (omega arith) ∙ bytes_two (192 + c / 64) f (128 + c % 64) s (omega arith) (omega arith))
+    (encode_two c (omega arith) (omega arith) ∙ bytes_two (192 + c / 64) f (128 + c % 64) s (omega arith) (omega arith))
 
 utf8_three : (f s t : ℕ) → 0xE0 ≤ f → f < 0xF0 → second_byte_min f ≤ s → s ≤ second_byte_max f → 0x80 ≤ t → t ≤ 0xBF → IsUtf8 (f ∷ s ∷ t ∷ [])
 utf8_three f s t l h a b x y =
@@ -172,8 +173,8 @@ utf8_three f s t l h a b x y =
     let low : 0x80 ≤ s = grind (arith, nat_tests) in
     let high : s ≤ 0xBF = grind (arith, nat_tests) in
     one_char c (f ∷ s ∷ t ∷ []) (fits_three f s t l h a b x y)
-      (encode_three c (above_three f s t l h a b x y) (omega arith)
-       ∙ bytes_three (224 + c / 4096) f (128 + (c / 64) % 64) s (128 + c % 64) t (omega arith) (omega arith) (omega arith))
+    (encode_three c (above_three f s t l h a b x y) (omega arith)
+    ∙ bytes_three (224 + c / 4096) f (128 + (c / 64) % 64) s (128 + c % 64) t (omega arith) (omega arith) (omega arith))
 
 utf8_four : (f s t u : ℕ) → 0xF0 ≤ f → f < 0xF5 → second_byte_min f ≤ s → s ≤ second_byte_max f → 0x80 ≤ t → t ≤ 0xBF → 0x80 ≤ u → u ≤ 0xBF → IsUtf8 (f ∷ s ∷ t ∷ u ∷ [])
 utf8_four f s t u l h a b x y v w =
@@ -182,8 +183,8 @@ utf8_four f s t u l h a b x y v w =
     let high : s ≤ 0xBF = grind (arith, nat_tests) in
     let bounds = bounds_four f s t u l h a b x y v w in
     one_char c (f ∷ s ∷ t ∷ u ∷ []) (inr (omega arith, bounds.1))
-      (encode_four c bounds.0
-       ∙ bytes_four (240 + c / 262144) f (128 + (c / 4096) % 64) s (128 + (c / 64) % 64) t (128 + c % 64) u (omega arith) (omega arith) (omega arith) (omega arith))
+    (encode_four c bounds.0
+    ∙ bytes_four (240 + c / 262144) f (128 + (c / 4096) % 64) s (128 + (c / 64) % 64) t (128 + c % 64) u (omega arith) (omega arith) (omega arith) (omega arith))
 
 -- the bytes that meet what is due, and no more
 abbrev Front : Due → List ℕ → Type 0

@@ -52,10 +52,18 @@ impl Attributes {
     }
 
     /// The attributes and one more.
-    pub(crate) fn with(self, alloc: Global, name: String, value: String) -> Result<Attributes, AllocError>
+    pub(crate) fn with(
+        self,
+        alloc: Global,
+        name: String,
+        value: String,
+    ) -> Result<Attributes, AllocError>
         ensures { IfOk result (λ r. r ≡ self ++ record { name = string_bytes name; value = string_bytes value } ∷ []) }
     {
-        let Attributes { mut rows, mut names } = self;
+        let Attributes {
+            mut rows,
+            mut names,
+        } = self;
         names.insert(String::from_str(alloc, name.as_str())?)?;
         rows.push(Attribute {
             name: Text::new(name),

@@ -12,7 +12,12 @@ use std::alloc::AllocError;
 
 /// The ends of elements.
 impl Scanner {
-    pub(crate) fn closing(&mut self, matched: usize, class: Class, b: u8) -> Result<Taken, AllocError>
+    pub(crate) fn closing(
+        &mut self,
+        matched: usize,
+        class: Class,
+        b: u8,
+    ) -> Result<Taken, AllocError>
         ensures { IfOk result (λ answer. Takes (Some self.old.due) (closing_step (around_of self.old) (drop matched (name_in (around_of self.old))) class b) answer (state_of self.new)) }
     {
         match self.awaited(matched) {

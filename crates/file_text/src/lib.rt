@@ -7,6 +7,7 @@ mod class;
 mod due;
 mod end_tags;
 mod error;
+mod laws;
 mod mode;
 mod read;
 mod reference;
@@ -20,5 +21,6 @@ mod texts;
 mod tree;
 
 pub use error::{Construct, TextError};
+pub use laws::answers_are_one;
 pub use read::read_tree;
 pub use tree::{Attribute, Element, Tree};

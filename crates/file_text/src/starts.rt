@@ -33,7 +33,12 @@ impl Scanner {
         }
     }
 
-    pub(crate) fn at_first(&mut self, alloc: Global, class: Class, b: u8) -> Result<Taken, AllocError>
+    pub(crate) fn at_first(
+        &mut self,
+        alloc: Global,
+        class: Class,
+        b: u8,
+    ) -> Result<Taken, AllocError>
         ensures { IfOk result (λ answer. Takes (Some self.old.due) (first_step (around_of self.old) class b) answer (state_of self.new)) }
     {
         match class {
@@ -44,7 +49,13 @@ impl Scanner {
         }
     }
 
-    pub(crate) fn in_declaring(&mut self, alloc: Global, read: Declaring, class: Class, b: u8) -> Taken
+    pub(crate) fn in_declaring(
+        &mut self,
+        alloc: Global,
+        read: Declaring,
+        class: Class,
+        b: u8,
+    ) -> Taken
         ensures { Takes (Some self.old.due) (declaring_step (around_of self.old) read class b) result (state_of self.new) }
     {
         match (read, class) {

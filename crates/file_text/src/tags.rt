@@ -43,7 +43,8 @@ impl Tag {
         requires { IsDue self.now.attribute.items Nothing }
         ensures { result ≡ has_name self.now.attribute.items self.now.attributes }
     {
-        self.attributes.has(str::from_utf8(self.attribute.as_slice()).unwrap())
+        self.attributes
+            .has(str::from_utf8(self.attribute.as_slice()).unwrap())
     }
 
     /// Whether the attribute declares an encoding other than UTF-8.
@@ -221,7 +222,12 @@ impl Scanner {
         }
     }
 
-    pub(crate) fn in_value(&mut self, alloc: Global, class: Class, b: u8) -> Result<Taken, AllocError>
+    pub(crate) fn in_value(
+        &mut self,
+        alloc: Global,
+        class: Class,
+        b: u8,
+    ) -> Result<Taken, AllocError>
         requires name { IsDue self.old.tag.attribute.items Nothing }
         requires value { class ≢ Wide → IsDue self.old.tag.value.items Nothing }
         ensures { IfOk result (λ answer. Takes (Some self.old.due) (value_step (around_of self.old) (holder_of self.old.tag) self.old.tag.attributes self.old.tag.attribute.items self.old.tag.quote self.old.tag.value.items class b) answer (state_of self.new)) }

@@ -20,5 +20,5 @@ returns-in-TooDeep c =
 pub returns-in-OtherEncoding : goal.returns-in-OtherEncoding
 returns-in-OtherEncoding c =
     encoding_fault c.args.bytes.now c.args.n c.value_start.result
-      (subst (λ (t : Taken). IsStop c.args.bytes.now c.args.n t) c.in-OtherEncoding.is c.requires)
-      (record { within = c.value_start.ensures.within; behind = c.value_start.ensures.behind; last = c.value_start.ensures.last })
+    (subst (λ (t : Taken). IsStop c.args.bytes.now c.args.n t) c.in-OtherEncoding.is c.requires)
+    (record { within = c.value_start.ensures.within; behind = c.value_start.ensures.behind; last = c.value_start.ensures.last })

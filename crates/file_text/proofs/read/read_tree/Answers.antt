@@ -36,7 +36,7 @@ pub returns-in-None-clause-only : goal.returns-in-None-clause-only
 returns-in-None-clause-only c = λ e is.
     let all : take c.loop-i.i c.args.bytes.now ≡ c.args.bytes.now = take_all c.loop-i.i c.args.bytes.now c.loop-i-test.false in
     absurd (no_fault c.args.bytes.now e c.fault_at.result is
-      (early_fault c.args.bytes.now (state_of c.loop-i.scanner) c.fault_at.result (rw all at c.loop-i.invariant) (sym c.in-None.ensures) c.fault_at.ensures))
+    (early_fault c.args.bytes.now (state_of c.loop-i.scanner) c.fault_at.result (rw all at c.loop-i.invariant) (sym c.in-None.ensures) c.fault_at.ensures))
 
 pub returns-in-None-clause-fault : goal.returns-in-None-clause-fault
 returns-in-None-clause-fault c =

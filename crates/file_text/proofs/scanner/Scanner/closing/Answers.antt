@@ -17,5 +17,7 @@ returns-in-Greater c =
 
 pub returns-in_default : goal.returns-in_default
 returns-in_default c =
-    rw (drop_none (name_in (around_of c.args.self.now)) c.args.matched (sym c.in-None.ensures.found),
-        closing_other (around_of c.args.self.now) c.args.class c.args.b c.in_default.not-White c.in_default.not-Greater) refl
+    rw (
+      drop_none (name_in (around_of c.args.self.now)) c.args.matched (sym c.in-None.ensures.found),
+      closing_other (around_of c.args.self.now) c.args.class c.args.b c.in_default.not-White c.in_default.not-Greater,
+    ) refl

@@ -4,4 +4,4 @@ use Rattle.file_text.proofs.scanner.Tag.has_attribute.Goals as goal
 pub unwrap-requires : goal.unwrap-requires
 unwrap-requires c =
     ok_since c.from_utf8.result _ _ c.from_utf8.ensures.cases
-      (λ e fault. fault.0 (rw c.as_slice.ensures.value (IsUtf8-due_along c.args.self.now.attribute.items c.requires)))
+    (λ e fault. fault.0 (rw c.as_slice.ensures.value (IsUtf8-due_along c.args.self.now.attribute.items c.requires)))

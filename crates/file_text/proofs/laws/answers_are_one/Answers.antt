@@ -1,0 +1,6 @@
+use Rattle.file_text.proofs.Faults.{one_fault, no_fault}
+use Rattle.file_text.proofs.Whole.{some_answer, one_tree}
+use Rattle.file_text.proofs.laws.answers_are_one.Goals as goal
+
+pub returns : goal.returns
+returns c = record { some = some_answer; one_tree = one_tree; one_fault = one_fault; not_both = no_fault }
