@@ -10,5 +10,4 @@ pub fn answers_are_one()
     ensures one_tree { (bytes : List ℕ) (d e : Node) → IsText d bytes → IsText e bytes → d ≡ e }
     ensures one_fault { (bytes : List ℕ) (f g : TextError) → FirstFault bytes f → FirstFault bytes g → f ≡ g }
     ensures not_both { (bytes : List ℕ) (e : Node) (f : TextError) → IsText e bytes → FirstFault bytes f → ⊥ }
-{
-}
+{}

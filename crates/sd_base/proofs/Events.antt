@@ -17,8 +17,8 @@ ends_at-true : (net : Net) (t : ℕ) (s : Schedule) (n a k : ℕ) → a < n → 
 ends_at-true net t s zero a k below there at = absurd (omega arith)
 ends_at-true net t s (suc n) a k below there at = ⊎_elim
     (λ (same : a ≡ n).
-      let here : ends_among net t s n (count_of s n) ≡ true = subst (λ (x : ℕ). ends_among net t s x (count_of s x) ≡ true) same (ends_among-true net t s a (count_of s a) k there at) in
-      or_left (ends_among net t s n (count_of s n)) (ends_at net t s n) here)
+    let here : ends_among net t s n (count_of s n) ≡ true = subst (λ (x : ℕ). ends_among net t s x (count_of s x) ≡ true) same (ends_among-true net t s a (count_of s a) k there at) in
+    or_left (ends_among net t s n (count_of s n)) (ends_at net t s n) here)
     (λ (away : a ≡ n → ⊥). or_right _ _ (ends_at-true net t s n a k (omega arith) there at))
     (cases_eq a n)
 
