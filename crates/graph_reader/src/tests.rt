@@ -567,3 +567,122 @@ fn graphs_have_256_channels(rt: HostRuntime) -> Result<(), Fail> {
     lines.push_str("...channel name=c\n")?;
     assert_section(&rt, alloc, lines.as_str(), "limit Channels")
 }
+
+const CHAIN_FILE: &str = r#"<?xml version="1.0" encoding="UTF-8"?>
+<sdf3 type="sdf" version="1.0"
+    xmlns:xsi="http://www.w3.org/2001/XMLSchema-instance"
+    xsi:noNamespaceSchemaLocation="sdf3-sdf.xsd">
+  <!-- a pipeline of three actors; the second processor of a is the one that counts -->
+  <applicationGraph name='chain'>
+    <sdf name='chain' type='Chain'>
+      <actor name='a' type='A'>
+        <port name='p0' type='out' rate='2'/>
+      </actor>
+      <actor name='b' type='B'>
+        <port name='p0' type='in' rate='3'/>
+        <port name='p1' type='out' rate='1'/>
+      </actor>
+      <actor name='c' type='C'>
+        <port name='p0' type='in' rate='2'/>
+      </actor>
+      <channel name='alpha' srcActor='a' srcPort='p0' dstActor='b' dstPort='p0'/>
+      <channel name='beta' srcActor='b' srcPort='p1' dstActor='c' dstPort='p0'/>
+    </sdf>
+    <sdfProperties>
+      <actorProperties actor='a'>
+        <processor type='dsp'><executionTime time='9'/></processor>
+        <processor type='arm' default='true'>
+          <executionTime time='1'/>
+          <memory><stateSize max='16'/></memory>
+        </processor>
+      </actorProperties>
+      <actorProperties actor='b'>
+        <processor type='arm' default='true'><executionTime time='2'/></processor>
+      </actorProperties>
+      <actorProperties actor='c'>
+        <processor type='arm' default='true'><executionTime time='2'/></processor>
+      </actorProperties>
+      <channelProperties channel='alpha'><tokenSize sz='1'/></channelProperties>
+      <channelProperties channel='beta'><tokenSize sz='1'/></channelProperties>
+      <graphProperties>
+        <timeConstraints><throughput>0.125</throughput></timeConstraints>
+      </graphProperties>
+    </sdfProperties>
+  </applicationGraph>
+</sdf3>
+"#;
+
+const PLAIN_FILE: &str = r#"<?xml version="1.0" encoding="UTF-8"?>
+<sdf3 type='sdf' version='1.0'>
+<applicationGraph name='g'>
+<sdf name='g' type='G'>
+<actor name='a' type='a'>
+<port name='o0' type='out' rate='2'/>
+</actor>
+<actor name='b' type='b'>
+<port name='i0' type='in' rate='3'/>
+<port name='o1' type='out' rate='1'/>
+</actor>
+<actor name='c' type='c'>
+<port name='i1' type='in' rate='2'/>
+</actor>
+<channel name='alpha' srcActor='a' srcPort='o0' dstActor='b' dstPort='i0' initialTokens='0'/>
+<channel name='beta' srcActor='b' srcPort='o1' dstActor='c' dstPort='i1' initialTokens='0'/>
+</sdf>
+<sdfProperties>
+<actorProperties actor='a'>
+<processor type='p' default='true'>
+<executionTime time='1'/>
+</processor>
+</actorProperties>
+<actorProperties actor='b'>
+<processor type='p' default='true'>
+<executionTime time='2'/>
+</processor>
+</actorProperties>
+<actorProperties actor='c'>
+<processor type='p' default='true'>
+<executionTime time='2'/>
+</processor>
+</actorProperties>
+<channelProperties channel='alpha'>
+<tokenSize sz='1'/>
+</channelProperties>
+<channelProperties channel='beta'>
+<tokenSize sz='1'/>
+</channelProperties>
+</sdfProperties>
+</applicationGraph>
+</sdf3>
+"#;
+
+fn assert_read(rt: &impl Abort, alloc: Global, bytes: &[u8], words: &str) -> Result<(), Fail> {
+    match read_graph(alloc, bytes, true) {
+        Ok(table) => {
+            let found = shown(alloc, &table)?;
+            assert_eq!(rt; found.as_str(), words);
+        }
+        Err(error) => {
+            let found = words_of(alloc, &error)?;
+            assert_eq!(rt; found.as_str(), words);
+        }
+    }
+    Ok(())
+}
+
+#[test]
+fn chain_file_is_read(rt: HostRuntime) -> Result<(), Fail> {
+    let alloc = rt.alloc();
+    let table = "a [1]\nb [2]\nc [2]\nalpha 0 [2] [3] 1 0 1\nbeta 1 [1] [2] 2 0 1\n";
+    assert_read(&rt, alloc, CHAIN_FILE.as_bytes(), table)?;
+    assert_read(&rt, alloc, PLAIN_FILE.as_bytes(), table)
+}
+
+#[test]
+fn text_faults_come_first(rt: HostRuntime) -> Result<(), Fail> {
+    let alloc = rt.alloc();
+    assert_read(&rt, alloc, b"", "text")?;
+    assert_read(&rt, alloc, b"<sdf type='sdf'/>", "missing sdf3 in file")?;
+    assert_read(&rt, alloc, b"<sdf type='sdf'/>x", "text")?;
+    assert_read(&rt, alloc, b"<!DOCTYPE a>", "text")
+}
