@@ -289,7 +289,7 @@ fn graph_file_is_read_whole(rt: HostRuntime) -> Result<(), Fail> {
 
 #[test]
 fn graph_file_cut_short_leaves_at_its_end(rt: HostRuntime) -> Result<(), Fail> {
-    for n in [1, 5, 38, 60, 203, 260, 300, 700, 1200, 1706] {
+    for n in [1, 5, 38, 60, 203, 260, 300, 700, 1200, 1694] {
         let mut text = Vec::from_slice(rt.alloc(), CHAIN.as_bytes())?;
         text.truncate(n);
         check(
