@@ -180,13 +180,13 @@ level-takes net a n s more e old new level takes long counts = record {
   long = long ∙ level.long;
   each = λ i place. ⊎_elim
       (λ (into : (channel_at net i).target ≡ a).
-        let was : slice_index old i + total (channel_at net i).taken (s (channel_at net i).target) ≡ (channel_at net i).tokens + total (channel_at net i).made (e (channel_at net i).source) = level.each i place in
-        let before : slice_index old i + total (channel_at net i).taken (s a) ≡ (channel_at net i).tokens + total (channel_at net i).made (e (channel_at net i).source) = rw into at was in
-        let moved : slice_index new i + total (channel_at net i).taken (s a + n) ≡ slice_index old i + total (channel_at net i).taken (s a) = takes.taken i place into in
-        rw (into, counts.here) (moved ∙ before))
+      let was : slice_index old i + total (channel_at net i).taken (s (channel_at net i).target) ≡ (channel_at net i).tokens + total (channel_at net i).made (e (channel_at net i).source) = level.each i place in
+      let before : slice_index old i + total (channel_at net i).taken (s a) ≡ (channel_at net i).tokens + total (channel_at net i).made (e (channel_at net i).source) = rw into at was in
+      let moved : slice_index new i + total (channel_at net i).taken (s a + n) ≡ slice_index old i + total (channel_at net i).taken (s a) = takes.taken i place into in
+      rw (into, counts.here) (moved ∙ before))
       (λ (away : (channel_at net i).target ≢ a).
-        rw (counts.others (channel_at net i).target away, takes.others i place away) (level.each i place))
-      (cases_eq (channel_at net i).target a)
+      rw (counts.others (channel_at net i).target away, takes.others i place away) (level.each i place))
+      (cases_eq (channel_at net i).target a);
 }
 
 pub level-puts : (net : Net) (a n : ℕ) (s e more : ℕ → ℕ) (old new : List ℕ) → IsLevel net s e old → PutsTokens net a (e a) n old new → length new ≡ length old → MoreBy a n e more → IsLevel net s more new
@@ -194,13 +194,13 @@ level-puts net a n s e more old new level puts long counts = record {
   long = long ∙ level.long;
   each = λ i place. ⊎_elim
       (λ (from : (channel_at net i).source ≡ a).
-        let was : slice_index old i + total (channel_at net i).taken (s (channel_at net i).target) ≡ (channel_at net i).tokens + total (channel_at net i).made (e (channel_at net i).source) = level.each i place in
-        let before : slice_index old i + total (channel_at net i).taken (s (channel_at net i).target) ≡ (channel_at net i).tokens + total (channel_at net i).made (e a) = rw from at was in
-        let moved : slice_index new i + total (channel_at net i).made (e a) ≡ slice_index old i + total (channel_at net i).made (e a + n) = puts.made i place from in
-        rw (from, counts.here) (omega arith))
+      let was : slice_index old i + total (channel_at net i).taken (s (channel_at net i).target) ≡ (channel_at net i).tokens + total (channel_at net i).made (e (channel_at net i).source) = level.each i place in
+      let before : slice_index old i + total (channel_at net i).taken (s (channel_at net i).target) ≡ (channel_at net i).tokens + total (channel_at net i).made (e a) = rw from at was in
+      let moved : slice_index new i + total (channel_at net i).made (e a) ≡ slice_index old i + total (channel_at net i).made (e a + n) = puts.made i place from in
+      rw (from, counts.here) (omega arith))
       (λ (away : (channel_at net i).source ≢ a).
-        rw (counts.others (channel_at net i).source away, puts.others i place away) (level.each i place))
-      (cases_eq (channel_at net i).source a)
+      rw (counts.others (channel_at net i).source away, puts.others i place away) (level.each i place))
+      (cases_eq (channel_at net i).source a);
 }
 
 -- a channel that has fewer tokens than a firing takes makes the firing need one that hasn't ended
@@ -233,16 +233,16 @@ level-small net s e tokens most i laws level place few =
 pub more-set : (counts : List ℕ) (a n : ℕ) → a < length counts → MoreBy a n (slice_index counts) (slice_index (set counts a (slice_index counts a + n)))
 more-set counts a n below = record {
   here = get_or-set_same counts a (slice_index counts a + n) 0 below;
-  others = λ b away. get_or-set_other counts a b (slice_index counts a + n) 0 away
+  others = λ b away. get_or-set_other counts a b (slice_index counts a + n) 0 away;
 }
 
 -- taking leaves no more
 pub takes-le : (net : Net) (a k n : ℕ) (old new : List ℕ) → TakesTokens net a k n old new → (i : ℕ) → i < length net.channels → slice_index new i ≤ slice_index old i
 takes-le net a k n old new takes i place = ⊎_elim
     (λ (into : (channel_at net i).target ≡ a).
-      let moved : slice_index new i + total (channel_at net i).taken (k + n) ≡ slice_index old i + total (channel_at net i).taken k = takes.taken i place into in
-      let le : total (channel_at net i).taken k ≤ total (channel_at net i).taken (k + n) = total-le (channel_at net i).taken (omega arith) in
-      omega arith)
+    let moved : slice_index new i + total (channel_at net i).taken (k + n) ≡ slice_index old i + total (channel_at net i).taken k = takes.taken i place into in
+    let le : total (channel_at net i).taken k ≤ total (channel_at net i).taken (k + n) = total-le (channel_at net i).taken (omega arith) in
+    omega arith)
     (λ (away : (channel_at net i).target ≢ a). let same : slice_index new i ≡ slice_index old i = takes.others i place away in omega arith)
     (cases_eq (channel_at net i).target a)
 

@@ -10,4 +10,4 @@ loop-channel-preserved g c =
 pub returns : goal.returns
 returns g c =
     takes-done (g.F.Firing.net c.args.net.now) c.args.actor c.args.from c.args.firings c.args.inputs.now c.args.tokens.now c.loop-channel.tokens c.loop-channel.channel-index
-      c.requires.listed (omega (arith, c.loop-channel-test.false, c.loop-channel.auto.channel-index-end)) c.loop-channel.invariant
+    c.requires.listed (omega (arith, c.loop-channel-test.false, c.loop-channel.auto.channel-index-end)) c.loop-channel.invariant
