@@ -1,5 +1,5 @@
 -- The channels of a net by actor, and the tokens on channels.
-use Rattle.std.specs.Prelude.{◌≡◌, ◌≢◌, ℕ, ◌+◌, ◌≤◌, ◌<◌, Bool, true, List, [], length, slice_index, slice_index_or, ◌==◌}
+use Rattle.std.specs.Prelude.{◌≡◌, ◌≢◌, ℕ, ◌+◌, ◌≤◌, ◌<◌, true, List, [], length, slice_index, slice_index_or, ◌==◌}
 use Rattle.std.specs.List.{list_any}
 use Rattle.sd_base.specs.Net.{Channel, Net, channel_at, phase_entry, total}
 use Rattle.firing.specs.declared.sums.Port.{Port}
