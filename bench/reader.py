@@ -25,15 +25,16 @@ def channel(i):
 
 
 def filled(size, start, piece, end):
-    """A text of about this size: the start, pieces by number, the end."""
+    """A text of at most this size: the start, pieces by number, the end."""
     parts, length, i = [start], len(start) + len(end), 0
-    while length < size:
-        part = piece(i)
+    part = piece(i)
+    while length + len(part) <= size:
         parts.append(part)
         length += len(part)
         i += 1
+        part = piece(i)
     parts.append(end)
-    return "".join(parts)[: LIMIT + 1]
+    return "".join(parts)
 
 
 def channels(size):
@@ -48,8 +49,8 @@ def chain(actors, names):
     """A chain of actors with the longest names that are allowed, and passed-over elements of other names."""
     inner = []
     for i in range(actors):
-        ports = (f"<port name='o' type='out' rate='1'/>" if i < actors - 1 else "") + (
-            f"<port name='i' type='in' rate='1'/>" if i else "")
+        ports = ("<port name='o' type='out' rate='1'/>" if i < actors - 1 else "") + (
+            "<port name='i' type='in' rate='1'/>" if i else "")
         inner.append(f"<actor name='{'a' * 120}{i}'>{ports}</actor>")
     for i in range(actors - 1):
         inner.append(f"<channel name='c{i}' srcActor='{'a' * 120}{i}' srcPort='o' dstActor='{'a' * 120}{i + 1}' dstPort='i'/>")
