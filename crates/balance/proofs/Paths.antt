@@ -9,7 +9,7 @@ use Rattle.balance.specs.declared.connection.Direction.TheVariants.{Along, Again
 use Rattle.balance.specs.Connection.{IsPath, Reaches, AreActors}
 use Rattle.balance.specs.Search.{mark_at}
 use Rattle.balance.specs.Lists.{list_at, appended}
-use Rattle.balance.specs.Reaching.{pair_from, pair_to, Leads, AreLed, AreClosed, AreFollowers, IsQueue, IsMarked, IsLeft}
+use Rattle.balance.specs.Reaching.{pair_from, pair_to, Leads, AreLed, AreClosed, AreFollowers, IsQueue, IsMarked, AreMarked}
 use Rattle.balance.proofs.TableLemmas.{at_All, at_place}
 use Rattle.balance.proofs.Searching.{push_cases, push_old, push_new, trues_le, trues-set, trues-replicate, mark-replicate, mark_set, mark_kept, mark_only}
 use Rattle.balance.proofs.Joints.{appended_here, appended_other, length-appended, list_at-replicate}
@@ -123,8 +123,8 @@ queue_start actors some =
     } in
     queue_more 0 [] bs lt (mark-replicate actors 0) empty
 
-pub left_none : (next queue : List ℕ) (marks : List Bool) → IsQueue queue marks → IsLeft next 0 queue marks queue marks
-left_none next queue marks f = record {
+pub marked_none : (next queue : List ℕ) (marks : List Bool) → IsQueue queue marks → AreMarked next 0 queue marks queue marks
+marked_none next queue marks f = record {
   is_queue = f;
   size = refl;
   kept = λ v on. on;
@@ -134,12 +134,12 @@ left_none next queue marks f = record {
 }
 
 -- one actor more was marked
-pub left_more : (next : List ℕ) (n u : ℕ) (queue queue' queue'' : List ℕ) (marks marks' marks'' : List Bool) → slice_get next n ≡ Some u → u < length marks'
-    → IsMarked u queue' marks' queue'' marks'' → IsLeft next n queue marks queue' marks' → IsLeft next (n + 1) queue marks queue'' marks''
-left_more next n u queue queue' queue'' marks marks' marks'' here lt step f = elim step [
+pub marked_more : (next : List ℕ) (n u : ℕ) (queue queue' queue'' : List ℕ) (marks marks' marks'' : List Bool) → slice_get next n ≡ Some u → u < length marks'
+    → IsMarked u queue' marks' queue'' marks'' → AreMarked next n queue marks queue' marks' → AreMarked next (n + 1) queue marks queue'' marks''
+marked_more next n u queue queue' queue'' marks marks' marks'' here lt step f = elim step [
   | inl new ↦
       let bs : List Bool = slice_set marks' u true in
-      let next_is : IsLeft next (n + 1) queue marks (queue' ++ u ∷ []) bs = record {
+      let next_is : AreMarked next (n + 1) queue marks (queue' ++ u ∷ []) bs = record {
         is_queue = queue_more u queue' marks' lt new.0 f.is_queue;
         size = length-set marks' u true ∙ f.size;
         kept = λ v on. mark_kept marks' u v (f.kept v on);
@@ -153,10 +153,10 @@ left_more next n u queue queue' queue'' marks marks' marks'' here lt step f = el
           | inr was ↦ f.only v was
         ];
       } in
-      subst (λ (bs' : List Bool). IsLeft next (n + 1) queue marks queue'' bs') (sym new.2)
-      (subst (λ (xs : List ℕ). IsLeft next (n + 1) queue marks xs bs) (sym new.1) next_is)
+      subst (λ (bs' : List Bool). AreMarked next (n + 1) queue marks queue'' bs') (sym new.2)
+      (subst (λ (xs : List ℕ). AreMarked next (n + 1) queue marks xs bs) (sym new.1) next_is)
   | inr old ↦
-      let next_is : IsLeft next (n + 1) queue marks queue' marks' = record {
+      let next_is : AreMarked next (n + 1) queue marks queue' marks' = record {
         is_queue = f.is_queue;
         size = f.size;
         kept = f.kept;
@@ -167,8 +167,8 @@ left_more next n u queue queue' queue'' marks marks' marks'' here lt step f = el
         ];
         only = f.only;
       } in
-      subst (λ (bs : List Bool). IsLeft next (n + 1) queue marks queue'' bs) (sym old.2)
-      (subst (λ (xs : List ℕ). IsLeft next (n + 1) queue marks xs marks') (sym old.1) next_is)
+      subst (λ (bs : List Bool). AreMarked next (n + 1) queue marks queue'' bs) (sym old.2)
+      (subst (λ (xs : List ℕ). AreMarked next (n + 1) queue marks xs marks') (sym old.1) next_is)
 ]
 
 -- ---- the whole search, where the first i queued actors were left
@@ -195,7 +195,7 @@ reach_start d ends actors some =
     }
 
 pub reach_more : (d : Direction) (ends : List (ℕ × ℕ)) (actors : ℕ) (rows : List (List ℕ)) (queue queue' : List ℕ) (marks marks' : List Bool) (i v : ℕ)
-    → AreFollowers d ends (length ends) actors rows → slice_get queue i ≡ Some v → IsLeft (list_at rows v) (length (list_at rows v)) queue marks queue' marks'
+    → AreFollowers d ends (length ends) actors rows → slice_get queue i ≡ Some v → AreMarked (list_at rows v) (length (list_at rows v)) queue marks queue' marks'
     → IsReach d ends actors queue marks i → IsReach d ends actors queue' marks' (i + 1)
 reach_more d ends actors rows queue queue' marks marks' i v next here l f = record {
   is_queue = l.is_queue;

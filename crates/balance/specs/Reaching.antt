@@ -48,7 +48,7 @@ IsMarked u queue marks queue' marks' =
     ⊎ ((mark_at marks u ≡ true) × (queue' ≡ queue) × (marks' ≡ marks))
 
 -- the first n actors of a list were marked
-pub record IsLeft (next : List ℕ) (n : ℕ) (queue : List ℕ) (marks : List Bool) (queue' : List ℕ) (marks' : List Bool) : Type 0 where
+pub record AreMarked (next : List ℕ) (n : ℕ) (queue : List ℕ) (marks : List Bool) (queue' : List ℕ) (marks' : List Bool) : Type 0 where
   pub is_queue : IsQueue queue' marks'
   pub size : length marks' ≡ length marks
   pub kept : (v : ℕ) → mark_at marks v ≡ true → mark_at marks' v ≡ true

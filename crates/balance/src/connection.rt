@@ -32,9 +32,10 @@ impl<T: Drop> From<AllocFailed<T>> for ConnectError {
     }
 }
 
-/// What paths lead to: by actor whether it is marked, and the marked actors in the order in which they were found.
+/// The actors that paths lead to: by actor whether it is marked, and the marked ones in the order in which they were
+/// found.
 #[derive(Drop)]
-struct Reach {
+struct Marked {
     queue: Vec<u32>,
     marks: Vec<bool>,
 }
@@ -51,7 +52,7 @@ enum Direction {
 ghost use Rattle.std.specs.Prelude.{◌≡◌, ℕ, ◌<◌, ◌≤◌, ◌↔◌, [], ◌∷◌, All, true, false, length, replicate, slice_set, IfErr, IfOk, IsTrue, MatchOption, OnOk};
 ghost use Rattle.balance.specs.Connection.{AreActors, HasInput, IsConnectRefusal, IsFirstWithoutInput, IsStronglyConnected};
 ghost use Rattle.balance.specs.Search.{mark_at};
-ghost use Rattle.balance.specs.Reaching.{AreFollowers, AreLed, IsLeft, IsMarked, IsQueue, Leads, pair_from, pair_to};
+ghost use Rattle.balance.specs.Reaching.{AreFollowers, AreLed, AreMarked, IsMarked, IsQueue, Leads, pair_from, pair_to};
 
 /// Whether directed paths over the pairs `ends` lead from each actor to each other one. Cost: linear in actors and
 /// pairs.
@@ -112,14 +113,14 @@ fn reached(
     ensures all { IfOk result (λ marks. (v : ℕ) → Leads direction ends.now v → mark_at marks.items v ≡ true) }
 {
     let next = followers(alloc, actors, ends, direction)?;
-    let mut reach = begin(alloc, actors)?;
+    let mut marked = begin(alloc, actors)?;
     for place in 0..actors as usize {
-        if place < reach.queue.len() {
-            let from = reach.queue[place];
-            leave(&mut reach, next.at(from as usize))?;
+        if place < marked.queue.len() {
+            let from = marked.queue[place];
+            mark_all(&mut marked, next.at(from as usize))?;
         }
     }
-    Ok(reach.marks)
+    Ok(marked.marks)
 }
 
 /// By actor where the pairs lead that begin at it.
@@ -152,7 +153,7 @@ fn directed(pair: (u32, u32), direction: Direction) -> (u32, u32)
 }
 
 /// Actor 0 alone is marked.
-fn begin(alloc: Global, actors: u32) -> Result<Reach, AllocError>
+fn begin(alloc: Global, actors: u32) -> Result<Marked, AllocError>
     requires { 1 ≤ actors }
     ensures { IfOk result (λ r. (r.queue.items ≡ 0 ∷ []) × (r.marks.items ≡ slice_set (replicate actors false) 0 true)) }
 {
@@ -160,31 +161,31 @@ fn begin(alloc: Global, actors: u32) -> Result<Reach, AllocError>
     marks[0] = true;
     let mut queue = Vec::new(alloc);
     queue.push(0)?;
-    Ok(Reach { queue, marks })
+    Ok(Marked { queue, marks })
 }
 
-/// Marks actors.
-fn leave(reach: &mut Reach, next: &[u32]) -> Result<(), AllocError>
-    requires actors { All (λ v. v < length reach.old.marks.items) next.now }
-    requires before { IsQueue reach.old.queue.items reach.old.marks.items }
-    ensures { OnOk result (IsLeft next.now (length next.now) reach.old.queue.items reach.old.marks.items
-        reach.new.queue.items reach.new.marks.items) }
+/// Marks the actors of a list.
+fn mark_all(marked: &mut Marked, next: &[u32]) -> Result<(), AllocError>
+    requires actors { All (λ v. v < length marked.old.marks.items) next.now }
+    requires before { IsQueue marked.old.queue.items marked.old.marks.items }
+    ensures { OnOk result (AreMarked next.now (length next.now) marked.old.queue.items marked.old.marks.items
+        marked.new.queue.items marked.new.marks.items) }
 {
     for to in next {
-        mark(reach, *to)?;
+        mark(marked, *to)?;
     }
     Ok(())
 }
 
 /// Marks an actor, and puts it at the end of the queue where it wasn't marked before.
-fn mark(reach: &mut Reach, to: u32) -> Result<(), AllocError>
-    requires { to < length reach.old.marks.items }
-    ensures { OnOk result (IsMarked to reach.old.queue.items reach.old.marks.items
-        reach.new.queue.items reach.new.marks.items) }
+fn mark(marked: &mut Marked, to: u32) -> Result<(), AllocError>
+    requires { to < length marked.old.marks.items }
+    ensures { OnOk result (IsMarked to marked.old.queue.items marked.old.marks.items
+        marked.new.queue.items marked.new.marks.items) }
 {
-    if !reach.marks[to as usize] {
-        reach.queue.push(to)?;
-        reach.marks[to as usize] = true;
+    if !marked.marks[to as usize] {
+        marked.queue.push(to)?;
+        marked.marks[to as usize] = true;
     }
     Ok(())
 }

@@ -2,4 +2,4 @@ use Rattle.balance.proofs.Paths.{IsReach}
 use Rattle.balance.proofs.connection.reached.Given as goal
 
 abbrev pub invariant-loop-place : goal.invariant-loop-place
-invariant-loop-place l = IsReach l.fn.direction l.ends l.actors l.reach.queue.items l.reach.marks.items l.place
+invariant-loop-place l = IsReach l.fn.direction l.ends l.actors l.marked.queue.items l.marked.marks.items l.place
