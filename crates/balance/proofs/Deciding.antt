@@ -9,23 +9,23 @@ use Rattle.balance.specs.declared.refusal.BalanceError.{BalanceError}
 use Rattle.balance.specs.declared.refusal.BalanceError.TheVariants.{Apart, RatioTooLarge, Unbalanced, RoundTooLarge, NoMemory}
 use Rattle.balance.specs.Walks.{links_of, IsWalk}
 use Rattle.balance.specs.Repetition.{IsConnected, IsApart, IsBalanced, WaysAreWithinLimit, IsRefusal}
-use Rattle.balance.specs.Search.{IsTree, mark_at}
+use Rattle.balance.specs.Search.{IsSearched, mark_at}
 use Rattle.balance.specs.Ratios.{IsLimitRefusal, IsKeptRefusal, IsRoundRefusal}
 
-walk_to : (ls : List Link) (actors : ℕ) (found : List Found) (seen : List Bool) → IsTree ls actors found seen → (b : ℕ) → mark_at seen b ≡ true → (ss : List WalkStep) × IsWalk ls 0 ss b
-walk_to ls actors found seen tree b on = (let (j, x, at, end) = tree.marked b on in (x.way, subst (λ n. IsWalk ls 0 x.way n) end (tree.ways j x at).0))
+walk_to : (ls : List Link) (actors : ℕ) (found : List Found) (seen : List Bool) → IsSearched ls actors found seen → (b : ℕ) → mark_at seen b ≡ true → (ss : List WalkStep) × IsWalk ls 0 ss b
+walk_to ls actors found seen tree b on = (let (j, x, at, end) = tree.tree.marked b on in (x.way, subst (λ n. IsWalk ls 0 x.way n) end (tree.tree.ways j x at).0))
 
-pub connected_from : (g : GraphFile) (found : List Found) (seen : List Bool) → IsTree (links_of g) (length g.actors) found seen
+pub connected_from : (g : GraphFile) (found : List Found) (seen : List Bool) → IsSearched (links_of g) (length g.actors) found seen
     → ((b : ℕ) → b < length seen → mark_at seen b ≡ true) → IsConnected g
 connected_from g found seen tree all b lt =
-    walk_to (links_of g) (length g.actors) found seen tree b (all b (let e = tree.size in omega arith))
+    walk_to (links_of g) (length g.actors) found seen tree b (all b (let e = tree.tree.size in omega arith))
 
-pub apart_from : (g : GraphFile) (found : List Found) (seen : List Bool) (b : ℕ) → IsTree (links_of g) (length g.actors) found seen
+pub apart_from : (g : GraphFile) (found : List Found) (seen : List Bool) (b : ℕ) → IsSearched (links_of g) (length g.actors) found seen
     → b < length seen → mark_at seen b ≡ false → ((c : ℕ) → c < b → mark_at seen c ≡ true) → IsApart g 0 b
 apart_from g found seen b tree lt off before = record {
   first = refl;
-  actor = (let e = tree.size in omega arith);
-  apart = λ ss walk. false≢true (sym off ∙ tree.whole ss b walk);
+  actor = (let e = tree.tree.size in omega arith);
+  apart = λ ss walk. false≢true (sym off ∙ tree.tree.whole ss b walk);
   least = λ c below. walk_to (links_of g) (length g.actors) found seen tree c (before c below);
 }
 

@@ -1,6 +1,7 @@
 -- The refusal for the first channel that doesn't keep the ratios.
-use Rattle.std.proofs.Common.{◌≡◌, ℕ, ◌*◌, ◌<◌, Bool, true, Some, List, ◌∷◌, ◌++◌, length, sym, refl, subst, arith}
+use Rattle.std.proofs.Common.{◌≡◌, ℕ, ◌*◌, ◌<◌, Bool, true, Some, List, ◌∷◌, ◌++◌, length, sym, refl, subst, ◌∙◌, arith}
 use Rattle.std.specs.Prelude.{slice_get}
+use Rattle.std.proofs.lemmas.Option.{slice_get_within}
 use Rattle.balance.specs.declared.walk.WalkStep.{WalkStep}
 use Rattle.balance.specs.declared.walk.Link.{Link}
 use Rattle.balance.specs.declared.search.Found.{Found}
@@ -9,9 +10,11 @@ use Rattle.balance.specs.declared.refusal.BalanceError.{BalanceError}
 use Rattle.balance.specs.declared.refusal.BalanceError.TheVariants.{Apart, RatioTooLarge, Unbalanced, RoundTooLarge, NoMemory}
 use Rattle.balance.specs.Walks.{IsWay, IsWalk, IsLowest, walk_num, walk_den, turned}
 use Rattle.balance.specs.Repetition.{IsTreePath, IsClosedOver}
-use Rattle.balance.specs.Search.{HasSums, HasEnds, IsTree, IsFound, IsClosedBetween, mark_at}
+use Rattle.balance.specs.Search.{HasSums, HasEnds, IsSearched, IsFound, IsWayTo, IsClosedBetween, mark_at}
 use Rattle.balance.specs.Ratios.{ratio_at, IsSummed, AreRatios, Keeps, IsClosedRefusal, IsKeptRefusal}
 use Rattle.balance.proofs.Shortest.{one_way}
+use Rattle.balance.proofs.Searching.{entry_of}
+use Rattle.balance.proofs.TableLemmas.{at_place}
 use Rattle.balance.proofs.Rounds.{kept_from, keeps_from, num_pos, den_pos}
 use Rattle.balance.proofs.TreePaths.{closed_walk, closed_ratio, parts_equal}
 
@@ -24,15 +27,28 @@ pub record IsReady (actors : ℕ) (found : List Found) (rs : List Ratio) (l : Li
   pub sums : IsSummed l
   pub positive : 0 < (ratio_at rs l.target).num
 
-pub ready : (ls : List Link) (actors : ℕ) (found : List Found) (seen : List Bool) (rs : List Ratio) → HasSums ls → HasEnds actors ls → IsTree ls actors found seen
+-- a marked actor was found
+found_from : (ls : List Link) (actors : ℕ) (found : List Found) (seen : List Bool) (a : ℕ) → IsSearched ls actors found seen → mark_at seen a ≡ true → IsFound found a
+found_from ls actors found seen a t on =
+    let (j, e, at, end) = t.tree.marked a on in
+    let (x, here) = at_place found j (let lt = slice_get_within t.entries j e at in let s = t.read.size in omega arith) in
+    (j, x, here, sym (t.read.actor j x e here at) ∙ end)
+
+-- the way that is read off for an actor is its way
+way_from : (ls : List Link) (actors : ℕ) (found : List Found) (seen : List Bool) (a : ℕ) (w : List WalkStep) → IsSearched ls actors found seen → IsWayTo found a w → IsWay ls a w
+way_from ls actors found seen a w t (j, x, here, end, read) =
+    let (e, at, same) = entry_of found t.entries t.read j x here in
+    subst (λ n. IsWay ls n w) (same ∙ end) (subst (λ (p : List WalkStep). IsWay ls e.actor p) (sym (read t.entries e t.read at)) (t.tree.ways j e at))
+
+pub ready : (ls : List Link) (actors : ℕ) (found : List Found) (seen : List Bool) (rs : List Ratio) → HasSums ls → HasEnds actors ls → IsSearched ls actors found seen
     → ((b : ℕ) → b < actors → mark_at seen b ≡ true) → AreRatios ls actors rs → (c : ℕ) (l : Link) → slice_get ls c ≡ Some l → IsReady actors found rs l
 ready ls actors found seen rs sums ends tree connected are c l is =
     let size = are.size in
     let low = ends.source c l is in
     let high = ends.target c l is in
     record {
-      source = tree.marked l.source (connected l.source low);
-      target = tree.marked l.target (connected l.target high);
+      source = found_from ls actors found seen l.source tree (connected l.source low);
+      target = found_from ls actors found seen l.target tree (connected l.target high);
       from = omega arith;
       to = omega arith;
       sums = (sums.made c l is, sums.taken c l is, sums.most_made c l is, sums.most_taken c l is);
@@ -46,15 +62,15 @@ ratio_of_way ls actors rs are b lt p way =
     let (q, way', ratio) = are.each b lt in
     subst (λ (t : List WalkStep). (ratio_at rs b).num * walk_den ls t ≡ (ratio_at rs b).den * walk_num ls t) (one_way ls b q p way' way) ratio.0.0
 
-closed_over : (ls : List Link) (actors : ℕ) (found : List Found) (seen : List Bool) (rs : List Ratio) → HasSums ls → HasEnds actors ls → IsTree ls actors found seen
+closed_over : (ls : List Link) (actors : ℕ) (found : List Found) (seen : List Bool) (rs : List Ratio) → HasSums ls → HasEnds actors ls → IsSearched ls actors found seen
     → AreRatios ls actors rs → (c : ℕ) (l : Link) → slice_get ls c ≡ Some l → (Keeps rs l → ⊥) → (walk : List WalkStep) (num den : ℕ) → IsClosedBetween found c l walk
     → IsLowest num den ((ratio_at rs l.source).num * l.made * (ratio_at rs l.target).den) ((ratio_at rs l.target).num * l.taken * (ratio_at rs l.source).den)
     → IsClosedOver ls c walk num den
-closed_over ls actors found seen rs sums ends tree are c l is fails walk num den (j, k, x, y, at, at', end, end', common, back, on, way, way', parted, walk_is) low =
+closed_over ls actors found seen rs sums ends tree are c l is fails walk num den (common, back, on, way, way', parted, walk_is) low =
     let path : List WalkStep = turned back ++ on in
     let step : WalkStep = record { channel = c; forward = true } in
-    let from : IsWay ls l.target (common ++ back) = subst (λ (t : List WalkStep). IsWay ls l.target t) way (subst (λ n. IsWay ls n x.way) end (tree.ways j x at)) in
-    let to : IsWay ls l.source (common ++ on) = subst (λ (t : List WalkStep). IsWay ls l.source t) way' (subst (λ n. IsWay ls n y.way) end' (tree.ways k y at')) in
+    let from : IsWay ls l.target (common ++ back) = way_from ls actors found seen l.target (common ++ back) tree way in
+    let to : IsWay ls l.source (common ++ on) = way_from ls actors found seen l.source (common ++ on) tree way' in
     let path_of : IsTreePath ls l.target l.source path = record { common = common; back = back; on = on; from = from; to = to; parted = parted; path_is = refl } in
     let ratio : IsLowest num den (walk_num ls (step ∷ path)) (walk_den ls (step ∷ path)) =
     closed_ratio ls sums c l path is path_of (ratio_at rs l.source).num (ratio_at rs l.source).den (ratio_at rs l.target).num (ratio_at rs l.target).den num den
@@ -73,7 +89,7 @@ closed_over ls actors found seen rs sums ends tree are c l is fails walk num den
           ((ratio_at rs l.target).num * l.taken * (ratio_at rs l.source).den) low same));
     }
 
-pub kept_refusal : (ls : List Link) (actors : ℕ) (found : List Found) (seen : List Bool) (rs : List Ratio) → HasSums ls → HasEnds actors ls → IsTree ls actors found seen
+pub kept_refusal : (ls : List Link) (actors : ℕ) (found : List Found) (seen : List Bool) (rs : List Ratio) → HasSums ls → HasEnds actors ls → IsSearched ls actors found seen
     → AreRatios ls actors rs → (c : ℕ) (l : Link) → slice_get ls c ≡ Some l → (Keeps rs l → ⊥) → ((k : ℕ) (m : Link) → k < c → slice_get ls k ≡ Some m → Keeps rs m)
     → (e : BalanceError) → IsClosedRefusal found rs c l e → IsKeptRefusal ls e
 kept_refusal ls actors found seen rs sums ends tree are c l is fails before (Unbalanced walk num den) (between, low) = (

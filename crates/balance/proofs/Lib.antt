@@ -2,6 +2,8 @@ pub mod WalkLemmas
 pub mod Order
 pub mod Shortest
 pub mod Searching
+pub mod Joints
+pub mod Ways
 pub mod Fractions
 pub mod TableLemmas
 pub mod Outcomes

@@ -1,5 +1,5 @@
 -- Inside the crate: the ratios of the ways, by actor. No public clause cites this.
-use Rattle.std.specs.Prelude.{◌≡◌, ℕ, ◌*◌, ◌/◌, ◌<◌, ◌≤◌, Some, List, [], ◌∷◌, ◌++◌, length, slice_get, slice_index, slice_index_or, sum}
+use Rattle.std.specs.Prelude.{◌≡◌, ℕ, ◌*◌, ◌/◌, ◌<◌, ◌≤◌, Some, List, length, slice_get, slice_index, slice_index_or, sum}
 use Rattle.std.specs.Int.{◌∣◌}
 use Rattle.balance.specs.declared.walk.WalkStep.{WalkStep}
 use Rattle.balance.specs.declared.walk.Link.{Link}
@@ -9,7 +9,7 @@ use Rattle.balance.specs.declared.refusal.BalanceError.{BalanceError}
 use Rattle.balance.specs.declared.refusal.BalanceError.TheVariants.{Apart, RatioTooLarge, Unbalanced, RoundTooLarge, NoMemory}
 use Rattle.balance.specs.Walks.{IsWay, IsLowest, step_from, walk_num, walk_den}
 use Rattle.balance.specs.Repetition.{IsFirstAboveLimit, IsClosedOver, IsKept}
-use Rattle.balance.specs.Search.{IsClosedBetween}
+use Rattle.balance.specs.Search.{Entry, IsClosedBetween}
 use Rattle.sd_base.specs.declared.tables.GraphFile.{GraphFile}
 use Rattle.sd_base.specs.Net.{IsRepetitionOf}
 
@@ -31,11 +31,9 @@ IsSummed l = (0 < l.made) × (0 < l.taken) × (l.made ≤ 4096000000) × (l.take
 abbrev pub IsSmall : Ratio → Type 0
 IsSmall r = (r.num ≤ 100000) × (r.den ≤ 100000) × (0 < r.den)
 
--- a walk ends in a step from an actor with a ratio
-abbrev pub IsLastStep : List Link → List Ratio → List WalkStep → Type 0
-IsLastStep ls rs way =
-    (rest : List WalkStep) × (s : WalkStep) × (l : Link) × (way ≡ rest ++ s ∷ []) × (slice_get ls s.channel ≡ Some l)
-    × (step_from l s.forward < length rs) × IsSmall (ratio_at rs (step_from l s.forward))
+-- a step leads from an actor with a ratio
+abbrev pub IsRatedStep : List Link → List Ratio → WalkStep → Type 0
+IsRatedStep ls rs s = (l : Link) × (slice_get ls s.channel ≡ Some l) × (step_from l s.forward < length rs) × IsSmall (ratio_at rs (step_from l s.forward))
 
 -- a refusal for a ratio above the limit
 abbrev pub IsLimitRefusal : List Link → BalanceError → Type 0
@@ -74,8 +72,8 @@ IsRoundRefusal g (RatioTooLarge path) = ⊥
 IsRoundRefusal g (Apart a b) = ⊥
 
 -- the actors of the entries before place k have the ratios of their ways
-abbrev pub AreRated : List Link → List Found → List Ratio → ℕ → Type 0
-AreRated ls found rs k = (j : ℕ) (x : Found) → j < k → slice_get found j ≡ Some x → IsRatio ls x.way (ratio_at rs x.actor)
+abbrev pub AreRated : List Link → List Entry → List Ratio → ℕ → Type 0
+AreRated ls es rs k = (j : ℕ) (x : Entry) → j < k → slice_get es j ≡ Some x → IsRatio ls x.way (ratio_at rs x.actor)
 
 -- each actor has the ratio of its way
 pub record AreRatios (ls : List Link) (actors : ℕ) (rs : List Ratio) : Type 0 where

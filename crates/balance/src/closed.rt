@@ -1,13 +1,14 @@
 ghost use Rattle.std.specs.Prelude.{◌≡◌, ℕ, ◌≤◌, ◌<◌, ◌++◌, Some, true, IfOk, IfErr, OnOk, length, take, drop, slice_get};
 ghost use Rattle.balance.specs.Walks.{turned};
 ghost use Rattle.balance.specs.Repetition.{IsParted};
-ghost use Rattle.balance.specs.Search.{HasEnds, HasSums, IsFound, IsTree, IsClosedBetween, mark_at};
+ghost use Rattle.balance.specs.Search.{HasEnds, HasSums, IsFound, HasEntries, IsSearched, IsClosedBetween, mark_at};
 ghost use Rattle.balance.specs.Ratios.{ratio_at, IsSmall, IsSummed, AreRatios, Keeps, IsClosedRefusal, IsKeptRefusal};
 
 use crate::ratio::{Ratio, first_failing, lowest, product, ratio_of};
 use crate::refusal::BalanceError;
 use crate::search::{Found, Search};
 use crate::walk::{Link, WalkStep};
+use crate::way::way_to;
 use sd_base::Rows;
 use std::alloc::{AllocError, Global};
 
@@ -21,7 +22,7 @@ pub fn all_kept(
     requires few { length links.now ≤ 256 }
     requires sums { HasSums links.now }
     requires ends { HasEnds (length search.now.seen.items) links.now }
-    requires tree { IsTree links.now (length search.now.seen.items) search.now.found.items search.now.seen.items }
+    requires tree { IsSearched links.now (length search.now.seen.items) search.now.found.items search.now.seen.items }
     requires connected { (b : ℕ) → b < length search.now.seen.items → mark_at search.now.seen.items b ≡ true }
     requires rated { AreRatios links.now (length search.now.seen.items) ratios.now }
     ensures kept { OnOk result ((k : ℕ) (l : Link) → slice_get links.now k ≡ Some l → Keeps ratios.now l) }
@@ -44,6 +45,7 @@ pub fn unbalanced(
 ) -> Result<BalanceError, AllocError>
     requires source { IsFound found.now link.source }
     requires target { IsFound found.now link.target }
+    requires read { HasEntries found.now }
     requires from { link.source < length ratios.now }
     requires to { link.target < length ratios.now }
     requires sums { IsSummed link }
@@ -73,11 +75,12 @@ fn closed_walk(
 ) -> Result<Rows<WalkStep>, AllocError>
     requires source { IsFound found.now link.source }
     requires target { IsFound found.now link.target }
+    requires read { HasEntries found.now }
     ensures { IfOk result (IsClosedBetween found.now channel link) }
 {
-    let back = way_to(found, link.target);
-    let on = way_to(found, link.source);
-    let common = common_steps(back, on);
+    let back = way_to(alloc, found, link.target)?;
+    let on = way_to(alloc, found, link.source)?;
+    let common = common_steps(&back, &on);
     let mut walk = Vec::new(alloc);
     walk.push(WalkStep {
         channel,
@@ -86,20 +89,6 @@ fn closed_walk(
     turn_back(&mut walk, &back[common..])?;
     walk.extend_from_slice(&on[common..])?;
     Ok(Rows::from_vec(walk))
-}
-
-/// The way to an actor.
-fn way_to(found: &[Found], actor: usize) -> &[WalkStep]
-    requires { IsFound found.now actor }
-    ensures { (j : ℕ) × (x : Found) × (slice_get found.now j ≡ Some x) × (x.actor ≡ actor)
-        × (result.now ≡ x.way) }
-{
-    for entry in found {
-        if entry.actor == actor {
-            return entry.way.as_slice();
-        }
-    }
-    unreachable!()
 }
 
 /// With how many steps both ways begin.

@@ -1,6 +1,7 @@
 ghost use Rattle.std.specs.Prelude.{◌≡◌};
 ghost use Rattle.balance.specs.declared.connection.ConnectError.TheVariants.{NoMemory};
 
+use crate::lists::Lists;
 use crate::search::{first_unmarked, unmarked};
 use std::alloc::{AllocError, AllocFailed, Global};
 use thiserror::Error;
@@ -31,6 +32,14 @@ impl<T: Drop> From<AllocFailed<T>> for ConnectError {
     }
 }
 
+/// The actors that paths lead to: by actor whether it is marked, and the marked ones in the order in which they were
+/// found.
+#[derive(Drop)]
+struct Marked {
+    queue: Vec<u32>,
+    marks: Vec<bool>,
+}
+
 /// Which way paths go.
 #[derive(Clone, Copy)]
 enum Direction {
@@ -40,12 +49,12 @@ enum Direction {
     Against,
 }
 
-ghost use Rattle.std.specs.Prelude.{◌≡◌, ℕ, ◌+◌, ◌<◌, ◌≤◌, ◌↔◌, true, false, length, slice_set, IfErr, IfOk, IsTrue, MatchOption, OnOk};
+ghost use Rattle.std.specs.Prelude.{◌≡◌, ℕ, ◌<◌, ◌≤◌, ◌↔◌, [], ◌∷◌, All, true, false, length, replicate, slice_set, IfErr, IfOk, IsTrue, MatchOption, OnOk};
 ghost use Rattle.balance.specs.Connection.{AreActors, HasInput, IsConnectRefusal, IsFirstWithoutInput, IsStronglyConnected};
-ghost use Rattle.balance.specs.Search.{mark_at, trues};
-ghost use Rattle.balance.specs.Reaching.{AreClosed, AreKept, AreLed, Leads, pair_from, pair_to};
+ghost use Rattle.balance.specs.Search.{mark_at};
+ghost use Rattle.balance.specs.Reaching.{AreFollowers, AreLed, AreMarked, IsMarked, IsQueue, Leads, pair_from, pair_to};
 
-/// Whether directed paths over the pairs `ends` lead from each actor to each other one. Cost: at most actors times
+/// Whether directed paths over the pairs `ends` lead from each actor to each other one. Cost: linear in actors and
 /// pairs.
 pub fn strongly_connected(
     alloc: Global,
@@ -89,8 +98,8 @@ fn has_input(actor: u32, ends: &[(u32, u32)]) -> bool
     ends.iter().any(|pair| pair.1 == actor)
 }
 
-/// By actor whether a path leads to it from actor 0, or from it to actor 0. Each sweep over the pairs but the last marks
-/// an actor.
+/// By actor whether a path leads to it from actor 0, or from it to actor 0. Linear in actors and pairs: each pair is
+/// looked at once.
 fn reached(
     alloc: Global,
     actors: u32,
@@ -103,58 +112,80 @@ fn reached(
     ensures led { IfOk result (λ marks. AreLed direction ends.now marks.items) }
     ensures all { IfOk result (λ marks. (v : ℕ) → Leads direction ends.now v → mark_at marks.items v ≡ true) }
 {
-    let mut marks = unmarked(alloc, actors as usize)?;
-    marks[0] = true;
-    'sweeps: loop {
-        if !sweep(ends, direction, &mut marks) {
-            return Ok(marks);
+    let next = followers(alloc, actors, ends, direction)?;
+    let mut marked = begin(alloc, actors)?;
+    for place in 0..actors as usize {
+        if place < marked.queue.len() {
+            let from = marked.queue[place];
+            mark_all(&mut marked, next.at(from as usize))?;
         }
     }
+    Ok(marked.marks)
 }
 
-/// Marks where a pair leads from what is marked, and tells whether it marked anything.
-fn sweep(ends: &[(u32, u32)], direction: Direction, marks: &mut Vec<bool>) -> bool
-    requires ends { AreActors (length marks.old.items) ends.now }
-    requires led { AreLed direction ends.now marks.old.items }
-    ensures size { length marks.new.items ≡ length marks.old.items }
-    ensures led { AreLed direction ends.now marks.new.items }
-    ensures kept { AreKept marks.old.items marks.new.items }
-    ensures grew { result ≡ true → trues marks.old.items < trues marks.new.items }
-    ensures closed { result ≡ false → AreClosed direction ends.now marks.new.items }
+/// By actor where the pairs lead that begin at it.
+fn followers(
+    alloc: Global,
+    actors: u32,
+    ends: &[(u32, u32)],
+    direction: Direction,
+) -> Result<Lists, AllocError>
+    requires { AreActors actors ends.now }
+    ensures { IfOk result (λ lists. AreFollowers direction ends.now (length ends.now) actors lists.rows.items) }
 {
-    let mut grew = false;
+    let mut lists = Lists::new(alloc, actors as usize)?;
     for pair in ends {
         let (from, to) = directed(*pair, direction);
-        if spread(from, to, marks) {
-            grew = true;
-        }
+        lists.add(from as usize, to)?;
     }
-    grew
+    Ok(lists)
 }
 
 /// Where a pair begins and ends.
-fn directed(pair: (u32, u32), direction: Direction) -> (usize, usize)
+fn directed(pair: (u32, u32), direction: Direction) -> (u32, u32)
     ensures from { result.0 ≡ pair_from direction pair }
     ensures to { result.1 ≡ pair_to direction pair }
 {
     match direction {
-        Direction::Along => (pair.0 as usize, pair.1 as usize),
-        Direction::Against => (pair.1 as usize, pair.0 as usize),
+        Direction::Along => pair,
+        Direction::Against => (pair.1, pair.0),
     }
 }
 
-/// Marks `to` where `from` is marked, and tells whether it wasn't marked before.
-fn spread(from: usize, to: usize, marks: &mut Vec<bool>) -> bool
-    requires from { from < length marks.old.items }
-    requires to { to < length marks.old.items }
-    ensures marked { result ≡ true → (mark_at marks.old.items from ≡ true) × (mark_at marks.old.items to ≡ false)
-        × (marks.new.items ≡ slice_set marks.old.items to true) }
-    ensures idle { result ≡ false → (marks.new.items ≡ marks.old.items)
-        × (mark_at marks.old.items from ≡ true → mark_at marks.old.items to ≡ true) }
+/// Actor 0 alone is marked.
+fn begin(alloc: Global, actors: u32) -> Result<Marked, AllocError>
+    requires { 1 ≤ actors }
+    ensures { IfOk result (λ r. (r.queue.items ≡ 0 ∷ []) × (r.marks.items ≡ slice_set (replicate actors false) 0 true)) }
 {
-    if marks[from] && !marks[to] {
-        marks[to] = true;
-        return true;
+    let mut marks = unmarked(alloc, actors as usize)?;
+    marks[0] = true;
+    let mut queue = Vec::new(alloc);
+    queue.push(0)?;
+    Ok(Marked { queue, marks })
+}
+
+/// Marks the actors of a list.
+fn mark_all(marked: &mut Marked, next: &[u32]) -> Result<(), AllocError>
+    requires actors { All (λ v. v < length marked.old.marks.items) next.now }
+    requires before { IsQueue marked.old.queue.items marked.old.marks.items }
+    ensures { OnOk result (AreMarked next.now (length next.now) marked.old.queue.items marked.old.marks.items
+        marked.new.queue.items marked.new.marks.items) }
+{
+    for to in next {
+        mark(marked, *to)?;
     }
-    false
+    Ok(())
+}
+
+/// Marks an actor, and puts it at the end of the queue where it wasn't marked before.
+fn mark(marked: &mut Marked, to: u32) -> Result<(), AllocError>
+    requires { to < length marked.old.marks.items }
+    ensures { OnOk result (IsMarked to marked.old.queue.items marked.old.marks.items
+        marked.new.queue.items marked.new.marks.items) }
+{
+    if !marked.marks[to as usize] {
+        marked.queue.push(to)?;
+        marked.marks[to as usize] = true;
+    }
+    Ok(())
 }

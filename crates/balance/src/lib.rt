@@ -3,16 +3,18 @@
 
 mod closed;
 mod connection;
+mod lists;
 mod ratio;
 mod refusal;
 mod round;
 mod search;
 mod walk;
+mod way;
 
 ghost use Rattle.std.specs.Prelude.{◌≡◌, ℕ, ◌<◌, IfOk, IfErr, length, true};
 ghost use Rattle.sd_base.specs.Tables.{KeepsRules};
 ghost use Rattle.balance.specs.Walks.{links_of};
-ghost use Rattle.balance.specs.Search.{IsTree, mark_at};
+ghost use Rattle.balance.specs.Search.{IsSearched, mark_at};
 ghost use Rattle.balance.specs.Repetition.{IsRound, IsRefusal, HasOneAnswer};
 
 use closed::all_kept;
@@ -30,9 +32,8 @@ use walk::{Link, links};
 /// they take, and no such vector is smaller (Lee and Messerschmitt, 1987). The answer is one, up to want of memory, by
 /// `one_answer`.
 ///
-/// Cost: the search looks at each channel once for each actor, at most 128 times 256 looks, and keeps at most 128 ways
-/// of at most 127 steps. All else is linear in actors, channels and phases but for greatest common divisors, of which
-/// there are two for each actor.
+/// Cost: linear in actors, channels and phases but for greatest common divisors, of which there are two for each
+/// actor.
 pub fn repetition(alloc: Global, graph: &GraphFile) -> Result<Rows<u64>, BalanceError>
     requires { KeepsRules graph.now }
     ensures round { IfOk result (IsRound graph.now) }
@@ -55,7 +56,7 @@ fn within_limits(
 ) -> Result<Rows<u64>, BalanceError>
     requires rules { KeepsRules graph.now }
     requires links { links.now ≡ links_of graph.now }
-    requires tree { IsTree links.now (length graph.now.actors) search.now.found.items search.now.seen.items }
+    requires tree { IsSearched links.now (length graph.now.actors) search.now.found.items search.now.seen.items }
     requires connected { (b : ℕ) → b < length search.now.seen.items → mark_at search.now.seen.items b ≡ true }
     ensures round { IfOk result (IsRound graph.now) }
     ensures refusal { IfErr result (IsRefusal graph.now) }

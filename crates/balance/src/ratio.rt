@@ -1,6 +1,7 @@
 use crate::refusal::BalanceError;
-use crate::search::Search;
+use crate::search::{Found, Search};
 use crate::walk::{Link, WalkStep};
+use crate::way::way_at;
 use sd_base::Rows;
 use std::alloc::Global;
 
@@ -15,8 +16,8 @@ ghost use Rattle.std.specs.Prelude.{◌≡◌, ℕ, ◌*◌, ◌<◌, ◌≤◌,
 ghost use Rattle.std.specs.Int.{IsGcd};
 ghost use Rattle.balance.specs.declared.refusal.BalanceError.TheVariants.{NoMemory};
 ghost use Rattle.balance.specs.Walks.{IsLowest, step_from, step_num, step_den};
-ghost use Rattle.balance.specs.Search.{HasEnds, HasSums, IsTree, mark_at};
-ghost use Rattle.balance.specs.Ratios.{one, ratio_at, IsSmall, AreRatios, Keeps, IsLastStep, IsLimitRefusal, IsSummed};
+ghost use Rattle.balance.specs.Search.{HasEnds, HasSums, IsSearched, mark_at};
+ghost use Rattle.balance.specs.Ratios.{one, ratio_at, IsSmall, AreRatios, Keeps, IsRatedStep, IsLimitRefusal, IsSummed};
 
 /// The greatest part of a ratio.
 const RATIO_LIMIT: u128 = 100_000;
@@ -26,22 +27,22 @@ const RATIO_LIMIT: u128 = 100_000;
 pub fn ratios(alloc: Global, links: &[Link], search: &Search) -> Result<Vec<Ratio>, BalanceError>
     requires sums { HasSums links.now }
     requires ends { HasEnds (length search.now.seen.items) links.now }
-    requires tree { IsTree links.now (length search.now.seen.items) search.now.found.items search.now.seen.items }
+    requires tree { IsSearched links.now (length search.now.seen.items) search.now.found.items search.now.seen.items }
     requires connected { (b : ℕ) → b < length search.now.seen.items → mark_at search.now.seen.items b ≡ true }
     ensures ok { IfOk result (λ rs. AreRatios links.now (length search.now.seen.items) rs.items) }
     ensures refusal { IfErr result (IsLimitRefusal links.now) }
 {
     let mut ratios = ones(alloc, search.seen.len())?;
-    for place in 1..search.found.len() {
-        let entry = &search.found[place];
-        let ratio = last_ratio(links, &ratios, entry.way.as_slice());
+    for place in 0..search.found.len() {
+        let found = search.found[place];
+        let ratio = way_ratio(links, &ratios, found);
         if ratio.num > RATIO_LIMIT || ratio.den > RATIO_LIMIT {
-            let path = Vec::from_slice(alloc, entry.way.as_slice())?;
+            let path = way_at(alloc, &search.found, place)?;
             return Err(BalanceError::RatioTooLarge {
                 path: Rows::from_vec(path),
             });
         }
-        ratios[entry.actor] = ratio;
+        ratios[found.actor] = ratio;
     }
     Ok(ratios)
 }
@@ -58,19 +59,23 @@ fn ones(alloc: Global, actors: usize) -> Result<Vec<Ratio>, BalanceError>
     Ok(ratios)
 }
 
-/// The ratio of a way from that of the actor from which its last step leads.
-fn last_ratio(links: &[Link], ratios: &[Ratio], way: &[WalkStep]) -> Ratio
+/// The ratio of a found actor's way, from that of the actor from which its last step leads.
+fn way_ratio(links: &[Link], ratios: &[Ratio], found: Found) -> Ratio
     requires sums { HasSums links.now }
-    requires grown { IsLastStep links.now ratios.now way.now }
-    ensures { (rest : List WalkStep) (s : WalkStep) (l : Link) →
-        way.now ≡ rest ++ s ∷ [] → slice_get links.now s.channel ≡ Some l →
+    requires rated { MatchOption found.reach (Unit {0}) (λ r. IsRatedStep links.now ratios.now r.step) }
+    ensures { MatchOption found.reach (result ≡ one) (λ r. (l : Link) → slice_get links.now r.step.channel ≡ Some l →
         IsLowest result.num result.den
-        ((ratio_at ratios.now (step_from l s.forward)).num * step_num l s.forward)
-        ((ratio_at ratios.now (step_from l s.forward)).den * step_den l s.forward) }
+        ((ratio_at ratios.now (step_from l r.step.forward)).num * step_num l r.step.forward)
+        ((ratio_at ratios.now (step_from l r.step.forward)).den * step_den l r.step.forward)) }
 {
-    let step = way[way.len() - 1];
-    let link = links[step.channel as usize];
-    stepped(ratio_of(ratios, start_of(link, step)), link, step)
+    match found.reach {
+        None => Ratio { num: 1, den: 1 },
+        Some(reach) => {
+            let step = reach.step;
+            let link = links[step.channel as usize];
+            stepped(ratio_of(ratios, start_of(link, step)), link, step)
+        }
+    }
 }
 
 /// The ratio of an actor.

@@ -1,14 +1,21 @@
-ghost use Rattle.std.specs.Prelude.{◌≡◌, ℕ, ◌+◌, ◌<◌, ◌≤◌, [], ◌∷◌, ◌++◌, length, slice_get, slice_set, IfOk, OnOk, MatchOption, replicate, true, false, ◌^◌};
+ghost use Rattle.std.specs.Prelude.{◌≡◌, ℕ, ◌+◌, ◌<◌, ◌≤◌, [], ◌∷◌, ◌++◌, length, slice_get, slice_set, IfOk, OnOk, MatchOption, Some, None, replicate, true, false, ◌^◌};
 
+use crate::lists::Lists;
 use crate::walk::{Link, WalkStep};
-use sd_base::Rows;
 use std::alloc::{AllocError, Global};
 
-/// An actor that the search has found, with its way from actor 0.
-#[derive(Drop)]
+/// The step that led to an actor, from the one that was found at a place.
+#[derive(Clone, Copy)]
+pub struct Reach {
+    pub place: usize,
+    pub step: WalkStep,
+}
+
+/// An actor that the search has found. Actor 0 was reached by no step.
+#[derive(Clone, Copy)]
 pub struct Found {
     pub actor: usize,
-    pub way: Rows<WalkStep>,
+    pub reach: Option<Reach>,
 }
 
 /// A breadth-first search: what it has found, in this order, and by actor whether it is found.
@@ -18,30 +25,57 @@ pub struct Search {
     pub seen: Vec<bool>,
 }
 
-ghost use Rattle.balance.specs.Search.{HasEnds, IsSearching, IsLooked, IsTree, mark_at};
+ghost use Rattle.balance.specs.Search.{AreJoints, IsJoined, HasEnds, IsSearching, IsLooked, IsSearched, mark_at};
 
 /// The ways from actor 0 to all actors that walks reach. Breadth first, over the channels in their order, so that
-/// ways are found by rising numbers of steps, and of as many steps by rising lists of channels. It looks at each
-/// channel once for each actor, and keeps at most one way an actor.
+/// ways are found by rising numbers of steps, and of as many steps by rising lists of channels. Linear in actors and
+/// channels: it looks at each channel at most twice, and keeps of each way its last step.
 pub fn ways(alloc: Global, actors: usize, links: &[Link]) -> Result<Search, AllocError>
     requires some { 1 ≤ actors }
     requires few { length links.now ≤ 256 }
     requires ends { HasEnds actors links.now }
-    ensures { IfOk result (λ s. IsTree links.now actors s.found.items s.seen.items) }
+    ensures { IfOk result (λ s. IsSearched links.now actors s.found.items s.seen.items) }
 {
+    let joints = joints(alloc, actors, links)?;
     let mut search = begin(alloc, actors)?;
     for place in 0..actors {
         if place < search.found.len() {
-            visit(alloc, &mut search, links, place)?;
+            visit(&mut search, links, &joints, place)?;
         }
     }
     Ok(search)
 }
 
+/// By actor the channels that join it with another one, in file order. A self-loop leads nowhere new and is in no list.
+fn joints(alloc: Global, actors: usize, links: &[Link]) -> Result<Lists, AllocError>
+    requires few { length links.now ≤ 256 }
+    requires ends { HasEnds actors links.now }
+    ensures { IfOk result (λ lists. AreJoints links.now (length links.now) actors lists.rows.items) }
+{
+    let mut lists = Lists::new(alloc, actors)?;
+    for channel in 0..links.len() {
+        join(&mut lists, channel as u32, links[channel])?;
+    }
+    Ok(lists)
+}
+
+/// Puts a channel on the lists of both its ends, where these are two.
+fn join(lists: &mut Lists, channel: u32, link: Link) -> Result<(), AllocError>
+    requires source { link.source < length lists.old.rows.items }
+    requires target { link.target < length lists.old.rows.items }
+    ensures { OnOk result (IsJoined lists.old.rows.items lists.new.rows.items channel link) }
+{
+    if link.source != link.target {
+        lists.add(link.source, channel)?;
+        lists.add(link.target, channel)?;
+    }
+    Ok(())
+}
+
 /// Actor 0 alone is found.
 fn begin(alloc: Global, actors: usize) -> Result<Search, AllocError>
     requires { 1 ≤ actors }
-    ensures { IfOk result (λ s. (x : _) × (s.found.items ≡ x ∷ []) × (x.actor ≡ 0) × (x.way ≡ [])
+    ensures { IfOk result (λ s. (x : _) × (s.found.items ≡ x ∷ []) × (x.actor ≡ 0) × (x.reach ≡ None)
         × (s.seen.items ≡ slice_set (replicate actors false) 0 true)) }
 {
     let mut seen = unmarked(alloc, actors)?;
@@ -49,7 +83,7 @@ fn begin(alloc: Global, actors: usize) -> Result<Search, AllocError>
     let mut found = Vec::new(alloc);
     found.push(Found {
         actor: 0,
-        way: Rows::new(alloc),
+        reach: None,
     })?;
     Ok(Search { found, seen })
 }
@@ -80,31 +114,31 @@ pub fn first_unmarked(marks: &[bool]) -> Option<u32>
     None
 }
 
-/// Looks from the actor at a place over all channels.
-fn visit(alloc: Global, search: &mut Search, links: &[Link], place: usize) -> Result<(), AllocError>
-    requires few { length links.now ≤ 256 }
+/// Looks from the actor at a place over the channels that join it with others.
+fn visit(
+    search: &mut Search,
+    links: &[Link],
+    joints: &Lists,
+    place: usize,
+) -> Result<(), AllocError>
     requires ends { HasEnds (length search.old.seen.items) links.now }
+    requires joints { AreJoints links.now (length links.now) (length search.old.seen.items) joints.now.rows.items }
     requires listed { place < length search.old.found.items }
     requires before { IsSearching links.now (length search.old.seen.items)
         search.old.found.items search.old.seen.items place 0 }
     ensures { OnOk result (IsSearching links.now (length search.old.seen.items)
         search.new.found.items search.new.seen.items (place + 1) 0) }
 {
-    for channel in 0..links.len() {
-        look(alloc, search, place, channel as u32, links[channel])?;
+    let actor = search.found[place].actor;
+    for channel in joints.at(actor) {
+        look(search, place, *channel, links[*channel as usize])?;
     }
     Ok(())
 }
 
 /// Looks from the actor at a place over one channel, forward and else backward, and takes a step to an actor that
 /// isn't found yet.
-fn look(
-    alloc: Global,
-    search: &mut Search,
-    place: usize,
-    channel: u32,
-    link: Link,
-) -> Result<(), AllocError>
+fn look(search: &mut Search, place: usize, channel: u32, link: Link) -> Result<(), AllocError>
     requires listed { place < length search.old.found.items }
     requires source { link.source < length search.old.seen.items }
     requires target { link.target < length search.old.seen.items }
@@ -117,47 +151,29 @@ fn look(
             channel,
             forward: true,
         };
-        return take(alloc, search, place, forward, link.target);
+        return take(search, place, forward, link.target);
     }
     if from == link.target && !search.seen[link.source] {
         let backward = WalkStep {
             channel,
             forward: false,
         };
-        return take(alloc, search, place, backward, link.source);
+        return take(search, place, backward, link.source);
     }
     Ok(())
 }
 
 /// Finds the actor `to` by one step from the actor at a place.
-fn take(
-    alloc: Global,
-    search: &mut Search,
-    place: usize,
-    step: WalkStep,
-    to: usize,
-) -> Result<(), AllocError>
-    requires listed { place < length search.old.found.items }
-    requires marked { to < length search.old.seen.items }
-    ensures { OnOk result ((entry : _) × (new : _) × (slice_get search.old.found.items place ≡ Some entry)
-        × (search.new.found.items ≡ search.old.found.items ++ new ∷ []) × (new.actor ≡ to)
-        × (new.way ≡ entry.way ++ step ∷ []) × (search.new.seen.items ≡ slice_set search.old.seen.items to true)) }
+fn take(search: &mut Search, place: usize, step: WalkStep, to: usize) -> Result<(), AllocError>
+    requires { to < length search.old.seen.items }
+    ensures { OnOk result ((new : _) × (search.new.found.items ≡ search.old.found.items ++ new ∷ []) × (new.actor ≡ to)
+        × (new.reach ≡ Some (record { place = place; step = step }))
+        × (search.new.seen.items ≡ slice_set search.old.seen.items to true)) }
 {
-    let way = extended(alloc, &search.found[place].way, step)?;
-    search.found.push(Found { actor: to, way })?;
+    search.found.push(Found {
+        actor: to,
+        reach: Some(Reach { place, step }),
+    })?;
     search.seen[to] = true;
     Ok(())
-}
-
-/// A way and one step more.
-fn extended(
-    alloc: Global,
-    way: &Rows<WalkStep>,
-    step: WalkStep,
-) -> Result<Rows<WalkStep>, AllocError>
-    ensures { IfOk result (λ longer. longer ≡ way.now ++ step ∷ []) }
-{
-    let mut longer = Vec::from_slice(alloc, way.as_slice())?;
-    longer.push(step)?;
-    Ok(Rows::from_vec(longer))
 }

@@ -196,6 +196,21 @@ fn a_ratio_of_a_million_is_too_large(rt: HostRuntime) -> Result<(), Fail> {
         panic!(rt; "within the limit");
     };
     assert_eq!(rt; path.as_slice(), [forward(0), backward(1)].as_slice());
+    let two: [Line; 4] = [
+        (0, 2, &[1], &[1]),
+        (0, 1, &[1], &[1]),
+        (1, 3, &[1_000_000], &[1]),
+        (2, 4, &[1_000_000], &[1]),
+    ];
+    let Err(BalanceError::RatioTooLarge { path }) = solve(&rt, rt.alloc(), &[1, 1, 1, 1, 1], &two)?
+    else {
+        panic!(rt; "within the limit");
+    };
+    assert_eq!(rt;
+        path.as_slice(),
+        [forward(0), forward(3)].as_slice(),
+        "the channels 0 and 3 come before 1 and 2"
+    );
     Ok(())
 }
 

@@ -1,7 +1,7 @@
 use Rattle.std.proofs.Common.{◌≡◌, ◌<◌, List, length, sym, subst, ◌∙◌, Bool, true, false}
 use Rattle.balance.specs.declared.walk.Link.{Link}
 use Rattle.balance.specs.Walks.{links_of}
-use Rattle.balance.specs.Search.{HasEnds, IsTree, mark_at}
+use Rattle.balance.specs.Search.{HasEnds, IsSearched, mark_at}
 use Rattle.balance.proofs.TableLemmas.{has_ends}
 use Rattle.balance.proofs.Deciding.{apart_from}
 use Rattle.balance.proofs.repetition.Goals as goal
@@ -15,9 +15,9 @@ pub returns-in-Some-clause-refusal : goal.returns-in-Some-clause-refusal
 returns-in-Some-clause-refusal c =
     let e = c.deref.ensures.value ∙ c.in_ok-links.ensures in
     let s = c.in_ok-search.search in
-    let tree : IsTree (links_of c.args.graph.now) (length c.args.graph.now.actors) s.found.items s.seen.items =
-    subst (λ n. IsTree (links_of c.args.graph.now) n s.found.items s.seen.items) c.len.ensures
-    (subst (λ (ls : List Link). IsTree ls c.len.result s.found.items s.seen.items) e c.in_ok-search.ensures) in
+    let tree : IsSearched (links_of c.args.graph.now) (length c.args.graph.now.actors) s.found.items s.seen.items =
+    subst (λ n. IsSearched (links_of c.args.graph.now) n s.found.items s.seen.items) c.len.ensures
+    (subst (λ (ls : List Link). IsSearched ls c.len.result s.found.items s.seen.items) e c.in_ok-search.ensures) in
     let (lt, off, before) = c.in-Some.ensures in
     let m = c.deref-2.ensures.value in
     apart_from c.args.graph.now s.found.items s.seen.items c.in-Some.b tree

@@ -8,7 +8,7 @@ use Rattle.balance.specs.declared.walk.Link.{Link}
 use Rattle.balance.specs.declared.search.Found.{Found}
 use Rattle.balance.specs.declared.ratio.Ratio.{Ratio}
 use Rattle.balance.specs.Walks.{links_of}
-use Rattle.balance.specs.Search.{HasSums, HasEnds, IsTree, mark_at}
+use Rattle.balance.specs.Search.{HasSums, HasEnds, IsSearched, mark_at}
 use Rattle.balance.specs.Ratios.{IsLimitRefusal, IsKeptRefusal, IsRoundRefusal, AreRatios, Keeps}
 use Rattle.balance.specs.Repetition.{IsConnected, IsBalanced, IsRound, IsRefusal}
 use Rattle.balance.proofs.TableLemmas.{has_sums, has_ends}
@@ -17,18 +17,18 @@ use Rattle.balance.proofs.Deciding.{connected_from, by_limit, by_kept, by_round}
 use Rattle.balance.proofs.within_limits.Goals as goal
 
 -- the tree of the graph's own links
-tree_of : (g : GraphFile) (ls : List Link) (found : List Found) (seen : List Bool) → ls ≡ links_of g → IsTree ls (length g.actors) found seen → IsTree (links_of g) (length g.actors) found seen
-tree_of g ls found seen e tree = subst (λ (xs : List Link). IsTree xs (length g.actors) found seen) e tree
+tree_of : (g : GraphFile) (ls : List Link) (found : List Found) (seen : List Bool) → ls ≡ links_of g → IsSearched ls (length g.actors) found seen → IsSearched (links_of g) (length g.actors) found seen
+tree_of g ls found seen e tree = subst (λ (xs : List Link). IsSearched xs (length g.actors) found seen) e tree
 
 ratios_of : (g : GraphFile) (ls : List Link) (actors : ℕ) (rs : List Ratio) → ls ≡ links_of g → actors ≡ length g.actors → AreRatios ls actors rs → AreRatios (links_of g) (length g.actors) rs
 ratios_of g ls actors rs e size are = subst (λ n. AreRatios (links_of g) n rs) size (subst (λ (xs : List Link). AreRatios xs actors rs) e are)
 
 -- a graph all of whose channels keep the ratios
-balanced : (g : GraphFile) (ls : List Link) (found : List Found) (seen : List Bool) (rs read : List Ratio) → KeepsRules g → ls ≡ links_of g → IsTree ls (length g.actors) found seen
+balanced : (g : GraphFile) (ls : List Link) (found : List Found) (seen : List Bool) (rs read : List Ratio) → KeepsRules g → ls ≡ links_of g → IsSearched ls (length g.actors) found seen
     → ((b : ℕ) → b < length seen → mark_at seen b ≡ true) → AreRatios ls (length seen) rs → read ≡ rs
     → ((k : ℕ) (l : Link) → slice_get ls k ≡ Some l → Keeps read l) → IsBalanced g
 balanced g ls found seen rs read rules e tree marked are same keeps =
-    let are' = ratios_of g ls (length seen) rs e tree.size are in
+    let are' = ratios_of g ls (length seen) rs e tree.tree.size are in
     let keeps' : (k : ℕ) (l : Link) → slice_get (links_of g) k ≡ Some l → Keeps rs l =
     λ k l is. subst (λ (t : List Ratio). Keeps t l) same (keeps k l (subst (λ (xs : List Link). slice_get xs k ≡ Some l) (sym e) is)) in
     record {
@@ -42,7 +42,7 @@ ratios-requires-clause-sums c = subst (λ (ls : List Link). HasSums ls) (sym c.r
 
 pub ratios-requires-clause-ends : goal.ratios-requires-clause-ends
 ratios-requires-clause-ends c =
-    subst (λ n. HasEnds n c.args.links.now) (sym c.requires.tree.size)
+    subst (λ n. HasEnds n c.args.links.now) (sym c.requires.tree.tree.size)
     (subst (λ (ls : List Link). HasEnds (length c.args.graph.now.actors) ls) (sym c.requires.links) (has_ends c.args.graph.now c.requires.rules))
 
 pub returns-in_err-ratios-clause-refusal : goal.returns-in_err-ratios-clause-refusal
@@ -59,7 +59,7 @@ all_kept-requires-clause-sums c = subst (λ (ls : List Link). HasSums ls) (sym c
 
 pub all_kept-requires-clause-ends : goal.all_kept-requires-clause-ends
 all_kept-requires-clause-ends c =
-    subst (λ n. HasEnds n c.args.links.now) (sym c.requires.tree.size)
+    subst (λ n. HasEnds n c.args.links.now) (sym c.requires.tree.tree.size)
     (subst (λ (ls : List Link). HasEnds (length c.args.graph.now.actors) ls) (sym c.requires.links) (has_ends c.args.graph.now c.requires.rules))
 
 pub returns-in_err-all_kept-clause-refusal : goal.returns-in_err-all_kept-clause-refusal
@@ -67,7 +67,7 @@ returns-in_err-all_kept-clause-refusal c =
     let g = c.args.graph.now in
     let s = c.args.search.now in
     let all : IsConnected g = connected_from g s.found.items s.seen.items (tree_of g c.args.links.now s.found.items s.seen.items c.requires.links c.requires.tree) c.requires.connected in
-    let are = ratios_of g c.args.links.now (length s.seen.items) c.in_ok-ratios.ratios.items c.requires.links c.requires.tree.size c.in_ok-ratios.ensures.ok in
+    let are = ratios_of g c.args.links.now (length s.seen.items) c.in_ok-ratios.ratios.items c.requires.links c.requires.tree.tree.size c.in_ok-ratios.ensures.ok in
     let p = err_from_is_err_and c.from_residual-in_err-all_kept.result c.from_residual-in_err-all_kept.ensures.1 in
     rw (p.1, p.2) (by_kept g all (ways_within (links_of g) (length g.actors) c.in_ok-ratios.ratios.items (has_ends g c.requires.rules) c.requires.rules.some_actor are) c.in_err-all_kept.field-0.0
     (subst (λ (ls : List Link). IsKeptRefusal ls c.in_err-all_kept.field-0.0) c.requires.links c.in_err-all_kept.ensures.refusal))

@@ -1,8 +1,11 @@
-use Rattle.std.proofs.Common.{◌<◌, length}
-use Rattle.balance.specs.Search.{IsSearching}
+use Rattle.std.proofs.Common.{◌≡◌, Some, length}
+use Rattle.std.specs.Prelude.{slice_get}
+use Rattle.balance.specs.declared.search.Found.{Found}
+use Rattle.balance.specs.Lists.{list_at}
+use Rattle.balance.proofs.Joints.{IsVisit}
 use Rattle.balance.proofs.search.visit.Given as goal
 
 abbrev pub invariant-loop-channel : goal.invariant-loop-channel
 invariant-loop-channel l =
-    IsSearching l.links (length l.initial.search.seen.items) l.search.found.items l.search.seen.items l.place l.channel
-    × (l.place < length l.search.found.items)
+    (x : Found) × (slice_get l.search.found.items l.place ≡ Some x) × (x.actor ≡ l.actor)
+    × IsVisit l.links (length l.initial.search.seen.items) (list_at l.joints.rows.items l.actor) l.search.found.items l.search.seen.items l.place l.channel-index

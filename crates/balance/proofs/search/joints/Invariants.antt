@@ -1,0 +1,5 @@
+use Rattle.balance.specs.Search.{AreJoints}
+use Rattle.balance.proofs.search.joints.Given as goal
+
+abbrev pub invariant-loop-channel : goal.invariant-loop-channel
+invariant-loop-channel l = AreJoints l.links l.channel l.actors l.lists.rows.items
