@@ -35,7 +35,12 @@ fn main(rt: HostRuntime) -> anyhow::Result<ExitCode> {
     };
     let net = net_of(rt.alloc(), request.which)?;
     let made = run(rt.alloc(), &net, request.starts)?;
-    println!(rt; "{}: {} starts, {} events", request.which.name(), made.starts, made.events)?;
+    println!(rt;
+        "{}: {} starts, {} events",
+        request.which.name(),
+        made.starts,
+        made.events
+    )?;
     Ok(ExitCode::from(0))
 }
 
