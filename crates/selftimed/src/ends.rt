@@ -3,7 +3,7 @@ ghost use Rattle.firing.specs.declared.sums.Port.TheVariants.{Made};
 ghost use Rattle.firing.specs.Wiring.{IsListed, AreListed, PutsTokens};
 ghost use Rattle.selftimed.specs.Actors.{EndsOne, Touches, EndsAll, Stand};
 
-use crate::actors::{ActorState, ended_by};
+use crate::actors::{ActorState, ended_by, is_due};
 use firing::{Firing, Wiring, put_tokens};
 
 /// Ends the firings whose end has come, and touches the actors whose channels gain tokens.
@@ -54,10 +54,10 @@ fn end_actor<F: Firing>(
     ensures none { result ≡ false → state.new.ended ≡ state.old.ended }
     ensures touched { state.new.touched ≡ state.old.touched }
 {
-    let firings = ended_by(state.running.as_slice(), moment);
-    if firings == 0 {
+    if !is_due(state, moment) {
         return false;
     }
+    let firings = ended_by(state.running.as_slice(), moment);
     put_tokens(net, outputs, tokens, actor, state.ended, firings as u64);
     state.running.pop_front(firings);
     state.ended += firings as u64;

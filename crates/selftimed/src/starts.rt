@@ -1,4 +1,4 @@
-ghost use Rattle.std.specs.Prelude.{◌≡◌, ℕ, ◌+◌, false, ◌^◌, ◌<◌, ◌≤◌, length, IfOk, OnOk, MatchBool, MatchOption};
+ghost use Rattle.std.specs.Prelude.{◌≡◌, ℕ, ◌+◌, false, ◌^◌, ◌<◌, ◌≤◌, length, slice_index, IfOk, OnOk, MatchBool, MatchOption};
 ghost use Rattle.std.specs.Bool.{OnTrue};
 ghost use Rattle.sd_base.specs.Schedules.{Lacks};
 ghost use Rattle.firing.specs.declared.sums.Port.TheVariants.{Taken};
@@ -70,6 +70,9 @@ fn batch_size<F: Firing>(
     if net.phases(actor) > 1 {
         return 1;
     }
+    if feeds_one_only(net, inputs, tokens) {
+        return 1;
+    }
     let mut best = most;
     for channel in inputs {
         let feeds = tokens[*channel as usize] / net.taken(*channel, 0) as u128;
@@ -78,6 +81,21 @@ fn batch_size<F: Firing>(
         }
     }
     best
+}
+
+/// Whether some channel into an actor of one phase has too few tokens for two firings. It is quicker than a division
+/// for each channel.
+fn feeds_one_only<F: Firing>(net: &F, inputs: &[u32], tokens: &[u128]) -> bool
+    requires listed { (j : ℕ) → j < length inputs.now → slice_index inputs.now j < length (F.net net.now).channels }
+    requires tokens { length tokens.now ≡ length (F.net net.now).channels }
+{
+    know_laws(net);
+    for channel in inputs {
+        if tokens[*channel as usize] < 2 * net.taken(*channel, 0) as u128 {
+            return true;
+        }
+    }
+    false
 }
 
 /// Adds the ends of firings that start at a moment, from number `from` on.
