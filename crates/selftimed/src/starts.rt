@@ -145,6 +145,9 @@ pub(crate) fn start_all<F: Firing>(
     ensures counted { IfOk result (λ fits. OnTrue fits (Counted actors.new all.new most)) }
 {
     for actor in 0..net.actors() {
+        if !actors[actor as usize].touched {
+            continue;
+        }
         let inputs = wiring.inputs_of(actor);
         match start_one(
             net,
@@ -162,8 +165,8 @@ pub(crate) fn start_all<F: Firing>(
     Ok(true)
 }
 
-/// Starts the firings of an actor if it is touched, and tells how many there are. None: more than `room`
-/// can start; the state and the tokens are then anything.
+/// Starts the firings of an actor that can start, and tells how many there are. None: more than `room` can start; the
+/// state and the tokens are then anything.
 fn start_one<F: Firing>(
     net: &F,
     inputs: &[u32],
@@ -178,13 +181,9 @@ fn start_one<F: Firing>(
     requires tokens { length tokens.old ≡ length (F.net net.now).channels }
     requires few { state.old.started + room ≤ 2 ^ 32 }
     requires soon { moment ≤ 2 ^ 62 }
-    requires lacks { state.old.touched ≡ false → (i : ℕ) × LacksNow (F.net net.now) tokens.old actor state.old.started i }
     ensures { IfOk result (λ o. MatchOption o (Overfills (F.net net.now) tokens.old actor state.old.started room)
         (λ n. (n ≤ room) × StartsOne (F.net net.now) actor moment n tokens.old tokens.new state.old state.new)) }
 {
-    if !state.touched {
-        return Ok(Some(0));
-    }
     state.touched = false;
     let from = state.started;
     let started = start_actor(
