@@ -218,6 +218,47 @@ fn multi_rate_ring_enters_its_loop_at_24(rt: HostRuntime) -> Result<(), Fail> {
     follow(&rt, rt.alloc(), &net, &events)
 }
 
+/// Steps an engine until what stands has stood before, and tells at which two moments.
+fn first_repeat(rt: &impl Abort, alloc: Global, net: &SdfNet) -> Result<Option<(u64, u64)>, Fail> {
+    let mut engine = Engine::new(alloc, net, 1000)?;
+    let mut shapes = Vec::new(alloc);
+    for _event in 0..100 {
+        let step = engine.advance()?;
+        assert_eq!(rt; step, Move::Stepped);
+        assert_eq!(rt; engine.stage, Stage::Running);
+        if let Some(entry) = moment_of(&engine, shapes.as_slice()) {
+            return Ok(Some((entry, engine.moment())));
+        }
+        shapes.push((engine.moment(), engine.shape(alloc)?))?;
+    }
+    Ok(None)
+}
+
+/// The first of these moments whose shape is what stands now.
+fn moment_of(engine: &Engine<'_, SdfNet>, shapes: &[(u64, Shape)]) -> Option<u64>
+    requires { engine.now.stage ≡ Stage.Running }
+{
+    for (moment, shape) in shapes {
+        if engine.same_shape(shape) {
+            return Some(*moment);
+        }
+    }
+    None
+}
+
+/// As in the traces above: the loops begin at 0, 0 and 24, and their periods are 5, 7 and 10.
+#[test]
+fn shapes_repeat_where_the_loop_closes(rt: HostRuntime) -> Result<(), Fail> {
+    let alloc = rt.alloc();
+    let repeat = first_repeat(&rt, alloc, &ring_of_two(alloc)?)?;
+    assert_eq!(rt; repeat, Some((0, 5)));
+    let repeat = first_repeat(&rt, alloc, &three_at_once(alloc)?)?;
+    assert_eq!(rt; repeat, Some((0, 7)));
+    let repeat = first_repeat(&rt, alloc, &multi_rate_ring(alloc)?)?;
+    assert_eq!(rt; repeat, Some((24, 34)));
+    Ok(())
+}
+
 /// Three actors with rounds of 1, 2 and 1 firings. The second fires once with the token that is there; then the first
 /// lacks tokens on channels 1 and 2, and the second on channel 0. The third has fired its round.
 fn half_blocked(alloc: Global) -> Result<SdfNet, small_nets::TableError> {
