@@ -1,5 +1,5 @@
 ghost use Rattle.plain_run.specs.declared.run.TheConstants.{MOST};
-ghost use Rattle.std.specs.Prelude.{◌≡◌, ◌+◌, ◌^◌, ◌<◌, ◌≤◌, length, IfOk, IfSome, OnOk};
+ghost use Rattle.std.specs.Prelude.{◌^◌, ◌<◌, ◌≤◌, length};
 
 use crate::sums::{lacks, made_by, taken_by};
 use firing::{Firing, know_laws};
