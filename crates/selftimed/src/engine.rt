@@ -66,6 +66,7 @@ impl<'a, F: Firing> Engine<'a, F> {
         requires { most ≤ 2 ^ 32 }
         ensures net { IfOk result (λ e. e.net.now ≡ net.now) }
         ensures stage { IfOk result (λ e. e.stage ≡ Stage.Fresh) }
+        ensures moment { IfOk result (λ e. e.moment ≡ 0) }
         ensures most { IfOk result (λ e. e.most ≡ most) }
     {
         let wiring = Wiring::new(alloc, net)?;
