@@ -2,7 +2,7 @@
 use Rattle.std.proofs.Common.{◌≡◌, ◌≢◌, ℕ, ◌+◌, ◌-◌, ◌*◌, ◌≤◌, ◌<◌, ◌^◌, true, false, List, length, set, ⊎_elim, subst, sym, refl, ap, ◌∙◌, arith}
 use Rattle.std.specs.Prelude.{slice_index, slice_index_or}
 use Rattle.std.proofs.lemmas.Bool.{cases_lt, cases_eq, false≢true}
-use Rattle.std.proofs.lemmas.List.{length-set, get_or-set_same, get_or-set_other, length-drop}
+use Rattle.std.proofs.lemmas.List.{length-set, get_or-set_same, get_or-set_other, set-get_or, length-drop}
 use Rattle.sd_base.specs.Net.{Net, channel_at}
 use Rattle.sd_base.specs.Lawful.{Lawful}
 use Rattle.firing.specs.declared.sums.Port.TheVariants.{Made}
@@ -250,3 +250,28 @@ ends-step net moment first now tokens left a base s new was actor so_far one sti
     (subst (λ (x : ActorState). s.touched ≡ x.touched) was still) kept
     (subst (λ (x : ActorState). PutsTokens net a x.ended (s.ended - x.ended) tokens left) was puts) longer
     (λ i there from off. subst (λ (x : ActorState). s.ended ≡ x.ended) was (fed i there from off))
+
+-- ---- an actor of which nothing ends
+
+ends-nothing : (moment : ℕ) (s : ActorState) → (0 < length s.running → moment < slice_index s.running 0) → EndsOne moment s s
+ends-nothing moment s later = record {
+  started = refl;
+  later = omega arith;
+  within = omega arith;
+  rest = rw (none s.ended) refl;
+  past = λ k h. absurd (omega arith);
+  next = rw (none s.ended) later;
+}
+  where
+    none : (e : ℕ) → e - e ≡ 0
+    none e = omega arith
+
+puts-nothing : (net : Net) (a k : ℕ) (tokens : List ℕ) → PutsTokens net a k (k - k) tokens tokens
+puts-nothing net a k tokens = let e : k + (k - k) ≡ k = omega arith in record { made = λ i there from. rw e refl; others = λ i there away. refl }
+
+pub ends-skip : (net : Net) (moment : ℕ) (first now : List ActorState) (tokens : List ℕ) (a : ℕ) (base : ActorState) → base ≡ slice_index_or now a idle → a < length net.times →
+    EndsSoFar net moment first now tokens a → (0 < length base.running → moment < slice_index base.running 0) → EndsSoFar net moment first now tokens (a + 1)
+ends-skip net moment first now tokens a base was actor so_far later =
+    let same : set now a base ≡ now = ap (set now a) was ∙ set-get_or now a idle in
+    ends-step net moment first now tokens tokens a base base now was actor so_far (ends-nothing moment base later) refl
+    (subst (λ (l : List ActorState). Kept l now) (sym same) (kept-same now)) (puts-nothing net a base.ended tokens) refl (λ i there from off. refl)

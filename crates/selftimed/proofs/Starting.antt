@@ -3,7 +3,7 @@ use Rattle.std.proofs.Common.{◌≡◌, ◌≢◌, ℕ, zero, suc, ◌+◌, ◌
 use Rattle.std.specs.Prelude.{slice_index, slice_index_or, if◌then◌else◌, ◌==◌}
 use Rattle.std.specs.List.{sum_by}
 use Rattle.std.proofs.lemmas.Bool.{cases_eq}
-use Rattle.std.proofs.lemmas.List.{length-set, get_or-set_same, get_or-set_other, take_all}
+use Rattle.std.proofs.lemmas.List.{length-set, get_or-set_same, get_or-set_other, set-get_or, take_all}
 use Rattle.std.proofs.lemmas.List.Sums.{sum_by-set, sum_by_more, get_or-le-sum_by}
 use Rattle.sd_base.specs.Net.{Net, channel_at, phase_entry, total}
 use Rattle.sd_base.specs.Schedules.{Needs, Lacks}
@@ -13,6 +13,7 @@ use Rattle.sd_base.proofs.Ends.{sum_to}
 use Rattle.firing.specs.Wiring.{LacksNow, IsLevel}
 use Rattle.firing.proofs.TokenMoves.{MoreBy, level-takes, level-needs}
 use Rattle.selftimed.specs.Starts.{AddsEnds, Overfills}
+use Rattle.selftimed.proofs.Batches.{adds-none}
 use Rattle.selftimed.specs.declared.actors.ActorState.{ActorState}
 use Rattle.selftimed.specs.Actors.{idle, started_in, ended_in, running_in, touched_in, Stand, Counted, StartsOne, StartedAll, CanOverrun}
 
@@ -239,3 +240,25 @@ module _ (net : Net) (moment : ℕ) (first now : List ActorState) (tokens : List
           let sums : sum_to m (length net.times) ≡ sum_to (started_in now) (length net.times) + over.0 = sum_to-more (started_in now) m (length net.times) a over.0 actor m-here m-other in
           let all_is : sum_to (started_in now) (length net.times) ≡ sum_by (λ (x : ActorState). x.started) now = sum_to-all now (length net.times) so_far.stand.long in
           omega (arith, so_far.counted.total, so_far.counted.within, over.1)
+
+-- an untouched actor starts nothing
+pub starts-skip : (net : Net) (moment : ℕ) (first now : List ActorState) (tokens : List ℕ) (all most a : ℕ) → a < length net.times → most ≤ 2 ^ 32 → StartsSoFar net moment first now tokens all most a →
+    ((b : ℕ) → b < length net.times → touched_in first b ≡ false → Lacks net (ended_in first) b (started_in first b)) → touched_in now a ≡ false → StartsSoFar net moment first now tokens all most (a + 1)
+starts-skip net moment first now tokens all most a actor few so_far lacking calm =
+    let same : set now a (slice_index_or now a idle) ≡ now = set-get_or now a idle in
+    let short = still-short net moment first now tokens all most a actor few so_far lacking calm in
+    let none : started_in now a + 0 ≡ started_in now a = omega arith in
+    let one : StartsOne net a moment 0 tokens tokens (slice_index_or now a idle) (slice_index_or now a idle) = record {
+      started = sym none;
+      ended = refl;
+      calm = calm;
+      all = record {
+        takes = record { taken = λ i there into. rw none refl; others = λ i there away. refl };
+        ends = adds-none net a moment (started_in now a) (running_in now a);
+        lacks = (short.0, rw none short.1);
+      };
+    } in
+    let moved : StartsSoFar net moment first (set now a (slice_index_or now a idle)) tokens (all + 0) most (a + 1) =
+    starts-more net moment first now tokens all most a actor few so_far tokens (slice_index_or now a idle) 0 (omega arith) one refl in
+    let total : all + 0 ≡ all = omega arith in
+    subst (λ (l : List ActorState). StartsSoFar net moment first l tokens all most (a + 1)) same (subst (λ (n : ℕ). StartsSoFar net moment first (set now a (slice_index_or now a idle)) tokens n most (a + 1)) total moved)

@@ -1,4 +1,4 @@
-ghost use Rattle.std.specs.Prelude.{◌≡◌, ℕ, ◌<◌, ◌≤◌, None, fold, IfOk, length, replicate, slice_index};
+ghost use Rattle.std.specs.Prelude.{◌≡◌, ℕ, ◌<◌, ◌≤◌, false, None, fold, IfOk, length, replicate, slice_index};
 ghost use Rattle.selftimed.specs.Actors.{earlier_end, fresh_one};
 
 use crate::running::Running;
@@ -46,13 +46,20 @@ pub(crate) fn next_end(actors: &[ActorState]) -> Option<u64>
 fn sooner(first: Option<u64>, state: &ActorState) -> Option<u64>
     ensures { result ≡ earlier_end first state.now }
 {
-    let ends = state.running.as_slice();
-    if ends.is_empty() {
-        return first;
+    match (first, state.running.first()) {
+        (Some(moment), Some(end)) => Some(moment.min(end)),
+        (None, next) => next,
+        (first, None) => first,
     }
-    match first {
-        Some(moment) => Some(moment.min(ends[0])),
-        None => Some(ends[0]),
+}
+
+/// Whether the first end of an actor's firings has come by a moment.
+pub(crate) fn is_due(state: &ActorState, moment: u64) -> bool
+    ensures { result ≡ false → 0 < length state.now.running → moment < slice_index state.now.running 0 }
+{
+    match state.running.first() {
+        Some(end) => end <= moment,
+        None => false,
     }
 }
 

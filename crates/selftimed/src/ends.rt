@@ -1,9 +1,9 @@
-ghost use Rattle.std.specs.Prelude.{◌≡◌, ℕ, ◌+◌, ◌-◌, ◌^◌, ◌<◌, ◌≤◌, false, length, slice_index};
+ghost use Rattle.std.specs.Prelude.{◌≡◌, ℕ, ◌+◌, ◌-◌, ◌^◌, ◌<◌, ◌≤◌, length, slice_index};
 ghost use Rattle.firing.specs.declared.sums.Port.TheVariants.{Made};
 ghost use Rattle.firing.specs.Wiring.{IsListed, AreListed, PutsTokens};
 ghost use Rattle.selftimed.specs.Actors.{EndsOne, Touches, EndsAll, Stand};
 
-use crate::actors::{ActorState, ended_by};
+use crate::actors::{ActorState, ended_by, is_due};
 use firing::{Firing, Wiring, put_tokens};
 
 /// Ends the firings whose end has come, and touches the actors whose channels gain tokens.
@@ -20,8 +20,11 @@ pub(crate) fn end_all<F: Firing>(
     ensures stand { Stand (F.net net.now) actors.new tokens.new }
 {
     for actor in 0..net.actors() {
+        if !is_due(&actors[actor as usize], moment) {
+            continue;
+        }
         let outputs = wiring.outputs_of(actor);
-        let ended = end_actor(
+        end_actor(
             net,
             outputs,
             actor,
@@ -29,13 +32,11 @@ pub(crate) fn end_all<F: Firing>(
             &mut actors[actor as usize],
             tokens,
         );
-        if ended {
-            touch_targets(net, outputs, actors);
-        }
+        touch_targets(net, outputs, actors);
     }
 }
 
-/// Ends the firings of an actor whose end has come, and tells whether there were any.
+/// Ends the firings of an actor whose end has come.
 fn end_actor<F: Firing>(
     net: &F,
     outputs: &[u32],
@@ -43,7 +44,7 @@ fn end_actor<F: Firing>(
     moment: u64,
     state: &mut ActorState,
     tokens: &mut [u128],
-) -> bool
+)
     requires actor { actor < length (F.net net.now).times }
     requires listed { IsListed (F.net net.now) Made actor outputs.now }
     requires tokens { length tokens.old ≡ length (F.net net.now).channels }
@@ -51,17 +52,12 @@ fn end_actor<F: Firing>(
     requires small { (i : ℕ) → i < length (F.net net.now).channels → slice_index tokens.old i ≤ 2 ^ 100 }
     ensures ended { EndsOne moment state.old state.new }
     ensures puts { PutsTokens (F.net net.now) actor state.old.ended (state.new.ended - state.old.ended) tokens.old tokens.new }
-    ensures none { result ≡ false → state.new.ended ≡ state.old.ended }
     ensures touched { state.new.touched ≡ state.old.touched }
 {
     let firings = ended_by(state.running.as_slice(), moment);
-    if firings == 0 {
-        return false;
-    }
     put_tokens(net, outputs, tokens, actor, state.ended, firings as u64);
     state.running.pop_front(firings);
     state.ended += firings as u64;
-    true
 }
 
 /// Touches the actors into which these channels lead.

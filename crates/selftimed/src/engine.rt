@@ -66,6 +66,7 @@ impl<'a, F: Firing> Engine<'a, F> {
         requires { most ≤ 2 ^ 32 }
         ensures net { IfOk result (λ e. e.net.now ≡ net.now) }
         ensures stage { IfOk result (λ e. e.stage ≡ Stage.Fresh) }
+        ensures moment { IfOk result (λ e. e.moment ≡ 0) }
         ensures most { IfOk result (λ e. e.most ≡ most) }
     {
         let wiring = Wiring::new(alloc, net)?;
@@ -91,53 +92,71 @@ impl<'a, F: Firing> Engine<'a, F> {
         ensures lost { IfErr result (λ e. self.new.stage ≡ Stage.OutOfMemory) }
     {
         match self.stage {
-            Stage::Fresh => {
-                self.stage = Stage::OutOfMemory;
-                let fits = begin(
-                    self.net,
-                    &self.wiring,
-                    self.most,
-                    &mut self.all,
-                    &mut self.actors,
-                    &mut self.tokens,
-                )?;
-                if !fits {
-                    self.stage = Stage::Spent;
-                    return Ok(Move::Spent);
-                }
-                if self.all == 0 {
-                    self.stage = Stage::Fresh;
-                    return Ok(Move::Stuck);
-                }
-                self.moment = 0;
-                self.stage = Stage::Running;
-                Ok(Move::Stepped)
-            }
-            Stage::Running => {
-                let Some(moment) = next_end(self.actors.as_slice()) else {
-                    return Ok(Move::Stuck);
-                };
-                self.stage = Stage::OutOfMemory;
-                let fits = step_to(
-                    self.net,
-                    &self.wiring,
-                    moment,
-                    self.most,
-                    &mut self.all,
-                    &mut self.actors,
-                    &mut self.tokens,
-                )?;
-                if !fits {
-                    self.stage = Stage::Spent;
-                    return Ok(Move::Spent);
-                }
-                self.moment = moment;
-                self.stage = Stage::Running;
-                Ok(Move::Stepped)
-            }
+            Stage::Fresh => self.go_to_start(),
+            Stage::Running => self.go_on(),
             Stage::Spent => Ok(Move::Spent),
             Stage::OutOfMemory => Err(NoMemory),
         }
+    }
+
+    /// Makes the starts of moment 0.
+    fn go_to_start(&mut self) -> Result<Move, NoMemory>
+        requires { self.old.stage ≡ Stage.Fresh }
+        ensures net { self.new.net ≡ self.old.net }
+        ensures most { self.new.most ≡ self.old.most }
+        ensures moved { IfOk result (λ move. IsMove (F.net self.old.net.now) self.old.most self.old.stage self.old.moment move self.new.stage self.new.moment) }
+        ensures lost { IfErr result (λ e. self.new.stage ≡ Stage.OutOfMemory) }
+    {
+        self.stage = Stage::OutOfMemory;
+        let fits = begin(
+            self.net,
+            &self.wiring,
+            self.most,
+            &mut self.all,
+            &mut self.actors,
+            &mut self.tokens,
+        )?;
+        if !fits {
+            self.stage = Stage::Spent;
+            return Ok(Move::Spent);
+        }
+        if self.all == 0 {
+            self.stage = Stage::Fresh;
+            return Ok(Move::Stuck);
+        }
+        self.moment = 0;
+        self.stage = Stage::Running;
+        Ok(Move::Stepped)
+    }
+
+    /// Goes to the next end and makes its starts.
+    fn go_on(&mut self) -> Result<Move, NoMemory>
+        requires { self.old.stage ≡ Stage.Running }
+        ensures net { self.new.net ≡ self.old.net }
+        ensures most { self.new.most ≡ self.old.most }
+        ensures moved { IfOk result (λ move. IsMove (F.net self.old.net.now) self.old.most self.old.stage self.old.moment move self.new.stage self.new.moment) }
+        ensures lost { IfErr result (λ e. self.new.stage ≡ Stage.OutOfMemory) }
+    {
+        let Some(moment) = next_end(self.actors.as_slice()) else {
+            return Ok(Move::Stuck);
+        };
+        self.stage = Stage::OutOfMemory;
+        let fits = step_to(
+            self.net,
+            &self.wiring,
+            moment,
+            self.most,
+            &mut self.all,
+            &mut self.actors,
+            &mut self.tokens,
+        )?;
+        if !fits {
+            self.stage = Stage::Spent;
+            return Ok(Move::Spent);
+        }
+        self.moment = moment;
+        self.stage = Stage::Running;
+        Ok(Move::Stepped)
     }
 }
 

@@ -11,6 +11,8 @@ pub(crate) struct Running {
     ends: SmallVec<u64, 4>,
     /// The ends before this place are past.
     head: usize,
+    /// The end at this place, kept here since each event asks for it.
+    first: Option<u64>,
 }
 
 impl Model for Running {
@@ -18,11 +20,11 @@ impl Model for Running {
 
     ghost Value = { List ℕ };
 
-    ghost use Rattle.selftimed.specs.Queue.{still_running, IsWithin};
+    ghost use Rattle.selftimed.specs.Queue.{still_running, IsQueue};
 
     ghost view = { still_running };
 
-    ghost invariant = { IsWithin };
+    ghost invariant = { IsQueue };
 }
 
 impl Running {
@@ -32,7 +34,15 @@ impl Running {
         Running {
             ends: SmallVec::new(alloc),
             head: 0,
+            first: None,
         }
+    }
+
+    /// The end of the first firing, if one runs.
+    pub(crate) fn first(&self) -> Option<u64>
+        ensures { result ≡ slice_get self.now 0 }
+    {
+        self.first
     }
 
     pub(crate) fn as_slice(&self) -> &[u64]
@@ -46,6 +56,9 @@ impl Running {
         ensures err { OnErr result (self.new ≡ self.old) }
     {
         self.ends.push(end)?;
+        if self.first.is_none() {
+            self.first = Some(end);
+        }
         Ok(())
     }
 
@@ -62,6 +75,7 @@ impl Running {
             self.ends.truncate(left);
             self.head = 0;
         }
+        self.first = self.ends.as_slice().get(self.head).copied();
     }
 }
 

@@ -7,6 +7,9 @@ use Rattle.selftimed.proofs.starts.batch_size.Goals.{then-feeds-best, else-feeds
 pub returns-then-phases-gt1-clause-feeds : goal.returns-then-phases-gt1-clause-feeds
 returns-then-phases-gt1-clause-feeds g c = feeds-one (g.F.Firing.net c.args.net.now) c.args.tokens.now c.args.actor c.args.firing c.requires.enough
 
+pub returns-then-feeds_one_only-clause-feeds : goal.returns-then-feeds_one_only-clause-feeds
+returns-then-feeds_one_only-clause-feeds g c = feeds-one (g.F.Firing.net c.args.net.now) c.args.tokens.now c.args.actor c.args.firing c.requires.enough
+
 pub nonzero_div-feeds : goal.nonzero_div-feeds
 nonzero_div-feeds g c =
     let one : phases_at (g.F.Firing.net c.args.net.now) c.args.actor ≡ 1 = omega (arith, c.phases.ensures, c.if-phases-gt1.false, c.know_laws.ensures.some_phase c.args.actor c.requires.actor) in
