@@ -1,0 +1,5 @@
+pub mod Ranks
+pub mod Visiting
+pub mod Collected
+pub mod Keys
+pub mod Endings
