@@ -1,4 +1,5 @@
 pub mod Ranks
+pub mod Going
 pub mod Visiting
 pub mod Collected
 pub mod Keys

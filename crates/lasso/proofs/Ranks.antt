@@ -1,7 +1,7 @@
 -- The numbers of event moments, and the starts up to them.
-use Rattle.std.proofs.Common.{◌≡◌, ℕ, zero, suc, ◌+◌, ◌-◌, ◌≤◌, ◌<◌, ◌⊎◌, true, false, if◌then◌else◌, length, inl, inr, ⊎_elim, subst, sym, refl, ap, ◌∙◌, arith}
+use Rattle.std.proofs.Common.{◌≡◌, ℕ, zero, suc, ◌+◌, ◌-◌, ◌≤◌, ◌<◌, true, false, if◌then◌else◌, length, inl, inr, ⊎_elim, subst, sym, refl, ap, ◌∙◌, arith}
 use Rattle.std.specs.Prelude.{map, sum}
-use Rattle.std.proofs.lemmas.Bool.{cases_lt, cases_order, cases_Bool}
+use Rattle.std.proofs.lemmas.Bool.{cases_lt, cases_Bool}
 use Rattle.sd_base.specs.Net.{Net}
 use Rattle.sd_base.specs.Schedules.{HasInputs, count_of}
 use Rattle.sd_base.specs.SelfTimed.{earliest, IsEvent, is_event, rank, starts_by}

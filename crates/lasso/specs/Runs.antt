@@ -3,7 +3,7 @@ use Rattle.std.specs.Prelude.{◌≡◌, ◌≢◌, ℕ, ◌+◌, ◌*◌, ◌�
 use Rattle.std.specs.Int.{IsGcd}
 use Rattle.sd_base.specs.Net.{Net}
 use Rattle.sd_base.specs.SelfTimed.{IsEvent, rank, shape_at, starts_by}
-use Rattle.sd_base.specs.Rates.{IsLoop, IsLoopTable, Rate}
+use Rattle.sd_base.specs.Rates.{IsLoopTable, Rate}
 use Rattle.firing.specs.declared.table.LoopTable.{LoopTable}
 use Rattle.lasso.specs.declared.error.RunError.{RunError}
 use Rattle.lasso.specs.declared.error.RunError.TheVariants.{StatesSpent, TooManyStarts, NoMemory}

@@ -1,7 +1,6 @@
 -- The shapes that an execution has visited.
-use Rattle.std.specs.Prelude.{◌≡◌, ◌≢◌, ℕ, ◌+◌, ◌≤◌, ◌<◌, Bool, true, false, Option, None, Some, List, [], ◌∷◌, ◌++◌, length, slice_index, slice_index_or}
+use Rattle.std.specs.Prelude.{◌≡◌, ◌≢◌, ℕ, ◌+◌, ◌-◌, ◌≤◌, ◌<◌, Bool, true, false, Option, None, Some, List, [], ◌∷◌, ◌++◌, length, slice_index, slice_index_or}
 use Rattle.sd_base.specs.Net.{Net}
-use Rattle.sd_base.specs.SelfTimed
 use Rattle.sd_base.specs.SelfTimed.{IsEvent, rank, shape_at, starts_by}
 use Rattle.sd_base.specs.Rates.{IsLoop}
 use Rattle.selftimed.specs.declared.engine.Stage.{Stage}
@@ -21,7 +20,7 @@ pub record AreVisits (net : Net) (moments : List ℕ) (shapes : List Shape) : Ty
   pub long : length shapes ≡ length moments
   pub events : (k : ℕ) → k < length moments → IsEvent net (slice_index moments k)
   pub numbers : (k : ℕ) → k < length moments → rank net (slice_index moments k) ≡ k + 1
-  pub shapes : (k : ℕ) → k < length moments → form (slice_index_or shapes k no_shape) ≡ shape_at net (slice_index moments k)
+  pub stand : (k : ℕ) → k < length moments → form (slice_index_or shapes k no_shape) ≡ shape_at net (slice_index moments k)
   pub differ : FirstDiffer net (length moments)
 
 -- an engine that has gone to n events stands at the last of them, with at most 4,000,000 starts
@@ -46,6 +45,7 @@ Visited moments shapes shape moment (Some entry) after all =
 
 -- the loop goes from one of the first `states` shapes to another, with at most 4,000,000 starts up to there
 pub record IsRepeat (net : Net) (states : ℕ) (repeat : Repeat) : Type 0 where
-  pub loop : IsLoop net repeat.entry repeat.period
-  pub number : rank net (repeat.entry + repeat.period) ≤ states
-  pub few : starts_by net (repeat.entry + repeat.period) ≤ 4000000
+  pub later : repeat.entry < repeat.end
+  pub loop : IsLoop net repeat.entry (repeat.end - repeat.entry)
+  pub number : rank net repeat.end ≤ states
+  pub few : starts_by net repeat.end ≤ 4000000

@@ -1,3 +1,9 @@
+ghost use Rattle.std.specs.Prelude.{◌≤◌, IfErr, IfOk};
+ghost use Rattle.sd_base.specs.Schedules.{HasInputs};
+ghost use Rattle.sd_base.specs.Untimed.{IsLive};
+ghost use Rattle.sd_base.specs.Futures.{IsConnected};
+ghost use Rattle.lasso.specs.Runs.{IsFound, IsRunRefusal};
+
 use crate::error::RunError;
 use crate::repeat::first_repeat;
 use crate::table::loop_table;
@@ -9,7 +15,15 @@ use std::alloc::Global;
 ///
 /// Cost: an execution up to the first repeat, twice; the shapes up to there are kept meanwhile, each with a
 /// number for each channel, actor and running firing.
-pub fn run_loop<F: Firing>(alloc: Global, net: &F, states: u64) -> Result<LoopTable, RunError> {
+pub fn run_loop<F: Firing>(alloc: Global, net: &F, states: u64) -> Result<LoopTable, RunError>
+    requires live { IsLive (F.net net.now) }
+    requires connected { IsConnected (F.net net.now) }
+    requires inputs { HasInputs (F.net net.now) }
+    requires some { 1 ≤ states }
+    requires few { states ≤ 200000 }
+    ensures found { IfOk result (IsFound (F.net net.now) states) }
+    ensures refused { IfErr result (IsRunRefusal (F.net net.now) states) }
+{
     let repeat = first_repeat(alloc, net, states)?;
     let table = loop_table(alloc, net, repeat)?;
     Ok(table)
