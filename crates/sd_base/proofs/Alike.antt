@@ -7,7 +7,7 @@ use Rattle.sd_base.specs.SelfTimed.{ended_by, earliest, IsEvent, shape_of, shape
 use Rattle.sd_base.specs.Futures.{Repeats}
 use Rattle.sd_base.proofs.Parts.{Wired, Regular}
 use Rattle.sd_base.proofs.Admissibles.{is_actor}
-use Rattle.sd_base.proofs.Steps.{Ended, Able, Full, Extended}
+use Rattle.sd_base.proofs.Moment.{Ended, Able, Full, Extended}
 use Rattle.sd_base.proofs.Existence.{extended-is}
 use Rattle.sd_base.proofs.Counts.{decided, early_at, ended_at, ended-by-is, ended-at-is, ended-same, able-at, full-at, past_none}
 use Rattle.sd_base.proofs.Rounds.{Whole, made-shift, taken-shift, needs-shift, time-shift}

@@ -8,7 +8,7 @@ use Rattle.sd_base.specs.SelfTimed.{ended_by, earliest}
 use Rattle.sd_base.proofs.Sums.{total-le}
 use Rattle.sd_base.proofs.Parts.{Timed, Wired, Regular}
 use Rattle.sd_base.proofs.Admissibles.{no_actor}
-use Rattle.sd_base.proofs.Steps.{Ended, Able, Full, Extended}
+use Rattle.sd_base.proofs.Moment.{Ended, Able, Full, Extended}
 use Rattle.sd_base.proofs.Existence.{ended-is, earliest-is, extended-is}
 
 -- counts that are full are at least all that are able

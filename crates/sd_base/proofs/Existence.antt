@@ -9,7 +9,7 @@ use Rattle.sd_base.specs.SelfTimed.{ended_among, ended_by, allows, grown, fuel_o
 use Rattle.sd_base.proofs.Sums.{total-zero, total-le, total-grows}
 use Rattle.sd_base.proofs.Parts.{OneByOne, Wired, Regular}
 use Rattle.sd_base.proofs.Admissibles.{no_actor, ends-le}
-use Rattle.sd_base.proofs.Steps.{Ended, Able, Extended, earliest_step}
+use Rattle.sd_base.proofs.Moment.{Ended, Able, Extended, earliest_step}
 
 -- ---- how many firings have ended
 

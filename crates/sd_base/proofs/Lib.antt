@@ -2,7 +2,7 @@ pub mod Divisors
 pub mod Sums
 pub mod Parts
 pub mod Admissibles
-pub mod Steps
+pub mod Moment
 pub mod Existence
 pub mod Counts
 pub mod Rounds

@@ -10,7 +10,7 @@ use Rattle.sd_base.specs.Schedules.{phases_at, Schedule, count_of, end_of}
 use Rattle.sd_base.specs.SelfTimed.{ended_by, Shape, remaining_of, tokens_of, shape_of}
 use Rattle.sd_base.proofs.Sums.{total-whole}
 use Rattle.sd_base.proofs.Parts.{Wired}
-use Rattle.sd_base.proofs.Steps.{Ended, Able}
+use Rattle.sd_base.proofs.Moment.{Ended, Able}
 use Rattle.sd_base.proofs.Rounds.{Whole, made-shift, taken-shift}
 
 -- ---- what a shape shows

@@ -8,3 +8,4 @@ pub mod Rates
 pub mod Futures
 pub mod Lawful
 pub mod FileNet
+pub mod Counter

@@ -1,6 +1,7 @@
 //! Graph tables, small list types and the plain nets of dataflow graphs, on which every other crate stands.
 #![tactic(auto)]
 
+mod counter;
 pub mod futures;
 pub mod laws;
 mod memory;
@@ -11,6 +12,7 @@ mod rows;
 mod tables;
 mod text;
 
+pub use counter::{Ledger, Steps};
 pub use memory::NoMemory;
 pub use numbers::{Fraction, gcd, lcm_within};
 pub use quantity::Quantity;

@@ -12,7 +12,7 @@ use Rattle.sd_base.specs.SelfTimed.{allows, earliest}
 use Rattle.sd_base.specs.Lawful.{Lawful}
 use Rattle.sd_base.proofs.Sums.{total-zero, total-le}
 use Rattle.sd_base.proofs.Parts.{Regular, regular}
-use Rattle.sd_base.proofs.Steps.{Able, Full}
+use Rattle.sd_base.proofs.Moment.{Able, Full}
 use Rattle.sd_base.proofs.Existence.{allows-true, allows-false, LacksAmong}
 use Rattle.sd_base.proofs.Counts.{early_at, able-along, full-along, first-counts, first-ended}
 use Rattle.sd_base.proofs.Ends.{sum_to, sum_to-le}

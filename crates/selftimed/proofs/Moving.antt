@@ -12,7 +12,7 @@ use Rattle.sd_base.specs.SelfTimed.{ended_by, earliest, IsEvent, is_event}
 use Rattle.sd_base.specs.Lawful.{Lawful}
 use Rattle.sd_base.proofs.Parts.{Regular, regular, list_any-tells}
 use Rattle.sd_base.proofs.Admissibles.{is_actor, ends-le, earliest-equal}
-use Rattle.sd_base.proofs.Steps.{Ended, Able, Full, Extended}
+use Rattle.sd_base.proofs.Moment.{Ended, Able, Full, Extended}
 use Rattle.sd_base.proofs.Existence.{extended-is}
 use Rattle.sd_base.proofs.Counts.{Same, Quiet, ended_at, early_at, ended-at-is, full-at, decided-le, quiet-until, advance-ended, advance-counts, full-along, able-along}
 use Rattle.sd_base.proofs.Ends.{sum_to, sum_to-le, sum_to-lt}

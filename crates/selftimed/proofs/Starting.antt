@@ -8,7 +8,7 @@ use Rattle.std.proofs.lemmas.List.Sums.{sum_by-set, sum_by_more, get_or-le-sum_b
 use Rattle.sd_base.specs.Net.{Net, channel_at, phase_entry, total}
 use Rattle.sd_base.specs.Schedules.{Needs, Lacks}
 use Rattle.sd_base.proofs.Sums.{total-more}
-use Rattle.sd_base.proofs.Steps.{Able}
+use Rattle.sd_base.proofs.Moment.{Able}
 use Rattle.sd_base.proofs.Ends.{sum_to}
 use Rattle.firing.specs.Wiring.{LacksNow, IsLevel}
 use Rattle.firing.proofs.TokenMoves.{MoreBy, level-takes, level-needs}

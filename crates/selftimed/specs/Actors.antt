@@ -3,7 +3,7 @@ use Rattle.std.specs.Prelude.{◌≡◌, ℕ, ◌+◌, ◌-◌, ◌^◌, ◌≤�
 use Rattle.std.specs.List.{sum_by}
 use Rattle.sd_base.specs.Net.{Net, channel_at}
 use Rattle.sd_base.specs.Schedules.{Lacks}
-use Rattle.sd_base.proofs.Steps.{Able}
+use Rattle.sd_base.proofs.Moment.{Able}
 use Rattle.sd_base.proofs.Ends.{sum_to}
 use Rattle.selftimed.specs.Starts.{AddsEnds, StartsAll}
 use Rattle.firing.specs.Wiring.{IsLevel}
