@@ -1,12 +1,17 @@
 use crate::{RunError, run_loop};
 use balance::repetition;
 use firing::{LoopTable, SdfNet};
-use sd_base::{ActorRow, ChannelRow, GraphFile, Kind, Rows, Text};
+use sd_base::{ActorRow, ChannelRow, GraphFile, Kind, Ledger, Rows, Steps, Text};
 use std::alloc::{AllocError, Global};
 use std::test::Fail;
 
 /// A channel of a test's graph: source, made, taken, target, tokens.
 type Line = (u32, u64, u64, u32, u64);
+
+/// What a test's counter counts.
+struct Runs;
+
+impl Ledger for Runs {}
 
 fn row(alloc: Global, number: u64) -> Result<Rows<u64>, AllocError> {
     let mut row = Rows::new(alloc);
@@ -53,7 +58,10 @@ fn run(
     let graph = graph(alloc, times, lines)?;
     let gamma = repetition(alloc, &graph)?;
     let net = SdfNet::new(alloc, &graph, gamma.as_slice(), false)?;
-    Ok(run_loop(alloc, &net, states))
+    let mut steps = Steps::new(Runs);
+    let answer = run_loop(alloc, &net, states, &mut steps);
+    let Runs = steps.finish();
+    Ok(answer)
 }
 
 /// x of time 2 and y of time 3 fire in turn.

@@ -1,5 +1,5 @@
 use Rattle.sd_base.proofs.LoopRates.{table-rate}
-use Rattle.lasso.proofs.run.run_loop.Goals as goal
+use Rattle.lasso.proofs.run.find_loop.Goals as goal
 
 pub returns-clause-found : goal.returns-clause-found
 returns-clause-found g c = record {
