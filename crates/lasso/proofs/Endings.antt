@@ -1,12 +1,12 @@
 -- At most one ending fits a net and a number of shapes, and the loop found is one.
-use Rattle.std.proofs.Common.{◌≡◌, ℕ, ◌+◌, ◌*◌, ◌≤◌, ◌<◌, ◌⊎◌, List, [], length, inl, inr, ⊎_elim, sym, ap, ◌∙◌, arith}
+use Rattle.std.proofs.Common.{◌≡◌, ℕ, ◌+◌, ◌≤◌, ◌<◌, List, [], length, ⊎_elim, sym, ap, ◌∙◌, arith}
 use Rattle.std.specs.Prelude.{slice_index, slice_index_or}
 use Rattle.std.proofs.Math.Nat.{eq_of_mul-eq-mul_right}
 use Rattle.std.proofs.lemmas.Bool.{cases_lt}
 use Rattle.std.proofs.lemmas.List.{ext_get_or}
 use Rattle.sd_base.specs.Net.{Net}
 use Rattle.sd_base.specs.Schedules.{HasInputs, count_of, start_of}
-use Rattle.sd_base.specs.SelfTimed.{earliest, IsEvent, rank, shape_at, starts_by}
+use Rattle.sd_base.specs.SelfTimed.{earliest, rank, shape_at, starts_by}
 use Rattle.sd_base.specs.Lawful.{Lawful}
 use Rattle.sd_base.specs.Rates.{IsLoop, IsLoopTable}
 use Rattle.sd_base.proofs.Parts.{balanced}
@@ -69,30 +69,28 @@ module _ (net : Net) (laws : Lawful net) (fed : HasInputs net) where
       let loops = one-loop net table.entry table.period other.entry other.period one.loop.loop two.loop.loop in
       let again : IsLoopTable net table.entry table.period other.rounds other.before other.starts = rw loops.0 (rw loops.1 two.loop) in
       let tables = one-table net laws table.entry table.period table.rounds other.rounds table.before other.before table.starts other.starts one.loop again in
-      let entry : table.entry ≡ other.entry = loops.0 in
-      let period : table.period ≡ other.period = loops.1 in
-      let rounds : table.rounds ≡ other.rounds = tables.0 in
-      let before : table.before ≡ other.before = tables.1 in
-      let starts : table.starts ≡ other.starts = tables.2 in
-      cc
+      λ i. record { entry = loops.0 i; period = loops.1 i; rounds = tables.0 i; before = tables.1 i; starts = tables.2 i }
+
+  pub loop-or-spent : (states entry period : ℕ) → IsLoop net entry period → rank net (entry + period) ≤ states → IsStatesSpent net states → ⊥
+  loop-or-spent states entry period loop number spent =
+      let passes : 1 ≤ period = loop.passes in
+      spent.differ entry (entry + period) loop.enters loop.repeats (omega arith) number loop.same
+
+  pub loop-or-many : (states entry period : ℕ) → IsLoop net entry period → starts_by net (entry + period) ≤ 4000000 → IsTooManyStarts net states → ⊥
+  loop-or-many states entry period loop few many =
+      let passes : 1 ≤ period = loop.passes in
+      ⊎_elim
+      (λ (sooner : entry + period < many.last). many.differ entry (entry + period) loop.enters loop.repeats (omega arith) sooner loop.same)
+      (λ (past : many.last ≤ entry + period).
+      let more : 4000000 < starts_by net many.last = many.many in
+      absurd (omega (arith, starts-rise net laws fed many.last (entry + period) past)))
+      (cases_lt (entry + period) many.last)
 
   pub found-or-spent : (states : ℕ) (table : LoopTable) → IsFound net states table → IsStatesSpent net states → ⊥
-  found-or-spent states table found spent =
-      let loop = found.loop.loop in
-      let passes : 1 ≤ table.period = loop.passes in
-      spent.differ table.entry (table.entry + table.period) loop.enters loop.repeats (omega arith) found.number loop.same
+  found-or-spent states table found = loop-or-spent states table.entry table.period found.loop.loop found.number
 
-  pub found-or-many : (states other_states : ℕ) (table : LoopTable) → IsFound net states table → IsTooManyStarts net other_states → ⊥
-  found-or-many states other_states table found many =
-      let loop = found.loop.loop in
-      let passes : 1 ≤ table.period = loop.passes in
-      ⊎_elim
-      (λ (sooner : table.entry + table.period < many.last). many.differ table.entry (table.entry + table.period) loop.enters loop.repeats (omega arith) sooner loop.same)
-      (λ (past : many.last ≤ table.entry + table.period).
-      let few : starts_by net (table.entry + table.period) ≤ 4000000 = found.few in
-      let more : 4000000 < starts_by net many.last = many.many in
-      absurd (omega (arith, starts-rise net laws fed many.last (table.entry + table.period) past)))
-      (cases_lt (table.entry + table.period) many.last)
+  pub found-or-many : (states : ℕ) (table : LoopTable) → IsFound net states table → IsTooManyStarts net states → ⊥
+  found-or-many states table found = loop-or-many states table.entry table.period found.loop.loop found.few
 
   pub spent-or-many : (states : ℕ) → IsStatesSpent net states → IsTooManyStarts net states → ⊥
   spent-or-many states spent many =

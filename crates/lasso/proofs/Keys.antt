@@ -25,7 +25,7 @@ numbers-Decides xs ys = slice_eq-Decides Decides-eqb xs ys (pointwise nat_eq xs 
 rows-Decides : (xs ys : List (List ℕ)) → Decides (pointwise (pointwise nat_eq) xs ys) (xs ≡ ys)
 rows-Decides xs ys = slice_eq-Decides numbers-Decides xs ys (pointwise (pointwise nat_eq) xs ys) refl
 
-alike-tells : (a b : Shape) → alike a b ≡ true → form a ≡ form b
+pub alike-tells : (a b : Shape) → alike a b ≡ true → form a ≡ form b
 alike-tells a b holds =
     let first = and_parts (pointwise nat_eq a.tokens b.tokens) (pointwise nat_eq a.phases b.phases && pointwise (pointwise nat_eq) a.remaining b.remaining) holds in
     let second = and_parts (pointwise nat_eq a.phases b.phases) (pointwise (pointwise nat_eq) a.remaining b.remaining) first.1 in
@@ -34,7 +34,7 @@ alike-tells a b holds =
     let remaining : a.remaining ≡ b.remaining = (rows-Decides a.remaining b.remaining).0 second.1 in
     rw tokens (rw phases (rw remaining refl))
 
-alike-holds : (a b : Shape) → form a ≡ form b → alike a b ≡ true
+pub alike-holds : (a b : Shape) → form a ≡ form b → alike a b ≡ true
 alike-holds a b same =
     and_from _ _ ((numbers-Decides a.tokens b.tokens).1 (ap (λ (f : SelfTimed.Shape). f.tokens) same))
     (and_from _ _ ((numbers-Decides a.phases b.phases).1 (ap (λ (f : SelfTimed.Shape). f.phases) same)) ((rows-Decides a.remaining b.remaining).1 (ap (λ (f : SelfTimed.Shape). f.remaining) same)))

@@ -4,3 +4,4 @@ pub mod Visiting
 pub mod Collected
 pub mod Keys
 pub mod Endings
+pub mod Deciding

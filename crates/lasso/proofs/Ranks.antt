@@ -42,7 +42,7 @@ rank-rises net t (suc u) le = ⊎_elim
     (cases_lt t (suc u))
 
 module _ (net : Net) (laws : Lawful net) (fed : HasInputs net) where
-  event-test : (t : ℕ) → IsEvent net t → is_event net t ≡ true
+  pub event-test : (t : ℕ) → IsEvent net t → is_event net t ≡ true
   event-test t (inl first) = subst (λ (x : ℕ). is_event net x ≡ true) (sym first) (is_event-zero net)
   event-test t (inr (a, k, there, ends)) =
       let actor : a < length net.times = rw (early_at net (regular net laws) fed t).admissible.actors at (no_actor (earliest net t) a k there) in

@@ -1,9 +1,9 @@
 -- What self-timed execution comes to within a number of shapes and 4,000,000 starts.
-use Rattle.std.specs.Prelude.{◌≡◌, ◌≢◌, ℕ, ◌+◌, ◌*◌, ◌≤◌, ◌<◌}
+use Rattle.std.specs.Prelude.{◌≡◌, ◌≢◌, ℕ, ◌+◌, ◌*◌, ◌≤◌, ◌<◌, ◌⊎◌}
 use Rattle.std.specs.Int.{IsGcd}
 use Rattle.sd_base.specs.Net.{Net}
 use Rattle.sd_base.specs.SelfTimed.{IsEvent, rank, shape_at, starts_by}
-use Rattle.sd_base.specs.Rates.{IsLoopTable, Rate}
+use Rattle.sd_base.specs.Rates.{IsLoop, IsLoopTable, Rate}
 use Rattle.firing.specs.declared.table.LoopTable.{LoopTable}
 use Rattle.lasso.specs.declared.error.RunError.{RunError}
 use Rattle.lasso.specs.declared.error.RunError.TheVariants.{StatesSpent, TooManyStarts, NoMemory}
@@ -28,6 +28,14 @@ pub record IsTooManyStarts (net : Net) (states : ℕ) : Type 0 where
   pub number : rank net last ≤ states
   pub differ : (t u : ℕ) → IsEvent net t → IsEvent net u → t < u → u < last → shape_at net t ≢ shape_at net u
   pub many : 4000000 < starts_by net last
+
+-- more than 4,000,000 firings start up to and with the last of the first `states` shapes if these are all different, and up
+-- to and with the first repeat otherwise
+abbrev pub PassesStarts : Net → ℕ → Type 0
+PassesStarts net states =
+    (FirstDiffer net states × ((last : ℕ) × IsEvent net last × (rank net last ≡ states) × (4000000 < starts_by net last)))
+    ⊎ ((entry : ℕ) × (period : ℕ) × IsLoop net entry period × (rank net (entry + period) ≤ states)
+    × (4000000 < starts_by net (entry + period)))
 
 -- the loop, entered and repeated within the first `states` shapes and 4,000,000 starts, and the rate that its rounds by its
 -- period are

@@ -2,6 +2,7 @@
 #![tactic(auto)]
 
 mod error;
+mod laws;
 mod repeat;
 mod run;
 mod table;
@@ -10,4 +11,5 @@ mod tests;
 mod visits;
 
 pub use error::RunError;
+pub use laws::{one_ending, starts_are_counted_to_the_first_repeat};
 pub use run::run_loop;

@@ -1,77 +1,111 @@
+ghost use Rattle.std.specs.Prelude.{◌≡◌, ℕ, ◌<◌, true, List, IfOk, length};
+ghost use Rattle.sd_base.specs.Net.{channel_at};
+ghost use Rattle.sd_base.specs.Schedules.{HasInputs};
+ghost use Rattle.sd_base.specs.Untimed.{IsLive};
+ghost use Rattle.sd_base.specs.Futures.{IsConnected, IsWalk};
+
 use crate::{RunError, run_loop};
-use balance::repetition;
-use firing::{LoopTable, SdfNet};
-use sd_base::{ActorRow, ChannelRow, GraphFile, Kind, Ledger, Rows, Steps, Text};
-use std::alloc::{AllocError, Global};
+use firing::{Firing, LoopTable, SdfNet};
+use liveness::{Round, one_round};
+use sd_base::{Ledger, NoMemory, Steps};
+use small_nets::{Line, channel, multi_rate_ring, ring_of_two, table_net, three_at_once};
+use std::alloc::Global;
+use std::process::Abort;
 use std::test::Fail;
 
-/// A channel of a test's graph: source, made, taken, target, tokens.
-type Line = (u32, u64, u64, u32, u64);
-
 /// What a test's counter counts.
+#[derive(Drop)]
 struct Runs;
 
 impl Ledger for Runs {}
 
-fn row(alloc: Global, number: u64) -> Result<Rows<u64>, AllocError> {
-    let mut row = Rows::new(alloc);
-    row.push(number)?;
-    Ok(row)
+/// Whether a round of a net can be completed.
+fn is_live<F: Firing>(alloc: Global, net: &F) -> Result<bool, NoMemory>
+    ensures { IfOk result (λ live. live ≡ true → IsLive (F.net net.now)) }
+{
+    match one_round(alloc, net)? {
+        Round::Live { order: _ } => Ok(true),
+        Round::Blocked {
+            counts: _,
+            lacks: _,
+        } => Ok(false),
+    }
 }
 
-/// A synchronous graph with the given time by actor and the given channels.
-fn graph(alloc: Global, times: &[u64], lines: &[Line]) -> Result<GraphFile, AllocError> {
-    let mut actors = Rows::new(alloc);
-    for time in times {
-        actors.push(ActorRow {
-            name: Text::new(String::new(alloc)),
-            phases: 1,
-            times: row(alloc, *time)?,
-        })?;
+/// Whether each actor but the first one shares a channel with it.
+fn is_star<F: Firing>(net: &F) -> bool
+    ensures { result ≡ true → IsConnected (F.net net.now) }
+{
+    for actor in 1..net.actors() {
+        if !is_linked(net, actor) {
+            return false;
+        }
     }
-    let mut channels = Rows::new(alloc);
-    for line in lines {
-        channels.push(ChannelRow {
-            name: Text::new(String::new(alloc)),
-            source: line.0,
-            target: line.3,
-            made: row(alloc, line.1)?,
-            taken: row(alloc, line.2)?,
-            tokens: line.4,
-            size: 1,
-        })?;
-    }
-    Ok(GraphFile {
-        kind: Kind::Sdf,
-        actors,
-        channels,
-    })
+    true
 }
 
-/// What `run_loop` answers of a test's graph.
+/// Whether a channel leads from the first actor to another one, or back.
+fn is_linked<F: Firing>(net: &F, actor: u32) -> bool
+    ensures { result ≡ true → (walk : List ℕ) × IsWalk (F.net net.now) 0 walk actor }
+{
+    for i in 0..net.channels() {
+        if net.source(i) == 0 && net.target(i) == actor {
+            return true;
+        }
+        if net.target(i) == 0 && net.source(i) == actor {
+            return true;
+        }
+    }
+    false
+}
+
+/// Whether each actor has an input.
+fn all_fed<F: Firing>(net: &F) -> bool
+    ensures { result ≡ true → HasInputs (F.net net.now) }
+{
+    for actor in 0..net.actors() {
+        if !is_fed(net, actor) {
+            return false;
+        }
+    }
+    true
+}
+
+fn is_fed<F: Firing>(net: &F, actor: u32) -> bool
+    ensures { result ≡ true → (i : ℕ) × (i < length (F.net net.now).channels) × ((channel_at (F.net net.now) i).target ≡ actor) }
+{
+    for i in 0..net.channels() {
+        if net.target(i) == actor {
+            return true;
+        }
+    }
+    false
+}
+
+/// What `run_loop` answers of a net.
 fn run(
+    rt: &impl Abort,
     alloc: Global,
-    times: &[u64],
-    lines: &[Line],
+    net: &SdfNet,
     states: u64,
 ) -> Result<Result<LoopTable, RunError>, Fail> {
-    let graph = graph(alloc, times, lines)?;
-    let gamma = repetition(alloc, &graph)?;
-    let net = SdfNet::new(alloc, &graph, gamma.as_slice(), false)?;
+    assert!(rt; is_live(alloc, net)?);
+    assert!(rt; is_star(net));
+    assert!(rt; all_fed(net));
+    assert!(rt; 1 <= states && states <= 200_000);
     let mut steps = Steps::new(Runs);
-    let answer = run_loop(alloc, &net, states, &mut steps);
+    let answer = run_loop(alloc, net, states, &mut steps);
     let Runs = steps.finish();
     Ok(answer)
 }
 
-/// x of time 2 and y of time 3 fire in turn.
-const RING: [Line; 2] = [(0, 1, 1, 1, 0), (1, 1, 1, 0, 1)];
-
 #[test]
 fn ring_of_two_comes_again_at_its_third_shape(rt: HostRuntime) -> Result<(), Fail> {
-    let table = run(rt.alloc(), &[2, 3], &RING, 3)??;
+    let net = ring_of_two(rt.alloc())?;
+    let table = run(&rt, rt.alloc(), &net, 3)??;
     assert_eq!(rt; (table.entry, table.period, table.rounds), (0, 5, 1));
     assert_eq!(rt; table.before.as_slice(), [1, 0].as_slice());
+    assert_eq!(rt; table.starts.len(), 2);
     assert_eq!(rt; table.starts.as_slice()[0].as_slice(), [5].as_slice());
     assert_eq!(rt; table.starts.as_slice()[1].as_slice(), [2].as_slice());
     Ok(())
@@ -79,29 +113,28 @@ fn ring_of_two_comes_again_at_its_third_shape(rt: HostRuntime) -> Result<(), Fai
 
 #[test]
 fn two_shapes_of_a_ring_of_two_differ(rt: HostRuntime) -> Result<(), Fail> {
-    let answer = run(rt.alloc(), &[2, 3], &RING, 2)?;
+    let net = ring_of_two(rt.alloc())?;
+    let answer = run(&rt, rt.alloc(), &net, 2)?;
     assert!(rt; matches!(answer, Err(RunError::StatesSpent)));
     Ok(())
 }
 
 #[test]
 fn three_firings_overlap(rt: HostRuntime) -> Result<(), Fail> {
-    let table = run(rt.alloc(), &[7], &[(0, 1, 1, 0, 3)], 20)??;
+    let net = three_at_once(rt.alloc())?;
+    let table = run(&rt, rt.alloc(), &net, 20_000)??;
     assert_eq!(rt; (table.entry, table.period, table.rounds), (0, 7, 3));
     Ok(())
 }
 
+// By hand: y fires without a pause from 4 on; x fires at 0, 4, 8, 12 and 16, and then waits for each second end of y.
 #[test]
 fn a_loop_is_entered_late(rt: HostRuntime) -> Result<(), Fail> {
-    let lines = [
-        (0, 2, 1, 1, 0),
-        (1, 1, 2, 0, 8),
-        (0, 1, 1, 0, 1),
-        (1, 1, 1, 1, 1),
-    ];
-    let table = run(rt.alloc(), &[4, 5], &lines, 20000)??;
+    let net = multi_rate_ring(rt.alloc())?;
+    let table = run(&rt, rt.alloc(), &net, 20_000)??;
     assert_eq!(rt; (table.entry, table.period, table.rounds), (24, 10, 1));
     assert_eq!(rt; table.before.as_slice(), [6, 5].as_slice());
+    assert_eq!(rt; table.starts.len(), 2);
     assert_eq!(rt; table.starts.as_slice()[0].as_slice(), [34].as_slice());
     assert_eq!(rt; table.starts.as_slice()[1].as_slice(), [29, 34].as_slice());
     Ok(())
@@ -109,15 +142,23 @@ fn a_loop_is_entered_late(rt: HostRuntime) -> Result<(), Fail> {
 
 #[test]
 fn a_million_rounds_at_once(rt: HostRuntime) -> Result<(), Fail> {
-    let table = run(rt.alloc(), &[1], &[(0, 1, 1, 0, 1000000); 10], 20000)??;
-    assert_eq!(rt; (table.entry, table.period, table.rounds), (0, 1, 1000000));
+    let net = table_net(rt.alloc(), &[1], &[channel(0, 1, 1, 0, 1_000_000); 10], false)?;
+    let table = run(&rt, rt.alloc(), &net, 20_000)??;
+    assert_eq!(rt; (table.entry, table.period, table.rounds), (0, 1, 1_000_000));
     Ok(())
 }
 
+// By hand: two million start at 0, and a million more at each of 2 and 3. The next event has two million starts.
 #[test]
 fn too_many_start_in_a_ring(rt: HostRuntime) -> Result<(), Fail> {
-    let lines = [(0, 1, 1, 1, 1000000), (1, 1, 1, 0, 1000000)];
-    let answer = run(rt.alloc(), &[2, 3], &lines, 20000)?;
+    let lines: [Line; 2] = [
+        channel(0, 1, 1, 1, 1_000_000),
+        channel(1, 1, 1, 0, 1_000_000),
+    ];
+    let net = table_net(rt.alloc(), &[2, 3], &lines, false)?;
+    let answer = run(&rt, rt.alloc(), &net, 20_000)?;
     assert!(rt; matches!(answer, Err(RunError::TooManyStarts)));
+    let shorter = run(&rt, rt.alloc(), &net, 3)?;
+    assert!(rt; matches!(shorter, Err(RunError::StatesSpent)));
     Ok(())
 }
