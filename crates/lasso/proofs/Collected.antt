@@ -24,15 +24,17 @@ use Rattle.lasso.specs.Collecting.{AreStartsAfter, AddsStarts}
 module _ (net : Net) (laws : Lawful net) (fed : HasInputs net) where
   -- nothing that runs ends before the next event
   quiet-next : (m u : ℕ) → IsNext net m u → Quiet net m u
-  quiet-next m u next = record { still = λ a k ended there. ⊎_elim
-      (λ (soon : end_of net (earliest net (suc m)) a k < u). absurd (
-      let going : m < end_of net (earliest net (suc m)) a k = (ended-at-is net (regular net laws) fed m a).going k ended there in
-      let kept = earliest-within net (suc m) (end_of net (earliest net (suc m)) a k) (earliest net (suc m)) (earliest net (end_of net (earliest net (suc m)) a k))
-          (early_at net (regular net laws) fed (suc m)) (early_at net (regular net laws) fed (end_of net (earliest net (suc m)) a k)) (omega arith) a k there in
-      let same : start_of (earliest net (end_of net (earliest net (suc m)) a k)) a k ≡ start_of (earliest net (suc m)) a k = kept.1 in
-      next.quiet (end_of net (earliest net (suc m)) a k) going soon (inr (a, k, kept.0, omega arith))))
-      (λ (h : u ≤ end_of net (earliest net (suc m)) a k). h)
-      (cases_lt (end_of net (earliest net (suc m)) a k) u) }
+  quiet-next m u next = record {
+    still = λ a k ended there. ⊎_elim
+        (λ (soon : end_of net (earliest net (suc m)) a k < u). absurd (
+        let going : m < end_of net (earliest net (suc m)) a k = (ended-at-is net (regular net laws) fed m a).going k ended there in
+        let kept = earliest-within net (suc m) (end_of net (earliest net (suc m)) a k) (earliest net (suc m)) (earliest net (end_of net (earliest net (suc m)) a k))
+        (early_at net (regular net laws) fed (suc m)) (early_at net (regular net laws) fed (end_of net (earliest net (suc m)) a k)) (omega arith) a k there in
+        let same : start_of (earliest net (end_of net (earliest net (suc m)) a k)) a k ≡ start_of (earliest net (suc m)) a k = kept.1 in
+        next.quiet (end_of net (earliest net (suc m)) a k) going soon (inr (a, k, kept.0, omega arith))))
+        (λ (h : u ≤ end_of net (earliest net (suc m)) a k). h)
+        (cases_lt (end_of net (earliest net (suc m)) a k) u);
+  }
 
   -- what starts between an event and the next one, that one included, starts at that one
   new-start : (m u a k : ℕ) → IsNext net m u → count_of (earliest net (m + 1)) a ≤ k → k < count_of (earliest net (u + 1)) a → start_of (earliest net (u + 1)) a k ≡ u
@@ -73,15 +75,15 @@ module _ (net : Net) (laws : Lawful net) (fed : HasInputs net) where
       moments : (a k : ℕ) → a < length net.times → k < count_of new a → (k < count_of old a) ⊎ (count_of old a ≤ k) → start_of new a k ≡ start_of (earliest net (u + 1)) a (slice_index before a + k)
       moments a k actor there (inl before_it) =
           let read : start_of new a k ≡ start_of old a k = ap (λ (row : List ℕ). slice_index row k) (adds.each a actor)
-              ∙ get_or_append_left (slice_index_or old a []) (replicate (count_of (earliest net (u + 1)) a - slice_index before a - count_of old a) u) 0 k before_it in
+          ∙ get_or_append_left (slice_index_or old a []) (replicate (count_of (earliest net (u + 1)) a - slice_index before a - count_of old a) u) 0 k before_it in
           let later : m < u = next.later in
           let there_before : slice_index before a + k < count_of (earliest net (m + 1)) a = omega (arith, have.all a actor) in
           let kept : start_of (earliest net (u + 1)) a (slice_index before a + k) ≡ start_of (earliest net (m + 1)) a (slice_index before a + k) =
-              (earliest-within net (m + 1) (u + 1) (earliest net (m + 1)) (earliest net (u + 1)) (early_at net (regular net laws) fed (m + 1)) (early_at net (regular net laws) fed (u + 1)) (omega arith) a (slice_index before a + k) there_before).1 in
+          (earliest-within net (m + 1) (u + 1) (earliest net (m + 1)) (earliest net (u + 1)) (early_at net (regular net laws) fed (m + 1)) (early_at net (regular net laws) fed (u + 1)) (omega arith) a (slice_index before a + k) there_before).1 in
           read ∙ (have.moments a k actor before_it ∙ sym kept)
       moments a k actor there (inr after_it) =
           let read : start_of new a k ≡ slice_index (replicate (count_of (earliest net (u + 1)) a - slice_index before a - count_of old a) u) (k - count_of old a) = ap (λ (row : List ℕ). slice_index row k) (adds.each a actor)
-              ∙ get_or-append_right (slice_index_or old a []) (replicate (count_of (earliest net (u + 1)) a - slice_index before a - count_of old a) u) (count_of old a) k 0 refl after_it in
+          ∙ get_or-append_right (slice_index_or old a []) (replicate (count_of (earliest net (u + 1)) a - slice_index before a - count_of old a) u) (count_of old a) k 0 refl after_it in
           let within : k - count_of old a < count_of (earliest net (u + 1)) a - slice_index before a - count_of old a = omega (arith, count a actor) in
           let now : slice_index (replicate (count_of (earliest net (u + 1)) a - slice_index before a - count_of old a) u) (k - count_of old a) ≡ u = get_or-replicate (count_of (earliest net (u + 1)) a - slice_index before a - count_of old a) (k - count_of old a) u 0 within in
           read ∙ (now ∙ sym (new-start m u a (slice_index before a + k) next (omega (arith, have.all a actor)) (omega (arith, all a actor))))

@@ -75,7 +75,7 @@ module _ (net : Net) (laws : Lawful net) (fed : HasInputs net) (live : IsLive ne
       let k : ℕ = ended_at net m found.0 in
       let later : m < end_of net (earliest net (suc m)) found.0 (ended_at net m found.0) = (ended-at-is net (regular net laws) fed m found.0).going (ended_at net m found.0) (omega arith) found.1 in
       let kept = earliest-within net (suc m) (end_of net (earliest net (suc m)) a k) (earliest net (suc m)) (earliest net (end_of net (earliest net (suc m)) a k))
-          (early_at net (regular net laws) fed (suc m)) (early_at net (regular net laws) fed (end_of net (earliest net (suc m)) a k)) (omega arith) a k found.1 in
+      (early_at net (regular net laws) fed (suc m)) (early_at net (regular net laws) fed (end_of net (earliest net (suc m)) a k)) (omega arith) a k found.1 in
       let same : start_of (earliest net (end_of net (earliest net (suc m)) a k)) a k ≡ start_of (earliest net (suc m)) a k = kept.1 in
       (end_of net (earliest net (suc m)) a k, later, inr (a, k, kept.0, omega arith))
 

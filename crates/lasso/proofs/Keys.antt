@@ -63,6 +63,8 @@ module _ (keys new : List Shape) (shape : Shape) (added : Bool) (tells : added �
   -- a new shape comes last
   pub visited-now : (moments all : List ℕ) (moment : ℕ) → added ≡ true → all ≡ moments ++ moment ∷ [] → Visited moments keys shape moment None all new
   visited-now moments all moment new_one pushed =
-      let none : list_any (alike shape) keys ≡ false = new-now new_one in
-      (pushed, after ∙ ap (λ b. if b then keys else keys ++ shape ∷ []) none,
-      λ k place same. absurd (true≢false (sym (list_any_at (alike shape) keys k no_shape place (alike-holds shape (slice_index_or keys k no_shape) (sym same))) ∙ none)))
+      let none : list_any (alike shape) keys ≡ false = new-now new_one in (
+        pushed,
+        after ∙ ap (λ b. if b then keys else keys ++ shape ∷ []) none,
+        λ k place same. absurd (true≢false (sym (list_any_at (alike shape) keys k no_shape place (alike-holds shape (slice_index_or keys k no_shape) (sym same))) ∙ none)),
+      )

@@ -89,5 +89,5 @@ module _ (net : Net) (laws : Lawful net) (fed : HasInputs net) where
       let mine : sum_to (count_of (earliest net (t + 1))) (length net.times) ≡ sum (map length (earliest net (t + 1))) = starts-sum (earliest net (t + 1)) (length net.times) (early_at net (regular net laws) fed (t + 1)).admissible.actors in
       let other : sum_to (count_of (earliest net (u + 1))) (length net.times) ≡ sum (map length (earliest net (u + 1))) = starts-sum (earliest net (u + 1)) (length net.times) (early_at net (regular net laws) fed (u + 1)).admissible.actors in
       let rise : sum_to (count_of (earliest net (t + 1))) (length net.times) ≤ sum_to (count_of (earliest net (u + 1))) (length net.times) =
-          sum_to-le (count_of (earliest net (t + 1))) (count_of (earliest net (u + 1))) (length net.times) (λ a actor. count-rises net (regular net laws) fed (t + 1) (u + 1) (omega arith) a) in
+      sum_to-le (count_of (earliest net (t + 1))) (count_of (earliest net (u + 1))) (length net.times) (λ a actor. count-rises net (regular net laws) fed (t + 1) (u + 1) (omega arith) a) in
       omega arith

@@ -53,22 +53,24 @@ module _ (net : Net) (laws : Lawful net) (fed : HasInputs net) where
       let entry : ℕ = slice_index moments k in
       let here : IsEvent net (slice_index moments k) = visits.events k place in
       let less : slice_index moments k < t = ⊎_elim
-          (λ (h : slice_index moments k < t). h)
-          (λ (past : t ≤ slice_index moments k). absurd (
-          let rank_here : rank net (slice_index moments k) ≡ k + 1 = visits.numbers k place in
-          ⊎_elim
-          (λ (later : t < slice_index moments k). omega (arith, rank-grows net laws fed t (slice_index moments k) later here))
-          (λ (back : slice_index moments k ≤ t). let e : rank net (slice_index moments k) ≡ rank net t = ap (rank net) (omega arith) in omega arith)
-          (cases_lt t (slice_index moments k))))
-          (cases_lt (slice_index moments k) t) in
-      let end : slice_index moments k + (t - slice_index moments k) ≡ t = omega arith in
-      (less, record {
-        enters = here;
-        repeats = rw end event;
-        passes = omega arith;
-        same = rw end same;
-        first = λ x y one other before soon. visits.differ x y one other before (omega (arith, rank-grows net laws fed y t (omega arith) event));
-      })
+      (λ (h : slice_index moments k < t). h)
+      (λ (past : t ≤ slice_index moments k). absurd (
+      let rank_here : rank net (slice_index moments k) ≡ k + 1 = visits.numbers k place in
+      ⊎_elim
+      (λ (later : t < slice_index moments k). omega (arith, rank-grows net laws fed t (slice_index moments k) later here))
+      (λ (back : slice_index moments k ≤ t). let e : rank net (slice_index moments k) ≡ rank net t = ap (rank net) (omega arith) in omega arith)
+      (cases_lt t (slice_index moments k))))
+      (cases_lt (slice_index moments k) t) in
+      let end : slice_index moments k + (t - slice_index moments k) ≡ t = omega arith in (
+        less,
+        record {
+          enters = here;
+          repeats = rw end event;
+          passes = omega arith;
+          same = rw end same;
+          first = λ x y one other before soon. visits.differ x y one other before (omega (arith, rank-grows net laws fed y t (omega arith) event));
+        },
+      )
 
   -- the shape of the next event is a new one
   pub visits-push : (moments : List ℕ) (shapes : List Shape) (t : ℕ) (shape : Shape) → AreVisits net moments shapes → IsEvent net t → rank net t ≡ length moments + 1 → form shape ≡ shape_at net t →
@@ -107,7 +109,7 @@ module _ (net : Net) (laws : Lawful net) (fed : HasInputs net) where
       let event : IsEvent net t × (rank net t ≡ length moments + 1) = next-visit (length moments) stage now t stands next in
       let there : k < length moments = omega (arith, visits.long) in
       let closes : (slice_index moments k < t) × IsLoop net (slice_index moments k) (t - slice_index moments k) =
-          loop-closes moments shapes t k visits there event.0 event.1 (sym (visits.stand k there) ∙ (same ∙ here)) in
+      loop-closes moments shapes t k visits there event.0 event.1 (sym (visits.stand k there) ∙ (same ∙ here)) in
       let closed : (entry < t) × IsLoop net entry (t - entry) = subst (λ (x : ℕ). (x < t) × IsLoop net x (t - x)) at closes in
       record { later = closed.0; loop = closed.1; number = omega (arith, event.1); few = few }
 

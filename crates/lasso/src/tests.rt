@@ -142,9 +142,17 @@ fn a_loop_is_entered_late(rt: HostRuntime) -> Result<(), Fail> {
 
 #[test]
 fn a_million_rounds_at_once(rt: HostRuntime) -> Result<(), Fail> {
-    let net = table_net(rt.alloc(), &[1], &[channel(0, 1, 1, 0, 1_000_000); 10], false)?;
+    let net = table_net(
+        rt.alloc(),
+        &[1],
+        &[channel(0, 1, 1, 0, 1_000_000); 10],
+        false,
+    )?;
     let table = run(&rt, rt.alloc(), &net, 20_000)??;
-    assert_eq!(rt; (table.entry, table.period, table.rounds), (0, 1, 1_000_000));
+    assert_eq!(rt;
+        (table.entry, table.period, table.rounds),
+        (0, 1, 1_000_000)
+    );
     Ok(())
 }
 

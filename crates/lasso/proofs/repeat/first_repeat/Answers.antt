@@ -34,8 +34,8 @@ events-preserved g c =
     let goes = rw c.events.invariant.most at (rw c.events.invariant.net at (rw c.if-not-branch.false at c.in_ok-go_on.ensures.goes)) in
     let here : form c.in_ok-shape.field-0 ≡ shape_at (g.F.Firing.net c.args.net.now) c.go_on.new.engine.moment = rw c.events.invariant.net at (rw c.go_on.ensures.net at c.in_ok-shape.ensures) in
     let more = visits-more (g.F.Firing.net c.args.net.now) (g.met.F.Firing.lawful c.args.net.now) c.requires.inputs c.events.visits.moments.items c.visit.new.self.moments.items c.events.visits.shapes.keys c.visit.new.self.shapes.keys
-        c.events.engine.moment c.go_on.new.engine.moment c.events.engine.stage c.in_ok-shape.field-0 c.events.invariant.visits (rw c.events.invariant.count c.events.invariant.stands) goes.1 goes.2 here
-        (rw c.moment-end.ensures at (rw c.in_default.is at c.in_ok-entry.ensures)) in
+    c.events.engine.moment c.go_on.new.engine.moment c.events.engine.stage c.in_ok-shape.field-0 c.events.invariant.visits (rw c.events.invariant.count c.events.invariant.stands) goes.1 goes.2 here
+    (rw c.moment-end.ensures at (rw c.in_default.is at c.in_ok-entry.ensures)) in
     record {
       net = rw c.go_on.ensures.net c.events.invariant.net;
       most = c.go_on.ensures.most ∙ c.events.invariant.most;

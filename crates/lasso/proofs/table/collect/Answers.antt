@@ -16,7 +16,7 @@ pub add_starts-requires-clause-fewer : goal.add_starts-requires-clause-fewer
 add_starts-requires-clause-fewer g c =
     let ahead : c.events.engine.moment < c.args.end = omega (arith, c.events-test.true, c.moment.ensures) in
     let within = running-within (g.F.Firing.net c.args.engine.now.net.now) (g.met.F.Firing.lawful c.args.engine.now.net.now) c.requires.inputs c.events.engine.moment c.next_event.new.engine.moment c.args.end c.events.engine.stage
-        c.events.invariant.running (rw c.events.invariant.net at c.in_ok-next_event.ensures.next) c.requires.event ahead in
+    c.events.invariant.running (rw c.events.invariant.net at c.in_ok-next_event.ensures.next) c.requires.event ahead in
     rw c.next_event.ensures.net (rw c.events.invariant.net (starts-fewer (g.F.Firing.net c.args.engine.now.net.now) (g.met.F.Firing.lawful c.args.engine.now.net.now) c.requires.inputs c.events.engine.moment c.next_event.new.engine.moment
     c.args.before.now c.events.starts (omega (arith, within.0)) c.events.invariant.starts))
 
@@ -25,7 +25,7 @@ events-preserved g c =
     let ahead : c.events.engine.moment < c.args.end = omega (arith, c.events-test.true, c.moment.ensures) in
     let next = rw c.events.invariant.net at c.in_ok-next_event.ensures.next in
     let within = running-within (g.F.Firing.net c.args.engine.now.net.now) (g.met.F.Firing.lawful c.args.engine.now.net.now) c.requires.inputs c.events.engine.moment c.next_event.new.engine.moment c.args.end c.events.engine.stage
-        c.events.invariant.running next c.requires.event ahead in
+    c.events.invariant.running next c.requires.event ahead in
     record {
       net = c.next_event.ensures.net ∙ c.events.invariant.net;
       most = c.next_event.ensures.most ∙ c.events.invariant.most;

@@ -19,7 +19,7 @@ pub events-preserved : goal.events-preserved
 events-preserved g c =
     let ahead : c.events.engine.moment < c.args.end = omega (arith, c.events-test.true, c.moment.ensures) in
     let within = running-within (g.F.Firing.net c.args.engine.now.net.now) (g.met.F.Firing.lawful c.args.engine.now.net.now) c.requires.inputs c.events.engine.moment c.next_event-in-events.new.engine.moment c.args.end c.events.engine.stage
-        c.events.invariant.running (rw c.events.invariant.net at c.in_ok-next_event-2.ensures.next) c.requires.event ahead in
+    c.events.invariant.running (rw c.events.invariant.net at c.in_ok-next_event-2.ensures.next) c.requires.event ahead in
     record {
       net = c.next_event-in-events.ensures.net ∙ c.events.invariant.net;
       most = c.next_event-in-events.ensures.most ∙ c.events.invariant.most;

@@ -1,5 +1,4 @@
-use Rattle.std.proofs.Common.{◌≡◌, ◌<◌, [], ◌∷◌, length, inl, inr, sym, ◌∙◌, arith}
-use Rattle.sd_base.specs.Net.{channel_at}
+use Rattle.std.proofs.Common.{◌<◌, [], ◌∷◌, length, inl, inr, sym, ◌∙◌, arith}
 use Rattle.lasso.proofs.tests.is_linked.Goals as goal
 
 pub returns-then-target-actor : goal.returns-then-target-actor
