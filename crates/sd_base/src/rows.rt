@@ -1,6 +1,10 @@
 ghost use Rattle.std.specs.Prelude.{◌≡◌, ◌==◌, ◌<◌, [], ◌∷◌, ◌++◌, length, OnErr, OnOk};
+ghost use Rattle.std.specs.Cmp.Lexicographic.{pointwise, lists_per, lists_equiv};
+ghost use Rattle.std.specs.Hash as fed;
+ghost use Rattle.std.specs.Hash.{items_Alike};
 
 use std::alloc::{AllocFailed, Global};
+use std::hash::{Hash, Hasher};
 use std::marker::Model;
 
 /// A list in a table; contracts see its elements in order.
@@ -18,6 +22,30 @@ impl<T> Model for Rows<T> {
     ghost coded = { coded_list T.code };
 
     ghost view = { λ r. r.items.items };
+}
+
+impl<T: PartialEq> PartialEq for Rows<T> {
+    ghost eq = { pointwise T.eq };
+
+    ghost laws = { lists_per T.laws };
+
+    fn eq(&self, other: &Rows<T>) -> bool {
+        self.items == other.items
+    }
+}
+
+impl<T: Eq> Eq for Rows<T> {
+    ghost laws = { lists_equiv T.Eq.laws };
+}
+
+impl<T: Hash> Hash for Rows<T> {
+    ghost hash_input = { fed.slice T.hash_input };
+
+    ghost respects_eq = { (items_Alike (record { fed = T.respects_eq })).fed };
+
+    fn hash<H: Hasher>(&self, state: &mut H) {
+        self.items.hash(state);
+    }
 }
 
 impl<T> Rows<T> {

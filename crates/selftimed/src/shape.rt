@@ -9,7 +9,7 @@ use std::alloc::Global;
 
 /// What stands at an event: by channel the tokens, by actor the phase of its next firing, and by actor the
 /// remaining times of its running firings.
-#[derive(Debug, Drop)]
+#[derive(Debug, Drop, PartialEq, Eq, Hash)]
 pub struct Shape {
     pub tokens: Rows<u128>,
     pub phases: Rows<u32>,

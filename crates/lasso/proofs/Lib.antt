@@ -1,0 +1,7 @@
+pub mod Ranks
+pub mod Going
+pub mod Visiting
+pub mod Collected
+pub mod Keys
+pub mod Endings
+pub mod Deciding

@@ -1,0 +1,15 @@
+//! The loop of self-timed execution, and with it the rate of a net.
+#![tactic(auto)]
+
+mod error;
+mod laws;
+mod repeat;
+mod run;
+mod table;
+#[cfg(test)]
+mod tests;
+mod visits;
+
+pub use error::RunError;
+pub use laws::{one_ending, starts_are_counted_to_the_first_repeat};
+pub use run::run_loop;
