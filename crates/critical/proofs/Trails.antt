@@ -14,6 +14,7 @@ use Rattle.sd_base.proofs.Counts.{early_at}
 use Rattle.sd_base.proofs.Tight.{tight, earliest-within}
 use Rattle.sd_base.proofs.Admissibles.{starts-le}
 use Rattle.critical.specs.Cycles.{IsStep, IsChain, last_of, time_along}
+use Rattle.critical.specs.Ways.{steps_of}
 
 abbrev pub start_at : Schedule → FiringNo → ℕ
 start_at s x = start_of s x.actor x.number
@@ -71,11 +72,6 @@ module _ (net : Net) (laws : Lawful net) (fed : HasInputs net) (u : ℕ) where
       let just : start_of (earliest net u) source m + time_of net source m ≡ start_at (earliest net u) x = need.just in
       extend net (earliest net u) low n i x (record { actor = source; number = m }) (trail low n (record { actor = source; number = m }) need.there (omega arith)) there (omega arith)
       (record { place = need.place; source = refl; target = need.into; last = need.last }) just
-
--- the steps of a trail forward, from its firing d further back than p
-abbrev pub steps_of : (ℕ → FiringNo) → (ℕ → ℕ) → ℕ → ℕ → List CycleStep
-steps_of at channel p zero = []
-steps_of at channel p (suc d) = record { channel = channel (p + d); to = at (p + d) } ∷ steps_of at channel p d
 
 module _ (net : Net) (s : Schedule) (low n : ℕ) (x : FiringNo) (way : Trail net s low n x) (p : ℕ) where
   pub trail-chain : (d : ℕ) → p + d ≤ n → IsChain net (way.at (p + d)) (steps_of way.at way.channel p d)
