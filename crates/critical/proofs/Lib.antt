@@ -2,9 +2,13 @@ mod Agreements
 mod Chains
 mod CriticalCycles
 mod LaterCycles
+mod Marking
+mod Passes
 mod Slopes
 mod Storage
+mod TightNeeds
 mod Spans
 mod UpperSides
+mod Walking
 mod Traces
 mod Trails

@@ -8,6 +8,7 @@ use Rattle.critical.specs.declared.walk.Met.{Met}
 use Rattle.sd_base.specs.Net.{Net, channel_at}
 use Rattle.sd_base.specs.Schedules.{time_of, LastNeed, HasInputs, count_of, start_of, end_of}
 use Rattle.sd_base.specs.SelfTimed.{earliest, starts_by}
+use Rattle.sd_base.specs.Lawful.{Lawful}
 use Rattle.sd_base.specs.Rates.{IsLoopTable}
 
 -- how many entries the first n rows have
@@ -27,8 +28,9 @@ pub record IsShort (table : LoopTable) : Type 0 where
   pub few : (a : ℕ) → a < length table.starts → slice_index table.before a + count_of table.starts a ≤ 4000000
   pub all : offset_of table.starts (length table.starts) ≤ 4000000
 
--- the table is that of the loop of a net whose actors have inputs, and has few firings
+-- the table is that of the loop of a lawful net whose actors have inputs, and has few firings
 pub record IsShortLoop (net : Net) (table : LoopTable) : Type 0 where
+  pub laws : Lawful net
   pub inputs : HasInputs net
   pub loop : IsLoopTable net table.entry table.period table.rounds table.before table.starts
   pub short : IsShort table

@@ -23,6 +23,14 @@ pub(crate) fn offsets(alloc: Global, table: &LoopTable) -> Result<Vec<usize>, No
     Ok(offsets)
 }
 
+/// How many firings a pass has.
+pub(crate) fn places_of(table: &LoopTable, offsets: &[usize]) -> usize
+    requires { AreOffsets table.now.starts offsets.now }
+    ensures { result ≡ offset_of table.now.starts (length table.now.starts) }
+{
+    offsets[table.starts.len()]
+}
+
 /// So many places without a mark.
 pub(crate) fn no_marks(alloc: Global, count: usize) -> Result<Vec<Option<usize>>, NoMemory>
     ensures { IfOk result (λ v. v.items ≡ replicate count None) }

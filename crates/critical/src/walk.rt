@@ -5,7 +5,7 @@ ghost use Rattle.firing.specs.Wiring.{AreListed};
 ghost use Rattle.critical.specs.Ways.{IsShort, IsShortLoop, IsSecond, Leads, ComesAgain};
 
 use crate::cycle::{FiringNo, time_at};
-use crate::marks::{class_of, mark, no_marks, offsets};
+use crate::marks::{class_of, mark, no_marks, offsets, places_of};
 use crate::pass::{pass_of, second_of};
 use crate::tight::tight_need;
 use firing::{Firing, LoopTable, Wiring};
@@ -42,10 +42,11 @@ pub(crate) fn walk_back<F: Firing>(
 {
     let wiring = Wiring::new(alloc, net)?;
     let offsets = offsets(alloc, table)?;
-    let mut marks = no_marks(alloc, offsets[offsets.len() - 1])?;
+    let places = places_of(table, offsets.as_slice());
+    let mut marks = no_marks(alloc, places)?;
     let mut met = Vec::new(alloc);
     let mut here = first_met(table);
-    for place in 0..marks.len() + 1 {
+    for place in 0..places + 1 {
         let before = mark(&mut marks, class_of(table, offsets.as_slice(), here.firing), place);
         met.push(here)?;
         if let Some(from) = before {
