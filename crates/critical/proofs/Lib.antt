@@ -6,8 +6,10 @@ mod Marking
 mod Passes
 mod Slopes
 mod Storage
+mod TightCycles
 mod TightNeeds
 mod Spans
+mod Turning
 mod UpperSides
 mod Walking
 mod Traces
