@@ -1,9 +1,12 @@
 mod Agreements
 mod Chains
+mod Closed
 mod CriticalCycles
 mod LaterCycles
+mod Lowering
 mod Marking
 mod Passes
+mod Shortness
 mod Slopes
 mod Storage
 mod TightCycles

@@ -1,9 +1,8 @@
 -- Needs that end just when the next firing starts, followed backwards in an earliest schedule.
-use Rattle.std.proofs.Common.{◌≡◌, ℕ, zero, suc, ◌+◌, ◌-◌, ◌*◌, ◌/◌, ◌%◌, ◌≤◌, ◌<◌, ⊎_elim, List, [], ◌∷◌, length, subst, sym, refl, ap, ◌∙◌, arith, mul-le-mul_right, mod-lt, div-add-mod'}
+use Rattle.std.proofs.Common.{◌≡◌, ℕ, zero, suc, ◌+◌, ◌-◌, ◌*◌, ◌/◌, ◌%◌, ◌≤◌, ◌<◌, ⊎_elim, length, subst, sym, refl, ap, ◌∙◌, arith, mul-le-mul_right, mod-lt, div-add-mod'}
 use Rattle.std.proofs.lemmas.Bool.{cases_lt}
 use Rattle.std.specs.Prelude.{slice_index}
 use Rattle.critical.specs.declared.cycle.FiringNo.{FiringNo}
-use Rattle.critical.specs.declared.cycle.CycleStep.{CycleStep}
 use Rattle.sd_base.specs.Net.{Net, channel_at}
 use Rattle.sd_base.specs.Schedules.{time_of, Schedule, count_of, start_of, HasInputs}
 use Rattle.sd_base.specs.SelfTimed.{earliest}

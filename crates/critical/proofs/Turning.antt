@@ -1,5 +1,5 @@
 -- A way back to a firing that came again, turned round, is a need cycle with the loop's rounds per time.
-use Rattle.std.proofs.Common.{◌≡◌, ℕ, zero, suc, ◌+◌, ◌-◌, ◌*◌, ◌/◌, ◌%◌, ◌≤◌, ◌<◌, List, [], ◌∷◌, length, sum, ⊎_elim, subst, sym, refl, ap, ◌∙◌, arith, mod-lt, div-add-mod', mul-le-mul, mul-le-mul_left, mul-le-mul_right}
+use Rattle.std.proofs.Common.{◌≡◌, ℕ, zero, suc, ◌+◌, ◌-◌, ◌*◌, ◌/◌, ◌%◌, ◌≤◌, ◌<◌, List, length, sum, ⊎_elim, subst, sym, refl, ap, ◌∙◌, arith, div-add-mod', mul-le-mul, mul-le-mul_right}
 use Rattle.std.specs.Prelude.{slice_index, slice_index_or}
 use Rattle.std.proofs.lemmas.Bool.{cases_lt}
 use Rattle.std.proofs.lemmas.List.{get_or_past}
@@ -16,7 +16,7 @@ use Rattle.sd_base.proofs.Rounds.{time-shift}
 use Rattle.critical.specs.Cycles.{IsStep, IsChain, last_of, time_along, HoldsOn}
 use Rattle.critical.specs.Spaces.{no_step}
 use Rattle.critical.specs.Loops.{pass_of, firing_at}
-use Rattle.critical.specs.Ways.{IsShortLoop, IsSecond, Leads, IsWay, met_at, ComesAgain, second_of, listed_at, raised_number, lowered_firing, IsLeastRounds, steps_of}
+use Rattle.critical.specs.Ways.{IsShortLoop, IsSecond, Leads, IsWay, second_of, listed_at, raised_number, lowered_firing, steps_of}
 use Rattle.critical.proofs.Agreements.{pair-second}
 use Rattle.critical.proofs.Passes.{actors-same, listed-many, some-pass, whole-passes, time-passes}
 use Rattle.critical.proofs.LaterCycles.{rounds-whole, last-up, last-down}
@@ -64,7 +64,7 @@ module _ (net : Net) (table : LoopTable) (loop : IsShortLoop net table) where
         let more : (at (suc (i + d))).passes * table.period ≡ ((at (i + d)).passes + leads.passes) * table.period = ap (λ (x : ℕ). x * table.period) leads.on in
         let just : listed_at table (at (suc (i + d))).firing + time_of net (at (suc (i + d))).firing.actor (at (suc (i + d))).firing.number ≡ listed_at table (at (i + d)).firing + leads.passes * table.period = leads.need.just in
         subst (λ (k : ℕ). ((at i).passes ≤ (at k).passes) × ((at i).time + suc d ≤ (at k).time)
-            × (listed_at table (at k).firing + (at k).time + (at i).passes * table.period ≡ listed_at table (at i).firing + (at i).time + (at k).passes * table.period)) e
+        × (listed_at table (at k).firing + (at k).time + (at i).passes * table.period ≡ listed_at table (at i).firing + (at i).time + (at k).passes * table.period)) e
         (omega (arith, so_far.0, leads.on), omega (arith, so_far.1, leads.time), omega (arith, so_far.2, leads.time))
 
     pub passes-rise : (i j : ℕ) → i ≤ j → j ≤ n → (at i).passes ≤ (at j).passes
@@ -268,3 +268,17 @@ module _ (net : Net) (table : LoopTable) (loop : IsShortLoop net table) where
             let back : n - (n - i) ≡ i = omega arith in
             let firing : firing_at closed (n - i) ≡ forward_at i = cycle-firing (n - i) (omega arith) ∙ ap forward_at back in
             (n - i, omega (arith, cycle-long), subst (λ (x : FiringNo). x.number < slice_index net.round x.actor) (sym firing) (omega (arith, enough i late within)))
+
+        pub closed-is : closed ≡ record {
+          time = (at n).time - (at from).time;
+          rounds = ((at n).passes - (at from).passes) * table.rounds;
+          first = lowered_firing net table (at n).passes rounds (at n);
+          steps = steps_of (λ i. lowered_firing net table (at n).passes rounds (at i)) (λ i. (at (i + 1)).channel) from (n - from);
+        }
+        unfolding closed turned forward_at steps_forward channel_to
+        closed-is = refl
+
+        -- it turns so many passes round
+        pub closed-turns : (d : ℕ) × (closed.rounds ≡ d * table.rounds) × (closed.time ≡ d * table.period)
+        unfolding closed
+        closed-turns = (turned, refl, cycle-time)

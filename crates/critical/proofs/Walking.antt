@@ -1,5 +1,5 @@
 -- The way back, firing by firing, with marks at the firings met.
-use Rattle.std.proofs.Common.{◌≡◌, ℕ, zero, suc, ◌+◌, ◌-◌, ◌*◌, ◌%◌, ◌≤◌, ◌<◌, ◌⊎◌, inl, inr, List, [], ◌∷◌, ◌++◌, Option, Some, None, length, replicate, ⊎_elim, subst, sym, refl, ap, ◌∙◌, arith, mod-lt, mul-le-mul_left, mul-le-mul_right}
+use Rattle.std.proofs.Common.{◌≡◌, ℕ, suc, ◌+◌, ◌-◌, ◌*◌, ◌≤◌, ◌<◌, ◌⊎◌, inl, inr, List, [], ◌∷◌, ◌++◌, Option, Some, None, length, replicate, ⊎_elim, subst, sym, ap, ◌∙◌, arith, mod-lt, mul-le-mul_left}
 use Rattle.std.specs.Prelude.{slice_index, slice_index_or, slice_set}
 use Rattle.std.proofs.lemmas.Bool.{cases_lt, cases_eq}
 use Rattle.std.proofs.lemmas.List.{get_or_append_left, get_or_default, get_or_past, get_or_push, length_push, get_or-set_same, get_or-set_other, get_or-replicate, length-replicate}
@@ -9,10 +9,9 @@ use Rattle.critical.specs.declared.tight.ReadNeed.{ReadNeed}
 use Rattle.critical.specs.declared.walk.Met.{Met}
 use Rattle.sd_base.specs.Net.{Net}
 use Rattle.sd_base.specs.Schedules.{time_of, count_of}
-use Rattle.sd_base.specs.Lawful.{Lawful}
 use Rattle.sd_base.proofs.Parts.{balanced}
 use Rattle.critical.specs.Loops.{pass_of}
-use Rattle.critical.specs.Ways.{offset_of, IsShort, IsShortLoop, IsSecond, IsTightNeed, Leads, IsWay, none_met, met_at, ComesAgain, second_of, class_at}
+use Rattle.critical.specs.Ways.{offset_of, IsShortLoop, IsSecond, IsTightNeed, Leads, IsWay, none_met, met_at, ComesAgain, second_of, class_at}
 use Rattle.critical.proofs.Agreements.{Agree, agree}
 use Rattle.critical.proofs.Marking.{class-below, class-one}
 use Rattle.critical.proofs.Passes.{actors-same, listed-many}
@@ -129,7 +128,7 @@ module _ (net : Net) (table : LoopTable) (loop : IsShortLoop net table) where
     way-more leads = record {
       second = λ i le. ⊎_elim (λ (old : i ≤ n). way-along.second i old) (λ (new : n < i). let last : suc n ≡ i = omega arith in subst (λ (k : ℕ). IsSecond table (next k).firing) last leads.need.read.second) (cases_le i);
       leads = λ i less. ⊎_elim (λ (old : i < n). way-along.leads i old) (λ (late : n ≤ i). let last : n ≡ i = omega arith in
-      subst (λ (k : ℕ). Leads net table (next k) (next (suc k))) last (subst (λ (m : Met). Leads net table m (next (suc n))) (sym (same n (omega arith))) leads)) (cases_lt i n);
+          subst (λ (k : ℕ). Leads net table (next k) (next (suc k))) last (subst (λ (m : Met). Leads net table m (next (suc n))) (sym (same n (omega arith))) leads)) (cases_lt i n);
       near = λ i le. ⊎_elim (λ (old : i ≤ n). way-along.near i old) (λ (new : n < i). let last : suc n ≡ i = omega arith in subst (λ (k : ℕ). (next k).passes * table.rounds ≤ k * 8000000) last near-last) (cases_le i);
       soon = λ i le. ⊎_elim (λ (old : i ≤ n). way-along.soon i old) (λ (new : n < i). let last : suc n ≡ i = omega arith in subst (λ (k : ℕ). (next k).time ≤ k * 1000000000) last soon-last) (cases_le i);
     }

@@ -7,7 +7,7 @@ use Rattle.critical.specs.declared.tight.ReadNeed.{ReadNeed}
 use Rattle.critical.specs.declared.walk.Met.{Met}
 use Rattle.sd_base.specs.Net.{Net, channel_at}
 use Rattle.sd_base.specs.Schedules.{time_of, LastNeed, HasInputs, count_of, start_of, end_of}
-use Rattle.sd_base.specs.SelfTimed.{earliest, starts_by}
+use Rattle.sd_base.specs.SelfTimed.{earliest}
 use Rattle.sd_base.specs.Lawful.{Lawful}
 use Rattle.sd_base.specs.Rates.{IsLoopTable}
 

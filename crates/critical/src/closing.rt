@@ -87,13 +87,7 @@ fn raised<F: Firing>(net: &F, table: &LoopTable, met: Met, passes: u64) -> u64
 }
 
 /// The same firing so many rounds lower.
-fn lowered<F: Firing>(
-    net: &F,
-    table: &LoopTable,
-    met: Met,
-    passes: u64,
-    rounds: u64,
-) -> FiringNo
+fn lowered<F: Firing>(net: &F, table: &LoopTable, met: Met, passes: u64, rounds: u64) -> FiringNo
     requires table { IsShortLoop (F.net net.now) table.now }
     requires second { IsSecond table.now met.firing }
     requires before { met.passes ≤ passes }

@@ -47,7 +47,11 @@ pub(crate) fn walk_back<F: Firing>(
     let mut met = Vec::new(alloc);
     let mut here = first_met(table);
     for place in 0..places + 1 {
-        let before = mark(&mut marks, class_of(table, offsets.as_slice(), here.firing), place);
+        let before = mark(
+            &mut marks,
+            class_of(table, offsets.as_slice(), here.firing),
+            place,
+        );
         met.push(here)?;
         if let Some(from) = before {
             return Ok(Way { met, from });

@@ -1,4 +1,4 @@
-use Rattle.std.proofs.Common.{ℕ, ◌<◌, below_more, arith}
+use Rattle.std.proofs.Common.{ℕ, below_more, arith}
 use Rattle.std.specs.Prelude.{slice_index}
 use Rattle.critical.specs.Ways.{IsSlackOn}
 use Rattle.critical.proofs.TightNeeds.{not-all-slack}

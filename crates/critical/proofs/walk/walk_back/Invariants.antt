@@ -7,5 +7,5 @@ abbrev pub invariant-loop-place : goal.invariant-loop-place
 invariant-loop-place g l = record {
   long : length l.met.items ≡ l.place;
   way : IsWay (g.F.Firing.net l.net) l.table (met_then l.met.items l.here) l.place;
-  marks : AreMarks l.table (met_then l.met.items l.here) l.place l.marks.items
+  marks : AreMarks l.table (met_then l.met.items l.here) l.place l.marks.items;
 }
