@@ -100,6 +100,7 @@ module _ (net : Net) (table : LoopTable) (loop : IsShortLoop net table) where
         within = within;
         at_step = place;
         at_need = back;
+        last = down;
         there = there;
         just = omega arith;
       }

@@ -10,14 +10,15 @@ use Rattle.sd_base.specs.Schedules.{time_of, LastNeed, IsNeed, count_of, start_o
 use Rattle.sd_base.specs.Lawful.{Lawful}
 use Rattle.sd_base.proofs.Sums.{total-le, one-last-need}
 use Rattle.sd_base.proofs.Parts.{regular}
+use Rattle.sd_base.proofs.Counts.{ended_at}
 use Rattle.sd_base.proofs.Wordings.{need-is_last}
 use Rattle.sd_base.proofs.Tight.{TightNeed, tight}
 use Rattle.firing.specs.declared.sums.Port.TheVariants.{Taken}
 use Rattle.firing.specs.Wiring.{IsListed}
 use Rattle.firing.proofs.Listings.{member-place}
 use Rattle.critical.specs.Loops.{pass_of}
-use Rattle.critical.specs.Ways.{IsShortLoop, IsSecond, IsReadFrom, IsTightNeed, IsSlackOn, second_of, listed_at}
-use Rattle.critical.proofs.Passes.{up_to, early, pass-on, agree-at, counts-at, starts-after, time-passes, listed-many, actors-same, Second, second-is, second-from}
+use Rattle.critical.specs.Ways.{IsShortLoop, IsSecond, EndsJust, IsReadFrom, IsTightNeed, IsSlackOn, IsSlackBefore, second_of, listed_at}
+use Rattle.critical.proofs.Passes.{up_to, early, runs-past, runs-on, pass-on, agree-at, counts-at, starts-after, time-passes, listed-many, actors-same, Second, second-is, second-from}
 
 -- the last needed firing is the one before the need
 pub need-last : (c : Channel) (j n : ℕ) → (n ≡ 0 → ⊥) → IsNeed c j n → LastNeed c j (n - 1)
@@ -92,6 +93,26 @@ module _ (net : Net) (laws : Lawful net) (table : LoopTable) (loop : IsShortLoop
       let time : time_of net b need.firing.number ≡ time_of net b m = rw place_of at (time-passes net laws table loop need.passes b m z.actor) in
       omega (arith, z.start, read.start)
 
+  -- and back
+  pub read-just : (i m : ℕ) (need : ReadNeed) → i < length net.channels → (channel_at net i).target ≡ later.actor → LastNeed (channel_at net i) later.number m → IsReadFrom net table i m need →
+      listed_at table need.firing + time_of net need.firing.actor need.firing.number ≡ listed_at table later + need.passes * table.period → EndsJust net table later i m
+  read-just i m need place into last from just =
+      let b : ℕ = need.firing.actor in
+      let there : m < count_of (up_to net table 2) b = rw from.source at (need-there i m place into last) in
+      let z = second-is net laws table loop need.firing from.second in
+      let late : table.entry + 1 * table.period < start_of (up_to net table 2) later.actor later.number = starts-after net laws table loop 1 (table.entry + 2 * table.period + 1) later.actor later.number read.from read.below in
+      let many : count_of table.starts b ≡ pass_of net table.rounds b = listed-many net laws table loop b z.actor in
+      let place_of : m + need.passes * pass_of net table.rounds b ≡ need.firing.number = ap (λ (x : ℕ). m + need.passes * x) (sym many) ∙ from.read in
+      let past : ended_at net table.entry b + need.passes * pass_of net table.rounds b ≤ need.firing.number = runs-past net laws table loop need.passes 2 b need.firing.number z.below (omega (arith, z.start, read.start)) in
+      let runs : table.entry < end_of net (up_to net table 2) b m = runs-on net laws table loop 2 b m there (omega arith) in
+      let on : start_of (up_to net table (need.passes + 2)) b (m + need.passes * pass_of net table.rounds b) ≡ start_of (up_to net table 2) b m + need.passes * table.period = pass-on net laws table loop need.passes 2 b m there runs in
+      let far : need.firing.number < count_of (up_to net table (need.passes + 2)) b = omega (arith, z.below, counts-at net laws table loop (need.passes + 2) b, counts-at net laws table loop 2 b) in
+      let same : start_of (up_to net table (need.passes + 2)) b need.firing.number ≡ start_of (up_to net table 2) b need.firing.number = agree-at net laws table loop (need.passes + 2) 2 b need.firing.number far z.below in
+      let here : start_of (up_to net table (need.passes + 2)) b need.firing.number ≡ start_of (up_to net table 2) b m + need.passes * table.period = rw place_of at on in
+      let time : time_of net b need.firing.number ≡ time_of net b m = rw place_of at (time-passes net laws table loop need.passes b m z.actor) in
+      let ends : end_of net (up_to net table 2) b m ≡ start_of (up_to net table 2) later.actor later.number = omega (arith, z.start, read.start) in
+      subst (λ (x : ℕ). end_of net (up_to net table 2) x m ≡ start_of (up_to net table 2) later.actor later.number) (sym from.source) ends
+
   -- a channel on which nothing is needed is slack
   pub slack-none : (i : ℕ) → IsNeed (channel_at net i) later.number 0 → IsSlackOn net table later i
   slack-none i need = λ m last just. absurd (
@@ -127,5 +148,20 @@ module _ (net : Net) (laws : Lawful net) (table : LoopTable) (loop : IsShortLoop
     number = m;
     read = subst (λ (x : ℕ). IsReadFrom net table x m need) (sym from.channel) from;
     last = subst (λ (x : ℕ). LastNeed (channel_at net x) later.number m) (sym from.channel) last;
+    ends = subst (λ (x : ℕ). EndsJust net table later x m) (sym from.channel) (read-just i m need place into last from just);
     just = just;
   }
+
+  -- what stands before the first tight channel in their list is slack
+  pub slack-before : (inputs : List ℕ) (n : ℕ) → IsListed net Taken later.actor inputs → n < length inputs → ((j : ℕ) → j < n → IsSlackOn net table later (slice_index inputs j)) →
+      IsSlackBefore net table later (slice_index inputs n)
+  slack-before inputs n listed place all i less into =
+      let found = member-place inputs i (listed.all i (omega (arith, less, listed.place n place)) into) in
+      let is : slice_index inputs found.0 ≡ i = found.2 in
+      let soon : found.0 < n = ⊎_elim (λ (h : found.0 < n). h)
+      (λ (late : n ≤ found.0). absurd (⊎_elim
+      (λ (past : n < found.0). let more : slice_index inputs n < slice_index inputs found.0 = listed.rising n found.0 past found.1 in omega arith)
+      (λ (le : found.0 ≤ n). let same : slice_index inputs found.0 ≡ slice_index inputs n = ap (slice_index inputs) (omega arith) in omega arith)
+      (cases_lt n found.0)))
+      (cases_lt found.0 n) in
+      subst (IsSlackOn net table later) is (all found.0 soon)

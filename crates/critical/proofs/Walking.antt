@@ -11,7 +11,7 @@ use Rattle.sd_base.specs.Net.{Net}
 use Rattle.sd_base.specs.Schedules.{time_of, count_of}
 use Rattle.sd_base.proofs.Parts.{balanced}
 use Rattle.critical.specs.Loops.{pass_of}
-use Rattle.critical.specs.Ways.{offset_of, IsShortLoop, IsSecond, IsTightNeed, Leads, IsWay, none_met, met_at, ComesAgain, second_of, class_at}
+use Rattle.critical.specs.Ways.{offset_of, IsShortLoop, IsSecond, IsTightNeed, Leads, IsWay, none_met, met_at, ComesAgain, first_firing, second_of, class_at}
 use Rattle.critical.proofs.Agreements.{Agree, agree}
 use Rattle.critical.proofs.Marking.{class-below, class-one}
 use Rattle.critical.proofs.Passes.{actors-same, listed-many}
@@ -155,9 +155,10 @@ module _ (net : Net) (table : LoopTable) (loop : IsShortLoop net table) where
       omega arith
 
   -- a firing with a mark comes again
-  pub comes-again : (met new : List Met) (here : Met) (n from : ℕ) (marks : List (Option ℕ)) → length met ≡ n → n ≤ 4000000 → IsWay net table (met_then met here) n → AreMarks table (met_then met here) n marks →
+  pub comes-again : (met new : List Met) (here : Met) (n from : ℕ) (marks : List (Option ℕ)) → length met ≡ n → n ≤ 4000000 → (met_then met here 0).firing ≡ first_firing table → IsWay net table (met_then met here) n → AreMarks table (met_then met here) n marks →
       slice_index_or marks (class_at table here.firing) None ≡ Some from → new ≡ met ++ here ∷ [] → ComesAgain net table new from
-  comes-again met new here n from marks long few way are mark pushed = subst (λ (xs : List Met). ComesAgain net table xs from) (sym pushed) (record {
+  comes-again met new here n from marks long few first way are mark pushed = subst (λ (xs : List Met). ComesAgain net table xs from) (sym pushed) (record {
+    first = ap (λ (m : Met). m.firing) (same 0 (omega arith)) ∙ first;
     later = omega (arith, many, mine.0);
     few = omega (arith, many);
     way = rw last (way-along (met_then met here) (met_at (met ++ here ∷ [])) n way same);
@@ -222,6 +223,9 @@ module _ (net : Net) (table : LoopTable) (loop : IsShortLoop net table) where
 
       longer : length new ≡ n + 1
       longer = ap length pushed ∙ omega (arith, length_push met here)
+
+      pub first-kept : (x : FiringNo) → (met_then met here 0).firing ≡ x → (met_then new next 0).firing ≡ x
+      first-kept x is = ap (λ (m : Met). m.firing) (kept 0 (omega arith)) ∙ is
 
       pub way-next : Leads net table here next → IsWay net table (met_then new next) (n + 1)
       way-next leads = way-more (met_then met here) (met_then new next) n way kept

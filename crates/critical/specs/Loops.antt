@@ -4,8 +4,8 @@ use Rattle.firing.specs.declared.table.LoopTable.{LoopTable}
 use Rattle.critical.specs.declared.cycle.FiringNo.{FiringNo}
 use Rattle.critical.specs.declared.cycle.CycleStep.{CycleStep}
 use Rattle.critical.specs.declared.cycle.NeedCycle.{NeedCycle}
-use Rattle.sd_base.specs.Net.{Net}
-use Rattle.sd_base.specs.Schedules.{count_of, start_of, end_of}
+use Rattle.sd_base.specs.Net.{Net, channel_at}
+use Rattle.sd_base.specs.Schedules.{LastNeed, count_of, start_of, end_of}
 use Rattle.sd_base.specs.SelfTimed.{earliest}
 use Rattle.critical.specs.Cycles.{HoldsOn}
 use Rattle.critical.specs.Spaces.{no_step}
@@ -14,8 +14,8 @@ use Rattle.critical.specs.Spaces.{no_step}
 abbrev pub pass_of : Net → ℕ → ℕ → ℕ
 pass_of net rounds a = rounds * slice_index net.round a
 
--- the need of a step is tight: where the step's firing lies whole passes away in the second pass, the firing that lies as many
--- passes away from the needed one ends just when it starts
+-- the need of a step is tight: the firing of the second pass that lies whole passes away from the step's firing has as its last
+-- need on the channel the firing as many passes away from the needed one, and starts just when that one ends
 pub record IsTight (net : Net) (entry period rounds : ℕ) (from : FiringNo) (step : CycleStep) : Type 0 where
   pub later : ℕ
   pub need : ℕ
@@ -25,6 +25,7 @@ pub record IsTight (net : Net) (entry period rounds : ℕ) (from : FiringNo) (st
   pub within : later < count_of (earliest net (entry + 2 * period + 1)) step.to.actor
   pub at_step : later + down * pass_of net rounds step.to.actor ≡ step.to.number + up * pass_of net rounds step.to.actor
   pub at_need : need + down * pass_of net rounds from.actor ≡ from.number + up * pass_of net rounds from.actor
+  pub last : LastNeed (channel_at net step.channel) later need
   pub there : need < count_of (earliest net (entry + 2 * period + 1)) from.actor
   pub just : end_of net (earliest net (entry + 2 * period + 1)) from.actor need ≡ start_of (earliest net (entry + 2 * period + 1)) step.to.actor later
 

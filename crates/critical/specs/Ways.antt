@@ -60,6 +60,20 @@ pub record IsReadFrom (net : Net) (table : LoopTable) (i number : ℕ) (need : R
   pub second : IsSecond table need.firing
   pub read : number + need.passes * count_of table.starts need.firing.actor ≡ need.firing.number
 
+-- firing m of the source of channel i ends just when a firing of the second pass starts
+abbrev pub EndsJust : Net → LoopTable → FiringNo → ℕ → ℕ → Type 0
+EndsJust net table later i m =
+    end_of net (earliest net (table.entry + 2 * table.period + 1)) (channel_at net i).source m
+    ≡ start_of (earliest net (table.entry + 2 * table.period + 1)) later.actor later.number
+
+-- no last need of the firing on channel i ends just when it starts
+abbrev pub IsSlackOn : Net → LoopTable → FiringNo → ℕ → Type 0
+IsSlackOn net table later i = (m : ℕ) → LastNeed (channel_at net i) later.number m → ¬ EndsJust net table later i m
+
+-- no channel into the actor of the firing that stands before channel n has a tight need of it
+abbrev pub IsSlackBefore : Net → LoopTable → FiringNo → ℕ → Type 0
+IsSlackBefore net table later n = (i : ℕ) → i < n → (channel_at net i).target ≡ later.actor → IsSlackOn net table later i
+
 -- a firing of the second pass has a tight last need on a channel, read so many passes later
 pub record IsTightNeed (net : Net) (table : LoopTable) (later : FiringNo) (need : ReadNeed) : Type 0 where
   pub place : need.channel < length net.channels
@@ -67,21 +81,16 @@ pub record IsTightNeed (net : Net) (table : LoopTable) (later : FiringNo) (need 
   pub number : ℕ
   pub read : IsReadFrom net table need.channel number need
   pub last : LastNeed (channel_at net need.channel) later.number number
+  pub ends : EndsJust net table later need.channel number
   pub just : listed_at table need.firing + time_of net need.firing.actor need.firing.number ≡ listed_at table later + need.passes * table.period
 
--- no last need of the firing on channel i ends just when it starts
-abbrev pub IsSlackOn : Net → LoopTable → FiringNo → ℕ → Type 0
-IsSlackOn net table later i =
-    (m : ℕ) → LastNeed (channel_at net i) later.number m →
-    ¬ (end_of net (earliest net (table.entry + 2 * table.period + 1)) (channel_at net i).source m
-    ≡ start_of (earliest net (table.entry + 2 * table.period + 1)) later.actor later.number)
-
--- the firing met next is a tight need of one met
+-- the firing met next is the first tight need of one met
 pub record Leads (net : Net) (table : LoopTable) (met next : Met) : Type 0 where
   pub passes : ℕ
   pub on : next.passes ≡ met.passes + passes
   pub time : next.time ≡ met.time + time_of net next.firing.actor next.firing.number
   pub need : IsTightNeed net table met.firing (record { channel = next.channel; firing = next.firing; passes = passes })
+  pub first : IsSlackBefore net table met.firing next.channel
 
 -- n needs back, with bounds on passes and times
 pub record IsWay (net : Net) (table : LoopTable) (at : ℕ → Met) (n : ℕ) : Type 0 where
@@ -97,8 +106,13 @@ none_met = record { firing = record { actor = 0; number = 0 }; passes = 0; time 
 abbrev pub met_at : List Met → ℕ → Met
 met_at met i = slice_index_or met i none_met
 
+-- the last firing of actor 0 in the second pass
+abbrev pub first_firing : LoopTable → FiringNo
+first_firing table = record { actor = 0; number = second_of table 0 + count_of table.starts 0 - 1 }
+
 -- of the firings met the last one is that at a place before, whole passes away, and all others differ
 pub record ComesAgain (net : Net) (table : LoopTable) (met : List Met) (from : ℕ) : Type 0 where
+  pub first : (met_at met 0).firing ≡ first_firing table
   pub later : from + 1 < length met
   pub few : length met ≤ 4000001
   pub way : IsWay net table (met_at met) (length met - 1)

@@ -1,10 +1,10 @@
 //! Tight needs: needs that end just when the firing that has them starts.
-ghost use Rattle.std.specs.Prelude.{◌≡◌, ◌↔◌, ◌+◌, ◌*◌, ◌<◌, ◌≤◌, IsTrue, MatchOption, length};
+ghost use Rattle.std.specs.Prelude.{◌≡◌, ◌↔◌, ◌+◌, ◌*◌, ◌<◌, ◌≤◌, IfSome, IsTrue, MatchOption, length};
 ghost use Rattle.sd_base.specs.Net.{channel_at};
 ghost use Rattle.sd_base.specs.Schedules.{count_of, time_of, LastNeed};
 ghost use Rattle.firing.specs.declared.sums.Port.TheVariants.{Taken};
 ghost use Rattle.firing.specs.Wiring.{IsListed};
-ghost use Rattle.critical.specs.Ways.{IsShort, IsShortLoop, IsSecond, IsTightNeed, IsReadFrom, IsSlackOn, listed_at};
+ghost use Rattle.critical.specs.Ways.{IsShort, IsShortLoop, IsSecond, IsTightNeed, IsReadFrom, IsSlackOn, IsSlackBefore, listed_at};
 
 use crate::cycle::{FiringNo, time_at};
 use crate::pass::{listed, pass_of, passes_on};
@@ -28,7 +28,8 @@ pub(crate) fn tight_need<F: Firing>(
     requires table { IsShortLoop (F.net net.now) table.now }
     requires second { IsSecond table.now later }
     requires listed { IsListed (F.net net.now) Taken later.actor inputs.now }
-    ensures { IsTightNeed (F.net net.now) table.now later result }
+    ensures need { IsTightNeed (F.net net.now) table.now later result }
+    ensures first { IsSlackBefore (F.net net.now) table.now later result.channel }
 {
     for channel in inputs {
         if let Some(need) = tight_on(net, table, *channel, later) {
@@ -49,7 +50,8 @@ fn tight_on<F: Firing>(
     requires second { IsSecond table.now later }
     requires place { channel < length (F.net net.now).channels }
     requires target { (channel_at (F.net net.now) channel).target ≡ later.actor }
-    ensures { MatchOption result (IsSlackOn (F.net net.now) table.now later channel) (IsTightNeed (F.net net.now) table.now later) }
+    ensures need { MatchOption result (IsSlackOn (F.net net.now) table.now later channel) (IsTightNeed (F.net net.now) table.now later) }
+    ensures channel { IfSome result (λ n. n.channel ≡ channel) }
 {
     let firings = need(net, channel, later.number);
     if firings == 0 {

@@ -2,7 +2,7 @@
 ghost use Rattle.std.specs.Prelude.{◌≡◌, ◌+◌, ◌*◌, ◌<◌, ◌≤◌, ◌^◌, IfOk, length};
 ghost use Rattle.firing.specs.declared.sums.Port.TheVariants.{Taken};
 ghost use Rattle.firing.specs.Wiring.{AreListed};
-ghost use Rattle.critical.specs.Ways.{IsShort, IsShortLoop, IsSecond, Leads, ComesAgain};
+ghost use Rattle.critical.specs.Ways.{IsShort, IsShortLoop, IsSecond, Leads, ComesAgain, first_firing};
 
 use crate::cycle::{FiringNo, time_at};
 use crate::marks::{class_of, mark, no_marks, offsets, places_of};
@@ -65,6 +65,7 @@ pub(crate) fn walk_back<F: Firing>(
 fn first_met(table: &LoopTable) -> Met
     requires short { IsShort table.now }
     requires actor { 0 < length table.now.starts }
+    ensures first { result.firing ≡ first_firing table.now }
     ensures second { IsSecond table.now result.firing }
     ensures passes { result.passes ≡ 0 }
     ensures time { result.time ≡ 0 }

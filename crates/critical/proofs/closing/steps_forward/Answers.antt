@@ -12,6 +12,9 @@ lowered-requires-clause-before g c =
     passes-rise (g.F.Firing.net c.args.net.now) c.args.table.now c.requires.table (met_at c.args.met.now) (length c.args.met.now - 1) c.requires.again.way (c.loop-i.i - 1) (length c.args.met.now - 1)
     (omega (arith, c.loop-i.auto.i)) (omega arith)
 
+pub lowered-requires-clause-enough : goal.lowered-requires-clause-enough
+lowered-requires-clause-enough g c = c.requires.least.all (c.loop-i.i - 1) (omega (arith, c.loop-i-test.true)) (omega (arith, c.loop-i.auto.i, c.loop-i-test.true))
+
 pub loop-i-preserved : goal.loop-i-preserved
 loop-i-preserved g c =
     let at = λ (i : ℕ). lowered_firing (g.F.Firing.net c.args.net.now) c.args.table.now (met_at c.args.met.now (length c.args.met.now - 1)).passes c.args.rounds (met_at c.args.met.now i) in
