@@ -5,12 +5,12 @@ mod CriticalCycles
 mod LaterCycles
 mod Lowering
 mod Marking
-mod Passes
-mod Shortness
+pub mod Passes
+pub mod Shortness
 mod Slopes
 mod Storage
-mod TightCycles
-mod TightNeeds
+pub mod TightCycles
+pub mod TightNeeds
 mod Spans
 mod Turning
 mod UpperSides

@@ -110,7 +110,8 @@ met_at met i = slice_index_or met i none_met
 abbrev pub first_firing : LoopTable → FiringNo
 first_firing table = record { actor = 0; number = second_of table 0 + count_of table.starts 0 - 1 }
 
--- of the firings met the last one is that at a place before, whole passes away, and all others differ
+-- the way from the last firing of actor 0 in the second pass back to a firing that has been met before, whole passes away; all
+-- others differ
 pub record ComesAgain (net : Net) (table : LoopTable) (met : List Met) (from : ℕ) : Type 0 where
   pub first : (met_at met 0).firing ≡ first_firing table
   pub later : from + 1 < length met
@@ -128,7 +129,7 @@ abbrev pub lowered_firing : Net → LoopTable → ℕ → ℕ → Met → Firing
 lowered_firing net table passes rounds met =
     record { actor = met.firing.actor; number = raised_number net table passes met - rounds * slice_index net.round met.firing.actor }
 
--- the most rounds by which all firings met from a place on can be lowered
+-- the least over the firings met from a place on of the rounds by which each can be lowered
 pub record IsLeastRounds (net : Net) (table : LoopTable) (met : List Met) (from passes rounds : ℕ) : Type 0 where
   pub all : (i : ℕ) → from ≤ i → i < length met →
       rounds * slice_index net.round (met_at met i).firing.actor ≤ raised_number net table passes (met_at met i)

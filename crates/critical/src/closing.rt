@@ -33,7 +33,8 @@ pub(crate) fn closed_cycle<F: Firing>(
     })
 }
 
-/// By how many rounds the firings met from a place on can be lowered, the last of them in the second pass.
+/// By how many rounds the firings met from a place on can be lowered, where the last of them lies in the
+/// second pass and the others after it.
 fn least_rounds<F: Firing>(net: &F, table: &LoopTable, met: &[Met], from: usize) -> u64
     requires table { IsShortLoop (F.net net.now) table.now }
     requires again { ComesAgain (F.net net.now) table.now met.now from }
