@@ -22,16 +22,16 @@ module _ (net : Net) (v : ℕ → ℕ) (whole : Whole net v) (i : ℕ) (place : 
       let enough : total (channel_at net i).taken ((j + 1) + v (channel_at net i).target) ≤ (channel_at net i).tokens + total (channel_at net i).made ((m + 1) + v (channel_at net i).source) = rw taken_place at (rw made_place at last.enough) in
       record { needed = needs-unshift net v whole i place j m last.needed; enough = omega (arith, taken-shift net v whole i place (j + 1), made-shift net v whole i place (m + 1)) }
 
-  last-up : (a b j m : ℕ) → (channel_at net i).source ≡ a → (channel_at net i).target ≡ b → LastNeed (channel_at net i) j m → LastNeed (channel_at net i) (j + v b) (m + v a)
+  pub last-up : (a b j m : ℕ) → (channel_at net i).source ≡ a → (channel_at net i).target ≡ b → LastNeed (channel_at net i) j m → LastNeed (channel_at net i) (j + v b) (m + v a)
   last-up a b j m from to last =
       subst (λ (y : ℕ). LastNeed (channel_at net i) (j + v y) (m + v a)) to (subst (λ (x : ℕ). LastNeed (channel_at net i) (j + v (channel_at net i).target) (m + v x)) from (last-shift net v whole i place j m last))
 
-  last-down : (a b j m : ℕ) → (channel_at net i).source ≡ a → (channel_at net i).target ≡ b → LastNeed (channel_at net i) (j + v b) (m + v a) → LastNeed (channel_at net i) j m
+  pub last-down : (a b j m : ℕ) → (channel_at net i).source ≡ a → (channel_at net i).target ≡ b → LastNeed (channel_at net i) (j + v b) (m + v a) → LastNeed (channel_at net i) j m
   last-down a b j m from to last =
       last-unshift j m (subst (λ (y : ℕ). LastNeed (channel_at net i) (j + v y) (m + v (channel_at net i).source)) (sym to) (subst (λ (x : ℕ). LastNeed (channel_at net i) (j + v b) (m + v x)) (sym from) last))
 
 module _ (net : Net) (laws : Lawful net) (n : ℕ) where
-  rounds-whole : Whole net (λ (a : ℕ). n * slice_index net.round a)
+  pub rounds-whole : Whole net (λ (a : ℕ). n * slice_index net.round a)
   rounds-whole = whole-rounds net n (wired net laws) (balanced net laws)
 
   chain-up : (from : FiringNo) (steps : List CycleStep) → IsChain net from steps → IsChain net (later_firing net n from) (later_steps net n steps)

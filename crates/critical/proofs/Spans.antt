@@ -20,7 +20,7 @@ pub record Spans (s : Schedule) (a k time b n : ℕ) : Type 0 where
 
 module _ (net : Net) (s : Schedule) (good : Admissible net s) (v : ℕ → ℕ) (whole : Whole net v) where
   -- a need between firings moved by whole turns
-  moved-need : (i j m a b : ℕ) → i < length net.channels → (channel_at net i).source ≡ a → (channel_at net i).target ≡ b → Needs (channel_at net i) j m →
+  pub moved-need : (i j m a b : ℕ) → i < length net.channels → (channel_at net i).source ≡ a → (channel_at net i).target ≡ b → Needs (channel_at net i) j m →
       j + v b < count_of s b → (m + v a < count_of s a) × (end_of net s a (m + v a) ≤ start_of s b (j + v b))
   moved-need i j m a b place from to need =
       subst (λ (y : ℕ). j + v y < count_of s y → (m + v a < count_of s a) × (end_of net s a (m + v a) ≤ start_of s y (j + v y))) to (

@@ -1,9 +1,8 @@
 -- Needs that end just when the next firing starts, followed backwards in an earliest schedule.
-use Rattle.std.proofs.Common.{◌≡◌, ℕ, zero, suc, ◌+◌, ◌-◌, ◌*◌, ◌/◌, ◌%◌, ◌≤◌, ◌<◌, ⊎_elim, List, [], ◌∷◌, length, subst, sym, refl, ap, ◌∙◌, arith, mul-le-mul_right, mod-lt, div-add-mod'}
+use Rattle.std.proofs.Common.{◌≡◌, ℕ, zero, suc, ◌+◌, ◌-◌, ◌*◌, ◌/◌, ◌%◌, ◌≤◌, ◌<◌, ⊎_elim, length, subst, sym, refl, ap, ◌∙◌, arith, mul-le-mul_right, mod-lt, div-add-mod'}
 use Rattle.std.proofs.lemmas.Bool.{cases_lt}
 use Rattle.std.specs.Prelude.{slice_index}
 use Rattle.critical.specs.declared.cycle.FiringNo.{FiringNo}
-use Rattle.critical.specs.declared.cycle.CycleStep.{CycleStep}
 use Rattle.sd_base.specs.Net.{Net, channel_at}
 use Rattle.sd_base.specs.Schedules.{time_of, Schedule, count_of, start_of, HasInputs}
 use Rattle.sd_base.specs.SelfTimed.{earliest}
@@ -14,6 +13,7 @@ use Rattle.sd_base.proofs.Counts.{early_at}
 use Rattle.sd_base.proofs.Tight.{tight, earliest-within}
 use Rattle.sd_base.proofs.Admissibles.{starts-le}
 use Rattle.critical.specs.Cycles.{IsStep, IsChain, last_of, time_along}
+use Rattle.critical.specs.Ways.{steps_of}
 
 abbrev pub start_at : Schedule → FiringNo → ℕ
 start_at s x = start_of s x.actor x.number
@@ -72,21 +72,24 @@ module _ (net : Net) (laws : Lawful net) (fed : HasInputs net) (u : ℕ) where
       extend net (earliest net u) low n i x (record { actor = source; number = m }) (trail low n (record { actor = source; number = m }) need.there (omega arith)) there (omega arith)
       (record { place = need.place; source = refl; target = need.into; last = need.last }) just
 
--- the steps of a trail forward, from its firing d further back than p
-abbrev pub steps_of : (ℕ → FiringNo) → (ℕ → ℕ) → ℕ → ℕ → List CycleStep
-steps_of at channel p zero = []
-steps_of at channel p (suc d) = record { channel = channel (p + d); to = at (p + d) } ∷ steps_of at channel p d
+-- steps forward between firings each of which needs the one after it make a chain
+module _ (net : Net) (at : ℕ → FiringNo) (channel : ℕ → ℕ) (p n : ℕ) (steps : (m : ℕ) → p ≤ m → m < n → IsStep net (at (suc m)) (record { channel = channel m; to = at m })) where
+  pub chain-of : (d : ℕ) → p + d ≤ n → IsChain net (at (p + d)) (steps_of at channel p d)
+  chain-of zero within = tt
+  chain-of (suc d) within =
+      let e : suc (p + d) ≡ p + suc d = omega arith in
+      (subst (λ (k : ℕ). IsStep net (at k) (record { channel = channel (p + d); to = at (p + d) })) e (steps (p + d) (omega arith) (omega arith)), chain-of d (omega arith))
+
+pub last-of_steps : (at : ℕ → FiringNo) (channel : ℕ → ℕ) (p d : ℕ) → last_of (at (p + d)) (steps_of at channel p d) ≡ at p
+last-of_steps at channel p zero = let e : p + 0 ≡ p = omega arith in ap at e
+last-of_steps at channel p (suc d) = last-of_steps at channel p d
 
 module _ (net : Net) (s : Schedule) (low n : ℕ) (x : FiringNo) (way : Trail net s low n x) (p : ℕ) where
   pub trail-chain : (d : ℕ) → p + d ≤ n → IsChain net (way.at (p + d)) (steps_of way.at way.channel p d)
-  trail-chain zero within = tt
-  trail-chain (suc d) within =
-      let e : suc (p + d) ≡ p + suc d = omega arith in
-      (subst (λ (k : ℕ). IsStep net (way.at k) (record { channel = way.channel (p + d); to = way.at (p + d) })) e (way.steps (p + d) (omega arith)), trail-chain d (omega arith))
+  trail-chain = chain-of net way.at way.channel p n (λ m from below. way.steps m below)
 
   pub trail-last : (d : ℕ) → last_of (way.at (p + d)) (steps_of way.at way.channel p d) ≡ way.at p
-  trail-last zero = let e : p + 0 ≡ p = omega arith in ap way.at e
-  trail-last (suc d) = trail-last d
+  trail-last d = last-of_steps way.at way.channel p d
 
   pub trail-time : (d : ℕ) → p + d ≤ n → start_at s (way.at (p + d)) + time_along net (way.at (p + d)) (steps_of way.at way.channel p d) ≡ start_at s (way.at p)
   trail-time zero within = let e : p + 0 ≡ p = omega arith in rw e (omega arith)

@@ -125,7 +125,7 @@ fn tokens_after<F: Firing>(net: &F, channel: u32, firings: u128) -> u128
 }
 
 /// The time of a firing.
-fn time_at<F: Firing>(net: &F, firing: FiringNo) -> u64
+pub(crate) fn time_at<F: Firing>(net: &F, firing: FiringNo) -> u64
     requires { firing.actor < length (F.net net.now).times }
     ensures time { result ≡ time_of (F.net net.now) firing.actor firing.number }
     ensures short { result ≤ 1000000000 }

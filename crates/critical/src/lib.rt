@@ -2,8 +2,15 @@
 //! rounds later and so bound every rate of a net from above.
 #![tactic(auto)]
 
+mod closing;
 mod cycle;
+mod find;
 pub mod laws;
+mod marks;
+mod pass;
 mod spaces;
+mod tight;
+mod walk;
 
 pub use cycle::{CycleStep, FiringNo, NeedCycle};
+pub use find::cycle_of;

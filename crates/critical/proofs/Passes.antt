@@ -1,0 +1,214 @@
+-- Self-timed execution pass by pass round a loop, and the second pass as the loop's table has it.
+use Rattle.std.proofs.Common.{◌≡◌, ℕ, zero, suc, ◌+◌, ◌-◌, ◌*◌, ◌≤◌, ◌<◌, length, ⊎_elim, subst, sym, arith, mul-le-mul, mul-le-mul_left, mul-le-mul_right}
+use Rattle.std.proofs.lemmas.Bool.{cases_lt}
+use Rattle.std.specs.Prelude.{slice_index}
+use Rattle.firing.specs.declared.table.LoopTable.{LoopTable}
+use Rattle.critical.specs.declared.cycle.FiringNo.{FiringNo}
+use Rattle.sd_base.specs.Net.{Net}
+use Rattle.sd_base.specs.Schedules.{time_of, Schedule, count_of, start_of, end_of, Earliest}
+use Rattle.sd_base.specs.SelfTimed.{earliest}
+use Rattle.sd_base.specs.Lawful.{Lawful}
+use Rattle.sd_base.specs.Futures.{Repeats}
+use Rattle.sd_base.proofs.Parts.{regular, wired, balanced}
+use Rattle.sd_base.proofs.Admissibles.{is_actor}
+use Rattle.sd_base.proofs.Counts.{early_at, ended_at, ended-at-is}
+use Rattle.sd_base.proofs.Rounds.{Whole, whole-times, whole-rounds, time-shift}
+use Rattle.sd_base.proofs.Tight.{earliest-within}
+use Rattle.sd_base.proofs.Alike.{Alike, futures, since-then, since-whole, same-alike}
+use Rattle.sd_base.proofs.LoopRates.{table-repeats}
+use Rattle.critical.specs.Loops.{pass_of}
+use Rattle.critical.specs.Ways.{IsShortLoop, IsSecond, second_of, listed_at}
+
+-- the earliest schedule up to and with the end of pass q
+abbrev pub up_to : Net → LoopTable → ℕ → Schedule
+up_to net table q = earliest net (table.entry + q * table.period + 1)
+
+module _ (net : Net) (laws : Lawful net) (table : LoopTable) (loop : IsShortLoop net table) where
+  pub early : (t : ℕ) → Earliest net t (earliest net t)
+  early t = early_at net (regular net laws) loop.inputs t
+
+  again : Repeats net table.entry (table.entry + table.period) (λ a. pass_of net table.rounds a)
+  again = table-repeats net laws loop.inputs table.entry table.period table.rounds table.before table.starts loop.loop
+
+  pub whole : Whole net (λ a. pass_of net table.rounds a)
+  whole = whole-rounds net table.rounds (wired net laws) (balanced net laws)
+
+  pub whole-passes : (n : ℕ) → Whole net (λ a. n * pass_of net table.rounds a)
+  whole-passes n = whole-times net (λ a. pass_of net table.rounds a) n whole
+
+  pub some-pass : (a : ℕ) → a < length net.times → 1 ≤ pass_of net table.rounds a
+  some-pass a actor = mul-le-mul loop.loop.turns ((balanced net laws).fires a actor)
+
+  pub time-passes : (n a k : ℕ) → a < length net.times → time_of net a (k + n * pass_of net table.rounds a) ≡ time_of net a k
+  time-passes n a k actor = time-shift net (λ b. n * pass_of net table.rounds b) (whole-passes n) a k actor
+
+  next-at : (q : ℕ) → table.entry + table.period + q * table.period + 1 ≡ table.entry + suc q * table.period + 1
+  next-at q = omega arith
+
+  pub counts-at : (q a : ℕ) → count_of (up_to net table q) a ≡ count_of (earliest net (table.entry + 1)) a + q * pass_of net table.rounds a
+  counts-at zero a =
+      let e : table.entry + 0 * table.period + 1 ≡ table.entry + 1 = omega arith in
+      rw e (omega arith)
+  counts-at (suc q) a =
+      let step : count_of (up_to net table (suc q)) a ≡ count_of (up_to net table q) a + pass_of net table.rounds a = rw next-at at (again.counts (q * table.period) a) in
+      omega (arith, counts-at q a)
+
+  -- who hasn't started by the end of a pass starts after it
+  pub starts-after : (q t a k : ℕ) → count_of (up_to net table q) a ≤ k → k < count_of (earliest net t) a → table.entry + q * table.period < start_of (earliest net t) a k
+  starts-after q t a k from there = ⊎_elim
+      (λ (soon : start_of (earliest net t) a k < table.entry + q * table.period + 1). absurd (
+      let now : k < count_of (up_to net table q) a = ((early (table.entry + q * table.period + 1)).least (earliest net t) (early t).admissible a k there soon).0 in omega arith))
+      (λ (h : table.entry + q * table.period + 1 ≤ start_of (earliest net t) a k). omega arith)
+      (cases_lt (start_of (earliest net t) a k) (table.entry + q * table.period + 1))
+
+  step-on : (q a k : ℕ) → k < count_of (up_to net table q) a → table.entry < end_of net (up_to net table q) a k →
+      start_of (up_to net table (suc q)) a (k + pass_of net table.rounds a) ≡ start_of (up_to net table q) a k + table.period
+  step-on q a k there late =
+      let moved : start_of (earliest net (table.entry + table.period + q * table.period + 1)) a (k + pass_of net table.rounds a) + table.entry ≡ start_of (up_to net table q) a k + (table.entry + table.period) =
+      again.starts (q * table.period) a k there late in
+      let here : start_of (up_to net table (suc q)) a (k + pass_of net table.rounds a) + table.entry ≡ start_of (up_to net table q) a k + (table.entry + table.period) = rw next-at at moved in
+      omega arith
+
+  -- p passes further on
+  pub pass-on : (p q a k : ℕ) → k < count_of (up_to net table q) a → table.entry < end_of net (up_to net table q) a k →
+      start_of (up_to net table (p + q)) a (k + p * pass_of net table.rounds a) ≡ start_of (up_to net table q) a k + p * table.period
+  pass-on zero q a k there late =
+      let e : k + 0 * pass_of net table.rounds a ≡ k = omega arith in
+      let f : 0 + q ≡ q = omega arith in
+      rw (e, f) (omega arith)
+  pass-on (suc p) q a k there late =
+      let e : k + suc p * pass_of net table.rounds a ≡ (k + p * pass_of net table.rounds a) + pass_of net table.rounds a = omega arith in
+      let f : suc p + q ≡ suc (p + q) = omega arith in
+      let before : start_of (up_to net table (p + q)) a (k + p * pass_of net table.rounds a) ≡ start_of (up_to net table q) a k + p * table.period = pass-on p q a k there late in
+      let actor : a < length net.times = is_actor net (up_to net table q) a k (early (table.entry + q * table.period + 1)).admissible there in
+      let far : k + p * pass_of net table.rounds a < count_of (up_to net table (p + q)) a = omega (arith, counts-at (p + q) a, counts-at q a) in
+      let same : time_of net a (k + p * pass_of net table.rounds a) ≡ time_of net a k = time-passes p a k actor in
+      rw (e, f) (omega (arith, step-on (p + q) a (k + p * pass_of net table.rounds a) far (omega arith)))
+
+  -- all schedules that have a firing agree on it
+  pub agree-at : (p q a k : ℕ) → k < count_of (up_to net table p) a → k < count_of (up_to net table q) a → start_of (up_to net table p) a k ≡ start_of (up_to net table q) a k
+  agree-at p q a k one other =
+      let t : ℕ = table.entry + (p + q) * table.period + 1 in
+      let up : p * table.period ≤ (p + q) * table.period = mul-le-mul_right table.period (omega arith) in
+      let on : q * table.period ≤ (p + q) * table.period = mul-le-mul_right table.period (omega arith) in
+      let left : start_of (earliest net t) a k ≡ start_of (up_to net table p) a k =
+      (earliest-within net (table.entry + p * table.period + 1) t (up_to net table p) (earliest net t) (early (table.entry + p * table.period + 1)) (early t) (omega arith) a k one).1 in
+      let right : start_of (earliest net t) a k ≡ start_of (up_to net table q) a k =
+      (earliest-within net (table.entry + q * table.period + 1) t (up_to net table q) (earliest net t) (early (table.entry + q * table.period + 1)) (early t) (omega arith) a k other).1 in
+      omega arith
+
+  -- so many passes have a firing
+  pub enough-passes : (a k : ℕ) → a < length net.times → k < count_of (up_to net table (k + 1)) a
+  enough-passes a k actor =
+      let le : (k + 1) * 1 ≤ (k + 1) * pass_of net table.rounds a = mul-le-mul_left (k + 1) (some-pass a actor) in
+      omega (arith, counts-at (k + 1) a)
+
+  pub grows : (a n : ℕ) → a < length net.times → n ≤ n * pass_of net table.rounds a
+  grows a n actor =
+      let le : n * 1 ≤ n * pass_of net table.rounds a = mul-le-mul_left n (some-pass a actor) in omega arith
+
+  -- ---- what has ended
+
+  loop-passes : table.entry < table.entry + table.period
+  loop-passes = omega (arith, loop.loop.loop.passes)
+
+  since : ℕ → ℕ
+  since = since-then net (regular net laws) loop.inputs table.entry (table.entry + table.period) loop-passes loop.loop.loop.same
+
+  alike-at : (d : ℕ) → Alike net (regular net laws) loop.inputs since (ended_at net table.entry) (d + table.entry) (d + (table.entry + table.period))
+  unfolding since
+  alike-at d = futures net (regular net laws) loop.inputs since (ended_at net table.entry) table.entry (table.entry + table.period)
+      (since-whole net (regular net laws) loop.inputs table.entry (table.entry + table.period) loop-passes loop.loop.loop.same)
+      (same-alike net (regular net laws) loop.inputs table.entry (table.entry + table.period) loop-passes loop.loop.loop.same) d
+
+  since-pass : (a : ℕ) → since a ≡ pass_of net table.rounds a
+  since-pass a =
+      let here : table.entry + 0 + 1 ≡ suc (0 + table.entry) = omega arith in
+      let there : table.entry + table.period + 0 + 1 ≡ suc (0 + (table.entry + table.period)) = omega arith in
+      let counts : count_of (earliest net (suc (0 + (table.entry + table.period)))) a ≡ count_of (earliest net (suc (0 + table.entry))) a + pass_of net table.rounds a = rw here at (rw there at (again.counts 0 a)) in
+      omega (arith, (alike-at 0).counts a)
+
+  ended-passes : (q a : ℕ) → ended_at net (q * table.period + table.entry) a ≡ ended_at net table.entry a + q * pass_of net table.rounds a
+  ended-passes zero a =
+      let e : 0 * table.period + table.entry ≡ table.entry = omega arith in
+      rw e (omega arith)
+  ended-passes (suc q) a =
+      let e : suc q * table.period + table.entry ≡ q * table.period + (table.entry + table.period) = omega arith in
+      let step : ended_at net (q * table.period + (table.entry + table.period)) a ≡ ended_at net (q * table.period + table.entry) a + since a = (alike-at (q * table.period)).ended a in
+      rw e (omega (arith, ended-passes q a, since-pass a))
+
+  -- a firing that runs on past the end of pass q has a number of at least q passes
+  pub runs-past : (q p a k : ℕ) → k < count_of (up_to net table p) a → table.entry + q * table.period < end_of net (up_to net table p) a k → ended_at net table.entry a + q * pass_of net table.rounds a ≤ k
+  runs-past q p a k there late = ⊎_elim
+      (λ (h : k < ended_at net table.entry a + q * pass_of net table.rounds a). absurd (
+      let early_one : k < ended_at net (q * table.period + table.entry) a = omega (arith, ended-passes q a) in
+      let is = ended-at-is net (regular net laws) loop.inputs (q * table.period + table.entry) a in
+      let e : suc (q * table.period + table.entry) ≡ table.entry + q * table.period + 1 = omega arith in
+      let done : end_of net (earliest net (suc (q * table.period + table.entry))) a k ≤ q * table.period + table.entry = is.done k early_one in
+      let within : k < count_of (earliest net (suc (q * table.period + table.entry))) a = omega (arith, is.within) in
+      let done_there : end_of net (up_to net table q) a k ≤ q * table.period + table.entry = subst (λ (t : ℕ). end_of net (earliest net t) a k ≤ q * table.period + table.entry) e done in
+      let there_too : k < count_of (up_to net table q) a = subst (λ (t : ℕ). k < count_of (earliest net t) a) e within in
+      let same : start_of (up_to net table p) a k ≡ start_of (up_to net table q) a k = agree-at p q a k there there_too in
+      omega arith))
+      (λ (h : ended_at net table.entry a + q * pass_of net table.rounds a ≤ k). h)
+      (cases_lt k (ended_at net table.entry a + q * pass_of net table.rounds a))
+
+  -- and one that has not ended by the entry runs on
+  pub runs-on : (p a k : ℕ) → k < count_of (up_to net table p) a → ended_at net table.entry a ≤ k → table.entry < end_of net (up_to net table p) a k
+  runs-on p a k there from =
+      let e : suc table.entry ≡ table.entry + 0 * table.period + 1 = omega arith in
+      let is = ended-at-is net (regular net laws) loop.inputs table.entry a in
+      ⊎_elim
+      (λ (now : k < count_of (up_to net table 0) a).
+      let here : k < count_of (earliest net (suc table.entry)) a = subst (λ (t : ℕ). k < count_of (earliest net t) a) (sym e) now in
+      let going_on : table.entry < end_of net (earliest net (suc table.entry)) a k = is.going k from here in
+      let going : table.entry < end_of net (up_to net table 0) a k = subst (λ (t : ℕ). table.entry < end_of net (earliest net t) a k) e going_on in
+      let same : start_of (up_to net table p) a k ≡ start_of (up_to net table 0) a k = agree-at p 0 a k there now in
+      omega arith)
+      (λ (later : count_of (up_to net table 0) a ≤ k).
+      let start : table.entry + 0 * table.period < start_of (up_to net table p) a k = starts-after 0 (table.entry + p * table.period + 1) a k later there in
+      omega arith)
+      (cases_lt k (count_of (up_to net table 0) a))
+
+  -- ---- the second pass
+
+  pub actors-same : length table.starts ≡ length net.times
+  actors-same = loop.loop.rows
+
+  pub listed-many : (a : ℕ) → a < length net.times → count_of table.starts a ≡ pass_of net table.rounds a
+  listed-many a actor = loop.loop.whole a actor
+
+  -- a firing of the second pass, by the earliest schedule
+  pub record Second (x : FiringNo) : Type 0 where
+    pub actor : x.actor < length net.times
+    pub from : count_of (up_to net table 1) x.actor ≤ x.number
+    pub below : x.number < count_of (up_to net table 2) x.actor
+    pub start : start_of (up_to net table 2) x.actor x.number ≡ listed_at table x + table.period
+
+  pub second-from : (a : ℕ) → a < length net.times → count_of (up_to net table 1) a ≡ second_of table a
+  second-from a actor = omega (arith, counts-at 1 a, loop.loop.earlier a actor, loop.loop.whole a actor)
+
+  pub second-is : (x : FiringNo) → IsSecond table x → Second x
+  second-is x second =
+      let a : ℕ = x.actor in
+      let k : ℕ = x.number - second_of table a in
+      let actor : a < length net.times = omega (arith, second.actor, actors-same) in
+      let many : count_of table.starts a ≡ pass_of net table.rounds a = listed-many a actor in
+      let earlier : slice_index table.before a ≡ count_of (earliest net (table.entry + 1)) a = loop.loop.earlier a actor in
+      let listed : k < count_of table.starts a = omega (arith, second.from, second.below) in
+      let first : table.entry + table.period + 1 ≡ table.entry + 1 * table.period + 1 = omega arith in
+      let moment : start_of table.starts a k ≡ start_of (up_to net table 1) a (slice_index table.before a + k) = rw first at (loop.loop.moments a k actor listed) in
+      let there : slice_index table.before a + k < count_of (up_to net table 1) a = omega (arith, counts-at 1 a) in
+      let zeroth : table.entry + 1 ≡ table.entry + 0 * table.period + 1 = omega arith in
+      let late : table.entry + 0 * table.period < start_of (up_to net table 1) a (slice_index table.before a + k) =
+      starts-after 0 (table.entry + 1 * table.period + 1) a (slice_index table.before a + k) (omega (arith, counts-at 0 a)) there in
+      let on : start_of (up_to net table 2) a ((slice_index table.before a + k) + pass_of net table.rounds a) ≡ start_of (up_to net table 1) a (slice_index table.before a + k) + table.period =
+      step-on 1 a (slice_index table.before a + k) there (omega arith) in
+      let place : (slice_index table.before a + k) + pass_of net table.rounds a ≡ x.number = omega (arith, second.from) in
+      let here : start_of (up_to net table 2) a x.number ≡ start_of (up_to net table 1) a (slice_index table.before a + k) + table.period = rw place at on in
+      record {
+        actor = actor;
+        from = omega (arith, second-from a actor, second.from);
+        below = omega (arith, counts-at 2 a, second.below);
+        start = omega arith;
+      }

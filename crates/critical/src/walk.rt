@@ -1,0 +1,100 @@
+//! The way back along tight needs, until a firing comes again whole passes before.
+ghost use Rattle.std.specs.Prelude.{◌≡◌, ◌+◌, ◌*◌, ◌<◌, ◌≤◌, ◌^◌, IfOk, length};
+ghost use Rattle.firing.specs.declared.sums.Port.TheVariants.{Taken};
+ghost use Rattle.firing.specs.Wiring.{AreListed};
+ghost use Rattle.critical.specs.Ways.{IsShort, IsShortLoop, IsSecond, Leads, ComesAgain, first_firing};
+
+use crate::cycle::{FiringNo, time_at};
+use crate::marks::{class_of, mark, no_marks, offsets, places_of};
+use crate::pass::{pass_of, second_of};
+use crate::tight::tight_need;
+use firing::{Firing, LoopTable, Wiring};
+use sd_base::NoMemory;
+use std::alloc::Global;
+
+/// A firing met on the way back, as the firing of the second pass that lies `passes` passes later.
+#[derive(Clone, Copy)]
+pub(crate) struct Met {
+    pub(crate) firing: FiringNo,
+    pub(crate) passes: u64,
+    /// The times of the firings met so far but the first, in time units.
+    pub(crate) time: u64,
+    /// The channel on which the firing met before needs this one; for the first any number.
+    pub(crate) channel: u32,
+}
+
+/// The firings met until one came again: the last one is that at the place `from`, whole passes before.
+#[derive(Drop)]
+pub(crate) struct Way {
+    pub(crate) met: Vec<Met>,
+    pub(crate) from: usize,
+}
+
+/// Walks back from the last firing of actor 0 in the second pass. Cost: linear in the starts of a pass
+/// times the channels into an actor.
+pub(crate) fn walk_back<F: Firing>(
+    alloc: Global,
+    net: &F,
+    table: &LoopTable,
+) -> Result<Way, NoMemory>
+    requires { IsShortLoop (F.net net.now) table.now }
+    ensures { IfOk result (λ w. ComesAgain (F.net net.now) table.now w.met.items w.from) }
+{
+    let wiring = Wiring::new(alloc, net)?;
+    let offsets = offsets(alloc, table)?;
+    let places = places_of(table, offsets.as_slice());
+    let mut marks = no_marks(alloc, places)?;
+    let mut met = Vec::new(alloc);
+    let mut here = first_met(table);
+    for place in 0..places + 1 {
+        let before = mark(
+            &mut marks,
+            class_of(table, offsets.as_slice(), here.firing),
+            place,
+        );
+        met.push(here)?;
+        if let Some(from) = before {
+            return Ok(Way { met, from });
+        }
+        here = next_met(net, table, &wiring, here);
+    }
+    unreachable!()
+}
+
+/// The last firing of actor 0 in the second pass.
+fn first_met(table: &LoopTable) -> Met
+    requires short { IsShort table.now }
+    requires actor { 0 < length table.now.starts }
+    ensures first { result.firing ≡ first_firing table.now }
+    ensures second { IsSecond table.now result.firing }
+    ensures passes { result.passes ≡ 0 }
+    ensures time { result.time ≡ 0 }
+{
+    Met {
+        firing: FiringNo {
+            actor: 0,
+            number: second_of(table, 0) + pass_of(table, 0) - 1,
+        },
+        passes: 0,
+        time: 0,
+        channel: 0,
+    }
+}
+
+/// The tight need of a firing met, met next.
+fn next_met<F: Firing>(net: &F, table: &LoopTable, wiring: &Wiring, here: Met) -> Met
+    requires table { IsShortLoop (F.net net.now) table.now }
+    requires second { IsSecond table.now here.firing }
+    requires wired { AreListed (F.net net.now) Taken wiring.now.inputs }
+    requires near { here.passes ≤ 2 ^ 62 }
+    requires soon { here.time ≤ 2 ^ 62 }
+    ensures { Leads (F.net net.now) table.now here result }
+{
+    let need = tight_need(net, table, wiring.inputs_of(here.firing.actor), here.firing);
+    Met {
+        firing: need.firing,
+        passes: here.passes + need.passes,
+        time: here.time + time_at(net, need.firing),
+        channel: need.channel,
+    }
+}
