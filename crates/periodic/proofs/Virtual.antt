@@ -1,5 +1,5 @@
 -- The periodic schedule of a loop holds: far enough on it is the earliest schedule, but for a constant.
-use Rattle.std.proofs.Common.{◌≡◌, ℕ, zero, suc, ◌+◌, ◌-◌, ◌*◌, ◌/◌, ◌%◌, ◌≤◌, ◌<◌, List, [], length, ⊎_elim, sym, ap, ◌∙◌, arith, mod-lt, div-add-mod', mul-le-mul_left, mul-le-mul_right}
+use Rattle.std.proofs.Common.{◌≡◌, ℕ, zero, suc, ◌+◌, ◌-◌, ◌*◌, ◌/◌, ◌%◌, ◌≤◌, ◌<◌, List, [], length, ⊎_elim, sym, ap, ◌∙◌, arith, mod-lt, div-add-mod', mul-le-mul, mul-le-mul_left, mul-le-mul_right}
 use Rattle.std.proofs.lemmas.Bool.{cases_lt}
 use Rattle.std.specs.Prelude.{slice_index, slice_index_or}
 use Rattle.sd_base.specs.Net.{Net, channel_at}
@@ -15,25 +15,27 @@ use Rattle.sd_base.proofs.Rounds.{Whole, whole-rounds, whole-times, time-shift, 
 use Rattle.sd_base.proofs.LoopRates.{table-repeats}
 use Rattle.periodic.specs.Periods.{start_at, Holds}
 use Rattle.periodic.specs.Loops.{IsLoopSchedule, LoopHolds}
-use Rattle.periodic.proofs.Recurring.{start-later, start-listed, some-turn}
+use Rattle.periodic.proofs.Recurring.{start-later, start-listed}
 use Rattle.periodic.proofs.Feeding.{AllFed}
 use Rattle.periodic.proofs.Cuts.{fed-hold}
 
-module _ (net : Net) (laws : Lawful net) (inputs : HasInputs net) (entry period rounds : ℕ) (before : List ℕ) (starts rows : List (List ℕ))
-    (table : IsLoopTable net entry period rounds before starts) (loop : IsLoopSchedule net entry period rounds rows) where
+module _ (net : Net) (laws : Lawful net) (inputs : HasInputs net) (entry period rounds : ℕ) (before : List ℕ) (starts : List (List ℕ))
+    (table : IsLoopTable net entry period rounds before starts) where
   early : (t : ℕ) → Earliest net t (earliest net t)
   early t = early_at net (regular net laws) inputs t
 
   again : Repeats net entry (entry + period) (λ a. rounds * slice_index net.round a)
   again = table-repeats net laws inputs entry period rounds before starts table
 
-  some : (a : ℕ) → a < length net.times → 0 < rounds * slice_index net.round a
-  some a actor = rw (← loop.listed.whole a actor) (some-turn net (wired net laws) (balanced net laws) rounds rows table.turns loop.listed a actor)
+  pub some : (a : ℕ) → a < length net.times → 0 < rounds * slice_index net.round a
+  some a actor =
+      let le : 1 * 1 ≤ rounds * slice_index net.round a = mul-le-mul table.turns ((balanced net laws).fires a actor) in
+      omega arith
 
   next-at : (q : ℕ) → entry + period + q * period + 1 ≡ entry + suc q * period + 1
   next-at q = omega arith
 
-  counts-at : (q a : ℕ) → count_of (earliest net (entry + q * period + 1)) a ≡ count_of (earliest net (entry + 1)) a + q * (rounds * slice_index net.round a)
+  pub counts-at : (q a : ℕ) → count_of (earliest net (entry + q * period + 1)) a ≡ count_of (earliest net (entry + 1)) a + q * (rounds * slice_index net.round a)
   counts-at zero a =
       let e : entry + 0 * period + 1 ≡ entry + 1 = omega arith in
       rw e (omega arith)
@@ -49,7 +51,7 @@ module _ (net : Net) (laws : Lawful net) (inputs : HasInputs net) (entry period 
       (λ (h : entry + 1 ≤ start_of (earliest net t) a k). omega arith)
       (cases_lt (start_of (earliest net t) a k) (entry + 1))
 
-  step-on : (q a k : ℕ) → count_of (earliest net (entry + 1)) a ≤ k → k < count_of (earliest net (entry + q * period + 1)) a →
+  pub step-on : (q a k : ℕ) → count_of (earliest net (entry + 1)) a ≤ k → k < count_of (earliest net (entry + q * period + 1)) a →
       start_of (earliest net (entry + suc q * period + 1)) a (k + rounds * slice_index net.round a) ≡ start_of (earliest net (entry + q * period + 1)) a k + period
   step-on q a k from there =
       let after : entry < start_of (earliest net (entry + q * period + 1)) a k = late (entry + q * period + 1) a k from there in
@@ -85,50 +87,6 @@ module _ (net : Net) (laws : Lawful net) (inputs : HasInputs net) (entry period 
       (earliest-within net (entry + q * period + 1) t (earliest net (entry + q * period + 1)) (earliest net t) (early (entry + q * period + 1)) (early t) (omega arith) a k other).1 in
       omega arith
 
-  row-later : (a k q : ℕ) → a < length net.times → start_at period rows a (k + q * (rounds * slice_index net.round a)) ≡ start_at period rows a k + q * period
-  row-later a k q actor =
-      let long : count_of rows a ≡ rounds * slice_index net.round a = loop.listed.whole a actor in
-      let filled : 0 < count_of rows a = rw long (some a actor) in
-      let later : start_at period rows a (k + q * count_of rows a) ≡ start_at period rows a k + q * period = start-later period (slice_index_or rows a []) k q filled in
-      let place : k + q * (rounds * slice_index net.round a) ≡ k + q * count_of rows a = ap (λ (n : ℕ). k + q * n) (sym long) in
-      ap (start_at period rows a) place ∙ later
-
-  row-listed : (a k : ℕ) → a < length net.times → k < rounds * slice_index net.round a → start_at period rows a k ≡ start_of rows a k
-  row-listed a k actor below = start-listed period (slice_index_or rows a []) k (rw (loop.listed.whole a actor) below)
-
-  -- the schedule of the loop is the earliest one from the entry on, but for the constant
-  from-entry : (q a k : ℕ) → a < length net.times → count_of (earliest net (entry + 1)) a ≤ k → k < count_of (earliest net (entry + q * period + 1)) a →
-      start_at period rows a k + loop.down ≡ start_of (earliest net (entry + q * period + 1)) a k + loop.up
-  from-entry q a k actor from there =
-      let v : ℕ = rounds * slice_index net.round a in
-      let c : ℕ = count_of (earliest net (entry + 1)) a in
-      let r : ℕ = k % v in
-      let x : ℕ = k / v in
-      let y : ℕ = (c + 2 * v - 1 - r) / v in
-      let n : ℕ = r + y * v in
-      let filled : 0 < v = some a actor in
-      let small : r < v = mod-lt k filled in
-      let split : r + x * v ≡ k = omega (arith, div-add-mod' k v) in
-      let cut : y * v + (c + 2 * v - 1 - r) % v ≡ c + 2 * v - 1 - r = div-add-mod' (c + 2 * v - 1 - r) v in
-      let rest : (c + 2 * v - 1 - r) % v < v = mod-lt (c + 2 * v - 1 - r) filled in
-      let second : entry + period + 1 ≡ entry + 1 * period + 1 = omega arith in
-      let lower : count_of (earliest net (entry + period + 1)) a ≤ n = rw second (omega (arith, counts-at 1 a)) in
-      let upper : n < count_of (earliest net (entry + 2 * period + 1)) a = omega (arith, counts-at 2 a) in
-      let read : start_of rows a r + y * period + loop.down ≡ start_of (earliest net (entry + 2 * period + 1)) a n + loop.up = loop.moved a r y actor small lower upper in
-      let at_n : start_at period rows a n ≡ start_at period rows a r + y * period = row-later a r y actor in
-      let at_r : start_at period rows a r ≡ start_of rows a r = row-listed a r actor small in
-      let meet : n + x * v ≡ k + y * v = omega arith in
-      let row_n : start_at period rows a (n + x * v) ≡ start_at period rows a n + x * period = row-later a n x actor in
-      let row_k : start_at period rows a (k + y * v) ≡ start_at period rows a k + y * period = row-later a k y actor in
-      let row_both : start_at period rows a (n + x * v) ≡ start_at period rows a (k + y * v) = ap (start_at period rows a) meet in
-      let on_n : start_of (earliest net (entry + (x + 2) * period + 1)) a (n + x * v) ≡ start_of (earliest net (entry + 2 * period + 1)) a n + x * period = pass-on x 2 a n (omega (arith, counts-at 1 a, lower)) upper in
-      let on_k : start_of (earliest net (entry + (y + q) * period + 1)) a (k + y * v) ≡ start_of (earliest net (entry + q * period + 1)) a k + y * period = pass-on y q a k from there in
-      let far_n : n + x * v < count_of (earliest net (entry + (x + 2) * period + 1)) a = omega (arith, counts-at (x + 2) a, counts-at 2 a) in
-      let far_k : k + y * v < count_of (earliest net (entry + (y + q) * period + 1)) a = omega (arith, counts-at (y + q) a, counts-at q a) in
-      let same : start_of (earliest net (entry + (x + 2) * period + 1)) a (n + x * v) ≡ start_of (earliest net (entry + (y + q) * period + 1)) a (n + x * v) = agree (x + 2) (y + q) a (n + x * v) far_n (rw meet far_k) in
-      let swap : start_of (earliest net (entry + (y + q) * period + 1)) a (n + x * v) ≡ start_of (earliest net (entry + (y + q) * period + 1)) a (k + y * v) = ap (start_of (earliest net (entry + (y + q) * period + 1)) a) meet in
-      omega arith
-
   -- so many passes have a firing
   enough : (a k : ℕ) → a < length net.times → k < count_of (earliest net (entry + (k + 1) * period + 1)) a
   enough a k actor =
@@ -139,42 +97,87 @@ module _ (net : Net) (laws : Lawful net) (inputs : HasInputs net) (entry period 
   grows a n actor =
       let le : n * 1 ≤ n * (rounds * slice_index net.round a) = mul-le-mul_left n (some a actor) in omega arith
 
-  loop-rise : (a k : ℕ) → a < length net.times → start_at period rows a k ≤ start_at period rows a (k + 1)
-  loop-rise a k actor =
-      let c : ℕ = count_of (earliest net (entry + 1)) a in
-      let v : ℕ = rounds * slice_index net.round a in
-      let j : ℕ = k + c * v in
-      let q : ℕ = j + 1 + 1 in
-      let there : j + 1 < count_of (earliest net (entry + q * period + 1)) a = enough a (j + 1) actor in
-      let far : c ≤ j = omega (arith, grows a c actor) in
-      let e : (k + 1) + c * v ≡ j + 1 = omega arith in
-      let rise : start_of (earliest net (entry + q * period + 1)) a j ≤ start_of (earliest net (entry + q * period + 1)) a (j + 1) = (early (entry + q * period + 1)).admissible.rising a j there in
-      let next : start_at period rows a (j + 1) ≡ start_at period rows a (k + 1) + c * period = rw e at (row-later a (k + 1) c actor) in
-      omega (arith, row-later a k c actor, from-entry q a j actor far (omega arith), from-entry q a (j + 1) actor (omega arith) there)
+  module _ (rows : List (List ℕ)) (loop : IsLoopSchedule net entry period rounds rows) where
+    row-later : (a k q : ℕ) → a < length net.times → start_at period rows a (k + q * (rounds * slice_index net.round a)) ≡ start_at period rows a k + q * period
+    row-later a k q actor =
+        let long : count_of rows a ≡ rounds * slice_index net.round a = loop.listed.whole a actor in
+        let filled : 0 < count_of rows a = rw long (some a actor) in
+        let later : start_at period rows a (k + q * count_of rows a) ≡ start_at period rows a k + q * period = start-later period (slice_index_or rows a []) k q filled in
+        let place : k + q * (rounds * slice_index net.round a) ≡ k + q * count_of rows a = ap (λ (n : ℕ). k + q * n) (sym long) in
+        ap (start_at period rows a) place ∙ later
 
-  loop-fed : AllFed net period rows
-  loop-fed i j m place need =
-      let source : ℕ = (channel_at net i).source in
-      let target : ℕ = (channel_at net i).target in
-      let from : source < length net.times = laws.sources i place in
-      let to : target < length net.times = laws.targets i place in
-      let c : ℕ = count_of (earliest net (entry + 1)) source + count_of (earliest net (entry + 1)) target in
-      let whole : Whole net (λ a. c * (rounds * slice_index net.round a)) = whole-times net (λ a. rounds * slice_index net.round a) c (whole-rounds net rounds (wired net laws) (balanced net laws)) in
-      let far_j : ℕ = j + c * (rounds * slice_index net.round target) in
-      let far_m : ℕ = m + c * (rounds * slice_index net.round source) in
-      let far_need : Needs (channel_at net i) far_j far_m = needs-shift net (λ a. c * (rounds * slice_index net.round a)) whole i place j m need in
-      let q : ℕ = far_j + 1 in
-      let there : far_j < count_of (earliest net (entry + q * period + 1)) target = enough target far_j to in
-      let fed = (early (entry + q * period + 1)).admissible.fed i far_j far_m place there far_need in
-      let started : far_m < count_of (earliest net (entry + q * period + 1)) source = fed.0 in
-      let ended : end_of net (earliest net (entry + q * period + 1)) source far_m ≤ start_of (earliest net (entry + q * period + 1)) target far_j = fed.1 in
-      let time : time_of net source far_m ≡ time_of net source m = time-shift net (λ a. c * (rounds * slice_index net.round a)) whole source m from in
-      let late_j : count_of (earliest net (entry + 1)) target ≤ far_j = omega (arith, grows target c to) in
-      let late_m : count_of (earliest net (entry + 1)) source ≤ far_m = omega (arith, grows source c from) in
-      omega (arith, row-later source m c from, row-later target j c to, from-entry q source far_m from late_m started, from-entry q target far_j to late_j there)
+    row-listed : (a k : ℕ) → a < length net.times → k < rounds * slice_index net.round a → start_at period rows a k ≡ start_of rows a k
+    row-listed a k actor below = start-listed period (slice_index_or rows a []) k (rw (loop.listed.whole a actor) below)
 
-  loop-holds : Holds net period rounds rows
-  loop-holds = fed-hold net laws period rounds rows table.loop.passes table.turns loop.listed loop-rise loop-fed
+    -- the schedule of the loop is the earliest one from the entry on, but for the constant
+    from-entry : (q a k : ℕ) → a < length net.times → count_of (earliest net (entry + 1)) a ≤ k → k < count_of (earliest net (entry + q * period + 1)) a →
+        start_at period rows a k + loop.down ≡ start_of (earliest net (entry + q * period + 1)) a k + loop.up
+    from-entry q a k actor from there =
+        let v : ℕ = rounds * slice_index net.round a in
+        let c : ℕ = count_of (earliest net (entry + 1)) a in
+        let r : ℕ = k % v in
+        let x : ℕ = k / v in
+        let y : ℕ = (c + 2 * v - 1 - r) / v in
+        let n : ℕ = r + y * v in
+        let filled : 0 < v = some a actor in
+        let small : r < v = mod-lt k filled in
+        let split : r + x * v ≡ k = omega (arith, div-add-mod' k v) in
+        let cut : y * v + (c + 2 * v - 1 - r) % v ≡ c + 2 * v - 1 - r = div-add-mod' (c + 2 * v - 1 - r) v in
+        let rest : (c + 2 * v - 1 - r) % v < v = mod-lt (c + 2 * v - 1 - r) filled in
+        let second : entry + period + 1 ≡ entry + 1 * period + 1 = omega arith in
+        let lower : count_of (earliest net (entry + period + 1)) a ≤ n = rw second (omega (arith, counts-at 1 a)) in
+        let upper : n < count_of (earliest net (entry + 2 * period + 1)) a = omega (arith, counts-at 2 a) in
+        let read : start_of rows a r + y * period + loop.down ≡ start_of (earliest net (entry + 2 * period + 1)) a n + loop.up = loop.moved a r y actor small lower upper in
+        let at_n : start_at period rows a n ≡ start_at period rows a r + y * period = row-later a r y actor in
+        let at_r : start_at period rows a r ≡ start_of rows a r = row-listed a r actor small in
+        let meet : n + x * v ≡ k + y * v = omega arith in
+        let row_n : start_at period rows a (n + x * v) ≡ start_at period rows a n + x * period = row-later a n x actor in
+        let row_k : start_at period rows a (k + y * v) ≡ start_at period rows a k + y * period = row-later a k y actor in
+        let row_both : start_at period rows a (n + x * v) ≡ start_at period rows a (k + y * v) = ap (start_at period rows a) meet in
+        let on_n : start_of (earliest net (entry + (x + 2) * period + 1)) a (n + x * v) ≡ start_of (earliest net (entry + 2 * period + 1)) a n + x * period = pass-on x 2 a n (omega (arith, counts-at 1 a, lower)) upper in
+        let on_k : start_of (earliest net (entry + (y + q) * period + 1)) a (k + y * v) ≡ start_of (earliest net (entry + q * period + 1)) a k + y * period = pass-on y q a k from there in
+        let far_n : n + x * v < count_of (earliest net (entry + (x + 2) * period + 1)) a = omega (arith, counts-at (x + 2) a, counts-at 2 a) in
+        let far_k : k + y * v < count_of (earliest net (entry + (y + q) * period + 1)) a = omega (arith, counts-at (y + q) a, counts-at q a) in
+        let same : start_of (earliest net (entry + (x + 2) * period + 1)) a (n + x * v) ≡ start_of (earliest net (entry + (y + q) * period + 1)) a (n + x * v) = agree (x + 2) (y + q) a (n + x * v) far_n (rw meet far_k) in
+        let swap : start_of (earliest net (entry + (y + q) * period + 1)) a (n + x * v) ≡ start_of (earliest net (entry + (y + q) * period + 1)) a (k + y * v) = ap (start_of (earliest net (entry + (y + q) * period + 1)) a) meet in
+        omega arith
+
+    loop-rise : (a k : ℕ) → a < length net.times → start_at period rows a k ≤ start_at period rows a (k + 1)
+    loop-rise a k actor =
+        let c : ℕ = count_of (earliest net (entry + 1)) a in
+        let v : ℕ = rounds * slice_index net.round a in
+        let j : ℕ = k + c * v in
+        let q : ℕ = j + 1 + 1 in
+        let there : j + 1 < count_of (earliest net (entry + q * period + 1)) a = enough a (j + 1) actor in
+        let far : c ≤ j = omega (arith, grows a c actor) in
+        let e : (k + 1) + c * v ≡ j + 1 = omega arith in
+        let rise : start_of (earliest net (entry + q * period + 1)) a j ≤ start_of (earliest net (entry + q * period + 1)) a (j + 1) = (early (entry + q * period + 1)).admissible.rising a j there in
+        let next : start_at period rows a (j + 1) ≡ start_at period rows a (k + 1) + c * period = rw e at (row-later a (k + 1) c actor) in
+        omega (arith, row-later a k c actor, from-entry q a j actor far (omega arith), from-entry q a (j + 1) actor (omega arith) there)
+
+    loop-fed : AllFed net period rows
+    loop-fed i j m place need =
+        let source : ℕ = (channel_at net i).source in
+        let target : ℕ = (channel_at net i).target in
+        let from : source < length net.times = laws.sources i place in
+        let to : target < length net.times = laws.targets i place in
+        let c : ℕ = count_of (earliest net (entry + 1)) source + count_of (earliest net (entry + 1)) target in
+        let whole : Whole net (λ a. c * (rounds * slice_index net.round a)) = whole-times net (λ a. rounds * slice_index net.round a) c (whole-rounds net rounds (wired net laws) (balanced net laws)) in
+        let far_j : ℕ = j + c * (rounds * slice_index net.round target) in
+        let far_m : ℕ = m + c * (rounds * slice_index net.round source) in
+        let far_need : Needs (channel_at net i) far_j far_m = needs-shift net (λ a. c * (rounds * slice_index net.round a)) whole i place j m need in
+        let q : ℕ = far_j + 1 in
+        let there : far_j < count_of (earliest net (entry + q * period + 1)) target = enough target far_j to in
+        let fed = (early (entry + q * period + 1)).admissible.fed i far_j far_m place there far_need in
+        let started : far_m < count_of (earliest net (entry + q * period + 1)) source = fed.0 in
+        let ended : end_of net (earliest net (entry + q * period + 1)) source far_m ≤ start_of (earliest net (entry + q * period + 1)) target far_j = fed.1 in
+        let time : time_of net source far_m ≡ time_of net source m = time-shift net (λ a. c * (rounds * slice_index net.round a)) whole source m from in
+        let late_j : count_of (earliest net (entry + 1)) target ≤ far_j = omega (arith, grows target c to) in
+        let late_m : count_of (earliest net (entry + 1)) source ≤ far_m = omega (arith, grows source c from) in
+        omega (arith, row-later source m c from, row-later target j c to, from-entry q source far_m from late_m started, from-entry q target far_j to late_j there)
+
+    loop-holds : Holds net period rounds rows
+    loop-holds = fed-hold net laws period rounds rows table.loop.passes table.turns loop.listed loop-rise loop-fed
 
 pub loop_holds : LoopHolds
-loop_holds net entry period rounds before starts rows laws inputs table loop = loop-holds net laws inputs entry period rounds before starts rows table loop
+loop_holds net entry period rounds before starts rows laws inputs table loop = loop-holds net laws inputs entry period rounds before starts table rows loop

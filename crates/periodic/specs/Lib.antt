@@ -1,3 +1,4 @@
 pub mod Periods
 pub mod Turns
 pub mod Loops
+pub mod Passes

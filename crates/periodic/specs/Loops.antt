@@ -1,10 +1,12 @@
 -- The periodic schedule of a loop of self-timed execution.
-use Rattle.std.specs.Prelude.{◌≡◌, ℕ, ◌+◌, ◌*◌, ◌≤◌, ◌<◌, List, length, slice_index}
+use Rattle.std.specs.Prelude.{◌≡◌, ℕ, ◌+◌, ◌*◌, ◌^◌, ◌≤◌, ◌<◌, List, length, slice_index}
 use Rattle.sd_base.specs.Net.{Net}
 use Rattle.sd_base.specs.Schedules.{count_of, start_of, HasInputs}
 use Rattle.sd_base.specs.SelfTimed.{earliest}
 use Rattle.sd_base.specs.Lawful.{Lawful}
 use Rattle.sd_base.specs.Rates.{IsLoopTable}
+use Rattle.firing.specs.declared.table.LoopTable.{LoopTable}
+use Rattle.periodic.specs.declared.schedule.Periodic.{Periodic}
 use Rattle.periodic.specs.Periods.{HasRounds, Holds}
 
 -- firing k of an actor, some turns on, is a firing of the second pass round the loop; read there and moved back by as many
@@ -24,3 +26,17 @@ abbrev pub LoopHolds : Type 0
 LoopHolds =
     (net : Net) (entry period rounds : ℕ) (before : List ℕ) (starts rows : List (List ℕ)) → Lawful net → HasInputs net →
     IsLoopTable net entry period rounds before starts → IsLoopSchedule net entry period rounds rows → Holds net period rounds rows
+
+-- the schedule is that of the loop of a table, and it holds on the net
+pub record IsScheduleOf (net : Net) (table : LoopTable) (schedule : Periodic) : Type 0 where
+  pub period : schedule.period ≡ table.period
+  pub rounds : schedule.rounds ≡ table.rounds
+  pub loop : IsLoopSchedule net table.entry table.period table.rounds schedule.starts
+  pub holds : Holds net schedule.period schedule.rounds schedule.starts
+  pub small : (a k : ℕ) → start_of schedule.starts a k ≤ 2 ^ 100
+
+-- a loop has one schedule
+abbrev pub OneLoopSchedule : Type 0
+OneLoopSchedule =
+    (net : Net) (entry period rounds : ℕ) (before : List ℕ) (starts rows others : List (List ℕ)) → Lawful net → HasInputs net →
+    IsLoopTable net entry period rounds before starts → IsLoopSchedule net entry period rounds rows → IsLoopSchedule net entry period rounds others → rows ≡ others

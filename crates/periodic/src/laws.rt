@@ -1,4 +1,4 @@
-ghost use Rattle.periodic.specs.Loops.{LoopHolds};
+ghost use Rattle.periodic.specs.Loops.{LoopHolds, OneLoopSchedule};
 ghost use Rattle.periodic.specs.Periods.{RoundsBelow};
 
 /// A periodic schedule that holds on a net whose actors all have an input shows that self-timed execution
@@ -11,4 +11,9 @@ pub fn schedules_bound_the_rate()
 /// firing 0, holds on the net. It does nothing.
 pub fn loop_schedules_hold()
     ensures { LoopHolds }
+{}
+
+/// The schedules of one loop list the same starts. It does nothing.
+pub fn loops_have_one_schedule()
+    ensures { OneLoopSchedule }
 {}

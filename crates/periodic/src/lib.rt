@@ -3,8 +3,9 @@
 
 mod laws;
 mod needs;
+mod passes;
 mod schedule;
 mod turns;
 
-pub use laws::{loop_schedules_hold, schedules_bound_the_rate};
-pub use schedule::Periodic;
+pub use laws::{loop_schedules_hold, loops_have_one_schedule, schedules_bound_the_rate};
+pub use schedule::{Periodic, from_loop};

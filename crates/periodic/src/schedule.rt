@@ -1,10 +1,15 @@
-ghost use Rattle.std.specs.Prelude.{◌↔◌, ◌≤◌, ◌^◌, ℕ, IsTrue};
-ghost use Rattle.sd_base.specs.Schedules.{start_of};
+ghost use Rattle.std.specs.Prelude.{◌↔◌, ◌+◌, ◌≤◌, ◌^◌, ℕ, IfOk, IsTrue};
+ghost use Rattle.sd_base.specs.Schedules.{start_of, HasInputs};
+ghost use Rattle.sd_base.specs.SelfTimed.{starts_by};
+ghost use Rattle.sd_base.specs.Rates.{IsLoopTable};
 ghost use Rattle.periodic.specs.Periods.{HasRounds, Holds};
+ghost use Rattle.periodic.specs.Loops.{IsScheduleOf};
 
+use crate::passes::moved_starts;
 use crate::turns::{all_fed, all_rise, has_rounds};
-use firing::{Firing, know_laws};
-use sd_base::Rows;
+use firing::{Firing, LoopTable, know_laws};
+use sd_base::{NoMemory, Rows};
+use std::alloc::Global;
 
 /// A periodic schedule. By actor, `starts` has the start moments of its firings in `rounds` rounds; with n
 /// of them, firing `k + q * n` starts `q * period` time units after firing k.
@@ -30,4 +35,20 @@ impl Periodic {
         all_rise(net, self.rounds, self.period, rows)
             && all_fed(net, self.rounds, self.period, rows)
     }
+}
+
+/// The schedule of the loop of self-timed execution: read at its second pass, continued backwards to firing
+/// 0, and shifted so that the least start is 0. Cost: linear in the starts of a pass.
+pub fn from_loop<F: Firing>(alloc: Global, net: &F, table: &LoopTable) -> Result<Periodic, NoMemory>
+    requires inputs { HasInputs (F.net net.now) }
+    requires table { IsLoopTable (F.net net.now) table.now.entry table.now.period table.now.rounds table.now.before table.now.starts }
+    requires few { starts_by (F.net net.now) (table.now.entry + table.now.period) ≤ 4000000 }
+    ensures { IfOk result (IsScheduleOf (F.net net.now) table.now) }
+{
+    know_laws(net);
+    Ok(Periodic {
+        period: table.period,
+        rounds: table.rounds,
+        starts: moved_starts(alloc, table)?,
+    })
 }

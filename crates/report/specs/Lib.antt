@@ -1,5 +1,10 @@
 pub mod Names
-pub mod Answers
-pub mod Lines
 pub mod Walks
+pub mod Links
+pub mod Fractions
+pub mod Schedules
+pub mod Cycles
+pub mod Answers
+pub mod Lacks
+pub mod Lines
 pub mod Quantities

@@ -1,8 +1,8 @@
 -- The line of each refusal.
-use Rattle.std.specs.Prelude.{ℕ, List, [], ◌∷◌, ◌++◌, Option, Some, None, codes}
+use Rattle.std.specs.Prelude.{ℕ, Bool, true, false, List, [], ◌∷◌, ◌++◌, Option, Some, None, codes}
 use Rattle.std.specs.Fmt.{decimal}
 use Rattle.report.specs.declared.refusal.Refusal.{Refusal}
-use Rattle.report.specs.declared.refusal.Refusal.TheVariants.{UsageWords, Text, DocumentType, CdataSection, Instruction, CharReference, Encoding, WrongKind, Missing, Unknown, Twice, BadWord, BadNumber, Above, Ratio, Inconsistent, Apart, ShelfGraph}
+use Rattle.report.specs.declared.refusal.Refusal.TheVariants.{UsageWords, UsageMissing, UsageNotFor, UsageBadValue, Text, DocumentType, CdataSection, Instruction, CharReference, Encoding, WrongKind, Missing, Unknown, Twice, BadWord, BadNumber, Above, Ratio, Inconsistent, Apart, OneWay, NoInput, Deadlock, StatesSpent, ShelfGraph}
 
 -- the scenario that a refusal speaks of
 unfoldable pub scenario_prefix : Option (List ℕ) → List ℕ
@@ -36,9 +36,38 @@ unknown_reason what name = codes "form: unknown " ++ (what ++ (codes " " ++ name
 unfoldable pub twice_reason : List ℕ → List ℕ → List ℕ
 twice_reason what name = codes "form: " ++ (what ++ (codes " " ++ (name ++ codes " twice")))
 
+unfoldable pub missing_reason : List ℕ → List ℕ
+missing_reason option = codes "usage: missing --" ++ option
+
+unfoldable pub not_for_reason : List ℕ → List ℕ → List ℕ
+not_for_reason option algo = codes "usage: --" ++ (option ++ (codes " is not for " ++ algo))
+
+unfoldable pub bad_value_reason : List ℕ → List ℕ
+bad_value_reason option = codes "usage: bad value of --" ++ option
+
+unfoldable pub one_way_reason : List ℕ → List ℕ → List ℕ
+one_way_reason from to = codes "connection: no way from " ++ (from ++ (codes " to " ++ to))
+
+unfoldable pub no_input_reason : List ℕ → List ℕ → List ℕ
+no_input_reason prefix actor = codes "connection: " ++ (prefix ++ (actor ++ codes " has no input"))
+
+unfoldable pub deadlock_reason : List ℕ → List ℕ → List ℕ
+deadlock_reason prefix list = codes "deadlock: " ++ (prefix ++ list)
+
+-- the distribution of storage that a refusal speaks of
+unfoldable pub at_list : Option (List ℕ) → List ℕ
+at_list None = []
+at_list (Some list) = codes " at " ++ list
+
+unfoldable pub states_reason : ℕ → List ℕ → List ℕ
+states_reason states at = codes "budget: " ++ (decimal states ++ (codes " states without a repeat" ++ at))
+
 -- what the line of a refusal says
 unfoldable pub reason_of : Refusal → List ℕ
 reason_of UsageWords = codes "usage: words"
+reason_of (UsageMissing option) = missing_reason option
+reason_of (UsageNotFor option algo) = not_for_reason option algo
+reason_of (UsageBadValue option) = bad_value_reason option
 reason_of (Text place) = place_reason (codes "text") place
 reason_of (DocumentType place) = place_reason (codes "document type") place
 reason_of (CdataSection place) = place_reason (codes "CDATA section") place
@@ -55,7 +84,23 @@ reason_of (Above scenario quantity number) = above_reason (scenario_prefix scena
 reason_of (Ratio scenario number path) = ratio_reason (scenario_prefix scenario) number path
 reason_of (Inconsistent scenario walk num den) = inconsistent_reason (scenario_prefix scenario) walk num den
 reason_of (Apart scenario a b) = apart_reason (scenario_prefix scenario) a b
+reason_of (OneWay from to) = one_way_reason from to
+reason_of (NoInput scenario actor) = no_input_reason (scenario_prefix scenario) actor
+reason_of (Deadlock scenario list) = deadlock_reason (scenario_prefix scenario) list
+reason_of (StatesSpent states at) = states_reason states (at_list at)
 reason_of ShelfGraph = codes "shelf: graph"
+
+-- a refusal by the analysis of a graph
+abbrev pub is_of_analysis : Refusal → Bool
+is_of_analysis (Above scenario quantity number) = true
+is_of_analysis (Ratio scenario number path) = true
+is_of_analysis (Inconsistent scenario walk num den) = true
+is_of_analysis (Apart scenario a b) = true
+is_of_analysis (OneWay from to) = true
+is_of_analysis (NoInput scenario actor) = true
+is_of_analysis (Deadlock scenario list) = true
+is_of_analysis (StatesSpent states at) = true
+is_of_analysis _ = false
 
 -- the line of a refusal
 unfoldable pub line_of : Refusal → List ℕ

@@ -1,10 +1,18 @@
-ghost use Rattle.std.specs.Prelude.{◌≡◌, ◌++◌, IfOk, OnOk, length};
+ghost use Rattle.std.specs.Prelude.{◌≡◌, ◌++◌, ◌≤◌, IfOk, OnOk, length};
 ghost use Rattle.std.specs.String.{string_bytes};
-ghost use Rattle.report.specs.Answers.{number_line, repetition_header, repetition_lines};
+ghost use Rattle.report.specs.Links.{IsNamed};
+ghost use Rattle.report.specs.Cycles.{IsCycleIn};
+ghost use Rattle.report.specs.Answers.{number_line, rate_line, rate_lines, repetition_header, repetition_lines};
 
+use crate::cycles::put_cycle;
 use crate::escaped;
+use crate::fractions::put_lowest;
+use crate::schedules::put_schedule;
+use critical::NeedCycle;
+use firing::Firing;
+use periodic::Periodic;
 use sd_base::{GraphFile, NoMemory, Rows};
-use std::alloc::Global;
+use std::alloc::{AllocError, Global};
 
 /// The text of a repetition vector: a line `repetition N` with the number of actors, then a line per actor
 /// with its name and its firings in a round.
@@ -40,6 +48,38 @@ fn put_number(alloc: Global, text: &mut String, name: &str, number: u64) -> Resu
     let line = format!(in alloc; "{name} {number}\n")?;
     text.push_str(line.as_str())?;
     Ok(())
+}
+
+/// The text of a rate: a line `rate X` with the rounds of a schedule by its period, in lowest terms, then
+/// the lines of the schedule and those of a need cycle. Cost: linear in the text.
+pub fn rate_text<F: Firing>(
+    alloc: Global,
+    net: &F,
+    graph: &GraphFile,
+    schedule: &Periodic,
+    cycle: &NeedCycle,
+) -> Result<Rows<u8>, NoMemory>
+    requires net { IsNamed graph.now (F.net net.now) }
+    requires actors { length schedule.now.starts ≡ length graph.now.actors }
+    requires period { 1 ≤ schedule.now.period }
+    requires cycle { IsCycleIn graph.now (F.net net.now) cycle.now }
+    ensures { IfOk result (λ t. t ≡ rate_lines graph.now (F.net net.now) schedule.now cycle.now) }
+{
+    let mut text = String::new(alloc);
+    put_rate(&mut text, schedule.rounds, schedule.period)?;
+    put_schedule(&mut text, graph, schedule)?;
+    put_cycle(&mut text, net, graph, cycle)?;
+    Ok(bytes_of(text))
+}
+
+#[tactic(auto, unfolding(crate::specs::Answers::rate_line))]
+pub(crate) fn put_rate(text: &mut String, rounds: u64, period: u64) -> Result<(), AllocError>
+    requires { 1 ≤ period }
+    ensures { OnOk result (string_bytes text.new ≡ string_bytes text.old ++ rate_line rounds period) }
+{
+    text.push_str("rate ")?;
+    put_lowest(text, rounds, period)?;
+    text.push_str("\n")
 }
 
 /// The bytes of a finished text, without memory.

@@ -2,13 +2,21 @@
 #![tactic(auto)]
 
 mod answers;
+mod cycles;
+mod fractions;
+mod lacks;
+mod links;
 mod names;
 mod quantities;
 mod refusal;
 mod refusals;
+mod schedules;
+#[cfg(test)]
+mod tests;
 mod walks;
 
-pub use answers::repetition_text;
+pub use answers::{rate_text, repetition_text};
+pub use lacks::lacks_text;
 pub use names::escaped;
 pub use quantities::{greatest, quantity_word};
 pub use refusal::Refusal;

@@ -11,10 +11,19 @@ pub fn escaped(alloc: Global, name: &str) -> Result<Text, NoMemory>
     ensures { IfOk result (λ t. t ≡ escaped_name name.now) }
 {
     let mut text = String::new(alloc);
-    for byte in name.as_bytes() {
-        push_escaped(&mut text, *byte)?;
-    }
+    put_escaped(&mut text, name)?;
     Ok(Text::new(text))
+}
+
+/// Puts a name at the end of a text, as lines show it.
+#[tactic(auto, unfolding(crate::specs::Names::escaped_name))]
+pub(crate) fn put_escaped(text: &mut String, name: &str) -> Result<(), AllocError>
+    ensures { OnOk result (string_bytes text.new ≡ string_bytes text.old ++ escaped_name name.now) }
+{
+    for byte in name.as_bytes() {
+        push_escaped(text, *byte)?;
+    }
+    Ok(())
 }
 
 #[tactic(auto, unfolding(crate::specs::Names::escaped_byte))]

@@ -6,6 +6,19 @@ use sd_base::Text;
 pub enum Refusal {
     /// The words aren't those of a command.
     UsageWords,
+    /// An option that the algorithm needs isn't there. Options are named without their hyphens.
+    UsageMissing {
+        option: Text,
+    },
+    /// An option is there that the algorithm doesn't take.
+    UsageNotFor {
+        option: Text,
+        algo: Text,
+    },
+    /// The value of an option isn't of its form or range.
+    UsageBadValue {
+        option: Text,
+    },
     /// The text leaves the grammar, or ends too early, at this byte.
     Text {
         place: u64,
@@ -81,6 +94,27 @@ pub enum Refusal {
         scenario: Option<Text>,
         a: Text,
         b: Text,
+    },
+    /// No way leads from an actor to another one along the channels.
+    OneWay {
+        from: Text,
+        to: Text,
+    },
+    /// No channel leads into an actor.
+    NoInput {
+        scenario: Option<Text>,
+        actor: Text,
+    },
+    /// No round can be completed; the list says what each actor below its round lacks.
+    Deadlock {
+        scenario: Option<Text>,
+        list: Text,
+    },
+    /// So many states of execution were all different, under the distribution of storage in the list `at`,
+    /// where there is one.
+    StatesSpent {
+        states: u64,
+        at: Option<Text>,
     },
     /// The graph file can't be taken.
     ShelfGraph,

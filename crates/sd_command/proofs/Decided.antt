@@ -10,7 +10,7 @@ use Rattle.balance.specs.declared.refusal.BalanceError.{BalanceError}
 use Rattle.balance.specs.declared.refusal.BalanceError.TheVariants as errors
 use Rattle.balance.specs.Repetition.{IsRound, IsRefusal, IsAnswer as Fits, HasOneAnswer}
 use Rattle.report.specs.declared.refusal.Refusal.{Refusal}
-use Rattle.report.specs.declared.refusal.Refusal.TheVariants.{UsageWords, Text, DocumentType, CdataSection, Instruction, CharReference, Encoding, WrongKind, Missing, Unknown, Twice, BadWord, BadNumber, Above, Ratio, Inconsistent, Apart, ShelfGraph}
+use Rattle.report.specs.declared.refusal.Refusal.TheVariants.{UsageWords, UsageMissing, UsageNotFor, UsageBadValue, Text, DocumentType, CdataSection, Instruction, CharReference, Encoding, WrongKind, Missing, Unknown, Twice, BadWord, BadNumber, Above, Ratio, Inconsistent, Apart, OneWay, NoInput, Deadlock, StatesSpent, ShelfGraph}
 use Rattle.report.specs.Walks.{steps_text}
 use Rattle.report.specs.Quantities.{quantity_text, greatest_of}
 use Rattle.sd_base.specs.declared.quantity.Quantity.TheVariants as quantities
@@ -43,6 +43,9 @@ told_from g (Ratio s n path) (none, number, (p, is, q)) = record { error = error
 told_from g (Inconsistent s walk num den) (none, (w, is, q)) = record { error = errors.Unbalanced w num den; cause = is; no_lack = λ e. (cc); told = (cc) }
 told_from g (Above s quantity number) (none, word, most, is) = record { error = errors.RoundTooLarge; cause = is; no_lack = λ e. (cc); told = (cc) }
 told_from g UsageWords h = absurd h
+told_from g (UsageMissing option) h = absurd h
+told_from g (UsageNotFor option algo) h = absurd h
+told_from g (UsageBadValue option) h = absurd h
 told_from g (Text place) h = absurd h
 told_from g (DocumentType place) h = absurd h
 told_from g (CdataSection place) h = absurd h
@@ -55,6 +58,10 @@ told_from g (Unknown what name) h = absurd h
 told_from g (Twice what name) h = absurd h
 told_from g (BadWord what of) h = absurd h
 told_from g (BadNumber what of) h = absurd h
+told_from g (OneWay from to) h = absurd h
+told_from g (NoInput s actor) h = absurd h
+told_from g (Deadlock s list) h = absurd h
+told_from g (StatesSpent states at) h = absurd h
 told_from g ShelfGraph h = absurd h
 
 -- an answer of the balance

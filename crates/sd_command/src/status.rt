@@ -18,6 +18,10 @@ pub enum Status {
     Inconsistent,
     /// The graph isn't connected.
     Connection,
+    /// No round can be completed.
+    Deadlock,
+    /// A number of states or of distributions was spent.
+    Budget,
     /// A file couldn't be taken.
     ShelfFault,
     /// A text couldn't be sent whole.
@@ -38,6 +42,8 @@ impl Status {
             Status::Limit => 4,
             Status::Inconsistent => 5,
             Status::Connection => 6,
+            Status::Deadlock => 7,
+            Status::Budget => 8,
             Status::ShelfFault => 10,
             Status::SinkFault => 11,
             Status::Memory => 12,
@@ -50,7 +56,10 @@ pub(crate) fn status_for(refusal: &Refusal) -> Status
     ensures { result ≡ status_of refusal.now }
 {
     match refusal {
-        Refusal::UsageWords => Status::Usage,
+        Refusal::UsageWords
+        | Refusal::UsageMissing { .. }
+        | Refusal::UsageNotFor { .. }
+        | Refusal::UsageBadValue { .. } => Status::Usage,
         Refusal::Text { .. }
         | Refusal::DocumentType { .. }
         | Refusal::CdataSection { .. }
@@ -65,7 +74,11 @@ pub(crate) fn status_for(refusal: &Refusal) -> Status
         | Refusal::BadNumber { .. } => Status::Form,
         Refusal::Above { .. } | Refusal::Ratio { .. } => Status::Limit,
         Refusal::Inconsistent { .. } => Status::Inconsistent,
-        Refusal::Apart { .. } => Status::Connection,
+        Refusal::Apart { .. } | Refusal::OneWay { .. } | Refusal::NoInput { .. } => {
+            Status::Connection
+        }
+        Refusal::Deadlock { .. } => Status::Deadlock,
+        Refusal::StatesSpent { .. } => Status::Budget,
         Refusal::ShelfGraph => Status::ShelfFault,
     }
 }

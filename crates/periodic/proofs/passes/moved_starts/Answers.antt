@@ -1,0 +1,19 @@
+use Rattle.std.proofs.Common.{◌*◌, length, ap, arith}
+use Rattle.periodic.specs.Passes.{back_start, IsMoved}
+use Rattle.periodic.proofs.MovedBack.{back-same, row-moved, rows-more, long-more}
+use Rattle.periodic.proofs.passes.moved_starts.Goals as goal
+
+pub loop-actor-preserved : goal.loop-actor-preserved
+loop-actor-preserved c =
+    let table = c.args.table.now in
+    let pass = c.pass_of.result in
+    let up = c.most_turns-most.result * table.period in
+    let down = c.least_start-down.result in
+    let same = back-same table up c.loop-actor.actor pass.period pass.before pass.starts.now c.pass_of.ensures.period c.pass_of.ensures.before c.pass_of.ensures.starts in
+    let moved : IsMoved table up down c.loop-actor.actor c.in_ok-row.field-0 =
+    row-moved table up down (length table.starts) c.loop-actor.actor (length pass.starts.now) (back_start pass.period pass.before pass.starts.now up) c.in_ok-row.field-0 c.least_start-down.ensures
+    (omega (arith, c.loop-actor-test.true, c.len-actor-end.ensures)) same (ap length c.pass_of.ensures.starts) c.in_ok-row.ensures.row c.in_ok-row.ensures.small in
+    record {
+      actors = long-more c.loop-actor.rows c.push.new.self c.in_ok-row.field-0 c.loop-actor.actor c.loop-actor.invariant.actors c.in_ok-push.ensures.ok;
+      each = rows-more table up down c.loop-actor.actor c.loop-actor.rows c.push.new.self c.in_ok-row.field-0 c.loop-actor.invariant.actors c.loop-actor.invariant.each moved c.in_ok-push.ensures.ok;
+    }

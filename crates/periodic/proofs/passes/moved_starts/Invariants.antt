@@ -1,0 +1,10 @@
+use Rattle.std.proofs.Common.{◌≡◌, ℕ, ◌<◌, [], length}
+use Rattle.std.specs.Prelude.{slice_index_or}
+use Rattle.periodic.specs.Passes.{IsMoved}
+use Rattle.periodic.proofs.passes.moved_starts.Given as goal
+
+abbrev pub invariant-loop-actor : goal.invariant-loop-actor
+invariant-loop-actor l = record {
+  actors : length l.rows ≡ l.actor;
+  each : (a : ℕ) → a < l.actor → IsMoved l.table l.up l.down a (slice_index_or l.rows a []);
+}

@@ -1,0 +1,214 @@
+ghost use Rattle.std.specs.Prelude.{◌≡◌, ℕ, ◌+◌, ◌-◌, ◌*◌, ◌<◌, ◌≤◌, ◌^◌, [], IfOk, IsTrue, length, map, slice_index, slice_index_or};
+ghost use Rattle.std.specs.List.{range_with_len};
+ghost use Rattle.sd_base.specs.Schedules.{count_of};
+ghost use Rattle.periodic.specs.Passes.{turns_back, back_start, back_at, IsLeast, IsLeastStart, HasTurns, HasPasses, AreMovedBack};
+
+use firing::LoopTable;
+use sd_base::{NoMemory, Rows};
+use std::alloc::Global;
+
+/// The firings of an actor in one pass round the loop of a table.
+#[derive(Clone, Copy)]
+struct Pass<'a> {
+    period: u64,
+    /// The number of the first one.
+    before: u64,
+    starts: &'a [u64],
+    ghost some: { 0 < length starts.now },
+    ghost few: { before ≤ 4000000 },
+}
+
+impl Pass<'_> {
+    /// How many whole turns lie before the firing that has a place in its turn.
+    fn turns(&self, place: usize) -> u64
+        requires { place < length self.now.starts.now }
+        ensures turns { result ≡ turns_back self.now.before (length self.now.starts.now) place }
+        ensures few { result ≤ 4000000 }
+    {
+        let turn = self.starts.len() as u64;
+        (self.before + (turn - 1 - place as u64)) / turn
+    }
+
+    /// The start of the firing at a place, earlier by a period for each turn before it, and later by `up`.
+    fn start(&self, up: u128, place: usize) -> u128
+        requires place { place < length self.now.starts.now }
+        requires up { turns_back self.now.before (length self.now.starts.now) 0 * self.now.period ≤ up }
+        requires small { up ≤ 4000000 * 2 ^ 64 }
+        ensures start { result ≡ back_start self.now.period self.now.before self.now.starts.now up place }
+        ensures small { result ≤ 2 ^ 100 }
+    {
+        let turns = self.turns(place);
+        let number = turns * self.starts.len() as u64 + place as u64;
+        let start = self.starts[(number - self.before) as usize];
+        start as u128 + up - turns as u128 * self.period as u128
+    }
+
+    /// The least of these starts.
+    fn least(&self, up: u128) -> u128
+        requires up { turns_back self.now.before (length self.now.starts.now) 0 * self.now.period ≤ up }
+        requires small { up ≤ 4000000 * 2 ^ 64 }
+        ensures { IsLeast (back_start self.now.period self.now.before self.now.starts.now up) (length self.now.starts.now) result }
+    {
+        let mut least = self.start(up, 0);
+        for place in 1..self.starts.len() {
+            least = least.min(self.start(up, place));
+        }
+        least
+    }
+
+    /// These starts by place, each less by `down`.
+    fn row(&self, alloc: Global, up: u128, down: u128) -> Result<Rows<u128>, NoMemory>
+        requires up { turns_back self.now.before (length self.now.starts.now) 0 * self.now.period ≤ up }
+        requires small { up ≤ 4000000 * 2 ^ 64 }
+        requires down { (k : ℕ) → k < length self.now.starts.now → down ≤ back_start self.now.period self.now.before self.now.starts.now up k }
+        ensures row { IfOk result (λ row. row
+            ≡ map (λ k. back_start self.now.period self.now.before self.now.starts.now up k - down) (range_with_len 0 (length self.now.starts.now))) }
+        ensures small { IfOk result (λ row. (k : ℕ) → slice_index row k ≤ 2 ^ 100) }
+    {
+        let mut row = Rows::new(alloc);
+        for place in 0..self.starts.len() {
+            row.push(self.start(up, place) - down)?;
+        }
+        Ok(row)
+    }
+}
+
+/// By actor the starts of one pass, moved back to the first turn, and all by one constant with which the
+/// least is 0.
+pub(crate) fn moved_starts(alloc: Global, table: &LoopTable) -> Result<Rows<Rows<u128>>, NoMemory>
+    requires { HasPasses table.now }
+    ensures { IfOk result (AreMovedBack table.now) }
+{
+    let most = most_turns(table);
+    let up = most as u128 * table.period as u128;
+    let down = least_start(table, most);
+    let mut rows = Rows::new(alloc);
+    for actor in 0..table.starts.len() {
+        rows.push(pass_of(table, actor).row(alloc, up, down)?)?;
+    }
+    Ok(rows)
+}
+
+/// The firings of an actor.
+fn pass_of(table: &LoopTable, actor: usize) -> Pass<'_>
+    requires passes { HasPasses table.now }
+    requires actor { actor < length table.now.starts }
+    ensures period { result.period ≡ table.now.period }
+    ensures before { result.before ≡ slice_index table.now.before actor }
+    ensures starts { result.starts.now ≡ slice_index_or table.now.starts actor [] }
+{
+    Pass {
+        period: table.period,
+        before: table.before.as_slice()[actor],
+        starts: table.starts.as_slice()[actor].as_slice(),
+    }
+}
+
+/// The most whole turns that lie before a firing of the pass.
+fn most_turns(table: &LoopTable) -> u64
+    requires { HasPasses table.now }
+    ensures turns { HasTurns table.now (length table.now.starts) result }
+    ensures few { result ≤ 4000000 }
+{
+    let mut most = 0;
+    for actor in 0..table.starts.len() {
+        most = most.max(pass_of(table, actor).turns(0));
+    }
+    most
+}
+
+/// The least start of any actor.
+fn least_start(table: &LoopTable, most: u64) -> u128
+    requires passes { HasPasses table.now }
+    requires turns { HasTurns table.now (length table.now.starts) most }
+    requires few { most ≤ 4000000 }
+    ensures { IsLeastStart table.now (most * table.now.period) (length table.now.starts) result }
+{
+    let up = most as u128 * table.period as u128;
+    let mut least = pass_of(table, 0).least(up);
+    for actor in 1..table.starts.len() {
+        least = least.min(pass_of(table, actor).least(up));
+    }
+    least
+}
+
+#[cfg(test)]
+mod tests {
+    use super::*;
+    use std::test::Fail;
+
+    #[derive(Clone, Copy)]
+    struct Case<'a> {
+        period: u64,
+        before: &'a [u64],
+        starts: &'a [&'a [u64]],
+        wanted: &'a [&'a [u128]],
+    }
+
+    fn table(alloc: Global, case: &Case) -> Result<LoopTable, NoMemory> {
+        let mut starts = Rows::new(alloc);
+        for row in case.starts {
+            starts.push(Rows::from_vec(row.to_vec(alloc)?))?;
+        }
+        Ok(LoopTable {
+            entry: 0,
+            period: case.period,
+            rounds: 1,
+            before: Rows::from_vec(case.before.to_vec(alloc)?),
+            starts,
+        })
+    }
+
+    fn has_passes(table: &LoopTable) -> bool
+        ensures { IsTrue result → HasPasses table.now }
+    {
+        let rows = table.starts.as_slice();
+        let before = table.before.as_slice();
+        if rows.is_empty() || before.len() != rows.len() {
+            return false;
+        }
+        for actor in 0..rows.len() {
+            if rows[actor].is_empty() || before[actor] > 4_000_000 {
+                return false;
+            }
+        }
+        true
+    }
+
+    #[test]
+    fn passes_go_back_to_the_first_turn(rt: HostRuntime) -> Result<(), Fail> {
+        let cases = [
+            // x of time 2 and y of time 3 in a ring with one token: x starts at 0, y at 2, x at 5 again.
+            Case {
+                period: 5,
+                before: &[1, 0],
+                starts: &[&[5], &[2]],
+                wanted: &[&[0], &[2]],
+            },
+            // x starts at 0, 4, 8, 12, 16, 24, 34 and y at 4, 9, 14, 19, 24, 29, 34; the loop is entered at 24.
+            Case {
+                period: 10,
+                before: &[6, 5],
+                starts: &[&[34], &[29, 34]],
+                wanted: &[&[0], &[30, 35]],
+            },
+            // Three firings of one actor of time 7 at once.
+            Case {
+                period: 7,
+                before: &[3],
+                starts: &[&[7, 7, 7]],
+                wanted: &[&[0, 0, 0]],
+            },
+        ];
+        for case in &cases {
+            let table = table(rt.alloc(), case)?;
+            assert!(rt; has_passes(&table));
+            let rows = moved_starts(rt.alloc(), &table)?;
+            assert_eq!(rt; rows.len(), case.wanted.len());
+            for (row, wanted) in rows.as_slice().iter().zip(case.wanted) {
+                assert_eq!(rt; row.as_slice(), *wanted);
+            }
+        }
+        Ok(())
+    }
+}

@@ -1,0 +1,48 @@
+ghost use Rattle.std.specs.Prelude.{◌≡◌, ◌<◌, ◌++◌, OnOk, length};
+ghost use Rattle.std.specs.String.{string_bytes};
+ghost use Rattle.report.specs.Links.{actor_name, channel_name, link_text, IsRoleIn};
+
+use crate::names::put_escaped;
+use sd_base::{GraphFile, Role};
+use std::alloc::AllocError;
+
+/// Puts the name of an actor at the end of a text.
+#[tactic(auto, unfolding(crate::specs::Links::actor_name))]
+pub(crate) fn put_actor(text: &mut String, graph: &GraphFile, actor: u32) -> Result<(), AllocError>
+    requires { actor < length graph.now.actors }
+    ensures { OnOk result (string_bytes text.new ≡ string_bytes text.old ++ actor_name graph.now actor) }
+{
+    put_escaped(text, graph.actors.as_slice()[actor as usize].name.as_str())
+}
+
+/// Puts the name of a channel of the file at the end of a text.
+#[tactic(auto, unfolding(crate::specs::Links::channel_name))]
+fn put_channel(text: &mut String, graph: &GraphFile, channel: u32) -> Result<(), AllocError>
+    requires { channel < length graph.now.channels }
+    ensures { OnOk result (string_bytes text.new ≡ string_bytes text.old ++ channel_name graph.now channel) }
+{
+    put_escaped(
+        text,
+        graph.channels.as_slice()[channel as usize].name.as_str(),
+    )
+}
+
+/// Puts a link at the end of a text: the name of a channel for its tokens, `NAME/space` for its free space,
+/// and `ACTOR/self` for the own channel of an actor.
+#[tactic(auto, unfolding(crate::specs::Links::link_text))]
+pub(crate) fn put_link(text: &mut String, graph: &GraphFile, role: Role) -> Result<(), AllocError>
+    requires { IsRoleIn graph.now role }
+    ensures { OnOk result (string_bytes text.new ≡ string_bytes text.old ++ link_text graph.now role) }
+{
+    match role {
+        Role::Token(channel) => put_channel(text, graph, channel),
+        Role::Own(actor) => {
+            put_actor(text, graph, actor)?;
+            text.push_str("/self")
+        }
+        Role::Space(channel) => {
+            put_channel(text, graph, channel)?;
+            text.push_str("/space")
+        }
+    }
+}

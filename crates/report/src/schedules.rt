@@ -1,0 +1,51 @@
+ghost use Rattle.std.specs.Prelude.{◌≡◌, ◌++◌, OnOk, length};
+ghost use Rattle.std.specs.String.{string_bytes};
+ghost use Rattle.report.specs.Schedules.{schedule_header, schedule_lines, spaced, starts_line};
+
+use crate::names::put_escaped;
+use periodic::Periodic;
+use sd_base::GraphFile;
+use std::alloc::AllocError;
+
+/// Puts the lines of a schedule at the end of a text: `schedule P r` with its period and rounds, then for
+/// each actor its name and its starts.
+pub(crate) fn put_schedule(
+    text: &mut String,
+    graph: &GraphFile,
+    schedule: &Periodic,
+) -> Result<(), AllocError>
+    requires { length schedule.now.starts ≡ length graph.now.actors }
+    ensures { OnOk result (string_bytes text.new ≡ string_bytes text.old ++ schedule_lines graph.now schedule.now) }
+{
+    let actors = graph.actors.as_slice();
+    put_header(text, schedule.period, schedule.rounds)?;
+    for (i, starts) in schedule.starts.as_slice().iter().enumerate() {
+        put_starts(text, actors[i].name.as_str(), starts.as_slice())?;
+    }
+    Ok(())
+}
+
+#[tactic(auto, unfolding(crate::specs::Schedules::schedule_header))]
+fn put_header(text: &mut String, period: u64, rounds: u64) -> Result<(), AllocError>
+    ensures { OnOk result (string_bytes text.new ≡ string_bytes text.old ++ schedule_header period rounds) }
+{
+    write!(text, "schedule {period} {rounds}\n")
+}
+
+fn put_starts(text: &mut String, name: &str, starts: &[u128]) -> Result<(), AllocError>
+    ensures { OnOk result (string_bytes text.new ≡ string_bytes text.old ++ starts_line name.now starts.now) }
+{
+    put_escaped(text, name)?;
+    for start in starts {
+        put_spaced(text, *start)?;
+    }
+    text.push_str("\n")?;
+    Ok(())
+}
+
+#[tactic(auto, unfolding(crate::specs::Schedules::spaced))]
+fn put_spaced(text: &mut String, number: u128) -> Result<(), AllocError>
+    ensures { OnOk result (string_bytes text.new ≡ string_bytes text.old ++ spaced number) }
+{
+    write!(text, " {number}")
+}
