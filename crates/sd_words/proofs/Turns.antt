@@ -1,10 +1,9 @@
 -- One turn of the loop over the words, and of the one over the options.
-use Rattle.std.proofs.Common.{◌≡◌, ℕ, ◌+◌, ◌<◌, ◌≤◌, List, [], ◌∷◌, ◌++◌, length, get_or, drop, Option, Some, None, Result, Ok, Err, refl, sym, ap, ◌∙◌, add-one, drop-cons}
+use Rattle.std.proofs.Common.{◌≡◌, ℕ, ◌+◌, ◌<◌, ◌≤◌, List, ◌∷◌, length, get_or, drop, Result, Ok, Err, sym, ap, ◌∙◌, add-one, drop-cons}
 use Rattle.std.proofs.lemmas.List.{drop_all}
 use Rattle.sd_words.specs.declared.names.OptionName.{OptionName}
 use Rattle.sd_words.specs.declared.names.Algorithm.{Algorithm}
 use Rattle.sd_words.specs.declared.request.UsageCause.{UsageCause}
-use Rattle.sd_words.specs.declared.request.UsageCause.TheVariants.{Words}
 use Rattle.sd_words.specs.declared.request.WordsError.{WordsError}
 use Rattle.sd_words.specs.declared.request.WordsError.TheVariants.{Usage, NoMemory}
 use Rattle.sd_words.specs.Spelling.{Setting}

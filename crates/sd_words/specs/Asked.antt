@@ -1,7 +1,5 @@
 -- What settings ask for, or the first cause why they ask for nothing.
-use Rattle.std.specs.Prelude.{◌≡◌, ℕ, Bool, true, false, List, [], ◌∷◌, Option, Some, None, Result, Ok, Err, MatchResult, is_some, unwrap_or, option_and_then, if◌then◌else◌}
-use Rattle.std.specs.List.{find}
-use Rattle.std.specs.Option.{option_map}
+use Rattle.std.specs.Prelude.{◌≡◌, ℕ, Bool, true, List, [], ◌∷◌, Option, Some, None, Result, Ok, Err, MatchResult, is_some, unwrap_or, option_and_then, if◌then◌else◌}
 use Rattle.std.specs.Str.{bytes_eq}
 use Rattle.sd_words.specs.declared.names.OptionName.{OptionName}
 use Rattle.sd_words.specs.declared.names.OptionName.TheVariants as option
@@ -29,12 +27,18 @@ value_named name (s ∷ ss) = if bytes_eq s.name name then Some s.value else val
 abbrev pub value_of : OptionName → List Setting → Option (List ℕ)
 value_of o settings = value_named (option_word o) settings
 
+-- a value of `--algo` that has to be there and to be known
+abbrev pub known : Option Algorithm → Result Algorithm UsageCause
+known None = Err (BadValue option.Algo)
+known (Some a) = Ok a
+
+abbrev pub algorithm_in : Option (List ℕ) → Result Algorithm UsageCause
+algorithm_in None = Err (Missing option.Algo)
+algorithm_in (Some word) = known (algorithm_named word)
+
 -- the algorithm that is asked for
 unfoldable pub algorithm_of : List Setting → Result Algorithm UsageCause
-algorithm_of settings = elim (value_of option.Algo settings) [
-  | None ↦ Err (Missing option.Algo)
-  | Some word ↦ elim (algorithm_named word) [ None ↦ Err (BadValue option.Algo) | Some a ↦ Ok a ]
-]
+algorithm_of settings = algorithm_in (value_of option.Algo settings)
 
 -- the options beside `--algo`, in the order in which they are tested
 abbrev pub options : List OptionName
@@ -56,14 +60,17 @@ unfoldable pub is_good : OptionName → List ℕ → Bool
 is_good option.States value = is_some (states_in value)
 is_good o value = true
 
--- an option that has to be there is, and one that the algorithm doesn't have isn't; its value is good
+-- a required option is there, one that the algorithm doesn't have isn't, and the value of any other is good
+unfoldable pub judged : Standing → Algorithm → OptionName → Option (List ℕ) → Result (Unit {0}) UsageCause
+judged Required a o None = Err (Missing o)
+judged Allowed a o None = Ok tt
+judged Foreign a o None = Ok tt
+judged Required a o (Some value) = if is_good o value then Ok tt else Err (BadValue o)
+judged Allowed a o (Some value) = if is_good o value then Ok tt else Err (BadValue o)
+judged Foreign a o (Some value) = Err (NotFor o a)
+
 unfoldable pub checked : Algorithm → OptionName → Option (List ℕ) → Result (Unit {0}) UsageCause
-checked a o None = elim (standing a o) [ Required ↦ Err (Missing o) | Allowed ↦ Ok tt | Foreign ↦ Ok tt ]
-checked a o (Some value) = elim (standing a o) [
-  | Required ↦ if is_good o value then Ok tt else Err (BadValue o)
-  | Allowed ↦ if is_good o value then Ok tt else Err (BadValue o)
-  | Foreign ↦ Err (NotFor o a)
-]
+checked a o value = judged (standing a o) a o value
 
 -- the same of each of these options in turn
 unfoldable pub all_checked : Algorithm → List Setting → List OptionName → Result (Unit {0}) UsageCause

@@ -1,6 +1,7 @@
 pub mod Names
+pub mod Values
 pub mod Spelling
 pub mod Reading
-pub mod Values
 pub mod Asked
+pub mod Rules
 pub mod Seen

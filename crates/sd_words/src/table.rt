@@ -63,7 +63,7 @@ fn is_good(option: OptionName, value: &str) -> bool
     }
 }
 
-#[tactic(auto, unfolding(crate::specs::Asked::checked))]
+#[tactic(auto, unfolding(crate::specs::Asked::checked, crate::specs::Asked::judged))]
 fn check(algo: Algorithm, option: OptionName, value: Option<&str>) -> Result<(), UsageCause>
     ensures { result ≡ checked algo option (option_map (λ v. v.now) value.entry) }
 {

@@ -2,10 +2,10 @@ use super::*;
 use std::process::Abort;
 use std::test::Fail;
 
-// The words, which have no spaces in them.
+// The words of a line, with a space between any two.
 fn split(alloc: Global, line: &str) -> Result<Vec<Text>, Fail> {
     let mut words = Vec::new(alloc);
-    for word in line.split_whitespace() {
+    for word in line.split(' ') {
         words.push(Text::new(String::from_str(alloc, word)?))?;
     }
     Ok(words)
@@ -48,7 +48,7 @@ fn answers(rt: &impl Abort, alloc: Global, line: &str, expected: &str) -> Result
 }
 
 #[test]
-fn requests(rt: HostRuntime) -> Result<(), Fail> {
+fn requests_in_either_spelling_and_any_order(rt: HostRuntime) -> Result<(), Fail> {
     for (line, expected) in [
         ("--algo repetition --graph f", "repetition of f"),
         ("--graph=f --algo=repetition", "repetition of f"),
@@ -61,12 +61,131 @@ fn requests(rt: HostRuntime) -> Result<(), Fail> {
             "throughput of f, true, 7",
         ),
         (
-            "--algo=throughput --graph==x",
-            "throughput of =x, false, 20000",
+            "--graph f --algo=throughput --no-overlap",
+            "throughput of f, true, 20000",
         ),
-        ("--graph a=b=c --algo repetition", "repetition of a=b=c"),
+        ("--algo repetition --graph==x", "repetition of =x"),
+        ("--algo repetition --graph a=b=c", "repetition of a=b=c"),
+        ("--algo repetition --graph a-b--c", "repetition of a-b--c"),
     ] {
         answers(&rt, rt.alloc(), line, expected)?;
     }
+    Ok(())
+}
+
+#[test]
+fn numbers_of_states(rt: HostRuntime) -> Result<(), Fail> {
+    for (states, expected) in [
+        ("1", "throughput of f, false, 1"),
+        ("00003", "throughput of f, false, 3"),
+        ("200000", "throughput of f, false, 200000"),
+        (
+            "00000000000000000000000000000000000000000000000020",
+            "throughput of f, false, 20",
+        ),
+        ("0", "bad states"),
+        ("200001", "bad states"),
+        (
+            "12345678901234567890123456789012345678901234567890",
+            "bad states",
+        ),
+        ("3x", "bad states"),
+        ("+3", "bad states"),
+        ("3_000", "bad states"),
+        ("", "words"),
+        ("-3", "words"),
+    ] {
+        let line = format!(in rt.alloc(); "--algo throughput --graph f --states={states}")?;
+        answers(&rt, rt.alloc(), line.as_str(), expected)?;
+    }
+    Ok(())
+}
+
+#[test]
+fn words_that_are_not_well_spelled(rt: HostRuntime) -> Result<(), Fail> {
+    for line in [
+        "",
+        "graph",
+        "-graph f",
+        "--",
+        "--=f",
+        "--foo=1",
+        "--foo 1",
+        "--graphs f",
+        "--Graph f",
+        "--graph",
+        "--graph ",
+        "--graph=",
+        "--graph -x",
+        "--graph=-x",
+        "--graph --algo",
+        "--graph f g",
+        "--graph f --graph f",
+        "--graph f --graph=f",
+        "--no-overlap=x",
+        "--no-overlap x",
+        "--no-overlap --no-overlap",
+        "--algo repetition --graph",
+    ] {
+        answers(&rt, rt.alloc(), line, "words")?;
+    }
+    Ok(())
+}
+
+#[test]
+fn first_cause_in_the_order_of_the_tests(rt: HostRuntime) -> Result<(), Fail> {
+    for (line, expected) in [
+        (
+            "--algo repetition --graph f --limit 3",
+            "limit is not for repetition",
+        ),
+        ("--algo storage --graph f", "bad algo"),
+        ("--algo Repetition", "bad algo"),
+        ("--limit 3 --graph f", "missing algo"),
+        ("--algo repetition", "missing graph"),
+        ("--algo throughput --states=0", "missing graph"),
+        (
+            "--algo throughput --buffers x --graph f --states 0",
+            "buffers is not for throughput",
+        ),
+        (
+            "--algo throughput --graph f --states 0 --seed 1",
+            "bad states",
+        ),
+        (
+            "--algo throughput --graph f --actors 2 --distributions 1",
+            "distributions is not for throughput",
+        ),
+        (
+            "--algo throughput --graph f --actors 2 --seed 1",
+            "seed is not for throughput",
+        ),
+        (
+            "--algo throughput --graph f --actors 2",
+            "actors is not for throughput",
+        ),
+        (
+            "--algo throughput --graph f --certificate k",
+            "certificate is not for throughput",
+        ),
+        (
+            "--algo repetition --graph f --no-overlap",
+            "no-overlap is not for repetition",
+        ),
+        (
+            "--algo repetition --graph f --no-overlap --states 0",
+            "states is not for repetition",
+        ),
+    ] {
+        answers(&rt, rt.alloc(), line, expected)?;
+    }
+    Ok(())
+}
+
+#[test]
+fn no_words_lack_an_algorithm(rt: HostRuntime) -> Result<(), Fail> {
+    let words = Vec::new(rt.alloc());
+    let answer = shown(rt.alloc(), words.as_slice())?;
+    assert_eq!(rt; answer.as_str(), "missing algo");
     Ok(())
 }

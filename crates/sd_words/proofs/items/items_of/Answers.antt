@@ -1,7 +1,6 @@
-use Rattle.std.proofs.Common.{◌≡◌, ℕ, [], List, get_or, map, None, Some, Ok, Err, refl, sym, ap, ◌∙◌}
+use Rattle.std.proofs.Common.{◌≡◌, get_or, refl, sym, ap, ◌∙◌}
 use Rattle.std.proofs.lemmas.Result.{err_from_is_err_and}
-use Rattle.sd_words.specs.declared.request.UsageCause.TheVariants.{Words}
-use Rattle.sd_words.specs.Reading.{◌>>=◌, with_words, settings_of, finished}
+use Rattle.sd_words.specs.Reading.{◌>>=◌, settings_of, finished}
 use Rattle.sd_words.specs.Seen.{progress}
 use Rattle.sd_words.proofs.Turns.{fails, with_words-fails, with_words-goes, with_words-end}
 use Rattle.sd_words.proofs.items.items_of.Goals as goal
@@ -12,8 +11,8 @@ returns-in_err-take c =
     let p = err_from_is_err_and c.from_residual.result c.from_residual.ensures.1 in
     let at : c.as_str.result.now ≡ get_or c.args.words.now c.loop-word.word-index c.as_str.result.now = rw c.as_str.ensures c.word-item.is in
     rw (p.1, p.2) (fails _ _ _
-      (λ cause e. ap (λ r. r >>= finished) (sym c.loop-word.invariant ∙ with_words-fails (progress c.loop-word.reader) c.args.words.now c.loop-word.word-index _ cause c.loop-word-test.true at e))
-      c.in_err-take.ensures)
+    (λ cause e. ap (λ r. r >>= finished) (sym c.loop-word.invariant ∙ with_words-fails (progress c.loop-word.reader) c.args.words.now c.loop-word.word-index _ cause c.loop-word-test.true at e))
+    c.in_err-take.ensures)
 
 pub loop-word-preserved : goal.loop-word-preserved
 loop-word-preserved c =
