@@ -27,11 +27,12 @@ value_named name (s ∷ ss) = if bytes_eq s.name name then Some s.value else val
 abbrev pub value_of : OptionName → List Setting → Option (List ℕ)
 value_of o settings = value_named (option_word o) settings
 
--- a value of `--algo` that has to be there and to be known
+-- an algorithm that has to be known
 abbrev pub known : Option Algorithm → Result Algorithm UsageCause
 known None = Err (BadValue option.Algo)
 known (Some a) = Ok a
 
+-- the algorithm of a value that has to be there
 abbrev pub algorithm_in : Option (List ℕ) → Result Algorithm UsageCause
 algorithm_in None = Err (Missing option.Algo)
 algorithm_in (Some word) = known (algorithm_named word)
@@ -69,6 +70,7 @@ judged Required a o (Some value) = if is_good o value then Ok tt else Err (BadVa
 judged Allowed a o (Some value) = if is_good o value then Ok tt else Err (BadValue o)
 judged Foreign a o (Some value) = Err (NotFor o a)
 
+-- the same, by whether the algorithm has the option
 unfoldable pub checked : Algorithm → OptionName → Option (List ℕ) → Result (Unit {0}) UsageCause
 checked a o value = judged (standing a o) a o value
 

@@ -26,6 +26,7 @@ pub record SpellsFlag (words : List (List ℕ)) (s : Setting) : Type 0 where
   pub value : s.value ≡ []
   pub spelled : words ≡ (codes "--" ++ s.name) ∷ []
 
+-- one of the two
 abbrev pub Spells : List (List ℕ) → Setting → Type 0
 Spells words s = SpellsValue words s ⊎ SpellsFlag words s
 

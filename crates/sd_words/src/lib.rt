@@ -17,8 +17,8 @@ pub use request::{Request, UsageCause, WordsError};
 use sd_base::Text;
 use std::alloc::Global;
 
-/// Reads the words after the program's name. Cost: linear in the bytes of the first twenty words, since more
-/// aren't well spelled.
+/// Reads the words after the program's name. Cost: linear in the bytes of at most the first 21 words, since no list
+/// of more than 20 is well spelled.
 #[tactic(auto, unfolding(crate::specs::Asked::request_of, crate::specs::Asked::request_from))]
 pub fn parse_words(alloc: Global, words: &[Text]) -> Result<Request, WordsError>
     ensures { MatchResult result (λ r. request_of words.now ≡ Ok r) (λ e. Fails e (request_of words.now)) }

@@ -3,7 +3,7 @@
 ghost use Rattle.std.specs.Prelude.{◌≡◌, ◌<◌, min};
 ghost use Rattle.std.specs.List.{list_all};
 ghost use Rattle.std.specs.Char.{is_ascii_digit};
-ghost use Rattle.sd_words.specs.Values.{is_value, number, number_within};
+ghost use Rattle.sd_words.specs.Values.{is_decimal, is_value, number, number_within};
 
 /// A number from here on is far above each limit, so it stays here, however many digits follow.
 const GREATEST: u64 = 1_000_000_000_000_000;
@@ -24,6 +24,12 @@ fn are_digits(text: &[u8]) -> bool
     text.iter().all(|byte| byte.is_ascii_digit())
 }
 
+fn is_decimal(text: &[u8]) -> bool
+    ensures { result ≡ is_decimal text.now }
+{
+    text.len() > 0 && are_digits(text)
+}
+
 /// The number that digits spell, or the greatest one.
 fn number(digits: &[u8]) -> u64
     ensures { result ≡ min (number digits.now) GREATEST }
@@ -42,7 +48,7 @@ pub(crate) fn number_within(text: &str, low: u64, high: u64) -> Option<u64>
     ensures { result ≡ number_within low high text.now }
 {
     let digits = text.as_bytes();
-    if !are_digits(digits) {
+    if !is_decimal(digits) {
         return None;
     }
     let n = number(digits);
