@@ -1,0 +1,57 @@
+-- One turn of the loop over the words, and of the one over the options.
+use Rattle.std.proofs.Common.{◌≡◌, ℕ, ◌+◌, ◌<◌, ◌≤◌, List, ◌∷◌, length, get_or, drop, Result, Ok, Err, sym, ap, ◌∙◌, add-one, drop-cons}
+use Rattle.std.proofs.lemmas.List.{drop_all}
+use Rattle.sd_words.specs.declared.names.OptionName.{OptionName}
+use Rattle.sd_words.specs.declared.names.Algorithm.{Algorithm}
+use Rattle.sd_words.specs.declared.request.UsageCause.{UsageCause}
+use Rattle.sd_words.specs.declared.request.WordsError.{WordsError}
+use Rattle.sd_words.specs.declared.request.WordsError.TheVariants.{Usage, NoMemory}
+use Rattle.sd_words.specs.Spelling.{Setting}
+use Rattle.sd_words.specs.Reading.{◌>>=◌, Progress, with_word, with_words}
+use Rattle.sd_words.specs.Asked.{Fails, value_of, checked, all_checked}
+
+-- what ends a part ends the whole
+pub fails : {Y Z : Type 0} (e : WordsError) (part : Result Y UsageCause) (whole : Result Z UsageCause)
+    → ((cause : UsageCause) → part ≡ Err cause → whole ≡ Err cause) → Fails e part → Fails e whole
+fails (Usage cause) part whole f h = f cause h
+fails NoMemory part whole f h = tt
+
+-- at a place in the list of words
+pub with_words-at : (p : Progress) (ws : List (List ℕ)) (i : ℕ) (w : List ℕ) → i < length ws → w ≡ get_or ws i w
+    → with_words p (drop i ws) ≡ (with_word p w >>= λ q. with_words q (drop (i + 1) ws))
+unfolding with_words
+with_words-at p ws i w lt is =
+    let first : drop i ws ≡ get_or ws i w ∷ drop (i + 1) ws = rw add-one (drop-cons ws i w lt) in
+    ap (with_words p) (first ∙ ap (λ v. v ∷ drop (i + 1) ws) (sym is))
+
+-- the next word ends the reading, or goes on
+pub with_words-fails : (p : Progress) (ws : List (List ℕ)) (i : ℕ) (w : List ℕ) (cause : UsageCause) → i < length ws → w ≡ get_or ws i w
+    → with_word p w ≡ Err cause → with_words p (drop i ws) ≡ Err cause
+with_words-fails p ws i w cause lt is e = with_words-at p ws i w lt is ∙ ap (λ r. r >>= λ q. with_words q (drop (i + 1) ws)) e
+
+pub with_words-goes : (p q : Progress) (ws : List (List ℕ)) (i : ℕ) (w : List ℕ) → i < length ws → w ≡ get_or ws i w
+    → with_word p w ≡ Ok q → with_words q (drop (i + 1) ws) ≡ with_words p (drop i ws)
+with_words-goes p q ws i w lt is e = sym (with_words-at p ws i w lt is ∙ ap (λ r. r >>= λ q'. with_words q' (drop (i + 1) ws)) e)
+
+pub with_words-end : (p : Progress) (ws : List (List ℕ)) (i : ℕ) → length ws ≤ i → with_words p (drop i ws) ≡ Ok p
+unfolding with_words
+with_words-end p ws i past = ap (with_words p) (drop_all i ws past)
+
+pub all_checked-at : (a : Algorithm) (settings : List Setting) (os : List OptionName) (i : ℕ) (d : OptionName)
+    → i < length os → all_checked a settings (drop i os) ≡ (checked a (get_or os i d) (value_of (get_or os i d) settings) >>= λ _. all_checked a settings (drop (i + 1) os))
+unfolding all_checked
+all_checked-at a settings os i d lt =
+    let first : drop i os ≡ get_or os i d ∷ drop (i + 1) os = rw add-one (drop-cons os i d lt) in
+    ap (all_checked a settings) first
+
+pub all_checked-fails : (a : Algorithm) (settings : List Setting) (os : List OptionName) (i : ℕ) (d : OptionName) (cause : UsageCause)
+    → i < length os → checked a (get_or os i d) (value_of (get_or os i d) settings) ≡ Err cause → all_checked a settings (drop i os) ≡ Err cause
+all_checked-fails a settings os i d cause lt e = all_checked-at a settings os i d lt ∙ ap (λ r. r >>= λ _. all_checked a settings (drop (i + 1) os)) e
+
+pub all_checked-goes : (a : Algorithm) (settings : List Setting) (os : List OptionName) (i : ℕ) (d : OptionName)
+    → i < length os → checked a (get_or os i d) (value_of (get_or os i d) settings) ≡ Ok tt → all_checked a settings (drop (i + 1) os) ≡ all_checked a settings (drop i os)
+all_checked-goes a settings os i d lt e = sym (all_checked-at a settings os i d lt ∙ ap (λ r. r >>= λ _. all_checked a settings (drop (i + 1) os)) e)
+
+pub all_checked-end : (a : Algorithm) (settings : List Setting) (os : List OptionName) (i : ℕ) → length os ≤ i → all_checked a settings (drop i os) ≡ Ok tt
+unfolding all_checked
+all_checked-end a settings os i past = ap (all_checked a settings) (drop_all i os past)

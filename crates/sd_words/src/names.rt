@@ -1,0 +1,103 @@
+//! Options and algorithms, by the words that name them.
+
+ghost use Rattle.std.specs.Prelude.{◌≡◌};
+ghost use Rattle.sd_words.specs.Names.{algorithm_named, algorithm_word, names_flag, names_value, option_word};
+
+/// An option of the command line; each but `NoOverlap` has a value. The words may give the options in any
+/// order; where they are tested one by one, it is in this order.
+#[derive(Clone, Copy, Debug, PartialEq, Eq)]
+pub enum OptionName {
+    Algo,
+    Graph,
+    Certificate,
+    Buffers,
+    States,
+    Distributions,
+    Limit,
+    Seed,
+    Actors,
+    NoOverlap,
+}
+
+/// The options that have a value.
+const WITH_VALUE: [OptionName; 9] = [
+    OptionName::Algo,
+    OptionName::Graph,
+    OptionName::Certificate,
+    OptionName::Buffers,
+    OptionName::States,
+    OptionName::Distributions,
+    OptionName::Limit,
+    OptionName::Seed,
+    OptionName::Actors,
+];
+
+impl OptionName {
+    /// The option as it stands in the words, without its hyphens.
+    #[tactic(auto, unfolding(crate::specs::Names::option_word))]
+    pub fn word(&self) -> &'static str
+        ensures { result.now ≡ option_word self.now }
+    {
+        match self {
+            OptionName::Algo => "algo",
+            OptionName::Graph => "graph",
+            OptionName::Certificate => "certificate",
+            OptionName::Buffers => "buffers",
+            OptionName::States => "states",
+            OptionName::Distributions => "distributions",
+            OptionName::Limit => "limit",
+            OptionName::Seed => "seed",
+            OptionName::Actors => "actors",
+            OptionName::NoOverlap => "no-overlap",
+        }
+    }
+}
+
+/// Whether an option that has a value is named so.
+#[tactic(auto, unfolding(crate::specs::Names::names_value))]
+pub(crate) fn names_value(name: &str) -> bool
+    ensures { result ≡ names_value name.now }
+{
+    WITH_VALUE.iter().any(|option| option.word() == name)
+}
+
+/// Whether the option that has no value is named so.
+#[tactic(auto, unfolding(crate::specs::Names::names_flag))]
+pub(crate) fn names_flag(name: &str) -> bool
+    ensures { result ≡ names_flag name.now }
+{
+    OptionName::NoOverlap.word() == name
+}
+
+/// What a command computes: the value of `--algo`.
+#[derive(Clone, Copy, Debug, PartialEq, Eq)]
+pub enum Algorithm {
+    Repetition,
+    Throughput,
+}
+
+const ALGORITHMS: [Algorithm; 2] = [Algorithm::Repetition, Algorithm::Throughput];
+
+impl Algorithm {
+    /// The algorithm as it stands in the words.
+    #[tactic(auto, unfolding(crate::specs::Names::algorithm_word))]
+    pub fn word(&self) -> &'static str
+        ensures { result.now ≡ algorithm_word self.now }
+    {
+        match self {
+            Algorithm::Repetition => "repetition",
+            Algorithm::Throughput => "throughput",
+        }
+    }
+
+    /// The algorithm of this word.
+    #[tactic(auto, unfolding(crate::specs::Names::algorithm_named))]
+    pub(crate) fn named(word: &str) -> Option<Algorithm>
+        ensures { result ≡ algorithm_named word.now }
+    {
+        ALGORITHMS
+            .iter()
+            .copied()
+            .find(|algorithm| algorithm.word() == word)
+    }
+}

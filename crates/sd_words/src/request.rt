@@ -1,0 +1,69 @@
+ghost use Rattle.std.specs.Prelude.{◌≡◌};
+ghost use Rattle.sd_words.specs.declared.request.WordsError.TheVariants.{NoMemory, Usage};
+
+use crate::{Algorithm, OptionName};
+use sd_base::Text;
+use std::alloc::{AllocError, AllocFailed};
+use thiserror::Error;
+
+/// What the words ask for. `graph` is the name of the graph file.
+#[derive(Debug, Drop)]
+pub enum Request {
+    /// The repetition vector of the graph.
+    Repetition {
+        graph: Text,
+    },
+    /// The throughput of the graph: with `no_overlap` the firings of each actor come one after another, and
+    /// the execution may have at most `states` states before one is repeated.
+    Throughput {
+        graph: Text,
+        no_overlap: bool,
+        states: u64,
+    },
+}
+
+/// Why the words ask for nothing: the first cause in the order in which they are tested.
+#[derive(Clone, Copy, Debug, PartialEq, Eq)]
+pub enum UsageCause {
+    /// The words don't split into options with their values, or an option comes twice.
+    Words,
+    /// An option that has to be there isn't.
+    Missing { option: OptionName },
+    /// An option is there that the algorithm doesn't have.
+    NotFor { option: OptionName, algo: Algorithm },
+    /// The value of an option isn't of its form, or not in its range.
+    BadValue { option: OptionName },
+}
+
+/// Why there is no request.
+#[derive(Clone, Copy, Debug, PartialEq, Eq, Error)]
+pub enum WordsError {
+    #[error("the words ask for nothing")]
+    Usage { cause: UsageCause },
+    #[error("out of memory")]
+    NoMemory,
+}
+
+impl From<UsageCause> for WordsError {
+    ghost from_gives = { λ cause e. e ≡ Usage cause };
+
+    fn from(cause: UsageCause) -> WordsError {
+        WordsError::Usage { cause }
+    }
+}
+
+impl From<AllocError> for WordsError {
+    ghost from_gives = { λ _ e. e ≡ NoMemory };
+
+    fn from(_error: AllocError) -> WordsError {
+        WordsError::NoMemory
+    }
+}
+
+impl<T: Drop> From<AllocFailed<T>> for WordsError {
+    ghost from_gives = { λ _ e. e ≡ NoMemory };
+
+    fn from(_error: AllocFailed<T>) -> WordsError {
+        WordsError::NoMemory
+    }
+}

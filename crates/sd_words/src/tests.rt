@@ -1,0 +1,191 @@
+use super::*;
+use std::process::Abort;
+use std::test::Fail;
+
+// The words of a line, with a space between any two.
+fn split(alloc: Global, line: &str) -> Result<Vec<Text>, Fail> {
+    let mut words = Vec::new(alloc);
+    for word in line.split(' ') {
+        words.push(Text::new(String::from_str(alloc, word)?))?;
+    }
+    Ok(words)
+}
+
+// What is answered, as one line.
+fn shown(alloc: Global, words: &[Text]) -> Result<String, Fail> {
+    match parse_words(alloc, words) {
+        Ok(Request::Repetition { graph }) => {
+            Ok(format!(in alloc; "repetition of {}", graph.as_str())?)
+        }
+        Ok(
+            Request::Throughput {
+                graph,
+                no_overlap,
+                states,
+            },
+        ) => Ok(format!(in alloc; "throughput of {}, {no_overlap}, {states}", graph.as_str())?),
+        Err(WordsError::NoMemory) => Ok(String::from_str(alloc, "memory")?),
+        Err(WordsError::Usage { cause }) => shown_cause(alloc, cause),
+    }
+}
+
+fn shown_cause(alloc: Global, cause: UsageCause) -> Result<String, Fail> {
+    match cause {
+        UsageCause::Words => Ok(String::from_str(alloc, "words")?),
+        UsageCause::Missing { option } => Ok(format!(in alloc; "missing {}", option.word())?),
+        UsageCause::NotFor { option, algo } => {
+            Ok(format!(in alloc; "{} is not for {}", option.word(), algo.word())?)
+        }
+        UsageCause::BadValue { option } => Ok(format!(in alloc; "bad {}", option.word())?),
+    }
+}
+
+fn answers(rt: &impl Abort, alloc: Global, line: &str, expected: &str) -> Result<(), Fail> {
+    let words = split(alloc, line)?;
+    let answer = shown(alloc, words.as_slice())?;
+    assert_eq!(rt; answer.as_str(), expected, "of {line}");
+    Ok(())
+}
+
+#[test]
+fn requests_in_either_spelling_and_any_order(rt: HostRuntime) -> Result<(), Fail> {
+    for (line, expected) in [
+        ("--algo repetition --graph f", "repetition of f"),
+        ("--graph=f --algo=repetition", "repetition of f"),
+        (
+            "--algo throughput --graph f",
+            "throughput of f, false, 20000",
+        ),
+        (
+            "--no-overlap --states 7 --graph f --algo throughput",
+            "throughput of f, true, 7",
+        ),
+        (
+            "--graph f --algo=throughput --no-overlap",
+            "throughput of f, true, 20000",
+        ),
+        ("--algo repetition --graph==x", "repetition of =x"),
+        ("--algo repetition --graph a=b=c", "repetition of a=b=c"),
+        ("--algo repetition --graph a-b--c", "repetition of a-b--c"),
+    ] {
+        answers(&rt, rt.alloc(), line, expected)?;
+    }
+    Ok(())
+}
+
+#[test]
+fn numbers_of_states(rt: HostRuntime) -> Result<(), Fail> {
+    for (states, expected) in [
+        ("1", "throughput of f, false, 1"),
+        ("00003", "throughput of f, false, 3"),
+        ("200000", "throughput of f, false, 200000"),
+        (
+            "00000000000000000000000000000000000000000000000020",
+            "throughput of f, false, 20",
+        ),
+        ("0", "bad states"),
+        ("200001", "bad states"),
+        (
+            "12345678901234567890123456789012345678901234567890",
+            "bad states",
+        ),
+        ("3x", "bad states"),
+        ("+3", "bad states"),
+        ("3_000", "bad states"),
+        ("", "words"),
+        ("-3", "words"),
+    ] {
+        let line = format!(in rt.alloc(); "--algo throughput --graph f --states={states}")?;
+        answers(&rt, rt.alloc(), line.as_str(), expected)?;
+    }
+    Ok(())
+}
+
+#[test]
+fn words_that_are_not_well_spelled(rt: HostRuntime) -> Result<(), Fail> {
+    for line in [
+        "",
+        "graph",
+        "-graph f",
+        "--",
+        "--=f",
+        "--foo=1",
+        "--foo 1",
+        "--graphs f",
+        "--Graph f",
+        "--graph",
+        "--graph ",
+        "--graph=",
+        "--graph -x",
+        "--graph=-x",
+        "--graph --algo",
+        "--graph f g",
+        "--graph f --graph f",
+        "--graph f --graph=f",
+        "--no-overlap=x",
+        "--no-overlap x",
+        "--no-overlap --no-overlap",
+        "--algo repetition --graph",
+    ] {
+        answers(&rt, rt.alloc(), line, "words")?;
+    }
+    Ok(())
+}
+
+#[test]
+fn first_cause_in_the_order_of_the_tests(rt: HostRuntime) -> Result<(), Fail> {
+    for (line, expected) in [
+        (
+            "--algo repetition --graph f --limit 3",
+            "limit is not for repetition",
+        ),
+        ("--algo storage --graph f", "bad algo"),
+        ("--algo Repetition", "bad algo"),
+        ("--limit 3 --graph f", "missing algo"),
+        ("--algo repetition", "missing graph"),
+        ("--algo throughput --states=0", "missing graph"),
+        (
+            "--algo throughput --buffers x --graph f --states 0",
+            "buffers is not for throughput",
+        ),
+        (
+            "--algo throughput --graph f --states 0 --seed 1",
+            "bad states",
+        ),
+        (
+            "--algo throughput --graph f --actors 2 --distributions 1",
+            "distributions is not for throughput",
+        ),
+        (
+            "--algo throughput --graph f --actors 2 --seed 1",
+            "seed is not for throughput",
+        ),
+        (
+            "--algo throughput --graph f --actors 2",
+            "actors is not for throughput",
+        ),
+        (
+            "--algo throughput --graph f --certificate k",
+            "certificate is not for throughput",
+        ),
+        (
+            "--algo repetition --graph f --no-overlap",
+            "no-overlap is not for repetition",
+        ),
+        (
+            "--algo repetition --graph f --no-overlap --states 0",
+            "states is not for repetition",
+        ),
+    ] {
+        answers(&rt, rt.alloc(), line, expected)?;
+    }
+    Ok(())
+}
+
+#[test]
+fn no_words_lack_an_algorithm(rt: HostRuntime) -> Result<(), Fail> {
+    let words = Vec::new(rt.alloc());
+    let answer = shown(rt.alloc(), words.as_slice())?;
+    assert_eq!(rt; answer.as_str(), "missing algo");
+    Ok(())
+}
