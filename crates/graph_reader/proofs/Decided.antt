@@ -1,5 +1,5 @@
 -- The bytes of a file decide its table or its first fault.
-use Rattle.std.proofs.Common.{◌≡◌, ◌≢◌, ◌⊎◌, ℕ, Bool, List, Result, Ok, Err, ap, subst, sym, ◌∙◌, inl, inr}
+use Rattle.std.proofs.Common.{◌≡◌, ◌≢◌, ◌⊎◌, ℕ, Bool, true, List, Result, Ok, Err, ap, refl, subst, sym, ◌∙◌, inl, inr}
 use Rattle.sd_base.specs.declared.tables.GraphFile.{GraphFile}
 use Rattle.file_text.specs.declared.error.TextError.{TextError}
 use Rattle.file_text.specs.declared.error.TextError.TheVariants as text
@@ -10,8 +10,8 @@ use Rattle.graph_reader.specs.declared.error.ReadError.{ReadError}
 use Rattle.graph_reader.specs.declared.error.ReadError.TheVariants as reading
 use Rattle.graph_reader.specs.Reading.{BreaksRule, IsFirstFault}
 use Rattle.graph_reader.specs.Sections.{table_of}
-use Rattle.graph_reader.specs.Laws.{Gives, HasOneTable, HasOneFault, ReadHasNoFault, ReadKeepsRules}
-use Rattle.graph_reader.proofs.Rules.{keeps_rules}
+use Rattle.graph_reader.specs.Laws.{Gives, HasOneTable, HasOneFault, ReadHasNoFault, ReadIsTimed, ReadKeepsRules}
+use Rattle.graph_reader.proofs.Rules.{keeps_rules, is_timed}
 
 -- what is known of texts: one tree, one fault, and not both
 abbrev pub OneTree : Type 0
@@ -77,3 +77,6 @@ no_fault tree either bytes need t x some gives h = none_of tree either bytes nee
 
 pub keeps : ReadKeepsRules
 keeps bytes need t (e, is, p) = keeps_rules need e (Ok t) p
+
+pub timed : ReadIsTimed
+timed bytes t (e, is, p) = is_timed true e (Ok t) p refl

@@ -382,20 +382,25 @@ found t (a ∷ rows) keep =
     cases (length a.times == 0) refl
 
 abbrev Keeps : Bool → GraphFile → Type 0
-Keeps need_times t = KeepsRules t × (IsTrue need_times → IsTimed t)
+Keeps need_times t = KeepsRules t × (IsTrue need_times → IsTimed t) × (t.kind ≡ Sdf)
 
-all_timed : (need_times : Bool) (t : GraphFile) → KeepsRules t → AllByRecursion (ActorKeepsRules Sdf) t.actors → IfOk (Sections.all_timed need_times t) (Keeps need_times)
+all_timed : (need_times : Bool) (t : GraphFile) → KeepsRules t → t.kind ≡ Sdf → AllByRecursion (ActorKeepsRules Sdf) t.actors → IfOk (Sections.all_timed need_times t) (Keeps need_times)
 unfolding Sections.all_timed
-all_timed need_times t keeps keep =
+all_timed need_times t keeps kind keep =
     choice (Keeps need_times) need_times _ (Ok t)
     (λ h. weaker (λ u. (u ≡ t) × AllByRecursion IsTimedRow t.actors) (Keeps need_times) (Sections.timed t (find (λ (a : ActorRow). length a.times == 0) t.actors)) (found t t.actors keep)
-    (λ u all. subst (Keeps need_times) (sym all.0) (keeps, λ needed. All-from_recursion IsTimedRow t.actors all.1)))
+    (λ u all. subst (Keeps need_times) (sym all.0) (keeps, λ needed. All-from_recursion IsTimedRow t.actors all.1, kind)))
     (λ h. (
       keeps,
       λ needed.
           let no : false ≡ true = sym h ∙ needed in
           absurd cc,
+      kind,
     ))
+
+table-kind : (actors : List Actor) (channels : List Channel) (times : List TimeEntry) (sizes : List SizeEntry) → (Sections.table actors channels times sizes).kind ≡ Sdf
+unfolding Sections.table
+table-kind actors channels times sizes = refl
 
 table-rows : (actors : List Actor) (channels : List Channel) (times : List TimeEntry) (sizes : List SizeEntry) → AllByRecursion TimeEntryFits times → AllByRecursion (ActorKeepsRules Sdf) (Sections.table actors channels times sizes).actors
 unfolding Sections.table
@@ -414,7 +419,7 @@ table_of need_times tree =
     skip _ (Walk.at_most_one field.SdfProperties graph) _ (λ properties.
     then (AllByRecursion TimeEntryFits) _ (Sections.times_of actors properties) _ (times_of actors properties) (λ times times_fit.
     then (AllByRecursion SizeEntryFits) _ (Sections.sizes_of channels properties) _ (sizes_of channels properties) (λ sizes sizes_fit.
-    all_timed need_times (Sections.table actors channels times sizes) (table actors channels times sizes actors_fit channels_fit times_fit sizes_fit) (table-rows actors channels times sizes times_fit)))))))))))
+    all_timed need_times (Sections.table actors channels times sizes) (table actors channels times sizes actors_fit channels_fit times_fit sizes_fit) (table-kind actors channels times sizes) (table-rows actors channels times sizes times_fit)))))))))))
 
 from_given : (need_times : Bool) (tree : Node) (result : Result GraphFile ReadError) → Gives (λ t. t) result (Sections.table_of need_times tree) → IfOk result (Keeps need_times)
 from_given need_times tree (Ok t) gives = subst (λ r. IfOk r (Keeps need_times)) gives (table_of need_times tree)
@@ -425,3 +430,6 @@ keeps_rules need_times tree result gives = weaker (Keeps need_times) KeepsRules 
 
 pub is_timed : (need_times : Bool) (tree : Node) (result : Result GraphFile ReadError) → Gives (λ t. t) result (Sections.table_of need_times tree) → IfOk result (λ t. IsTrue need_times → IsTimed t)
 is_timed need_times tree result gives = weaker (Keeps need_times) (λ t. IsTrue need_times → IsTimed t) result (from_given need_times tree result gives) (λ t k. k.1)
+
+pub is_sdf : (need_times : Bool) (tree : Node) (result : Result GraphFile ReadError) → Gives (λ t. t) result (Sections.table_of need_times tree) → IfOk result (λ t. t.kind ≡ Sdf)
+is_sdf need_times tree result gives = weaker (Keeps need_times) (λ t. t.kind ≡ Sdf) result (from_given need_times tree result gives) (λ t k. k.2)

@@ -1,7 +1,7 @@
 -- Laws of graph files: the bytes decide their table or their first fault.
-use Rattle.std.specs.Prelude.{◌≡◌, ◌≢◌, ℕ, Bool, List, Ok}
+use Rattle.std.specs.Prelude.{◌≡◌, ◌≢◌, ℕ, Bool, true, List, Ok}
 use Rattle.sd_base.specs.declared.tables.GraphFile.{GraphFile}
-use Rattle.sd_base.specs.Tables.{KeepsRules}
+use Rattle.sd_base.specs.Tables.{KeepsRules, IsTimed}
 use Rattle.file_text.specs.Node.{Node}
 use Rattle.file_text.specs.Grammar.{IsText}
 use Rattle.graph_reader.specs.declared.error.ReadError.{ReadError}
@@ -30,3 +30,7 @@ ReadHasNoFault = (bytes : List ℕ) (need_times : Bool) (t : GraphFile) (x : Rea
 -- a table that is read keeps the rules
 abbrev pub ReadKeepsRules : Type 0
 ReadKeepsRules = (bytes : List ℕ) (need_times : Bool) (t : GraphFile) → Gives bytes need_times t → KeepsRules t
+
+-- and has its times where they are needed
+abbrev pub ReadIsTimed : Type 0
+ReadIsTimed = (bytes : List ℕ) (t : GraphFile) → Gives bytes true t → IsTimed t

@@ -1,4 +1,4 @@
-ghost use Rattle.graph_reader.specs.Laws.{HasOneFault, HasOneTable, ReadHasNoFault, ReadKeepsRules};
+ghost use Rattle.graph_reader.specs.Laws.{HasOneFault, HasOneTable, ReadHasNoFault, ReadIsTimed, ReadKeepsRules};
 
 use file_text::answers_are_one;
 
@@ -8,6 +8,7 @@ pub fn know_files()
     ensures fault { HasOneFault }
     ensures either { ReadHasNoFault }
     ensures keeps { ReadKeepsRules }
+    ensures timed { ReadIsTimed }
 {
     answers_are_one();
 }

@@ -7,6 +7,7 @@ ghost use Rattle.file_text.specs.Node.{Node};
 ghost use Rattle.file_text.specs.Grammar.{IsText};
 ghost use Rattle.graph_reader.specs.Reading.{IsFirstFault};
 ghost use Rattle.sd_base.specs.declared.tables.GraphFile.{GraphFile};
+ghost use Rattle.sd_base.specs.declared.tables.Kind.TheVariants.{Sdf};
 ghost use Rattle.graph_reader.specs.Walk.{Gives};
 ghost use Rattle.graph_reader.specs.Sections.{table_of};
 ghost use Rattle.graph_reader.specs.Spelled.{IsTable};
@@ -39,6 +40,7 @@ pub fn read_graph(alloc: Global, bytes: &[u8], need_times: bool) -> Result<Graph
     ensures exact { (e : Node) → IsText e bytes.now → Gives (λ t. t) result (table_of need_times e) }
     ensures keeps { IfOk result KeepsRules }
     ensures timed { IfOk result (λ t. IsTrue need_times → IsTimed t) }
+    ensures kind { IfOk result (λ t. t.kind ≡ Sdf) }
 {
     match read_tree(alloc, bytes) {
         Ok(tree) => table::table_of(alloc, &tree.root, need_times),

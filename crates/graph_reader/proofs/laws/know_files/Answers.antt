@@ -1,4 +1,4 @@
-use Rattle.graph_reader.proofs.Decided.{one_table, one_fault, no_fault, keeps}
+use Rattle.graph_reader.proofs.Decided.{one_table, one_fault, no_fault, keeps, timed}
 use Rattle.graph_reader.proofs.laws.know_files.Goals as goal
 
 pub returns-clause-table : goal.returns-clause-table
@@ -12,3 +12,6 @@ returns-clause-either c = no_fault c.answers_are_one.ensures.one_tree c.answers_
 
 pub returns-clause-keeps : goal.returns-clause-keeps
 returns-clause-keeps c = keeps
+
+pub returns-clause-timed : goal.returns-clause-timed
+returns-clause-timed c = timed
