@@ -6,3 +6,4 @@ pub mod Named
 pub mod Apart
 pub mod Spelled
 pub mod Causes
+pub mod States

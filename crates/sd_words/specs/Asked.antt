@@ -1,5 +1,5 @@
 -- What settings ask for, or the first cause why they ask for nothing.
-use Rattle.std.specs.Prelude.{◌≡◌, ℕ, Bool, true, List, [], ◌∷◌, Option, Some, None, Result, Ok, Err, MatchResult, is_some, unwrap_or, option_and_then, if◌then◌else◌}
+use Rattle.std.specs.Prelude.{◌≡◌, ◌≤◌, ℕ, Bool, true, List, [], ◌∷◌, Option, Some, None, Result, Ok, Err, MatchResult, is_some, unwrap_or, option_and_then, if◌then◌else◌}
 use Rattle.std.specs.Str.{bytes_eq}
 use Rattle.sd_words.specs.declared.names.OptionName.{OptionName}
 use Rattle.sd_words.specs.declared.names.OptionName.TheVariants as option
@@ -88,6 +88,11 @@ unfoldable pub request_for : Algorithm → List Setting → Request
 request_for algorithm.Repetition settings = request.Repetition (unwrap_or (value_of option.Graph settings) [])
 request_for algorithm.Throughput settings =
     request.Throughput (unwrap_or (value_of option.Graph settings) []) (is_some (value_of option.NoOverlap settings)) (states_of settings)
+
+-- a number of states is 1 to 200,000
+abbrev pub HasStates : Request → Type 0
+HasStates (request.Repetition graph) = Unit {0}
+HasStates (request.Throughput graph no_overlap states) = (1 ≤ states) × (states ≤ 200000)
 
 -- what settings ask for
 unfoldable pub request_from : List Setting → Result Request UsageCause

@@ -1,8 +1,8 @@
 //! The words of a command line to a request: what they ask for, or the first cause why they ask for nothing.
 #![tactic(auto)]
 
-ghost use Rattle.std.specs.Prelude.{◌≡◌, MatchResult, Ok};
-ghost use Rattle.sd_words.specs.Asked.{Fails, request_of};
+ghost use Rattle.std.specs.Prelude.{◌≡◌, IfOk, MatchResult, Ok};
+ghost use Rattle.sd_words.specs.Asked.{Fails, HasStates, request_of};
 
 mod items;
 mod laws;
@@ -21,7 +21,8 @@ use std::alloc::Global;
 /// of more than 20 is well spelled.
 #[tactic(auto, unfolding(crate::specs::Asked::request_of, crate::specs::Asked::request_from))]
 pub fn parse_words(alloc: Global, words: &[Text]) -> Result<Request, WordsError>
-    ensures { MatchResult result (λ r. request_of words.now ≡ Ok r) (λ e. Fails e (request_of words.now)) }
+    ensures request { MatchResult result (λ r. request_of words.now ≡ Ok r) (λ e. Fails e (request_of words.now)) }
+    ensures states { IfOk result HasStates }
 {
     let items = items::items_of(alloc, words)?;
     let algo = table::algorithm_of(&items)?;
