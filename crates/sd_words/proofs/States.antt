@@ -2,20 +2,18 @@
 use Rattle.std.proofs.Common.{◌≡◌, ℕ, ◌≤◌, Bool, true, false, ◌&&◌, List, Option, Some, None, cond, refl, sym, subst, ◌∙◌, lit≤}
 use Rattle.std.proofs.lemmas.Bool.{leb-true}
 use Rattle.std.specs.Prelude.{nat_le, unwrap_or, option_and_then}
-use Rattle.std.specs.List.{list_all}
-use Rattle.std.specs.Char.{is_ascii_digit}
 use Rattle.sd_words.specs.declared.names.OptionName.TheVariants as option
 use Rattle.sd_words.specs.declared.names.Algorithm.{Algorithm}
 use Rattle.sd_words.specs.declared.names.Algorithm.TheVariants as algorithm
 use Rattle.sd_words.specs.declared.request.Request.{Request}
 use Rattle.sd_words.specs.Spelling.{Setting}
-use Rattle.sd_words.specs.Values.{number, number_within}
+use Rattle.sd_words.specs.Values.{is_decimal, number, number_within}
 use Rattle.sd_words.specs.Asked.{HasStates, request_for, states_in, states_of, value_of}
 
 abbrev Within : ℕ → Type 0
 Within n = (1 ≤ n) × (n ≤ 200000)
 
-tested : (n : ℕ) (digits low high : Bool) → nat_le 1 n ≡ low → nat_le n 200000 ≡ high → Within (unwrap_or (cond (digits && (low && high)) (Some n) None) 20000)
+tested : (n : ℕ) (decimal low high : Bool) → nat_le 1 n ≡ low → nat_le n 200000 ≡ high → Within (unwrap_or (cond (decimal && (low && high)) (Some n) None) 20000)
 tested n true true true p q = (leb-true 1 n p, leb-true n 200000 q)
 tested n true true false p q = (lit≤ tt, lit≤ tt)
 tested n true false high p q = (lit≤ tt, lit≤ tt)
@@ -24,7 +22,7 @@ tested n false low high p q = (lit≤ tt, lit≤ tt)
 given : (o : Option (List ℕ)) → Within (unwrap_or (option_and_then states_in o) 20000)
 unfolding states_in number_within
 given None = (lit≤ tt, lit≤ tt)
-given (Some text) = tested (number text) (list_all is_ascii_digit text) (nat_le 1 (number text)) (nat_le (number text) 200000) refl refl
+given (Some text) = tested (number text) (is_decimal text) (nat_le 1 (number text)) (nat_le (number text) 200000) refl refl
 
 states-within : (settings : List Setting) → Within (states_of settings)
 unfolding states_of
