@@ -1,5 +1,9 @@
 mod Causes
+mod Joins
+mod OneRate
+mod Reached
+mod Refusals
+mod Overs
 mod Decided
 mod Shown
-mod FourWords
 mod WalkSteps

@@ -1,4 +1,6 @@
-pub mod Words
+pub mod Names
+pub mod Usages
+pub mod Throughputs
 pub mod Statuses
 pub mod Readings
 pub mod Runs

@@ -3,9 +3,10 @@ ghost use Rattle.sd_base.specs.Tables.{KeepsRules};
 ghost use Rattle.balance.specs.Repetition.{IsApart, IsRatioTooLarge, IsRefusal, IsUnbalanced};
 ghost use Rattle.sd_command.specs.Runs.{IsBalanceRefusal};
 
+use crate::names::name_of;
 use crate::reading::above;
 use balance::{BalanceError, WalkStep};
-use report::{Refusal, escaped, greatest, walk_text};
+use report::{Refusal, greatest, walk_text};
 use sd_base::{GraphFile, NoMemory, Quantity};
 use std::alloc::Global;
 
@@ -39,11 +40,10 @@ fn apart(alloc: Global, graph: &GraphFile, a: u32, b: u32) -> Result<Refusal, No
     requires cause { IsApart graph.now a b }
     ensures { IfOk result (IsBalanceRefusal graph.now) }
 {
-    let actors = graph.actors.as_slice();
     Ok(Refusal::Apart {
         scenario: None,
-        a: escaped(alloc, actors[a as usize].name.as_str())?,
-        b: escaped(alloc, actors[b as usize].name.as_str())?,
+        a: name_of(alloc, graph, a)?,
+        b: name_of(alloc, graph, b)?,
     })
 }
 

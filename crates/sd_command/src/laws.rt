@@ -2,6 +2,10 @@ ghost use Rattle.sd_command.specs.Endings.{DueHasNoAnswer, DueIsAnswered, ElseIs
 
 use balance::one_answer;
 use graph_reader::know_files;
+use lasso::one_ending;
+use sd_base::laws::{
+    blocking_counts_bound_each_schedule, ending_counts_are_one, file_nets_are_lawful,
+};
 
 /// The words and files decide how a run ends, but for faults and want of memory.
 pub fn know_endings()
@@ -12,4 +16,8 @@ pub fn know_endings()
 {
     know_files();
     one_answer();
+    file_nets_are_lawful();
+    ending_counts_are_one();
+    blocking_counts_bound_each_schedule();
+    one_ending();
 }

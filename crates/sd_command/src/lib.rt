@@ -4,11 +4,13 @@
 mod balancing;
 mod command;
 mod laws;
+mod names;
+mod rate;
 mod reading;
 mod sending;
 mod status;
 mod stop;
-mod words;
+mod usage;
 mod work;
 
 pub use command::analyse;

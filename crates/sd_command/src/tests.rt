@@ -3,16 +3,27 @@ ghost use Rattle.std.specs.Prelude.{◌<◌};
 
 mod balanced;
 mod files;
+mod graphs;
 mod repetition;
 mod rules;
+mod throughput;
+mod usage;
 
 use crate::{Status, analyse};
-use sd_base::{Rows, Text};
+use sd_base::{Ledger, Rows, Steps, Text};
 use sd_io::{MemoryShelf, MemorySink};
 use std::alloc::{AllocError, Global};
 use std::process::Abort;
 use std::test::Fail;
 use std::thread::Threads;
+
+/// How many bytes `out` takes.
+const ROOM: usize = 4_194_304;
+
+/// What the runs' counters count.
+struct Executions;
+
+impl Ledger for Executions {}
 
 /// What the outside does in a run: which calls fail, and how many bytes a sink takes a send.
 #[derive(Clone, Copy)]
@@ -31,7 +42,7 @@ impl Outside<'_> {
             shelf_fails: &[],
             out_fails: &[],
             err_fails: &[],
-            most: 4096,
+            most: 65_536,
         }
     }
 }
@@ -58,7 +69,7 @@ pub(crate) fn run<R: Threads + Sync>(
     let mut shelf = shelf_of(alloc, file, outside.shelf_fails)?;
     let mut out = MemorySink::new(
         alloc,
-        4096,
+        ROOM,
         outside.most,
         numbers(alloc, outside.out_fails)?,
     )?;
@@ -69,7 +80,17 @@ pub(crate) fn run<R: Threads + Sync>(
         numbers(alloc, outside.err_fails)?,
     )?;
     let texts = texts(alloc, words)?;
-    let status = analyse(rt, alloc, texts.as_slice(), &mut shelf, &mut out, &mut err);
+    let mut steps = Steps::new(Executions);
+    let status = analyse(
+        rt,
+        alloc,
+        texts.as_slice(),
+        &mut shelf,
+        &mut out,
+        &mut err,
+        &mut steps,
+    );
+    let Executions = steps.finish();
     Ok(Left {
         status,
         out: Vec::from_slice(alloc, out.sent())?,

@@ -1,7 +1,7 @@
 //! `sdf3analysis`: the program over real files and the standard streams.
 #![tactic(auto)]
 
-use sd_base::Text;
+use sd_base::{Ledger, Steps, Text};
 use sd_command::analyse;
 use sd_io::{RealShelf, RealSink};
 use std::alloc::{AllocError, Global};
@@ -13,6 +13,11 @@ use std::{env, io};
 const NO_MEMORY: u8 = 12;
 /// The exit status where the words can't be had for another cause, as where one isn't UTF-8.
 const NO_WORDS: u8 = 13;
+
+/// What the program counts.
+struct Executions;
+
+impl Ledger for Executions {}
 
 fn main(rt: HostRuntime) -> ExitCode {
     let given = match env::args(&rt) {
@@ -26,6 +31,7 @@ fn main(rt: HostRuntime) -> ExitCode {
     let mut shelf = RealShelf::new(&rt);
     let mut out = RealSink::output(&rt);
     let mut err = RealSink::fault(&rt);
+    let mut steps = Steps::new(Executions);
     let status = analyse(
         &rt,
         rt.alloc(),
@@ -33,7 +39,9 @@ fn main(rt: HostRuntime) -> ExitCode {
         &mut shelf,
         &mut out,
         &mut err,
+        &mut steps,
     );
+    let Executions = steps.finish();
     ExitCode::from(status.code())
 }
 

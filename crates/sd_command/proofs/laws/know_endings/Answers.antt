@@ -1,14 +1,34 @@
-use Rattle.sd_command.proofs.Decided.{one_due, due_has_no_answer, due_is_answered, else_is_done}
+use Rattle.sd_command.proofs.OneRate.{NetLaws}
+use Rattle.sd_command.proofs.Decided.{FileLaws, one_due, due_has_no_answer, due_is_answered, else_is_done}
 use Rattle.sd_command.proofs.laws.know_endings.Goals as goal
 
+-- what the calls tell
+laws : goal.After-one_ending → FileLaws
+laws c = record {
+  one = c.one_answer.ensures;
+  table = c.know_files.ensures.table;
+  fault = c.know_files.ensures.fault;
+  either = c.know_files.ensures.either;
+  keeps = c.know_files.ensures.keeps;
+  timed = c.know_files.ensures.timed;
+  lawful = c.file_nets_are_lawful.ensures;
+  nets = record {
+    ends = c.ending_counts_are_one.ensures.one;
+    live = c.blocking_counts_bound_each_schedule.ensures.live;
+    spent = c.one_ending.ensures.spent_or_many;
+    found_spent = c.one_ending.ensures.found_or_spent;
+    found_many = c.one_ending.ensures.found_or_many;
+  };
+}
+
 pub returns-clause-one : goal.returns-clause-one
-returns-clause-one c = one_due c.one_answer.ensures (c.know_files.ensures.table) (c.know_files.ensures.fault) (c.know_files.ensures.either) (c.know_files.ensures.keeps)
+returns-clause-one c = one_due (laws c)
 
 pub returns-clause-refused : goal.returns-clause-refused
-returns-clause-refused c = due_has_no_answer c.one_answer.ensures (c.know_files.ensures.table) (c.know_files.ensures.fault) (c.know_files.ensures.either) (c.know_files.ensures.keeps)
+returns-clause-refused c = due_has_no_answer (laws c)
 
 pub returns-clause-due : goal.returns-clause-due
-returns-clause-due c = due_is_answered c.one_answer.ensures (c.know_files.ensures.table) (c.know_files.ensures.fault) (c.know_files.ensures.either) (c.know_files.ensures.keeps)
+returns-clause-due c = due_is_answered (laws c)
 
 pub returns-clause-done : goal.returns-clause-done
 returns-clause-done c = else_is_done

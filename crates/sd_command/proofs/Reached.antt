@@ -1,0 +1,90 @@
+-- The rate in lowest terms, which the loop's schedule reaches and its need cycle bounds.
+use Rattle.std.proofs.Common.{◌≡◌, ℕ, zero, suc, ◌+◌, ◌*◌, ◌/◌, ◌%◌, ◌≤◌, ◌<◌, List, Result, Ok, Err, IfOk, refl, sym, ap, subst, ◌∙◌, arith, mod-lt}
+use Rattle.std.specs.Int.{IsGcd, ◌∣◌}
+use Rattle.std.proofs.lemmas.Nat.Gcd.{IsGcd-from_zero, IsGcd-from_mod}
+use Rattle.sd_base.specs.declared.memory.NoMemory.{NoMemory}
+use Rattle.sd_base.specs.declared.tables.GraphFile.{GraphFile}
+use Rattle.sd_base.specs.Net.{Net}
+use Rattle.sd_base.specs.Rates.{Rate}
+use Rattle.std.proofs.Math.Nat.{mul-div_cancel', eq_of_mul-eq-mul_left}
+use Rattle.sd_base.proofs.Divisors.{gcd_pos, quotients}
+use Rattle.firing.specs.declared.table.LoopTable.{LoopTable}
+use Rattle.lasso.specs.Runs.{IsFound}
+use Rattle.periodic.specs.declared.schedule.Periodic.{Periodic}
+use Rattle.periodic.specs.Loops.{IsScheduleOf}
+use Rattle.critical.specs.declared.cycle.NeedCycle.{NeedCycle}
+use Rattle.critical.specs.Loops.{IsCriticalCycleOf}
+use Rattle.report.specs.Answers.{rate_lines}
+use Rattle.sd_command.specs.Throughputs.{Runs, IsRateAnswer}
+
+-- any two numbers have a greatest common divisor
+gcd_of : (fuel a b : ℕ) → b < fuel → (g : ℕ) × IsGcd a b g
+gcd_of zero a b below = absurd (omega arith)
+gcd_of (suc fuel) a zero below = (a, IsGcd-from_zero a 0 refl)
+gcd_of (suc fuel) a (suc b) below =
+    let rest : a % suc b < suc b = mod-lt a (omega arith) in
+    let found = gcd_of fuel (suc b) (a % suc b) (omega arith) in
+    (found.0, IsGcd-from_mod a (suc b) found.0 found.1)
+
+-- two numbers over their greatest common divisor
+record Lowest (n d : ℕ) : Type 0 where
+  num : ℕ
+  den : ℕ
+  common : ℕ
+  some : 0 < common
+  first : n ≡ common * num
+  second : d ≡ common * den
+  lowest : IsGcd num den 1
+
+lowest_of : (n d : ℕ) → 0 < n → Lowest n d
+lowest_of n d positive =
+    let found = gcd_of (suc d) n d (omega arith) in
+    let g : ℕ = found.0 in
+    let some : 0 < g = gcd_pos n d g positive found.1 in
+    record {
+      num = n / g;
+      den = d / g;
+      common = g;
+      some = some;
+      first = sym (mul-div_cancel' g found.1.0);
+      second = sym (mul-div_cancel' g found.1.1);
+      lowest = quotients n d g some found.1;
+    }
+
+-- the text of the rate of a net that runs round this loop, with this schedule and this cycle
+pub rate-shown : (graph : GraphFile) (net : Net) (states : ℕ) (table : LoopTable) (schedule : Periodic) (cycle : NeedCycle) (text : List ℕ) → Runs net → IsFound net states table
+    → IsScheduleOf net table schedule → IsCriticalCycleOf net table cycle → text ≡ rate_lines graph net schedule cycle → IsRateAnswer graph net states text
+rate-shown graph net states table schedule cycle text runs found of_loop critical shown =
+    let low : Lowest table.rounds table.period = lowest_of table.rounds table.period found.loop.turns in
+    let g : ℕ = low.common in
+    let turns : table.rounds ≡ g * low.num = low.first in
+    let passes : table.period ≡ g * low.den = low.second in
+    record {
+      runs = runs;
+      num = low.num;
+      den = low.den;
+      rate = found.rate low.num low.den g turns passes low.lowest;
+      table = table;
+      found = found;
+      schedule = schedule;
+      of_loop = of_loop;
+      cycle = cycle;
+      holds = critical.holds;
+      reached =
+          let a : schedule.rounds * low.den ≡ (g * low.num) * low.den = ap (λ (n : ℕ). n * low.den) (of_loop.rounds ∙ turns) in
+          let b : low.num * schedule.period ≡ low.num * (g * low.den) = ap (λ (n : ℕ). low.num * n) (of_loop.period ∙ passes) in
+          omega arith;
+      bounded =
+          let a : cycle.rounds * table.period ≡ cycle.rounds * (g * low.den) = ap (λ (n : ℕ). cycle.rounds * n) passes in
+          let b : table.rounds * cycle.time ≡ (g * low.num) * cycle.time = ap (λ (n : ℕ). n * cycle.time) turns in
+          let c : g * (cycle.rounds * low.den) ≡ g * (low.num * cycle.time) = omega (arith, critical.rate) in
+          eq_of_mul-eq-mul_left g low.some _ _ c;
+      shown = shown;
+    }
+
+-- the same of the text that a call gives
+pub rates-shown : (graph : GraphFile) (net : Net) (table : LoopTable) (schedule : Periodic) (cycle : NeedCycle) (r : Result (List ℕ) NoMemory) → Runs net
+    → IsScheduleOf net table schedule → IsCriticalCycleOf net table cycle → IfOk r (λ text. text ≡ rate_lines graph net schedule cycle)
+    → (states : ℕ) → IsFound net states table → IfOk r (IsRateAnswer graph net states)
+rates-shown graph net table schedule cycle (Ok text) runs of_loop critical shown states found = rate-shown graph net states table schedule cycle text runs found of_loop critical shown
+rates-shown graph net table schedule cycle (Err e) runs of_loop critical shown states found = shown

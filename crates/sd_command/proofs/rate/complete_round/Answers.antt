@@ -1,0 +1,14 @@
+use Rattle.sd_command.proofs.Overs.{blocked-shown, blocked-lacks}
+use Rattle.sd_command.proofs.Refusals.{deadlock-shown}
+use Rattle.sd_command.proofs.rate.complete_round.Goals as goal
+
+pub lacks_text-requires-clause-lacks : goal.lacks_text-requires-clause-lacks
+lacks_text-requires-clause-lacks g c =
+    blocked-lacks (g.F.Firing.net c.args.net.now) _ _
+    (blocked-shown (g.F.Firing.net c.args.net.now) _ _ _ _ _ c.in-Blocked.is c.as_slice.ensures c.as_slice-in-Blocked.ensures c.in_ok-one_round.ensures.answer)
+
+pub returns-clause-stopped : goal.returns-clause-stopped
+returns-clause-stopped g c = λ states.
+    deadlock-shown c.args.graph.now (g.F.Firing.net c.args.net.now) states _ _ _ c.requires.joined
+    (blocked-shown (g.F.Firing.net c.args.net.now) _ _ _ _ _ c.in-Blocked.is c.as_slice.ensures c.as_slice-in-Blocked.ensures c.in_ok-one_round.ensures.answer)
+    c.in_ok-list-in-Blocked.ensures
