@@ -3,16 +3,15 @@
 
     bench/reader.py [MIB]        the greatest file in MiB, 4 by default
 
-Build the program first, by a run of ./sdf3analysis. A row is the least wall-clock time of five runs.
+Where sources changed since the last build it builds, and so proves, the program first. A row is the least wall-clock time of
+five runs.
 """
 import os
-import subprocess
 import sys
 import tempfile
-import time
 
-ROOT = os.path.dirname(os.path.dirname(os.path.abspath(__file__)))
-PROGRAM = os.path.join(ROOT, "crates", "sdf3analysis", "out", "sdf3analysis")
+from programs import least_time, program
+
 LIMIT = 4 * 1024 * 1024
 
 
@@ -72,18 +71,9 @@ def cases(size):
     yield "128 actors, 30,000 other names", chain(128, 30_000)
 
 
-def least_time(path):
-    best = None
-    for _ in range(5):
-        start = time.perf_counter()
-        done = subprocess.run([PROGRAM, "--algo", "repetition", "--graph", path], capture_output=True)
-        took = time.perf_counter() - start
-        best = took if best is None else min(best, took)
-    return best, done.returncode
-
-
 def main():
     size = min(LIMIT, int(float(sys.argv[1]) * 1024 * 1024) if len(sys.argv) > 1 else LIMIT)
+    built = program("sdf3analysis")
     print(f"{'file':32} {'bytes':>9} {'status':>6} {'ms':>8} {'MB/s':>8}")
     with tempfile.TemporaryDirectory() as folder:
         for name, text in cases(size):
@@ -93,8 +83,8 @@ def main():
             path = os.path.join(folder, "graph.xml")
             with open(path, "wb") as file:
                 file.write(data)
-            seconds, status = least_time(path)
-            print(f"{name:32} {len(data):9} {status:6} {seconds * 1e3:8.1f} {len(data) / seconds / 1e6:8.1f}")
+            seconds, done = least_time([built, "--algo", "repetition", "--graph", path])
+            print(f"{name:32} {len(data):9} {done.returncode:6} {seconds * 1e3:8.1f} {len(data) / seconds / 1e6:8.1f}")
 
 
 main()

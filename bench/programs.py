@@ -1,0 +1,39 @@
+"""What the benchmarks share: programs of the repository that are built where sources changed, and the least time of some runs."""
+import os
+import subprocess
+import sys
+import time
+
+ROOT = os.path.dirname(os.path.dirname(os.path.abspath(__file__)))
+CRATES = os.path.join(ROOT, "crates")
+RUNS = 5
+
+
+def sources():
+    yield os.path.join(ROOT, "crates.txt")
+    for folder, inner, names in os.walk(CRATES):
+        inner[:] = [name for name in inner if name != "out"]
+        yield from (os.path.join(folder, name) for name in names)
+
+
+def program(crate):
+    """The path of a crate's program. It is built, and so proved, first where sources changed; that needs the command `rt`."""
+    folder = os.path.join(CRATES, crate)
+    path = os.path.join(folder, "out", crate)
+    if not os.path.exists(path) or any(os.path.getmtime(source) > os.path.getmtime(path) for source in sources()):
+        done = subprocess.run(["rt", "run"], cwd=folder, stdin=subprocess.DEVNULL, capture_output=True, text=True)
+        if not os.path.exists(path):
+            sys.exit(done.stdout + done.stderr)
+        os.utime(path)
+    return path
+
+
+def least_time(words):
+    """The least wall-clock time of some runs, each a process of its own, and the last one as it ended."""
+    best, done = None, None
+    for _ in range(RUNS):
+        start = time.perf_counter()
+        done = subprocess.run(words, capture_output=True)
+        took = time.perf_counter() - start
+        best = took if best is None else min(best, took)
+    return best, done
