@@ -10,7 +10,8 @@ use balance::{BalanceError, repetition};
 use chain::chain;
 use sd_base::GraphFile;
 use std::alloc::Global;
-use std::{env, io};
+use std::env;
+use std::process::ExitCode;
 
 /// So many calls on a graph of so many actors and channels.
 #[derive(Drop)]
@@ -23,14 +24,14 @@ struct Plan {
     ghost few_channels: { channels ≤ 256 },
 }
 
-fn main(rt: HostRuntime) -> io::Result<()> {
+fn main(rt: HostRuntime) -> anyhow::Result<ExitCode> {
     let Some(plan) = plan_of(env::args(&rt)?) else {
-        return println!(rt; "usage: balance_bench ACTORS CHANNELS REPEATS");
+        println!(rt; "usage: balance_bench ACTORS CHANNELS REPEATS")?;
+        return Ok(ExitCode::from(2));
     };
-    match firings(rt.alloc(), &plan) {
-        Ok(firings) => println!(rt; "{firings}"),
-        Err(error) => println!(rt; "{error}"),
-    }
+    let firings = firings(rt.alloc(), &plan)?;
+    println!(rt; "{firings}")?;
+    Ok(ExitCode::from(0))
 }
 
 /// The plan of the words after the program's name: 1 to 128 actors, at most 256 channels.
