@@ -1,5 +1,5 @@
 -- From why a step ended to why the command did.
-use Rattle.std.proofs.Common.{◌≡◌, ℕ, List, length, ◌≤◌, ◌+◌, Bool, true, false, Some, Result, Ok, Err, IfOk, IfErr, is_ok, refl, subst, inl, inr, arith}
+use Rattle.std.proofs.Common.{◌≡◌, ℕ, List, length, ◌≤◌, Bool, true, false, Some, Result, Ok, Err, IfOk, IfErr, refl, subst, inl, inr, arith}
 use Rattle.sd_base.specs.declared.tables.GraphFile.{GraphFile}
 use Rattle.balance.specs.Repetition.{IsRound}
 use Rattle.sd_words.specs.declared.request.Request.{Request}

@@ -1,21 +1,19 @@
 -- The words and files decide which refusal is due.
-use Rattle.std.proofs.Common.{◌≡◌, ◌≢◌, ℕ, ◌≤◌, ◌<◌, ◌⊎◌, Bool, true, false, List, [], ◌∷◌, length, sum, Option, Some, None, Result, Ok, Err, IsSomeAnd, refl, sym, ap, subst, ◌∙◌, codes, inl, inr, arith}
+use Rattle.std.proofs.Common.{◌≡◌, ◌≢◌, ℕ, ◌≤◌, ◌<◌, Bool, true, List, length, sum, Option, Some, None, Result, Ok, Err, IsSomeAnd, refl, sym, ap, subst, ◌∙◌, inl, inr, arith}
 use Rattle.sd_base.specs.declared.tables.GraphFile.{GraphFile}
 use Rattle.sd_base.specs.Tables.{KeepsRules, IsTimed}
 use Rattle.sd_base.specs.Net.{IsRepetitionOf}
 use Rattle.sd_base.specs.FileNet.{net_of}
 use Rattle.sd_base.specs.Lawful.{Lawful}
-use Rattle.sd_io.specs.Outside.{Rose}
 use Rattle.sd_words.specs.declared.request.Request.{Request}
 use Rattle.sd_words.specs.declared.request.Request.TheVariants.{Repetition, Throughput}
 use Rattle.sd_words.specs.declared.request.UsageCause.{UsageCause}
 use Rattle.sd_words.specs.Asked.{request_of}
 use Rattle.graph_reader.specs.declared.error.ReadError.{ReadError}
 use Rattle.graph_reader.specs.Laws as files
-use Rattle.balance.specs.declared.walk.WalkStep.{WalkStep}
 use Rattle.balance.specs.declared.refusal.BalanceError.{BalanceError}
 use Rattle.balance.specs.declared.refusal.BalanceError.TheVariants as errors
-use Rattle.balance.specs.Repetition.{IsRound, IsRefusal, IsAnswer as Fits, HasOneAnswer}
+use Rattle.balance.specs.Repetition.{IsRound, IsRefusal, HasOneAnswer}
 use Rattle.report.specs.declared.refusal.Refusal.{Refusal}
 use Rattle.report.specs.declared.refusal.Refusal.TheVariants.{UsageWords, Above, Ratio, Inconsistent, Apart}
 use Rattle.report.specs.Walks.{steps_text}
@@ -25,9 +23,8 @@ use Rattle.sd_command.specs.Names.{actor_shown}
 use Rattle.sd_command.specs.Usages.{usage_refusal}
 use Rattle.sd_command.specs.Readings.{reading_refusal}
 use Rattle.sd_command.specs.Statuses.{status_of}
-use Rattle.sd_command.specs.declared.status.Status.TheVariants as statuses
-use Rattle.sd_command.specs.Runs.{Given, Takes, Spells, IsDue, IsAnswer, IsGraphRefusal, IsGraphAnswer, IsBalanceRefusal, IsCommandRefusal, IsCommandAnswer, Run, Ends, graph_of, needs_times, apart, ratio, inconsistent, above, wrong_words, missing, too_long, of_graph, unread, of_balance, of_command, refused, done, shelf_fault, no_memory, err_fault, out_fault}
-use Rattle.sd_command.specs.Endings.{HasOneDue, DueHasNoAnswer, DueIsAnswered, ElseIsDone, IsFaultless}
+use Rattle.sd_command.specs.Runs.{Given, Takes, Spells, IsGraphRefusal, IsGraphAnswer, IsBalanceRefusal, IsCommandRefusal, IsCommandAnswer, graph_of, needs_times, apart, ratio, inconsistent, above, wrong_words, missing, too_long, of_graph, unread, of_balance, of_command, refused, done, shelf_fault, no_memory, err_fault, out_fault}
+use Rattle.sd_command.specs.Endings.{HasOneDue, DueHasNoAnswer, DueIsAnswered, ElseIsDone}
 use Rattle.sd_command.proofs.OneRate.{NetLaws, one-rate_refusal, no-rate_answer}
 
 -- what is known of files, of balances, and of the nets of files

@@ -1,5 +1,5 @@
 -- A net decides which refusal is due to its rate, or that it has an answer.
-use Rattle.std.proofs.Common.{◌≡◌, ℕ, ◌≤◌, ◌<◌, ◌⊎◌, ⊎_elim, List, length, get_or, Option, Some, None, MatchOption, refl, sym, ap, subst, ◌∙◌, inl, inr, arith}
+use Rattle.std.proofs.Common.{◌≡◌, ℕ, ◌≤◌, ◌<◌, ⊎_elim, List, length, Option, Some, None, MatchOption, refl, sym, ap, subst, ◌∙◌, inl, inr, arith}
 use Rattle.std.specs.Prelude.{slice_index, slice_index_or}
 use Rattle.std.proofs.lemmas.Bool.{cases_lt}
 use Rattle.std.proofs.lemmas.List.{ext_get_or}
@@ -8,15 +8,13 @@ use Rattle.sd_base.specs.Net.{Net}
 use Rattle.sd_base.specs.Lawful.{Lawful}
 use Rattle.sd_base.specs.Schedules.{HasInputs}
 use Rattle.sd_base.specs.Untimed.{IsLive, IsEnd, Blocks}
-use Rattle.balance.specs.Connection.{HasInput, IsConnectRefusal, IsFirstUnreached, IsFirstNotReaching, IsFirstWithoutInput, IsStronglyConnected}
+use Rattle.balance.specs.Connection.{HasInput, IsConnectRefusal, IsFirstWithoutInput, IsStronglyConnected}
 use Rattle.balance.specs.declared.connection.ConnectError.TheVariants as connecting
 use Rattle.firing.specs.declared.table.LoopTable.{LoopTable}
 use Rattle.liveness.specs.Rounds.{IsBlockedBy, IsFirstLacking, NamesLacks}
 use Rattle.lasso.specs.Runs.{IsFound, IsStatesSpent, IsTooManyStarts}
 use Rattle.report.specs.declared.refusal.Refusal.{Refusal}
-use Rattle.report.specs.declared.refusal.Refusal.TheVariants.{Deadlock, NoInput, OneWay}
 use Rattle.report.specs.Lacks.{lacks_list}
-use Rattle.sd_command.specs.Names.{actor_shown}
 use Rattle.sd_command.specs.Throughputs.{IsJoined, Runs, IsRateRefusal, IsRateAnswer, ends_of, one_way, no_input, deadlock, states_spent, too_many_starts}
 use Rattle.sd_command.proofs.Joins.{joined-inputs}
 

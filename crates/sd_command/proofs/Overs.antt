@@ -1,5 +1,5 @@
 -- The net of a graph file stands over the graph, and so do what blocks it and its cycles.
-use Rattle.std.proofs.Common.{◌≡◌, ℕ, zero, suc, ◌+◌, ◌-◌, ◌≤◌, ◌<◌, ◌⊎◌, ⊎_elim, Bool, true, false, List, [], ◌∷◌, ◌++◌, length, map, Option, Some, None, IfSome, MatchOption, cond, sym, ap, subst, refl, ◌∙◌, arith, length-append}
+use Rattle.std.proofs.Common.{◌≡◌, ℕ, zero, suc, ◌+◌, ◌-◌, ◌≤◌, ◌<◌, ⊎_elim, Bool, true, false, List, [], ◌∷◌, length, Option, Some, None, IfSome, MatchOption, cond, sym, subst, refl, ◌∙◌, arith, length-append}
 use Rattle.std.specs.Prelude.{slice_index, slice_index_or}
 use Rattle.std.specs.List.{AllByRecursion}
 use Rattle.std.proofs.lemmas.List.Elements.{All-from_recursion}
@@ -8,9 +8,7 @@ use Rattle.std.proofs.lemmas.List.{length-map, get_or_append_left, get_or-append
 use Rattle.sd_base.specs.declared.tables.GraphFile.{GraphFile}
 use Rattle.sd_base.specs.declared.tables.ActorRow.{ActorRow}
 use Rattle.sd_base.specs.declared.tables.ChannelRow.{ChannelRow}
-use Rattle.sd_base.specs.declared.role.Role.{Role}
-use Rattle.sd_base.specs.declared.role.Role.TheVariants.{Token, Own, Space}
-use Rattle.sd_base.specs.Net.{Channel, Net, channel_at, nowhere, file_channels, file_channels_from, file_channel}
+use Rattle.sd_base.specs.Net.{Channel, Net, channel_at, nowhere, file_channels, file_channel}
 use Rattle.sd_base.specs.FileNet.{net_of, own_channels_from, own_channel, gets_own}
 use Rattle.sd_base.specs.Lawful.{Lawful}
 use Rattle.sd_base.proofs.FileNets.{file-length, file-at, nothing}

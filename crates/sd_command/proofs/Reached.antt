@@ -1,11 +1,10 @@
 -- The rate in lowest terms, which the loop's schedule reaches and its need cycle bounds.
-use Rattle.std.proofs.Common.{◌≡◌, ℕ, zero, suc, ◌+◌, ◌*◌, ◌/◌, ◌%◌, ◌≤◌, ◌<◌, List, Result, Ok, Err, IfOk, refl, sym, ap, subst, ◌∙◌, arith, mod-lt}
-use Rattle.std.specs.Int.{IsGcd, ◌∣◌}
+use Rattle.std.proofs.Common.{◌≡◌, ℕ, zero, suc, ◌*◌, ◌/◌, ◌%◌, ◌<◌, List, Result, Ok, Err, IfOk, refl, sym, ap, ◌∙◌, arith, mod-lt}
+use Rattle.std.specs.Int.{IsGcd}
 use Rattle.std.proofs.lemmas.Nat.Gcd.{IsGcd-from_zero, IsGcd-from_mod}
 use Rattle.sd_base.specs.declared.memory.NoMemory.{NoMemory}
 use Rattle.sd_base.specs.declared.tables.GraphFile.{GraphFile}
 use Rattle.sd_base.specs.Net.{Net}
-use Rattle.sd_base.specs.Rates.{Rate}
 use Rattle.std.proofs.Math.Nat.{mul-div_cancel', eq_of_mul-eq-mul_left}
 use Rattle.sd_base.proofs.Divisors.{gcd_pos, quotients}
 use Rattle.firing.specs.declared.table.LoopTable.{LoopTable}

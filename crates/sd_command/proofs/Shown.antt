@@ -10,7 +10,7 @@ use Rattle.sd_command.specs.declared.stop.Stop.TheVariants.{Refused, OutOfMemory
 use Rattle.sd_command.specs.Statuses.{status_of}
 use Rattle.sd_command.specs.Sendings.{SendsLine, SendsStop}
 use Rattle.sd_command.specs.Stops.{IsStop, TicksFor}
-use Rattle.sd_command.specs.Runs.{Given, Run, Ends, Shows, Counts, IsDue, IsAnswer, IsShelfFault, refused, done, shelf_fault, no_memory, err_fault, out_fault}
+use Rattle.sd_command.specs.Runs.{Run, Shows, Counts, IsDue, IsAnswer, IsShelfFault, refused, done, shelf_fault, no_memory, err_fault, out_fault}
 
 abbrev Stays : Run → Type 0
 Stays run = (name : List ℕ) → run.file_after name ≡ run.given.file name

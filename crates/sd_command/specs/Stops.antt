@@ -1,5 +1,5 @@
 -- Inside the crate: why the steps of a command end without an answer. No public clause cites this.
-use Rattle.std.specs.Prelude.{◌≡◌, ℕ, ◌+◌, ◌<◌, ◌≤◌, ◌⊎◌, Bool, true, false, List, length, Option, None, Result, Ok, Err, is_ok, IsSomeAnd}
+use Rattle.std.specs.Prelude.{◌≡◌, ℕ, ◌+◌, ◌<◌, ◌≤◌, ◌⊎◌, Bool, true, false, List, length, Option, None, Ok, IsSomeAnd}
 use Rattle.sd_base.specs.declared.tables.GraphFile.{GraphFile}
 use Rattle.sd_base.specs.declared.quantity.Quantity.TheVariants as quantities
 use Rattle.sd_base.specs.Net.{Net}
@@ -10,7 +10,6 @@ use Rattle.sd_words.specs.Asked.{request_of}
 use Rattle.sd_command.specs.Usages.{usage_refusal}
 use Rattle.report.specs.Quantities.{quantity_text, greatest_of}
 use Rattle.sd_io.specs.Outside.{Rose}
-use Rattle.report.specs.declared.refusal.Refusal.{Refusal}
 use Rattle.report.specs.declared.refusal.Refusal.TheVariants.{Above, ShelfGraph}
 use Rattle.sd_command.specs.declared.stop.Stop.{Stop}
 use Rattle.sd_command.specs.declared.stop.Stop.TheVariants.{Refused, OutOfMemory}

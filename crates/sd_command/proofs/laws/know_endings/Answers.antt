@@ -1,4 +1,3 @@
-use Rattle.sd_command.proofs.OneRate.{NetLaws}
 use Rattle.sd_command.proofs.Decided.{FileLaws, one_due, due_has_no_answer, due_is_answered, else_is_done}
 use Rattle.sd_command.proofs.laws.know_endings.Goals as goal
 

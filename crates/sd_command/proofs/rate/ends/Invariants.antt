@@ -1,4 +1,4 @@
-use Rattle.std.proofs.Common.{◌≡◌, ℕ, map, take}
+use Rattle.std.proofs.Common.{◌≡◌, map, take}
 use Rattle.sd_base.specs.Net.{Channel}
 use Rattle.sd_command.proofs.rate.ends.Given as goal
 
