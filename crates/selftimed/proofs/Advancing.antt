@@ -1,9 +1,11 @@
 -- What an engine answers.
-use Rattle.std.proofs.Common.{◌≡◌, ℕ, zero, suc, ◌+◌, ◌≤◌, ◌<◌, ◌⊎◌, List, length, map, fold, replicate, None, Some, inr, sym, refl, ap, ◌∙◌, arith}
+use Rattle.std.proofs.Common.{◌≡◌, ℕ, zero, suc, ◌+◌, ◌≤◌, ◌<◌, ◌⊎◌, false, List, [], length, map, replicate, inr, ⊎_elim, zero-add, sym, refl, ap, ◌∙◌, arith}
 use Rattle.std.specs.Prelude.{slice_index, slice_index_or}
-use Rattle.std.proofs.lemmas.Bool.{false≢true}
-use Rattle.std.proofs.lemmas.List.{get_or-map, get_or-replicate, length-map, length-replicate}
-use Rattle.std.specs.List.{sum_by}
+use Rattle.std.proofs.lemmas.Bool.{cases_lt, false≢true}
+use Rattle.std.proofs.lemmas.List.{get_or-map, get_or_past, get_or-replicate, length-map, length-replicate}
+use Rattle.std.proofs.lemmas.List.Elements.{All-nil}
+use Rattle.std.proofs.lemmas.List.FromFn.{length-range_with_len, get_or-range_with_len}
+use Rattle.std.specs.List.{sum_by, range_with_len}
 use Rattle.sd_base.specs.Net.{Channel, Net, nowhere, channel_at}
 use Rattle.sd_base.specs.Schedules.{count_of}
 use Rattle.sd_base.specs.SelfTimed.{earliest, starts_by}
@@ -15,11 +17,13 @@ use Rattle.sd_base.proofs.Sums.{total-zero}
 use Rattle.selftimed.specs.declared.actors.ActorState.{ActorState}
 use Rattle.selftimed.specs.declared.engine.Stage.{Stage}
 use Rattle.selftimed.specs.declared.engine.Stage.TheVariants.{Fresh, Running}
-use Rattle.selftimed.specs.Actors.{idle, fresh_one, started_in, ended_in, running_in, earlier_end}
+use Rattle.selftimed.specs.Actors.{idle, fresh_one, started_in, ended_in, running_in, touched_in, IsFirstEnd, IsQuiet}
+use Rattle.selftimed.specs.Agendas.{Entry, IsFirst, IsAgenda}
+use Rattle.selftimed.proofs.Agendas.{number-found, runs-place}
 use Rattle.selftimed.specs.Stands.{IsFresh, Stands, Begins}
 use Rattle.selftimed.specs.Moves.{ComesNext, IsStuck, Overruns, Steps}
 use Rattle.selftimed.proofs.Starting.{sum_to-all, sum_to-same}
-use Rattle.selftimed.proofs.Moving.{no-end, inputs-from, starts-sum, next-event, stuck-ended, stuck-lacks}
+use Rattle.selftimed.proofs.Moving.{inputs-from, starts-sum, next-event, stuck-ended, stuck-lacks}
 
 module _ (net : Net) (laws : Lawful net) (now most : ℕ) (actors : List ActorState) (tokens : List ℕ) (all : ℕ) (stands : Stands net now most actors tokens all) where
   pub within-most : starts_by net now ≤ most
@@ -29,22 +33,21 @@ module _ (net : Net) (laws : Lawful net) (now most : ℕ) (actors : List ActorSt
       let counts : sum_to (started_in actors) (length net.times) ≡ sum_to (count_of (earliest net (suc now))) (length net.times) = sum_to-same (count_of (earliest net (suc now))) (started_in actors) (length net.times) stands.counts in
       rw e (omega (arith, starts-sum (earliest net (suc now)) (length net.times) long, sum_to-all actors (length net.times) stands.stand.long, stands.counted.total, stands.counted.within))
 
-  pub moved-stuck : (stage : Stage) → stage ≡ Running → fold earlier_end None actors ≡ None → (stage ≡ stage) × (now ≡ now) × IsStuck net stage now
-  moved-stuck stage runs none =
+  pub moved-stuck : (stage : Stage) → stage ≡ Running → IsQuiet actors → (stage ≡ stage) × (now ≡ now) × IsStuck net stage now
+  moved-stuck stage runs quiet =
       let e : now + 1 ≡ suc now = omega arith in
-      let quiet = (no-end actors None none).1 in
       (refl, refl, rw (runs, e) (stuck-ended net laws now most actors tokens all stands quiet, stuck-lacks net laws now most actors tokens all stands quiet))
 
-  pub moved-on : (t : ℕ) → fold earlier_end None actors ≡ Some t → (stage : Stage) → stage ≡ Running → ComesNext net stage now t
+  pub moved-on : (t : ℕ) → IsFirstEnd actors t → (stage : Stage) → stage ≡ Running → ComesNext net stage now t
   moved-on t first stage runs = rw runs (next-event net laws now most actors tokens all stands t first)
 
 pub moved-spent : (net : Net) (laws : Lawful net) (now most : ℕ) (actors : List ActorState) (tokens : List ℕ) (all : ℕ) (stands : Stands net now most actors tokens all) (t : ℕ) →
-    fold earlier_end None actors ≡ Some t → (stage : Stage) → stage ≡ Running → Overruns net t most →
+    IsFirstEnd actors t → (stage : Stage) → stage ≡ Running → Overruns net t most →
     (Stage.Spent ≡ Stage.Spent) × ((stage ≡ Stage.Spent) ⊎ ((u : ℕ) × ComesNext net stage now u × Overruns net u most))
 moved-spent net laws now most actors tokens all stands t first stage runs over = (refl, inr (t, moved-on net laws now most actors tokens all stands t first stage runs, over))
 
 pub moved-step : (net : Net) (laws : Lawful net) (now most : ℕ) (actors : List ActorState) (tokens : List ℕ) (all : ℕ) (stands : Stands net now most actors tokens all) (t : ℕ) →
-    fold earlier_end None actors ≡ Some t → (stage : Stage) → stage ≡ Running → (new : List ActorState) (left : List ℕ) (total_now : ℕ) → Stands net t most new left total_now → Steps net most stage now Running t
+    IsFirstEnd actors t → (stage : Stage) → stage ≡ Running → (new : List ActorState) (left : List ℕ) (total_now : ℕ) → Stands net t most new left total_now → Steps net most stage now Running t
 moved-step net laws now most actors tokens all stands t first stage runs new left total_now then = record {
   runs = refl;
   next = moved-on net laws now most actors tokens all stands t first stage runs;
@@ -90,3 +93,33 @@ new-fresh net laws most actors tokens is initial = record {
 
     none : (a : ℕ) → a < length net.times → started_in actors a ≡ 0
     none a actor = ap (λ (x : ActorState). x.started) (at_actor a actor)
+
+-- the agenda of a new engine lists all actors
+pub new-agenda : (net : Net) (actors : List ActorState) (ends : List Entry) (touched : List ℕ) → actors ≡ replicate (length net.times) fresh_one → ends ≡ [] → touched ≡ range_with_len 0 (length net.times) → IsAgenda net actors ends touched
+new-agenda net actors ends touched is none all = record {
+  firsts = rw none (All-nil (IsFirst actors));
+  whole = λ a some.
+      let place : a < length net.times = in-net a (runs-place actors a some) in
+      let run : length (running_in actors a) ≡ 0 = ap (λ (x : ActorState). length x.running) (at_actor a place) in
+      absurd (omega arith);
+  lists = record {
+    within = rw all (λ k d below.
+        let inside : k < length net.times = omega (arith, length-range_with_len 0 (length net.times)) in
+        rw (get_or-range_with_len 0 (length net.times) k d inside) (omega arith));
+    listed = λ a on. ⊎_elim
+        (λ (place : a < length net.times). rw all (number-found (range_with_len 0 (length net.times)) a (a, rw (length-range_with_len 0 (length net.times)) place, get_or-range_with_len 0 (length net.times) a a place ∙ zero-add a)))
+        (λ (past : length net.times ≤ a).
+        let long : length actors ≡ length net.times = rw is (length-replicate {A = ActorState} (length net.times) fresh_one) in
+        let off : touched_in actors a ≡ false = ap (λ (x : ActorState). x.touched) (get_or_past actors a idle (omega arith)) in
+        absurd (false≢true (sym off ∙ on)))
+        (cases_lt a (length net.times));
+  };
+}
+  where
+    in-net : (a : ℕ) → a < length actors → a < length net.times
+    in-net a place =
+        let long : length actors ≡ length net.times = rw is (length-replicate {A = ActorState} (length net.times) fresh_one) in
+        omega arith
+
+    at_actor : (a : ℕ) → a < length net.times → slice_index_or actors a idle ≡ fresh_one
+    at_actor a actor = rw is (get_or-replicate {A = ActorState} (length net.times) a fresh_one idle actor)

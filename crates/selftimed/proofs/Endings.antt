@@ -1,8 +1,10 @@
 -- Ends of firings, actor by actor.
-use Rattle.std.proofs.Common.{◌≡◌, ◌≢◌, ℕ, ◌+◌, ◌-◌, ◌*◌, ◌≤◌, ◌<◌, ◌^◌, true, false, List, length, set, ⊎_elim, subst, sym, refl, ap, ◌∙◌, arith}
-use Rattle.std.specs.Prelude.{slice_index, slice_index_or}
-use Rattle.std.proofs.lemmas.Bool.{cases_lt, cases_eq, false≢true}
-use Rattle.std.proofs.lemmas.List.{length-set, get_or-set_same, get_or-set_other, set-get_or, length-drop}
+use Rattle.std.proofs.Common.{◌≡◌, ◌≢◌, ℕ, ◌+◌, ◌-◌, ◌*◌, ◌≤◌, ◌<◌, ◌^◌, ◌⊎◌, true, false, List, [], ◌∷◌, ◌++◌, length, drop, set, inl, inr, ⊎_elim, subst, sym, refl, ap, ◌∙◌, arith}
+use Rattle.std.specs.Prelude.{slice_index, slice_index_or, if◌then◌else◌, All, IsPermutation}
+use Rattle.std.proofs.lemmas.Bool.{cases_lt, cases_eq, cases_Bool, false≢true}
+use Rattle.std.proofs.lemmas.List.{length-set, get_or-set_same, get_or-set_other, length-drop, get_or-drop, drop-drop}
+use Rattle.std.proofs.lemmas.List.Elements.{All-push, All-weaker, All-head, All-tail, All-contains, Contains-push, Contains-append_left}
+use Rattle.std.proofs.lemmas.List.Sorted.{All-permutation}
 use Rattle.sd_base.specs.Net.{Net, channel_at}
 use Rattle.sd_base.specs.Lawful.{Lawful}
 use Rattle.firing.specs.declared.sums.Port.TheVariants.{Made}
@@ -11,25 +13,28 @@ use Rattle.firing.proofs.Listings.{place_of}
 use Rattle.firing.proofs.TokenMoves.{MoreBy, level-puts, level-small}
 use Rattle.selftimed.specs.declared.actors.ActorState.{ActorState}
 use Rattle.selftimed.specs.Actors.{idle, started_in, ended_in, running_in, touched_in, EndsOne, Touches, EndsAll, Stand}
+use Rattle.selftimed.specs.Agendas.{Entry, entry, Announces, IsFirst, Lists, IsAgenda}
+use Rattle.selftimed.proofs.Agendas.{HasFirsts, has-firsts, entries-found, has-number, number-found, runs-place, besides, announced-kept, announced-there, announced-all}
 
 at : List ActorState → ℕ → ActorState
 at actors a = slice_index_or actors a idle
 
 -- ---- touched actors
 
-pub record TouchesSoFar (net : Net) (channels : List ℕ) (old new : List ActorState) (done : ℕ) : Type 0 where
+pub record TouchesSoFar (net : Net) (channels : List ℕ) (old new : List ActorState) (touched : List ℕ) (done : ℕ) : Type 0 where
   pub long : length new ≡ length old
   pub started : (b : ℕ) → started_in new b ≡ started_in old b
   pub ended : (b : ℕ) → ended_in new b ≡ ended_in old b
   pub running : (b : ℕ) → running_in new b ≡ running_in old b
   pub kept : (b : ℕ) → touched_in new b ≡ false → touched_in old b ≡ false
   pub there : (j : ℕ) → j < done → touched_in new (channel_at net (slice_index channels j)).target ≡ true
+  pub lists : Lists net new touched
 
-pub touches-none : (net : Net) (channels : List ℕ) (old : List ActorState) → TouchesSoFar net channels old old 0
-touches-none net channels old = record { long = refl; started = λ b. refl; ended = λ b. refl; running = λ b. refl; kept = λ b e. e; there = λ j h. absurd (omega arith) }
+pub touches-none : (net : Net) (channels : List ℕ) (old : List ActorState) (touched : List ℕ) → Lists net old touched → TouchesSoFar net channels old old touched 0
+touches-none net channels old touched lists = record { long = refl; started = λ b. refl; ended = λ b. refl; running = λ b. refl; kept = λ b e. e; there = λ j h. absurd (omega arith); lists = lists }
 
-pub touches-all : (net : Net) (channels : List ℕ) (old new : List ActorState) (done : ℕ) → length channels ≤ done → TouchesSoFar net channels old new done → Touches net channels old new
-touches-all net channels old new done past so_far = record {
+pub touches-all : (net : Net) (channels : List ℕ) (old new : List ActorState) (touched : List ℕ) (done : ℕ) → length channels ≤ done → TouchesSoFar net channels old new touched done → Touches net channels old new
+touches-all net channels old new touched done past so_far = record {
   long = so_far.long;
   started = so_far.started;
   ended = so_far.ended;
@@ -39,7 +44,8 @@ touches-all net channels old new done past so_far = record {
 }
 
 -- one more actor is touched
-module _ (net : Net) (channels : List ℕ) (old now : List ActorState) (done t : ℕ) (below : done < length channels) (into : t ≡ (channel_at net (slice_index channels done)).target) (place : t < length now) (base : ActorState) (was : base ≡ slice_index_or now t idle) (so_far : TouchesSoFar net channels old now done) where
+module _ (net : Net) (channels : List ℕ) (old now : List ActorState) (touched more : List ℕ) (done t : ℕ) (below : done < length channels) (into : t ≡ (channel_at net (slice_index channels done)).target) (actor : t < length net.times) (place : t < length now) (base : ActorState)
+    (was : base ≡ slice_index_or now t idle) (so_far : TouchesSoFar net channels old now touched done) (listed : more ≡ (if base.touched then touched else touched ++ t ∷ [])) where
   read : (b : ℕ) → b ≢ t → slice_index_or (set now t (record base { touched = true })) b idle ≡ slice_index_or now b idle
   read b away = get_or-set_other now t b (record base { touched = true }) idle away
 
@@ -53,7 +59,32 @@ module _ (net : Net) (channels : List ℕ) (old now : List ActorState) (done t :
       (λ (away : b ≢ t). ap f (read b away))
       (cases_eq b t)
 
-  pub touches-more : TouchesSoFar net channels old (set now t (record base { touched = true })) (done + 1)
+  kept-on : (b : ℕ) → b ≢ t → touched_in (set now t (record base { touched = true })) b ≡ touched_in now b
+  kept-on b away = ap (λ (s : ActorState). s.touched) (read b away)
+
+  lists-more : Lists net (set now t (record base { touched = true })) more
+  lists-more = ⊎_elim
+      (λ (on : base.touched ≡ true).
+      let same : more ≡ touched = rw on at listed in
+      rw same (record {
+        within = so_far.lists.within;
+        listed = λ b is. ⊎_elim
+            (λ (e : b ≡ t). rw e (so_far.lists.listed t (sym (ap (λ (s : ActorState). s.touched) was) ∙ on)))
+            (λ (away : b ≢ t). so_far.lists.listed b (sym (kept-on b away) ∙ is))
+            (cases_eq b t);
+      }))
+      (λ (off : base.touched ≡ false).
+      let longer : more ≡ touched ++ t ∷ [] = rw off at listed in
+      rw longer (record {
+        within = All-push (λ (x : ℕ). x < length net.times) touched t so_far.lists.within actor;
+        listed = λ b is. ⊎_elim
+            (λ (e : b ≡ t). rw e (number-found (touched ++ t ∷ []) t (Contains-push touched t)))
+            (λ (away : b ≢ t). number-found (touched ++ t ∷ []) b (Contains-append_left touched (t ∷ []) b (has-number touched b (so_far.lists.listed b (sym (kept-on b away) ∙ is)))))
+            (cases_eq b t);
+      }))
+      (cases_Bool base.touched)
+
+  pub touches-more : TouchesSoFar net channels old (set now t (record base { touched = true })) more (done + 1)
   touches-more = record {
     long = length-set now t (record base { touched = true }) ∙ so_far.long;
     started = λ b. keeps (λ (s : ActorState). s.started) refl b ∙ so_far.started b;
@@ -63,39 +94,95 @@ module _ (net : Net) (channels : List ℕ) (old now : List ActorState) (done t :
         (λ (e : b ≡ t).
         let yes : touched_in (set now t (record base { touched = true })) b ≡ true = rw e (ap (λ (s : ActorState). s.touched) here) in
         absurd (false≢true (sym off ∙ yes)))
-        (λ (away : b ≢ t). so_far.kept b (sym (ap (λ (s : ActorState). s.touched) (read b away)) ∙ off))
+        (λ (away : b ≢ t). so_far.kept b (sym (kept-on b away) ∙ off))
         (cases_eq b t);
     there = λ j h. ⊎_elim
         (λ (before : j < done). ⊎_elim
         (λ (e : (channel_at net (slice_index channels j)).target ≡ t). rw e (ap (λ (s : ActorState). s.touched) here))
-        (λ (away : (channel_at net (slice_index channels j)).target ≢ t). ap (λ (s : ActorState). s.touched) (read (channel_at net (slice_index channels j)).target away) ∙ so_far.there j before)
+        (λ (away : (channel_at net (slice_index channels j)).target ≢ t). kept-on (channel_at net (slice_index channels j)).target away ∙ so_far.there j before)
         (cases_eq (channel_at net (slice_index channels j)).target t))
         (λ (now_one : done ≤ j). let same : j ≡ done = omega arith in rw (same, ← into) (ap (λ (s : ActorState). s.touched) here))
         (cases_lt j done);
+    lists = lists-more;
   }
 
 -- ---- ends of all actors
 
--- the actors before done have ended their firings, and the others stand as they did
-pub record EndsSoFar (net : Net) (moment : ℕ) (first now : List ActorState) (tokens : List ℕ) (done : ℕ) : Type 0 where
-  pub long : length now ≡ length first
-  pub ones : (b : ℕ) → b < done → EndsOne moment (slice_index_or first b idle) (slice_index_or now b idle)
-  pub started : (b : ℕ) → done ≤ b → started_in now b ≡ started_in first b
-  pub ended : (b : ℕ) → done ≤ b → ended_in now b ≡ ended_in first b
-  pub running : (b : ℕ) → done ≤ b → running_in now b ≡ running_in first b
-  pub stand : Stand net now tokens
-  pub touched : (i : ℕ) → i < length net.channels → (channel_at net i).source < done → touched_in now (channel_at net i).target ≡ false →
-      ended_in now (channel_at net i).source ≡ ended_in first (channel_at net i).source
+-- some of the firings of an actor that ended by a moment are off its list
+pub record EndsSome (moment : ℕ) (old new : ActorState) : Type 0 where
+  pub started : new.started ≡ old.started
+  pub later : old.ended ≤ new.ended
+  pub within : new.ended - old.ended ≤ length old.running
+  pub rest : new.running ≡ drop (new.ended - old.ended) old.running
+  pub past : (k : ℕ) → k < new.ended - old.ended → slice_index old.running k ≤ moment
 
-pub ends-none : (net : Net) (moment : ℕ) (first : List ActorState) (tokens : List ℕ) → Stand net first tokens → EndsSoFar net moment first first tokens 0
-ends-none net moment first tokens stand = record {
+ends-nothing : (moment : ℕ) (s : ActorState) → EndsSome moment s s
+ends-nothing moment s = record {
+  started = refl;
+  later = omega arith;
+  within = omega arith;
+  rest = rw (none s.ended) refl;
+  past = λ k h. absurd (omega arith);
+}
+  where
+    none : (e : ℕ) → e - e ≡ 0
+    none e = omega arith
+
+-- more of them are
+ends-join : (moment : ℕ) (s t u : ActorState) → EndsSome moment s t → EndsOne moment t u → EndsSome moment s u
+ends-join moment s t u some one =
+    let m : ℕ = t.ended - s.ended in
+    let n : ℕ = u.ended - t.ended in
+    let left : length t.running ≡ length s.running - m = ap length some.rest ∙ length-drop m s.running in
+    let all : m + n ≡ u.ended - s.ended = omega (arith, some.later, one.later) in
+    record {
+      started = one.started ∙ some.started;
+      later = omega (arith, some.later, one.later);
+      within = omega (arith, some.within, one.within);
+      rest = one.rest ∙ (ap (drop n) some.rest ∙ (drop-drop n m s.running ∙ ap (λ (x : ℕ). drop x s.running) all));
+      past = λ k below. ⊎_elim
+          (λ (before : k < m). some.past k before)
+          (λ (after : m ≤ k).
+          let low : slice_index t.running (k - m) ≤ moment = one.past (k - m) (omega arith) in
+          let read : slice_index t.running (k - m) ≡ slice_index s.running (m + (k - m)) = ap (λ (xs : List ℕ). slice_index xs (k - m)) some.rest ∙ get_or-drop m s.running (k - m) 0 in
+          let e : m + (k - m) ≡ k = omega arith in
+          omega (arith, ap (slice_index s.running) e))
+          (cases_lt k m);
+    }
+
+-- EndsSome reads its two states field by field
+ends_some-along : (moment : ℕ) (old s t : ActorState) → s.started ≡ t.started → s.ended ≡ t.ended → s.running ≡ t.running → EndsSome moment old s → EndsSome moment old t
+ends_some-along moment old s t started ended running some = record {
+  started = sym started ∙ some.started;
+  later = rw (← ended) some.later;
+  within = rw (← ended) some.within;
+  rest = rw (← ended) (sym running ∙ some.rest);
+  past = rw (← ended) some.past;
+}
+
+-- an entry is past, or its actor's first end
+abbrev pub Near : Net → ℕ → List ActorState → Entry → Type 0
+Near net moment actors e = (e.1 < length net.times) × ((e.0.0 ≤ moment) ⊎ IsFirst actors e)
+
+-- some firings that ended by a moment are off the lists, and those of actors whose entry is later than it all are
+pub record EndsSoFar (net : Net) (moment : ℕ) (first now : List ActorState) (tokens : List ℕ) (ends : List Entry) (touched : List ℕ) : Type 0 where
+  pub long : length now ≡ length first
+  pub ones : (b : ℕ) → b < length net.times → EndsSome moment (slice_index_or first b idle) (slice_index_or now b idle)
+  pub stand : Stand net now tokens
+  pub fed : (i : ℕ) → i < length net.channels → touched_in now (channel_at net i).target ≡ false → ended_in now (channel_at net i).source ≡ ended_in first (channel_at net i).source
+  pub near : All (Near net moment now) ends
+  pub whole : HasFirsts now ends
+  pub lists : Lists net now touched
+
+pub ends-none : (net : Net) (moment : ℕ) (first : List ActorState) (tokens : List ℕ) (ends : List Entry) (touched : List ℕ) → Stand net first tokens → IsAgenda net first ends touched → EndsSoFar net moment first first tokens ends touched
+ends-none net moment first tokens ends touched stand agenda = record {
   long = refl;
-  ones = λ b h. absurd (omega arith);
-  started = λ b h. refl;
-  ended = λ b h. refl;
-  running = λ b h. refl;
+  ones = λ b is. ends-nothing moment (slice_index_or first b idle);
   stand = stand;
-  touched = λ i place h. absurd (omega arith);
+  fed = λ i there off. refl;
+  near = All-weaker (IsFirst first) (Near net moment first) (λ e is. (omega (arith, runs-place first e.1 is.0, stand.long), inr is)) ends agenda.firsts;
+  whole = has-firsts first ends agenda.firsts agenda.whole;
+  lists = agenda.lists;
 }
 
 -- the same but for what is touched besides
@@ -112,20 +199,10 @@ kept-same old = record { long = refl; started = λ b. refl; ended = λ b. refl; 
 pub kept-touches : (net : Net) (channels : List ℕ) (old new : List ActorState) → Touches net channels old new → Kept old new
 kept-touches net channels old new t = record { long = t.long; started = t.started; ended = t.ended; running = t.running; kept = t.kept }
 
--- EndsOne reads its two states field by field
-ends_one-along : (moment : ℕ) (old s t : ActorState) → s.started ≡ t.started → s.ended ≡ t.ended → s.running ≡ t.running → EndsOne moment old s → EndsOne moment old t
-ends_one-along moment old s t started ended running one = record {
-  started = sym started ∙ one.started;
-  later = rw (← ended) one.later;
-  within = rw (← ended) one.within;
-  rest = rw (← ended) (sym running ∙ one.rest);
-  past = rw (← ended) one.past;
-  next = rw (← ended) one.next;
-}
-
-module _ (net : Net) (moment : ℕ) (first now : List ActorState) (tokens left : List ℕ) (a : ℕ) (s : ActorState) (new : List ActorState) (actor : a < length net.times)
-    (so_far : EndsSoFar net moment first now tokens a) (one : EndsOne moment (slice_index_or now a idle) s) (still : s.touched ≡ touched_in now a) (kept : Kept (set now a s) new)
-    (puts : PutsTokens net a (ended_in now a) (s.ended - ended_in now a) tokens left) (longer : length left ≡ length tokens)
+module _ (net : Net) (moment : ℕ) (first now : List ActorState) (tokens left : List ℕ) (t a : ℕ) (s : ActorState) (new : List ActorState) (ends mid more : List Entry) (touched longer : List ℕ) (actor : a < length net.times)
+    (so_far : EndsSoFar net moment first now tokens ends touched) (taken : IsPermutation ends (entry t a ∷ mid)) (announced : Announces a s.running mid more) (lists : Lists net new longer)
+    (one : EndsOne moment (slice_index_or now a idle) s) (still : s.touched ≡ touched_in now a) (kept : Kept (set now a s) new)
+    (puts : PutsTokens net a (ended_in now a) (s.ended - ended_in now a) tokens left) (long_left : length left ≡ length tokens)
     (fed : (i : ℕ) → i < length net.channels → (channel_at net i).source ≡ a → touched_in new (channel_at net i).target ≡ false → s.ended ≡ ended_in now a) where
   place : a < length now
   place = rw so_far.stand.long actor
@@ -162,7 +239,7 @@ module _ (net : Net) (moment : ℕ) (first now : List ActorState) (tokens left :
 
   level : IsLevel net (started_in new) (ended_in new) left
   level =
-      let moved : IsLevel net (started_in now) (ended_in new) left = level-puts net a (s.ended - ended_in now a) (started_in now) (ended_in now) (ended_in new) tokens left so_far.stand.level puts longer by in
+      let moved : IsLevel net (started_in now) (ended_in new) left = level-puts net a (s.ended - ended_in now a) (started_in now) (ended_in now) (ended_in new) tokens left so_far.stand.level puts long_left by in
       record { long = moved.long; each = λ i there. rw (started-all (channel_at net i).target) (moved.each i there) }
 
   stand : Stand net new left
@@ -179,24 +256,62 @@ module _ (net : Net) (moment : ℕ) (first now : List ActorState) (tokens left :
     level = level;
   }
 
-  first-here : started_in first a ≡ started_in now a
-  first-here = sym (so_far.started a (omega arith))
+  -- what the entries that stay say
+  near-one : (e : Entry) → Near net moment now e → Near net moment new e
+  near-one e (there, inl past) = (there, inl past)
+  near-one e (there, inr is) = (
+    there,
+    ⊎_elim
+        (λ (same : e.1 ≡ a).
+        let some : 0 < length (running_in now a) = rw same at is.0 in
+        let first_is : slice_index (running_in now a) 0 ≡ e.0.0 = rw same at is.1 in
+        ⊎_elim
+        (λ (ended : 0 < s.ended - ended_in now a).
+        let low : slice_index (running_in now a) 0 ≤ moment = one.past 0 ended in
+        inl (omega arith))
+        (λ (none : s.ended - ended_in now a ≤ 0).
+        let zero_n : s.ended - ended_in now a ≡ 0 = omega arith in
+        let run : running_in new a ≡ running_in now a = running-here ∙ (rw zero_n at one.rest) in
+        inr (rw (same, run) some, rw (same, run) first_is))
+        (cases_lt 0 (s.ended - ended_in now a)))
+        (λ (away : e.1 ≢ a). inr (rw (running-other e.1 away) is.0, rw (running-other e.1 away) is.1))
+        (cases_eq e.1 a),
+  )
 
-  pub ends-more : EndsSoFar net moment first new left (a + 1)
+  near : All (Near net moment new) more
+  near = announced-all a mid more s.running (Near net moment new) announced
+      (All-weaker (Near net moment now) (Near net moment new) near-one mid
+      (All-tail (Near net moment now) (entry t a) mid (All-permutation (Near net moment now) ends (entry t a ∷ mid) taken so_far.near)))
+      (λ some. (actor, inr (rw running-here some, rw running-here refl)))
+
+  whole : HasFirsts new more
+  whole b some = ⊎_elim
+      (λ (e : b ≡ a).
+      let here : 0 < length s.running = rw (e, running-here) at some in
+      rw (e, running-here) (announced-there a mid more s.running announced here))
+      (λ (away : b ≢ a).
+      let there : 0 < length (running_in now b) = rw (running-other b away) at some in
+      rw (running-other b away) (announced-kept a mid more s.running (entry (slice_index (running_in now b) 0) b) announced
+      (besides ends mid (entry t a) (entry (slice_index (running_in now b) 0) b) taken away (so_far.whole b there))))
+      (cases_eq b a)
+
+  pub ends-more : EndsSoFar net moment first new left more longer
   ends-more = record {
     long = kept.long ∙ (length-set now a s ∙ so_far.long);
-    ones = λ b below. ⊎_elim
-        (λ (e : b ≡ a). subst (λ (x : ℕ). EndsOne moment (slice_index_or first x idle) (slice_index_or new x idle)) (sym e) mine)
-        (λ (away : b ≢ a). ends_one-along moment (slice_index_or first b idle) (slice_index_or now b idle) (slice_index_or new b idle) (sym (started-other b away)) (sym (ended-other b away)) (sym (running-other b away)) (so_far.ones b (omega arith)))
+    ones = λ b is. ⊎_elim
+        (λ (e : b ≡ a). subst (λ (x : ℕ). EndsSome moment (slice_index_or first x idle) (slice_index_or new x idle)) (sym e) mine)
+        (λ (away : b ≢ a). ends_some-along moment (slice_index_or first b idle) (slice_index_or now b idle) (slice_index_or new b idle) (sym (started-other b away)) (sym (ended-other b away)) (sym (running-other b away)) (so_far.ones b is))
         (cases_eq b a);
-    started = λ b above. started-other b (λ e. absurd (omega arith)) ∙ so_far.started b (omega arith);
-    ended = λ b above. ended-other b (λ e. absurd (omega arith)) ∙ so_far.ended b (omega arith);
-    running = λ b above. running-other b (λ e. absurd (omega arith)) ∙ so_far.running b (omega arith);
     stand = stand;
-    touched = λ i there below off. ⊎_elim
-        (λ (e : (channel_at net i).source ≡ a). rw e (ended-here ∙ (fed i there e off ∙ so_far.ended a (omega arith))))
-        (λ (away : (channel_at net i).source ≢ a). ended-other (channel_at net i).source away ∙ so_far.touched i there (omega arith) (untouched (channel_at net i).target off))
+    fed = λ i there off. ⊎_elim
+        (λ (e : (channel_at net i).source ≡ a).
+        let was : ended_in now a ≡ ended_in first a = rw e at (so_far.fed i there (untouched (channel_at net i).target off)) in
+        rw e (ended-here ∙ (fed i there e off ∙ was)))
+        (λ (away : (channel_at net i).source ≢ a). ended-other (channel_at net i).source away ∙ so_far.fed i there (untouched (channel_at net i).target off))
         (cases_eq (channel_at net i).source a);
+    near = near;
+    whole = whole;
+    lists = lists;
   }
     where
       untouched : (b : ℕ) → touched_in new b ≡ false → touched_in now b ≡ false
@@ -205,22 +320,59 @@ module _ (net : Net) (moment : ℕ) (first now : List ActorState) (tokens left :
           (λ (away : b ≢ a). sym (ap (λ (x : ActorState). x.touched) (mid-other b away)) ∙ kept.kept b off)
           (cases_eq b a)
 
-      mine : EndsOne moment (slice_index_or first a idle) (slice_index_or new a idle)
-      mine = record {
-        started = started-here ∙ (one.started ∙ so_far.started a (omega arith));
-        later = rw (← so_far.ended a (omega arith), ended-here) one.later;
-        within = rw (← so_far.ended a (omega arith), ended-here, ← so_far.running a (omega arith)) one.within;
-        rest = rw (running-here, ended-here, ← so_far.ended a (omega arith), ← so_far.running a (omega arith)) one.rest;
-        past = rw (ended-here, ← so_far.ended a (omega arith), ← so_far.running a (omega arith)) one.past;
-        next = rw (ended-here, ← so_far.ended a (omega arith), ← so_far.running a (omega arith)) one.next;
-      }
+      mine : EndsSome moment (slice_index_or first a idle) (slice_index_or new a idle)
+      mine = ends_some-along moment (slice_index_or first a idle) s (slice_index_or new a idle) (sym started-here) (sym ended-here) (sym running-here)
+          (ends-join moment (slice_index_or first a idle) (slice_index_or now a idle) s (so_far.ones a actor) one)
 
-pub ends-all : (net : Net) (moment : ℕ) (first now : List ActorState) (tokens : List ℕ) (done : ℕ) → Lawful net → length net.times ≤ done → EndsSoFar net moment first now tokens done → EndsAll net moment first now
-ends-all net moment first now tokens done laws past so_far = record {
-  long = so_far.long;
-  each = λ b is. so_far.ones b (omega arith);
-  untouched = λ i there off. let source : (channel_at net i).source < length net.times = laws.sources i there in so_far.touched i there (omega arith) off;
-}
+-- ---- no end is due any more
+
+module _ (net : Net) (moment : ℕ) (first now : List ActorState) (tokens : List ℕ) (ends : List Entry) (touched : List ℕ) (so_far : EndsSoFar net moment first now tokens ends touched) (late : All (λ (e : Entry). moment < e.0.0) ends) where
+  pub ends-all : EndsAll net moment first now
+  ends-all = record {
+    long = so_far.long;
+    each = λ b is.
+        let some = so_far.ones b is in
+        let n : ℕ = ended_in now b - ended_in first b in
+        record {
+          started = some.started;
+          later = some.later;
+          within = some.within;
+          rest = some.rest;
+          past = some.past;
+          next = λ more.
+              let left : length (running_in now b) ≡ length (running_in first b) - n = ap length some.rest ∙ length-drop n (running_in first b) in
+              let runs : 0 < length (running_in now b) = omega arith in
+              let after : moment < slice_index (running_in now b) 0 = All-contains (λ (e : Entry). moment < e.0.0) ends (entry (slice_index (running_in now b) 0) b) late (so_far.whole b runs) in
+              let read : slice_index (running_in now b) 0 ≡ slice_index (running_in first b) (n + 0) = ap (λ (xs : List ℕ). slice_index xs 0) some.rest ∙ get_or-drop n (running_in first b) 0 0 in
+              let e : n + 0 ≡ n = omega arith in
+              omega (arith, ap (slice_index (running_in first b)) e);
+        };
+    untouched = so_far.fed;
+  }
+
+  pub ends-agenda : IsAgenda net now ends touched
+  ends-agenda = record {
+    firsts = λ k d below. ⊎_elim
+        (λ (past : (slice_index_or ends k d).0.0 ≤ moment). absurd (omega (arith, late k d below)))
+        (λ (is : IsFirst now (slice_index_or ends k d)). is)
+        (so_far.near k d below).1;
+    whole = entries-found now ends so_far.whole;
+    lists = so_far.lists;
+  }
+
+-- an entry that is taken off is that of an actor
+pub due-actor : {net : Net} {moment : ℕ} {first now : List ActorState} {tokens : List ℕ} {ends mid : List Entry} {touched : List ℕ} {t a : ℕ} → EndsSoFar net moment first now tokens ends touched → IsPermutation ends (entry t a ∷ mid) → a < length net.times
+due-actor {net} {moment} {first} {now} {tokens} {ends} {mid} {touched} {t} {a} so_far taken = (All-head (Near net moment now) (entry t a) mid (All-permutation (Near net moment now) ends (entry t a ∷ mid) taken so_far.near)).0
+
+-- what still runs ends later
+pub ends-late : (moment : ℕ) (old new : ActorState) → EndsOne moment old new → 0 < length new.running → moment < slice_index new.running 0
+ends-late moment old new one some =
+    let n : ℕ = new.ended - old.ended in
+    let left : length new.running ≡ length old.running - n = ap length one.rest ∙ length-drop n old.running in
+    let after : moment < slice_index old.running n = one.next (omega arith) in
+    let read : slice_index new.running 0 ≡ slice_index old.running (n + 0) = ap (λ (xs : List ℕ). slice_index xs 0) one.rest ∙ get_or-drop n old.running 0 0 in
+    let e : n + 0 ≡ n = omega arith in
+    omega (arith, ap (slice_index old.running) e)
 
 -- tokens are few enough to add to
 pub stand-small : (net : Net) (actors : List ActorState) (tokens : List ℕ) → Lawful net → Stand net actors tokens → (i : ℕ) → i < length net.channels → slice_index tokens i ≤ 2 ^ 100
@@ -240,38 +392,14 @@ touched-fed net a channels mid new listed touches i there from off =
     false≢true (sym off ∙ here)
 
 -- the same over the state as it was read
-pub ends-step : (net : Net) (moment : ℕ) (first now : List ActorState) (tokens left : List ℕ) (a : ℕ) (base s : ActorState) (new : List ActorState) → base ≡ slice_index_or now a idle → a < length net.times →
-    EndsSoFar net moment first now tokens a → EndsOne moment base s → s.touched ≡ base.touched → Kept (set now a s) new → PutsTokens net a base.ended (s.ended - base.ended) tokens left → length left ≡ length tokens →
+pub ends-step : (net : Net) (moment : ℕ) (first now : List ActorState) (tokens left : List ℕ) (t a : ℕ) (base s : ActorState) (new : List ActorState) (ends mid more : List Entry) (touched longer : List ℕ) → base ≡ slice_index_or now a idle → a < length net.times →
+    EndsSoFar net moment first now tokens ends touched → IsPermutation ends (entry t a ∷ mid) → Announces a s.running mid more → Lists net new longer →
+    EndsOne moment base s → s.touched ≡ base.touched → Kept (set now a s) new → PutsTokens net a base.ended (s.ended - base.ended) tokens left → length left ≡ length tokens →
     ((i : ℕ) → i < length net.channels → (channel_at net i).source ≡ a → touched_in new (channel_at net i).target ≡ false → s.ended ≡ base.ended) →
-    EndsSoFar net moment first new left (a + 1)
-ends-step net moment first now tokens left a base s new was actor so_far one still kept puts longer fed =
-    ends-more net moment first now tokens left a s new actor so_far
+    EndsSoFar net moment first new left more longer
+ends-step net moment first now tokens left t a base s new ends mid more touched longer was actor so_far taken announced lists one still kept puts long_left fed =
+    ends-more net moment first now tokens left t a s new ends mid more touched longer actor so_far taken announced lists
     (subst (λ (x : ActorState). EndsOne moment x s) was one)
     (subst (λ (x : ActorState). s.touched ≡ x.touched) was still) kept
-    (subst (λ (x : ActorState). PutsTokens net a x.ended (s.ended - x.ended) tokens left) was puts) longer
+    (subst (λ (x : ActorState). PutsTokens net a x.ended (s.ended - x.ended) tokens left) was puts) long_left
     (λ i there from off. subst (λ (x : ActorState). s.ended ≡ x.ended) was (fed i there from off))
-
--- ---- an actor of which nothing ends
-
-ends-nothing : (moment : ℕ) (s : ActorState) → (0 < length s.running → moment < slice_index s.running 0) → EndsOne moment s s
-ends-nothing moment s later = record {
-  started = refl;
-  later = omega arith;
-  within = omega arith;
-  rest = rw (none s.ended) refl;
-  past = λ k h. absurd (omega arith);
-  next = rw (none s.ended) later;
-}
-  where
-    none : (e : ℕ) → e - e ≡ 0
-    none e = omega arith
-
-puts-nothing : (net : Net) (a k : ℕ) (tokens : List ℕ) → PutsTokens net a k (k - k) tokens tokens
-puts-nothing net a k tokens = let e : k + (k - k) ≡ k = omega arith in record { made = λ i there from. rw e refl; others = λ i there away. refl }
-
-pub ends-skip : (net : Net) (moment : ℕ) (first now : List ActorState) (tokens : List ℕ) (a : ℕ) (base : ActorState) → base ≡ slice_index_or now a idle → a < length net.times →
-    EndsSoFar net moment first now tokens a → (0 < length base.running → moment < slice_index base.running 0) → EndsSoFar net moment first now tokens (a + 1)
-ends-skip net moment first now tokens a base was actor so_far later =
-    let same : set now a base ≡ now = ap (set now a) was ∙ set-get_or now a idle in
-    ends-step net moment first now tokens tokens a base base now was actor so_far (ends-nothing moment base later) refl
-    (subst (λ (l : List ActorState). Kept l now) (sym same) (kept-same now)) (puts-nothing net a base.ended tokens) refl (λ i there from off. refl)

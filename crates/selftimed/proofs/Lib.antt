@@ -1,4 +1,5 @@
 pub mod Shifts
+pub mod Agendas
 pub mod Batches
 pub mod Endings
 pub mod Starting

@@ -18,68 +18,10 @@ use Rattle.sd_base.proofs.Counts.{Same, Quiet, ended_at, early_at, ended-at-is, 
 use Rattle.sd_base.proofs.Ends.{sum_to, sum_to-le, sum_to-lt}
 use Rattle.sd_base.proofs.Events.{is_event-end, event-tells}
 use Rattle.selftimed.specs.declared.actors.ActorState.{ActorState}
-use Rattle.selftimed.specs.Actors.{started_in, ended_in, running_in, touched_in, earlier, earlier_end, EndsAll, Stand, Counted, StartedAll, CanOverrun}
+use Rattle.selftimed.specs.Actors.{started_in, ended_in, running_in, touched_in, IsFirstEnd, IsQuiet, EndsAll, Stand, Counted, StartedAll, CanOverrun}
 use Rattle.selftimed.specs.Stands.{Stands}
 use Rattle.selftimed.specs.Moves.{IsNext, Overruns}
 use Rattle.selftimed.proofs.Starting.{sum_to-all, sum_to-same}
-
--- ---- the first end
-
-pub record FirstEnd (o : Option ℕ) (xs : List ActorState) (t : ℕ) : Type 0 where
-  pub below_o : (u : ℕ) → o ≡ Some u → t ≤ u
-  pub below : (a : ℕ) → a < length xs → 0 < length (running_in xs a) → t ≤ slice_index (running_in xs a) 0
-  pub there : (o ≡ Some t) ⊎ ((a : ℕ) × (a < length xs) × (0 < length (running_in xs a)) × (slice_index (running_in xs a) 0 ≡ t))
-
-earlier-below : (o : Option ℕ) (es : List ℕ) (t : ℕ) → ((v : ℕ) → earlier o es ≡ Some v → t ≤ v) → ((u : ℕ) → o ≡ Some u → t ≤ u) × (0 < length es → t ≤ slice_index es 0)
-earlier-below o [] t least = (least, λ some. absurd (omega arith))
-earlier-below None (e ∷ es) t least = ((λ u is. cc), λ some. least e refl)
-earlier-below (Some v) (e ∷ es) t least =
-    let low : t ≤ min v e = least (min v e) refl in
-    ((λ u is. let same : v ≡ u = cc in omega arith), λ some. omega arith)
-
-earlier-there : (o : Option ℕ) (es : List ℕ) (t : ℕ) → earlier o es ≡ Some t → (o ≡ Some t) ⊎ ((0 < length es) × (slice_index es 0 ≡ t))
-earlier-there o [] t is = inl is
-earlier-there None (e ∷ es) t is = let same : e ≡ t = cc in inr (omega arith, same)
-earlier-there (Some v) (e ∷ es) t is = let same : min v e ≡ t = cc in ⊎_elim
-    (λ (less : v < e). inl (ap Some (omega arith)))
-    (λ (more : e ≤ v). inr (omega arith, omega arith))
-    (cases_lt v e)
-
-pub first-end : (xs : List ActorState) (o : Option ℕ) (t : ℕ) → fold earlier_end o xs ≡ Some t → FirstEnd o xs t
-first-end [] o t is = record { below_o = λ u at. let same : Some u ≡ Some t = sym at ∙ is in let e : u ≡ t = cc in omega arith; below = λ a h. absurd (omega arith); there = inl is }
-first-end (x ∷ xs) o t is =
-    let rest : FirstEnd (earlier_end o x) xs t = first-end xs (earlier_end o x) t is in
-    let low = earlier-below o x.running t rest.below_o in
-    record {
-      below_o = low.0;
-      below = first-below x xs o t rest low.1;
-      there = ⊎_elim
-          (λ (e : earlier_end o x ≡ Some t). ⊎_elim (λ (at : o ≡ Some t). inl at) (λ (at : (0 < length x.running) × (slice_index x.running 0 ≡ t)). inr (0, omega arith, at.0, at.1)) (earlier-there o x.running t e))
-          (λ (found : (a : ℕ) × (a < length xs) × (0 < length (running_in xs a)) × (slice_index (running_in xs a) 0 ≡ t)). inr (suc found.0, omega (arith, found.1), found.2, found.3))
-          rest.there;
-    }
-  where
-    first-below : (x : ActorState) (xs : List ActorState) (o : Option ℕ) (t : ℕ) → FirstEnd (earlier_end o x) xs t → (0 < length x.running → t ≤ slice_index x.running 0) →
-        (a : ℕ) → a < length (x ∷ xs) → 0 < length (running_in (x ∷ xs) a) → t ≤ slice_index (running_in (x ∷ xs) a) 0
-    first-below x xs o t rest low zero h some = low some
-    first-below x xs o t rest low (suc a) h some = rest.below a (omega arith) some
-
-earlier-none : (o : Option ℕ) (es : List ℕ) → earlier o es ≡ None → (o ≡ None) × (length es ≡ 0)
-earlier-none o [] is = (is, refl)
-earlier-none None (e ∷ es) is = cc
-earlier-none (Some v) (e ∷ es) is = cc
-
--- where there is no first end nothing runs
-pub no-end : (xs : List ActorState) (o : Option ℕ) → fold earlier_end o xs ≡ None → (o ≡ None) × ((a : ℕ) → a < length xs → length (running_in xs a) ≡ 0)
-no-end [] o is = (is, λ a h. absurd (omega arith))
-no-end (x ∷ xs) o is =
-    let rest = no-end xs (earlier_end o x) is in
-    let here = earlier-none o x.running rest.0 in
-    (here.0, each x xs here.1 rest.1)
-  where
-    each : (x : ActorState) (xs : List ActorState) → length x.running ≡ 0 → ((a : ℕ) → a < length xs → length (running_in xs a) ≡ 0) → (a : ℕ) → a < length (x ∷ xs) → length (running_in (x ∷ xs) a) ≡ 0
-    each x xs here rest zero h = here
-    each x xs here rest (suc a) h = rest a (omega arith)
 
 -- ---- inputs
 
@@ -135,18 +77,15 @@ module _ (net : Net) (laws : Lawful net) (now most : ℕ) (old : List ActorState
       (inside, rw e at (stands.ends a (k - ended_in old a) actor inside))
 
   -- where nothing runs all that has started has ended
-  pub stuck-ended : ((a : ℕ) → a < length old → length (running_in old a) ≡ 0) → (a : ℕ) → a < length net.times → ended_by net now (earliest net (suc now)) a ≡ count_of (earliest net (suc now)) a
+  pub stuck-ended : IsQuiet old → (a : ℕ) → a < length net.times → ended_by net now (earliest net (suc now)) a ≡ count_of (earliest net (suc now)) a
   stuck-ended none a actor =
       let many : ended_in old a + length (running_in old a) ≡ started_in old a = stands.stand.counts a actor in
       omega (arith, stands.counts a actor, stands.ended a actor, none a (rw stands.stand.long actor))
 
-  pub stuck-lacks : ((a : ℕ) → a < length old → length (running_in old a) ≡ 0) → (a : ℕ) → a < length net.times → Lacks net (count_of (earliest net (suc now))) a (count_of (earliest net (suc now)) a)
+  pub stuck-lacks : IsQuiet old → (a : ℕ) → a < length net.times → Lacks net (count_of (earliest net (suc now))) a (count_of (earliest net (suc now)) a)
   stuck-lacks none = full-along net (ended_at net now) (count_of (earliest net (suc now))) (count_of (earliest net (suc now))) (count_of (earliest net (suc now))) reg.wired (stuck-ended none) (λ a actor. refl) (full-at net reg fed now)
 
-  module _ (t : ℕ) (first : fold earlier_end None old ≡ Some t) where
-    head : FirstEnd None old t
-    head = first-end old None t first
-
+  module _ (t : ℕ) (head : IsFirstEnd old t) where
     quiet : Quiet net now t
     quiet = record {
       still = λ a k from below.
@@ -164,10 +103,7 @@ module _ (net : Net) (laws : Lawful net) (now most : ℕ) (old : List ActorState
 
     -- who ends then
     ending : (a : ℕ) × (a < length net.times) × (0 < length (running_in old a)) × (slice_index (running_in old a) 0 ≡ t)
-    ending = ⊎_elim
-        (λ (e : None ≡ Some t). cc)
-        (λ (found : (a : ℕ) × (a < length old) × (0 < length (running_in old a)) × (slice_index (running_in old a) 0 ≡ t)). (found.0, rw stands.stand.long at found.1, found.2, found.3))
-        head.there
+    ending = (head.there.0, rw stands.stand.long at head.there.1, head.there.2, head.there.3)
 
     ending-end : (ended_in old ending.0 < count_of (earliest net (suc now)) ending.0) × (end_of net (earliest net (suc now)) ending.0 (ended_in old ending.0) ≡ t)
     ending-end =
@@ -358,7 +294,7 @@ module _ (net : Net) (laws : Lawful net) (now most : ℕ) (old : List ActorState
         }
 
 -- what the ends and starts of the next event come to
-pub next-move : (net : Net) (laws : Lawful net) (now most t : ℕ) (old mid new : List ActorState) (tokens left : List ℕ) (all total_now : ℕ) (stands : Stands net now most old tokens all) → fold earlier_end None old ≡ Some t → EndsAll net t old mid → (fits : Bool) →
+pub next-move : (net : Net) (laws : Lawful net) (now most t : ℕ) (old mid new : List ActorState) (tokens left : List ℕ) (all total_now : ℕ) (stands : Stands net now most old tokens all) → IsFirstEnd old t → EndsAll net t old mid → (fits : Bool) →
     MatchBool fits (StartedAll net t mid new) (CanOverrun net (ended_in mid) most) → OnTrue fits (Stand net new left) → OnTrue fits (Counted new total_now most) →
     MatchBool fits (Stands net t most new left total_now) (Overruns net t most)
 next-move net laws now most t old mid new tokens left all total_now stands first ends true started stand counted = next-stands net laws now most old tokens all stands t first mid ends new left total_now started stand counted

@@ -1,13 +1,13 @@
 -- Starts of all actors, actor by actor.
-use Rattle.std.proofs.Common.{◌≡◌, ◌≢◌, ℕ, zero, suc, ◌+◌, ◌-◌, ◌≤◌, ◌<◌, ◌^◌, Bool, true, false, List, [], ◌∷◌, length, set, take, ⊎_elim, subst, sym, refl, ap, ◌∙◌, arith}
-use Rattle.std.specs.Prelude.{slice_index, slice_index_or, if◌then◌else◌, ◌==◌}
+use Rattle.std.proofs.Common.{◌≡◌, ◌≢◌, ℕ, zero, suc, ◌+◌, ◌-◌, ◌≤◌, ◌<◌, ◌^◌, ◌⊎◌, Bool, true, false, List, [], ◌∷◌, ◌++◌, length, set, take, Some, inl, inr, ⊎_elim, subst, sym, refl, ap, ◌∙◌, arith}
+use Rattle.std.specs.Prelude.{slice_index, slice_index_or, if◌then◌else◌, ◌==◌, All, Contains}
 use Rattle.std.specs.List.{sum_by}
-use Rattle.std.proofs.lemmas.Bool.{cases_eq}
-use Rattle.std.proofs.lemmas.List.{length-set, get_or-set_same, get_or-set_other, set-get_or, take_all}
+use Rattle.std.proofs.lemmas.Bool.{cases_eq, cases_Bool, false≢true}
+use Rattle.std.proofs.lemmas.List.{length-set, get_or-set_same, get_or-set_other, take_all}
+use Rattle.std.proofs.lemmas.List.Elements.{All-contains, All-pop, All-weaker, Contains-push, Contains-push_cases}
 use Rattle.std.proofs.lemmas.List.Sums.{sum_by-set, sum_by_more, get_or-le-sum_by}
-use Rattle.sd_base.specs.Net.{Net, channel_at, phase_entry, total}
+use Rattle.sd_base.specs.Net.{Net, channel_at, total}
 use Rattle.sd_base.specs.Schedules.{Needs, Lacks}
-use Rattle.sd_base.proofs.Sums.{total-more}
 use Rattle.sd_base.proofs.Moment.{Able}
 use Rattle.sd_base.proofs.Ends.{sum_to}
 use Rattle.firing.specs.Wiring.{LacksNow, IsLevel}
@@ -16,6 +16,8 @@ use Rattle.selftimed.specs.Starts.{AddsEnds, Overfills}
 use Rattle.selftimed.proofs.Batches.{adds-none}
 use Rattle.selftimed.specs.declared.actors.ActorState.{ActorState}
 use Rattle.selftimed.specs.Actors.{idle, started_in, ended_in, running_in, touched_in, Stand, Counted, StartsOne, StartedAll, CanOverrun}
+use Rattle.selftimed.specs.Agendas.{Entry, entry, Announces, IsFirst, Lists, IsAgenda}
+use Rattle.selftimed.proofs.Agendas.{HasFirsts, has-firsts, entries-found, has-number, number-found, announced-kept, announced-there, announced-all}
 
 -- ---- sums over actors
 
@@ -46,57 +48,67 @@ sum_to-more f g (suc n) a k below here others = ⊎_elim
 pub started-le : (actors : List ActorState) (all most b : ℕ) → Counted actors all most → b < length actors → started_in actors b ≤ all
 started-le actors all most b counted place = omega (arith, counted.total, get_or-le-sum_by (λ (s : ActorState). s.started) actors b idle place)
 
--- ---- what lacks
-
--- a channel on which a firing needs one that hasn't ended has too few tokens for it
-pub level-short : (net : Net) (s e : ℕ → ℕ) (tokens : List ℕ) (a : ℕ) → IsLevel net s e tokens → Lacks net e a (s a) → (i : ℕ) × LacksNow net tokens a (s a) i
-level-short net s e tokens a level lack =
-    let was : slice_index tokens lack.0 + total (channel_at net lack.0).taken (s (channel_at net lack.0).target) ≡ (channel_at net lack.0).tokens + total (channel_at net lack.0).made (e (channel_at net lack.0).source) = level.each lack.0 lack.1 in
-    let here : slice_index tokens lack.0 + total (channel_at net lack.0).taken (s a) ≡ (channel_at net lack.0).tokens + total (channel_at net lack.0).made (e (channel_at net lack.0).source) = rw lack.2 at was in
-    let more : total (channel_at net lack.0).taken (s a + 1) ≡ total (channel_at net lack.0).taken (s a) + phase_entry (channel_at net lack.0).taken (s a) = total-more (channel_at net lack.0).taken (s a) in
-    let need : Needs (channel_at net lack.0) (s a) (e (channel_at net lack.0).source) = lack.3 in
-    (lack.0, record { place = lack.1; into = lack.2; short = omega arith })
-
 -- ---- actor by actor
 
-pub record StartsSoFar (net : Net) (moment : ℕ) (first now : List ActorState) (tokens : List ℕ) (all most done : ℕ) : Type 0 where
+-- the untouched actors have started all that they can, and the touched ones stand as they did
+pub record StartsSoFar (net : Net) (moment : ℕ) (first now : List ActorState) (tokens : List ℕ) (all most : ℕ) (ends : List Entry) (touched : List ℕ) : Type 0 where
   pub long : length now ≡ length first
   pub ended : (b : ℕ) → ended_in now b ≡ ended_in first b
-  pub more : (b : ℕ) → b < done → started_in first b ≤ started_in now b
-  pub ends : (b : ℕ) → b < done → AddsEnds net b moment (started_in first b) (started_in now b - started_in first b) (running_in first b) (running_in now b)
-  pub lacks : (b : ℕ) → b < done → Lacks net (ended_in first) b (started_in now b)
-  pub calm : (b : ℕ) → b < done → touched_in now b ≡ false
-  pub started : (b : ℕ) → done ≤ b → started_in now b ≡ started_in first b
-  pub running : (b : ℕ) → done ≤ b → running_in now b ≡ running_in first b
-  pub touched : (b : ℕ) → done ≤ b → touched_in now b ≡ touched_in first b
+  pub more : (b : ℕ) → b < length net.times → touched_in now b ≡ false → started_in first b ≤ started_in now b
+  pub adds : (b : ℕ) → b < length net.times → touched_in now b ≡ false → AddsEnds net b moment (started_in first b) (started_in now b - started_in first b) (running_in first b) (running_in now b)
+  pub lacks : (b : ℕ) → b < length net.times → touched_in now b ≡ false → Lacks net (ended_in first) b (started_in now b)
+  pub started : (b : ℕ) → touched_in now b ≡ true → started_in now b ≡ started_in first b
+  pub running : (b : ℕ) → touched_in now b ≡ true → running_in now b ≡ running_in first b
   pub stand : Stand net now tokens
   pub counted : Counted now all most
+  pub agenda : IsAgenda net now ends touched
 
-pub starts-none : (net : Net) (moment : ℕ) (first : List ActorState) (tokens : List ℕ) (all most : ℕ) → Stand net first tokens → Counted first all most → StartsSoFar net moment first first tokens all most 0
-starts-none net moment first tokens all most stand counted = record {
+pub starts-none : (net : Net) (moment : ℕ) (first : List ActorState) (tokens : List ℕ) (all most : ℕ) (ends : List Entry) (touched : List ℕ) → Stand net first tokens → Counted first all most → IsAgenda net first ends touched →
+    ((b : ℕ) → b < length net.times → touched_in first b ≡ false → Lacks net (ended_in first) b (started_in first b)) → StartsSoFar net moment first first tokens all most ends touched
+starts-none net moment first tokens all most ends touched stand counted agenda lacking = record {
   long = refl;
   ended = λ b. refl;
-  more = λ b h. absurd (omega arith);
-  ends = λ b h. absurd (omega arith);
-  lacks = λ b h. absurd (omega arith);
-  calm = λ b h. absurd (omega arith);
-  started = λ b h. refl;
-  running = λ b h. refl;
-  touched = λ b h. refl;
+  more = λ b is off. omega arith;
+  adds = λ b is off. rw (none (started_in first b)) (adds-none net b moment (started_in first b) (running_in first b));
+  lacks = lacking;
+  started = λ b on. refl;
+  running = λ b on. refl;
   stand = stand;
   counted = counted;
+  agenda = agenda;
 }
+  where
+    none : (n : ℕ) → n - n ≡ 0
+    none n = omega arith
 
-pub starts-all : (net : Net) (moment : ℕ) (first now : List ActorState) (tokens : List ℕ) (all most done : ℕ) → length net.times ≤ done → StartsSoFar net moment first now tokens all most done → StartedAll net moment first now
-starts-all net moment first now tokens all most done past so_far = record {
+-- where no actor is listed none is touched
+pub starts-all : (net : Net) (moment : ℕ) (first now : List ActorState) (tokens : List ℕ) (all most : ℕ) (ends : List Entry) (touched : List ℕ) → touched ≡ [] → StartsSoFar net moment first now tokens all most ends touched → StartedAll net moment first now
+starts-all net moment first now tokens all most ends touched none so_far = record {
   ended = so_far.ended;
-  more = λ b h. so_far.more b (omega arith);
-  ends = λ b h. so_far.ends b (omega arith);
-  lacks = λ b h. so_far.lacks b (omega arith);
-  calm = λ b h. so_far.calm b (omega arith);
+  more = λ b is. so_far.more b is (calm b);
+  ends = λ b is. so_far.adds b is (calm b);
+  lacks = λ b is. so_far.lacks b is (calm b);
+  calm = λ b is. calm b;
 }
+  where
+    calm : (b : ℕ) → touched_in now b ≡ false
+    calm b = ⊎_elim
+        (λ (on : touched_in now b ≡ true).
+        let has : Contains touched b = has-number touched b (so_far.agenda.lists.listed b on) in
+        let below : has.0 < length touched = has.1 in
+        let short : length touched ≡ 0 = ap length none in
+        absurd (omega arith))
+        (λ (off : touched_in now b ≡ false). off)
+        (cases_Bool (touched_in now b))
 
-module _ (net : Net) (moment : ℕ) (first now : List ActorState) (tokens : List ℕ) (all most a : ℕ) (actor : a < length net.times) (few : most ≤ 2 ^ 32) (so_far : StartsSoFar net moment first now tokens all most a) where
+-- the entry of an actor is noted where it had none
+abbrev pub Noted : ℕ → List ℕ → List ℕ → List Entry → List Entry → Type 0
+Noted a old runs ends more = Announces a runs ends more ⊎ ((0 < length old) × (more ≡ ends))
+
+module _ (net : Net) (moment : ℕ) (first now : List ActorState) (tokens : List ℕ) (all most a : ℕ) (ends : List Entry) (rest : List ℕ) (few : most ≤ 2 ^ 32) (so_far : StartsSoFar net moment first now tokens all most ends (rest ++ a ∷ [])) where
+  pub actor : a < length net.times
+  actor = All-contains (λ (b : ℕ). b < length net.times) (rest ++ a ∷ []) a so_far.agenda.lists.within (Contains-push rest a)
+
   place : a < length now
   place = rw so_far.stand.long actor
 
@@ -104,14 +116,35 @@ module _ (net : Net) (moment : ℕ) (first now : List ActorState) (tokens : List
   pub room-fits : started_in now a + (most - all) ≤ 2 ^ 32
   room-fits = omega (arith, started-le now all most a so_far.counted place, so_far.counted.within)
 
-  -- an untouched actor lacks tokens
-  pub still-short : ((b : ℕ) → b < length net.times → touched_in first b ≡ false → Lacks net (ended_in first) b (started_in first b)) → touched_in now a ≡ false → (i : ℕ) × LacksNow net tokens a (started_in now a) i
-  still-short lacking calm =
-      let lack : Lacks net (ended_in first) a (started_in first a) = lacking a actor (sym (so_far.touched a (omega arith)) ∙ calm) in
-      let same : Lacks net (ended_in now) a (started_in now a) = (lack.0, lack.1, lack.2, rw (so_far.started a (omega arith), so_far.ended (channel_at net lack.0).source) lack.3) in
-      level-short net (started_in now) (ended_in now) tokens a so_far.stand.level same
+  within-rest : All (λ (b : ℕ). b < length net.times) rest
+  within-rest = (All-pop (λ (b : ℕ). b < length net.times) (rest ++ a ∷ []) rest (Some a) refl so_far.agenda.lists.within).0
 
-  module _ (left : List ℕ) (s : ActorState) (n : ℕ) (fits : n ≤ most - all) (one : StartsOne net a moment n tokens left (slice_index_or now a idle) s) (longer : length left ≡ length tokens) where
+  -- an actor that is listed again starts nothing
+  pub starts-skip : touched_in now a ≡ false → StartsSoFar net moment first now tokens all most ends rest
+  starts-skip off = record {
+    long = so_far.long;
+    ended = so_far.ended;
+    more = so_far.more;
+    adds = so_far.adds;
+    lacks = so_far.lacks;
+    started = so_far.started;
+    running = so_far.running;
+    stand = so_far.stand;
+    counted = so_far.counted;
+    agenda = record {
+      firsts = so_far.agenda.firsts;
+      whole = so_far.agenda.whole;
+      lists = record {
+        within = within-rest;
+        listed = λ b on. ⊎_elim
+            (λ (has : Contains rest b). number-found rest b has)
+            (λ (e : a ≡ b). absurd (false≢true (sym off ∙ rw e on)))
+            (Contains-push_cases rest a b (has-number (rest ++ a ∷ []) b (so_far.agenda.lists.listed b on)));
+      };
+    };
+  }
+
+  module _ (on : touched_in now a ≡ true) (left : List ℕ) (s : ActorState) (n : ℕ) (fits : n ≤ most - all) (one : StartsOne net a moment n tokens left (slice_index_or now a idle) s) (longer : length left ≡ length tokens) where
     here : slice_index_or (set now a s) a idle ≡ s
     here = get_or-set_same now a s idle place
 
@@ -176,37 +209,93 @@ module _ (net : Net) (moment : ℕ) (first now : List ActorState) (tokens : List
         level-needs net (started_in (set now a s)) (ended_in (set now a s)) left a found.0 level short in
         (found.0, short.place, short.into, rw (ended-all (channel_at net found.0).source ∙ so_far.ended (channel_at net found.0).source) at need)
 
-    pub starts-more : StartsSoFar net moment first (set now a s) left (all + n) most (a + 1)
-    starts-more = record {
+    first-kept : (e : Entry) → IsFirst now e → IsFirst (set now a s) e
+    first-kept e is = ⊎_elim
+        (λ (same : e.1 ≡ a).
+        let some : 0 < length (running_in now a) = rw same at is.0 in
+        let was : slice_index (running_in now a) 0 ≡ e.0.0 = rw same at is.1 in
+        let long : length s.running ≡ length (running_in now a) + n = one.all.ends.long in
+        let kept : slice_index s.running 0 ≡ slice_index (running_in now a) 0 = one.all.ends.kept 0 some in
+        rw (same, running-here) (omega arith, kept ∙ was))
+        (λ (away : e.1 ≢ a). (rw (running-other e.1 away) is.0, rw (running-other e.1 away) is.1))
+        (cases_eq e.1 a)
+
+    lists : Lists net (set now a s) rest
+    lists = record {
+      within = within-rest;
+      listed = λ b is. ⊎_elim
+          (λ (e : b ≡ a).
+          let off : touched_in (set now a s) b ≡ false = rw e (ap (λ (x : ActorState). x.touched) here ∙ one.calm) in
+          absurd (false≢true (sym off ∙ is)))
+          (λ (away : b ≢ a). ⊎_elim
+          (λ (has : Contains rest b). number-found rest b has)
+          (λ (e : a ≡ b). absurd (away (sym e)))
+          (Contains-push_cases rest a b (has-number (rest ++ a ∷ []) b (so_far.agenda.lists.listed b (sym (touched-other b away) ∙ is)))))
+          (cases_eq b a);
+    }
+
+    has : HasFirsts now ends
+    has = has-firsts now ends so_far.agenda.firsts so_far.agenda.whole
+
+    agenda : (more : List Entry) → Noted a (running_in now a) s.running ends more → IsAgenda net (set now a s) more rest
+    agenda more (inl announced) = record {
+      firsts = announced-all a ends more s.running (IsFirst (set now a s)) announced (All-weaker (IsFirst now) (IsFirst (set now a s)) first-kept ends so_far.agenda.firsts) (λ some. rw running-here (some, refl));
+      whole = entries-found (set now a s) more (λ b some. ⊎_elim
+          (λ (e : b ≡ a).
+          let runs : 0 < length s.running = rw (e, running-here) at some in
+          rw (e, running-here) (announced-there a ends more s.running announced runs))
+          (λ (away : b ≢ a).
+          let there : 0 < length (running_in now b) = rw (running-other b away) at some in
+          rw (running-other b away) (announced-kept a ends more s.running (entry (slice_index (running_in now b) 0) b) announced (has b there)))
+          (cases_eq b a));
+      lists = lists;
+    }
+    agenda more (inr (busy, same)) = rw same (record {
+      firsts = All-weaker (IsFirst now) (IsFirst (set now a s)) first-kept ends so_far.agenda.firsts;
+      whole = entries-found (set now a s) ends (λ b some. ⊎_elim
+          (λ (e : b ≡ a).
+          let kept : slice_index s.running 0 ≡ slice_index (running_in now a) 0 = one.all.ends.kept 0 busy in
+          rw (e, running-here, kept) (has a busy))
+          (λ (away : b ≢ a).
+          let there : 0 < length (running_in now b) = rw (running-other b away) at some in
+          rw (running-other b away) (has b there))
+          (cases_eq b a));
+      lists = lists;
+    })
+
+    pub starts-more : (more : List Entry) → Noted a (running_in now a) s.running ends more → StartsSoFar net moment first (set now a s) left (all + n) most more rest
+    starts-more more noted = record {
       long = length-set now a s ∙ so_far.long;
       ended = λ b. ended-all b ∙ so_far.ended b;
-      more = λ b below. ⊎_elim
-          (λ (e : b ≡ a). rw (e, started-here) (omega (arith, so_far.started a (omega arith))))
-          (λ (away : b ≢ a). rw (started-other b away) (so_far.more b (omega arith)))
+      more = λ b is off. ⊎_elim
+          (λ (e : b ≡ a). rw (e, started-here) (omega (arith, so_far.started a on)))
+          (λ (away : b ≢ a). rw (started-other b away) (so_far.more b is (sym (touched-other b away) ∙ off)))
           (cases_eq b a);
-      ends = λ b below. ⊎_elim
+      adds = λ b is off. ⊎_elim
           (λ (e : b ≡ a). subst (λ (x : ℕ). AddsEnds net x moment (started_in first x) (started_in (set now a s) x - started_in first x) (running_in first x) (running_in (set now a s) x)) (sym e) ends-here)
-          (λ (away : b ≢ a). rw (started-other b away, running-other b away) (so_far.ends b (omega arith)))
+          (λ (away : b ≢ a). rw (started-other b away, running-other b away) (so_far.adds b is (sym (touched-other b away) ∙ off)))
           (cases_eq b a);
-      lacks = λ b below. ⊎_elim
+      lacks = λ b is off. ⊎_elim
           (λ (e : b ≡ a). subst (λ (x : ℕ). Lacks net (ended_in first) x (started_in (set now a s) x)) (sym e) lack-here)
-          (λ (away : b ≢ a). rw (started-other b away) (so_far.lacks b (omega arith)))
+          (λ (away : b ≢ a). rw (started-other b away) (so_far.lacks b is (sym (touched-other b away) ∙ off)))
           (cases_eq b a);
-      calm = λ b below. ⊎_elim
-          (λ (e : b ≡ a). rw e (ap (λ (x : ActorState). x.touched) here ∙ one.calm))
-          (λ (away : b ≢ a). touched-other b away ∙ so_far.calm b (omega arith))
-          (cases_eq b a);
-      started = λ b above. started-other b (λ e. absurd (omega arith)) ∙ so_far.started b (omega arith);
-      running = λ b above. running-other b (λ e. absurd (omega arith)) ∙ so_far.running b (omega arith);
-      touched = λ b above. touched-other b (λ e. absurd (omega arith)) ∙ so_far.touched b (omega arith);
+      started = λ b is. started-other b (away-from b is) ∙ so_far.started b (still b is);
+      running = λ b is. running-other b (away-from b is) ∙ so_far.running b (still b is);
       stand = stand;
       counted = counted;
+      agenda = agenda more noted;
     }
       where
         ends-here : AddsEnds net a moment (started_in first a) (started_in (set now a s) a - started_in first a) (running_in first a) (running_in (set now a s) a)
         ends-here =
-            let many : started_in (set now a s) a - started_in first a ≡ n = omega (arith, started-here, so_far.started a (omega arith)) in
-            rw (many, running-here, ← so_far.started a (omega arith), ← so_far.running a (omega arith)) one.all.ends
+            let many : started_in (set now a s) a - started_in first a ≡ n = omega (arith, started-here, so_far.started a on) in
+            rw (many, running-here, ← so_far.started a on, ← so_far.running a on) one.all.ends
+
+        away-from : (b : ℕ) → touched_in (set now a s) b ≡ true → b ≢ a
+        away-from b is e = absurd (false≢true (sym (rw e (ap (λ (x : ActorState). x.touched) here ∙ one.calm)) ∙ is))
+
+        still : (b : ℕ) → touched_in (set now a s) b ≡ true → touched_in now b ≡ true
+        still b is = sym (touched-other b (away-from b is)) ∙ is
 
   -- more could start than the bound
   pub starts-over : Overfills net tokens a (started_in now a) (most - all) → CanOverrun net (ended_in first) most
@@ -240,25 +329,3 @@ module _ (net : Net) (moment : ℕ) (first now : List ActorState) (tokens : List
           let sums : sum_to m (length net.times) ≡ sum_to (started_in now) (length net.times) + over.0 = sum_to-more (started_in now) m (length net.times) a over.0 actor m-here m-other in
           let all_is : sum_to (started_in now) (length net.times) ≡ sum_by (λ (x : ActorState). x.started) now = sum_to-all now (length net.times) so_far.stand.long in
           omega (arith, so_far.counted.total, so_far.counted.within, over.1)
-
--- an untouched actor starts nothing
-pub starts-skip : (net : Net) (moment : ℕ) (first now : List ActorState) (tokens : List ℕ) (all most a : ℕ) → a < length net.times → most ≤ 2 ^ 32 → StartsSoFar net moment first now tokens all most a →
-    ((b : ℕ) → b < length net.times → touched_in first b ≡ false → Lacks net (ended_in first) b (started_in first b)) → touched_in now a ≡ false → StartsSoFar net moment first now tokens all most (a + 1)
-starts-skip net moment first now tokens all most a actor few so_far lacking calm =
-    let same : set now a (slice_index_or now a idle) ≡ now = set-get_or now a idle in
-    let short = still-short net moment first now tokens all most a actor few so_far lacking calm in
-    let none : started_in now a + 0 ≡ started_in now a = omega arith in
-    let one : StartsOne net a moment 0 tokens tokens (slice_index_or now a idle) (slice_index_or now a idle) = record {
-      started = sym none;
-      ended = refl;
-      calm = calm;
-      all = record {
-        takes = record { taken = λ i there into. rw none refl; others = λ i there away. refl };
-        ends = adds-none net a moment (started_in now a) (running_in now a);
-        lacks = (short.0, rw none short.1);
-      };
-    } in
-    let moved : StartsSoFar net moment first (set now a (slice_index_or now a idle)) tokens (all + 0) most (a + 1) =
-    starts-more net moment first now tokens all most a actor few so_far tokens (slice_index_or now a idle) 0 (omega arith) one refl in
-    let total : all + 0 ≡ all = omega arith in
-    subst (λ (l : List ActorState). StartsSoFar net moment first l tokens all most (a + 1)) same (subst (λ (n : ℕ). StartsSoFar net moment first (set now a (slice_index_or now a idle)) tokens n most (a + 1)) total moved)

@@ -1,5 +1,5 @@
 -- Where the actors stand in an execution.
-use Rattle.std.specs.Prelude.{◌≡◌, ℕ, ◌+◌, ◌-◌, ◌^◌, ◌≤◌, ◌<◌, Bool, true, false, List, [], ◌∷◌, length, drop, slice_index, slice_index_or, min, Option, Some, None}
+use Rattle.std.specs.Prelude.{◌≡◌, ℕ, ◌+◌, ◌-◌, ◌^◌, ◌≤◌, ◌<◌, Bool, true, false, List, [], length, drop, slice_index, slice_index_or}
 use Rattle.std.specs.List.{sum_by}
 use Rattle.sd_base.specs.Net.{Net, channel_at}
 use Rattle.sd_base.specs.Schedules.{Lacks}
@@ -29,14 +29,14 @@ running_in actors a = (slice_index_or actors a idle).running
 abbrev pub touched_in : List ActorState → ℕ → Bool
 touched_in actors a = (slice_index_or actors a idle).touched
 
--- the earlier of a moment and the first end of a list
-abbrev pub earlier : Option ℕ → List ℕ → Option ℕ
-earlier o [] = o
-earlier None (e ∷ es) = Some e
-earlier (Some t) (e ∷ es) = Some (min t e)
+-- t is the first moment at which a running firing ends
+pub record IsFirstEnd (actors : List ActorState) (t : ℕ) : Type 0 where
+  pub below : (a : ℕ) → a < length actors → 0 < length (running_in actors a) → t ≤ slice_index (running_in actors a) 0
+  pub there : (a : ℕ) × (a < length actors) × (0 < length (running_in actors a)) × (slice_index (running_in actors a) 0 ≡ t)
 
-abbrev pub earlier_end : Option ℕ → ActorState → Option ℕ
-earlier_end first s = earlier first s.running
+-- nothing runs
+abbrev pub IsQuiet : List ActorState → Type 0
+IsQuiet actors = (a : ℕ) → a < length actors → length (running_in actors a) ≡ 0
 
 -- the firings of an actor that ended by a moment are off its list, and the next one ends later
 pub record EndsOne (moment : ℕ) (old new : ActorState) : Type 0 where

@@ -1,5 +1,5 @@
-ghost use Rattle.std.specs.Prelude.{◌≡◌, ℕ, ◌<◌, ◌≤◌, false, None, fold, IfOk, length, replicate, slice_index};
-ghost use Rattle.selftimed.specs.Actors.{earlier_end, fresh_one};
+ghost use Rattle.std.specs.Prelude.{◌≡◌, ℕ, ◌<◌, ◌≤◌, IfOk, length, replicate, slice_index};
+ghost use Rattle.selftimed.specs.Actors.{fresh_one};
 
 use crate::running::Running;
 use sd_base::NoMemory;
@@ -29,38 +29,6 @@ pub(crate) fn new_actors(alloc: Global, count: u32) -> Result<Vec<ActorState>, N
         })?;
     }
     Ok(actors)
-}
-
-/// The first moment at which a running firing ends.
-pub(crate) fn next_end(actors: &[ActorState]) -> Option<u64>
-    ensures { result ≡ fold earlier_end None actors.now }
-{
-    let mut first = None;
-    for state in actors {
-        first = sooner(first, state);
-    }
-    first
-}
-
-/// The sooner of a moment and the first end of an actor's firings.
-fn sooner(first: Option<u64>, state: &ActorState) -> Option<u64>
-    ensures { result ≡ earlier_end first state.now }
-{
-    match (first, state.running.first()) {
-        (Some(moment), Some(end)) => Some(moment.min(end)),
-        (None, next) => next,
-        (first, None) => first,
-    }
-}
-
-/// Whether the first end of an actor's firings has come by a moment.
-pub(crate) fn is_due(state: &ActorState, moment: u64) -> bool
-    ensures { result ≡ false → 0 < length state.now.running → moment < slice_index state.now.running 0 }
-{
-    match state.running.first() {
-        Some(end) => end <= moment,
-        None => false,
-    }
 }
 
 /// How many of the first ends have come by a moment.

@@ -1,10 +1,14 @@
-ghost use Rattle.std.specs.Prelude.{◌≡◌, ℕ, ◌+◌, ◌-◌, ◌^◌, ◌<◌, ◌≤◌, length, slice_index};
+ghost use Rattle.std.specs.Prelude.{◌≡◌, ℕ, ◌+◌, ◌-◌, ◌^◌, ◌<◌, ◌≤◌, OnOk, length, slice_index};
 ghost use Rattle.firing.specs.declared.sums.Port.TheVariants.{Made};
 ghost use Rattle.firing.specs.Wiring.{IsListed, AreListed, PutsTokens};
 ghost use Rattle.selftimed.specs.Actors.{EndsOne, Touches, EndsAll, Stand};
+ghost use Rattle.selftimed.specs.Agendas.{Lists};
+ghost use Rattle.selftimed.specs.Plans.{Plans};
 
-use crate::actors::{ActorState, ended_by, is_due};
+use crate::actors::{ActorState, ended_by};
+use crate::agenda::Agenda;
 use firing::{Firing, Wiring, put_tokens};
+use sd_base::NoMemory;
 
 /// Ends the firings whose end has come, and touches the actors whose channels gain tokens.
 pub(crate) fn end_all<F: Firing>(
@@ -13,16 +17,16 @@ pub(crate) fn end_all<F: Firing>(
     moment: u64,
     actors: &mut [ActorState],
     tokens: &mut [u128],
-)
+    agenda: &mut Agenda,
+) -> Result<(), NoMemory>
     requires outputs { AreListed (F.net net.now) Made wiring.now.outputs }
     requires stand { Stand (F.net net.now) actors.old tokens.old }
-    ensures ended { EndsAll (F.net net.now) moment actors.old actors.new }
-    ensures stand { Stand (F.net net.now) actors.new tokens.new }
+    requires agenda { Plans (F.net net.now) actors.old agenda.old }
+    ensures ended { OnOk result (EndsAll (F.net net.now) moment actors.old actors.new) }
+    ensures stand { OnOk result (Stand (F.net net.now) actors.new tokens.new) }
+    ensures agenda { OnOk result (Plans (F.net net.now) actors.new agenda.new) }
 {
-    for actor in 0..net.actors() {
-        if !is_due(&actors[actor as usize], moment) {
-            continue;
-        }
+    while let Some(actor) = agenda.pop_due(moment) {
         let outputs = wiring.outputs_of(actor);
         end_actor(
             net,
@@ -32,8 +36,10 @@ pub(crate) fn end_all<F: Firing>(
             &mut actors[actor as usize],
             tokens,
         );
-        touch_targets(net, outputs, actors);
+        agenda.announce(actor, &actors[actor as usize])?;
+        touch_targets(net, outputs, actors, agenda)?;
     }
+    Ok(())
 }
 
 /// Ends the firings of an actor whose end has come.
@@ -61,13 +67,22 @@ fn end_actor<F: Firing>(
 }
 
 /// Touches the actors into which these channels lead.
-fn touch_targets<F: Firing>(net: &F, channels: &[u32], actors: &mut [ActorState])
+fn touch_targets<F: Firing>(
+    net: &F,
+    channels: &[u32],
+    actors: &mut [ActorState],
+    agenda: &mut Agenda,
+) -> Result<(), NoMemory>
     requires long { length actors.old ≡ length (F.net net.now).times }
     requires there { (j : ℕ) → j < length channels.now → slice_index channels.now j < length (F.net net.now).channels }
-    ensures { Touches (F.net net.now) channels.now actors.old actors.new }
+    requires lists { Lists (F.net net.now) actors.old agenda.old.touched.items }
+    ensures touched { OnOk result (Touches (F.net net.now) channels.now actors.old actors.new) }
+    ensures lists { OnOk result (Lists (F.net net.now) actors.new agenda.new.touched.items) }
+    ensures ends { agenda.new.ends ≡ agenda.old.ends }
 {
     for channel in channels {
-        let state = &mut actors[net.target(*channel) as usize];
-        state.touched = true;
+        let target = net.target(*channel);
+        agenda.touch(target, &mut actors[target as usize])?;
     }
+    Ok(())
 }

@@ -1,6 +1,7 @@
 ghost use Rattle.std.specs.Prelude.{◌≡◌, ◌↔◌, IsTrue, ℕ, ◌+◌, ◌^◌, ◌<◌, ◌≤◌, length, IfOk, IfErr};
 ghost use Rattle.sd_base.specs.Schedules.{count_of};
 ghost use Rattle.sd_base.specs.SelfTimed.{earliest, shape_at};
+ghost use Rattle.selftimed.specs.Plans.{Plans};
 ghost use Rattle.selftimed.specs.Shapes.{form};
 ghost use Rattle.selftimed.specs.Moves.{IsMove};
 ghost use Rattle.firing.specs.declared.sums.Port.TheVariants.{Made, Taken};
@@ -8,7 +9,8 @@ ghost use Rattle.firing.specs.Wiring.{AreListed};
 ghost use Rattle.selftimed.specs.declared.engine.Stage.{Stage};
 ghost use Rattle.selftimed.specs.Stands.{IsFresh, Stands};
 
-use crate::actors::{ActorState, new_actors, next_end};
+use crate::actors::{ActorState, new_actors};
+use crate::agenda::Agenda;
 use crate::shape::{
     Shape, phases_of, remaining_of, same_phases, same_remaining, same_tokens, tokens_of,
 };
@@ -54,10 +56,13 @@ pub struct Engine<'a, F: Firing> {
     all: u64,
     actors: Vec<ActorState>,
     tokens: Vec<u128>,
+    agenda: Agenda,
     ghost few: { most ≤ 2 ^ 32 },
     ghost inputs: { AreListed (F.net net.now) Taken wiring.inputs },
     ghost outputs: { AreListed (F.net net.now) Made wiring.outputs },
     ghost fresh: { stage ≡ Stage.Fresh → IsFresh (F.net net.now) most actors.items tokens.items all },
+    ghost waits: { stage ≡ Stage.Fresh → Plans (F.net net.now) actors.items agenda },
+    ghost goes: { stage ≡ Stage.Running → Plans (F.net net.now) actors.items agenda },
     ghost stands: { stage ≡ Stage.Running → Stands (F.net net.now) moment most actors.items tokens.items all },
 }
 
@@ -72,6 +77,7 @@ impl<'a, F: Firing> Engine<'a, F> {
         let wiring = Wiring::new(alloc, net)?;
         let actors = new_actors(alloc, net.actors())?;
         let tokens = initial_tokens(alloc, net)?;
+        let agenda = Agenda::new(alloc, net.actors())?;
         Ok(Engine {
             net,
             stage: Stage::Fresh,
@@ -81,10 +87,13 @@ impl<'a, F: Firing> Engine<'a, F> {
             all: 0,
             actors,
             tokens,
+            agenda,
         })
     }
 
-    /// Goes to the next event and makes its starts.
+    /// Goes to the next event and makes its starts. Cost: a step for each firing that ends or starts, the channels of
+    /// the actors that end, and the channels into those whose channels gained tokens; for each of these actors also
+    /// the logarithm of the actors that run. Actors at whose channels nothing changes cost nothing.
     pub fn advance(&mut self) -> Result<Move, NoMemory>
         ensures net { self.new.net ≡ self.old.net }
         ensures most { self.new.most ≡ self.old.most }
@@ -115,6 +124,7 @@ impl<'a, F: Firing> Engine<'a, F> {
             &mut self.all,
             &mut self.actors,
             &mut self.tokens,
+            &mut self.agenda,
         )?;
         if !fits {
             self.stage = Stage::Spent;
@@ -137,7 +147,7 @@ impl<'a, F: Firing> Engine<'a, F> {
         ensures moved { IfOk result (λ move. IsMove (F.net self.old.net.now) self.old.most self.old.stage self.old.moment move self.new.stage self.new.moment) }
         ensures lost { IfErr result (λ e. self.new.stage ≡ Stage.OutOfMemory) }
     {
-        let Some(moment) = next_end(self.actors.as_slice()) else {
+        let Some(moment) = self.agenda.soonest() else {
             return Ok(Move::Stuck);
         };
         self.stage = Stage::OutOfMemory;
@@ -149,6 +159,7 @@ impl<'a, F: Firing> Engine<'a, F> {
             &mut self.all,
             &mut self.actors,
             &mut self.tokens,
+            &mut self.agenda,
         )?;
         if !fits {
             self.stage = Stage::Spent;

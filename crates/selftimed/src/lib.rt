@@ -2,6 +2,7 @@
 #![tactic(auto)]
 
 mod actors;
+mod agenda;
 mod ends;
 mod engine;
 mod running;

@@ -11,7 +11,7 @@ pub(crate) struct Running {
     ends: SmallVec<u64, 4>,
     /// The ends before this place are past.
     head: usize,
-    /// The end at this place, kept here since each event asks for it.
+    /// The end at this place, kept here since each start and each end asks for it.
     first: Option<u64>,
 }
 

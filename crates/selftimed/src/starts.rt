@@ -4,9 +4,11 @@ ghost use Rattle.sd_base.specs.Schedules.{Lacks};
 ghost use Rattle.firing.specs.declared.sums.Port.TheVariants.{Taken};
 ghost use Rattle.firing.specs.Wiring.{IsListed, AreListed, LacksNow, SufficesBefore};
 ghost use Rattle.selftimed.specs.Actors.{started_in, ended_in, touched_in, Stand, Counted, StartsOne, StartedAll, CanOverrun};
+ghost use Rattle.selftimed.specs.Plans.{Plans};
 ghost use Rattle.selftimed.specs.Starts.{AddsEnds, Feeds, StartsAll, Overfills};
 
 use crate::actors::ActorState;
+use crate::agenda::Agenda;
 use crate::running::Running;
 use firing::{Firing, Wiring, first_lack, know_laws, take_tokens};
 use sd_base::NoMemory;
@@ -131,9 +133,11 @@ pub(crate) fn start_all<F: Firing>(
     all: &mut u64,
     actors: &mut [ActorState],
     tokens: &mut [u128],
+    agenda: &mut Agenda,
 ) -> Result<bool, NoMemory>
     requires inputs { AreListed (F.net net.now) Taken wiring.now.inputs }
     requires stand { Stand (F.net net.now) actors.old tokens.old }
+    requires agenda { Plans (F.net net.now) actors.old agenda.old }
     requires counted { Counted actors.old all.old most }
     requires lacks { (b : ℕ) → b < length (F.net net.now).times → touched_in actors.old b ≡ false →
         Lacks (F.net net.now) (ended_in actors.old) b (started_in actors.old b) }
@@ -143,12 +147,14 @@ pub(crate) fn start_all<F: Firing>(
         (CanOverrun (F.net net.now) (ended_in actors.old) most)) }
     ensures stand { IfOk result (λ fits. OnTrue fits (Stand (F.net net.now) actors.new tokens.new)) }
     ensures counted { IfOk result (λ fits. OnTrue fits (Counted actors.new all.new most)) }
+    ensures agenda { IfOk result (λ fits. OnTrue fits (Plans (F.net net.now) actors.new agenda.new)) }
 {
-    for actor in 0..net.actors() {
+    while let Some(actor) = agenda.touched.pop() {
         if !actors[actor as usize].touched {
             continue;
         }
         let inputs = wiring.inputs_of(actor);
+        let was_idle = actors[actor as usize].running.first().is_none();
         match start_one(
             net,
             inputs,
@@ -160,6 +166,9 @@ pub(crate) fn start_all<F: Firing>(
         )? {
             Some(firings) => *all += firings,
             None => return Ok(false),
+        }
+        if was_idle {
+            agenda.announce(actor, &actors[actor as usize])?;
         }
     }
     Ok(true)

@@ -1,5 +1,6 @@
+use Rattle.std.proofs.Common.{◌≡◌}
 use Rattle.selftimed.proofs.Endings.{TouchesSoFar}
 use Rattle.selftimed.proofs.ends.touch_targets.Given as goal
 
 abbrev pub invariant-loop-channel : goal.invariant-loop-channel
-invariant-loop-channel g l = TouchesSoFar (g.F.Firing.net l.net) l.channels l.initial.actors l.actors l.channel-index
+invariant-loop-channel g l = TouchesSoFar (g.F.Firing.net l.net) l.channels l.initial.actors l.actors l.agenda.touched.items l.channel-index × (l.agenda.ends ≡ l.initial.agenda.ends)

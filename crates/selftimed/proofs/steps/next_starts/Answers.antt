@@ -3,16 +3,16 @@ use Rattle.selftimed.proofs.steps.next_starts.Goals as goal
 
 pub start_all-requires-clause-counted : goal.start_all-requires-clause-counted
 start_all-requires-clause-counted g c = mid-counted (g.F.Firing.net c.args.net.now) c.know_laws.ensures c.requires.stands.0 c.args.most c.args.actors.now c.args.tokens.now c.args.all.now c.requires.stands.1
-    c.args.moment c.requires.next c.end_all.new.actors c.end_all.ensures.ended
+    c.args.moment c.requires.next c.end_all.new.actors c.in_ok-end_all.ensures.ended
 
 pub start_all-requires-clause-lacks : goal.start_all-requires-clause-lacks
 start_all-requires-clause-lacks g c = mid-lacks (g.F.Firing.net c.args.net.now) c.know_laws.ensures c.requires.stands.0 c.args.most c.args.actors.now c.args.tokens.now c.args.all.now c.requires.stands.1
-    c.args.moment c.requires.next c.end_all.new.actors c.end_all.ensures.ended
+    c.args.moment c.requires.next c.end_all.new.actors c.in_ok-end_all.ensures.ended
 
 pub start_all-requires-clause-soon : goal.start_all-requires-clause-soon
 start_all-requires-clause-soon g c = moment-small (g.F.Firing.net c.args.net.now) c.know_laws.ensures c.requires.stands.0 c.args.most c.args.actors.now c.args.tokens.now c.args.all.now c.requires.stands.1
     c.args.moment c.requires.next c.requires.few
 
-pub returns : goal.returns
-returns g c = next-move (g.F.Firing.net c.args.net.now) c.know_laws.ensures c.requires.stands.0 c.args.most c.args.moment c.args.actors.now c.end_all.new.actors c.start_all.new.actors c.args.tokens.now c.start_all.new.tokens c.args.all.now c.start_all.new.all
-    c.requires.stands.1 c.requires.next c.end_all.ensures.ended c.in_ok-fits.fits c.in_ok-fits.ensures.started c.in_ok-fits.ensures.stand c.in_ok-fits.ensures.counted
+pub returns-clause-fits : goal.returns-clause-fits
+returns-clause-fits g c = next-move (g.F.Firing.net c.args.net.now) c.know_laws.ensures c.requires.stands.0 c.args.most c.args.moment c.args.actors.now c.end_all.new.actors c.start_all.new.actors c.args.tokens.now c.start_all.new.tokens c.args.all.now c.start_all.new.all
+    c.requires.stands.1 c.requires.next c.in_ok-end_all.ensures.ended c.in_ok-fits.fits c.in_ok-fits.ensures.started c.in_ok-fits.ensures.stand c.in_ok-fits.ensures.counted

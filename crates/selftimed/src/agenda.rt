@@ -1,0 +1,92 @@
+ghost use Rattle.std.specs.Prelude.{◌≡◌, [], ◌∷◌, ◌++◌, true, if◌then◌else◌, IfOk, OnOk};
+ghost use Rattle.std.specs.List.{range_with_len};
+ghost use Rattle.std.specs.BinaryHeap.{IsHeap, heap_items};
+ghost use Rattle.std.proofs.Props.{props};
+ghost use Rattle.selftimed.specs.Agendas.{later_end, Announces, IsSoonest, TakesDue};
+
+use crate::actors::ActorState;
+use sd_base::NoMemory;
+use std::alloc::{AllocError, Global};
+use std::cmp::Reverse;
+use std::collections::BinaryHeap;
+
+/// What an execution looks at next: the ends to come, and the touched actors.
+#[derive(Drop)]
+pub(crate) struct Agenda {
+    /// Of each actor that runs its first end. The soonest is on top.
+    pub(crate) ends: BinaryHeap<(Reverse<u64>, u32)>,
+    /// The touched actors.
+    pub(crate) touched: Vec<u32>,
+    ghost ordered: { IsHeap later_end (heap_items ends) } by { Prim.hlevel props },
+}
+
+impl Agenda {
+    /// No actor runs, and all are touched.
+    pub(crate) fn new(alloc: Global, actors: u32) -> Result<Agenda, NoMemory>
+        ensures ends { IfOk result (λ a. heap_items a.ends ≡ []) }
+        ensures touched { IfOk result (λ a. a.touched.items ≡ range_with_len 0 actors) }
+    {
+        let mut touched = Vec::new(alloc);
+        for actor in 0..actors {
+            touched.push(actor)?;
+        }
+        Ok(Agenda {
+            ends: BinaryHeap::new(alloc),
+            touched,
+        })
+    }
+
+    /// The soonest end.
+    pub(crate) fn soonest(&self) -> Option<u64>
+        ensures { IsSoonest (heap_items self.now.ends) result }
+    {
+        match self.ends.peek() {
+            Some((Reverse(end), _actor)) => Some(*end),
+            None => None,
+        }
+    }
+
+    /// Takes off an end that has come by a moment, and tells its actor.
+    /// Cost: logarithmic in the actors that run.
+    pub(crate) fn pop_due(&mut self, moment: u64) -> Option<u32>
+        ensures taken { TakesDue moment (heap_items self.old.ends) (heap_items self.new.ends) result }
+        ensures touched { self.new.touched ≡ self.old.touched }
+    {
+        match self.soonest() {
+            Some(end) => {
+                if moment < end {
+                    return None;
+                }
+            }
+            None => return None,
+        }
+        match self.ends.pop() {
+            Some((_end, actor)) => Some(actor),
+            None => None,
+        }
+    }
+
+    /// Notes the first end of an actor, if it runs. Cost: logarithmic in the actors that run.
+    pub(crate) fn announce(&mut self, actor: u32, state: &ActorState) -> Result<(), AllocError>
+        ensures ends { OnOk result (Announces actor state.now.running (heap_items self.old.ends) (heap_items self.new.ends)) }
+        ensures touched { self.new.touched ≡ self.old.touched }
+    {
+        if let Some(end) = state.running.first() {
+            self.ends.push((Reverse(end), actor))?;
+        }
+        Ok(())
+    }
+
+    /// Touches an actor.
+    pub(crate) fn touch(&mut self, actor: u32, state: &mut ActorState) -> Result<(), AllocError>
+        ensures state { OnOk result (state.new ≡ record state.old { touched = true }) }
+        ensures touched { OnOk result (self.new.touched.items ≡ (if state.old.touched then self.old.touched.items else self.old.touched.items ++ actor ∷ [])) }
+        ensures ends { self.new.ends ≡ self.old.ends }
+    {
+        if !state.touched {
+            state.touched = true;
+            self.touched.push(actor)?;
+        }
+        Ok(())
+    }
+}
