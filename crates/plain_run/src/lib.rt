@@ -1,6 +1,6 @@
 //! The earliest schedule of a net, moment by moment, straight from its definition. It is there to compare faster
 //! programs with, and isn't proved to be anything but safe.
-//! Its tests also run schedules on small nets.
+//! Its tests also run schedules and need cycles on small nets.
 #![tactic(auto)]
 
 mod run;
@@ -9,6 +9,10 @@ mod sums;
 pub use run::{PlainRun, run_until};
 
 #[cfg(test)]
+mod cycle_tests;
+#[cfg(test)]
 mod schedule_tests;
+#[cfg(test)]
+mod space_net;
 #[cfg(test)]
 mod tests;
