@@ -9,7 +9,11 @@ mod sums;
 pub use run::{PlainRun, run_until};
 
 #[cfg(test)]
+mod checks;
+#[cfg(test)]
 mod cycle_tests;
+#[cfg(test)]
+mod loop_tests;
 #[cfg(test)]
 mod schedule_tests;
 #[cfg(test)]
