@@ -1,5 +1,6 @@
 //! The earliest schedule of a net, moment by moment, straight from its definition. It is there to compare faster
 //! programs with, and isn't proved to be anything but safe.
+//! Its tests also run schedules and need cycles, and their texts, on small nets.
 #![tactic(auto)]
 
 mod run;
@@ -8,4 +9,16 @@ mod sums;
 pub use run::{PlainRun, run_until};
 
 #[cfg(test)]
+mod checks;
+#[cfg(test)]
+mod cycle_tests;
+#[cfg(test)]
+mod loop_tests;
+#[cfg(test)]
+mod schedule_tests;
+#[cfg(test)]
+mod space_net;
+#[cfg(test)]
 mod tests;
+#[cfg(test)]
+mod text_tests;

@@ -1,0 +1,99 @@
+ghost use Rattle.std.specs.Prelude.{ℕ, ◌≤◌, ◌^◌};
+ghost use Rattle.sd_base.specs.Schedules.{start_of};
+
+use crate::checks::{found_loop, is_live};
+use crate::cycle_tests::{along, x, y};
+use critical::{NeedCycle, cycle_of};
+use firing::{LoopTable, SdfNet};
+use periodic::{Periodic, from_loop};
+use sd_base::Fraction;
+use small_nets::{drawn_net, multi_rate_ring, three_at_once};
+use std::alloc::Global;
+use std::process::Abort;
+use std::test::Fail;
+
+/// What comes of the loop of a net.
+#[derive(Debug, Drop)]
+struct Answer {
+    table: LoopTable,
+    schedule: Periodic,
+    cycle: NeedCycle,
+    ghost small: { (a k : ℕ) → start_of schedule.starts a k ≤ 2 ^ 100 },
+}
+
+fn find_answer(rt: &impl Abort, alloc: Global, net: &SdfNet) -> Result<Answer, Fail> {
+    let table = found_loop(rt, alloc, net)?;
+    let schedule = from_loop(alloc, net, &table)?;
+    let cycle = cycle_of(alloc, net, &table)?;
+    Ok(Answer {
+        table,
+        schedule,
+        cycle,
+    })
+}
+
+/// Asserts that what comes of a loop has its rate, and holds, and that what is faster or longer doesn't.
+fn check_answer(rt: &impl Abort, net: &SdfNet, answer: &mut Answer) {
+    let rate = (answer.table.rounds, answer.table.period);
+    assert_eq!(rt; (answer.schedule.rounds, answer.schedule.period), rate);
+    assert!(rt; answer.schedule.holds(net), "{:?}", answer.schedule);
+    assert!(rt; answer.cycle.holds(net), "{:?}", answer.cycle);
+    assert!(rt; 1 <= rate.1 && 1 <= answer.cycle.time && answer.cycle.time < 1_000_000);
+    assert_eq!(rt; answer.cycle.bound(), Fraction::new(rate.0, rate.1));
+    answer.schedule.period -= 1;
+    assert!(rt; !answer.schedule.holds(net), "{:?}", answer.schedule);
+    answer.cycle.time += 1;
+    assert!(rt; !answer.cycle.holds(net), "{:?}", answer.cycle);
+}
+
+/// Each of three firings at once needs the one three before it, on the one channel there is.
+#[test]
+fn three_at_once_have_a_cycle_of_one_step(rt: HostRuntime) -> Result<(), Fail> {
+    let net = three_at_once(rt.alloc())?;
+    let mut answer = find_answer(&rt, rt.alloc(), &net)?;
+    assert_eq!(rt; (answer.schedule.period, answer.schedule.rounds), (7, 3));
+    let starts = answer.schedule.starts.as_slice();
+    assert_eq!(rt; starts.len(), 1);
+    assert_eq!(rt; starts[0].as_slice(), [0, 0, 0].as_slice());
+    let cycle = &answer.cycle;
+    assert_eq!(rt; (cycle.time, cycle.rounds, cycle.first), (7, 3, x(0)));
+    assert_eq!(rt; cycle.steps.as_slice(), [along(0, x(3))].as_slice());
+    check_answer(&rt, &net, &mut answer);
+    Ok(())
+}
+
+// By hand: firing k of y starts at 4 + 5 k, and firing k + 6 of x at 34 + 10 k, so that in the loop firing 0 is at -26.
+// Firing 7 of x waits for firing 7 of y, and that for 6 and 5 on its self-loop. Two rounds earlier these are 3, 2, 1.
+#[test]
+fn the_slower_actor_of_a_multi_rate_ring_is_critical(rt: HostRuntime) -> Result<(), Fail> {
+    let net = multi_rate_ring(rt.alloc())?;
+    let mut answer = find_answer(&rt, rt.alloc(), &net)?;
+    assert_eq!(rt; (answer.schedule.period, answer.schedule.rounds), (10, 1));
+    let starts = answer.schedule.starts.as_slice();
+    assert_eq!(rt; starts.len(), 2);
+    assert_eq!(rt; starts[0].as_slice(), [0].as_slice());
+    assert_eq!(rt; starts[1].as_slice(), [30, 35].as_slice());
+    let cycle = &answer.cycle;
+    assert_eq!(rt; (cycle.time, cycle.rounds, cycle.first), (10, 1, y(1)));
+    let steps = [along(3, y(2)), along(3, y(3))];
+    assert_eq!(rt; cycle.steps.as_slice(), steps.as_slice());
+    check_answer(&rt, &net, &mut answer);
+    Ok(())
+}
+
+/// A rate is at least that of each schedule that holds, and at most that of each need cycle.
+#[test]
+fn schedules_and_cycles_of_drawn_nets_meet(rt: HostRuntime) -> Result<(), Fail> {
+    let alloc = rt.alloc();
+    let mut live = Vec::new(alloc);
+    for seed in 0..60u32 {
+        let net = drawn_net(alloc, seed as u64)?;
+        if is_live(alloc, &net)? {
+            live.push(seed)?;
+            let mut answer = find_answer(&rt, alloc, &net)?;
+            check_answer(&rt, &net, &mut answer);
+        }
+    }
+    assert!(rt; 15 <= live.len() && live.len() <= 45, "live: {live:?}");
+    Ok(())
+}
