@@ -6,8 +6,6 @@ mod laws;
 mod repeat;
 mod run;
 mod table;
-#[cfg(test)]
-mod tests;
 mod visits;
 
 pub use error::RunError;

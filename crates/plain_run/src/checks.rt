@@ -6,7 +6,7 @@ ghost use Rattle.sd_base.specs.Futures.{IsConnected, IsWalk};
 ghost use Rattle.lasso.specs.Runs.{IsFound};
 
 use firing::{Firing, LoopTable};
-use lasso::run_loop;
+use lasso::{RunError, run_loop};
 use liveness::{Round, one_round};
 use sd_base::{Ledger, NoMemory, Steps};
 use std::alloc::Global;
@@ -28,13 +28,27 @@ pub(crate) fn found_loop<F: Firing>(
     ensures inputs { IfOk result (λ _. HasInputs (F.net net.now)) }
     ensures found { IfOk result (IsFound (F.net net.now) 20000) }
 {
+    Ok(run_net(rt, alloc, net, 20_000)??)
+}
+
+/// What `run_loop` answers of a net, which must go on for ever.
+pub(crate) fn run_net<F: Firing>(
+    rt: &impl Abort,
+    alloc: Global,
+    net: &F,
+    states: u64,
+) -> Result<Result<LoopTable, RunError>, Fail>
+    ensures inputs { IfOk result (λ _. HasInputs (F.net net.now)) }
+    ensures found { IfOk result (λ answer. IfOk answer (IsFound (F.net net.now) states)) }
+{
     assert!(rt; is_live(alloc, net)?);
     assert!(rt; is_joined(net));
     assert!(rt; all_fed(net));
+    assert!(rt; 1 <= states && states <= 200_000);
     let mut steps = Steps::new(Runs);
-    let answer = run_loop(alloc, net, 20_000, &mut steps);
+    let answer = run_loop(alloc, net, states, &mut steps);
     let Runs = steps.finish();
-    Ok(answer?)
+    Ok(answer)
 }
 
 /// Whether a round of a net can be completed.

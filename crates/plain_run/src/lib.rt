@@ -13,6 +13,8 @@ mod checks;
 #[cfg(test)]
 mod cycle_tests;
 #[cfg(test)]
+mod lasso_tests;
+#[cfg(test)]
 mod loop_tests;
 #[cfg(test)]
 mod schedule_tests;
