@@ -1,9 +1,8 @@
 -- A declared encoding other than UTF-8, and the strict machine, which stops at the end of its name.
-use Rattle.std.proofs.Common.{◌≡◌, ◌≢◌, ℕ, zero, suc, add-one, ◌+◌, ◌-◌, ◌<◌, ◌≤◌, ◌⊎◌, inl, inr, refl, sym, ◌∙◌, ap, subst, Bool, true, false, not, ◌&&◌, eqb, List, [], ◌∷◌, ◌++◌, append_assoc, append-nil, length, length-append, take, drop, slice_index, get_or, Option, Some, None, codes, bytes_eq, arith}
+use Rattle.std.proofs.Common.{◌≡◌, ◌≢◌, ℕ, zero, suc, add-one, ◌+◌, ◌-◌, ◌<◌, ◌≤◌, ◌⊎◌, inl, inr, refl, sym, ◌∙◌, ap, subst, Bool, true, false, not, ◌&&◌, eqb, List, [], ◌∷◌, ◌++◌, append_assoc, append-nil, length, length-append, take, drop, slice_index, Option, Some, None, codes, bytes_eq, arith}
 use Rattle.std.proofs.lemmas.Bool.{cases_Bool, cases_lt, cases_order, eq-eqb, eqb-false, not-true, and_parts}
 use Rattle.std.proofs.lemmas.List.{take-append-drop, take-take, take_all, take_at, length-take-le, get_or-take, get_or_at, get_or-append_right}
 use Rattle.std.proofs.Math.Seq.{drop-cons}
-use Rattle.std.proofs.lemmas.Slice.Eq.{bytes_eq-Decides}
 use Rattle.std.specs.Str.{str_to_ascii_lowercase}
 use Rattle.file_text.specs.declared.tree.Attribute.{Attribute}
 use Rattle.file_text.specs.declared.class.Class.TheVariants.{Quote}
@@ -11,19 +10,19 @@ use Rattle.file_text.specs.declared.mode.Declaring.TheVariants as declaring
 use Rattle.file_text.specs.declared.due.Due.{Due}
 use Rattle.file_text.specs.declared.due.Due.TheVariants.{Nothing}
 use Rattle.file_text.specs.Node.{Node}
-use Rattle.file_text.specs.Grammar.{Each, Item, byte, entity, comment, IsQuoted, Entity, less, greater, ampersand, quotation, apostrophe, entity_text, item_text, items_text, items_value, IsHead, AreAttributes, IsNew, AreDistinct, IsUtf8Name, Spells, IsText}
+use Rattle.file_text.specs.Grammar.{Each, Item, byte, entity, comment, IsQuoted, Entity, less, greater, ampersand, quotation, apostrophe, entity_text, items_text, items_value, IsNew, IsUtf8Name, IsText}
 use Rattle.file_text.specs.Fault.{IsPrefix, LeavesAt, IsEncodingAt}
 use Rattle.file_text.specs.Exit.{BehindQuote}
 use Rattle.file_text.specs.Utf8.{due_after, due_along}
-use Rattle.file_text.specs.Machine.{class_of, Around, prolog, Shape, at_start, in_declaring, in_value, Holder, declaration, Step, other_encoding, at_valued, value_end, declares_other, Spot, follow, advance, walk, State, both, move, run, start, table}
+use Rattle.file_text.specs.Machine.{class_of, Around, prolog, Shape, at_start, in_declaring, in_value, declaration, declares_other, Spot, advance, walk, State, both, move, run, start, table}
 use Rattle.file_text.proofs.Names.{bytes_same, bytes_other, new_name, each_right}
-use Rattle.file_text.proofs.Walks.{Along, then, walk-append}
-use Rattle.file_text.proofs.OverTags.{Allowed, Ready, over_attributes, over_head, over_value}
-use Rattle.file_text.proofs.OverTexts.{Declares, over_start, ready_declaring}
+use Rattle.file_text.proofs.Walks.{Along, then}
+use Rattle.file_text.proofs.OverTags.{Allowed, over_attributes, over_head, over_value}
+use Rattle.file_text.proofs.OverTexts.{over_start, ready_declaring}
 use Rattle.file_text.proofs.Standing.{Has}
 use Rattle.file_text.proofs.Steps.{IsOther}
 use Rattle.file_text.proofs.TidyRuns.{run_parts}
-use Rattle.file_text.proofs.Exact.{finished, completes, parts, run-append, dead, has_at, alive}
+use Rattle.file_text.proofs.Exact.{finished, completes, parts, run-append, dead}
 use Rattle.file_text.proofs.Places.{prefix_take, run_more}
 
 -- a name that is new among attributes is none of theirs, so they may all be declared

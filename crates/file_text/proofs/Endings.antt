@@ -1,25 +1,18 @@
 -- From wherever the machine stands, some text leads it to the end of a text of the grammar.
-use Rattle.std.proofs.Common.{◌≡◌, ◌≢◌, ℕ, zero, suc, ◌+◌, ◌<◌, ◌≤◌, ◌⊎◌, inl, inr, refl, sym, ◌∙◌, ap, subst, Bool, true, false, List, [], ◌∷◌, ◌++◌, append_assoc, append-nil, length, length-append, replicate, Option, Some, None, IsTrue, codes, arith}
-use Rattle.std.proofs.lemmas.Bool.Decides.{nat_tests}
+use Rattle.std.proofs.Common.{◌≡◌, ◌≢◌, ℕ, zero, suc, ◌+◌, ◌<◌, ◌⊎◌, inl, inr, refl, ◌∙◌, ap, false, List, [], ◌∷◌, ◌++◌, length, length-append, Some, IsTrue, codes, arith}
 use Rattle.file_text.specs.declared.tree.Attribute.{Attribute}
-use Rattle.file_text.specs.declared.class.Class.TheVariants.{Wide, Letter}
-use Rattle.file_text.specs.declared.mode.Mark.TheVariants as mark_read
-use Rattle.file_text.specs.declared.mode.Declaring.TheVariants as declaring
-use Rattle.file_text.specs.declared.mode.Comment.TheVariants as part
-use Rattle.file_text.specs.declared.reference.Reference.{Reference}
-use Rattle.file_text.specs.declared.reference.Reference.TheVariants as reference
 use Rattle.file_text.specs.declared.due.Due.{Due}
-use Rattle.file_text.specs.declared.due.Due.TheVariants.{Nothing, Byte}
+use Rattle.file_text.specs.declared.due.Due.TheVariants.{Nothing}
 use Rattle.file_text.specs.Node.{Node, node, no_node}
-use Rattle.file_text.specs.Grammar.{Each, is_name_byte, is_plain, IsName, IsNew}
-use Rattle.file_text.specs.Utf8.{due_behind, due_after, due_along}
+use Rattle.file_text.specs.Grammar.{Each, is_name_byte, IsName, IsNew}
+use Rattle.file_text.specs.Utf8.{due_along}
 use Rattle.file_text.specs.Names.{has_name}
-use Rattle.file_text.specs.Machine.{class_of, Around, prolog, within, epilog, Opened, open_of, ended, node_of, Holder, declaration, tag, Shape, at_start, in_mark, at_first, in_declaring, at_between, at_markup, in_comment, in_name, at_gap, in_attribute, at_named, at_equals, in_value, in_value_reference, at_valued, at_slash, at_ending, in_text_reference, in_closing, Step, goes, table, Spot, follow, advance, walk, IsDue, AreWhole, IsProper}
-use Rattle.file_text.proofs.Utf8Laws.{due_along-append, byte_due}
-use Rattle.file_text.proofs.Walks.{Along, stay, then, at_name, over_name}
+use Rattle.file_text.specs.Machine.{Around, prolog, within, epilog, Opened, open_of, ended, node_of, Holder, declaration, tag, Shape, at_between, in_name, at_gap, in_attribute, at_named, at_equals, in_value, at_valued, table, follow, walk, IsDue, AreWhole}
+use Rattle.file_text.proofs.Utf8Laws.{due_along-append}
+use Rattle.file_text.proofs.Walks.{Along, at_name, over_name}
 use Rattle.file_text.proofs.Names.{new_name}
 use Rattle.file_text.proofs.OverTags.{AllowedIn, Ready, ready_name, ready_gap, ready_valued, over_equals, over_end}
-use Rattle.file_text.proofs.OverElements.{name_bytes, over_matched, over_end_tag, empty_ends}
+use Rattle.file_text.proofs.OverElements.{over_end_tag, empty_ends}
 use Rattle.file_text.proofs.OverTexts.{declaration_ends}
 
 -- some text leads to the end

@@ -1,9 +1,7 @@
 -- What the machine has read begins some text of the grammar.
-use Rattle.std.proofs.Common.{◌≡◌, ◌≢◌, ℕ, zero, suc, ◌+◌, ◌<◌, ◌≤◌, ◌⊎◌, inl, inr, refl, sym, ◌∙◌, ap, subst, Bool, true, false, cond, leb, List, [], ◌∷◌, ◌++◌, append_assoc, append-nil, length, Option, Some, None, IsTrue, codes, arith}
+use Rattle.std.proofs.Common.{◌≡◌, ℕ, zero, suc, ◌≤◌, refl, sym, ◌∙◌, ap, subst, false, List, [], ◌∷◌, ◌++◌, append_assoc, append-nil, Some, IsTrue, codes, arith}
 use Rattle.std.proofs.lemmas.Bool.{le-leb}
-use Rattle.std.proofs.lemmas.Bool.Decides.{nat_tests}
 use Rattle.file_text.specs.declared.tree.Attribute.{Attribute}
-use Rattle.file_text.specs.declared.class.Class.{Class}
 use Rattle.file_text.specs.declared.class.Class.TheVariants.{Wide}
 use Rattle.file_text.specs.declared.mode.Mark.{Mark}
 use Rattle.file_text.specs.declared.mode.Mark.TheVariants as mark_read
@@ -15,15 +13,15 @@ use Rattle.file_text.specs.declared.reference.Reference.{Reference}
 use Rattle.file_text.specs.declared.reference.Reference.TheVariants as reference
 use Rattle.file_text.specs.declared.due.Due.{Due}
 use Rattle.file_text.specs.declared.due.Due.TheVariants.{Nothing, Byte}
-use Rattle.file_text.specs.Node.{Node, node, no_node}
+use Rattle.file_text.specs.Node.{node, no_node}
 use Rattle.file_text.specs.Grammar.{Each, is_name_byte, IsName}
-use Rattle.file_text.specs.Utf8.{due_behind, due_after, due_along}
-use Rattle.file_text.specs.Machine.{class_of, Around, prolog, within, epilog, Opened, open_of, ended, node_of, Holder, declaration, tag, Shape, at_start, in_mark, at_first, in_declaring, at_between, at_markup, in_comment, in_name, at_gap, in_attribute, at_named, at_equals, in_value, in_value_reference, at_valued, at_slash, at_ending, in_text_reference, in_closing, Step, goes, leaves, table, Spot, follow, advance, walk, IsDue, AreWhole, IsTidyBetween, IsTidyComment, IsTidyShape, IsProper, IsTidy}
-use Rattle.file_text.proofs.Utf8Laws.{due_along-append, byte_due}
+use Rattle.file_text.specs.Utf8.{due_behind, due_along}
+use Rattle.file_text.specs.Machine.{class_of, Around, prolog, within, epilog, Opened, open_of, ended, node_of, Holder, declaration, tag, Shape, at_start, in_mark, at_first, in_declaring, at_between, at_markup, in_comment, in_name, at_gap, in_attribute, at_named, at_equals, in_value, in_value_reference, at_valued, at_slash, at_ending, in_text_reference, in_closing, table, follow, walk, IsTidyBetween, IsTidyComment, IsTidyShape, IsProper, IsTidy}
+use Rattle.file_text.proofs.Utf8Laws.{byte_due}
 use Rattle.file_text.proofs.Walks.{Along}
 use Rattle.file_text.proofs.Names.{each_right}
 use Rattle.file_text.proofs.OverElements.{name_bytes, over_matched}
-use Rattle.file_text.proofs.Standing.{IsOpen, Reached, IsHolder, Tagged, Valued, IsInside, IsClosing, Has}
+use Rattle.file_text.proofs.Standing.{IsOpen, Reached, IsHolder, Tagged, IsClosing, Has}
 use Rattle.file_text.proofs.Endings.{Finishes, by_way, Env, finish_between, finish_ended, finish_name, finish_gap, finish_valued, finish_value, finish_equals, finish_named, finish_attribute}
 
 -- the rest of a character

@@ -1,14 +1,13 @@
 -- The machine goes on exactly along the beginnings of texts of the grammar.
-use Rattle.std.proofs.Common.{◌≡◌, ◌≢◌, ℕ, suc, ◌+◌, ◌<◌, ◌≤◌, ◌⊎◌, inl, inr, refl, sym, ◌∙◌, ap, subst, Bool, true, false, List, [], ◌∷◌, ◌++◌, append_assoc, append-nil, length, take, drop, slice_index, Option, Some, None, codes, arith}
-use Rattle.std.proofs.lemmas.List.{take-append-drop}
+use Rattle.std.proofs.Common.{◌≡◌, ℕ, refl, sym, ◌∙◌, ap, subst, Bool, true, false, List, [], ◌∷◌, ◌++◌, Option, Some, None}
 use Rattle.file_text.specs.declared.tree.Attribute.{Attribute}
 use Rattle.file_text.specs.declared.due.Due.{Due}
 use Rattle.file_text.specs.declared.due.Due.TheVariants.{Nothing}
 use Rattle.file_text.specs.Node.{Node}
-use Rattle.file_text.specs.Grammar.{Each, Spells, EncodingFits, IsLooseText, IsText}
-use Rattle.file_text.specs.Fault.{IsPrefix, LeavesAt}
+use Rattle.file_text.specs.Grammar.{Each, Spells}
+use Rattle.file_text.specs.Fault.{IsPrefix}
 use Rattle.file_text.specs.Utf8.{due_after, due_along}
-use Rattle.file_text.specs.Machine.{class_of, Around, prolog, epilog, Shape, at_start, at_between, Step, goes, leaves, too_deep, other_encoding, Spot, follow, advance, walk, State, both, move, run, start, tree_at, spelled_at, table, IsTidy}
+use Rattle.file_text.specs.Machine.{class_of, prolog, epilog, at_start, at_between, Step, goes, leaves, too_deep, other_encoding, Spot, follow, advance, walk, State, both, move, run, start, table, IsTidy}
 use Rattle.file_text.proofs.Utf8Laws.{due_along-append, due_along-IsUtf8, IsUtf8-due_along}
 use Rattle.file_text.proofs.Walks.{walk-append}
 use Rattle.file_text.proofs.OverTags.{Allowed}

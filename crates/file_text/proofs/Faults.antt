@@ -1,24 +1,21 @@
 -- The fault that is recognised first: where each one comes, and that it is one.
-use Rattle.std.proofs.Common.{◌≡◌, ◌≢◌, ℕ, zero, suc, add-one, ◌+◌, ◌-◌, ◌<◌, ◌≤◌, ◌⊎◌, inl, inr, refl, sym, ◌∙◌, ap, subst, Bool, true, false, cond, ltb, List, [], ◌∷◌, ◌++◌, append_assoc, append-nil, length, length-append, take, drop, slice_index, get_or, Option, Some, None, codes, arith}
-use Rattle.std.proofs.lemmas.Bool.{cases_Bool}
+use Rattle.std.proofs.Common.{◌≡◌, ℕ, suc, ◌+◌, ◌-◌, ◌<◌, ◌≤◌, ◌⊎◌, inl, inr, refl, sym, ◌∙◌, ap, subst, Bool, true, false, cond, ltb, List, [], ◌∷◌, ◌++◌, length, length-append, take, slice_index, Option, Some, None, codes, arith}
 use Rattle.std.proofs.lemmas.Bool.Decides.{nat_tests}
 use Rattle.std.proofs.Math.Seq.{drop-cons}
 use Rattle.std.proofs.lemmas.List.{take_all, take_more, length-take-le, get_or-take, get_or_push}
 use Rattle.file_text.specs.declared.error.Construct.TheVariants.{Doctype, Cdata, Instruction, Reference, Encoding}
 use Rattle.file_text.specs.declared.error.TextError.{TextError}
 use Rattle.file_text.specs.declared.error.TextError.TheVariants.{Syntax, Unsupported, TooDeep, NoMemory}
-use Rattle.file_text.specs.declared.class.Class.{Class}
-use Rattle.file_text.specs.declared.class.Class.TheVariants.{Wide, Letter, Less, Slash}
+use Rattle.file_text.specs.declared.class.Class.TheVariants.{Less}
 use Rattle.file_text.specs.declared.mode.Comment.TheVariants as part
 use Rattle.file_text.specs.declared.due.Due.{Due}
-use Rattle.file_text.specs.declared.due.Due.TheVariants.{Nothing, Byte}
+use Rattle.file_text.specs.declared.due.Due.TheVariants.{Nothing}
 use Rattle.file_text.specs.Node.{Node}
-use Rattle.file_text.specs.Grammar.{is_name_start, items_text, IsText, IsLooseText}
-use Rattle.file_text.specs.Fault.{IsPrefix, LeavesAt, Stands, begins_name, KnownAt, IsEncodingAt, FirstFault}
-use Rattle.file_text.specs.Utf8.{due_after, due_after_first}
-use Rattle.file_text.specs.Machine.{class_of, Around, prolog, within, epilog, Opened, Shape, at_first, at_markup, in_comment, in_closing, in_name, Step, goes, leaves, too_deep, other_encoding, open_step, close_step, comment_step, Spot, follow, advance, State, both, move, run, start, tree_at, table, IsTidyShape}
+use Rattle.file_text.specs.Grammar.{is_name_start, IsText}
+use Rattle.file_text.specs.Fault.{LeavesAt, Stands, begins_name, KnownAt, IsEncodingAt, FirstFault}
+use Rattle.file_text.specs.Utf8.{due_after}
+use Rattle.file_text.specs.Machine.{class_of, Around, prolog, within, epilog, Opened, Shape, at_first, at_markup, in_comment, in_closing, in_name, Step, goes, leaves, too_deep, other_encoding, open_step, Spot, follow, advance, State, both, move, run, start, tree_at, table, IsTidyShape}
 use Rattle.file_text.specs.Exit.{IsLiteral, FaultAt, BehindQuote}
-use Rattle.file_text.proofs.Classes.{start_of, by_start}
 use Rattle.file_text.proofs.Walks.{at_begin}
 use Rattle.file_text.proofs.Tidy.{ascii_after}
 use Rattle.file_text.proofs.Standing.{Has}

@@ -1,20 +1,20 @@
 -- One more byte in an entity or behind attributes, and all together: whatever the machine reads is spelled so.
-use Rattle.std.proofs.Common.{◌≡◌, ◌≢◌, ℕ, suc, ◌+◌, ◌<◌, ◌≤◌, ◌⊎◌, inl, inr, refl, sym, ◌∙◌, ap, subst, Bool, true, false, cond, eqb, List, [], ◌∷◌, ◌++◌, append_assoc, append-nil, length, Option, Some, None, IsTrue, codes, arith}
+use Rattle.std.proofs.Common.{◌≡◌, ◌≢◌, ℕ, inl, inr, refl, sym, ◌∙◌, ap, subst, Bool, cond, eqb, List, [], ◌∷◌, ◌++◌, append_assoc, append-nil, Option, Some, None, codes, arith}
 use Rattle.std.proofs.lemmas.Bool.{cases_Bool, eqb-true}
 use Rattle.file_text.specs.declared.tree.Attribute.{Attribute}
 use Rattle.file_text.specs.declared.class.Class.{Class}
-use Rattle.file_text.specs.declared.class.Class.TheVariants.{Wide, White, Control, Letter, Digit, Hyphen, Less, Greater, Slash, Bang, Question, Equals, Quote, Ampersand, Other}
+use Rattle.file_text.specs.declared.class.Class.TheVariants.{Wide, White, Letter, Digit, Hyphen, Greater}
 use Rattle.file_text.specs.declared.reference.Reference.{Reference}
 use Rattle.file_text.specs.declared.reference.Reference.TheVariants as reference
 use Rattle.file_text.specs.declared.reference.Referred.{Referred}
 use Rattle.file_text.specs.declared.reference.Referred.TheVariants.{More, Done, Leaves}
-use Rattle.file_text.specs.Node.{Node, node, nodes, no_node}
-use Rattle.file_text.specs.Grammar.{Each, is_white, IsWhite, Entity, less, greater, ampersand, quotation, apostrophe, entity_text, entity_value, entity, IsDeclaration, IsProlog, IsElement, Spells}
-use Rattle.file_text.specs.Machine.{class_of, Around, prolog, within, epilog, Opened, open_of, ended, node_of, Holder, declaration, tag, Shape, at_start, in_mark, at_first, in_declaring, at_between, at_markup, in_comment, in_name, at_gap, in_attribute, at_named, at_equals, in_value, in_value_reference, at_valued, at_slash, at_ending, in_text_reference, in_closing, Step, goes, leaves, referred, value_reference_step, text_reference_step, slash_step, ending_step, leave_step, match_step, closing_step, table, Spot, follow, advance, walk}
+use Rattle.file_text.specs.Node.{Node}
+use Rattle.file_text.specs.Grammar.{IsWhite, Entity, less, greater, ampersand, quotation, apostrophe, entity_text, entity_value, entity, IsElement}
+use Rattle.file_text.specs.Machine.{class_of, Around, prolog, within, epilog, Opened, ended, node_of, Holder, declaration, Shape, at_start, in_mark, at_first, in_declaring, at_between, at_markup, in_comment, in_name, at_gap, in_attribute, at_named, at_equals, in_value, in_value_reference, at_valued, at_slash, at_ending, in_text_reference, in_closing, goes, leaves, referred, value_reference_step, text_reference_step, slash_step, ending_step, closing_step, table, Spot, advance, walk}
 use Rattle.file_text.proofs.Classes.{Known, known}
-use Rattle.file_text.proofs.Standing.{IsOpen, IsClosed, Reached, IsStartText, reference_text, Tagged, Valued, IsInside, IsClosing, Has, Holds}
+use Rattle.file_text.proofs.Standing.{IsOpen, Reached, reference_text, Tagged, Valued, IsClosing, Has, Holds}
 use Rattle.file_text.proofs.OneMore.{white_more, open_item, closes}
-use Rattle.file_text.proofs.KeepsText.{After, when_same, from_prolog, keeps_start, keeps_mark, keeps_first, keeps_declaring, keeps_between, keeps_markup, keeps_comment}
+use Rattle.file_text.proofs.KeepsText.{After, when_same, keeps_start, keeps_mark, keeps_first, keeps_declaring, keeps_between, keeps_markup, keeps_comment}
 use Rattle.file_text.proofs.KeepsTags.{empties, value_entity, keeps_name, keeps_gap, keeps_valued, keeps_attribute, keeps_named, keeps_equals, keeps_value}
 
 -- what a further byte makes of an entity's text

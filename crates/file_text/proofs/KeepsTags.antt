@@ -1,26 +1,22 @@
 -- One more byte in a tag or a declaration: what the machine says has been read is still so.
-use Rattle.std.proofs.Common.{◌≡◌, ◌≢◌, ℕ, suc, ◌+◌, ◌<◌, ◌≤◌, ◌⊎◌, inl, inr, refl, sym, ◌∙◌, ap, subst, Bool, true, false, not, ◌&&◌, ◌||◌, cond, eqb, List, [], ◌∷◌, ◌++◌, append_assoc, append-nil, length, Option, Some, None, IsTrue, codes, bytes_eq, arith}
-use Rattle.std.proofs.lemmas.Bool.{cases_Bool, eqb-true, eqb-false, false≢true}
+use Rattle.std.proofs.Common.{◌≡◌, ◌≢◌, ℕ, suc, ◌≤◌, ◌⊎◌, inl, inr, refl, sym, ◌∙◌, ap, subst, Bool, true, false, not, ◌&&◌, ◌||◌, eqb, List, [], ◌∷◌, ◌++◌, append_assoc, append-nil, length, IsTrue, codes, bytes_eq, arith}
+use Rattle.std.proofs.lemmas.Bool.{cases_Bool, eqb-true, eqb-false}
 use Rattle.std.proofs.lemmas.Slice.Eq.{bytes_eq-Decides}
 use Rattle.std.specs.Str.{str_to_ascii_lowercase}
 use Rattle.file_text.specs.declared.tree.Attribute.{Attribute}
 use Rattle.file_text.specs.declared.class.Class.{Class}
-use Rattle.file_text.specs.declared.class.Class.TheVariants.{Wide, White, Control, Letter, Digit, Hyphen, Less, Greater, Slash, Bang, Question, Equals, Quote, Ampersand, Other}
-use Rattle.file_text.specs.declared.reference.Reference.{Reference}
-use Rattle.file_text.specs.declared.reference.Reference.TheVariants as reference
-use Rattle.file_text.specs.declared.reference.Referred.{Referred}
-use Rattle.file_text.specs.declared.reference.Referred.TheVariants.{More, Done, Leaves}
+use Rattle.file_text.specs.declared.class.Class.TheVariants.{Wide, White, Control, Letter, Digit, Hyphen, Less, Greater, Slash, Question, Equals, Quote, Ampersand}
 use Rattle.file_text.specs.Node.{node, no_node}
-use Rattle.file_text.specs.Grammar.{Each, is_white, is_plain, is_name_byte, IsWhite, IsGap, IsName, Entity, less, greater, ampersand, quotation, apostrophe, entity_text, entity_value, byte, entity, items_text, items_value, IsQuoted, IsHead, IsAttribute, AreAttributes, IsNew, AreDistinct, IsUtf8Name, IsTag, IsElement, IsContent, IsDeclaration, IsProlog}
+use Rattle.file_text.specs.Grammar.{is_plain, is_name_byte, IsWhite, IsName, Entity, entity_text, entity_value, byte, entity, items_text, IsQuoted, AreAttributes, IsNew, AreDistinct, IsTag, IsElement}
 use Rattle.file_text.specs.Names.{has_name}
-use Rattle.file_text.specs.Machine.{Around, prolog, within, epilog, Opened, open_of, entered, ended, Holder, declaration, tag, Shape, at_between, in_name, at_gap, in_attribute, at_named, at_equals, in_value, in_value_reference, at_valued, at_slash, at_ending, in_text_reference, Step, goes, leaves, other_encoding, end_step, name_step, gap_step, valued_step, if_new, attribute_step, named_step, equals_step, declares_other, value_end, value_step, referred, value_reference_step, text_reference_step, slash_step, ending_step, follow}
+use Rattle.file_text.specs.Machine.{Around, prolog, within, epilog, open_of, entered, ended, Holder, declaration, tag, in_name, at_gap, in_attribute, at_named, at_equals, in_value, at_valued, Step, goes, leaves, other_encoding, end_step, name_step, gap_step, valued_step, if_new, attribute_step, named_step, equals_step, declares_other, value_end, value_step}
 use Rattle.file_text.proofs.Classes.{Known}
 use Rattle.file_text.proofs.Names.{each-append, name_is_new, bytes_same, distinct_one_more}
 use Rattle.file_text.proofs.OverTags.{Allowed, AllowedIn}
 use Rattle.file_text.proofs.OverElements.{HasRoom}
-use Rattle.file_text.proofs.Standing.{IsOpen, IsOpening, IsClosed, Reached, IsStartText, reference_text, IsHolder, Tagged, Valued, IsInside, Has}
-use Rattle.file_text.proofs.OneMore.{items_text-one, items_value-one, white_more, gap_one, gap_more, name_more, reached_item, open_item, closes, attributes_more}
-use Rattle.file_text.proofs.KeepsText.{After, when_same}
+use Rattle.file_text.proofs.Standing.{IsOpen, Reached, IsHolder, Tagged, Valued, Has}
+use Rattle.file_text.proofs.OneMore.{items_text-one, items_value-one, white_more, gap_one, gap_more, name_more, closes, attributes_more}
+use Rattle.file_text.proofs.KeepsText.{After}
 
 -- the attributes of a tag that has only its name so far
 pub tagged_name : (strict : Bool) (a : Around) (n : List ℕ) (t : List ℕ) → IsHolder strict a (tag n) t → Tagged strict a (tag n) [] t

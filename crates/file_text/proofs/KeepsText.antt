@@ -1,21 +1,19 @@
 -- One more byte between tags or in a comment: what the machine says has been read is still so.
-use Rattle.std.proofs.Common.{◌≡◌, ◌≢◌, ℕ, suc, ◌+◌, ◌<◌, ◌≤◌, ◌⊎◌, inl, inr, refl, sym, ◌∙◌, ap, subst, Bool, true, false, cond, eqb, ltb, List, [], ◌∷◌, ◌++◌, append_assoc, append-nil, length, Option, Some, None, IsTrue, codes, arith}
+use Rattle.std.proofs.Common.{◌≡◌, ℕ, suc, inl, inr, refl, sym, ◌∙◌, subst, Bool, true, false, cond, eqb, ltb, List, [], ◌∷◌, ◌++◌, append_assoc, append-nil, length, codes}
 use Rattle.std.proofs.lemmas.Bool.{cases_Bool, eqb-true, eqb-false, ltb-true}
-use Rattle.file_text.specs.declared.tree.Attribute.{Attribute}
 use Rattle.file_text.specs.declared.class.Class.{Class}
-use Rattle.file_text.specs.declared.class.Class.TheVariants.{Wide, White, Control, Letter, Digit, Hyphen, Less, Greater, Slash, Bang, Question, Equals, Quote, Ampersand, Other}
+use Rattle.file_text.specs.declared.class.Class.TheVariants.{Wide, White, Control, Letter, Hyphen, Less, Greater, Slash, Bang, Question, Ampersand}
 use Rattle.file_text.specs.declared.mode.Mark.{Mark}
 use Rattle.file_text.specs.declared.mode.Mark.TheVariants as mark_read
 use Rattle.file_text.specs.declared.mode.Declaring.{Declaring}
 use Rattle.file_text.specs.declared.mode.Declaring.TheVariants as declaring
 use Rattle.file_text.specs.declared.mode.Comment.{Comment}
 use Rattle.file_text.specs.declared.mode.Comment.TheVariants as part
-use Rattle.file_text.specs.declared.reference.Reference.TheVariants as reference
 use Rattle.file_text.specs.Grammar.{is_white, is_plain, IsName, byte, comment, mark}
-use Rattle.file_text.specs.Machine.{Around, prolog, within, epilog, Opened, Holder, declaration, tag, Shape, at_start, in_mark, at_first, in_declaring, at_between, at_markup, in_comment, in_name, in_closing, Step, goes, leaves, start_step, mark_step, first_step, declaring_step, between_step, close_step, open_step, markup_step, comment_step, follow}
+use Rattle.file_text.specs.Machine.{Around, prolog, within, epilog, at_start, in_mark, at_first, in_declaring, at_between, at_markup, in_comment, in_name, Step, goes, leaves, start_step, mark_step, first_step, declaring_step, between_step, close_step, open_step, markup_step, comment_step, follow}
 use Rattle.file_text.proofs.Classes.{Known}
 use Rattle.file_text.proofs.OverElements.{HasRoom}
-use Rattle.file_text.proofs.Standing.{Reached, IsStartText, Clean, NoHyphen, IsPart, Tagged, Has, Holds}
+use Rattle.file_text.proofs.Standing.{Reached, IsStartText, Clean, NoHyphen, Has, Holds}
 use Rattle.file_text.proofs.OneMore.{gap_one, reached_item, open_item, clean_more, body_from_clean, last_same}
 
 -- what holds where a step leads

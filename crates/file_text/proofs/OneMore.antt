@@ -1,13 +1,11 @@
 -- One more character, comment, attribute or element, and the text is of the same kind.
-use Rattle.std.proofs.Common.{◌≡◌, ◌≢◌, ℕ, suc, ◌+◌, ◌<◌, ◌≤◌, ◌⊎◌, inl, inr, refl, sym, ◌∙◌, ap, subst, max, Bool, true, false, eqb, List, [], ◌∷◌, ◌++◌, append_assoc, append-nil, length, take, Option, Some, None, IsTrue, codes, arith}
+use Rattle.std.proofs.Common.{◌≡◌, ℕ, ◌+◌, ◌≤◌, refl, sym, ◌∙◌, ap, max, Bool, List, [], ◌∷◌, ◌++◌, append_assoc, append-nil, length, take, IsTrue, codes, arith}
 use Rattle.file_text.specs.declared.tree.Attribute.{Attribute}
-use Rattle.file_text.specs.Node.{Node, node, Nodes, no_node, node_then, nodes, depth, depths}
-use Rattle.file_text.specs.Grammar.{Each, is_white, is_character, is_plain, is_name_byte, BeginsWithEnd, IsBody, IsWhite, IsGap, IsName, Item, byte, entity, comment, item_text, items_text, item_value, items_value, IsOutside, IsBetween, IsQuoted, IsHead, IsAttribute, AreAttributes, IsNew, AreDistinct, IsTag, IsRest, IsFiller, IsElement, IsContent, IsMisc, IsProlog}
-use Rattle.file_text.specs.Machine.{Around, prolog, within, epilog, Opened, open_of, entered, ended, node_of, Holder, declaration, tag}
+use Rattle.file_text.specs.Node.{Node, Nodes, no_node, node_then, nodes, depth, depths}
+use Rattle.file_text.specs.Grammar.{is_white, is_character, is_name_byte, BeginsWithEnd, IsBody, IsWhite, IsGap, IsName, Item, item_text, items_text, item_value, items_value, IsOutside, IsBetween, IsAttribute, AreAttributes, IsFiller, IsElement, IsContent, IsMisc, IsProlog}
+use Rattle.file_text.specs.Machine.{Around, prolog, within, epilog, Opened, ended}
 use Rattle.file_text.proofs.Names.{each-append}
-use Rattle.file_text.proofs.OverTags.{Allowed, AllowedIn}
-use Rattle.file_text.proofs.OverElements.{HasRoom}
-use Rattle.file_text.proofs.Standing.{IsOpening, IsOpen, IsClosed, Reached, Clean, NoHyphen, IsHolder, Tagged}
+use Rattle.file_text.proofs.Standing.{IsOpen, Reached, Clean}
 
 pub items_text-append : (xs ys : List Item) → items_text (xs ++ ys) ≡ items_text xs ++ items_text ys
 items_text-append [] ys = refl

@@ -1,9 +1,8 @@
 -- What the reader's loop has shown where it stops, and at its end.
-use Rattle.std.proofs.Common.{◌≡◌, ◌≢◌, ℕ, suc, ◌+◌, ◌-◌, ◌<◌, ◌≤◌, ◌⊎◌, inl, inr, refl, sym, ◌∙◌, ap, subst, Bool, true, false, List, [], ◌∷◌, ◌++◌, length, take, slice_index, Option, Some, None, arith}
+use Rattle.std.proofs.Common.{◌≡◌, ℕ, ◌+◌, ◌-◌, ◌<◌, ◌≤◌, ◌⊎◌, inl, inr, refl, sym, ◌∙◌, ap, true, List, length, take, slice_index, Option, Some, None}
 use Rattle.file_text.specs.declared.error.Construct.TheVariants.{Encoding}
 use Rattle.file_text.specs.declared.error.TextError.{TextError}
-use Rattle.file_text.specs.declared.error.TextError.TheVariants.{Unsupported, TooDeep, NoMemory}
-use Rattle.file_text.specs.declared.taken.Taken.{Taken}
+use Rattle.file_text.specs.declared.error.TextError.TheVariants.{Unsupported, TooDeep}
 use Rattle.file_text.specs.declared.taken.Taken.TheVariants as taken
 use Rattle.file_text.specs.declared.due.Due.{Due}
 use Rattle.file_text.specs.declared.due.Due.TheVariants.{Nothing, Byte}
@@ -11,11 +10,11 @@ use Rattle.file_text.specs.Node.{Node}
 use Rattle.file_text.specs.Grammar.{IsText}
 use Rattle.file_text.specs.Fault.{FirstFault}
 use Rattle.file_text.specs.Utf8.{due_after}
-use Rattle.file_text.specs.Machine.{class_of, Around, prolog, within, epilog, Shape, at_between, Step, goes, leaves, too_deep, other_encoding, table, Spot, State, move, both, follow, run, start, tree_at, spelled_at, Takes, IsTidy}
+use Rattle.file_text.specs.Machine.{class_of, Around, prolog, within, epilog, Shape, at_between, Step, goes, leaves, too_deep, other_encoding, table, Spot, State, both, follow, run, start, tree_at, spelled_at, Takes}
 use Rattle.file_text.specs.Exit.{IsStop, FaultAt, BehindQuote}
-use Rattle.file_text.proofs.Exact.{finished, completes, sounds, parts, tidy_at}
+use Rattle.file_text.proofs.Exact.{finished, completes, sounds, parts}
 use Rattle.file_text.proofs.Places.{run_more}
-use Rattle.file_text.proofs.Faults.{Refuses, Stops, stops_refused, stops_early, first_fault, deep_fault, other_fault, no_fault}
+use Rattle.file_text.proofs.Faults.{stops_refused, stops_early, first_fault, deep_fault, other_fault}
 
 -- a byte with which the text goes on
 takes_goes : (d : Option Due) (s : Step) (u : State) → Takes d s taken.Goes u → both d (follow true s) ≡ Some u

@@ -1,14 +1,11 @@
 -- The machine goes along elements, one in another.
-use Rattle.std.proofs.Common.{◌≡◌, ◌≢◌, ℕ, suc, ◌+◌, ◌<◌, ◌≤◌, ◌⊎◌, inl, inr, refl, sym, ◌∙◌, ap, subst, max, Bool, true, false, eqb, ltb, ◌||◌, List, [], ◌∷◌, ◌++◌, append_assoc, append-nil, length, Option, Some, None, IsTrue, codes, arith}
+use Rattle.std.proofs.Common.{◌≡◌, ℕ, suc, ◌+◌, ◌<◌, ◌≤◌, inl, inr, refl, sym, ◌∙◌, ap, subst, Bool, true, false, eqb, ◌||◌, List, [], ◌∷◌, ◌++◌, append_assoc, append-nil, length, Some, IsTrue, codes, arith}
 use Rattle.std.proofs.lemmas.Bool.{eq-eqb, lt-ltb}
 use Rattle.file_text.specs.declared.tree.Attribute.{Attribute}
-use Rattle.file_text.specs.declared.class.Class.{Class}
-use Rattle.file_text.specs.declared.class.Class.TheVariants.{Wide, White, Control, Letter, Digit, Hyphen, Less, Greater, Slash, Bang, Question, Equals, Quote, Ampersand, Other}
 use Rattle.file_text.specs.Node.{Node, node, Nodes, no_node, node_then, nodes, list_of, depth, depths}
-use Rattle.file_text.specs.Grammar.{Each, is_white, is_name_start, is_name_byte, IsName, IsTag, IsRest, IsElement, IsContent}
-use Rattle.file_text.specs.Machine.{class_of, Around, prolog, within, epilog, Opened, open_of, entered, ended, node_of, Shape, at_between, at_markup, at_slash, in_name, in_closing, Holder, tag, Step, goes, open_step, match_step, Spot, follow, walk, table}
-use Rattle.file_text.proofs.Classes.{start_of, name_of}
-use Rattle.file_text.proofs.Walks.{Along, stay, one, then, at_begin, at_name, over_white, over_name}
+use Rattle.file_text.specs.Grammar.{Each, is_white, is_name_start, is_name_byte, IsName, IsTag, IsElement, IsContent}
+use Rattle.file_text.specs.Machine.{Around, prolog, within, epilog, Opened, open_of, entered, ended, node_of, Shape, at_between, at_markup, in_name, in_closing, tag, goes, open_step, follow, walk, table}
+use Rattle.file_text.proofs.Walks.{Along, then, at_begin, at_name, over_white, over_name}
 use Rattle.file_text.proofs.OverTags.{Ready, ready_name, over_tag_white, over_attributes}
 use Rattle.file_text.proofs.OverFillers.{over_filler}
 

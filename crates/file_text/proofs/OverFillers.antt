@@ -1,12 +1,12 @@
 -- The machine goes along what stands between tags.
-use Rattle.std.proofs.Common.{◌≡◌, ◌≢◌, ℕ, ◌⊎◌, inl, inr, refl, sym, ◌∙◌, ap, subst, Bool, true, false, List, [], ◌∷◌, ◌++◌, append_assoc, append-nil, Option, Some, None, IsTrue, codes}
+use Rattle.std.proofs.Common.{◌≡◌, ℕ, ◌⊎◌, inl, inr, refl, sym, ◌∙◌, ap, subst, Bool, true, List, [], ◌∷◌, ◌++◌, Some, IsTrue, codes}
 use Rattle.file_text.specs.declared.class.Class.{Class}
-use Rattle.file_text.specs.declared.class.Class.TheVariants.{Wide, White, Control, Letter, Digit, Hyphen, Less, Greater, Slash, Bang, Question, Equals, Quote, Ampersand, Other}
+use Rattle.file_text.specs.declared.class.Class.TheVariants.{Control, Hyphen, Less, Greater, Ampersand}
 use Rattle.file_text.specs.declared.mode.Comment.TheVariants as part
-use Rattle.file_text.specs.Grammar.{Each, is_white, is_character, is_plain, IsBody, BeginsWithEnd, Item, byte, entity, comment, Entity, less, greater, ampersand, quotation, apostrophe, entity_text, item_text, items_text, IsOutside, IsBetween, IsFiller}
-use Rattle.file_text.specs.Machine.{class_of, Around, prolog, within, epilog, Opened, Shape, at_between, in_comment, Step, goes, comment_step, between_step, Spot, follow, walk, table}
-use Rattle.file_text.proofs.Classes.{Says, says, character_class, character_of, plain_class, plain_of, white_of, white_class, by_white}
-use Rattle.file_text.proofs.Walks.{Along, stay, then, at_white}
+use Rattle.file_text.specs.Grammar.{Each, is_character, IsBody, BeginsWithEnd, Item, byte, entity, comment, Entity, less, greater, ampersand, quotation, apostrophe, entity_text, item_text, items_text, IsOutside, IsBetween, IsFiller}
+use Rattle.file_text.specs.Machine.{class_of, Around, within, Opened, at_between, in_comment, goes, comment_step, between_step, follow, walk, table}
+use Rattle.file_text.proofs.Classes.{says, character_class, character_of, plain_class, plain_of}
+use Rattle.file_text.proofs.Walks.{Along, then, at_white}
 
 -- what a character of a comment leads to
 body_step : (a : Around) (c : Class) → character_class c ≡ true → (c ≡ Hyphen) ⊎ (comment_step a part.Body c ≡ goes a (in_comment part.Body))

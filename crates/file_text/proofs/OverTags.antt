@@ -1,17 +1,17 @@
 -- The machine goes along attributes, one after another.
-use Rattle.std.proofs.Common.{◌≡◌, ◌≢◌, ℕ, ◌<◌, ◌≤◌, ◌⊎◌, inl, inr, refl, sym, ◌∙◌, ap, subst, Bool, true, false, eqb, cond, not, ◌&&◌, List, [], ◌∷◌, ◌++◌, append_assoc, append-nil, Option, Some, None, IsTrue, codes, bytes_eq, arith}
-use Rattle.std.proofs.lemmas.Bool.{ne_eqb, eq-eqb, cases_Bool}
+use Rattle.std.proofs.Common.{◌≡◌, ℕ, ◌⊎◌, inl, inr, refl, sym, ◌∙◌, ap, subst, Bool, true, false, eqb, cond, not, ◌&&◌, List, [], ◌∷◌, ◌++◌, append_assoc, append-nil, Option, Some, codes, bytes_eq}
+use Rattle.std.proofs.lemmas.Bool.{ne_eqb, eq-eqb}
 use Rattle.std.proofs.lemmas.Slice.Eq.{bytes_eq-Decides}
 use Rattle.std.specs.Str.{str_to_ascii_lowercase}
 use Rattle.file_text.specs.declared.tree.Attribute.{Attribute}
 use Rattle.file_text.specs.declared.class.Class.{Class}
-use Rattle.file_text.specs.declared.class.Class.TheVariants.{Wide, White, Control, Letter, Digit, Hyphen, Less, Greater, Slash, Bang, Question, Equals, Quote, Ampersand, Other}
-use Rattle.file_text.specs.Grammar.{Each, is_plain, is_name_start, is_name_byte, IsWhite, IsGap, IsName, Item, byte, entity, comment, Entity, less, greater, ampersand, quotation, apostrophe, entity_text, entity_value, items_text, items_value, IsQuoted, IsHead, IsAttribute, AreAttributes, IsNew, AreDistinct, IsUtf8Name, EncodingFits}
+use Rattle.file_text.specs.declared.class.Class.TheVariants.{White, Control, Less, Greater, Slash, Question, Quote, Ampersand}
+use Rattle.file_text.specs.Grammar.{Each, IsWhite, IsName, Item, byte, entity, comment, Entity, less, greater, ampersand, quotation, apostrophe, entity_text, entity_value, items_text, items_value, IsQuoted, IsHead, IsAttribute, AreAttributes, IsNew, AreDistinct, IsUtf8Name}
 use Rattle.file_text.specs.Names.{has_name}
-use Rattle.file_text.specs.Machine.{class_of, Around, Shape, at_gap, in_name, in_attribute, at_named, at_equals, in_value, at_valued, Holder, tag, declaration, Step, goes, other_encoding, end_step, value_step, value_end, declares_other, if_new, Spot, follow, advance, walk, table}
+use Rattle.file_text.specs.Machine.{class_of, Around, Shape, at_gap, in_name, in_attribute, at_named, at_equals, in_value, at_valued, Holder, tag, declaration, Step, goes, other_encoding, end_step, value_step, value_end, declares_other, if_new, Spot, follow, walk, table}
 use Rattle.file_text.proofs.Classes.{plain_class, plain_of}
-use Rattle.file_text.proofs.Walks.{Along, stay, one, then, at_begin, at_name, over_white, over_gap, over_name}
-use Rattle.file_text.proofs.Names.{new_name, distinct_new, bytes_differ, bytes_same}
+use Rattle.file_text.proofs.Walks.{Along, stay, then, at_begin, at_name, over_white, over_gap, over_name}
+use Rattle.file_text.proofs.Names.{new_name, distinct_new, bytes_same}
 
 -- what a strict machine asks of a declared attribute
 abbrev pub Allowed : Bool → Attribute → Type 0

@@ -1,13 +1,13 @@
 -- The machine goes along whole texts: what is spelled is read.
-use Rattle.std.proofs.Common.{◌≡◌, ◌≢◌, ℕ, ◌+◌, ◌≤◌, ◌⊎◌, inl, inr, refl, sym, ◌∙◌, ap, subst, Bool, true, false, List, [], ◌∷◌, ◌++◌, append_assoc, append-nil, length, Option, Some, None, IsTrue, codes, arith}
+use Rattle.std.proofs.Common.{◌≡◌, ◌≢◌, ℕ, ◌⊎◌, inl, inr, refl, ◌∙◌, ap, Bool, false, List, [], ◌∷◌, ◌++◌, append-nil, Some, IsTrue, codes, arith}
 use Rattle.file_text.specs.declared.tree.Attribute.{Attribute}
-use Rattle.file_text.specs.declared.class.Class.TheVariants.{Wide, White, Letter}
+use Rattle.file_text.specs.declared.class.Class.TheVariants.{White}
 use Rattle.file_text.specs.declared.mode.Mark.TheVariants as mark_read
 use Rattle.file_text.specs.declared.mode.Declaring.TheVariants as declaring
 use Rattle.file_text.specs.declared.mode.Comment.TheVariants as part
-use Rattle.file_text.specs.Node.{Node, depth}
-use Rattle.file_text.specs.Grammar.{Each, is_name_start, Item, byte, entity, comment, item_text, items_text, IsOutside, IsMisc, mark, IsDeclaration, IsProlog, Spells, EncodingFits, IsText}
-use Rattle.file_text.specs.Machine.{class_of, Around, prolog, epilog, Shape, at_start, in_mark, at_first, in_declaring, at_between, at_ending, in_comment, in_name, Holder, declaration, Step, goes, Spot, follow, walk, table}
+use Rattle.file_text.specs.Node.{Node}
+use Rattle.file_text.specs.Grammar.{Each, is_name_start, Item, byte, entity, comment, item_text, items_text, IsOutside, IsMisc, mark, IsDeclaration, IsProlog, Spells}
+use Rattle.file_text.specs.Machine.{class_of, Around, prolog, epilog, Shape, at_start, in_mark, at_first, in_declaring, at_between, in_comment, in_name, declaration, goes, follow, walk, table}
 use Rattle.file_text.proofs.Walks.{Along, stay, then, at_white, at_begin}
 use Rattle.file_text.proofs.OverTags.{Allowed, Ready, over_tag_white, over_attributes}
 use Rattle.file_text.proofs.OverFillers.{over_body, over_outside}

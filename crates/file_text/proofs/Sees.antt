@@ -1,16 +1,12 @@
 -- The reader's own values, seen as the machine's.
-use Rattle.std.proofs.Common.{◌≡◌, ◌≢◌, ℕ, zero, suc, ◌+◌, ◌-◌, ◌<◌, ◌≤◌, refl, sym, ◌∙◌, ap, subst, Bool, true, false, ◌==◌, eqb, ltb, List, [], ◌∷◌, ◌++◌, length, get_or, drop, slice_get, Option, Some, None, arith}
+use Rattle.std.proofs.Common.{◌≡◌, ℕ, zero, suc, ◌+◌, ◌-◌, ◌<◌, ◌≤◌, refl, sym, ◌∙◌, ap, true, false, ◌==◌, List, [], ◌∷◌, ◌++◌, length, drop, slice_get, Option, Some, None, arith}
 use Rattle.std.proofs.lemmas.Bool.{eqb-false, lt-ltb, le-ltb}
-use Rattle.file_text.specs.declared.tree.Attribute.{Attribute}
 use Rattle.file_text.specs.declared.tree.Element.{Element}
 use Rattle.file_text.specs.declared.scanner.Frame.{Frame}
 use Rattle.file_text.specs.declared.class.Class.{Class}
-use Rattle.file_text.specs.declared.class.Class.TheVariants.{Wide, White, Control, Letter, Digit, Hyphen, Less, Greater, Slash, Bang, Question, Equals, Quote, Ampersand, Other}
-use Rattle.file_text.specs.declared.taken.Taken.TheVariants as taken
-use Rattle.file_text.specs.declared.due.Due.{Due}
+use Rattle.file_text.specs.declared.class.Class.TheVariants.{White, Less, Greater}
 use Rattle.file_text.specs.declared.due.Due.TheVariants.{Nothing}
-use Rattle.file_text.specs.Node.{Node, tree_of}
-use Rattle.file_text.specs.Machine.{Around, prolog, within, epilog, Opened, open_of, entered, ended, Shape, in_name, in_closing, at_between, Step, goes, leaves, too_deep, between_step, character_step, open_step, close_step, closing_step, State, spelled_at, Takes}
+use Rattle.file_text.specs.Machine.{Around, prolog, within, epilog, Opened, open_of, in_name, in_closing, at_between, goes, leaves, too_deep, between_step, character_step, open_step, close_step, closing_step, spelled_at}
 use Rattle.file_text.specs.Seen.{opened_of, stack_on, around_in, is_closed, name_in}
 use Rattle.file_text.proofs.Standing.{IsInside}
 

@@ -1,5 +1,5 @@
 -- What has been read where the machine stands.
-use Rattle.std.proofs.Common.{◌≡◌, ◌≢◌, ℕ, suc, ◌+◌, ◌<◌, ◌≤◌, ◌⊎◌, Bool, List, [], ◌∷◌, ◌++◌, length, Option, Some, None, IsTrue, codes}
+use Rattle.std.proofs.Common.{◌≡◌, ◌≢◌, ℕ, ◌+◌, ◌≤◌, ◌⊎◌, Bool, List, [], ◌∷◌, ◌++◌, length, Option, Some, None, IsTrue, codes}
 use Rattle.file_text.specs.declared.tree.Attribute.{Attribute}
 use Rattle.file_text.specs.declared.mode.Mark.{Mark}
 use Rattle.file_text.specs.declared.mode.Mark.TheVariants as mark_read
@@ -9,7 +9,7 @@ use Rattle.file_text.specs.declared.mode.Comment.{Comment}
 use Rattle.file_text.specs.declared.mode.Comment.TheVariants as part
 use Rattle.file_text.specs.declared.reference.Reference.{Reference}
 use Rattle.file_text.specs.declared.reference.Reference.TheVariants as reference
-use Rattle.file_text.specs.Node.{Node, Nodes, nodes, depth, depths}
+use Rattle.file_text.specs.Node.{Node, nodes, depth, depths}
 use Rattle.file_text.specs.Grammar.{Each, is_character, BeginsWithEnd, IsWhite, IsGap, IsName, Item, items_text, items_value, IsQuoted, IsHead, AreAttributes, IsNew, AreDistinct, IsTag, IsElement, IsContent, IsMisc, mark, IsProlog}
 use Rattle.file_text.specs.Machine.{Around, prolog, within, epilog, Opened, Holder, declaration, tag, Shape, at_start, in_mark, at_first, in_declaring, at_between, at_markup, in_comment, in_name, at_gap, in_attribute, at_named, at_equals, in_value, in_value_reference, at_valued, at_slash, at_ending, in_text_reference, in_closing, Spot}
 use Rattle.file_text.proofs.OverTags.{Allowed, AllowedIn}

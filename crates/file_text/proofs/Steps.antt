@@ -1,9 +1,9 @@
 -- Which steps find too deep an element or another encoding, and where the machine stands behind a `<`.
-use Rattle.std.proofs.Common.{◌≡◌, ◌≢◌, ℕ, suc, ◌+◌, ◌<◌, ◌≤◌, ◌⊎◌, inl, inr, refl, sym, ◌∙◌, ap, subst, Bool, true, false, cond, eqb, ltb, List, [], ◌∷◌, ◌++◌, length, Option, Some, None, arith}
+use Rattle.std.proofs.Common.{◌≡◌, ℕ, suc, inl, inr, refl, Bool, true, false, cond, eqb, ltb, List, [], ◌∷◌, length}
 use Rattle.std.proofs.lemmas.Bool.{cases_Bool, eqb-true}
 use Rattle.file_text.specs.declared.tree.Attribute.{Attribute}
 use Rattle.file_text.specs.declared.class.Class.{Class}
-use Rattle.file_text.specs.declared.class.Class.TheVariants.{Wide, White, Control, Letter, Digit, Hyphen, Less, Greater, Slash, Bang, Question, Equals, Quote, Ampersand, Other}
+use Rattle.file_text.specs.declared.class.Class.TheVariants.{Wide, White, Control, Letter, Digit, Hyphen, Less, Greater, Slash, Bang, Question, Equals, Quote, Ampersand}
 use Rattle.file_text.specs.declared.mode.Mark.{Mark}
 use Rattle.file_text.specs.declared.mode.Mark.TheVariants as mark_read
 use Rattle.file_text.specs.declared.mode.Declaring.{Declaring}
@@ -14,10 +14,9 @@ use Rattle.file_text.specs.declared.reference.Reference.{Reference}
 use Rattle.file_text.specs.declared.reference.Reference.TheVariants as reference
 use Rattle.file_text.specs.declared.reference.Referred.{Referred}
 use Rattle.file_text.specs.declared.reference.Referred.TheVariants.{More, Done, Leaves}
-use Rattle.file_text.specs.Node.{Node}
 use Rattle.file_text.specs.Grammar.{is_name_start}
 use Rattle.file_text.specs.Names.{has_name}
-use Rattle.file_text.specs.Machine.{class_of, Around, prolog, within, epilog, Opened, Holder, declaration, tag, Shape, at_start, in_mark, at_first, in_declaring, at_between, at_markup, in_comment, in_name, at_gap, in_attribute, at_named, at_equals, in_value, in_value_reference, at_valued, at_slash, at_ending, in_text_reference, in_closing, Step, goes, leaves, too_deep, other_encoding, start_step, mark_step, first_step, declaring_step, between_step, open_step, close_step, markup_step, comment_step, end_step, name_step, gap_step, valued_step, if_new, attribute_step, named_step, equals_step, declares_other, value_end, value_step, referred, value_reference_step, text_reference_step, slash_step, ending_step, leave_step, match_step, closing_step, table}
+use Rattle.file_text.specs.Machine.{class_of, Around, prolog, within, epilog, Holder, declaration, tag, Shape, at_start, in_mark, at_first, in_declaring, at_between, at_markup, in_comment, in_name, at_gap, in_attribute, at_named, at_equals, in_value, in_value_reference, at_valued, at_slash, at_ending, in_text_reference, in_closing, Step, goes, leaves, too_deep, other_encoding, start_step, mark_step, first_step, declaring_step, between_step, open_step, close_step, markup_step, comment_step, end_step, name_step, gap_step, valued_step, attribute_step, named_step, equals_step, declares_other, value_end, value_step, referred, value_reference_step, text_reference_step, slash_step, ending_step, leave_step, match_step, closing_step, table}
 use Rattle.file_text.proofs.Classes.{Known, known}
 
 -- a step that finds neither

@@ -1,5 +1,5 @@
 -- Characters are cut only in a text that grows.
-use Rattle.std.proofs.Common.{◌≡◌, ◌≢◌, ℕ, suc, ◌+◌, ◌<◌, ◌≤◌, ◌⊎◌, inl, inr, refl, sym, ◌∙◌, ap, subst, Bool, true, false, cond, eqb, ltb, List, [], ◌∷◌, ◌++◌, length, Option, Some, None, arith}
+use Rattle.std.proofs.Common.{◌≡◌, ℕ, suc, ◌<◌, inl, inr, refl, ◌∙◌, ap, subst, Bool, true, false, cond, eqb, ltb, List, [], ◌∷◌, ◌++◌, length, Option, Some, None, arith}
 use Rattle.std.proofs.lemmas.Bool.{cases_Bool, eqb-true}
 use Rattle.std.proofs.lemmas.Bool.Decides.{nat_tests}
 use Rattle.file_text.specs.declared.tree.Attribute.{Attribute}
@@ -11,17 +11,11 @@ use Rattle.file_text.specs.declared.mode.Declaring.{Declaring}
 use Rattle.file_text.specs.declared.mode.Declaring.TheVariants as declaring
 use Rattle.file_text.specs.declared.mode.Comment.{Comment}
 use Rattle.file_text.specs.declared.mode.Comment.TheVariants as part
-use Rattle.file_text.specs.declared.reference.Reference.{Reference}
-use Rattle.file_text.specs.declared.reference.Reference.TheVariants as reference
-use Rattle.file_text.specs.declared.reference.Referred.{Referred}
-use Rattle.file_text.specs.declared.reference.Referred.TheVariants.{More, Done, Leaves}
 use Rattle.file_text.specs.declared.due.Due.{Due}
 use Rattle.file_text.specs.declared.due.Due.TheVariants.{Nothing, Byte}
-use Rattle.file_text.specs.Node.{Node}
-use Rattle.file_text.specs.Grammar.{Each, Entity, less, greater, ampersand, quotation, apostrophe, entity_value}
-use Rattle.file_text.specs.Utf8.{first_due, due_after_first, due_behind, due_after, due_along}
+use Rattle.file_text.specs.Utf8.{due_after, due_along}
 use Rattle.file_text.specs.Names.{has_name}
-use Rattle.file_text.specs.Machine.{class_of, Around, prolog, within, epilog, Opened, open_of, ended, node_of, Holder, declaration, tag, Shape, at_start, in_mark, at_first, in_declaring, at_between, at_markup, in_comment, in_name, at_gap, in_attribute, at_named, at_equals, in_value, in_value_reference, at_valued, at_slash, at_ending, in_text_reference, in_closing, Step, goes, leaves, too_deep, other_encoding, start_step, mark_step, first_step, declaring_step, between_step, close_step, open_step, markup_step, comment_step, end_step, name_step, gap_step, valued_step, if_new, attribute_step, named_step, equals_step, value_end, declares_other, value_step, referred, value_reference_step, text_reference_step, slash_step, ending_step, leave_step, match_step, closing_step, table, Spot, follow, advance, walk, State, both, move, run, start, IsDue, AreWhole, IsWholeHolder, IsTidyBetween, IsTidyShape, IsProper, IsTidy}
+use Rattle.file_text.specs.Machine.{class_of, Around, prolog, within, epilog, open_of, Holder, declaration, tag, at_start, in_mark, at_first, in_declaring, at_markup, at_named, at_equals, at_valued, Step, goes, leaves, other_encoding, start_step, mark_step, first_step, declaring_step, between_step, close_step, open_step, markup_step, comment_step, end_step, name_step, gap_step, valued_step, if_new, attribute_step, named_step, equals_step, value_end, declares_other, value_step, Spot, follow, IsDue, AreWhole, IsWholeHolder, IsTidyBetween, IsTidyShape, IsProper}
 use Rattle.file_text.proofs.Classes.{Says, says}
 use Rattle.file_text.proofs.Utf8Laws.{due_along-append}
 

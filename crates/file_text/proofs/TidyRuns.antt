@@ -1,19 +1,18 @@
 -- Wherever the machine comes, characters are cut only in a text that grows.
-use Rattle.std.proofs.Common.{◌≡◌, ◌≢◌, ℕ, suc, ◌+◌, ◌<◌, ◌≤◌, ◌⊎◌, inl, inr, refl, sym, ◌∙◌, ap, subst, Bool, true, false, cond, eqb, List, [], ◌∷◌, ◌++◌, length, Option, Some, None, arith}
-use Rattle.std.proofs.lemmas.Bool.{cases_Bool, eqb-true}
+use Rattle.std.proofs.Common.{◌≡◌, ℕ, ◌<◌, refl, sym, ◌∙◌, ap, Bool, cond, eqb, List, [], ◌∷◌, Option, Some, None, arith}
 use Rattle.file_text.specs.declared.tree.Attribute.{Attribute}
 use Rattle.file_text.specs.declared.class.Class.{Class}
-use Rattle.file_text.specs.declared.class.Class.TheVariants.{Wide, White, Control, Letter, Digit, Hyphen, Less, Greater, Slash, Bang, Question, Equals, Quote, Ampersand, Other}
+use Rattle.file_text.specs.declared.class.Class.TheVariants.{Wide, White, Letter, Digit, Hyphen, Greater}
 use Rattle.file_text.specs.declared.reference.Reference.{Reference}
 use Rattle.file_text.specs.declared.reference.Reference.TheVariants as reference
 use Rattle.file_text.specs.declared.reference.Referred.{Referred}
 use Rattle.file_text.specs.declared.reference.Referred.TheVariants.{More, Done, Leaves}
 use Rattle.file_text.specs.declared.due.Due.{Due}
-use Rattle.file_text.specs.declared.due.Due.TheVariants.{Nothing, Byte}
+use Rattle.file_text.specs.declared.due.Due.TheVariants.{Nothing}
 use Rattle.file_text.specs.Node.{Node, node, no_node}
-use Rattle.file_text.specs.Grammar.{Each, Entity, less, greater, ampersand, quotation, apostrophe, entity_value}
+use Rattle.file_text.specs.Grammar.{Entity, less, greater, ampersand, quotation, apostrophe, entity_value}
 use Rattle.file_text.specs.Utf8.{due_after, due_along}
-use Rattle.file_text.specs.Machine.{class_of, Around, prolog, within, epilog, Opened, open_of, ended, node_of, Holder, declaration, tag, Shape, at_start, in_mark, at_first, in_declaring, at_between, at_markup, in_comment, in_name, at_gap, in_attribute, at_named, at_equals, in_value, in_value_reference, at_valued, at_slash, at_ending, in_text_reference, in_closing, Step, goes, leaves, referred, value_reference_step, text_reference_step, slash_step, ending_step, leave_step, match_step, closing_step, table, Spot, follow, advance, walk, State, both, move, run, start, IsDue, AreWhole, IsWholeHolder, IsTidyBetween, IsTidyShape, IsProper, IsTidy}
+use Rattle.file_text.specs.Machine.{class_of, Around, prolog, within, epilog, Opened, open_of, ended, node_of, Holder, Shape, at_start, in_mark, at_first, in_declaring, at_between, at_markup, in_comment, in_name, at_gap, in_attribute, at_named, at_equals, in_value, in_value_reference, at_valued, at_slash, at_ending, in_text_reference, in_closing, goes, leaves, referred, value_reference_step, text_reference_step, slash_step, ending_step, leave_step, closing_step, table, Spot, advance, walk, State, both, move, run, start, IsDue, AreWhole, IsWholeHolder, IsTidyShape, IsProper, IsTidy}
 use Rattle.file_text.proofs.KeepsEnds.{Refers, refers, when_byte}
 use Rattle.file_text.proofs.Tidy.{Dues, dues, ascii_after, due_more, IsAsciiClass, TidyAt, TidyAfter, between_nothing, when_tidy, tidy_start, tidy_mark, tidy_first, tidy_declaring, tidy_between, tidy_markup, tidy_comment, tidy_name, tidy_gap, tidy_valued, tidy_attribute, tidy_named, tidy_equals, tidy_value}
 

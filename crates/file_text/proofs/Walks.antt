@@ -1,9 +1,9 @@
 -- How the machine goes along pieces of a text that leave it in one kind of shape.
-use Rattle.std.proofs.Common.{◌≡◌, ◌≢◌, ℕ, ◌<◌, ◌≤◌, ◌⊎◌, inl, inr, refl, sym, ◌∙◌, ap, subst, Bool, true, false, List, [], ◌∷◌, ◌++◌, append_assoc, append-nil, Option, Some, None, IsTrue, arith, length}
+use Rattle.std.proofs.Common.{◌≡◌, ℕ, refl, sym, ◌∙◌, ap, Bool, List, [], ◌∷◌, ◌++◌, append_assoc, append-nil, Option, Some, None, IsTrue}
 use Rattle.file_text.specs.declared.class.Class.{Class}
-use Rattle.file_text.specs.declared.class.Class.TheVariants.{Wide, White, Control, Letter, Digit, Hyphen, Less, Greater, Slash, Bang, Question, Equals, Quote, Ampersand, Other}
-use Rattle.file_text.specs.Grammar.{Each, is_white, is_name_start, is_name_byte, IsWhite, IsGap, IsName}
-use Rattle.file_text.specs.Machine.{class_of, Around, Shape, Step, goes, Spot, follow, advance, walk, table}
+use Rattle.file_text.specs.declared.class.Class.TheVariants.{Wide, White, Letter, Digit, Hyphen}
+use Rattle.file_text.specs.Grammar.{Each, is_white, is_name_start, is_name_byte, IsWhite, IsGap}
+use Rattle.file_text.specs.Machine.{class_of, Around, Shape, Spot, follow, advance, walk, table}
 use Rattle.file_text.proofs.Classes.{white_of, start_of, name_of, by_white, by_start, by_name}
 
 pub walk-none : (strict : Bool) (bs : List ℕ) → walk strict None bs ≡ None

@@ -1,5 +1,5 @@
 -- Each text has a tree or a fault, and one alone.
-use Rattle.std.proofs.Common.{◌≡◌, ◌≢◌, ℕ, zero, suc, ◌+◌, ◌-◌, ◌<◌, ◌≤◌, ◌⊎◌, inl, inr, refl, sym, ◌∙◌, ap, subst, Bool, true, false, eqb, List, [], ◌∷◌, ◌++◌, length, take, drop, slice_index, Option, Some, None, codes, bytes_eq, arith}
+use Rattle.std.proofs.Common.{◌≡◌, ◌≢◌, ℕ, zero, suc, ◌+◌, ◌-◌, ◌<◌, ◌≤◌, ◌⊎◌, inl, inr, refl, sym, ◌∙◌, ap, subst, true, eqb, List, length, take, drop, slice_index, Option, Some, None, codes, bytes_eq, arith}
 use Rattle.std.proofs.lemmas.Bool.{cases_Bool, cases_lt, cases_eq, eqb-true, eqb-false}
 use Rattle.std.proofs.lemmas.List.{take_all}
 use Rattle.file_text.specs.declared.error.Construct.TheVariants.{Doctype, Cdata, Instruction, Reference, Encoding}
@@ -10,7 +10,7 @@ use Rattle.file_text.specs.Node.{Node}
 use Rattle.file_text.specs.Grammar.{IsText, mark}
 use Rattle.file_text.specs.Fault.{Stands, IsStart, LeavesDeclaration, KnownAt, FirstFault}
 use Rattle.file_text.specs.Utf8.{due_after}
-use Rattle.file_text.specs.Machine.{class_of, Around, Shape, Step, goes, leaves, too_deep, other_encoding, table, State, move, run, start, tree_at}
+use Rattle.file_text.specs.Machine.{class_of, Step, goes, leaves, too_deep, other_encoding, table, State, run, start, tree_at}
 use Rattle.file_text.specs.Exit.{IsLiteral, FaultAt, BehindQuote}
 use Rattle.file_text.proofs.Names.{bytes_same, bytes_other}
 use Rattle.file_text.proofs.Exact.{finished, completes}

@@ -9,7 +9,7 @@ use Rattle.file_text.specs.declared.scanner.Tag.{Tag}
 use Rattle.file_text.specs.declared.scanner.Held.{Held}
 use Rattle.file_text.specs.declared.scanner.Held.TheVariants as held
 use Rattle.file_text.specs.declared.scanner.Scanner.{Scanner}
-use Rattle.file_text.specs.Node.{Node, tree_of}
+use Rattle.file_text.specs.Node.{tree_of}
 use Rattle.file_text.specs.Machine.{Around, prolog, within, epilog, Opened, Holder, declaration, tag, Shape, at_start, in_mark, at_first, in_declaring, at_between, at_markup, in_comment, in_name, at_gap, in_attribute, at_named, at_equals, in_value, in_value_reference, at_valued, at_slash, at_ending, in_text_reference, in_closing, State}
 
 -- an open element

@@ -1,4 +1,4 @@
-ghost use Rattle.std.specs.Prelude.{◌≡◌, ℕ, ◌<◌, IfOk, None, List, length};
+ghost use Rattle.std.specs.Prelude.{◌<◌, IfOk, None};
 ghost use Rattle.sd_base.specs.Tables.{KeepsRules};
 ghost use Rattle.balance.specs.Repetition.{IsApart, IsRatioTooLarge, IsRefusal, IsUnbalanced};
 ghost use Rattle.sd_command.specs.Runs.{IsBalanceRefusal};

@@ -1,5 +1,5 @@
-ghost use Rattle.std.specs.Prelude.{◌≡◌, ℕ, ◌≤◌, Bool, List};
-ghost use Rattle.sd_command.specs.Runs.{Given, Run, Shows};
+ghost use Rattle.std.specs.Prelude.{◌≡◌, ◌≤◌, Bool};
+ghost use Rattle.sd_command.specs.Runs.{Run, Shows};
 
 use crate::sending::{send_answer, send_stop};
 use crate::status::Status;

@@ -2,7 +2,6 @@ ghost use Rattle.std.specs.Prelude.{◌≡◌, ◌≢◌, IfOk, None};
 ghost use Rattle.file_text.specs.declared.error.TextError.TheVariants as text;
 ghost use Rattle.graph_reader.specs.declared.error.ReadError.TheVariants as reading;
 ghost use Rattle.graph_reader.specs.Field.{word_of};
-ghost use Rattle.report.specs.Names.{escaped_name};
 ghost use Rattle.report.specs.Quantities.{greatest_of, quantity_text};
 ghost use Rattle.report.specs.declared.refusal.Refusal.TheVariants.{Above};
 ghost use Rattle.sd_command.specs.Readings.{construct_refusal, reading_refusal, text_refusal};

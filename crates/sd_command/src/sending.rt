@@ -1,5 +1,4 @@
-ghost use Rattle.std.specs.Prelude.{◌≡◌, ℕ, ◌≤◌, ◌⊎◌, List, Option};
-ghost use Rattle.sd_io.specs.Outside.{Rose, SentPart, with_sent};
+ghost use Rattle.std.specs.Prelude.{◌≤◌, ◌⊎◌};
 ghost use Rattle.report.specs.Lines.{line_of, memory_line};
 ghost use Rattle.sd_command.specs.Statuses.{status_of};
 ghost use Rattle.sd_command.specs.Sendings.{SendsLine, SendsStop};

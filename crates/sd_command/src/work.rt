@@ -1,4 +1,4 @@
-ghost use Rattle.std.specs.Prelude.{◌≡◌, ℕ, ◌≤◌, true, is_ok, List, length, sum, IfErr, IfOk, Some, None, Ok};
+ghost use Rattle.std.specs.Prelude.{◌≡◌, ℕ, ◌≤◌, true, is_ok, List, length, IfErr, IfOk, Some, Ok};
 ghost use Rattle.sd_base.specs.Tables.{KeepsRules, IsTimed};
 ghost use Rattle.sd_base.specs.declared.tables.Kind.TheVariants.{Sdf};
 ghost use Rattle.balance.specs.Repetition.{IsRound};

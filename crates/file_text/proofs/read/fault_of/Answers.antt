@@ -1,7 +1,6 @@
-use Rattle.std.proofs.Common.{◌≡◌, subst}
+use Rattle.std.proofs.Common.{subst}
 use Rattle.file_text.specs.declared.taken.Taken.{Taken}
-use Rattle.file_text.specs.declared.taken.Taken.TheVariants as taken
-use Rattle.file_text.specs.Exit.{IsStop, BehindQuote}
+use Rattle.file_text.specs.Exit.{IsStop}
 use Rattle.file_text.proofs.Outcomes.{leaves_fault, too_deep_fault, encoding_fault}
 use Rattle.file_text.proofs.read.fault_of.Goals as goal
 

@@ -1,6 +1,5 @@
-use Rattle.std.proofs.Common.{◌≡◌, ap, sym, ◌∙◌, inr, Some, true, take, length}
+use Rattle.std.proofs.Common.{◌≡◌, sym, inr, true, take}
 use Rattle.std.proofs.lemmas.List.{take_all}
-use Rattle.file_text.specs.Machine.{run, start}
 use Rattle.file_text.specs.Node.{tree_of}
 use Rattle.file_text.specs.Seen.{state_of}
 use Rattle.file_text.proofs.Exact.{tidy_at}

@@ -1,4 +1,4 @@
-use Rattle.std.proofs.Common.{◌≢◌, ℕ, ◌<◌, ◌≤◌, length, slice_index}
+use Rattle.std.proofs.Common.{◌≢◌, ℕ, ◌<◌, ◌≤◌, slice_index}
 use Rattle.file_text.proofs.read.value_start.Given as goal
 
 abbrev pub invariant-loop-place : goal.invariant-loop-place
