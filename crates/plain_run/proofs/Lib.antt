@@ -1,2 +1,4 @@
 pub mod Walks
+pub mod Cases
 pub mod TwoSpaces
+pub mod TwoPhases

@@ -8,17 +8,7 @@ use Rattle.sd_base.specs.Net.{Channel, channel_at, total, Balances, IsRepetition
 use Rattle.sd_base.specs.Schedules.{phases_at}
 use Rattle.sd_base.specs.Lawful.{Lawful, is_file_channel, is_token_role, is_own}
 use Rattle.plain_run.specs.Spaces.{self_loop, two_spaces}
-
-below-one : (P : ℕ → Type 0) → P 0 → (a : ℕ) → a < 1 → P a
-below-one P here zero below = here
-below-one P here (suc a) below = absurd (omega arith)
-
-below-four : (P : ℕ → Type 0) → P 0 → P 1 → P 2 → P 3 → (i : ℕ) → i < 4 → P i
-below-four P p q r s zero below = p
-below-four P p q r s (suc zero) below = q
-below-four P p q r s (suc (suc zero)) below = r
-below-four P p q r s (suc (suc (suc zero))) below = s
-below-four P p q r s (suc (suc (suc (suc i)))) below = absurd (omega arith)
+use Rattle.plain_run.proofs.Cases.{below-one, below-four}
 
 -- what is true of each self-loop is true of each channel
 pub each : (P : Channel → Type 0) → ((role : Role) → P (self_loop role)) → (i : ℕ) → i < 4 → P (channel_at two_spaces i)

@@ -11,11 +11,17 @@ pub use run::{PlainRun, run_until};
 #[cfg(test)]
 mod checks;
 #[cfg(test)]
+mod compare_tests;
+#[cfg(test)]
 mod cycle_tests;
 #[cfg(test)]
 mod lasso_tests;
 #[cfg(test)]
 mod loop_tests;
+#[cfg(test)]
+mod phase_net;
+#[cfg(test)]
+mod phase_tests;
 #[cfg(test)]
 mod schedule_tests;
 #[cfg(test)]

@@ -4,7 +4,7 @@ ghost use Rattle.sd_base.specs.Schedules.{start_of};
 use crate::checks::{found_loop, is_live};
 use crate::cycle_tests::{along, x, y};
 use critical::{NeedCycle, cycle_of};
-use firing::{LoopTable, SdfNet};
+use firing::{Firing, LoopTable};
 use periodic::{Periodic, from_loop};
 use sd_base::Fraction;
 use small_nets::{drawn_net, multi_rate_ring, three_at_once};
@@ -14,14 +14,18 @@ use std::test::Fail;
 
 /// What comes of the loop of a net.
 #[derive(Debug, Drop)]
-struct Answer {
-    table: LoopTable,
-    schedule: Periodic,
-    cycle: NeedCycle,
+pub(crate) struct Answer {
+    pub(crate) table: LoopTable,
+    pub(crate) schedule: Periodic,
+    pub(crate) cycle: NeedCycle,
     ghost small: { (a k : ℕ) → start_of schedule.starts a k ≤ 2 ^ 100 },
 }
 
-fn find_answer(rt: &impl Abort, alloc: Global, net: &SdfNet) -> Result<Answer, Fail> {
+pub(crate) fn find_answer<F: Firing>(
+    rt: &impl Abort,
+    alloc: Global,
+    net: &F,
+) -> Result<Answer, Fail> {
     let table = found_loop(rt, alloc, net)?;
     let schedule = from_loop(alloc, net, &table)?;
     let cycle = cycle_of(alloc, net, &table)?;
@@ -33,7 +37,7 @@ fn find_answer(rt: &impl Abort, alloc: Global, net: &SdfNet) -> Result<Answer, F
 }
 
 /// Asserts that what comes of a loop has its rate, and holds, and that what is faster or longer doesn't.
-fn check_answer(rt: &impl Abort, net: &SdfNet, answer: &mut Answer) {
+pub(crate) fn check_answer<F: Firing>(rt: &impl Abort, net: &F, answer: &mut Answer) {
     let rate = (answer.table.rounds, answer.table.period);
     assert_eq!(rt; (answer.schedule.rounds, answer.schedule.period), rate);
     assert!(rt; answer.schedule.holds(net), "{:?}", answer.schedule);
