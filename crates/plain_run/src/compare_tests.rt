@@ -1,6 +1,6 @@
 ghost use Rattle.std.specs.Prelude.{◌≤◌, ◌^◌, ◌<◌};
 
-use crate::tests::half_blocked;
+use crate::engine_tests::half_blocked;
 use crate::{PlainRun, run_until};
 use firing::Firing;
 use liveness::{Round, one_round};
