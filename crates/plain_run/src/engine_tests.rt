@@ -18,6 +18,15 @@ struct Event<'a> {
     left: &'a [&'a [u64]],
 }
 
+fn at<'a>(moment: u64, started: &'a [u64], tokens: &'a [u128], left: &'a [&'a [u64]]) -> Event<'a> {
+    Event {
+        moment,
+        started,
+        tokens,
+        left,
+    }
+}
+
 /// Steps an engine through events.
 fn follow(rt: &impl Abort, alloc: Global, net: &SdfNet, events: &[Event]) -> Result<(), Fail> {
     let mut engine = Engine::new(alloc, net, 1000)?;
@@ -77,30 +86,10 @@ fn check_shape(
 fn ring_of_two_fires_in_turn(rt: HostRuntime) -> Result<(), Fail> {
     let net = ring_of_two(rt.alloc())?;
     let events = [
-        Event {
-            moment: 0,
-            started: &[1, 0],
-            tokens: &[0, 0],
-            left: &[&[2], &[]],
-        },
-        Event {
-            moment: 2,
-            started: &[1, 1],
-            tokens: &[0, 0],
-            left: &[&[], &[3]],
-        },
-        Event {
-            moment: 5,
-            started: &[2, 1],
-            tokens: &[0, 0],
-            left: &[&[2], &[]],
-        },
-        Event {
-            moment: 7,
-            started: &[2, 2],
-            tokens: &[0, 0],
-            left: &[&[], &[3]],
-        },
+        at(0, &[1, 0], &[0, 0], &[&[2], &[]]),
+        at(2, &[1, 1], &[0, 0], &[&[], &[3]]),
+        at(5, &[2, 1], &[0, 0], &[&[2], &[]]),
+        at(7, &[2, 2], &[0, 0], &[&[], &[3]]),
     ];
     follow(&rt, rt.alloc(), &net, &events)
 }
@@ -110,18 +99,8 @@ fn ring_of_two_fires_in_turn(rt: HostRuntime) -> Result<(), Fail> {
 fn three_firings_overlap(rt: HostRuntime) -> Result<(), Fail> {
     let net = three_at_once(rt.alloc())?;
     let events = [
-        Event {
-            moment: 0,
-            started: &[3],
-            tokens: &[0],
-            left: &[&[7, 7, 7]],
-        },
-        Event {
-            moment: 7,
-            started: &[6],
-            tokens: &[0],
-            left: &[&[7, 7, 7]],
-        },
+        at(0, &[3], &[0], &[&[7, 7, 7]]),
+        at(7, &[6], &[0], &[&[7, 7, 7]]),
     ];
     follow(&rt, rt.alloc(), &net, &events)
 }
@@ -133,84 +112,19 @@ fn three_firings_overlap(rt: HostRuntime) -> Result<(), Fail> {
 fn multi_rate_ring_enters_its_loop_at_24(rt: HostRuntime) -> Result<(), Fail> {
     let net = multi_rate_ring(rt.alloc())?;
     let events = [
-        Event {
-            moment: 0,
-            started: &[1, 0],
-            tokens: &[0, 6, 0, 1],
-            left: &[&[4], &[]],
-        },
-        Event {
-            moment: 4,
-            started: &[2, 1],
-            tokens: &[1, 4, 0, 0],
-            left: &[&[4], &[5]],
-        },
-        Event {
-            moment: 8,
-            started: &[3, 1],
-            tokens: &[3, 2, 0, 0],
-            left: &[&[4], &[1]],
-        },
-        Event {
-            moment: 9,
-            started: &[3, 2],
-            tokens: &[2, 3, 0, 0],
-            left: &[&[3], &[5]],
-        },
-        Event {
-            moment: 12,
-            started: &[4, 2],
-            tokens: &[4, 1, 0, 0],
-            left: &[&[4], &[2]],
-        },
-        Event {
-            moment: 14,
-            started: &[4, 3],
-            tokens: &[3, 2, 0, 0],
-            left: &[&[2], &[5]],
-        },
-        Event {
-            moment: 16,
-            started: &[5, 3],
-            tokens: &[5, 0, 0, 0],
-            left: &[&[4], &[3]],
-        },
-        Event {
-            moment: 19,
-            started: &[5, 4],
-            tokens: &[4, 1, 0, 0],
-            left: &[&[1], &[5]],
-        },
-        Event {
-            moment: 20,
-            started: &[5, 4],
-            tokens: &[6, 1, 1, 0],
-            left: &[&[], &[4]],
-        },
-        Event {
-            moment: 24,
-            started: &[6, 5],
-            tokens: &[5, 0, 0, 0],
-            left: &[&[4], &[5]],
-        },
-        Event {
-            moment: 28,
-            started: &[6, 5],
-            tokens: &[7, 0, 1, 0],
-            left: &[&[], &[1]],
-        },
-        Event {
-            moment: 29,
-            started: &[6, 6],
-            tokens: &[6, 1, 1, 0],
-            left: &[&[], &[5]],
-        },
-        Event {
-            moment: 34,
-            started: &[7, 7],
-            tokens: &[5, 0, 0, 0],
-            left: &[&[4], &[5]],
-        },
+        at(0, &[1, 0], &[0, 6, 0, 1], &[&[4], &[]]),
+        at(4, &[2, 1], &[1, 4, 0, 0], &[&[4], &[5]]),
+        at(8, &[3, 1], &[3, 2, 0, 0], &[&[4], &[1]]),
+        at(9, &[3, 2], &[2, 3, 0, 0], &[&[3], &[5]]),
+        at(12, &[4, 2], &[4, 1, 0, 0], &[&[4], &[2]]),
+        at(14, &[4, 3], &[3, 2, 0, 0], &[&[2], &[5]]),
+        at(16, &[5, 3], &[5, 0, 0, 0], &[&[4], &[3]]),
+        at(19, &[5, 4], &[4, 1, 0, 0], &[&[1], &[5]]),
+        at(20, &[5, 4], &[6, 1, 1, 0], &[&[], &[4]]),
+        at(24, &[6, 5], &[5, 0, 0, 0], &[&[4], &[5]]),
+        at(28, &[6, 5], &[7, 0, 1, 0], &[&[], &[1]]),
+        at(29, &[6, 6], &[6, 1, 1, 0], &[&[], &[5]]),
+        at(34, &[7, 7], &[5, 0, 0, 0], &[&[4], &[5]]),
     ];
     follow(&rt, rt.alloc(), &net, &events)
 }

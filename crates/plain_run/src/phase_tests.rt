@@ -18,6 +18,22 @@ struct Event<'a> {
     left: [&'a [u64]; 2],
 }
 
+fn at<'a>(
+    moment: u64,
+    started: [u64; 2],
+    tokens: &'a [u128],
+    phase: u32,
+    left: [&'a [u64]; 2],
+) -> Event<'a> {
+    Event {
+        moment,
+        started,
+        tokens,
+        phase,
+        left,
+    }
+}
+
 /// Steps an engine through events.
 fn follow(
     rt: &impl Abort,
@@ -53,41 +69,11 @@ fn phases_take_turns(rt: HostRuntime) -> Result<(), Fail> {
     let net = TwoPhases::new();
     let mut engine = Engine::new(rt.alloc(), &net, 1000)?;
     let events = [
-        Event {
-            moment: 0,
-            started: [1, 0],
-            tokens: &[0, 1, 0],
-            phase: 1,
-            left: [&[1], &[]],
-        },
-        Event {
-            moment: 1,
-            started: [2, 1],
-            tokens: &[0, 0, 0],
-            phase: 0,
-            left: [&[4], &[2]],
-        },
-        Event {
-            moment: 3,
-            started: [2, 1],
-            tokens: &[0, 1, 0],
-            phase: 0,
-            left: [&[2], &[]],
-        },
-        Event {
-            moment: 5,
-            started: [2, 3],
-            tokens: &[0, 1, 1],
-            phase: 0,
-            left: [&[], &[2, 2]],
-        },
-        Event {
-            moment: 7,
-            started: [3, 3],
-            tokens: &[0, 1, 0],
-            phase: 1,
-            left: [&[1], &[]],
-        },
+        at(0, [1, 0], &[0, 1, 0], 1, [&[1], &[]]),
+        at(1, [2, 1], &[0, 0, 0], 0, [&[4], &[2]]),
+        at(3, [2, 1], &[0, 1, 0], 0, [&[2], &[]]),
+        at(5, [2, 3], &[0, 1, 1], 0, [&[], &[2, 2]]),
+        at(7, [3, 3], &[0, 1, 0], 1, [&[1], &[]]),
     ];
     follow(&rt, rt.alloc(), &mut engine, &events)
 }
