@@ -193,9 +193,6 @@ pub record Kept (old new : List ActorState) : Type 0 where
   pub running : (b : ℕ) → running_in new b ≡ running_in old b
   pub kept : (b : ℕ) → touched_in new b ≡ false → touched_in old b ≡ false
 
-pub kept-same : (old : List ActorState) → Kept old old
-kept-same old = record { long = refl; started = λ b. refl; ended = λ b. refl; running = λ b. refl; kept = λ b e. e }
-
 pub kept-touches : (net : Net) (channels : List ℕ) (old new : List ActorState) → Touches net channels old new → Kept old new
 kept-touches net channels old new t = record { long = t.long; started = t.started; ended = t.ended; running = t.running; kept = t.kept }
 

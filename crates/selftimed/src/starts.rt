@@ -2,7 +2,7 @@ ghost use Rattle.std.specs.Prelude.{◌≡◌, ℕ, ◌+◌, false, ◌^◌, ◌
 ghost use Rattle.std.specs.Bool.{OnTrue};
 ghost use Rattle.sd_base.specs.Schedules.{Lacks};
 ghost use Rattle.firing.specs.declared.sums.Port.TheVariants.{Taken};
-ghost use Rattle.firing.specs.Wiring.{IsListed, AreListed, LacksNow, SufficesBefore};
+ghost use Rattle.firing.specs.Wiring.{IsListed, AreListed, SufficesBefore};
 ghost use Rattle.selftimed.specs.Actors.{started_in, ended_in, touched_in, Stand, Counted, StartsOne, StartedAll, CanOverrun};
 ghost use Rattle.selftimed.specs.Plans.{Plans};
 ghost use Rattle.selftimed.specs.Starts.{AddsEnds, Feeds, StartsAll, Overfills};
