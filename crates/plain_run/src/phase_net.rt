@@ -33,7 +33,6 @@ impl Firing for TwoPhases {
 
     fn source(&self, channel: u32) -> u32 {
         match channel {
-            0 => 0,
             1 => 1,
             _ => 0,
         }
@@ -42,7 +41,6 @@ impl Firing for TwoPhases {
     fn target(&self, channel: u32) -> u32 {
         match channel {
             0 => 1,
-            1 => 0,
             _ => 0,
         }
     }
@@ -55,12 +53,8 @@ impl Firing for TwoPhases {
         }
     }
 
-    fn size(&self, channel: u32) -> u64 {
-        match channel {
-            0 => 1,
-            1 => 1,
-            _ => 1,
-        }
+    fn size(&self, _channel: u32) -> u64 {
+        1
     }
 
     fn phases(&self, actor: u32) -> u32 {
@@ -80,20 +74,14 @@ impl Firing for TwoPhases {
 
     fn made(&self, channel: u32, phase: u32) -> u64 {
         match (channel, phase) {
-            (0, 0) => 1,
-            (0, _) => 2,
-            (1, _) => 1,
-            (_, 0) => 1,
+            (0, 1) => 2,
             _ => 1,
         }
     }
 
     fn taken(&self, channel: u32, phase: u32) -> u64 {
         match (channel, phase) {
-            (0, _) => 1,
             (1, 0) => 2,
-            (1, _) => 1,
-            (_, 0) => 1,
             _ => 1,
         }
     }
