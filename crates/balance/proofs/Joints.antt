@@ -6,9 +6,9 @@ use Rattle.std.proofs.lemmas.List.{get_or-set_same, get_or-set_other, get_or-rep
 use Rattle.std.proofs.lemmas.Option.{same_Some, none-some, slice_get_within}
 use Rattle.balance.specs.declared.walk.Link.{Link}
 use Rattle.balance.specs.declared.search.Found.{Found}
-use Rattle.balance.specs.Lists.{list_at, appended}
+use Rattle.balance.specs.inside.Lists.{list_at, appended}
 use Rattle.balance.specs.Walks.{step_from}
-use Rattle.balance.specs.Search.{HasEnds, IsJoined, AreJoints, IsLooked, IsSearching}
+use Rattle.balance.specs.inside.Search.{HasEnds, IsJoined, AreJoints, IsLooked, IsSearching}
 use Rattle.balance.proofs.Searching.{push_cases, push_old, push_new, looked_more, looked_past, place_more}
 
 -- ---- lists with one number more

@@ -10,12 +10,12 @@ use Rattle.balance.specs.declared.refusal.BalanceError.{BalanceError}
 use Rattle.balance.specs.declared.refusal.BalanceError.TheVariants.{Apart, RatioTooLarge, Unbalanced, RoundTooLarge, NoMemory}
 use Rattle.balance.specs.Walks.{IsWay, IsWalk, IsLowest, walk_num, walk_den, turned}
 use Rattle.balance.specs.Repetition.{IsTreePath, IsClosedOver}
-use Rattle.balance.specs.Search.{HasSums, HasEnds, IsSearched, IsFound, IsWayTo, IsClosedBetween, mark_at}
-use Rattle.balance.specs.Ratios.{ratio_at, IsSummed, AreRatios, Keeps, IsClosedRefusal, IsKeptRefusal}
+use Rattle.balance.specs.inside.Search.{HasSums, HasEnds, IsSearched, IsFound, IsWayTo, IsClosedBetween, mark_at}
+use Rattle.balance.specs.inside.Ratios.{ratio_at, IsSummed, AreRatios, Keeps, IsClosedRefusal, IsKeptRefusal}
 use Rattle.balance.proofs.Shortest.{one_way}
 use Rattle.balance.proofs.Searching.{entry_of}
 use Rattle.balance.proofs.TableLemmas.{at_place}
-use Rattle.balance.proofs.Rounds.{kept_from, keeps_from, num_pos, den_pos}
+use Rattle.balance.proofs.LeastRounds.{kept_from, keeps_from, num_pos, den_pos}
 use Rattle.balance.proofs.TreePaths.{closed_walk, closed_ratio, parts_equal}
 
 -- what the call for a channel needs

@@ -6,11 +6,12 @@ pub mod Joints
 pub mod Ways
 pub mod Fractions
 pub mod TableLemmas
-pub mod Outcomes
 pub mod Cycles
-pub mod Rounds
 pub mod TreePaths
 pub mod Rating
 pub mod Keeping
-pub mod Deciding
 pub mod Paths
+pub mod Joined
+pub mod OneAnswer
+pub mod StepsDecide
+pub mod LeastRounds

@@ -5,7 +5,7 @@ use Rattle.std.proofs.lemmas.Bool.{cases_lt, cases_order}
 use Rattle.std.proofs.lemmas.Option.{slice_get_within}
 use Rattle.balance.specs.declared.walk.WalkStep.{WalkStep}
 use Rattle.balance.specs.declared.walk.Link.{Link}
-use Rattle.balance.specs.Search.{key_from}
+use Rattle.balance.specs.inside.Search.{key_from}
 use Rattle.balance.specs.Walks.{IsWalk, LexLe, Precedes, step_to}
 
 abbrev pub key : ℕ → List WalkStep → ℕ

@@ -6,10 +6,11 @@ use Rattle.std.proofs.lemmas.List.{length-set, length-replicate, length_push}
 use Rattle.std.proofs.lemmas.Option.{same_Some, none-some, slice_get_within, slice_get-get_or}
 use Rattle.balance.specs.declared.connection.Direction.{Direction}
 use Rattle.balance.specs.declared.connection.Direction.TheVariants.{Along, Against}
-use Rattle.balance.specs.Connection.{IsPath, Reaches, AreActors}
-use Rattle.balance.specs.Search.{mark_at}
-use Rattle.balance.specs.Lists.{list_at, appended}
-use Rattle.balance.specs.Reaching.{pair_from, pair_to, Leads, AreLed, AreClosed, AreFollowers, IsQueue, IsMarked, AreMarked}
+use Rattle.sd_base.specs.Connection.{IsPath, Reaches}
+use Rattle.balance.specs.ConnectRefusals.{AreActors}
+use Rattle.balance.specs.inside.Search.{mark_at}
+use Rattle.balance.specs.inside.Lists.{list_at, appended}
+use Rattle.balance.specs.inside.Reaching.{pair_from, pair_to, Leads, AreLed, AreClosed, AreFollowers, IsQueue, IsMarked, AreMarked}
 use Rattle.balance.proofs.TableLemmas.{at_All, at_place}
 use Rattle.balance.proofs.Searching.{push_cases, push_old, push_new, trues_le, trues-set, trues-replicate, mark-replicate, mark_set, mark_kept, mark_only}
 use Rattle.balance.proofs.Joints.{appended_here, appended_other, length-appended, list_at-replicate}

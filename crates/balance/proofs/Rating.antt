@@ -12,13 +12,13 @@ use Rattle.balance.specs.declared.search.Reach.{Reach}
 use Rattle.balance.specs.declared.ratio.Ratio.{Ratio}
 use Rattle.balance.specs.Walks.{IsWalk, IsWay, IsLowest, Precedes, step_from, step_num, step_den, num_at, den_at, walk_num, walk_den}
 use Rattle.balance.specs.Repetition.{IsFirstAboveLimit, HasRatioAboveLimit, HasRatioWithinLimit}
-use Rattle.balance.specs.Search.{HasSums, Entry, AreEntries, IsTree, IsSearched, IsWayAt, mark_at}
-use Rattle.balance.specs.Ratios.{one, ratio_at, IsSmall, IsRatio, AreRated, AreRatios, IsRatedStep}
+use Rattle.balance.specs.inside.Search.{HasSums, Entry, AreEntries, IsTree, IsSearched, IsWayAt, mark_at}
+use Rattle.balance.specs.inside.Ratios.{one, ratio_at, IsSmall, IsRatio, AreRated, AreRatios, IsRatedStep}
 use Rattle.balance.proofs.WalkLemmas.{walk_split, same_end, num-append, den-append, parts_pos}
 use Rattle.balance.proofs.Shortest.{one_way}
 use Rattle.balance.proofs.Searching.{entry_of}
 use Rattle.balance.proofs.Fractions.{lowest_pos, lowest_times}
-use Rattle.balance.proofs.Outcomes.{within_or_above}
+use Rattle.balance.proofs.OneAnswer.{within_or_above}
 
 -- the step that led to an entry, from one before it
 record IsGrown (ls : List Link) (es : List Entry) (j : ℕ) (x : Entry) (r : Reach) : Type 0 where

@@ -10,7 +10,7 @@ use Rattle.balance.specs.declared.walk.Link.{Link}
 use Rattle.balance.specs.declared.search.Found.{Found}
 use Rattle.balance.specs.declared.search.Reach.{Reach}
 use Rattle.balance.specs.Walks.{IsWalk, IsWay, step_to, step_from}
-use Rattle.balance.specs.Search.{key_from, trues, mark_at, HasEnds, Entry, IsReached, AreEntries, IsSearch, IsSearching, IsLooked, IsTree, IsSearched}
+use Rattle.balance.specs.inside.Search.{key_from, trues, mark_at, HasEnds, Entry, IsReached, AreEntries, IsSearch, IsSearching, IsLooked, IsTree, IsSearched}
 use Rattle.balance.proofs.Order.{key-append, walk_below, precedes_from_key}
 use Rattle.balance.proofs.WalkLemmas.{walk-append, crossing_by}
 use Rattle.balance.proofs.TableLemmas.{at_place}

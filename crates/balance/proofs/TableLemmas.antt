@@ -10,7 +10,7 @@ use Rattle.sd_base.specs.declared.tables.ChannelRow.{ChannelRow}
 use Rattle.sd_base.specs.Tables.{KeepsRules, ChannelKeepsRules, PortKeepsRules, phases_of, ActorKeepsRules}
 use Rattle.balance.specs.declared.walk.Link.{Link}
 use Rattle.balance.specs.Walks.{links_of, link_of}
-use Rattle.balance.specs.Search.{HasEnds, HasSums}
+use Rattle.balance.specs.inside.Search.{HasEnds, HasSums}
 
 -- what holds of each element holds of one that a place gives
 pub at_All : {X : Type 0} (P : X → Type 0) (xs : List X) (k : ℕ) (x : X) → All P xs → slice_get xs k ≡ Some x → P x

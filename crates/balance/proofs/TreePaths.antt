@@ -6,7 +6,7 @@ use Rattle.balance.specs.declared.walk.WalkStep.{WalkStep}
 use Rattle.balance.specs.declared.walk.Link.{Link}
 use Rattle.balance.specs.Walks.{IsWalk, IsLowest, walk_num, walk_den, turned}
 use Rattle.balance.specs.Repetition.{IsTreePath}
-use Rattle.balance.specs.Search.{HasSums}
+use Rattle.balance.specs.inside.Search.{HasSums}
 use Rattle.balance.proofs.WalkLemmas.{parts_pos, walk-append, walk_split, same_end, walk-turned, num-append, den-append, num-turned, den-turned}
 
 -- a tree path is a walk

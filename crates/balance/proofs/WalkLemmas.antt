@@ -7,7 +7,7 @@ use Rattle.std.proofs.lemmas.Option.{same_Some}
 use Rattle.balance.specs.declared.walk.WalkStep.{WalkStep}
 use Rattle.balance.specs.declared.walk.Link.{Link}
 use Rattle.balance.specs.Walks.{IsWalk, step_to, step_from, step_num, step_den, num_at, den_at, walk_num, walk_den, turned}
-use Rattle.balance.specs.Search.{key_from, HasSums}
+use Rattle.balance.specs.inside.Search.{key_from, HasSums}
 use Rattle.balance.proofs.Order.{key-append, key_grows}
 
 pub walk-append : (ls : List Link) (xs ys : List WalkStep) (a b c : ℕ) → IsWalk ls a xs b → IsWalk ls b ys c → IsWalk ls a (xs ++ ys) c

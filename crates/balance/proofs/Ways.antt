@@ -6,7 +6,7 @@ use Rattle.std.proofs.lemmas.Option.{same_Some}
 use Rattle.balance.specs.declared.walk.WalkStep.{WalkStep}
 use Rattle.balance.specs.declared.search.Found.{Found}
 use Rattle.balance.specs.declared.search.Reach.{Reach}
-use Rattle.balance.specs.Search.{Entry, AreEntries, HasEntries, IsWayAt}
+use Rattle.balance.specs.inside.Search.{Entry, AreEntries, HasEntries, IsWayAt}
 use Rattle.balance.proofs.Searching.{entry_of}
 
 -- the steps read so far, last first, are what the way to one place has more than the way to another

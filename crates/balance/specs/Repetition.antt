@@ -1,8 +1,10 @@
 -- The repetition vector of a graph, or why there is none within the limits.
 use Rattle.std.specs.Prelude.{◌≡◌, ◌≢◌, ℕ, ◌*◌, ◌<◌, ◌≤◌, ◌⊎◌, true, Result, Ok, Err, Some, List, [], ◌∷◌, ◌++◌, sum, length, slice_get}
+use Rattle.sd_base.specs.declared.limits.TheConstants.{RATIO, ROUND}
 use Rattle.sd_base.specs.declared.tables.GraphFile.{GraphFile}
 use Rattle.sd_base.specs.Tables.{KeepsRules}
 use Rattle.sd_base.specs.Net.{IsRepetitionOf}
+use Rattle.sd_base.specs.Connection.{AreConnected, Meets, graph_ends}
 use Rattle.balance.specs.declared.walk.WalkStep.{WalkStep}
 use Rattle.balance.specs.declared.walk.Link.{Link}
 use Rattle.balance.specs.declared.refusal.BalanceError.{BalanceError}
@@ -11,15 +13,15 @@ use Rattle.balance.specs.Walks.{links_of, IsWalk, IsWay, Precedes, walk_num, wal
 
 -- a walk leads from actor 0 to each actor
 abbrev pub IsConnected : GraphFile → Type 0
-IsConnected g = (b : ℕ) → b < length g.actors → (ss : List WalkStep) × IsWalk (links_of g) 0 ss b
+IsConnected g = AreConnected (length g.actors) (graph_ends g)
 
--- no part of a walk's ratio in lowest terms is above 100,000
+-- no part of a walk's ratio in lowest terms is above the limit
 abbrev pub HasRatioWithinLimit : List Link → List WalkStep → Type 0
-HasRatioWithinLimit ls p = (n : ℕ) × (d : ℕ) × IsLowest n d (walk_num ls p) (walk_den ls p) × (n ≤ 100000) × (d ≤ 100000)
+HasRatioWithinLimit ls p = (n : ℕ) × (d : ℕ) × IsLowest n d (walk_num ls p) (walk_den ls p) × (n ≤ RATIO) × (d ≤ RATIO)
 
 -- some part is
 abbrev pub HasRatioAboveLimit : List Link → List WalkStep → Type 0
-HasRatioAboveLimit ls p = (n : ℕ) × (d : ℕ) × IsLowest n d (walk_num ls p) (walk_den ls p) × ((100000 < n) ⊎ (100000 < d))
+HasRatioAboveLimit ls p = (n : ℕ) × (d : ℕ) × IsLowest n d (walk_num ls p) (walk_den ls p) × ((RATIO < n) ⊎ (RATIO < d))
 
 -- the ratios of the ways are within the limit
 abbrev pub WaysAreWithinLimit : List Link → Type 0
@@ -36,25 +38,25 @@ pub record IsBalanced (g : GraphFile) : Type 0 where
   pub within : WaysAreWithinLimit (links_of g)
   pub consistent : IsConsistent (links_of g)
 
--- v is the repetition vector, and a round has at most 100,000 firings
+-- v is the repetition vector, and a round is within its limit
 pub record IsRound (g : GraphFile) (v : List ℕ) : Type 0 where
   pub balanced : IsBalanced g
   pub least : IsRepetitionOf g v
-  pub fits : sum v ≤ 100000
+  pub fits : sum v ≤ ROUND
 
--- a round has more than 100,000 firings
+-- a round passes its limit
 pub record IsRoundTooLarge (g : GraphFile) : Type 0 where
   pub balanced : IsBalanced g
   pub round : List ℕ
   pub least : IsRepetitionOf g round
-  pub above : 100000 < sum round
+  pub above : ROUND < sum round
 
 -- no walk leads from actor 0 to b, the least such actor
 pub record IsApart (g : GraphFile) (a b : ℕ) : Type 0 where
   pub first : a ≡ 0
   pub actor : b < length g.actors
-  pub apart : (ss : List WalkStep) → IsWalk (links_of g) 0 ss b → ⊥
-  pub least : (c : ℕ) → c < b → (ss : List WalkStep) × IsWalk (links_of g) 0 ss c
+  pub apart : Meets (graph_ends g) 0 b → ⊥
+  pub least : (c : ℕ) → c < b → Meets (graph_ends g) 0 c
 
 -- p is a way with a ratio above the limit, and precedes each other such way
 pub record IsFirstAboveLimit (ls : List Link) (p : List WalkStep) : Type 0 where

@@ -1,8 +1,8 @@
 ghost use Rattle.std.specs.Prelude.{◌≡◌, ℕ, ◌≤◌, ◌<◌, ◌++◌, Some, true, IfOk, IfErr, OnOk, length, take, drop, slice_get};
 ghost use Rattle.balance.specs.Walks.{turned};
 ghost use Rattle.balance.specs.Repetition.{IsParted};
-ghost use Rattle.balance.specs.Search.{HasEnds, HasSums, IsFound, HasEntries, IsSearched, IsClosedBetween, mark_at};
-ghost use Rattle.balance.specs.Ratios.{ratio_at, IsSmall, IsSummed, AreRatios, Keeps, IsClosedRefusal, IsKeptRefusal};
+ghost use Rattle.balance.specs.inside.Search.{HasEnds, HasSums, IsFound, HasEntries, IsSearched, IsClosedBetween, mark_at};
+ghost use Rattle.balance.specs.inside.Ratios.{ratio_at, IsSmall, IsSummed, AreRatios, Keeps, IsClosedRefusal, IsKeptRefusal};
 
 use crate::ratio::{Ratio, first_failing, lowest, product, ratio_of};
 use crate::refusal::BalanceError;

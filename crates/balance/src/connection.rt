@@ -50,9 +50,10 @@ enum Direction {
 }
 
 ghost use Rattle.std.specs.Prelude.{◌≡◌, ℕ, ◌<◌, ◌≤◌, ◌↔◌, [], ◌∷◌, All, true, false, length, replicate, slice_set, IfErr, IfOk, IsTrue, MatchOption, OnOk};
-ghost use Rattle.balance.specs.Connection.{AreActors, HasInput, IsConnectRefusal, IsFirstWithoutInput, IsStronglyConnected};
-ghost use Rattle.balance.specs.Search.{mark_at};
-ghost use Rattle.balance.specs.Reaching.{AreFollowers, AreLed, AreMarked, IsMarked, IsQueue, Leads, pair_from, pair_to};
+ghost use Rattle.sd_base.specs.Connection.{AreStronglyConnected};
+ghost use Rattle.balance.specs.ConnectRefusals.{AreActors, HasInput, IsConnectRefusal, IsFirstWithoutInput};
+ghost use Rattle.balance.specs.inside.Search.{mark_at};
+ghost use Rattle.balance.specs.inside.Reaching.{AreFollowers, AreLed, AreMarked, IsMarked, IsQueue, Leads, pair_from, pair_to};
 
 /// Whether directed paths over the pairs `ends` lead from each actor to each other one. Cost: linear in actors and
 /// pairs.
@@ -63,7 +64,7 @@ pub fn strongly_connected(
 ) -> Result<(), ConnectError>
     requires some { 1 ≤ actors }
     requires ends { AreActors actors ends.now }
-    ensures connected { OnOk result (IsStronglyConnected actors ends.now) }
+    ensures connected { OnOk result (AreStronglyConnected actors ends.now) }
     ensures refusal { IfErr result (IsConnectRefusal actors ends.now) }
 {
     let from_first = reached(alloc, actors, ends, Direction::Along)?;

@@ -14,7 +14,7 @@ mod way;
 ghost use Rattle.std.specs.Prelude.{◌≡◌, ℕ, ◌<◌, IfOk, IfErr, length, true};
 ghost use Rattle.sd_base.specs.Tables.{KeepsRules};
 ghost use Rattle.balance.specs.Walks.{links_of};
-ghost use Rattle.balance.specs.Search.{IsSearched, mark_at};
+ghost use Rattle.balance.specs.inside.Search.{IsSearched, mark_at};
 ghost use Rattle.balance.specs.Repetition.{IsRound, IsRefusal, HasOneAnswer};
 
 use closed::all_kept;

@@ -1,5 +1,5 @@
 ghost use Rattle.std.specs.Prelude.{◌≡◌, ◌<◌, [], IfOk, OnOk, length, replicate};
-ghost use Rattle.balance.specs.Lists.{appended, list_at};
+ghost use Rattle.balance.specs.inside.Lists.{appended, list_at};
 
 use sd_base::Rows;
 use std::alloc::{AllocError, Global};

@@ -2,7 +2,8 @@ use crate::refusal::BalanceError;
 use crate::search::{Found, Search};
 use crate::walk::{Link, WalkStep};
 use crate::way::way_at;
-use sd_base::Rows;
+use sd_base::limits::RATIO;
+use sd_base::{Rows, gcd_wide};
 use std::alloc::Global;
 
 /// The ratio of a walk in lowest terms.
@@ -14,13 +15,14 @@ pub struct Ratio {
 
 ghost use Rattle.std.specs.Prelude.{◌≡◌, ℕ, ◌*◌, ◌<◌, ◌≤◌, ◌↔◌, ◌∷◌, ◌++◌, [], List, true, Some, IsTrue, IfOk, IfErr, MatchOption, length, slice_get, replicate};
 ghost use Rattle.std.specs.Int.{IsGcd};
+ghost use Rattle.sd_base.specs.declared.limits.TheConstants.{PHASES, RATE, RATIO};
 ghost use Rattle.balance.specs.declared.refusal.BalanceError.TheVariants.{NoMemory};
 ghost use Rattle.balance.specs.Walks.{IsLowest, step_from, step_num, step_den};
-ghost use Rattle.balance.specs.Search.{HasEnds, HasSums, IsSearched, mark_at};
-ghost use Rattle.balance.specs.Ratios.{one, ratio_at, IsSmall, AreRatios, Keeps, IsRatedStep, IsLimitRefusal, IsSummed};
+ghost use Rattle.balance.specs.inside.Search.{HasEnds, HasSums, IsSearched, mark_at};
+ghost use Rattle.balance.specs.inside.Ratios.{one, ratio_at, IsSmall, AreRatios, Keeps, IsRatedStep, IsLimitRefusal, IsSummed};
 
 /// The greatest part of a ratio.
-const RATIO_LIMIT: u128 = 100_000;
+const RATIO_LIMIT: u128 = RATIO as u128;
 
 /// By actor the ratio of its way. The search finds ways in their order, so that the first one with a ratio above the
 /// limit is the one to refuse, and the ratios before it, from which the others are made, are within the limit.
@@ -117,25 +119,11 @@ pub fn lowest(num: u128, den: u128) -> Ratio
     requires { 0 < den }
     ensures { IsLowest result.num result.den num den }
 {
-    let common = gcd(num, den);
+    let common = gcd_wide(num, den);
     Ratio {
         num: num / common,
         den: den / common,
     }
-}
-
-/// The greatest common divisor by Euclid's algorithm.
-fn gcd(a: u128, b: u128) -> u128
-    ensures { IsGcd a b result }
-{
-    let mut high = a;
-    let mut low = b;
-    'euclid: while low > 0 {
-        let rest = high % low;
-        high = low;
-        low = rest;
-    }
-    high
 }
 
 /// The first channel that doesn't keep the ratios.
@@ -170,9 +158,9 @@ fn keeps(ratios: &[Ratio], link: Link) -> bool
 /// What the firings of a whole round of cycles move over a channel, but for a common factor: at most 100,000 times
 /// 4,096,000,000 times 100,000, which is above 2^64 and below 2^128.
 pub fn product(num: u128, sum: u64, den: u128) -> u128
-    requires num { num ≤ 100000 }
-    requires sum { sum ≤ 4096000000 }
-    requires den { den ≤ 100000 }
+    requires num { num ≤ RATIO }
+    requires sum { sum ≤ PHASES * RATE }
+    requires den { den ≤ RATIO }
     ensures { result ≡ num * sum * den }
 {
     num * u128::from(sum) * den

@@ -15,9 +15,9 @@ pub enum BalanceError {
         a: u32,
         b: u32,
     },
-    /// The ratio along the way to some actor, in lowest terms, has a part above 100,000. Of several ways it is the one
+    /// The ratio along the way to some actor, in lowest terms, has a part above its limit. Of several ways it is the one
     /// with the fewest steps, and of these the one with the least list of channels.
-    #[error("a ratio is above 100000")]
+    #[error("a ratio passes its limit")]
     RatioTooLarge {
         path: Rows<WalkStep>,
     },
@@ -28,8 +28,8 @@ pub enum BalanceError {
         num: u128,
         den: u128,
     },
-    /// The repetition vector sums to more than 100,000.
-    #[error("a round has more than 100000 firings")]
+    /// The repetition vector sums to more than its limit.
+    #[error("a round passes its limit")]
     RoundTooLarge,
     #[error("out of memory")]
     NoMemory,

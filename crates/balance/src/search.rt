@@ -25,7 +25,7 @@ pub struct Search {
     pub seen: Vec<bool>,
 }
 
-ghost use Rattle.balance.specs.Search.{AreJoints, IsJoined, HasEnds, IsSearching, IsLooked, IsSearched, mark_at};
+ghost use Rattle.balance.specs.inside.Search.{AreJoints, IsJoined, HasEnds, IsSearching, IsLooked, IsSearched, mark_at};
 
 /// The ways from actor 0 to all actors that walks reach. Breadth first, over the channels in their order, so that
 /// ways are found by rising numbers of steps, and of as many steps by rising lists of channels. Linear in actors and

@@ -1,5 +1,5 @@
 ghost use Rattle.std.specs.Prelude.{◌≡◌, ◌<◌, IfOk, Some, length, slice_get};
-ghost use Rattle.balance.specs.Search.{HasEntries, IsFound, IsWayAt, IsWayTo};
+ghost use Rattle.balance.specs.inside.Search.{HasEntries, IsFound, IsWayAt, IsWayTo};
 
 use crate::search::Found;
 use crate::walk::WalkStep;

@@ -4,8 +4,8 @@ use Rattle.std.specs.Prelude.{slice_index}
 use Rattle.firing.specs.declared.table.LoopTable.{LoopTable}
 use Rattle.critical.specs.declared.walk.Met.{Met}
 use Rattle.sd_base.specs.Net.{Net}
-use Rattle.critical.specs.Loops.{IsCriticalCycleOf}
-use Rattle.critical.specs.Ways.{IsShortLoop, met_at, ComesAgain, raised_number, lowered_firing, IsLeastRounds, steps_of}
+use Rattle.critical.specs.CriticalCycles.{IsCriticalCycleOf}
+use Rattle.critical.specs.inside.Trails.{IsShortLoop, met_at, ComesAgain, raised_number, lowered_firing, IsLeastRounds, steps_of}
 use Rattle.critical.proofs.Turning.{closed, closed-is, closed-holds, closed-rate, closed-apart, closed-least, closed-turns, time-rises, passes-rise}
 use Rattle.critical.proofs.TightCycles.{cycle-tight}
 

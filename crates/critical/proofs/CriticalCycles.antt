@@ -18,7 +18,7 @@ use Rattle.critical.specs.Cycles.{IsChain, last_of, time_along}
 use Rattle.critical.specs.Bounds.{HasCriticalCycle}
 use Rattle.critical.proofs.Spans.{some-time}
 use Rattle.critical.proofs.Agreements.{agree, pair-small, pair-first, pair-second}
-use Rattle.critical.specs.Ways.{steps_of}
+use Rattle.critical.specs.inside.Trails.{steps_of}
 use Rattle.critical.proofs.Trails.{Trail, start_at, trail, trail-chain, trail-last, trail-time, closes}
 
 module _ (net : Net) (laws : Lawful net) (fed : HasInputs net) (entry period rounds : ℕ) (again : Repeats net entry (entry + period) (λ a. rounds * slice_index net.round a)) (some : 1 ≤ rounds) where

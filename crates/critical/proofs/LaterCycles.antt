@@ -10,7 +10,7 @@ use Rattle.sd_base.specs.Lawful.{Lawful}
 use Rattle.sd_base.proofs.Parts.{wired, balanced}
 use Rattle.sd_base.proofs.Rounds.{Whole, whole-rounds, time-shift, made-shift, taken-shift, needs-unshift, last-shift}
 use Rattle.critical.specs.Cycles.{IsChain, last_of, time_along, HoldsOn}
-use Rattle.critical.specs.Rounds.{later_firing, later_steps, later_cycle}
+use Rattle.critical.specs.LaterCycles.{later_firing, later_steps, later_cycle}
 use Rattle.critical.proofs.Spans.{first-actor}
 
 module _ (net : Net) (v : ℕ → ℕ) (whole : Whole net v) (i : ℕ) (place : i < length net.channels) where

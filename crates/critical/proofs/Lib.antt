@@ -8,12 +8,13 @@ mod Marking
 pub mod Passes
 pub mod Shortness
 mod Slopes
-mod Storage
+pub mod Storage
 pub mod TightCycles
 pub mod TightNeeds
+pub mod TightTests
 mod Spans
 mod Turning
 mod UpperSides
 mod Walking
-mod Traces
 mod Trails
+pub mod CycleTraces

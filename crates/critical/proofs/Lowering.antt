@@ -7,7 +7,7 @@ use Rattle.critical.specs.declared.cycle.FiringNo.{FiringNo}
 use Rattle.critical.specs.declared.cycle.CycleStep.{CycleStep}
 use Rattle.critical.specs.declared.walk.Met.{Met}
 use Rattle.sd_base.specs.Net.{Net}
-use Rattle.critical.specs.Ways.{met_at, raised_number, IsLeastRounds, steps_of}
+use Rattle.critical.specs.inside.Trails.{met_at, raised_number, IsLeastRounds, steps_of}
 
 -- what can be taken off so far: off the firings from a place on before i, and off the last one
 pub record LeastBelow (net : Net) (table : LoopTable) (met : List Met) (from passes rounds i : ℕ) : Type 0 where

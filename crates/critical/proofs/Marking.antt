@@ -6,7 +6,7 @@ use Rattle.std.proofs.lemmas.List.{get_or_append_left, get_or_default, get_or_pu
 use Rattle.firing.specs.declared.table.LoopTable.{LoopTable}
 use Rattle.critical.specs.declared.cycle.FiringNo.{FiringNo}
 use Rattle.sd_base.specs.Schedules.{count_of}
-use Rattle.critical.specs.Ways.{offset_of, AreOffsets, IsShort, IsSecond, second_of, class_at}
+use Rattle.critical.specs.inside.Trails.{offset_of, AreOffsets, IsShort, IsSecond, second_of, class_at}
 
 pub offset-next : (rows : List (List ℕ)) (n : ℕ) → offset_of rows (n + 1) ≡ offset_of rows n + count_of rows n
 offset-next rows n = rw add-one refl

@@ -15,9 +15,9 @@ use Rattle.sd_base.proofs.Counts.{early_at, ended_at, ended-at-is}
 use Rattle.sd_base.proofs.Rounds.{Whole, whole-times, whole-rounds, time-shift}
 use Rattle.sd_base.proofs.Tight.{earliest-within}
 use Rattle.sd_base.proofs.Alike.{Alike, futures, since-then, since-whole, same-alike}
-use Rattle.sd_base.proofs.LoopRates.{table-repeats}
-use Rattle.critical.specs.Loops.{pass_of}
-use Rattle.critical.specs.Ways.{IsShortLoop, IsSecond, second_of, listed_at}
+use Rattle.sd_base.proofs.LoopPasses as passes
+use Rattle.critical.specs.CriticalCycles.{pass_of}
+use Rattle.critical.specs.inside.Trails.{IsShortLoop, IsSecond, second_of, listed_at}
 
 -- the earliest schedule up to and with the end of pass q
 abbrev pub up_to : Net → LoopTable → ℕ → Schedule
@@ -25,87 +25,38 @@ up_to net table q = earliest net (table.entry + q * table.period + 1)
 
 module _ (net : Net) (laws : Lawful net) (table : LoopTable) (loop : IsShortLoop net table) where
   pub early : (t : ℕ) → Earliest net t (earliest net t)
-  early t = early_at net (regular net laws) loop.inputs t
+  early = passes.early net laws loop.inputs table.entry table.period table.rounds table.before table.starts loop.loop
 
   again : Repeats net table.entry (table.entry + table.period) (λ a. pass_of net table.rounds a)
-  again = table-repeats net laws loop.inputs table.entry table.period table.rounds table.before table.starts loop.loop
-
-  pub whole : Whole net (λ a. pass_of net table.rounds a)
-  whole = whole-rounds net table.rounds (wired net laws) (balanced net laws)
+  again = passes.again net laws loop.inputs table.entry table.period table.rounds table.before table.starts loop.loop
 
   pub whole-passes : (n : ℕ) → Whole net (λ a. n * pass_of net table.rounds a)
-  whole-passes n = whole-times net (λ a. pass_of net table.rounds a) n whole
+  whole-passes = passes.whole-passes net laws loop.inputs table.entry table.period table.rounds table.before table.starts loop.loop
 
   pub some-pass : (a : ℕ) → a < length net.times → 1 ≤ pass_of net table.rounds a
-  some-pass a actor = mul-le-mul loop.loop.turns ((balanced net laws).fires a actor)
+  some-pass = passes.some-pass net laws loop.inputs table.entry table.period table.rounds table.before table.starts loop.loop
 
   pub time-passes : (n a k : ℕ) → a < length net.times → time_of net a (k + n * pass_of net table.rounds a) ≡ time_of net a k
-  time-passes n a k actor = time-shift net (λ b. n * pass_of net table.rounds b) (whole-passes n) a k actor
-
-  next-at : (q : ℕ) → table.entry + table.period + q * table.period + 1 ≡ table.entry + suc q * table.period + 1
-  next-at q = omega arith
+  time-passes = passes.time-passes net laws loop.inputs table.entry table.period table.rounds table.before table.starts loop.loop
 
   pub counts-at : (q a : ℕ) → count_of (up_to net table q) a ≡ count_of (earliest net (table.entry + 1)) a + q * pass_of net table.rounds a
-  counts-at zero a =
-      let e : table.entry + 0 * table.period + 1 ≡ table.entry + 1 = omega arith in
-      rw e (omega arith)
-  counts-at (suc q) a =
-      let step : count_of (up_to net table (suc q)) a ≡ count_of (up_to net table q) a + pass_of net table.rounds a = rw next-at at (again.counts (q * table.period) a) in
-      omega (arith, counts-at q a)
+  counts-at = passes.counts-at net laws loop.inputs table.entry table.period table.rounds table.before table.starts loop.loop
 
-  -- who hasn't started by the end of a pass starts after it
   pub starts-after : (q t a k : ℕ) → count_of (up_to net table q) a ≤ k → k < count_of (earliest net t) a → table.entry + q * table.period < start_of (earliest net t) a k
-  starts-after q t a k from there = ⊎_elim
-      (λ (soon : start_of (earliest net t) a k < table.entry + q * table.period + 1). absurd (
-      let now : k < count_of (up_to net table q) a = ((early (table.entry + q * table.period + 1)).least (earliest net t) (early t).admissible a k there soon).0 in omega arith))
-      (λ (h : table.entry + q * table.period + 1 ≤ start_of (earliest net t) a k). omega arith)
-      (cases_lt (start_of (earliest net t) a k) (table.entry + q * table.period + 1))
+  starts-after = passes.starts-after net laws loop.inputs table.entry table.period table.rounds table.before table.starts loop.loop
 
-  step-on : (q a k : ℕ) → k < count_of (up_to net table q) a → table.entry < end_of net (up_to net table q) a k →
-      start_of (up_to net table (suc q)) a (k + pass_of net table.rounds a) ≡ start_of (up_to net table q) a k + table.period
-  step-on q a k there late =
-      let moved : start_of (earliest net (table.entry + table.period + q * table.period + 1)) a (k + pass_of net table.rounds a) + table.entry ≡ start_of (up_to net table q) a k + (table.entry + table.period) =
-      again.starts (q * table.period) a k there late in
-      let here : start_of (up_to net table (suc q)) a (k + pass_of net table.rounds a) + table.entry ≡ start_of (up_to net table q) a k + (table.entry + table.period) = rw next-at at moved in
-      omega arith
-
-  -- p passes further on
   pub pass-on : (p q a k : ℕ) → k < count_of (up_to net table q) a → table.entry < end_of net (up_to net table q) a k →
       start_of (up_to net table (p + q)) a (k + p * pass_of net table.rounds a) ≡ start_of (up_to net table q) a k + p * table.period
-  pass-on zero q a k there late =
-      let e : k + 0 * pass_of net table.rounds a ≡ k = omega arith in
-      let f : 0 + q ≡ q = omega arith in
-      rw (e, f) (omega arith)
-  pass-on (suc p) q a k there late =
-      let e : k + suc p * pass_of net table.rounds a ≡ (k + p * pass_of net table.rounds a) + pass_of net table.rounds a = omega arith in
-      let f : suc p + q ≡ suc (p + q) = omega arith in
-      let before : start_of (up_to net table (p + q)) a (k + p * pass_of net table.rounds a) ≡ start_of (up_to net table q) a k + p * table.period = pass-on p q a k there late in
-      let actor : a < length net.times = is_actor net (up_to net table q) a k (early (table.entry + q * table.period + 1)).admissible there in
-      let far : k + p * pass_of net table.rounds a < count_of (up_to net table (p + q)) a = omega (arith, counts-at (p + q) a, counts-at q a) in
-      let same : time_of net a (k + p * pass_of net table.rounds a) ≡ time_of net a k = time-passes p a k actor in
-      rw (e, f) (omega (arith, step-on (p + q) a (k + p * pass_of net table.rounds a) far (omega arith)))
+  pass-on = passes.pass-on net laws loop.inputs table.entry table.period table.rounds table.before table.starts loop.loop
 
-  -- all schedules that have a firing agree on it
   pub agree-at : (p q a k : ℕ) → k < count_of (up_to net table p) a → k < count_of (up_to net table q) a → start_of (up_to net table p) a k ≡ start_of (up_to net table q) a k
-  agree-at p q a k one other =
-      let t : ℕ = table.entry + (p + q) * table.period + 1 in
-      let up : p * table.period ≤ (p + q) * table.period = mul-le-mul_right table.period (omega arith) in
-      let on : q * table.period ≤ (p + q) * table.period = mul-le-mul_right table.period (omega arith) in
-      let left : start_of (earliest net t) a k ≡ start_of (up_to net table p) a k =
-      (earliest-within net (table.entry + p * table.period + 1) t (up_to net table p) (earliest net t) (early (table.entry + p * table.period + 1)) (early t) (omega arith) a k one).1 in
-      let right : start_of (earliest net t) a k ≡ start_of (up_to net table q) a k =
-      (earliest-within net (table.entry + q * table.period + 1) t (up_to net table q) (earliest net t) (early (table.entry + q * table.period + 1)) (early t) (omega arith) a k other).1 in
-      omega arith
+  agree-at = passes.agree-at net laws loop.inputs table.entry table.period table.rounds table.before table.starts loop.loop
 
-  -- so many passes have a firing
   pub enough-passes : (a k : ℕ) → a < length net.times → k < count_of (up_to net table (k + 1)) a
-  enough-passes a k actor =
-      let le : (k + 1) * 1 ≤ (k + 1) * pass_of net table.rounds a = mul-le-mul_left (k + 1) (some-pass a actor) in
-      omega (arith, counts-at (k + 1) a)
+  enough-passes = passes.enough-passes net laws loop.inputs table.entry table.period table.rounds table.before table.starts loop.loop
 
   pub grows : (a n : ℕ) → a < length net.times → n ≤ n * pass_of net table.rounds a
-  grows a n actor =
-      let le : n * 1 ≤ n * pass_of net table.rounds a = mul-le-mul_left n (some-pass a actor) in omega arith
+  grows = passes.grows net laws loop.inputs table.entry table.period table.rounds table.before table.starts loop.loop
 
   -- ---- what has ended
 
@@ -203,7 +154,7 @@ module _ (net : Net) (laws : Lawful net) (table : LoopTable) (loop : IsShortLoop
       let late : table.entry + 0 * table.period < start_of (up_to net table 1) a (slice_index table.before a + k) =
       starts-after 0 (table.entry + 1 * table.period + 1) a (slice_index table.before a + k) (omega (arith, counts-at 0 a)) there in
       let on : start_of (up_to net table 2) a ((slice_index table.before a + k) + pass_of net table.rounds a) ≡ start_of (up_to net table 1) a (slice_index table.before a + k) + table.period =
-      step-on 1 a (slice_index table.before a + k) there (omega arith) in
+      passes.step-on net laws loop.inputs table.entry table.period table.rounds table.before table.starts loop.loop 1 a (slice_index table.before a + k) there (omega arith) in
       let place : (slice_index table.before a + k) + pass_of net table.rounds a ≡ x.number = omega (arith, second.from) in
       let here : start_of (up_to net table 2) a x.number ≡ start_of (up_to net table 1) a (slice_index table.before a + k) + table.period = rw place at on in
       record {

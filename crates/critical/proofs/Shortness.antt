@@ -9,7 +9,7 @@ use Rattle.sd_base.specs.Lawful.{Lawful}
 use Rattle.sd_base.specs.Rates.{IsLoopTable}
 use Rattle.sd_base.proofs.Parts.{regular, balanced}
 use Rattle.sd_base.proofs.Counts.{early_at}
-use Rattle.critical.specs.Ways.{offset_of, IsShortLoop}
+use Rattle.critical.specs.inside.Trails.{offset_of, IsShortLoop}
 use Rattle.critical.proofs.Marking.{offset-next, offset-rise}
 
 offset-front : (row : List ℕ) (rows : List (List ℕ)) (n : ℕ) → offset_of (row ∷ rows) (suc n) ≡ length row + offset_of rows n

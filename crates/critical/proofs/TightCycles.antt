@@ -13,8 +13,8 @@ use Rattle.sd_base.proofs.Ends.{sum_to}
 use Rattle.sd_base.proofs.Counts.{ended_at}
 use Rattle.sd_base.proofs.LoopRates.{sum_to-part}
 use Rattle.critical.specs.Cycles.{IsStep, IsChain, last_of, time_along, HoldsOn}
-use Rattle.critical.specs.Loops.{pass_of, IsTight, AreTight}
-use Rattle.critical.specs.Ways.{IsShortLoop}
+use Rattle.critical.specs.CriticalCycles.{pass_of, IsTight, AreTight}
+use Rattle.critical.specs.inside.Trails.{IsShortLoop}
 use Rattle.critical.proofs.Spans.{moved-need, chain-spans, first-actor}
 use Rattle.critical.proofs.LaterCycles.{last-up, last-down}
 use Rattle.critical.proofs.Passes.{up_to, early, some-pass, grows, counts-at, enough-passes, starts-after, pass-on, agree-at, time-passes, whole-passes, runs-past, runs-on}

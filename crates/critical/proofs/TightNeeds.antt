@@ -16,8 +16,8 @@ use Rattle.sd_base.proofs.Tight.{TightNeed, tight}
 use Rattle.firing.specs.declared.sums.Port.TheVariants.{Taken}
 use Rattle.firing.specs.Wiring.{IsListed}
 use Rattle.firing.proofs.Listings.{member-place}
-use Rattle.critical.specs.Loops.{pass_of}
-use Rattle.critical.specs.Ways.{IsShortLoop, IsSecond, EndsJust, IsReadFrom, IsTightNeed, IsSlackOn, IsSlackBefore, second_of, listed_at}
+use Rattle.critical.specs.CriticalCycles.{pass_of}
+use Rattle.critical.specs.inside.Trails.{IsShortLoop, IsSecond, EndsJust, IsReadFrom, IsTightNeed, IsSlackOn, IsSlackBefore, second_of, listed_at}
 use Rattle.critical.proofs.Passes.{up_to, early, runs-past, runs-on, pass-on, agree-at, counts-at, starts-after, time-passes, listed-many, actors-same, Second, second-is, second-from}
 
 -- the last needed firing is the one before the need

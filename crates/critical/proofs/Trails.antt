@@ -13,7 +13,7 @@ use Rattle.sd_base.proofs.Counts.{early_at}
 use Rattle.sd_base.proofs.Tight.{tight, earliest-within}
 use Rattle.sd_base.proofs.Admissibles.{starts-le}
 use Rattle.critical.specs.Cycles.{IsStep, IsChain, last_of, time_along}
-use Rattle.critical.specs.Ways.{steps_of}
+use Rattle.critical.specs.inside.Trails.{steps_of}
 
 abbrev pub start_at : Schedule → FiringNo → ℕ
 start_at s x = start_of s x.actor x.number

@@ -1,6 +1,7 @@
 -- A way back to a firing that came again, turned round, is a need cycle with the loop's rounds per time.
-use Rattle.std.proofs.Common.{◌≡◌, ℕ, zero, suc, ◌+◌, ◌-◌, ◌*◌, ◌/◌, ◌%◌, ◌≤◌, ◌<◌, List, length, sum, ⊎_elim, subst, sym, refl, ap, ◌∙◌, arith, div-add-mod', mul-le-mul, mul-le-mul_right}
+use Rattle.std.proofs.Common.{◌≡◌, ℕ, zero, suc, ◌+◌, ◌-◌, ◌*◌, ◌/◌, ◌%◌, ◌≤◌, ◌<◌, ◌⊎◌, inl, inr, List, length, sum, ⊎_elim, subst, sym, refl, ap, ◌∙◌, arith, div-add-mod', mul-le-mul, mul-le-mul_right}
 use Rattle.std.specs.Prelude.{slice_index, slice_index_or}
+use Rattle.std.proofs.Math.Nat.{add-mul-mod_self_right}
 use Rattle.std.proofs.lemmas.Bool.{cases_lt}
 use Rattle.std.proofs.lemmas.List.{get_or_past}
 use Rattle.std.proofs.lemmas.List.Sums.{get_or-le-sum_by}
@@ -15,8 +16,8 @@ use Rattle.sd_base.proofs.Parts.{timed, balanced}
 use Rattle.sd_base.proofs.Rounds.{time-shift}
 use Rattle.critical.specs.Cycles.{IsStep, IsChain, last_of, time_along, HoldsOn}
 use Rattle.critical.specs.Spaces.{no_step}
-use Rattle.critical.specs.Loops.{pass_of, firing_at}
-use Rattle.critical.specs.Ways.{IsShortLoop, IsSecond, Leads, IsWay, second_of, listed_at, raised_number, lowered_firing, steps_of}
+use Rattle.critical.specs.CriticalCycles.{pass_of, firing_at}
+use Rattle.critical.specs.inside.Trails.{IsShortLoop, IsSecond, Leads, IsTrail, second_of, listed_at, raised_number, lowered_firing, steps_of}
 use Rattle.critical.proofs.Agreements.{pair-second}
 use Rattle.critical.proofs.Passes.{actors-same, listed-many, some-pass, whole-passes, time-passes}
 use Rattle.critical.proofs.LaterCycles.{rounds-whole, last-up, last-down}
@@ -50,7 +51,7 @@ module _ (net : Net) (table : LoopTable) (loop : IsShortLoop net table) where
       let few : second_of table x.actor ≤ 4000000 = loop.short.few x.actor second.actor in
       omega (arith, second.below)
 
-  module _ (at : ℕ → Met) (n : ℕ) (way : IsWay net table at n) where
+  module _ (at : ℕ → Met) (n : ℕ) (way : IsTrail net table at n) where
     -- along the way passes and times grow, and times are those of the loop
     rise-along : (i d : ℕ) → i + d ≤ n → ((at i).passes ≤ (at (i + d)).passes) × ((at i).time + d ≤ (at (i + d)).time)
         × (listed_at table (at (i + d)).firing + (at (i + d)).time + (at i).passes * table.period ≡ listed_at table (at i).firing + (at i).time + (at (i + d)).passes * table.period)
@@ -255,11 +256,32 @@ module _ (net : Net) (table : LoopTable) (loop : IsShortLoop net table) where
               (omega (arith, second_i.from, second_i.below)) (omega (arith, second_j.from, second_j.below)) (omega (arith, second_i.from, second_j.from)) in
               apart i j less below (firing-same (at i).firing (at j).firing actors (omega (arith, second_i.from, second_j.from)))
 
-          pub closed-apart : (i j : ℕ) → 1 ≤ i → i < j → j ≤ length closed.steps → (firing_at closed i).actor ≡ (firing_at closed j).actor →
+          -- the last firing lies whole passes after the first
+          last-passes : (forward_at from).number ≡ (forward_at n).number + turned * pass_of net table.rounds (forward_at n).actor
+          unfolding closed
+          last-passes = sym (ap (λ (x : FiringNo). x.number) forward-last) ∙ (closed-holds.number ∙ omega arith)
+
+          last-actor : (forward_at from).actor ≡ (forward_at n).actor
+          unfolding closed
+          last-actor = sym (ap (λ (x : FiringNo). x.actor) forward-last) ∙ closed-holds.actor
+
+          last-place : (forward_at from).number % pass_of net table.rounds (forward_at from).actor ≡ (forward_at n).number % pass_of net table.rounds (forward_at n).actor
+          last-place = ap (λ (b : ℕ). (forward_at from).number % pass_of net table.rounds b) last-actor
+              ∙ (ap (λ (m : ℕ). m % pass_of net table.rounds (forward_at n).actor) last-passes ∙ add-mul-mod_self_right (forward_at n).number turned (pass_of net table.rounds (forward_at n).actor))
+
+          firings-apart : (i j : ℕ) → i < j → j ≤ n - from → (1 ≤ i) ⊎ (j < n - from) → (forward_at (n - i)).actor ≡ (forward_at (n - j)).actor →
+              ¬ ((forward_at (n - i)).number % pass_of net table.rounds (forward_at (n - i)).actor ≡ (forward_at (n - j)).number % pass_of net table.rounds (forward_at (n - j)).actor)
+          firings-apart zero j less le (inl some) actors places = absurd (omega arith)
+          firings-apart zero j less le (inr inside) actors places =
+              let e : n - 0 ≡ n = omega arith in
+              places-apart from (n - j) (omega arith) (omega arith) (omega arith) (last-actor ∙ (rw e at actors)) (last-place ∙ (rw e at places))
+          firings-apart (suc i) j less le either actors places = places-apart (n - j) (n - suc i) (omega arith) (omega arith) (omega arith) (sym actors) (sym places)
+
+          pub closed-apart : (i j : ℕ) → i < j → j ≤ length closed.steps → (1 ≤ i) ⊎ (j < length closed.steps) → (firing_at closed i).actor ≡ (firing_at closed j).actor →
               ¬ ((firing_at closed i).number % pass_of net table.rounds (firing_at closed i).actor ≡ (firing_at closed j).number % pass_of net table.rounds (firing_at closed j).actor)
-          closed-apart i j some less le =
+          closed-apart i j less le either =
               rw (cycle-firing i (omega (arith, cycle-long)), cycle-firing j (omega (arith, cycle-long)))
-              (λ actors places. places-apart (n - j) (n - i) (omega (arith, cycle-long)) (omega (arith, cycle-long)) (omega (arith, cycle-long)) (sym actors) (sym places))
+              (firings-apart i j less (omega (arith, cycle-long)) (rw cycle-long at either))
 
         pub closed-least : (i : ℕ) → from ≤ i → i ≤ n → raised_number net table (at n).passes (at i) < rounds * slice_index net.round (at i).firing.actor + slice_index net.round (at i).firing.actor →
             (k : ℕ) × (k ≤ length closed.steps) × ((firing_at closed k).number < slice_index net.round (firing_at closed k).actor)

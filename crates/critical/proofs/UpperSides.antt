@@ -1,5 +1,5 @@
 -- A need cycle bounds the rate, and all counts where each actor leads to each.
-use Rattle.std.proofs.Common.{◌≡◌, ℕ, ◌+◌, ◌-◌, ◌*◌, ◌/◌, ◌%◌, ◌≤◌, ◌<◌, ◌⊎◌, inl, inr, List, [], ◌∷◌, length, ⊎_elim, subst, sym, refl, ap, arith, mul-le-mul_left, mul-le-mul_right, mod-lt, div-add-mod'}
+use Rattle.std.proofs.Common.{◌≡◌, ℕ, ◌+◌, ◌-◌, ◌*◌, ◌/◌, ◌%◌, ◌≤◌, ◌<◌, ◌⊎◌, inl, inr, List, [], ◌∷◌, length, ⊎_elim, subst, sym, refl, ap, ◌∙◌, arith, mul-le-mul_left, mul-le-mul_right, mod-lt, div-add-mod'}
 use Rattle.std.proofs.Math.Nat.{le_of_mul-le-mul_left, le_of_mul-le-mul_right}
 use Rattle.std.proofs.lemmas.Bool.{cases_lt}
 use Rattle.std.specs.Prelude.{slice_index, slice_index_or, count_by, nat_lt}
@@ -14,8 +14,11 @@ use Rattle.sd_base.proofs.Rounds.{Whole, whole-round}
 use Rattle.sd_base.proofs.Ends.{sum_to}
 use Rattle.sd_base.proofs.LoopRates.{sum_to-part}
 use Rattle.critical.specs.Cycles.{HoldsOn}
-use Rattle.critical.specs.Bounds.{IsPath, IsStronglyConnected, HasUpperSide}
-use Rattle.critical.proofs.Slopes.{Started, started-before, started-bound, count-bounded, slopes, factor-out}
+use Rattle.sd_base.specs.Rates.{HasUpperSide}
+use Rattle.sd_base.specs.Connection.{IsPath, IsStronglyConnected, ends_of}
+use Rattle.sd_base.proofs.Connections.{IsChannel, channel-of}
+use Rattle.sd_base.proofs.LoopRates.{slopes, factor-out}
+use Rattle.critical.proofs.Slopes.{Started, started-before, started-bound, count-bounded}
 use Rattle.critical.proofs.Spans.{first-actor, some-time, firing-late, turn}
 
 module _ (net : Net) (laws : Lawful net) (cycle : NeedCycle) (holds : HoldsOn net cycle) where
@@ -90,15 +93,17 @@ module _ (net : Net) (laws : Lawful net) (s : Schedule) (good : Admissible net s
       let soon : start_of s (channel_at net i).target n < t = started.soon in
       record { there = fed.0; soon = omega arith }
 
-  along-path : (path : List ℕ) (a b r : ℕ) → IsPath net a path b → Started s t b ((r + slack_along net path) * slice_index net.round b) → Started s t a (r * slice_index net.round a)
+  along-path : (path : List ℕ) (a b r : ℕ) → IsPath (ends_of net) a path b → Started s t b ((r + slack_along net path) * slice_index net.round b) → Started s t a (r * slice_index net.round a)
   unfolding slack_along
   along-path [] a b r same started =
       let e : r + 0 ≡ r = omega arith in
       subst (λ (x : ℕ). Started s t x (r * slice_index net.round x)) (sym same) (rw e at started)
-  along-path (i ∷ path) a b r (place, from, rest) started =
-      let e : r + ((channel_at net i).tokens + 1 + slack_along net path) ≡ (r + (channel_at net i).tokens + 1) + slack_along net path = omega arith in
-      let next = along-path path (channel_at net i).target b (r + (channel_at net i).tokens + 1) rest (rw e at started) in
-      subst (λ (x : ℕ). Started s t x (r * slice_index net.round x)) from (along-channel i r place next)
+  along-path (i ∷ path) a b r (e, is, from, rest) started =
+      let at : IsChannel net i e = channel-of net i e is in
+      let sum : r + ((channel_at net i).tokens + 1 + slack_along net path) ≡ (r + (channel_at net i).tokens + 1) + slack_along net path = omega arith in
+      let next = along-path path e.1 b (r + (channel_at net i).tokens + 1) rest (rw sum at started) in
+      subst (λ (x : ℕ). Started s t x (r * slice_index net.round x)) (at.source ∙ sym from)
+      (along-channel i r at.place (subst (λ (x : ℕ). Started s t x ((r + (channel_at net i).tokens + 1) * slice_index net.round x)) (sym at.target) next))
 
 module _ (net : Net) (laws : Lawful net) (cycle : NeedCycle) (holds : HoldsOn net cycle) (strong : IsStronglyConnected net) where
   actor-here : cycle.first.actor < length net.times

@@ -10,8 +10,8 @@ use Rattle.critical.specs.declared.walk.Met.{Met}
 use Rattle.sd_base.specs.Net.{Net}
 use Rattle.sd_base.specs.Schedules.{time_of, count_of}
 use Rattle.sd_base.proofs.Parts.{balanced}
-use Rattle.critical.specs.Loops.{pass_of}
-use Rattle.critical.specs.Ways.{offset_of, IsShortLoop, IsSecond, IsTightNeed, Leads, IsWay, none_met, met_at, ComesAgain, first_firing, second_of, class_at}
+use Rattle.critical.specs.CriticalCycles.{pass_of}
+use Rattle.critical.specs.inside.Trails.{offset_of, IsShortLoop, IsSecond, IsTightNeed, Leads, IsTrail, none_met, met_at, ComesAgain, first_firing, second_of, class_at}
 use Rattle.critical.proofs.Agreements.{Agree, agree}
 use Rattle.critical.proofs.Marking.{class-below, class-one}
 use Rattle.critical.proofs.Passes.{actors-same, listed-many}
@@ -107,7 +107,7 @@ module _ (net : Net) (table : LoopTable) (loop : IsShortLoop net table) where
       let actor : x.actor < length net.times = omega (arith, second.actor, actors-same net loop.laws table loop) in
       loop.laws.short_times x.actor _ actor (mod-lt x.number (loop.laws.some_phase x.actor actor))
 
-  pub way-first : (here : Met) → IsSecond table here.firing → here.passes ≡ 0 → here.time ≡ 0 → IsWay net table (met_then [] here) 0
+  pub way-first : (here : Met) → IsSecond table here.firing → here.passes ≡ 0 → here.time ≡ 0 → IsTrail net table (met_then [] here) 0
   way-first here second passes time = record {
     second = λ i le. second;
     leads = λ i less. absurd (omega arith);
@@ -115,8 +115,8 @@ module _ (net : Net) (table : LoopTable) (loop : IsShortLoop net table) where
     soon = λ i le. rw time (omega arith);
   }
 
-  module _ (at next : ℕ → Met) (n : ℕ) (way : IsWay net table at n) (same : (i : ℕ) → i ≤ n → next i ≡ at i) where
-    pub way-along : IsWay net table next n
+  module _ (at next : ℕ → Met) (n : ℕ) (way : IsTrail net table at n) (same : (i : ℕ) → i ≤ n → next i ≡ at i) where
+    pub way-along : IsTrail net table next n
     way-along = record {
       second = λ i le. subst (λ (m : Met). IsSecond table m.firing) (sym (same i le)) (way.second i le);
       leads = λ i less. subst (λ (m : Met). Leads net table m (next (suc i))) (sym (same i (omega arith))) (subst (λ (m : Met). Leads net table (at i) m) (sym (same (suc i) (omega arith))) (way.leads i less));
@@ -124,7 +124,7 @@ module _ (net : Net) (table : LoopTable) (loop : IsShortLoop net table) where
       soon = λ i le. subst (λ (m : Met). m.time ≤ i * 1000000000) (sym (same i le)) (way.soon i le);
     }
 
-    pub way-more : Leads net table (at n) (next (suc n)) → IsWay net table next (n + 1)
+    pub way-more : Leads net table (at n) (next (suc n)) → IsTrail net table next (n + 1)
     way-more leads = record {
       second = λ i le. ⊎_elim (λ (old : i ≤ n). way-along.second i old) (λ (new : n < i). let last : suc n ≡ i = omega arith in subst (λ (k : ℕ). IsSecond table (next k).firing) last leads.need.read.second) (cases_le i);
       leads = λ i less. ⊎_elim (λ (old : i < n). way-along.leads i old) (λ (late : n ≤ i). let last : n ≡ i = omega arith in
@@ -145,7 +145,7 @@ module _ (net : Net) (table : LoopTable) (loop : IsShortLoop net table) where
         soon-last = omega (arith, leads.time, way.soon n (omega arith), short-time (next (suc n)).firing leads.need.read.second)
 
   -- more firings than a pass has don't all differ
-  pub all-met : (at : ℕ → Met) (n : ℕ) (marks : List (Option ℕ)) → IsWay net table at n → AreMarks table at n marks → n ≡ length marks + 1 → ⊥
+  pub all-met : (at : ℕ → Met) (n : ℕ) (marks : List (Option ℕ)) → IsTrail net table at n → AreMarks table at n marks → n ≡ length marks + 1 → ⊥
   all-met at n marks way are many =
       let pass : ℕ = offset_of table.starts (length table.starts) in
       let found : Agree (λ i. class_at table (at i).firing) pass = agree pass (λ i. class_at table (at i).firing) (λ i below. class-below table (at i).firing (way.second i (omega (arith, are.long)))) in
@@ -155,7 +155,7 @@ module _ (net : Net) (table : LoopTable) (loop : IsShortLoop net table) where
       omega arith
 
   -- a firing with a mark comes again
-  pub comes-again : (met new : List Met) (here : Met) (n from : ℕ) (marks : List (Option ℕ)) → length met ≡ n → n ≤ 4000000 → (met_then met here 0).firing ≡ first_firing table → IsWay net table (met_then met here) n → AreMarks table (met_then met here) n marks →
+  pub comes-again : (met new : List Met) (here : Met) (n from : ℕ) (marks : List (Option ℕ)) → length met ≡ n → n ≤ 4000000 → (met_then met here 0).firing ≡ first_firing table → IsTrail net table (met_then met here) n → AreMarks table (met_then met here) n marks →
       slice_index_or marks (class_at table here.firing) None ≡ Some from → new ≡ met ++ here ∷ [] → ComesAgain net table new from
   comes-again met new here n from marks long few first way are mark pushed = subst (λ (xs : List Met). ComesAgain net table xs from) (sym pushed) (record {
     first = ap (λ (m : Met). m.firing) (same 0 (omega arith)) ∙ first;
@@ -199,7 +199,7 @@ module _ (net : Net) (table : LoopTable) (loop : IsShortLoop net table) where
           let equal : i ≡ j = some-one i j (sym one ∙ (ap (λ (c : ℕ). slice_index_or marks c None) both ∙ other)) in
           omega arith
 
-  module _ (met : List Met) (here : Met) (n : ℕ) (long : length met ≡ n) (way : IsWay net table (met_then met here) n) where
+  module _ (met : List Met) (here : Met) (n : ℕ) (long : length met ≡ n) (way : IsTrail net table (met_then met here) n) where
     then-here : met_then met here n ≡ here
     then-here = get_or_past met n here (omega arith)
 
@@ -227,7 +227,7 @@ module _ (net : Net) (table : LoopTable) (loop : IsShortLoop net table) where
       pub first-kept : (x : FiringNo) → (met_then met here 0).firing ≡ x → (met_then new next 0).firing ≡ x
       first-kept x is = ap (λ (m : Met). m.firing) (kept 0 (omega arith)) ∙ is
 
-      pub way-next : Leads net table here next → IsWay net table (met_then new next) (n + 1)
+      pub way-next : Leads net table here next → IsTrail net table (met_then new next) (n + 1)
       way-next leads = way-more (met_then met here) (met_then new next) n way kept
           (subst (λ (m : Met). Leads net table m (met_then new next (suc n))) (sym then-here) (subst (Leads net table here) (sym (get_or_past new (suc n) next (omega (arith, longer)))) leads))
 

@@ -1,27 +1,12 @@
 -- What a need cycle says of the rate of a net.
-use Rattle.std.specs.Prelude.{◌≡◌, ℕ, ◌+◌, ◌*◌, ◌≤◌, ◌<◌, List, [], ◌∷◌, length, slice_index, slice_index_or, count_by, nat_lt}
+use Rattle.std.specs.Prelude.{◌≡◌, ℕ, ◌*◌, ◌≤◌, List}
 use Rattle.critical.specs.declared.cycle.NeedCycle.{NeedCycle}
-use Rattle.sd_base.specs.Net.{Net, channel_at}
-use Rattle.sd_base.specs.Schedules.{Schedule, Admissible, HasInputs}
+use Rattle.sd_base.specs.Net.{Net}
+use Rattle.sd_base.specs.Schedules.{HasInputs}
 use Rattle.sd_base.specs.Lawful.{Lawful}
-use Rattle.sd_base.specs.Rates.{IsLoopTable, Rate}
+use Rattle.sd_base.specs.Rates.{IsLoopTable, Rate, HasUpperSide}
+use Rattle.sd_base.specs.Connection.{IsStronglyConnected}
 use Rattle.critical.specs.Cycles.{HoldsOn}
-
--- the channels with these numbers lead from a to b, each along its direction
-abbrev pub IsPath : Net → ℕ → List ℕ → ℕ → Type 0
-IsPath net a [] b = a ≡ b
-IsPath net a (i ∷ path) b =
-    (i < length net.channels) × ((channel_at net i).source ≡ a) × IsPath net (channel_at net i).target path b
-
--- a path leads from each actor to each
-abbrev pub IsStronglyConnected : Net → Type 0
-IsStronglyConnected net = (a b : ℕ) → a < length net.times → b < length net.times → (path : List ℕ) × IsPath net a path b
-
--- up to a constant, no admissible schedule has more starts before any moment than p rounds in q time units
-abbrev pub HasUpperSide : Net → ℕ → ℕ → Type 0
-HasUpperSide net p q =
-    (b : ℕ) × ((s : Schedule) (t a : ℕ) → Admissible net s → a < length net.times →
-    q * count_by (λ x. nat_lt x t) (slice_index_or s a []) ≤ p * slice_index net.round a * t + b)
 
 -- the rounds of a need cycle by its time are at least the rate
 abbrev pub CyclesBoundTheRate : Type 0

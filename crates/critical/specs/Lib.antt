@@ -1,6 +1,6 @@
 pub mod Cycles
 pub mod Bounds
 pub mod Spaces
-pub mod Rounds
-pub mod Loops
-pub mod Ways
+pub mod CriticalCycles
+pub mod LaterCycles
+pub mod inside

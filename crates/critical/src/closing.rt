@@ -1,7 +1,7 @@
 //! A need cycle from the way back to a firing that came again.
 ghost use Rattle.std.specs.Prelude.{◌≡◌, ◌+◌, ◌-◌, ◌*◌, ◌<◌, ◌≤◌, IfOk, length, slice_index};
-ghost use Rattle.critical.specs.Loops.{IsCriticalCycleOf};
-ghost use Rattle.critical.specs.Ways.{IsShortLoop, IsSecond, ComesAgain, IsLeastRounds, met_at, raised_number, lowered_firing, steps_of};
+ghost use Rattle.critical.specs.CriticalCycles.{IsCriticalCycleOf};
+ghost use Rattle.critical.specs.inside.Trails.{IsShortLoop, IsSecond, ComesAgain, IsLeastRounds, met_at, raised_number, lowered_firing, steps_of};
 
 use crate::cycle::{CycleStep, FiringNo, NeedCycle};
 use crate::walk::Met;

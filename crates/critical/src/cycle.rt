@@ -1,4 +1,5 @@
 ghost use Rattle.std.specs.Prelude.{◌≡◌, ◌+◌, ◌*◌, ◌^◌, ◌<◌, ◌≤◌, ◌↔◌, IsTrue, MatchOption, length, slice_index};
+ghost use Rattle.sd_base.specs.declared.limits.TheConstants.{TIME};
 ghost use Rattle.sd_base.specs.Net.{channel_at, total};
 ghost use Rattle.sd_base.specs.Schedules.{time_of, LastNeed};
 ghost use Rattle.critical.specs.Cycles.{IsStep, IsChain, last_of, time_along, HoldsOn};
@@ -128,7 +129,7 @@ fn tokens_after<F: Firing>(net: &F, channel: u32, firings: u128) -> u128
 pub(crate) fn time_at<F: Firing>(net: &F, firing: FiringNo) -> u64
     requires { firing.actor < length (F.net net.now).times }
     ensures time { result ≡ time_of (F.net net.now) firing.actor firing.number }
-    ensures short { result ≤ 1000000000 }
+    ensures short { result ≤ TIME }
 {
     know_laws(net);
     let phases = net.phases(firing.actor) as u64;

@@ -1,8 +1,9 @@
 ghost use Rattle.std.specs.Prelude.{◌+◌, ◌≤◌, IfOk};
+ghost use Rattle.sd_base.specs.declared.limits.TheConstants.{STARTS};
 ghost use Rattle.sd_base.specs.Schedules.{HasInputs};
 ghost use Rattle.sd_base.specs.SelfTimed.{starts_by};
 ghost use Rattle.sd_base.specs.Rates.{IsLoopTable};
-ghost use Rattle.critical.specs.Loops.{IsCriticalCycleOf};
+ghost use Rattle.critical.specs.CriticalCycles.{IsCriticalCycleOf};
 
 use crate::closing::closed_cycle;
 use crate::cycle::NeedCycle;
@@ -18,7 +19,7 @@ use std::alloc::Global;
 pub fn cycle_of<F: Firing>(alloc: Global, net: &F, table: &LoopTable) -> Result<NeedCycle, NoMemory>
     requires inputs { HasInputs (F.net net.now) }
     requires table { IsLoopTable (F.net net.now) table.now.entry table.now.period table.now.rounds table.now.before table.now.starts }
-    requires few { starts_by (F.net net.now) (table.now.entry + table.now.period) ≤ 4000000 }
+    requires few { starts_by (F.net net.now) (table.now.entry + table.now.period) ≤ STARTS }
     ensures { IfOk result (IsCriticalCycleOf (F.net net.now) table.now) }
 {
     know_laws(net);

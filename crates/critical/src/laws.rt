@@ -1,5 +1,5 @@
 //! Laws of need cycles, each on a function that does nothing.
-ghost use Rattle.critical.specs.Rounds.{CyclesHoldByRounds};
+ghost use Rattle.critical.specs.LaterCycles.{CyclesHoldByRounds};
 ghost use Rattle.critical.specs.Bounds.{CyclesBoundTheRate, CyclesMeetTheUpperSide, LoopsHaveACriticalCycle};
 
 /// A need cycle bounds the rate by its rounds per its time (Reiter 1968), and where each actor leads to

@@ -14,3 +14,4 @@ mod walk;
 
 pub use cycle::{CycleStep, FiringNo, NeedCycle};
 pub use find::cycle_of;
+pub use tight::is_tight_on;

@@ -1,6 +1,6 @@
 //! Marks for the firings of a pass: one list for all actors, actor by actor.
 ghost use Rattle.std.specs.Prelude.{◌≡◌, ◌+◌, ◌<◌, ◌≤◌, None, Some, IfOk, MatchOption, length, replicate, slice_index_or, slice_set};
-ghost use Rattle.critical.specs.Ways.{AreOffsets, IsShort, IsSecond, class_at, offset_of};
+ghost use Rattle.critical.specs.inside.Trails.{AreOffsets, IsShort, IsSecond, class_at, offset_of};
 
 use crate::cycle::FiringNo;
 use crate::pass::second_of;

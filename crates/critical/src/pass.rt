@@ -2,7 +2,7 @@
 //! numbers further on as a pass has, and each starts a period after the listed start.
 ghost use Rattle.std.specs.Prelude.{◌≡◌, ◌+◌, ◌-◌, ◌*◌, ◌<◌, ◌≤◌, length};
 ghost use Rattle.sd_base.specs.Schedules.{count_of};
-ghost use Rattle.critical.specs.Ways.{IsShort, IsSecond, second_of, listed_at};
+ghost use Rattle.critical.specs.inside.Trails.{IsShort, IsSecond, second_of, listed_at};
 
 use crate::cycle::FiringNo;
 use firing::LoopTable;

@@ -2,7 +2,7 @@
 ghost use Rattle.std.specs.Prelude.{◌≡◌, ◌+◌, ◌*◌, ◌<◌, ◌≤◌, ◌^◌, IfOk, length};
 ghost use Rattle.firing.specs.declared.sums.Port.TheVariants.{Taken};
 ghost use Rattle.firing.specs.Wiring.{AreListed};
-ghost use Rattle.critical.specs.Ways.{IsShort, IsShortLoop, IsSecond, Leads, ComesAgain, first_firing};
+ghost use Rattle.critical.specs.inside.Trails.{IsShort, IsShortLoop, IsSecond, Leads, ComesAgain, first_firing};
 
 use crate::cycle::{FiringNo, time_at};
 use crate::marks::{class_of, mark, no_marks, offsets, places_of};

@@ -4,7 +4,7 @@ use Rattle.std.proofs.lemmas.Bool.Decides.{nat_tests}
 use Rattle.file_text.specs.declared.class.Class.{Class}
 use Rattle.file_text.specs.declared.class.Class.TheVariants.{Wide, White, Control, Letter, Digit, Hyphen, Less, Greater, Slash, Bang, Question, Equals, Quote, Ampersand, Other}
 use Rattle.file_text.specs.Grammar.{is_white, is_character, is_plain, is_name_start, is_name_byte}
-use Rattle.file_text.specs.Machine.{class_of}
+use Rattle.file_text.specs.inside.Machine.{class_of}
 
 abbrev pub white_class : Class → Bool
 white_class White = true

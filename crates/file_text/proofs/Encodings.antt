@@ -12,18 +12,18 @@ use Rattle.file_text.specs.declared.due.Due.TheVariants.{Nothing}
 use Rattle.file_text.specs.Node.{Node}
 use Rattle.file_text.specs.Grammar.{Each, Item, byte, entity, comment, IsQuoted, Entity, less, greater, ampersand, quotation, apostrophe, entity_text, items_text, items_value, IsNew, IsUtf8Name, IsText}
 use Rattle.file_text.specs.Fault.{IsPrefix, LeavesAt, IsEncodingAt}
-use Rattle.file_text.specs.Exit.{BehindQuote}
-use Rattle.file_text.specs.Utf8.{due_after, due_along}
-use Rattle.file_text.specs.Machine.{class_of, Around, prolog, Shape, at_start, in_declaring, in_value, declaration, declares_other, Spot, advance, walk, State, both, move, run, start, table}
+use Rattle.file_text.specs.inside.Exits.{BehindQuote}
+use Rattle.file_text.specs.inside.Utf8.{due_after, due_along}
+use Rattle.file_text.specs.inside.Machine.{class_of, Around, prolog, Shape, at_start, in_declaring, in_value, declaration, declares_other, Spot, advance, walk, State, both, move, run, start, table}
 use Rattle.file_text.proofs.Names.{bytes_same, bytes_other, new_name, each_right}
-use Rattle.file_text.proofs.Walks.{Along, then}
+use Rattle.file_text.proofs.MachineWalks.{Along, then}
 use Rattle.file_text.proofs.OverTags.{Allowed, over_attributes, over_head, over_value}
 use Rattle.file_text.proofs.OverTexts.{over_start, ready_declaring}
-use Rattle.file_text.proofs.Standing.{Has}
-use Rattle.file_text.proofs.Steps.{IsOther}
+use Rattle.file_text.proofs.ReadSoFar.{Has}
+use Rattle.file_text.proofs.MachineSteps.{IsOther}
 use Rattle.file_text.proofs.TidyRuns.{run_parts}
 use Rattle.file_text.proofs.Exact.{finished, completes, parts, run-append, dead}
-use Rattle.file_text.proofs.Places.{prefix_take, run_more}
+use Rattle.file_text.proofs.LeavingPlaces.{prefix_take, run_more}
 
 -- a name that is new among attributes is none of theirs, so they may all be declared
 new_allowed : (xs : List Attribute) → IsNew (codes "encoding") xs → Each (Allowed true) xs

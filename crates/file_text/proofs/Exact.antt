@@ -6,17 +6,17 @@ use Rattle.file_text.specs.declared.due.Due.TheVariants.{Nothing}
 use Rattle.file_text.specs.Node.{Node}
 use Rattle.file_text.specs.Grammar.{Each, Spells}
 use Rattle.file_text.specs.Fault.{IsPrefix}
-use Rattle.file_text.specs.Utf8.{due_after, due_along}
-use Rattle.file_text.specs.Machine.{class_of, prolog, epilog, at_start, at_between, Step, goes, leaves, too_deep, other_encoding, Spot, follow, advance, walk, State, both, move, run, start, table, IsTidy}
+use Rattle.file_text.specs.inside.Utf8.{due_after, due_along}
+use Rattle.file_text.specs.inside.Machine.{class_of, prolog, epilog, at_start, at_between, Step, goes, leaves, too_deep, other_encoding, Spot, follow, advance, walk, State, both, move, run, start, table, IsTidy}
 use Rattle.file_text.proofs.Utf8Laws.{due_along-append, due_along-IsUtf8, IsUtf8-due_along}
-use Rattle.file_text.proofs.Walks.{walk-append}
+use Rattle.file_text.proofs.MachineWalks.{walk-append}
 use Rattle.file_text.proofs.OverTags.{Allowed}
 use Rattle.file_text.proofs.OverTexts.{reads, all_allowed}
-use Rattle.file_text.proofs.Standing.{IsClosed, Has, Holds}
+use Rattle.file_text.proofs.ReadSoFar.{IsClosed, Has, Holds}
 use Rattle.file_text.proofs.KeepsEnds.{holds}
 use Rattle.file_text.proofs.TidyRuns.{run_parts, TidyState, tidy}
-use Rattle.file_text.proofs.Endings.{Finishes}
-use Rattle.file_text.proofs.Ends.{ends}
+use Rattle.file_text.proofs.TextsEnd.{Finishes}
+use Rattle.file_text.proofs.BeginsText.{ends}
 
 -- where a text of the grammar ends
 abbrev pub finished : Node → State

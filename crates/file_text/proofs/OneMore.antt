@@ -3,9 +3,9 @@ use Rattle.std.proofs.Common.{◌≡◌, ℕ, ◌+◌, ◌≤◌, refl, sym, ◌
 use Rattle.file_text.specs.declared.tree.Attribute.{Attribute}
 use Rattle.file_text.specs.Node.{Node, Nodes, no_node, node_then, nodes, depth, depths}
 use Rattle.file_text.specs.Grammar.{is_white, is_character, is_name_byte, BeginsWithEnd, IsBody, IsWhite, IsGap, IsName, Item, item_text, items_text, item_value, items_value, IsOutside, IsBetween, IsAttribute, AreAttributes, IsFiller, IsElement, IsContent, IsMisc, IsProlog}
-use Rattle.file_text.specs.Machine.{Around, prolog, within, epilog, Opened, ended}
+use Rattle.file_text.specs.inside.Machine.{Around, prolog, within, epilog, Opened, ended}
 use Rattle.file_text.proofs.Names.{each-append}
-use Rattle.file_text.proofs.Standing.{IsOpen, Reached, Clean}
+use Rattle.file_text.proofs.ReadSoFar.{IsOpen, Reached, Clean}
 
 pub items_text-append : (xs ys : List Item) → items_text (xs ++ ys) ≡ items_text xs ++ items_text ys
 items_text-append [] ys = refl

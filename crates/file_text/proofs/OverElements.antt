@@ -4,8 +4,8 @@ use Rattle.std.proofs.lemmas.Bool.{eq-eqb, lt-ltb}
 use Rattle.file_text.specs.declared.tree.Attribute.{Attribute}
 use Rattle.file_text.specs.Node.{Node, node, Nodes, no_node, node_then, nodes, list_of, depth, depths}
 use Rattle.file_text.specs.Grammar.{Each, is_white, is_name_start, is_name_byte, IsName, IsTag, IsElement, IsContent}
-use Rattle.file_text.specs.Machine.{Around, prolog, within, epilog, Opened, open_of, entered, ended, node_of, Shape, at_between, at_markup, in_name, in_closing, tag, goes, open_step, follow, walk, table}
-use Rattle.file_text.proofs.Walks.{Along, then, at_begin, at_name, over_white, over_name}
+use Rattle.file_text.specs.inside.Machine.{Around, prolog, within, epilog, Opened, open_of, entered, ended, node_of, Shape, at_between, at_markup, in_name, in_closing, tag, goes, open_step, follow, walk, table}
+use Rattle.file_text.proofs.MachineWalks.{Along, then, at_begin, at_name, over_white, over_name}
 use Rattle.file_text.proofs.OverTags.{Ready, ready_name, over_tag_white, over_attributes}
 use Rattle.file_text.proofs.OverFillers.{over_filler}
 

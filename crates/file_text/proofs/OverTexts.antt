@@ -7,8 +7,8 @@ use Rattle.file_text.specs.declared.mode.Declaring.TheVariants as declaring
 use Rattle.file_text.specs.declared.mode.Comment.TheVariants as part
 use Rattle.file_text.specs.Node.{Node}
 use Rattle.file_text.specs.Grammar.{Each, is_name_start, Item, byte, entity, comment, item_text, items_text, IsOutside, IsMisc, mark, IsDeclaration, IsProlog, Spells}
-use Rattle.file_text.specs.Machine.{class_of, Around, prolog, epilog, Shape, at_start, in_mark, at_first, in_declaring, at_between, in_comment, in_name, declaration, goes, follow, walk, table}
-use Rattle.file_text.proofs.Walks.{Along, stay, then, at_white, at_begin}
+use Rattle.file_text.specs.inside.Machine.{class_of, Around, prolog, epilog, Shape, at_start, in_mark, at_first, in_declaring, at_between, in_comment, in_name, declaration, goes, follow, walk, table}
+use Rattle.file_text.proofs.MachineWalks.{Along, stay, then, at_white, at_begin}
 use Rattle.file_text.proofs.OverTags.{Allowed, Ready, over_tag_white, over_attributes}
 use Rattle.file_text.proofs.OverFillers.{over_body, over_outside}
 use Rattle.file_text.proofs.OverElements.{Begins, begins_between, over_element}

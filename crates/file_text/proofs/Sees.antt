@@ -6,9 +6,9 @@ use Rattle.file_text.specs.declared.scanner.Frame.{Frame}
 use Rattle.file_text.specs.declared.class.Class.{Class}
 use Rattle.file_text.specs.declared.class.Class.TheVariants.{White, Less, Greater}
 use Rattle.file_text.specs.declared.due.Due.TheVariants.{Nothing}
-use Rattle.file_text.specs.Machine.{Around, prolog, within, epilog, Opened, open_of, in_name, in_closing, at_between, goes, leaves, too_deep, between_step, character_step, open_step, close_step, closing_step, spelled_at}
-use Rattle.file_text.specs.Seen.{opened_of, stack_on, around_in, is_closed, name_in}
-use Rattle.file_text.proofs.Standing.{IsInside}
+use Rattle.file_text.specs.inside.Machine.{Around, prolog, within, epilog, Opened, open_of, in_name, in_closing, at_between, goes, leaves, too_deep, between_step, character_step, open_step, close_step, closing_step, spelled_at}
+use Rattle.file_text.specs.inside.Seen.{opened_of, stack_on, around_in, is_closed, name_in}
+use Rattle.file_text.proofs.ReadSoFar.{IsInside}
 
 -- the stack of open elements
 pub stack_on-push : (os : List Opened) (fs : List Frame) (f : Frame) → stack_on os (fs ++ f ∷ []) ≡ opened_of f ∷ stack_on os fs

@@ -13,9 +13,9 @@ use Rattle.file_text.specs.declared.mode.Comment.{Comment}
 use Rattle.file_text.specs.declared.mode.Comment.TheVariants as part
 use Rattle.file_text.specs.declared.due.Due.{Due}
 use Rattle.file_text.specs.declared.due.Due.TheVariants.{Nothing, Byte}
-use Rattle.file_text.specs.Utf8.{due_after, due_along}
-use Rattle.file_text.specs.Names.{has_name}
-use Rattle.file_text.specs.Machine.{class_of, Around, prolog, within, epilog, open_of, Holder, declaration, tag, at_start, in_mark, at_first, in_declaring, at_markup, at_named, at_equals, at_valued, Step, goes, leaves, other_encoding, start_step, mark_step, first_step, declaring_step, between_step, close_step, open_step, markup_step, comment_step, end_step, name_step, gap_step, valued_step, if_new, attribute_step, named_step, equals_step, value_end, declares_other, value_step, Spot, follow, IsDue, AreWhole, IsWholeHolder, IsTidyBetween, IsTidyShape, IsProper}
+use Rattle.file_text.specs.inside.Utf8.{due_after, due_along}
+use Rattle.file_text.specs.inside.AttributeNames.{has_name}
+use Rattle.file_text.specs.inside.Machine.{class_of, Around, prolog, within, epilog, open_of, Holder, declaration, tag, at_start, in_mark, at_first, in_declaring, at_markup, at_named, at_equals, at_valued, Step, goes, leaves, other_encoding, start_step, mark_step, first_step, declaring_step, between_step, close_step, open_step, markup_step, comment_step, end_step, name_step, gap_step, valued_step, if_new, attribute_step, named_step, equals_step, value_end, declares_other, value_step, Spot, follow, IsDue, AreWhole, IsWholeHolder, IsTidyBetween, IsTidyShape, IsProper}
 use Rattle.file_text.proofs.Classes.{Says, says}
 use Rattle.file_text.proofs.Utf8Laws.{due_along-append}
 

@@ -9,7 +9,7 @@ use Rattle.std.specs.Char.{encode_utf8}
 use Rattle.std.specs.Str.Lossy.{second_byte_min, second_byte_max}
 use Rattle.file_text.specs.declared.due.Due.{Due}
 use Rattle.file_text.specs.declared.due.Due.TheVariants.{Nothing, Byte}
-use Rattle.file_text.specs.Utf8.{first_due, due_after_first, due_behind, due_after, due_along}
+use Rattle.file_text.specs.inside.Utf8.{first_due, due_after_first, due_behind, due_after, due_along}
 
 pub due_along-none : (bs : List ℕ) → due_along None bs ≡ None
 due_along-none [] = refl

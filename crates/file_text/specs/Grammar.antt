@@ -1,6 +1,7 @@
 -- The grammar of a graph file's text: which bytes spell which tree.
 use Rattle.std.specs.Prelude.{◌≡◌, ◌≢◌, ℕ, ◌≤◌, ◌⊎◌, Bool, ◌&&◌, ◌||◌, not, ◌==◌, nat_le, IsTrue, List, [], ◌∷◌, ◌++◌, take, codes}
 use Rattle.std.specs.Str.{IsUtf8, str_to_ascii_lowercase}
+use Rattle.sd_base.specs.declared.limits.TheConstants.{DEPTH}
 use Rattle.file_text.specs.declared.tree.Attribute.{Attribute}
 use Rattle.file_text.specs.Node.{Node, node, Nodes, no_node, node_then, depth}
 
@@ -219,7 +220,7 @@ pub record Spells (declared : List Attribute) (e : Node) (t : List ℕ) : Type 0
   pub is_root : IsElement e root
   pub is_misc : IsMisc misc
   pub spelled : t ≡ prolog ++ (root ++ misc)
-  pub shallow : depth e ≤ 32
+  pub shallow : depth e ≤ DEPTH
   pub utf8 : IsUtf8 t
 
 -- the name of an encoding is UTF-8, in any ASCII case

@@ -1,6 +1,6 @@
 ghost use Rattle.std.specs.Prelude.{◌≡◌, ◌==◌, [], ◌∷◌, ◌++◌, length, IfOk};
 ghost use Rattle.std.specs.String.{string_bytes};
-ghost use Rattle.file_text.specs.Names.{has_name};
+ghost use Rattle.file_text.specs.inside.AttributeNames.{has_name};
 
 use crate::Attribute;
 use sd_base::{Rows, Text};
@@ -20,7 +20,7 @@ impl Model for Attributes {
     ghost use Rattle.std.specs.Prelude.{◌≡◌, List, ℕ};
     ghost use Rattle.std.specs.BTreeSet.{contains_text};
     ghost use Rattle.file_text.specs.declared.tree.Attribute.{Attribute};
-    ghost use Rattle.file_text.specs.Names.{has_name};
+    ghost use Rattle.file_text.specs.inside.AttributeNames.{has_name};
 
     ghost Value = { List Attribute };
 

@@ -1,5 +1,5 @@
 ghost use Rattle.std.specs.Prelude.{◌≡◌};
-ghost use Rattle.file_text.specs.Machine.{class_of};
+ghost use Rattle.file_text.specs.inside.Machine.{class_of};
 
 /// The part that a byte plays.
 #[derive(Clone, Copy)]

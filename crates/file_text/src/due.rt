@@ -1,5 +1,5 @@
 ghost use Rattle.std.specs.Prelude.{◌≡◌};
-ghost use Rattle.file_text.specs.Utf8.{due_after, due_after_first, first_due};
+ghost use Rattle.file_text.specs.inside.Utf8.{due_after, due_after_first, first_due};
 
 /// The bytes that a character still needs.
 #[derive(Clone, Copy)]

@@ -1,7 +1,7 @@
 ghost use Rattle.std.specs.Prelude.{◌≡◌, ◌+◌, ◌^◌, ◌<◌, [], Some, IfOk, OnSome, drop, slice_get};
-ghost use Rattle.file_text.specs.Machine.{Takes, goes, within, at_between, ended, grown, node_of, closing_step, match_step, leave_step};
+ghost use Rattle.file_text.specs.inside.Machine.{Takes, goes, within, at_between, ended, grown, node_of, closing_step, match_step, leave_step};
 ghost use Rattle.file_text.specs.Node.{tree_of};
-ghost use Rattle.file_text.specs.Seen.{around_of, name_in, opened_of, stack_on, state_of};
+ghost use Rattle.file_text.specs.inside.Seen.{around_of, name_in, opened_of, stack_on, state_of};
 
 use crate::Element;
 use crate::class::Class;

@@ -28,7 +28,7 @@ pub enum TextError {
     Syntax { place: u64 },
     #[error("unsupported construct at byte {place}")]
     Unsupported { place: u64, what: Construct },
-    /// The `<` of an element inside 32 others.
+    /// The `<` of an element inside as many others as may be open.
     #[error("too many open elements at byte {place}")]
     TooDeep { place: u64 },
     #[error("out of memory")]

@@ -2,7 +2,7 @@ ghost use Rattle.std.specs.Prelude.{◌≡◌, ◌<◌, ◌≤◌, ◌↔◌, �
 ghost use Rattle.file_text.specs.Node.{Node, tree_of};
 ghost use Rattle.file_text.specs.Grammar.{IsText};
 ghost use Rattle.file_text.specs.Fault.{FirstFault, Stands, LeavesDeclaration};
-ghost use Rattle.file_text.specs.Exit.{IsStop, FaultAt, BehindQuote};
+ghost use Rattle.file_text.specs.inside.Exits.{IsStop, FaultAt, BehindQuote};
 ghost use Rattle.file_text.specs.declared.error.TextError.TheVariants.{NoMemory};
 
 use crate::scanner::Scanner;

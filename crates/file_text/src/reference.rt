@@ -1,5 +1,5 @@
 ghost use Rattle.std.specs.Prelude.{◌≡◌};
-ghost use Rattle.file_text.specs.Machine.{referred};
+ghost use Rattle.file_text.specs.inside.Machine.{referred};
 
 /// What has been read of an entity.
 #[derive(Clone, Copy)]

@@ -1,8 +1,8 @@
 ghost use Rattle.std.specs.Prelude.{◌≡◌, IfOk, IsTrue, IsFalse, None, option_map};
 ghost use Rattle.file_text.specs.Node.{tree_of};
-ghost use Rattle.file_text.specs.Machine.{class_of, table, Takes, IsTidy, start, tree_at};
-ghost use Rattle.file_text.specs.Utf8.{due_after};
-ghost use Rattle.file_text.specs.Seen.{around_of, shape_of, state_of};
+ghost use Rattle.file_text.specs.inside.Machine.{class_of, table, Takes, IsTidy, start, tree_at};
+ghost use Rattle.file_text.specs.inside.Utf8.{due_after};
+ghost use Rattle.file_text.specs.inside.Seen.{around_of, shape_of, state_of};
 
 use crate::attributes::Attributes;
 use crate::class::class_at;
@@ -70,7 +70,7 @@ impl Scanner {
     }
 
     /// Takes one more byte.
-    #[tactic(auto, unfolding(crate::specs::Machine::table))]
+    #[tactic(auto, unfolding(crate::specs::inside::Machine::table))]
     pub(crate) fn take(&mut self, alloc: Global, b: u8) -> Result<Taken, AllocError>
         requires { IsTidy self.old.due (around_of self.old) (shape_of self.old) }
         ensures { IfOk result (λ answer. Takes (due_after self.old.due b) (table (around_of self.old) (shape_of self.old) (class_of b) b) answer (state_of self.new)) }

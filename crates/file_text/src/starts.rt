@@ -1,6 +1,6 @@
 ghost use Rattle.std.specs.Prelude.{Some, IfOk};
-ghost use Rattle.file_text.specs.Machine.{Takes, start_step, mark_step, first_step, declaring_step};
-ghost use Rattle.file_text.specs.Seen.{around_of, state_of};
+ghost use Rattle.file_text.specs.inside.Machine.{Takes, start_step, mark_step, first_step, declaring_step};
+ghost use Rattle.file_text.specs.inside.Seen.{around_of, state_of};
 
 use crate::class::Class;
 use crate::mode::{Comment, Declaring, Mark, Mode};

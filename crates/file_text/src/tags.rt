@@ -3,9 +3,9 @@ ghost use Rattle.std.specs.Str.{bytes_eq, str_to_ascii_lowercase};
 ghost use Rattle.std.specs.String.{string_bytes};
 ghost use Rattle.file_text.specs.declared.class.Class.TheVariants.{Wide};
 ghost use Rattle.file_text.specs.declared.due.Due.TheVariants.{Nothing};
-ghost use Rattle.file_text.specs.Names.{has_name};
-ghost use Rattle.file_text.specs.Machine.{Takes, IsDue, IsWholeHolder, name_step, gap_step, valued_step, end_step, attribute_step, named_step, equals_step, value_step, value_end, declares_other, value_reference_step, referred, slash_step, ending_step, goes, at_between, entered};
-ghost use Rattle.file_text.specs.Seen.{around_of, holder_of, opened_of, state_of};
+ghost use Rattle.file_text.specs.inside.AttributeNames.{has_name};
+ghost use Rattle.file_text.specs.inside.Machine.{Takes, IsDue, IsWholeHolder, name_step, gap_step, valued_step, end_step, attribute_step, named_step, equals_step, value_step, value_end, declares_other, value_reference_step, referred, slash_step, ending_step, goes, at_between, entered};
+ghost use Rattle.file_text.specs.inside.Seen.{around_of, holder_of, opened_of, state_of};
 
 use crate::attributes::Attributes;
 use crate::class::Class;

@@ -1,16 +1,17 @@
 ghost use Rattle.std.specs.Prelude.{◌≡◌, ◌∷◌, [], Some, IfOk};
-ghost use Rattle.file_text.specs.Machine.{Takes, goes, in_name, character_step, between_step, markup_step, open_step, comment_step, text_reference_step, referred};
-ghost use Rattle.file_text.specs.Seen.{around_of, is_closed, state_of};
+ghost use Rattle.file_text.specs.inside.Machine.{Takes, goes, in_name, character_step, between_step, markup_step, open_step, comment_step, text_reference_step, referred};
+ghost use Rattle.file_text.specs.inside.Seen.{around_of, is_closed, state_of};
 
 use crate::class::Class;
 use crate::mode::{Comment, Mode};
 use crate::reference::{Reference, Referred};
 use crate::scanner::Scanner;
 use crate::taken::Taken;
+use sd_base::limits::DEPTH;
 use std::alloc::{AllocError, Global};
 
 /// The greatest count of elements that are open at one place.
-const MOST_OPEN: usize = 32;
+const MOST_OPEN: usize = DEPTH as usize;
 
 /// What stands between tags.
 impl Scanner {

@@ -1,3 +1,3 @@
-pub mod Ports
 pub mod Sdf
 pub mod Wiring
+pub mod Ports

@@ -10,9 +10,11 @@ use sd_base::Role;
 pub trait Firing {
     ghost net: { Self → Net };
 
+    /// How many actors there are.
     fn actors(&self) -> u32
         ensures { result ≡ length (net self.now).times };
 
+    /// How many channels there are, with those that stand for free space or keep firings apart.
     fn channels(&self) -> u32
         ensures { result ≡ length (net self.now).channels };
 
@@ -64,6 +66,7 @@ pub trait Firing {
         requires { actor < length (net self.now).times }
         ensures { result ≡ slice_index (net self.now).round actor };
 
+    /// What a channel stands for: tokens of the file, free space, or an order of firings.
     fn role(&self, channel: u32) -> Role
         requires { channel < length (net self.now).channels }
         ensures { result ≡ (channel_at (net self.now) channel).role };

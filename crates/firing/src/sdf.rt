@@ -1,4 +1,5 @@
 ghost use Rattle.std.specs.Prelude.{◌≡◌, ◌+◌, ◌<◌, ◌≤◌, [], ◌∷◌, ◌++◌, All, IfOk, OnOk, length, map, sum};
+ghost use Rattle.sd_base.specs.declared.limits.TheConstants.{ROUND, CHANNELS, ACTORS};
 ghost use Rattle.sd_base.specs.declared.tables.Kind.TheVariants.{Sdf};
 ghost use Rattle.sd_base.specs.declared.tables.ActorRow.{ActorRow};
 ghost use Rattle.sd_base.specs.declared.tables.ChannelRow.{ChannelRow};
@@ -101,7 +102,7 @@ impl SdfNet {
         requires kind { graph.now.kind ≡ Sdf }
         requires timed { IsTimed graph.now }
         requires gamma { IsRepetitionOf graph.now gamma.now }
-        requires small { sum gamma.now ≤ 100000 }
+        requires small { sum gamma.now ≤ ROUND }
         ensures { IfOk result (λ n. ⟦<SdfNet as Firing>⟧.net n ≡ net_of graph.now gamma.now no_overlap) }
     {
         let times = single_times(alloc, graph)?;
@@ -132,7 +133,7 @@ fn single_times(alloc: Global, graph: &GraphFile) -> Result<Vec<u64>, NoMemory>
 fn file_table(alloc: Global, graph: &GraphFile) -> Result<Vec<SdfChannel>, NoMemory>
     requires made { All (λ (c : ChannelRow). length c.made ≡ 1) graph.now.channels }
     requires taken { All (λ (c : ChannelRow). length c.taken ≡ 1) graph.now.channels }
-    requires few { length graph.now.channels ≤ 256 }
+    requires few { length graph.now.channels ≤ CHANNELS }
     ensures { IfOk result (λ v. map plain_channel v.items ≡ file_channels graph.now) }
 {
     let mut table = Vec::new(alloc);
@@ -166,7 +167,7 @@ fn push_own_channels(
     no_overlap: bool,
 ) -> Result<(), NoMemory>
     requires phases { All (λ (a : ActorRow). a.phases ≡ 1) graph.now.actors }
-    requires few { length graph.now.actors ≤ 128 }
+    requires few { length graph.now.actors ≤ ACTORS }
     ensures { OnOk result (map plain_channel channels.new.items ≡ map plain_channel channels.old.items
         ++ own_channels_from no_overlap graph.now.channels 0 graph.now.actors) }
 {

@@ -1,4 +1,5 @@
 ghost use Rattle.std.specs.Prelude.{◌≡◌, ◌+◌, ◌-◌, ◌*◌, ◌^◌, ◌<◌, ◌≤◌, length, slice_index};
+ghost use Rattle.sd_base.specs.declared.limits.TheConstants.{RATE};
 ghost use Rattle.sd_base.specs.Net.{channel_at, total};
 ghost use Rattle.sd_base.specs.Schedules.{IsNeed};
 ghost use Rattle.firing.specs.Ports.{rates_at};
@@ -8,7 +9,9 @@ use crate::net::{Firing, know_laws};
 /// An end of a channel: what its source makes, or what its target takes.
 #[derive(Clone, Copy, Debug)]
 pub enum Port {
+    /// The source's end.
     Made,
+    /// The target's end.
     Taken,
 }
 
@@ -38,14 +41,14 @@ fn port_sum<F: Firing>(net: &F, channel: u32, port: Port, firings: u128) -> u128
     requires few { firings ≤ 2 ^ 96 }
     ensures { result ≡ total (rates_at port (channel_at (F.net net.now) channel)) firings }
 {
-    let phases = phases_at(net, channel, port);
+    let phases = port_phases(net, channel, port);
     let turn = turn_sum(net, channel, port, phases);
     let rest = turn_sum(net, channel, port, (firings % phases as u128) as u32);
     firings / phases as u128 * turn + rest
 }
 
 /// How many phases the actor at an end of a channel has.
-pub(crate) fn phases_at<F: Firing>(net: &F, channel: u32, port: Port) -> u32
+pub fn port_phases<F: Firing>(net: &F, channel: u32, port: Port) -> u32
     requires { channel < length (F.net net.now).channels }
     ensures phases { result ≡ length (rates_at port (channel_at (F.net net.now) channel)) }
     ensures some { 0 < result }
@@ -57,12 +60,12 @@ pub(crate) fn phases_at<F: Firing>(net: &F, channel: u32, port: Port) -> u32
     }
 }
 
-/// The rate at an end of a channel in a phase.
-pub(crate) fn rate<F: Firing>(net: &F, channel: u32, port: Port, phase: u32) -> u64
+/// The tokens that a firing makes or takes at an end of a channel in a phase of the actor there.
+pub fn port_rate<F: Firing>(net: &F, channel: u32, port: Port, phase: u32) -> u64
     requires channel { channel < length (F.net net.now).channels }
     requires phase { phase < length (rates_at port (channel_at (F.net net.now) channel)) }
     ensures rate { result ≡ slice_index (rates_at port (channel_at (F.net net.now) channel)) phase }
-    ensures small { result ≤ 1000000 }
+    ensures small { result ≤ RATE }
 {
     know_laws(net);
     match port {
@@ -76,11 +79,11 @@ fn turn_sum<F: Firing>(net: &F, channel: u32, port: Port, phases: u32) -> u128
     requires channel { channel < length (F.net net.now).channels }
     requires phases { phases ≤ length (rates_at port (channel_at (F.net net.now) channel)) }
     ensures sum { result ≡ total (rates_at port (channel_at (F.net net.now) channel)) phases }
-    ensures small { result ≤ phases * 1000000 }
+    ensures small { result ≤ phases * RATE }
 {
     let mut sum = 0u128;
     for phase in 0..phases {
-        sum += rate(net, channel, port, phase) as u128;
+        sum += port_rate(net, channel, port, phase) as u128;
     }
     sum
 }
@@ -99,7 +102,7 @@ pub fn need<F: Firing>(net: &F, channel: u32, firing: u64) -> u64
         return 0;
     }
     let lack = taken - tokens;
-    let phases = phases_at(net, channel, Port::Made);
+    let phases = port_phases(net, channel, Port::Made);
     let turn = turn_sum(net, channel, Port::Made, phases);
     let turns = (lack - 1) / turn;
     let rest = firings_making(net, channel, lack - turns * turn);
@@ -116,10 +119,10 @@ fn firings_making<F: Firing>(net: &F, channel: u32, wanted: u128) -> u32
     ensures enough { wanted ≤ total (channel_at (F.net net.now) channel).made result }
     ensures least { total (channel_at (F.net net.now) channel).made (result - 1) < wanted }
 {
-    let phases = phases_at(net, channel, Port::Made);
+    let phases = port_phases(net, channel, Port::Made);
     let mut sum = 0u128;
     for phase in 0..phases {
-        sum += rate(net, channel, Port::Made, phase) as u128;
+        sum += port_rate(net, channel, Port::Made, phase) as u128;
         if sum >= wanted {
             return phase + 1;
         }

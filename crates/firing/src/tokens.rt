@@ -1,11 +1,12 @@
 ghost use Rattle.std.specs.Prelude.{◌≡◌, ℕ, ◌+◌, ◌*◌, ◌%◌, ◌^◌, ◌<◌, ◌≤◌, length, map, slice_index, IfOk, MatchOption};
+ghost use Rattle.sd_base.specs.declared.limits.TheConstants.{RATE};
 ghost use Rattle.sd_base.specs.Net.{Channel, channel_at, phase_entry, total};
 ghost use Rattle.firing.specs.declared.sums.Port.TheVariants.{Made, Taken};
 ghost use Rattle.firing.specs.Ports.{rates_at};
 ghost use Rattle.firing.specs.Wiring.{IsListed, SufficesBefore, IsFirstLack, TakesTokens, PutsTokens};
 
 use crate::net::{Firing, know_laws};
-use crate::sums::{Port, phases_at, rate};
+use crate::sums::{Port, port_phases, port_rate};
 use sd_base::NoMemory;
 use std::alloc::Global;
 
@@ -37,7 +38,7 @@ fn taken_by<F: Firing>(net: &F, channel: u32, firing: u64) -> u64
     requires { channel < length (F.net net.now).channels }
     ensures { result ≡ phase_entry (channel_at (F.net net.now) channel).taken firing }
 {
-    let phases = phases_at(net, channel, Port::Taken) as u64;
+    let phases = port_phases(net, channel, Port::Taken) as u64;
     net.taken(channel, (firing % phases) as u32)
 }
 
@@ -94,15 +95,15 @@ fn span_sum<F: Firing>(net: &F, channel: u32, port: Port, from: u64, firings: u6
     requires few { from + firings < 2 ^ 64 }
     ensures sum { total (rates_at port (channel_at (F.net net.now) channel)) from + result
         ≡ total (rates_at port (channel_at (F.net net.now) channel)) (from + firings) }
-    ensures small { result ≤ firings * 1000000 }
+    ensures small { result ≤ firings * RATE }
 {
-    let phases = phases_at(net, channel, port) as u64;
+    let phases = port_phases(net, channel, port) as u64;
     if phases == 1 {
-        return firings as u128 * rate(net, channel, port, 0) as u128;
+        return firings as u128 * port_rate(net, channel, port, 0) as u128;
     }
     let mut sum = 0u128;
     for k in 0..firings {
-        sum += rate(net, channel, port, ((from + k) % phases) as u32) as u128;
+        sum += port_rate(net, channel, port, ((from + k) % phases) as u32) as u128;
     }
     sum
 }

@@ -29,6 +29,7 @@ impl Wiring {
         })
     }
 
+    /// The channels into an actor.
     pub fn inputs_of(&self, actor: u32) -> &[u32]
         requires { actor < length self.now.inputs }
         ensures { result.now ≡ slice_index_or self.now.inputs actor [] }
@@ -36,6 +37,7 @@ impl Wiring {
         self.inputs.as_slice()[actor as usize].as_slice()
     }
 
+    /// The channels out of an actor.
     pub fn outputs_of(&self, actor: u32) -> &[u32]
         requires { actor < length self.now.outputs }
         ensures { result.now ≡ slice_index_or self.now.outputs actor [] }

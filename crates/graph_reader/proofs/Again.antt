@@ -5,8 +5,8 @@ use Rattle.std.specs.List.{All, list_any, find}
 use Rattle.std.specs.Option.{option_to_list}
 use Rattle.std.proofs.lemmas.Bool.{le-ltb, ne_eqb}
 use Rattle.std.proofs.lemmas.Slice.Eq.{bytes_eq-Decides}
-use Rattle.sd_base.specs.declared.quantity.Quantity.{Quantity}
-use Rattle.sd_base.specs.declared.quantity.Quantity.TheVariants as quantity
+use Rattle.sd_base.specs.declared.limits.Quantity.{Quantity}
+use Rattle.sd_base.specs.declared.limits.Quantity.TheVariants as quantity
 use Rattle.sd_base.specs.declared.tables.GraphFile.{GraphFile}
 use Rattle.sd_base.specs.declared.tables.ActorRow.{ActorRow}
 use Rattle.sd_base.specs.Tables.{IsTimed}
@@ -24,38 +24,38 @@ use Rattle.graph_reader.specs.declared.channels.Channel.{Channel}
 use Rattle.graph_reader.specs.declared.properties.TimeEntry.{TimeEntry}
 use Rattle.graph_reader.specs.declared.properties.SizeEntry.{SizeEntry}
 use Rattle.graph_reader.specs.Field.{word_of}
-use Rattle.graph_reader.specs.Walk
-use Rattle.graph_reader.specs.Walk.{◌>>=◌, file}
-use Rattle.graph_reader.specs.Numbers
+use Rattle.graph_reader.specs.TreeSteps
+use Rattle.graph_reader.specs.TreeSteps.{◌>>=◌, file}
+use Rattle.graph_reader.specs.NumberTexts
 use Rattle.graph_reader.specs.Sections
 use Rattle.graph_reader.specs.Spelled
 use Rattle.graph_reader.specs.Spelled.{Pairwise, EachTwo, Has, IsNumber, HasPositive, HasName}
-use Rattle.graph_reader.proofs.Steps.{then-ok, passes}
-use Rattle.graph_reader.proofs.Places.{AfterEach, each-given, Related, after-from_two, Counted, counted-from_few, no-count, none-from_Each, Each-weaker, not-among, among, length-push, port_count-cons, port_count-push}
+use Rattle.graph_reader.proofs.ReaderSteps.{then-ok, passes}
+use Rattle.graph_reader.proofs.ElementPlaces.{AfterEach, each-given, Related, after-from_two, Counted, counted-from_few, no-count, none-from_Each, Each-weaker, not-among, among, length-push, port_count-cons, port_count-push}
 
-required : (what : Field) (of : List ℕ) (e : Node) (value : List ℕ) → Has what e value → Walk.required what of e ≡ Ok value
-unfolding Walk.required
-required what of e value has = ap (Walk.present what of) has
+required : (what : Field) (of : List ℕ) (e : Node) (value : List ℕ) → Has what e value → TreeSteps.required what of e ≡ Ok value
+unfolding TreeSteps.required
+required what of e value has = ap (TreeSteps.present what of) has
 
 -- ---- numbers
 
-within : (q : Quantity) (limit n : ℕ) → n ≤ limit → Numbers.within q limit n ≡ Ok n
-unfolding Numbers.within
+within : (q : Quantity) (limit n : ℕ) → n ≤ limit → NumberTexts.within q limit n ≡ Ok n
+unfolding NumberTexts.within
 within q limit n few = rw (le-ltb limit n few) refl
 
-number : (what : Field) (of : List ℕ) (q : Quantity) (limit : ℕ) (text : List ℕ) (n : ℕ) → IsNumber limit text n → Numbers.number what of q limit text ≡ Ok n
-unfolding Numbers.number
-number what of q limit text n is = then-ok (Numbers.formed what of (Numbers.number_in text)) (λ m. Numbers.within q limit m) n (Ok n) (ap (Numbers.formed what of) is.0) (within q limit n is.1)
+number : (what : Field) (of : List ℕ) (q : Quantity) (limit : ℕ) (text : List ℕ) (n : ℕ) → IsNumber limit text n → NumberTexts.number what of q limit text ≡ Ok n
+unfolding NumberTexts.number
+number what of q limit text n is = then-ok (NumberTexts.formed what of (NumberTexts.number_in text)) (λ m. NumberTexts.within q limit m) n (Ok n) (ap (NumberTexts.formed what of) is.0) (within q limit n is.1)
 
 not-zero : (n : ℕ) → 1 ≤ n → (n == 0) ≡ false
 not-zero n some =
     let other : n ≢ 0 = omega arith in
     ne_eqb n 0 other
 
-positive : (what : Field) (of : List ℕ) (q : Quantity) (limit : ℕ) (text : List ℕ) (n : ℕ) → IsNumber limit text n → 1 ≤ n → Numbers.positive what of q limit text ≡ Ok n
-unfolding Numbers.positive
+positive : (what : Field) (of : List ℕ) (q : Quantity) (limit : ℕ) (text : List ℕ) (n : ℕ) → IsNumber limit text n → 1 ≤ n → NumberTexts.positive what of q limit text ≡ Ok n
+unfolding NumberTexts.positive
 positive what of q limit text n is some =
-    then-ok (Numbers.number what of q limit text) (λ m. cond (m == 0) (Err (error.BadNumber what of)) (Ok m)) n (Ok n) (number what of q limit text n is)
+    then-ok (NumberTexts.number what of q limit text) (λ m. cond (m == 0) (Err (error.BadNumber what of)) (Ok m)) n (Ok n) (number what of q limit text n is)
     (passes (n == 0) (Err (error.BadNumber what of)) (Ok n) (Ok n) (not-zero n some) refl)
 
 -- ---- names
@@ -66,13 +66,13 @@ tested_name f of earlier e name is differ =
 
 new_name : {X : Type 0} (f : X → List ℕ) (of : List ℕ) (earlier : List X) (e : Node) (name : List ℕ) → HasName e name → Each (λ x. f x ≢ name) earlier → Sections.new_name of (map f earlier) e ≡ Ok name
 unfolding Sections.new_name
-new_name f of earlier e name is differ = then-ok (Walk.required field.Name of e) (Sections.tested_name of (map f earlier)) name (Ok name) (required field.Name of e name is.has) (tested_name f of earlier e name is differ)
+new_name f of earlier e name is differ = then-ok (TreeSteps.required field.Name of e) (Sections.tested_name of (map f earlier)) name (Ok name) (required field.Name of e name is.has) (tested_name f of earlier e name is differ)
 
 mention : {X Y : Type 0} (f : X → List ℕ) (g : Y → List ℕ) (what : Field) (rows : List X) (earlier : List Y) (e : Node) (name : List ℕ) → Has what e name → (Each (λ x. f x ≢ name) rows → ⊥) → Each (λ y. g y ≢ name) earlier
     → Sections.mention what (map f rows) (map g earlier) e ≡ Ok name
 unfolding Sections.mention
 mention f g what rows earlier e name has known differ =
-    then-ok (Walk.required what file e) (Sections.tested_mention what (map f rows) (map g earlier)) name (Ok name) (required what file e name has)
+    then-ok (TreeSteps.required what file e) (Sections.tested_mention what (map f rows) (map g earlier)) name (Ok name) (required what file e name has)
     (rw (among f name rows known, not-among g name earlier differ) refl)
 
 -- ---- actors
@@ -88,11 +88,11 @@ port_of : (actor : List ℕ) (before : ℕ) (done : List Port) (e : Node) (p : P
 unfolding Sections.port_of
 port_of actor before done e p is new =
     then-ok (Sections.new_name actor (map (λ (q : Port). q.name) done) e) _ p.name (Ok p) (new_name (λ (q : Port). q.name) actor done e p.name is.name new.0) (
-    then-ok (Numbers.within quantity.Ports 1024 (before + length done + 1)) _ (before + length done + 1) (Ok p) (within quantity.Ports 1024 (before + length done + 1) new.1) (
-    then-ok (Walk.required field.TypeWord actor e) _ (Spelled.direction_word p.direction) (Ok p) (required field.TypeWord actor e (Spelled.direction_word p.direction) is.direction) (
+    then-ok (NumberTexts.within quantity.Ports 1024 (before + length done + 1)) _ (before + length done + 1) (Ok p) (within quantity.Ports 1024 (before + length done + 1) new.1) (
+    then-ok (TreeSteps.required field.TypeWord actor e) _ (Spelled.direction_word p.direction) (Ok p) (required field.TypeWord actor e (Spelled.direction_word p.direction) is.direction) (
     then-ok (Sections.direction_in actor (Spelled.direction_word p.direction)) _ p.direction (Ok p) (direction_in actor p.direction) (
-    then-ok (Walk.required field.Rate actor e) _ is.rate.0 (Ok p) (required field.Rate actor e is.rate.0 is.rate.1) (
-    then-ok (Numbers.positive field.Rate actor quantity.Rate 1000000 is.rate.0) _ p.rate (Ok p) (positive field.Rate actor quantity.Rate 1000000 is.rate.0 p.rate is.rate.2 is.rate.3) refl)))))
+    then-ok (TreeSteps.required field.Rate actor e) _ is.rate.0 (Ok p) (required field.Rate actor e is.rate.0 is.rate.1) (
+    then-ok (NumberTexts.positive field.Rate actor quantity.Rate 1000000 is.rate.0) _ p.rate (Ok p) (positive field.Rate actor quantity.Rate 1000000 is.rate.0 p.rate is.rate.2 is.rate.3) refl)))))
 
 abbrev PortsFit : ℕ → List Port → Type 0
 PortsFit before ports = (0 < length ports) → before + length ports ≤ 1024
@@ -115,9 +115,9 @@ actor_of done e a is new =
     let before = Sections.port_count done in
     let after = after-from_two PortsDiffer (Counted before 1024) a.ports is.apart (counted-ports before a.ports new.1.1) in
     then-ok (Sections.new_name file (map (λ (b : Actor). b.name) done) e) _ a.name (Ok a) (new_name (λ (b : Actor). b.name) file done e a.name is.name new.0) (
-    then-ok (Numbers.within quantity.Actors 128 (length done + 1)) _ (length done + 1) (Ok a) (within quantity.Actors 128 (length done + 1) new.1.0) (
-    then-ok (Walk.each (Sections.port_of a.name before) [] (Walk.children (codes "port") e)) _ a.ports (Ok a)
-    (each-given Spelled.IsPort (Related PortsDiffer (Counted before 1024)) (Sections.port_of a.name before) (port_of a.name before) [] (Walk.children (codes "port") e) a.ports is.ports after) refl))
+    then-ok (NumberTexts.within quantity.Actors 128 (length done + 1)) _ (length done + 1) (Ok a) (within quantity.Actors 128 (length done + 1) new.1.0) (
+    then-ok (TreeSteps.each (Sections.port_of a.name before) [] (TreeSteps.children (codes "port") e)) _ a.ports (Ok a)
+    (each-given Spelled.IsPort (Related PortsDiffer (Counted before 1024)) (Sections.port_of a.name before) (port_of a.name before) [] (TreeSteps.children (codes "port") e) a.ports is.ports after) refl))
 
 counted-actors : (done actors : List Actor) → length done + length actors ≤ 128 → Sections.port_count done + Sections.port_count actors ≤ 1024 → AfterEach ActorCounted done actors
 counted-actors done [] few few_ports = tt
@@ -135,11 +135,11 @@ some_actor (a ∷ rest) some = refl
 actors_of : (section : Node) (actors : List Actor) → Spelled.AreActors section actors → Sections.actors_of section ≡ Ok actors
 unfolding Sections.actors_of
 actors_of section actors are =
-    let elements = Walk.children (word_of field.Actor) section in
+    let elements = TreeSteps.children (word_of field.Actor) section in
     let few = are.few in
     let few_ports = are.few_ports in
     let after = after-from_two ActorsDiffer ActorCounted actors are.apart (counted-actors [] actors (omega arith) (omega arith)) in
-    then-ok (Walk.each Sections.actor_of [] elements) Sections.some_actor actors (Ok actors) (each-given Spelled.IsActor (Related ActorsDiffer ActorCounted) Sections.actor_of actor_of [] elements actors are.rows after) (some_actor actors are.some)
+    then-ok (TreeSteps.each Sections.actor_of [] elements) Sections.some_actor actors (Ok actors) (each-given Spelled.IsActor (Related ActorsDiffer ActorCounted) Sections.actor_of actor_of [] elements actors are.rows after) (some_actor actors are.some)
 
 -- ---- channels
 
@@ -147,9 +147,9 @@ end_of : (actors : List Actor) (direction : Direction) (actor_word port_word : F
 unfolding Sections.end_of
 end_of actors direction actor_word port_word of e x is =
     let made : ℕ → End = λ rate. record { actor = x.actor; port = x.port; rate = rate } in
-    then-ok (Walk.required actor_word of e) _ is.actor_name (Ok x) (required actor_word of e is.actor_name is.has_actor) (
+    then-ok (TreeSteps.required actor_word of e) _ is.actor_name (Ok x) (required actor_word of e is.actor_name is.has_actor) (
     then-ok (Sections.known actor_word is.actor_name (Sections.numbered 0 is.actor_name actors)) _ (x.actor, is.actor) (Ok x) (ap (Sections.known actor_word is.actor_name) is.is_actor) (
-    then-ok (Walk.required port_word of e) _ x.port (Ok x) (required port_word of e x.port is.has_port) (
+    then-ok (TreeSteps.required port_word of e) _ x.port (Ok x) (required port_word of e x.port is.has_port) (
     then-ok (Sections.known port_word x.port (find (Sections.is_port direction x.port) is.actor.ports)) _ is.port (Ok x) (ap (Sections.known port_word x.port) is.is_port) (
     ap (λ rate. Ok (made rate)) is.rate))))
 
@@ -168,27 +168,27 @@ channel_of actors done e c is new =
     let sources = none-from_Each (λ (d : Channel). Sections.is_same_port d.source c.source) done (Each-weaker (λ d. Spelled.AreApart d c) (λ (d : Channel). Sections.is_same_port d.source c.source ≡ false) done new.0 (λ d apart. apart.sources)) in
     let targets = none-from_Each (λ (d : Channel). Sections.is_same_port d.target c.target) done (Each-weaker (λ d. Spelled.AreApart d c) (λ (d : Channel). Sections.is_same_port d.target c.target ≡ false) done new.0 (λ d apart. apart.targets)) in
     then-ok (Sections.new_name file (map (λ (d : Channel). d.name) done) e) _ c.name (Ok c) (new_name (λ (d : Channel). d.name) file done e c.name is.name names) (
-    then-ok (Numbers.within quantity.Channels 256 (length done + 1)) _ (length done + 1) (Ok c) (within quantity.Channels 256 (length done + 1) count) (
+    then-ok (NumberTexts.within quantity.Channels 256 (length done + 1)) _ (length done + 1) (Ok c) (within quantity.Channels 256 (length done + 1) count) (
     then-ok (Sections.end_of actors Out field.SrcActor field.SrcPort c.name e) _ c.source (Ok c) (end_of actors Out field.SrcActor field.SrcPort c.name e c.source is.source) (
     then-ok (Sections.unused field.SrcPort c.source (list_any (λ (d : Channel). Sections.is_same_port d.source c.source) done)) _ c.source (Ok c) (unused field.SrcPort c.source _ sources) (
     then-ok (Sections.end_of actors In field.DstActor field.DstPort c.name e) _ c.target (Ok c) (end_of actors In field.DstActor field.DstPort c.name e c.target is.target) (
     then-ok (Sections.unused field.DstPort c.target (list_any (λ (d : Channel). Sections.is_same_port d.target c.target) done)) _ c.target (Ok c) (unused field.DstPort c.target _ targets) (
-    then-ok (Sections.tokens_in c.name (Walk.attribute (word_of field.InitialTokens) e)) _ c.tokens (Ok c) (tokens_in c.name (Walk.attribute (word_of field.InitialTokens) e) c.tokens is.tokens) refl))))))
+    then-ok (Sections.tokens_in c.name (TreeSteps.attribute (word_of field.InitialTokens) e)) _ c.tokens (Ok c) (tokens_in c.name (TreeSteps.attribute (word_of field.InitialTokens) e) c.tokens is.tokens) refl))))))
 
 channels_of : (actors : List Actor) (section : Node) (channels : List Channel) → Spelled.AreChannels actors section channels → Sections.channels_of actors section ≡ Ok channels
 unfolding Sections.channels_of
 channels_of actors section channels are =
     let few = are.few in
     let after = after-from_two Spelled.AreApart (Counted 0 256) channels are.apart (counted-from_few 0 256 [] channels (omega arith)) in
-    each-given (Spelled.IsChannel actors) (Related Spelled.AreApart (Counted 0 256)) (Sections.channel_of actors) (channel_of actors) [] (Walk.children (word_of field.Channel) section) channels are.rows after
+    each-given (Spelled.IsChannel actors) (Related Spelled.AreApart (Counted 0 256)) (Sections.channel_of actors) (channel_of actors) [] (TreeSteps.children (word_of field.Channel) section) channels are.rows after
 
 -- ---- properties
 
 time_by : (of : List ℕ) (o : Option Node) (time : Option ℕ) → Spelled.IsTime o time → Sections.time_by of o ≡ Ok time
 time_by of None time is = ap Ok (sym is)
 time_by of (Some execution) time is =
-    then-ok (Walk.required field.Time of execution) _ is.2.0 (Ok time) (required field.Time of execution is.2.0 is.2.1) (
-    then-ok (Numbers.positive field.Time of quantity.Time 1000000000 is.2.0) _ is.0 (Ok time) (positive field.Time of quantity.Time 1000000000 is.2.0 is.0 is.2.2 is.2.3) (ap Ok (sym is.1)))
+    then-ok (TreeSteps.required field.Time of execution) _ is.2.0 (Ok time) (required field.Time of execution is.2.0 is.2.1) (
+    then-ok (NumberTexts.positive field.Time of quantity.Time 1000000000 is.2.0) _ is.0 (Ok time) (positive field.Time of quantity.Time 1000000000 is.2.0 is.0 is.2.2 is.2.3) (ap Ok (sym is.1)))
 
 time_of : (of : List ℕ) (e : Node) (time : Option ℕ) → Spelled.IsTime (Sections.execution_of e) time → Sections.time_of of e ≡ Ok time
 unfolding Sections.time_of
@@ -211,12 +211,12 @@ times_of : (actors : List Actor) (o : Option Node) (times : List TimeEntry) → 
 unfolding Sections.times_of
 times_of actors None times are = ap Ok (sym are)
 times_of actors (Some properties) times are =
-    each-given (Spelled.IsTimeEntry actors) (Related TimesDiffer NoCount) (Sections.time_entry actors) (time_entry actors) [] (Walk.children (codes "actorProperties") properties) times are.0
+    each-given (Spelled.IsTimeEntry actors) (Related TimesDiffer NoCount) (Sections.time_entry actors) (time_entry actors) [] (TreeSteps.children (codes "actorProperties") properties) times are.0
     (after-from_two TimesDiffer NoCount times are.1 (no-count [] times))
 
 size_in : (of : List ℕ) (o : Option (List ℕ)) (size : ℕ) → Spelled.IsSize o size → Sections.size_in of o ≡ Ok size
 size_in of None size is = ap Ok (sym is)
-size_in of (Some text) size is = then-ok (Numbers.number field.Sz of quantity.Size 1000000 text) _ is.0 (Ok size) (number field.Sz of quantity.Size 1000000 text is.0 is.1) (ap Ok (sym is.2))
+size_in of (Some text) size is = then-ok (NumberTexts.number field.Sz of quantity.Size 1000000 text) _ is.0 (Ok size) (number field.Sz of quantity.Size 1000000 text is.0 is.1) (ap Ok (sym is.2))
 
 size_of : (of : List ℕ) (e : Node) (size : ℕ) → Spelled.IsSize (Sections.size_text e) size → Sections.size_of of e ≡ Ok size
 unfolding Sections.size_of
@@ -236,20 +236,20 @@ sizes_of : (channels : List Channel) (o : Option Node) (sizes : List SizeEntry) 
 unfolding Sections.sizes_of
 sizes_of channels None sizes are = ap Ok (sym are)
 sizes_of channels (Some properties) sizes are =
-    each-given (Spelled.IsSizeEntry channels) (Related SizesDiffer NoCount) (Sections.size_entry channels) (size_entry channels) [] (Walk.children (codes "channelProperties") properties) sizes are.0
+    each-given (Spelled.IsSizeEntry channels) (Related SizesDiffer NoCount) (Sections.size_entry channels) (size_entry channels) [] (TreeSteps.children (codes "channelProperties") properties) sizes are.0
     (after-from_two SizesDiffer NoCount sizes are.1 (no-count [] sizes))
 
 -- ---- the table
 
-at_most_one : (what : Field) (e : Node) (o : Option Node) → Walk.children (word_of what) e ≡ option_to_list o → Walk.at_most_one what e ≡ Ok o
-unfolding Walk.at_most_one
+at_most_one : (what : Field) (e : Node) (o : Option Node) → TreeSteps.children (word_of what) e ≡ option_to_list o → TreeSteps.at_most_one what e ≡ Ok o
+unfolding TreeSteps.at_most_one
 at_most_one what e o is =
-    let cases : (p : Option Node) → Walk.not_two what (option_to_list p) ≡ Ok p = λ p. elim p as (λ q. Walk.not_two what (option_to_list q) ≡ Ok q) [ None ↦ refl | Some c ↦ refl ] in
-    ap (Walk.not_two what) is ∙ cases o
+    let cases : (p : Option Node) → TreeSteps.not_two what (option_to_list p) ≡ Ok p = λ p. elim p as (λ q. TreeSteps.not_two what (option_to_list q) ≡ Ok q) [ None ↦ refl | Some c ↦ refl ] in
+    ap (TreeSteps.not_two what) is ∙ cases o
 
-one : (what : Field) (e c : Node) → Walk.children (word_of what) e ≡ c ∷ [] → Walk.one what e ≡ Ok c
-unfolding Walk.one
-one what e c is = then-ok (Walk.at_most_one what e) (Walk.there what) (Some c) (Ok c) (at_most_one what e (Some c) is) refl
+one : (what : Field) (e c : Node) → TreeSteps.children (word_of what) e ≡ c ∷ [] → TreeSteps.one what e ≡ Ok c
+unfolding TreeSteps.one
+one what e c is = then-ok (TreeSteps.at_most_one what e) (TreeSteps.there what) (Some c) (Ok c) (at_most_one what e (Some c) is) refl
 
 root_of : (e : Node) → name_of e ≡ word_of field.Sdf3 → Sections.root_of e ≡ Ok e
 unfolding Sections.root_of
@@ -285,13 +285,13 @@ pub table_of : (need_times : Bool) (tree : Node) (t : GraphFile) → Spelled.IsT
 unfolding Sections.table_of
 table_of need_times tree t is =
     then-ok (Sections.root_of tree) _ tree (Ok t) (root_of tree is.root) (
-    then-ok (Walk.required field.TypeWord file tree) _ (word_of field.Sdf) (Ok t) (required field.TypeWord file tree (word_of field.Sdf) is.kind) (
+    then-ok (TreeSteps.required field.TypeWord file tree) _ (word_of field.Sdf) (Ok t) (required field.TypeWord file tree (word_of field.Sdf) is.kind) (
     then-ok (Sections.sdf_kind (word_of field.Sdf)) _ (word_of field.Sdf) (Ok t) sdf_kind (
-    then-ok (Walk.one field.ApplicationGraph tree) _ is.graph (Ok t) (one field.ApplicationGraph tree is.graph is.one_graph) (
-    then-ok (Walk.one field.Sdf is.graph) _ is.section (Ok t) (one field.Sdf is.graph is.section is.one_section) (
+    then-ok (TreeSteps.one field.ApplicationGraph tree) _ is.graph (Ok t) (one field.ApplicationGraph tree is.graph is.one_graph) (
+    then-ok (TreeSteps.one field.Sdf is.graph) _ is.section (Ok t) (one field.Sdf is.graph is.section is.one_section) (
     then-ok (Sections.actors_of is.section) _ is.actors (Ok t) (actors_of is.section is.actors is.are_actors) (
     then-ok (Sections.channels_of is.actors is.section) _ is.channels (Ok t) (channels_of is.actors is.section is.channels is.are_channels) (
-    then-ok (Walk.at_most_one field.SdfProperties is.graph) _ is.properties (Ok t) (at_most_one field.SdfProperties is.graph is.properties is.no_second) (
+    then-ok (TreeSteps.at_most_one field.SdfProperties is.graph) _ is.properties (Ok t) (at_most_one field.SdfProperties is.graph is.properties is.no_second) (
     then-ok (Sections.times_of is.actors is.properties) _ is.times (Ok t) (times_of is.actors is.properties is.times is.are_times) (
     then-ok (Sections.sizes_of is.channels is.properties) _ is.sizes (Ok t) (sizes_of is.channels is.properties is.sizes is.are_sizes) (
     all_timed need_times is.actors is.channels is.times is.sizes (λ needed. subst IsTimed is.is_table (is.timed needed)) ∙ ap Ok (sym is.is_table)))))))))))

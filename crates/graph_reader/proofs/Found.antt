@@ -6,8 +6,8 @@ use Rattle.std.specs.Option.{option_to_list}
 use Rattle.std.specs.Str.{bytes_eq}
 use Rattle.std.proofs.lemmas.Bool.{cases_lt, lt-ltb, le-ltb, ltb-false, eqb-false}
 use Rattle.std.proofs.lemmas.Slice.Eq.{bytes_eq-Decides}
-use Rattle.sd_base.specs.declared.quantity.Quantity.{Quantity}
-use Rattle.sd_base.specs.declared.quantity.Quantity.TheVariants as quantity
+use Rattle.sd_base.specs.declared.limits.Quantity.{Quantity}
+use Rattle.sd_base.specs.declared.limits.Quantity.TheVariants as quantity
 use Rattle.sd_base.specs.declared.tables.GraphFile.{GraphFile}
 use Rattle.sd_base.specs.declared.tables.ActorRow.{ActorRow}
 use Rattle.sd_base.specs.Tables.{IsTimed}
@@ -25,45 +25,45 @@ use Rattle.graph_reader.specs.declared.channels.Channel.{Channel}
 use Rattle.graph_reader.specs.declared.properties.TimeEntry.{TimeEntry}
 use Rattle.graph_reader.specs.declared.properties.SizeEntry.{SizeEntry}
 use Rattle.graph_reader.specs.Field.{word_of}
-use Rattle.graph_reader.specs.Walk
-use Rattle.graph_reader.specs.Walk.{◌>>=◌, file}
-use Rattle.graph_reader.specs.Numbers
+use Rattle.graph_reader.specs.TreeSteps
+use Rattle.graph_reader.specs.TreeSteps.{◌>>=◌, file}
+use Rattle.graph_reader.specs.NumberTexts
 use Rattle.graph_reader.specs.Sections
 use Rattle.graph_reader.specs.Spelled
 use Rattle.graph_reader.specs.Spelled.{Pairwise, EachTwo, Has, IsNumber, HasPositive, HasName}
-use Rattle.graph_reader.proofs.Steps.{then, weaker, choice}
-use Rattle.graph_reader.proofs.Places.{AfterEach, Follows, each-gives, Related, two-from_after, count-from_after, Counted, few-from_counted, Each-from_none, Each-both, differ, length-push, port_count-cons, port_count-push}
+use Rattle.graph_reader.proofs.ReaderSteps.{then, weaker, choice}
+use Rattle.graph_reader.proofs.ElementPlaces.{AfterEach, Follows, each-gives, Related, two-from_after, count-from_after, Counted, few-from_counted, Each-from_none, Each-both, differ, length-push, port_count-cons, port_count-push}
 
-required : (what : Field) (of : List ℕ) (e : Node) → IfOk (Walk.required what of e) (Has what e)
-unfolding Walk.required
+required : (what : Field) (of : List ℕ) (e : Node) → IfOk (TreeSteps.required what of e) (Has what e)
+unfolding TreeSteps.required
 required what of e =
-    let cases : (o : Option (List ℕ)) → IfOk (Walk.present what of o) (λ v. o ≡ Some v) = λ o. elim o as (λ p. IfOk (Walk.present what of p) (λ v. p ≡ Some v)) [ None ↦ tt | Some v ↦ refl ] in
-    cases (Walk.attribute (word_of what) e)
+    let cases : (o : Option (List ℕ)) → IfOk (TreeSteps.present what of o) (λ v. o ≡ Some v) = λ o. elim o as (λ p. IfOk (TreeSteps.present what of p) (λ v. p ≡ Some v)) [ None ↦ tt | Some v ↦ refl ] in
+    cases (TreeSteps.attribute (word_of what) e)
 
 -- ---- numbers
 
-within : (q : Quantity) (limit n : ℕ) → IfOk (Numbers.within q limit n) (λ m. (m ≡ n) × (n ≤ limit))
-unfolding Numbers.within
+within : (q : Quantity) (limit n : ℕ) → IfOk (NumberTexts.within q limit n) (λ m. (m ≡ n) × (n ≤ limit))
+unfolding NumberTexts.within
 within q limit n =
     elim (cases_lt limit n) [
       | inl above ↦ rw (lt-ltb limit n above) tt
       | inr below ↦ rw (le-ltb limit n below) (refl, below)
     ]
 
-formed : (what : Field) (of : List ℕ) (o : Option ℕ) → IfOk (Numbers.formed what of o) (λ n. o ≡ Some n)
+formed : (what : Field) (of : List ℕ) (o : Option ℕ) → IfOk (NumberTexts.formed what of o) (λ n. o ≡ Some n)
 formed what of None = tt
 formed what of (Some n) = refl
 
-number : (what : Field) (of : List ℕ) (q : Quantity) (limit : ℕ) (text : List ℕ) → IfOk (Numbers.number what of q limit text) (IsNumber limit text)
-unfolding Numbers.number
+number : (what : Field) (of : List ℕ) (q : Quantity) (limit : ℕ) (text : List ℕ) → IfOk (NumberTexts.number what of q limit text) (IsNumber limit text)
+unfolding NumberTexts.number
 number what of q limit text =
-    then (λ n. Numbers.number_in text ≡ Some n) (IsNumber limit text) (Numbers.formed what of (Numbers.number_in text)) (λ n. Numbers.within q limit n) (formed what of (Numbers.number_in text)) (λ n is.
-    weaker (λ m. (m ≡ n) × (n ≤ limit)) (IsNumber limit text) (Numbers.within q limit n) (within q limit n) (λ m h. subst (IsNumber limit text) (sym h.0) (is, h.1)))
+    then (λ n. NumberTexts.number_in text ≡ Some n) (IsNumber limit text) (NumberTexts.formed what of (NumberTexts.number_in text)) (λ n. NumberTexts.within q limit n) (formed what of (NumberTexts.number_in text)) (λ n is.
+    weaker (λ m. (m ≡ n) × (n ≤ limit)) (IsNumber limit text) (NumberTexts.within q limit n) (within q limit n) (λ m h. subst (IsNumber limit text) (sym h.0) (is, h.1)))
 
-positive : (what : Field) (of : List ℕ) (q : Quantity) (limit : ℕ) (text : List ℕ) → IfOk (Numbers.positive what of q limit text) (λ n. IsNumber limit text n × (1 ≤ n))
-unfolding Numbers.positive
+positive : (what : Field) (of : List ℕ) (q : Quantity) (limit : ℕ) (text : List ℕ) → IfOk (NumberTexts.positive what of q limit text) (λ n. IsNumber limit text n × (1 ≤ n))
+unfolding NumberTexts.positive
 positive what of q limit text =
-    then (IsNumber limit text) (λ n. IsNumber limit text n × (1 ≤ n)) (Numbers.number what of q limit text) (λ n. cond (n == 0) (Err (error.BadNumber what of)) (Ok n)) (number what of q limit text) (λ n is.
+    then (IsNumber limit text) (λ n. IsNumber limit text n × (1 ≤ n)) (NumberTexts.number what of q limit text) (λ n. cond (n == 0) (Err (error.BadNumber what of)) (Ok n)) (number what of q limit text) (λ n is.
     choice (λ m. IsNumber limit text m × (1 ≤ m)) (n == 0) (Err (error.BadNumber what of)) (Ok n) (λ h. tt) (λ h.
     let some : n ≢ 0 = eqb-false n 0 h in
     (is, omega arith)))
@@ -77,7 +77,7 @@ IsNew f earlier e name = HasName e name × Each (λ x. f x ≢ name) earlier
 new_name : {X : Type 0} (f : X → List ℕ) (of : List ℕ) (earlier : List X) (e : Node) → IfOk (Sections.new_name of (map f earlier) e) (IsNew f earlier e)
 unfolding Sections.new_name
 new_name f of earlier e =
-    then (Has field.Name e) (IsNew f earlier e) (Walk.required field.Name of e) (Sections.tested_name of (map f earlier)) (required field.Name of e) (λ name has.
+    then (Has field.Name e) (IsNew f earlier e) (TreeSteps.required field.Name of e) (Sections.tested_name of (map f earlier)) (required field.Name of e) (λ name has.
     choice (IsNew f earlier e) (length name == 0) _ _ (λ h. tt) (λ some_test.
     choice (IsNew f earlier e) (nat_lt 128 (length name)) _ _ (λ h. tt) (λ short_test.
     choice (IsNew f earlier e) (Sections.is_among name (map f earlier)) _ (Ok name) (λ h. tt) (λ none.
@@ -106,7 +106,7 @@ is-among-none f name (x ∷ xs) all h =
 mention : {X Y : Type 0} (f : X → List ℕ) (g : Y → List ℕ) (what : Field) (rows : List X) (earlier : List Y) (e : Node) → IfOk (Sections.mention what (map f rows) (map g earlier) e) (IsMention f g what rows earlier e)
 unfolding Sections.mention
 mention f g what rows earlier e =
-    then (Has what e) (IsMention f g what rows earlier e) (Walk.required what file e) (Sections.tested_mention what (map f rows) (map g earlier)) (required what file e) (λ name has.
+    then (Has what e) (IsMention f g what rows earlier e) (TreeSteps.required what file e) (Sections.tested_mention what (map f rows) (map g earlier)) (required what file e) (λ name has.
     choice (IsMention f g what rows earlier e) (not (Sections.is_among name (map f rows))) _ _ (λ h. tt) (λ known.
     choice (IsMention f g what rows earlier e) (Sections.is_among name (map g earlier)) _ (Ok name) (λ h. tt) (λ none.
     (has, (λ all. is-among-none f name rows all (not_false _ known)), differ g name earlier none))))
@@ -126,11 +126,11 @@ port_of : (actor : List ℕ) (before : ℕ) (done : List Port) (e : Node) → If
 unfolding Sections.port_of
 port_of actor before done e =
     then (IsNew (λ (p : Port). p.name) done e) _ (Sections.new_name actor (map (λ (p : Port). p.name) done) e) _ (new_name (λ (p : Port). p.name) actor done e) (λ name new.
-    then (λ m. (m ≡ before + length done + 1) × (before + length done + 1 ≤ 1024)) _ (Numbers.within quantity.Ports 1024 (before + length done + 1)) _ (within quantity.Ports 1024 (before + length done + 1)) (λ count few.
-    then (Has field.TypeWord e) _ (Walk.required field.TypeWord actor e) _ (required field.TypeWord actor e) (λ word typed.
+    then (λ m. (m ≡ before + length done + 1) × (before + length done + 1 ≤ 1024)) _ (NumberTexts.within quantity.Ports 1024 (before + length done + 1)) _ (within quantity.Ports 1024 (before + length done + 1)) (λ count few.
+    then (Has field.TypeWord e) _ (TreeSteps.required field.TypeWord actor e) _ (required field.TypeWord actor e) (λ word typed.
     then (λ d. word ≡ Spelled.direction_word d) _ (Sections.direction_in actor word) _ (direction_in actor word) (λ direction word_is.
-    then (Has field.Rate e) _ (Walk.required field.Rate actor e) _ (required field.Rate actor e) (λ text has.
-    then (λ n. IsNumber 1000000 text n × (1 ≤ n)) _ (Numbers.positive field.Rate actor quantity.Rate 1000000 text) _ (positive field.Rate actor quantity.Rate 1000000 text) (λ rate is.
+    then (Has field.Rate e) _ (TreeSteps.required field.Rate actor e) _ (required field.Rate actor e) (λ text has.
+    then (λ n. IsNumber 1000000 text n × (1 ≤ n)) _ (NumberTexts.positive field.Rate actor quantity.Rate 1000000 text) _ (positive field.Rate actor quantity.Rate 1000000 text) (λ rate is.
     (record { name = new.0; direction = typed ∙ ap Some word_is; rate = (text, has, is.0, is.1) }, (new.1, few.1))))))))
 
 -- an actor's ports are few after those of the earlier actors
@@ -154,10 +154,10 @@ actor_of : (done : List Actor) (e : Node) → IfOk (Sections.actor_of done e) (�
 unfolding Sections.actor_of
 actor_of done e =
     then (IsNew (λ (a : Actor). a.name) done e) _ (Sections.new_name file (map (λ (a : Actor). a.name) done) e) _ (new_name (λ (a : Actor). a.name) file done e) (λ name new.
-    then (λ m. (m ≡ length done + 1) × (length done + 1 ≤ 128)) _ (Numbers.within quantity.Actors 128 (length done + 1)) _ (within quantity.Actors 128 (length done + 1)) (λ count few.
-    then (Follows Spelled.IsPort (Related PortsDiffer (Counted (Sections.port_count done) 1024)) [] (Walk.children (codes "port") e)) _ (Walk.each (Sections.port_of name (Sections.port_count done)) [] (Walk.children (codes "port") e)) _
-    (each-gives Spelled.IsPort (Related PortsDiffer (Counted (Sections.port_count done) 1024)) (Sections.port_of name (Sections.port_count done)) (port_of name (Sections.port_count done)) [] (Walk.children (codes "port") e)) (λ ports f.
-    let pairs : Pairwise Spelled.IsPort (Walk.children (codes "port") e) ports = subst (Pairwise Spelled.IsPort (Walk.children (codes "port") e)) (sym f.1) f.2 in
+    then (λ m. (m ≡ length done + 1) × (length done + 1 ≤ 128)) _ (NumberTexts.within quantity.Actors 128 (length done + 1)) _ (within quantity.Actors 128 (length done + 1)) (λ count few.
+    then (Follows Spelled.IsPort (Related PortsDiffer (Counted (Sections.port_count done) 1024)) [] (TreeSteps.children (codes "port") e)) _ (TreeSteps.each (Sections.port_of name (Sections.port_count done)) [] (TreeSteps.children (codes "port") e)) _
+    (each-gives Spelled.IsPort (Related PortsDiffer (Counted (Sections.port_count done) 1024)) (Sections.port_of name (Sections.port_count done)) (port_of name (Sections.port_count done)) [] (TreeSteps.children (codes "port") e)) (λ ports f.
+    let pairs : Pairwise Spelled.IsPort (TreeSteps.children (codes "port") e) ports = subst (Pairwise Spelled.IsPort (TreeSteps.children (codes "port") e)) (sym f.1) f.2 in
     let after : AfterEach (Related PortsDiffer (Counted (Sections.port_count done) 1024)) [] ports = subst (AfterEach (Related PortsDiffer (Counted (Sections.port_count done) 1024)) []) (sym f.1) f.3 in
     let counted = count-from_after PortsDiffer (Counted (Sections.port_count done) 1024) ports after in
     (record { name = new.0; ports = pairs; apart = two-from_after PortsDiffer (Counted (Sections.port_count done) 1024) ports after }, (new.1, (few.1, few-from_counted-ports (Sections.port_count done) ports counted))))))
@@ -184,9 +184,9 @@ some_actor (a ∷ rest) = (refl, omega arith)
 actors_of : (section : Node) → IfOk (Sections.actors_of section) (Spelled.AreActors section)
 unfolding Sections.actors_of
 actors_of section =
-    let elements = Walk.children (word_of field.Actor) section in
+    let elements = TreeSteps.children (word_of field.Actor) section in
     let C = Related ActorsDiffer ActorCounted in
-    then (Follows Spelled.IsActor C [] elements) (Spelled.AreActors section) (Walk.each Sections.actor_of [] elements) Sections.some_actor (each-gives Spelled.IsActor C Sections.actor_of actor_of [] elements) (λ actors f.
+    then (Follows Spelled.IsActor C [] elements) (Spelled.AreActors section) (TreeSteps.each Sections.actor_of [] elements) Sections.some_actor (each-gives Spelled.IsActor C Sections.actor_of actor_of [] elements) (λ actors f.
     let pairs : Pairwise Spelled.IsActor elements actors = subst (Pairwise Spelled.IsActor elements) (sym f.1) f.2 in
     let after : AfterEach C [] actors = subst (AfterEach C []) (sym f.1) f.3 in
     let few = are_few [] actors (omega arith) (omega arith) (count-from_after ActorsDiffer ActorCounted actors after) in
@@ -208,9 +208,9 @@ known what name (Some x) = refl
 end_of : (actors : List Actor) (direction : Direction) (actor_word port_word : Field) (of : List ℕ) (e : Node) → IfOk (Sections.end_of actors direction actor_word port_word of e) (Spelled.IsEnd actors direction actor_word port_word e)
 unfolding Sections.end_of
 end_of actors direction actor_word port_word of e =
-    then (Has actor_word e) _ (Walk.required actor_word of e) _ (required actor_word of e) (λ actor_name has_actor.
+    then (Has actor_word e) _ (TreeSteps.required actor_word of e) _ (required actor_word of e) (λ actor_name has_actor.
     then (λ r. Sections.numbered 0 actor_name actors ≡ Some r) _ (Sections.known actor_word actor_name (Sections.numbered 0 actor_name actors)) _ (known actor_word actor_name (Sections.numbered 0 actor_name actors)) (λ actor is_actor.
-    then (Has port_word e) _ (Walk.required port_word of e) _ (required port_word of e) (λ port_name has_port.
+    then (Has port_word e) _ (TreeSteps.required port_word of e) _ (required port_word of e) (λ port_name has_port.
     then (λ p. find (Sections.is_port direction port_name) actor.1.ports ≡ Some p) _ (Sections.known port_word port_name (find (Sections.is_port direction port_name) actor.1.ports)) _ (known port_word port_name (find (Sections.is_port direction port_name) actor.1.ports)) (λ port is_port.
     record { actor_name = actor_name; actor = actor.1; port = port; has_actor = has_actor; is_actor = is_actor; has_port = has_port; is_port = is_port; rate = refl }))))
 
@@ -228,12 +228,12 @@ channel_of : (actors : List Actor) (done : List Channel) (e : Node) → IfOk (Se
 unfolding Sections.channel_of
 channel_of actors done e =
     then (IsNew (λ (c : Channel). c.name) done e) _ (Sections.new_name file (map (λ (c : Channel). c.name) done) e) _ (new_name (λ (c : Channel). c.name) file done e) (λ name new.
-    then (λ m. (m ≡ length done + 1) × (length done + 1 ≤ 256)) _ (Numbers.within quantity.Channels 256 (length done + 1)) _ (within quantity.Channels 256 (length done + 1)) (λ count few.
+    then (λ m. (m ≡ length done + 1) × (length done + 1 ≤ 256)) _ (NumberTexts.within quantity.Channels 256 (length done + 1)) _ (within quantity.Channels 256 (length done + 1)) (λ count few.
     then (Spelled.IsEnd actors Out field.SrcActor field.SrcPort e) _ (Sections.end_of actors Out field.SrcActor field.SrcPort name e) _ (end_of actors Out field.SrcActor field.SrcPort name e) (λ start is_start.
     then (λ x. (x ≡ start) × (list_any (λ (c : Channel). Sections.is_same_port c.source start) done ≡ false)) _ (Sections.unused field.SrcPort start (list_any (λ (c : Channel). Sections.is_same_port c.source start) done)) _ (unused field.SrcPort start (list_any (λ (c : Channel). Sections.is_same_port c.source start) done)) (λ source source_is.
     then (Spelled.IsEnd actors In field.DstActor field.DstPort e) _ (Sections.end_of actors In field.DstActor field.DstPort name e) _ (end_of actors In field.DstActor field.DstPort name e) (λ stop is_stop.
     then (λ x. (x ≡ stop) × (list_any (λ (c : Channel). Sections.is_same_port c.target stop) done ≡ false)) _ (Sections.unused field.DstPort stop (list_any (λ (c : Channel). Sections.is_same_port c.target stop) done)) _ (unused field.DstPort stop (list_any (λ (c : Channel). Sections.is_same_port c.target stop) done)) (λ target target_is.
-    then (Spelled.AreTokens (Walk.attribute (word_of field.InitialTokens) e)) _ (Sections.tokens_in name (Walk.attribute (word_of field.InitialTokens) e)) _ (tokens_in name (Walk.attribute (word_of field.InitialTokens) e)) (λ tokens are_tokens.
+    then (Spelled.AreTokens (TreeSteps.attribute (word_of field.InitialTokens) e)) _ (Sections.tokens_in name (TreeSteps.attribute (word_of field.InitialTokens) e)) _ (tokens_in name (TreeSteps.attribute (word_of field.InitialTokens) e)) (λ tokens are_tokens.
     let sources : Each (λ (d : Channel). Sections.is_same_port d.source source ≡ false) done = subst (λ x. Each (λ (d : Channel). Sections.is_same_port d.source x ≡ false) done) (sym source_is.0) (Each-from_none (λ (c : Channel). Sections.is_same_port c.source start) done source_is.1) in
     let targets : Each (λ (d : Channel). Sections.is_same_port d.target target ≡ false) done = subst (λ x. Each (λ (d : Channel). Sections.is_same_port d.target x ≡ false) done) (sym target_is.0) (Each-from_none (λ (c : Channel). Sections.is_same_port c.target stop) done target_is.1) in
     let made : Channel = record { name = name; source = source; target = target; tokens = tokens } in
@@ -251,9 +251,9 @@ channel_of actors done e =
 channels_of : (actors : List Actor) (section : Node) → IfOk (Sections.channels_of actors section) (Spelled.AreChannels actors section)
 unfolding Sections.channels_of
 channels_of actors section =
-    let elements = Walk.children (word_of field.Channel) section in
+    let elements = TreeSteps.children (word_of field.Channel) section in
     let C = Related Spelled.AreApart ChannelCounted in
-    weaker (Follows (Spelled.IsChannel actors) C [] elements) (Spelled.AreChannels actors section) (Walk.each (Sections.channel_of actors) [] elements) (each-gives (Spelled.IsChannel actors) C (Sections.channel_of actors) (channel_of actors) [] elements) (λ channels f.
+    weaker (Follows (Spelled.IsChannel actors) C [] elements) (Spelled.AreChannels actors section) (TreeSteps.each (Sections.channel_of actors) [] elements) (each-gives (Spelled.IsChannel actors) C (Sections.channel_of actors) (channel_of actors) [] elements) (λ channels f.
     let pairs : Pairwise (Spelled.IsChannel actors) elements channels = subst (Pairwise (Spelled.IsChannel actors) elements) (sym f.1) f.2 in
     let after : AfterEach C [] channels = subst (AfterEach C []) (sym f.1) f.3 in
     let few = few-from_counted 0 256 [] channels (omega arith) (count-from_after Spelled.AreApart ChannelCounted channels after) in
@@ -264,8 +264,8 @@ channels_of actors section =
 time_by : (of : List ℕ) (o : Option Node) → IfOk (Sections.time_by of o) (Spelled.IsTime o)
 time_by of None = refl
 time_by of (Some execution) =
-    then (Has field.Time execution) _ (Walk.required field.Time of execution) _ (required field.Time of execution) (λ text has.
-    then (λ n. IsNumber 1000000000 text n × (1 ≤ n)) _ (Numbers.positive field.Time of quantity.Time 1000000000 text) _ (positive field.Time of quantity.Time 1000000000 text) (λ time is.
+    then (Has field.Time execution) _ (TreeSteps.required field.Time of execution) _ (required field.Time of execution) (λ text has.
+    then (λ n. IsNumber 1000000000 text n × (1 ≤ n)) _ (NumberTexts.positive field.Time of quantity.Time 1000000000 text) _ (positive field.Time of quantity.Time 1000000000 text) (λ time is.
     (time, refl, (text, has, is.0, is.1))))
 
 time_of : (of : List ℕ) (e : Node) → IfOk (Sections.time_of of e) (Spelled.IsTime (Sections.execution_of e))
@@ -290,16 +290,16 @@ times_of : (actors : List Actor) (o : Option Node) → IfOk (Sections.times_of a
 unfolding Sections.times_of
 times_of actors None = refl
 times_of actors (Some properties) =
-    let elements = Walk.children (codes "actorProperties") properties in
+    let elements = TreeSteps.children (codes "actorProperties") properties in
     let C = Related TimesDiffer NoCount in
-    weaker (Follows (Spelled.IsTimeEntry actors) C [] elements) (Spelled.AreTimes actors (Some properties)) (Walk.each (Sections.time_entry actors) [] elements) (each-gives (Spelled.IsTimeEntry actors) C (Sections.time_entry actors) (time_entry actors) [] elements) (λ times f.
+    weaker (Follows (Spelled.IsTimeEntry actors) C [] elements) (Spelled.AreTimes actors (Some properties)) (TreeSteps.each (Sections.time_entry actors) [] elements) (each-gives (Spelled.IsTimeEntry actors) C (Sections.time_entry actors) (time_entry actors) [] elements) (λ times f.
     let pairs : Pairwise (Spelled.IsTimeEntry actors) elements times = subst (Pairwise (Spelled.IsTimeEntry actors) elements) (sym f.1) f.2 in
     let after : AfterEach C [] times = subst (AfterEach C []) (sym f.1) f.3 in
     (pairs, two-from_after TimesDiffer NoCount times after))
 
 size_in : (of : List ℕ) (o : Option (List ℕ)) → IfOk (Sections.size_in of o) (Spelled.IsSize o)
 size_in of None = refl
-size_in of (Some text) = then (IsNumber 1000000 text) _ (Numbers.number field.Sz of quantity.Size 1000000 text) _ (number field.Sz of quantity.Size 1000000 text) (λ n is. (n, is, refl))
+size_in of (Some text) = then (IsNumber 1000000 text) _ (NumberTexts.number field.Sz of quantity.Size 1000000 text) _ (number field.Sz of quantity.Size 1000000 text) (λ n is. (n, is, refl))
 
 size_of : (of : List ℕ) (e : Node) → IfOk (Sections.size_of of e) (Spelled.IsSize (Sections.size_text e))
 unfolding Sections.size_of
@@ -320,33 +320,33 @@ sizes_of : (channels : List Channel) (o : Option Node) → IfOk (Sections.sizes_
 unfolding Sections.sizes_of
 sizes_of channels None = refl
 sizes_of channels (Some properties) =
-    let elements = Walk.children (codes "channelProperties") properties in
+    let elements = TreeSteps.children (codes "channelProperties") properties in
     let C = Related SizesDiffer NoCount in
-    weaker (Follows (Spelled.IsSizeEntry channels) C [] elements) (Spelled.AreSizes channels (Some properties)) (Walk.each (Sections.size_entry channels) [] elements) (each-gives (Spelled.IsSizeEntry channels) C (Sections.size_entry channels) (size_entry channels) [] elements) (λ sizes f.
+    weaker (Follows (Spelled.IsSizeEntry channels) C [] elements) (Spelled.AreSizes channels (Some properties)) (TreeSteps.each (Sections.size_entry channels) [] elements) (each-gives (Spelled.IsSizeEntry channels) C (Sections.size_entry channels) (size_entry channels) [] elements) (λ sizes f.
     let pairs : Pairwise (Spelled.IsSizeEntry channels) elements sizes = subst (Pairwise (Spelled.IsSizeEntry channels) elements) (sym f.1) f.2 in
     let after : AfterEach C [] sizes = subst (AfterEach C []) (sym f.1) f.3 in
     (pairs, two-from_after SizesDiffer NoCount sizes after))
 
 -- ---- the table
 
-not_two : (what : Field) (es : List Node) → IfOk (Walk.not_two what es) (λ o. es ≡ option_to_list o)
+not_two : (what : Field) (es : List Node) → IfOk (TreeSteps.not_two what es) (λ o. es ≡ option_to_list o)
 not_two what [] = refl
 not_two what (e ∷ []) = refl
 not_two what (e ∷ (f ∷ rest)) = tt
 
-at_most_one : (what : Field) (e : Node) → IfOk (Walk.at_most_one what e) (λ o. Walk.children (word_of what) e ≡ option_to_list o)
-unfolding Walk.at_most_one
-at_most_one what e = not_two what (Walk.children (word_of what) e)
+at_most_one : (what : Field) (e : Node) → IfOk (TreeSteps.at_most_one what e) (λ o. TreeSteps.children (word_of what) e ≡ option_to_list o)
+unfolding TreeSteps.at_most_one
+at_most_one what e = not_two what (TreeSteps.children (word_of what) e)
 
-there : (what : Field) (o : Option Node) → IfOk (Walk.there what o) (λ e. o ≡ Some e)
+there : (what : Field) (o : Option Node) → IfOk (TreeSteps.there what o) (λ e. o ≡ Some e)
 there what None = tt
 there what (Some e) = refl
 
-one : (what : Field) (e : Node) → IfOk (Walk.one what e) (λ c. Walk.children (word_of what) e ≡ c ∷ [])
-unfolding Walk.one
+one : (what : Field) (e : Node) → IfOk (TreeSteps.one what e) (λ c. TreeSteps.children (word_of what) e ≡ c ∷ [])
+unfolding TreeSteps.one
 one what e =
-    then (λ o. Walk.children (word_of what) e ≡ option_to_list o) (λ c. Walk.children (word_of what) e ≡ c ∷ []) (Walk.at_most_one what e) (Walk.there what) (at_most_one what e) (λ o is.
-    weaker (λ c. o ≡ Some c) (λ c. Walk.children (word_of what) e ≡ c ∷ []) (Walk.there what o) (there what o) (λ c found. is ∙ ap option_to_list found))
+    then (λ o. TreeSteps.children (word_of what) e ≡ option_to_list o) (λ c. TreeSteps.children (word_of what) e ≡ c ∷ []) (TreeSteps.at_most_one what e) (TreeSteps.there what) (at_most_one what e) (λ o is.
+    weaker (λ c. o ≡ Some c) (λ c. TreeSteps.children (word_of what) e ≡ c ∷ []) (TreeSteps.there what o) (there what o) (λ c found. is ∙ ap option_to_list found))
 
 root_of : (e : Node) → IfOk (Sections.root_of e) (λ root. (root ≡ e) × (name_of e ≡ word_of field.Sdf3))
 unfolding Sections.root_of
@@ -369,13 +369,13 @@ pub table_of : (need_times : Bool) (tree : Node) → IfOk (Sections.table_of nee
 unfolding Sections.table_of
 table_of need_times tree =
     then (λ root. (root ≡ tree) × (name_of tree ≡ word_of field.Sdf3)) _ (Sections.root_of tree) _ (root_of tree) (λ root is_root.
-    then (Has field.TypeWord root) _ (Walk.required field.TypeWord file root) _ (required field.TypeWord file root) (λ word has.
+    then (Has field.TypeWord root) _ (TreeSteps.required field.TypeWord file root) _ (required field.TypeWord file root) (λ word has.
     then (λ kind. word ≡ word_of field.Sdf) _ (Sections.sdf_kind word) _ (sdf_kind word) (λ kind is_kind.
-    then (λ c. Walk.children (word_of field.ApplicationGraph) root ≡ c ∷ []) _ (Walk.one field.ApplicationGraph root) _ (one field.ApplicationGraph root) (λ graph one_graph.
-    then (λ c. Walk.children (word_of field.Sdf) graph ≡ c ∷ []) _ (Walk.one field.Sdf graph) _ (one field.Sdf graph) (λ section one_section.
+    then (λ c. TreeSteps.children (word_of field.ApplicationGraph) root ≡ c ∷ []) _ (TreeSteps.one field.ApplicationGraph root) _ (one field.ApplicationGraph root) (λ graph one_graph.
+    then (λ c. TreeSteps.children (word_of field.Sdf) graph ≡ c ∷ []) _ (TreeSteps.one field.Sdf graph) _ (one field.Sdf graph) (λ section one_section.
     then (Spelled.AreActors section) _ (Sections.actors_of section) _ (actors_of section) (λ actors are_actors.
     then (Spelled.AreChannels actors section) _ (Sections.channels_of actors section) _ (channels_of actors section) (λ channels are_channels.
-    then (λ o. Walk.children (word_of field.SdfProperties) graph ≡ option_to_list o) _ (Walk.at_most_one field.SdfProperties graph) _ (at_most_one field.SdfProperties graph) (λ properties no_second.
+    then (λ o. TreeSteps.children (word_of field.SdfProperties) graph ≡ option_to_list o) _ (TreeSteps.at_most_one field.SdfProperties graph) _ (at_most_one field.SdfProperties graph) (λ properties no_second.
     then (Spelled.AreTimes actors properties) _ (Sections.times_of actors properties) _ (times_of actors properties) (λ times are_times.
     then (Spelled.AreSizes channels properties) _ (Sections.sizes_of channels properties) _ (sizes_of channels properties) (λ sizes are_sizes.
     weaker (λ u. u ≡ Sections.table actors channels times sizes) (λ t. (IsTrue need_times → IsTimed t) → Spelled.IsTable need_times tree t) (Sections.all_timed need_times (Sections.table actors channels times sizes)) (all_timed need_times (Sections.table actors channels times sizes)) (λ t is_table given.
@@ -389,7 +389,7 @@ table_of need_times tree =
       sizes = sizes;
       root = is_root.1;
       kind = subst (λ r. Has field.TypeWord r (word_of field.Sdf)) is_root.0 (has ∙ ap Some is_kind);
-      one_graph = subst (λ r. Walk.children (word_of field.ApplicationGraph) r ≡ graph ∷ []) is_root.0 one_graph;
+      one_graph = subst (λ r. TreeSteps.children (word_of field.ApplicationGraph) r ≡ graph ∷ []) is_root.0 one_graph;
       one_section = one_section;
       no_second = no_second;
       are_actors = are_actors;

@@ -1,9 +1,10 @@
 pub mod Trees
-pub mod Digits
-pub mod Faults
 pub mod Rules
-pub mod Steps
-pub mod Decided
-pub mod Places
 pub mod Found
 pub mod Again
+pub mod Registered
+pub mod ElementPlaces
+pub mod NumberDigits
+pub mod FilesDecide
+pub mod ReaderSteps
+pub mod BrokenRules

@@ -6,8 +6,8 @@ use Rattle.std.specs.Option.{option_to_list, option_map_or, option_and_then}
 use Rattle.std.specs.Str.{bytes_eq}
 use Rattle.std.proofs.lemmas.Bool.{cases_lt, lt-ltb, le-ltb, eqb-false}
 use Rattle.std.proofs.lemmas.List.Elements.{All-from_recursion}
-use Rattle.sd_base.specs.declared.quantity.Quantity.{Quantity}
-use Rattle.sd_base.specs.declared.quantity.Quantity.TheVariants as quantity
+use Rattle.sd_base.specs.declared.limits.Quantity.{Quantity}
+use Rattle.sd_base.specs.declared.limits.Quantity.TheVariants as quantity
 use Rattle.sd_base.specs.declared.tables.Kind.TheVariants.{Sdf}
 use Rattle.sd_base.specs.declared.tables.GraphFile.{GraphFile}
 use Rattle.sd_base.specs.declared.tables.ActorRow.{ActorRow}
@@ -26,51 +26,51 @@ use Rattle.graph_reader.specs.declared.channels.Channel.{Channel}
 use Rattle.graph_reader.specs.declared.properties.TimeEntry.{TimeEntry}
 use Rattle.graph_reader.specs.declared.properties.SizeEntry.{SizeEntry}
 use Rattle.graph_reader.specs.Field.{word_of}
-use Rattle.graph_reader.specs.Walk
-use Rattle.graph_reader.specs.Walk.{◌>>=◌, file, Gives}
-use Rattle.graph_reader.specs.Numbers
+use Rattle.graph_reader.specs.TreeSteps
+use Rattle.graph_reader.specs.TreeSteps.{◌>>=◌, file, Gives}
+use Rattle.graph_reader.specs.NumberTexts
 use Rattle.graph_reader.specs.Sections
-use Rattle.graph_reader.proofs.Steps.{then, skip, weaker, choice, both}
+use Rattle.graph_reader.proofs.ReaderSteps.{then, skip, weaker, choice, both}
 
 push-all : {A : Type 0} (P : A → Type 0) (done : List A) (a : A) → AllByRecursion P done → P a → AllByRecursion P (done ++ a ∷ [])
 push-all P [] a p q = (q, tt)
 push-all P (x ∷ done) a p q = (p.0, push-all P done a p.1 q)
 
 -- what holds of each value that is read holds of all of them
-each-all : {A : Type 0} (P : A → Type 0) (read : List A → Node → Result A ReadError) → ((done : List A) (e : Node) → IfOk (read done e) P) → (done : List A) (es : List Node) → AllByRecursion P done → IfOk (Walk.each read done es) (AllByRecursion P)
+each-all : {A : Type 0} (P : A → Type 0) (read : List A → Node → Result A ReadError) → ((done : List A) (e : Node) → IfOk (read done e) P) → (done : List A) (es : List Node) → AllByRecursion P done → IfOk (TreeSteps.each read done es) (AllByRecursion P)
 each-all P read each done [] so_far = so_far
-each-all P read each done (e ∷ es) so_far = then P _ (read done e) (λ a. Walk.each read (done ++ a ∷ []) es) (each done e) (λ a p. each-all P read each (done ++ a ∷ []) es (push-all P done a so_far p))
+each-all P read each done (e ∷ es) so_far = then P _ (read done e) (λ a. TreeSteps.each read (done ++ a ∷ []) es) (each done e) (λ a p. each-all P read each (done ++ a ∷ []) es (push-all P done a so_far p))
 
 length-push : {A : Type 0} (done : List A) (a : A) → length (done ++ a ∷ []) ≡ length done + 1
 length-push [] a = refl
 length-push (x ∷ done) a = omega (arith, length-push done a)
 
 -- where each one is counted, there are no more than the limit
-each-few : {A : Type 0} (limit : ℕ) (read : List A → Node → Result A ReadError) → ((done : List A) (e : Node) → IfOk (read done e) (λ _. length done + 1 ≤ limit)) → (done : List A) (es : List Node) → length done ≤ limit → IfOk (Walk.each read done es) (λ xs. length xs ≤ limit)
+each-few : {A : Type 0} (limit : ℕ) (read : List A → Node → Result A ReadError) → ((done : List A) (e : Node) → IfOk (read done e) (λ _. length done + 1 ≤ limit)) → (done : List A) (es : List Node) → length done ≤ limit → IfOk (TreeSteps.each read done es) (λ xs. length xs ≤ limit)
 each-few limit read each done [] so_far = so_far
-each-few limit read each done (e ∷ es) so_far = then (λ _. length done + 1 ≤ limit) _ (read done e) (λ a. Walk.each read (done ++ a ∷ []) es) (each done e) (λ a p. each-few limit read each (done ++ a ∷ []) es (omega (arith, length-push done a)))
+each-few limit read each done (e ∷ es) so_far = then (λ _. length done + 1 ≤ limit) _ (read done e) (λ a. TreeSteps.each read (done ++ a ∷ []) es) (each done e) (λ a p. each-few limit read each (done ++ a ∷ []) es (omega (arith, length-push done a)))
 
 -- ---- numbers
 
-within : (q : Quantity) (limit n : ℕ) → IfOk (Numbers.within q limit n) (λ m. (m ≡ n) × (n ≤ limit))
-unfolding Numbers.within
+within : (q : Quantity) (limit n : ℕ) → IfOk (NumberTexts.within q limit n) (λ m. (m ≡ n) × (n ≤ limit))
+unfolding NumberTexts.within
 within q limit n =
     elim (cases_lt limit n) [
       | inl above ↦ rw (lt-ltb limit n above) tt
       | inr below ↦ rw (le-ltb limit n below) (refl, below)
     ]
 
-number : (what : Field) (of : List ℕ) (q : Quantity) (limit : ℕ) (text : List ℕ) → IfOk (Numbers.number what of q limit text) (λ n. n ≤ limit)
-unfolding Numbers.number
-number what of q limit text = skip _ (Numbers.formed what of (Numbers.number_in text)) _ (λ n. weaker (λ m. (m ≡ n) × (n ≤ limit)) (λ m. m ≤ limit) (Numbers.within q limit n) (within q limit n) (λ m h. omega arith))
+number : (what : Field) (of : List ℕ) (q : Quantity) (limit : ℕ) (text : List ℕ) → IfOk (NumberTexts.number what of q limit text) (λ n. n ≤ limit)
+unfolding NumberTexts.number
+number what of q limit text = skip _ (NumberTexts.formed what of (NumberTexts.number_in text)) _ (λ n. weaker (λ m. (m ≡ n) × (n ≤ limit)) (λ m. m ≤ limit) (NumberTexts.within q limit n) (within q limit n) (λ m h. omega arith))
 
 abbrev IsFrom1 : ℕ → ℕ → Type 0
 IsFrom1 limit n = (1 ≤ n) × (n ≤ limit)
 
-positive : (what : Field) (of : List ℕ) (q : Quantity) (limit : ℕ) (text : List ℕ) → IfOk (Numbers.positive what of q limit text) (IsFrom1 limit)
-unfolding Numbers.positive
+positive : (what : Field) (of : List ℕ) (q : Quantity) (limit : ℕ) (text : List ℕ) → IfOk (NumberTexts.positive what of q limit text) (IsFrom1 limit)
+unfolding NumberTexts.positive
 positive what of q limit text =
-    then (λ n. n ≤ limit) _ (Numbers.number what of q limit text) _ (number what of q limit text) (λ n few.
+    then (λ n. n ≤ limit) _ (NumberTexts.number what of q limit text) _ (number what of q limit text) (λ n few.
     choice (IsFrom1 limit) (n == 0) (Err (BadNumber what of)) (Ok n) (λ h. tt) (λ h.
     let some : n ≢ 0 = eqb-false n 0 h in
     (omega arith, few)))
@@ -87,26 +87,26 @@ port_of : (actor : List ℕ) (before : ℕ) (done : List Port) (e : Node) → If
 unfolding Sections.port_of
 port_of actor before done e =
     skip _ (Sections.new_name actor (map (λ (p : Port). p.name) done) e) _ (λ name.
-    skip _ (Numbers.within quantity.Ports 1024 (before + length done + 1)) _ (λ count.
-    skip _ (Walk.required field.TypeWord actor e) _ (λ word.
+    skip _ (NumberTexts.within quantity.Ports 1024 (before + length done + 1)) _ (λ count.
+    skip _ (TreeSteps.required field.TypeWord actor e) _ (λ word.
     skip _ (Sections.direction_in actor word) _ (λ direction.
-    skip _ (Walk.required field.Rate actor e) _ (λ text.
-    then (IsFrom1 1000000) _ (Numbers.positive field.Rate actor quantity.Rate 1000000 text) _ (positive field.Rate actor quantity.Rate 1000000 text) (λ rate fits. fits))))))
+    skip _ (TreeSteps.required field.Rate actor e) _ (λ text.
+    then (IsFrom1 1000000) _ (NumberTexts.positive field.Rate actor quantity.Rate 1000000 text) _ (positive field.Rate actor quantity.Rate 1000000 text) (λ rate fits. fits))))))
 
 actor_of : (done : List Actor) (e : Node) → IfOk (Sections.actor_of done e) ActorFits
 unfolding Sections.actor_of
 actor_of done e =
     skip _ (Sections.new_name file (map (λ (a : Actor). a.name) done) e) _ (λ name.
-    skip _ (Numbers.within quantity.Actors 128 (length done + 1)) _ (λ count.
-    then (AllByRecursion PortFits) _ (Walk.each (Sections.port_of name (Sections.port_count done)) [] (Walk.children (codes "port") e)) _
-    (each-all PortFits (Sections.port_of name (Sections.port_count done)) (port_of name (Sections.port_count done)) [] (Walk.children (codes "port") e) tt) (λ ports fit. fit)))
+    skip _ (NumberTexts.within quantity.Actors 128 (length done + 1)) _ (λ count.
+    then (AllByRecursion PortFits) _ (TreeSteps.each (Sections.port_of name (Sections.port_count done)) [] (TreeSteps.children (codes "port") e)) _
+    (each-all PortFits (Sections.port_of name (Sections.port_count done)) (port_of name (Sections.port_count done)) [] (TreeSteps.children (codes "port") e) tt) (λ ports fit. fit)))
 
 actor_counted : (done : List Actor) (e : Node) → IfOk (Sections.actor_of done e) (λ _. length done + 1 ≤ 128)
 unfolding Sections.actor_of
 actor_counted done e =
     skip _ (Sections.new_name file (map (λ (a : Actor). a.name) done) e) _ (λ name.
-    then (λ m. (m ≡ length done + 1) × (length done + 1 ≤ 128)) _ (Numbers.within quantity.Actors 128 (length done + 1)) _ (within quantity.Actors 128 (length done + 1)) (λ count few.
-    skip _ (Walk.each (Sections.port_of name (Sections.port_count done)) [] (Walk.children (codes "port") e)) _ (λ ports. few.1)))
+    then (λ m. (m ≡ length done + 1) × (length done + 1 ≤ 128)) _ (NumberTexts.within quantity.Actors 128 (length done + 1)) _ (within quantity.Actors 128 (length done + 1)) (λ count few.
+    skip _ (TreeSteps.each (Sections.port_of name (Sections.port_count done)) [] (TreeSteps.children (codes "port") e)) _ (λ ports. few.1)))
 
 record ActorsFit (actors : List Actor) : Type 0 where
   some : 1 ≤ length actors
@@ -120,11 +120,11 @@ some_actor (a ∷ rest) few fit = record { some = omega arith; few = few; fit = 
 actors_of : (section : Node) → IfOk (Sections.actors_of section) ActorsFit
 unfolding Sections.actors_of
 actors_of section =
-    let elements = Walk.children (word_of field.Actor) section in
+    let elements = TreeSteps.children (word_of field.Actor) section in
     let few = each-few 128 Sections.actor_of actor_counted [] elements (omega arith) in
     let fit = each-all ActorFits Sections.actor_of actor_of [] elements tt in
-    then (λ actors. (length actors ≤ 128) × AllByRecursion ActorFits actors) ActorsFit (Walk.each Sections.actor_of [] elements) Sections.some_actor
-    (both (λ actors. length actors ≤ 128) (AllByRecursion ActorFits) (Walk.each Sections.actor_of [] elements) few fit)
+    then (λ actors. (length actors ≤ 128) × AllByRecursion ActorFits actors) ActorsFit (TreeSteps.each Sections.actor_of [] elements) Sections.some_actor
+    (both (λ actors. length actors ≤ 128) (AllByRecursion ActorFits) (TreeSteps.each Sections.actor_of [] elements) few fit)
     (λ actors h. some_actor actors h.0 h.1)
 
 -- ---- channels
@@ -148,9 +148,9 @@ record EndFits (actors : ℕ) (e : End) : Type 0 where
 end_of : (actors : List Actor) (direction : Direction) (actor_word port_word : Field) (of : List ℕ) (e : Node) → AllByRecursion ActorFits actors → IfOk (Sections.end_of actors direction actor_word port_word of e) (EndFits (length actors))
 unfolding Sections.end_of
 end_of actors direction actor_word port_word of e fit =
-    skip _ (Walk.required actor_word of e) _ (λ actor_name.
+    skip _ (TreeSteps.required actor_word of e) _ (λ actor_name.
     then (λ r. (r.0 < 0 + length actors) × ActorFits r.1) _ (Sections.known actor_word actor_name (Sections.numbered 0 actor_name actors)) _ (numbered-if ActorFits actor_word actor_name 0 actor_name actors fit) (λ actor found.
-    skip _ (Walk.required port_word of e) _ (λ port_name.
+    skip _ (TreeSteps.required port_word of e) _ (λ port_name.
     then PortFits _ (Sections.known port_word port_name (find (Sections.is_port direction port_name) actor.1.ports)) _ (find-if PortFits (Sections.is_port direction port_name) port_word port_name actor.1.ports found.1) (λ port fits.
     record { actor = omega (arith, found.0); rate = fits }))))
 
@@ -170,24 +170,24 @@ channel_of : (actors : List Actor) → AllByRecursion ActorFits actors → (done
 unfolding Sections.channel_of
 channel_of actors fit done e =
     skip _ (Sections.new_name file (map (λ (c : Channel). c.name) done) e) _ (λ name.
-    skip _ (Numbers.within quantity.Channels 256 (length done + 1)) _ (λ count.
+    skip _ (NumberTexts.within quantity.Channels 256 (length done + 1)) _ (λ count.
     then (EndFits (length actors)) _ (Sections.end_of actors Out field.SrcActor field.SrcPort name e) _ (end_of actors Out field.SrcActor field.SrcPort name e fit) (λ start start_fits.
     then (λ x. x ≡ start) _ (Sections.unused field.SrcPort start (list_any (λ (c : Channel). Sections.is_same_port c.source start) done)) _ (unused field.SrcPort start (list_any (λ (c : Channel). Sections.is_same_port c.source start) done)) (λ source source_is.
     then (EndFits (length actors)) _ (Sections.end_of actors In field.DstActor field.DstPort name e) _ (end_of actors In field.DstActor field.DstPort name e fit) (λ stop stop_fits.
     then (λ x. x ≡ stop) _ (Sections.unused field.DstPort stop (list_any (λ (c : Channel). Sections.is_same_port c.target stop) done)) _ (unused field.DstPort stop (list_any (λ (c : Channel). Sections.is_same_port c.target stop) done)) (λ target target_is.
-    then (λ n. n ≤ 1000000) _ (Sections.tokens_in name (Walk.attribute (word_of field.InitialTokens) e)) _ (tokens_in name (Walk.attribute (word_of field.InitialTokens) e)) (λ tokens few.
+    then (λ n. n ≤ 1000000) _ (Sections.tokens_in name (TreeSteps.attribute (word_of field.InitialTokens) e)) _ (tokens_in name (TreeSteps.attribute (word_of field.InitialTokens) e)) (λ tokens few.
     record { source = subst (EndFits (length actors)) (sym source_is) start_fits; target = subst (EndFits (length actors)) (sym target_is) stop_fits; tokens = few })))))))
 
 channel_counted : (actors : List Actor) (done : List Channel) (e : Node) → IfOk (Sections.channel_of actors done e) (λ _. length done + 1 ≤ 256)
 unfolding Sections.channel_of
 channel_counted actors done e =
     skip _ (Sections.new_name file (map (λ (c : Channel). c.name) done) e) _ (λ name.
-    then (λ m. (m ≡ length done + 1) × (length done + 1 ≤ 256)) _ (Numbers.within quantity.Channels 256 (length done + 1)) _ (within quantity.Channels 256 (length done + 1)) (λ count few.
+    then (λ m. (m ≡ length done + 1) × (length done + 1 ≤ 256)) _ (NumberTexts.within quantity.Channels 256 (length done + 1)) _ (within quantity.Channels 256 (length done + 1)) (λ count few.
     skip _ (Sections.end_of actors Out field.SrcActor field.SrcPort name e) _ (λ start.
     skip _ (Sections.unused field.SrcPort start (list_any (λ (c : Channel). Sections.is_same_port c.source start) done)) _ (λ source.
     skip _ (Sections.end_of actors In field.DstActor field.DstPort name e) _ (λ stop.
     skip _ (Sections.unused field.DstPort stop (list_any (λ (c : Channel). Sections.is_same_port c.target stop) done)) _ (λ target.
-    skip _ (Sections.tokens_in name (Walk.attribute (word_of field.InitialTokens) e)) _ (λ tokens. few.1)))))))
+    skip _ (Sections.tokens_in name (TreeSteps.attribute (word_of field.InitialTokens) e)) _ (λ tokens. few.1)))))))
 
 record ChannelsFit (actors : List Actor) (channels : List Channel) : Type 0 where
   few : length channels ≤ 256
@@ -196,11 +196,11 @@ record ChannelsFit (actors : List Actor) (channels : List Channel) : Type 0 wher
 channels_of : (actors : List Actor) (section : Node) → AllByRecursion ActorFits actors → IfOk (Sections.channels_of actors section) (ChannelsFit actors)
 unfolding Sections.channels_of
 channels_of actors section fit =
-    let elements = Walk.children (word_of field.Channel) section in
+    let elements = TreeSteps.children (word_of field.Channel) section in
     let few = each-few 256 (Sections.channel_of actors) (channel_counted actors) [] elements (omega arith) in
     let fits = each-all (ChannelFits (length actors)) (Sections.channel_of actors) (channel_of actors fit) [] elements tt in
-    weaker (λ channels. (length channels ≤ 256) × AllByRecursion (ChannelFits (length actors)) channels) (ChannelsFit actors) (Walk.each (Sections.channel_of actors) [] elements)
-    (both (λ channels. length channels ≤ 256) (AllByRecursion (ChannelFits (length actors))) (Walk.each (Sections.channel_of actors) [] elements) few fits)
+    weaker (λ channels. (length channels ≤ 256) × AllByRecursion (ChannelFits (length actors)) channels) (ChannelsFit actors) (TreeSteps.each (Sections.channel_of actors) [] elements)
+    (both (λ channels. length channels ≤ 256) (AllByRecursion (ChannelFits (length actors))) (TreeSteps.each (Sections.channel_of actors) [] elements) few fits)
     (λ channels h. record { few = h.0; fit = h.1 })
 
 -- ---- properties
@@ -211,8 +211,8 @@ TimeFits time = IfSome time (IsFrom1 1000000000)
 time_by : (of : List ℕ) (o : Option Node) → IfOk (Sections.time_by of o) TimeFits
 time_by of None = tt
 time_by of (Some execution) =
-    skip _ (Walk.required field.Time of execution) _ (λ text.
-    then (IsFrom1 1000000000) _ (Numbers.positive field.Time of quantity.Time 1000000000 text) _ (positive field.Time of quantity.Time 1000000000 text) (λ time fits. fits))
+    skip _ (TreeSteps.required field.Time of execution) _ (λ text.
+    then (IsFrom1 1000000000) _ (NumberTexts.positive field.Time of quantity.Time 1000000000 text) _ (positive field.Time of quantity.Time 1000000000 text) (λ time fits. fits))
 
 time_of : (of : List ℕ) (e : Node) → IfOk (Sections.time_of of e) TimeFits
 unfolding Sections.time_of
@@ -230,7 +230,7 @@ time_entry actors done e =
 times_of : (actors : List Actor) (o : Option Node) → IfOk (Sections.times_of actors o) (AllByRecursion TimeEntryFits)
 unfolding Sections.times_of
 times_of actors None = tt
-times_of actors (Some properties) = each-all TimeEntryFits (Sections.time_entry actors) (time_entry actors) [] (Walk.children (codes "actorProperties") properties) tt
+times_of actors (Some properties) = each-all TimeEntryFits (Sections.time_entry actors) (time_entry actors) [] (TreeSteps.children (codes "actorProperties") properties) tt
 
 pick : (b : Bool) (n : ℕ) → (b ≡ false → 1 ≤ n) → n ≤ 1000000 → IsFrom1 1000000 (cond b 1 n)
 pick true n some few = (omega arith, omega arith)
@@ -244,7 +244,7 @@ some_size n few =
 
 size_in : (of : List ℕ) (o : Option (List ℕ)) → IfOk (Sections.size_in of o) (IsFrom1 1000000)
 size_in of None = (omega arith, omega arith)
-size_in of (Some text) = then (λ n. n ≤ 1000000) _ (Numbers.number field.Sz of quantity.Size 1000000 text) _ (number field.Sz of quantity.Size 1000000 text) (λ size few. some_size size few)
+size_in of (Some text) = then (λ n. n ≤ 1000000) _ (NumberTexts.number field.Sz of quantity.Size 1000000 text) _ (number field.Sz of quantity.Size 1000000 text) (λ size few. some_size size few)
 
 size_of : (of : List ℕ) (e : Node) → IfOk (Sections.size_of of e) (IsFrom1 1000000)
 unfolding Sections.size_of
@@ -262,7 +262,7 @@ size_entry channels done e =
 sizes_of : (channels : List Channel) (o : Option Node) → IfOk (Sections.sizes_of channels o) (AllByRecursion SizeEntryFits)
 unfolding Sections.sizes_of
 sizes_of channels None = tt
-sizes_of channels (Some properties) = each-all SizeEntryFits (Sections.size_entry channels) (size_entry channels) [] (Walk.children (codes "channelProperties") properties) tt
+sizes_of channels (Some properties) = each-all SizeEntryFits (Sections.size_entry channels) (size_entry channels) [] (TreeSteps.children (codes "channelProperties") properties) tt
 
 -- ---- the table
 
@@ -410,13 +410,13 @@ table_of : (need_times : Bool) (tree : Node) → IfOk (Sections.table_of need_ti
 unfolding Sections.table_of
 table_of need_times tree =
     skip _ (Sections.root_of tree) _ (λ root.
-    skip _ (Walk.required field.TypeWord file root) _ (λ word.
+    skip _ (TreeSteps.required field.TypeWord file root) _ (λ word.
     skip _ (Sections.sdf_kind word) _ (λ kind.
-    skip _ (Walk.one field.ApplicationGraph root) _ (λ graph.
-    skip _ (Walk.one field.Sdf graph) _ (λ section.
+    skip _ (TreeSteps.one field.ApplicationGraph root) _ (λ graph.
+    skip _ (TreeSteps.one field.Sdf graph) _ (λ section.
     then ActorsFit _ (Sections.actors_of section) _ (actors_of section) (λ actors actors_fit.
     then (ChannelsFit actors) _ (Sections.channels_of actors section) _ (channels_of actors section actors_fit.fit) (λ channels channels_fit.
-    skip _ (Walk.at_most_one field.SdfProperties graph) _ (λ properties.
+    skip _ (TreeSteps.at_most_one field.SdfProperties graph) _ (λ properties.
     then (AllByRecursion TimeEntryFits) _ (Sections.times_of actors properties) _ (times_of actors properties) (λ times times_fit.
     then (AllByRecursion SizeEntryFits) _ (Sections.sizes_of channels properties) _ (sizes_of channels properties) (λ sizes sizes_fit.
     all_timed need_times (Sections.table actors channels times sizes) (table actors channels times sizes actors_fit channels_fit times_fit sizes_fit) (table-kind actors channels times sizes) (table-rows actors channels times sizes times_fit)))))))))))

@@ -6,7 +6,7 @@ use Rattle.file_text.specs.Node.{Node}
 use Rattle.file_text.specs.Grammar.{IsText}
 use Rattle.graph_reader.specs.declared.error.ReadError.{ReadError}
 use Rattle.graph_reader.specs.declared.error.ReadError.TheVariants.{NoMemory}
-use Rattle.graph_reader.specs.Reading.{IsFirstFault}
+use Rattle.graph_reader.specs.FirstFaults.{IsFirstFault}
 use Rattle.graph_reader.specs.Sections.{table_of}
 
 -- the bytes spell a tree whose sections give this table

@@ -1,8 +1,9 @@
 pub mod Field
 pub mod Refusal
-pub mod Walk
-pub mod Numbers
 pub mod Sections
-pub mod Reading
 pub mod Laws
 pub mod Spelled
+pub mod Register
+pub mod FirstFaults
+pub mod NumberTexts
+pub mod TreeSteps

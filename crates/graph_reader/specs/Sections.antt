@@ -3,7 +3,8 @@ use Rattle.std.specs.Prelude.{ℕ, ◌+◌, Bool, true, false, ◌&&◌, not, �
 use Rattle.std.specs.List.{list_any, find}
 use Rattle.std.specs.Option.{option_or, option_and_then, option_map_or, option_to_list}
 use Rattle.std.specs.Str.{bytes_eq}
-use Rattle.sd_base.specs.declared.quantity.Quantity.TheVariants as quantity
+use Rattle.sd_base.specs.declared.limits.Quantity.TheVariants as quantity
+use Rattle.sd_base.specs.declared.limits.TheConstants.{ACTORS, CHANNELS, NAME_BYTES, PORTS, RATE, SIZE, TIME, TOKENS}
 use Rattle.sd_base.specs.declared.tables.Kind.TheVariants.{Sdf}
 use Rattle.sd_base.specs.declared.tables.GraphFile.{GraphFile}
 use Rattle.sd_base.specs.declared.tables.ActorRow.{ActorRow}
@@ -22,8 +23,8 @@ use Rattle.graph_reader.specs.declared.channels.Channel.{Channel}
 use Rattle.graph_reader.specs.declared.properties.TimeEntry.{TimeEntry}
 use Rattle.graph_reader.specs.declared.properties.SizeEntry.{SizeEntry}
 use Rattle.graph_reader.specs.Field.{word_of}
-use Rattle.graph_reader.specs.Walk.{◌>>=◌, file, children, first_child, attribute, required, at_most_one, one, each}
-use Rattle.graph_reader.specs.Numbers.{within, number, positive}
+use Rattle.graph_reader.specs.TreeSteps.{◌>>=◌, file, children, first_child, attribute, required, at_most_one, one, each}
+use Rattle.graph_reader.specs.NumberTexts.{within, number, positive}
 
 -- ---- names
 
@@ -35,7 +36,7 @@ is_among name names = list_any (λ other. bytes_eq other name) names
 abbrev pub tested_name : List ℕ → List (List ℕ) → List ℕ → Result (List ℕ) ReadError
 tested_name of earlier name =
     if length name == 0 then Err (Missing field.Name of)
-    else if nat_lt 128 (length name) then Err (Limit quantity.NameBytes)
+    else if nat_lt NAME_BYTES (length name) then Err (Limit quantity.NameBytes)
     else if is_among name earlier then Err (Twice field.Name name)
     else Ok name
 
@@ -71,11 +72,11 @@ direction_in of word =
 unfoldable pub port_of : List ℕ → ℕ → List Port → Node → Result Port ReadError
 port_of actor before done e = do
   name ← new_name actor (map (λ (p : Port). p.name) done) e
-  count ← within quantity.Ports 1024 (before + length done + 1)
+  count ← within quantity.Ports PORTS (before + length done + 1)
   word ← required field.TypeWord actor e
   direction ← direction_in actor word
   text ← required field.Rate actor e
-  rate ← positive field.Rate actor quantity.Rate 1000000 text
+  rate ← positive field.Rate actor quantity.Rate RATE text
   Ok (record { name = name; direction = direction; rate = rate })
 
 -- the ports of some actors
@@ -86,7 +87,7 @@ port_count actors = sum_by (λ (a : Actor). length a.ports) actors
 unfoldable pub actor_of : List Actor → Node → Result Actor ReadError
 actor_of done e = do
   name ← new_name file (map (λ (a : Actor). a.name) done) e
-  count ← within quantity.Actors 128 (length done + 1)
+  count ← within quantity.Actors ACTORS (length done + 1)
   ports ← each (port_of name (port_count done)) [] (children (codes "port") e)
   Ok (record { name = name; ports = ports })
 
@@ -144,13 +145,13 @@ unused what e used = if used then Err (Twice what e.port) else Ok e
 -- the initial tokens, which are 0 where none are given
 abbrev pub tokens_in : List ℕ → Option (List ℕ) → Result ℕ ReadError
 tokens_in of None = Ok 0
-tokens_in of (Some text) = number field.InitialTokens of quantity.Tokens 1000000 text
+tokens_in of (Some text) = number field.InitialTokens of quantity.Tokens TOKENS text
 
 -- a channel between ports of these actors, after the earlier ones; each port serves one channel
 unfoldable pub channel_of : List Actor → List Channel → Node → Result Channel ReadError
 channel_of actors done e = do
   name ← new_name file (map (λ (c : Channel). c.name) done) e
-  count ← within quantity.Channels 256 (length done + 1)
+  count ← within quantity.Channels CHANNELS (length done + 1)
   start ← end_of actors Out field.SrcActor field.SrcPort name e
   source ← unused field.SrcPort start (list_any (λ (c : Channel). is_same_port c.source start) done)
   stop ← end_of actors In field.DstActor field.DstPort name e
@@ -191,7 +192,7 @@ abbrev pub time_by : List ℕ → Option Node → Result (Option ℕ) ReadError
 time_by of None = Ok None
 time_by of (Some execution) = do
   text ← required field.Time of execution
-  time ← positive field.Time of quantity.Time 1000000000 text
+  time ← positive field.Time of quantity.Time TIME text
   Ok (Some time)
 
 -- the time that an actor's properties give, if any
@@ -222,7 +223,7 @@ size_text e = option_and_then (attribute (word_of field.Sz)) (first_child (codes
 abbrev pub size_in : List ℕ → Option (List ℕ) → Result ℕ ReadError
 size_in of None = Ok 1
 size_in of (Some text) = do
-  size ← number field.Sz of quantity.Size 1000000 text
+  size ← number field.Sz of quantity.Size SIZE text
   Ok (some_size size)
 
 -- the size that a channel's properties give, and 1 where they give none
@@ -272,6 +273,13 @@ timed t (Some a) = Err (Missing field.ExecutionTime a.name)
 unfoldable pub all_timed : Bool → GraphFile → Result GraphFile ReadError
 all_timed need_times t = if need_times then timed t (find (λ (a : ActorRow). length a.times == 0) t.actors) else Ok t
 
+-- the table of these actors and channels with what the properties give
+abbrev pub with_properties : Bool → List Actor → List Channel → Option Node → Result GraphFile ReadError
+with_properties need_times actors channels properties = do
+  times ← times_of actors properties
+  sizes ← sizes_of channels properties
+  all_timed need_times (table actors channels times sizes)
+
 -- the root is named as it has to be
 unfoldable pub root_of : Node → Result Node ReadError
 root_of e = if bytes_eq (name_of e) (word_of field.Sdf3) then Ok e else Err (Missing field.Sdf3 file)
@@ -291,6 +299,4 @@ table_of need_times tree = do
   actors ← actors_of section
   channels ← channels_of actors section
   properties ← at_most_one field.SdfProperties graph
-  times ← times_of actors properties
-  sizes ← sizes_of channels properties
-  all_timed need_times (table actors channels times sizes)
+  with_properties need_times actors channels properties

@@ -4,6 +4,7 @@ use Rattle.std.specs.List.{find}
 use Rattle.std.specs.Option.{option_to_list}
 use Rattle.sd_base.specs.declared.tables.GraphFile.{GraphFile}
 use Rattle.sd_base.specs.Tables.{IsTimed}
+use Rattle.sd_base.specs.declared.limits.TheConstants.{ACTORS, CHANNELS, NAME_BYTES, PORTS, RATE, SIZE, TIME, TOKENS}
 use Rattle.file_text.specs.Node.{Node, name_of}
 use Rattle.file_text.specs.Grammar.{Each}
 use Rattle.graph_reader.specs.declared.field.Field.{Field}
@@ -17,8 +18,8 @@ use Rattle.graph_reader.specs.declared.channels.Channel.{Channel}
 use Rattle.graph_reader.specs.declared.properties.TimeEntry.{TimeEntry}
 use Rattle.graph_reader.specs.declared.properties.SizeEntry.{SizeEntry}
 use Rattle.graph_reader.specs.Field.{word_of}
-use Rattle.graph_reader.specs.Walk.{children, attribute}
-use Rattle.graph_reader.specs.Numbers.{number_in}
+use Rattle.graph_reader.specs.TreeSteps.{children, attribute}
+use Rattle.graph_reader.specs.NumberTexts.{number_in}
 use Rattle.graph_reader.specs.Sections.{port_count, numbered, is_port, is_same_port, execution_of, size_text, some_size, table}
 
 -- the relation holds of elements and what is read of them, place by place
@@ -45,11 +46,11 @@ IsNumber limit text n = (number_in text ≡ Some n) × (n ≤ limit)
 abbrev pub HasPositive : Field → ℕ → Node → ℕ → Type 0
 HasPositive what limit e n = (text : List ℕ) × Has what e text × IsNumber limit text n × (1 ≤ n)
 
--- the element's name, of 1 to 128 bytes
+-- the element's name, which isn't empty or too long
 pub record HasName (e : Node) (name : List ℕ) : Type 0 where
   pub has : Has field.Name e name
   pub some : 1 ≤ length name
-  pub short : length name ≤ 128
+  pub short : length name ≤ NAME_BYTES
 
 -- the word for a direction
 abbrev pub direction_word : Direction → List ℕ
@@ -60,7 +61,7 @@ direction_word Out = codes "out"
 pub record IsPort (e : Node) (p : Port) : Type 0 where
   pub name : HasName e p.name
   pub direction : Has field.TypeWord e (direction_word p.direction)
-  pub rate : HasPositive field.Rate 1000000 e p.rate
+  pub rate : HasPositive field.Rate RATE e p.rate
 
 -- an actor's ports have names of their own
 pub record IsActor (e : Node) (a : Actor) : Type 0 where
@@ -68,13 +69,13 @@ pub record IsActor (e : Node) (a : Actor) : Type 0 where
   pub ports : Pairwise IsPort (children (codes "port") e) a.ports
   pub apart : EachTwo (λ (p q : Port). p.name ≢ q.name) a.ports
 
--- actors have names of their own; there are 1 to 128, with at most 1,024 ports
+-- actors have names of their own; there is one at least, and neither they nor their ports are too many
 pub record AreActors (section : Node) (actors : List Actor) : Type 0 where
   pub rows : Pairwise IsActor (children (word_of field.Actor) section) actors
   pub apart : EachTwo (λ (a b : Actor). a.name ≢ b.name) actors
   pub some : 1 ≤ length actors
-  pub few : length actors ≤ 128
-  pub few_ports : port_count actors ≤ 1024
+  pub few : length actors ≤ ACTORS
+  pub few_ports : port_count actors ≤ PORTS
 
 -- an end of a channel: the number of the actor that is named, and the rate of the port of it that is named
 pub record IsEnd (actors : List Actor) (direction : Direction) (actor_word port_word : Field) (e : Node) (x : End) : Type 0 where
@@ -90,7 +91,7 @@ pub record IsEnd (actors : List Actor) (direction : Direction) (actor_word port_
 -- initial tokens: as many as are given, or none
 abbrev pub AreTokens : Option (List ℕ) → ℕ → Type 0
 AreTokens None n = n ≡ 0
-AreTokens (Some text) n = IsNumber 1000000 text n
+AreTokens (Some text) n = IsNumber TOKENS text n
 
 -- an element spells a channel between ports of these actors
 pub record IsChannel (actors : List Actor) (e : Node) (c : Channel) : Type 0 where
@@ -105,16 +106,16 @@ pub record AreApart (c d : Channel) : Type 0 where
   pub sources : is_same_port c.source d.source ≡ false
   pub targets : is_same_port c.target d.target ≡ false
 
--- the channels of a section; there are at most 256
+-- the channels of a section, which aren't too many
 pub record AreChannels (actors : List Actor) (section : Node) (channels : List Channel) : Type 0 where
   pub rows : Pairwise (IsChannel actors) (children (word_of field.Channel) section) channels
   pub apart : EachTwo AreApart channels
-  pub few : length channels ≤ 256
+  pub few : length channels ≤ CHANNELS
 
 -- the time of an execution, if there is one
 abbrev pub IsTime : Option Node → Option ℕ → Type 0
 IsTime None time = time ≡ None
-IsTime (Some execution) time = (n : ℕ) × (time ≡ Some n) × HasPositive field.Time 1000000000 execution n
+IsTime (Some execution) time = (n : ℕ) × (time ≡ Some n) × HasPositive field.Time TIME execution n
 
 -- what properties say of an actor
 pub record IsTimeEntry (actors : List Actor) (e : Node) (t : TimeEntry) : Type 0 where
@@ -132,7 +133,7 @@ AreTimes actors (Some properties) times =
 -- the size of a token: 1 where none is given
 abbrev pub IsSize : Option (List ℕ) → ℕ → Type 0
 IsSize None size = size ≡ 1
-IsSize (Some text) size = (n : ℕ) × IsNumber 1000000 text n × (size ≡ some_size n)
+IsSize (Some text) size = (n : ℕ) × IsNumber SIZE text n × (size ≡ some_size n)
 
 -- what properties say of a channel
 pub record IsSizeEntry (channels : List Channel) (e : Node) (s : SizeEntry) : Type 0 where

@@ -1,17 +1,19 @@
 //! Actors with their ports.
 
-ghost use Rattle.std.specs.Prelude.{◌≡◌, ◌+◌, ◌≤◌, ℕ, [], length, codes, IfOk};
+ghost use Rattle.std.specs.Prelude.{◌≡◌, ◌+◌, ◌≤◌, ℕ, [], length, map, false, codes, IfOk};
 ghost use Rattle.file_text.specs.Node.{tree_of};
-ghost use Rattle.graph_reader.specs.Walk.{Gives, each, children};
-ghost use Rattle.graph_reader.specs.Sections.{direction_in, port_of, port_count, actor_of, actors_of};
+ghost use Rattle.graph_reader.specs.TreeSteps.{Gives, each, children};
+ghost use Rattle.graph_reader.specs.Sections.{is_among, direction_in, port_of, port_count, actor_of, actors_of};
 
 use crate::elements::{elements_in, required, split_named};
 use crate::error::{bad_word, copied, missing};
-use crate::names::{Named, new_name};
+use crate::names::new_name;
 use crate::numbers::{positive, within};
+use crate::register::{Named, Register};
 use crate::{Field, ReadError};
 use file_text::Element;
-use sd_base::{Quantity, Rows, Text};
+use sd_base::limits::{ACTORS, PORTS, RATE};
+use sd_base::{Quantity, Text};
 use std::alloc::Global;
 
 /// Whether tokens come in or go out at a port.
@@ -21,17 +23,17 @@ pub enum Direction {
     Out,
 }
 
-#[derive(Debug, Drop)]
+#[derive(Drop)]
 pub struct Port {
     pub name: Text,
     pub direction: Direction,
     pub rate: u64,
 }
 
-#[derive(Debug, Drop)]
+#[derive(Drop)]
 pub struct Actor {
     pub name: Text,
-    pub ports: Rows<Port>,
+    pub ports: Register<Port>,
 }
 
 impl Named for Port {
@@ -67,19 +69,20 @@ fn read_port(
     alloc: Global,
     actor: &str,
     before: u64,
-    done: &[Port],
+    done: &Register<Port>,
     element: &Element,
 ) -> Result<Port, ReadError>
-    requires { before + length done.now ≤ 1024 }
+    requires { before + length done.now ≤ PORTS }
     ensures gives { Gives (λ p. p) result (port_of actor.now before done.now (tree_of element.now)) }
-    ensures few { IfOk result (λ _. before + length done.now + 1 ≤ 1024) }
+    ensures few { IfOk result (λ _. before + length done.now + 1 ≤ PORTS) }
+    ensures new { IfOk result (λ p. is_among p.name (map (λ (p : Port). p.name) done.now) ≡ false) }
 {
     let name = new_name(alloc, actor, done, element)?;
-    within(Quantity::Ports, 1024, before + done.len() as u64 + 1)?;
+    within(Quantity::Ports, PORTS, before + done.len() as u64 + 1)?;
     let word = required(alloc, element, Field::TypeWord, actor)?;
     let direction = direction_in(alloc, actor, word)?;
     let text = required(alloc, element, Field::Rate, actor)?;
-    let rate = positive(alloc, text, Field::Rate, actor, Quantity::Rate, 1_000_000)?;
+    let rate = positive(alloc, text, Field::Rate, actor, Quantity::Rate, RATE)?;
     let name = copied(alloc, name)?;
     Ok(Port {
         name,
@@ -88,23 +91,23 @@ fn read_port(
     })
 }
 
-#[tactic(auto, unfolding(crate::specs::Walk::children))]
+#[tactic(auto, unfolding(crate::specs::TreeSteps::children))]
 fn read_ports(
     alloc: Global,
     actor: &str,
     before: u64,
     element: &Element,
-) -> Result<Rows<Port>, ReadError>
-    requires { before ≤ 1024 }
+) -> Result<Register<Port>, ReadError>
+    requires { before ≤ PORTS }
     ensures gives { let elements = children (codes "port") (tree_of element.now) in
         Gives (λ ps. ps) result (each (port_of actor.now before) [] elements) }
-    ensures few { IfOk result (λ ps. before + length ps ≤ 1024) }
+    ensures few { IfOk result (λ ps. before + length ps ≤ PORTS) }
 {
-    let mut ports = Rows::new(alloc);
+    let mut ports = Register::new(alloc);
     let mut left = elements_in(element);
     while let Some((child, rest)) = split_named(left, "port") {
-        let port = read_port(alloc, actor, before, ports.as_slice(), child)?;
-        ports.push(port)?;
+        let port = read_port(alloc, actor, before, &ports, child)?;
+        ports = ports.with(alloc, port)?;
         left = rest;
     }
     Ok(ports)
@@ -114,36 +117,37 @@ fn read_ports(
 fn read_actor(
     alloc: Global,
     ports_before: u64,
-    done: &[Actor],
+    done: &Register<Actor>,
     element: &Element,
 ) -> Result<Actor, ReadError>
     requires counted { ports_before ≡ port_count done.now }
-    requires few_ports { ports_before ≤ 1024 }
-    requires few_actors { length done.now ≤ 128 }
+    requires few_ports { ports_before ≤ PORTS }
+    requires few_actors { length done.now ≤ ACTORS }
     ensures gives { Gives (λ a. a) result (actor_of done.now (tree_of element.now)) }
-    ensures few_ports { IfOk result (λ a. ports_before + length a.ports ≤ 1024) }
-    ensures few_actors { IfOk result (λ _. length done.now + 1 ≤ 128) }
+    ensures few_ports { IfOk result (λ a. ports_before + length a.ports ≤ PORTS) }
+    ensures few_actors { IfOk result (λ _. length done.now + 1 ≤ ACTORS) }
+    ensures new { IfOk result (λ a. is_among a.name (map (λ (b : Actor). b.name) done.now) ≡ false) }
 {
     let name = new_name(alloc, "file", done, element)?;
-    within(Quantity::Actors, 128, done.len() as u64 + 1)?;
+    within(Quantity::Actors, ACTORS, done.len() as u64 + 1)?;
     let ports = read_ports(alloc, name, ports_before, element)?;
     let name = copied(alloc, name)?;
     Ok(Actor { name, ports })
 }
 
 /// The actors of a section, of which there is one at least.
-#[tactic(auto, unfolding(crate::specs::Sections::actors_of, crate::specs::Walk::children))]
-pub fn read_actors(alloc: Global, section: &Element) -> Result<Rows<Actor>, ReadError>
+#[tactic(auto, unfolding(crate::specs::Sections::actors_of, crate::specs::TreeSteps::children))]
+pub fn read_actors(alloc: Global, section: &Element) -> Result<Register<Actor>, ReadError>
     ensures gives { Gives (λ actors. actors) result (actors_of (tree_of section.now)) }
-    ensures few { IfOk result (λ actors. length actors ≤ 128) }
+    ensures few { IfOk result (λ actors. length actors ≤ ACTORS) }
 {
-    let mut actors = Rows::new(alloc);
+    let mut actors = Register::new(alloc);
     let mut ports: u64 = 0;
     let mut left = elements_in(section);
     while let Some((child, rest)) = split_named(left, Field::Actor.word()) {
-        let actor = read_actor(alloc, ports, actors.as_slice(), child)?;
+        let actor = read_actor(alloc, ports, &actors, child)?;
         ports += actor.ports.len() as u64;
-        actors.push(actor)?;
+        actors = actors.with(alloc, actor)?;
         left = rest;
     }
     if actors.is_empty() {

@@ -1,31 +1,33 @@
 //! Channels between ports of actors.
 
-ghost use Rattle.std.specs.Prelude.{◌≡◌, ◌+◌, ◌≤◌, ◌<◌, ℕ, [], length, map, IfOk, MatchOption};
+ghost use Rattle.std.specs.Prelude.{◌≡◌, ◌+◌, ◌≤◌, ◌<◌, ℕ, [], length, map, false, IfOk};
 ghost use Rattle.std.specs.List.{list_any, find};
 ghost use Rattle.std.specs.Option.{option_map, option_copied};
 ghost use Rattle.file_text.specs.Node.{tree_of};
-ghost use Rattle.graph_reader.specs.Walk.{Gives, each, children};
-ghost use Rattle.graph_reader.specs.Sections.{numbered, is_same_direction, is_port, end_of, is_same_port, tokens_in, channel_of, channels_of};
+ghost use Rattle.graph_reader.specs.TreeSteps.{Gives, each, children};
+ghost use Rattle.graph_reader.specs.Sections.{is_among, numbered, is_same_direction, is_port, end_of, is_same_port, tokens_in, channel_of, channels_of};
 
 use crate::actors::{Actor, Direction, Port};
 use crate::elements::{attribute, elements_in, required, split_named};
 use crate::error::{copied, twice, unknown};
-use crate::names::{Named, new_name};
+use crate::names::new_name;
 use crate::numbers::{number, within};
+use crate::register::{Named, Register};
 use crate::{Field, ReadError};
 use file_text::Element;
-use sd_base::{Quantity, Rows, Text};
+use sd_base::limits::{ACTORS, CHANNELS, TOKENS};
+use sd_base::{Quantity, Text};
 use std::alloc::Global;
 
 /// Where a channel begins or ends: a port of the actor of this number, and the port's rate.
-#[derive(Debug, Drop)]
+#[derive(Drop)]
 pub struct End {
     pub actor: u32,
     pub port: Text,
     pub rate: u64,
 }
 
-#[derive(Debug, Drop)]
+#[derive(Drop)]
 pub struct Channel {
     pub name: Text,
     pub source: End,
@@ -49,20 +51,17 @@ struct Side {
     port: Field,
 }
 
-fn numbered<'a>(actors: &'a [Actor], name: &str) -> Option<(u32, &'a Actor)>
-    requires { length actors.now ≤ 128 }
+fn numbered<'a>(actors: &'a Register<Actor>, name: &str) -> Option<(u32, &'a Actor)>
+    requires { length actors.now ≤ ACTORS }
     ensures { option_map (λ r. (r.0, r.1.now)) result ≡ numbered 0 name.now actors.now }
 {
-    let mut i = 0;
-    let mut left = actors;
-    while let [first, rest @ ..] = left {
-        if first.name.as_str() == name {
-            return Some((i, first));
-        }
-        i += 1;
-        left = rest;
+    match actors.number_of(name) {
+        None => None,
+        Some(number) => match actors.get(number) {
+            None => None,
+            Some(actor) => Some((number as u32, actor)),
+        },
     }
-    None
 }
 
 fn is_same_direction(a: Direction, b: Direction) -> bool
@@ -76,34 +75,27 @@ fn is_same_direction(a: Direction, b: Direction) -> bool
     }
 }
 
-fn is_port(direction: Direction, name: &str, port: &Port) -> bool
-    ensures { result ≡ is_port direction name.now port.now }
-{
-    port.name.as_str() == name && is_same_direction(direction, port.direction)
-}
-
-fn port_named<'a>(ports: &'a [Port], direction: Direction, name: &str) -> Option<&'a Port>
+/// The port of this name, if it has this direction.
+fn port_named<'a>(ports: &'a Register<Port>, direction: Direction, name: &str) -> Option<&'a Port>
     ensures { option_copied result ≡ find (is_port direction name.now) ports.now }
 {
-    let mut left = ports;
-    while let [first, rest @ ..] = left {
-        if is_port(direction, name, first) {
-            return Some(first);
-        }
-        left = rest;
+    let port = ports.find(name)?;
+    if is_same_direction(direction, port.direction) {
+        Some(port)
+    } else {
+        None
     }
-    None
 }
 
 #[tactic(auto, unfolding(crate::specs::Sections::end_of))]
 fn read_end(
     alloc: Global,
-    actors: &[Actor],
+    actors: &Register<Actor>,
     side: Side,
     of: &str,
     element: &Element,
 ) -> Result<End, ReadError>
-    requires { length actors.now ≤ 128 }
+    requires { length actors.now ≤ ACTORS }
     ensures { let end = end_of actors.now side.direction side.actor side.port of.now (tree_of element.now) in
         Gives (λ e. e) result end }
 {
@@ -112,7 +104,7 @@ fn read_end(
         return Err(unknown(alloc, side.actor, actor_name));
     };
     let port_name = required(alloc, element, side.port, of)?;
-    let Some(port) = port_named(actor.ports.as_slice(), side.direction, port_name) else {
+    let Some(port) = port_named(&actor.ports, side.direction, port_name) else {
         return Err(unknown(alloc, side.port, port_name));
     };
     let rate = port.rate;
@@ -130,16 +122,22 @@ fn is_same_port(a: &End, b: &End) -> bool
     a.actor == b.actor && a.port.as_str() == b.port.as_str()
 }
 
-fn is_source_used(channels: &[Channel], end: &End) -> bool
+fn is_source_used(channels: &Register<Channel>, end: &End) -> bool
     ensures { result ≡ list_any (λ c. is_same_port c.source end.now) channels.now }
 {
-    channels.iter().any(|c| is_same_port(&c.source, end))
+    channels
+        .as_slice()
+        .iter()
+        .any(|c| is_same_port(&c.source, end))
 }
 
-fn is_target_used(channels: &[Channel], end: &End) -> bool
+fn is_target_used(channels: &Register<Channel>, end: &End) -> bool
     ensures { result ≡ list_any (λ c. is_same_port c.target end.now) channels.now }
 {
-    channels.iter().any(|c| is_same_port(&c.target, end))
+    channels
+        .as_slice()
+        .iter()
+        .any(|c| is_same_port(&c.target, end))
 }
 
 fn tokens_in(alloc: Global, of: &str, text: Option<&str>) -> Result<u64, ReadError>
@@ -153,7 +151,7 @@ fn tokens_in(alloc: Global, of: &str, text: Option<&str>) -> Result<u64, ReadErr
             Field::InitialTokens,
             of,
             Quantity::Tokens,
-            1_000_000,
+            TOKENS,
         ),
     }
 }
@@ -173,17 +171,18 @@ const TARGET: Side = Side {
 #[tactic(auto, unfolding(crate::specs::Sections::channel_of))]
 fn read_channel(
     alloc: Global,
-    actors: &[Actor],
-    done: &[Channel],
+    actors: &Register<Actor>,
+    done: &Register<Channel>,
     element: &Element,
 ) -> Result<Channel, ReadError>
-    requires few_actors { length actors.now ≤ 128 }
-    requires few_channels { length done.now ≤ 256 }
+    requires few_actors { length actors.now ≤ ACTORS }
+    requires few_channels { length done.now ≤ CHANNELS }
     ensures gives { Gives (λ c. c) result (channel_of actors.now done.now (tree_of element.now)) }
-    ensures few { IfOk result (λ _. length done.now + 1 ≤ 256) }
+    ensures few { IfOk result (λ _. length done.now + 1 ≤ CHANNELS) }
+    ensures new { IfOk result (λ c. is_among c.name (map (λ (d : Channel). d.name) done.now) ≡ false) }
 {
     let name = new_name(alloc, "file", done, element)?;
-    within(Quantity::Channels, 256, done.len() as u64 + 1)?;
+    within(Quantity::Channels, CHANNELS, done.len() as u64 + 1)?;
     let source = read_end(alloc, actors, SOURCE, name, element)?;
     if is_source_used(done, &source) {
         return Err(twice(alloc, Field::SrcPort, source.port.as_str()));
@@ -203,20 +202,20 @@ fn read_channel(
 }
 
 /// The channels of a section.
-#[tactic(auto, unfolding(crate::specs::Sections::channels_of, crate::specs::Walk::children))]
+#[tactic(auto, unfolding(crate::specs::Sections::channels_of, crate::specs::TreeSteps::children))]
 pub fn read_channels(
     alloc: Global,
-    actors: &[Actor],
+    actors: &Register<Actor>,
     section: &Element,
-) -> Result<Rows<Channel>, ReadError>
-    requires { length actors.now ≤ 128 }
+) -> Result<Register<Channel>, ReadError>
+    requires { length actors.now ≤ ACTORS }
     ensures { Gives (λ cs. cs) result (channels_of actors.now (tree_of section.now)) }
 {
-    let mut channels = Rows::new(alloc);
+    let mut channels = Register::new(alloc);
     let mut left = elements_in(section);
     while let Some((child, rest)) = split_named(left, Field::Channel.word()) {
-        let channel = read_channel(alloc, actors, channels.as_slice(), child)?;
-        channels.push(channel)?;
+        let channel = read_channel(alloc, actors, &channels, child)?;
+        channels = channels.with(alloc, channel)?;
         left = rest;
     }
     Ok(channels)

@@ -4,7 +4,7 @@ ghost use Rattle.std.specs.Prelude.{◌≡◌, ◌<◌, ◌∷◌, [], length, m
 ghost use Rattle.std.specs.Option.{option_map};
 ghost use Rattle.std.specs.Str.{bytes_eq};
 ghost use Rattle.file_text.specs.Node.{tree_of, name_of, attributes_of, children_of};
-ghost use Rattle.graph_reader.specs.Walk.{Gives, named, first_value, children, first_child, attribute, required, at_most_one, one};
+ghost use Rattle.graph_reader.specs.TreeSteps.{Gives, named, first_value, children, first_child, attribute, required, at_most_one, one};
 
 use crate::error::{missing, twice};
 use crate::{Field, ReadError};
@@ -41,7 +41,7 @@ pub fn split_named<'a>(elements: &'a [Element], word: &str) -> Option<(&'a Eleme
 }
 
 /// The first element in an element that is named so.
-#[tactic(auto, unfolding(crate::specs::Walk::first_child, crate::specs::Walk::children))]
+#[tactic(auto, unfolding(crate::specs::TreeSteps::first_child, crate::specs::TreeSteps::children))]
 pub fn first_child<'a>(element: &'a Element, word: &str) -> Option<&'a Element>
     ensures { option_map (λ c. tree_of c.now) result ≡ first_child word.now (tree_of element.now) }
 {
@@ -65,7 +65,7 @@ fn value_named<'a>(attributes: &'a [Attribute], word: &str) -> Option<&'a str>
 }
 
 /// The value of an attribute.
-#[tactic(auto, unfolding(crate::specs::Walk::attribute))]
+#[tactic(auto, unfolding(crate::specs::TreeSteps::attribute))]
 pub fn attribute<'a>(element: &'a Element, word: &str) -> Option<&'a str>
     ensures { option_map (λ v. v.now) result ≡ attribute word.now (tree_of element.now) }
 {
@@ -73,7 +73,7 @@ pub fn attribute<'a>(element: &'a Element, word: &str) -> Option<&'a str>
 }
 
 /// The value of an attribute that has to be there.
-#[tactic(auto, unfolding(crate::specs::Walk::required))]
+#[tactic(auto, unfolding(crate::specs::TreeSteps::required))]
 pub fn required<'a>(
     alloc: Global,
     element: &'a Element,
@@ -89,7 +89,7 @@ pub fn required<'a>(
 }
 
 /// The element in an element that may stand once.
-#[tactic(auto, unfolding(crate::specs::Walk::at_most_one, crate::specs::Walk::children))]
+#[tactic(auto, unfolding(crate::specs::TreeSteps::at_most_one, crate::specs::TreeSteps::children))]
 pub fn at_most_one<'a>(
     alloc: Global,
     element: &'a Element,
@@ -107,7 +107,7 @@ pub fn at_most_one<'a>(
 }
 
 /// The element in an element that stands once.
-#[tactic(auto, unfolding(crate::specs::Walk::one))]
+#[tactic(auto, unfolding(crate::specs::TreeSteps::one))]
 pub fn one<'a>(alloc: Global, element: &'a Element, what: Field) -> Result<&'a Element, ReadError>
     ensures { Gives (λ c. tree_of c.now) result (one what (tree_of element.now)) }
 {

@@ -5,10 +5,10 @@ ghost use Rattle.std.specs.Prelude.{◌≡◌, ◌↔◌, Bool, Ok, IsTrue, IfEr
 ghost use Rattle.sd_base.specs.Tables.{KeepsRules, IsTimed};
 ghost use Rattle.file_text.specs.Node.{Node};
 ghost use Rattle.file_text.specs.Grammar.{IsText};
-ghost use Rattle.graph_reader.specs.Reading.{IsFirstFault};
+ghost use Rattle.graph_reader.specs.FirstFaults.{IsFirstFault};
 ghost use Rattle.sd_base.specs.declared.tables.GraphFile.{GraphFile};
 ghost use Rattle.sd_base.specs.declared.tables.Kind.TheVariants.{Sdf};
-ghost use Rattle.graph_reader.specs.Walk.{Gives};
+ghost use Rattle.graph_reader.specs.TreeSteps.{Gives};
 ghost use Rattle.graph_reader.specs.Sections.{table_of};
 ghost use Rattle.graph_reader.specs.Spelled.{IsTable};
 
@@ -21,6 +21,7 @@ mod laws;
 mod names;
 mod numbers;
 mod properties;
+mod register;
 mod table;
 
 pub use error::ReadError;
@@ -31,8 +32,8 @@ use sd_base::GraphFile;
 use std::alloc::Global;
 
 /// Reads the table of a graph file for synchronous dataflow. With `need_times` each actor must have an
-/// execution time. Cost: the one of reading the text, and a comparison of each name with the earlier
-/// ones of its list, which has at most 128 actors, 256 channels or 1,024 ports.
+/// execution time. Cost: the one of reading the text, the length of each name, and a comparison of each
+/// channel's ends with those of the earlier channels, of which there are at most 256.
 pub fn read_graph(alloc: Global, bytes: &[u8], need_times: bool) -> Result<GraphFile, ReadError>
     ensures found { IfOk result (λ t. (e : Node) × IsText e bytes.now × (table_of need_times e ≡ Ok t)) }
     ensures fault { IfErr result (IsFirstFault bytes.now need_times) }

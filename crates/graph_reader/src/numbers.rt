@@ -5,8 +5,8 @@ ghost use Rattle.std.specs.List.{fold, take_while};
 ghost use Rattle.std.specs.Char.{is_ascii_digit};
 ghost use Rattle.std.specs.Option.{option_map};
 ghost use Rattle.file_text.specs.Grammar.{is_white};
-ghost use Rattle.graph_reader.specs.Walk.{Gives};
-ghost use Rattle.graph_reader.specs.Numbers.{drop_while, value, number_in, within, number, positive};
+ghost use Rattle.graph_reader.specs.TreeSteps.{Gives};
+ghost use Rattle.graph_reader.specs.NumberTexts.{drop_while, value, number_in, within, number, positive};
 
 use crate::error::bad_number;
 use crate::{Field, ReadError};
@@ -43,7 +43,7 @@ fn digit_count(text: &[u8]) -> usize
 }
 
 /// The digits in front, and what stands after them.
-#[tactic(auto, using(crate::proofs::Digits::take_while_cut, crate::proofs::Digits::drop_while_cut))]
+#[tactic(auto, using(crate::proofs::NumberDigits::take_while_cut, crate::proofs::NumberDigits::drop_while_cut))]
 fn split_digits(text: &[u8]) -> (&[u8], &[u8])
     ensures digits { result.0.now ≡ take_while is_ascii_digit text.now }
     ensures rest { result.1.now ≡ drop_while is_ascii_digit text.now }
@@ -62,7 +62,7 @@ fn value(digits: &[u8]) -> u64
     n
 }
 
-#[tactic(auto, unfolding(crate::specs::Numbers::number_in))]
+#[tactic(auto, unfolding(crate::specs::NumberTexts::number_in))]
 fn number_in(text: &[u8]) -> Option<u64>
     ensures { result ≡ option_map (λ n. min n GREATEST) (number_in text.now) }
 {
@@ -75,7 +75,7 @@ fn number_in(text: &[u8]) -> Option<u64>
 }
 
 /// Whether a number or a count is within its limit.
-#[tactic(auto, unfolding(crate::specs::Numbers::within))]
+#[tactic(auto, unfolding(crate::specs::NumberTexts::within))]
 pub fn within(what: Quantity, limit: u64, n: u64) -> Result<u64, ReadError>
     ensures gives { Gives (λ m. m) result (within what limit n) }
     ensures few { OnOk result (n ≤ limit) }
@@ -87,7 +87,7 @@ pub fn within(what: Quantity, limit: u64, n: u64) -> Result<u64, ReadError>
 }
 
 /// A number within a limit.
-#[tactic(auto, unfolding(crate::specs::Numbers::number))]
+#[tactic(auto, unfolding(crate::specs::NumberTexts::number))]
 pub fn number(
     alloc: Global,
     text: &str,
@@ -106,7 +106,7 @@ pub fn number(
 }
 
 /// A number within a limit that isn't 0.
-#[tactic(auto, unfolding(crate::specs::Numbers::positive))]
+#[tactic(auto, unfolding(crate::specs::NumberTexts::positive))]
 pub fn positive(
     alloc: Global,
     text: &str,

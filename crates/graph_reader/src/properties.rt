@@ -1,21 +1,23 @@
 //! What the properties give: times of actors, and sizes of tokens.
 
-ghost use Rattle.std.specs.Prelude.{◌≡◌, ℕ, [], map, codes};
+ghost use Rattle.std.specs.Prelude.{◌≡◌, ℕ, [], map, false, codes, IfOk};
 ghost use Rattle.std.specs.List.{find};
 ghost use Rattle.std.specs.Option.{option_map};
 ghost use Rattle.file_text.specs.Node.{tree_of};
-ghost use Rattle.graph_reader.specs.Walk.{Gives, each, children, named};
-ghost use Rattle.graph_reader.specs.Sections.{is_default, counting_processor, execution_of, time_of, time_entry, times_of, size_text, size_of, size_entry, sizes_of};
+ghost use Rattle.graph_reader.specs.TreeSteps.{Gives, each, children, named};
+ghost use Rattle.graph_reader.specs.Sections.{is_among, is_default, counting_processor, execution_of, time_of, time_entry, times_of, size_text, size_of, size_entry, sizes_of};
 
 use crate::actors::Actor;
 use crate::channels::Channel;
 use crate::elements::{attribute, elements_in, first_child, required, split_named};
 use crate::error::copied;
-use crate::names::{Named, mention};
+use crate::names::mention;
 use crate::numbers::{number, positive};
+use crate::register::{Named, Register};
 use crate::{Field, ReadError};
 use file_text::Element;
-use sd_base::{Quantity, Rows, Text};
+use sd_base::limits::{SIZE, TIME};
+use sd_base::{Quantity, Text};
 use std::alloc::Global;
 
 /// The time that is given for an actor, if any.
@@ -59,7 +61,7 @@ fn is_default(processor: &Element) -> bool
 }
 
 /// The first processor so marked, or else the first.
-#[tactic(auto, unfolding(crate::specs::Sections::counting_processor, crate::specs::Walk::first_child, crate::specs::Walk::children))]
+#[tactic(auto, unfolding(crate::specs::Sections::counting_processor, crate::specs::TreeSteps::first_child, crate::specs::TreeSteps::children))]
 fn counting_processor(element: &Element) -> Option<&Element>
     ensures { option_map (λ p. tree_of p.now) result ≡ counting_processor (tree_of element.now) }
 {
@@ -89,18 +91,19 @@ fn time_of(alloc: Global, of: &str, element: &Element) -> Result<Option<u64>, Re
         return Ok(None);
     };
     let text = required(alloc, execution, Field::Time, of)?;
-    let time = positive(alloc, text, Field::Time, of, Quantity::Time, 1_000_000_000)?;
+    let time = positive(alloc, text, Field::Time, of, Quantity::Time, TIME)?;
     Ok(Some(time))
 }
 
 #[tactic(auto, unfolding(crate::specs::Sections::time_entry))]
 fn read_time(
     alloc: Global,
-    actors: &[Actor],
-    done: &[TimeEntry],
+    actors: &Register<Actor>,
+    done: &Register<TimeEntry>,
     element: &Element,
 ) -> Result<TimeEntry, ReadError>
-    ensures { Gives (λ t. t) result (time_entry actors.now done.now (tree_of element.now)) }
+    ensures gives { Gives (λ t. t) result (time_entry actors.now done.now (tree_of element.now)) }
+    ensures new { IfOk result (λ t. is_among t.actor (map (λ (u : TimeEntry). u.actor) done.now) ≡ false) }
 {
     let name = mention(alloc, Field::Actor, actors, done, element)?;
     let time = time_of(alloc, name, element)?;
@@ -109,23 +112,23 @@ fn read_time(
 }
 
 /// The times that the properties give.
-#[tactic(auto, unfolding(crate::specs::Sections::times_of, crate::specs::Walk::children))]
+#[tactic(auto, unfolding(crate::specs::Sections::times_of, crate::specs::TreeSteps::children))]
 pub fn read_times(
     alloc: Global,
-    actors: &[Actor],
+    actors: &Register<Actor>,
     properties: Option<&Element>,
-) -> Result<Rows<TimeEntry>, ReadError>
+) -> Result<Register<TimeEntry>, ReadError>
     ensures { let tree = option_map (λ e. tree_of e.now) properties.entry in
         Gives (λ ts. ts) result (times_of actors.now tree) }
 {
-    let mut times = Rows::new(alloc);
+    let mut times = Register::new(alloc);
     let Some(element) = properties else {
         return Ok(times);
     };
     let mut left = elements_in(element);
     while let Some((child, rest)) = split_named(left, "actorProperties") {
-        let time = read_time(alloc, actors, times.as_slice(), child)?;
-        times.push(time)?;
+        let time = read_time(alloc, actors, &times, child)?;
+        times = times.with(alloc, time)?;
         left = rest;
     }
     Ok(times)
@@ -145,18 +148,19 @@ fn size_of(alloc: Global, of: &str, element: &Element) -> Result<u64, ReadError>
     let Some(text) = size_text(element) else {
         return Ok(1);
     };
-    let size = number(alloc, text, Field::Sz, of, Quantity::Size, 1_000_000)?;
+    let size = number(alloc, text, Field::Sz, of, Quantity::Size, SIZE)?;
     Ok(if size == 0 { 1 } else { size })
 }
 
 #[tactic(auto, unfolding(crate::specs::Sections::size_entry))]
 fn read_size(
     alloc: Global,
-    channels: &[Channel],
-    done: &[SizeEntry],
+    channels: &Register<Channel>,
+    done: &Register<SizeEntry>,
     element: &Element,
 ) -> Result<SizeEntry, ReadError>
-    ensures { Gives (λ s. s) result (size_entry channels.now done.now (tree_of element.now)) }
+    ensures gives { Gives (λ s. s) result (size_entry channels.now done.now (tree_of element.now)) }
+    ensures new { IfOk result (λ s. is_among s.channel (map (λ (t : SizeEntry). t.channel) done.now) ≡ false) }
 {
     let name = mention(alloc, Field::Channel, channels, done, element)?;
     let size = size_of(alloc, name, element)?;
@@ -165,23 +169,23 @@ fn read_size(
 }
 
 /// The sizes that the properties give.
-#[tactic(auto, unfolding(crate::specs::Sections::sizes_of, crate::specs::Walk::children))]
+#[tactic(auto, unfolding(crate::specs::Sections::sizes_of, crate::specs::TreeSteps::children))]
 pub fn read_sizes(
     alloc: Global,
-    channels: &[Channel],
+    channels: &Register<Channel>,
     properties: Option<&Element>,
-) -> Result<Rows<SizeEntry>, ReadError>
+) -> Result<Register<SizeEntry>, ReadError>
     ensures { let tree = option_map (λ e. tree_of e.now) properties.entry in
         Gives (λ ss. ss) result (sizes_of channels.now tree) }
 {
-    let mut sizes = Rows::new(alloc);
+    let mut sizes = Register::new(alloc);
     let Some(element) = properties else {
         return Ok(sizes);
     };
     let mut left = elements_in(element);
     while let Some((child, rest)) = split_named(left, "channelProperties") {
-        let size = read_size(alloc, channels, sizes.as_slice(), child)?;
-        sizes.push(size)?;
+        let size = read_size(alloc, channels, &sizes, child)?;
+        sizes = sizes.with(alloc, size)?;
         left = rest;
     }
     Ok(sizes)

@@ -1,18 +1,18 @@
 //! The table of a tree.
 
 ghost use Rattle.std.specs.Prelude.{◌≡◌, ◌==◌, ℕ, Bool, [], map, length, IfOk, OnOk};
-ghost use Rattle.std.specs.Option.{option_copied, option_to_list};
+ghost use Rattle.std.specs.Option.{option_copied, option_map, option_to_list};
 ghost use Rattle.std.specs.List.{find};
 ghost use Rattle.file_text.specs.Node.{tree_of};
-ghost use Rattle.graph_reader.specs.Walk.{Gives};
-ghost use Rattle.graph_reader.specs.Sections.{time_at, size_at, actor_row, channel_row, table, all_timed, root_of, sdf_kind, table_of};
+ghost use Rattle.graph_reader.specs.TreeSteps.{Gives};
+ghost use Rattle.graph_reader.specs.Sections.{time_at, size_at, actor_row, channel_row, table, all_timed, root_of, sdf_kind, table_of, with_properties};
 
 use crate::actors::{Actor, read_actors};
 use crate::channels::{Channel, read_channels};
 use crate::elements::{at_most_one, is_named, one, required};
 use crate::error::missing;
-use crate::names::find_named;
 use crate::properties::{SizeEntry, TimeEntry, read_sizes, read_times};
+use crate::register::Register;
 use crate::{Field, ReadError};
 use file_text::Element;
 use sd_base::{ActorRow, ChannelRow, GraphFile, Kind, Rows};
@@ -28,25 +28,29 @@ fn list_of(alloc: Global, n: Option<u64>) -> Result<Rows<u64>, AllocError>
     Ok(list)
 }
 
-fn time_at(times: &[TimeEntry], name: &str) -> Option<u64>
+fn time_at(times: &Register<TimeEntry>, name: &str) -> Option<u64>
     ensures { result ≡ time_at times.now name.now }
 {
-    match find_named(times, name) {
+    match times.find(name) {
         Some(entry) => entry.time,
         None => None,
     }
 }
 
-fn size_at(sizes: &[SizeEntry], name: &str) -> u64
+fn size_at(sizes: &Register<SizeEntry>, name: &str) -> u64
     ensures { result ≡ size_at sizes.now name.now }
 {
-    match find_named(sizes, name) {
+    match sizes.find(name) {
         Some(entry) => entry.size,
         None => 1,
     }
 }
 
-fn actor_row(alloc: Global, times: &[TimeEntry], actor: &Actor) -> Result<ActorRow, AllocError>
+fn actor_row(
+    alloc: Global,
+    times: &Register<TimeEntry>,
+    actor: &Actor,
+) -> Result<ActorRow, AllocError>
     ensures { IfOk result (λ row. row ≡ actor_row times.now actor.now) }
 {
     Ok(ActorRow {
@@ -58,7 +62,7 @@ fn actor_row(alloc: Global, times: &[TimeEntry], actor: &Actor) -> Result<ActorR
 
 fn channel_row(
     alloc: Global,
-    sizes: &[SizeEntry],
+    sizes: &Register<SizeEntry>,
     channel: &Channel,
 ) -> Result<ChannelRow, AllocError>
     ensures { IfOk result (λ row. row ≡ channel_row sizes.now channel.now) }
@@ -76,7 +80,7 @@ fn channel_row(
 
 fn actor_rows(
     alloc: Global,
-    times: &[TimeEntry],
+    times: &Register<TimeEntry>,
     actors: &[Actor],
 ) -> Result<Rows<ActorRow>, AllocError>
     ensures { IfOk result (λ rows. rows ≡ map (actor_row times.now) actors.now) }
@@ -90,7 +94,7 @@ fn actor_rows(
 
 fn channel_rows(
     alloc: Global,
-    sizes: &[SizeEntry],
+    sizes: &Register<SizeEntry>,
     channels: &[Channel],
 ) -> Result<Rows<ChannelRow>, AllocError>
     ensures { IfOk result (λ rows. rows ≡ map (channel_row sizes.now) channels.now) }
@@ -107,8 +111,8 @@ fn table(
     alloc: Global,
     actors: &[Actor],
     channels: &[Channel],
-    times: &[TimeEntry],
-    sizes: &[SizeEntry],
+    times: &Register<TimeEntry>,
+    sizes: &Register<SizeEntry>,
 ) -> Result<GraphFile, AllocError>
     ensures { IfOk result (λ t. t ≡ table actors.now channels.now times.now sizes.now) }
 {
@@ -144,6 +148,29 @@ fn all_timed(alloc: Global, need_times: bool, table: GraphFile) -> Result<GraphF
     Ok(table)
 }
 
+/// The table of these actors and channels with what the properties give.
+fn with_properties(
+    alloc: Global,
+    need_times: bool,
+    actors: &Register<Actor>,
+    channels: &Register<Channel>,
+    properties: Option<&Element>,
+) -> Result<GraphFile, ReadError>
+    ensures { let tree = option_map (λ e. tree_of e.now) properties.entry in
+        Gives (λ t. t) result (with_properties need_times actors.now channels.now tree) }
+{
+    let times = read_times(alloc, actors, properties)?;
+    let sizes = read_sizes(alloc, channels, properties)?;
+    let rows = table(
+        alloc,
+        actors.as_slice(),
+        channels.as_slice(),
+        &times,
+        &sizes,
+    )?;
+    all_timed(alloc, need_times, rows)
+}
+
 #[tactic(auto, unfolding(crate::specs::Sections::root_of))]
 fn test_root(alloc: Global, root: &Element) -> Result<(), ReadError>
     ensures { Gives (λ _. tree_of root.now) result (root_of (tree_of root.now)) }
@@ -176,16 +203,7 @@ pub fn table_of(alloc: Global, root: &Element, need_times: bool) -> Result<Graph
     let graph = one(alloc, root, Field::ApplicationGraph)?;
     let section = one(alloc, graph, Field::Sdf)?;
     let actors = read_actors(alloc, section)?;
-    let channels = read_channels(alloc, actors.as_slice(), section)?;
+    let channels = read_channels(alloc, &actors, section)?;
     let properties = at_most_one(alloc, graph, Field::SdfProperties)?;
-    let times = read_times(alloc, actors.as_slice(), properties)?;
-    let sizes = read_sizes(alloc, channels.as_slice(), properties)?;
-    let rows = table(
-        alloc,
-        actors.as_slice(),
-        channels.as_slice(),
-        times.as_slice(),
-        sizes.as_slice(),
-    )?;
-    all_timed(alloc, need_times, rows)
+    with_properties(alloc, need_times, &actors, &channels, properties)
 }

@@ -9,7 +9,7 @@ use Rattle.sd_base.specs.Schedules.{HasInputs, count_of, start_of, end_of}
 use Rattle.sd_base.specs.SelfTimed.{earliest}
 use Rattle.sd_base.specs.Lawful.{Lawful}
 use Rattle.sd_base.specs.Rates.{IsLoop, IsLoopTable}
-use Rattle.sd_base.specs.Futures.{IsConnected}
+use Rattle.sd_base.specs.Connection.{IsConnected}
 use Rattle.sd_base.proofs.Parts.{regular, balanced}
 use Rattle.sd_base.proofs.Counts.{Quiet, early_at, ended-at-is, quiet-until}
 use Rattle.sd_base.proofs.Existence.{extended-is}
@@ -18,8 +18,8 @@ use Rattle.sd_base.proofs.Alike.{count-rises}
 use Rattle.sd_base.proofs.Returns.{loop-whole}
 use Rattle.selftimed.specs.Moves.{IsNext}
 use Rattle.lasso.specs.declared.repeat.Repeat.{Repeat}
-use Rattle.lasso.specs.Visits.{IsRepeat}
-use Rattle.lasso.specs.Collecting.{AreStartsAfter, AddsStarts}
+use Rattle.lasso.specs.inside.Visits.{IsRepeat}
+use Rattle.lasso.specs.inside.Collecting.{AreStartsAfter, AddsStarts}
 
 module _ (net : Net) (laws : Lawful net) (fed : HasInputs net) where
   -- nothing that runs ends before the next event

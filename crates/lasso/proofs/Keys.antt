@@ -12,8 +12,8 @@ use Rattle.std.proofs.lemmas.Option.{get_or_from_slice_get}
 use Rattle.sd_base.specs.SelfTimed
 use Rattle.indexmap.specs.IndexSet.{insert_key}
 use Rattle.selftimed.specs.declared.shape.Shape.{Shape}
-use Rattle.selftimed.specs.Shapes.{form}
-use Rattle.lasso.specs.Visits.{no_shape, Visited}
+use Rattle.selftimed.specs.EngineShapes.{form}
+use Rattle.lasso.specs.inside.Visits.{no_shape, Visited}
 
 -- the test of two shapes, list by list
 abbrev pub alike : Shape → Shape → Bool

@@ -3,5 +3,5 @@ pub mod Going
 pub mod Visiting
 pub mod Collected
 pub mod Keys
-pub mod Endings
-pub mod Deciding
+pub mod OneEnding
+pub mod EventsGoOn

@@ -4,7 +4,7 @@ use Rattle.std.specs.Prelude.{map, sum}
 use Rattle.std.proofs.lemmas.Bool.{cases_lt, cases_Bool}
 use Rattle.sd_base.specs.Net.{Net}
 use Rattle.sd_base.specs.Schedules.{HasInputs, count_of}
-use Rattle.sd_base.specs.SelfTimed.{earliest, IsEvent, is_event, rank, starts_by}
+use Rattle.sd_base.specs.SelfTimed.{earliest, IsEvent, is_event, events_by, starts_by}
 use Rattle.sd_base.specs.Lawful.{Lawful}
 use Rattle.sd_base.proofs.Parts.{regular}
 use Rattle.sd_base.proofs.Admissibles.{no_actor}
@@ -15,26 +15,26 @@ use Rattle.sd_base.proofs.Alike.{count-rises}
 use Rattle.selftimed.specs.Moves.{IsNext}
 use Rattle.selftimed.proofs.Moving.{starts-sum}
 
-rank-next : (net : Net) (t : ℕ) → is_event net (suc t) ≡ true → rank net (suc t) ≡ rank net t + 1
-unfolding rank
-rank-next net t event = ap (λ b. rank net t + (if b then 1 else 0)) event
+rank-next : (net : Net) (t : ℕ) → is_event net (suc t) ≡ true → events_by net (suc t) ≡ events_by net t + 1
+unfolding events_by
+rank-next net t event = ap (λ b. events_by net t + (if b then 1 else 0)) event
 
-rank-still : (net : Net) (t : ℕ) → is_event net (suc t) ≡ false → rank net (suc t) ≡ rank net t
-unfolding rank
-rank-still net t event = let e : rank net t + (if is_event net (suc t) then 1 else 0) ≡ rank net t + 0 = ap (λ b. rank net t + (if b then 1 else 0)) event in omega arith
+rank-still : (net : Net) (t : ℕ) → is_event net (suc t) ≡ false → events_by net (suc t) ≡ events_by net t
+unfolding events_by
+rank-still net t event = let e : events_by net t + (if is_event net (suc t) then 1 else 0) ≡ events_by net t + 0 = ap (λ b. events_by net t + (if b then 1 else 0)) event in omega arith
 
 -- the number of the first event moment
-pub rank-first : (net : Net) → rank net 0 ≡ 1
-unfolding rank
+pub rank-first : (net : Net) → events_by net 0 ≡ 1
+unfolding events_by
 rank-first net = refl
 
-rank-up : (net : Net) (t : ℕ) → rank net t ≤ rank net (suc t)
+rank-up : (net : Net) (t : ℕ) → events_by net t ≤ events_by net (suc t)
 rank-up net t = ⊎_elim
     (λ (event : is_event net (suc t) ≡ true). omega (arith, rank-next net t event))
     (λ (none : is_event net (suc t) ≡ false). omega (arith, rank-still net t none))
     (cases_Bool (is_event net (suc t)))
 
-pub rank-rises : (net : Net) (t u : ℕ) → t ≤ u → rank net t ≤ rank net u
+pub rank-rises : (net : Net) (t u : ℕ) → t ≤ u → events_by net t ≤ events_by net u
 rank-rises net t zero le = let e : t ≡ 0 = omega arith in rw e (omega arith)
 rank-rises net t (suc u) le = ⊎_elim
     (λ (less : t < suc u). omega (arith, rank-rises net t u (omega arith), rank-up net u))
@@ -55,32 +55,32 @@ module _ (net : Net) (laws : Lawful net) (fed : HasInputs net) where
       (cases_Bool (is_event net t))
 
   -- a later event has a greater number
-  pub rank-grows : (t u : ℕ) → t < u → IsEvent net u → rank net t < rank net u
+  pub rank-grows : (t u : ℕ) → t < u → IsEvent net u → events_by net t < events_by net u
   rank-grows t zero less event = absurd (omega arith)
   rank-grows t (suc u) less event = omega (arith, rank-next net u (event-test (suc u) event), rank-rises net t u (omega arith))
 
   -- an event with a number that is no greater is no later
-  pub rank-orders : (t u : ℕ) → IsEvent net t → rank net t ≤ rank net u → t ≤ u
+  pub rank-orders : (t u : ℕ) → IsEvent net t → events_by net t ≤ events_by net u → t ≤ u
   rank-orders t u event le = ⊎_elim
       (λ (later : u < t). absurd (omega (arith, rank-grows u t later event)))
       (λ (h : t ≤ u). h) (cases_lt u t)
 
-  pub rank-one : (t u : ℕ) → IsEvent net t → IsEvent net u → rank net t ≡ rank net u → t ≡ u
+  pub rank-one : (t u : ℕ) → IsEvent net t → IsEvent net u → events_by net t ≡ events_by net u → t ≡ u
   rank-one t u event other same = omega (arith, rank-orders t u event (omega arith), rank-orders u t other (omega arith))
 
-  still : (m u d : ℕ) → ((x : ℕ) → m < x → x < u → IsEvent net x → ⊥) → d + m < u → rank net (d + m) ≡ rank net m
+  still : (m u d : ℕ) → ((x : ℕ) → m < x → x < u → IsEvent net x → ⊥) → d + m < u → events_by net (d + m) ≡ events_by net m
   still m u zero quiet below = let e : 0 + m ≡ m = omega arith in rw e refl
   still m u (suc d) quiet below =
       let e : suc d + m ≡ suc (d + m) = omega arith in
       rw e (rank-still net (d + m) (no-event (suc (d + m)) (quiet (suc (d + m)) (omega arith) (omega arith))) ∙ still m u d quiet (omega arith))
 
   -- the next event has the next number
-  pub rank-after : (m u : ℕ) → IsNext net m u → rank net u ≡ rank net m + 1
+  pub rank-after : (m u : ℕ) → IsNext net m u → events_by net u ≡ events_by net m + 1
   rank-after m zero next = absurd (let later : m < 0 = next.later in omega arith)
   rank-after m (suc u) next =
       let later : m < suc u = next.later in
       let back : (u - m) + m ≡ u = omega arith in
-      let quiet : rank net u ≡ rank net m = subst (λ (x : ℕ). rank net x ≡ rank net m) back (still m (suc u) (u - m) next.quiet (omega arith)) in
+      let quiet : events_by net u ≡ events_by net m = subst (λ (x : ℕ). events_by net x ≡ events_by net m) back (still m (suc u) (u - m) next.quiet (omega arith)) in
       rank-next net u (event-test (suc u) next.event) ∙ ap (λ (x : ℕ). x + 1) quiet
 
   -- more moments have no fewer starts

@@ -1,3 +1,2 @@
-pub mod Runs
-pub mod Visits
-pub mod Collecting
+pub mod LoopAnswers
+pub mod inside

@@ -1,6 +1,7 @@
 ghost use Rattle.std.specs.Prelude.{◌≡◌};
 ghost use Rattle.lasso.specs.declared.error.RunError.TheVariants.{NoMemory};
 
+use sd_base::limits::STARTS;
 use std::alloc::{AllocError, AllocFailed};
 use thiserror::Error;
 
@@ -10,8 +11,8 @@ pub enum RunError {
     /// The shapes that were allowed are all different.
     #[error("no shape comes twice")]
     StatesSpent,
-    /// More than 4,000,000 firings would start.
-    #[error("more than 4000000 starts")]
+    /// More than `STARTS` firings would start.
+    #[error("more than {} starts", STARTS)]
     TooManyStarts,
     #[error("out of memory")]
     NoMemory,

@@ -1,13 +1,14 @@
 //! Laws of the endings of `run_loop`, each on a function that does nothing.
 ghost use Rattle.std.specs.Prelude.{◌≡◌, ℕ, ◌+◌, ◌≤◌, ◌↔◌};
+ghost use Rattle.sd_base.specs.declared.limits.TheConstants.{STARTS};
 ghost use Rattle.sd_base.specs.Net.{Net};
 ghost use Rattle.sd_base.specs.Schedules.{HasInputs};
-ghost use Rattle.sd_base.specs.SelfTimed.{rank, starts_by};
+ghost use Rattle.sd_base.specs.SelfTimed.{events_by, starts_by};
 ghost use Rattle.sd_base.specs.Untimed.{IsLive};
 ghost use Rattle.sd_base.specs.Lawful.{Lawful};
 ghost use Rattle.sd_base.specs.Rates.{IsLoop};
 ghost use Rattle.firing.specs.declared.table.LoopTable.{LoopTable};
-ghost use Rattle.lasso.specs.Runs.{IsFound, IsStatesSpent, IsTooManyStarts, PassesStarts};
+ghost use Rattle.lasso.specs.LoopAnswers.{IsFound, IsStatesSpent, IsTooManyStarts, PassesStarts};
 
 /// At most one ending fits a net and a number of shapes, and a net has one loop with one table. A loop
 /// within the shapes and starts that are allowed leaves no refusal.
@@ -18,9 +19,9 @@ pub fn one_ending()
     ensures found_or_many { (net : Net) (states : ℕ) (table : LoopTable) → Lawful net → HasInputs net → IsFound net states table → ¬ IsTooManyStarts net states }
     ensures spent_or_many { (net : Net) (states : ℕ) → Lawful net → HasInputs net → IsStatesSpent net states → ¬ IsTooManyStarts net states }
     ensures not_spent { (net : Net) (states entry period : ℕ) → Lawful net → HasInputs net → IsLoop net entry period →
-        rank net (entry + period) ≤ states → ¬ IsStatesSpent net states }
+        events_by net (entry + period) ≤ states → ¬ IsStatesSpent net states }
     ensures not_many { (net : Net) (states entry period : ℕ) → Lawful net → HasInputs net → IsLoop net entry period →
-        starts_by net (entry + period) ≤ 4000000 → ¬ IsTooManyStarts net states }
+        starts_by net (entry + period) ≤ STARTS → ¬ IsTooManyStarts net states }
 {}
 
 /// Too many firings start exactly where they do up to and with the last of the first `states` shapes if

@@ -2,18 +2,16 @@ ghost use Rattle.std.specs.Prelude.{◌≡◌, ◌≤◌, ◌<◌, ◌⊎◌, If
 ghost use Rattle.sd_base.specs.Schedules.{HasInputs};
 ghost use Rattle.sd_base.specs.Untimed.{IsLive};
 ghost use Rattle.selftimed.specs.declared.engine.Stage.TheVariants.{Fresh, Running};
-ghost use Rattle.lasso.specs.Runs.{IsRunRefusal};
-ghost use Rattle.lasso.specs.Visits.{GoesOn, IsRepeat};
+ghost use Rattle.lasso.specs.LoopAnswers.{IsRunRefusal};
+ghost use Rattle.lasso.specs.inside.Visits.{GoesOn, IsRepeat};
 
 use crate::error::RunError;
 use crate::visits::Visits;
 use firing::Firing;
 use sd_base::NoMemory;
+use sd_base::limits::STARTS;
 use selftimed::{Engine, Move};
 use std::alloc::Global;
-
-/// The starts that an execution may make.
-pub(crate) const MOST_STARTS: u64 = 4_000_000;
 
 /// The moments at which the shape of the loop's entry stands first and again.
 #[derive(Clone, Copy, Debug)]
@@ -34,7 +32,7 @@ pub(crate) fn first_repeat<F: Firing>(
     ensures found { IfOk result (IsRepeat (F.net net.now) states) }
     ensures refused { IfErr result (IsRunRefusal (F.net net.now) states) }
 {
-    let mut engine = Engine::new(alloc, net, MOST_STARTS)?;
+    let mut engine = Engine::new(alloc, net, STARTS)?;
     let mut visits = Visits::new(alloc);
     'events: for _event in 0..states {
         if !go_on(&mut engine)? {

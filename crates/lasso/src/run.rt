@@ -1,8 +1,9 @@
 ghost use Rattle.std.specs.Prelude.{◌≡◌, ◌+◌, ◌≤◌, IfErr, IfOk};
+ghost use Rattle.sd_base.specs.declared.limits.TheConstants.{STATES, LEAST_STATES};
 ghost use Rattle.sd_base.specs.Schedules.{HasInputs};
 ghost use Rattle.sd_base.specs.Untimed.{IsLive};
-ghost use Rattle.sd_base.specs.Futures.{IsConnected};
-ghost use Rattle.lasso.specs.Runs.{IsFound, IsRunRefusal};
+ghost use Rattle.sd_base.specs.Connection.{IsConnected};
+ghost use Rattle.lasso.specs.LoopAnswers.{IsFound, IsRunRefusal};
 
 use crate::error::RunError;
 use crate::repeat::first_repeat;
@@ -12,7 +13,7 @@ use sd_base::{Ledger, Steps};
 use std::alloc::Global;
 
 /// The loop of self-timed execution, found by keeping each shape until one comes again (Ghamarian et al.
-/// 2006). At most `states` shapes are looked at, and at most 4,000,000 firings started. `steps` counts the
+/// 2006). At most `states` shapes are looked at, and at most `STARTS` firings started. `steps` counts the
 /// call.
 ///
 /// Cost: an execution up to the first repeat, twice; the shapes up to there are kept meanwhile, each with a
@@ -26,8 +27,8 @@ pub fn run_loop<F: Firing, L: Ledger>(
     requires live { IsLive (F.net net.now) }
     requires connected { IsConnected (F.net net.now) }
     requires inputs { HasInputs (F.net net.now) }
-    requires some { 1 ≤ states }
-    requires few { states ≤ 200000 }
+    requires some { LEAST_STATES ≤ states }
+    requires few { states ≤ STATES }
     ensures found { IfOk result (IsFound (F.net net.now) states) }
     ensures refused { IfErr result (IsRunRefusal (F.net net.now) states) }
     ensures ticked { steps.new.count ≡ steps.old.count + 1 }
@@ -42,7 +43,7 @@ fn find_loop<F: Firing>(alloc: Global, net: &F, states: u64) -> Result<LoopTable
     requires live { IsLive (F.net net.now) }
     requires connected { IsConnected (F.net net.now) }
     requires inputs { HasInputs (F.net net.now) }
-    requires some { 1 ≤ states }
+    requires some { LEAST_STATES ≤ states }
     ensures found { IfOk result (IsFound (F.net net.now) states) }
     ensures refused { IfErr result (IsRunRefusal (F.net net.now) states) }
 {

@@ -3,14 +3,15 @@ ghost use Rattle.sd_base.specs.Schedules.{HasInputs, count_of};
 ghost use Rattle.sd_base.specs.Untimed.{IsLive};
 ghost use Rattle.sd_base.specs.SelfTimed.{earliest, IsEvent, starts_by};
 ghost use Rattle.sd_base.specs.Rates.{IsLoopTable};
-ghost use Rattle.sd_base.specs.Futures.{IsConnected};
+ghost use Rattle.sd_base.specs.Connection.{IsConnected};
 ghost use Rattle.selftimed.specs.declared.engine.Stage.TheVariants.{Fresh, Running};
 ghost use Rattle.selftimed.specs.Moves.{ComesNext};
-ghost use Rattle.lasso.specs.Visits.{IsRepeat};
-ghost use Rattle.lasso.specs.Collecting.{AreStartsAfter, AddsStarts};
+ghost use Rattle.lasso.specs.inside.Visits.{IsRepeat};
+ghost use Rattle.lasso.specs.inside.Collecting.{AreStartsAfter, AddsStarts};
 
-use crate::repeat::{MOST_STARTS, Repeat, go_on};
+use crate::repeat::{Repeat, go_on};
 use firing::{Firing, LoopTable};
+use sd_base::limits::STARTS;
 use sd_base::{NoMemory, Rows};
 use selftimed::Engine;
 use std::alloc::Global;
@@ -29,7 +30,7 @@ pub(crate) fn loop_table<F: Firing>(
     ensures period { IfOk result (λ table. table.entry + table.period ≡ repeat.end) }
     ensures table { IfOk result (λ table. IsLoopTable (F.net net.now) table.entry table.period table.rounds table.before table.starts) }
 {
-    let mut engine = Engine::new(alloc, net, MOST_STARTS)?;
+    let mut engine = Engine::new(alloc, net, STARTS)?;
     run_to(&mut engine, repeat.entry)?;
     let before = counts(alloc, &engine)?;
     let mut starts = empty_rows(alloc, net.actors())?;

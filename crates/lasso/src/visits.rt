@@ -1,5 +1,5 @@
 ghost use Rattle.std.specs.Prelude.{◌≡◌, length, IfOk, []};
-ghost use Rattle.lasso.specs.Visits.{Visited};
+ghost use Rattle.lasso.specs.inside.Visits.{Visited};
 
 use indexmap::IndexSet;
 use sd_base::NoMemory;

@@ -5,7 +5,7 @@ use Rattle.std.proofs.lemmas.Bool.{cases_lt, cases_eq}
 use Rattle.std.proofs.lemmas.List.{length-set, length-map, length-replicate, get_or-map, get_or-replicate, get_or_past}
 use Rattle.std.proofs.lemmas.List.Sums.{get_or-le-sum_by}
 use Rattle.sd_base.specs.Net.{Channel, Net, nowhere, channel_at, phase_entry, total}
-use Rattle.sd_base.specs.Untimed.{none_fired, bump, CanFire, Fires, after, IsRound, IsLive, Closed, Blocks, IsEnd}
+use Rattle.sd_base.specs.Untimed.{none_fired, one_more, CanFire, Fires, counts_after, IsRoundOrder, IsLive, Closed, Blocks, IsEnd}
 use Rattle.sd_base.specs.Lawful.{Lawful}
 use Rattle.sd_base.proofs.Sums.{total-zero, total-more}
 use Rattle.sd_base.proofs.Parts.{wired, balanced}
@@ -13,8 +13,8 @@ use Rattle.sd_base.proofs.Blocking.{run-within, bump-same, bump-other, end-split
 use Rattle.sd_base.proofs.Ends.{left_of, left-more, fires-push, after-push}
 use Rattle.firing.specs.Wiring.{SufficesBefore, IsFirstLack, TakesTokens, PutsTokens, IsLevel}
 use Rattle.firing.proofs.TokenMoves.{MoreBy, more-set, takes-le, level-takes, level-puts, level-needs, level-feeds, level-small}
-use Rattle.liveness.specs.Rounds.{NamesLacks, IsBlockedBy}
-use Rattle.liveness.specs.Runs.{IsRun, IsStopped}
+use Rattle.sd_base.specs.Untimed.{NamesLacks, IsBlockedBy}
+use Rattle.liveness.specs.inside.UntimedRuns.{IsRun, IsStopped}
 
 -- an actor that lacks tokens is stopped
 pub stopped-lacks : (net : Net) (counts tokens : List ℕ) (a i : ℕ) → IsLevel net (slice_index counts) (slice_index counts) tokens → IsFirstLack net tokens a (slice_index counts a) i → IsStopped net (slice_index counts) a
@@ -32,7 +32,7 @@ module _ (net : Net) (laws : Lawful net) (counts tokens order : List ℕ) (a : �
 
   count-small : (b : ℕ) → b < length net.times → slice_index counts b ≤ 100000
   count-small b place =
-      let within : after none_fired order b ≤ slice_index net.round b = run-within net order none_fired run.fires (λ x is. omega arith) b place in
+      let within : counts_after none_fired order b ≤ slice_index net.round b = run-within net order none_fired run.fires (λ x is. omega arith) b place in
       let part : slice_index net.round b ≤ sum net.round = get_or-le-sum_by (λ (x : ℕ). x) net.round b 0 (rw (← (balanced net laws).actors) at place) in
       omega (arith, run.reached b place, laws.small_round)
 
@@ -46,7 +46,7 @@ module _ (net : Net) (laws : Lawful net) (counts tokens order : List ℕ) (a : �
         let few : slice_index tokens i ≤ 2000000000 + 100000 * 1000000 = level-small net (slice_index counts) (slice_index counts) tokens 100000 i laws run.level place (count-small (channel_at net i).source (laws.sources i place)) in
         omega arith
 
-    can : CanFire net (after none_fired order) a
+    can : CanFire net (counts_after none_fired order) a
     can i place into =
         let feeds : total (channel_at net i).taken (slice_index counts a + 1) ≤ (channel_at net i).tokens + total (channel_at net i).made (slice_index counts (channel_at net i).source) =
         level-feeds net (slice_index counts) (slice_index counts) tokens a i run.level place into (enough i place into) in
@@ -61,8 +61,8 @@ module _ (net : Net) (laws : Lawful net) (counts tokens order : List ℕ) (a : �
           actors = length-set counts a (slice_index counts a + 1) ∙ run.actors;
           fires = subst (Fires net none_fired) (sym push) (fires-push net order none_fired a run.fires actor (rw (run.reached a actor) less) can);
           reached = λ b is. rw push (after-push order none_fired a b ∙ ⊎_elim
-              (λ (same : b ≡ a). subst (λ (x : ℕ). bump (after none_fired order) a x ≡ slice_index (set counts a (slice_index counts a + 1)) x) (sym same) (bump-same (after none_fired order) a ∙ (ap (λ (x : ℕ). x + 1) (run.reached a actor) ∙ sym by.here)))
-              (λ (away : b ≢ a). bump-other (after none_fired order) a b away ∙ (run.reached b is ∙ sym (by.others b away)))
+              (λ (same : b ≡ a). subst (λ (x : ℕ). one_more (counts_after none_fired order) a x ≡ slice_index (set counts a (slice_index counts a + 1)) x) (sym same) (bump-same (counts_after none_fired order) a ∙ (ap (λ (x : ℕ). x + 1) (run.reached a actor) ∙ sym by.here)))
+              (λ (away : b ≢ a). bump-other (counts_after none_fired order) a b away ∙ (run.reached b is ∙ sym (by.others b away)))
               (cases_eq b a));
           level = level-puts net a 1 (slice_index (set counts a (slice_index counts a + 1))) (slice_index counts) (slice_index (set counts a (slice_index counts a + 1))) mid new
               (level-takes net a 1 (slice_index counts) (slice_index (set counts a (slice_index counts a + 1))) (slice_index counts) tokens mid run.level takes long by) puts longer by;
@@ -134,7 +134,7 @@ run-start net counts tokens order zeros initial none = record {
 pub run-ends : (net : Net) (counts tokens order : List ℕ) → IsRun net counts tokens order → Closed net (slice_index counts) → IsEnd net (slice_index counts)
 run-ends net counts tokens order run closed = record { order = order; fires = run.fires; counts = run.reached; closed = closed }
 
-pub run-round : (net : Net) (counts tokens order : List ℕ) → IsRun net counts tokens order → ((a : ℕ) → a < length net.times → slice_index counts a ≡ slice_index net.round a) → IsRound net order
+pub run-round : (net : Net) (counts tokens order : List ℕ) → IsRun net counts tokens order → ((a : ℕ) → a < length net.times → slice_index counts a ≡ slice_index net.round a) → IsRoundOrder net order
 run-round net counts tokens order run whole = record { fires = run.fires; whole = λ a is. run.reached a is ∙ whole a is }
 
 pub run-blocks : (net : Net) (counts tokens order : List ℕ) → IsRun net counts tokens order → Closed net (slice_index counts) → (((a : ℕ) → a < length net.times → slice_index counts a ≡ slice_index net.round a) → ⊥) → Blocks net (slice_index counts)

@@ -8,7 +8,7 @@ use Rattle.sd_base.specs.Schedules.{Needs, Lacks}
 use Rattle.sd_base.specs.Untimed.{Closed}
 use Rattle.firing.specs.Wiring.{SufficesBefore, IsFirstLack, IsLevel}
 use Rattle.firing.proofs.TokenMoves.{level-needs, level-feeds}
-use Rattle.liveness.specs.Rounds.{IsFirstLacking, NamesLacks}
+use Rattle.sd_base.specs.Untimed.{IsFirstLacking, NamesLacks}
 
 -- what is named of one actor
 abbrev pub Named : Net → (ℕ → ℕ) → ℕ → Option ℕ → Type 0

@@ -1,2 +1,2 @@
-pub mod Rounds
-pub mod Runs
+pub mod inside
+pub mod RoundAnswers

@@ -3,7 +3,7 @@ ghost use Rattle.sd_base.specs.Untimed.{IsLive, Closed};
 ghost use Rattle.firing.specs.declared.sums.Port.TheVariants.{Made, Taken};
 ghost use Rattle.firing.specs.Wiring.{AreListed, IsLevel};
 
-use crate::run::finish;
+use crate::run::run_out;
 use firing::{Firing, Wiring, first_lack, initial_tokens};
 use sd_base::{NoMemory, Rows};
 use std::alloc::Global;
@@ -23,7 +23,8 @@ pub enum Round {
     },
 }
 
-ghost use Rattle.liveness.specs.Rounds.{NamesLacks, IsFirstLacking, IsAnswer, is_live};
+ghost use Rattle.sd_base.specs.Untimed.{IsFirstLacking, NamesLacks};
+ghost use Rattle.liveness.specs.RoundAnswers.{IsAnswer, is_live};
 
 /// Fires a round, or as much of it as can fire. Cost: linear in the firings of a round times the channels.
 pub fn one_round<F: Firing>(alloc: Global, net: &F) -> Result<Round, NoMemory>
@@ -34,7 +35,13 @@ pub fn one_round<F: Firing>(alloc: Global, net: &F) -> Result<Round, NoMemory>
     let mut counts = vec![in alloc; 0u64; net.actors() as usize]?;
     let mut tokens = initial_tokens(alloc, net)?;
     let mut order = Vec::new(alloc);
-    finish(net, &wiring, &mut counts, &mut tokens, &mut order)?;
+    run_out(
+        net,
+        &wiring,
+        counts.as_mut_slice(),
+        tokens.as_mut_slice(),
+        &mut order,
+    )?;
     if is_whole(net, counts.as_slice()) {
         return Ok(Round::Live {
             order: Rows::from_vec(order),

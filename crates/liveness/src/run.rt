@@ -3,7 +3,7 @@ ghost use Rattle.sd_base.specs.Untimed.{Closed};
 ghost use Rattle.sd_base.proofs.Ends.{left_of};
 ghost use Rattle.firing.specs.declared.sums.Port.TheVariants.{Made, Taken};
 ghost use Rattle.firing.specs.Wiring.{AreListed};
-ghost use Rattle.liveness.specs.Runs.{IsRun, IsStopped};
+ghost use Rattle.liveness.specs.inside.UntimedRuns.{IsRun, IsStopped};
 
 use firing::{Firing, Wiring, first_lack, know_laws, put_tokens, take_tokens};
 use sd_base::NoMemory;
@@ -108,26 +108,4 @@ fn fire_if_able<F: Firing>(
     put_tokens(net, wiring.outputs_of(actor), tokens, actor, count, 1);
     counts[actor as usize] = count + 1;
     Ok(true)
-}
-/// Fires actors one after another until none can fire within its round.
-pub(crate) fn finish<F: Firing>(
-    net: &F,
-    wiring: &Wiring,
-    counts: &mut Vec<u64>,
-    tokens: &mut Vec<u128>,
-    order: &mut Vec<u32>,
-) -> Result<(), NoMemory>
-    requires inputs { AreListed (F.net net.now) Taken wiring.now.inputs }
-    requires outputs { AreListed (F.net net.now) Made wiring.now.outputs }
-    requires run { IsRun (F.net net.now) counts.old.items tokens.old.items order.old.items }
-    ensures run { OnOk result (IsRun (F.net net.now) counts.new.items tokens.new.items order.new.items) }
-    ensures closed { OnOk result (Closed (F.net net.now) (slice_index counts.new.items)) }
-{
-    run_out(
-        net,
-        wiring,
-        counts.as_mut_slice(),
-        tokens.as_mut_slice(),
-        order,
-    )
 }

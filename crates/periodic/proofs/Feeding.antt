@@ -10,7 +10,7 @@ use Rattle.sd_base.proofs.Admissibles.{one_time}
 use Rattle.sd_base.proofs.Tight.{last_need}
 use Rattle.sd_base.proofs.Rounds.{Whole, time-shift, needs-unshift}
 use Rattle.periodic.specs.Periods.{start_at}
-use Rattle.periodic.specs.Turns.{FirstNeedy, IsFed}
+use Rattle.periodic.specs.inside.FiniteTests.{FirstNeedy, IsFed}
 use Rattle.periodic.proofs.Recurring.{start-later}
 
 -- when firing k of a ends

@@ -1,8 +1,8 @@
 pub mod Recurring
 pub mod Feeding
 pub mod Bounds
-pub mod Cuts
 pub mod Needies
 pub mod MovedBack
-pub mod Virtual
+pub mod LoopsHold
 pub mod LoopStarts
+pub mod TestsDecide

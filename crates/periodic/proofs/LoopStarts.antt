@@ -12,10 +12,10 @@ use Rattle.sd_base.specs.Rates.{IsLoopTable}
 use Rattle.sd_base.proofs.Parts.{regular}
 use Rattle.sd_base.proofs.Counts.{early_at}
 use Rattle.firing.specs.declared.table.LoopTable.{LoopTable}
-use Rattle.periodic.specs.Loops.{IsLoopSchedule, OneLoopSchedule}
-use Rattle.periodic.specs.Passes.{turns_back, back_start, back_at, HasPasses, IsMoved, AreMovedBack}
+use Rattle.periodic.specs.LoopSchedules.{IsLoopSchedule, OneLoopSchedule}
+use Rattle.periodic.specs.inside.Passes.{turns_back, back_start, back_at, HasPasses, IsMoved, AreMovedBack}
 use Rattle.periodic.proofs.MovedBack.{InPass, in-pass, turns-within}
-use Rattle.periodic.proofs.Virtual.{some, counts-at, step-on}
+use Rattle.sd_base.proofs.LoopPasses as passes
 
 -- ---- the one firing of a pass at a place
 
@@ -54,7 +54,7 @@ module _ (net : Net) (laws : Lawful net) (inputs : HasInputs net) (table : LoopT
     actors = loop.actors ∙ sym loop.rows;
     some_actor = omega (arith, loop.rows, laws.some_actor);
     some_start = λ a below.
-        omega (arith, loop.whole a (known a below), some net laws inputs table.entry table.period table.rounds table.before table.starts loop a (known a below));
+        omega (arith, loop.whole a (known a below), passes.some-pass net laws inputs table.entry table.period table.rounds table.before table.starts loop a (known a below));
     few = λ a below.
         let early = early_at net (regular net laws) inputs (table.entry + table.period + 1) in
         let all : count_of (earliest net (table.entry + table.period + 1)) a ≡ slice_index table.before a + count_of table.starts a = loop.all a (known a below) in
@@ -86,7 +86,7 @@ module _ (net : Net) (laws : Lawful net) (inputs : HasInputs net) (table : LoopT
         loop.moments a (n - slice_index table.before a) actor (omega arith) in
         let there : n < count_of (earliest net (table.entry + 1 * table.period + 1)) a = rw e (omega (arith, loop.all a actor)) in
         let step : start_of (earliest net (table.entry + 2 * table.period + 1)) a (n + table.rounds * slice_index net.round a) ≡ start_of (earliest net (table.entry + 1 * table.period + 1)) a n + table.period =
-        step-on net laws inputs table.entry table.period table.rounds table.before table.starts loop 1 a n (omega (arith, loop.earlier a actor)) there in
+        passes.step-on net laws inputs table.entry table.period table.rounds table.before table.starts loop 1 a n there (passes.ends-after net laws inputs table.entry table.period table.rounds table.before table.starts loop (table.entry + 1 * table.period + 1) a n (omega (arith, loop.earlier a actor)) there) in
         let here : start_of table.starts a (n - slice_index table.before a) ≡ start_of (earliest net (table.entry + table.period + 1)) a n = rw place at listed in
         let there_too : start_of (earliest net (table.entry + 2 * table.period + 1)) a (n + table.rounds * slice_index net.round a) ≡ start_of (earliest net (table.entry + table.period + 1)) a n + table.period = rw e at step in
         omega arith
@@ -100,7 +100,7 @@ module _ (net : Net) (laws : Lawful net) (inputs : HasInputs net) (table : LoopT
         let long : count_of table.starts a ≡ table.rounds * slice_index net.round a = loop.whole a actor in
         let first : count_of (earliest net (table.entry + table.period + 1)) a ≡ slice_index table.before a + count_of table.starts a = loop.all a actor in
         let two : count_of (earliest net (table.entry + 2 * table.period + 1)) a ≡ count_of (earliest net (table.entry + 1)) a + 2 * (table.rounds * slice_index net.round a) =
-        counts-at net laws inputs table.entry table.period table.rounds table.before table.starts loop 2 a in
+        passes.counts-at net laws inputs table.entry table.period table.rounds table.before table.starts loop 2 a in
         let early : slice_index table.before a ≡ count_of (earliest net (table.entry + 1)) a = loop.earlier a actor in
         let more : 1 ≤ q = ⊎_elim
         (λ (none : q < 1). absurd (let nothing : q * (table.rounds * slice_index net.round a) ≤ 0 * (table.rounds * slice_index net.round a) = mul-le-mul_right (table.rounds * slice_index net.round a) (omega arith) in omega arith))
@@ -156,8 +156,8 @@ module _ (net : Net) (laws : Lawful net) (inputs : HasInputs net) (entry period 
       let at : InPass from turn k = in-pass from turn k small in
       let q : ℕ = turns_back from turn k in
       let e : entry + 1 * period + 1 ≡ entry + period + 1 = omega arith in
-      let first : count_of (earliest net (entry + period + 1)) a ≡ count_of (earliest net (entry + 1)) a + 1 * (rounds * slice_index net.round a) = rw e at (counts-at net laws inputs entry period rounds before starts table 1 a) in
-      let second : count_of (earliest net (entry + 2 * period + 1)) a ≡ count_of (earliest net (entry + 1)) a + 2 * (rounds * slice_index net.round a) = counts-at net laws inputs entry period rounds before starts table 2 a in
+      let first : count_of (earliest net (entry + period + 1)) a ≡ count_of (earliest net (entry + 1)) a + 1 * (rounds * slice_index net.round a) = rw e at (passes.counts-at net laws inputs entry period rounds before starts table 1 a) in
+      let second : count_of (earliest net (entry + 2 * period + 1)) a ≡ count_of (earliest net (entry + 1)) a + 2 * (rounds * slice_index net.round a) = passes.counts-at net laws inputs entry period rounds before starts table 2 a in
       let low : from ≤ k + q * turn = omega (arith, at.from) in
       let high : k + q * turn < count_of (earliest net (entry + 2 * period + 1)) a = omega (arith, at.below) in
       omega (arith, one.moved a k q actor small low high, other.moved a k q actor small low high)

@@ -8,7 +8,7 @@ use Rattle.std.specs.Prelude.{slice_index, slice_index_or}
 use Rattle.std.specs.List.{range_with_len}
 use Rattle.sd_base.specs.Schedules.{count_of}
 use Rattle.firing.specs.declared.table.LoopTable.{LoopTable}
-use Rattle.periodic.specs.Passes.{turns_back, back_start, back_at, IsLeast, IsLeastStart, IsMoved}
+use Rattle.periodic.specs.inside.Passes.{turns_back, back_start, back_at, IsLeast, IsLeastStart, IsMoved}
 
 -- ---- turns
 

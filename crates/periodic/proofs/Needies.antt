@@ -12,7 +12,7 @@ use Rattle.sd_base.proofs.Parts.{wired, balanced}
 use Rattle.sd_base.proofs.Rounds.{Whole, whole-rounds, need-by_rounds}
 use Rattle.firing.proofs.PortSums.{wanted-rest, need-some}
 use Rattle.periodic.specs.Periods.{start_in, start_at, HasRounds}
-use Rattle.periodic.specs.Turns.{FirstNeedy, InTime}
+use Rattle.periodic.specs.inside.FiniteTests.{FirstNeedy, InTime}
 use Rattle.periodic.proofs.Recurring.{some-turn, whole-starts}
 
 -- ---- the first firing of its residue that needs anything

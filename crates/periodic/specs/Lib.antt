@@ -1,4 +1,3 @@
 pub mod Periods
-pub mod Turns
-pub mod Loops
-pub mod Passes
+pub mod LoopSchedules
+pub mod inside

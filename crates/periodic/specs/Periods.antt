@@ -1,7 +1,8 @@
 -- Periodic schedules, and what it is that one holds on a net.
 use Rattle.std.specs.Prelude.{◌≡◌, ℕ, ◌+◌, ◌*◌, ◌/◌, ◌%◌, ◌≤◌, ◌<◌, ◌↔◌, List, [], length, slice_index, slice_index_or}
 use Rattle.sd_base.specs.Net.{Net}
-use Rattle.sd_base.specs.Schedules.{Schedule, count_of, start_of, Admissible, Earliest, HasInputs}
+use Rattle.sd_base.specs.Schedules.{Schedule, count_of, start_of, Admissible, HasInputs}
+use Rattle.sd_base.specs.Rates.{HasLowerSide}
 use Rattle.sd_base.specs.Lawful.{Lawful}
 
 -- the start of firing k where the listed starts come again every period
@@ -32,6 +33,4 @@ pub record Holds (net : Net) (period rounds : ℕ) (starts : List (List ℕ)) : 
 -- where a periodic schedule holds, the earliest schedules complete no fewer rounds per time unit, up to a constant
 abbrev pub RoundsBelow : Type 0
 RoundsBelow =
-    (net : Net) (period rounds : ℕ) (starts : List (List ℕ)) → Lawful net → HasInputs net → Holds net period rounds starts →
-    (b : ℕ) × ((t : ℕ) → (s : Schedule) × Earliest net t s
-    × ((a : ℕ) → a < length net.times → rounds * slice_index net.round a * t ≤ period * count_of s a + b))
+    (net : Net) (period rounds : ℕ) (starts : List (List ℕ)) → Lawful net → HasInputs net → Holds net period rounds starts → HasLowerSide net rounds period

@@ -1,4 +1,4 @@
-ghost use Rattle.periodic.specs.Loops.{LoopHolds, OneLoopSchedule};
+ghost use Rattle.periodic.specs.LoopSchedules.{LoopHolds, OneLoopSchedule};
 ghost use Rattle.periodic.specs.Periods.{RoundsBelow};
 
 /// A periodic schedule that holds on a net whose actors all have an input shows that self-timed execution

@@ -1,7 +1,8 @@
 ghost use Rattle.std.specs.Prelude.{◌≡◌, ◌+◌, ◌-◌, ◌*◌, ◌≤◌, ◌<◌, ◌^◌, length, slice_index};
+ghost use Rattle.sd_base.specs.declared.limits.TheConstants.{NET_TOKENS};
 ghost use Rattle.sd_base.specs.Net.{channel_at, total};
 ghost use Rattle.sd_base.specs.Schedules.{Needs, LastNeed};
-ghost use Rattle.periodic.specs.Turns.{FirstNeedy};
+ghost use Rattle.periodic.specs.inside.FiniteTests.{FirstNeedy};
 
 use firing::{Firing, know_laws, made_sum, taken_sum};
 
@@ -19,7 +20,7 @@ pub(crate) fn first_needy<F: Firing>(
     requires few { turn < 2 ^ 64 }
     requires place { place < turn }
     ensures first { FirstNeedy (channel_at (F.net net.now) channel) turn place result }
-    ensures near { result ≤ 2000000001 }
+    ensures near { result ≤ NET_TOKENS + 1 }
 {
     know_laws(net);
     let first = taken_sum(net, channel, place + 1);

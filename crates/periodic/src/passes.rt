@@ -1,7 +1,8 @@
 ghost use Rattle.std.specs.Prelude.{◌≡◌, ℕ, ◌+◌, ◌-◌, ◌*◌, ◌<◌, ◌≤◌, ◌^◌, [], IfOk, IsTrue, length, map, slice_index, slice_index_or};
+ghost use Rattle.sd_base.specs.declared.limits.TheConstants.{STARTS, START};
 ghost use Rattle.std.specs.List.{range_with_len};
 ghost use Rattle.sd_base.specs.Schedules.{count_of};
-ghost use Rattle.periodic.specs.Passes.{turns_back, back_start, back_at, IsLeast, IsLeastStart, HasTurns, HasPasses, AreMovedBack};
+ghost use Rattle.periodic.specs.inside.Passes.{turns_back, back_start, back_at, IsLeast, IsLeastStart, HasTurns, HasPasses, AreMovedBack};
 
 use firing::LoopTable;
 use sd_base::{NoMemory, Rows};
@@ -15,7 +16,7 @@ struct Pass<'a> {
     before: u64,
     starts: &'a [u64],
     ghost some: { 0 < length starts.now },
-    ghost few: { before ≤ 4000000 },
+    ghost few: { before ≤ STARTS },
 }
 
 impl Pass<'_> {
@@ -23,7 +24,7 @@ impl Pass<'_> {
     fn turns(&self, place: usize) -> u64
         requires { place < length self.now.starts.now }
         ensures turns { result ≡ turns_back self.now.before (length self.now.starts.now) place }
-        ensures few { result ≤ 4000000 }
+        ensures few { result ≤ STARTS }
     {
         let turn = self.starts.len() as u64;
         (self.before + (turn - 1 - place as u64)) / turn
@@ -33,9 +34,9 @@ impl Pass<'_> {
     fn start(&self, up: u128, place: usize) -> u128
         requires place { place < length self.now.starts.now }
         requires up { turns_back self.now.before (length self.now.starts.now) 0 * self.now.period ≤ up }
-        requires small { up ≤ 4000000 * 2 ^ 64 }
+        requires small { up ≤ STARTS * 2 ^ 64 }
         ensures start { result ≡ back_start self.now.period self.now.before self.now.starts.now up place }
-        ensures small { result ≤ 2 ^ 100 }
+        ensures small { result ≤ START }
     {
         let turns = self.turns(place);
         let number = turns * self.starts.len() as u64 + place as u64;
@@ -46,7 +47,7 @@ impl Pass<'_> {
     /// The least of these starts.
     fn least(&self, up: u128) -> u128
         requires up { turns_back self.now.before (length self.now.starts.now) 0 * self.now.period ≤ up }
-        requires small { up ≤ 4000000 * 2 ^ 64 }
+        requires small { up ≤ STARTS * 2 ^ 64 }
         ensures { IsLeast (back_start self.now.period self.now.before self.now.starts.now up) (length self.now.starts.now) result }
     {
         let mut least = self.start(up, 0);
@@ -59,11 +60,11 @@ impl Pass<'_> {
     /// These starts by place, each less by `down`.
     fn row(&self, alloc: Global, up: u128, down: u128) -> Result<Rows<u128>, NoMemory>
         requires up { turns_back self.now.before (length self.now.starts.now) 0 * self.now.period ≤ up }
-        requires small { up ≤ 4000000 * 2 ^ 64 }
+        requires small { up ≤ STARTS * 2 ^ 64 }
         requires down { (k : ℕ) → k < length self.now.starts.now → down ≤ back_start self.now.period self.now.before self.now.starts.now up k }
         ensures row { IfOk result (λ row. row
             ≡ map (λ k. back_start self.now.period self.now.before self.now.starts.now up k - down) (range_with_len 0 (length self.now.starts.now))) }
-        ensures small { IfOk result (λ row. (k : ℕ) → slice_index row k ≤ 2 ^ 100) }
+        ensures small { IfOk result (λ row. (k : ℕ) → slice_index row k ≤ START) }
     {
         let mut row = Rows::new(alloc);
         for place in 0..self.starts.len() {
@@ -108,7 +109,7 @@ fn pass_of(table: &LoopTable, actor: usize) -> Pass<'_>
 fn most_turns(table: &LoopTable) -> u64
     requires { HasPasses table.now }
     ensures turns { HasTurns table.now (length table.now.starts) result }
-    ensures few { result ≤ 4000000 }
+    ensures few { result ≤ STARTS }
 {
     let mut most = 0;
     for actor in 0..table.starts.len() {
@@ -121,7 +122,7 @@ fn most_turns(table: &LoopTable) -> u64
 fn least_start(table: &LoopTable, most: u64) -> u128
     requires passes { HasPasses table.now }
     requires turns { HasTurns table.now (length table.now.starts) most }
-    requires few { most ≤ 4000000 }
+    requires few { most ≤ STARTS }
     ensures { IsLeastStart table.now (most * table.now.period) (length table.now.starts) result }
 {
     let up = most as u128 * table.period as u128;
@@ -135,6 +136,7 @@ fn least_start(table: &LoopTable, most: u64) -> u128
 #[cfg(test)]
 mod tests {
     use super::*;
+    use sd_base::limits::STARTS;
     use std::test::Fail;
 
     #[derive(Clone, Copy)]
@@ -168,7 +170,7 @@ mod tests {
             return false;
         }
         for actor in 0..rows.len() {
-            if rows[actor].is_empty() || before[actor] > 4_000_000 {
+            if rows[actor].is_empty() || before[actor] > STARTS {
                 return false;
             }
         }

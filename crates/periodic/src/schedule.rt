@@ -1,9 +1,10 @@
 ghost use Rattle.std.specs.Prelude.{◌↔◌, ◌+◌, ◌≤◌, ◌^◌, ℕ, IfOk, IsTrue};
+ghost use Rattle.sd_base.specs.declared.limits.TheConstants.{STARTS, START};
 ghost use Rattle.sd_base.specs.Schedules.{start_of, HasInputs};
 ghost use Rattle.sd_base.specs.SelfTimed.{starts_by};
 ghost use Rattle.sd_base.specs.Rates.{IsLoopTable};
 ghost use Rattle.periodic.specs.Periods.{HasRounds, Holds};
-ghost use Rattle.periodic.specs.Loops.{IsScheduleOf};
+ghost use Rattle.periodic.specs.LoopSchedules.{IsScheduleOf};
 
 use crate::passes::moved_starts;
 use crate::turns::{all_fed, all_rise, has_rounds};
@@ -24,7 +25,7 @@ impl Periodic {
     /// Whether the schedule can run on the net for ever. On each channel and for each listed firing it looks
     /// at one need alone. Cost: linear in the starts times the channels times the phases.
     pub fn holds<F: Firing>(&self, net: &F) -> bool
-        requires small { (a k : ℕ) → start_of self.now.starts a k ≤ 2 ^ 100 }
+        requires small { (a k : ℕ) → start_of self.now.starts a k ≤ START }
         ensures { IsTrue result ↔ Holds (F.net net.now) self.now.period self.now.rounds self.now.starts }
     {
         know_laws(net);
@@ -42,7 +43,7 @@ impl Periodic {
 pub fn from_loop<F: Firing>(alloc: Global, net: &F, table: &LoopTable) -> Result<Periodic, NoMemory>
     requires inputs { HasInputs (F.net net.now) }
     requires table { IsLoopTable (F.net net.now) table.now.entry table.now.period table.now.rounds table.now.before table.now.starts }
-    requires few { starts_by (F.net net.now) (table.now.entry + table.now.period) ≤ 4000000 }
+    requires few { starts_by (F.net net.now) (table.now.entry + table.now.period) ≤ STARTS }
     ensures { IfOk result (IsScheduleOf (F.net net.now) table.now) }
 {
     know_laws(net);

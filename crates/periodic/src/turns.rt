@@ -1,8 +1,9 @@
 ghost use Rattle.std.specs.Prelude.{◌≡◌, ◌↔◌, ◌+◌, ◌*◌, ◌/◌, ◌≤◌, ◌<◌, ◌^◌, ℕ, IsTrue, [], length, slice_index, slice_index_or};
+ghost use Rattle.sd_base.specs.declared.limits.TheConstants.{START};
 ghost use Rattle.sd_base.specs.Schedules.{start_of, count_of};
 ghost use Rattle.sd_base.specs.Net.{channel_at};
 ghost use Rattle.periodic.specs.Periods.{HasRounds, start_in};
-ghost use Rattle.periodic.specs.Turns.{Rises, IsFed, InTime};
+ghost use Rattle.periodic.specs.inside.FiniteTests.{Rises, IsFed, InTime};
 
 use crate::needs::{first_needy, last_need};
 use firing::{Firing, know_laws};
@@ -27,7 +28,7 @@ pub(crate) fn has_rounds<F: Firing>(net: &F, rounds: u64, rows: &[Rows<u128>]) -
 pub(crate) fn all_rise<F: Firing>(net: &F, rounds: u64, period: u64, rows: &[Rows<u128>]) -> bool
     requires turns { 1 ≤ rounds }
     requires rounds { HasRounds (F.net net.now) rounds rows.now }
-    requires small { (a k : ℕ) → start_of rows.now a k ≤ 2 ^ 100 }
+    requires small { (a k : ℕ) → start_of rows.now a k ≤ START }
     ensures { IsTrue result ↔ ((a : ℕ) → a < length (F.net net.now).times → Rises period (slice_index_or rows.now a [])) }
 {
     for actor in 0..net.actors() {
@@ -41,7 +42,7 @@ pub(crate) fn all_rise<F: Firing>(net: &F, rounds: u64, period: u64, rows: &[Row
 /// Whether the starts of an actor don't fall, over the end of the period too.
 fn rises(period: u64, row: &[u128]) -> bool
     requires some { 0 < length row.now }
-    requires small { (k : ℕ) → slice_index row.now k ≤ 2 ^ 100 }
+    requires small { (k : ℕ) → slice_index row.now k ≤ START }
     ensures { IsTrue result ↔ Rises period row.now }
 {
     for k in 1..row.len() {
@@ -56,7 +57,7 @@ fn rises(period: u64, row: &[u128]) -> bool
 pub(crate) fn all_fed<F: Firing>(net: &F, rounds: u64, period: u64, rows: &[Rows<u128>]) -> bool
     requires turns { 1 ≤ rounds }
     requires rounds { HasRounds (F.net net.now) rounds rows.now }
-    requires small { (a k : ℕ) → start_of rows.now a k ≤ 2 ^ 100 }
+    requires small { (a k : ℕ) → start_of rows.now a k ≤ START }
     ensures { IsTrue result ↔ ((i : ℕ) → i < length (F.net net.now).channels → IsFed (F.net net.now) period rows.now i) }
 {
     for channel in 0..net.channels() {
@@ -72,7 +73,7 @@ fn is_fed<F: Firing>(net: &F, channel: u32, rounds: u64, period: u64, rows: &[Ro
     requires channel { channel < length (F.net net.now).channels }
     requires turns { 1 ≤ rounds }
     requires rounds { HasRounds (F.net net.now) rounds rows.now }
-    requires small { (a k : ℕ) → start_of rows.now a k ≤ 2 ^ 100 }
+    requires small { (a k : ℕ) → start_of rows.now a k ≤ START }
     ensures { IsTrue result ↔ IsFed (F.net net.now) period rows.now channel }
 {
     know_laws(net);
@@ -96,7 +97,7 @@ fn in_time<F: Firing>(
     requires channel { channel < length (F.net net.now).channels }
     requires turns { 1 ≤ rounds }
     requires rounds { HasRounds (F.net net.now) rounds rows.now }
-    requires small { (a k : ℕ) → start_of rows.now a k ≤ 2 ^ 100 }
+    requires small { (a k : ℕ) → start_of rows.now a k ≤ START }
     requires place { place < count_of rows.now (channel_at (F.net net.now) channel).target }
     ensures { IsTrue result ↔ InTime (F.net net.now) period rows.now channel place }
 {
@@ -122,7 +123,7 @@ fn row(rows: &[Rows<u128>], actor: u32) -> &[u128]
 /// The start of a firing of an actor.
 fn start(period: u64, row: &[u128], firing: u128) -> u128
     requires some { 0 < length row.now }
-    requires small { (k : ℕ) → slice_index row.now k ≤ 2 ^ 100 }
+    requires small { (k : ℕ) → slice_index row.now k ≤ START }
     requires near { firing / length row.now ≤ 2 ^ 32 }
     ensures start { result ≡ start_in period row.now firing }
     ensures small { result ≤ 2 ^ 101 }

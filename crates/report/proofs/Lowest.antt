@@ -6,7 +6,7 @@ use Rattle.std.proofs.Math.Nat.{one-dvd, mul-div_cancel', eq_of_mul-eq-mul_right
 use Rattle.std.proofs.lemmas.Bool.{and_parts, cases_lt}
 use Rattle.std.proofs.lemmas.Nat.Gcd.{IsGcd-from_zero, IsGcd-from_mod, IsGcd-swap, le_from_IsGcd, le_of_dvd, dvd_antisymm, dvd_of_mod-eq-zero, mod-eq-zero_of_dvd}
 use Rattle.sd_base.proofs.Divisors.{gcd_pos, quotients, root_divides}
-use Rattle.report.specs.Fractions.{divisor_within, fraction_text, lowest_text}
+use Rattle.report.specs.FractionTexts.{divisor_within, fraction_text, lowest_text}
 
 -- g divides both, and no number up to n that does is greater
 record IsGreatest (a b n g : ℕ) : Type 0 where

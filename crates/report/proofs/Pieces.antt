@@ -7,7 +7,7 @@ use Rattle.std.proofs.lemmas.Grind.{flat_map-append}
 use Rattle.sd_base.specs.declared.tables.GraphFile.{GraphFile}
 use Rattle.sd_base.specs.Net.{Net, channel_at}
 use Rattle.sd_base.specs.declared.role.Role.{Role}
-use Rattle.report.specs.Lacks.{lack_text, lack_on, lack_piece, lack_pieces, lacks_list}
+use Rattle.report.specs.LackTexts.{lack_text, lack_on, lack_piece, lack_pieces, lacks_list}
 
 abbrev pub joined : List (List ℕ) → List ℕ
 joined pieces = join_by (λ (piece : List ℕ). piece) (codes ", ") pieces

@@ -1,8 +1,8 @@
 ghost use Rattle.std.specs.Prelude.{◌≡◌, ◌++◌, ◌≤◌, IfOk, OnOk, length};
 ghost use Rattle.std.specs.String.{string_bytes};
-ghost use Rattle.report.specs.Links.{IsNamed};
-ghost use Rattle.report.specs.Cycles.{IsCycleIn};
-ghost use Rattle.report.specs.Answers.{number_line, rate_line, rate_lines, repetition_header, repetition_lines};
+ghost use Rattle.report.specs.LinkTexts.{IsNamed};
+ghost use Rattle.report.specs.CycleTexts.{IsCycleIn};
+ghost use Rattle.report.specs.AnswerTexts.{number_line, rate_line, rate_lines, repetition_header, repetition_lines};
 
 use crate::cycles::put_cycle;
 use crate::escaped;
@@ -32,14 +32,14 @@ pub fn repetition_text(
     Ok(bytes_of(text))
 }
 
-#[tactic(auto, unfolding(crate::specs::Answers::repetition_header))]
+#[tactic(auto, unfolding(crate::specs::AnswerTexts::repetition_header))]
 fn header(alloc: Global, actors: usize) -> Result<String, NoMemory>
     ensures { IfOk result (λ t. string_bytes t ≡ repetition_header actors) }
 {
     Ok(format!(in alloc; "repetition {actors}\n")?)
 }
 
-#[tactic(auto, unfolding(crate::specs::Answers::number_line))]
+#[tactic(auto, unfolding(crate::specs::AnswerTexts::number_line))]
 fn put_number(alloc: Global, text: &mut String, name: &str, number: u64) -> Result<(), NoMemory>
     ensures { OnOk result (string_bytes text.new ≡ string_bytes text.old ++ number_line name.now number) }
 {
@@ -72,7 +72,7 @@ pub fn rate_text<F: Firing>(
     Ok(bytes_of(text))
 }
 
-#[tactic(auto, unfolding(crate::specs::Answers::rate_line))]
+#[tactic(auto, unfolding(crate::specs::AnswerTexts::rate_line))]
 pub(crate) fn put_rate(text: &mut String, rounds: u64, period: u64) -> Result<(), AllocError>
     requires { 1 ≤ period }
     ensures { OnOk result (string_bytes text.new ≡ string_bytes text.old ++ rate_line rounds period) }

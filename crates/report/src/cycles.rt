@@ -1,7 +1,7 @@
 ghost use Rattle.std.specs.Prelude.{◌≡◌, ◌<◌, ◌++◌, OnOk, length};
 ghost use Rattle.std.specs.String.{string_bytes};
-ghost use Rattle.report.specs.Links.{IsNamed, IsRoleIn};
-ghost use Rattle.report.specs.Cycles.{cycle_header, cycle_lines, firing_text, step_line, IsCycleIn};
+ghost use Rattle.report.specs.LinkTexts.{IsNamed, IsRoleIn};
+ghost use Rattle.report.specs.CycleTexts.{cycle_header, cycle_lines, firing_text, step_line, IsCycleIn};
 
 use crate::links::{put_actor, put_link};
 use critical::{FiringNo, NeedCycle};
@@ -28,7 +28,7 @@ pub(crate) fn put_cycle<F: Firing>(
     Ok(())
 }
 
-#[tactic(auto, unfolding(crate::specs::Cycles::cycle_header))]
+#[tactic(auto, unfolding(crate::specs::CycleTexts::cycle_header))]
 pub(crate) fn put_header(
     text: &mut String,
     graph: &GraphFile,
@@ -45,7 +45,7 @@ pub(crate) fn put_header(
     text.push_str("\n")
 }
 
-#[tactic(auto, unfolding(crate::specs::Cycles::step_line))]
+#[tactic(auto, unfolding(crate::specs::CycleTexts::step_line))]
 pub(crate) fn put_step(
     text: &mut String,
     graph: &GraphFile,
@@ -62,7 +62,7 @@ pub(crate) fn put_step(
     text.push_str("\n")
 }
 
-#[tactic(auto, unfolding(crate::specs::Cycles::firing_text))]
+#[tactic(auto, unfolding(crate::specs::CycleTexts::firing_text))]
 fn put_firing(text: &mut String, graph: &GraphFile, firing: FiringNo) -> Result<(), AllocError>
     requires { firing.actor < length graph.now.actors }
     ensures { OnOk result (string_bytes text.new ≡ string_bytes text.old ++ firing_text graph.now firing) }

@@ -1,6 +1,6 @@
 ghost use Rattle.std.specs.Prelude.{◌≡◌, ◌≤◌, ◌++◌, OnOk};
 ghost use Rattle.std.specs.String.{string_bytes};
-ghost use Rattle.report.specs.Fractions.{fraction_text, lowest_text};
+ghost use Rattle.report.specs.FractionTexts.{fraction_text, lowest_text};
 
 use sd_base::Fraction;
 use std::alloc::AllocError;
@@ -13,7 +13,7 @@ pub(crate) fn put_lowest(text: &mut String, n: u64, d: u64) -> Result<(), AllocE
     put_fraction(text, Fraction::new(n, d))
 }
 
-#[tactic(auto, unfolding(crate::specs::Fractions::fraction_text))]
+#[tactic(auto, unfolding(crate::specs::FractionTexts::fraction_text))]
 fn put_fraction(text: &mut String, fraction: Fraction) -> Result<(), AllocError>
     ensures { OnOk result (string_bytes text.new ≡ string_bytes text.old ++ fraction_text fraction.num fraction.den) }
 {

@@ -1,7 +1,7 @@
 ghost use Rattle.std.specs.Prelude.{◌≡◌, ◌<◌, ◌++◌, IfOk, OnOk, length};
 ghost use Rattle.std.specs.String.{string_bytes};
-ghost use Rattle.report.specs.Links.{IsNamed, IsRoleIn};
-ghost use Rattle.report.specs.Lacks.{lack_text, lacks_list, HasLacks};
+ghost use Rattle.report.specs.LinkTexts.{IsNamed, IsRoleIn};
+ghost use Rattle.report.specs.LackTexts.{lack_text, lacks_list, HasLacks};
 
 use crate::links::{put_actor, put_link};
 use firing::Firing;
@@ -42,7 +42,7 @@ pub fn lacks_text<F: Firing>(
     Ok(Text::new(text))
 }
 
-#[tactic(auto, unfolding(crate::specs::Lacks::lack_text))]
+#[tactic(auto, unfolding(crate::specs::LackTexts::lack_text))]
 pub(crate) fn put_lack(
     text: &mut String,
     graph: &GraphFile,

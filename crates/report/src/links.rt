@@ -1,13 +1,13 @@
 ghost use Rattle.std.specs.Prelude.{◌≡◌, ◌<◌, ◌++◌, OnOk, length};
 ghost use Rattle.std.specs.String.{string_bytes};
-ghost use Rattle.report.specs.Links.{actor_name, channel_name, link_text, IsRoleIn};
+ghost use Rattle.report.specs.LinkTexts.{actor_name, channel_name, link_text, IsRoleIn};
 
 use crate::names::put_escaped;
 use sd_base::{GraphFile, Role};
 use std::alloc::AllocError;
 
 /// Puts the name of an actor at the end of a text.
-#[tactic(auto, unfolding(crate::specs::Links::actor_name))]
+#[tactic(auto, unfolding(crate::specs::LinkTexts::actor_name))]
 pub(crate) fn put_actor(text: &mut String, graph: &GraphFile, actor: u32) -> Result<(), AllocError>
     requires { actor < length graph.now.actors }
     ensures { OnOk result (string_bytes text.new ≡ string_bytes text.old ++ actor_name graph.now actor) }
@@ -16,7 +16,7 @@ pub(crate) fn put_actor(text: &mut String, graph: &GraphFile, actor: u32) -> Res
 }
 
 /// Puts the name of a channel of the file at the end of a text.
-#[tactic(auto, unfolding(crate::specs::Links::channel_name))]
+#[tactic(auto, unfolding(crate::specs::LinkTexts::channel_name))]
 fn put_channel(text: &mut String, graph: &GraphFile, channel: u32) -> Result<(), AllocError>
     requires { channel < length graph.now.channels }
     ensures { OnOk result (string_bytes text.new ≡ string_bytes text.old ++ channel_name graph.now channel) }
@@ -28,8 +28,8 @@ fn put_channel(text: &mut String, graph: &GraphFile, channel: u32) -> Result<(),
 }
 
 /// Puts a link at the end of a text: the name of a channel for its tokens, `NAME/space` for its free space,
-/// and `ACTOR/self` for the own channel of an actor.
-#[tactic(auto, unfolding(crate::specs::Links::link_text))]
+/// `ACTOR/self` for the own channel of an actor, and `ACTOR>ACTOR/order` for an edge of a processor's order.
+#[tactic(auto, unfolding(crate::specs::LinkTexts::link_text))]
 pub(crate) fn put_link(text: &mut String, graph: &GraphFile, role: Role) -> Result<(), AllocError>
     requires { IsRoleIn graph.now role }
     ensures { OnOk result (string_bytes text.new ≡ string_bytes text.old ++ link_text graph.now role) }
@@ -43,6 +43,12 @@ pub(crate) fn put_link(text: &mut String, graph: &GraphFile, role: Role) -> Resu
         Role::Space(channel) => {
             put_channel(text, graph, channel)?;
             text.push_str("/space")
+        }
+        Role::Order(from, to) => {
+            put_actor(text, graph, from)?;
+            text.push_str(">")?;
+            put_actor(text, graph, to)?;
+            text.push_str("/order")
         }
     }
 }

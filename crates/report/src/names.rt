@@ -1,6 +1,6 @@
 ghost use Rattle.std.specs.Prelude.{◌≡◌, ◌<◌, ◌++◌, IfOk, IsTrue, OnOk};
 ghost use Rattle.std.specs.String.{string_bytes};
-ghost use Rattle.report.specs.Names.{escaped_byte, escaped_name, hex_digit, is_bare};
+ghost use Rattle.report.specs.EscapedNames.{escaped_byte, escaped_name, hex_digit, is_bare};
 
 use sd_base::{NoMemory, Text};
 use std::alloc::{AllocError, Global};
@@ -16,7 +16,7 @@ pub fn escaped(alloc: Global, name: &str) -> Result<Text, NoMemory>
 }
 
 /// Puts a name at the end of a text, as lines show it.
-#[tactic(auto, unfolding(crate::specs::Names::escaped_name))]
+#[tactic(auto, unfolding(crate::specs::EscapedNames::escaped_name))]
 pub(crate) fn put_escaped(text: &mut String, name: &str) -> Result<(), AllocError>
     ensures { OnOk result (string_bytes text.new ≡ string_bytes text.old ++ escaped_name name.now) }
 {
@@ -26,7 +26,7 @@ pub(crate) fn put_escaped(text: &mut String, name: &str) -> Result<(), AllocErro
     Ok(())
 }
 
-#[tactic(auto, unfolding(crate::specs::Names::escaped_byte))]
+#[tactic(auto, unfolding(crate::specs::EscapedNames::escaped_byte))]
 fn push_escaped(text: &mut String, byte: u8) -> Result<(), AllocError>
     ensures { OnOk result (string_bytes text.new ≡ string_bytes text.old ++ escaped_byte byte) }
 {

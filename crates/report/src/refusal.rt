@@ -1,4 +1,47 @@
+ghost use Rattle.std.specs.Prelude.{◌≡◌};
+ghost use Rattle.report.specs.RefusalLines.{class_word};
+
 use sd_base::Text;
+
+/// What kind of cause refuses a command; the line of a refusal begins with its word.
+#[derive(Clone, Copy, Debug, PartialEq, Eq)]
+pub enum Class {
+    /// The words aren't those of a command.
+    Usage,
+    /// A file isn't of its form.
+    Form,
+    /// A quantity passes its greatest number.
+    Limit,
+    /// A walk of the graph is unbalanced.
+    Inconsistent,
+    /// The graph isn't connected.
+    Connection,
+    /// No round can be completed.
+    Deadlock,
+    /// A number of states or of distributions was spent.
+    Budget,
+    /// A file can't be taken or put.
+    Shelf,
+}
+
+impl Class {
+    /// The word by which the line of a refusal begins.
+    #[tactic(auto, unfolding(crate::specs::RefusalLines::class_word))]
+    pub(crate) fn word(&self) -> &'static str
+        ensures { result.now ≡ class_word self.now }
+    {
+        match self {
+            Class::Usage => "usage",
+            Class::Form => "form",
+            Class::Limit => "limit",
+            Class::Inconsistent => "inconsistent",
+            Class::Connection => "connection",
+            Class::Deadlock => "deadlock",
+            Class::Budget => "budget",
+            Class::Shelf => "shelf",
+        }
+    }
+}
 
 /// Why a command was refused, with the values that its line shows. Names are escaped already; `scenario`
 /// is the name of the scenario that is spoken of, where there is one.

@@ -1,155 +1,203 @@
-ghost use Rattle.std.specs.Prelude.{◌≡◌, true, IfOk, codes};
+ghost use Rattle.std.specs.Prelude.{◌≡◌, IfOk};
 ghost use Rattle.std.specs.String.{string_bytes};
-ghost use Rattle.report.specs.Lines.{is_of_analysis, above_reason, apart_reason, at_list, bad_value_reason, deadlock_reason, inconsistent_reason, line_of, memory_line, missing_reason, no_input_reason, not_for_reason, one_way_reason, place_reason, ratio_reason, reason_of, scenario_prefix, states_reason, twice_reason, unknown_reason, within_reason};
+ghost use Rattle.report.specs.RefusalLines.{above_reason, apart_reason, at_list, bad_value_reason, cause_line, cause_of, deadlock_reason, inconsistent_reason, line_of, memory_line, missing_reason, no_input_reason, not_for_reason, one_way_reason, place_reason, ratio_reason, scenario_prefix, states_reason, twice_reason, unknown_reason, within_reason};
 
-use crate::Refusal;
 use crate::answers::bytes_of;
+use crate::{Class, Refusal};
 use sd_base::{NoMemory, Rows, Text};
 use std::alloc::{AllocError, Global};
 
 /// The line for want of memory, which takes none.
-#[tactic(auto, unfolding(crate::specs::Lines::memory_line))]
+#[tactic(auto, unfolding(crate::specs::RefusalLines::memory_line))]
 pub fn memory_text() -> &'static [u8]
     ensures { result.now ≡ memory_line }
 {
     b"sdf3analysis: memory\n"
 }
 
-/// The line of a refusal.
-#[tactic(auto, unfolding(crate::specs::Lines::line_of))]
-pub fn refusal_text(alloc: Global, refusal: &Refusal) -> Result<Rows<u8>, NoMemory>
-    ensures { IfOk result (λ t. t ≡ line_of refusal.now) }
+/// The line of a refusal, with its class.
+#[tactic(auto, unfolding(crate::specs::RefusalLines::line_of))]
+pub fn refusal_line(alloc: Global, refusal: &Refusal) -> Result<(Class, Rows<u8>), NoMemory>
+    ensures { IfOk result (λ l. (l.0 ≡ (cause_of refusal.now).class) × (l.1 ≡ line_of refusal.now)) }
 {
-    let reason = reason_text(alloc, refusal)?;
-    let line = format!(in alloc; "sdf3analysis: {reason}\n")?;
+    let (class, reason) = cause(alloc, refusal)?;
+    Ok((class, line(alloc, class, reason.as_str())?))
+}
+
+#[tactic(auto, unfolding(crate::specs::RefusalLines::cause_line))]
+fn line(alloc: Global, class: Class, reason: &str) -> Result<Rows<u8>, NoMemory>
+    ensures { IfOk result (λ l. l ≡ cause_line (record { class = class; reason = reason.now })) }
+{
+    let word = class.word();
+    let line = format!(in alloc; "sdf3analysis: {word}: {reason}\n")?;
     Ok(bytes_of(line))
 }
 
-/// What the line of a refusal says.
-#[tactic(auto, unfolding(crate::specs::Lines::reason_of))]
-fn reason_text(alloc: Global, refusal: &Refusal) -> Result<String, AllocError>
-    ensures { IfOk result (λ t. string_bytes t ≡ reason_of refusal.now) }
+/// The line of a refusal.
+pub fn refusal_text(alloc: Global, refusal: &Refusal) -> Result<Rows<u8>, NoMemory>
+    ensures { IfOk result (λ t. t ≡ line_of refusal.now) }
 {
-    match refusal {
-        Refusal::UsageWords => String::from_str(alloc, "usage: words"),
-        Refusal::UsageMissing { option } => missing_text(alloc, option.as_str()),
-        Refusal::UsageNotFor { option, algo } => not_for_text(
-            alloc,
-            option.as_str(),
-            algo.as_str(),
-        ),
-        Refusal::UsageBadValue { option } => bad_value_text(alloc, option.as_str()),
-        Refusal::Text { place } => place_text(alloc, "text", *place),
-        Refusal::DocumentType { place } => place_text(alloc, "document type", *place),
-        Refusal::CdataSection { place } => place_text(alloc, "CDATA section", *place),
-        Refusal::Instruction { place } => place_text(alloc, "processing instruction", *place),
-        Refusal::CharReference { place } => place_text(alloc, "character reference", *place),
-        Refusal::Encoding { place } => place_text(alloc, "encoding", *place),
-        Refusal::WrongKind => String::from_str(alloc, "form: wrong kind"),
-        Refusal::Missing { what, of } => within_text(alloc, "missing", what.as_str(), of.as_str()),
-        Refusal::Unknown { what, name } => unknown_text(alloc, what.as_str(), name.as_str()),
-        Refusal::Twice { what, name } => twice_text(alloc, what.as_str(), name.as_str()),
-        Refusal::BadWord { what, of } => within_text(alloc, "bad word", what.as_str(), of.as_str()),
-        Refusal::BadNumber { what, of } => within_text(
-            alloc,
-            "bad number",
-            what.as_str(),
-            of.as_str(),
-        ),
-        Refusal::Above { .. }
-        | Refusal::Ratio { .. }
-        | Refusal::Inconsistent { .. }
-        | Refusal::Apart { .. }
-        | Refusal::OneWay { .. }
-        | Refusal::NoInput { .. }
-        | Refusal::Deadlock { .. }
-        | Refusal::StatesSpent { .. } => analysis_text(alloc, refusal),
-        Refusal::ShelfGraph => String::from_str(alloc, "shelf: graph"),
-    }
+    let (_class, line) = refusal_line(alloc, refusal)?;
+    Ok(line)
 }
 
-/// The same for a refusal of an analysis.
-#[tactic(auto, unfolding(crate::specs::Lines::reason_of))]
-fn analysis_text(alloc: Global, refusal: &Refusal) -> Result<String, AllocError>
-    requires { is_of_analysis refusal.now ≡ true }
-    ensures { IfOk result (λ t. string_bytes t ≡ reason_of refusal.now) }
+// The class of a refusal, and its reason.
+#[tactic(auto, unfolding(crate::specs::RefusalLines::cause_of))]
+fn cause(alloc: Global, refusal: &Refusal) -> Result<(Class, String), AllocError>
+    ensures { IfOk result (λ c. (c.0 ≡ (cause_of refusal.now).class) × (string_bytes c.1 ≡ (cause_of refusal.now).reason)) }
 {
     match refusal {
+        Refusal::UsageWords => Ok((Class::Usage, String::from_str(alloc, "words")?)),
+        Refusal::UsageMissing { option } => Ok((
+            Class::Usage,
+            missing_text(alloc, option.as_str())?,
+        )),
+        Refusal::UsageNotFor { option, algo } => Ok((
+            Class::Usage,
+            not_for_text(alloc, option.as_str(), algo.as_str())?,
+        )),
+        Refusal::UsageBadValue { option } => Ok((
+            Class::Usage,
+            bad_value_text(alloc, option.as_str())?,
+        )),
+        Refusal::Text { place } => Ok((Class::Form, place_text(alloc, "text", *place)?)),
+        Refusal::DocumentType { place } => Ok((
+            Class::Form,
+            place_text(alloc, "document type", *place)?,
+        )),
+        Refusal::CdataSection { place } => Ok((
+            Class::Form,
+            place_text(alloc, "CDATA section", *place)?,
+        )),
+        Refusal::Instruction { place } => Ok((
+            Class::Form,
+            place_text(alloc, "processing instruction", *place)?,
+        )),
+        Refusal::CharReference { place } => Ok((
+            Class::Form,
+            place_text(alloc, "character reference", *place)?,
+        )),
+        Refusal::Encoding { place } => Ok((Class::Form, place_text(alloc, "encoding", *place)?)),
+        Refusal::WrongKind => Ok((Class::Form, String::from_str(alloc, "wrong kind")?)),
+        Refusal::Missing { what, of } => Ok((
+            Class::Form,
+            within_text(alloc, "missing", what.as_str(), of.as_str())?,
+        )),
+        Refusal::Unknown { what, name } => Ok((
+            Class::Form,
+            unknown_text(alloc, what.as_str(), name.as_str())?,
+        )),
+        Refusal::Twice { what, name } => Ok((
+            Class::Form,
+            twice_text(alloc, what.as_str(), name.as_str())?,
+        )),
+        Refusal::BadWord { what, of } => Ok((
+            Class::Form,
+            within_text(alloc, "bad word", what.as_str(), of.as_str())?,
+        )),
+        Refusal::BadNumber { what, of } => Ok((
+            Class::Form,
+            within_text(alloc, "bad number", what.as_str(), of.as_str())?,
+        )),
         Refusal::Above {
             scenario,
             quantity,
             number,
-        } => above_text(alloc, scenario, quantity.as_str(), *number),
+        } => Ok((
+            Class::Limit,
+            above_text(alloc, scenario, quantity.as_str(), *number)?,
+        )),
         Refusal::Ratio {
             scenario,
             number,
             path,
-        } => ratio_text(alloc, scenario, *number, path.as_str()),
+        } => Ok((
+            Class::Limit,
+            ratio_text(alloc, scenario, *number, path.as_str())?,
+        )),
         Refusal::Inconsistent {
             scenario,
             walk,
             num,
             den,
-        } => inconsistent_text(alloc, scenario, walk.as_str(), *num, *den),
-        Refusal::Apart { scenario, a, b } => apart_text(alloc, scenario, a.as_str(), b.as_str()),
-        Refusal::OneWay { from, to } => one_way_text(alloc, from.as_str(), to.as_str()),
-        Refusal::NoInput { scenario, actor } => no_input_text(alloc, scenario, actor.as_str()),
-        Refusal::Deadlock { scenario, list } => deadlock_text(alloc, scenario, list.as_str()),
-        Refusal::StatesSpent { states, at } => states_text(alloc, *states, at),
-        _ => unreachable!(),
+        } => Ok((
+            Class::Inconsistent,
+            inconsistent_text(alloc, scenario, walk.as_str(), *num, *den)?,
+        )),
+        Refusal::Apart { scenario, a, b } => Ok((
+            Class::Connection,
+            apart_text(alloc, scenario, a.as_str(), b.as_str())?,
+        )),
+        Refusal::OneWay { from, to } => Ok((
+            Class::Connection,
+            one_way_text(alloc, from.as_str(), to.as_str())?,
+        )),
+        Refusal::NoInput { scenario, actor } => Ok((
+            Class::Connection,
+            no_input_text(alloc, scenario, actor.as_str())?,
+        )),
+        Refusal::Deadlock { scenario, list } => Ok((
+            Class::Deadlock,
+            deadlock_text(alloc, scenario, list.as_str())?,
+        )),
+        Refusal::StatesSpent { states, at } => Ok((
+            Class::Budget,
+            states_text(alloc, *states, at)?,
+        )),
+        Refusal::ShelfGraph => Ok((Class::Shelf, String::from_str(alloc, "graph")?)),
     }
 }
 
-#[tactic(auto, unfolding(crate::specs::Lines::missing_reason))]
+#[tactic(auto, unfolding(crate::specs::RefusalLines::missing_reason))]
 fn missing_text(alloc: Global, option: &str) -> Result<String, AllocError>
     ensures { IfOk result (λ t. string_bytes t ≡ missing_reason option.now) }
 {
-    format!(in alloc; "usage: missing --{option}")
+    format!(in alloc; "missing --{option}")
 }
 
-#[tactic(auto, unfolding(crate::specs::Lines::not_for_reason))]
+#[tactic(auto, unfolding(crate::specs::RefusalLines::not_for_reason))]
 fn not_for_text(alloc: Global, option: &str, algo: &str) -> Result<String, AllocError>
     ensures { IfOk result (λ t. string_bytes t ≡ not_for_reason option.now algo.now) }
 {
-    format!(in alloc; "usage: --{option} is not for {algo}")
+    format!(in alloc; "--{option} is not for {algo}")
 }
 
-#[tactic(auto, unfolding(crate::specs::Lines::bad_value_reason))]
+#[tactic(auto, unfolding(crate::specs::RefusalLines::bad_value_reason))]
 fn bad_value_text(alloc: Global, option: &str) -> Result<String, AllocError>
     ensures { IfOk result (λ t. string_bytes t ≡ bad_value_reason option.now) }
 {
-    format!(in alloc; "usage: bad value of --{option}")
+    format!(in alloc; "bad value of --{option}")
 }
 
-#[tactic(auto, unfolding(crate::specs::Lines::place_reason))]
+#[tactic(auto, unfolding(crate::specs::RefusalLines::place_reason))]
 fn place_text(alloc: Global, what: &str, place: u64) -> Result<String, AllocError>
     ensures { IfOk result (λ t. string_bytes t ≡ place_reason what.now place) }
 {
-    format!(in alloc; "form: {what} at byte {place}")
+    format!(in alloc; "{what} at byte {place}")
 }
 
-#[tactic(auto, unfolding(crate::specs::Lines::within_reason))]
+#[tactic(auto, unfolding(crate::specs::RefusalLines::within_reason))]
 fn within_text(alloc: Global, fault: &str, what: &str, of: &str) -> Result<String, AllocError>
     ensures { IfOk result (λ t. string_bytes t ≡ within_reason fault.now what.now of.now) }
 {
-    format!(in alloc; "form: {fault} {what} in {of}")
+    format!(in alloc; "{fault} {what} in {of}")
 }
 
-#[tactic(auto, unfolding(crate::specs::Lines::unknown_reason))]
+#[tactic(auto, unfolding(crate::specs::RefusalLines::unknown_reason))]
 fn unknown_text(alloc: Global, what: &str, name: &str) -> Result<String, AllocError>
     ensures { IfOk result (λ t. string_bytes t ≡ unknown_reason what.now name.now) }
 {
-    format!(in alloc; "form: unknown {what} {name}")
+    format!(in alloc; "unknown {what} {name}")
 }
 
-#[tactic(auto, unfolding(crate::specs::Lines::twice_reason))]
+#[tactic(auto, unfolding(crate::specs::RefusalLines::twice_reason))]
 fn twice_text(alloc: Global, what: &str, name: &str) -> Result<String, AllocError>
     ensures { IfOk result (λ t. string_bytes t ≡ twice_reason what.now name.now) }
 {
-    format!(in alloc; "form: {what} {name} twice")
+    format!(in alloc; "{what} {name} twice")
 }
 
-#[tactic(auto, unfolding(crate::specs::Lines::above_reason))]
+#[tactic(auto, unfolding(crate::specs::RefusalLines::above_reason))]
 fn above_text(
     alloc: Global,
     scenario: &Option<Text>,
@@ -160,10 +208,10 @@ fn above_text(
 {
     let prefix = prefix_text(alloc, scenario)?;
     let prefix = prefix.as_str();
-    format!(in alloc; "limit: {prefix}{quantity} above {number}")
+    format!(in alloc; "{prefix}{quantity} above {number}")
 }
 
-#[tactic(auto, unfolding(crate::specs::Lines::ratio_reason))]
+#[tactic(auto, unfolding(crate::specs::RefusalLines::ratio_reason))]
 fn ratio_text(
     alloc: Global,
     scenario: &Option<Text>,
@@ -174,10 +222,10 @@ fn ratio_text(
 {
     let prefix = prefix_text(alloc, scenario)?;
     let prefix = prefix.as_str();
-    format!(in alloc; "limit: {prefix}ratio above {number} along {path}")
+    format!(in alloc; "{prefix}ratio above {number} along {path}")
 }
 
-#[tactic(auto, unfolding(crate::specs::Lines::inconsistent_reason))]
+#[tactic(auto, unfolding(crate::specs::RefusalLines::inconsistent_reason))]
 fn inconsistent_text(
     alloc: Global,
     scenario: &Option<Text>,
@@ -189,10 +237,10 @@ fn inconsistent_text(
 {
     let prefix = prefix_text(alloc, scenario)?;
     let prefix = prefix.as_str();
-    format!(in alloc; "inconsistent: {prefix}walk {walk} ratio {num}/{den}")
+    format!(in alloc; "{prefix}walk {walk} ratio {num}/{den}")
 }
 
-#[tactic(auto, unfolding(crate::specs::Lines::apart_reason))]
+#[tactic(auto, unfolding(crate::specs::RefusalLines::apart_reason))]
 fn apart_text(
     alloc: Global,
     scenario: &Option<Text>,
@@ -203,44 +251,44 @@ fn apart_text(
 {
     let prefix = prefix_text(alloc, scenario)?;
     let prefix = prefix.as_str();
-    format!(in alloc; "connection: {prefix}{a} and {b} are apart")
+    format!(in alloc; "{prefix}{a} and {b} are apart")
 }
 
-#[tactic(auto, unfolding(crate::specs::Lines::one_way_reason))]
+#[tactic(auto, unfolding(crate::specs::RefusalLines::one_way_reason))]
 fn one_way_text(alloc: Global, from: &str, to: &str) -> Result<String, AllocError>
     ensures { IfOk result (λ t. string_bytes t ≡ one_way_reason from.now to.now) }
 {
-    format!(in alloc; "connection: no way from {from} to {to}")
+    format!(in alloc; "no way from {from} to {to}")
 }
 
-#[tactic(auto, unfolding(crate::specs::Lines::no_input_reason))]
+#[tactic(auto, unfolding(crate::specs::RefusalLines::no_input_reason))]
 fn no_input_text(alloc: Global, scenario: &Option<Text>, actor: &str) -> Result<String, AllocError>
     ensures { IfOk result (λ t. string_bytes t ≡ no_input_reason (scenario_prefix scenario.now) actor.now) }
 {
     let prefix = prefix_text(alloc, scenario)?;
     let prefix = prefix.as_str();
-    format!(in alloc; "connection: {prefix}{actor} has no input")
+    format!(in alloc; "{prefix}{actor} has no input")
 }
 
-#[tactic(auto, unfolding(crate::specs::Lines::deadlock_reason))]
+#[tactic(auto, unfolding(crate::specs::RefusalLines::deadlock_reason))]
 fn deadlock_text(alloc: Global, scenario: &Option<Text>, list: &str) -> Result<String, AllocError>
     ensures { IfOk result (λ t. string_bytes t ≡ deadlock_reason (scenario_prefix scenario.now) list.now) }
 {
     let prefix = prefix_text(alloc, scenario)?;
     let prefix = prefix.as_str();
-    format!(in alloc; "deadlock: {prefix}{list}")
+    format!(in alloc; "{prefix}{list}")
 }
 
-#[tactic(auto, unfolding(crate::specs::Lines::states_reason))]
+#[tactic(auto, unfolding(crate::specs::RefusalLines::states_reason))]
 fn states_text(alloc: Global, states: u64, at: &Option<Text>) -> Result<String, AllocError>
     ensures { IfOk result (λ t. string_bytes t ≡ states_reason states (at_list at.now)) }
 {
     let at = at_text(alloc, at)?;
     let at = at.as_str();
-    format!(in alloc; "budget: {states} states without a repeat{at}")
+    format!(in alloc; "{states} states without a repeat{at}")
 }
 
-#[tactic(auto, unfolding(crate::specs::Lines::at_list))]
+#[tactic(auto, unfolding(crate::specs::RefusalLines::at_list))]
 fn at_text(alloc: Global, at: &Option<Text>) -> Result<String, AllocError>
     ensures { IfOk result (λ t. string_bytes t ≡ at_list at.now) }
 {
@@ -253,7 +301,7 @@ fn at_text(alloc: Global, at: &Option<Text>) -> Result<String, AllocError>
     }
 }
 
-#[tactic(auto, unfolding(crate::specs::Lines::scenario_prefix))]
+#[tactic(auto, unfolding(crate::specs::RefusalLines::scenario_prefix))]
 fn prefix_text(alloc: Global, scenario: &Option<Text>) -> Result<String, AllocError>
     ensures { IfOk result (λ t. string_bytes t ≡ scenario_prefix scenario.now) }
 {

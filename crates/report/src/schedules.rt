@@ -1,6 +1,6 @@
 ghost use Rattle.std.specs.Prelude.{◌≡◌, ◌++◌, OnOk, length};
 ghost use Rattle.std.specs.String.{string_bytes};
-ghost use Rattle.report.specs.Schedules.{schedule_header, schedule_lines, spaced, starts_line};
+ghost use Rattle.report.specs.ScheduleTexts.{schedule_header, schedule_lines, spaced, starts_line};
 
 use crate::names::put_escaped;
 use periodic::Periodic;
@@ -25,7 +25,7 @@ pub(crate) fn put_schedule(
     Ok(())
 }
 
-#[tactic(auto, unfolding(crate::specs::Schedules::schedule_header))]
+#[tactic(auto, unfolding(crate::specs::ScheduleTexts::schedule_header))]
 fn put_header(text: &mut String, period: u64, rounds: u64) -> Result<(), AllocError>
     ensures { OnOk result (string_bytes text.new ≡ string_bytes text.old ++ schedule_header period rounds) }
 {
@@ -43,7 +43,7 @@ fn put_starts(text: &mut String, name: &str, starts: &[u128]) -> Result<(), Allo
     Ok(())
 }
 
-#[tactic(auto, unfolding(crate::specs::Schedules::spaced))]
+#[tactic(auto, unfolding(crate::specs::ScheduleTexts::spaced))]
 fn put_spaced(text: &mut String, number: u128) -> Result<(), AllocError>
     ensures { OnOk result (string_bytes text.new ≡ string_bytes text.old ++ spaced number) }
 {

@@ -1,4 +1,4 @@
-ghost use Rattle.report.specs.Links.{IsRoleIn};
+ghost use Rattle.report.specs.LinkTexts.{IsRoleIn};
 
 use crate::answers::put_rate;
 use crate::cycles::{put_header, put_step};
@@ -118,6 +118,10 @@ fn links_show_what_a_channel_stands_for(rt: HostRuntime) -> Result<(), Fail> {
     assert_eq!(rt; link(alloc, &graph, Role::Token(1))?.as_str(), "my%20buf");
     assert_eq!(rt; link(alloc, &graph, Role::Own(1))?.as_str(), "y/self");
     assert_eq!(rt; link(alloc, &graph, Role::Space(0))?.as_str(), "xy/space");
+    assert_eq!(rt;
+        link(alloc, &graph, Role::Order(0, 1))?.as_str(),
+        "x>y/order"
+    );
     let mut lack = String::new(alloc);
     put_lack(&mut lack, &graph, 0, 0, 1, Role::Token(0))?;
     assert_eq!(rt; lack.as_str(), "x 0 of 1 lacks xy");

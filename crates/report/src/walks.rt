@@ -1,6 +1,6 @@
 ghost use Rattle.std.specs.Prelude.{◌≡◌, ◌<◌, ◌++◌, All, IfOk, OnOk, length};
 ghost use Rattle.std.specs.String.{string_bytes};
-ghost use Rattle.report.specs.Walks.{more_steps, step_text, steps_text};
+ghost use Rattle.report.specs.WalkTexts.{more_steps, step_text, steps_text};
 
 use crate::escaped;
 use balance::WalkStep;
@@ -8,7 +8,7 @@ use sd_base::{GraphFile, NoMemory, Text};
 use std::alloc::Global;
 
 /// The steps of a path or a walk, with spaces between them: `+` forward or `-` backward and the channel's name.
-#[tactic(auto, unfolding(crate::specs::Walks::steps_text))]
+#[tactic(auto, unfolding(crate::specs::WalkTexts::steps_text))]
 pub fn walk_text(alloc: Global, graph: &GraphFile, walk: &[WalkStep]) -> Result<Text, NoMemory>
     requires { All (λ s. s.channel < length graph.now.channels) walk.now }
     ensures { IfOk result (λ t. t ≡ steps_text graph.now walk.now) }
@@ -40,7 +40,7 @@ fn put_more(
     Ok(())
 }
 
-#[tactic(auto, unfolding(crate::specs::Walks::step_text))]
+#[tactic(auto, unfolding(crate::specs::WalkTexts::step_text))]
 fn put_step(
     alloc: Global,
     text: &mut String,

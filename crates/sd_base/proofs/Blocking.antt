@@ -4,23 +4,23 @@ use Rattle.std.specs.Prelude.{slice_index}
 use Rattle.std.proofs.lemmas.Bool.{cases_lt, cases_order, cases_eq}
 use Rattle.sd_base.specs.Net.{Net, channel_at, total}
 use Rattle.sd_base.specs.Schedules.{time_of, Needs, Lacks, Schedule, count_of, start_of, end_of, Admissible}
-use Rattle.sd_base.specs.Untimed.{none_fired, bump, Fires, after, IsLive, Closed, Blocks, IsEnd}
+use Rattle.sd_base.specs.Untimed.{none_fired, one_more, Fires, counts_after, IsLive, Closed, Blocks, IsEnd}
 use Rattle.sd_base.proofs.Sums.{total-le}
 use Rattle.sd_base.proofs.Parts.{Timed, Wired, Balanced}
 
 -- ---- runs
 
-pub bump-same : (v : ℕ → ℕ) (a : ℕ) → bump v a a ≡ v a + 1
+pub bump-same : (v : ℕ → ℕ) (a : ℕ) → one_more v a a ≡ v a + 1
 bump-same v a = rw (Rattle.std.proofs.Common.eq-eqb a a refl) refl
 
-pub bump-other : (v : ℕ → ℕ) (a b : ℕ) → (b ≡ a → ⊥) → bump v a b ≡ v b
+pub bump-other : (v : ℕ → ℕ) (a b : ℕ) → (b ≡ a → ⊥) → one_more v a b ≡ v b
 bump-other v a b apart = rw (Rattle.std.proofs.Common.ne_eqb b a apart) refl
 
 -- no run passes a closed vector
 pub run-below : (net : Net) (w : ℕ → ℕ) → Wired net → Closed net w → (order : List ℕ) (v : ℕ → ℕ) → Fires net v order →
-    ((b : ℕ) → b < length net.times → v b ≤ w b) → (b : ℕ) → b < length net.times → after v order b ≤ w b
+    ((b : ℕ) → b < length net.times → v b ≤ w b) → (b : ℕ) → b < length net.times → counts_after v order b ≤ w b
 run-below net w wired closed [] v fires below = below
-run-below net w wired closed (a ∷ order) v fires below = run-below net w wired closed order (bump v a) fires.3 raised
+run-below net w wired closed (a ∷ order) v fires below = run-below net w wired closed order (one_more v a) fires.3 raised
   where
     more : v a < w a
     more = ⊎_elim (λ (h : v a < w a). h) (λ (stop : w a ≤ v a). absurd (
@@ -31,7 +31,7 @@ run-below net w wired closed (a ∷ order) v fires below = run-below net w wired
         let need : Needs (channel_at net lack.0) (w a) (w (channel_at net lack.0).source) = lack.3 in
         omega arith)) (cases_lt (v a) (w a))
 
-    raised : (b : ℕ) → b < length net.times → bump v a b ≤ w b
+    raised : (b : ℕ) → b < length net.times → one_more v a b ≤ w b
     raised b actor = ⊎_elim
         (λ (same : b ≡ a). rw same (rw (bump-same v a) (omega (arith, more))))
         (λ (apart : b ≡ a → ⊥). rw (bump-other v a b apart) (below b actor))
@@ -39,11 +39,11 @@ run-below net w wired closed (a ∷ order) v fires below = run-below net w wired
 
 -- no run passes the round
 pub run-within : (net : Net) (order : List ℕ) (v : ℕ → ℕ) → Fires net v order →
-    ((b : ℕ) → b < length net.times → v b ≤ slice_index net.round b) → (b : ℕ) → b < length net.times → after v order b ≤ slice_index net.round b
+    ((b : ℕ) → b < length net.times → v b ≤ slice_index net.round b) → (b : ℕ) → b < length net.times → counts_after v order b ≤ slice_index net.round b
 run-within net [] v fires below = below
-run-within net (a ∷ order) v fires below = run-within net order (bump v a) fires.3 raised
+run-within net (a ∷ order) v fires below = run-within net order (one_more v a) fires.3 raised
   where
-    raised : (b : ℕ) → b < length net.times → bump v a b ≤ slice_index net.round b
+    raised : (b : ℕ) → b < length net.times → one_more v a b ≤ slice_index net.round b
     raised b actor = ⊎_elim
         (λ (same : b ≡ a). rw same (rw (bump-same v a) (omega (arith, fires.1))))
         (λ (apart : b ≡ a → ⊥). rw (bump-other v a b apart) (below b actor))
@@ -52,8 +52,8 @@ run-within net (a ∷ order) v fires below = run-within net order (bump v a) fir
 -- ending counts don't depend on the order of the firings
 pub one_end : (net : Net) → Wired net → (v w : ℕ → ℕ) → IsEnd net v → IsEnd net w → (a : ℕ) → a < length net.times → v a ≡ w a
 one_end net wired v w one other a actor =
-    let up : after none_fired one.order a ≤ w a = run-below net w wired other.closed one.order none_fired one.fires (λ b is. omega arith) a actor in
-    let down : after none_fired other.order a ≤ v a = run-below net v wired one.closed other.order none_fired other.fires (λ b is. omega arith) a actor in
+    let up : counts_after none_fired one.order a ≤ w a = run-below net w wired other.closed one.order none_fired one.fires (λ b is. omega arith) a actor in
+    let down : counts_after none_fired other.order a ≤ v a = run-below net v wired one.closed other.order none_fired other.fires (λ b is. omega arith) a actor in
     omega (arith, one.counts a actor, other.counts a actor)
 
 -- ending counts are the least closed ones
@@ -65,8 +65,8 @@ end-least net wired v w end closed a actor =
 pub live-unblocked : (net : Net) → Wired net → IsLive net → (v : ℕ → ℕ) → Blocks net v → ⊥
 live-unblocked net wired live v blocks =
     let short = blocks.short in
-    let run : after none_fired live.0 short.0 ≤ v short.0 = run-below net v wired blocks.closed live.0 none_fired live.1.fires (λ b is. omega arith) short.0 short.1 in
-    let whole : after none_fired live.0 short.0 ≡ slice_index net.round short.0 = live.1.whole short.0 short.1 in
+    let run : counts_after none_fired live.0 short.0 ≤ v short.0 = run-below net v wired blocks.closed live.0 none_fired live.1.fires (λ b is. omega arith) short.0 short.1 in
+    let whole : counts_after none_fired live.0 short.0 ≡ slice_index net.round short.0 = live.1.whole short.0 short.1 in
     let less : v short.0 < slice_index net.round short.0 = short.2 in
     omega arith
 

@@ -119,3 +119,11 @@ lcm_above a b g limit sa sb is above n some p q =
 -- where it is not, the least common multiple is within the limit
 pub lcm_fits : (b part limit : ℕ) → 0 < b → part ≤ limit / b → part * b ≤ limit
 lcm_fits b part limit sb within = (le-div_iff_mul-le sb).0 within
+
+-- the greatest common divisor of numbers below a bound is below it
+pub gcd_below : (a b g m : ℕ) → IsGcd a b g → a < m → b < m → g < m
+gcd_below a b g m is first second =
+    elim (cases_lt 0 b) [
+      | inl some ↦ (let le : g ≤ b = le_of_dvd some is.1 in omega arith)
+      | inr none ↦ (let same : a ≡ g = same_from_IsGcd a b a g (IsGcd-from_zero a b (omega arith)) is in omega arith)
+    ]

@@ -5,7 +5,7 @@ use Rattle.std.proofs.lemmas.Bool.{cases_lt, cases_order, cases_eq, cases_Bool}
 use Rattle.sd_base.specs.Net.{Net}
 use Rattle.sd_base.specs.Schedules.{Lacks}
 use Rattle.sd_base.specs.SelfTimed.{allows}
-use Rattle.sd_base.specs.Untimed.{none_fired, bump, CanFire, Fires, after, IsLive, Closed, Blocks, IsEnd}
+use Rattle.sd_base.specs.Untimed.{none_fired, one_more, CanFire, Fires, counts_after, IsLive, Closed, Blocks, IsEnd}
 use Rattle.sd_base.proofs.Existence.{allows-true, allows-false}
 use Rattle.sd_base.proofs.Blocking.{bump-same, bump-other, end-decides}
 
@@ -56,35 +56,35 @@ left-more net v w a actor less here others = sum_to-lt (λ (b : ℕ). slice_inde
     each : (b : ℕ) → b < length net.times → slice_index net.round b - w b ≤ slice_index net.round b - v b
     each b h = ⊎_elim (λ (same : b ≡ a). rw same (omega arith)) (λ (apart : b ≡ a → ⊥). omega (arith, others b apart)) (cases_eq b a)
 
-left-bump : (net : Net) (v : ℕ → ℕ) (a : ℕ) → a < length net.times → v a < slice_index net.round a → left_of net (bump v a) < left_of net v
-left-bump net v a actor less = left-more net v (bump v a) a actor less (bump-same v a) (λ b apart. bump-other v a b apart)
+left-bump : (net : Net) (v : ℕ → ℕ) (a : ℕ) → a < length net.times → v a < slice_index net.round a → left_of net (one_more v a) < left_of net v
+left-bump net v a actor less = left-more net v (one_more v a) a actor less (bump-same v a) (λ b apart. bump-other v a b apart)
 
 abbrev EndsFrom : Net → (ℕ → ℕ) → Type 0
-EndsFrom net v = (order : List ℕ) × Fires net v order × Closed net (after v order)
+EndsFrom net v = (order : List ℕ) × Fires net v order × Closed net (counts_after v order)
 
 ends-from : (net : Net) (fuel : ℕ) (v : ℕ → ℕ) → left_of net v < fuel → EndsFrom net v
 ends-from net zero v few = absurd (omega arith)
-ends-from net (suc fuel) v few = step (find net v (length net.times)) (λ a less. ends-from net fuel (bump v a) less)
+ends-from net (suc fuel) v few = step (find net v (length net.times)) (λ a less. ends-from net fuel (one_more v a) less)
   where
-    step : Found net v (length net.times) → ((a : ℕ) → left_of net (bump v a) < fuel → EndsFrom net (bump v a)) → EndsFrom net v
+    step : Found net v (length net.times) → ((a : ℕ) → left_of net (one_more v a) < fuel → EndsFrom net (one_more v a)) → EndsFrom net v
     step (inl found) next =
-        let rest : EndsFrom net (bump v found.0) = next found.0 (omega (arith, left-bump net v found.0 found.1 found.2)) in
+        let rest : EndsFrom net (one_more v found.0) = next found.0 (omega (arith, left-bump net v found.0 found.1 found.2)) in
         (found.0 ∷ rest.0, (found.1, found.2, found.3, rest.1), rest.2)
     step (inr none) next = ([], tt, none)
 
 -- one more firing at the end of an order
-pub fires-push : (net : Net) (order : List ℕ) (v : ℕ → ℕ) (a : ℕ) → Fires net v order → a < length net.times → after v order a < slice_index net.round a → CanFire net (after v order) a → Fires net v (order ++ a ∷ [])
+pub fires-push : (net : Net) (order : List ℕ) (v : ℕ → ℕ) (a : ℕ) → Fires net v order → a < length net.times → counts_after v order a < slice_index net.round a → CanFire net (counts_after v order) a → Fires net v (order ++ a ∷ [])
 fires-push net [] v a fires actor less can = (actor, less, can, tt)
-fires-push net (b ∷ order) v a fires actor less can = (fires.0, fires.1, fires.2, fires-push net order (bump v b) a fires.3 actor less can)
+fires-push net (b ∷ order) v a fires actor less can = (fires.0, fires.1, fires.2, fires-push net order (one_more v b) a fires.3 actor less can)
 
-pub after-push : (order : List ℕ) (v : ℕ → ℕ) (a b : ℕ) → after v (order ++ a ∷ []) b ≡ bump (after v order) a b
+pub after-push : (order : List ℕ) (v : ℕ → ℕ) (a b : ℕ) → counts_after v (order ++ a ∷ []) b ≡ one_more (counts_after v order) a b
 after-push [] v a b = refl
-after-push (c ∷ order) v a b = after-push order (bump v c) a b
+after-push (c ∷ order) v a b = after-push order (one_more v c) a b
 
 pub end-exists : (net : Net) → (v : ℕ → ℕ) × IsEnd net v
 end-exists net =
     let ends : EndsFrom net none_fired = ends-from net (suc (left_of net none_fired)) none_fired (omega arith) in
-    (after none_fired ends.0, record { order = ends.0; fires = ends.1; counts = λ a actor. refl; closed = ends.2 })
+    (counts_after none_fired ends.0, record { order = ends.0; fires = ends.1; counts = λ a actor. refl; closed = ends.2 })
 
 -- a round can be completed, or the ending counts block the net
 pub live_or_blocked : (net : Net) → IsLive net ⊎ ((v : ℕ → ℕ) × IsEnd net v × Blocks net v)

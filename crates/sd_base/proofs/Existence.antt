@@ -5,7 +5,7 @@ use Rattle.std.proofs.lemmas.Bool.{cases_lt, cases_order, cases_Bool, and_parts,
 use Rattle.std.proofs.lemmas.List.{get_or_past, get_or_append_left, get_or-append_right, get_or-replicate, length-append, length-replicate, length-map}
 use Rattle.sd_base.specs.Net.{Channel, Net, nowhere, channel_at, total}
 use Rattle.sd_base.specs.Schedules.{Needs, Schedule, count_of, start_of, end_of, Admissible, Earliest, HasInputs}
-use Rattle.sd_base.specs.SelfTimed.{ended_among, ended_by, allows, grown, fuel_of, started_at, earliest}
+use Rattle.sd_base.specs.SelfTimed.{ended_among, ended_by, allows, first_held_back, more_than_fed, started_at, earliest}
 use Rattle.sd_base.proofs.Sums.{total-zero, total-le, total-grows}
 use Rattle.sd_base.proofs.Parts.{OneByOne, Wired, Regular}
 use Rattle.sd_base.proofs.Admissibles.{no_actor, ends-le}
@@ -85,8 +85,8 @@ record Grown (cs : List Channel) (e : ℕ → ℕ) (a k n : ℕ) : Type 0 where
   stops : allows cs e a n ≡ false
 
 grown-more : (cs : List Channel) (e : ℕ → ℕ) (a fuel k m : ℕ) → k ≤ m → allows cs e a m ≡ false →
-    (suc k ≤ m → Grown cs e a (suc k) (grown cs e a fuel (suc k))) →
-    (b : Bool) → allows cs e a k ≡ b → Grown cs e a k (if b then grown cs e a fuel (suc k) else k)
+    (suc k ≤ m → Grown cs e a (suc k) (first_held_back cs e a fuel (suc k))) →
+    (b : Bool) → allows cs e a k ≡ b → Grown cs e a k (if b then first_held_back cs e a fuel (suc k) else k)
 grown-more cs e a fuel k m from fails next true test =
     let further : suc k ≤ m = ⊎_elim (λ (same : k ≡ m). absurd (false≢true (sym fails ∙ (ap (allows cs e a) (sym same) ∙ test)))) (λ (other : (k < m) ⊎ (m < k)). ⊎_elim (λ (h : k < m). omega arith) (λ (h : m < k). absurd (omega arith)) other) (cases_order k m) in
     let rest = next further in
@@ -97,8 +97,8 @@ grown-more cs e a fuel k m from fails next true test =
     }
 grown-more cs e a fuel k m from fails next false test = record { since = omega arith; through = λ j at below. absurd (omega arith); stops = test }
 
-grown-is : (cs : List Channel) (e : ℕ → ℕ) (a fuel k m : ℕ) → k ≤ m → m ≤ fuel + k → allows cs e a m ≡ false → Grown cs e a k (grown cs e a fuel k)
-unfolding grown
+grown-is : (cs : List Channel) (e : ℕ → ℕ) (a fuel k m : ℕ) → k ≤ m → m ≤ fuel + k → allows cs e a m ≡ false → Grown cs e a k (first_held_back cs e a fuel k)
+unfolding first_held_back
 grown-is cs e a zero k m from near fails =
     let same : m ≡ k = omega arith in
     record { since = omega arith; through = λ j at below. absurd (omega arith); stops = rw same at fails }
@@ -106,8 +106,8 @@ grown-is cs e a (suc fuel) k m from near fails =
     grown-more cs e a fuel k m from fails (λ further. grown-is cs e a fuel (suc k) m further (omega arith) fails) (allows cs e a k) refl
 
 fuel-le : (cs : List Channel) (e : ℕ → ℕ) (i : ℕ) → i < length cs →
-    ((slice_index_or cs i nowhere).tokens + total (slice_index_or cs i nowhere).made (e (slice_index_or cs i nowhere).source) + 1) * length (slice_index_or cs i nowhere).taken ≤ fuel_of cs e
-unfolding fuel_of
+    ((slice_index_or cs i nowhere).tokens + total (slice_index_or cs i nowhere).made (e (slice_index_or cs i nowhere).source) + 1) * length (slice_index_or cs i nowhere).taken ≤ more_than_fed cs e
+unfolding more_than_fed
 fuel-le [] e i below = absurd (omega arith)
 fuel-le (c ∷ cs) e zero below = Rattle.std.proofs.Common.le-add_right _ _
 fuel-le (c ∷ cs) e (suc i) below =
@@ -123,7 +123,7 @@ started_at-length cs e t a (row ∷ rows) = ap suc (started_at-length cs e t (su
 
 -- the row of an actor, with its new starts
 abbrev grown_row : List Channel → (ℕ → ℕ) → ℕ → ℕ → List ℕ → List ℕ
-grown_row cs e t a row = row ++ replicate (grown cs e a (fuel_of cs e) (length row) - length row) t
+grown_row cs e t a row = row ++ replicate (first_held_back cs e a (more_than_fed cs e) (length row) - length row) t
 
 started_at-row : (cs : List Channel) (e : ℕ → ℕ) (t a : ℕ) (rows : List (List ℕ)) (b : ℕ) → b < length rows →
     slice_index_or (started_at cs e t a rows) b [] ≡ grown_row cs e t (a + b) (slice_index_or rows b [])
@@ -134,20 +134,20 @@ started_at-row cs e t a (row ∷ rows) (suc b) below =
     let same : a + suc b ≡ suc a + b = omega arith in
     rw same (started_at-row cs e t (suc a) rows b (omega arith))
 
-grown_row-length : (cs : List Channel) (e : ℕ → ℕ) (t a n : ℕ) (row : List ℕ) → grown cs e a (fuel_of cs e) (length row) ≡ n → length row ≤ n →
+grown_row-length : (cs : List Channel) (e : ℕ → ℕ) (t a n : ℕ) (row : List ℕ) → first_held_back cs e a (more_than_fed cs e) (length row) ≡ n → length row ≤ n →
     length (grown_row cs e t a row) ≡ n
 grown_row-length cs e t a n row same since =
-    let parts : length (grown_row cs e t a row) ≡ length row + length (replicate (grown cs e a (fuel_of cs e) (length row) - length row) t) = length-append row (replicate (grown cs e a (fuel_of cs e) (length row) - length row) t) in
-    let many : length (replicate (grown cs e a (fuel_of cs e) (length row) - length row) t) ≡ grown cs e a (fuel_of cs e) (length row) - length row = length-replicate _ t in
+    let parts : length (grown_row cs e t a row) ≡ length row + length (replicate (first_held_back cs e a (more_than_fed cs e) (length row) - length row) t) = length-append row (replicate (first_held_back cs e a (more_than_fed cs e) (length row) - length row) t) in
+    let many : length (replicate (first_held_back cs e a (more_than_fed cs e) (length row) - length row) t) ≡ first_held_back cs e a (more_than_fed cs e) (length row) - length row = length-replicate _ t in
     omega arith
 
 grown_row-kept : (cs : List Channel) (e : ℕ → ℕ) (t a k : ℕ) (row : List ℕ) → k < length row → slice_index (grown_row cs e t a row) k ≡ slice_index row k
-grown_row-kept cs e t a k row below = get_or_append_left row (replicate (grown cs e a (fuel_of cs e) (length row) - length row) t) 0 k below
+grown_row-kept cs e t a k row below = get_or_append_left row (replicate (first_held_back cs e a (more_than_fed cs e) (length row) - length row) t) 0 k below
 
-grown_row-added : (cs : List Channel) (e : ℕ → ℕ) (t a k : ℕ) (row : List ℕ) → length row ≤ k → k < grown cs e a (fuel_of cs e) (length row) → slice_index (grown_row cs e t a row) k ≡ t
+grown_row-added : (cs : List Channel) (e : ℕ → ℕ) (t a k : ℕ) (row : List ℕ) → length row ≤ k → k < first_held_back cs e a (more_than_fed cs e) (length row) → slice_index (grown_row cs e t a row) k ≡ t
 grown_row-added cs e t a k row from below =
-    get_or-append_right row (replicate (grown cs e a (fuel_of cs e) (length row) - length row) t) (length row) k 0 refl from
-    ∙ get_or-replicate (grown cs e a (fuel_of cs e) (length row) - length row) (k - length row) t 0 (omega arith)
+    get_or-append_right row (replicate (first_held_back cs e a (more_than_fed cs e) (length row) - length row) t) (length row) k 0 refl from
+    ∙ get_or-replicate (first_held_back cs e a (more_than_fed cs e) (length row) - length row) (k - length row) t 0 (omega arith)
 
 -- ---- the schedule of one moment more
 
@@ -172,13 +172,13 @@ able_now net t e s early ended = record { enough = λ i place. each i place (cou
 -- a channel into a stops it within the fuel
 some_not : (net : Net) (e : ℕ → ℕ) (a n i : ℕ) → Wired net → i < length net.channels → (channel_at net i).target ≡ a →
     total (channel_at net i).taken n ≤ (channel_at net i).tokens + total (channel_at net i).made (e (channel_at net i).source) →
-    (m : ℕ) × (n ≤ m) × (m ≤ fuel_of net.channels e + n) × (allows net.channels e a m ≡ false)
+    (m : ℕ) × (n ≤ m) × (m ≤ more_than_fed net.channels e + n) × (allows net.channels e a m ≡ false)
 some_not net e a n i wired place into stands =
     let have : ℕ = (channel_at net i).tokens + total (channel_at net i).made (e (channel_at net i).source) in
     let m : ℕ = (have + 1) * length (channel_at net i).taken in
     let grows : have + 1 ≤ total (channel_at net i).taken m = total-grows (channel_at net i).taken (have + 1) (wired.some_taken i place) in
     let past : n ≤ m = ⊎_elim (λ (less : m < n). absurd (let le : total (channel_at net i).taken m ≤ total (channel_at net i).taken n = total-le (channel_at net i).taken (omega arith) in omega arith)) (λ (h : n ≤ m). h) (cases_lt m n) in
-    let near : m ≤ fuel_of net.channels e = fuel-le net.channels e i place in
+    let near : m ≤ more_than_fed net.channels e = fuel-le net.channels e i place in
     (m, past, omega arith, not-here m grows (cases_Bool (allows net.channels e a m)))
   where
     not-here : (m : ℕ) → (channel_at net i).tokens + total (channel_at net i).made (e (channel_at net i).source) + 1 ≤ total (channel_at net i).taken m →
@@ -190,22 +190,22 @@ some_not net e a n i wired place into stands =
         omega arith)
 
 module _ (net : Net) (reg : Regular net) (fed : HasInputs net) (t : ℕ) (e : ℕ → ℕ) (s : Schedule) (early : Earliest net t s) (ended : (a : ℕ) → Ended net t s a (e a)) where
-  next-grown : (a : ℕ) → a < length net.times → Grown net.channels e a (count_of s a) (grown net.channels e a (fuel_of net.channels e) (count_of s a))
+  next-grown : (a : ℕ) → a < length net.times → Grown net.channels e a (count_of s a) (first_held_back net.channels e a (more_than_fed net.channels e) (count_of s a))
   next-grown a below =
       let input = fed a below in
       let i : ℕ = input.0 in
       let able : Able net e (count_of s) = able_now net t e s early ended in
       let stands : total (channel_at net input.0).taken (count_of s a) ≤ (channel_at net input.0).tokens + total (channel_at net input.0).made (e (channel_at net input.0).source) = rw input.2 at (able.enough input.0 input.1) in
       let bound = some_not net e a (count_of s a) input.0 reg.wired input.1 input.2 stands in
-      grown-is net.channels e a (fuel_of net.channels e) (count_of s a) bound.0 bound.1 bound.2 bound.3
+      grown-is net.channels e a (more_than_fed net.channels e) (count_of s a) bound.0 bound.1 bound.2 bound.3
 
   next-row : (a : ℕ) → a < length s → slice_index_or (started_at net.channels e t 0 s) a [] ≡ grown_row net.channels e t a (slice_index_or s a [])
   next-row a below = let same : 0 + a ≡ a = omega arith in rw same at (started_at-row net.channels e t 0 s a below)
 
-  next-count : (a : ℕ) → a < length s → count_of (started_at net.channels e t 0 s) a ≡ grown net.channels e a (fuel_of net.channels e) (count_of s a)
+  next-count : (a : ℕ) → a < length s → count_of (started_at net.channels e t 0 s) a ≡ first_held_back net.channels e a (more_than_fed net.channels e) (count_of s a)
   next-count a below =
       let grew = next-grown a (rw (early.admissible.actors) at below) in
-      ap length (next-row a below) ∙ grown_row-length net.channels e t a (grown net.channels e a (fuel_of net.channels e) (count_of s a)) (slice_index_or s a []) refl grew.since
+      ap length (next-row a below) ∙ grown_row-length net.channels e t a (first_held_back net.channels e a (more_than_fed net.channels e) (count_of s a)) (slice_index_or s a []) refl grew.since
 
   -- past the last actor there are no firings
   next-past : (a : ℕ) → length s ≤ a → (count_of (started_at net.channels e t 0 s) a ≡ 0) × (count_of s a ≡ 0)
@@ -241,7 +241,7 @@ module _ (net : Net) (reg : Regular net) (fed : HasInputs net) (t : ℕ) (e : �
       let target : ℕ = (channel_at net i).target in
       let actor : target < length net.times = reg.wired.targets i place in
       let grew = next-grown target actor in
-      let there : n < grown net.channels e target (fuel_of net.channels e) (count_of s target) = omega (arith, next-count target (rw (early.admissible.actors) actor), same) in
+      let there : n < first_held_back net.channels e target (more_than_fed net.channels e) (count_of s target) = omega (arith, next-count target (rw (early.admissible.actors) actor), same) in
       rw (← add-one) (allows-true net.channels e target n (grew.through n new there) i place refl))
       (cases_lt n (count_of s (channel_at net i).target))
 
@@ -255,7 +255,7 @@ module _ (net : Net) (reg : Regular net) (fed : HasInputs net) (t : ℕ) (e : �
     full = λ a below.
         let grew = next-grown a below in
         let actor : a < length s = rw (early.admissible.actors) below in
-        rw (next-count a actor) (allows-false net.channels e a (grown net.channels e a (fuel_of net.channels e) (count_of s a)) grew.stops);
+        rw (next-count a actor) (allows-false net.channels e a (first_held_back net.channels e a (more_than_fed net.channels e) (count_of s a)) grew.stops);
   }
 
 -- ---- the earliest schedules

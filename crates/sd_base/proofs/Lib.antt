@@ -16,7 +16,9 @@ pub mod FileNets
 pub mod Traces
 pub mod Shapes
 pub mod Alike
+pub mod Connections
 pub mod Proportions
 pub mod Returns
 pub mod LoopRates
+pub mod LoopPasses
 pub mod FutureTraces

@@ -46,7 +46,7 @@ module _ (n : ℕ → ℕ) (e p r b : ℕ) (some : 0 < p) (rises : (x y : ℕ) �
   rate_bounds t = near (suc t) t (omega arith)
 
 -- a common factor goes out
-factor-out : (g x y b : ℕ) → 1 ≤ g → g * x ≤ g * y + b → x ≤ y + b
+pub factor-out : (g x y b : ℕ) → 1 ≤ g → g * x ≤ g * y + b → x ≤ y + b
 factor-out g x y b some le =
     let more : 1 * b ≤ g * b = mul-le-mul_right b some in
     let scaled : g * x ≤ g * (y + b) = omega arith in
@@ -60,7 +60,7 @@ sum_to-part f (suc n) a below = ⊎_elim
     (λ (last : n ≤ a). let same : a ≡ n = omega arith in rw same (omega arith))
     (cases_lt a n)
 
-count-cons : (t x : ℕ) (xs : List ℕ) → count_by (λ y. nat_lt y t) (x ∷ xs) ≡ cond (nat_lt x t) 1 0 + count_by (λ y. nat_lt y t) xs
+pub count-cons : (t x : ℕ) (xs : List ℕ) → count_by (λ y. nat_lt y t) (x ∷ xs) ≡ cond (nat_lt x t) 1 0 + count_by (λ y. nat_lt y t) xs
 count-cons t x xs = sum_by-cons (λ (y : ℕ). cond (nat_lt y t) 1 0) x xs
 
 count-next : (t x : ℕ) (xs : List ℕ) (m : ℕ) → count_by (λ y. nat_lt y t) xs ≤ m - 1 → (x < t → 0 < m) → (b : Bool) → nat_lt x t ≡ b → cond (nat_lt x t) 1 0 + count_by (λ y. nat_lt y t) xs ≤ m
@@ -68,7 +68,7 @@ count-next t x xs m rest first true soon = let some : 0 < m = first (ltb-true x 
 count-next t x xs m rest first false late = rw late (omega (arith, rest))
 
 -- where each number of a list that is less than t has its place before m, there are at most m of them
-count-bound : (t : ℕ) (xs : List ℕ) (m : ℕ) → ((k : ℕ) → k < length xs → slice_index xs k < t → k < m) → count_by (λ x. nat_lt x t) xs ≤ m
+pub count-bound : (t : ℕ) (xs : List ℕ) (m : ℕ) → ((k : ℕ) → k < length xs → slice_index xs k < t → k < m) → count_by (λ x. nat_lt x t) xs ≤ m
 count-bound t [] m places = omega arith
 count-bound t (x ∷ xs) m places =
     rw (count-cons t x xs) (count-next t x xs m (count-bound t xs (m - 1) (λ k there soon. omega (arith, places (suc k) (omega arith) soon))) (λ soon. places 0 (omega arith) soon) (nat_lt x t) refl)
@@ -163,14 +163,14 @@ module _ (net : Net) (laws : Lawful net) (fed : HasInputs net) (entry period rou
 
 -- ---- at most one rate
 
-count-all : (t : ℕ) (xs : List ℕ) → ((k : ℕ) → k < length xs → slice_index xs k < t) → length xs ≤ count_by (λ x. nat_lt x t) xs
+pub count-all : (t : ℕ) (xs : List ℕ) → ((k : ℕ) → k < length xs → slice_index xs k < t) → length xs ≤ count_by (λ x. nat_lt x t) xs
 count-all t [] before = omega arith
 count-all t (x ∷ xs) before =
     let first : nat_lt x t ≡ true = lt-ltb x t (before 0 (omega arith)) in
     rw (count-cons t x xs) (rw first (omega (arith, count-all t xs (λ k there. before (suc k) (omega arith)))))
 
 -- lines of which one never gets above the other by more than b rise in their order
-slopes : (x y b : ℕ) → ((t : ℕ) → x * t ≤ y * t + b) → x ≤ y
+pub slopes : (x y b : ℕ) → ((t : ℕ) → x * t ≤ y * t + b) → x ≤ y
 slopes x y b below = ⊎_elim
     (λ (more : y < x). absurd (
     let far : x * (b + 1) ≤ y * (b + 1) + b = below (b + 1) in

@@ -9,7 +9,8 @@ use Rattle.std.proofs.lemmas.List.FromFn.{get_or-map-range_with_len, length-map-
 use Rattle.sd_base.specs.Net.{Net, channel_at, total, Balances}
 use Rattle.sd_base.specs.Schedules.{phases_at}
 use Rattle.sd_base.specs.Lawful.{Lawful}
-use Rattle.sd_base.specs.Futures.{IsWalk, IsConnected}
+use Rattle.sd_base.specs.Connection.{IsWalk, IsConnected, ends_of}
+use Rattle.sd_base.proofs.Connections.{IsChannel, channel-of}
 use Rattle.sd_base.proofs.Sums.{total-turns, total-turn, total-whole}
 use Rattle.sd_base.proofs.Parts.{Wired, Balanced, wired, balanced, phases-read}
 use Rattle.sd_base.proofs.Rounds.{Whole, whole-round, whole-rounds}
@@ -54,23 +55,24 @@ channel-proportion net wires v w one other i place =
     x.1 y.1 g.1 h.1 (proportion_at x.0 y.0 g.0 h.0 m k (wires.some_taken i place) moved round)
 
 module _ (net : Net) (wires : Wired net) (bal : Balanced net) (v : ℕ → ℕ) (whole : Whole net v) where
+  abbrev Proportional : ℕ → Type 0
+  Proportional a = v 0 * slice_index net.round a ≡ v a * slice_index net.round 0
+
   -- a walk keeps the proportion to actor 0
-  walk-proportion : (a : ℕ) (walk : List ℕ) (b : ℕ) → IsWalk net a walk b → v 0 * slice_index net.round a ≡ v a * slice_index net.round 0 → v 0 * slice_index net.round b ≡ v b * slice_index net.round 0
-  walk-proportion a [] b same here = subst (λ (c : ℕ). v 0 * slice_index net.round c ≡ v c * slice_index net.round 0) same here
-  walk-proportion a (i ∷ walk) b (place, inl (from, rest)) here =
-      let known : v 0 * slice_index net.round (channel_at net i).source ≡ v (channel_at net i).source * slice_index net.round 0 =
-      subst (λ (c : ℕ). v 0 * slice_index net.round c ≡ v c * slice_index net.round 0) (sym from) here in
-      let along : v (channel_at net i).source * slice_index net.round (channel_at net i).target ≡ v (channel_at net i).target * slice_index net.round (channel_at net i).source =
-      channel-proportion net wires v (slice_index net.round) whole (whole-round net wires bal) i place in
-      walk-proportion (channel_at net i).target walk b rest
-      (proportion-along (v 0) (v (channel_at net i).source) (v (channel_at net i).target) (slice_index net.round 0) (slice_index net.round (channel_at net i).source) (slice_index net.round (channel_at net i).target) (bal.fires (channel_at net i).source (wires.sources i place)) known along)
-  walk-proportion a (i ∷ walk) b (place, inr (from, rest)) here =
-      let known : v 0 * slice_index net.round (channel_at net i).target ≡ v (channel_at net i).target * slice_index net.round 0 =
-      subst (λ (c : ℕ). v 0 * slice_index net.round c ≡ v c * slice_index net.round 0) (sym from) here in
-      let along : v (channel_at net i).source * slice_index net.round (channel_at net i).target ≡ v (channel_at net i).target * slice_index net.round (channel_at net i).source =
-      channel-proportion net wires v (slice_index net.round) whole (whole-round net wires bal) i place in
-      walk-proportion (channel_at net i).source walk b rest
-      (proportion-along (v 0) (v (channel_at net i).target) (v (channel_at net i).source) (slice_index net.round 0) (slice_index net.round (channel_at net i).target) (slice_index net.round (channel_at net i).source) (bal.fires (channel_at net i).target (wires.targets i place)) known (sym along))
+  walk-proportion : (a : ℕ) (walk : List ℕ) (b : ℕ) → IsWalk (ends_of net) a walk b → Proportional a → Proportional b
+  walk-proportion a [] b same here = subst Proportional same here
+  walk-proportion a (i ∷ walk) b (e, is, inl (from, rest)) here =
+      let at : IsChannel net i e = channel-of net i e is in
+      let known : Proportional (channel_at net i).source = subst Proportional (from ∙ sym at.source) here in
+      let along = channel-proportion net wires v (slice_index net.round) whole (whole-round net wires bal) i at.place in
+      walk-proportion e.1 walk b rest (subst Proportional at.target
+      (proportion-along (v 0) (v (channel_at net i).source) (v (channel_at net i).target) (slice_index net.round 0) (slice_index net.round (channel_at net i).source) (slice_index net.round (channel_at net i).target) (bal.fires (channel_at net i).source (wires.sources i at.place)) known along))
+  walk-proportion a (i ∷ walk) b (e, is, inr (from, rest)) here =
+      let at : IsChannel net i e = channel-of net i e is in
+      let known : Proportional (channel_at net i).target = subst Proportional (from ∙ sym at.target) here in
+      let along = channel-proportion net wires v (slice_index net.round) whole (whole-round net wires bal) i at.place in
+      walk-proportion e.0 walk b rest (subst Proportional at.source
+      (proportion-along (v 0) (v (channel_at net i).target) (v (channel_at net i).source) (slice_index net.round 0) (slice_index net.round (channel_at net i).target) (slice_index net.round (channel_at net i).source) (bal.fires (channel_at net i).target (wires.targets i at.place)) known (sym along)))
 
   pub in-proportion : IsConnected net → (a : ℕ) → a < length net.times → v 0 * slice_index net.round a ≡ v a * slice_index net.round 0
   in-proportion connected a actor = let found = connected a actor in walk-proportion 0 found.0 a found.1 (omega arith)

@@ -8,7 +8,8 @@ use Rattle.sd_base.specs.Schedules.{count_of, start_of, end_of, HasInputs}
 use Rattle.sd_base.specs.SelfTimed.{earliest, IsEvent, shape_at}
 use Rattle.sd_base.specs.Lawful.{Lawful}
 use Rattle.sd_base.specs.Rates.{IsLoop}
-use Rattle.sd_base.specs.Futures.{Repeats, IsConnected}
+use Rattle.sd_base.specs.Futures.{Repeats}
+use Rattle.sd_base.specs.Connection.{IsConnected}
 use Rattle.sd_base.proofs.Parts.{regular, balanced}
 use Rattle.sd_base.proofs.Counts.{early_at, ended_at, ended-at-is, ended-by-is, ended-same, past_none}
 use Rattle.sd_base.proofs.Tight.{earliest-within}

@@ -6,6 +6,7 @@ use Rattle.sd_base.specs.Schedules.{HasInputs, count_of, start_of, end_of}
 use Rattle.sd_base.specs.SelfTimed.{earliest, IsEvent, shape_at}
 use Rattle.sd_base.specs.Lawful.{Lawful}
 use Rattle.sd_base.specs.Rates.{IsLoopTable, Rate}
+use Rattle.sd_base.specs.Connection.{IsConnected}
 
 -- after t all goes as after r, with v more firings of each actor: at equal distances stand equal counts, event moments and
 -- shapes, and each firing that hasn't ended by r has its like as much later as t is
@@ -19,18 +20,6 @@ pub record Repeats (net : Net) (r t : ℕ) (v : ℕ → ℕ) : Type 0 where
 -- equal shapes have equal futures
 abbrev pub EqualFutures : Type 0
 EqualFutures = (net : Net) (r t : ℕ) → Lawful net → HasInputs net → r < t → shape_at net r ≡ shape_at net t → (v : ℕ → ℕ) × Repeats net r t v
-
--- the channels with these numbers lead from a to b, each along its direction or against it
-abbrev pub IsWalk : Net → ℕ → List ℕ → ℕ → Type 0
-IsWalk net a [] b = a ≡ b
-IsWalk net a (i ∷ walk) b =
-    (i < length net.channels)
-    × ((((channel_at net i).source ≡ a) × IsWalk net (channel_at net i).target walk b)
-    ⊎ (((channel_at net i).target ≡ a) × IsWalk net (channel_at net i).source walk b))
-
--- a walk leads from actor 0 to each actor
-abbrev pub IsConnected : Net → Type 0
-IsConnected net = (a : ℕ) → a < length net.times → (walk : List ℕ) × IsWalk net 0 walk a
 
 -- from a moment to an event moment of equal shape each actor starts one whole number of rounds, at least 1
 abbrev pub WholeRounds : Type 0

@@ -6,6 +6,9 @@ pub mod Untimed
 pub mod SelfTimed
 pub mod Rates
 pub mod Futures
+pub mod Connection
 pub mod Lawful
 pub mod FileNet
+pub mod Scenarios
 pub mod Counter
+pub mod Limits

@@ -33,6 +33,18 @@ pub record RateBy (net : Net) (p q b : ℕ) : Type 0 where
   pub below : (t : ℕ) → (s : Schedule) × Earliest net t s
       × ((a : ℕ) → a < length net.times → p * slice_index net.round a * t ≤ q * count_of s a + b)
 
+-- up to a constant, no admissible schedule has more starts before any moment than p rounds in q time units
+abbrev pub HasUpperSide : Net → ℕ → ℕ → Type 0
+HasUpperSide net p q =
+    (b : ℕ) × ((s : Schedule) (t a : ℕ) → Admissible net s → a < length net.times →
+    q * count_by (λ x. nat_lt x t) (slice_index_or s a []) ≤ p * slice_index net.round a * t + b)
+
+-- up to a constant, the earliest schedules have no fewer starts than so many rounds in each period
+abbrev pub HasLowerSide : Net → ℕ → ℕ → Type 0
+HasLowerSide net rounds period =
+    (b : ℕ) × ((t : ℕ) → (s : Schedule) × Earliest net t s
+    × ((a : ℕ) → a < length net.times → rounds * slice_index net.round a * t ≤ period * count_of s a + b))
+
 -- the rate of the net is p/q rounds per time unit, in lowest terms
 pub record Rate (net : Net) (p q : ℕ) : Type 0 where
   pub positive : 1 ≤ q

@@ -19,20 +19,20 @@ allows [] e a k = true
 allows (c ∷ cs) e a k = (not (c.target == a) || nat_le (total c.taken (k + 1)) (c.tokens + total c.made (e c.source))) && allows cs e a k
 
 -- the first firing of a from k on that a channel doesn't allow, sought over as many firings as the fuel says
-unfoldable pub grown : List Channel → (ℕ → ℕ) → ℕ → ℕ → ℕ → ℕ
-grown cs e a zero k = k
-grown cs e a (suc fuel) k = if allows cs e a k then grown cs e a fuel (suc k) else k
+unfoldable pub first_held_back : List Channel → (ℕ → ℕ) → ℕ → ℕ → ℕ → ℕ
+first_held_back cs e a zero k = k
+first_held_back cs e a (suc fuel) k = if allows cs e a k then first_held_back cs e a fuel (suc k) else k
 
 -- more firings than the tokens of the channels can feed
-unfoldable pub fuel_of : List Channel → (ℕ → ℕ) → ℕ
-fuel_of [] e = 0
-fuel_of (c ∷ cs) e = (c.tokens + total c.made (e c.source) + 1) * length c.taken + fuel_of cs e
+unfoldable pub more_than_fed : List Channel → (ℕ → ℕ) → ℕ
+more_than_fed [] e = 0
+more_than_fed (c ∷ cs) e = (c.tokens + total c.made (e c.source) + 1) * length c.taken + more_than_fed cs e
 
 -- the rows of the actors from a on, each with a start at t for each firing that can start then
 unfoldable pub started_at : List Channel → (ℕ → ℕ) → ℕ → ℕ → List (List ℕ) → List (List ℕ)
 started_at cs e t a [] = []
 started_at cs e t a (row ∷ rows) =
-    (row ++ replicate (grown cs e a (fuel_of cs e) (length row) - length row) t) ∷ started_at cs e t (suc a) rows
+    (row ++ replicate (first_held_back cs e a (more_than_fed cs e) (length row) - length row) t) ∷ started_at cs e t (suc a) rows
 
 -- the earliest schedule of all starts before t
 unfoldable pub earliest : Net → ℕ → Schedule
@@ -58,9 +58,9 @@ abbrev pub is_event : Net → ℕ → Bool
 is_event net t = (t == 0) || ends_at net t (earliest net t) (length net.times)
 
 -- how many event moments there are up to and with t
-unfoldable pub rank : Net → ℕ → ℕ
-rank net zero = 1
-rank net (suc t) = rank net t + (if is_event net (suc t) then 1 else 0)
+unfoldable pub events_by : Net → ℕ → ℕ
+events_by net zero = 1
+events_by net (suc t) = events_by net t + (if is_event net (suc t) then 1 else 0)
 
 -- how many firings have started up to and with t
 abbrev pub starts_by : Net → ℕ → ℕ

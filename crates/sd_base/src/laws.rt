@@ -1,5 +1,6 @@
 //! Laws of plain nets: what self-timed execution and untimed runs rest on, each on a function that does nothing.
 ghost use Rattle.std.specs.Prelude.{◌≡◌, ℕ, ◌+◌, ◌≤◌, ◌<◌, ◌⊎◌, ◌↔◌, Bool, List, length, sum, slice_index};
+ghost use Rattle.sd_base.specs.declared.limits.TheConstants.{ROUND};
 ghost use Rattle.sd_base.specs.declared.tables.GraphFile.{GraphFile};
 ghost use Rattle.sd_base.specs.Tables.{KeepsRules, IsTimed};
 ghost use Rattle.sd_base.specs.FileNet.{net_of};
@@ -12,7 +13,7 @@ ghost use Rattle.sd_base.specs.Untimed.{IsLive, Closed, Blocks, IsEnd};
 /// The net of a graph file that keeps its rules, with its repetition vector, keeps the laws of nets.
 pub fn file_nets_are_lawful()
     ensures { (g : GraphFile) (gamma : List ℕ) (no_overlap : Bool) → KeepsRules g → IsTimed g → IsRepetitionOf g gamma →
-        sum gamma ≤ 100000 → Lawful (net_of g gamma no_overlap) }
+        sum gamma ≤ ROUND → Lawful (net_of g gamma no_overlap) }
 {}
 
 /// Self-timed execution is one: there is exactly one earliest schedule of each moment where each actor

@@ -4,19 +4,21 @@
 mod counter;
 pub mod futures;
 pub mod laws;
+pub mod limits;
 mod memory;
 mod numbers;
-mod quantity;
 mod role;
 mod rows;
 mod tables;
 mod text;
 
 pub use counter::{Ledger, Steps};
+pub use limits::{Limits, Quantity};
 pub use memory::NoMemory;
-pub use numbers::{Fraction, gcd, lcm_within};
-pub use quantity::Quantity;
+pub use numbers::{Fraction, gcd, gcd_wide, lcm_within};
 pub use role::Role;
 pub use rows::Rows;
-pub use tables::{ActorRow, ChannelRow, GraphFile, Kind};
+pub use tables::{
+    ActorRow, ChannelRow, GraphFile, Kind, ScenarioFile, ScenarioRow, SharedRow, StateRow,
+};
 pub use text::Text;

@@ -1,12 +1,19 @@
-ghost use Rattle.std.specs.Prelude.{◌≡◌, ◌==◌, ◌*◌, ◌≤◌, MatchOption};
+ghost use Rattle.std.specs.Prelude.{ℕ, ◌≡◌, ◌==◌, ◌*◌, ◌≤◌, MatchOption};
 ghost use Rattle.std.specs.Ordering.{nat_cmp};
 ghost use Rattle.std.specs.Int.{IsGcd};
 ghost use Rattle.sd_base.specs.Numbers.{IsLcm, IsAboveLimit};
 
 use std::cmp::Ordering;
 
-/// The greatest common divisor; `gcd(0, 0)` is 0. Euclid's algorithm: steps logarithmic in the lesser number.
+/// The greatest common divisor; `gcd(0, 0)` is 0. Cost: that of `gcd_wide`.
 pub fn gcd(a: u64, b: u64) -> u64
+    ensures { IsGcd a b result }
+{
+    gcd_wide(u128::from(a), u128::from(b)) as u64
+}
+
+/// The greatest common divisor of wide numbers, by Euclid's algorithm: steps logarithmic in the lesser number.
+pub fn gcd_wide(a: u128, b: u128) -> u128
     ensures { IsGcd a b result }
 {
     let mut high = a;
@@ -45,7 +52,8 @@ impl Fraction {
     /// The fraction n/d in lowest terms. Cost: that of one `gcd`.
     pub fn new(n: u64, d: u64) -> Fraction
         requires { 1 ≤ d }
-        ensures { result.num * d ≡ n * result.den }
+        ensures same { result.num * d ≡ n * result.den }
+        ensures common { (g : ℕ) × (n ≡ g * result.num) × (d ≡ g * result.den) }
     {
         let common = gcd(n, d);
         Fraction {

@@ -7,4 +7,6 @@ pub enum Role {
     Own(u32),
     /// The free space of a channel of the file, by the channel's number.
     Space(u32),
+    /// The edge from one actor to the next in the order of a processor, by the numbers of both.
+    Order(u32, u32),
 }

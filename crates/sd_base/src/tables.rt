@@ -39,3 +39,36 @@ pub struct ChannelRow {
     pub tokens: u64,
     pub size: u64,
 }
+
+/// Scenarios that share tokens, and the automaton whose paths run them. Scenarios, shared channels and states are
+/// numbered from 0 in file order.
+#[derive(Debug, Drop)]
+pub struct ScenarioFile {
+    pub scenarios: Rows<ScenarioRow>,
+    pub shared: Rows<SharedRow>,
+    pub states: Rows<StateRow>,
+    /// The number of the state in which each path begins.
+    pub initial: u32,
+}
+
+/// A scenario: one round of its graph runs in each state that names it.
+#[derive(Debug, Drop)]
+pub struct ScenarioRow {
+    pub name: Text,
+    pub graph: GraphFile,
+}
+
+/// A channel that has tokens between rounds, the same number of them in each scenario.
+#[derive(Debug, Drop)]
+pub struct SharedRow {
+    pub name: Text,
+    pub tokens: u64,
+}
+
+/// A state of the automaton: the number of its scenario, and those of the states that may come next.
+#[derive(Debug, Drop)]
+pub struct StateRow {
+    pub name: Text,
+    pub scenario: u32,
+    pub next: Rows<u32>,
+}

@@ -27,6 +27,15 @@ impl Text {
         Text { text }
     }
 
+    /// A text of the same bytes. Cost: linear in them.
+    pub fn of(alloc: Global, text: &str) -> Result<Text, AllocError>
+        ensures { IfOk result (λ t. t ≡ text.now) }
+    {
+        Ok(Text {
+            text: String::from_str(alloc, text)?,
+        })
+    }
+
     pub fn as_str(&self) -> &str
         ensures { result.now ≡ self.now }
     {
@@ -37,9 +46,7 @@ impl Text {
     pub fn copy(&self, alloc: Global) -> Result<Text, AllocError>
         ensures { IfOk result (λ t. t ≡ self.now) }
     {
-        Ok(Text {
-            text: String::from_str(alloc, self.text.as_str())?,
-        })
+        Text::of(alloc, self.text.as_str())
     }
 
     /// Whether both are the same bytes.

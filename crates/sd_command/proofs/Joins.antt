@@ -1,51 +1,35 @@
--- From paths over the ends of channels to walks and inputs of a net.
-use Rattle.std.proofs.Common.{◌≡◌, ℕ, ◌<◌, List, [], ◌∷◌, length, ap, sym, subst, ◌∙◌, inl, get_or}
+-- From paths over the ends of channels to connection and inputs of a net.
+use Rattle.std.proofs.Common.{◌≡◌, ℕ, ◌<◌, List, length, ap, sym, subst, ◌∙◌, get_or}
 use Rattle.std.proofs.lemmas.List.{get_or-map, length-map}
-use Rattle.std.proofs.lemmas.Option.{slice_get_within, get_or_from_slice_get}
+use Rattle.std.proofs.lemmas.Option.{slice_get-get_or}
+use Rattle.std.specs.Prelude.{slice_get, Some}
 use Rattle.sd_base.specs.Net.{Channel, Net, channel_at, nowhere}
 use Rattle.sd_base.specs.Schedules.{HasInputs}
-use Rattle.sd_base.specs.Futures.{IsWalk, IsConnected}
+use Rattle.sd_base.specs.Connection.{AreStronglyConnected, IsConnected, IsStronglyConnected, ends_of}
 use Rattle.sd_base.specs.Lawful.{Lawful}
-use Rattle.balance.specs.Connection.{AreActors, HasInput, IsConnectRefusal, IsFirstWithoutInput, IsPath, IsStronglyConnected}
+use Rattle.sd_base.proofs.Connections.{IsChannel, channel-of, strongly-connected}
+use Rattle.balance.specs.ConnectRefusals.{AreActors, HasInput, IsConnectRefusal, IsFirstWithoutInput}
 use Rattle.balance.specs.declared.connection.ConnectError.{ConnectError}
 use Rattle.balance.specs.declared.connection.ConnectError.TheVariants as connecting
-use Rattle.sd_command.specs.Throughputs.{ends_of, IsJoined}
+use Rattle.sd_command.specs.Nets.{IsFed}
+
+-- where paths lead from each actor to each, walks lead from actor 0 to each
+pub joined-connected : (net : Net) → Lawful net → IsStronglyConnected net → IsConnected net
+joined-connected net laws joined = strongly-connected (length net.times) (ends_of net) laws.some_actor joined
+
+has-input : (net : Net) (a : ℕ) → HasInput (ends_of net) a → (i : ℕ) × (i < length net.channels) × ((channel_at net i).target ≡ a)
+has-input net a (k, e, within, is, into) =
+    let here : slice_get (ends_of net) k ≡ Some e = slice_get-get_or (ends_of net) k e within ∙ ap (λ (p : ℕ × ℕ). Some p) is in
+    let at : IsChannel net k e = channel-of net k e here in
+    (k, at.place, at.target ∙ into)
+
+-- inputs over the ends are inputs of the net
+pub fed-inputs : (net : Net) → IsFed net → HasInputs net
+fed-inputs net fed a actor = has-input net a (fed a actor)
 
 -- the ends of a channel
 abbrev ends_at : Channel → ℕ × ℕ
 ends_at c = (c.source, c.target)
-
-record IsChannel (net : Net) (k : ℕ) (e : ℕ × ℕ) : Type 0 where
-  place : k < length net.channels
-  source : (channel_at net k).source ≡ e.0
-  target : (channel_at net k).target ≡ e.1
-
-at-place : (net : Net) (k : ℕ) (e : ℕ × ℕ) → k < length (ends_of net) → get_or (ends_of net) k e ≡ e → IsChannel net k e
-at-place net k e within is =
-    let place : k < length net.channels = subst (λ (n : ℕ). k < n) (length-map net.channels ends_at) within in
-    let same : ends_at (channel_at net k) ≡ e = sym (get_or-map ends_at net.channels k nowhere e place) ∙ is in
-    record { place = place; source = ap (λ (p : ℕ × ℕ). p.0) same; target = ap (λ (p : ℕ × ℕ). p.1) same }
-
-path-walk : (net : Net) (a : ℕ) (ks : List ℕ) (b : ℕ) → IsPath (ends_of net) a ks b → IsWalk net a ks b
-path-walk net a [] b same = same
-path-walk net a (k ∷ ks) b (e, is, from, rest) =
-    let at : IsChannel net k e = at-place net k e (slice_get_within (ends_of net) k e is) (get_or_from_slice_get (ends_of net) k e e is) in
-    (at.place, inl (at.source ∙ sym from, subst (λ (x : ℕ). IsWalk net x ks b) (sym at.target) (path-walk net e.1 ks b rest)))
-
--- where paths lead from each actor to each, walks lead from actor 0 to each
-pub joined-connected : (net : Net) → Lawful net → IsJoined net → IsConnected net
-joined-connected net laws joined a actor =
-    let way = joined.strongly 0 a laws.some_actor actor in
-    (way.0, path-walk net 0 way.0 a way.1)
-
-has-input : (net : Net) (a : ℕ) → HasInput (ends_of net) a → (i : ℕ) × (i < length net.channels) × ((channel_at net i).target ≡ a)
-has-input net a (k, e, within, is, into) =
-    let at : IsChannel net k e = at-place net k e within is in
-    (k, at.place, at.target ∙ into)
-
--- inputs over the ends are inputs of the net
-pub joined-inputs : (net : Net) → IsJoined net → HasInputs net
-joined-inputs net joined a actor = has-input net a (joined.inputs a actor)
 
 -- the ends of a lawful net's channels are actors
 ends-at_actors : (net : Net) → Lawful net → AreActors (length net.times) (ends_of net)
@@ -61,8 +45,8 @@ module _ (net : Net) (n : ℕ) (es : List (ℕ × ℕ)) (actors : n ≡ length n
   pub are-actors : Lawful net → AreActors n es
   are-actors laws = subst (λ (m : ℕ). AreActors m es) (sym actors) (subst (λ (xs : List (ℕ × ℕ)). AreActors (length net.times) xs) (sym ends) (ends-at_actors net laws))
 
-  pub strongly : IsStronglyConnected n es → IsStronglyConnected (length net.times) (ends_of net)
-  strongly is = subst (λ (m : ℕ). IsStronglyConnected m (ends_of net)) actors (subst (λ (xs : List (ℕ × ℕ)). IsStronglyConnected n xs) ends is)
+  pub strongly : AreStronglyConnected n es → AreStronglyConnected (length net.times) (ends_of net)
+  strongly is = subst (λ (m : ℕ). AreStronglyConnected m (ends_of net)) actors (subst (λ (xs : List (ℕ × ℕ)). AreStronglyConnected n xs) ends is)
 
   pub one_way-of : (e : ConnectError) (x y : ℕ) → e ≡ connecting.OneWay x y → IsConnectRefusal n es e → IsConnectRefusal (length net.times) (ends_of net) (connecting.OneWay x y)
   one_way-of e x y is refusal =

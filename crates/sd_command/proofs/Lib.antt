@@ -1,9 +1,13 @@
-mod Causes
-mod Joins
+mod Commands
 mod OneRate
+mod Ended
+mod Complete
+mod Shown
+mod Goings
+mod Joins
 mod Reached
 mod Refusals
 mod Overs
-mod Decided
-mod Shown
 mod WalkSteps
+pub mod CommandsDecide
+pub mod SharedSteps

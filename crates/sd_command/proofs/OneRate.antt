@@ -1,22 +1,31 @@
--- A net decides which refusal is due to its rate, or that it has an answer.
-use Rattle.std.proofs.Common.{◌≡◌, ℕ, ◌≤◌, ◌<◌, ⊎_elim, List, length, Option, Some, None, MatchOption, refl, sym, ap, subst, ◌∙◌, inl, inr, arith}
+-- A net decides the steps that test it, and its execution.
+use Rattle.std.proofs.Common.{◌≡◌, ℕ, ◌+◌, ◌≤◌, ◌<◌, ⊎_elim, List, length, Option, Some, None, MatchOption, refl, sym, ap, subst, ◌∙◌, inl, inr, arith}
 use Rattle.std.specs.Prelude.{slice_index, slice_index_or}
 use Rattle.std.proofs.lemmas.Bool.{cases_lt}
 use Rattle.std.proofs.lemmas.List.{ext_get_or}
 use Rattle.sd_base.specs.declared.tables.GraphFile.{GraphFile}
 use Rattle.sd_base.specs.Net.{Net}
 use Rattle.sd_base.specs.Lawful.{Lawful}
+use Rattle.sd_base.specs.declared.limits.TheConstants.{STARTS}
+use Rattle.sd_base.specs.SelfTimed.{events_by, starts_by}
+use Rattle.sd_base.specs.Rates.{IsLoop}
 use Rattle.sd_base.specs.Schedules.{HasInputs}
 use Rattle.sd_base.specs.Untimed.{IsLive, IsEnd, Blocks}
-use Rattle.balance.specs.Connection.{HasInput, IsConnectRefusal, IsFirstWithoutInput, IsStronglyConnected}
+use Rattle.balance.specs.ConnectRefusals.{HasInput, IsConnectRefusal, IsFirstWithoutInput}
+use Rattle.sd_base.specs.Connection.{AreStronglyConnected, ends_of}
 use Rattle.balance.specs.declared.connection.ConnectError.TheVariants as connecting
 use Rattle.firing.specs.declared.table.LoopTable.{LoopTable}
-use Rattle.liveness.specs.Rounds.{IsBlockedBy, IsFirstLacking, NamesLacks}
-use Rattle.lasso.specs.Runs.{IsFound, IsStatesSpent, IsTooManyStarts}
+use Rattle.sd_base.specs.Untimed.{IsBlockedBy, IsFirstLacking, NamesLacks}
+use Rattle.lasso.specs.LoopAnswers.{IsFound, IsStatesSpent, IsTooManyStarts}
 use Rattle.report.specs.declared.refusal.Refusal.{Refusal}
-use Rattle.report.specs.Lacks.{lacks_list}
-use Rattle.sd_command.specs.Throughputs.{IsJoined, Runs, IsRateRefusal, IsRateAnswer, ends_of, one_way, no_input, deadlock, states_spent, too_many_starts}
-use Rattle.sd_command.proofs.Joins.{joined-inputs}
+use Rattle.report.specs.declared.refusal.Refusal.TheVariants.{OneWay, NoInput, Deadlock}
+use Rattle.sd_command.specs.ActorNames.{actor_shown}
+use Rattle.report.specs.LackTexts.{lacks_list}
+use Rattle.sd_command.specs.Nets.{IsFed, joining, feeding, completing}
+use Rattle.sd_command.specs.RateAnswers.{IsRunRefusal, states_spent, too_many_starts, execution, rate_of}
+use Rattle.sd_command.specs.Endings.{Repeats}
+use Rattle.sd_command.proofs.Joins.{fed-inputs}
+use Rattle.sd_command.proofs.CommandsDecide.{Determines, Decides, DecidesLast, after_decides, last_decides}
 
 -- what is known of nets: ending counts are one, no counts block a live net, and an execution has one ending
 pub record NetLaws : Type 0 where
@@ -24,6 +33,8 @@ pub record NetLaws : Type 0 where
   pub live : (net : Net) (v : ℕ → ℕ) → Lawful net → IsLive net → ¬ Blocks net v
   pub spent : (net : Net) (states : ℕ) → Lawful net → HasInputs net → IsStatesSpent net states → IsTooManyStarts net states → ⊥
   pub found_spent : (net : Net) (states : ℕ) (table : LoopTable) → Lawful net → HasInputs net → IsFound net states table → IsStatesSpent net states → ⊥
+  pub not_spent : (net : Net) (states entry period : ℕ) → Lawful net → HasInputs net → IsLoop net entry period → events_by net (entry + period) ≤ states → IsStatesSpent net states → ⊥
+  pub not_many : (net : Net) (states entry period : ℕ) → Lawful net → HasInputs net → IsLoop net entry period → starts_by net (entry + period) ≤ STARTS → IsTooManyStarts net states → ⊥
   pub found_many : (net : Net) (states : ℕ) (table : LoopTable) → Lawful net → HasInputs net → IsFound net states table → IsTooManyStarts net states → ⊥
 
 -- the least numbers with a property agree
@@ -35,7 +46,7 @@ one-least P x y not-x not-y below-x below-y =
 
 module _ (n : ℕ) (ends : List (ℕ × ℕ)) (some : 0 < n) where
   -- a pair that no path joins in one direction
-  unjoined : (x y : ℕ) → IsConnectRefusal n ends (connecting.OneWay x y) → IsStronglyConnected n ends → ⊥
+  unjoined : (x y : ℕ) → IsConnectRefusal n ends (connecting.OneWay x y) → AreStronglyConnected n ends → ⊥
   unjoined x y (inl (zero, first)) strong = first.unreached (strong 0 y some first.actor)
   unjoined x y (inr (zero, first)) strong = first.not_reaching (strong x 0 first.actor some)
 
@@ -86,50 +97,60 @@ module _ (facts : NetLaws) (net : Net) (laws : Lawful net) where
       let f : lacks ≡ more = one-lacks net (slice_index w) lacks more names also.names in
       (cc)
 
-  -- no counts block a net that runs for ever
-  unblocked : (v : List ℕ) (lacks : List (Option ℕ)) → Runs net → IsBlockedBy net v lacks → ⊥
-  unblocked v lacks runs is = facts.live net (slice_index v) laws runs.live is.blocks
+  module _ (graph : GraphFile) where
+    pub joining_determines : Determines (joining graph net)
+    joining_determines = record {
+      one = λ a b is also. refl;
+      refusal = λ r s is also.
+          let e = one-pair (length net.times) (ends_of net) laws.some_actor is.from is.to also.from also.to is.is also.is in
+          let f : is.from ≡ also.from = e.0 in
+          let g : is.to ≡ also.to = e.1 in
+          is.told ∙ (ap (λ (x : ℕ). OneWay (actor_shown graph x) (actor_shown graph is.to)) f ∙ ap (λ (y : ℕ). OneWay (actor_shown graph also.from) (actor_shown graph y)) g) ∙ sym also.told;
+      never = λ r a is strong. unjoined (length net.times) (ends_of net) laws.some_actor is.from is.to is.is strong;
+    }
 
-  inputs-there : IsJoined net → (a : ℕ) → IsFirstWithoutInput (length net.times) (ends_of net) a → ⊥
-  inputs-there joined a first = first.none (joined.inputs a first.actor)
+    pub feeding_determines : Determines (feeding graph net)
+    feeding_determines = record {
+      one = λ a b is also. refl;
+      refusal = λ r s is also.
+          is.told ∙ ap (λ (x : ℕ). NoInput None (actor_shown graph x)) (one-without (length net.times) (ends_of net) laws.some_actor is.actor also.actor is.is also.is) ∙ sym also.told;
+      never = λ r a is fed. is.is.none (fed is.actor is.is.actor);
+    }
 
-  module _ (graph : GraphFile) (states : ℕ) where
-    pub one-rate_refusal : (r s : Refusal) → IsRateRefusal graph net states r → IsRateRefusal graph net states s → r ≡ s
-    one-rate_refusal r s (one_way x y pair p) (one_way u v other q) =
-        let e = one-pair (length net.times) (ends_of net) laws.some_actor x y u v pair other in
-        let f : x ≡ u = e.0 in
-        let g : y ≡ v = e.1 in
-        (cc)
-    one-rate_refusal r s (one_way x y pair p) (no_input a strong first q) = absurd (unjoined (length net.times) (ends_of net) laws.some_actor x y pair strong)
-    one-rate_refusal r s (one_way x y pair p) (deadlock counts lacks joined is q) = absurd (unjoined (length net.times) (ends_of net) laws.some_actor x y pair joined.strongly)
-    one-rate_refusal r s (one_way x y pair p) (states_spent runs is q) = absurd (unjoined (length net.times) (ends_of net) laws.some_actor x y pair runs.joined.strongly)
-    one-rate_refusal r s (one_way x y pair p) (too_many_starts runs is q) = absurd (unjoined (length net.times) (ends_of net) laws.some_actor x y pair runs.joined.strongly)
-    one-rate_refusal r s (no_input a strong first p) (one_way x y pair q) = absurd (unjoined (length net.times) (ends_of net) laws.some_actor x y pair strong)
-    one-rate_refusal r s (no_input a strong first p) (no_input b strong' other q) =
-        let e : a ≡ b = one-without (length net.times) (ends_of net) laws.some_actor a b first other in (cc)
-    one-rate_refusal r s (no_input a strong first p) (deadlock counts lacks joined is q) = absurd (inputs-there joined a first)
-    one-rate_refusal r s (no_input a strong first p) (states_spent runs is q) = absurd (inputs-there runs.joined a first)
-    one-rate_refusal r s (no_input a strong first p) (too_many_starts runs is q) = absurd (inputs-there runs.joined a first)
-    one-rate_refusal r s (deadlock counts lacks joined is p) (one_way x y pair q) = absurd (unjoined (length net.times) (ends_of net) laws.some_actor x y pair joined.strongly)
-    one-rate_refusal r s (deadlock counts lacks joined is p) (no_input a strong first q) = absurd (inputs-there joined a first)
-    one-rate_refusal r s (deadlock counts lacks joined is p) (deadlock counts' lacks' joined' also q) =
-        let e : lacks_list graph net counts lacks ≡ lacks_list graph net counts' lacks' = one-block graph counts counts' lacks lacks' is also in (cc)
-    one-rate_refusal r s (deadlock counts lacks joined is p) (states_spent runs also q) = absurd (unblocked counts lacks runs is)
-    one-rate_refusal r s (deadlock counts lacks joined is p) (too_many_starts runs also q) = absurd (unblocked counts lacks runs is)
-    one-rate_refusal r s (states_spent runs is p) (one_way x y pair q) = absurd (unjoined (length net.times) (ends_of net) laws.some_actor x y pair runs.joined.strongly)
-    one-rate_refusal r s (states_spent runs is p) (no_input a strong first q) = absurd (inputs-there runs.joined a first)
-    one-rate_refusal r s (states_spent runs is p) (deadlock counts lacks joined also q) = absurd (unblocked counts lacks runs also)
-    one-rate_refusal r s (states_spent runs is p) (states_spent runs' also q) = (cc)
-    one-rate_refusal r s (states_spent runs is p) (too_many_starts runs' also q) = absurd (facts.spent net states laws (joined-inputs net runs.joined) is also)
-    one-rate_refusal r s (too_many_starts runs is p) (one_way x y pair q) = absurd (unjoined (length net.times) (ends_of net) laws.some_actor x y pair runs.joined.strongly)
-    one-rate_refusal r s (too_many_starts runs is p) (no_input a strong first q) = absurd (inputs-there runs.joined a first)
-    one-rate_refusal r s (too_many_starts runs is p) (deadlock counts lacks joined also q) = absurd (unblocked counts lacks runs also)
-    one-rate_refusal r s (too_many_starts runs is p) (states_spent runs' also q) = absurd (facts.spent net states laws (joined-inputs net runs.joined) also is)
-    one-rate_refusal r s (too_many_starts runs is p) (too_many_starts runs' also q) = (cc)
+    pub completing_determines : Determines (completing graph net)
+    completing_determines = record {
+      one = λ a b is also. refl;
+      refusal = λ r s is also.
+          is.told ∙ ap (λ (list : List ℕ). Deadlock None list) (one-block graph is.counts also.counts is.lacks also.lacks is.is also.is) ∙ sym also.told;
+      never = λ r a is live. facts.live net (slice_index is.counts) laws live is.is.blocks;
+    }
 
-    pub no-rate_answer : (r : Refusal) (text : List ℕ) → IsRateRefusal graph net states r → IsRateAnswer graph net states text → ⊥
-    no-rate_answer r text (one_way x y pair p) answer = unjoined (length net.times) (ends_of net) laws.some_actor x y pair answer.runs.joined.strongly
-    no-rate_answer r text (no_input a strong first p) answer = inputs-there answer.runs.joined a first
-    no-rate_answer r text (deadlock counts lacks joined is p) answer = unblocked counts lacks answer.runs is
-    no-rate_answer r text (states_spent runs is p) answer = facts.found_spent net states answer.table laws (joined-inputs net runs.joined) answer.found is
-    no-rate_answer r text (too_many_starts runs is p) answer = facts.found_many net states answer.table laws (joined-inputs net runs.joined) answer.found is
+    module _ (states : ℕ) (fed : IsFed net) where
+      one-run : (r s : Refusal) → IsRunRefusal net states r → IsRunRefusal net states s → s ≡ r
+      one-run r s (states_spent is p) (states_spent also q) = q ∙ sym p
+      one-run r s (states_spent is p) (too_many_starts also q) = absurd (facts.spent net states laws (fed-inputs net fed) is also)
+      one-run r s (too_many_starts is p) (states_spent also q) = absurd (facts.spent net states laws (fed-inputs net fed) also is)
+      one-run r s (too_many_starts is p) (too_many_starts also q) = q ∙ sym p
+
+      no-run : (r : Refusal) (table : LoopTable) → IsRunRefusal net states r → IsFound net states table → ⊥
+      no-run r table (states_spent is p) found = facts.found_spent net states table laws (fed-inputs net fed) found is
+      no-run r table (too_many_starts is p) found = facts.found_many net states table laws (fed-inputs net fed) found is
+
+      pub execution_decides : DecidesLast (execution graph net states)
+      execution_decides = record {
+        one = λ r s n m is also. (one-run r s is.1 also.1, also.0 ∙ sym is.0);
+        no_answer = λ r answer n m is also. no-run r also.1.text.table is.1 also.1.text.found;
+        no_end = λ r s n m is also. also;
+      }
+
+    pub rate_decides : (states : ℕ) → Decides (rate_of graph net states)
+    rate_decides states =
+        after_decides (joining graph net) _ joining_determines (λ a joined.
+        after_decides (feeding graph net) _ feeding_determines (λ b fed.
+        after_decides (completing graph net) _ completing_determines (λ c live.
+        last_decides (execution graph net states) (execution_decides states fed))))
+
+  -- where a shape is repeated in time, no execution is refused
+  pub unrefused : (states : ℕ) → IsFed net → Repeats net states → (r : Refusal) → IsRunRefusal net states r → ⊥
+  unrefused states fed (entry, period, loop, shapes, starts) r (states_spent is p) = facts.not_spent net states entry period laws (fed-inputs net fed) loop shapes is
+  unrefused states fed (entry, period, loop, shapes, starts) r (too_many_starts is p) = facts.not_many net states entry period laws (fed-inputs net fed) loop starts is

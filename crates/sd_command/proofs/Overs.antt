@@ -14,14 +14,15 @@ use Rattle.sd_base.specs.Lawful.{Lawful}
 use Rattle.sd_base.proofs.FileNets.{file-length, file-at, nothing}
 use Rattle.liveness.specs.declared.round.Round.{Round}
 use Rattle.liveness.specs.declared.round.Round.TheVariants.{Blocked}
-use Rattle.liveness.specs.Rounds.{IsAnswer, IsBlockedBy, IsFirstLacking}
+use Rattle.sd_base.specs.Untimed.{IsBlockedBy, IsFirstLacking}
+use Rattle.liveness.specs.RoundAnswers.{IsAnswer}
 use Rattle.critical.specs.declared.cycle.NeedCycle.{NeedCycle}
 use Rattle.critical.specs.declared.cycle.CycleStep.{CycleStep}
 use Rattle.critical.specs.declared.cycle.FiringNo.{FiringNo}
 use Rattle.critical.specs.Cycles.{IsChain, HoldsOn}
-use Rattle.report.specs.Links.{IsRoleIn, IsNamed}
-use Rattle.report.specs.Lacks.{HasLacks}
-use Rattle.report.specs.Cycles.{IsStepIn, IsCycleIn}
+use Rattle.report.specs.LinkTexts.{IsRoleIn, IsNamed}
+use Rattle.report.specs.LackTexts.{HasLacks}
+use Rattle.report.specs.CycleTexts.{IsStepIn, IsCycleIn}
 
 -- the roles of channels speak of the graph
 abbrev AreIn : GraphFile → List Channel → Type 0

@@ -8,13 +8,13 @@ use Rattle.sd_base.specs.Net.{Net}
 use Rattle.std.proofs.Math.Nat.{mul-div_cancel', eq_of_mul-eq-mul_left}
 use Rattle.sd_base.proofs.Divisors.{gcd_pos, quotients}
 use Rattle.firing.specs.declared.table.LoopTable.{LoopTable}
-use Rattle.lasso.specs.Runs.{IsFound}
+use Rattle.lasso.specs.LoopAnswers.{IsFound}
 use Rattle.periodic.specs.declared.schedule.Periodic.{Periodic}
-use Rattle.periodic.specs.Loops.{IsScheduleOf}
+use Rattle.periodic.specs.LoopSchedules.{IsScheduleOf}
 use Rattle.critical.specs.declared.cycle.NeedCycle.{NeedCycle}
-use Rattle.critical.specs.Loops.{IsCriticalCycleOf}
-use Rattle.report.specs.Answers.{rate_lines}
-use Rattle.sd_command.specs.Throughputs.{Runs, IsRateAnswer}
+use Rattle.critical.specs.CriticalCycles.{IsCriticalCycleOf}
+use Rattle.report.specs.AnswerTexts.{rate_lines}
+use Rattle.sd_command.specs.RateAnswers.{IsRateText}
 
 -- any two numbers have a greatest common divisor
 gcd_of : (fuel a b : ℕ) → b < fuel → (g : ℕ) × IsGcd a b g
@@ -51,15 +51,13 @@ lowest_of n d positive =
     }
 
 -- the text of the rate of a net that runs round this loop, with this schedule and this cycle
-pub rate-shown : (graph : GraphFile) (net : Net) (states : ℕ) (table : LoopTable) (schedule : Periodic) (cycle : NeedCycle) (text : List ℕ) → Runs net → IsFound net states table
-    → IsScheduleOf net table schedule → IsCriticalCycleOf net table cycle → text ≡ rate_lines graph net schedule cycle → IsRateAnswer graph net states text
-rate-shown graph net states table schedule cycle text runs found of_loop critical shown =
+pub rate-shown : (graph : GraphFile) (net : Net) (states : ℕ) (table : LoopTable) (schedule : Periodic) (cycle : NeedCycle) (text : List ℕ) → IsFound net states table → IsScheduleOf net table schedule → IsCriticalCycleOf net table cycle → text ≡ rate_lines graph net schedule cycle → IsRateText graph net states text
+rate-shown graph net states table schedule cycle text found of_loop critical shown =
     let low : Lowest table.rounds table.period = lowest_of table.rounds table.period found.loop.turns in
     let g : ℕ = low.common in
     let turns : table.rounds ≡ g * low.num = low.first in
     let passes : table.period ≡ g * low.den = low.second in
     record {
-      runs = runs;
       num = low.num;
       den = low.den;
       rate = found.rate low.num low.den g turns passes low.lowest;
@@ -82,8 +80,7 @@ rate-shown graph net states table schedule cycle text runs found of_loop critica
     }
 
 -- the same of the text that a call gives
-pub rates-shown : (graph : GraphFile) (net : Net) (table : LoopTable) (schedule : Periodic) (cycle : NeedCycle) (r : Result (List ℕ) NoMemory) → Runs net
-    → IsScheduleOf net table schedule → IsCriticalCycleOf net table cycle → IfOk r (λ text. text ≡ rate_lines graph net schedule cycle)
-    → (states : ℕ) → IsFound net states table → IfOk r (IsRateAnswer graph net states)
-rates-shown graph net table schedule cycle (Ok text) runs of_loop critical shown states found = rate-shown graph net states table schedule cycle text runs found of_loop critical shown
-rates-shown graph net table schedule cycle (Err e) runs of_loop critical shown states found = shown
+pub rates-shown : (graph : GraphFile) (net : Net) (table : LoopTable) (schedule : Periodic) (cycle : NeedCycle) (r : Result (List ℕ) NoMemory) → IsScheduleOf net table schedule → IsCriticalCycleOf net table cycle → IfOk r (λ text. text ≡ rate_lines graph net schedule cycle)
+    → (states : ℕ) → IsFound net states table → IfOk r (IsRateText graph net states)
+rates-shown graph net table schedule cycle (Ok text) of_loop critical shown states found = rate-shown graph net states table schedule cycle text found of_loop critical shown
+rates-shown graph net table schedule cycle (Err e) of_loop critical shown states found = shown

@@ -1,108 +1,92 @@
--- From what was sent to how the run ended.
-use Rattle.std.proofs.Common.{◌≡◌, ◌⊎◌, ℕ, List, Bool, true, false, Option, refl, sym, subst, ◌∙◌, inl, inr}
-use Rattle.report.specs.declared.refusal.Refusal.{Refusal}
-use Rattle.report.specs.declared.refusal.Refusal.TheVariants.{UsageWords, UsageMissing, UsageNotFor, UsageBadValue, Text, DocumentType, CdataSection, Instruction, CharReference, Encoding, WrongKind, Missing, Unknown, Twice, BadWord, BadNumber, Above, Ratio, Inconsistent, Apart, OneWay, NoInput, Deadlock, StatesSpent, ShelfGraph}
-use Rattle.report.specs.Lines.{line_of, memory_line}
+-- From what was put and sent to how the run ended.
+use Rattle.std.proofs.Common.{◌≡◌, ℕ, ◌+◌, List, Bool, true, false, Option, Result, Ok, Err, refl, sym, ap, subst, ◌∙◌, inl, inr}
+use Rattle.report.specs.RefusalLines.{line_of, memory_line}
+use Rattle.sd_command.specs.declared.answer.Answer.{Answer}
 use Rattle.sd_command.specs.declared.status.Status.{Status}
 use Rattle.sd_command.specs.declared.status.Status.TheVariants as statuses
 use Rattle.sd_command.specs.declared.stop.Stop.{Stop}
-use Rattle.sd_command.specs.declared.stop.Stop.TheVariants.{Refused, OutOfMemory}
+use Rattle.sd_command.specs.declared.stop.Stop.TheVariants as stop
 use Rattle.sd_command.specs.Statuses.{status_of}
-use Rattle.sd_command.specs.Sendings.{SendsLine, SendsStop}
-use Rattle.sd_command.specs.Stops.{IsStop, TicksFor}
-use Rattle.sd_command.specs.Runs.{Run, Shows, Counts, IsDue, IsAnswer, IsShelfFault, refused, done, shelf_fault, no_memory, err_fault, out_fault}
+use Rattle.sd_command.specs.Courses.{Ending, Answered}
+use Rattle.sd_command.specs.Takings.{Files}
+use Rattle.sd_command.specs.Requests.{course_of}
+use Rattle.sd_command.specs.Runs.{Sending, GetsNothing, HasPut, Counted, HasTaken, HasLine, of_refusal, of_memory, Outside, Ends, done, told, out_fault, err_fault, Run, Shows}
+use Rattle.sd_command.specs.inside.Going.{IsEnd, Sends, SendsStop, Goes}
 
-abbrev Stays : Run → Type 0
-Stays run = (name : List ℕ) → run.file_after name ≡ run.given.file name
+module _ (o : Outside) (status : Status) where
+  -- the text of an answer was sent
+  pub ends_answered : (answer : Answer) (shown : List ℕ) → HasPut answer.put o.shelf → shown ≡ answer.text → Sends statuses.Done shown status o.out → GetsNothing o.err
+      → (cut : Bool) × Ends o status cut (Answered answer)
+  ends_answered answer shown put same sends nothing = by_sends (subst (λ (t : List ℕ). Sends statuses.Done t status o.out) same sends)
+    where
+      by_sends : Sends statuses.Done answer.text status o.out → (cut : Bool) × Ends o status cut (Answered answer)
+      by_sends (inl (is, whole)) = (false, done refl answer refl put is whole nothing)
+      by_sends (inr (is, part)) = (true, out_fault refl answer refl put is part nothing)
 
-pub shows_answer : (run : Run) (text shown : List ℕ) → IsAnswer run.given text → shown ≡ text → Stays run → Counts run → run.err_after ≡ run.err
-    → SendsLine statuses.Done shown run.status run.out run.out_after run.out_faults run.out_faults_after → (cut : Bool) × Shows run cut
-shows_answer run text shown is e stays counts same (inl (status, sent)) =
-    (false, record { ends = done refl shown (subst (λ (t : List ℕ). IsAnswer run.given t) (sym e) is) status sent same; stays = stays; counts = counts })
-shows_answer run text shown is e stays counts same (inr (status, (rose, part))) =
-    (true, record { ends = out_fault refl status rose same shown (subst (λ (t : List ℕ). IsAnswer run.given t) (sym e) is) part; stays = stays; counts = counts })
+  -- a line was sent
+  pub ends_told : (ending : Ending) (line : List ℕ) (whole : Status) → HasLine ending o.shelf line whole → Sends whole line status o.err → GetsNothing o.out
+      → (cut : Bool) × Ends o status cut ending
+  ends_told ending line whole has (inl (is, sent)) nothing = (false, told refl line (subst (λ (s : Status). HasLine ending o.shelf line s) (sym is) has) nothing sent)
+  ends_told ending line whole has (inr (is, part)) nothing = (false, err_fault refl line whole has is nothing part)
 
-shows_memory : (run : Run) → Stays run → Counts run → run.out_after ≡ run.out
-    → SendsLine statuses.Memory memory_line run.status run.err run.err_after run.err_faults run.err_faults_after → (cut : Bool) × Shows run cut
-shows_memory run stays counts same (inl (status, sent)) = (false, record { ends = no_memory refl status same sent; stays = stays; counts = counts })
-shows_memory run stays counts same (inr (status, (rose, part))) =
-    (false, record { ends = err_fault refl status rose same memory_line (inr (inr refl)) part; stays = stays; counts = counts })
+-- functions that agree everywhere are one
+everywhere : (f g : List ℕ → Option (List ℕ)) → ((name : List ℕ) → f name ≡ g name) → f ≡ g
+everywhere f g same = λ i. λ name. same name i
 
-due : (run : Run) (refusal : Refusal) → IsDue run.given refusal → Stays run → Counts run → run.out_after ≡ run.out
-    → SendsLine (status_of refusal) (line_of refusal) run.status run.err run.err_after run.err_faults run.err_faults_after → (cut : Bool) × Shows run cut
-due run refusal is stays counts same (inl (status, sent)) = (false, record { ends = refused refl refusal is status same sent; stays = stays; counts = counts })
-due run refusal is stays counts same (inr (status, (rose, part))) =
-    (false, record { ends = err_fault refl status rose same (line_of refusal) (inl (refusal, is, refl)) part; stays = stays; counts = counts })
+-- a shelf in the middle of a run, where nothing was put yet
+module _ (words : List (List ℕ)) (files middle : Files) (faults faults' faults'' : ℕ) (named_after : List ℕ → Option (List ℕ)) (out err : Sending) (status : Status)
+    (tells : middle.tells ≡ files.tells) (named : (name : List ℕ) → middle.named name ≡ files.named name) (n executions executions' : ℕ) (counted : executions' ≡ executions + n) where
+  abbrev outside : Files → ℕ → Outside
+  outside from count = record {
+    shelf = record { files = from; named_after = named_after; faults = count; faults_after = faults'' };
+    out = out;
+    err = err;
+  }
 
-fault : (run : Run) → IsShelfFault run.given run.shelf_faults run.shelf_faults_after → Stays run → Counts run → run.out_after ≡ run.out
-    → SendsLine (status_of ShelfGraph) (line_of ShelfGraph) run.status run.err run.err_after run.err_faults run.err_faults_after → (cut : Bool) × Shows run cut
-fault run is stays counts same (inl (status, sent)) = (false, record { ends = shelf_fault refl is status same sent; stays = stays; counts = counts })
-fault run is stays counts same (inr (status, (rose, part))) =
-    (false, record { ends = err_fault refl status rose same (line_of ShelfGraph) (inr (inl (is, refl))) part; stays = stays; counts = counts })
+  same_files : middle ≡ files
+  same_files =
+      let made : Bool → (List ℕ → Option (List ℕ)) → Files = λ t f. record { tells = t; named = f } in
+      ap (λ (t : Bool). made t middle.named) tells ∙ ap (λ (f : List ℕ → Option (List ℕ)). made files.tells f) (everywhere middle.named files.named named)
 
-of_refusal : (run : Run) (refusal : Refusal) → IsStop run.given run.shelf_faults run.shelf_faults_after (Refused refusal) → Stays run → Counts run → run.out_after ≡ run.out
-    → SendsLine (status_of refusal) (line_of refusal) run.status run.err run.err_after run.err_faults run.err_faults_after → (cut : Bool) × Shows run cut
-of_refusal run refusal (inl is) stays counts same sends = due run refusal is stays counts same sends
-of_refusal run refusal (inr (e, is)) stays counts same sends =
-    fault run is stays counts same
-    (subst (λ (r : Refusal). SendsLine (status_of r) (line_of r) run.status run.err run.err_after run.err_faults run.err_faults_after) e sends)
+  abbrev run : Run
+  run = record { words = words; status = status; outside = outside files faults; executions = executions; executions_after = executions' }
 
-shows_refusal : (run : Run) (refusal : Refusal) → IsStop run.given run.shelf_faults run.shelf_faults_after (Refused refusal) → Stays run → Counts run → run.out_after ≡ run.out
-    → SendsLine (status_of refusal) (line_of refusal) run.status run.err run.err_after run.err_faults run.err_faults_after
-    ⊎ SendsLine statuses.Memory memory_line run.status run.err run.err_after run.err_faults run.err_faults_after → (cut : Bool) × Shows run cut
-shows_refusal run refusal is stays counts same (inl sends) = of_refusal run refusal is stays counts same sends
-shows_refusal run refusal is stays counts same (inr sends) = shows_memory run stays counts same sends
+  -- what a command came to, and how the run then ended
+  pub shows : (result : Result Answer Stop) (goes : Goes (course_of words files) result n faults faults') → (cut : Bool) × Ends (outside files faults) status cut goes.ending → (cut : Bool) × Shows run cut
+  shows result goes (cut, ends) = (cut, record { ending = goes.ending; number = n; came = goes.came; counted = counted; ends = ends })
 
-pub shows_stop : (run : Run) (stop : Stop) → IsStop run.given run.shelf_faults run.shelf_faults_after stop → Stays run → Counts run → run.out_after ≡ run.out
-    → SendsStop stop run.status run.err run.err_after run.err_faults run.err_faults_after → (cut : Bool) × Shows run cut
-shows_stop run (Refused refusal) is stays counts same sends = shows_refusal run refusal is stays counts same sends
-shows_stop run OutOfMemory is stays counts same sends = shows_memory run stays counts same sends
+  pub shows_answer : (answer : Answer) → Goes (course_of words files) (Ok answer) n faults faults' → (cut : Bool) × Ends (outside middle faults') status cut (Answered answer) → (cut : Bool) × Shows run cut
+  shows_answer answer goes ends =
+      let same : faults' ≡ faults = subst (λ (e : Ending). Counted e faults faults') goes.is goes.counted in
+      let there : (cut : Bool) × Ends (outside files faults) status cut (Answered answer) =
+      subst (λ (f : Files). (cut : Bool) × Ends (outside f faults) status cut (Answered answer)) same_files
+      (subst (λ (k : ℕ). (cut : Bool) × Ends (outside middle k) status cut (Answered answer)) same ends) in
+      shows (Ok answer) goes (subst (λ (e : Ending). (cut : Bool) × Ends (outside files faults) status cut e) (sym goes.is) there)
 
--- no refusal ends as an answer does
-refused-not_done : (refusal : Refusal) → status_of refusal ≡ statuses.Done → ⊥
-refused-not_done UsageWords e = (cc)
-refused-not_done (UsageMissing option) e = (cc)
-refused-not_done (UsageNotFor option algo) e = (cc)
-refused-not_done (UsageBadValue option) e = (cc)
-refused-not_done (Text place) e = (cc)
-refused-not_done (DocumentType place) e = (cc)
-refused-not_done (CdataSection place) e = (cc)
-refused-not_done (Instruction place) e = (cc)
-refused-not_done (CharReference place) e = (cc)
-refused-not_done (Encoding place) e = (cc)
-refused-not_done WrongKind e = (cc)
-refused-not_done (Missing what of) e = (cc)
-refused-not_done (Unknown what name) e = (cc)
-refused-not_done (Twice what name) e = (cc)
-refused-not_done (BadWord what of) e = (cc)
-refused-not_done (BadNumber what of) e = (cc)
-refused-not_done (Above scenario quantity number) e = (cc)
-refused-not_done (Ratio scenario number path) e = (cc)
-refused-not_done (Inconsistent scenario walk num den) e = (cc)
-refused-not_done (Apart scenario a b) e = (cc)
-refused-not_done (OneWay from to) e = (cc)
-refused-not_done (NoInput scenario actor) e = (cc)
-refused-not_done (Deadlock scenario list) e = (cc)
-refused-not_done (StatesSpent states at) e = (cc)
-refused-not_done ShelfGraph e = (cc)
+-- the line of a stop was sent; nothing was put
+module _ (words : List (List ℕ)) (files : Files) (faults faults' : ℕ) (named_after : List ℕ → Option (List ℕ)) (out err : Sending) (status : Status)
+    (stay : (name : List ℕ) → named_after name ≡ files.named name) (n executions executions' : ℕ) (counted : executions' ≡ executions + n) (nothing : GetsNothing out) where
+  abbrev stopped : Outside
+  stopped = record {
+    shelf = record { files = files; named_after = named_after; faults = faults; faults_after = faults' };
+    out = out;
+    err = err;
+  }
 
-line-not_done : (whole status : Status) (text : List ℕ) (sent sent' : Option (List ℕ)) (faults faults' : ℕ) → (whole ≡ statuses.Done → ⊥)
-    → SendsLine whole text status sent sent' faults faults' → status ≡ statuses.Done → ⊥
-line-not_done whole status text sent sent' faults faults' not (inl (is, rest)) e = not (sym is ∙ e)
-line-not_done whole status text sent sent' faults faults' not (inr (is, rest)) e = (cc)
+  module _ (ending : Ending) (took : Counted ending faults faults') where
+    taken : HasTaken ending stopped.shelf
+    taken = record { stay = stay; counted = took }
 
-pub stop-not_done : (stop : Stop) (status : Status) (sent sent' : Option (List ℕ)) (faults faults' : ℕ)
-    → SendsStop stop status sent sent' faults faults' → status ≡ statuses.Done → ⊥
-stop-not_done (Refused refusal) status sent sent' faults faults' (inl sends) = line-not_done (status_of refusal) status (line_of refusal) sent sent' faults faults' (refused-not_done refusal) sends
-stop-not_done (Refused refusal) status sent sent' faults faults' (inr sends) = line-not_done statuses.Memory status memory_line sent sent' faults faults' (λ e. (cc)) sends
-stop-not_done OutOfMemory status sent sent' faults faults' sends = line-not_done statuses.Memory status memory_line sent sent' faults faults' (λ e. (cc)) sends
+    by_memory : Sends statuses.Memory memory_line status err → (cut : Bool) × Ends stopped status cut ending
+    by_memory sends = ends_told stopped status ending memory_line statuses.Memory (of_memory taken refl refl) sends nothing
 
--- from what the words count to what a run counts
-pub counts-run : (run : Run) (answered : Bool) → TicksFor run.given.words run.executions run.executions_after answered
-    → (run.status ≡ statuses.Done → answered ≡ true) → Counts run
-counts-run run answered ticks known = record {
-  rises = ticks.1.0;
-  one = ticks.1.1;
-  rate = λ request asked executes done. (ticks.0 request asked).rate executes (known done);
-  none = λ request asked idle. (ticks.0 request asked).none idle;
-}
+    by_stop : (why : Stop) → IsEnd (Err why) ending → SendsStop why status err → (cut : Bool) × Ends stopped status cut ending
+    by_stop (stop.Refused refusal) is (inl sends) = ends_told stopped status ending (line_of refusal) (status_of refusal) (of_refusal refusal is taken refl refl) sends nothing
+    by_stop (stop.Refused refusal) is (inr sends) = by_memory sends
+    by_stop stop.OutOfMemory is sends = by_memory sends
+
+  pub shows_stop : (why : Stop) → Goes (course_of words files) (Err why) n faults faults' → SendsStop why status err
+      → (cut : Bool) × Shows (record { words = words; status = status; outside = stopped; executions = executions; executions_after = executions' }) cut
+  shows_stop why goes sends =
+      let ends = by_stop goes.ending goes.counted why goes.is sends in
+      (ends.0, record { ending = goes.ending; number = n; came = goes.came; counted = counted; ends = ends.1 })

@@ -1,32 +1,63 @@
--- Laws of what is due: the words and files decide it.
-use Rattle.std.specs.Prelude.{◌≡◌, ℕ, ◌⊎◌, Bool, true, List}
+-- Laws of how a run ends: the words and files decide it.
+use Rattle.std.specs.Prelude.{◌≡◌, ℕ, ◌+◌, ◌≤◌, ◌⊎◌, Bool, true, List, Some, Ok}
+use Rattle.sd_base.specs.declared.tables.GraphFile.{GraphFile}
+use Rattle.sd_base.specs.declared.limits.TheConstants.{STARTS}
+use Rattle.sd_base.specs.Net.{Net}
+use Rattle.sd_base.specs.FileNet.{net_of}
+use Rattle.sd_base.specs.SelfTimed.{events_by, starts_by}
+use Rattle.sd_base.specs.Rates.{IsLoop}
+use Rattle.sd_words.specs.declared.request.Request.TheVariants.{Throughput}
+use Rattle.sd_words.specs.Asked.{request_of}
+use Rattle.graph_reader.specs.Laws.{Gives}
+use Rattle.balance.specs.Repetition.{IsRound}
 use Rattle.report.specs.declared.refusal.Refusal.{Refusal}
 use Rattle.sd_io.specs.Outside.{Rose}
-use Rattle.sd_command.specs.Runs.{Given, IsDue, IsAnswer, Run, Ends}
-use Rattle.sd_command.specs.Statuses.{status_of}
 use Rattle.sd_command.specs.declared.status.Status.TheVariants as statuses
+use Rattle.sd_command.specs.Statuses.{status_of}
+use Rattle.sd_command.specs.Courses.{Ending, Refused, Ended, Failed, Lacking}
+use Rattle.sd_command.specs.Takings.{Files}
+use Rattle.sd_command.specs.Requests.{course_of}
+use Rattle.sd_command.specs.Runs.{Run, Shows}
 
--- at most one refusal is due
-abbrev pub HasOneDue : Type 0
-HasOneDue = (given : Given) (r s : Refusal) → given.tells ≡ true → IsDue given r → IsDue given s → r ≡ s
+-- memory lacked, or taking a file failed
+abbrev pub IsCutOff : Ending → Type 0
+IsCutOff (Failed refusal) = Unit {0}
+IsCutOff Lacking = Unit {0}
+IsCutOff _ = ⊥
 
--- where a refusal is due, nothing answers the words
-abbrev pub DueHasNoAnswer : Type 0
-DueHasNoAnswer = (given : Given) (r : Refusal) (text : List ℕ) → given.tells ≡ true → IsDue given r → IsAnswer given text → ⊥
+-- Where a refusal is due, which is after a number of executions, the command can end in no other way, unless it is cut off.
+abbrev pub DueIsOne : Type 0
+DueIsOne = (words : List (List ℕ)) (files : Files) (refusal : Refusal) (n m : ℕ) (ending : Ending) → files.tells ≡ true
+    → course_of words files (Refused refusal) n → course_of words files ending m → IsCutOff ending ⊎ ((ending ≡ Refused refusal) × (m ≡ n))
 
 -- a run without faults over told files: no fault was counted in it
 pub record IsFaultless (run : Run) : Type 0 where
-  pub told : run.given.tells ≡ true
-  pub shelf : Rose run.shelf_faults run.shelf_faults_after → ⊥
-  pub out : Rose run.out_faults run.out_faults_after → ⊥
-  pub err : Rose run.err_faults run.err_faults_after → ⊥
+  pub told : run.outside.shelf.files.tells ≡ true
+  pub shelf : Rose run.outside.shelf.faults run.outside.shelf.faults_after → ⊥
+  pub out : Rose run.outside.out.faults run.outside.out.faults_after → ⊥
+  pub err : Rose run.outside.err.faults run.outside.err.faults_after → ⊥
 
 -- such a run ends with the refusal that is due, or for want of memory
 abbrev pub DueIsAnswered : Type 0
-DueIsAnswered = (run : Run) (cut : Bool) (r : Refusal) → IsFaultless run → IsDue run.given r → Ends run cut →
-    (run.status ≡ status_of r) ⊎ (run.status ≡ statuses.Memory)
+DueIsAnswered = (run : Run) (cut : Bool) (refusal : Refusal) (n : ℕ) → IsFaultless run → course_of run.words run.outside.shelf.files (Refused refusal) n
+    → Shows run cut → (run.status ≡ status_of refusal) ⊎ (run.status ≡ statuses.Memory)
 
--- where none is due, it is done, or ends for want of memory
+-- where none is due and nothing can end an execution, it is done, or ends for want of memory
 abbrev pub ElseIsDone : Type 0
-ElseIsDone = (run : Run) (cut : Bool) → IsFaultless run → ((r : Refusal) → IsDue run.given r → ⊥) → Ends run cut →
-    (run.status ≡ statuses.Done) ⊎ (run.status ≡ statuses.Memory)
+ElseIsDone = (run : Run) (cut : Bool) → IsFaultless run → ((refusal : Refusal) (n : ℕ) → course_of run.words run.outside.shelf.files (Refused refusal) n → ⊥)
+    → ((refusal : Refusal) (n : ℕ) → course_of run.words run.outside.shelf.files (Ended refusal) n → ⊥) → Shows run cut
+    → (run.status ≡ statuses.Done) ⊎ (run.status ≡ statuses.Memory)
+
+-- a net repeats a shape among its first `states` shapes, within the starts that are allowed
+abbrev pub Repeats : Net → ℕ → Type 0
+Repeats net states = (entry : ℕ) × (period : ℕ) × IsLoop net entry period × (events_by net (entry + period) ≤ states) × (starts_by net (entry + period) ≤ STARTS)
+
+-- such a run of `throughput` is done, or ends for want of memory, where no refusal is due before anything is executed and the
+-- net of the graph repeats a shape
+abbrev pub ThroughputIsComplete : Type 0
+ThroughputIsComplete = (run : Run) (cut : Bool) (name : List ℕ) (no_overlap : Bool) (states : ℕ) → IsFaultless run
+    → request_of run.words ≡ Ok (Throughput name no_overlap states)
+    → ((refusal : Refusal) → course_of run.words run.outside.shelf.files (Refused refusal) 0 → ⊥)
+    → ((bytes gamma : List ℕ) (graph : GraphFile) → run.outside.shelf.files.named name ≡ Some bytes → Gives bytes true graph → IsRound graph gamma
+    → Repeats (net_of graph gamma no_overlap) states)
+    → Shows run cut → (run.status ≡ statuses.Done) ⊎ (run.status ≡ statuses.Memory)

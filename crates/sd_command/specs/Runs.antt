@@ -1,176 +1,116 @@
--- What one run of the program shows: what was due to its words and files, and what it sent.
-use Rattle.std.specs.Prelude.{◌≡◌, ◌≢◌, ℕ, ◌+◌, ◌<◌, ◌≤◌, ◌⊎◌, Bool, true, false, List, length, Option, Some, None, Ok, Err, IsSomeAnd}
-use Rattle.sd_base.specs.declared.tables.GraphFile.{GraphFile}
-use Rattle.sd_base.specs.FileNet.{net_of}
+-- What one run of the program shows: how its command ended, what it put on the shelf, and what it sent.
+use Rattle.std.specs.Prelude.{◌≡◌, ◌≢◌, ℕ, ◌+◌, Bool, true, false, List, Option, Some, None}
 use Rattle.sd_io.specs.Outside.{Rose, SentPart, with_sent}
-use Rattle.sd_words.specs.declared.request.Request.{Request}
-use Rattle.sd_words.specs.declared.request.Request.TheVariants.{Repetition, Throughput}
-use Rattle.sd_words.specs.declared.request.UsageCause.{UsageCause}
-use Rattle.sd_words.specs.Asked.{request_of}
-use Rattle.file_text.specs.Node.{Node}
-use Rattle.file_text.specs.Grammar.{IsText}
-use Rattle.graph_reader.specs.declared.error.ReadError.{ReadError}
-use Rattle.graph_reader.specs.declared.error.ReadError.TheVariants as reading
-use Rattle.graph_reader.specs.Reading.{IsFirstFault}
-use Rattle.graph_reader.specs.Sections.{table_of}
 use Rattle.report.specs.declared.refusal.Refusal.{Refusal}
-use Rattle.report.specs.declared.refusal.Refusal.TheVariants.{Above, Ratio, Inconsistent, Apart, ShelfGraph}
-use Rattle.balance.specs.declared.walk.WalkStep.{WalkStep}
-use Rattle.balance.specs.Repetition.{IsRound, IsApart, IsRatioTooLarge, IsUnbalanced, IsRoundTooLarge}
-use Rattle.sd_base.specs.declared.quantity.Quantity.TheVariants as quantities
-use Rattle.report.specs.Quantities.{quantity_text, greatest_of}
-use Rattle.report.specs.Walks.{steps_text}
-use Rattle.report.specs.Lines.{line_of, memory_line}
-use Rattle.report.specs.Answers.{repetition_lines}
-use Rattle.sd_command.specs.Names.{actor_shown}
-use Rattle.sd_command.specs.Readings.{reading_refusal}
-use Rattle.sd_command.specs.Usages.{usage_refusal}
-use Rattle.sd_command.specs.Throughputs.{IsRateRefusal, IsRateAnswer}
-use Rattle.sd_command.specs.Statuses.{status_of}
+use Rattle.report.specs.RefusalLines.{line_of, memory_line}
+use Rattle.sd_command.specs.declared.answer.Answer.{Answer}
+use Rattle.sd_command.specs.declared.answer.Put.{Put}
 use Rattle.sd_command.specs.declared.status.Status.{Status}
 use Rattle.sd_command.specs.declared.status.Status.TheVariants as statuses
+use Rattle.sd_command.specs.Statuses.{status_of}
+use Rattle.sd_command.specs.Courses.{Ending, Answered, Refused, Ended, Failed}
+use Rattle.sd_command.specs.Takings.{Files, shelf_refusal}
+use Rattle.sd_command.specs.Requests.{course_of}
 
--- what a run begins with: its words, and the files of the shelf by name, where the shelf tells them
-pub record Given : Type 0 where
-  pub words : List (List ℕ)
-  pub tells : Bool
-  pub file : List ℕ → Option (List ℕ)
+-- a sink before and after a run: what it was sent, where it tells that, and its count of faults
+pub record Sending : Type 0 where
+  pub sent : Option (List ℕ)
+  pub sent_after : Option (List ℕ)
+  pub faults : ℕ
+  pub faults_after : ℕ
 
--- the name of the graph's file
-abbrev pub graph_of : Request → List ℕ
-graph_of (Repetition graph) = graph
-graph_of (Throughput graph no_overlap states) = graph
+-- it was sent a text whole; a first part, and then a send failed; or nothing
+abbrev pub GetsWhole : List ℕ → Sending → Type 0
+GetsWhole text sink = (sink.sent_after ≡ with_sent text sink.sent) × (sink.faults_after ≡ sink.faults)
 
--- the command needs the times of the graph
-abbrev pub needs_times : Request → Bool
-needs_times (Repetition graph) = false
-needs_times (Throughput graph no_overlap states) = true
+abbrev pub GetsPart : List ℕ → Sending → Type 0
+GetsPart text sink = SentPart text sink.sent sink.sent_after × Rose sink.faults sink.faults_after
 
--- these bytes were taken as the file of a name: they are no longer than a graph file may be, and they are that file,
--- where the shelf tells its files
-pub record Takes (given : Given) (name bytes : List ℕ) : Type 0 where
-  pub fits : length bytes ≤ 4194304
-  pub told : given.tells ≡ true → given.file name ≡ Some bytes
+abbrev pub GetsNothing : Sending → Type 0
+GetsNothing sink = (sink.sent_after ≡ sink.sent) × (sink.faults_after ≡ sink.faults)
 
--- the bytes spell a tree whose sections give this graph, with its times where they are needed
-abbrev pub Spells : Bool → List ℕ → GraphFile → Type 0
-Spells need_times bytes graph = (e : Node) × IsText e bytes × (table_of need_times e ≡ Ok graph)
+-- a count of faults is one more where taking a file failed, and else the same
+abbrev pub Counted : Ending → ℕ → ℕ → Type 0
+Counted (Failed refusal) faults faults' = Rose faults faults'
+Counted _ faults faults' = faults' ≡ faults
 
--- a refusal that is due to the balance of a graph
-pub data IsBalanceRefusal (graph : GraphFile) (refusal : Refusal) : Type 0 where
-  apart : (x y : ℕ) → IsApart graph x y → refusal ≡ Apart None (actor_shown graph x) (actor_shown graph y) → IsBalanceRefusal graph refusal
-  ratio : (path : List WalkStep) → IsRatioTooLarge graph path
-      → refusal ≡ Ratio None (greatest_of quantities.Ratio) (steps_text graph path) → IsBalanceRefusal graph refusal
-  inconsistent : (walk : List WalkStep) (num den : ℕ) → IsUnbalanced graph walk num den
-      → refusal ≡ Inconsistent None (steps_text graph walk) num den → IsBalanceRefusal graph refusal
-  above : IsRoundTooLarge graph → refusal ≡ Above None (quantity_text quantities.Round) (greatest_of quantities.Round) → IsBalanceRefusal graph refusal
+-- the shelf before and after a run: its files by name, and its count of faults
+pub record Shelving : Type 0 where
+  pub files : Files
+  pub named_after : List ℕ → Option (List ℕ)
+  pub faults : ℕ
+  pub faults_after : ℕ
 
--- a refusal that is due to a graph with a repetition vector
-abbrev pub IsCommandRefusal : Request → GraphFile → List ℕ → Refusal → Type 0
-IsCommandRefusal (Repetition name) graph gamma refusal = ⊥
-IsCommandRefusal (Throughput name no_overlap states) graph gamma refusal = IsRateRefusal graph (net_of graph gamma no_overlap) states refusal
+-- all files are as before
+abbrev pub FilesStay : Shelving → Type 0
+FilesStay shelf = (name : List ℕ) → shelf.named_after name ≡ shelf.files.named name
 
--- a refusal that is due to the bytes of a graph file: its first fault, its balance, or its analysis
-pub data IsGraphRefusal (request : Request) (bytes : List ℕ) (refusal : Refusal) : Type 0 where
-  unread : (error : ReadError) → error ≢ reading.NoMemory → IsFirstFault bytes (needs_times request) error → refusal ≡ reading_refusal error
-      → IsGraphRefusal request bytes refusal
-  of_balance : (graph : GraphFile) → Spells (needs_times request) bytes graph → IsBalanceRefusal graph refusal → IsGraphRefusal request bytes refusal
-  of_command : (graph : GraphFile) (gamma : List ℕ) → Spells (needs_times request) bytes graph → IsRound graph gamma
-      → IsCommandRefusal request graph gamma refusal → IsGraphRefusal request bytes refusal
+-- all files but that of a name are
+abbrev pub OthersStay : Shelving → List ℕ → Type 0
+OthersStay shelf put = (name : List ℕ) → name ≢ put → shelf.named_after name ≡ shelf.files.named name
 
--- the text that answers a graph with a repetition vector
-abbrev pub IsCommandAnswer : Request → GraphFile → List ℕ → List ℕ → Type 0
-IsCommandAnswer (Repetition name) graph gamma text = text ≡ repetition_lines graph gamma
-IsCommandAnswer (Throughput name no_overlap states) graph gamma text = IsRateAnswer graph (net_of graph gamma no_overlap) states text
+-- the file that an answer puts is there, where the shelf tells its files, and the others are as before; no fault was counted
+abbrev pub HasPut : Option Put → Shelving → Type 0
+HasPut None shelf = FilesStay shelf × (shelf.faults_after ≡ shelf.faults)
+HasPut (Some put) shelf =
+    OthersStay shelf put.name × (shelf.files.tells ≡ true → shelf.named_after put.name ≡ Some put.bytes) × (shelf.faults_after ≡ shelf.faults)
 
--- the text that answers the bytes of a graph file, where no refusal is due to them
-pub record IsGraphAnswer (request : Request) (bytes text : List ℕ) : Type 0 where
-  pub graph : GraphFile
-  pub gamma : List ℕ
-  pub spelled : Spells (needs_times request) bytes graph
-  pub round : IsRound graph gamma
-  pub answer : IsCommandAnswer request graph gamma text
+-- the file that an answer puts couldn't be put, and a fault was counted; the others are as before
+pub record HasNotPut (file : Option Put) (put : Put) (shelf : Shelving) : Type 0 where
+  pub asked : file ≡ Some put
+  pub others : OthersStay shelf put.name
+  pub rose : Rose shelf.faults shelf.faults_after
 
--- a refusal that is due: its cause stands in the words and files, and no earlier step has one
-pub data IsDue (given : Given) (refusal : Refusal) : Type 0 where
-  wrong_words : (cause : UsageCause) → request_of given.words ≡ Err cause → refusal ≡ usage_refusal cause → IsDue given refusal
-  missing : refusal ≡ ShelfGraph → (request : Request) → request_of given.words ≡ Ok request → given.tells ≡ true
-      → given.file (graph_of request) ≡ None → IsDue given refusal
-  too_long : refusal ≡ Above None (quantity_text quantities.FileBytes) (greatest_of quantities.FileBytes) → (request : Request)
-      → request_of given.words ≡ Ok request → (given.tells ≡ true → IsSomeAnd (given.file (graph_of request)) (λ bytes. 4194304 < length bytes))
-      → IsDue given refusal
-  of_graph : (request : Request) (bytes : List ℕ) → request_of given.words ≡ Ok request → Takes given (graph_of request) bytes
-      → IsGraphRefusal request bytes refusal → IsDue given refusal
+-- nothing was put; the shelf counted one fault where taking a file failed, and else none
+pub record HasTaken (ending : Ending) (shelf : Shelving) : Type 0 where
+  pub stay : FilesStay shelf
+  pub counted : Counted ending shelf.faults shelf.faults_after
 
--- the text that answers the words, where no refusal is due
-pub record IsAnswer (given : Given) (text : List ℕ) : Type 0 where
-  pub request : Request
-  pub bytes : List ℕ
-  pub asked : request_of given.words ≡ Ok request
-  pub taken : Takes given (graph_of request) bytes
-  pub answers : IsGraphAnswer request bytes text
+-- the refusal by which a command ended
+abbrev pub IsRefusedBy : Ending → Refusal → Type 0
+IsRefusedBy (Refused refusal) told = refusal ≡ told
+IsRefusedBy (Ended refusal) told = refusal ≡ told
+IsRefusedBy (Failed refusal) told = refusal ≡ told
+IsRefusedBy _ told = ⊥
 
--- a fault of the shelf was counted when the graph was to be taken
-pub record IsShelfFault (given : Given) (old new : ℕ) : Type 0 where
-  pub request : Request
-  pub asked : request_of given.words ≡ Ok request
-  pub rose : Rose old new
+-- a line for `err`, with the status of a run that sends it: that of the refusal by which the command ended; of the one for a
+-- file that couldn't be put; or for want of memory, which may come until anything is put or sent
+pub data HasLine (ending : Ending) (shelf : Shelving) (line : List ℕ) (status : Status) : Type 0 where
+  of_refusal : (refusal : Refusal) → IsRefusedBy ending refusal → HasTaken ending shelf → line ≡ line_of refusal → status ≡ status_of refusal
+      → HasLine ending shelf line status
+  of_putting : (answer : Answer) (put : Put) → ending ≡ Answered answer → HasNotPut answer.put put shelf → line ≡ line_of (shelf_refusal put.kind) → status ≡ status_of (shelf_refusal put.kind)
+      → HasLine ending shelf line status
+  of_memory : HasTaken ending shelf → line ≡ memory_line → status ≡ statuses.Memory → HasLine ending shelf line status
 
--- one run: what it begins with and how it ends, what is on the shelf and in the two sinks before and after it, and the
--- counts of faults and of executions before and after it
+-- the shelf and the two sinks before and after a run
+pub record Outside : Type 0 where
+  pub shelf : Shelving
+  pub out : Sending
+  pub err : Sending
+
+-- How a run ends whose command came to this. Cut says whether a send to `out` failed.
+pub data Ends (o : Outside) (status : Status) (cut : Bool) (ending : Ending) : Type 0 where
+  done : cut ≡ false → (answer : Answer) → ending ≡ Answered answer → HasPut answer.put o.shelf → status ≡ statuses.Done
+      → GetsWhole answer.text o.out → GetsNothing o.err → Ends o status cut ending
+  told : cut ≡ false → (line : List ℕ) → HasLine ending o.shelf line status → GetsNothing o.out → GetsWhole line o.err → Ends o status cut ending
+  out_fault : cut ≡ true → (answer : Answer) → ending ≡ Answered answer → HasPut answer.put o.shelf → status ≡ statuses.SinkFault
+      → GetsPart answer.text o.out → GetsNothing o.err → Ends o status cut ending
+  err_fault : cut ≡ false → (line : List ℕ) (whole : Status) → HasLine ending o.shelf line whole → status ≡ statuses.SinkFault
+      → GetsNothing o.out → GetsPart line o.err → Ends o status cut ending
+
+-- one run: its words, how it ends, what it did outside, and the count of executions before and after it
 pub record Run : Type 0 where
-  pub given : Given
+  pub words : List (List ℕ)
   pub status : Status
-  pub file_after : List ℕ → Option (List ℕ)
-  pub out : Option (List ℕ)
-  pub out_after : Option (List ℕ)
-  pub err : Option (List ℕ)
-  pub err_after : Option (List ℕ)
-  pub shelf_faults : ℕ
-  pub shelf_faults_after : ℕ
-  pub out_faults : ℕ
-  pub out_faults_after : ℕ
-  pub err_faults : ℕ
-  pub err_faults_after : ℕ
+  pub outside : Outside
   pub executions : ℕ
   pub executions_after : ℕ
 
--- the line that a run has for `err`: that of the refusal that is due, of a fault of the shelf, or of want of memory
-abbrev pub IsLine : Run → List ℕ → Type 0
-IsLine run line =
-    ((refusal : Refusal) × IsDue run.given refusal × (line ≡ line_of refusal))
-    ⊎ ((IsShelfFault run.given run.shelf_faults run.shelf_faults_after × (line ≡ line_of ShelfGraph)) ⊎ (line ≡ memory_line))
-
--- How a run may end. Cut says whether a send to `out` failed.
-pub data Ends (run : Run) (cut : Bool) : Type 0 where
-  refused : cut ≡ false → (refusal : Refusal) → IsDue run.given refusal → run.status ≡ status_of refusal
-      → run.out_after ≡ run.out → run.err_after ≡ with_sent (line_of refusal) run.err → Ends run cut
-  done : cut ≡ false → (text : List ℕ) → IsAnswer run.given text → run.status ≡ statuses.Done
-      → run.out_after ≡ with_sent text run.out → run.err_after ≡ run.err → Ends run cut
-  shelf_fault : cut ≡ false → IsShelfFault run.given run.shelf_faults run.shelf_faults_after → run.status ≡ statuses.ShelfFault
-      → run.out_after ≡ run.out → run.err_after ≡ with_sent (line_of ShelfGraph) run.err → Ends run cut
-  no_memory : cut ≡ false → run.status ≡ statuses.Memory
-      → run.out_after ≡ run.out → run.err_after ≡ with_sent memory_line run.err → Ends run cut
-  err_fault : cut ≡ false → run.status ≡ statuses.SinkFault → Rose run.err_faults run.err_faults_after
-      → run.out_after ≡ run.out → (line : List ℕ) → IsLine run line → SentPart line run.err run.err_after → Ends run cut
-  out_fault : cut ≡ true → run.status ≡ statuses.SinkFault → Rose run.out_faults run.out_faults_after
-      → run.err_after ≡ run.err → (text : List ℕ) → IsAnswer run.given text → SentPart text run.out run.out_after → Ends run cut
-
--- the command runs an execution to its end
-abbrev pub executes : Request → Bool
-executes (Repetition graph) = false
-executes (Throughput graph no_overlap states) = true
-
--- a run counts an execution where it answers with a rate, none where the command has none to run, and else at most one
-pub record Counts (run : Run) : Type 0 where
-  pub rises : run.executions ≤ run.executions_after
-  pub one : run.executions_after ≤ run.executions + 1
-  pub rate : (request : Request) → request_of run.given.words ≡ Ok request → executes request ≡ true → run.status ≡ statuses.Done
-      → run.executions_after ≡ run.executions + 1
-  pub none : (request : Request) → request_of run.given.words ≡ Ok request → executes request ≡ false → run.executions_after ≡ run.executions
-
--- What a run shows: it ends in one of these ways, the files stay, and executions are counted.
+-- What a run shows: its command came to an end that its words and files allow, after so many executions, which were counted,
+-- and the run ends by it.
 pub record Shows (run : Run) (cut : Bool) : Type 0 where
-  pub ends : Ends run cut
-  pub stays : (name : List ℕ) → run.file_after name ≡ run.given.file name
-  pub counts : Counts run
+  pub ending : Ending
+  pub number : ℕ
+  pub came : course_of run.words run.outside.shelf.files ending number
+  pub counted : run.executions_after ≡ run.executions + number
+  pub ends : Ends run.outside run.status cut ending

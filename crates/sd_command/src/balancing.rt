@@ -1,17 +1,30 @@
 ghost use Rattle.std.specs.Prelude.{◌<◌, IfOk, None};
 ghost use Rattle.sd_base.specs.Tables.{KeepsRules};
 ghost use Rattle.balance.specs.Repetition.{IsApart, IsRatioTooLarge, IsRefusal, IsUnbalanced};
-ghost use Rattle.sd_command.specs.Runs.{IsBalanceRefusal};
+ghost use Rattle.sd_command.specs.Balances.{IsBalanceRefusal, balancing};
+ghost use Rattle.sd_command.specs.inside.Going.{Does};
 
 use crate::names::name_of;
 use crate::reading::above;
-use balance::{BalanceError, WalkStep};
-use report::{Refusal, greatest, walk_text};
-use sd_base::{GraphFile, NoMemory, Quantity};
+use crate::stop::Stop;
+use balance::{BalanceError, WalkStep, repetition};
+use report::{Refusal, walk_text};
+use sd_base::{GraphFile, NoMemory, Quantity, Rows};
 use std::alloc::Global;
 
-/// The refusal of a graph that has no repetition vector within the limits.
-pub(crate) fn balance_refusal(
+/// The repetition vector of a graph.
+pub(crate) fn balanced(alloc: Global, graph: &GraphFile) -> Result<Rows<u64>, Stop>
+    requires { KeepsRules graph.now }
+    ensures { Does (balancing graph.now) result }
+{
+    match repetition(alloc, graph) {
+        Ok(gamma) => Ok(gamma),
+        Err(error) => Err(Stop::Refused(balance_refusal(alloc, graph, &error)?)),
+    }
+}
+
+// The refusal of a graph that has no repetition vector within the limits.
+fn balance_refusal(
     alloc: Global,
     graph: &GraphFile,
     error: &BalanceError,
@@ -53,7 +66,7 @@ fn ratio(alloc: Global, graph: &GraphFile, path: &[WalkStep]) -> Result<Refusal,
 {
     Ok(Refusal::Ratio {
         scenario: None,
-        number: greatest(Quantity::Ratio),
+        number: Quantity::Ratio.greatest(),
         path: walk_text(alloc, graph, path)?,
     })
 }

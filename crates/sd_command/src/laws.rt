@@ -1,4 +1,4 @@
-ghost use Rattle.sd_command.specs.Endings.{DueHasNoAnswer, DueIsAnswered, ElseIsDone, HasOneDue};
+ghost use Rattle.sd_command.specs.Endings.{DueIsAnswered, DueIsOne, ElseIsDone, ThroughputIsComplete};
 
 use balance::one_answer;
 use graph_reader::know_files;
@@ -9,10 +9,10 @@ use sd_base::laws::{
 
 /// The words and files decide how a run ends, but for faults and want of memory.
 pub fn know_endings()
-    ensures one { HasOneDue }
-    ensures refused { DueHasNoAnswer }
+    ensures one { DueIsOne }
     ensures due { DueIsAnswered }
     ensures done { ElseIsDone }
+    ensures throughput { ThroughputIsComplete }
 {
     know_files();
     one_answer();

@@ -1,21 +1,24 @@
 //! The top call: one command from its words to the bytes that it sends.
 #![tactic(auto)]
 
+mod answer;
+mod asking;
 mod balancing;
 mod command;
+mod delivering;
+mod file_kind;
 mod laws;
 mod names;
-mod rate;
+mod nets;
+mod rates;
 mod reading;
-mod sending;
+mod repetition;
+mod requests;
 mod status;
 mod stop;
-mod usage;
-mod work;
+mod taking;
+mod throughput;
 
 pub use command::analyse;
 pub use laws::know_endings;
 pub use status::Status;
-
-#[cfg(test)]
-mod tests;

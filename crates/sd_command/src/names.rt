@@ -1,5 +1,5 @@
 ghost use Rattle.std.specs.Prelude.{◌≡◌, ◌<◌, IfOk, length};
-ghost use Rattle.sd_command.specs.Names.{actor_shown};
+ghost use Rattle.sd_command.specs.ActorNames.{actor_shown};
 
 use report::escaped;
 use sd_base::{GraphFile, NoMemory, Text};

@@ -1,19 +1,37 @@
-ghost use Rattle.std.specs.Prelude.{◌≡◌, ◌≢◌, IfOk, None};
+ghost use Rattle.std.specs.Prelude.{◌≡◌, ◌≢◌, IfOk, IsTrue, None};
+ghost use Rattle.sd_base.specs.Tables.{IsTimed, KeepsRules};
+ghost use Rattle.sd_base.specs.declared.tables.Kind.TheVariants.{Sdf};
 ghost use Rattle.file_text.specs.declared.error.TextError.TheVariants as text;
 ghost use Rattle.graph_reader.specs.declared.error.ReadError.TheVariants as reading;
 ghost use Rattle.graph_reader.specs.Field.{word_of};
-ghost use Rattle.report.specs.Quantities.{greatest_of, quantity_text};
+ghost use Rattle.sd_base.specs.Limits.{greatest_of};
+ghost use Rattle.report.specs.QuantityWords.{quantity_text};
 ghost use Rattle.report.specs.declared.refusal.Refusal.TheVariants.{Above};
-ghost use Rattle.sd_command.specs.Readings.{construct_refusal, reading_refusal, text_refusal};
+ghost use Rattle.sd_command.specs.Readings.{construct_refusal, reading_graph, reading_refusal, text_refusal};
+ghost use Rattle.sd_command.specs.inside.Going.{Does};
 
+use crate::stop::Stop;
 use file_text::{Construct, TextError};
-use graph_reader::{Field, ReadError};
-use report::{Refusal, escaped, greatest, quantity_word};
-use sd_base::{NoMemory, Quantity, Text};
+use graph_reader::{Field, ReadError, read_graph};
+use report::{Refusal, escaped, quantity_word};
+use sd_base::{GraphFile, NoMemory, Quantity, Text};
 use std::alloc::Global;
 
-/// The refusal of a file's first fault. Want of memory has none.
-pub(crate) fn refusal_of(alloc: Global, error: &ReadError) -> Result<Refusal, NoMemory>
+/// Reads a graph file.
+pub(crate) fn read(alloc: Global, bytes: &[u8], times: bool) -> Result<GraphFile, Stop>
+    ensures does { Does (reading_graph bytes.now times) result }
+    ensures keeps { IfOk result KeepsRules }
+    ensures kind { IfOk result (λ graph. graph.kind ≡ Sdf) }
+    ensures timed { IfOk result (λ graph. IsTrue times → IsTimed graph) }
+{
+    match read_graph(alloc, bytes, times) {
+        Ok(graph) => Ok(graph),
+        Err(error) => Err(Stop::Refused(refusal_of(alloc, &error)?)),
+    }
+}
+
+// The refusal of a file's first fault. Want of memory has none.
+fn refusal_of(alloc: Global, error: &ReadError) -> Result<Refusal, NoMemory>
     ensures { IfOk result (λ refusal. (refusal ≡ reading_refusal error.now) × (error.now ≢ reading.NoMemory)) }
 {
     match error {
@@ -51,7 +69,7 @@ pub(crate) fn above(alloc: Global, quantity: Quantity) -> Result<Refusal, NoMemo
     Ok(Refusal::Above {
         scenario: None,
         quantity: Text::new(String::from_str(alloc, quantity_word(quantity))?),
-        number: greatest(quantity),
+        number: quantity.greatest(),
     })
 }
 

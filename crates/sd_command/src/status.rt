@@ -1,7 +1,7 @@
 ghost use Rattle.std.specs.Prelude.{◌≡◌};
-ghost use Rattle.sd_command.specs.Statuses.{code_of, status_of};
+ghost use Rattle.sd_command.specs.Statuses.{code_of};
 
-use report::Refusal;
+use report::Class;
 
 /// How a run of the program ended.
 #[derive(Clone, Copy, Debug, PartialEq, Eq)]
@@ -22,7 +22,7 @@ pub enum Status {
     Deadlock,
     /// A number of states or of distributions was spent.
     Budget,
-    /// A file couldn't be taken.
+    /// A file couldn't be taken or put.
     ShelfFault,
     /// A text couldn't be sent whole.
     SinkFault,
@@ -51,34 +51,22 @@ impl Status {
     }
 }
 
-/// The status of a run that was refused.
-pub(crate) fn status_for(refusal: &Refusal) -> Status
-    ensures { result ≡ status_of refusal.now }
-{
-    match refusal {
-        Refusal::UsageWords
-        | Refusal::UsageMissing { .. }
-        | Refusal::UsageNotFor { .. }
-        | Refusal::UsageBadValue { .. } => Status::Usage,
-        Refusal::Text { .. }
-        | Refusal::DocumentType { .. }
-        | Refusal::CdataSection { .. }
-        | Refusal::Instruction { .. }
-        | Refusal::CharReference { .. }
-        | Refusal::Encoding { .. }
-        | Refusal::WrongKind
-        | Refusal::Missing { .. }
-        | Refusal::Unknown { .. }
-        | Refusal::Twice { .. }
-        | Refusal::BadWord { .. }
-        | Refusal::BadNumber { .. } => Status::Form,
-        Refusal::Above { .. } | Refusal::Ratio { .. } => Status::Limit,
-        Refusal::Inconsistent { .. } => Status::Inconsistent,
-        Refusal::Apart { .. } | Refusal::OneWay { .. } | Refusal::NoInput { .. } => {
-            Status::Connection
+impl From<Class> for Status {
+    ghost use Rattle.std.specs.Prelude.{◌≡◌};
+    ghost use Rattle.sd_command.specs.Statuses.{class_status};
+
+    ghost from_gives = { λ class status. status ≡ class_status class };
+
+    fn from(class: Class) -> Status {
+        match class {
+            Class::Usage => Status::Usage,
+            Class::Form => Status::Form,
+            Class::Limit => Status::Limit,
+            Class::Inconsistent => Status::Inconsistent,
+            Class::Connection => Status::Connection,
+            Class::Deadlock => Status::Deadlock,
+            Class::Budget => Status::Budget,
+            Class::Shelf => Status::ShelfFault,
         }
-        Refusal::Deadlock { .. } => Status::Deadlock,
-        Refusal::StatesSpent { .. } => Status::Budget,
-        Refusal::ShelfGraph => Status::ShelfFault,
     }
 }

@@ -1,1 +1,3 @@
 mod Sent
+mod FileNames
+pub mod WholeFiles

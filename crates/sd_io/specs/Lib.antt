@@ -1,2 +1,4 @@
 pub mod Outside
 pub mod Files
+pub mod Memory
+pub mod Streams

@@ -7,12 +7,13 @@ mod real;
 mod sending;
 mod shelf;
 mod sink;
+mod streams;
 
-pub use memory_shelf::MemoryShelf;
+pub use memory_shelf::{MemoryShelf, names_differ};
 pub use memory_sink::MemorySink;
 pub use real::{RealShelf, RealSink};
 pub use sending::send_all;
-pub use shelf::{Shelf, TakeError, know_shelf};
+pub use shelf::{PutError, Shelf, TakeError, know_shelf};
 pub use sink::{Failed, Sink, know_sink};
 
 #[cfg(test)]

@@ -1,12 +1,13 @@
-ghost use Rattle.std.specs.Prelude.{◌≡◌, ◌<◌, ◌≤◌, ◌^◌, Bool, true, IfOk, MatchResult, length, Option, Some, None};
-ghost use Rattle.std.specs.Bool.{OnTrue};
+ghost use Rattle.std.specs.Prelude.{◌≡◌, ◌<◌, ◌≤◌, ◌^◌, ◌∷◌, ◌↔◌, IsTrue, Bool, true, is_ok, if◌then◌else◌, IfErr, IfOk, MatchBool, MatchResult, length, Option, Some, None};
 ghost use Rattle.std.specs.Option.{option_copied};
 ghost use Rattle.sd_io.specs.Files.{file_named, NamesDiffer};
-ghost use Rattle.sd_io.specs.Outside.{Rose};
+ghost use Rattle.sd_io.specs.Memory.{faults_after, is_failing, IsTaken};
+ghost use Rattle.sd_io.specs.Outside.{next_count};
 
-use crate::{Shelf, TakeError};
+use crate::{PutError, Shelf, TakeError};
 use sd_base::{NoMemory, Rows, Text};
 use std::alloc::Global;
+use std::mem;
 
 /// A shelf in memory that tells its files and fails on chosen calls.
 #[derive(Debug, Drop)]
@@ -47,11 +48,30 @@ impl MemoryShelf {
         find(self.files.as_slice(), name)
     }
 
+    // Puts a file before the others, so that it is the one of its name.
+    fn add(&mut self, alloc: Global, file: (Text, Rows<u8>)) -> Result<(), PutError>
+        ensures files { self.new.files ≡ (if is_ok result then file ∷ self.old.files else self.old.files) }
+        ensures lack { IfErr result (λ e. e ≡ PutError.NoMemory) }
+        ensures failing { self.new.failing ≡ self.old.failing }
+        ensures calls { self.new.calls ≡ self.old.calls }
+        ensures faults { self.new.faults ≡ self.old.faults }
+    {
+        let mut files = mem::replace(&mut self.files, Rows::new(alloc)).into_vec();
+        let added = files.insert(0, file);
+        self.files = Rows::from_vec(files);
+        match added {
+            Ok(()) => Ok(()),
+            Err(_) => Err(PutError::NoMemory),
+        }
+    }
+
     // Counts a call, and a fault where this call is to fail.
     fn is_failing_call(&mut self) -> bool
-        ensures same { self.new.files ≡ self.old.files }
-        ensures fails { OnTrue result (Rose self.old.faults self.new.faults) }
-        ensures grows { self.old.faults ≤ self.new.faults }
+        ensures listed { result ≡ is_failing self.old.calls self.old.failing }
+        ensures numbered { self.new.calls ≡ next_count self.old.calls }
+        ensures faults { self.new.faults ≡ faults_after result self.old.faults }
+        ensures files { self.new.files ≡ self.old.files }
+        ensures failing { self.new.failing ≡ self.old.failing }
     {
         self.calls = self.calls.saturating_add(1);
         let fails = self.failing.as_slice().contains(&self.calls);
@@ -69,7 +89,13 @@ impl Shelf for MemoryShelf {
 
     ghost faults = { λ s. s.faults };
 
-    fn take(&mut self, alloc: Global, name: &str, limit: usize) -> Result<Rows<u8>, TakeError> {
+    fn take(&mut self, alloc: Global, name: &str, limit: usize) -> Result<Rows<u8>, TakeError>
+        ensures taken { IsTaken (is_failing self.old.calls self.old.failing) (file_named name.now self.old.files) limit result }
+        ensures files { self.new.files ≡ self.old.files }
+        ensures failing { self.new.failing ≡ self.old.failing }
+        ensures numbered { self.new.calls ≡ next_count self.old.calls }
+        ensures counts { self.new.faults ≡ faults_after (is_failing self.old.calls self.old.failing) self.old.faults }
+    {
         if self.is_failing_call() {
             return Err(TakeError::Failed);
         }
@@ -85,7 +111,34 @@ impl Shelf for MemoryShelf {
         }
     }
 
+    fn put(&mut self, alloc: Global, name: &str, bytes: &[u8]) -> Result<(), PutError>
+        ensures answers { MatchBool (is_failing self.old.calls self.old.failing) (result ≡ Err PutError.Failed)
+            (IfErr result (λ error. error ≡ PutError.NoMemory)) }
+        ensures files { self.new.files ≡ (if is_ok result then (name.now, bytes.now) ∷ self.old.files else self.old.files) }
+        ensures failing { self.new.failing ≡ self.old.failing }
+        ensures numbered { self.new.calls ≡ next_count self.old.calls }
+        ensures counts { self.new.faults ≡ faults_after (is_failing self.old.calls self.old.failing) self.old.faults }
+    {
+        if self.is_failing_call() {
+            return Err(PutError::Failed);
+        }
+        let file = file_of(alloc, name, bytes)?;
+        self.add(alloc, file)
+    }
+
     ghost counted = { λ s. s.counted };
+}
+
+/// Whether no two files have one name. Cost: quadratic in the files.
+pub fn names_differ(files: &[(Text, Rows<u8>)]) -> bool
+    ensures { IsTrue result ↔ NamesDiffer files.now }
+{
+    for i in 0..files.len() {
+        if find(&files[..i], files[i].0.as_str()).is_some() {
+            return false;
+        }
+    }
+    true
 }
 
 fn find<'a>(files: &'a [(Text, Rows<u8>)], name: &str) -> Option<&'a [u8]>
@@ -97,6 +150,14 @@ fn find<'a>(files: &'a [(Text, Rows<u8>)], name: &str) -> Option<&'a [u8]>
         }
     }
     None
+}
+
+fn file_of(alloc: Global, name: &str, bytes: &[u8]) -> Result<(Text, Rows<u8>), PutError>
+    ensures { MatchResult result (λ f. (f.0 ≡ name.now) × (f.1 ≡ bytes.now)) (λ e. e ≡ PutError.NoMemory) }
+{
+    let text = Text::of(alloc, name)?;
+    let copy = Rows::from_vec(Vec::from_slice(alloc, bytes)?);
+    Ok((text, copy))
 }
 
 fn copied(alloc: Global, bytes: &[u8]) -> Result<Rows<u8>, TakeError>

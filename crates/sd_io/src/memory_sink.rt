@@ -1,6 +1,6 @@
-ghost use Rattle.std.specs.Prelude.{◌≡◌, [], ◌<◌, ◌≤◌, ◌^◌, IfOk, Some, vec_len, vec_capacity};
-ghost use Rattle.std.specs.Bool.{OnTrue, OnFalse};
-ghost use Rattle.sd_io.specs.Outside.{Rose};
+ghost use Rattle.std.specs.Prelude.{◌≡◌, [], ◌++◌, ◌-◌, ◌<◌, ◌≤◌, ◌^◌, min, length, take, IfOk, IsErr, MatchBool, MatchResult, Some, vec_len, vec_capacity};
+ghost use Rattle.sd_io.specs.Memory.{faults_after, is_refusing};
+ghost use Rattle.sd_io.specs.Outside.{next_count};
 
 use crate::{Failed, Sink};
 use sd_base::{NoMemory, Rows};
@@ -59,12 +59,13 @@ impl MemorySink {
 
     // Counts a send, and a fault where this send is to fail.
     fn is_failing_send(&mut self) -> bool
-        ensures same { self.new.bytes ≡ self.old.bytes }
+        ensures fails { result ≡ is_refusing self.old.room (vec_len self.old.bytes) self.old.sends self.old.failing }
+        ensures numbered { self.new.sends ≡ next_count self.old.sends }
+        ensures faults { self.new.faults ≡ faults_after result self.old.faults }
+        ensures bytes { self.new.bytes ≡ self.old.bytes }
         ensures room { self.new.room ≡ self.old.room }
         ensures most { self.new.most ≡ self.old.most }
-        ensures fails { OnTrue result (Rose self.old.faults self.new.faults) }
-        ensures grows { self.old.faults ≤ self.new.faults }
-        ensures left { OnFalse result (vec_len self.old.bytes < self.old.room) }
+        ensures failing { self.new.failing ≡ self.old.failing }
     {
         self.sends = self.sends.saturating_add(1);
         let fails = self.bytes.len() >= self.room || self.failing.as_slice().contains(&self.sends);
@@ -80,7 +81,19 @@ impl Sink for MemorySink {
 
     ghost faults = { λ s. s.faults };
 
-    fn send(&mut self, piece: &[u8]) -> Result<usize, Failed> {
+    fn send(&mut self, piece: &[u8]) -> Result<usize, Failed>
+        ensures answers { let refuses = is_refusing self.old.room (vec_len self.old.bytes) self.old.sends self.old.failing in
+            let taken = min (min (length piece.now) self.old.most) (self.old.room - vec_len self.old.bytes) in
+            MatchBool refuses (IsErr result) (result ≡ Ok taken) }
+        ensures bytes { MatchResult result (λ n. self.new.bytes.items ≡ self.old.bytes.items ++ take n piece.now)
+            (λ _. self.new.bytes ≡ self.old.bytes) }
+        ensures room { self.new.room ≡ self.old.room }
+        ensures most { self.new.most ≡ self.old.most }
+        ensures failing { self.new.failing ≡ self.old.failing }
+        ensures numbered { self.new.sends ≡ next_count self.old.sends }
+        ensures counts { let refuses = is_refusing self.old.room (vec_len self.old.bytes) self.old.sends self.old.failing in
+            self.new.faults ≡ faults_after refuses self.old.faults }
+    {
         if self.is_failing_send() {
             return Err(Failed);
         }

@@ -9,6 +9,7 @@ pub fn send_all<K: Sink>(out: &mut K, text: &[u8]) -> Result<(), Failed>
     ensures whole { OnOk result (K.sent out.new ≡ with_sent text.now (K.sent out.old)) }
     ensures part { OnErr result (SentPart text.now (K.sent out.old) (K.sent out.new)) }
     ensures failed { OnErr result (Rose (K.faults out.old) (K.faults out.new)) }
+    ensures quiet { OnOk result (K.faults out.new ≡ K.faults out.old) }
     ensures grows { K.faults out.old ≤ K.faults out.new }
 {
     let mut done = 0;

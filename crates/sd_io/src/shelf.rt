@@ -1,4 +1,4 @@
-ghost use Rattle.std.specs.Prelude.{◌≡◌, ℕ, ◌⊎◌, ◌<◌, ◌≤◌, ◌^◌, Bool, true, List, length, Option, None, Some, Result, Ok, Err, IfOk, IsOk, IsErrOf, IsSomeAnd};
+ghost use Rattle.std.specs.Prelude.{◌≡◌, ◌≢◌, ℕ, ◌⊎◌, ◌<◌, ◌≤◌, ◌^◌, Bool, true, List, length, Option, None, Some, Result, Ok, Err, IfOk, OnOk, IsOk, IsErrOf, IsSomeAnd};
 ghost use Rattle.sd_io.specs.Outside.{Rose};
 
 use sd_base::Rows;
@@ -39,6 +39,27 @@ impl<T: Drop> From<AllocFailed<T>> for TakeError {
     }
 }
 
+/// Why a file wasn't put.
+#[derive(Clone, Copy, Debug, PartialEq, Eq, Error)]
+pub enum PutError {
+    /// Writing it failed.
+    #[error("the file can't be written")]
+    Failed,
+    /// There was no memory for it.
+    #[error("out of memory")]
+    NoMemory,
+}
+
+impl From<AllocError> for PutError {
+    ghost use Rattle.sd_io.specs.declared.shelf.PutError.TheVariants.{NoMemory};
+
+    ghost from_gives = { λ _ e. e ≡ NoMemory };
+
+    fn from(_error: AllocError) -> PutError {
+        PutError::NoMemory
+    }
+}
+
 /// Files by name.
 pub trait Shelf {
     /// Whether it tells its files.
@@ -50,11 +71,12 @@ pub trait Shelf {
     /// How many faults it counted; a count that stands at its end stays there.
     ghost faults: { Self → ℕ };
 
-    /// Reads the file `name` whole, if it has at most `limit` bytes.
+    /// Reads the file `name` whole, if it has at most `limit` bytes. No other answer than a failure counts a fault.
     fn take(&mut self, alloc: Global, name: &str, limit: usize) -> Result<Rows<u8>, TakeError>
         ensures ok { IfOk result (λ b. (tells self.old ≡ true → file self.old name.now ≡ Some b) × (length b ≤ limit)) }
         ensures failed { IsErrOf result TakeError.Failed →
-            Rose (faults self.old) (faults self.new) ⊎ ((tells self.old ≡ true) × (file self.old name.now ≡ None)) }
+            Rose (faults self.old) (faults self.new)
+            ⊎ ((tells self.old ≡ true) × (file self.old name.now ≡ None) × (faults self.new ≡ faults self.old)) }
         ensures missing { tells self.old ≡ true → file self.old name.now ≡ None →
             IsErrOf result TakeError.Failed ⊎ IsErrOf result TakeError.NoMemory }
         ensures too_long { IsErrOf result TakeError.TooLong → tells self.old ≡ true →
@@ -65,6 +87,17 @@ pub trait Shelf {
             Rose (faults self.old) (faults self.new) ⊎ (IsOk result ⊎ IsErrOf result TakeError.NoMemory) }
         ensures stays { (n : List ℕ) → file self.new n ≡ file self.old n }
         ensures telling { tells self.new ≡ tells self.old }
+        ensures quiet { IsErrOf result TakeError.Failed ⊎ (faults self.new ≡ faults self.old) }
+        ensures grows { faults self.old ≤ faults self.new };
+
+    /// Makes `bytes` the file `name`, whether there was one or not. Where it fails, nothing is said of that file.
+    fn put(&mut self, alloc: Global, name: &str, bytes: &[u8]) -> Result<(), PutError>
+        ensures ok { OnOk result (tells self.old ≡ true → file self.new name.now ≡ Some bytes.now) }
+        ensures others { (n : List ℕ) → n ≢ name.now → file self.new n ≡ file self.old n }
+        ensures failed { IsErrOf result PutError.Failed → Rose (faults self.old) (faults self.new) }
+        ensures lack { IsErrOf result PutError.NoMemory → (n : List ℕ) → file self.new n ≡ file self.old n }
+        ensures telling { tells self.new ≡ tells self.old }
+        ensures quiet { IsErrOf result PutError.Failed ⊎ (faults self.new ≡ faults self.old) }
         ensures grows { faults self.old ≤ faults self.new };
 
     ghost counted: { (s : Self) → faults s < 2 ^ 64 };

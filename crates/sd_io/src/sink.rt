@@ -1,4 +1,4 @@
-ghost use Rattle.std.specs.Prelude.{◌≡◌, ℕ, ◌<◌, ◌≤◌, ◌^◌, List, length, take, Option, IfOk, OnErr};
+ghost use Rattle.std.specs.Prelude.{◌≡◌, ℕ, ◌<◌, ◌≤◌, ◌^◌, List, length, take, Option, IfOk, OnOk, OnErr};
 ghost use Rattle.sd_io.specs.Outside.{Rose, with_sent};
 
 use thiserror::Error;
@@ -23,6 +23,7 @@ pub trait Sink {
         ensures sent { IfOk result (λ n. sent self.new ≡ with_sent (take n piece.now) (sent self.old)) }
         ensures failed { OnErr result (Rose (faults self.old) (faults self.new)) }
         ensures nothing { OnErr result (sent self.new ≡ sent self.old) }
+        ensures quiet { OnOk result (faults self.new ≡ faults self.old) }
         ensures grows { faults self.old ≤ faults self.new };
 
     ghost counted: { (s : Self) → faults s < 2 ^ 64 };

@@ -1,13 +1,12 @@
-use crate::{
-    Failed, MemoryShelf, MemorySink, RealShelf, RealSink, Shelf, Sink, TakeError, send_all,
-};
+use crate::streams::{read_within, write_some, write_whole};
+use crate::{Failed, MemoryShelf, MemorySink, PutError, Shelf, TakeError, names_differ, send_all};
 use sd_base::{Rows, Text};
 use std::alloc::Global;
 use std::test::Fail;
 
 fn shelf_of_one(alloc: Global, bytes: &[u8], failing: Vec<u64>) -> Result<MemoryShelf, Fail> {
     let mut files = Rows::new(alloc);
-    let name = Text::new(String::from_str(alloc, "a.xml")?);
+    let name = Text::of(alloc, "a.xml")?;
     files.push((name, Rows::from_vec(Vec::from_slice(alloc, bytes)?)))?;
     Ok(MemoryShelf::new(files, Rows::from_vec(failing))?)
 }
@@ -84,18 +83,46 @@ fn a_full_sink_fails(rt: HostRuntime) -> Result<(), Fail> {
 }
 
 #[test]
-fn a_real_file_that_is_missing_fails(rt: HostRuntime) -> Result<(), Fail> {
-    let mut shelf = RealShelf::new(&rt);
-    let taken = shelf.take(rt.alloc(), "no/such/file.xml", 10);
-    assert!(rt; matches!(taken, Err(TakeError::Failed)));
+fn a_put_file_is_taken_again(rt: HostRuntime) -> Result<(), Fail> {
+    let alloc = rt.alloc();
+    let mut shelf = shelf_of_one(alloc, b"abc", vec![in alloc; 3]?)?;
+    assert!(rt; shelf.put(alloc, "a.xml", b"de").is_ok());
+    assert!(rt; shelf.put(alloc, "b.xml", b"").is_ok());
+    assert!(rt; matches!(shelf.put(alloc, "a.xml", b"f"), Err(PutError::Failed)));
+    assert_eq!(rt; shelf.faults(), 1);
+    assert_eq!(rt; shelf.take(alloc, "a.xml", 2)?.as_slice(), b"de".as_slice());
+    assert_eq!(rt; shelf.file("b.xml").ok_or("no file")?, b"".as_slice());
     Ok(())
 }
 
 #[test]
-fn real_sinks_take_bytes(rt: HostRuntime) -> Result<(), Fail> {
-    let mut out = RealSink::output(&rt);
-    let mut err = RealSink::fault(&rt);
-    assert!(rt; send_all(&mut out, b"out\n").is_ok());
-    assert!(rt; send_all(&mut err, b"err\n").is_ok());
+fn a_stream_within_the_limit_is_whole(rt: HostRuntime) -> Result<(), Fail> {
+    let alloc = rt.alloc();
+    let whole = read_within(alloc, b"abc".as_slice(), 3)?.ok_or("too long")?;
+    assert_eq!(rt; whole.as_slice(), b"abc".as_slice());
+    assert!(rt; read_within(alloc, b"abc".as_slice(), 2)?.is_none());
+    Ok(())
+}
+
+#[test]
+fn streams_get_what_is_written(rt: HostRuntime) -> Result<(), Fail> {
+    let mut stream = Vec::new(rt.alloc());
+    write_whole(&mut stream, b"ab")?;
+    assert_eq!(rt; write_some(&mut stream, b"c")?, 1);
+    assert!(rt; matches!(write_some(&mut stream, b""), Err(Failed)));
+    assert_eq!(rt; stream.as_slice(), b"abc".as_slice());
+    Ok(())
+}
+
+#[test]
+fn two_files_of_one_name_are_seen(rt: HostRuntime) -> Result<(), Fail> {
+    let alloc = rt.alloc();
+    let mut files = Vec::new(alloc);
+    for name in ["a", "b", "", "b"] {
+        files.push((Text::of(alloc, name)?, Rows::new(alloc)))?;
+    }
+    assert_eq!(rt; files.len(), 4);
+    assert!(rt; names_differ(&files[..3]));
+    assert!(rt; !names_differ(files.as_slice()));
     Ok(())
 }

@@ -12,14 +12,14 @@ use Rattle.sd_words.specs.declared.request.UsageCause.{UsageCause}
 use Rattle.sd_words.specs.declared.request.UsageCause.TheVariants.{Words, Missing, NotFor, BadValue}
 use Rattle.sd_words.specs.declared.table.Standing.{Standing}
 use Rattle.sd_words.specs.declared.table.Standing.TheVariants.{Required, Allowed, Foreign}
-use Rattle.sd_words.specs.Names.{algorithm_word, algorithm_named, algorithms}
+use Rattle.sd_words.specs.OptionWords.{algorithm_word, algorithm_named, algorithms}
 use Rattle.sd_words.specs.Spelling.{Setting}
-use Rattle.sd_words.specs.Names.{names_value, names_flag}
-use Rattle.sd_words.specs.Values.{is_value}
+use Rattle.sd_words.specs.OptionWords.{names_value, names_flag}
+use Rattle.sd_words.specs.Values.{fits, is_value}
 use Rattle.sd_words.specs.Reading.{◌>>=◌, Progress, is_taken, with_setting, with_value, with_name, with_text, with_option, with_word, with_words, finished, settings_of}
-use Rattle.sd_words.specs.Asked.{value_of, standing, is_good, judged, checked, all_checked, options, algorithm_in, known, algorithm_of, request_for, request_from, request_of}
+use Rattle.sd_words.specs.Asked.{value_of, values_in, standing, is_good, judged, checked, all_checked, options, algorithm_in, known, algorithm_of, request_for, request_from, request_of}
 use Rattle.sd_words.specs.Rules.{IsFault, AllFit, IsFirstFault, Asks, AreMisspelled, AskNothing}
-use Rattle.sd_words.proofs.Steps.{bind-ok}
+use Rattle.sd_words.proofs.TestChains.{bind-ok}
 use Rattle.sd_words.proofs.Spelled.{read-spelled, spelled-read}
 
 -- the fault of an option is found
@@ -33,19 +33,21 @@ good-err false o cause h =
 judged-fault : (st : Standing) (v : Option (List ℕ)) (a : Algorithm) (o : OptionName) (settings : List Setting) (cause : UsageCause)
     → standing a o ≡ st → value_of o settings ≡ v → judged st a o v ≡ Err cause → IsFault a settings o cause
 unfolding judged
-judged-fault Required None a o settings cause s is h =
+judged-fault (Required form) None a o settings cause s is h =
     let same : cause ≡ Missing o = cc in
-    inl (s, is, same)
-judged-fault Allowed None a o settings cause s is h = absurd (cc)
+    inl (form, s, is, same)
+judged-fault (Allowed form) None a o settings cause s is h = absurd (cc)
 judged-fault Foreign None a o settings cause s is h = absurd (cc)
-judged-fault Required (Some v) a o settings cause s is h =
-    let g = good-err (is_good o v) o cause h in
+judged-fault (Required form) (Some v) a o settings cause s is h =
+    let g = good-err (fits form v) o cause h in
     let other : standing a o ≢ Foreign = λ e. cc in
-    inr (inr (v, other, is, g.0, g.1))
-judged-fault Allowed (Some v) a o settings cause s is h =
-    let g = good-err (is_good o v) o cause h in
+    let bad : is_good (standing a o) v ≡ false = ap (λ st. is_good st v) s ∙ g.0 in
+    inr (inr (v, other, is, bad, g.1))
+judged-fault (Allowed form) (Some v) a o settings cause s is h =
+    let g = good-err (fits form v) o cause h in
     let other : standing a o ≢ Foreign = λ e. cc in
-    inr (inr (v, other, is, g.0, g.1))
+    let bad : is_good (standing a o) v ≡ false = ap (λ st. is_good st v) s ∙ g.0 in
+    inr (inr (v, other, is, bad, g.1))
 judged-fault Foreign (Some v) a o settings cause s is h =
     let same : cause ≡ NotFor o a = cc in
     inr (inl (v, s, is, same))
@@ -58,15 +60,15 @@ bad-err : (b : Bool) (o : OptionName) → b ≡ false → cond b (Ok (tt {0})) (
 bad-err true o h = absurd (cc)
 bad-err false o h = refl
 
-judged-bad : (st : Standing) (v : List ℕ) (a : Algorithm) (o : OptionName) → st ≢ Foreign → is_good o v ≡ false → judged st a o (Some v) ≡ Err (BadValue o)
+judged-bad : (st : Standing) (v : List ℕ) (a : Algorithm) (o : OptionName) → st ≢ Foreign → is_good st v ≡ false → judged st a o (Some v) ≡ Err (BadValue o)
 unfolding judged
-judged-bad Required v a o n h = bad-err (is_good o v) o h
-judged-bad Allowed v a o n h = bad-err (is_good o v) o h
+judged-bad (Required form) v a o n h = bad-err (fits form v) o h
+judged-bad (Allowed form) v a o n h = bad-err (fits form v) o h
 judged-bad Foreign v a o n h = absurd (n refl)
 
 fault-checked : (a : Algorithm) (o : OptionName) (settings : List Setting) (cause : UsageCause) → IsFault a settings o cause → checked a o (value_of o settings) ≡ Err cause
 unfolding checked judged
-fault-checked a o settings cause (inl h) = rw (h.0, h.1, h.2) refl
+fault-checked a o settings cause (inl h) = rw (h.1, h.2, h.3) refl
 fault-checked a o settings cause (inr (inl h)) = rw (h.1, h.2, h.3) refl
 fault-checked a o settings cause (inr (inr h)) = rw (h.2, h.4) (judged-bad (standing a o) h.0 a o h.1 h.3)
 
@@ -82,40 +84,40 @@ fit-checked a o settings fit = elim (outcome (checked a o (value_of o settings))
   | inr e ↦ absurd (fit e.0 (checked-fault a o settings e.0 e.1))
 ]
 
-all-fit : (a : Algorithm) (settings : List Setting) (os : List OptionName) → AllFit a settings os → all_checked a settings os ≡ Ok (tt {0})
+all-fit : (a : Algorithm) (settings : List Setting) (os : List OptionName) → AllFit a settings os → all_checked a (values_in settings) os ≡ Ok (tt {0})
 unfolding all_checked
 all-fit a settings [] fit = refl
-all-fit a settings (o ∷ os) fit = ap (λ r. r >>= λ _. all_checked a settings os) (fit-checked a o settings fit.0) ∙ all-fit a settings os fit.1
+all-fit a settings (o ∷ os) fit = ap (λ r. r >>= λ _. all_checked a (values_in settings) os) (fit-checked a o settings fit.0) ∙ all-fit a settings os fit.1
 
-fit-all : (a : Algorithm) (settings : List Setting) (os : List OptionName) (u : Unit {0}) → all_checked a settings os ≡ Ok u → AllFit a settings os
+fit-all : (a : Algorithm) (settings : List Setting) (os : List OptionName) (u : Unit {0}) → all_checked a (values_in settings) os ≡ Ok u → AllFit a settings os
 unfolding all_checked
 fit-all a settings [] u h = tt
 fit-all a settings (o ∷ os) u h =
-    let one = bind-ok (checked a o (value_of o settings)) (λ _. all_checked a settings os) u h in
+    let one = bind-ok (checked a o (value_of o settings)) (λ _. all_checked a (values_in settings) os) u h in
     let fit : (cause : UsageCause) → IsFault a settings o cause → ⊥ = λ cause f. cc (one.1, fault-checked a o settings cause f) in
     (fit, fit-all a settings os u one.2)
 
-first-fault : (a : Algorithm) (settings : List Setting) (os : List OptionName) (cause : UsageCause) → all_checked a settings os ≡ Err cause → IsFirstFault a settings os cause
+first-fault : (a : Algorithm) (settings : List Setting) (os : List OptionName) (cause : UsageCause) → all_checked a (values_in settings) os ≡ Err cause → IsFirstFault a settings os cause
 unfolding all_checked
 first-fault a settings [] cause h = absurd (cc)
 first-fault a settings (o ∷ os) cause h = elim (outcome (checked a o (value_of o settings))) [
   | inl e ↦
-      let later : all_checked a settings os ≡ Err cause = sym (ap (λ r. r >>= λ _. all_checked a settings os) e.1) ∙ h in
+      let later : all_checked a (values_in settings) os ≡ Err cause = sym (ap (λ r. r >>= λ _. all_checked a (values_in settings) os) e.1) ∙ h in
       let f = first-fault a settings os cause later in
       let fit : (c : UsageCause) → IsFault a settings o c → ⊥ = λ c g. cc (e.1, fault-checked a o settings c g) in
       (o ∷ f.0, f.1, f.2, ap (λ l. o ∷ l) f.3, (fit, f.4), f.5)
   | inr e ↦
-      let same : Err e.0 ≡ Err cause = sym (ap (λ r. r >>= λ _. all_checked a settings os) e.1) ∙ h in
+      let same : Err e.0 ≡ Err cause = sym (ap (λ r. r >>= λ _. all_checked a (values_in settings) os) e.1) ∙ h in
       let is : e.0 ≡ cause = cc (same) in
       ([], o, os, refl, tt, rw (← is) (checked-fault a o settings e.0 e.1))
 ]
 
 fault-first : (a : Algorithm) (settings : List Setting) (before : List OptionName) (o : OptionName) (after : List OptionName) (cause : UsageCause)
-    → AllFit a settings before → IsFault a settings o cause → all_checked a settings (before ++ o ∷ after) ≡ Err cause
+    → AllFit a settings before → IsFault a settings o cause → all_checked a (values_in settings) (before ++ o ∷ after) ≡ Err cause
 unfolding all_checked
-fault-first a settings [] o after cause fit fault = ap (λ r. r >>= λ _. all_checked a settings after) (fault-checked a o settings cause fault)
+fault-first a settings [] o after cause fit fault = ap (λ r. r >>= λ _. all_checked a (values_in settings) after) (fault-checked a o settings cause fault)
 fault-first a settings (b ∷ before) o after cause fit fault =
-    ap (λ r. r >>= λ _. all_checked a settings (before ++ o ∷ after)) (fit-checked a b settings fit.0) ∙ fault-first a settings before o after cause fit.1 fault
+    ap (λ r. r >>= λ _. all_checked a (values_in settings) (before ++ o ∷ after)) (fit-checked a b settings fit.0) ∙ fault-first a settings before o after cause fit.1 fault
 
 -- the algorithm is found by its word
 
@@ -151,11 +153,11 @@ unnamed w n = elim (maybe (algorithm_named w)) [
   | inr e ↦ absurd (n e.0 (word-named w e.0 e.1))
 ]
 
-algorithm-named : (settings : List Setting) (a : Algorithm) → value_of option.Algo settings ≡ Some (algorithm_word a) → algorithm_of settings ≡ Ok a
+algorithm-named : (settings : List Setting) (a : Algorithm) → value_of option.Algo settings ≡ Some (algorithm_word a) → algorithm_of (values_in settings) ≡ Ok a
 unfolding algorithm_of
 algorithm-named settings a h = ap algorithm_in h ∙ ap known (named-word a)
 
-algorithm-ok : (settings : List Setting) (a : Algorithm) → algorithm_of settings ≡ Ok a → value_of option.Algo settings ≡ Some (algorithm_word a)
+algorithm-ok : (settings : List Setting) (a : Algorithm) → algorithm_of (values_in settings) ≡ Ok a → value_of option.Algo settings ≡ Some (algorithm_word a)
 unfolding algorithm_of
 algorithm-ok settings a h = elim (maybe (value_of option.Algo settings)) [
   | inl e ↦ absurd (cc (ap algorithm_in e, h))
@@ -167,7 +169,7 @@ algorithm-ok settings a h = elim (maybe (value_of option.Algo settings)) [
   ]
 ]
 
-algorithm-err : (settings : List Setting) (cause : UsageCause) → algorithm_of settings ≡ Err cause
+algorithm-err : (settings : List Setting) (cause : UsageCause) → algorithm_of (values_in settings) ≡ Err cause
     → ((value_of option.Algo settings ≡ None) × (cause ≡ Missing option.Algo))
     ⊎ ((w : List ℕ) × (value_of option.Algo settings ≡ Some w) × ((a : Algorithm) → w ≢ algorithm_word a) × (cause ≡ BadValue option.Algo))
 unfolding algorithm_of
@@ -250,32 +252,32 @@ settings-only words = only-then (with_words _ words) finished (words-only words 
 
 -- the answers
 
-request-ok : (settings : List Setting) (r : Request) → request_from settings ≡ Ok r
-    → (a : Algorithm) × (value_of option.Algo settings ≡ Some (algorithm_word a)) × AllFit a settings options × (r ≡ request_for a settings)
+request-ok : (settings : List Setting) (r : Request) → request_from (values_in settings) ≡ Ok r
+    → (a : Algorithm) × (value_of option.Algo settings ≡ Some (algorithm_word a)) × AllFit a settings options × (r ≡ request_for a (values_in settings))
 unfolding request_from
 request-ok settings r h =
-    let one = bind-ok (algorithm_of settings) (λ a. all_checked a settings options >>= λ _. Ok (request_for a settings)) r h in
-    let two = bind-ok (all_checked one.0 settings options) (λ _. Ok (request_for one.0 settings)) r one.2 in
-    let same : r ≡ request_for one.0 settings = cc (two.2) in
+    let one = bind-ok (algorithm_of (values_in settings)) (λ a. all_checked a (values_in settings) options >>= λ _. Ok (request_for a (values_in settings))) r h in
+    let two = bind-ok (all_checked one.0 (values_in settings) options) (λ _. Ok (request_for one.0 (values_in settings))) r one.2 in
+    let same : r ≡ request_for one.0 (values_in settings) = cc (two.2) in
     (one.0, algorithm-ok settings one.0 one.1, fit-all one.0 settings options two.0 two.1, same)
 
-request-asked : (settings : List Setting) (a : Algorithm) → value_of option.Algo settings ≡ Some (algorithm_word a) → AllFit a settings options → request_from settings ≡ Ok (request_for a settings)
+request-asked : (settings : List Setting) (a : Algorithm) → value_of option.Algo settings ≡ Some (algorithm_word a) → AllFit a settings options → request_from (values_in settings) ≡ Ok (request_for a (values_in settings))
 unfolding request_from
 request-asked settings a h fit =
-    ap (λ r. r >>= λ b. all_checked b settings options >>= λ _. Ok (request_for b settings)) (algorithm-named settings a h)
-    ∙ ap (λ r. r >>= λ _. Ok (request_for a settings)) (all-fit a settings options fit)
+    ap (λ r. r >>= λ b. all_checked b (values_in settings) options >>= λ _. Ok (request_for b (values_in settings))) (algorithm-named settings a h)
+    ∙ ap (λ r. r >>= λ _. Ok (request_for a (values_in settings))) (all-fit a settings options fit)
 
 pub asks : (words : List (List ℕ)) (r : Request) → request_of words ≡ Ok r → Asks words r
 unfolding request_of
 asks words r h =
-    let one = bind-ok (settings_of words) request_from r h in
+    let one = bind-ok (settings_of words) (λ given. request_from (values_in given)) r h in
     let two = request-ok one.0 r one.2 in
     (one.0, two.0, read-spelled words one.0 one.1, two.1, two.2, two.3)
 
 pub asked : (words : List (List ℕ)) (r : Request) → Asks words r → request_of words ≡ Ok r
 unfolding request_of
 asked words r h =
-    ap (λ s. s >>= request_from) (spelled-read words h.0 h.2) ∙ (request-asked h.0 h.1 h.3 h.4 ∙ ap (λ q. Ok q) (sym h.5))
+    ap (λ s. s >>= λ given. request_from (values_in given)) (spelled-read words h.0 h.2) ∙ (request-asked h.0 h.1 h.3 h.4 ∙ ap (λ q. Ok q) (sym h.5))
 
 abbrev Refused : List Setting → UsageCause → Type 0
 Refused settings cause =
@@ -283,45 +285,45 @@ Refused settings cause =
     ⊎ (((w : List ℕ) × (value_of option.Algo settings ≡ Some w) × ((a : Algorithm) → w ≢ algorithm_word a) × (cause ≡ BadValue option.Algo))
     ⊎ ((a : Algorithm) × (value_of option.Algo settings ≡ Some (algorithm_word a)) × IsFirstFault a settings options cause))
 
-request-err : (settings : List Setting) (cause : UsageCause) → request_from settings ≡ Err cause → Refused settings cause
+request-err : (settings : List Setting) (cause : UsageCause) → request_from (values_in settings) ≡ Err cause → Refused settings cause
 unfolding request_from
-request-err settings cause h = elim (outcome (algorithm_of settings)) [
+request-err settings cause h = elim (outcome (algorithm_of (values_in settings))) [
   | inl a ↦
-      let later : (all_checked a.0 settings options >>= λ _. Ok (request_for a.0 settings)) ≡ Err cause =
-      sym (ap (λ r. r >>= λ b. all_checked b settings options >>= λ _. Ok (request_for b settings)) a.1) ∙ h in
-      elim (outcome (all_checked a.0 settings options)) [
-        | inl e ↦ absurd (cc (ap (λ r. r >>= λ _. Ok (request_for a.0 settings)) e.1, later))
+      let later : (all_checked a.0 (values_in settings) options >>= λ _. Ok (request_for a.0 (values_in settings))) ≡ Err cause =
+      sym (ap (λ r. r >>= λ b. all_checked b (values_in settings) options >>= λ _. Ok (request_for b (values_in settings))) a.1) ∙ h in
+      elim (outcome (all_checked a.0 (values_in settings) options)) [
+        | inl e ↦ absurd (cc (ap (λ r. r >>= λ _. Ok (request_for a.0 (values_in settings))) e.1, later))
         | inr e ↦
-            let same : Err e.0 ≡ Err cause = sym (ap (λ r. r >>= λ _. Ok (request_for a.0 settings)) e.1) ∙ later in
-            let is : all_checked a.0 settings options ≡ Err cause = cc (e.1, same) in
+            let same : Err e.0 ≡ Err cause = sym (ap (λ r. r >>= λ _. Ok (request_for a.0 (values_in settings))) e.1) ∙ later in
+            let is : all_checked a.0 (values_in settings) options ≡ Err cause = cc (e.1, same) in
             inr (inr (a.0, algorithm-ok settings a.0 a.1, first-fault a.0 settings options cause is))
       ]
   | inr e ↦
-      let same : Err e.0 ≡ Err cause = sym (ap (λ r. r >>= λ b. all_checked b settings options >>= λ _. Ok (request_for b settings)) e.1) ∙ h in
-      let is : algorithm_of settings ≡ Err cause = cc (e.1, same) in
+      let same : Err e.0 ≡ Err cause = sym (ap (λ r. r >>= λ b. all_checked b (values_in settings) options >>= λ _. Ok (request_for b (values_in settings))) e.1) ∙ h in
+      let is : algorithm_of (values_in settings) ≡ Err cause = cc (e.1, same) in
       elim (algorithm-err settings cause is) [ inl f ↦ inl f | inr f ↦ inr (inl f) ]
 ]
 
-refused-request : (settings : List Setting) (cause : UsageCause) → Refused settings cause → request_from settings ≡ Err cause
+refused-request : (settings : List Setting) (cause : UsageCause) → Refused settings cause → request_from (values_in settings) ≡ Err cause
 unfolding request_from algorithm_of
-refused-request settings cause (inl h) = ap (λ v. algorithm_in v >>= λ a. all_checked a settings options >>= λ _. Ok (request_for a settings)) h.0 ∙ ap (λ c. Err c) (sym h.1)
+refused-request settings cause (inl h) = ap (λ v. algorithm_in v >>= λ a. all_checked a (values_in settings) options >>= λ _. Ok (request_for a (values_in settings))) h.0 ∙ ap (λ c. Err c) (sym h.1)
 refused-request settings cause (inr (inl h)) =
-    ap (λ v. algorithm_in v >>= λ a. all_checked a settings options >>= λ _. Ok (request_for a settings)) h.1
-    ∙ (ap (λ o. known o >>= λ a. all_checked a settings options >>= λ _. Ok (request_for a settings)) (unnamed h.0 h.2) ∙ ap (λ c. Err c) (sym h.3))
+    ap (λ v. algorithm_in v >>= λ a. all_checked a (values_in settings) options >>= λ _. Ok (request_for a (values_in settings))) h.1
+    ∙ (ap (λ o. known o >>= λ a. all_checked a (values_in settings) options >>= λ _. Ok (request_for a (values_in settings))) (unnamed h.0 h.2) ∙ ap (λ c. Err c) (sym h.3))
 refused-request settings cause (inr (inr h)) =
     let f = h.2 in
-    let fault : all_checked h.0 settings options ≡ Err cause = ap (all_checked h.0 settings) f.3 ∙ fault-first h.0 settings f.0 f.1 f.2 cause f.4 f.5 in
-    ap (λ r. r >>= λ a. all_checked a settings options >>= λ _. Ok (request_for a settings)) (algorithm-named settings h.0 h.1)
-    ∙ ap (λ r. r >>= λ _. Ok (request_for h.0 settings)) fault
+    let fault : all_checked h.0 (values_in settings) options ≡ Err cause = ap (all_checked h.0 (values_in settings)) f.3 ∙ fault-first h.0 settings f.0 f.1 f.2 cause f.4 f.5 in
+    ap (λ r. r >>= λ a. all_checked a (values_in settings) options >>= λ _. Ok (request_for a (values_in settings))) (algorithm-named settings h.0 h.1)
+    ∙ ap (λ r. r >>= λ _. Ok (request_for h.0 (values_in settings))) fault
 
 pub asks_nothing : (words : List (List ℕ)) (cause : UsageCause) → request_of words ≡ Err cause → AskNothing words cause
 unfolding request_of
 asks_nothing words cause h = elim (outcome (settings_of words)) [
   | inl e ↦
-      let later : request_from e.0 ≡ Err cause = sym (ap (λ s. s >>= request_from) e.1) ∙ h in
+      let later : request_from (values_in e.0) ≡ Err cause = sym (ap (λ s. s >>= λ given. request_from (values_in given)) e.1) ∙ h in
       inr (e.0, read-spelled words e.0 e.1, request-err e.0 cause later)
   | inr e ↦
-      let same : Err e.0 ≡ Err cause = sym (ap (λ s. s >>= request_from) e.1) ∙ h in
+      let same : Err e.0 ≡ Err cause = sym (ap (λ s. s >>= λ given. request_from (values_in given)) e.1) ∙ h in
       let is : e.0 ≡ cause = cc (same) in
       let none : AreMisspelled words = λ settings k. cc (e.1, spelled-read words settings k) in
       inl (none, sym is ∙ settings-only words e.0 e.1)
@@ -335,11 +337,11 @@ misspelled-read words none = elim (outcome (settings_of words)) [
 
 pub nothing_asked : (words : List (List ℕ)) (cause : UsageCause) → AskNothing words cause → request_of words ≡ Err cause
 unfolding request_of
-nothing_asked words cause (inl h) = ap (λ s. s >>= request_from) (misspelled-read words h.0) ∙ ap (λ c. Err c) (sym h.1)
-nothing_asked words cause (inr h) = ap (λ s. s >>= request_from) (spelled-read words h.0 h.1) ∙ refused-request h.0 cause h.2
+nothing_asked words cause (inl h) = ap (λ s. s >>= λ given. request_from (values_in given)) (misspelled-read words h.0) ∙ ap (λ c. Err c) (sym h.1)
+nothing_asked words cause (inr h) = ap (λ s. s >>= λ given. request_from (values_in given)) (spelled-read words h.0 h.1) ∙ refused-request h.0 cause h.2
 
 fault-other : (a : Algorithm) (settings : List Setting) (o : OptionName) → IsFault a settings o Words → ⊥
-fault-other a settings o (inl h) = cc (h.2)
+fault-other a settings o (inl h) = cc (h.3)
 fault-other a settings o (inr (inl h)) = cc (h.3)
 fault-other a settings o (inr (inr h)) = cc (h.4)
 

@@ -1,9 +1,11 @@
-pub mod Digits
 pub mod Turns
-pub mod Steps
-pub mod Cuts
-pub mod Named
+pub mod Seen
 pub mod Apart
 pub mod Spelled
 pub mod Causes
 pub mod States
+pub mod Parsed
+pub mod CutWords
+pub mod CappedDigits
+pub mod TestChains
+pub mod NamedOptions

@@ -6,22 +6,22 @@ use Rattle.std.proofs.lemmas.List.{append-nil}
 use Rattle.sd_words.specs.declared.request.UsageCause.{UsageCause}
 use Rattle.sd_words.specs.declared.request.UsageCause.TheVariants.{Words}
 use Rattle.sd_words.specs.declared.names.OptionName.TheVariants as option
-use Rattle.sd_words.specs.Names.{names_value, names_flag}
+use Rattle.sd_words.specs.OptionWords.{names_value, names_flag}
 use Rattle.sd_words.specs.Values.{is_value}
 use Rattle.sd_words.specs.Spelling.{Setting, SpellsValue, SpellsFlag, Spells, SplitInto, IsSpelling}
 use Rattle.sd_words.specs.Reading.{◌>>=◌, Progress, is_taken, with_setting, with_value, with_name, with_text, with_option, with_word, with_words, finished, settings_of}
-use Rattle.sd_words.proofs.Steps.{bind-ok, fails-ok, holds-ok, either-ok, told, untold}
-use Rattle.sd_words.proofs.Cuts.{is_equals, is_whole, uncut, cut-test, cut-before, cut-after, joined}
-use Rattle.sd_words.proofs.Named.{names_value-is, names_value-of, names_flag-is, names_flag-of, names_flag-other, words_whole, after_dashes, dashes}
+use Rattle.sd_words.proofs.TestChains.{bind-ok, fails-ok, holds-ok, either-ok, told, untold}
+use Rattle.sd_words.proofs.CutWords.{is_equals, is_whole, uncut, cut-test, cut-before, cut-after, joined}
+use Rattle.sd_words.proofs.NamedOptions.{names_value-is, names_value-of, names_flag-is, names_flag-of, names_flag-other, words_whole, after_dashes, dashes}
 use Rattle.sd_words.proofs.Apart.{names, apart-more, apart-free}
 
-abbrev free : List Setting → Progress
+abbrev pub free : List Setting → Progress
 free done = record { settings = done; due = None }
 
-abbrev waiting : List Setting → List ℕ → Progress
+abbrev pub waiting : List Setting → List ℕ → Progress
 waiting done name = record { settings = done; due = Some name }
 
-abbrev pair : List ℕ → List ℕ → Setting
+abbrev pub pair : List ℕ → List ℕ → Setting
 pair n v = record { name = n; value = v }
 
 -- the settings when these words are read after that
@@ -52,18 +52,18 @@ with_setting-ok p q n v h =
     let same : free (p.settings ++ pair n v ∷ []) ≡ q = cc (e.1) in
     (e.0, same)
 
-with_setting-of : (p : Progress) (n v : List ℕ) → is_taken n p.settings ≡ false → with_setting p n v ≡ Ok (free (p.settings ++ pair n v ∷ []))
+pub with_setting-of : (p : Progress) (n v : List ℕ) → is_taken n p.settings ≡ false → with_setting p n v ≡ Ok (free (p.settings ++ pair n v ∷ []))
 unfolding with_setting
 with_setting-of p n v new = untold (is_taken n p.settings) (Err Words) (Ok (free (p.settings ++ pair n v ∷ []))) new
 
 -- what a word that isn't a value has given: a setting of one word, or the name of an option whose value is due
-abbrev HasSetting : List Setting → List ℕ → Progress → Type 0
+abbrev pub HasSetting : List Setting → List ℕ → Progress → Type 0
 HasSetting done w q = (s : Setting) × Spells (w ∷ []) s × (is_taken s.name done ≡ false) × (free (done ++ s ∷ []) ≡ q)
 
-abbrev HasName : List Setting → List ℕ → Progress → Type 0
+abbrev pub HasName : List Setting → List ℕ → Progress → Type 0
 HasName done w q = (n : List ℕ) × (names_value n ≡ true) × (w ≡ codes "--" ++ n) × (waiting done n ≡ q)
 
-with_value-ok : (p q : Progress) (n v : List ℕ) → with_value p n v ≡ Ok q → IsTrue (is_value v) × (is_taken n p.settings ≡ false) × (free (p.settings ++ pair n v ∷ []) ≡ q)
+pub with_value-ok : (p q : Progress) (n v : List ℕ) → with_value p n v ≡ Ok q → IsTrue (is_value v) × (is_taken n p.settings ≡ false) × (free (p.settings ++ pair n v ∷ []) ≡ q)
 unfolding with_value
 with_value-ok p q n v h =
     let e = holds-ok (is_value v) Words (with_setting p n v) q h in
@@ -102,13 +102,13 @@ with_text-ok done q t w is h =
       | inr e ↦ with_name-ok done q t w is e.1
     ]
 
-with_option-ok : (done : List Setting) (q : Progress) (w : List ℕ) → with_word (free done) w ≡ Ok q → HasSetting done w q ⊎ HasName done w q
+pub with_option-ok : (done : List Setting) (q : Progress) (w : List ℕ) → with_word (free done) w ≡ Ok q → HasSetting done w q ⊎ HasName done w q
 unfolding with_word with_option
 with_option-ok done q w h =
     let e = holds-ok (starts_with nat_eq w (codes "--")) Words (with_text (free done) (drop 2 w)) q h in
     with_text-ok done q (drop 2 w) w (after_dashes w e.0) e.1
 
-waiting-ok : (done : List Setting) (n : List ℕ) (q : Progress) (w : List ℕ) → with_word (waiting done n) w ≡ Ok q → with_value (waiting done n) n w ≡ Ok q
+pub waiting-ok : (done : List Setting) (n : List ℕ) (q : Progress) (w : List ℕ) → with_word (waiting done n) w ≡ Ok q → with_value (waiting done n) n w ≡ Ok q
 unfolding with_word
 waiting-ok done n q w h = h
 

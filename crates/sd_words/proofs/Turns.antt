@@ -1,14 +1,14 @@
 -- One turn of the loop over the words, and of the one over the options.
 use Rattle.std.proofs.Common.{◌≡◌, ℕ, ◌+◌, ◌<◌, ◌≤◌, List, ◌∷◌, length, get_or, drop, Result, Ok, Err, sym, ap, ◌∙◌, add-one, drop-cons}
+use Rattle.std.specs.List.{fold}
 use Rattle.std.proofs.lemmas.List.{drop_all}
 use Rattle.sd_words.specs.declared.names.OptionName.{OptionName}
 use Rattle.sd_words.specs.declared.names.Algorithm.{Algorithm}
 use Rattle.sd_words.specs.declared.request.UsageCause.{UsageCause}
 use Rattle.sd_words.specs.declared.request.WordsError.{WordsError}
 use Rattle.sd_words.specs.declared.request.WordsError.TheVariants.{Usage, NoMemory}
-use Rattle.sd_words.specs.Spelling.{Setting}
 use Rattle.sd_words.specs.Reading.{◌>>=◌, Progress, with_word, with_words}
-use Rattle.sd_words.specs.Asked.{Fails, value_of, checked, all_checked}
+use Rattle.sd_words.specs.Asked.{Fails, Values, checked, all_checked}
 
 -- what ends a part ends the whole
 pub fails : {Y Z : Type 0} (e : WordsError) (part : Result Y UsageCause) (whole : Result Z UsageCause)
@@ -37,21 +37,27 @@ pub with_words-end : (p : Progress) (ws : List (List ℕ)) (i : ℕ) → length 
 unfolding with_words
 with_words-end p ws i past = ap (with_words p) (drop_all i ws past)
 
-pub all_checked-at : (a : Algorithm) (settings : List Setting) (os : List OptionName) (i : ℕ) (d : OptionName)
-    → i < length os → all_checked a settings (drop i os) ≡ (checked a (get_or os i d) (value_of (get_or os i d) settings) >>= λ _. all_checked a settings (drop (i + 1) os))
+pub all_checked-at : (a : Algorithm) (values : Values) (os : List OptionName) (i : ℕ) (d : OptionName)
+    → i < length os → all_checked a values (drop i os) ≡ (checked a (get_or os i d) (values (get_or os i d)) >>= λ _. all_checked a values (drop (i + 1) os))
 unfolding all_checked
-all_checked-at a settings os i d lt =
+all_checked-at a values os i d lt =
     let first : drop i os ≡ get_or os i d ∷ drop (i + 1) os = rw add-one (drop-cons os i d lt) in
-    ap (all_checked a settings) first
+    ap (all_checked a values) first
 
-pub all_checked-fails : (a : Algorithm) (settings : List Setting) (os : List OptionName) (i : ℕ) (d : OptionName) (cause : UsageCause)
-    → i < length os → checked a (get_or os i d) (value_of (get_or os i d) settings) ≡ Err cause → all_checked a settings (drop i os) ≡ Err cause
-all_checked-fails a settings os i d cause lt e = all_checked-at a settings os i d lt ∙ ap (λ r. r >>= λ _. all_checked a settings (drop (i + 1) os)) e
+pub all_checked-fails : (a : Algorithm) (values : Values) (os : List OptionName) (i : ℕ) (d : OptionName) (cause : UsageCause)
+    → i < length os → checked a (get_or os i d) (values (get_or os i d)) ≡ Err cause → all_checked a values (drop i os) ≡ Err cause
+all_checked-fails a values os i d cause lt e = all_checked-at a values os i d lt ∙ ap (λ r. r >>= λ _. all_checked a values (drop (i + 1) os)) e
 
-pub all_checked-goes : (a : Algorithm) (settings : List Setting) (os : List OptionName) (i : ℕ) (d : OptionName)
-    → i < length os → checked a (get_or os i d) (value_of (get_or os i d) settings) ≡ Ok tt → all_checked a settings (drop (i + 1) os) ≡ all_checked a settings (drop i os)
-all_checked-goes a settings os i d lt e = sym (all_checked-at a settings os i d lt ∙ ap (λ r. r >>= λ _. all_checked a settings (drop (i + 1) os)) e)
+pub all_checked-goes : (a : Algorithm) (values : Values) (os : List OptionName) (i : ℕ) (d : OptionName)
+    → i < length os → checked a (get_or os i d) (values (get_or os i d)) ≡ Ok tt → all_checked a values (drop (i + 1) os) ≡ all_checked a values (drop i os)
+all_checked-goes a values os i d lt e = sym (all_checked-at a values os i d lt ∙ ap (λ r. r >>= λ _. all_checked a values (drop (i + 1) os)) e)
 
-pub all_checked-end : (a : Algorithm) (settings : List Setting) (os : List OptionName) (i : ℕ) → length os ≤ i → all_checked a settings (drop i os) ≡ Ok tt
+pub all_checked-end : (a : Algorithm) (values : Values) (os : List OptionName) (i : ℕ) → length os ≤ i → all_checked a values (drop i os) ≡ Ok tt
 unfolding all_checked
-all_checked-end a settings os i past = ap (all_checked a settings) (drop_all i os past)
+all_checked-end a values os i past = ap (all_checked a values) (drop_all i os past)
+
+-- one turn of a loop that gathers
+pub fold-at : {A X : Type 0} (f : A → X → A) (a : A) (xs : List X) (i : ℕ) (d : X) → i < length xs → fold f a (drop i xs) ≡ fold f (f a (get_or xs i d)) (drop (i + 1) xs)
+fold-at f a xs i d lt =
+    let first : drop i xs ≡ get_or xs i d ∷ drop (i + 1) xs = rw add-one (drop-cons xs i d lt) in
+    ap (fold f a) first

@@ -1,10 +1,12 @@
 -- What settings ask for, or the first cause why they ask for nothing.
 use Rattle.std.specs.Prelude.{◌≡◌, ◌≤◌, ℕ, Bool, true, List, [], ◌∷◌, Option, Some, None, Result, Ok, Err, MatchResult, is_some, unwrap_or, option_and_then, if◌then◌else◌}
 use Rattle.std.specs.Str.{bytes_eq}
+use Rattle.sd_base.specs.declared.limits.TheConstants.{LEAST_STATES, STATES, USUAL_STATES}
 use Rattle.sd_words.specs.declared.names.OptionName.{OptionName}
 use Rattle.sd_words.specs.declared.names.OptionName.TheVariants as option
 use Rattle.sd_words.specs.declared.names.Algorithm.{Algorithm}
 use Rattle.sd_words.specs.declared.names.Algorithm.TheVariants as algorithm
+use Rattle.sd_words.specs.declared.form.Form.TheVariants as form
 use Rattle.sd_words.specs.declared.request.Request.{Request}
 use Rattle.sd_words.specs.declared.request.Request.TheVariants as request
 use Rattle.sd_words.specs.declared.request.UsageCause.{UsageCause}
@@ -13,10 +15,14 @@ use Rattle.sd_words.specs.declared.request.WordsError.{WordsError}
 use Rattle.sd_words.specs.declared.request.WordsError.TheVariants.{Usage, NoMemory}
 use Rattle.sd_words.specs.declared.table.Standing.{Standing}
 use Rattle.sd_words.specs.declared.table.Standing.TheVariants.{Required, Allowed, Foreign}
-use Rattle.sd_words.specs.Names.{option_word, algorithm_named}
-use Rattle.sd_words.specs.Values.{number_within}
+use Rattle.sd_words.specs.OptionWords.{option_word, algorithm_named}
+use Rattle.sd_words.specs.Values.{fits, number_within}
 use Rattle.sd_words.specs.Spelling.{Setting}
 use Rattle.sd_words.specs.Reading.{◌>>=◌, settings_of}
+
+-- the value of each option, where it is there
+abbrev pub Values : Type 0
+Values = OptionName → Option (List ℕ)
 
 -- the value of the name, where it is there
 abbrev pub value_named : List ℕ → List Setting → Option (List ℕ)
@@ -26,6 +32,9 @@ value_named name (s ∷ ss) = if bytes_eq s.name name then Some s.value else val
 -- the value of an option, where it is there
 abbrev pub value_of : OptionName → List Setting → Option (List ℕ)
 value_of o settings = value_named (option_word o) settings
+
+abbrev pub values_in : List Setting → Values
+values_in settings = λ o. value_of o settings
 
 -- an algorithm that has to be known
 abbrev pub known : Option Algorithm → Result Algorithm UsageCause
@@ -38,72 +47,69 @@ algorithm_in None = Err (Missing option.Algo)
 algorithm_in (Some word) = known (algorithm_named word)
 
 -- the algorithm that is asked for
-unfoldable pub algorithm_of : List Setting → Result Algorithm UsageCause
-algorithm_of settings = algorithm_in (value_of option.Algo settings)
+unfoldable pub algorithm_of : Values → Result Algorithm UsageCause
+algorithm_of values = algorithm_in (values option.Algo)
 
 -- the options beside `--algo`, in the order in which they are tested
 abbrev pub options : List OptionName
 options = option.Graph ∷ option.Certificate ∷ option.Buffers ∷ option.States ∷ option.Distributions ∷ option.Limit ∷ option.Seed ∷ option.Actors ∷ option.NoOverlap ∷ []
 
--- whether an algorithm has an option
+-- the table of the algorithms and their options
 unfoldable pub standing : Algorithm → OptionName → Standing
-standing a option.Graph = Required
-standing algorithm.Throughput option.States = Allowed
-standing algorithm.Throughput option.NoOverlap = Allowed
+standing algorithm.Repetition option.Graph = Required form.Any
+standing algorithm.Throughput option.Graph = Required form.Any
+standing algorithm.Throughput option.States = Allowed (form.Number LEAST_STATES STATES)
+standing algorithm.Throughput option.NoOverlap = Allowed form.Any
 standing a o = Foreign
 
--- the number of states, 1 to 200,000
-unfoldable pub states_in : List ℕ → Option ℕ
-states_in value = number_within 1 200000 value
-
--- a value is of its option's form and in its range
-unfoldable pub is_good : OptionName → List ℕ → Bool
-is_good option.States value = is_some (states_in value)
-is_good o value = true
+-- a value is of the form that the table asks
+abbrev pub is_good : Standing → List ℕ → Bool
+is_good (Required form) value = fits form value
+is_good (Allowed form) value = fits form value
+is_good Foreign value = true
 
 -- a required option is there, one that the algorithm doesn't have isn't, and the value of any other is good
 unfoldable pub judged : Standing → Algorithm → OptionName → Option (List ℕ) → Result (Unit {0}) UsageCause
-judged Required a o None = Err (Missing o)
-judged Allowed a o None = Ok tt
+judged (Required form) a o None = Err (Missing o)
+judged (Required form) a o (Some value) = if fits form value then Ok tt else Err (BadValue o)
+judged (Allowed form) a o None = Ok tt
+judged (Allowed form) a o (Some value) = if fits form value then Ok tt else Err (BadValue o)
 judged Foreign a o None = Ok tt
-judged Required a o (Some value) = if is_good o value then Ok tt else Err (BadValue o)
-judged Allowed a o (Some value) = if is_good o value then Ok tt else Err (BadValue o)
 judged Foreign a o (Some value) = Err (NotFor o a)
 
--- the same, by whether the algorithm has the option
+-- the same, by the table
 unfoldable pub checked : Algorithm → OptionName → Option (List ℕ) → Result (Unit {0}) UsageCause
 checked a o value = judged (standing a o) a o value
 
 -- the same of each of these options in turn
-unfoldable pub all_checked : Algorithm → List Setting → List OptionName → Result (Unit {0}) UsageCause
-all_checked a settings [] = Ok tt
-all_checked a settings (o ∷ os) = checked a o (value_of o settings) >>= λ _. all_checked a settings os
+unfoldable pub all_checked : Algorithm → Values → List OptionName → Result (Unit {0}) UsageCause
+all_checked a values [] = Ok tt
+all_checked a values (o ∷ os) = checked a o (values o) >>= λ _. all_checked a values os
 
--- the number of states that is asked for, else 20,000
-unfoldable pub states_of : List Setting → ℕ
-states_of settings = unwrap_or (option_and_then states_in (value_of option.States settings)) 20000
+-- the number of states that is asked for
+unfoldable pub states_of : Values → ℕ
+states_of values = unwrap_or (option_and_then (number_within LEAST_STATES STATES) (values option.States)) USUAL_STATES
 
--- the request of settings that are as the algorithm asks
-unfoldable pub request_for : Algorithm → List Setting → Request
-request_for algorithm.Repetition settings = request.Repetition (unwrap_or (value_of option.Graph settings) [])
-request_for algorithm.Throughput settings =
-    request.Throughput (unwrap_or (value_of option.Graph settings) []) (is_some (value_of option.NoOverlap settings)) (states_of settings)
+-- the request of values that are as the algorithm asks
+unfoldable pub request_for : Algorithm → Values → Request
+request_for algorithm.Repetition values = request.Repetition (unwrap_or (values option.Graph) [])
+request_for algorithm.Throughput values = request.Throughput (unwrap_or (values option.Graph) []) (is_some (values option.NoOverlap)) (states_of values)
 
--- a number of states is 1 to 200,000
+-- a number of states is within its range
 abbrev pub HasStates : Request → Type 0
 HasStates (request.Repetition graph) = Unit {0}
-HasStates (request.Throughput graph no_overlap states) = (1 ≤ states) × (states ≤ 200000)
+HasStates (request.Throughput graph no_overlap states) = (LEAST_STATES ≤ states) × (states ≤ STATES)
 
--- what settings ask for
-unfoldable pub request_from : List Setting → Result Request UsageCause
-request_from settings = do
-  a ← algorithm_of settings
-  _ ← all_checked a settings options
-  Ok (request_for a settings)
+-- what values ask for
+unfoldable pub request_from : Values → Result Request UsageCause
+request_from values = do
+  a ← algorithm_of values
+  _ ← all_checked a values options
+  Ok (request_for a values)
 
 -- what words ask for
 unfoldable pub request_of : List (List ℕ) → Result Request UsageCause
-request_of words = settings_of words >>= request_from
+request_of words = settings_of words >>= λ settings. request_from (values_in settings)
 
 -- a refusal is the one that is meant, unless memory ran out
 abbrev pub Fails : {Y : Type 0} → WordsError → Result Y UsageCause → Type 0

@@ -1,7 +1,8 @@
-pub mod Names
 pub mod Values
 pub mod Spelling
 pub mod Reading
 pub mod Asked
 pub mod Rules
-pub mod Seen
+pub mod Parts
+pub mod Given
+pub mod OptionWords

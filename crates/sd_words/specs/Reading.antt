@@ -4,7 +4,7 @@ use Rattle.std.specs.List.{starts_with, list_any, position_or_len, before_first,
 use Rattle.std.specs.Str.{bytes_eq}
 use Rattle.sd_words.specs.declared.request.UsageCause.{UsageCause}
 use Rattle.sd_words.specs.declared.request.UsageCause.TheVariants.{Words}
-use Rattle.sd_words.specs.Names.{names_value, names_flag}
+use Rattle.sd_words.specs.OptionWords.{names_value, names_flag}
 use Rattle.sd_words.specs.Values.{is_value}
 use Rattle.sd_words.specs.Spelling.{Setting}
 

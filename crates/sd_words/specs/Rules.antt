@@ -6,17 +6,18 @@ use Rattle.sd_words.specs.declared.names.Algorithm.{Algorithm}
 use Rattle.sd_words.specs.declared.request.Request.{Request}
 use Rattle.sd_words.specs.declared.request.UsageCause.{UsageCause}
 use Rattle.sd_words.specs.declared.request.UsageCause.TheVariants.{Words, Missing, NotFor, BadValue}
+use Rattle.sd_words.specs.declared.form.Form.{Form}
 use Rattle.sd_words.specs.declared.table.Standing.TheVariants.{Required, Foreign}
-use Rattle.sd_words.specs.Names.{algorithm_word}
+use Rattle.sd_words.specs.OptionWords.{algorithm_word}
 use Rattle.sd_words.specs.Spelling.{Setting, IsSpelling}
-use Rattle.sd_words.specs.Asked.{value_of, standing, is_good, options, request_for}
+use Rattle.sd_words.specs.Asked.{value_of, values_in, standing, is_good, options, request_for}
 
 -- what is wrong with an option: it is required and isn't there; or it is there and the algorithm doesn't have it; or the algorithm has it and its value isn't good
 abbrev pub IsFault : Algorithm → List Setting → OptionName → UsageCause → Type 0
 IsFault a settings o cause =
-    ((standing a o ≡ Required) × (value_of o settings ≡ None) × (cause ≡ Missing o))
+    ((form : Form) × (standing a o ≡ Required form) × (value_of o settings ≡ None) × (cause ≡ Missing o))
     ⊎ (((v : List ℕ) × (standing a o ≡ Foreign) × (value_of o settings ≡ Some v) × (cause ≡ NotFor o a))
-    ⊎ ((v : List ℕ) × (standing a o ≢ Foreign) × (value_of o settings ≡ Some v) × (is_good o v ≡ false) × (cause ≡ BadValue o)))
+    ⊎ ((v : List ℕ) × (standing a o ≢ Foreign) × (value_of o settings ≡ Some v) × (is_good (standing a o) v ≡ false) × (cause ≡ BadValue o)))
 
 -- nothing is wrong with any of these options
 abbrev pub AllFit : Algorithm → List Setting → List OptionName → Type 0
@@ -32,7 +33,7 @@ IsFirstFault a settings os cause =
 abbrev pub Asks : List (List ℕ) → Request → Type 0
 Asks words request =
     (settings : List Setting) × (a : Algorithm) × IsSpelling words settings × (value_of option.Algo settings ≡ Some (algorithm_word a))
-    × AllFit a settings options × (request ≡ request_for a settings)
+    × AllFit a settings options × (request ≡ request_for a (values_in settings))
 
 -- the words aren't well spelled
 abbrev pub AreMisspelled : List (List ℕ) → Type 0

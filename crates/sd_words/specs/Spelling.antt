@@ -4,7 +4,7 @@ use Rattle.std.specs.List.{IsDistinct}
 use Rattle.std.specs.Str.{bytes_eq}
 use Rattle.sd_words.specs.declared.names.OptionName.{OptionName}
 use Rattle.sd_words.specs.declared.names.OptionName.TheVariants as option
-use Rattle.sd_words.specs.Names.{option_word}
+use Rattle.sd_words.specs.OptionWords.{option_word}
 use Rattle.sd_words.specs.Values.{is_value}
 
 -- an option's name and its value; that of `no-overlap` is empty

@@ -4,30 +4,50 @@
 ghost use Rattle.std.specs.Prelude.{◌≡◌, IfOk, MatchResult, Ok};
 ghost use Rattle.sd_words.specs.Asked.{Fails, HasStates, request_of};
 
-mod items;
+mod form;
+mod given;
 mod laws;
 mod names;
 mod request;
+mod spelling;
 mod table;
-mod values;
 
+use clap::error::ErrorKind;
+use given::{Given, texts_of};
 pub use laws::{answers_follow_the_rules, words_are_read_as_spelled};
 pub use names::{Algorithm, OptionName};
 pub use request::{Request, UsageCause, WordsError};
 use sd_base::Text;
+use spelling::test_spelling;
 use std::alloc::Global;
 
-/// Reads the words after the program's name. Cost: linear in the bytes of at most the first 21 words, since no list
-/// of more than 20 is well spelled.
+/// Reads the words after the program's name: they are tested for their spelling, and then `clap` reads the values.
+/// Cost: linear in the bytes of at most the first 20 words, since no list of more than 19 is well spelled.
 #[tactic(auto, unfolding(crate::specs::Asked::request_of, crate::specs::Asked::request_from))]
 pub fn parse_words(alloc: Global, words: &[Text]) -> Result<Request, WordsError>
     ensures request { MatchResult result (λ r. request_of words.now ≡ Ok r) (λ e. Fails e (request_of words.now)) }
     ensures states { IfOk result HasStates }
 {
-    let items = items::items_of(alloc, words)?;
-    let algo = table::algorithm_of(&items)?;
-    table::check_options(algo, &items)?;
-    Ok(table::request_for(alloc, algo, &items)?)
+    test_spelling(alloc, words)?;
+    let texts = texts_of(alloc, words)?;
+    let given = match Given::read(alloc, texts.as_slice()) {
+        Ok(given) => given,
+        Err(error) => return Err(want_of_memory(error.kind())),
+    };
+    let algo = table::algorithm_of(&given)?;
+    table::check_options(algo, &given)?;
+    Ok(table::request_for(alloc, algo, &given)?)
+}
+
+/// `clap` refuses words that are well spelled for want of memory alone.
+fn want_of_memory(kind: ErrorKind) -> WordsError
+    requires { kind ≡ ErrorKind.OutOfMemory }
+    ensures { result ≡ WordsError.NoMemory }
+{
+    match kind {
+        ErrorKind::OutOfMemory => WordsError::NoMemory,
+        _ => unreachable!(),
+    }
 }
 
 #[cfg(test)]

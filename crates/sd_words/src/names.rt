@@ -1,7 +1,7 @@
 //! Options and algorithms, by the words that name them.
 
 ghost use Rattle.std.specs.Prelude.{◌≡◌};
-ghost use Rattle.sd_words.specs.Names.{algorithm_named, algorithm_word, names_flag, names_value, option_word};
+ghost use Rattle.sd_words.specs.OptionWords.{algorithm_named, algorithm_word, names_flag, names_value, option_word};
 
 /// An option of the command line; each but `NoOverlap` has a value. The words may give the options in any
 /// order; where they are tested one by one, it is in this order.
@@ -20,7 +20,7 @@ pub enum OptionName {
 }
 
 /// The options that have a value.
-const WITH_VALUE: [OptionName; 9] = [
+pub(crate) const WITH_VALUE: [OptionName; 9] = [
     OptionName::Algo,
     OptionName::Graph,
     OptionName::Certificate,
@@ -34,7 +34,7 @@ const WITH_VALUE: [OptionName; 9] = [
 
 impl OptionName {
     /// The option as it stands in the words, without its hyphens.
-    #[tactic(auto, unfolding(crate::specs::Names::option_word))]
+    #[tactic(auto, unfolding(crate::specs::OptionWords::option_word))]
     pub fn word(&self) -> &'static str
         ensures { result.now ≡ option_word self.now }
     {
@@ -54,7 +54,7 @@ impl OptionName {
 }
 
 /// Whether an option that has a value is named so.
-#[tactic(auto, unfolding(crate::specs::Names::names_value))]
+#[tactic(auto, unfolding(crate::specs::OptionWords::names_value))]
 pub(crate) fn names_value(name: &str) -> bool
     ensures { result ≡ names_value name.now }
 {
@@ -62,7 +62,7 @@ pub(crate) fn names_value(name: &str) -> bool
 }
 
 /// Whether the option that has no value is named so.
-#[tactic(auto, unfolding(crate::specs::Names::names_flag))]
+#[tactic(auto, unfolding(crate::specs::OptionWords::names_flag))]
 pub(crate) fn names_flag(name: &str) -> bool
     ensures { result ≡ names_flag name.now }
 {
@@ -80,7 +80,7 @@ const ALGORITHMS: [Algorithm; 2] = [Algorithm::Repetition, Algorithm::Throughput
 
 impl Algorithm {
     /// The algorithm as it stands in the words.
-    #[tactic(auto, unfolding(crate::specs::Names::algorithm_word))]
+    #[tactic(auto, unfolding(crate::specs::OptionWords::algorithm_word))]
     pub fn word(&self) -> &'static str
         ensures { result.now ≡ algorithm_word self.now }
     {
@@ -91,7 +91,7 @@ impl Algorithm {
     }
 
     /// The algorithm of this word.
-    #[tactic(auto, unfolding(crate::specs::Names::algorithm_named))]
+    #[tactic(auto, unfolding(crate::specs::OptionWords::algorithm_named))]
     pub(crate) fn named(word: &str) -> Option<Algorithm>
         ensures { result ≡ algorithm_named word.now }
     {

@@ -1,19 +1,18 @@
 //! Which options an algorithm has, and the request that they make.
 
-ghost use Rattle.std.specs.Prelude.{◌≡◌, IfOk, [], map, unwrap_or};
+ghost use Rattle.std.specs.Prelude.{◌≡◌, IfOk, Ok, Err, [], unwrap_or, if◌then◌else◌};
+ghost use Rattle.sd_words.specs.declared.request.UsageCause.TheVariants.{BadValue};
+ghost use Rattle.sd_words.specs.Values.{fits};
 ghost use Rattle.std.specs.Option.{option_map};
-ghost use Rattle.sd_words.specs.Asked.{algorithm_of, all_checked, checked, is_good, options, request_for, standing, states_of, value_of};
-ghost use Rattle.sd_words.specs.Seen.{seen};
+ghost use Rattle.sd_words.specs.Asked.{algorithm_of, all_checked, checked, options, request_for, standing, states_of};
+ghost use Rattle.sd_words.specs.Given.{values_given};
 
-use crate::items::{Item, value_named};
-use crate::values::number_within;
+use crate::form::{Form, fits, number_within};
+use crate::given::Given;
 use crate::{Algorithm, OptionName, Request, UsageCause};
 use sd_base::Text;
+use sd_base::limits::{LEAST_STATES, STATES, USUAL_STATES};
 use std::alloc::{AllocError, Global};
-
-const STATES_DEFAULT: u64 = 20_000;
-
-const STATES_MOST: u64 = 200_000;
 
 /// The options beside `--algo`, in the order in which they are tested.
 const BESIDE_ALGO: [OptionName; 9] = [
@@ -28,38 +27,43 @@ const BESIDE_ALGO: [OptionName; 9] = [
     OptionName::NoOverlap,
 ];
 
-/// Whether an algorithm has an option.
+/// Whether an algorithm has an option, and the values that the option may have.
 #[derive(Clone, Copy)]
 enum Standing {
-    Required,
-    Allowed,
+    Required(Form),
+    Allowed(Form),
     Foreign,
 }
 
+/// The table of the algorithms and their options: a row for each algorithm.
 #[tactic(auto, unfolding(crate::specs::Asked::standing))]
 fn standing_of(algo: Algorithm, option: OptionName) -> Standing
     ensures { result ≡ standing algo option }
 {
     match algo {
         Algorithm::Repetition => match option {
-            OptionName::Graph => Standing::Required,
+            OptionName::Graph => Standing::Required(Form::Any),
             _ => Standing::Foreign,
         },
         Algorithm::Throughput => match option {
-            OptionName::Graph => Standing::Required,
-            OptionName::States | OptionName::NoOverlap => Standing::Allowed,
+            OptionName::Graph => Standing::Required(Form::Any),
+            OptionName::States => Standing::Allowed(Form::Number {
+                least: LEAST_STATES,
+                greatest: STATES,
+            }),
+            OptionName::NoOverlap => Standing::Allowed(Form::Any),
             _ => Standing::Foreign,
         },
     }
 }
 
-#[tactic(auto, unfolding(crate::specs::Asked::is_good, crate::specs::Asked::states_in))]
-fn is_good(option: OptionName, value: &str) -> bool
-    ensures { result ≡ is_good option value.now }
+fn check_value(option: OptionName, form: Form, value: &str) -> Result<(), UsageCause>
+    ensures { result ≡ (if fits form value.now then Ok tt else Err (BadValue option)) }
 {
-    match option {
-        OptionName::States => number_within(value, 1, STATES_MOST).is_some(),
-        _ => true,
+    if fits(form, value) {
+        Ok(())
+    } else {
+        Err(UsageCause::BadValue { option })
     }
 }
 
@@ -67,31 +71,23 @@ fn is_good(option: OptionName, value: &str) -> bool
 fn check(algo: Algorithm, option: OptionName, value: Option<&str>) -> Result<(), UsageCause>
     ensures { result ≡ checked algo option (option_map (λ v. v.now) value.entry) }
 {
-    match value {
-        None => match standing_of(algo, option) {
-            Standing::Required => Err(UsageCause::Missing { option }),
-            _ => Ok(()),
-        },
-        Some(value) => match standing_of(algo, option) {
-            Standing::Foreign => Err(UsageCause::NotFor { option, algo }),
-            _ => {
-                if is_good(option, value) {
-                    Ok(())
-                } else {
-                    Err(UsageCause::BadValue { option })
-                }
-            }
-        },
+    match (standing_of(algo, option), value) {
+        (Standing::Required(_), None) => Err(UsageCause::Missing { option }),
+        (Standing::Foreign, Some(_)) => Err(UsageCause::NotFor { option, algo }),
+        (Standing::Required(form) | Standing::Allowed(form), Some(value)) => {
+            check_value(option, form, value)
+        }
+        (Standing::Allowed(_) | Standing::Foreign, None) => Ok(()),
     }
 }
 
-/// The algorithm that the items ask for.
+/// The algorithm that is asked for.
 #[tactic(auto, unfolding(crate::specs::Asked::algorithm_of))]
-pub(crate) fn algorithm_of(items: &[Item<'_>]) -> Result<Algorithm, UsageCause>
-    ensures { result ≡ algorithm_of (map seen items.now) }
+pub(crate) fn algorithm_of(given: &Given<'_>) -> Result<Algorithm, UsageCause>
+    ensures { result ≡ algorithm_of (values_given given.now) }
 {
     let option = OptionName::Algo;
-    match value_named(items, option.word()) {
+    match given.value(option) {
         None => Err(UsageCause::Missing { option }),
         Some(word) => match Algorithm::named(word) {
             None => Err(UsageCause::BadValue { option }),
@@ -101,48 +97,48 @@ pub(crate) fn algorithm_of(items: &[Item<'_>]) -> Result<Algorithm, UsageCause>
 }
 
 /// Whether each option beside `--algo` is as the algorithm asks; else the first one that isn't.
-pub(crate) fn check_options(algo: Algorithm, items: &[Item<'_>]) -> Result<(), UsageCause>
-    ensures { result ≡ all_checked algo (map seen items.now) options }
+pub(crate) fn check_options(algo: Algorithm, given: &Given<'_>) -> Result<(), UsageCause>
+    ensures { result ≡ all_checked algo (values_given given.now) options }
 {
     for option in &BESIDE_ALGO {
-        check(algo, *option, value_named(items, option.word()))?;
+        check(algo, *option, given.value(*option))?;
     }
     Ok(())
 }
 
-#[tactic(auto, unfolding(crate::specs::Asked::states_of, crate::specs::Asked::states_in))]
-fn states_of(items: &[Item<'_>]) -> u64
-    ensures { result ≡ states_of (map seen items.now) }
+#[tactic(auto, unfolding(crate::specs::Asked::states_of))]
+fn states_of(given: &Given<'_>) -> u64
+    ensures { result ≡ states_of (values_given given.now) }
 {
-    match value_named(items, OptionName::States.word()) {
-        None => STATES_DEFAULT,
-        Some(value) => number_within(value, 1, STATES_MOST).unwrap_or(STATES_DEFAULT),
+    match given.value(OptionName::States) {
+        None => USUAL_STATES,
+        Some(value) => number_within(value, LEAST_STATES, STATES).unwrap_or(USUAL_STATES),
     }
 }
 
-fn graph_of(alloc: Global, items: &[Item<'_>]) -> Result<Text, AllocError>
-    ensures { IfOk result (λ t. t ≡ unwrap_or (value_of OptionName.Graph (map seen items.now)) []) }
+fn graph_of(alloc: Global, given: &Given<'_>) -> Result<Text, AllocError>
+    ensures { IfOk result (λ t. t ≡ unwrap_or (values_given given.now OptionName.Graph) []) }
 {
-    let name = value_named(items, OptionName::Graph.word()).unwrap_or("");
-    Ok(Text::new(String::from_str(alloc, name)?))
+    let name = given.value(OptionName::Graph).unwrap_or("");
+    Text::of(alloc, name)
 }
 
-/// The request of options that are as the algorithm asks.
+/// The request of values that are as the algorithm asks.
 #[tactic(auto, unfolding(crate::specs::Asked::request_for))]
 pub(crate) fn request_for(
     alloc: Global,
     algo: Algorithm,
-    items: &[Item<'_>],
+    given: &Given<'_>,
 ) -> Result<Request, AllocError>
-    ensures { IfOk result (λ r. r ≡ request_for algo (map seen items.now)) }
+    ensures { IfOk result (λ r. r ≡ request_for algo (values_given given.now)) }
 {
-    let graph = graph_of(alloc, items)?;
+    let graph = graph_of(alloc, given)?;
     match algo {
         Algorithm::Repetition => Ok(Request::Repetition { graph }),
         Algorithm::Throughput => Ok(Request::Throughput {
             graph,
-            no_overlap: value_named(items, OptionName::NoOverlap.word()).is_some(),
-            states: states_of(items),
+            no_overlap: given.value(OptionName::NoOverlap).is_some(),
+            states: states_of(given),
         }),
     }
 }

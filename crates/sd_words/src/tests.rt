@@ -6,7 +6,7 @@ use std::test::Fail;
 fn split(alloc: Global, line: &str) -> Result<Vec<Text>, Fail> {
     let mut words = Vec::new(alloc);
     for word in line.split(' ') {
-        words.push(Text::new(String::from_str(alloc, word)?))?;
+        words.push(Text::of(alloc, word)?)?;
     }
     Ok(words)
 }
@@ -188,4 +188,21 @@ fn no_words_lack_an_algorithm(rt: HostRuntime) -> Result<(), Fail> {
     let answer = shown(rt.alloc(), words.as_slice())?;
     assert_eq!(rt; answer.as_str(), "missing algo");
     Ok(())
+}
+
+#[test]
+fn numbers_up_to_the_greatest_of_64_bits(rt: HostRuntime) {
+    for (text, expected) in [
+        ("18446744073709551615", Some(u64::MAX)),
+        ("018446744073709551614", Some(u64::MAX - 1)),
+        ("18446744073709551616", None),
+        ("99999999999999999999", None),
+        ("184467440737095516150", None),
+    ] {
+        assert_eq!(rt;
+            form::number_within(text, 0, u64::MAX),
+            expected,
+            "of {text}"
+        );
+    }
 }

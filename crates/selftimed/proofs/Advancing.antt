@@ -1,5 +1,5 @@
 -- What an engine answers.
-use Rattle.std.proofs.Common.{◌≡◌, ℕ, zero, suc, ◌+◌, ◌≤◌, ◌<◌, ◌⊎◌, false, List, [], length, map, replicate, inr, ⊎_elim, zero-add, sym, refl, ap, ◌∙◌, arith}
+use Rattle.std.proofs.Common.{◌≡◌, ◌≢◌, ℕ, zero, suc, ◌+◌, ◌≤◌, ◌<◌, false, List, [], length, map, replicate, inr, ⊎_elim, subst, zero-add, sym, refl, ap, ◌∙◌, arith}
 use Rattle.std.specs.Prelude.{slice_index, slice_index_or}
 use Rattle.std.proofs.lemmas.Bool.{cases_lt, false≢true}
 use Rattle.std.proofs.lemmas.List.{get_or-map, get_or_past, get_or-replicate, length-map, length-replicate}
@@ -7,21 +7,21 @@ use Rattle.std.proofs.lemmas.List.Elements.{All-nil}
 use Rattle.std.proofs.lemmas.List.FromFn.{length-range_with_len, get_or-range_with_len}
 use Rattle.std.specs.List.{sum_by, range_with_len}
 use Rattle.sd_base.specs.Net.{Channel, Net, nowhere, channel_at}
-use Rattle.sd_base.specs.Schedules.{count_of}
-use Rattle.sd_base.specs.SelfTimed.{earliest, starts_by}
+use Rattle.sd_base.specs.Schedules.{Lacks, count_of, HasInputs}
+use Rattle.sd_base.specs.SelfTimed.{ended_by, earliest, starts_by}
 use Rattle.sd_base.specs.Lawful.{Lawful}
 use Rattle.sd_base.proofs.Parts.{regular}
-use Rattle.sd_base.proofs.Counts.{early_at}
+use Rattle.sd_base.proofs.Counts.{early_at, first-counts}
 use Rattle.sd_base.proofs.Ends.{sum_to}
 use Rattle.sd_base.proofs.Sums.{total-zero}
 use Rattle.selftimed.specs.declared.actors.ActorState.{ActorState}
 use Rattle.selftimed.specs.declared.engine.Stage.{Stage}
 use Rattle.selftimed.specs.declared.engine.Stage.TheVariants.{Fresh, Running}
-use Rattle.selftimed.specs.Actors.{idle, fresh_one, started_in, ended_in, running_in, touched_in, IsFirstEnd, IsQuiet}
-use Rattle.selftimed.specs.Agendas.{Entry, IsFirst, IsAgenda}
+use Rattle.selftimed.specs.inside.Actors.{idle, fresh_one, started_in, ended_in, running_in, touched_in, IsFirstEnd, IsQuiet}
+use Rattle.selftimed.specs.inside.Agendas.{Entry, IsFirst, IsAgenda}
 use Rattle.selftimed.proofs.Agendas.{number-found, runs-place}
-use Rattle.selftimed.specs.Stands.{IsFresh, Stands, Begins}
-use Rattle.selftimed.specs.Moves.{ComesNext, IsStuck, Overruns, Steps}
+use Rattle.selftimed.specs.inside.Stands.{IsFresh, Stands, Begins}
+use Rattle.selftimed.specs.Moves.{ComesNext, IsStuck, IsSpent, Overruns, Steps}
 use Rattle.selftimed.proofs.Starting.{sum_to-all, sum_to-same}
 use Rattle.selftimed.proofs.Moving.{inputs-from, starts-sum, next-event, stuck-ended, stuck-lacks}
 
@@ -38,26 +38,56 @@ module _ (net : Net) (laws : Lawful net) (now most : ℕ) (actors : List ActorSt
       let e : now + 1 ≡ suc now = omega arith in
       (refl, refl, rw (runs, e) (stuck-ended net laws now most actors tokens all stands quiet, stuck-lacks net laws now most actors tokens all stands quiet))
 
+  -- a firing runs that hasn't ended
+  pub moved-free : (t : ℕ) → IsFirstEnd actors t → (stage : Stage) → stage ≡ Running → IsStuck net stage now → ⊥
+  moved-free t first stage runs stuck =
+      let e : now + 1 ≡ suc now = omega arith in
+      let halt : IsStuck net Running now = subst (λ (s : Stage). IsStuck net s now) runs stuck in
+      let a : ℕ = first.there.0 in
+      let actor : first.there.0 < length net.times = rw stands.stand.long at first.there.1 in
+      let over : ended_by net now (earliest net (suc now)) first.there.0 ≡ count_of (earliest net (suc now)) first.there.0 = rw e at (halt.0 first.there.0 actor) in
+      omega (arith, over, stands.counts first.there.0 actor, stands.ended first.there.0 actor, stands.stand.counts first.there.0 actor, first.there.2)
+
   pub moved-on : (t : ℕ) → IsFirstEnd actors t → (stage : Stage) → stage ≡ Running → ComesNext net stage now t
   moved-on t first stage runs = rw runs (next-event net laws now most actors tokens all stands t first)
 
 pub moved-spent : (net : Net) (laws : Lawful net) (now most : ℕ) (actors : List ActorState) (tokens : List ℕ) (all : ℕ) (stands : Stands net now most actors tokens all) (t : ℕ) →
     IsFirstEnd actors t → (stage : Stage) → stage ≡ Running → Overruns net t most →
-    (Stage.Spent ≡ Stage.Spent) × ((stage ≡ Stage.Spent) ⊎ ((u : ℕ) × ComesNext net stage now u × Overruns net u most))
+    (Stage.Spent ≡ Stage.Spent) × IsSpent net most stage now
 moved-spent net laws now most actors tokens all stands t first stage runs over = (refl, inr (t, moved-on net laws now most actors tokens all stands t first stage runs, over))
 
 pub moved-step : (net : Net) (laws : Lawful net) (now most : ℕ) (actors : List ActorState) (tokens : List ℕ) (all : ℕ) (stands : Stands net now most actors tokens all) (t : ℕ) →
     IsFirstEnd actors t → (stage : Stage) → stage ≡ Running → (new : List ActorState) (left : List ℕ) (total_now : ℕ) → Stands net t most new left total_now → Steps net most stage now Running t
 moved-step net laws now most actors tokens all stands t first stage runs new left total_now then = record {
   runs = refl;
+  free = moved-free net laws now most actors tokens all stands t first stage runs;
   next = moved-on net laws now most actors tokens all stands t first stage runs;
   inputs = inputs-from net stands.fed;
   within = within-most net laws t most new left total_now then;
 }
 
-pub begun-step : (net : Net) (laws : Lawful net) (now most : ℕ) (stage : Stage) → stage ≡ Fresh → (new : List ActorState) (left : List ℕ) (total_now : ℕ) → Begins net most new left total_now → Steps net most stage now Running 0
-begun-step net laws now most stage is new left total_now begins = record {
+-- where no actor can fire, none has a start at moment 0
+pub lacking-inputs : (net : Net) → ((a : ℕ) → a < length net.times → Lacks net (λ b. 0) a 0) → HasInputs net
+lacking-inputs net lacks a actor = let lack : Lacks net (λ b. 0) a 0 = lacks a actor in (lack.0, lack.1, lack.2)
+
+pub none-counted : (net : Net) → Lawful net → ((a : ℕ) → a < length net.times → Lacks net (λ b. 0) a 0) → (a : ℕ) → a < length net.times → count_of (earliest net 1) a ≡ 0
+none-counted net laws lacks a actor = sym (first-counts net (regular net laws) (lacking-inputs net lacks) (λ b. 0)
+    (record { enough = λ i there. omega (arith, total-zero (channel_at net i).taken) }) lacks a actor)
+
+pub sum_to-none : (n : ℕ) → sum_to (λ a. 0) n ≡ 0
+unfolding sum_to
+sum_to-none zero = refl
+sum_to-none (suc n) = omega (arith, sum_to-none n)
+
+begun-none : (net : Net) (laws : Lawful net) (most : ℕ) (new : List ActorState) (left : List ℕ) (total_now : ℕ) → Stands net 0 most new left total_now → ((a : ℕ) → a < length net.times → Lacks net (λ b. 0) a 0) → total_now ≡ 0
+begun-none net laws most new left total_now stands lacks =
+    let none : sum_to (started_in new) (length net.times) ≡ sum_to (λ a. 0) (length net.times) = sum_to-same (λ a. 0) (started_in new) (length net.times) (λ a actor. stands.counts a actor ∙ none-counted net laws lacks a actor) in
+    omega (arith, none, sum_to-none (length net.times), sum_to-all new (length net.times) stands.stand.long, stands.counted.total)
+
+pub begun-step : (net : Net) (laws : Lawful net) (now most : ℕ) (stage : Stage) → stage ≡ Fresh → (new : List ActorState) (left : List ℕ) (total_now : ℕ) → Begins net most new left total_now → total_now ≢ 0 → Steps net most stage now Running 0
+begun-step net laws now most stage is new left total_now begins some = record {
   runs = refl;
+  free = λ stuck. some (begun-none net laws most new left total_now begins.stands (subst (λ (s : Stage). IsStuck net s now) is stuck));
   next = rw is refl;
   inputs = inputs-from net begins.stands.fed;
   within = within-most net laws 0 most new left total_now begins.stands;

@@ -10,8 +10,8 @@ use Rattle.std.proofs.lemmas.List.Elements.{All-cons, All-contains}
 use Rattle.std.proofs.lemmas.List.Sorted.{All-permutation, Contains-permutation, sum_by_pushed, sum_by_popped}
 use Rattle.sd_base.specs.Net.{Net}
 use Rattle.selftimed.specs.declared.actors.ActorState.{ActorState}
-use Rattle.selftimed.specs.Actors.{idle, running_in, IsFirstEnd, IsQuiet}
-use Rattle.selftimed.specs.Agendas.{Entry, entry, IsSoonest, Announces, IsFirst, HasEntries, IsAgenda}
+use Rattle.selftimed.specs.inside.Actors.{idle, running_in, IsFirstEnd, IsQuiet}
+use Rattle.selftimed.specs.inside.Agendas.{Entry, entry, IsSoonest, Announces, IsFirst, HasEntries, IsAgenda}
 
 -- an actor that runs is one of the list
 pub runs-place : (actors : List ActorState) (a : ℕ) → 0 < length (running_in actors a) → a < length actors

@@ -13,7 +13,7 @@ use Rattle.firing.specs.declared.sums.Port.TheVariants.{Taken}
 use Rattle.firing.specs.Wiring.{IsListed, SufficesBefore, IsFirstLack, TakesTokens}
 use Rattle.firing.proofs.Listings.{place_of}
 use Rattle.firing.proofs.TokenMoves.{span-one}
-use Rattle.selftimed.specs.Starts.{AddsEnds, Feeds, StartsAll, Overfills}
+use Rattle.selftimed.specs.inside.Starts.{AddsEnds, Feeds, StartsAll, Overfills}
 
 -- ---- how many start together
 

@@ -18,8 +18,8 @@ use Rattle.sd_base.proofs.Counts.{early_at, able-along, full-along, first-counts
 use Rattle.sd_base.proofs.Ends.{sum_to, sum_to-le}
 use Rattle.sd_base.proofs.Events.{is_event-zero}
 use Rattle.selftimed.specs.declared.actors.ActorState.{ActorState}
-use Rattle.selftimed.specs.Actors.{started_in, ended_in, running_in, touched_in, Stand, Counted, StartedAll, CanOverrun}
-use Rattle.selftimed.specs.Stands.{IsFresh, Stands, Begins}
+use Rattle.selftimed.specs.inside.Actors.{started_in, ended_in, running_in, touched_in, Stand, Counted, StartedAll, CanOverrun}
+use Rattle.selftimed.specs.inside.Stands.{IsFresh, Stands, Begins}
 use Rattle.selftimed.specs.Moves.{Overruns}
 use Rattle.selftimed.proofs.Starting.{started-le}
 use Rattle.selftimed.proofs.Moving.{fed-from, inputs-from, starts-sum}

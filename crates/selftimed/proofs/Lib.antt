@@ -1,10 +1,11 @@
 pub mod Shifts
 pub mod Agendas
 pub mod Batches
-pub mod Endings
 pub mod Starting
 pub mod Moving
 pub mod Beginning
 pub mod Advancing
+pub mod Exactness
 pub mod Shaping
-pub mod Standing
+pub mod ExecutionStands
+pub mod FiringsEnd

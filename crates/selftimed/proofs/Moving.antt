@@ -18,8 +18,8 @@ use Rattle.sd_base.proofs.Counts.{Same, Quiet, ended_at, early_at, ended-at-is, 
 use Rattle.sd_base.proofs.Ends.{sum_to, sum_to-le, sum_to-lt}
 use Rattle.sd_base.proofs.Events.{is_event-end, event-tells}
 use Rattle.selftimed.specs.declared.actors.ActorState.{ActorState}
-use Rattle.selftimed.specs.Actors.{started_in, ended_in, running_in, touched_in, IsFirstEnd, IsQuiet, EndsAll, Stand, Counted, StartedAll, CanOverrun}
-use Rattle.selftimed.specs.Stands.{Stands}
+use Rattle.selftimed.specs.inside.Actors.{started_in, ended_in, running_in, touched_in, IsFirstEnd, IsQuiet, EndsAll, Stand, Counted, StartedAll, CanOverrun}
+use Rattle.selftimed.specs.inside.Stands.{Stands}
 use Rattle.selftimed.specs.Moves.{IsNext, Overruns}
 use Rattle.selftimed.proofs.Starting.{sum_to-all, sum_to-same}
 

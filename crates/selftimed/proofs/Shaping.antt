@@ -7,8 +7,8 @@ use Rattle.std.proofs.lemmas.List.FromFn.{get_or-map-range_with_len, length-map-
 use Rattle.sd_base.specs.Net.{Net}
 use Rattle.sd_base.specs.Schedules.{phases_at}
 use Rattle.selftimed.specs.declared.actors.ActorState.{ActorState}
-use Rattle.selftimed.specs.Actors.{idle, started_in, running_in}
-use Rattle.selftimed.specs.Shapes.{phases_now, remaining_now, IsPast}
+use Rattle.selftimed.specs.inside.Actors.{idle, started_in, running_in}
+use Rattle.selftimed.specs.EngineShapes.{phases_now, remaining_now, IsPast}
 
 -- ---- phases
 

@@ -12,11 +12,11 @@ use Rattle.sd_base.proofs.Moment.{Able}
 use Rattle.sd_base.proofs.Ends.{sum_to}
 use Rattle.firing.specs.Wiring.{LacksNow, IsLevel}
 use Rattle.firing.proofs.TokenMoves.{MoreBy, level-takes, level-needs}
-use Rattle.selftimed.specs.Starts.{AddsEnds, Overfills}
+use Rattle.selftimed.specs.inside.Starts.{AddsEnds, Overfills}
 use Rattle.selftimed.proofs.Batches.{adds-none}
 use Rattle.selftimed.specs.declared.actors.ActorState.{ActorState}
-use Rattle.selftimed.specs.Actors.{idle, started_in, ended_in, running_in, touched_in, Stand, Counted, StartsOne, StartedAll, CanOverrun}
-use Rattle.selftimed.specs.Agendas.{Entry, entry, Announces, IsFirst, Lists, IsAgenda}
+use Rattle.selftimed.specs.inside.Actors.{idle, started_in, ended_in, running_in, touched_in, Stand, Counted, StartsOne, StartedAll, CanOverrun}
+use Rattle.selftimed.specs.inside.Agendas.{Entry, entry, Announces, IsFirst, Lists, IsAgenda}
 use Rattle.selftimed.proofs.Agendas.{HasFirsts, has-firsts, entries-found, has-number, number-found, announced-kept, announced-there, announced-all}
 
 -- ---- sums over actors

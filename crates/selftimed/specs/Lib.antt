@@ -1,8 +1,3 @@
-pub mod Queue
-pub mod Starts
-pub mod Actors
-pub mod Agendas
-pub mod Plans
-pub mod Stands
-pub mod Shapes
 pub mod Moves
+pub mod inside
+pub mod EngineShapes

@@ -34,9 +34,14 @@ IsStuck net OutOfMemory now = ⊥
 abbrev pub Overruns : Net → ℕ → ℕ → Type 0
 Overruns net t most = (s : Schedule) → Earliest net (t + 1) s → most < sum (map length s)
 
--- an engine went to its next event: the starts up to and with it are within the bound
+-- an engine's bound is passed: it was before, or the starts of the next event pass it
+abbrev pub IsSpent : Net → ℕ → Stage → ℕ → Type 0
+IsSpent net most stage now = (stage ≡ Stage.Spent) ⊎ ((u : ℕ) × ComesNext net stage now u × Overruns net u most)
+
+-- an engine went to its next event: it wasn't stuck, and the starts up to and with the event are within the bound
 pub record Steps (net : Net) (most : ℕ) (stage : Stage) (now : ℕ) (after : Stage) (t : ℕ) : Type 0 where
   pub runs : after ≡ Running
+  pub free : ¬ IsStuck net stage now
   pub next : ComesNext net stage now t
   pub inputs : HasInputs net
   pub within : starts_by net t ≤ most
@@ -45,4 +50,4 @@ pub record Steps (net : Net) (most : ℕ) (stage : Stage) (now : ℕ) (after : S
 abbrev pub IsMove : Net → ℕ → Stage → ℕ → Move → Stage → ℕ → Type 0
 IsMove net most stage now Stepped after t = Steps net most stage now after t
 IsMove net most stage now Stuck after t = (after ≡ stage) × (t ≡ now) × IsStuck net stage now
-IsMove net most stage now Move.Spent after t = (after ≡ Stage.Spent) × ((stage ≡ Stage.Spent) ⊎ ((u : ℕ) × ComesNext net stage now u × Overruns net u most))
+IsMove net most stage now Move.Spent after t = (after ≡ Stage.Spent) × IsSpent net most stage now

@@ -1,5 +1,5 @@
 ghost use Rattle.std.specs.Prelude.{◌≡◌, ℕ, ◌<◌, ◌≤◌, IfOk, length, replicate, slice_index};
-ghost use Rattle.selftimed.specs.Actors.{fresh_one};
+ghost use Rattle.selftimed.specs.inside.Actors.{fresh_one};
 
 use crate::running::Running;
 use sd_base::NoMemory;

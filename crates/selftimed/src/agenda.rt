@@ -2,7 +2,7 @@ ghost use Rattle.std.specs.Prelude.{◌≡◌, [], ◌∷◌, ◌++◌, true, if
 ghost use Rattle.std.specs.List.{range_with_len};
 ghost use Rattle.std.specs.BinaryHeap.{IsHeap, heap_items};
 ghost use Rattle.std.proofs.Props.{props};
-ghost use Rattle.selftimed.specs.Agendas.{later_end, Announces, IsSoonest, TakesDue};
+ghost use Rattle.selftimed.specs.inside.Agendas.{later_end, Announces, IsSoonest, TakesDue};
 
 use crate::actors::ActorState;
 use sd_base::NoMemory;

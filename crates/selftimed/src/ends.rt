@@ -1,49 +1,16 @@
 ghost use Rattle.std.specs.Prelude.{◌≡◌, ℕ, ◌+◌, ◌-◌, ◌^◌, ◌<◌, ◌≤◌, OnOk, length, slice_index};
 ghost use Rattle.firing.specs.declared.sums.Port.TheVariants.{Made};
-ghost use Rattle.firing.specs.Wiring.{IsListed, AreListed, PutsTokens};
-ghost use Rattle.selftimed.specs.Actors.{EndsOne, Touches, EndsAll, Stand};
-ghost use Rattle.selftimed.specs.Agendas.{Lists};
-ghost use Rattle.selftimed.specs.Plans.{Plans};
+ghost use Rattle.firing.specs.Wiring.{IsListed, PutsTokens};
+ghost use Rattle.selftimed.specs.inside.Actors.{EndsOne, Touches};
+ghost use Rattle.selftimed.specs.inside.Agendas.{Lists};
 
 use crate::actors::{ActorState, ended_by};
 use crate::agenda::Agenda;
-use firing::{Firing, Wiring, put_tokens};
+use firing::{Firing, put_tokens};
 use sd_base::NoMemory;
 
-/// Ends the firings whose end has come, and touches the actors whose channels gain tokens.
-pub(crate) fn end_all<F: Firing>(
-    net: &F,
-    wiring: &Wiring,
-    moment: u64,
-    actors: &mut [ActorState],
-    tokens: &mut [u128],
-    agenda: &mut Agenda,
-) -> Result<(), NoMemory>
-    requires outputs { AreListed (F.net net.now) Made wiring.now.outputs }
-    requires stand { Stand (F.net net.now) actors.old tokens.old }
-    requires agenda { Plans (F.net net.now) actors.old agenda.old }
-    ensures ended { OnOk result (EndsAll (F.net net.now) moment actors.old actors.new) }
-    ensures stand { OnOk result (Stand (F.net net.now) actors.new tokens.new) }
-    ensures agenda { OnOk result (Plans (F.net net.now) actors.new agenda.new) }
-{
-    while let Some(actor) = agenda.pop_due(moment) {
-        let outputs = wiring.outputs_of(actor);
-        end_actor(
-            net,
-            outputs,
-            actor,
-            moment,
-            &mut actors[actor as usize],
-            tokens,
-        );
-        agenda.announce(actor, &actors[actor as usize])?;
-        touch_targets(net, outputs, actors, agenda)?;
-    }
-    Ok(())
-}
-
 /// Ends the firings of an actor whose end has come.
-fn end_actor<F: Firing>(
+pub(crate) fn end_actor<F: Firing>(
     net: &F,
     outputs: &[u32],
     actor: u32,
@@ -67,7 +34,7 @@ fn end_actor<F: Firing>(
 }
 
 /// Touches the actors into which these channels lead.
-fn touch_targets<F: Firing>(
+pub(crate) fn touch_targets<F: Firing>(
     net: &F,
     channels: &[u32],
     actors: &mut [ActorState],

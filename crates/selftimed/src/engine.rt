@@ -1,20 +1,21 @@
 ghost use Rattle.std.specs.Prelude.{◌≡◌, ◌↔◌, IsTrue, ◌+◌, ◌^◌, ◌<◌, ◌≤◌, length, IfOk, IfErr};
 ghost use Rattle.sd_base.specs.Schedules.{count_of};
 ghost use Rattle.sd_base.specs.SelfTimed.{earliest, shape_at};
-ghost use Rattle.selftimed.specs.Plans.{Plans};
-ghost use Rattle.selftimed.specs.Shapes.{form};
-ghost use Rattle.selftimed.specs.Moves.{IsMove};
+ghost use Rattle.selftimed.specs.inside.Plans.{Plans};
+ghost use Rattle.selftimed.specs.EngineShapes.{form};
+ghost use Rattle.selftimed.specs.Moves.{IsMove, IsStuck, IsSpent};
 ghost use Rattle.firing.specs.declared.sums.Port.TheVariants.{Made, Taken};
 ghost use Rattle.firing.specs.Wiring.{AreListed};
 ghost use Rattle.selftimed.specs.declared.engine.Stage.{Stage};
-ghost use Rattle.selftimed.specs.Stands.{IsFresh, Stands};
+ghost use Rattle.selftimed.specs.declared.engine.Move.{Move};
+ghost use Rattle.selftimed.specs.inside.Stands.{IsFresh, Stands};
 
 use crate::actors::{ActorState, new_actors};
 use crate::agenda::Agenda;
+use crate::event::Event;
 use crate::shape::{
     Shape, phases_of, remaining_of, same_phases, same_remaining, same_tokens, tokens_of,
 };
-use crate::steps::{begin, step_to};
 use firing::{Firing, Wiring, initial_tokens};
 use sd_base::NoMemory;
 use std::alloc::Global;
@@ -47,10 +48,13 @@ pub enum Move {
 /// it is asked after it was spent, or memory ran out, has no meaning.
 #[derive(Drop)]
 pub struct Engine<'a, F: Firing> {
+    /// The net that is executed.
     pub net: &'a F,
+    /// Where the engine is in its run.
     pub stage: Stage,
     /// The moment of the last event, in time units.
     pub moment: u64,
+    /// How many firings may start in all.
     pub most: u64,
     wiring: Wiring,
     all: u64,
@@ -67,6 +71,7 @@ pub struct Engine<'a, F: Firing> {
 }
 
 impl<'a, F: Firing> Engine<'a, F> {
+    /// An engine that stands before the first event. Cost: that of the wiring of the net.
     pub fn new(alloc: Global, net: &'a F, most: u64) -> Result<Engine<'a, F>, NoMemory>
         requires { most ≤ 2 ^ 32 }
         ensures net { IfOk result (λ e. e.net.now ≡ net.now) }
@@ -91,14 +96,19 @@ impl<'a, F: Firing> Engine<'a, F> {
         })
     }
 
-    /// Goes to the next event and makes its starts. Cost: a step for each firing that ends or starts, the channels of
-    /// the actors that end, and the channels into those whose channels gained tokens; for each of these actors also
-    /// the logarithm of the actors that run. Actors at whose channels nothing changes cost nothing.
+    /// Goes to the next event, which is moment 0 at first, and makes its starts. Of an actor without an input
+    /// endlessly many firings could start, so a net with one spends the engine at once.
+    ///
+    /// Cost: a step for each firing that ends or starts, the channels of the actors that end, and the channels
+    /// into those whose channels gained tokens; for each of these actors also the logarithm of the actors that
+    /// run. Actors at whose channels nothing changes cost nothing.
     pub fn advance(&mut self) -> Result<Move, NoMemory>
         ensures net { self.new.net ≡ self.old.net }
         ensures most { self.new.most ≡ self.old.most }
         ensures moved { IfOk result (λ move. IsMove (F.net self.old.net.now) self.old.most self.old.stage self.old.moment move self.new.stage self.new.moment) }
         ensures lost { IfErr result (λ e. self.new.stage ≡ Stage.OutOfMemory) }
+        ensures stuck { IfOk result (λ move. (move ≡ Move.Stuck) ↔ IsStuck (F.net self.old.net.now) self.old.stage self.old.moment) }
+        ensures spent { IfOk result (λ move. (move ≡ Move.Spent) ↔ IsSpent (F.net self.old.net.now) self.old.most self.old.stage self.old.moment) }
     {
         match self.stage {
             Stage::Fresh => self.go_to_start(),
@@ -117,13 +127,16 @@ impl<'a, F: Firing> Engine<'a, F> {
         ensures lost { IfErr result (λ e. self.new.stage ≡ Stage.OutOfMemory) }
     {
         self.stage = Stage::OutOfMemory;
-        let fits = begin(
-            self.net,
-            &self.wiring,
-            self.most,
+        let event = Event {
+            net: self.net,
+            wiring: &self.wiring,
+            moment: 0,
+            most: self.most,
+        };
+        let fits = event.begin(
             &mut self.all,
-            &mut self.actors,
-            &mut self.tokens,
+            self.actors.as_mut_slice(),
+            self.tokens.as_mut_slice(),
             &mut self.agenda,
         )?;
         if !fits {
@@ -151,14 +164,16 @@ impl<'a, F: Firing> Engine<'a, F> {
             return Ok(Move::Stuck);
         };
         self.stage = Stage::OutOfMemory;
-        let fits = step_to(
-            self.net,
-            &self.wiring,
+        let event = Event {
+            net: self.net,
+            wiring: &self.wiring,
             moment,
-            self.most,
+            most: self.most,
+        };
+        let fits = event.follow(
             &mut self.all,
-            &mut self.actors,
-            &mut self.tokens,
+            self.actors.as_mut_slice(),
+            self.tokens.as_mut_slice(),
             &mut self.agenda,
         )?;
         if !fits {

@@ -5,10 +5,10 @@ mod actors;
 mod agenda;
 mod ends;
 mod engine;
+mod event;
 mod running;
 mod shape;
 mod starts;
-mod steps;
 
 pub use engine::{Engine, Move, Stage};
 pub use shape::Shape;

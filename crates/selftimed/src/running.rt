@@ -20,7 +20,7 @@ impl Model for Running {
 
     ghost Value = { List ℕ };
 
-    ghost use Rattle.selftimed.specs.Queue.{still_running, IsQueue};
+    ghost use Rattle.selftimed.specs.inside.RunningFirings.{still_running, IsQueue};
 
     ghost view = { still_running };
 

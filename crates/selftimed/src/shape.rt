@@ -1,6 +1,6 @@
 ghost use Rattle.std.specs.Prelude.{◌≡◌, ◌↔◌, ℕ, ◌-◌, ◌%◌, ◌<◌, ◌≤◌, IfOk, IsTrue, length, map, slice_index};
 ghost use Rattle.sd_base.specs.Schedules.{phases_at};
-ghost use Rattle.selftimed.specs.Shapes.{phases_now, remaining_now, IsPast};
+ghost use Rattle.selftimed.specs.EngineShapes.{phases_now, remaining_now, IsPast};
 
 use crate::actors::ActorState;
 use firing::{Firing, know_laws};

@@ -8,12 +8,12 @@ use Rattle.balance.specs.declared.walk.Link.{Link}
 use Rattle.balance.specs.declared.search.Found.{Found}
 use Rattle.balance.specs.declared.ratio.Ratio.{Ratio}
 use Rattle.balance.specs.Walks.{links_of}
-use Rattle.balance.specs.Search.{HasSums, HasEnds, IsSearched, mark_at}
-use Rattle.balance.specs.Ratios.{IsLimitRefusal, IsKeptRefusal, IsRoundRefusal, AreRatios, Keeps}
+use Rattle.balance.specs.inside.Search.{HasSums, HasEnds, IsSearched, mark_at}
+use Rattle.balance.specs.inside.Ratios.{IsLimitRefusal, IsKeptRefusal, IsRoundRefusal, AreRatios, Keeps}
 use Rattle.balance.specs.Repetition.{IsConnected, IsBalanced, IsRound, IsRefusal}
 use Rattle.balance.proofs.TableLemmas.{has_sums, has_ends}
-use Rattle.balance.proofs.Rounds.{ways_within, consistent_from}
-use Rattle.balance.proofs.Deciding.{connected_from, by_limit, by_kept, by_round}
+use Rattle.balance.proofs.LeastRounds.{ways_within, consistent_from}
+use Rattle.balance.proofs.StepsDecide.{connected_from, by_limit, by_kept, by_round}
 use Rattle.balance.proofs.within_limits.Goals as goal
 
 -- the tree of the graph's own links

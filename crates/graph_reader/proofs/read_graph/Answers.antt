@@ -1,8 +1,8 @@
 use Rattle.std.proofs.Common.{subst}
 use Rattle.file_text.specs.Node.{tree_of}
-use Rattle.graph_reader.specs.Walk.{Gives}
+use Rattle.graph_reader.specs.TreeSteps.{Gives}
 use Rattle.graph_reader.specs.Sections.{table_of}
-use Rattle.graph_reader.proofs.Faults.{first_fault, text_fault, text_exact}
+use Rattle.graph_reader.proofs.BrokenRules.{first_fault, text_fault, text_exact}
 use Rattle.graph_reader.proofs.Rules.{keeps_rules, is_timed, is_sdf}
 use Rattle.graph_reader.proofs.read_graph.Goals as goal
 

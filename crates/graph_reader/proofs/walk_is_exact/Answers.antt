@@ -2,7 +2,7 @@ use Rattle.std.specs.Prelude.{IsTrue, Ok}
 use Rattle.sd_base.specs.Tables.{IsTimed}
 use Rattle.graph_reader.specs.Sections
 use Rattle.graph_reader.specs.Spelled.{IsTable}
-use Rattle.graph_reader.proofs.Steps.{if-ok}
+use Rattle.graph_reader.proofs.ReaderSteps.{if-ok}
 use Rattle.graph_reader.proofs.Rules.{is_timed}
 use Rattle.graph_reader.proofs.Found
 use Rattle.graph_reader.proofs.Again

@@ -3,9 +3,9 @@ use Rattle.std.specs.Prelude.{slice_get, slice_index_or}
 use Rattle.std.proofs.lemmas.Option.{slice_get_within, get_or_from_slice_get}
 use Rattle.balance.specs.declared.walk.Link.{Link}
 use Rattle.balance.specs.declared.search.Found.{Found}
-use Rattle.balance.specs.Search.{IsFound}
-use Rattle.balance.specs.Ratios.{IsClosedRefusal}
-use Rattle.balance.proofs.Rounds.{small_at}
+use Rattle.balance.specs.inside.Search.{IsFound}
+use Rattle.balance.specs.inside.Ratios.{IsClosedRefusal}
+use Rattle.balance.proofs.LeastRounds.{small_at}
 use Rattle.balance.proofs.Keeping.{ready, kept_refusal}
 use Rattle.balance.proofs.closed.all_kept.Goals as goal
 

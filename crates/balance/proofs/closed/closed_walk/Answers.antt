@@ -5,7 +5,7 @@ use Rattle.balance.specs.declared.walk.Link.{Link}
 use Rattle.balance.specs.declared.search.Found.{Found}
 use Rattle.balance.specs.Walks.{turned}
 use Rattle.balance.specs.Repetition.{IsParted}
-use Rattle.balance.specs.Search.{IsWayTo, IsClosedBetween}
+use Rattle.balance.specs.inside.Search.{IsWayTo, IsClosedBetween}
 use Rattle.balance.proofs.closed.closed_walk.Goals as goal
 
 -- two ways without the steps that both begin with

@@ -1,8 +1,8 @@
 use Rattle.std.proofs.Common.{◌≡◌, ℕ, ◌+◌, ◌<◌, List, Some, sym, subst, ap, ◌∙◌, arith}
 use Rattle.std.specs.Prelude.{slice_get, slice_index_or}
 use Rattle.std.proofs.lemmas.Option.{slice_get-get_or}
-use Rattle.balance.specs.Lists.{appended}
-use Rattle.balance.specs.Reaching.{AreFollowers, pair_from, pair_to}
+use Rattle.balance.specs.inside.Lists.{appended}
+use Rattle.balance.specs.inside.Reaching.{AreFollowers, pair_from, pair_to}
 use Rattle.balance.proofs.Paths.{followers_more, pair_within}
 use Rattle.balance.proofs.connection.followers.Goals as goal
 

@@ -1,4 +1,4 @@
-use Rattle.balance.specs.Reaching.{AreFollowers}
+use Rattle.balance.specs.inside.Reaching.{AreFollowers}
 use Rattle.balance.proofs.connection.followers.Given as goal
 
 abbrev pub invariant-loop-pair : goal.invariant-loop-pair

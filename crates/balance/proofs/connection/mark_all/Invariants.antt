@@ -1,4 +1,4 @@
-use Rattle.balance.specs.Reaching.{AreMarked}
+use Rattle.balance.specs.inside.Reaching.{AreMarked}
 use Rattle.balance.proofs.connection.mark_all.Given as goal
 
 abbrev pub invariant-loop-to : goal.invariant-loop-to

@@ -1,5 +1,5 @@
 use Rattle.std.proofs.Common.{below_more}
-use Rattle.balance.specs.Connection.{HasInput}
+use Rattle.balance.specs.ConnectRefusals.{HasInput}
 use Rattle.balance.proofs.connection.no_input.Goals as goal
 
 pub loop-actor-preserved : goal.loop-actor-preserved

@@ -1,5 +1,5 @@
 use Rattle.std.proofs.Common.{ℕ, ◌<◌}
-use Rattle.balance.specs.Connection.{HasInput}
+use Rattle.balance.specs.ConnectRefusals.{HasInput}
 use Rattle.balance.proofs.connection.no_input.Given as goal
 
 abbrev pub invariant-loop-actor : goal.invariant-loop-actor

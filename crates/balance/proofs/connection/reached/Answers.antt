@@ -1,8 +1,8 @@
 use Rattle.std.proofs.Common.{◌≡◌, ℕ, ◌<◌, ◌≤◌, All, List, Bool, Some, length, replicate, true, false, sym, refl, subst, arith}
 use Rattle.std.specs.Prelude.{slice_get, slice_set, slice_index_or}
 use Rattle.std.proofs.lemmas.Option.{slice_get_read}
-use Rattle.balance.specs.Lists.{list_at}
-use Rattle.balance.specs.Reaching.{AreMarked}
+use Rattle.balance.specs.inside.Lists.{list_at}
+use Rattle.balance.specs.inside.Reaching.{AreMarked}
 use Rattle.balance.proofs.Searching.{mark_within}
 use Rattle.balance.proofs.Paths.{IsReach, reach_start, reach_more, reach_past, reach_closed, followers_within, all_marked}
 use Rattle.balance.proofs.connection.reached.Goals as goal

@@ -1,7 +1,7 @@
 use Rattle.std.proofs.Common.{◌≡◌, ℕ, ◌<◌, Some}
 use Rattle.std.specs.Prelude.{slice_get}
 use Rattle.balance.specs.declared.walk.Link.{Link}
-use Rattle.balance.specs.Ratios.{Keeps}
+use Rattle.balance.specs.inside.Ratios.{Keeps}
 use Rattle.balance.proofs.ratio.first_failing.Given as goal
 
 abbrev pub invariant-loop-channel : goal.invariant-loop-channel

@@ -1,6 +1,6 @@
 use Rattle.std.proofs.lemmas.List.{get_or_default}
 use Rattle.balance.specs.declared.ratio.Ratio.{Ratio}
-use Rattle.balance.specs.Ratios.{one}
+use Rattle.balance.specs.inside.Ratios.{one}
 use Rattle.balance.proofs.ratio.ratio_of.Goals as goal
 
 none : Ratio

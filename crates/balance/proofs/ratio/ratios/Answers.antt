@@ -4,8 +4,8 @@ use Rattle.std.proofs.lemmas.Option.{slice_get_read}
 use Rattle.balance.specs.declared.walk.WalkStep.{WalkStep}
 use Rattle.balance.specs.declared.ratio.Ratio.{Ratio}
 use Rattle.balance.specs.declared.search.Found.{Found}
-use Rattle.balance.specs.Search.{IsWayAt}
-use Rattle.balance.specs.Ratios.{one, IsRatedStep}
+use Rattle.balance.specs.inside.Search.{IsWayAt}
+use Rattle.balance.specs.inside.Ratios.{one, IsRatedStep}
 use Rattle.balance.proofs.Rating.{IsRating, IsStepped, rating_start, rating_ready, rating_within, rating_more, rating_above, rating_all}
 use Rattle.balance.proofs.ratio.ratios.Goals as goal
 

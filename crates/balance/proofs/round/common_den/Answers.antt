@@ -2,7 +2,7 @@ use Rattle.std.proofs.Common.{arith}
 use Rattle.std.proofs.lemmas.Option.{slice_get-get_or}
 use Rattle.std.specs.Prelude.{slice_index_or}
 use Rattle.balance.specs.declared.ratio.Ratio.{Ratio}
-use Rattle.balance.proofs.Rounds.{common_start, common_more, common_end, common_above}
+use Rattle.balance.proofs.LeastRounds.{common_start, common_more, common_end, common_above}
 use Rattle.balance.proofs.round.common_den.Goals as goal
 
 pub loop-ratio-init : goal.loop-ratio-init

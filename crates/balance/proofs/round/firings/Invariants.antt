@@ -1,7 +1,7 @@
 use Rattle.std.proofs.Common.{◌≡◌, ℕ, ◌<◌, ◌*◌, ◌/◌, length}
 use Rattle.std.specs.Prelude.{slice_index}
 use Rattle.sd_base.specs.Tables.{phases_of}
-use Rattle.balance.specs.Ratios.{ratio_at}
+use Rattle.balance.specs.inside.Ratios.{ratio_at}
 use Rattle.balance.proofs.round.firings.Given as goal
 
 abbrev pub invariant-loop-actor : goal.invariant-loop-actor

@@ -1,7 +1,7 @@
 use Rattle.std.proofs.Common.{◌≡◌, ◌<◌, ◌≤◌, List, ℕ, length, sum, ap, subst, sym, arith}
 use Rattle.sd_base.specs.Net.{IsRepetitionOf}
 use Rattle.balance.specs.Walks.{links_of}
-use Rattle.balance.proofs.Rounds.{common_exists, dens_pos, round_exists, round_is, round_above, all_small, round_fits}
+use Rattle.balance.proofs.LeastRounds.{common_exists, dens_pos, round_exists, round_is, round_above, all_small, round_fits}
 use Rattle.balance.proofs.round.round.Goals as goal
 
 pub common_den-requires : goal.common_den-requires
@@ -26,10 +26,10 @@ total-requires c =
     let e : sum c.deref.result.now ≡ sum c.in_ok-round.round.items = ap sum c.deref.ensures.value in
     omega arith
 
-pub returns-then-total-gt-ROUND_LIMIT-clause-refusal : goal.returns-then-total-gt-ROUND_LIMIT-clause-refusal
-returns-then-total-gt-ROUND_LIMIT-clause-refusal c =
+pub returns-then-total-gt-ROUND-clause-refusal : goal.returns-then-total-gt-ROUND-clause-refusal
+returns-then-total-gt-ROUND-clause-refusal c =
     let e : sum c.deref.result.now ≡ sum c.in_ok-round.round.items = ap sum c.deref.ensures.value in
-    let above = c.if-total-gt-ROUND_LIMIT.true in
+    let above = c.if-total-gt-ROUND.true in
     let is = c.total.ensures in (
       c.in_ok-round.round.items,
       round_is c.args.graph.now c.requires.rules c.args.ratios.now c.in-Some.cycles c.in_ok-round.round.items c.requires.rated c.in-Some.ensures.0 c.requires.kept c.in_ok-round.ensures,
@@ -40,7 +40,7 @@ pub returns-clause-ok : goal.returns-clause-ok
 returns-clause-ok c =
     let v = c.in_ok-round.round.items in
     let e : sum c.deref.result.now ≡ sum v = ap sum c.deref.ensures.value in
-    let low = c.if-total-gt-ROUND_LIMIT.false in
+    let low = c.if-total-gt-ROUND.false in
     let is = c.total.ensures in
     let le : sum v ≤ 100000 = omega arith in
     let least : IsRepetitionOf c.args.graph.now v =

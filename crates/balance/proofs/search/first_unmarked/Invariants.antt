@@ -1,5 +1,5 @@
 use Rattle.std.proofs.Common.{◌≡◌, ℕ, ◌<◌, true}
-use Rattle.balance.specs.Search.{mark_at}
+use Rattle.balance.specs.inside.Search.{mark_at}
 use Rattle.balance.proofs.search.first_unmarked.Given as goal
 
 abbrev pub invariant-loop-actor : goal.invariant-loop-actor

@@ -2,7 +2,7 @@ use Rattle.std.proofs.Common.{◌≡◌, ℕ, List, length, Some, sym, subst, ar
 use Rattle.std.specs.Prelude.{slice_get, slice_index_or}
 use Rattle.std.proofs.lemmas.Option.{slice_get-get_or}
 use Rattle.balance.specs.declared.walk.Link.{Link}
-use Rattle.balance.specs.Search.{AreJoints}
+use Rattle.balance.specs.inside.Search.{AreJoints}
 use Rattle.balance.proofs.Joints.{joints_none, joints_more}
 use Rattle.balance.proofs.search.joints.Goals as goal
 

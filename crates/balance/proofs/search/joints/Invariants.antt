@@ -1,4 +1,4 @@
-use Rattle.balance.specs.Search.{AreJoints}
+use Rattle.balance.specs.inside.Search.{AreJoints}
 use Rattle.balance.proofs.search.joints.Given as goal
 
 abbrev pub invariant-loop-channel : goal.invariant-loop-channel

@@ -3,8 +3,8 @@ use Rattle.std.specs.Prelude.{slice_get, slice_index_or}
 use Rattle.std.proofs.lemmas.Option.{slice_get_read, slice_get-get_or, slice_get_within}
 use Rattle.balance.specs.declared.walk.Link.{Link}
 use Rattle.balance.specs.declared.search.Found.{Found}
-use Rattle.balance.specs.Lists.{list_at}
-use Rattle.balance.specs.Search.{AreJoints}
+use Rattle.balance.specs.inside.Lists.{list_at}
+use Rattle.balance.specs.inside.Search.{AreJoints}
 use Rattle.balance.proofs.Searching.{found_within, looked_old}
 use Rattle.balance.proofs.Joints.{IsVisit, visit_start, visit_more, visit_end}
 use Rattle.balance.proofs.search.visit.Goals as goal

@@ -1,7 +1,7 @@
 use Rattle.std.proofs.Common.{◌≡◌, Some, length}
 use Rattle.std.specs.Prelude.{slice_get}
 use Rattle.balance.specs.declared.search.Found.{Found}
-use Rattle.balance.specs.Lists.{list_at}
+use Rattle.balance.specs.inside.Lists.{list_at}
 use Rattle.balance.proofs.Joints.{IsVisit}
 use Rattle.balance.proofs.search.visit.Given as goal
 

@@ -1,4 +1,4 @@
-use Rattle.balance.specs.Search.{IsSearching}
+use Rattle.balance.specs.inside.Search.{IsSearching}
 use Rattle.balance.proofs.search.ways.Given as goal
 
 abbrev pub invariant-loop-place : goal.invariant-loop-place

@@ -3,7 +3,7 @@ use Rattle.std.specs.Prelude.{slice_get, slice_index_or}
 use Rattle.std.proofs.lemmas.Option.{slice_get-get_or}
 use Rattle.balance.specs.declared.walk.WalkStep.{WalkStep}
 use Rattle.balance.specs.declared.search.Found.{Found}
-use Rattle.balance.specs.Search.{IsWayAt}
+use Rattle.balance.specs.inside.Search.{IsWayAt}
 use Rattle.balance.proofs.Ways.{IsReadBack, falls, read_more, read_whole}
 use Rattle.balance.proofs.way.way_at.Goals as goal
 

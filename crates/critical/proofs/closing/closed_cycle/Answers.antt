@@ -1,5 +1,5 @@
 use Rattle.std.proofs.Common.{◌-◌, ◌*◌, ◌≤◌, length, arith, mul-le-mul_right}
-use Rattle.critical.specs.Ways.{met_at}
+use Rattle.critical.specs.inside.Trails.{met_at}
 use Rattle.critical.proofs.Closed.{closed-critical, times-in_order, passes-in_order}
 use Rattle.critical.proofs.closing.closed_cycle.Goals as goal
 

@@ -1,5 +1,5 @@
 use Rattle.std.proofs.Common.{◌-◌, length, refl, arith}
-use Rattle.critical.specs.Ways.{met_at}
+use Rattle.critical.specs.inside.Trails.{met_at}
 use Rattle.critical.proofs.Turning.{some-round, passes-rise}
 use Rattle.critical.proofs.Lowering.{least-first, least-next, least-all}
 use Rattle.critical.proofs.closing.least_rounds.Goals as goal

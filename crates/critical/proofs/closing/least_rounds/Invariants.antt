@@ -1,5 +1,5 @@
 use Rattle.std.proofs.Common.{◌-◌, length}
-use Rattle.critical.specs.Ways.{met_at}
+use Rattle.critical.specs.inside.Trails.{met_at}
 use Rattle.critical.proofs.Lowering.{LeastBelow}
 use Rattle.critical.proofs.closing.least_rounds.Given as goal
 

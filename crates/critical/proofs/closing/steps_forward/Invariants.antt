@@ -1,5 +1,5 @@
 use Rattle.std.proofs.Common.{◌≡◌, ℕ, ◌+◌, ◌-◌, ◌≤◌, ◌++◌, length}
-use Rattle.critical.specs.Ways.{met_at, lowered_firing, steps_of}
+use Rattle.critical.specs.inside.Trails.{met_at, lowered_firing, steps_of}
 use Rattle.critical.proofs.closing.steps_forward.Given as goal
 
 abbrev pub invariant-loop-i : goal.invariant-loop-i

@@ -1,5 +1,5 @@
 use Rattle.std.proofs.Common.{◌≡◌}
-use Rattle.critical.specs.Ways.{offset_of}
+use Rattle.critical.specs.inside.Trails.{offset_of}
 use Rattle.critical.proofs.Marking.{OffsetsBelow}
 use Rattle.critical.proofs.marks.offsets.Given as goal
 

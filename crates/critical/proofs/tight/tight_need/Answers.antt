@@ -1,6 +1,6 @@
 use Rattle.std.proofs.Common.{ℕ, below_more, arith}
 use Rattle.std.specs.Prelude.{slice_index}
-use Rattle.critical.specs.Ways.{IsSlackOn}
+use Rattle.critical.specs.inside.Trails.{IsSlackOn}
 use Rattle.critical.proofs.TightNeeds.{not-all-slack, slack-before}
 use Rattle.critical.proofs.tight.tight_need.Goals as goal
 

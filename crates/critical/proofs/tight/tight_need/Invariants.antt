@@ -1,6 +1,6 @@
 use Rattle.std.proofs.Common.{ℕ, ◌<◌}
 use Rattle.std.specs.Prelude.{slice_index}
-use Rattle.critical.specs.Ways.{IsSlackOn}
+use Rattle.critical.specs.inside.Trails.{IsSlackOn}
 use Rattle.critical.proofs.tight.tight_need.Given as goal
 
 abbrev pub invariant-loop-channel : goal.invariant-loop-channel

@@ -1,5 +1,5 @@
-use Rattle.file_text.proofs.Faults.{one_fault, no_fault}
-use Rattle.file_text.proofs.Whole.{some_answer, one_tree}
+use Rattle.file_text.proofs.RecognisedFaults.{one_fault, no_fault}
+use Rattle.file_text.proofs.OneTreeOrFault.{some_answer, one_tree}
 use Rattle.file_text.proofs.laws.answers_are_one.Goals as goal
 
 pub returns : goal.returns

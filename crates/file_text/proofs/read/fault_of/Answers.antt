@@ -1,7 +1,7 @@
 use Rattle.std.proofs.Common.{subst}
 use Rattle.file_text.specs.declared.taken.Taken.{Taken}
-use Rattle.file_text.specs.Exit.{IsStop}
-use Rattle.file_text.proofs.Outcomes.{leaves_fault, too_deep_fault, encoding_fault}
+use Rattle.file_text.specs.inside.Exits.{IsStop}
+use Rattle.file_text.proofs.LoopOutcomes.{leaves_fault, too_deep_fault, encoding_fault}
 use Rattle.file_text.proofs.read.fault_of.Goals as goal
 
 pub overflow_sub-result : goal.overflow_sub-result

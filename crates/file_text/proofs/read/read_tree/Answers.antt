@@ -1,10 +1,10 @@
 use Rattle.std.proofs.Common.{◌≡◌, sym, inr, true, take}
 use Rattle.std.proofs.lemmas.List.{take_all}
 use Rattle.file_text.specs.Node.{tree_of}
-use Rattle.file_text.specs.Seen.{state_of}
+use Rattle.file_text.specs.inside.Seen.{state_of}
 use Rattle.file_text.proofs.Exact.{tidy_at}
-use Rattle.file_text.proofs.Faults.{no_fault}
-use Rattle.file_text.proofs.Outcomes.{goes_on, read_text, read_only, early_fault}
+use Rattle.file_text.proofs.RecognisedFaults.{no_fault}
+use Rattle.file_text.proofs.LoopOutcomes.{goes_on, read_text, read_only, early_fault}
 use Rattle.file_text.proofs.read.read_tree.Goals as goal
 
 pub take-requires : goal.take-requires

@@ -1,6 +1,6 @@
 use Rattle.std.proofs.Common.{◌≡◌, Some, take}
-use Rattle.file_text.specs.Machine.{run, start}
-use Rattle.file_text.specs.Seen.{state_of}
+use Rattle.file_text.specs.inside.Machine.{run, start}
+use Rattle.file_text.specs.inside.Seen.{state_of}
 use Rattle.file_text.proofs.read.read_tree.Given as goal
 use Rattle.std.proofs.Common.{true}
 

@@ -10,12 +10,12 @@ pub returns-then-sum-wanted-clause-enough : goal.returns-then-sum-wanted-clause-
 returns-then-sum-wanted-clause-enough g c = omega (
   arith,
   c.if-sum-wanted.true,
-  turn-more (channel_at (g.F.Firing.net c.args.net.now) c.args.channel).made c.loop-phase.phase c.loop-phase.sum c.rate.result c.loop-phase.invariant.sum (omega arith) c.rate.ensures.rate,
+  turn-more (channel_at (g.F.Firing.net c.args.net.now) c.args.channel).made c.loop-phase.phase c.loop-phase.sum c.port_rate.result c.loop-phase.invariant.sum (omega arith) c.port_rate.ensures.rate,
 )
 
 pub loop-phase-preserved : goal.loop-phase-preserved
 loop-phase-preserved g c = record {
-  sum = turn-more (channel_at (g.F.Firing.net c.args.net.now) c.args.channel).made c.loop-phase.phase c.loop-phase.sum c.rate.result c.loop-phase.invariant.sum (omega arith) c.rate.ensures.rate;
-  small = omega (arith, c.loop-phase.invariant.small, c.rate.ensures.small);
+  sum = turn-more (channel_at (g.F.Firing.net c.args.net.now) c.args.channel).made c.loop-phase.phase c.loop-phase.sum c.port_rate.result c.loop-phase.invariant.sum (omega arith) c.port_rate.ensures.rate;
+  small = omega (arith, c.loop-phase.invariant.small, c.port_rate.ensures.small);
   short = omega (arith, c.if-sum-wanted.false);
 }

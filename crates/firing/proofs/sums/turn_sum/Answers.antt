@@ -9,6 +9,6 @@ loop-phase-init g c = record { sum = turn-none _; small = omega arith }
 
 pub loop-phase-preserved : goal.loop-phase-preserved
 loop-phase-preserved g c = record {
-  sum = turn-more (rates_at c.args.port (channel_at (g.F.Firing.net c.args.net.now) c.args.channel)) c.loop-phase.phase c.loop-phase.sum c.rate.result c.loop-phase.invariant.sum (omega arith) c.rate.ensures.rate;
-  small = omega (arith, c.loop-phase.invariant.small, c.rate.ensures.small);
+  sum = turn-more (rates_at c.args.port (channel_at (g.F.Firing.net c.args.net.now) c.args.channel)) c.loop-phase.phase c.loop-phase.sum c.port_rate.result c.loop-phase.invariant.sum (omega arith) c.port_rate.ensures.rate;
+  small = omega (arith, c.loop-phase.invariant.small, c.port_rate.ensures.small);
 }

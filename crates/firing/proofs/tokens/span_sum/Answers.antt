@@ -6,12 +6,12 @@ use Rattle.firing.proofs.tokens.span_sum.Goals as goal
 
 pub returns-then-phases-eq1-clause-sum : goal.returns-then-phases-eq1-clause-sum
 returns-then-phases-eq1-clause-sum g c =
-    span-one (rates_at c.args.port (channel_at (g.F.Firing.net c.args.net.now) c.args.channel)) c.args.from c.args.firings c.phases_at-phases.result c.rate.result
-    c.phases_at-phases.ensures.phases c.if-phases-eq1.true c.rate.ensures.rate
+    span-one (rates_at c.args.port (channel_at (g.F.Firing.net c.args.net.now) c.args.channel)) c.args.from c.args.firings c.port_phases-phases.result c.port_rate.result
+    c.port_phases-phases.ensures.phases c.if-phases-eq1.true c.port_rate.ensures.rate
 
 pub loop-k-preserved : goal.loop-k-preserved
 loop-k-preserved g c = record {
-  sum = span-more (rates_at c.args.port (channel_at (g.F.Firing.net c.args.net.now) c.args.channel)) c.args.from c.loop-k.k c.phases_at-phases.result c.loop-k.sum c.rate-in-loop-k.result
-      c.phases_at-phases.ensures.phases c.loop-k.invariant.sum c.rate-in-loop-k.ensures.rate;
-  small = omega (arith, c.loop-k.invariant.small, c.rate-in-loop-k.ensures.small);
+  sum = span-more (rates_at c.args.port (channel_at (g.F.Firing.net c.args.net.now) c.args.channel)) c.args.from c.loop-k.k c.port_phases-phases.result c.loop-k.sum c.port_rate-in-loop-k.result
+      c.port_phases-phases.ensures.phases c.loop-k.invariant.sum c.port_rate-in-loop-k.ensures.rate;
+  small = omega (arith, c.loop-k.invariant.small, c.port_rate-in-loop-k.ensures.small);
 }

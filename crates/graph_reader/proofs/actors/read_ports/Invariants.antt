@@ -1,7 +1,7 @@
 use Rattle.std.proofs.Common.{◌≡◌, ◌+◌, ◌≤◌, [], length, map}
 use Rattle.std.specs.Prelude.{codes}
 use Rattle.file_text.specs.Node.{tree_of, children_of}
-use Rattle.graph_reader.specs.Walk.{named, each}
+use Rattle.graph_reader.specs.TreeSteps.{named, each}
 use Rattle.graph_reader.specs.Sections.{port_of}
 use Rattle.graph_reader.proofs.actors.read_ports.Given as goal
 

@@ -2,7 +2,7 @@ use Rattle.std.proofs.Common.{◌≡◌, ◌≤◌, [], length, map}
 use Rattle.file_text.specs.Node.{tree_of, children_of}
 use Rattle.graph_reader.specs.declared.field.Field.TheVariants as field
 use Rattle.graph_reader.specs.Field.{word_of}
-use Rattle.graph_reader.specs.Walk.{named, each}
+use Rattle.graph_reader.specs.TreeSteps.{named, each}
 use Rattle.graph_reader.specs.Sections.{channel_of}
 use Rattle.graph_reader.proofs.channels.read_channels.Given as goal
 

@@ -1,6 +1,6 @@
 use Rattle.std.proofs.Common.{◌≡◌, ◌≤◌, length, map}
 use Rattle.file_text.specs.Node.{tree_of}
-use Rattle.graph_reader.specs.Walk.{named}
+use Rattle.graph_reader.specs.TreeSteps.{named}
 use Rattle.graph_reader.proofs.elements.split_named.Given as goal
 
 abbrev pub invariant-loop-left : goal.invariant-loop-left

@@ -1,5 +1,5 @@
 use Rattle.std.proofs.Common.{◌≡◌, length}
-use Rattle.graph_reader.specs.Walk.{first_value}
+use Rattle.graph_reader.specs.TreeSteps.{first_value}
 use Rattle.graph_reader.proofs.elements.value_named.Given as goal
 
 abbrev pub invariant-loop-left : goal.invariant-loop-left

@@ -1,4 +1,4 @@
-use Rattle.graph_reader.proofs.Decided.{one_table, one_fault, no_fault, keeps, timed}
+use Rattle.graph_reader.proofs.FilesDecide.{one_table, one_fault, no_fault, keeps, timed}
 use Rattle.graph_reader.proofs.laws.know_files.Goals as goal
 
 pub returns-clause-table : goal.returns-clause-table

@@ -1,7 +1,7 @@
 use Rattle.std.proofs.Common.{subst}
-use Rattle.graph_reader.specs.Walk.{Gives}
-use Rattle.graph_reader.specs.Numbers.{number, number_in}
-use Rattle.graph_reader.proofs.Digits.{formed-capped}
+use Rattle.graph_reader.specs.TreeSteps.{Gives}
+use Rattle.graph_reader.specs.NumberTexts.{number, number_in}
+use Rattle.graph_reader.proofs.NumberDigits.{formed-capped}
 use Rattle.graph_reader.proofs.numbers.number.Goals as goal
 
 pub returns-in-Some : goal.returns-in-Some

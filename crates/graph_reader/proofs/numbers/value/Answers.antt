@@ -1,5 +1,5 @@
 use Rattle.std.proofs.Common.{◌∙◌, arith, rules}
-use Rattle.graph_reader.proofs.Digits.{capped-more, capped-all}
+use Rattle.graph_reader.proofs.NumberDigits.{capped-more, capped-all}
 use Rattle.graph_reader.proofs.numbers.value.Goals as goal
 
 pub loop-digit-preserved : goal.loop-digit-preserved

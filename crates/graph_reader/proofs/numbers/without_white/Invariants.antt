@@ -1,6 +1,6 @@
 use Rattle.std.proofs.Common.{◌≡◌, length}
 use Rattle.file_text.specs.Grammar.{is_white}
-use Rattle.graph_reader.specs.Numbers.{drop_while}
+use Rattle.graph_reader.specs.NumberTexts.{drop_while}
 use Rattle.graph_reader.proofs.numbers.without_white.Given as goal
 
 abbrev pub invariant-loop-left : goal.invariant-loop-left

@@ -2,7 +2,7 @@ use Rattle.std.proofs.Common.{◌≡◌, length, map}
 use Rattle.std.specs.Prelude.{codes}
 use Rattle.std.specs.List.{find}
 use Rattle.file_text.specs.Node.{tree_of, children_of}
-use Rattle.graph_reader.specs.Walk.{named}
+use Rattle.graph_reader.specs.TreeSteps.{named}
 use Rattle.graph_reader.specs.Sections.{is_default}
 use Rattle.graph_reader.proofs.properties.counting_processor.Given as goal
 

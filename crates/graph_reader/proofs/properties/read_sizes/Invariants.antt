@@ -1,7 +1,7 @@
 use Rattle.std.proofs.Common.{◌≡◌, [], length, map}
 use Rattle.std.specs.Prelude.{codes}
 use Rattle.file_text.specs.Node.{tree_of}
-use Rattle.graph_reader.specs.Walk.{named, each}
+use Rattle.graph_reader.specs.TreeSteps.{named, each}
 use Rattle.graph_reader.specs.Sections.{size_entry}
 use Rattle.graph_reader.proofs.properties.read_sizes.Given as goal
 

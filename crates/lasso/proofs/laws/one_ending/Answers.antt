@@ -1,4 +1,4 @@
-use Rattle.lasso.proofs.Endings.{one-found, found-or-spent, found-or-many, spent-or-many, loop-or-spent, loop-or-many}
+use Rattle.lasso.proofs.OneEnding.{one-found, found-or-spent, found-or-many, spent-or-many, loop-or-spent, loop-or-many}
 use Rattle.lasso.proofs.laws.one_ending.Goals as goal
 
 pub returns-clause-table : goal.returns-clause-table

@@ -1,4 +1,4 @@
-use Rattle.lasso.proofs.Deciding.{many-passes, passes-many}
+use Rattle.lasso.proofs.EventsGoOn.{many-passes, passes-many}
 use Rattle.lasso.proofs.laws.starts_are_counted_to_the_first_repeat.Goals as goal
 
 pub returns : goal.returns

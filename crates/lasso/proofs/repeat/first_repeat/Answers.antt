@@ -1,6 +1,6 @@
 use Rattle.std.proofs.Common.{◌≡◌, ℕ, ◌+◌, ◌∙◌, refl, ap, length, arith}
 use Rattle.sd_base.specs.SelfTimed.{shape_at}
-use Rattle.selftimed.specs.Shapes.{form}
+use Rattle.selftimed.specs.EngineShapes.{form}
 use Rattle.lasso.proofs.Visiting.{no-visits, found-repeat, visits-more, ends-many, ends-spent}
 use Rattle.lasso.proofs.repeat.first_repeat.Goals as goal
 

@@ -1,5 +1,5 @@
 use Rattle.std.proofs.Common.{◌≡◌, length}
-use Rattle.lasso.specs.Visits.{AreVisits, StandsAt}
+use Rattle.lasso.specs.inside.Visits.{AreVisits, StandsAt}
 use Rattle.lasso.proofs.repeat.first_repeat.Given as goal
 
 abbrev pub invariant-events : goal.invariant-events

@@ -1,6 +1,6 @@
 use Rattle.std.proofs.Common.{◌≡◌, ◌-◌, ◌≤◌}
 use Rattle.selftimed.specs.declared.engine.Stage.TheVariants.{Running}
-use Rattle.lasso.specs.Collecting.{AreStartsAfter}
+use Rattle.lasso.specs.inside.Collecting.{AreStartsAfter}
 use Rattle.lasso.proofs.table.collect.Given as goal
 
 abbrev pub invariant-events : goal.invariant-events

@@ -3,7 +3,7 @@ use Rattle.std.specs.Prelude.{◌/◌, replicate, slice_index_or}
 use Rattle.std.proofs.lemmas.List.{take_at, get_or_default, length-replicate}
 use Rattle.sd_base.specs.Schedules.{HasInputs}
 use Rattle.sd_base.specs.SelfTimed.{IsEvent, starts_by}
-use Rattle.lasso.specs.Collecting.{AreStartsAfter}
+use Rattle.lasso.specs.inside.Collecting.{AreStartsAfter}
 use Rattle.lasso.proofs.Ranks.{starts-rise}
 use Rattle.lasso.proofs.Collected.{starts-none, empty-rows, table-from}
 use Rattle.lasso.proofs.table.loop_table.Goals as goal

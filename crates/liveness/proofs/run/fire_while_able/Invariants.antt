@@ -2,7 +2,7 @@ use Rattle.std.proofs.Common.{◌≡◌, ◌<◌}
 use Rattle.std.specs.Prelude.{slice_index}
 use Rattle.std.specs.Bool.{MatchBool}
 use Rattle.sd_base.proofs.Ends.{left_of}
-use Rattle.liveness.specs.Runs.{IsRun}
+use Rattle.liveness.specs.inside.UntimedRuns.{IsRun}
 use Rattle.liveness.proofs.run.fire_while_able.Given as goal
 
 abbrev pub invariant-firings : goal.invariant-firings

@@ -2,7 +2,7 @@ use Rattle.std.proofs.Common.{◌≡◌, ℕ, ◌<◌}
 use Rattle.std.specs.Prelude.{slice_index}
 use Rattle.std.specs.Bool.{MatchBool}
 use Rattle.sd_base.proofs.Ends.{left_of}
-use Rattle.liveness.specs.Runs.{IsRun, IsStopped}
+use Rattle.liveness.specs.inside.UntimedRuns.{IsRun, IsStopped}
 use Rattle.liveness.proofs.run.one_turn.Given as goal
 
 -- until an actor fires the counts are the first ones, and the actors that had their turn are stopped

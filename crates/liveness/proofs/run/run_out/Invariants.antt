@@ -1,6 +1,6 @@
 use Rattle.std.specs.Prelude.{slice_index}
 use Rattle.sd_base.proofs.Ends.{left_of}
-use Rattle.liveness.specs.Runs.{IsRun}
+use Rattle.liveness.specs.inside.UntimedRuns.{IsRun}
 use Rattle.liveness.proofs.run.run_out.Given as goal
 
 abbrev pub invariant-turns : goal.invariant-turns

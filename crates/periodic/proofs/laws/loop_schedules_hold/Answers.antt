@@ -1,4 +1,4 @@
-use Rattle.periodic.proofs.Virtual.{loop_holds}
+use Rattle.periodic.proofs.LoopsHold.{loop_holds}
 use Rattle.periodic.proofs.laws.loop_schedules_hold.Goals as goal
 
 pub returns : goal.returns

@@ -1,5 +1,5 @@
 use Rattle.std.proofs.Common.{◌*◌, length, ap}
-use Rattle.periodic.specs.Passes.{back_start}
+use Rattle.periodic.specs.inside.Passes.{back_start}
 use Rattle.periodic.proofs.MovedBack.{back-same, starts-more}
 use Rattle.periodic.proofs.passes.least_start.Goals as goal
 

@@ -1,5 +1,5 @@
 use Rattle.std.proofs.Common.{◌*◌}
-use Rattle.periodic.specs.Passes.{IsLeastStart}
+use Rattle.periodic.specs.inside.Passes.{IsLeastStart}
 use Rattle.periodic.proofs.passes.least_start.Given as goal
 
 abbrev pub invariant-loop-actor : goal.invariant-loop-actor

@@ -1,5 +1,5 @@
 use Rattle.std.proofs.Common.{◌≤◌}
-use Rattle.periodic.specs.Passes.{HasTurns}
+use Rattle.periodic.specs.inside.Passes.{HasTurns}
 use Rattle.periodic.proofs.passes.most_turns.Given as goal
 
 abbrev pub invariant-loop-actor : goal.invariant-loop-actor

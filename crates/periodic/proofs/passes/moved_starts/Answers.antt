@@ -1,5 +1,5 @@
 use Rattle.std.proofs.Common.{◌*◌, length, ap, arith}
-use Rattle.periodic.specs.Passes.{back_start, IsMoved}
+use Rattle.periodic.specs.inside.Passes.{back_start, IsMoved}
 use Rattle.periodic.proofs.MovedBack.{back-same, row-moved, rows-more, long-more}
 use Rattle.periodic.proofs.passes.moved_starts.Goals as goal
 

@@ -1,6 +1,6 @@
 use Rattle.std.proofs.Common.{◌≡◌, ℕ, ◌<◌, [], length}
 use Rattle.std.specs.Prelude.{slice_index_or}
-use Rattle.periodic.specs.Passes.{IsMoved}
+use Rattle.periodic.specs.inside.Passes.{IsMoved}
 use Rattle.periodic.proofs.passes.moved_starts.Given as goal
 
 abbrev pub invariant-loop-actor : goal.invariant-loop-actor

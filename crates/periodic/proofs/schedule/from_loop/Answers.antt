@@ -1,6 +1,6 @@
 use Rattle.std.proofs.Common.{refl}
 use Rattle.periodic.proofs.LoopStarts.{has-passes, loop-schedule, moved-small}
-use Rattle.periodic.proofs.Virtual.{loop_holds}
+use Rattle.periodic.proofs.LoopsHold.{loop_holds}
 use Rattle.periodic.proofs.schedule.from_loop.Goals as goal
 
 pub moved_starts-requires : goal.moved_starts-requires

@@ -1,4 +1,4 @@
-use Rattle.periodic.specs.Turns.{IsFed}
+use Rattle.periodic.specs.inside.FiniteTests.{IsFed}
 use Rattle.periodic.proofs.Needies.{each-more}
 use Rattle.periodic.proofs.turns.all_fed.Goals as goal
 

@@ -1,5 +1,5 @@
 use Rattle.std.proofs.Common.{ℕ, ◌<◌}
-use Rattle.periodic.specs.Turns.{IsFed}
+use Rattle.periodic.specs.inside.FiniteTests.{IsFed}
 use Rattle.periodic.proofs.turns.all_fed.Given as goal
 
 abbrev pub invariant-loop-channel : goal.invariant-loop-channel

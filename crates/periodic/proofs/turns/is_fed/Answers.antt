@@ -1,4 +1,4 @@
-use Rattle.periodic.specs.Turns.{InTime}
+use Rattle.periodic.specs.inside.FiniteTests.{InTime}
 use Rattle.periodic.proofs.Needies.{each-more}
 use Rattle.periodic.proofs.turns.is_fed.Goals as goal
 

@@ -1,5 +1,5 @@
 use Rattle.std.proofs.Common.{ℕ, ◌<◌}
-use Rattle.periodic.specs.Turns.{InTime}
+use Rattle.periodic.specs.inside.FiniteTests.{InTime}
 use Rattle.periodic.proofs.turns.is_fed.Given as goal
 
 abbrev pub invariant-loop-place : goal.invariant-loop-place

@@ -1,5 +1,5 @@
 use Rattle.std.proofs.Common.{◌∙◌}
-use Rattle.report.proofs.Steps.{rate_end}
+use Rattle.report.proofs.OneMoreElement.{rate_end}
 use Rattle.report.proofs.answers.rate_text.Goals as goal
 
 pub returns : goal.returns

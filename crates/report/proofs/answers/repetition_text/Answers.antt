@@ -1,7 +1,7 @@
 use Rattle.std.proofs.Common.{arith, refl, ◌∙◌, ap, length, List}
 use Rattle.sd_base.specs.declared.tables.ActorRow.{ActorRow}
-use Rattle.report.specs.Answers.{number_line, repetition_header}
-use Rattle.report.proofs.Steps.{lines_next, lines_start, lines_end}
+use Rattle.report.specs.AnswerTexts.{number_line, repetition_header}
+use Rattle.report.proofs.OneMoreElement.{lines_next, lines_start, lines_end}
 use Rattle.report.proofs.answers.repetition_text.Goals as goal
 
 pub loop-i-init : goal.loop-i-init

@@ -1,7 +1,7 @@
 use Rattle.std.proofs.Common.{◌≡◌, ◌++◌, drop}
 use Rattle.std.specs.String.{string_bytes}
-use Rattle.report.specs.Links.{actor_lines}
-use Rattle.report.specs.Answers.{number_line, repetition_lines}
+use Rattle.report.specs.LinkTexts.{actor_lines}
+use Rattle.report.specs.AnswerTexts.{number_line, repetition_lines}
 use Rattle.report.proofs.answers.repetition_text.Given as goal
 
 -- what is written and the lines that are left are the whole text

@@ -1,4 +1,4 @@
-use Rattle.report.proofs.Steps.{cycle_end}
+use Rattle.report.proofs.OneMoreElement.{cycle_end}
 use Rattle.report.proofs.cycles.put_cycle.Goals as goal
 
 pub returns : goal.returns

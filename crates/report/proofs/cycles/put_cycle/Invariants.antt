@@ -1,7 +1,7 @@
 use Rattle.std.proofs.Common.{◌≡◌, ◌++◌, take}
 use Rattle.std.specs.String.{string_bytes}
 use Rattle.std.specs.List.{flat_map}
-use Rattle.report.specs.Cycles.{step_on}
+use Rattle.report.specs.CycleTexts.{step_on}
 use Rattle.report.proofs.cycles.put_cycle.Given as goal
 
 abbrev pub invariant-loop-step : goal.invariant-loop-step

@@ -2,7 +2,7 @@ use Rattle.std.proofs.Common.{◌≡◌}
 use denote.Text.{Utf8}
 use denote.Shadow.{shadow}
 use Rattle.std.specs.String.{string_bytes}
-use Rattle.report.specs.Lacks.{lack_pieces}
+use Rattle.report.specs.LackTexts.{lack_pieces}
 use Rattle.report.proofs.Pieces.{joined, between}
 use Rattle.report.proofs.lacks.lacks_text.Given as goal
 

@@ -1,5 +1,5 @@
-use Rattle.report.specs.Names.{escaped_byte}
-use Rattle.report.proofs.Steps.{flat_next}
+use Rattle.report.specs.EscapedNames.{escaped_byte}
+use Rattle.report.proofs.OneMoreElement.{flat_next}
 use Rattle.report.proofs.names.put_escaped.Goals as goal
 
 pub loop-byte-preserved : goal.loop-byte-preserved

@@ -1,7 +1,7 @@
 use Rattle.std.proofs.Common.{arith, ap, ◌∙◌, List, ℕ, length}
 use Rattle.std.specs.Prelude.{slice_index_or}
-use Rattle.report.specs.Schedules.{starts_line}
-use Rattle.report.proofs.Steps.{lines_next, schedule_end}
+use Rattle.report.specs.ScheduleTexts.{starts_line}
+use Rattle.report.proofs.OneMoreElement.{lines_next, schedule_end}
 use Rattle.report.proofs.schedules.put_schedule.Goals as goal
 
 pub loop-i-preserved : goal.loop-i-preserved

@@ -1,7 +1,7 @@
 use Rattle.std.proofs.Common.{◌≡◌, ◌++◌, drop}
 use Rattle.std.specs.String.{string_bytes}
-use Rattle.report.specs.Links.{actor_lines}
-use Rattle.report.specs.Schedules.{starts_line}
+use Rattle.report.specs.LinkTexts.{actor_lines}
+use Rattle.report.specs.ScheduleTexts.{starts_line}
 use Rattle.report.proofs.schedules.put_schedule.Given as goal
 
 -- what is written and the lines that are left are the header and all lines

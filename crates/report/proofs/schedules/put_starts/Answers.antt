@@ -1,4 +1,4 @@
-use Rattle.report.proofs.Steps.{starts_end}
+use Rattle.report.proofs.OneMoreElement.{starts_end}
 use Rattle.report.proofs.schedules.put_starts.Goals as goal
 
 pub returns : goal.returns

@@ -1,7 +1,7 @@
 use Rattle.std.proofs.Common.{◌≡◌, ◌++◌, take}
 use Rattle.std.specs.String.{string_bytes}
 use Rattle.std.specs.List.{flat_map}
-use Rattle.report.specs.Schedules.{spaced}
+use Rattle.report.specs.ScheduleTexts.{spaced}
 use Rattle.report.proofs.schedules.put_starts.Given as goal
 
 abbrev pub invariant-loop-start : goal.invariant-loop-start

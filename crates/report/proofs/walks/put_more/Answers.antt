@@ -1,4 +1,4 @@
-use Rattle.report.proofs.Steps.{steps_next, steps_end}
+use Rattle.report.proofs.OneMoreElement.{steps_next, steps_end}
 use Rattle.report.proofs.walks.put_more.Goals as goal
 
 pub loop-step-preserved : goal.loop-step-preserved

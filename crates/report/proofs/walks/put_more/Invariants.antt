@@ -1,6 +1,6 @@
 use Rattle.std.proofs.Common.{◌≡◌, ◌++◌, drop}
 use Rattle.std.specs.String.{string_bytes}
-use Rattle.report.specs.Walks.{more_steps}
+use Rattle.report.specs.WalkTexts.{more_steps}
 use Rattle.report.proofs.walks.put_more.Given as goal
 
 -- what is written and the steps that are left are what was there and all steps

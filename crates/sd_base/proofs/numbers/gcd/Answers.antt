@@ -1,9 +1,12 @@
-use Rattle.std.proofs.lemmas.Nat.Gcd.{IsGcd-from_mod, IsGcd-from_zero}
-use Rattle.std.proofs.Common.{arith}
+use Rattle.std.proofs.Common.{ℕ, subst}
+use Rattle.std.specs.Int.{IsGcd}
+use Rattle.sd_base.proofs.Divisors.{gcd_below}
 use Rattle.sd_base.proofs.numbers.gcd.Goals as goal
 
-pub euclid-preserved : goal.euclid-preserved
-euclid-preserved c = λ g h. c.euclid.invariant g (IsGcd-from_mod c.euclid.high c.euclid.low g h)
-
 pub returns : goal.returns
-returns c = c.euclid.invariant c.euclid.high (IsGcd-from_zero c.euclid.high c.euclid.low (omega arith))
+returns c =
+    subst (λ (a : ℕ). IsGcd a c.args.b c.gcd_wide.result) c.from.ensures
+    (subst (λ (b : ℕ). IsGcd c.from.result b c.gcd_wide.result) c.from-2.ensures c.gcd_wide.ensures)
+
+pub overflow_cast-result : goal.overflow_cast-result
+overflow_cast-result c = record { fits = gcd_below c.args.a c.args.b c.gcd_wide.result 18446744073709551616 (returns c) c.ranges.a.fits c.ranges.b.fits }

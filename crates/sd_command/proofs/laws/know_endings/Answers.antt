@@ -1,4 +1,8 @@
-use Rattle.sd_command.proofs.Decided.{FileLaws, one_due, due_has_no_answer, due_is_answered, else_is_done}
+use Rattle.sd_command.specs.Endings.{DueIsOne}
+use Rattle.sd_command.proofs.SharedSteps.{FileLaws}
+use Rattle.sd_command.proofs.Commands.{course_decides}
+use Rattle.sd_command.proofs.Ended.{due_is_answered, else_is_done}
+use Rattle.sd_command.proofs.Complete.{throughput_is_complete}
 use Rattle.sd_command.proofs.laws.know_endings.Goals as goal
 
 -- what the calls tell
@@ -15,19 +19,24 @@ laws c = record {
     ends = c.ending_counts_are_one.ensures.one;
     live = c.blocking_counts_bound_each_schedule.ensures.live;
     spent = c.one_ending.ensures.spent_or_many;
+    not_spent = c.one_ending.ensures.not_spent;
+    not_many = c.one_ending.ensures.not_many;
     found_spent = c.one_ending.ensures.found_or_spent;
     found_many = c.one_ending.ensures.found_or_many;
   };
 }
 
-pub returns-clause-one : goal.returns-clause-one
-returns-clause-one c = one_due (laws c)
+one : goal.After-one_ending → DueIsOne
+one c words files refusal n m ending tells = course_decides (laws c) files tells words refusal n m ending
 
-pub returns-clause-refused : goal.returns-clause-refused
-returns-clause-refused c = due_has_no_answer (laws c)
+pub returns-clause-one : goal.returns-clause-one
+returns-clause-one c = one c
 
 pub returns-clause-due : goal.returns-clause-due
-returns-clause-due c = due_is_answered (laws c)
+returns-clause-due c = due_is_answered (one c)
 
 pub returns-clause-done : goal.returns-clause-done
 returns-clause-done c = else_is_done
+
+pub returns-clause-throughput : goal.returns-clause-throughput
+returns-clause-throughput c = throughput_is_complete (laws c)

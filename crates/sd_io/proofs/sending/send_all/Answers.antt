@@ -1,4 +1,4 @@
-use Rattle.std.proofs.Common.{◌≤◌, ◌-◌, ℕ, length, arith}
+use Rattle.std.proofs.Common.{◌≤◌, ◌-◌, ℕ, length, arith, ◌∙◌}
 use Rattle.std.proofs.lemmas.List.{length-take, length-drop}
 use Rattle.sd_io.proofs.Sent.{sent_more}
 use Rattle.sd_io.proofs.sending.send_all.Goals as goal
@@ -10,5 +10,5 @@ sending-preserved g c =
     record {
       within = omega (arith, few, c.sending-test.true);
       sent = sent_more _ _ _ _ _ _ few c.sending.invariant.sent c.in_ok-done.ensures.sent;
-      grows = omega (arith, c.send.ensures.grows);
+      quiet = c.in_ok-done.ensures.quiet ∙ c.sending.invariant.quiet;
     }

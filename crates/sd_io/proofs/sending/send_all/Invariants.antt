@@ -7,7 +7,7 @@ abbrev pub invariant-sending : goal.invariant-sending
 invariant-sending g l = record {
   within : l.done ≤ length l.text;
   sent : g.K.Sink.sent l.out ≡ with_sent (take l.done l.text) (g.K.Sink.sent l.initial.out);
-  grows : g.K.Sink.faults l.initial.out ≤ g.K.Sink.faults l.out;
+  quiet : g.K.Sink.faults l.out ≡ g.K.Sink.faults l.initial.out;
 }
 
 abbrev pub decreases-sending : goal.decreases-sending

@@ -1,5 +1,5 @@
 use Rattle.std.proofs.Common.{◌≡◌, replicate}
-use Rattle.selftimed.specs.Actors.{fresh_one}
+use Rattle.selftimed.specs.inside.Actors.{fresh_one}
 use Rattle.selftimed.proofs.actors.new_actors.Given as goal
 
 abbrev pub invariant-loop-actor : goal.invariant-loop-actor

@@ -1,8 +1,8 @@
 use Rattle.std.proofs.Common.{◌<◌, ◌∙◌, length, arith}
 use Rattle.std.specs.Prelude.{slice_index, slice_index_or}
 use Rattle.std.proofs.lemmas.List.{get_or_default}
-use Rattle.selftimed.specs.Actors.{idle}
-use Rattle.selftimed.proofs.Endings.{touches-more}
+use Rattle.selftimed.specs.inside.Actors.{idle}
+use Rattle.selftimed.proofs.FiringsEnd.{touches-more}
 use Rattle.selftimed.proofs.ends.touch_targets.Goals as goal
 
 pub loop-channel-preserved : goal.loop-channel-preserved

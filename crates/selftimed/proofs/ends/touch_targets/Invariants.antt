@@ -1,5 +1,5 @@
 use Rattle.std.proofs.Common.{◌≡◌}
-use Rattle.selftimed.proofs.Endings.{TouchesSoFar}
+use Rattle.selftimed.proofs.FiringsEnd.{TouchesSoFar}
 use Rattle.selftimed.proofs.ends.touch_targets.Given as goal
 
 abbrev pub invariant-loop-channel : goal.invariant-loop-channel

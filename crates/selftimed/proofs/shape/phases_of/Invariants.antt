@@ -1,7 +1,7 @@
 use Rattle.std.proofs.Common.{◌≡◌, ◌%◌, map}
 use Rattle.std.specs.List.{range_with_len}
 use Rattle.sd_base.specs.Schedules.{phases_at}
-use Rattle.selftimed.specs.Actors.{started_in}
+use Rattle.selftimed.specs.inside.Actors.{started_in}
 use Rattle.selftimed.proofs.shape.phases_of.Given as goal
 
 abbrev pub invariant-loop-actor : goal.invariant-loop-actor

@@ -1,6 +1,6 @@
 use Rattle.std.proofs.Common.{sym, ◌∙◌}
 use Rattle.std.proofs.lemmas.List.{get_or_default}
-use Rattle.selftimed.specs.Actors.{idle}
+use Rattle.selftimed.specs.inside.Actors.{idle}
 use Rattle.selftimed.proofs.Shaping.{past-at, remaining-more}
 use Rattle.selftimed.proofs.shape.remaining_of.Goals as goal
 

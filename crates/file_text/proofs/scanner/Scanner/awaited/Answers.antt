@@ -1,5 +1,5 @@
 use Rattle.std.proofs.Common.{◌≡◌, List, ℕ, sym, ◌∙◌, ap, slice_get}
-use Rattle.file_text.specs.Seen.{around_of, name_in}
+use Rattle.file_text.specs.inside.Seen.{around_of, name_in}
 use Rattle.file_text.proofs.Sees.{innermost_name}
 use Rattle.file_text.proofs.scanner.Scanner.awaited.Goals as goal
 

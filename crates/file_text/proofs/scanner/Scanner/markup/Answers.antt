@@ -1,5 +1,5 @@
 use Rattle.std.proofs.Common.{sym, ◌∙◌, refl}
-use Rattle.file_text.specs.Seen.{around_of}
+use Rattle.file_text.specs.inside.Seen.{around_of}
 use Rattle.file_text.proofs.Sees.{inside, closes_inside}
 use Rattle.file_text.proofs.scanner.Scanner.markup.Goals as goal
 

@@ -1,4 +1,4 @@
-use Rattle.periodic.specs.Passes.{back_start}
+use Rattle.periodic.specs.inside.Passes.{back_start}
 use Rattle.periodic.proofs.MovedBack.{least-more}
 use Rattle.periodic.proofs.passes.Pass.least.Goals as goal
 

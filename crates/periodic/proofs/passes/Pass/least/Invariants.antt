@@ -1,4 +1,4 @@
-use Rattle.periodic.specs.Passes.{back_start, IsLeast}
+use Rattle.periodic.specs.inside.Passes.{back_start, IsLeast}
 use Rattle.periodic.proofs.passes.Pass.least.Given as goal
 
 abbrev pub invariant-loop-place : goal.invariant-loop-place

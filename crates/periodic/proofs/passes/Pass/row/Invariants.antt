@@ -1,7 +1,7 @@
 use Rattle.std.proofs.Common.{◌≡◌, ℕ, ◌-◌, ◌≤◌, ◌^◌, map}
 use Rattle.std.specs.Prelude.{slice_index}
 use Rattle.std.specs.List.{range_with_len}
-use Rattle.periodic.specs.Passes.{back_start}
+use Rattle.periodic.specs.inside.Passes.{back_start}
 use Rattle.periodic.proofs.passes.Pass.row.Given as goal
 
 abbrev pub invariant-loop-place : goal.invariant-loop-place

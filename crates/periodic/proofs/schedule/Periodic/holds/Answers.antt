@@ -1,5 +1,5 @@
 use Rattle.std.proofs.Common.{arith}
-use Rattle.periodic.proofs.Cuts.{fed-decides, rise-decides}
+use Rattle.periodic.proofs.TestsDecide.{fed-decides, rise-decides}
 use Rattle.periodic.proofs.schedule.Periodic.holds.Goals as goal
 
 pub returns-then-all_rise : goal.returns-then-all_rise

@@ -1,4 +1,5 @@
-use Rattle.std.proofs.Common.{arith}
+use Rattle.std.proofs.Math.Nat.{mul-div_cancel'}
+use Rattle.std.proofs.Common.{sym, arith}
 use Rattle.sd_base.proofs.Divisors.{gcd_pos, quotient_pos, quotients, reduced_same}
 use Rattle.std.proofs.lemmas.Nat.Gcd.{IsGcd-swap}
 use Rattle.sd_base.proofs.numbers.Fraction.new.Goals as goal
@@ -16,4 +17,7 @@ invariant_of-result c = record {
 }
 
 pub returns : goal.returns
-returns c = reduced_same c.args.n c.args.d c.gcd-common.result c.gcd-common.ensures.0 c.gcd-common.ensures.1
+returns c = record {
+  same = reduced_same c.args.n c.args.d c.gcd-common.result c.gcd-common.ensures.0 c.gcd-common.ensures.1;
+  common = (c.gcd-common.result, sym (mul-div_cancel' c.gcd-common.result c.gcd-common.ensures.0), sym (mul-div_cancel' c.gcd-common.result c.gcd-common.ensures.1));
+}

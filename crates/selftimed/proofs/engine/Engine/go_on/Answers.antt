@@ -14,7 +14,8 @@ returns-then-not-fits-clause-moved g c = moved-spent (g.F.Firing.net c.args.self
 pub returns-clause-moved : goal.returns-clause-moved
 returns-clause-moved g c = moved-step (g.F.Firing.net c.args.self.now.net.now) (g.met.F.Firing.lawful c.args.self.now.net.now) c.args.self.now.moment c.args.self.now.most c.args.self.now.actors.items c.args.self.now.tokens.items c.args.self.now.all
     (c.args.self.now.stands c.requires) c.in-Some.moment (first-from (g.F.Firing.net c.args.self.now.net.now) c.args.self.now.actors.items (heap_items c.args.self.now.agenda.ends) c.args.self.now.agenda.touched.items (c.args.self.now.goes c.requires) c.in-Some.moment c.in-Some.ensures) c.args.self.now.stage c.requires
-    c.step_to.new.actors.items c.step_to.new.tokens.items c.step_to.new.all (rw c.if-not-fits.false at c.in_ok-fits.ensures.fits)
+    c.follow.new.actors c.follow.new.tokens c.follow.new.all (rw c.if-not-fits.false at c.in_ok-fits.ensures.fits)
 
-pub step_to-requires-clause-next : goal.step_to-requires-clause-next
-step_to-requires-clause-next g c = first-from (g.F.Firing.net c.args.self.now.net.now) c.args.self.now.actors.items (heap_items c.args.self.now.agenda.ends) c.args.self.now.agenda.touched.items (c.args.self.now.goes c.requires) c.in-Some.moment c.in-Some.ensures
+pub follow-requires-clause-next : goal.follow-requires-clause-next
+follow-requires-clause-next g c = rw c.as_mut_slice.ensures.value
+    (first-from (g.F.Firing.net c.args.self.now.net.now) c.args.self.now.actors.items (heap_items c.args.self.now.agenda.ends) c.args.self.now.agenda.touched.items (c.args.self.now.goes c.requires) c.in-Some.moment c.in-Some.ensures)

@@ -3,4 +3,4 @@ use Rattle.selftimed.proofs.engine.Engine.go_to_start.Goals as goal
 
 pub returns-clause-moved : goal.returns-clause-moved
 returns-clause-moved g c = begun-step (g.F.Firing.net c.args.self.now.net.now) (g.met.F.Firing.lawful c.args.self.now.net.now) c.args.self.now.moment c.args.self.now.most c.args.self.now.stage c.requires
-    c.begin.new.actors.items c.begin.new.tokens.items c.begin.new.all (rw c.if-not-fits.false at c.in_ok-fits.ensures.fits)
+    c.begin.new.actors c.begin.new.tokens c.begin.new.all (rw c.if-not-fits.false at c.in_ok-fits.ensures.fits) c.if-self-eq0.false

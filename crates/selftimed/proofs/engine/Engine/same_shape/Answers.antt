@@ -1,6 +1,6 @@
 use Rattle.std.proofs.Common.{refl}
 use Rattle.std.proofs.lemmas.Bool.{false≢true}
-use Rattle.selftimed.proofs.Standing.{stands-past, shape-tokens, shape-phases, shape-remaining, shape-same}
+use Rattle.selftimed.proofs.ExecutionStands.{stands-past, shape-tokens, shape-phases, shape-remaining, shape-same}
 use Rattle.selftimed.proofs.engine.Engine.same_shape.Goals as goal
 
 pub returns-then-not-same_tokens : goal.returns-then-not-same_tokens

@@ -1,5 +1,5 @@
 use Rattle.std.proofs.Common.{◌∙◌}
-use Rattle.selftimed.proofs.Standing.{stands-past, shape-is}
+use Rattle.selftimed.proofs.ExecutionStands.{stands-past, shape-is}
 use Rattle.selftimed.proofs.engine.Engine.shape.Goals as goal
 
 pub remaining_of-requires : goal.remaining_of-requires

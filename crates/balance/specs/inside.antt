@@ -1,0 +1,4 @@
+pub mod Lists
+pub mod Ratios
+pub mod Reaching
+pub mod Search

@@ -1,0 +1,5 @@
+pub mod Exits
+pub mod Machine
+pub mod AttributeNames
+pub mod Seen
+pub mod Utf8

@@ -1,0 +1,70 @@
+-- Cutting a number out of a text, and its value up to a greatest one.
+use Rattle.std.proofs.Common.{◌≡◌, ℕ, suc, ◌+◌, ◌*◌, ◌-◌, ◌<◌, ◌≤◌, Bool, true, false, cond, List, [], ◌∷◌, length, get_or, take, drop, min, refl, sym, ap, ◌∙◌, arith, add-one, drop-cons, Option, Some, None, Result, Ok, Err, inl, inr}
+use Rattle.std.specs.List.{fold, take_while, prefix_len}
+use Rattle.std.proofs.lemmas.List.{drop_all}
+use Rattle.std.proofs.lemmas.List.Folds.{length-prefix_len}
+use Rattle.std.proofs.lemmas.Bool.{cases_lt, lt-ltb}
+use Rattle.std.specs.Option.{option_map}
+use Rattle.sd_base.specs.declared.limits.Quantity.{Quantity}
+use Rattle.graph_reader.specs.declared.field.Field.{Field}
+use Rattle.graph_reader.specs.declared.error.ReadError.{ReadError}
+use Rattle.graph_reader.specs.declared.error.ReadError.TheVariants.{Limit}
+use Rattle.graph_reader.specs.TreeSteps.{◌>>=◌}
+use Rattle.graph_reader.specs.NumberTexts.{drop_while, with_digit, value, within, formed}
+
+drop-prefix_len : (p : ℕ → Bool) (xs : List ℕ) → drop (prefix_len p xs) xs ≡ drop_while p xs
+drop-prefix_len p [] = refl
+drop-prefix_len p (x ∷ xs) =
+    elim (p x) as (λ b. drop (cond b (1 + prefix_len p xs) 0) (x ∷ xs) ≡ cond b (drop_while p xs) (x ∷ xs)) [
+      | true ↦
+          let one : 1 + prefix_len p xs ≡ suc (prefix_len p xs) = omega arith in
+          rw one (drop-prefix_len p xs)
+      | false ↦ refl
+    ]
+
+pub take_while_cut : (p : ℕ → Bool) (xs : List ℕ) (n : ℕ) → n ≡ length (take_while p xs) → take n xs ≡ take_while p xs
+take_while_cut p xs n is = ap (λ k. take k xs) (is ∙ length-prefix_len p xs)
+
+pub drop_while_cut : (p : ℕ → Bool) (xs : List ℕ) (n : ℕ) → n ≡ length (take_while p xs) → drop n xs ≡ drop_while p xs
+drop_while_cut p xs n is = ap (λ k. drop k xs) (is ∙ length-prefix_len p xs) ∙ drop-prefix_len p xs
+
+-- numbers that are the same up to a greatest one stay so with more digits
+capped : (c : ℕ) (ds : List ℕ) (m n : ℕ) → min m c ≡ min n c → min (fold with_digit m ds) c ≡ min (fold with_digit n ds) c
+capped c [] m n h = h
+capped c (d ∷ ds) m n h =
+    let next : min (with_digit m d) c ≡ min (with_digit n d) c = omega arith in
+    capped c ds (with_digit m d) (with_digit n d) next
+
+pub capped-more : (c : ℕ) (ds : List ℕ) (i n m : ℕ) → i < length ds → m ≡ min (n * 10 + (get_or ds i 0 - 48)) c → min (fold with_digit m (drop (i + 1) ds)) c ≡ min (fold with_digit n (drop i ds)) c
+capped-more c ds i n m lt is =
+    let first : drop i ds ≡ get_or ds i 0 ∷ drop (i + 1) ds = rw add-one (drop-cons ds i 0 lt) in
+    let same : min m c ≡ min (with_digit n (get_or ds i 0)) c = omega arith in
+    capped c (drop (i + 1) ds) m (with_digit n (get_or ds i 0)) same ∙ ap (λ t. min (fold with_digit n t) c) (sym first)
+
+pub capped-all : (c : ℕ) (ds : List ℕ) (i n : ℕ) → length ds ≤ i → n ≤ c → min (fold with_digit n (drop i ds)) c ≡ min (fold with_digit 0 ds) c → n ≡ min (value ds) c
+unfolding value
+capped-all c ds i n past few h =
+    let none : drop i ds ≡ [] = drop_all i ds past in
+    let same : min n c ≡ min (fold with_digit 0 ds) c = sym (ap (λ t. min (fold with_digit n t) c) none) ∙ h in
+    let here : n ≡ min n c = omega arith in
+    here ∙ same
+
+-- a number that was held at a greatest one above the limit is within the limit if the number itself is
+within-capped : (quantity : Quantity) (limit c n m : ℕ) → limit < c → m ≡ min n c → within quantity limit m ≡ within quantity limit n
+unfolding within
+within-capped quantity limit c n m lt is =
+    let choose : Bool → ℕ → Result ℕ ReadError = λ b k. cond b (Err (Limit quantity)) (Ok k) in
+    elim (cases_lt limit n) [
+      | inl above ↦
+          let other : limit < m = omega arith in
+          ap (λ b. choose b m) (lt-ltb limit m other) ∙ sym (ap (λ b. choose b n) (lt-ltb limit n above))
+      | inr below ↦
+          let same : m ≡ n = omega arith in
+          rw same refl
+    ]
+
+pub formed-capped : (what : Field) (of : List ℕ) (quantity : Quantity) (limit c m : ℕ) (o : Option ℕ) → limit < c → Some m ≡ option_map (λ n. min n c) o → within quantity limit m ≡ (formed what of o >>= λ n. within quantity limit n)
+formed-capped what of quantity limit c m None lt e = absurd cc
+formed-capped what of quantity limit c m (Some n) lt e =
+    let same : m ≡ min n c = cc in
+    within-capped quantity limit c n m lt same

@@ -1,4 +1,0 @@
-pub mod Walks
-pub mod Cases
-pub mod TwoSpaces
-pub mod TwoPhases

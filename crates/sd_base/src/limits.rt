@@ -1,0 +1,166 @@
+//! The greatest number of each quantity that has one. A limit is written here alone: code, contracts and printed
+//! lines cite it by its name.
+ghost use Rattle.std.specs.Prelude.{◌≡◌};
+ghost use Rattle.sd_base.specs.Limits.{greatest_of};
+
+/// What has a greatest number: a count, a number of a file, or what an analysis may use.
+#[derive(Clone, Copy, Debug, PartialEq, Eq)]
+pub enum Quantity {
+    /// Bytes of a graph file.
+    FileBytes,
+    /// Bytes of a certificate.
+    CertificateBytes,
+    /// Elements that are open at one place.
+    Depth,
+    /// Bytes of a name.
+    NameBytes,
+    /// Actors of a graph.
+    Actors,
+    /// Channels of a graph.
+    Channels,
+    /// Ports of a graph.
+    Ports,
+    /// Phases of an actor.
+    Phases,
+    /// Tokens that one firing makes or takes on a channel.
+    Rate,
+    /// Initial tokens of a channel.
+    Tokens,
+    /// The memory that one token needs.
+    Size,
+    /// The execution time of a firing, in time units.
+    Time,
+    /// Either part of the ratio of a walk.
+    Ratio,
+    /// Firings of a round.
+    Round,
+    /// Starts of one execution, up to and with the first shape that comes again.
+    Starts,
+    /// Scenarios of a file.
+    Scenarios,
+    /// States of an automaton.
+    AutomatonStates,
+    /// States times shared tokens.
+    Nodes,
+    /// Firings of a scenario's round times shared tokens.
+    Stamps,
+    /// Edges of a timed graph.
+    Edges,
+    /// A number of a certificate.
+    CertificateNumber,
+}
+
+pub const FILE_BYTES: u64 = 4_194_304;
+
+pub const CERTIFICATE_BYTES: u64 = 268_435_456;
+
+pub const DEPTH: u64 = 32;
+
+pub const NAME_BYTES: u64 = 128;
+
+pub const ACTORS: u64 = 128;
+
+pub const CHANNELS: u64 = 256;
+
+pub const PORTS: u64 = 1_024;
+
+pub const PHASES: u64 = 4_096;
+
+pub const RATE: u64 = 1_000_000;
+
+pub const TOKENS: u64 = 1_000_000;
+
+pub const SIZE: u64 = 1_000_000;
+
+pub const TIME: u64 = 1_000_000_000;
+
+pub const RATIO: u64 = 100_000;
+
+pub const ROUND: u64 = 100_000;
+
+pub const STARTS: u64 = 4_000_000;
+
+pub const SCENARIOS: u64 = 64;
+
+pub const AUTOMATON_STATES: u64 = 256;
+
+pub const NODES: u64 = 1_024;
+
+pub const STAMPS: u64 = 4_000_000;
+
+pub const EDGES: u64 = 65_536;
+
+pub const CERTIFICATE_NUMBER: u64 = u64::MAX;
+
+/// Channels of a net: those of a graph with the spaces, own channels and order channels that are added to them.
+pub const NET_CHANNELS: u64 = 768;
+
+/// Tokens of a channel of a net: those of a graph, or the free space of a capacity.
+pub const NET_TOKENS: u64 = 2_000_000_000;
+
+/// The start of a firing in a schedule that is handed in, in time units.
+pub const START: u128 = 1_267_650_600_228_229_401_496_703_205_376;
+
+/// The least and the greatest number of shapes that an execution may see before one comes again, and how many
+/// it may see where nothing is said.
+pub const LEAST_STATES: u64 = 1;
+
+pub const STATES: u64 = 200_000;
+
+pub const USUAL_STATES: u64 = 20_000;
+
+/// The same of the storage distributions that an exploration may find.
+pub const LEAST_DISTRIBUTIONS: u64 = 1;
+
+pub const DISTRIBUTIONS: u64 = 1_000_000;
+
+pub const USUAL_DISTRIBUTIONS: u64 = 10_000;
+
+/// The memory of all channels together up to which storage distributions are explored.
+pub const STORAGE: u64 = 1_000_000_000;
+
+/// The capacity of one channel that words name, in tokens.
+pub const CAPACITY: u64 = 1_000_000;
+
+/// What an exploration of storage distributions may use.
+#[derive(Clone, Copy, Debug, PartialEq, Eq)]
+pub struct Limits {
+    /// The greatest memory of a distribution, over all its channels.
+    pub total: u64,
+    /// Shapes of one execution before one comes again.
+    pub states: u64,
+    /// Distributions that are found.
+    pub distributions: u64,
+}
+
+impl Quantity {
+    /// The greatest number of the quantity, in what its variant says.
+    #[tactic(auto, unfolding(crate::specs::Limits::greatest_of))]
+    pub fn greatest(self) -> u64
+        ensures { result ≡ greatest_of self }
+    {
+        match self {
+            Quantity::FileBytes => FILE_BYTES,
+            Quantity::CertificateBytes => CERTIFICATE_BYTES,
+            Quantity::Depth => DEPTH,
+            Quantity::NameBytes => NAME_BYTES,
+            Quantity::Actors => ACTORS,
+            Quantity::Channels => CHANNELS,
+            Quantity::Ports => PORTS,
+            Quantity::Phases => PHASES,
+            Quantity::Rate => RATE,
+            Quantity::Tokens => TOKENS,
+            Quantity::Size => SIZE,
+            Quantity::Time => TIME,
+            Quantity::Ratio => RATIO,
+            Quantity::Round => ROUND,
+            Quantity::Starts => STARTS,
+            Quantity::Scenarios => SCENARIOS,
+            Quantity::AutomatonStates => AUTOMATON_STATES,
+            Quantity::Nodes => NODES,
+            Quantity::Stamps => STAMPS,
+            Quantity::Edges => EDGES,
+            Quantity::CertificateNumber => CERTIFICATE_NUMBER,
+        }
+    }
+}

@@ -1,0 +1,59 @@
+-- The words and files decide a command where they decide each of its steps.
+use Rattle.std.proofs.Common.{◌≡◌, ℕ, ◌⊎◌, inl, inr, sym, ap, subst, ◌∙◌}
+use Rattle.report.specs.declared.refusal.Refusal.{Refusal}
+use Rattle.sd_command.specs.declared.answer.Answer.{Answer}
+use Rattle.sd_command.specs.Courses.{Step, Ending, Answered, Refused, Ended, Failed, Lacking, After, Analysis, ends_by, refused, failed, lacking, passed}
+use Rattle.sd_command.specs.Endings.{IsCutOff}
+
+-- a step passes on one value, or has one refusal
+pub record Determines {A : Type 0} (step : Step A) : Type 0 where
+  pub one : (a b : A) → step.passes a → step.passes b → a ≡ b
+  pub refusal : (r s : Refusal) → step.refuses r → step.refuses s → r ≡ s
+  pub never : (r : Refusal) (a : A) → step.refuses r → step.passes a → ⊥
+
+-- a command that has a refusal ends by it, unless it is cut off
+abbrev pub Decides : (Ending → ℕ → Type 0) → Type 0
+Decides command = (r : Refusal) (n m : ℕ) (ending : Ending) → command (Refused r) n → command ending m → IsCutOff ending ⊎ ((ending ≡ Refused r) × (m ≡ n))
+
+module _ {A : Type 0} (step : Step A) (next : A → Ending → ℕ → Type 0) where
+  -- a step that determines, and then what decides
+  pub after_decides : Determines step → ((a : A) → step.passes a → Decides (next a)) → Decides (After step next)
+  after_decides d rest r n m ending (refused s is e none) (refused t also f none') =
+      inr (f ∙ ap (λ (x : Refusal). Refused x) (d.refusal t s also is) ∙ sym e, none' ∙ sym none)
+  after_decides d rest r n m ending (refused s is e none) (failed t also f none') = inl (subst IsCutOff (sym f) tt)
+  after_decides d rest r n m ending (refused s is e none) (lacking f none') = inl (subst IsCutOff (sym f) tt)
+  after_decides d rest r n m ending (refused s is e none) (passed a also came) = absurd (d.never s a is also)
+  after_decides d rest r n m ending (failed s is e none) other = absurd (cc)
+  after_decides d rest r n m ending (lacking e none) other = absurd (cc)
+  after_decides d rest r n m ending (passed a is came) (refused t also f none') = absurd (d.never t a also is)
+  after_decides d rest r n m ending (passed a is came) (failed t also f none') = inl (subst IsCutOff (sym f) tt)
+  after_decides d rest r n m ending (passed a is came) (lacking f none') = inl (subst IsCutOff (sym f) tt)
+  after_decides d rest r n m ending (passed a is came) (passed b also came') =
+      rest a is r n m ending came (subst (λ (x : A). next x ending m) (d.one b a also is) came')
+
+  -- a command that is refused after executions has passed the step
+  pub passes_on : (r : Refusal) (n : ℕ) → (n ≡ 0 → ⊥) → After step next (Refused r) n → (a : A) × step.passes a × next a (Refused r) n
+  passes_on r n late (refused s is e none) = absurd (late none)
+  passes_on r n late (failed s is e none) = absurd (late none)
+  passes_on r n late (lacking e none) = absurd (late none)
+  passes_on r n late (passed a is came) = (a, is, came)
+
+  -- what nothing that follows can end, nothing ends
+  pub never_ends : (r : Refusal) (n : ℕ) → ((a : A) → step.passes a → next a (Ended r) n → ⊥) → After step next (Ended r) n → ⊥
+  never_ends r n rest (refused s is e none) = absurd (cc)
+  never_ends r n rest (failed s is e none) = absurd (cc)
+  never_ends r n rest (lacking e none) = absurd (cc)
+  never_ends r n rest (passed a is came) = rest a is came
+
+-- what the last part of a command decides
+pub record DecidesLast (a : Analysis) : Type 0 where
+  pub one : (r s : Refusal) (n m : ℕ) → a.refused r n → a.refused s m → (s ≡ r) × (m ≡ n)
+  pub no_answer : (r : Refusal) (answer : Answer) (n m : ℕ) → a.refused r n → a.answered answer m → ⊥
+  pub no_end : (r s : Refusal) (n m : ℕ) → a.refused r n → a.ended s m → ⊥
+
+pub last_decides : (a : Analysis) → DecidesLast a → Decides (ends_by a)
+last_decides a d r n m (Answered answer) is also = absurd (d.no_answer r answer n m is also)
+last_decides a d r n m (Refused s) is also = let e = d.one r s n m is also in inr (ap (λ (x : Refusal). Refused x) e.0, e.1)
+last_decides a d r n m (Ended s) is also = absurd (d.no_end r s n m is also)
+last_decides a d r n m (Failed s) is also = absurd also
+last_decides a d r n m Lacking is also = inl tt

@@ -1,0 +1,87 @@
+-- From what steps do to how a command goes.
+use Rattle.std.proofs.Common.{◌≡◌, ℕ, Bool, List, None, Result, Ok, Err, refl, sym, subst, inl, inr, arith}
+use Rattle.sd_base.specs.declared.tables.GraphFile.{GraphFile}
+use Rattle.sd_base.specs.Net.{Net}
+use Rattle.lasso.specs.LoopAnswers.{IsFound}
+use Rattle.sd_command.specs.declared.answer.Answer.{Answer}
+use Rattle.sd_command.specs.declared.stop.Stop.{Stop}
+use Rattle.sd_command.specs.declared.stop.Stop.TheVariants as stop
+use Rattle.sd_command.specs.Courses.{Step, deciding, Ending, Answered, Refused, Failed, Lacking, After, ends_by, refused, failed, lacking, passed}
+use Rattle.balance.specs.Repetition.{IsRound}
+use Rattle.graph_reader.specs.Laws.{Gives}
+use Rattle.sd_command.specs.declared.file_kind.FileKind.TheVariants.{Graph}
+use Rattle.sd_command.specs.Takings.{Files, IsTaken, taking}
+use Rattle.sd_command.specs.Readings.{reading_graph}
+use Rattle.sd_command.specs.Balances.{balancing}
+use Rattle.sd_command.specs.RateAnswers.{IsRateText, IsRunRefusal, execution}
+use Rattle.sd_command.specs.Repetitions.{printing}
+use Rattle.sd_command.specs.inside.Going.{Does, Takes, Goes}
+
+module _ {A : Type 0} (step : Step A) (next : A → Ending → ℕ → Type 0) (n : ℕ) (none : n ≡ 0) where
+  -- a step stops
+  pub step_stops : (why : Stop) (faults : ℕ) → Does step (Err why) → Goes (After step next) (Err why) n faults faults
+  step_stops (stop.Refused refusal) faults is = record { ending = Refused refusal; is = refl; came = refused refusal is refl none; counted = refl }
+  step_stops stop.OutOfMemory faults is = record { ending = Lacking; is = refl; came = lacking refl none; counted = refl }
+
+  -- one that takes a file does
+  pub taking_stops : (why : Stop) (faults faults' : ℕ) → Takes step (Err why) faults faults' → Goes (After step next) (Err why) n faults faults'
+  taking_stops (stop.Refused refusal) faults faults' (inl (is, same)) = record { ending = Refused refusal; is = refl; came = refused refusal is refl none; counted = same }
+  taking_stops (stop.Refused refusal) faults faults' (inr (is, rose)) = record { ending = Failed refusal; is = refl; came = failed refusal is refl none; counted = rose }
+  taking_stops stop.OutOfMemory faults faults' same = record { ending = Lacking; is = refl; came = lacking refl none; counted = same }
+
+-- after a step that passes a value on, the command goes as what follows
+pub goes_on : {A : Type 0} (step : Step A) (next : A → Ending → ℕ → Type 0) (a : A) (result : Result Answer Stop) (n faults faults' : ℕ) → step.passes a
+    → Goes (next a) result n faults faults' → Goes (After step next) result n faults faults'
+goes_on step next a result n faults faults' is goes = record { ending = goes.ending; is = goes.is; came = passed a is goes.came; counted = goes.counted }
+
+module _ (graph : GraphFile) (net : Net) (states n : ℕ) (one : n ≡ 1) (faults : ℕ) where
+  -- an execution stops
+  pub run_stops : (why : Stop) → Does (deciding (IsFound net states) (IsRunRefusal net states)) (Err why) → Goes (ends_by (execution graph net states)) (Err why) n faults faults
+  run_stops (stop.Refused refusal) is = record { ending = Refused refusal; is = refl; came = (one, is); counted = refl }
+  run_stops stop.OutOfMemory is = record { ending = Lacking; is = refl; came = omega arith; counted = refl }
+
+  -- it answers with the text of the rate
+  pub run_answers : (answer : Answer) → IsRateText graph net states answer.text → answer.put ≡ None → Goes (ends_by (execution graph net states)) (Ok answer) n faults faults
+  run_answers answer is none = record { ending = Answered answer; is = refl; came = (one, record { text = is; put = none }); counted = refl }
+
+-- a text answers
+pub print_answers : (text : List ℕ) (answer : Answer) (faults : ℕ) → answer.text ≡ text → answer.put ≡ None → Goes (ends_by (printing text)) (Ok answer) 0 faults faults
+print_answers text answer faults is none = record { ending = Answered answer; is = refl; came = (refl, is, none); counted = refl }
+
+pub print_lacks : (text : List ℕ) (faults : ℕ) → Goes (ends_by (printing text)) (Err stop.OutOfMemory) 0 faults faults
+print_lacks text faults = record { ending = Lacking; is = refl; came = refl; counted = refl }
+
+-- nothing more was counted
+pub same_count : (command : Ending → ℕ → Type 0) (result : Result Answer Stop) (n faults faults' : ℕ) → faults' ≡ faults
+    → Goes command result n faults faults → Goes command result n faults faults'
+same_count command result n faults faults' same goes = subst (λ (f : ℕ). Goes command result n faults f) (sym same) goes
+
+-- Commands that begin by taking, reading and balancing a graph file.
+module _ (files : Files) (name : List ℕ) (times : Bool) (next : GraphFile → List ℕ → Ending → ℕ → Type 0) where
+  abbrev of_graph : List ℕ → GraphFile → Ending → ℕ → Type 0
+  of_graph bytes graph = After (balancing graph) (λ gamma. next graph gamma)
+
+  abbrev of_bytes : List ℕ → Ending → ℕ → Type 0
+  of_bytes bytes = After (reading_graph bytes times) (λ graph. of_graph bytes graph)
+
+  abbrev pub of_file : Ending → ℕ → Type 0
+  of_file = After (taking files Graph name) (λ bytes. of_bytes bytes)
+
+  module _ (bytes shown : List ℕ) (n faults faults' : ℕ) (took : IsTaken files Graph name bytes × (faults' ≡ faults)) (same : shown ≡ bytes) where
+    from_bytes : (result : Result Answer Stop) → Goes (of_bytes shown) result n faults faults → Goes of_file result n faults faults'
+    from_bytes result goes =
+        same_count of_file result n faults faults' took.1
+        (goes_on (taking files Graph name) (λ b. of_bytes b) bytes result n faults faults took.0 (subst (λ (b : List ℕ). Goes (of_bytes b) result n faults faults) same goes))
+
+    pub reading_stops : (why : Stop) → n ≡ 0 → Does (reading_graph shown times) (Err why) → Goes of_file (Err why) n faults faults'
+    reading_stops why none is = from_bytes (Err why) (step_stops (reading_graph shown times) (λ graph. of_graph shown graph) n none why faults is)
+
+    module _ (graph : GraphFile) (read : Gives shown times graph) where
+      from_graph : (result : Result Answer Stop) → Goes (of_graph shown graph) result n faults faults → Goes of_file result n faults faults'
+      from_graph result goes = from_bytes result (goes_on (reading_graph shown times) (λ g. of_graph shown g) graph result n faults faults read goes)
+
+      pub balancing_stops : (why : Stop) → n ≡ 0 → Does (balancing graph) (Err why) → Goes of_file (Err why) n faults faults'
+      balancing_stops why none is = from_graph (Err why) (step_stops (balancing graph) (λ gamma. next graph gamma) n none why faults is)
+
+      pub balanced_goes : (gamma : List ℕ) (result : Result Answer Stop) → IsRound graph gamma → Goes (next graph gamma) result n faults faults → Goes of_file result n faults faults'
+      balanced_goes gamma result round goes = from_graph result (goes_on (balancing graph) (λ v. next graph v) gamma result n faults faults round goes)

@@ -1,0 +1,13 @@
+use Rattle.std.proofs.Common.{arith}
+use Rattle.std.proofs.lemmas.Result.{err_from_is_err_and}
+use Rattle.sd_command.specs.Requests.{asking}
+use Rattle.sd_command.proofs.Goings.{step_stops, goes_on}
+use Rattle.sd_command.proofs.requests.answer_of.Goals as goal
+
+pub returns-in_err-request-clause-goes : goal.returns-in_err-request-clause-goes
+returns-in_err-request-clause-goes g c =
+    let p = err_from_is_err_and c.from_residual.result c.from_residual.ensures.1 in
+    rw (p.1, p.2) (step_stops (asking c.args.words.now) _ _ (omega arith) _ _ c.in_err-request.ensures.does)
+
+pub returns-clause-goes : goal.returns-clause-goes
+returns-clause-goes g c = goes_on (asking c.args.words.now) _ _ _ _ _ _ c.in_ok-request.ensures.does c.command_answer.ensures.goes

@@ -1,0 +1,45 @@
+-- A command as a course of steps, which is the order in which it is refused.
+use Rattle.std.specs.Prelude.{◌≡◌, ℕ}
+use Rattle.report.specs.declared.refusal.Refusal.{Refusal}
+use Rattle.sd_command.specs.declared.answer.Answer.{Answer}
+
+-- What a command comes to: an answer; a refusal that the words and files decide; one by a limit of an execution, which they
+-- need not decide; the refusal for a file whose taking failed; or want of memory.
+pub data Ending : Type 0 where
+  Answered : Answer → Ending
+  Refused : Refusal → Ending
+  Ended : Refusal → Ending
+  Failed : Refusal → Ending
+  Lacking : Ending
+
+-- A step passes a value on, or refuses the command; where it takes a file, that may fail. It executes nothing.
+pub record Step (A : Type 0) : Type 1 where
+  pub passes : A → Type 0
+  pub refuses : Refusal → Type 0
+  pub fails : Refusal → Type 0
+
+-- a step that takes no file
+abbrev pub deciding : {A : Type 0} → (A → Type 0) → (Refusal → Type 0) → Step A
+deciding passes refuses = record { passes = passes; refuses = refuses; fails = λ refusal. ⊥ }
+
+-- a step, and then what the command does with the value that it passes on: how the command may end, and after how many executions
+pub data After {A : Type 0} (step : Step A) (next : A → Ending → ℕ → Type 0) (ending : Ending) (n : ℕ) : Type 0 where
+  refused : (refusal : Refusal) → step.refuses refusal → ending ≡ Refused refusal → n ≡ 0 → After step next ending n
+  failed : (refusal : Refusal) → step.fails refusal → ending ≡ Failed refusal → n ≡ 0 → After step next ending n
+  lacking : ending ≡ Lacking → n ≡ 0 → After step next ending n
+  passed : (a : A) → step.passes a → next a ending n → After step next ending n
+
+-- The last part of a command, which may execute: what answers it, what refuses it and what may end it, each after so many
+-- executions, and how many there may be where memory lacks.
+pub record Analysis : Type 1 where
+  pub answered : Answer → ℕ → Type 0
+  pub refused : Refusal → ℕ → Type 0
+  pub ended : Refusal → ℕ → Type 0
+  pub counted : ℕ → Type 0
+
+abbrev pub ends_by : Analysis → Ending → ℕ → Type 0
+ends_by analysis (Answered answer) n = analysis.answered answer n
+ends_by analysis (Refused refusal) n = analysis.refused refusal n
+ends_by analysis (Ended refusal) n = analysis.ended refusal n
+ends_by analysis (Failed refusal) n = ⊥
+ends_by analysis Lacking n = analysis.counted n

@@ -1,0 +1,72 @@
+ghost use Rattle.std.specs.Prelude.{◌≡◌, IfOk};
+ghost use Rattle.report.specs.LinkTexts.{IsNamed};
+ghost use Rattle.sd_base.specs.Connection.{ends_of};
+ghost use Rattle.sd_command.specs.Nets.{completing, feeding, joining};
+ghost use Rattle.sd_command.specs.inside.Going.{Does};
+
+use crate::names::name_of;
+use crate::stop::Stop;
+use balance::{ConnectError, no_input, strongly_connected};
+use firing::{Firing, know_laws};
+use liveness::{Round, one_round};
+use report::{Refusal, lacks_text};
+use sd_base::{GraphFile, NoMemory};
+use std::alloc::Global;
+
+/// Tests that paths lead from each actor to each. `graph` has the names of the net's actors and channels.
+pub(crate) fn join<F: Firing>(alloc: Global, net: &F, graph: &GraphFile) -> Result<(), Stop>
+    requires { IsNamed graph.now (F.net net.now) }
+    ensures { Does (joining graph.now (F.net net.now)) result }
+{
+    know_laws(net);
+    let ends = ends(alloc, net)?;
+    match strongly_connected(alloc, net.actors(), &ends) {
+        Ok(()) => Ok(()),
+        Err(ConnectError::OneWay { from, to }) => Err(Stop::Refused(Refusal::OneWay {
+            from: name_of(alloc, graph, from)?,
+            to: name_of(alloc, graph, to)?,
+        })),
+        Err(ConnectError::NoMemory) => Err(Stop::OutOfMemory),
+    }
+}
+
+/// Tests that a channel leads into each actor.
+pub(crate) fn feed<F: Firing>(alloc: Global, net: &F, graph: &GraphFile) -> Result<(), Stop>
+    requires { IsNamed graph.now (F.net net.now) }
+    ensures { Does (feeding graph.now (F.net net.now)) result }
+{
+    know_laws(net);
+    let ends = ends(alloc, net)?;
+    match no_input(net.actors(), &ends) {
+        None => Ok(()),
+        Some(actor) => Err(Stop::Refused(Refusal::NoInput {
+            scenario: None,
+            actor: name_of(alloc, graph, actor)?,
+        })),
+    }
+}
+
+// The source and the target of each channel.
+fn ends<F: Firing>(alloc: Global, net: &F) -> Result<Vec<(u32, u32)>, NoMemory>
+    ensures { IfOk result (λ v. v.items ≡ ends_of (F.net net.now)) }
+{
+    let mut ends = Vec::new(alloc);
+    for channel in 0..net.channels() {
+        ends.push((net.source(channel), net.target(channel)))?;
+    }
+    Ok(ends)
+}
+
+/// Tests that a round can be completed.
+pub(crate) fn complete<F: Firing>(alloc: Global, net: &F, graph: &GraphFile) -> Result<(), Stop>
+    requires { IsNamed graph.now (F.net net.now) }
+    ensures { Does (completing graph.now (F.net net.now)) result }
+{
+    match one_round(alloc, net)? {
+        Round::Live { .. } => Ok(()),
+        Round::Blocked { counts, lacks } => Err(Stop::Refused(Refusal::Deadlock {
+            scenario: None,
+            list: lacks_text(alloc, net, graph, counts.as_slice(), lacks.as_slice())?,
+        })),
+    }
+}

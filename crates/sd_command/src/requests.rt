@@ -1,0 +1,59 @@
+ghost use Rattle.std.specs.Prelude.{◌≡◌, ℕ, ◌-◌, ◌≤◌, List};
+ghost use Rattle.sd_words.specs.Asked.{HasStates};
+ghost use Rattle.sd_command.specs.Takings.{Files};
+ghost use Rattle.sd_command.specs.Requests.{command_of, course_of};
+ghost use Rattle.sd_command.specs.inside.Going.{Goes};
+
+use crate::answer::Answer;
+use crate::asking::ask;
+use crate::stop::Stop;
+use crate::{repetition, throughput};
+use sd_base::{Ledger, Steps, Text};
+use sd_io::Shelf;
+use sd_words::Request;
+use std::alloc::Global;
+
+/// What answers the words.
+pub(crate) fn answer_of<S: Shelf, L: Ledger>(
+    alloc: Global,
+    words: &[Text],
+    shelf: &mut S,
+    steps: &mut Steps<L>,
+) -> Result<Answer, Stop>
+    ensures goes { let files : Files = record { tells = S.tells shelf.old; named = S.file shelf.old } in
+        Goes (course_of words.now files) result (steps.new.count - steps.old.count) (S.faults shelf.old) (S.faults shelf.new) }
+    ensures stays { (n : List ℕ) → S.file shelf.new n ≡ S.file shelf.old n }
+    ensures telling { S.tells shelf.new ≡ S.tells shelf.old }
+    ensures grows { S.faults shelf.old ≤ S.faults shelf.new }
+    ensures rises { steps.old.count ≤ steps.new.count }
+    ensures share { steps.new.share ≡ steps.old.share }
+{
+    let request = ask(alloc, words)?;
+    command_answer(alloc, &request, shelf, steps)
+}
+
+// What answers a request.
+fn command_answer<S: Shelf, L: Ledger>(
+    alloc: Global,
+    request: &Request,
+    shelf: &mut S,
+    steps: &mut Steps<L>,
+) -> Result<Answer, Stop>
+    requires { HasStates request.now }
+    ensures goes { let files : Files = record { tells = S.tells shelf.old; named = S.file shelf.old } in
+        Goes (command_of request.now files) result (steps.new.count - steps.old.count) (S.faults shelf.old) (S.faults shelf.new) }
+    ensures stays { (n : List ℕ) → S.file shelf.new n ≡ S.file shelf.old n }
+    ensures telling { S.tells shelf.new ≡ S.tells shelf.old }
+    ensures grows { S.faults shelf.old ≤ S.faults shelf.new }
+    ensures rises { steps.old.count ≤ steps.new.count }
+    ensures share { steps.new.share ≡ steps.old.share }
+{
+    match request {
+        Request::Repetition { graph } => repetition::answer(alloc, shelf, graph.as_str()),
+        Request::Throughput {
+            graph,
+            no_overlap,
+            states,
+        } => throughput::answer(alloc, shelf, graph.as_str(), *no_overlap, *states, steps),
+    }
+}

@@ -1,0 +1,43 @@
+ghost use Rattle.std.specs.Prelude.{◌≡◌, ℕ, ◌-◌, ◌≤◌, List};
+ghost use Rattle.sd_base.specs.declared.limits.TheConstants.{STATES};
+ghost use Rattle.sd_command.specs.Takings.{Files};
+ghost use Rattle.sd_command.specs.Throughputs.{throughput};
+ghost use Rattle.sd_command.specs.inside.Going.{Goes};
+
+use crate::answer::Answer;
+use crate::balancing::balanced;
+use crate::file_kind::FileKind;
+use crate::rates::rate_of;
+use crate::reading::read;
+use crate::stop::Stop;
+use crate::taking::take;
+use firing::SdfNet;
+use sd_base::{Ledger, Steps};
+use sd_io::Shelf;
+use std::alloc::Global;
+
+/// The rate of a graph file, with the schedule that reaches it and the need cycle that bounds it.
+pub(crate) fn answer<S: Shelf, L: Ledger>(
+    alloc: Global,
+    shelf: &mut S,
+    name: &str,
+    no_overlap: bool,
+    states: u64,
+    steps: &mut Steps<L>,
+) -> Result<Answer, Stop>
+    requires some { 1 ≤ states }
+    requires few { states ≤ STATES }
+    ensures goes { let files : Files = record { tells = S.tells shelf.old; named = S.file shelf.old } in
+        Goes (throughput name.now no_overlap states files) result (steps.new.count - steps.old.count) (S.faults shelf.old) (S.faults shelf.new) }
+    ensures stays { (n : List ℕ) → S.file shelf.new n ≡ S.file shelf.old n }
+    ensures telling { S.tells shelf.new ≡ S.tells shelf.old }
+    ensures grows { S.faults shelf.old ≤ S.faults shelf.new }
+    ensures rises { steps.old.count ≤ steps.new.count }
+    ensures share { steps.new.share ≡ steps.old.share }
+{
+    let bytes = take(alloc, shelf, FileKind::Graph, name)?;
+    let graph = read(alloc, bytes.as_slice(), true)?;
+    let gamma = balanced(alloc, &graph)?;
+    let net = SdfNet::new(alloc, &graph, gamma.as_slice(), no_overlap)?;
+    rate_of(alloc, &net, &graph, states, steps)
+}

@@ -1,0 +1,87 @@
+-- The words of options.
+use Rattle.std.proofs.Common.{◌≡◌, ◌≢◌, ℕ, Bool, true, false, ◌||◌, ◌⊎◌, inl, inr, List, [], ◌∷◌, ◌++◌, codes, drop, nat_eq, refl, sym}
+use Rattle.std.specs.List.{list_any, starts_with}
+use Rattle.std.specs.Str.{bytes_eq}
+use Rattle.std.proofs.lemmas.Slice.Eq.{bytes_eq-Decides, starts_is}
+use Rattle.std.proofs.lemmas.Bool.Decides.{Decides-eqb}
+use Rattle.sd_words.specs.declared.names.OptionName.{OptionName}
+use Rattle.sd_words.specs.declared.names.OptionName.TheVariants as option
+use Rattle.sd_words.specs.OptionWords.{option_word, names_value, names_flag, valued_options}
+use Rattle.sd_words.proofs.CutWords.{is_whole}
+
+-- none of the options is the one without a value
+abbrev Valued : List OptionName → Type 0
+Valued [] = Unit {0}
+Valued (o ∷ os) = (o ≢ option.NoOverlap) × Valued os
+
+either-true : (x y : Bool) → (x || y) ≡ true → (x ≡ true) ⊎ (y ≡ true)
+either-true true y h = inl refl
+either-true false y h = inr h
+
+valued_among : (os : List OptionName) (name : List ℕ) → Valued os → list_any (λ o. bytes_eq (option_word o) name) os ≡ true
+    → (o : OptionName) × (o ≢ option.NoOverlap) × (name ≡ option_word o)
+valued_among [] name v h = absurd (cc)
+valued_among (o ∷ os) name v h = elim (either-true (bytes_eq (option_word o) name) (list_any (λ p. bytes_eq (option_word p) name) os) h) [
+  | inl e ↦ (o, v.0, sym ((bytes_eq-Decides (option_word o) name).0 e))
+  | inr e ↦ valued_among os name v.1 e
+]
+
+-- a name of an option that has a value
+pub names_value-is : (name : List ℕ) → names_value name ≡ true → (o : OptionName) × (o ≢ option.NoOverlap) × (name ≡ option_word o)
+unfolding names_value
+names_value-is name h = valued_among valued_options name ((λ e. cc), ((λ e. cc), ((λ e. cc), ((λ e. cc), ((λ e. cc), ((λ e. cc), ((λ e. cc), ((λ e. cc), ((λ e. cc), tt))))))))) h
+
+pub names_value-of : (o : OptionName) → o ≢ option.NoOverlap → names_value (option_word o) ≡ true
+unfolding names_value option_word
+names_value-of option.Algo n = refl
+names_value-of option.Graph n = refl
+names_value-of option.Certificate n = refl
+names_value-of option.Buffers n = refl
+names_value-of option.States n = refl
+names_value-of option.Distributions n = refl
+names_value-of option.Limit n = refl
+names_value-of option.Seed n = refl
+names_value-of option.Actors n = refl
+names_value-of option.NoOverlap n = absurd (n refl)
+
+pub names_flag-other : (o : OptionName) → o ≢ option.NoOverlap → names_flag (option_word o) ≡ false
+unfolding names_flag option_word
+names_flag-other option.Algo n = refl
+names_flag-other option.Graph n = refl
+names_flag-other option.Certificate n = refl
+names_flag-other option.Buffers n = refl
+names_flag-other option.States n = refl
+names_flag-other option.Distributions n = refl
+names_flag-other option.Limit n = refl
+names_flag-other option.Seed n = refl
+names_flag-other option.Actors n = refl
+names_flag-other option.NoOverlap n = absurd (n refl)
+
+pub names_flag-of : names_flag (option_word option.NoOverlap) ≡ true
+unfolding names_flag option_word
+names_flag-of = refl
+
+pub names_flag-is : (name : List ℕ) → names_flag name ≡ true → name ≡ option_word option.NoOverlap
+unfolding names_flag
+names_flag-is name h = sym ((bytes_eq-Decides (option_word option.NoOverlap) name).0 h)
+
+-- no option's word has a `=`
+pub words_whole : (o : OptionName) → is_whole (option_word o) ≡ true
+unfolding option_word
+words_whole option.Algo = refl
+words_whole option.Graph = refl
+words_whole option.Certificate = refl
+words_whole option.Buffers = refl
+words_whole option.States = refl
+words_whole option.Distributions = refl
+words_whole option.Limit = refl
+words_whole option.Seed = refl
+words_whole option.Actors = refl
+words_whole option.NoOverlap = refl
+
+-- what follows `--`
+pub after_dashes : (word : List ℕ) → starts_with nat_eq word (codes "--") ≡ true → word ≡ codes "--" ++ drop 2 word
+after_dashes word h = (starts_is Decides-eqb word (codes "--") true (sym h)).0 refl
+
+pub dashes : (text : List ℕ) → starts_with nat_eq (codes "--" ++ text) (codes "--") ≡ true
+dashes text = (starts_is Decides-eqb (codes "--" ++ text) (codes "--") (starts_with nat_eq (codes "--" ++ text) (codes "--")) refl).1 text refl

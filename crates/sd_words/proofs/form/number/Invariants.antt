@@ -1,0 +1,10 @@
+use Rattle.std.proofs.Common.{◌≡◌, ◌≤◌, drop, min}
+use Rattle.std.specs.List.{fold}
+use Rattle.sd_words.specs.Values.{with_digit}
+use Rattle.sd_words.proofs.form.number.Given as goal
+
+abbrev pub invariant-loop-digit : goal.invariant-loop-digit
+invariant-loop-digit l = record {
+  few : l.n ≤ 100000000000000000000;
+  same : min (fold with_digit l.n (drop l.digit-index l.digits)) 100000000000000000000 ≡ min (fold with_digit 0 l.digits) 100000000000000000000;
+}

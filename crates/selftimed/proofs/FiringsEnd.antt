@@ -1,0 +1,402 @@
+-- Ends of firings, actor by actor.
+use Rattle.std.proofs.Common.{◌≡◌, ◌≢◌, ℕ, ◌+◌, ◌-◌, ◌*◌, ◌≤◌, ◌<◌, ◌^◌, ◌⊎◌, true, false, List, [], ◌∷◌, ◌++◌, length, drop, set, inl, inr, ⊎_elim, subst, sym, refl, ap, ◌∙◌, arith}
+use Rattle.std.specs.Prelude.{slice_index, slice_index_or, if◌then◌else◌, All, IsPermutation}
+use Rattle.std.proofs.lemmas.Bool.{cases_lt, cases_eq, cases_Bool, false≢true}
+use Rattle.std.proofs.lemmas.List.{length-set, get_or-set_same, get_or-set_other, length-drop, get_or-drop, drop-drop}
+use Rattle.std.proofs.lemmas.List.Elements.{All-push, All-weaker, All-head, All-tail, All-contains, Contains-push, Contains-append_left}
+use Rattle.std.proofs.lemmas.List.Sorted.{All-permutation}
+use Rattle.sd_base.specs.Net.{Net, channel_at}
+use Rattle.sd_base.specs.Lawful.{Lawful}
+use Rattle.firing.specs.declared.sums.Port.TheVariants.{Made}
+use Rattle.firing.specs.Wiring.{IsListed, PutsTokens, IsLevel}
+use Rattle.firing.proofs.Listings.{place_of}
+use Rattle.firing.proofs.TokenMoves.{MoreBy, level-puts, level-small}
+use Rattle.selftimed.specs.declared.actors.ActorState.{ActorState}
+use Rattle.selftimed.specs.inside.Actors.{idle, started_in, ended_in, running_in, touched_in, EndsOne, Touches, EndsAll, Stand}
+use Rattle.selftimed.specs.inside.Agendas.{Entry, entry, Announces, IsFirst, Lists, IsAgenda}
+use Rattle.selftimed.proofs.Agendas.{HasFirsts, has-firsts, entries-found, has-number, number-found, runs-place, besides, announced-kept, announced-there, announced-all}
+
+at : List ActorState → ℕ → ActorState
+at actors a = slice_index_or actors a idle
+
+-- ---- touched actors
+
+pub record TouchesSoFar (net : Net) (channels : List ℕ) (old new : List ActorState) (touched : List ℕ) (done : ℕ) : Type 0 where
+  pub long : length new ≡ length old
+  pub started : (b : ℕ) → started_in new b ≡ started_in old b
+  pub ended : (b : ℕ) → ended_in new b ≡ ended_in old b
+  pub running : (b : ℕ) → running_in new b ≡ running_in old b
+  pub kept : (b : ℕ) → touched_in new b ≡ false → touched_in old b ≡ false
+  pub there : (j : ℕ) → j < done → touched_in new (channel_at net (slice_index channels j)).target ≡ true
+  pub lists : Lists net new touched
+
+pub touches-none : (net : Net) (channels : List ℕ) (old : List ActorState) (touched : List ℕ) → Lists net old touched → TouchesSoFar net channels old old touched 0
+touches-none net channels old touched lists = record { long = refl; started = λ b. refl; ended = λ b. refl; running = λ b. refl; kept = λ b e. e; there = λ j h. absurd (omega arith); lists = lists }
+
+pub touches-all : (net : Net) (channels : List ℕ) (old new : List ActorState) (touched : List ℕ) (done : ℕ) → length channels ≤ done → TouchesSoFar net channels old new touched done → Touches net channels old new
+touches-all net channels old new touched done past so_far = record {
+  long = so_far.long;
+  started = so_far.started;
+  ended = so_far.ended;
+  running = so_far.running;
+  kept = so_far.kept;
+  there = λ j h. so_far.there j (omega arith);
+}
+
+-- one more actor is touched
+module _ (net : Net) (channels : List ℕ) (old now : List ActorState) (touched more : List ℕ) (done t : ℕ) (below : done < length channels) (into : t ≡ (channel_at net (slice_index channels done)).target) (actor : t < length net.times) (place : t < length now) (base : ActorState)
+    (was : base ≡ slice_index_or now t idle) (so_far : TouchesSoFar net channels old now touched done) (listed : more ≡ (if base.touched then touched else touched ++ t ∷ [])) where
+  read : (b : ℕ) → b ≢ t → slice_index_or (set now t (record base { touched = true })) b idle ≡ slice_index_or now b idle
+  read b away = get_or-set_other now t b (record base { touched = true }) idle away
+
+  here : slice_index_or (set now t (record base { touched = true })) t idle ≡ record base { touched = true }
+  here = get_or-set_same now t (record base { touched = true }) idle place
+
+  keeps : {X : Type 0} (f : ActorState → X) → f (record base { touched = true }) ≡ f base → (b : ℕ) →
+      f (slice_index_or (set now t (record base { touched = true })) b idle) ≡ f (slice_index_or now b idle)
+  keeps {X} f same b = ⊎_elim
+      (λ (e : b ≡ t). rw e (ap f here ∙ (same ∙ ap f was)))
+      (λ (away : b ≢ t). ap f (read b away))
+      (cases_eq b t)
+
+  kept-on : (b : ℕ) → b ≢ t → touched_in (set now t (record base { touched = true })) b ≡ touched_in now b
+  kept-on b away = ap (λ (s : ActorState). s.touched) (read b away)
+
+  lists-more : Lists net (set now t (record base { touched = true })) more
+  lists-more = ⊎_elim
+      (λ (on : base.touched ≡ true).
+      let same : more ≡ touched = rw on at listed in
+      rw same (record {
+        within = so_far.lists.within;
+        listed = λ b is. ⊎_elim
+            (λ (e : b ≡ t). rw e (so_far.lists.listed t (sym (ap (λ (s : ActorState). s.touched) was) ∙ on)))
+            (λ (away : b ≢ t). so_far.lists.listed b (sym (kept-on b away) ∙ is))
+            (cases_eq b t);
+      }))
+      (λ (off : base.touched ≡ false).
+      let longer : more ≡ touched ++ t ∷ [] = rw off at listed in
+      rw longer (record {
+        within = All-push (λ (x : ℕ). x < length net.times) touched t so_far.lists.within actor;
+        listed = λ b is. ⊎_elim
+            (λ (e : b ≡ t). rw e (number-found (touched ++ t ∷ []) t (Contains-push touched t)))
+            (λ (away : b ≢ t). number-found (touched ++ t ∷ []) b (Contains-append_left touched (t ∷ []) b (has-number touched b (so_far.lists.listed b (sym (kept-on b away) ∙ is)))))
+            (cases_eq b t);
+      }))
+      (cases_Bool base.touched)
+
+  pub touches-more : TouchesSoFar net channels old (set now t (record base { touched = true })) more (done + 1)
+  touches-more = record {
+    long = length-set now t (record base { touched = true }) ∙ so_far.long;
+    started = λ b. keeps (λ (s : ActorState). s.started) refl b ∙ so_far.started b;
+    ended = λ b. keeps (λ (s : ActorState). s.ended) refl b ∙ so_far.ended b;
+    running = λ b. keeps (λ (s : ActorState). s.running) refl b ∙ so_far.running b;
+    kept = λ b off. ⊎_elim
+        (λ (e : b ≡ t).
+        let yes : touched_in (set now t (record base { touched = true })) b ≡ true = rw e (ap (λ (s : ActorState). s.touched) here) in
+        absurd (false≢true (sym off ∙ yes)))
+        (λ (away : b ≢ t). so_far.kept b (sym (kept-on b away) ∙ off))
+        (cases_eq b t);
+    there = λ j h. ⊎_elim
+        (λ (before : j < done). ⊎_elim
+        (λ (e : (channel_at net (slice_index channels j)).target ≡ t). rw e (ap (λ (s : ActorState). s.touched) here))
+        (λ (away : (channel_at net (slice_index channels j)).target ≢ t). kept-on (channel_at net (slice_index channels j)).target away ∙ so_far.there j before)
+        (cases_eq (channel_at net (slice_index channels j)).target t))
+        (λ (now_one : done ≤ j). let same : j ≡ done = omega arith in rw (same, ← into) (ap (λ (s : ActorState). s.touched) here))
+        (cases_lt j done);
+    lists = lists-more;
+  }
+
+-- ---- ends of all actors
+
+-- some of the firings of an actor that ended by a moment are off its list
+pub record EndsSome (moment : ℕ) (old new : ActorState) : Type 0 where
+  pub started : new.started ≡ old.started
+  pub later : old.ended ≤ new.ended
+  pub within : new.ended - old.ended ≤ length old.running
+  pub rest : new.running ≡ drop (new.ended - old.ended) old.running
+  pub past : (k : ℕ) → k < new.ended - old.ended → slice_index old.running k ≤ moment
+
+ends-nothing : (moment : ℕ) (s : ActorState) → EndsSome moment s s
+ends-nothing moment s = record {
+  started = refl;
+  later = omega arith;
+  within = omega arith;
+  rest = rw (none s.ended) refl;
+  past = λ k h. absurd (omega arith);
+}
+  where
+    none : (e : ℕ) → e - e ≡ 0
+    none e = omega arith
+
+-- more of them are
+ends-join : (moment : ℕ) (s t u : ActorState) → EndsSome moment s t → EndsOne moment t u → EndsSome moment s u
+ends-join moment s t u some one =
+    let m : ℕ = t.ended - s.ended in
+    let n : ℕ = u.ended - t.ended in
+    let left : length t.running ≡ length s.running - m = ap length some.rest ∙ length-drop m s.running in
+    let all : m + n ≡ u.ended - s.ended = omega (arith, some.later, one.later) in
+    record {
+      started = one.started ∙ some.started;
+      later = omega (arith, some.later, one.later);
+      within = omega (arith, some.within, one.within);
+      rest = one.rest ∙ (ap (drop n) some.rest ∙ (drop-drop n m s.running ∙ ap (λ (x : ℕ). drop x s.running) all));
+      past = λ k below. ⊎_elim
+          (λ (before : k < m). some.past k before)
+          (λ (after : m ≤ k).
+          let low : slice_index t.running (k - m) ≤ moment = one.past (k - m) (omega arith) in
+          let read : slice_index t.running (k - m) ≡ slice_index s.running (m + (k - m)) = ap (λ (xs : List ℕ). slice_index xs (k - m)) some.rest ∙ get_or-drop m s.running (k - m) 0 in
+          let e : m + (k - m) ≡ k = omega arith in
+          omega (arith, ap (slice_index s.running) e))
+          (cases_lt k m);
+    }
+
+-- EndsSome reads its two states field by field
+ends_some-along : (moment : ℕ) (old s t : ActorState) → s.started ≡ t.started → s.ended ≡ t.ended → s.running ≡ t.running → EndsSome moment old s → EndsSome moment old t
+ends_some-along moment old s t started ended running some = record {
+  started = sym started ∙ some.started;
+  later = rw (← ended) some.later;
+  within = rw (← ended) some.within;
+  rest = rw (← ended) (sym running ∙ some.rest);
+  past = rw (← ended) some.past;
+}
+
+-- an entry is past, or its actor's first end
+abbrev pub Near : Net → ℕ → List ActorState → Entry → Type 0
+Near net moment actors e = (e.1 < length net.times) × ((e.0.0 ≤ moment) ⊎ IsFirst actors e)
+
+-- some firings that ended by a moment are off the lists, and those of actors whose entry is later than it all are
+pub record EndsSoFar (net : Net) (moment : ℕ) (first now : List ActorState) (tokens : List ℕ) (ends : List Entry) (touched : List ℕ) : Type 0 where
+  pub long : length now ≡ length first
+  pub ones : (b : ℕ) → b < length net.times → EndsSome moment (slice_index_or first b idle) (slice_index_or now b idle)
+  pub stand : Stand net now tokens
+  pub fed : (i : ℕ) → i < length net.channels → touched_in now (channel_at net i).target ≡ false → ended_in now (channel_at net i).source ≡ ended_in first (channel_at net i).source
+  pub near : All (Near net moment now) ends
+  pub whole : HasFirsts now ends
+  pub lists : Lists net now touched
+
+pub ends-none : (net : Net) (moment : ℕ) (first : List ActorState) (tokens : List ℕ) (ends : List Entry) (touched : List ℕ) → Stand net first tokens → IsAgenda net first ends touched → EndsSoFar net moment first first tokens ends touched
+ends-none net moment first tokens ends touched stand agenda = record {
+  long = refl;
+  ones = λ b is. ends-nothing moment (slice_index_or first b idle);
+  stand = stand;
+  fed = λ i there off. refl;
+  near = All-weaker (IsFirst first) (Near net moment first) (λ e is. (omega (arith, runs-place first e.1 is.0, stand.long), inr is)) ends agenda.firsts;
+  whole = has-firsts first ends agenda.firsts agenda.whole;
+  lists = agenda.lists;
+}
+
+-- the same but for what is touched besides
+pub record Kept (old new : List ActorState) : Type 0 where
+  pub long : length new ≡ length old
+  pub started : (b : ℕ) → started_in new b ≡ started_in old b
+  pub ended : (b : ℕ) → ended_in new b ≡ ended_in old b
+  pub running : (b : ℕ) → running_in new b ≡ running_in old b
+  pub kept : (b : ℕ) → touched_in new b ≡ false → touched_in old b ≡ false
+
+pub kept-touches : (net : Net) (channels : List ℕ) (old new : List ActorState) → Touches net channels old new → Kept old new
+kept-touches net channels old new t = record { long = t.long; started = t.started; ended = t.ended; running = t.running; kept = t.kept }
+
+module _ (net : Net) (moment : ℕ) (first now : List ActorState) (tokens left : List ℕ) (t a : ℕ) (s : ActorState) (new : List ActorState) (ends mid more : List Entry) (touched longer : List ℕ) (actor : a < length net.times)
+    (so_far : EndsSoFar net moment first now tokens ends touched) (taken : IsPermutation ends (entry t a ∷ mid)) (announced : Announces a s.running mid more) (lists : Lists net new longer)
+    (one : EndsOne moment (slice_index_or now a idle) s) (still : s.touched ≡ touched_in now a) (kept : Kept (set now a s) new)
+    (puts : PutsTokens net a (ended_in now a) (s.ended - ended_in now a) tokens left) (long_left : length left ≡ length tokens)
+    (fed : (i : ℕ) → i < length net.channels → (channel_at net i).source ≡ a → touched_in new (channel_at net i).target ≡ false → s.ended ≡ ended_in now a) where
+  place : a < length now
+  place = rw so_far.stand.long actor
+
+  mid-here : slice_index_or (set now a s) a idle ≡ s
+  mid-here = get_or-set_same now a s idle place
+
+  mid-other : (b : ℕ) → b ≢ a → slice_index_or (set now a s) b idle ≡ slice_index_or now b idle
+  mid-other b away = get_or-set_other now a b s idle away
+
+  started-here : started_in new a ≡ s.started
+  started-here = kept.started a ∙ ap (λ (x : ActorState). x.started) mid-here
+
+  ended-here : ended_in new a ≡ s.ended
+  ended-here = kept.ended a ∙ ap (λ (x : ActorState). x.ended) mid-here
+
+  running-here : running_in new a ≡ s.running
+  running-here = kept.running a ∙ ap (λ (x : ActorState). x.running) mid-here
+
+  started-other : (b : ℕ) → b ≢ a → started_in new b ≡ started_in now b
+  started-other b away = kept.started b ∙ ap (λ (x : ActorState). x.started) (mid-other b away)
+
+  ended-other : (b : ℕ) → b ≢ a → ended_in new b ≡ ended_in now b
+  ended-other b away = kept.ended b ∙ ap (λ (x : ActorState). x.ended) (mid-other b away)
+
+  running-other : (b : ℕ) → b ≢ a → running_in new b ≡ running_in now b
+  running-other b away = kept.running b ∙ ap (λ (x : ActorState). x.running) (mid-other b away)
+
+  started-all : (b : ℕ) → started_in new b ≡ started_in now b
+  started-all b = ⊎_elim (λ (e : b ≡ a). rw e (started-here ∙ one.started)) (λ (away : b ≢ a). started-other b away) (cases_eq b a)
+
+  by : MoreBy a (s.ended - ended_in now a) (ended_in now) (ended_in new)
+  by = record { here = ended-here ∙ omega (arith, one.later); others = ended-other }
+
+  level : IsLevel net (started_in new) (ended_in new) left
+  level =
+      let moved : IsLevel net (started_in now) (ended_in new) left = level-puts net a (s.ended - ended_in now a) (started_in now) (ended_in now) (ended_in new) tokens left so_far.stand.level puts long_left by in
+      record { long = moved.long; each = λ i there. rw (started-all (channel_at net i).target) (moved.each i there) }
+
+  stand : Stand net new left
+  stand = record {
+    long = kept.long ∙ (length-set now a s ∙ so_far.stand.long);
+    counts = λ b is. ⊎_elim
+        (λ (e : b ≡ a).
+        let rest : length s.running ≡ length (running_in now a) - (s.ended - ended_in now a) = ap length one.rest ∙ length-drop (s.ended - ended_in now a) (running_in now a) in
+        let was : ended_in now a + length (running_in now a) ≡ started_in now a = so_far.stand.counts a actor in
+        rw (e, ended-here, running-here, started-here, one.started) (omega (arith, rest, one.within, one.later)))
+        (λ (away : b ≢ a). rw (ended-other b away, running-other b away, started-other b away) (so_far.stand.counts b is))
+        (cases_eq b a);
+    few = λ b is. rw (started-all b) (so_far.stand.few b is);
+    level = level;
+  }
+
+  -- what the entries that stay say
+  near-one : (e : Entry) → Near net moment now e → Near net moment new e
+  near-one e (there, inl past) = (there, inl past)
+  near-one e (there, inr is) = (
+    there,
+    ⊎_elim
+        (λ (same : e.1 ≡ a).
+        let some : 0 < length (running_in now a) = rw same at is.0 in
+        let first_is : slice_index (running_in now a) 0 ≡ e.0.0 = rw same at is.1 in
+        ⊎_elim
+        (λ (ended : 0 < s.ended - ended_in now a).
+        let low : slice_index (running_in now a) 0 ≤ moment = one.past 0 ended in
+        inl (omega arith))
+        (λ (none : s.ended - ended_in now a ≤ 0).
+        let zero_n : s.ended - ended_in now a ≡ 0 = omega arith in
+        let run : running_in new a ≡ running_in now a = running-here ∙ (rw zero_n at one.rest) in
+        inr (rw (same, run) some, rw (same, run) first_is))
+        (cases_lt 0 (s.ended - ended_in now a)))
+        (λ (away : e.1 ≢ a). inr (rw (running-other e.1 away) is.0, rw (running-other e.1 away) is.1))
+        (cases_eq e.1 a),
+  )
+
+  near : All (Near net moment new) more
+  near = announced-all a mid more s.running (Near net moment new) announced
+      (All-weaker (Near net moment now) (Near net moment new) near-one mid
+      (All-tail (Near net moment now) (entry t a) mid (All-permutation (Near net moment now) ends (entry t a ∷ mid) taken so_far.near)))
+      (λ some. (actor, inr (rw running-here some, rw running-here refl)))
+
+  whole : HasFirsts new more
+  whole b some = ⊎_elim
+      (λ (e : b ≡ a).
+      let here : 0 < length s.running = rw (e, running-here) at some in
+      rw (e, running-here) (announced-there a mid more s.running announced here))
+      (λ (away : b ≢ a).
+      let there : 0 < length (running_in now b) = rw (running-other b away) at some in
+      rw (running-other b away) (announced-kept a mid more s.running (entry (slice_index (running_in now b) 0) b) announced
+      (besides ends mid (entry t a) (entry (slice_index (running_in now b) 0) b) taken away (so_far.whole b there))))
+      (cases_eq b a)
+
+  pub ends-more : EndsSoFar net moment first new left more longer
+  ends-more = record {
+    long = kept.long ∙ (length-set now a s ∙ so_far.long);
+    ones = λ b is. ⊎_elim
+        (λ (e : b ≡ a). subst (λ (x : ℕ). EndsSome moment (slice_index_or first x idle) (slice_index_or new x idle)) (sym e) mine)
+        (λ (away : b ≢ a). ends_some-along moment (slice_index_or first b idle) (slice_index_or now b idle) (slice_index_or new b idle) (sym (started-other b away)) (sym (ended-other b away)) (sym (running-other b away)) (so_far.ones b is))
+        (cases_eq b a);
+    stand = stand;
+    fed = λ i there off. ⊎_elim
+        (λ (e : (channel_at net i).source ≡ a).
+        let was : ended_in now a ≡ ended_in first a = rw e at (so_far.fed i there (untouched (channel_at net i).target off)) in
+        rw e (ended-here ∙ (fed i there e off ∙ was)))
+        (λ (away : (channel_at net i).source ≢ a). ended-other (channel_at net i).source away ∙ so_far.fed i there (untouched (channel_at net i).target off))
+        (cases_eq (channel_at net i).source a);
+    near = near;
+    whole = whole;
+    lists = lists;
+  }
+    where
+      untouched : (b : ℕ) → touched_in new b ≡ false → touched_in now b ≡ false
+      untouched b off = ⊎_elim
+          (λ (e : b ≡ a). rw e (sym still ∙ (sym (ap (λ (x : ActorState). x.touched) mid-here) ∙ rw e at (kept.kept b off))))
+          (λ (away : b ≢ a). sym (ap (λ (x : ActorState). x.touched) (mid-other b away)) ∙ kept.kept b off)
+          (cases_eq b a)
+
+      mine : EndsSome moment (slice_index_or first a idle) (slice_index_or new a idle)
+      mine = ends_some-along moment (slice_index_or first a idle) s (slice_index_or new a idle) (sym started-here) (sym ended-here) (sym running-here)
+          (ends-join moment (slice_index_or first a idle) (slice_index_or now a idle) s (so_far.ones a actor) one)
+
+-- ---- no end is due any more
+
+module _ (net : Net) (moment : ℕ) (first now : List ActorState) (tokens : List ℕ) (ends : List Entry) (touched : List ℕ) (so_far : EndsSoFar net moment first now tokens ends touched) (late : All (λ (e : Entry). moment < e.0.0) ends) where
+  pub ends-all : EndsAll net moment first now
+  ends-all = record {
+    long = so_far.long;
+    each = λ b is.
+        let some = so_far.ones b is in
+        let n : ℕ = ended_in now b - ended_in first b in
+        record {
+          started = some.started;
+          later = some.later;
+          within = some.within;
+          rest = some.rest;
+          past = some.past;
+          next = λ more.
+              let left : length (running_in now b) ≡ length (running_in first b) - n = ap length some.rest ∙ length-drop n (running_in first b) in
+              let runs : 0 < length (running_in now b) = omega arith in
+              let after : moment < slice_index (running_in now b) 0 = All-contains (λ (e : Entry). moment < e.0.0) ends (entry (slice_index (running_in now b) 0) b) late (so_far.whole b runs) in
+              let read : slice_index (running_in now b) 0 ≡ slice_index (running_in first b) (n + 0) = ap (λ (xs : List ℕ). slice_index xs 0) some.rest ∙ get_or-drop n (running_in first b) 0 0 in
+              let e : n + 0 ≡ n = omega arith in
+              omega (arith, ap (slice_index (running_in first b)) e);
+        };
+    untouched = so_far.fed;
+  }
+
+  pub ends-agenda : IsAgenda net now ends touched
+  ends-agenda = record {
+    firsts = λ k d below. ⊎_elim
+        (λ (past : (slice_index_or ends k d).0.0 ≤ moment). absurd (omega (arith, late k d below)))
+        (λ (is : IsFirst now (slice_index_or ends k d)). is)
+        (so_far.near k d below).1;
+    whole = entries-found now ends so_far.whole;
+    lists = so_far.lists;
+  }
+
+-- an entry that is taken off is that of an actor
+pub due-actor : {net : Net} {moment : ℕ} {first now : List ActorState} {tokens : List ℕ} {ends mid : List Entry} {touched : List ℕ} {t a : ℕ} → EndsSoFar net moment first now tokens ends touched → IsPermutation ends (entry t a ∷ mid) → a < length net.times
+due-actor {net} {moment} {first} {now} {tokens} {ends} {mid} {touched} {t} {a} so_far taken = (All-head (Near net moment now) (entry t a) mid (All-permutation (Near net moment now) ends (entry t a ∷ mid) taken so_far.near)).0
+
+-- what still runs ends later
+pub ends-late : (moment : ℕ) (old new : ActorState) → EndsOne moment old new → 0 < length new.running → moment < slice_index new.running 0
+ends-late moment old new one some =
+    let n : ℕ = new.ended - old.ended in
+    let left : length new.running ≡ length old.running - n = ap length one.rest ∙ length-drop n old.running in
+    let after : moment < slice_index old.running n = one.next (omega arith) in
+    let read : slice_index new.running 0 ≡ slice_index old.running (n + 0) = ap (λ (xs : List ℕ). slice_index xs 0) one.rest ∙ get_or-drop n old.running 0 0 in
+    let e : n + 0 ≡ n = omega arith in
+    omega (arith, ap (slice_index old.running) e)
+
+-- tokens are few enough to add to
+pub stand-small : (net : Net) (actors : List ActorState) (tokens : List ℕ) → Lawful net → Stand net actors tokens → (i : ℕ) → i < length net.channels → slice_index tokens i ≤ 2 ^ 100
+stand-small net actors tokens laws stand i there =
+    let source : (channel_at net i).source < length net.times = laws.sources i there in
+    let few : ended_in actors (channel_at net i).source ≤ 2 ^ 32 = omega (arith, stand.counts (channel_at net i).source source, stand.few (channel_at net i).source source) in
+    let small : slice_index tokens i ≤ 2000000000 + 2 ^ 32 * 1000000 = level-small net (started_in actors) (ended_in actors) tokens (2 ^ 32) i laws stand.level there few in
+    omega arith
+
+-- the targets of the channels out of an actor are touched
+pub touched-fed : (net : Net) (a : ℕ) (channels : List ℕ) (mid new : List ActorState) → IsListed net Made a channels → Touches net channels mid new →
+    (i : ℕ) → i < length net.channels → (channel_at net i).source ≡ a → touched_in new (channel_at net i).target ≡ false → ⊥
+touched-fed net a channels mid new listed touches i there from off =
+    let found = place_of net Made a channels listed i there from in
+    let on : touched_in new (channel_at net (slice_index channels found.0)).target ≡ true = touches.there found.0 found.1 in
+    let here : touched_in new (channel_at net i).target ≡ true = subst (λ (c : ℕ). touched_in new (channel_at net c).target ≡ true) found.2 on in
+    false≢true (sym off ∙ here)
+
+-- the same over the state as it was read
+pub ends-step : (net : Net) (moment : ℕ) (first now : List ActorState) (tokens left : List ℕ) (t a : ℕ) (base s : ActorState) (new : List ActorState) (ends mid more : List Entry) (touched longer : List ℕ) → base ≡ slice_index_or now a idle → a < length net.times →
+    EndsSoFar net moment first now tokens ends touched → IsPermutation ends (entry t a ∷ mid) → Announces a s.running mid more → Lists net new longer →
+    EndsOne moment base s → s.touched ≡ base.touched → Kept (set now a s) new → PutsTokens net a base.ended (s.ended - base.ended) tokens left → length left ≡ length tokens →
+    ((i : ℕ) → i < length net.channels → (channel_at net i).source ≡ a → touched_in new (channel_at net i).target ≡ false → s.ended ≡ base.ended) →
+    EndsSoFar net moment first new left more longer
+ends-step net moment first now tokens left t a base s new ends mid more touched longer was actor so_far taken announced lists one still kept puts long_left fed =
+    ends-more net moment first now tokens left t a s new ends mid more touched longer actor so_far taken announced lists
+    (subst (λ (x : ActorState). EndsOne moment x s) was one)
+    (subst (λ (x : ActorState). s.touched ≡ x.touched) was still) kept
+    (subst (λ (x : ActorState). PutsTokens net a x.ended (s.ended - x.ended) tokens left) was puts) long_left
+    (λ i there from off. subst (λ (x : ActorState). s.ended ≡ x.ended) was (fed i there from off))

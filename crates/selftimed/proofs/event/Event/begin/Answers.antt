@@ -1,0 +1,9 @@
+use Rattle.selftimed.proofs.Beginning.{fresh-lacks, fresh-begins}
+use Rattle.selftimed.proofs.event.Event.begin.Goals as goal
+
+pub start_all-requires-clause-lacks : goal.start_all-requires-clause-lacks
+start_all-requires-clause-lacks g c = fresh-lacks (g.F.Firing.net c.args.self.now.net.now) c.know_laws.ensures c.args.self.now.most c.args.actors.now c.args.tokens.now c.args.all.now c.requires.fresh
+
+pub returns-clause-fits : goal.returns-clause-fits
+returns-clause-fits g c = fresh-begins (g.F.Firing.net c.args.self.now.net.now) c.know_laws.ensures c.args.self.now.most c.args.actors.now c.start_all.new.actors c.args.tokens.now c.start_all.new.tokens c.args.all.now c.start_all.new.all c.requires.fresh
+    c.in_ok-fits.fits (rw c.requires.first at c.in_ok-fits.ensures.started) c.in_ok-fits.ensures.stand c.in_ok-fits.ensures.counted

@@ -1,0 +1,77 @@
+use Rattle.std.proofs.Common.{◌<◌, length, set, subst, arith}
+use Rattle.std.specs.Prelude.{slice_index_or}
+use Rattle.std.specs.BinaryHeap.{heap_items}
+use Rattle.std.proofs.lemmas.List.{get_or_default, get_or-set_same, length-set}
+use Rattle.firing.specs.declared.sums.Port.TheVariants.{Made}
+use Rattle.firing.specs.Wiring.{IsListed}
+use Rattle.selftimed.specs.declared.actors.ActorState.{ActorState}
+use Rattle.selftimed.specs.inside.Actors.{idle}
+use Rattle.selftimed.specs.inside.Agendas.{Announces}
+use Rattle.selftimed.proofs.Agendas.{fewer-due}
+use Rattle.selftimed.proofs.FiringsEnd.{due-actor, ends-late, ends-none, ends-step, ends-all, kept-touches, stand-small, touched-fed}
+use Rattle.selftimed.proofs.event.Event.end_all.Goals as goal
+
+pub loop-actor-init : goal.loop-actor-init
+loop-actor-init g c = ends-none (g.F.Firing.net c.args.self.now.net.now) c.args.self.now.moment c.args.actors.now c.args.tokens.now (heap_items c.args.agenda.now.ends) c.args.agenda.now.touched.items c.requires.stand c.requires.agenda
+
+pub outputs_of-outputs-requires : goal.outputs_of-outputs-requires
+outputs_of-outputs-requires g c = omega (arith, due-actor c.loop-actor.invariant c.in-Some.ensures.taken.2, c.args.self.now.outputs.actors)
+
+pub bounds-actors-actor : goal.bounds-actors-actor
+bounds-actors-actor g c = omega (arith, due-actor c.loop-actor.invariant c.in-Some.ensures.taken.2, c.loop-actor.invariant.stand.long)
+
+pub end_actor-requires-clause-actor : goal.end_actor-requires-clause-actor
+end_actor-requires-clause-actor g c = due-actor c.loop-actor.invariant c.in-Some.ensures.taken.2
+
+pub end_actor-requires-clause-listed : goal.end_actor-requires-clause-listed
+end_actor-requires-clause-listed g c = rw c.outputs_of-outputs.ensures (c.args.self.now.outputs.each c.in-Some.actor (due-actor c.loop-actor.invariant c.in-Some.ensures.taken.2))
+
+pub end_actor-requires-clause-few : goal.end_actor-requires-clause-few
+end_actor-requires-clause-few g c =
+    let actor : c.in-Some.actor < length (g.F.Firing.net c.args.self.now.net.now).times = due-actor c.loop-actor.invariant c.in-Some.ensures.taken.2 in
+    let place : c.in-Some.actor < length c.loop-actor.actors = omega (arith, c.loop-actor.invariant.stand.long) in
+    rw (get_or_default c.loop-actor.actors c.in-Some.actor c.index-actors-actor.result idle place)
+    (omega (arith, c.loop-actor.invariant.stand.counts c.in-Some.actor actor, c.loop-actor.invariant.stand.few c.in-Some.actor actor))
+
+pub end_actor-requires-clause-small : goal.end_actor-requires-clause-small
+end_actor-requires-clause-small g c =
+    stand-small (g.F.Firing.net c.args.self.now.net.now) c.loop-actor.actors c.loop-actor.tokens (g.met.F.Firing.lawful c.args.self.now.net.now) c.loop-actor.invariant.stand
+
+pub bounds-actors-actor-in-Some : goal.bounds-actors-actor-in-Some
+bounds-actors-actor-in-Some g c = omega (arith, due-actor c.loop-actor.invariant c.in-Some.ensures.taken.2, c.loop-actor.invariant.stand.long, length-set c.loop-actor.actors c.in-Some.actor c.end_actor.new.state)
+
+pub touch_targets-requires-clause-there : goal.touch_targets-requires-clause-there
+touch_targets-requires-clause-there g c =
+    let listed : IsListed (g.F.Firing.net c.args.self.now.net.now) Made c.in-Some.actor c.outputs_of-outputs.result.now = rw c.outputs_of-outputs.ensures (c.args.self.now.outputs.each c.in-Some.actor (due-actor c.loop-actor.invariant c.in-Some.ensures.taken.2)) in
+    listed.place
+
+pub loop-actor-smaller : goal.loop-actor-smaller
+loop-actor-smaller g c =
+    let place : c.in-Some.actor < length c.loop-actor.actors = omega (arith, due-actor c.loop-actor.invariant c.in-Some.ensures.taken.2, c.loop-actor.invariant.stand.long) in
+    let here = get_or-set_same c.loop-actor.actors c.in-Some.actor c.end_actor.new.state c.index-actors-actor-in-Some.result place in
+    let announced : Announces c.in-Some.actor c.end_actor.new.state.running (heap_items c.pop_due.new.self.ends) (heap_items c.announce.new.self.ends) =
+    subst (λ (x : ActorState). Announces c.in-Some.actor x.running (heap_items c.pop_due.new.self.ends) (heap_items c.announce.new.self.ends)) here c.in_ok-announce.ensures.ends in
+    rw c.touch_targets.ensures.ends (fewer-due c.args.self.now.moment c.in-Some.ensures.taken.0 c.in-Some.actor c.end_actor.new.state.running (heap_items c.loop-actor.agenda.ends) (heap_items c.pop_due.new.self.ends) (heap_items c.announce.new.self.ends)
+    c.in-Some.ensures.taken.1 c.in-Some.ensures.taken.2 announced
+    (ends-late c.args.self.now.moment (slice_index_or c.loop-actor.actors c.in-Some.actor c.index-actors-actor.result) c.end_actor.new.state c.end_actor.ensures.ended))
+
+pub loop-actor-preserved : goal.loop-actor-preserved
+loop-actor-preserved g c =
+    let actor : c.in-Some.actor < length (g.F.Firing.net c.args.self.now.net.now).times = due-actor c.loop-actor.invariant c.in-Some.ensures.taken.2 in
+    let place : c.in-Some.actor < length c.loop-actor.actors = omega (arith, c.loop-actor.invariant.stand.long) in
+    let here = get_or-set_same c.loop-actor.actors c.in-Some.actor c.end_actor.new.state c.index-actors-actor-in-Some.result place in
+    let announced : Announces c.in-Some.actor c.end_actor.new.state.running (heap_items c.pop_due.new.self.ends) (heap_items c.announce.new.self.ends) =
+    subst (λ (x : ActorState). Announces c.in-Some.actor x.running (heap_items c.pop_due.new.self.ends) (heap_items c.announce.new.self.ends)) here c.in_ok-announce.ensures.ends in
+    rw c.touch_targets.ensures.ends (ends-step (g.F.Firing.net c.args.self.now.net.now) c.args.self.now.moment c.args.actors.now c.loop-actor.actors c.loop-actor.tokens c.end_actor.new.tokens c.in-Some.ensures.taken.0 c.in-Some.actor
+    (slice_index_or c.loop-actor.actors c.in-Some.actor c.index-actors-actor.result) c.end_actor.new.state c.touch_targets.new.actors
+    (heap_items c.loop-actor.agenda.ends) (heap_items c.pop_due.new.self.ends) (heap_items c.announce.new.self.ends) c.loop-actor.agenda.touched.items c.touch_targets.new.agenda.touched.items
+    (get_or_default c.loop-actor.actors c.in-Some.actor c.index-actors-actor.result idle place) actor c.loop-actor.invariant c.in-Some.ensures.taken.2 announced c.in_ok-touch_targets.ensures.lists
+    c.end_actor.ensures.ended c.end_actor.ensures.touched
+    (kept-touches (g.F.Firing.net c.args.self.now.net.now) c.outputs_of-outputs.result.now (set c.loop-actor.actors c.in-Some.actor c.end_actor.new.state) c.touch_targets.new.actors c.in_ok-touch_targets.ensures.touched)
+    c.end_actor.ensures.puts c.end_actor.auto.tokens
+    (λ i there from off. absurd (touched-fed (g.F.Firing.net c.args.self.now.net.now) c.in-Some.actor c.outputs_of-outputs.result.now (set c.loop-actor.actors c.in-Some.actor c.end_actor.new.state) c.touch_targets.new.actors
+    (rw c.outputs_of-outputs.ensures (c.args.self.now.outputs.each c.in-Some.actor actor)) c.in_ok-touch_targets.ensures.touched i there from off)))
+
+pub returns-clause-ended : goal.returns-clause-ended
+returns-clause-ended g c =
+    ends-all (g.F.Firing.net c.args.self.now.net.now) c.args.self.now.moment c.args.actors.now c.loop-actor.actors c.loop-actor.tokens (heap_items c.loop-actor.agenda.ends) c.loop-actor.agenda.touched.items c.loop-actor.invariant c.in_default.ensures.taken.1

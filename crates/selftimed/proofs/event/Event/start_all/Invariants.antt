@@ -1,0 +1,10 @@
+use Rattle.std.proofs.Common.{length}
+use Rattle.std.specs.BinaryHeap.{heap_items}
+use Rattle.selftimed.proofs.Starting.{StartsSoFar}
+use Rattle.selftimed.proofs.event.Event.start_all.Given as goal
+
+abbrev pub invariant-loop-actor : goal.invariant-loop-actor
+invariant-loop-actor g l = StartsSoFar (g.F.Firing.net l.self.net.now) l.self.moment l.initial.actors l.actors l.tokens l.all l.self.most (heap_items l.agenda.ends) l.agenda.touched.items
+
+abbrev pub decreases-loop-actor : goal.decreases-loop-actor
+decreases-loop-actor g l = length l.agenda.touched.items

@@ -1,0 +1,9 @@
+use Rattle.std.proofs.Common.{◌-◌}
+use Rattle.selftimed.proofs.Batches.{StartSoFar}
+use Rattle.selftimed.proofs.starts.Turn.start_from.Given as goal
+
+abbrev pub invariant-batches : goal.invariant-batches
+invariant-batches g l = StartSoFar (g.F.Firing.net l.self.net.now) l.self.actor l.self.moment l.from l.room l.initial.tokens l.tokens l.initial.running l.running l.count
+
+abbrev pub decreases-batches : goal.decreases-batches
+decreases-batches g l = l.room - l.count

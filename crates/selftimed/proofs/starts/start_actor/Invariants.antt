@@ -1,9 +1,0 @@
-use Rattle.std.proofs.Common.{◌-◌}
-use Rattle.selftimed.proofs.Batches.{StartSoFar}
-use Rattle.selftimed.proofs.starts.start_actor.Given as goal
-
-abbrev pub invariant-batches : goal.invariant-batches
-invariant-batches g l = StartSoFar (g.F.Firing.net l.net) l.actor l.moment l.from l.room l.initial.tokens l.tokens l.initial.running l.running l.count
-
-abbrev pub decreases-batches : goal.decreases-batches
-decreases-batches g l = l.room - l.count

@@ -1,0 +1,144 @@
+//! An event of an execution: the firings that end at its moment, and those that start then.
+ghost use Rattle.std.specs.Prelude.{◌≡◌, ℕ, false, ◌^◌, ◌<◌, ◌≤◌, length, IfOk, OnOk, MatchBool};
+ghost use Rattle.std.specs.Bool.{OnTrue};
+ghost use Rattle.sd_base.specs.Schedules.{Lacks};
+ghost use Rattle.firing.specs.declared.sums.Port.TheVariants.{Made, Taken};
+ghost use Rattle.firing.specs.Wiring.{AreListed};
+ghost use Rattle.selftimed.specs.inside.Actors.{started_in, ended_in, touched_in, EndsAll, Stand, Counted, StartedAll, CanOverrun, IsFirstEnd};
+ghost use Rattle.selftimed.specs.inside.Plans.{Plans};
+ghost use Rattle.selftimed.specs.inside.Stands.{IsFresh, Stands, Begins};
+ghost use Rattle.selftimed.specs.Moves.{Overruns};
+
+use crate::actors::ActorState;
+use crate::agenda::Agenda;
+use crate::ends::{end_actor, touch_targets};
+use crate::starts::Turn;
+use firing::{Firing, Wiring, know_laws};
+use sd_base::NoMemory;
+
+/// An event of a net's execution, which may make `most` starts in all.
+#[derive(Drop)]
+pub(crate) struct Event<'a, F: Firing> {
+    pub(crate) net: &'a F,
+    pub(crate) wiring: &'a Wiring,
+    pub(crate) moment: u64,
+    pub(crate) most: u64,
+    ghost few: { most ≤ 2 ^ 32 },
+    ghost inputs: { AreListed (F.net net.now) Taken wiring.now.inputs },
+    ghost outputs: { AreListed (F.net net.now) Made wiring.now.outputs },
+}
+
+impl<F: Firing> Event<'_, F> {
+    /// Makes the starts of moment 0. False: all starts are then more than `most`.
+    pub(crate) fn begin(
+        &self,
+        all: &mut u64,
+        actors: &mut [ActorState],
+        tokens: &mut [u128],
+        agenda: &mut Agenda,
+    ) -> Result<bool, NoMemory>
+        requires first { self.now.moment ≡ 0 }
+        requires fresh { IsFresh (F.net self.now.net.now) self.now.most actors.old tokens.old all.old }
+        requires agenda { Plans (F.net self.now.net.now) actors.old agenda.old }
+        ensures fits { IfOk result (λ fits. MatchBool fits (Begins (F.net self.now.net.now) self.now.most actors.new tokens.new all.new)
+            (Overruns (F.net self.now.net.now) 0 self.now.most)) }
+        ensures agenda { IfOk result (λ fits. OnTrue fits (Plans (F.net self.now.net.now) actors.new agenda.new)) }
+    {
+        know_laws(self.net);
+        let fits = self.start_all(all, actors, tokens, agenda)?;
+        Ok(fits)
+    }
+
+    /// Goes to the event from the one before it, and makes its starts. False: all starts are then more than `most`.
+    pub(crate) fn follow(
+        &self,
+        all: &mut u64,
+        actors: &mut [ActorState],
+        tokens: &mut [u128],
+        agenda: &mut Agenda,
+    ) -> Result<bool, NoMemory>
+        requires stands { (now : ℕ) × Stands (F.net self.now.net.now) now self.now.most actors.old tokens.old all.old }
+        requires agenda { Plans (F.net self.now.net.now) actors.old agenda.old }
+        requires next { IsFirstEnd actors.old self.now.moment }
+        ensures fits { IfOk result (λ fits. MatchBool fits (Stands (F.net self.now.net.now) self.now.moment self.now.most actors.new tokens.new all.new)
+            (Overruns (F.net self.now.net.now) self.now.moment self.now.most)) }
+        ensures agenda { IfOk result (λ fits. OnTrue fits (Plans (F.net self.now.net.now) actors.new agenda.new)) }
+    {
+        know_laws(self.net);
+        self.end_all(actors, tokens, agenda)?;
+        let fits = self.start_all(all, actors, tokens, agenda)?;
+        Ok(fits)
+    }
+
+    /// Ends the firings whose end has come, and touches the actors whose channels gain tokens.
+    fn end_all(
+        &self,
+        actors: &mut [ActorState],
+        tokens: &mut [u128],
+        agenda: &mut Agenda,
+    ) -> Result<(), NoMemory>
+        requires stand { Stand (F.net self.now.net.now) actors.old tokens.old }
+        requires agenda { Plans (F.net self.now.net.now) actors.old agenda.old }
+        ensures ended { OnOk result (EndsAll (F.net self.now.net.now) self.now.moment actors.old actors.new) }
+        ensures stand { OnOk result (Stand (F.net self.now.net.now) actors.new tokens.new) }
+        ensures agenda { OnOk result (Plans (F.net self.now.net.now) actors.new agenda.new) }
+    {
+        while let Some(actor) = agenda.pop_due(self.moment) {
+            let outputs = self.wiring.outputs_of(actor);
+            end_actor(
+                self.net,
+                outputs,
+                actor,
+                self.moment,
+                &mut actors[actor as usize],
+                tokens,
+            );
+            agenda.announce(actor, &actors[actor as usize])?;
+            touch_targets(self.net, outputs, actors, agenda)?;
+        }
+        Ok(())
+    }
+
+    /// Starts the firings of the touched actors. False: more than `most` firings could have started in all; the actors and
+    /// the tokens are then anything.
+    fn start_all(
+        &self,
+        all: &mut u64,
+        actors: &mut [ActorState],
+        tokens: &mut [u128],
+        agenda: &mut Agenda,
+    ) -> Result<bool, NoMemory>
+        requires stand { Stand (F.net self.now.net.now) actors.old tokens.old }
+        requires agenda { Plans (F.net self.now.net.now) actors.old agenda.old }
+        requires counted { Counted actors.old all.old self.now.most }
+        requires lacks { (b : ℕ) → b < length (F.net self.now.net.now).times → touched_in actors.old b ≡ false →
+            Lacks (F.net self.now.net.now) (ended_in actors.old) b (started_in actors.old b) }
+        requires soon { self.now.moment ≤ 2 ^ 62 }
+        ensures started { IfOk result (λ fits. MatchBool fits (StartedAll (F.net self.now.net.now) self.now.moment actors.old actors.new)
+            (CanOverrun (F.net self.now.net.now) (ended_in actors.old) self.now.most)) }
+        ensures stand { IfOk result (λ fits. OnTrue fits (Stand (F.net self.now.net.now) actors.new tokens.new)) }
+        ensures counted { IfOk result (λ fits. OnTrue fits (Counted actors.new all.new self.now.most)) }
+        ensures agenda { IfOk result (λ fits. OnTrue fits (Plans (F.net self.now.net.now) actors.new agenda.new)) }
+    {
+        while let Some(actor) = agenda.touched.pop() {
+            if !actors[actor as usize].touched {
+                continue;
+            }
+            let turn = Turn {
+                net: self.net,
+                inputs: self.wiring.inputs_of(actor),
+                actor,
+                moment: self.moment,
+            };
+            let was_idle = actors[actor as usize].running.first().is_none();
+            match turn.start_one(self.most - *all, &mut actors[actor as usize], tokens)? {
+                Some(firings) => *all += firings,
+                None => return Ok(false),
+            }
+            if was_idle {
+                agenda.announce(actor, &actors[actor as usize])?;
+            }
+        }
+        Ok(true)
+    }
+}

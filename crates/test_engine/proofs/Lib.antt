@@ -1,0 +1,4 @@
+pub mod Cases
+pub mod TwoSpaces
+pub mod TwoPhases
+pub mod ChannelWalks

@@ -1,0 +1,2 @@
+pub mod TwoSpaces
+pub mod TwoPhases

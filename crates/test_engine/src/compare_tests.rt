@@ -1,0 +1,108 @@
+ghost use Rattle.std.specs.Prelude.{◌≤◌, ◌^◌, ◌<◌};
+
+use crate::engine_tests::half_blocked;
+use crate::{PlainRun, run_until};
+use firing::Firing;
+use liveness::{Round, one_round};
+use selftimed::{Engine, Move, Shape, Stage};
+use std::alloc::Global;
+use std::process::Abort;
+use std::test::Fail;
+use test_nets::{blocked_pair, drawn_net, multi_rate_ring, ring_of_two, three_at_once};
+
+/// Steps an engine up to a moment, and compares each event with the plain run. Tells whether the execution goes on.
+pub(crate) fn compare<F: Firing>(
+    rt: &impl Abort,
+    alloc: Global,
+    net: &F,
+    last: u64,
+) -> Result<bool, Fail>
+    requires { last < 2 ^ 62 }
+{
+    let Some(plain) = run_until(alloc, net, last)? else {
+        panic!(rt; "too many starts");
+    };
+    let mut engine = Engine::new(alloc, net, 1_000_000)?;
+    let mut next = plain.first_event();
+    for _event in 0..last + 2 {
+        let step = engine.advance()?;
+        let Some(event) = next else {
+            assert_eq!(rt; step, Move::Stuck);
+            return Ok(false);
+        };
+        if event > last {
+            return Ok(true);
+        }
+        assert_eq!(rt; step, Move::Stepped);
+        assert_eq!(rt; engine.moment(), event);
+        compare_starts(rt, &engine, &plain, event);
+        let shape = plain.shape_at(alloc, net, event)?;
+        compare_shapes(rt, alloc, &engine, &shape, event)?;
+        next = plain.next_end(event);
+    }
+    panic!(rt; "more events than moments")
+}
+
+fn compare_starts<F: Firing>(rt: &impl Abort, engine: &Engine<'_, F>, plain: &PlainRun, now: u64) {
+    for actor in 0..engine.net.actors() {
+        let started = engine.started(actor);
+        assert_eq!(rt;
+            started,
+            plain.started_by(actor, now) as u64,
+            "actor {actor} at {now}"
+        );
+    }
+}
+
+fn compare_shapes<F: Firing>(
+    rt: &impl Abort,
+    alloc: Global,
+    engine: &Engine<'_, F>,
+    want: &Shape,
+    now: u64,
+) -> Result<(), Fail> {
+    assert_eq!(rt; engine.stage, Stage::Running);
+    let shape = engine.shape(alloc)?;
+    assert_eq!(rt; shape.tokens.as_slice(), want.tokens.as_slice(), "at {now}");
+    assert_eq!(rt; shape.phases.as_slice(), want.phases.as_slice(), "at {now}");
+    let left = shape.remaining.as_slice();
+    assert_eq!(rt; left.len(), want.remaining.len());
+    for (actor, times) in want.remaining.as_slice().iter().enumerate() {
+        assert_eq!(rt;
+            left[actor].as_slice(),
+            times.as_slice(),
+            "actor {actor} at {now}"
+        );
+    }
+    assert!(rt; engine.same_shape(want));
+    Ok(())
+}
+
+#[test]
+fn the_engine_runs_as_the_plain_program(rt: HostRuntime) -> Result<(), Fail> {
+    let alloc = rt.alloc();
+    assert!(rt; compare(&rt, alloc, &ring_of_two(alloc)?, 60)?);
+    assert!(rt; compare(&rt, alloc, &three_at_once(alloc)?, 60)?);
+    assert!(rt; compare(&rt, alloc, &multi_rate_ring(alloc)?, 60)?);
+    assert!(rt; !compare(&rt, alloc, &blocked_pair(alloc)?, 60)?);
+    assert!(rt; !compare(&rt, alloc, &half_blocked(alloc)?, 60)?);
+    Ok(())
+}
+
+/// A net can go on exactly where a round of it can be completed.
+#[test]
+fn drawn_nets_run_as_the_plain_program(rt: HostRuntime) -> Result<(), Fail> {
+    let alloc = rt.alloc();
+    let mut live = Vec::new(alloc);
+    for seed in 0..60u32 {
+        let net = drawn_net(alloc, seed as u64)?;
+        let goes_on = compare(&rt, alloc, &net, 60)?;
+        let is_live = matches!(one_round(alloc, &net)?, Round::Live { .. });
+        assert_eq!(rt; goes_on, is_live, "seed {seed}");
+        if is_live {
+            live.push(seed)?;
+        }
+    }
+    assert!(rt; 15 <= live.len() && live.len() <= 45, "live: {live:?}");
+    Ok(())
+}

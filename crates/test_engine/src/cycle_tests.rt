@@ -1,0 +1,150 @@
+use crate::space_net::TwoSpaces;
+use critical::{CycleStep, FiringNo, NeedCycle};
+use firing::SdfNet;
+use sd_base::{NoMemory, Rows};
+use std::alloc::Global;
+use std::test::Fail;
+use test_nets::ring_of_two;
+
+/// Firing `number` of x, which is actor 0.
+pub(crate) fn x(number: u64) -> FiringNo {
+    FiringNo { actor: 0, number }
+}
+
+/// Firing `number` of y, which is actor 1.
+pub(crate) fn y(number: u64) -> FiringNo {
+    FiringNo { actor: 1, number }
+}
+
+/// A step along a channel to a firing.
+pub(crate) fn along(channel: u32, to: FiringNo) -> CycleStep {
+    CycleStep { channel, to }
+}
+
+/// The channels of the ring of two: from x to y, and from y to x.
+const XY: u32 = 0;
+
+const YX: u32 = 1;
+
+/// From firing 0 of x: firing 0 of y needs it, and firing 1 of x needs that.
+fn once_round() -> [CycleStep; 2] {
+    [along(XY, y(0)), along(YX, x(1))]
+}
+
+fn cycle(
+    alloc: Global,
+    first: FiringNo,
+    steps: &[CycleStep],
+    time: u64,
+    rounds: u64,
+) -> Result<NeedCycle, NoMemory> {
+    Ok(NeedCycle {
+        time,
+        rounds,
+        first,
+        steps: Rows::from_vec(steps.to_vec(alloc)?),
+    })
+}
+
+/// Whether the steps from firing 0 of x are a need cycle.
+fn leads_round(
+    alloc: Global,
+    net: &SdfNet,
+    steps: &[CycleStep],
+    time: u64,
+    rounds: u64,
+) -> Result<bool, NoMemory> {
+    Ok(cycle(alloc, x(0), steps, time, rounds)?.holds(net))
+}
+
+/// Firing k of y needs firing k of x, of time 2, and firing k + 1 of x needs firing k of y, of time 3.
+#[test]
+fn ring_of_two_has_its_need_cycle(rt: HostRuntime) -> Result<(), Fail> {
+    let alloc = rt.alloc();
+    let net = ring_of_two(alloc)?;
+    assert!(rt; leads_round(alloc, &net, &once_round(), 5, 1)?);
+    let twice = [
+        along(XY, y(0)),
+        along(YX, x(1)),
+        along(XY, y(1)),
+        along(YX, x(2)),
+    ];
+    assert!(rt; leads_round(alloc, &net, &twice, 10, 2)?);
+    let later = cycle(alloc, x(7), &[along(XY, y(7)), along(YX, x(8))], 5, 1)?;
+    assert!(rt; later.holds(&net));
+    let from_y = cycle(alloc, y(0), &[along(YX, x(1)), along(XY, y(1))], 5, 1)?;
+    assert!(rt; from_y.holds(&net));
+    Ok(())
+}
+
+#[test]
+fn ring_of_two_has_no_other_need_cycle(rt: HostRuntime) -> Result<(), Fail> {
+    let alloc = rt.alloc();
+    let net = ring_of_two(alloc)?;
+    let wrong = [
+        // The time and the rounds are others.
+        (once_round(), 4, 1),
+        (once_round(), 6, 1),
+        (once_round(), 5, 0),
+        (once_round(), 5, 2),
+        // A channel is another one, or none of the net.
+        ([along(YX, y(0)), along(YX, x(1))], 5, 1),
+        ([along(XY, y(0)), along(XY, x(1))], 5, 1),
+        ([along(XY, y(0)), along(2, x(1))], 5, 1),
+        // A firing is needed, but isn't the last one that is.
+        ([along(XY, y(1)), along(YX, x(2))], 5, 2),
+        ([along(XY, y(0)), along(YX, x(2))], 5, 2),
+    ];
+    for (steps, time, rounds) in &wrong {
+        let holds = leads_round(alloc, &net, steps, *time, *rounds)?;
+        assert!(rt; !holds, "{steps:?} in {time} for {rounds}");
+    }
+    assert!(rt;
+        !leads_round(alloc, &net, &[along(XY, y(0))], 2, 1)?,
+        "to y"
+    );
+    assert!(rt; !leads_round(alloc, &net, &[], 0, 1)?, "nowhere");
+    Ok(())
+}
+
+#[test]
+fn bounds_are_rounds_by_time_in_lowest_terms(rt: HostRuntime) -> Result<(), Fail> {
+    for (rounds, time, num, den) in [(1, 5, 1, 5), (2, 10, 1, 5), (3, 7, 3, 7)] {
+        let cycle = cycle(rt.alloc(), x(0), &[], time, rounds)?;
+        assert!(rt; 1 <= cycle.time);
+        let bound = cycle.bound();
+        assert_eq!(rt; (bound.num(), bound.den()), (num, den));
+    }
+    Ok(())
+}
+
+#[test]
+fn tokens_of_a_file_are_no_storage(rt: HostRuntime) -> Result<(), Fail> {
+    let net = ring_of_two(rt.alloc())?;
+    let cycle = cycle(rt.alloc(), x(0), &once_round(), 5, 1)?;
+    assert!(rt; cycle.holds(&net));
+    assert!(rt; cycle.storage_channels(rt.alloc(), &net)?.is_empty());
+    Ok(())
+}
+
+/// The cycle goes along the space of channel 1, that of channel 0, that of channel 1 again, and channel 0 itself.
+#[test]
+fn spaces_on_a_cycle_are_its_storage(rt: HostRuntime) -> Result<(), Fail> {
+    let alloc = rt.alloc();
+    let net = TwoSpaces::new();
+    let steps = [
+        along(3, x(1)),
+        along(2, x(2)),
+        along(3, x(3)),
+        along(0, x(4)),
+    ];
+    let both = cycle(alloc, x(0), &steps, 4, 4)?;
+    assert!(rt; both.holds(&net));
+    let storage = both.storage_channels(alloc, &net)?;
+    assert_eq!(rt; storage.as_slice(), [0, 1].as_slice());
+    let one = cycle(alloc, x(0), &[along(0, x(1)), along(3, x(2))], 2, 2)?;
+    assert!(rt; one.holds(&net));
+    let storage = one.storage_channels(alloc, &net)?;
+    assert_eq!(rt; storage.as_slice(), [1].as_slice());
+    Ok(())
+}

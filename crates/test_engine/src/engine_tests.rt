@@ -1,0 +1,280 @@
+ghost use Rattle.std.specs.Prelude.{◌≡◌, ◌^◌, ◌≤◌, ◌<◌};
+
+use firing::{Firing, SdfNet};
+use liveness::{Round, one_round};
+use selftimed::{Engine, Move, Shape, Stage};
+use std::alloc::Global;
+use std::process::Abort;
+use std::test::Fail;
+use test_nets::{blocked_pair, channel, multi_rate_ring, ring_of_two, table_net, three_at_once};
+
+/// What stands at an event after its starts: by actor how many firings have started, by channel the tokens, and by
+/// actor the times that its running firings have left.
+#[derive(Clone, Copy, Debug)]
+struct Event<'a> {
+    moment: u64,
+    started: &'a [u64],
+    tokens: &'a [u128],
+    left: &'a [&'a [u64]],
+}
+
+fn at<'a>(moment: u64, started: &'a [u64], tokens: &'a [u128], left: &'a [&'a [u64]]) -> Event<'a> {
+    Event {
+        moment,
+        started,
+        tokens,
+        left,
+    }
+}
+
+/// Steps an engine through events.
+fn follow(rt: &impl Abort, alloc: Global, net: &SdfNet, events: &[Event]) -> Result<(), Fail> {
+    let mut engine = Engine::new(alloc, net, 1000)?;
+    for event in events {
+        let step = engine.advance()?;
+        assert_eq!(rt; step, Move::Stepped, "to {}", event.moment);
+        assert_eq!(rt; engine.moment(), event.moment);
+        check_starts(rt, &engine, event);
+        check_shape(rt, alloc, &engine, event)?;
+    }
+    Ok(())
+}
+
+fn check_starts(rt: &impl Abort, engine: &Engine<'_, SdfNet>, event: &Event) {
+    assert_eq!(rt; event.started.len(), engine.net.actors() as usize);
+    for (actor, started) in event.started.iter().enumerate() {
+        assert_eq!(rt;
+            engine.started(actor as u32),
+            *started,
+            "actor {actor} at {}",
+            event.moment
+        );
+    }
+}
+
+fn check_shape(
+    rt: &impl Abort,
+    alloc: Global,
+    engine: &Engine<'_, SdfNet>,
+    event: &Event,
+) -> Result<(), Fail> {
+    assert_eq!(rt; engine.stage, Stage::Running);
+    let shape = engine.shape(alloc)?;
+    assert_eq!(rt;
+        shape.tokens.as_slice(),
+        event.tokens,
+        "at {}",
+        event.moment
+    );
+    assert!(rt; shape.phases.as_slice().iter().all(|phase| *phase == 0));
+    let left = shape.remaining.as_slice();
+    assert_eq!(rt; left.len(), event.left.len());
+    for (actor, times) in event.left.iter().enumerate() {
+        assert_eq!(rt;
+            left[actor].as_slice(),
+            *times,
+            "actor {actor} at {}",
+            event.moment
+        );
+    }
+    assert!(rt; engine.same_shape(&shape));
+    Ok(())
+}
+
+/// Actor x starts at 0 with the one token, ends at 2 and lets y start, which ends at 5 and lets x start.
+#[test]
+fn ring_of_two_fires_in_turn(rt: HostRuntime) -> Result<(), Fail> {
+    let net = ring_of_two(rt.alloc())?;
+    let events = [
+        at(0, &[1, 0], &[0, 0], &[&[2], &[]]),
+        at(2, &[1, 1], &[0, 0], &[&[], &[3]]),
+        at(5, &[2, 1], &[0, 0], &[&[2], &[]]),
+        at(7, &[2, 2], &[0, 0], &[&[], &[3]]),
+    ];
+    follow(&rt, rt.alloc(), &net, &events)
+}
+
+/// Three tokens let three firings start at 0; they end at 7, and three more start.
+#[test]
+fn three_firings_overlap(rt: HostRuntime) -> Result<(), Fail> {
+    let net = three_at_once(rt.alloc())?;
+    let events = [
+        at(0, &[3], &[0], &[&[7, 7, 7]]),
+        at(7, &[6], &[0], &[&[7, 7, 7]]),
+    ];
+    follow(&rt, rt.alloc(), &net, &events)
+}
+
+/// The tokens are those of p, q, sx and sy. Up to 16 actor x starts at each of its ends, with 8 tokens on q for four
+/// firings and one more from the tokens that y gives back at 9 and 14; from 20 on it waits for two ends of y. At 34
+/// all stands as at 24.
+#[test]
+fn multi_rate_ring_enters_its_loop_at_24(rt: HostRuntime) -> Result<(), Fail> {
+    let net = multi_rate_ring(rt.alloc())?;
+    let events = [
+        at(0, &[1, 0], &[0, 6, 0, 1], &[&[4], &[]]),
+        at(4, &[2, 1], &[1, 4, 0, 0], &[&[4], &[5]]),
+        at(8, &[3, 1], &[3, 2, 0, 0], &[&[4], &[1]]),
+        at(9, &[3, 2], &[2, 3, 0, 0], &[&[3], &[5]]),
+        at(12, &[4, 2], &[4, 1, 0, 0], &[&[4], &[2]]),
+        at(14, &[4, 3], &[3, 2, 0, 0], &[&[2], &[5]]),
+        at(16, &[5, 3], &[5, 0, 0, 0], &[&[4], &[3]]),
+        at(19, &[5, 4], &[4, 1, 0, 0], &[&[1], &[5]]),
+        at(20, &[5, 4], &[6, 1, 1, 0], &[&[], &[4]]),
+        at(24, &[6, 5], &[5, 0, 0, 0], &[&[4], &[5]]),
+        at(28, &[6, 5], &[7, 0, 1, 0], &[&[], &[1]]),
+        at(29, &[6, 6], &[6, 1, 1, 0], &[&[], &[5]]),
+        at(34, &[7, 7], &[5, 0, 0, 0], &[&[4], &[5]]),
+    ];
+    follow(&rt, rt.alloc(), &net, &events)
+}
+
+/// Steps an engine until what stands has stood before, and tells at which two moments.
+fn first_repeat(rt: &impl Abort, alloc: Global, net: &SdfNet) -> Result<Option<(u64, u64)>, Fail> {
+    let mut engine = Engine::new(alloc, net, 1000)?;
+    let mut shapes = Vec::new(alloc);
+    for _event in 0..100 {
+        let step = engine.advance()?;
+        assert_eq!(rt; step, Move::Stepped);
+        assert_eq!(rt; engine.stage, Stage::Running);
+        if let Some(entry) = moment_of(&engine, shapes.as_slice()) {
+            return Ok(Some((entry, engine.moment())));
+        }
+        shapes.push((engine.moment(), engine.shape(alloc)?))?;
+    }
+    Ok(None)
+}
+
+/// The first of these moments whose shape is what stands now.
+fn moment_of(engine: &Engine<'_, SdfNet>, shapes: &[(u64, Shape)]) -> Option<u64>
+    requires { engine.now.stage ≡ Stage.Running }
+{
+    for (moment, shape) in shapes {
+        if engine.same_shape(shape) {
+            return Some(*moment);
+        }
+    }
+    None
+}
+
+/// As in the traces above: the loops begin at 0, 0 and 24, and their periods are 5, 7 and 10.
+#[test]
+fn shapes_repeat_where_the_loop_closes(rt: HostRuntime) -> Result<(), Fail> {
+    let alloc = rt.alloc();
+    let repeat = first_repeat(&rt, alloc, &ring_of_two(alloc)?)?;
+    assert_eq!(rt; repeat, Some((0, 5)));
+    let repeat = first_repeat(&rt, alloc, &three_at_once(alloc)?)?;
+    assert_eq!(rt; repeat, Some((0, 7)));
+    let repeat = first_repeat(&rt, alloc, &multi_rate_ring(alloc)?)?;
+    assert_eq!(rt; repeat, Some((24, 34)));
+    Ok(())
+}
+
+/// Three actors with rounds of 1, 2 and 1 firings. The second fires once with the token that is there; then the first
+/// lacks tokens on channels 1 and 2, and the second on channel 0. The third has fired its round.
+pub(crate) fn half_blocked(alloc: Global) -> Result<SdfNet, test_nets::TableError> {
+    let lines = [
+        channel(0, 2, 1, 1, 1),
+        channel(1, 1, 2, 0, 0),
+        channel(0, 1, 1, 0, 0),
+        channel(2, 1, 1, 0, 0),
+        channel(0, 1, 1, 2, 1),
+    ];
+    table_net(alloc, &[1, 1, 1], &lines, false)
+}
+
+#[test]
+fn what_cannot_start_is_stuck(rt: HostRuntime) -> Result<(), Fail> {
+    let pair = blocked_pair(rt.alloc())?;
+    let mut engine = Engine::new(rt.alloc(), &pair, 1000)?;
+    for _call in 0..2 {
+        let step = engine.advance()?;
+        assert_eq!(rt; step, Move::Stuck);
+        assert_eq!(rt; engine.stage, Stage::Fresh);
+    }
+    // The second and the third actor start at 0 and end at 1.
+    let half = half_blocked(rt.alloc())?;
+    let mut engine = Engine::new(rt.alloc(), &half, 1000)?;
+    let steps = [Move::Stepped, Move::Stepped, Move::Stuck, Move::Stuck];
+    for want in steps {
+        let step = engine.advance()?;
+        assert_eq!(rt; step, want);
+    }
+    assert_eq!(rt; engine.moment(), 1);
+    Ok(())
+}
+
+/// Whether an engine of at most `most` starts steps so often, and is spent from then on.
+fn is_spent_after(alloc: Global, net: &SdfNet, most: u64, steps: u32) -> Result<bool, Fail>
+    requires { most ≤ 2 ^ 32 }
+{
+    let mut engine = Engine::new(alloc, net, most)?;
+    for _step in 0..steps {
+        if engine.advance()? != Move::Stepped {
+            return Ok(false);
+        }
+    }
+    for _call in 0..3 {
+        if engine.advance()? != Move::Spent {
+            return Ok(false);
+        }
+    }
+    Ok(true)
+}
+
+#[test]
+fn too_many_starts_spend_an_engine(rt: HostRuntime) -> Result<(), Fail> {
+    let alloc = rt.alloc();
+    let ring = ring_of_two(alloc)?;
+    assert!(rt; is_spent_after(alloc, &ring, 0, 0)?);
+    assert!(rt; is_spent_after(alloc, &ring, 2, 2)?, "starts at 0, 2 and 5");
+    let three = three_at_once(alloc)?;
+    assert!(rt; is_spent_after(alloc, &three, 2, 0)?);
+    assert!(rt; is_spent_after(alloc, &three, 5, 1)?);
+    let no_input = table_net(alloc, &[1, 1], &[channel(0, 1, 1, 1, 0)], false)?;
+    assert!(rt; is_spent_after(alloc, &no_input, 1000, 0)?);
+    Ok(())
+}
+
+fn order_of(rt: &impl Abort, alloc: Global, net: &SdfNet) -> Result<Vec<u32>, Fail> {
+    match one_round(alloc, net)? {
+        Round::Live { order } => Ok(order.into_vec()),
+        Round::Blocked { .. } => panic!(rt; "blocked"),
+    }
+}
+
+fn check_block(
+    rt: &impl Abort,
+    alloc: Global,
+    net: &SdfNet,
+    want: &[u64],
+    lacking: &[Option<u32>],
+) -> Result<(), Fail> {
+    let Round::Blocked { counts, lacks } = one_round(alloc, net)? else {
+        panic!(rt; "live");
+    };
+    assert_eq!(rt; counts.as_slice(), want);
+    assert_eq!(rt; lacks.as_slice(), lacking);
+    Ok(())
+}
+
+#[test]
+fn one_round_fires_each_actor_as_often_as_its_round(rt: HostRuntime) -> Result<(), Fail> {
+    let alloc = rt.alloc();
+    let order = order_of(&rt, alloc, &ring_of_two(alloc)?)?;
+    assert_eq!(rt; order.as_slice(), [0, 1].as_slice());
+    let order = order_of(&rt, alloc, &three_at_once(alloc)?)?;
+    assert_eq!(rt; order.as_slice(), [0].as_slice());
+    let order = order_of(&rt, alloc, &multi_rate_ring(alloc)?)?;
+    assert_eq!(rt; order.as_slice(), [0, 1, 1].as_slice());
+    Ok(())
+}
+
+#[test]
+fn blocked_rounds_name_the_first_channels_that_lack(rt: HostRuntime) -> Result<(), Fail> {
+    let alloc = rt.alloc();
+    let pair = blocked_pair(alloc)?;
+    check_block(&rt, alloc, &pair, &[0, 0], &[Some(1), Some(0)])?;
+    let half = half_blocked(alloc)?;
+    check_block(&rt, alloc, &half, &[0, 1, 1], &[Some(1), Some(0), None])
+}
