@@ -1,0 +1,100 @@
+ghost use Rattle.std.specs.Thread.{IsSend, IsSync};
+ghost use Rattle.std.specs.Prelude.{◌≡◌, ◌+◌, ◌<◌, ◌≤◌, All, length};
+ghost use Rattle.fanout.specs.JobRuns.{EachRan};
+
+use crate::gate::Gate;
+use crate::job::Job;
+use std::thread::{Threads, join_mut};
+
+/// How often the list is halved, so that at most 32 parts run side by side.
+const HALVINGS: u32 = 5;
+
+/// Where a part of the jobs stands: the number of the list, how often the part may still be halved, and the number of
+/// its first job.
+#[derive(Clone, Copy, Debug)]
+struct Place {
+    level: u64,
+    halvings: u32,
+    first: usize,
+}
+
+/// Runs all jobs, by halves of the list side by side until a part is one job or there are 32 parts; the jobs of a part
+/// run one after another. The gate is entered with each job before its run. Takes no memory of its own, and recurses
+/// at most five calls deep.
+pub fn all<R: Threads + Sync, J: Job, G: Gate + Sync>(rt: &R, level: u64, jobs: &mut [J], gate: &G)
+    requires { All J.ready jobs.old }
+    ensures { EachRan J.ran jobs.old jobs.new }
+{
+    let place = Place {
+        level,
+        halvings: HALVINGS,
+        first: 0,
+    };
+    part(rt, gate, place, jobs);
+}
+
+/// Runs a part of the jobs, by halves while it may be halved.
+#[cycle(halves)]
+fn part<R: Threads + Sync, J: Job, G: Gate + Sync>(rt: &R, gate: &G, place: Place, jobs: &mut [J])
+    requires { All J.ready jobs.old }
+    ensures { EachRan J.ran jobs.old jobs.new }
+{
+    if place.halvings == 0 || jobs.len() < 2 {
+        in_turn(gate, place, jobs);
+        return;
+    }
+    let half = jobs.len() / 2;
+    let halvings = place.halvings - 1;
+    let front = Place {
+        level: place.level,
+        halvings,
+        first: place.first,
+    };
+    let back = Place {
+        level: place.level,
+        halvings,
+        first: place.first.saturating_add(half),
+    };
+    let (first, second) = jobs.split_at_mut(half);
+    both_parts(rt, gate, front, back, first, second);
+}
+
+/// Runs two parts side by side.
+#[cycle(halves)]
+fn both_parts<R: Threads + Sync, J: Job, G: Gate + Sync>(
+    rt: &R,
+    gate: &G,
+    place: Place,
+    next: Place,
+    front: &mut [J],
+    back: &mut [J],
+)
+    requires halvings { place.halvings ≡ next.halvings }
+    requires front { All J.ready front.old }
+    requires back { All J.ready back.old }
+    ensures front { EachRan J.ran front.old front.new }
+    ensures back { EachRan J.ran back.old back.new }
+{
+    join_mut(
+        rt,
+        &mut ||
+            requires { IsSync R.row × IsSync G.row × IsSend J.row × All J.ready front.now }
+            ensures { EachRan J.ran front.entry.now front.exit.now }
+        { part(rt, gate, place, front) },
+        &mut ||
+            requires { IsSync R.row × IsSync G.row × IsSend J.row × All J.ready back.now }
+            ensures { EachRan J.ran back.entry.now back.exit.now }
+        { part(rt, gate, next, back) },
+    );
+}
+
+/// Runs the jobs one after another.
+fn in_turn<J: Job, G: Gate>(gate: &G, place: Place, jobs: &mut [J])
+    requires { All J.ready jobs.old }
+    ensures { EachRan J.ran jobs.old jobs.new }
+{
+    for k in 0..jobs.len() {
+        gate.enter(place.level, place.first.saturating_add(k));
+        jobs[k].run();
+    }
+}
