@@ -1,0 +1,58 @@
+//! Laws of storage, each on a function that does nothing.
+ghost use Rattle.std.specs.Prelude.{◌≡◌, ◌↔◌, ℕ, ◌*◌, ◌≤◌, Option, List, length};
+ghost use Rattle.sd_base.specs.Net.{Net};
+ghost use Rattle.sd_base.specs.Lawful.{Lawful};
+ghost use Rattle.sd_base.specs.Rates.{Rate};
+ghost use Rattle.sd_base.specs.Untimed.{Blocks, IsLive};
+ghost use Rattle.storage.specs.Distributions.{AtMost, CanHold, IsDistribution, capacity_at};
+ghost use Rattle.storage.specs.BoundedNets.{HasNoSpaces, bound};
+ghost use Rattle.storage.specs.Steps.{IsCorner, rounded};
+ghost use Rattle.storage.specs.ShownSpaces.{ShowsSpace};
+ghost use Rattle.storage.specs.ParetoPoints.{IsFront, Pair, Reaches};
+ghost use Rattle.storage.specs.ClosedLists.{Entry, IsClosed, IsCovered, IsFrontOver};
+ghost use Rattle.sd_base.specs.Connection.{IsConnected, IsStronglyConnected};
+ghost use Rattle.sd_base.specs.declared.limits.TheConstants.{NET_CHANNELS};
+ghost use Rattle.sd_base.specs.Schedules.{HasInputs};
+
+/// A net bounded by capacities that it can hold keeps the laws of nets.
+pub fn bounded_nets_are_lawful()
+    ensures { (net : Net) (ds : List (Option ℕ)) → Lawful net → HasNoSpaces net → CanHold net.channels ds →
+        length (bound net ds).channels ≤ NET_CHANNELS → Lawful (bound net ds) }
+{}
+
+/// With no less room a net has no lesser rate.
+pub fn rates_rise_with_capacities()
+    ensures { (net : Net) (ds es : List (Option ℕ)) (p q x y : ℕ) → Lawful net → AtMost ds es → Rate (bound net ds) p q → Rate (bound net es) x y →
+        p * y ≤ x * q }
+{}
+
+/// A distribution rounded down to whole steps has the same rate and, if it is live, is at least the corner.
+pub fn rounding_keeps_the_rate()
+    ensures rate { (net : Net) (ds : List (Option ℕ)) (p q : ℕ) → Lawful net → Rate (bound net ds) p q ↔ Rate (bound net (rounded net.channels ds)) p q }
+    ensures corner { (net : Net) (ds corner : List (Option ℕ)) → Lawful net → IsDistribution net.channels ds → IsLive (bound net ds) → IsCorner net.channels corner →
+        AtMost corner (rounded net.channels ds) × AtMost (rounded net.channels ds) ds }
+{}
+
+/// Counts that block a bounded net block it with other capacities too, if these are the same on the channels that the
+/// counts show; and a bounded net that some counts block has rate 0.
+pub fn blocked_nets_stay_blocked()
+    ensures still { (net : Net) (ds es : List (Option ℕ)) (v : ℕ → ℕ) → ((c : ℕ) → ShowsSpace net ds v c → capacity_at es c ≡ capacity_at ds c) →
+        Blocks (bound net ds) v → Blocks (bound net es) v }
+    ensures zero { (net : Net) (ds : List (Option ℕ)) (v : ℕ → ℕ) (p q : ℕ) → Lawful net → Blocks (bound net ds) v → Rate (bound net ds) p q → p ≡ 0 }
+{}
+
+/// A bounded net of a connected one leads from each actor to each, if all channels but self-loops are bounded; and such a
+/// net that some counts block has rate 0.
+pub fn blocked_nets_have_rate_zero()
+    ensures strong { (net : Net) (ds : List (Option ℕ)) → IsDistribution net.channels ds → IsConnected net → IsStronglyConnected (bound net ds) }
+    ensures rate { (net : Net) (v : ℕ → ℕ) → Lawful net → HasInputs net → IsStronglyConnected net → Blocks net v → Rate net 0 1 }
+{}
+
+/// Each distribution that reaches a pair within the limit is above a member of a closed list that bounds its rate; so pairs
+/// that are reached and cover the members are the front.
+pub fn closed_lists_give_the_front()
+    ensures covers { (net : Net) (limit t p q : ℕ) (es : List Entry) (ds : List (Option ℕ)) → Lawful net → IsClosed net limit es → Reaches net limit t p q ds →
+        IsCovered net es ds p q }
+    ensures front { (net : Net) (limit : ℕ) (es : List Entry) (pairs : List Pair) → Lawful net → IsClosed net limit es → IsFrontOver net limit es pairs →
+        IsFront net limit pairs }
+{}
