@@ -1,0 +1,6 @@
+pub mod Members
+pub mod Walks
+pub mod Stamping
+pub mod Shown
+pub mod Adding
+pub mod Onward

@@ -1,0 +1,5 @@
+use Rattle.automaton.proofs.Shown.{worst_is_shown}
+use Rattle.automaton.proofs.laws.worst_is_shown.Goals as goal
+
+pub returns : goal.returns
+returns c = worst_is_shown

@@ -1,0 +1,4 @@
+pub mod TimedGraphs
+pub mod CriticalCycles
+pub mod WorstRates
+pub mod inside

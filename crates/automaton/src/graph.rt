@@ -1,0 +1,24 @@
+//! The timed graph of a file of scenarios.
+use sd_base::Rows;
+
+/// An edge between two nodes: the stamp of the node that it enters is at least `weight` time units after that of the
+/// node that it leaves.
+#[derive(Clone, Copy, Debug, PartialEq, Eq)]
+pub struct Edge {
+    pub from: u32,
+    pub to: u32,
+    pub weight: u64,
+}
+
+/// A timed graph: node `q * tokens + i` stands for shared token i when state q is about to run. Edges are numbered
+/// from 0 in the order of the states, their successors, rows and columns.
+#[derive(Debug, Drop)]
+pub struct TimedGraph {
+    /// How many tokens the scenarios share.
+    pub tokens: u32,
+    /// The number of the state in which each path begins.
+    pub initial: u32,
+    /// How many states there are.
+    pub states: u32,
+    pub edges: Rows<Edge>,
+}

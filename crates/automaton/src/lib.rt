@@ -1,0 +1,15 @@
+//! Timed graphs of scenarios that an automaton runs, and the law that reads the worst rate off them.
+#![tactic(auto)]
+
+mod edges;
+mod graph;
+mod laws;
+mod leading;
+mod making;
+#[cfg(test)]
+mod tests;
+
+pub use graph::{Edge, TimedGraph};
+pub use laws::worst_is_shown;
+pub use leading::leads_on;
+pub use making::{GraphError, product};

@@ -1,0 +1,11 @@
+pub mod Cells
+pub mod Raising
+pub mod Scoring
+pub mod Pushing
+pub mod Tracing
+pub mod Closing
+pub mod Ending
+pub mod Looping
+pub mod Finishing
+pub mod Never
+pub mod Growing

@@ -1,0 +1,6 @@
+use Rattle.scenario_rate.specs.inside.Levels.{IsFirstCell}
+use Rattle.scenario_rate.proofs.Cells.{So}
+use Rattle.scenario_rate.proofs.levels.first_row.Given as goal
+
+abbrev pub invariant-loop-node : goal.invariant-loop-node
+invariant-loop-node l = So (IsFirstCell l.graph) l.row.items l.node

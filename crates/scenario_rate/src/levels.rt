@@ -1,0 +1,153 @@
+//! Levels: row k holds at each node the best score of a walk of at most k edges from a node of the initial state.
+//! The score of such a walk is its weights times the rounds, and the time for each edge that it has fewer than k.
+
+ghost use Rattle.std.specs.Prelude.{◌≡◌, ◌*◌, ◌+◌, ◌≤◌, ◌<◌, IfOk, MatchBool, MatchOption, length, slice_get};
+ghost use Rattle.scenario_rate.specs.Graphs.{IsSound, AreInside, node_count};
+ghost use Rattle.scenario_rate.specs.inside.Levels.{cell_at, IsBelow, IsAtLeast, IsBrought, IsAged, IsRaised, IsFirst, IsFirstCell, aged_of, AreSmall, AreSettled, edge_in};
+
+use automaton::{Edge, TimedGraph};
+use sd_base::{NoMemory, Rows};
+use std::alloc::Global;
+
+/// The best score at a node of a level, and the edge that raised it there, if one did.
+#[derive(Clone, Copy, Debug, PartialEq, Eq)]
+pub struct Cell {
+    pub score: u128,
+    pub edge: Option<u32>,
+}
+
+/// The row of level 0: the nodes of the initial state have score 0.
+pub fn first_row(alloc: Global, graph: &TimedGraph) -> Result<Vec<Option<Cell>>, NoMemory>
+    requires { IsSound graph.now }
+    ensures first { IfOk result (λ row. IsFirst graph.now (cell_at row.items)) }
+    ensures size { IfOk result (λ row. length row.items ≡ node_count graph.now) }
+{
+    let mut row = Vec::new(alloc);
+    for node in 0..graph.states * graph.tokens {
+        row.push(first_cell(graph, node))?;
+    }
+    Ok(row)
+}
+
+/// A node's cell in the row of level 0.
+fn first_cell(graph: &TimedGraph, node: u32) -> Option<Cell>
+    requires sound { IsSound graph.now }
+    ensures { IsFirstCell graph.now node result }
+{
+    let first = graph.initial * graph.tokens;
+    if first <= node && node < first + graph.tokens {
+        return Some(Cell {
+            score: 0,
+            edge: None,
+        });
+    }
+    None
+}
+
+/// The row of the next level: what it keeps of the last one, raised over each edge.
+pub fn next_row(
+    alloc: Global,
+    edges: &[Edge],
+    row: &[Option<Cell>],
+    rounds: u64,
+    time: u64,
+) -> Result<Vec<Option<Cell>>, NoMemory>
+    requires inside { AreInside edges.now (length row.now) }
+    requires rounds { rounds ≤ 1024 }
+    requires time { time ≤ 102400000000000000 }
+    requires small { AreSmall 1000000000000000000000000 (cell_at row.now) }
+    ensures raised { IfOk result (λ next. IsRaised edges.now (length edges.now) rounds time (cell_at row.now) (cell_at next.items)) }
+    ensures size { IfOk result (λ next. length next.items ≡ length row.now) }
+{
+    let mut next = aged(alloc, row, time)?;
+    for number in 0..edges.len() {
+        let edge = edges[number];
+        raise(
+            &mut next,
+            row[edge.from as usize],
+            number as u32,
+            edge,
+            rounds,
+        );
+    }
+    Ok(next)
+}
+
+/// A row whose scores are all a time more.
+fn aged(alloc: Global, row: &[Option<Cell>], time: u64) -> Result<Vec<Option<Cell>>, NoMemory>
+    requires { AreSmall 1000000000000000000000000 (cell_at row.now) }
+    ensures aged { IfOk result (λ next. IsAged time (cell_at row.now) (cell_at next.items)) }
+    ensures size { IfOk result (λ next. length next.items ≡ length row.now) }
+{
+    let mut next = Vec::new(alloc);
+    for node in 0..row.len() {
+        next.push(aged_cell(row[node], time))?;
+    }
+    Ok(next)
+}
+
+fn aged_cell(cell: Option<Cell>, time: u64) -> Option<Cell>
+    requires { MatchOption cell (Unit {0}) (λ c. c.score ≤ 1000000000000000000000000) }
+    ensures { result ≡ aged_of time cell }
+{
+    match cell {
+        Some(cell) => Some(Cell {
+            score: cell.score + time as u128,
+            edge: None,
+        }),
+        None => None,
+    }
+}
+
+/// Raises the end of an edge to what its start's cell gives, if that is more.
+fn raise(next: &mut Vec<Option<Cell>>, from: Option<Cell>, number: u32, edge: Edge, rounds: u64)
+    requires end { edge.to < length next.old.items }
+    requires light { edge.weight ≤ 100000000000000 }
+    requires rounds { rounds ≤ 1024 }
+    requires small { MatchOption from (Unit {0}) (λ c. c.score ≤ 1000000000000000000000000) }
+    ensures brought { IsBrought rounds number edge from next.old.items next.new.items }
+    ensures size { length next.new.items ≡ length next.old.items }
+{
+    if let Some(cell) = from {
+        let score = cell.score + edge.weight as u128 * rounds as u128;
+        if is_below(next[edge.to as usize], score) {
+            next[edge.to as usize] = Some(Cell {
+                score,
+                edge: Some(number),
+            });
+        }
+    }
+}
+
+/// Whether a cell's score is below another one.
+fn is_below(cell: Option<Cell>, score: u128) -> bool
+    ensures { MatchBool result (IsBelow cell score) (IsAtLeast cell score) }
+{
+    match cell {
+        Some(cell) => cell.score < score,
+        None => true,
+    }
+}
+
+/// The first node that an edge raised.
+pub fn raised_node(row: &[Option<Cell>]) -> Option<usize>
+    ensures { MatchOption result (AreSettled (cell_at row.now))
+        (λ v. (v < length row.now) × ((c : Cell) × (cell_at row.now v ≡ Some c) × ((k : _) × (c.edge ≡ Some k)))) }
+{
+    for node in 0..row.len() {
+        if let Some(_edge) = edge_of(row[node]) {
+            return Some(node);
+        }
+    }
+    None
+}
+
+/// The edge that raised a cell.
+pub fn edge_of(cell: Option<Cell>) -> Option<u32>
+    ensures { result ≡ edge_in cell }
+{
+    match cell {
+        Some(cell) => cell.edge,
+        None => None,
+    }
+}

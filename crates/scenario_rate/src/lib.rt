@@ -1,0 +1,14 @@
+//! The exact worst rate of a timed graph, with a critical cycle and the least potentials that fit.
+#![tactic(auto)]
+
+mod answer;
+mod laws;
+mod levels;
+mod passes;
+mod repeat;
+mod search;
+mod trace;
+
+pub use answer::Worst;
+pub use laws::files_grow;
+pub use passes::worst;

@@ -1,0 +1,177 @@
+//! The worst rate: the rate of a cycle, raised until no cycle gains on it.
+
+ghost use Rattle.std.specs.Prelude.{◌≡◌, ◌*◌, ◌+◌, ◌≤◌, ◌<◌, ◌≤ℤ◌, ℕ, ℤ, IfOk, MatchOption, Option, Some, length, map};
+ghost use Rattle.sd_base.specs.declared.tables.ScenarioFile.{ScenarioFile};
+ghost use Rattle.automaton.specs.WorstRates.{IsWorst};
+ghost use Rattle.automaton.specs.TimedGraphs.{IsTimedGraph};
+ghost use Rattle.automaton.specs.CriticalCycles.{IsCritical, IsReached, Fit, weights};
+ghost use Rattle.scenario_rate.specs.Graphs.{Grows, IsSound, AreInside, node_count};
+ghost use Rattle.scenario_rate.specs.inside.Levels.{cell_at, AreSmall};
+ghost use Rattle.scenario_rate.specs.inside.Searches.{AreLevels, IsRaisedAt, AreNumbers, IsLastOf, potential_of};
+ghost use Rattle.scenario_rate.specs.Answers.{IsApart, potential_at};
+ghost use Rattle.scenario_rate.specs.inside.Bests.{IsBest, IsAnswer};
+
+use crate::answer::Worst;
+use crate::levels::Cell;
+use crate::repeat::{edges_of, first_return};
+use crate::search::{Levels, Outcome, row_at, search};
+use crate::trace::walk_to;
+use automaton::{Edge, TimedGraph, worst_is_shown};
+use sd_base::{Fraction, NoMemory, Rows};
+use std::alloc::Global;
+
+/// A cycle and its rate.
+#[derive(Debug, Drop)]
+struct Best {
+    rate: Fraction,
+    cycle: Vec<u32>,
+}
+
+/// The worst rate of a timed graph, which is that of each file whose timed graph it is: least of all rounds per time
+/// unit around cycles that the initial state reaches. From the rate of some cycle on, a search by levels (Bellman and
+/// Ford) finds a cycle that gains on it, or potentials. Cost: at most nodes times edges, and memory of nodes squared,
+/// for each cycle that gains on the one before.
+pub fn worst(alloc: Global, graph: &TimedGraph) -> Result<Worst, NoMemory>
+    requires sound { IsSound graph.now }
+    requires grows { Grows graph.now }
+    ensures critical { IfOk result (λ r. IsCritical graph.now r.rate.num r.rate.den r.cycle) }
+    ensures apart { IfOk result (λ r. IsApart graph.now.edges r.cycle) }
+    ensures fit { IfOk result (λ r. Fit graph.now r.rate.num r.rate.den (potential_at r.potentials)) }
+    ensures count { IfOk result (λ r. length r.potentials ≡ node_count graph.now) }
+    ensures reached { IfOk result (λ r. (v : ℕ) → (x : ℤ) → potential_at r.potentials v ≡ Some x → IsReached graph.now v) }
+    ensures least { IfOk result (λ r. (q : (ℕ → Option ℤ)) → Fit graph.now r.rate.num r.rate.den q → (v : ℕ) → (x : ℤ) → (y : ℤ)
+        → potential_at r.potentials v ≡ Some x → q v ≡ Some y → x ≤ℤ y) }
+    ensures shows { IfOk result (λ r. (file : ScenarioFile) → IsTimedGraph file graph.now → IsWorst file r.rate.num r.rate.den) }
+{
+    worst_is_shown();
+    let mut best = first_cycle(alloc, graph)?;
+    'passes: loop {
+        match search(alloc, graph, best.rate.num, best.rate.den)? {
+            Outcome::Settled(levels) => {
+                let answer = finish(alloc, graph, best, &levels)?;
+                return Ok(answer);
+            },
+            Outcome::Raised(levels, node) => {
+                best = better_cycle(alloc, graph, &levels, node)?;
+            },
+        }
+    }
+}
+
+/// A cycle to begin with: the first that a search without time finds.
+fn first_cycle(alloc: Global, graph: &TimedGraph) -> Result<Best, NoMemory>
+    requires sound { IsSound graph.now }
+    requires grows { Grows graph.now }
+    ensures { IfOk result (IsBest graph.now) }
+{
+    match search(alloc, graph, 1, 0)? {
+        Outcome::Settled(_levels) => unreachable!(),
+        Outcome::Raised(levels, node) => {
+            let best = better_cycle(alloc, graph, &levels, node)?;
+            Ok(best)
+        },
+    }
+}
+
+/// A cycle that gains on the rate of a search.
+fn better_cycle(
+    alloc: Global,
+    graph: &TimedGraph,
+    levels: &Levels,
+    node: u32,
+) -> Result<Best, NoMemory>
+    requires sound { IsSound graph.now }
+    requires levels { AreLevels graph.now levels.now.rounds levels.now.time levels.now.rows.items }
+    requires count { length levels.now.rows.items ≡ node_count graph.now + 1 }
+    requires node { node < node_count graph.now }
+    requires raised { IsRaisedAt levels.now.rows.items (node_count graph.now) node }
+    ensures best { IfOk result (IsBest graph.now) }
+    ensures gains { IfOk result (λ b. levels.now.time * b.rate.num < b.rate.den * levels.now.rounds) }
+{
+    let nodes = levels.rows.len() - 1;
+    let walk = walk_to(alloc, graph, levels, nodes, node)?;
+    let edges = graph.edges.as_slice();
+    match first_return(edges, walk.as_slice(), node) {
+        None => unreachable!(),
+        Some(part) => {
+            let cycle = edges_of(alloc, walk.as_slice(), part)?;
+            let best = best_of(edges, cycle);
+            Ok(best)
+        },
+    }
+}
+
+/// A cycle with its rate.
+fn best_of(edges: &[Edge], cycle: Vec<u32>) -> Best
+    requires inside { AreInside edges.now 1024 }
+    requires numbers { AreNumbers edges.now cycle.items }
+    requires some { 1 ≤ length cycle.items }
+    requires few { length cycle.items ≤ 1024 }
+    requires heavy { 1 ≤ weights edges.now cycle.items }
+    ensures cycle { result.cycle.items ≡ cycle.items }
+    ensures rate { result.rate.num * weights edges.now cycle.items ≡ length cycle.items * result.rate.den }
+{
+    let rate = Fraction::new(cycle.len() as u64, weight_of(edges, cycle.as_slice()));
+    Best { rate, cycle }
+}
+
+/// The sum of the weights of edges.
+fn weight_of(edges: &[Edge], numbers: &[u32]) -> u64
+    requires inside { AreInside edges.now 1024 }
+    requires numbers { AreNumbers edges.now numbers.now }
+    requires few { length numbers.now ≤ 1024 }
+    ensures { result ≡ weights edges.now numbers.now }
+{
+    let mut sum = 0u64;
+    for number in numbers {
+        sum += edges[*number as usize].weight;
+    }
+    sum
+}
+
+/// The answer of a search that has settled at the rate of a cycle.
+fn finish(alloc: Global, graph: &TimedGraph, best: Best, levels: &Levels) -> Result<Worst, NoMemory>
+    requires sound { IsSound graph.now }
+    requires best { IsBest graph.now best }
+    requires levels { AreLevels graph.now best.rate.num best.rate.den levels.now.rows.items }
+    requires time { levels.now.time ≡ best.rate.den }
+    requires last { IsLastOf graph.now best.rate.num best.rate.den levels.now.rows.items }
+    ensures { IfOk result (IsAnswer graph.now) }
+{
+    let level = levels.rows.len() - 1;
+    let row = row_at(levels.rows.as_slice(), level);
+    let potentials = potentials(alloc, row, level as u128 * levels.time as u128)?;
+    Ok(Worst {
+        rate: best.rate,
+        cycle: Rows::from_vec(best.cycle),
+        potentials: Rows::from_vec(potentials),
+    })
+}
+
+/// What scores stand for after levels that took a time.
+fn potentials(
+    alloc: Global,
+    row: &[Option<Cell>],
+    before: u128,
+) -> Result<Vec<Option<i128>>, NoMemory>
+    requires small { AreSmall 1000000000000000000000000 (cell_at row.now) }
+    requires before { before ≤ 1000000000000000000000000 }
+    ensures { IfOk result (λ list. list.items ≡ map (potential_of before) row.now) }
+{
+    let mut list = Vec::new(alloc);
+    for place in 0..row.len() {
+        list.push(potential(row[place], before))?;
+    }
+    Ok(list)
+}
+
+fn potential(cell: Option<Cell>, before: u128) -> Option<i128>
+    requires small { MatchOption cell (Unit {0}) (λ c. c.score ≤ 1000000000000000000000000) }
+    requires before { before ≤ 1000000000000000000000000 }
+    ensures { result ≡ potential_of before cell }
+{
+    match cell {
+        Some(cell) => Some(cell.score as i128 - before as i128),
+        None => None,
+    }
+}

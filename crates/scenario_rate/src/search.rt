@@ -1,0 +1,69 @@
+//! A search by levels: either no edge raises a node any more, or the walks get longer than there are nodes.
+
+ghost use Rattle.std.specs.Prelude.{◌≡◌, ◌*◌, ◌+◌, ◌≤◌, ◌<◌, ℕ, IfOk, length, slice_index_or, []};
+ghost use Rattle.scenario_rate.specs.Graphs.{IsSound};
+ghost use Rattle.scenario_rate.specs.inside.Searches.{IsOutcome};
+
+use crate::levels::{Cell, first_row, next_row, raised_node};
+use automaton::TimedGraph;
+use sd_base::{NoMemory, Rows};
+use std::alloc::Global;
+
+/// The rows of a search at a rate of `rounds` per `time`, from level 0 on.
+#[derive(Debug, Drop)]
+pub struct Levels {
+    pub rounds: u64,
+    pub time: u64,
+    pub rows: Vec<Rows<Option<Cell>>>,
+}
+
+/// What a search comes to.
+#[derive(Debug, Drop)]
+pub enum Outcome {
+    /// No edge raises a node of the last row.
+    Settled(Levels),
+    /// An edge raised this node at the level that has as many edges as there are nodes.
+    Raised(Levels, u32),
+}
+
+/// Makes level after level. Cost: at most the nodes times the edges.
+pub fn search(
+    alloc: Global,
+    graph: &TimedGraph,
+    rounds: u64,
+    time: u64,
+) -> Result<Outcome, NoMemory>
+    requires sound { IsSound graph.now }
+    requires rounds { rounds ≤ 1024 }
+    requires time { time ≤ 102400000000000000 }
+    ensures { IfOk result (IsOutcome graph.now rounds time) }
+{
+    let mut node = 0u32;
+    let mut rows = Vec::new(alloc);
+    rows.push(Rows::from_vec(first_row(alloc, graph)?))?;
+    for level in 0..(graph.states * graph.tokens) as usize {
+        let next = next_row(
+            alloc,
+            graph.edges.as_slice(),
+            row_at(&rows, level),
+            rounds,
+            time,
+        )?;
+        match raised_node(next.as_slice()) {
+            Some(found) => node = found as u32,
+            None => {
+                return Ok(Outcome::Settled(Levels { rounds, time, rows }));
+            },
+        }
+        rows.push(Rows::from_vec(next))?;
+    }
+    Ok(Outcome::Raised(Levels { rounds, time, rows }, node))
+}
+
+/// The row of a level.
+pub fn row_at(rows: &[Rows<Option<Cell>>], level: usize) -> &[Option<Cell>]
+    requires { level < length rows.now }
+    ensures { result.now ≡ slice_index_or rows.now level [] }
+{
+    rows[level].as_slice()
+}
