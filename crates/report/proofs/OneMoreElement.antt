@@ -11,7 +11,7 @@ use Rattle.sd_base.specs.Net.{Net}
 use Rattle.periodic.specs.declared.schedule.Periodic.{Periodic}
 use Rattle.critical.specs.declared.cycle.CycleStep.{CycleStep}
 use Rattle.critical.specs.declared.cycle.NeedCycle.{NeedCycle}
-use Rattle.report.specs.EscapedNames.{escaped_name}
+use Rattle.escapes.specs.EscapedNames.{escaped_name}
 use Rattle.report.specs.LinkTexts.{actor_lines}
 use Rattle.report.specs.ScheduleTexts.{schedule_header, spaced, starts_line, schedule_lines}
 use Rattle.report.specs.CycleTexts.{cycle_header, step_on, cycle_lines}

@@ -5,7 +5,7 @@ use Rattle.sd_base.specs.declared.tables.GraphFile.{GraphFile}
 use Rattle.sd_base.specs.Net.{Net}
 use Rattle.periodic.specs.declared.schedule.Periodic.{Periodic}
 use Rattle.critical.specs.declared.cycle.NeedCycle.{NeedCycle}
-use Rattle.report.specs.EscapedNames.{escaped_name}
+use Rattle.escapes.specs.EscapedNames.{escaped_name}
 use Rattle.report.specs.LinkTexts.{actor_lines}
 use Rattle.report.specs.FractionTexts.{lowest_text}
 use Rattle.report.specs.ScheduleTexts.{schedule_lines}

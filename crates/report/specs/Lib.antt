@@ -1,4 +1,3 @@
-pub mod EscapedNames
 pub mod WalkTexts
 pub mod CycleTexts
 pub mod ScheduleTexts

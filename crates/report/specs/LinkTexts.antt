@@ -5,7 +5,7 @@ use Rattle.sd_base.specs.declared.role.Role.TheVariants.{Token, Own, Space, Orde
 use Rattle.sd_base.specs.declared.tables.GraphFile.{GraphFile}
 use Rattle.sd_base.specs.declared.tables.ActorRow.{ActorRow}
 use Rattle.sd_base.specs.Net.{Net, channel_at}
-use Rattle.report.specs.EscapedNames.{escaped_name}
+use Rattle.escapes.specs.EscapedNames.{escaped_name}
 use Rattle.report.specs.WalkTexts.{no_channel}
 
 -- what stands for an actor past the last one

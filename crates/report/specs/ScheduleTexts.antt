@@ -4,7 +4,7 @@ use Rattle.std.specs.List.{flat_map}
 use Rattle.std.specs.Fmt.{decimal}
 use Rattle.sd_base.specs.declared.tables.GraphFile.{GraphFile}
 use Rattle.periodic.specs.declared.schedule.Periodic.{Periodic}
-use Rattle.report.specs.EscapedNames.{escaped_name}
+use Rattle.escapes.specs.EscapedNames.{escaped_name}
 use Rattle.report.specs.LinkTexts.{actor_lines}
 
 unfoldable pub schedule_header : ℕ → ℕ → List ℕ

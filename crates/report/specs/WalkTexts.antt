@@ -3,7 +3,7 @@ use Rattle.std.specs.Prelude.{ℕ, Bool, true, false, List, [], ◌∷◌, ◌++
 use Rattle.sd_base.specs.declared.tables.GraphFile.{GraphFile}
 use Rattle.sd_base.specs.declared.tables.ChannelRow.{ChannelRow}
 use Rattle.balance.specs.declared.walk.WalkStep.{WalkStep}
-use Rattle.report.specs.EscapedNames.{escaped_name}
+use Rattle.escapes.specs.EscapedNames.{escaped_name}
 
 -- what stands for a channel past the last one
 abbrev pub no_channel : ChannelRow

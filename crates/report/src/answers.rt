@@ -5,7 +5,7 @@ ghost use Rattle.report.specs.CycleTexts.{IsCycleIn};
 ghost use Rattle.report.specs.AnswerTexts.{number_line, rate_line, rate_lines, repetition_header, repetition_lines};
 
 use crate::cycles::put_cycle;
-use crate::escaped;
+use escapes::escaped;
 use crate::fractions::put_lowest;
 use crate::schedules::put_schedule;
 use critical::NeedCycle;

@@ -6,7 +6,6 @@ mod cycles;
 mod fractions;
 mod lacks;
 mod links;
-mod names;
 mod quantities;
 mod refusal;
 mod refusals;
@@ -17,7 +16,6 @@ mod walks;
 
 pub use answers::{rate_text, repetition_text};
 pub use lacks::lacks_text;
-pub use names::escaped;
 pub use quantities::quantity_word;
 pub use refusal::{Class, Refusal};
 pub use refusals::{memory_text, refusal_line, refusal_text};

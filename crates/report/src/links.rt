@@ -2,7 +2,7 @@ ghost use Rattle.std.specs.Prelude.{◌≡◌, ◌<◌, ◌++◌, OnOk, length};
 ghost use Rattle.std.specs.String.{string_bytes};
 ghost use Rattle.report.specs.LinkTexts.{actor_name, channel_name, link_text, IsRoleIn};
 
-use crate::names::put_escaped;
+use escapes::put_escaped;
 use sd_base::{GraphFile, Role};
 use std::alloc::AllocError;
 

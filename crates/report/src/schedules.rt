@@ -2,7 +2,7 @@ ghost use Rattle.std.specs.Prelude.{◌≡◌, ◌++◌, OnOk, length};
 ghost use Rattle.std.specs.String.{string_bytes};
 ghost use Rattle.report.specs.ScheduleTexts.{schedule_header, schedule_lines, spaced, starts_line};
 
-use crate::names::put_escaped;
+use escapes::put_escaped;
 use periodic::Periodic;
 use sd_base::GraphFile;
 use std::alloc::AllocError;

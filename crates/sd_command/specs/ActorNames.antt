@@ -1,7 +1,7 @@
 -- Printed names.
 use Rattle.std.specs.Prelude.{ℕ, List, [], slice_index_or}
 use Rattle.sd_base.specs.declared.tables.GraphFile.{GraphFile}
-use Rattle.report.specs.EscapedNames.{escaped_name}
+use Rattle.escapes.specs.EscapedNames.{escaped_name}
 
 -- the printed name of an actor
 abbrev pub actor_shown : GraphFile → ℕ → List ℕ

@@ -1,7 +1,7 @@
 ghost use Rattle.std.specs.Prelude.{◌≡◌, ◌<◌, IfOk, length};
 ghost use Rattle.sd_command.specs.ActorNames.{actor_shown};
 
-use report::escaped;
+use escapes::escaped;
 use sd_base::{GraphFile, NoMemory, Text};
 use std::alloc::Global;
 

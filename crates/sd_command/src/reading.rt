@@ -13,7 +13,8 @@ ghost use Rattle.sd_command.specs.inside.Going.{Does};
 use crate::stop::Stop;
 use file_text::{Construct, TextError};
 use graph_reader::{Field, ReadError, read_graph};
-use report::{Refusal, escaped, quantity_word};
+use escapes::escaped;
+use report::{Refusal, quantity_word};
 use sd_base::{GraphFile, NoMemory, Quantity, Text};
 use std::alloc::Global;
 

@@ -1,3 +1,4 @@
+mod BufferParts
 pub mod Turns
 pub mod Seen
 pub mod Apart

@@ -1,4 +1,5 @@
 pub mod Values
+pub mod Buffers
 pub mod Spelling
 pub mod Reading
 pub mod Asked

@@ -4,6 +4,7 @@
 ghost use Rattle.std.specs.Prelude.{◌≡◌, IfOk, MatchResult, Ok};
 ghost use Rattle.sd_words.specs.Asked.{Fails, HasStates, request_of};
 
+mod buffers;
 mod form;
 mod given;
 mod laws;

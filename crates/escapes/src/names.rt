@@ -1,6 +1,6 @@
 ghost use Rattle.std.specs.Prelude.{◌≡◌, ◌<◌, ◌++◌, IfOk, IsTrue, OnOk};
 ghost use Rattle.std.specs.String.{string_bytes};
-ghost use Rattle.report.specs.EscapedNames.{escaped_byte, escaped_name, hex_digit, is_bare};
+ghost use Rattle.escapes.specs.EscapedNames.{escaped_byte, escaped_name, hex_digit, is_bare};
 
 use sd_base::{NoMemory, Text};
 use std::alloc::{AllocError, Global};
@@ -17,7 +17,7 @@ pub fn escaped(alloc: Global, name: &str) -> Result<Text, NoMemory>
 
 /// Puts a name at the end of a text, as lines show it.
 #[tactic(auto, unfolding(crate::specs::EscapedNames::escaped_name))]
-pub(crate) fn put_escaped(text: &mut String, name: &str) -> Result<(), AllocError>
+pub fn put_escaped(text: &mut String, name: &str) -> Result<(), AllocError>
     ensures { OnOk result (string_bytes text.new ≡ string_bytes text.old ++ escaped_name name.now) }
 {
     for byte in name.as_bytes() {
@@ -38,7 +38,7 @@ fn push_escaped(text: &mut String, byte: u8) -> Result<(), AllocError>
     text.push(hex(byte % 16))
 }
 
-fn is_bare_byte(byte: u8) -> bool
+pub(crate) fn is_bare_byte(byte: u8) -> bool
     ensures bare { result ≡ is_bare byte }
     ensures ascii { IsTrue result → byte < 128 }
 {
