@@ -15,7 +15,8 @@ use Rattle.sd_words.specs.declared.table.Standing.TheVariants.{Required, Allowed
 use Rattle.sd_words.specs.OptionWords.{algorithm_word, algorithm_named, algorithms}
 use Rattle.sd_words.specs.Spelling.{Setting}
 use Rattle.sd_words.specs.OptionWords.{names_value, names_flag}
-use Rattle.sd_words.specs.Values.{fits, is_value}
+use Rattle.sd_words.specs.Values.{is_value}
+use Rattle.sd_words.specs.Forms.{fits}
 use Rattle.sd_words.specs.Reading.{◌>>=◌, Progress, is_taken, with_setting, with_value, with_name, with_text, with_option, with_word, with_words, finished, settings_of}
 use Rattle.sd_words.specs.Asked.{value_of, values_in, standing, is_good, judged, checked, all_checked, options, algorithm_in, known, algorithm_of, request_for, request_from, request_of}
 use Rattle.sd_words.specs.Rules.{IsFault, AllFit, IsFirstFault, Asks, AreMisspelled, AskNothing}
@@ -125,6 +126,7 @@ named-word : (a : Algorithm) → algorithm_named (algorithm_word a) ≡ Some a
 unfolding algorithm_named algorithm_word
 named-word algorithm.Repetition = refl
 named-word algorithm.Throughput = refl
+named-word algorithm.Storage = refl
 
 found-first : (b : Bool) (x a : Algorithm) (w : List ℕ) (r : Option Algorithm) → bytes_eq (algorithm_word x) w ≡ b → cond b (Some x) r ≡ Some a → (w ≡ algorithm_word a) ⊎ (r ≡ Some a)
 found-first true x a w r e h =

@@ -1,7 +1,8 @@
 -- What settings ask for, or the first cause why they ask for nothing.
 use Rattle.std.specs.Prelude.{◌≡◌, ◌≤◌, ℕ, Bool, true, List, [], ◌∷◌, Option, Some, None, Result, Ok, Err, MatchResult, is_some, unwrap_or, option_and_then, if◌then◌else◌}
 use Rattle.std.specs.Str.{bytes_eq}
-use Rattle.sd_base.specs.declared.limits.TheConstants.{LEAST_STATES, STATES, USUAL_STATES}
+use Rattle.sd_base.specs.declared.limits.Limits.{Limits}
+use Rattle.sd_base.specs.declared.limits.TheConstants.{DISTRIBUTIONS, LEAST_DISTRIBUTIONS, LEAST_STATES, STATES, STORAGE, USUAL_DISTRIBUTIONS, USUAL_STATES}
 use Rattle.sd_words.specs.declared.names.OptionName.{OptionName}
 use Rattle.sd_words.specs.declared.names.OptionName.TheVariants as option
 use Rattle.sd_words.specs.declared.names.Algorithm.{Algorithm}
@@ -16,7 +17,9 @@ use Rattle.sd_words.specs.declared.request.WordsError.TheVariants.{Usage, NoMemo
 use Rattle.sd_words.specs.declared.table.Standing.{Standing}
 use Rattle.sd_words.specs.declared.table.Standing.TheVariants.{Required, Allowed, Foreign}
 use Rattle.sd_words.specs.OptionWords.{option_word, algorithm_named}
-use Rattle.sd_words.specs.Values.{fits, number_within}
+use Rattle.sd_words.specs.Values.{number_within}
+use Rattle.sd_words.specs.Forms.{fits}
+use Rattle.sd_words.specs.Buffers.{Buffer, buffers_of}
 use Rattle.sd_words.specs.Spelling.{Setting}
 use Rattle.sd_words.specs.Reading.{◌>>=◌, settings_of}
 
@@ -58,8 +61,14 @@ options = option.Graph ∷ option.Certificate ∷ option.Buffers ∷ option.Stat
 unfoldable pub standing : Algorithm → OptionName → Standing
 standing algorithm.Repetition option.Graph = Required form.Any
 standing algorithm.Throughput option.Graph = Required form.Any
+standing algorithm.Throughput option.Buffers = Allowed form.Buffers
 standing algorithm.Throughput option.States = Allowed (form.Number LEAST_STATES STATES)
 standing algorithm.Throughput option.NoOverlap = Allowed form.Any
+standing algorithm.Storage option.Graph = Required form.Any
+standing algorithm.Storage option.States = Allowed (form.Number LEAST_STATES STATES)
+standing algorithm.Storage option.Distributions = Allowed (form.Number LEAST_DISTRIBUTIONS DISTRIBUTIONS)
+standing algorithm.Storage option.Limit = Required (form.Number 0 STORAGE)
+standing algorithm.Storage option.NoOverlap = Allowed form.Any
 standing a o = Foreign
 
 -- a value is of the form that the table asks
@@ -86,19 +95,45 @@ unfoldable pub all_checked : Algorithm → Values → List OptionName → Result
 all_checked a values [] = Ok tt
 all_checked a values (o ∷ os) = checked a o (values o) >>= λ _. all_checked a values os
 
--- the number of states that is asked for
-unfoldable pub states_of : Values → ℕ
-states_of values = unwrap_or (option_and_then (number_within LEAST_STATES STATES) (values option.States)) USUAL_STATES
+-- the name of the graph file
+abbrev pub graph_of : Values → List ℕ
+graph_of values = unwrap_or (values option.Graph) []
+
+-- the number that is asked for within a range, or else the usual one
+unfoldable pub number_of : OptionName → ℕ → ℕ → ℕ → Values → ℕ
+number_of o least greatest usual values = unwrap_or (option_and_then (number_within least greatest) (values o)) usual
+
+abbrev pub states_of : Values → ℕ
+states_of values = number_of option.States LEAST_STATES STATES USUAL_STATES values
+
+-- the channels that are asked to have a capacity
+unfoldable pub capacities_of : Values → List Buffer
+capacities_of values = unwrap_or (option_and_then buffers_of (values option.Buffers)) []
+
+-- what an exploration may use
+unfoldable pub limits_of : Values → Limits
+limits_of values = record {
+  total = number_of option.Limit 0 STORAGE 0 values;
+  states = states_of values;
+  distributions = number_of option.Distributions LEAST_DISTRIBUTIONS DISTRIBUTIONS USUAL_DISTRIBUTIONS values;
+}
 
 -- the request of values that are as the algorithm asks
 unfoldable pub request_for : Algorithm → Values → Request
-request_for algorithm.Repetition values = request.Repetition (unwrap_or (values option.Graph) [])
-request_for algorithm.Throughput values = request.Throughput (unwrap_or (values option.Graph) []) (is_some (values option.NoOverlap)) (states_of values)
+request_for algorithm.Repetition values = request.Repetition (graph_of values)
+request_for algorithm.Throughput values = request.Throughput (graph_of values) (capacities_of values) (is_some (values option.NoOverlap)) (states_of values)
+request_for algorithm.Storage values = request.Storage (graph_of values) (limits_of values) (is_some (values option.NoOverlap))
 
 -- a number of states is within its range
-abbrev pub HasStates : Request → Type 0
-HasStates (request.Repetition graph) = Unit {0}
-HasStates (request.Throughput graph no_overlap states) = (LEAST_STATES ≤ states) × (states ≤ STATES)
+abbrev pub AreStates : ℕ → Type 0
+AreStates states = (LEAST_STATES ≤ states) × (states ≤ STATES)
+
+-- the numbers of a request are within their ranges
+abbrev pub IsWithinLimits : Request → Type 0
+IsWithinLimits (request.Repetition graph) = Unit {0}
+IsWithinLimits (request.Throughput graph buffers no_overlap states) = AreStates states
+IsWithinLimits (request.Storage graph limits no_overlap) =
+    (limits.total ≤ STORAGE) × AreStates limits.states × (LEAST_DISTRIBUTIONS ≤ limits.distributions) × (limits.distributions ≤ DISTRIBUTIONS)
 
 -- what values ask for
 unfoldable pub request_from : Values → Result Request UsageCause

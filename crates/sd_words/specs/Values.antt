@@ -1,9 +1,7 @@
--- The forms of values.
-use Rattle.std.specs.Prelude.{ℕ, ◌+◌, ◌-◌, ◌*◌, Bool, false, not, ◌&&◌, ◌==◌, nat_le, nat_lt, List, [], ◌∷◌, length, Option, Some, None, is_some, true, if◌then◌else◌}
+-- Values, and the numbers among them.
+use Rattle.std.specs.Prelude.{ℕ, ◌+◌, ◌-◌, ◌*◌, Bool, false, not, ◌&&◌, ◌==◌, nat_le, nat_lt, List, [], ◌∷◌, length, Option, Some, None, if◌then◌else◌}
 use Rattle.std.specs.List.{fold, list_all}
 use Rattle.std.specs.Char.{is_ascii_digit}
-use Rattle.sd_words.specs.declared.form.Form.{Form}
-use Rattle.sd_words.specs.declared.form.Form.TheVariants as form
 
 -- a value isn't empty and doesn't begin with a hyphen
 abbrev pub is_value : List ℕ → Bool
@@ -26,8 +24,3 @@ is_decimal text = nat_lt 0 (length text) && list_all is_ascii_digit text
 unfoldable pub number_within : ℕ → ℕ → List ℕ → Option ℕ
 number_within low high text =
     if is_decimal text && (nat_le low (number text) && nat_le (number text) high) then Some (number text) else None
-
--- a value is of a form
-unfoldable pub fits : Form → List ℕ → Bool
-fits form.Any value = true
-fits (form.Number least greatest) value = is_some (number_within least greatest value)

@@ -64,11 +64,7 @@ fn buffer_of(alloc: Global, part: &str) -> Result<Option<(Text, u64)>, AllocErro
 }
 
 // A name and a number.
-fn named_number(
-    alloc: Global,
-    name: &str,
-    number: &str,
-) -> Result<Option<(Text, u64)>, AllocError>
+fn named_number(alloc: Global, name: &str, number: &str) -> Result<Option<(Text, u64)>, AllocError>
     ensures { IfOk result (λ buffer. buffer ≡ named_number name.now number.now) }
 {
     let Some(channel) = unescaped(alloc, name)? else {

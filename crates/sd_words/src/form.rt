@@ -1,9 +1,13 @@
 //! The forms of values.
 
-ghost use Rattle.std.specs.Prelude.{◌≡◌, min};
+ghost use Rattle.std.specs.Prelude.{◌≡◌, IfOk, min};
 ghost use Rattle.std.specs.List.{list_all};
 ghost use Rattle.std.specs.Char.{is_ascii_digit};
-ghost use Rattle.sd_words.specs.Values.{fits, is_decimal, is_value, number, number_within};
+ghost use Rattle.sd_words.specs.Values.{is_decimal, is_value, number, number_within};
+ghost use Rattle.sd_words.specs.Forms.{fits};
+
+use crate::buffers::buffers_of;
+use std::alloc::{AllocError, Global};
 
 /// A number from here on is above each limit, so it stays here, however many digits follow.
 const GREATEST: u128 = 100_000_000_000_000_000_000;
@@ -15,6 +19,8 @@ pub(crate) enum Form {
     Any,
     /// A number in decimal digits, from `least` to `greatest`.
     Number { least: u64, greatest: u64 },
+    /// Names of channels with their capacities.
+    Buffers,
 }
 
 /// Whether a word may be the value of an option: it isn't empty and doesn't begin with a hyphen.
@@ -68,12 +74,13 @@ pub(crate) fn number_within(text: &str, low: u64, high: u64) -> Option<u64>
 }
 
 /// Whether a value is of the form.
-#[tactic(auto, unfolding(crate::specs::Values::fits))]
-pub(crate) fn fits(form: Form, value: &str) -> bool
-    ensures { result ≡ fits form value.now }
+#[tactic(auto, unfolding(crate::specs::Forms::fits))]
+pub(crate) fn fits(alloc: Global, form: Form, value: &str) -> Result<bool, AllocError>
+    ensures { IfOk result (λ good. good ≡ fits form value.now) }
 {
     match form {
-        Form::Any => true,
-        Form::Number { least, greatest } => number_within(value, least, greatest).is_some(),
+        Form::Any => Ok(true),
+        Form::Number { least, greatest } => Ok(number_within(value, least, greatest).is_some()),
+        Form::Buffers => Ok(buffers_of(alloc, value)?.is_some()),
     }
 }

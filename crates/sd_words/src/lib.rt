@@ -2,7 +2,7 @@
 #![tactic(auto)]
 
 ghost use Rattle.std.specs.Prelude.{◌≡◌, IfOk, MatchResult, Ok};
-ghost use Rattle.sd_words.specs.Asked.{Fails, HasStates, request_of};
+ghost use Rattle.sd_words.specs.Asked.{Fails, IsWithinLimits, request_of};
 
 mod buffers;
 mod form;
@@ -27,7 +27,7 @@ use std::alloc::Global;
 #[tactic(auto, unfolding(crate::specs::Asked::request_of, crate::specs::Asked::request_from))]
 pub fn parse_words(alloc: Global, words: &[Text]) -> Result<Request, WordsError>
     ensures request { MatchResult result (λ r. request_of words.now ≡ Ok r) (λ e. Fails e (request_of words.now)) }
-    ensures states { IfOk result HasStates }
+    ensures within { IfOk result IsWithinLimits }
 {
     test_spelling(alloc, words)?;
     let texts = texts_of(alloc, words)?;
@@ -36,7 +36,7 @@ pub fn parse_words(alloc: Global, words: &[Text]) -> Result<Request, WordsError>
         Err(error) => return Err(want_of_memory(error.kind())),
     };
     let algo = table::algorithm_of(&given)?;
-    table::check_options(algo, &given)?;
+    table::check_options(alloc, algo, &given)?;
     Ok(table::request_for(alloc, algo, &given)?)
 }
 

@@ -2,7 +2,7 @@ ghost use Rattle.std.specs.Prelude.{◌≡◌};
 ghost use Rattle.sd_words.specs.declared.request.WordsError.TheVariants.{NoMemory, Usage};
 
 use crate::{Algorithm, OptionName};
-use sd_base::Text;
+use sd_base::{Limits, Rows, Text};
 use std::alloc::{AllocError, AllocFailed};
 use thiserror::Error;
 
@@ -17,8 +17,16 @@ pub enum Request {
     /// the execution may have at most `states` states before one is repeated.
     Throughput {
         graph: Text,
+        /// Channels by name that have a capacity, in tokens; no two are of one name.
+        buffers: Rows<(Text, u64)>,
         no_overlap: bool,
         states: u64,
+    },
+    /// The Pareto points of the graph's storage distributions within the limits.
+    Storage {
+        graph: Text,
+        limits: Limits,
+        no_overlap: bool,
     },
 }
 

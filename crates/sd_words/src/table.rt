@@ -1,17 +1,21 @@
 //! Which options an algorithm has, and the request that they make.
 
-ghost use Rattle.std.specs.Prelude.{◌≡◌, IfOk, Ok, Err, [], unwrap_or, if◌then◌else◌};
+ghost use Rattle.std.specs.Prelude.{◌≡◌, IfOk, Ok, Err, if◌then◌else◌};
 ghost use Rattle.sd_words.specs.declared.request.UsageCause.TheVariants.{BadValue};
-ghost use Rattle.sd_words.specs.Values.{fits};
+ghost use Rattle.sd_words.specs.Forms.{fits};
 ghost use Rattle.std.specs.Option.{option_map};
-ghost use Rattle.sd_words.specs.Asked.{algorithm_of, all_checked, checked, options, request_for, standing, states_of};
+ghost use Rattle.sd_words.specs.Asked.{Gives, algorithm_of, all_checked, capacities_of, checked, graph_of, limits_of, number_of, options, request_for, standing, states_of};
 ghost use Rattle.sd_words.specs.Given.{values_given};
 
+use crate::buffers::buffers_of;
 use crate::form::{Form, fits, number_within};
 use crate::given::Given;
-use crate::{Algorithm, OptionName, Request, UsageCause};
-use sd_base::Text;
-use sd_base::limits::{LEAST_STATES, STATES, USUAL_STATES};
+use crate::{Algorithm, OptionName, Request, UsageCause, WordsError};
+use sd_base::limits::{
+    DISTRIBUTIONS, LEAST_DISTRIBUTIONS, LEAST_STATES, STATES, STORAGE, USUAL_DISTRIBUTIONS,
+    USUAL_STATES,
+};
+use sd_base::{Limits, Rows, Text};
 use std::alloc::{AllocError, Global};
 
 /// The options beside `--algo`, in the order in which they are tested.
@@ -26,6 +30,12 @@ const BESIDE_ALGO: [OptionName; 9] = [
     OptionName::Actors,
     OptionName::NoOverlap,
 ];
+
+/// A number of states.
+const OF_STATES: Form = Form::Number {
+    least: LEAST_STATES,
+    greatest: STATES,
+};
 
 /// Whether an algorithm has an option, and the values that the option may have.
 #[derive(Clone, Copy)]
@@ -47,9 +57,21 @@ fn standing_of(algo: Algorithm, option: OptionName) -> Standing
         },
         Algorithm::Throughput => match option {
             OptionName::Graph => Standing::Required(Form::Any),
-            OptionName::States => Standing::Allowed(Form::Number {
-                least: LEAST_STATES,
-                greatest: STATES,
+            OptionName::Buffers => Standing::Allowed(Form::Buffers),
+            OptionName::States => Standing::Allowed(OF_STATES),
+            OptionName::NoOverlap => Standing::Allowed(Form::Any),
+            _ => Standing::Foreign,
+        },
+        Algorithm::Storage => match option {
+            OptionName::Graph => Standing::Required(Form::Any),
+            OptionName::States => Standing::Allowed(OF_STATES),
+            OptionName::Distributions => Standing::Allowed(Form::Number {
+                least: LEAST_DISTRIBUTIONS,
+                greatest: DISTRIBUTIONS,
+            }),
+            OptionName::Limit => Standing::Required(Form::Number {
+                least: 0,
+                greatest: STORAGE,
             }),
             OptionName::NoOverlap => Standing::Allowed(Form::Any),
             _ => Standing::Foreign,
@@ -57,25 +79,30 @@ fn standing_of(algo: Algorithm, option: OptionName) -> Standing
     }
 }
 
-fn check_value(option: OptionName, form: Form, value: &str) -> Result<(), UsageCause>
-    ensures { result ≡ (if fits form value.now then Ok tt else Err (BadValue option)) }
+fn check_value(alloc: Global, option: OptionName, form: Form, value: &str) -> Result<(), WordsError>
+    ensures { Gives (λ done. done) result (if fits form value.now then Ok tt else Err (BadValue option)) }
 {
-    if fits(form, value) {
+    if fits(alloc, form, value)? {
         Ok(())
     } else {
-        Err(UsageCause::BadValue { option })
+        Err(WordsError::from(UsageCause::BadValue { option }))
     }
 }
 
 #[tactic(auto, unfolding(crate::specs::Asked::checked, crate::specs::Asked::judged))]
-fn check(algo: Algorithm, option: OptionName, value: Option<&str>) -> Result<(), UsageCause>
-    ensures { result ≡ checked algo option (option_map (λ v. v.now) value.entry) }
+fn check(
+    alloc: Global,
+    algo: Algorithm,
+    option: OptionName,
+    value: Option<&str>,
+) -> Result<(), WordsError>
+    ensures { Gives (λ done. done) result (checked algo option (option_map (λ v. v.now) value.entry)) }
 {
     match (standing_of(algo, option), value) {
-        (Standing::Required(_), None) => Err(UsageCause::Missing { option }),
-        (Standing::Foreign, Some(_)) => Err(UsageCause::NotFor { option, algo }),
+        (Standing::Required(_), None) => Err(WordsError::from(UsageCause::Missing { option })),
+        (Standing::Foreign, Some(_)) => Err(WordsError::from(UsageCause::NotFor { option, algo })),
         (Standing::Required(form) | Standing::Allowed(form), Some(value)) => {
-            check_value(option, form, value)
+            check_value(alloc, option, form, value)
         }
         (Standing::Allowed(_) | Standing::Foreign, None) => Ok(()),
     }
@@ -97,27 +124,75 @@ pub(crate) fn algorithm_of(given: &Given<'_>) -> Result<Algorithm, UsageCause>
 }
 
 /// Whether each option beside `--algo` is as the algorithm asks; else the first one that isn't.
-pub(crate) fn check_options(algo: Algorithm, given: &Given<'_>) -> Result<(), UsageCause>
-    ensures { result ≡ all_checked algo (values_given given.now) options }
+pub(crate) fn check_options(
+    alloc: Global,
+    algo: Algorithm,
+    given: &Given<'_>,
+) -> Result<(), WordsError>
+    ensures { Gives (λ done. done) result (all_checked algo (values_given given.now) options) }
 {
     for option in &BESIDE_ALGO {
-        check(algo, *option, given.value(*option))?;
+        check(alloc, algo, *option, given.value(*option))?;
     }
     Ok(())
 }
 
-#[tactic(auto, unfolding(crate::specs::Asked::states_of))]
+/// The number that an option is given within a range, or else the usual one.
+#[tactic(auto, unfolding(crate::specs::Asked::number_of))]
+fn number_of(given: &Given<'_>, option: OptionName, least: u64, greatest: u64, usual: u64) -> u64
+    ensures { result ≡ number_of option least greatest usual (values_given given.now) }
+{
+    match given.value(option) {
+        None => usual,
+        Some(value) => number_within(value, least, greatest).unwrap_or(usual),
+    }
+}
+
 fn states_of(given: &Given<'_>) -> u64
     ensures { result ≡ states_of (values_given given.now) }
 {
-    match given.value(OptionName::States) {
-        None => USUAL_STATES,
-        Some(value) => number_within(value, LEAST_STATES, STATES).unwrap_or(USUAL_STATES),
+    number_of(
+        given,
+        OptionName::States,
+        LEAST_STATES,
+        STATES,
+        USUAL_STATES,
+    )
+}
+
+#[tactic(auto, unfolding(crate::specs::Asked::limits_of))]
+fn limits_of(given: &Given<'_>) -> Limits
+    ensures { result ≡ limits_of (values_given given.now) }
+{
+    Limits {
+        total: number_of(given, OptionName::Limit, 0, STORAGE, 0),
+        states: states_of(given),
+        distributions: number_of(
+            given,
+            OptionName::Distributions,
+            LEAST_DISTRIBUTIONS,
+            DISTRIBUTIONS,
+            USUAL_DISTRIBUTIONS,
+        ),
+    }
+}
+
+/// The channels that are given a capacity.
+#[tactic(auto, unfolding(crate::specs::Asked::capacities_of))]
+fn capacities_of(alloc: Global, given: &Given<'_>) -> Result<Rows<(Text, u64)>, AllocError>
+    ensures { IfOk result (λ buffers. buffers ≡ capacities_of (values_given given.now)) }
+{
+    let Some(value) = given.value(OptionName::Buffers) else {
+        return Ok(Rows::from_vec(Vec::new(alloc)));
+    };
+    match buffers_of(alloc, value)? {
+        Some(buffers) => Ok(buffers),
+        None => Ok(Rows::from_vec(Vec::new(alloc))),
     }
 }
 
 fn graph_of(alloc: Global, given: &Given<'_>) -> Result<Text, AllocError>
-    ensures { IfOk result (λ t. t ≡ unwrap_or (values_given given.now OptionName.Graph) []) }
+    ensures { IfOk result (λ t. t ≡ graph_of (values_given given.now)) }
 {
     let name = given.value(OptionName::Graph).unwrap_or("");
     Text::of(alloc, name)
@@ -133,12 +208,19 @@ pub(crate) fn request_for(
     ensures { IfOk result (λ r. r ≡ request_for algo (values_given given.now)) }
 {
     let graph = graph_of(alloc, given)?;
+    let no_overlap = given.value(OptionName::NoOverlap).is_some();
     match algo {
         Algorithm::Repetition => Ok(Request::Repetition { graph }),
         Algorithm::Throughput => Ok(Request::Throughput {
             graph,
-            no_overlap: given.value(OptionName::NoOverlap).is_some(),
+            buffers: capacities_of(alloc, given)?,
+            no_overlap,
             states: states_of(given),
+        }),
+        Algorithm::Storage => Ok(Request::Storage {
+            graph,
+            limits: limits_of(given),
+            no_overlap,
         }),
     }
 }

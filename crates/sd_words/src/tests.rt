@@ -20,10 +20,33 @@ fn shown(alloc: Global, words: &[Text]) -> Result<String, Fail> {
         Ok(
             Request::Throughput {
                 graph,
+                buffers,
                 no_overlap,
                 states,
             },
-        ) => Ok(format!(in alloc; "throughput of {}, {no_overlap}, {states}", graph.as_str())?),
+        ) => {
+            let mut text = format!(in alloc;
+                "throughput of {}, {no_overlap}, {states}",
+                graph.as_str()
+            )?;
+            for (channel, capacity) in buffers.as_slice() {
+                text.push_str(format!(in alloc; ", {}={capacity}", channel.as_str())?.as_str())?;
+            }
+            Ok(text)
+        }
+        Ok(
+            Request::Storage {
+                graph,
+                limits,
+                no_overlap,
+            },
+        ) => Ok(format!(in alloc;
+            "storage of {}, {no_overlap}, {}, {}, {}",
+            graph.as_str(),
+            limits.total,
+            limits.states,
+            limits.distributions
+        )?),
         Err(WordsError::NoMemory) => Ok(String::from_str(alloc, "memory")?),
         Err(WordsError::Usage { cause }) => shown_cause(alloc, cause),
     }
@@ -102,6 +125,65 @@ fn numbers_of_states(rt: HostRuntime) -> Result<(), Fail> {
 }
 
 #[test]
+fn buffers_by_name(rt: HostRuntime) -> Result<(), Fail> {
+    for (buffers, expected) in [
+        ("alpha=4,beta=2", ", alpha=4, beta=2"),
+        ("my%20buf=0007", ", my buf=7"),
+        ("%61=1000000,A=0", ", a=1000000, A=0"),
+    ] {
+        let line = format!(in rt.alloc(); "--algo throughput --graph f --buffers={buffers}")?;
+        let shown = format!(in rt.alloc(); "throughput of f, false, 20000{expected}")?;
+        answers(&rt, rt.alloc(), line.as_str(), shown.as_str())?;
+    }
+    for buffers in [
+        "alpha",
+        "alpha=",
+        "=4",
+        "alpha=4,",
+        ",alpha=4",
+        "alpha=4,beta",
+        "alpha=1000001",
+        "alpha=-1",
+        "alpha=4x",
+        "alpha=4=4",
+        "my/buf=4",
+        "%=4",
+        "%4=4",
+        "%zz=4",
+        "%C3=4",
+        "alpha=4,alpha=4",
+        "a=1,%61=2",
+    ] {
+        let line = format!(in rt.alloc(); "--algo throughput --graph f --buffers={buffers}")?;
+        answers(&rt, rt.alloc(), line.as_str(), "bad buffers")?;
+    }
+    Ok(())
+}
+
+#[test]
+fn limits_of_storage(rt: HostRuntime) -> Result<(), Fail> {
+    for (options, expected) in [
+        ("--limit 10", "storage of f, false, 10, 20000, 10000"),
+        (
+            "--distributions 1 --limit=0 --no-overlap --states 3",
+            "storage of f, true, 0, 3, 1",
+        ),
+        (
+            "--limit 1000000000 --distributions 1000000",
+            "storage of f, false, 1000000000, 20000, 1000000",
+        ),
+        ("--limit 1000000001", "bad limit"),
+        ("--limit 4 --distributions 0", "bad distributions"),
+        ("--limit 4 --distributions 1000001", "bad distributions"),
+        ("--limit x --states 0", "bad states"),
+    ] {
+        let line = format!(in rt.alloc(); "--algo storage --graph f {options}")?;
+        answers(&rt, rt.alloc(), line.as_str(), expected)?;
+    }
+    Ok(())
+}
+
+#[test]
 fn words_that_are_not_well_spelled(rt: HostRuntime) -> Result<(), Fail> {
     for line in [
         "",
@@ -139,14 +221,15 @@ fn first_cause_in_the_order_of_the_tests(rt: HostRuntime) -> Result<(), Fail> {
             "--algo repetition --graph f --limit 3",
             "limit is not for repetition",
         ),
-        ("--algo storage --graph f", "bad algo"),
+        ("--algo storage --graph f", "missing limit"),
+        ("--algo scenery --graph f", "bad algo"),
         ("--algo Repetition", "bad algo"),
         ("--limit 3 --graph f", "missing algo"),
         ("--algo repetition", "missing graph"),
         ("--algo throughput --states=0", "missing graph"),
         (
             "--algo throughput --buffers x --graph f --states 0",
-            "buffers is not for throughput",
+            "bad buffers",
         ),
         (
             "--algo throughput --graph f --states 0 --seed 1",
@@ -163,6 +246,14 @@ fn first_cause_in_the_order_of_the_tests(rt: HostRuntime) -> Result<(), Fail> {
         (
             "--algo throughput --graph f --actors 2",
             "actors is not for throughput",
+        ),
+        (
+            "--algo repetition --graph f --buffers x",
+            "buffers is not for repetition",
+        ),
+        (
+            "--algo storage --graph f --limit 4 --buffers a=4",
+            "buffers is not for storage",
         ),
         (
             "--algo throughput --graph f --certificate k",

@@ -1,4 +1,4 @@
-use Rattle.std.proofs.Common.{◌≡◌, ◌≤◌, Some, ◌∙◌, ◌++◌, ◌∷◌, [], List, ℕ, Bor, Bool, true, false, not, refl, sym, ap, map, subst, length, drop, ◌+◌, rules}
+use Rattle.std.proofs.Common.{◌≡◌, ◌≤◌, Some, ◌∙◌, ◌++◌, ◌∷◌, [], List, ℕ, Bor, true, false, not, sym, ap, map, subst, drop, ◌+◌, rules}
 use Rattle.std.proofs.lemmas.List.{map-append, length-map}
 use Rattle.std.specs.List.{list_any}
 use Rattle.std.specs.Str.{bytes_eq}
@@ -9,13 +9,13 @@ use Rattle.sd_words.proofs.buffers.buffers_of.Goals as goal
 
 pub returns-in_default : goal.returns-in_default
 returns-in_default c =
-    let next = next-part (λ (p : Bor (List ℕ)). p.now) c.deref-part-items.result.now c.loop-part.part-index _ c.loop-part-test.true in
+    let next = next-part (λ (p : Bor (List ℕ)). p.now) c.deref-part-items.result.now c.loop-part.part-index (record { ref_ptr = (0, 0); now = [] }) c.loop-part-test.true in
     let none = sym c.in_ok-buffer.ensures ∙ c.in_default.is in
     sym (ap (with_parts c.loop-part.buffers.items) next ∙ part-none _ _ _ none) ∙ c.loop-part.invariant.read
 
 pub returns-then-not-branch : goal.returns-then-not-branch
 returns-then-not-branch c =
-    let next = next-part (λ (p : Bor (List ℕ)). p.now) c.deref-part-items.result.now c.loop-part.part-index _ c.loop-part-test.true in
+    let next = next-part (λ (p : Bor (List ℕ)). p.now) c.deref-part-items.result.now c.loop-part.part-index (record { ref_ptr = (0, 0); now = [] }) c.loop-part-test.true in
     let some = sym c.in_ok-buffer.ensures ∙ c.in-Some.is in
     let old : not (list_any (λ k. bytes_eq c.in-Some.buffer.0 (string_bytes k)) c.loop-part.names.keys) ≡ false = search rules in
     let among = taken _ (ap not (sym (same_names string_bytes c.loop-part.names.keys c.loop-part.buffers.items c.in-Some.buffer.0 c.loop-part.invariant.names)) ∙ old) in
@@ -23,7 +23,7 @@ returns-then-not-branch c =
 
 pub loop-part-preserved : goal.loop-part-preserved
 loop-part-preserved c =
-    let next = next-part (λ (p : Bor (List ℕ)). p.now) c.deref-part-items.result.now c.loop-part.part-index _ c.loop-part-test.true in
+    let next = next-part (λ (p : Bor (List ℕ)). p.now) c.deref-part-items.result.now c.loop-part.part-index (record { ref_ptr = (0, 0); now = [] }) c.loop-part-test.true in
     let some = sym c.in_ok-buffer.ensures ∙ c.in-Some.is in
     let new : not (list_any (λ k. bytes_eq c.in-Some.buffer.0 (string_bytes k)) c.loop-part.names.keys) ≡ true = search rules in
     let among = free _ (ap not (sym (same_names string_bytes c.loop-part.names.keys c.loop-part.buffers.items c.in-Some.buffer.0 c.loop-part.invariant.names)) ∙ new) in
@@ -36,5 +36,5 @@ loop-part-preserved c =
 pub returns : goal.returns
 returns c =
     let end = parts-end c.loop-part.buffers.items (map (λ (p : Bor (List ℕ)). p.now) c.deref-part-items.result.now) c.loop-part.part-index
-        (subst (λ n. n ≤ c.loop-part.part-index) (sym (length-map c.deref-part-items.result.now _)) c.loop-part-test.false) in
+    (subst (λ n. n ≤ c.loop-part.part-index) (sym (length-map c.deref-part-items.result.now _)) c.loop-part-test.false) in
     ap Some c.from_vec.ensures ∙ (sym end ∙ c.loop-part.invariant.read)
