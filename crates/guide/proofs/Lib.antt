@@ -1,0 +1,5 @@
+pub mod Cycling
+pub mod Shown
+pub mod Evaluating
+pub mod Blocked
+pub mod Listing

@@ -1,0 +1,3 @@
+pub mod Guides
+pub mod Evaluations
+pub mod RoomElsewhere

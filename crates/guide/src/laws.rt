@@ -1,0 +1,30 @@
+//! Laws of what holds a distribution back, each on a function that does nothing.
+ghost use Rattle.std.specs.Prelude.{ℕ, Option, List, ◌<◌, length};
+ghost use Rattle.firing.specs.declared.table.LoopTable.{LoopTable};
+ghost use Rattle.critical.specs.declared.cycle.NeedCycle.{NeedCycle};
+ghost use Rattle.critical.specs.Spaces.{Has, IsSpaceAt};
+ghost use Rattle.critical.specs.CriticalCycles.{IsCriticalCycleOf};
+ghost use Rattle.sd_base.specs.Net.{Net};
+ghost use Rattle.guide.specs.declared.rating.Evaluation.{Evaluation};
+ghost use Rattle.guide.specs.Evaluations.{IsEvaluated};
+ghost use Rattle.guide.specs.Guides.{IsDependency, IsInGuide};
+ghost use Rattle.guide.specs.RoomElsewhere.{CyclesHoldWithMoreRoom, CyclesBoundRoomierNets};
+
+use critical::laws::cycles_bound_the_rate;
+
+/// A need cycle of a bounded net is one of each with no less room, if the channels whose free space is on the cycle have
+/// the same, and so bounds the rate of each.
+pub fn need_cycles_hold_with_more_room()
+    ensures holds { CyclesHoldWithMoreRoom }
+    ensures rate { CyclesBoundRoomierNets }
+{
+    cycles_bound_the_rate();
+}
+
+/// The channels whose free space is on the critical cycle of a loop are storage dependencies; and so the channels on which
+/// a distribution is to be enlarged are in its guide.
+pub fn enlarged_channels_are_in_the_guide()
+    ensures cycle { (net : Net) (table : LoopTable) (cycle : NeedCycle) (i c : ℕ) → IsCriticalCycleOf net table cycle → i < length cycle.steps → IsSpaceAt net cycle.steps i c →
+        IsDependency net table.entry table.period c }
+    ensures guide { (net : Net) (ds : List (Option ℕ)) (states : ℕ) (e : Evaluation) (c : ℕ) → IsEvaluated net ds states e → Has e.enlarge c → IsInGuide net ds c }
+{}

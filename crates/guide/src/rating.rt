@@ -1,0 +1,123 @@
+ghost use Rattle.std.specs.Prelude.{◌≡◌, ◌+◌, ◌≤◌, ℕ, IfErr, IfOk};
+ghost use Rattle.sd_base.specs.declared.limits.TheConstants.{LEAST_STATES, STATES};
+ghost use Rattle.sd_base.specs.Untimed.{IsBlockedBy, IsLive};
+ghost use Rattle.lasso.specs.LoopAnswers.{IsRunRefusal};
+ghost use Rattle.storage.specs.BoundedNets.{bound};
+ghost use Rattle.guide.specs.Evaluations.{IsEvaluable, IsEvaluated, IsRefused, loops_run};
+
+use crate::held_up::shown_channels;
+use crate::laws::need_cycles_hold_with_more_room;
+use critical::{NeedCycle, cycle_of};
+use firing::{Firing, LoopTable, know_laws};
+use lasso::{RunError, run_loop};
+use liveness::{Round, one_round};
+use sd_base::{Fraction, Ledger, NoMemory, Rows, Steps};
+use std::alloc::Global;
+use storage::{Bounded, Distribution};
+
+/// What shows the rate of a distribution.
+#[derive(Debug, Drop)]
+pub enum Outcome {
+    /// The loop of self-timed execution of the bounded net, and a critical need cycle of it.
+    Live {
+        table: LoopTable,
+        cycle: NeedCycle,
+    },
+    /// No round can be completed. By actor the firings after which none can go on, and the first channel of the bounded
+    /// net on which an actor below its round lacks tokens.
+    Blocked {
+        counts: Rows<u64>,
+        lacks: Rows<Option<u32>>,
+    },
+}
+
+/// The rate of a distribution in rounds per time unit, the channels on which more room could raise it, ascending, and
+/// what shows both.
+#[derive(Debug, Drop)]
+pub struct Evaluation {
+    pub rate: Fraction,
+    pub enlarge: Rows<u32>,
+    pub outcome: Outcome,
+}
+
+/// The rate of the net bounded by a distribution: by the loop of its self-timed execution, or 0 where a round can't be
+/// completed. More room can raise it on the channels alone whose free space is on the critical cycle, or whose free space
+/// holds up an actor of the blocked net (Stuijk, Geilen and Basten 2008, narrowed to one cycle). It counts a step where a
+/// loop is run. Cost: that of `one_round` and, where the net is live, of `run_loop` and `cycle_of`, on the bounded net.
+pub fn evaluate<F: Firing, L: Ledger>(
+    alloc: Global,
+    net: &F,
+    capacities: &Distribution,
+    states: u64,
+    steps: &mut Steps<L>,
+) -> Result<Evaluation, RunError>
+    requires fits { IsEvaluable (F.net net.now) capacities.now.capacities }
+    requires some { LEAST_STATES ≤ states }
+    requires few { states ≤ STATES }
+    ensures evaluated { IfOk result (IsEvaluated (F.net net.now) capacities.now.capacities states) }
+    ensures refused { IfErr result (IsRefused (F.net net.now) capacities.now.capacities states) }
+    ensures count { IfOk result (λ e. steps.new.count ≡ steps.old.count + loops_run e.outcome) }
+    ensures most { steps.new.count ≤ steps.old.count + 1 }
+    ensures share { steps.new.share ≡ steps.old.share }
+{
+    let bounded = Bounded::new(alloc, net, capacities)?;
+    match one_round(alloc, &bounded)? {
+        Round::Live { order: _ } => evaluate_live(alloc, net, capacities, states, steps),
+        Round::Blocked { counts, lacks } => {
+            Ok(evaluate_blocked(alloc, net, capacities, counts, lacks)?)
+        }
+    }
+}
+
+/// What counts that block a distribution show.
+fn evaluate_blocked<F: Firing>(
+    alloc: Global,
+    net: &F,
+    capacities: &Distribution,
+    counts: Rows<u64>,
+    lacks: Rows<Option<u32>>,
+) -> Result<Evaluation, NoMemory>
+    requires fits { IsEvaluable (F.net net.now) capacities.now.capacities }
+    requires blocked { IsBlockedBy (bound (F.net net.now) capacities.now.capacities) counts lacks }
+    ensures evaluated { IfOk result (λ e. (states : ℕ) → IsEvaluated (F.net net.now) capacities.now.capacities states e) }
+    ensures none { IfOk result (λ e. loops_run e.outcome ≡ 0) }
+{
+    know_laws(net);
+    let enlarge = shown_channels(alloc, net, capacities, counts.as_slice())?;
+    Ok(Evaluation {
+        rate: Fraction::new(0, 1),
+        enlarge,
+        outcome: Outcome::Blocked { counts, lacks },
+    })
+}
+
+/// The rate of a live distribution by the loop of its net.
+fn evaluate_live<F: Firing, L: Ledger>(
+    alloc: Global,
+    net: &F,
+    capacities: &Distribution,
+    states: u64,
+    steps: &mut Steps<L>,
+) -> Result<Evaluation, RunError>
+    requires fits { IsEvaluable (F.net net.now) capacities.now.capacities }
+    requires live { IsLive (bound (F.net net.now) capacities.now.capacities) }
+    requires some { LEAST_STATES ≤ states }
+    requires few { states ≤ STATES }
+    ensures evaluated { IfOk result (IsEvaluated (F.net net.now) capacities.now.capacities states) }
+    ensures refused { IfErr result (IsRunRefusal (bound (F.net net.now) capacities.now.capacities) states) }
+    ensures count { IfOk result (λ e. steps.new.count ≡ steps.old.count + loops_run e.outcome) }
+    ensures most { steps.new.count ≤ steps.old.count + 1 }
+    ensures share { steps.new.share ≡ steps.old.share }
+{
+    know_laws(net);
+    need_cycles_hold_with_more_room();
+    let bounded = Bounded::new(alloc, net, capacities)?;
+    let table = run_loop(alloc, &bounded, states, steps)?;
+    let cycle = cycle_of(alloc, &bounded, &table)?;
+    let enlarge = cycle.storage_channels(alloc, &bounded)?;
+    Ok(Evaluation {
+        rate: Fraction::new(table.rounds, table.period),
+        enlarge,
+        outcome: Outcome::Live { table, cycle },
+    })
+}
