@@ -1,3 +1,4 @@
+pub mod NamedFaults
 pub mod Pairs
 pub mod SpaceChannels
 pub mod Lawfulness

@@ -1,4 +1,5 @@
 pub mod BoundedNets
+pub mod NamedBuffers
 pub mod Distributions
 pub mod CapacityOrder
 pub mod Steps
