@@ -74,14 +74,9 @@ pub(crate) fn names_flag(name: &str) -> bool
 pub enum Algorithm {
     Repetition,
     Throughput,
-    Storage,
 }
 
-const ALGORITHMS: [Algorithm; 3] = [
-    Algorithm::Repetition,
-    Algorithm::Throughput,
-    Algorithm::Storage,
-];
+const ALGORITHMS: [Algorithm; 2] = [Algorithm::Repetition, Algorithm::Throughput];
 
 impl Algorithm {
     /// The algorithm as it stands in the words.
@@ -92,7 +87,6 @@ impl Algorithm {
         match self {
             Algorithm::Repetition => "repetition",
             Algorithm::Throughput => "throughput",
-            Algorithm::Storage => "storage",
         }
     }
 

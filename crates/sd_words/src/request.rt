@@ -2,7 +2,7 @@ ghost use Rattle.std.specs.Prelude.{◌≡◌};
 ghost use Rattle.sd_words.specs.declared.request.WordsError.TheVariants.{NoMemory, Usage};
 
 use crate::{Algorithm, OptionName};
-use sd_base::{Limits, Rows, Text};
+use sd_base::{Rows, Text};
 use std::alloc::{AllocError, AllocFailed};
 use thiserror::Error;
 
@@ -21,12 +21,6 @@ pub enum Request {
         buffers: Rows<(Text, u64)>,
         no_overlap: bool,
         states: u64,
-    },
-    /// The Pareto points of the graph's storage distributions within the limits.
-    Storage {
-        graph: Text,
-        limits: Limits,
-        no_overlap: bool,
     },
 }
 

@@ -4,18 +4,15 @@ ghost use Rattle.std.specs.Prelude.{◌≡◌, IfOk, Ok, Err, if◌then◌else�
 ghost use Rattle.sd_words.specs.declared.request.UsageCause.TheVariants.{BadValue};
 ghost use Rattle.sd_words.specs.Forms.{fits};
 ghost use Rattle.std.specs.Option.{option_map};
-ghost use Rattle.sd_words.specs.Asked.{Gives, algorithm_of, all_checked, capacities_of, checked, graph_of, limits_of, number_of, options, request_for, standing, states_of};
+ghost use Rattle.sd_words.specs.Asked.{Gives, algorithm_of, all_checked, capacities_of, checked, graph_of, number_of, options, request_for, standing, states_of};
 ghost use Rattle.sd_words.specs.Given.{values_given};
 
 use crate::buffers::buffers_of;
 use crate::form::{Form, fits, number_within};
 use crate::given::Given;
 use crate::{Algorithm, OptionName, Request, UsageCause, WordsError};
-use sd_base::limits::{
-    DISTRIBUTIONS, LEAST_DISTRIBUTIONS, LEAST_STATES, STATES, STORAGE, USUAL_DISTRIBUTIONS,
-    USUAL_STATES,
-};
-use sd_base::{Limits, Rows, Text};
+use sd_base::limits::{LEAST_STATES, STATES, USUAL_STATES};
+use sd_base::{Rows, Text};
 use std::alloc::{AllocError, Global};
 
 /// The options beside `--algo`, in the order in which they are tested.
@@ -59,20 +56,6 @@ fn standing_of(algo: Algorithm, option: OptionName) -> Standing
             OptionName::Graph => Standing::Required(Form::Any),
             OptionName::Buffers => Standing::Allowed(Form::Buffers),
             OptionName::States => Standing::Allowed(OF_STATES),
-            OptionName::NoOverlap => Standing::Allowed(Form::Any),
-            _ => Standing::Foreign,
-        },
-        Algorithm::Storage => match option {
-            OptionName::Graph => Standing::Required(Form::Any),
-            OptionName::States => Standing::Allowed(OF_STATES),
-            OptionName::Distributions => Standing::Allowed(Form::Number {
-                least: LEAST_DISTRIBUTIONS,
-                greatest: DISTRIBUTIONS,
-            }),
-            OptionName::Limit => Standing::Required(Form::Number {
-                least: 0,
-                greatest: STORAGE,
-            }),
             OptionName::NoOverlap => Standing::Allowed(Form::Any),
             _ => Standing::Foreign,
         },
@@ -160,23 +143,6 @@ fn states_of(given: &Given<'_>) -> u64
     )
 }
 
-#[tactic(auto, unfolding(crate::specs::Asked::limits_of))]
-fn limits_of(given: &Given<'_>) -> Limits
-    ensures { result ≡ limits_of (values_given given.now) }
-{
-    Limits {
-        total: number_of(given, OptionName::Limit, 0, STORAGE, 0),
-        states: states_of(given),
-        distributions: number_of(
-            given,
-            OptionName::Distributions,
-            LEAST_DISTRIBUTIONS,
-            DISTRIBUTIONS,
-            USUAL_DISTRIBUTIONS,
-        ),
-    }
-}
-
 /// The channels that are given a capacity.
 #[tactic(auto, unfolding(crate::specs::Asked::capacities_of))]
 fn capacities_of(alloc: Global, given: &Given<'_>) -> Result<Rows<(Text, u64)>, AllocError>
@@ -216,11 +182,6 @@ pub(crate) fn request_for(
             buffers: capacities_of(alloc, given)?,
             no_overlap,
             states: states_of(given),
-        }),
-        Algorithm::Storage => Ok(Request::Storage {
-            graph,
-            limits: limits_of(given),
-            no_overlap,
         }),
     }
 }

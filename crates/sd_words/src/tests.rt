@@ -34,19 +34,6 @@ fn shown(alloc: Global, words: &[Text]) -> Result<String, Fail> {
             }
             Ok(text)
         }
-        Ok(
-            Request::Storage {
-                graph,
-                limits,
-                no_overlap,
-            },
-        ) => Ok(format!(in alloc;
-            "storage of {}, {no_overlap}, {}, {}, {}",
-            graph.as_str(),
-            limits.total,
-            limits.states,
-            limits.distributions
-        )?),
         Err(WordsError::NoMemory) => Ok(String::from_str(alloc, "memory")?),
         Err(WordsError::Usage { cause }) => shown_cause(alloc, cause),
     }
@@ -161,29 +148,6 @@ fn buffers_by_name(rt: HostRuntime) -> Result<(), Fail> {
 }
 
 #[test]
-fn limits_of_storage(rt: HostRuntime) -> Result<(), Fail> {
-    for (options, expected) in [
-        ("--limit 10", "storage of f, false, 10, 20000, 10000"),
-        (
-            "--distributions 1 --limit=0 --no-overlap --states 3",
-            "storage of f, true, 0, 3, 1",
-        ),
-        (
-            "--limit 1000000000 --distributions 1000000",
-            "storage of f, false, 1000000000, 20000, 1000000",
-        ),
-        ("--limit 1000000001", "bad limit"),
-        ("--limit 4 --distributions 0", "bad distributions"),
-        ("--limit 4 --distributions 1000001", "bad distributions"),
-        ("--limit x --states 0", "bad states"),
-    ] {
-        let line = format!(in rt.alloc(); "--algo storage --graph f {options}")?;
-        answers(&rt, rt.alloc(), line.as_str(), expected)?;
-    }
-    Ok(())
-}
-
-#[test]
 fn words_that_are_not_well_spelled(rt: HostRuntime) -> Result<(), Fail> {
     for line in [
         "",
@@ -221,8 +185,7 @@ fn first_cause_in_the_order_of_the_tests(rt: HostRuntime) -> Result<(), Fail> {
             "--algo repetition --graph f --limit 3",
             "limit is not for repetition",
         ),
-        ("--algo storage --graph f", "missing limit"),
-        ("--algo scenery --graph f", "bad algo"),
+        ("--algo storage --graph f", "bad algo"),
         ("--algo Repetition", "bad algo"),
         ("--limit 3 --graph f", "missing algo"),
         ("--algo repetition", "missing graph"),
@@ -250,10 +213,6 @@ fn first_cause_in_the_order_of_the_tests(rt: HostRuntime) -> Result<(), Fail> {
         (
             "--algo repetition --graph f --buffers x",
             "buffers is not for repetition",
-        ),
-        (
-            "--algo storage --graph f --limit 4 --buffers a=4",
-            "buffers is not for storage",
         ),
         (
             "--algo throughput --graph f --certificate k",
