@@ -4,7 +4,7 @@ use Rattle.std.specs.Fmt.{decimal}
 use Rattle.report.specs.declared.refusal.Refusal.{Refusal}
 use Rattle.report.specs.declared.refusal.Class.{Class}
 use Rattle.report.specs.declared.refusal.Class.TheVariants as class
-use Rattle.report.specs.declared.refusal.Refusal.TheVariants.{UsageWords, UsageMissing, UsageNotFor, UsageBadValue, Text, DocumentType, CdataSection, Instruction, CharReference, Encoding, WrongKind, Missing, Unknown, Twice, BadWord, BadNumber, PhasesDiffer, Above, Ratio, Inconsistent, Apart, OneWay, NoInput, Deadlock, StatesSpent, ShelfGraph}
+use Rattle.report.specs.declared.refusal.Refusal.TheVariants.{UsageWords, UsageMissing, UsageNotFor, UsageBadValue, Text, DocumentType, CdataSection, Instruction, CharReference, Encoding, WrongKind, Missing, Unknown, Twice, BadWord, BadNumber, PhasesDiffer, UnknownChannel, SelfLoopBuffer, BelowTokens, Above, Ratio, Inconsistent, Apart, OneWay, NoInput, Deadlock, StatesSpent, ShelfGraph}
 
 -- the scenario that a refusal speaks of
 unfoldable pub scenario_prefix : Option (List ℕ) → List ℕ
@@ -39,6 +39,12 @@ twice_reason what name = what ++ (codes " " ++ (name ++ codes " twice"))
 
 unfoldable pub phases_reason : List ℕ → List ℕ
 phases_reason actor = codes "phases of " ++ (actor ++ codes " differ")
+
+unfoldable pub self_loop_reason : List ℕ → List ℕ
+self_loop_reason name = codes "buffer of self-loop " ++ name
+
+unfoldable pub below_tokens_reason : List ℕ → List ℕ
+below_tokens_reason name = codes "buffer of " ++ (name ++ codes " below its tokens")
 
 unfoldable pub missing_reason : List ℕ → List ℕ
 missing_reason option = codes "missing --" ++ option
@@ -92,6 +98,9 @@ cause_of (Twice what name) = because class.Form (twice_reason what name)
 cause_of (BadWord what of) = because class.Form (within_reason (codes "bad word") what of)
 cause_of (PhasesDiffer actor) = because class.Form (phases_reason actor)
 cause_of (BadNumber what of) = because class.Form (within_reason (codes "bad number") what of)
+cause_of (UnknownChannel name) = because class.Form (unknown_reason (codes "channel") name)
+cause_of (SelfLoopBuffer name) = because class.Form (self_loop_reason name)
+cause_of (BelowTokens name) = because class.Form (below_tokens_reason name)
 cause_of (Above scenario quantity number) = because class.Limit (above_reason (scenario_prefix scenario) quantity number)
 cause_of (Ratio scenario number path) = because class.Limit (ratio_reason (scenario_prefix scenario) number path)
 cause_of (Inconsistent scenario walk num den) = because class.Inconsistent (inconsistent_reason (scenario_prefix scenario) walk num den)

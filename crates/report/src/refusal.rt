@@ -117,6 +117,18 @@ pub enum Refusal {
     PhasesDiffer {
         actor: Text,
     },
+    /// Words give a capacity to a name that no channel has.
+    UnknownChannel {
+        name: Text,
+    },
+    /// Words give a capacity to a channel from an actor to itself.
+    SelfLoopBuffer {
+        name: Text,
+    },
+    /// Words give a channel a capacity below its tokens.
+    BelowTokens {
+        name: Text,
+    },
     /// A quantity passes its greatest number.
     Above {
         scenario: Option<Text>,

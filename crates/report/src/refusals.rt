@@ -1,6 +1,6 @@
 ghost use Rattle.std.specs.Prelude.{◌≡◌, IfOk};
 ghost use Rattle.std.specs.String.{string_bytes};
-ghost use Rattle.report.specs.RefusalLines.{above_reason, apart_reason, at_list, bad_value_reason, cause_line, cause_of, deadlock_reason, inconsistent_reason, line_of, memory_line, missing_reason, no_input_reason, not_for_reason, one_way_reason, phases_reason, place_reason, ratio_reason, scenario_prefix, states_reason, twice_reason, unknown_reason, within_reason};
+ghost use Rattle.report.specs.RefusalLines.{above_reason, apart_reason, at_list, bad_value_reason, below_tokens_reason, cause_line, cause_of, deadlock_reason, inconsistent_reason, line_of, memory_line, missing_reason, no_input_reason, not_for_reason, one_way_reason, phases_reason, place_reason, ratio_reason, scenario_prefix, self_loop_reason, states_reason, twice_reason, unknown_reason, within_reason};
 
 use crate::answers::bytes_of;
 use crate::{Class, Refusal};
@@ -100,6 +100,15 @@ fn cause(alloc: Global, refusal: &Refusal) -> Result<(Class, String), AllocError
             within_text(alloc, "bad number", what.as_str(), of.as_str())?,
         )),
         Refusal::PhasesDiffer { actor } => Ok((Class::Form, phases_text(alloc, actor.as_str())?)),
+        Refusal::UnknownChannel { name } => Ok((
+            Class::Form,
+            unknown_text(alloc, "channel", name.as_str())?,
+        )),
+        Refusal::SelfLoopBuffer { name } => Ok((Class::Form, self_loop_text(alloc, name.as_str())?)),
+        Refusal::BelowTokens { name } => Ok((
+            Class::Form,
+            below_tokens_text(alloc, name.as_str())?,
+        )),
         Refusal::Above {
             scenario,
             quantity,
@@ -203,6 +212,20 @@ fn phases_text(alloc: Global, actor: &str) -> Result<String, AllocError>
     ensures { IfOk result (λ t. string_bytes t ≡ phases_reason actor.now) }
 {
     format!(in alloc; "phases of {actor} differ")
+}
+
+#[tactic(auto, unfolding(crate::specs::RefusalLines::self_loop_reason))]
+fn self_loop_text(alloc: Global, name: &str) -> Result<String, AllocError>
+    ensures { IfOk result (λ t. string_bytes t ≡ self_loop_reason name.now) }
+{
+    format!(in alloc; "buffer of self-loop {name}")
+}
+
+#[tactic(auto, unfolding(crate::specs::RefusalLines::below_tokens_reason))]
+fn below_tokens_text(alloc: Global, name: &str) -> Result<String, AllocError>
+    ensures { IfOk result (λ t. string_bytes t ≡ below_tokens_reason name.now) }
+{
+    format!(in alloc; "buffer of {name} below its tokens")
 }
 
 #[tactic(auto, unfolding(crate::specs::RefusalLines::above_reason))]

@@ -8,6 +8,8 @@ use Rattle.sd_base.specs.SelfTimed.{events_by, starts_by}
 use Rattle.sd_base.specs.Rates.{IsLoop}
 use Rattle.sd_words.specs.declared.request.Request.TheVariants.{Throughput}
 use Rattle.sd_words.specs.Asked.{request_of}
+use Rattle.storage.specs.BoundedNets.{bound}
+use Rattle.storage.specs.NamedBuffers.{Buffer, capacities_of}
 use Rattle.graph_reader.specs.Laws.{Gives}
 use Rattle.balance.specs.Repetition.{IsRound}
 use Rattle.report.specs.declared.refusal.Refusal.{Refusal}
@@ -53,11 +55,11 @@ abbrev pub Repeats : Net → ℕ → Type 0
 Repeats net states = (entry : ℕ) × (period : ℕ) × IsLoop net entry period × (events_by net (entry + period) ≤ states) × (starts_by net (entry + period) ≤ STARTS)
 
 -- such a run of `throughput` is done, or ends for want of memory, where no refusal is due before anything is executed and the
--- net of the graph repeats a shape
+-- net of the graph with the capacities repeats a shape
 abbrev pub ThroughputIsComplete : Type 0
-ThroughputIsComplete = (run : Run) (cut : Bool) (name : List ℕ) (no_overlap : Bool) (states : ℕ) → IsFaultless run
-    → request_of run.words ≡ Ok (Throughput name no_overlap states)
+ThroughputIsComplete = (run : Run) (cut : Bool) (name : List ℕ) (buffers : List Buffer) (no_overlap : Bool) (states : ℕ) → IsFaultless run
+    → request_of run.words ≡ Ok (Throughput name buffers no_overlap states)
     → ((refusal : Refusal) → course_of run.words run.outside.shelf.files (Refused refusal) 0 → ⊥)
     → ((bytes gamma : List ℕ) (graph : GraphFile) → run.outside.shelf.files.named name ≡ Some bytes → Gives bytes true graph → IsRound graph gamma
-    → Repeats (net_of graph gamma no_overlap) states)
+    → Repeats (bound (net_of graph gamma no_overlap) (capacities_of graph.channels buffers)) states)
     → Shows run cut → (run.status ≡ statuses.Done) ⊎ (run.status ≡ statuses.Memory)

@@ -3,6 +3,7 @@ pub mod Courses
 pub mod Takings
 pub mod Readings
 pub mod Balances
+pub mod Bufferings
 pub mod Nets
 pub mod Repetitions
 pub mod Throughputs

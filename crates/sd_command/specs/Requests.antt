@@ -31,7 +31,7 @@ asking words = deciding (λ request. request_of words ≡ Ok request) (λ refusa
 -- the command of each request
 abbrev pub command_of : Request → Files → Ending → ℕ → Type 0
 command_of (requests.Repetition graph) = repetition graph
-command_of (requests.Throughput graph no_overlap states) = throughput graph no_overlap states
+command_of (requests.Throughput graph buffers no_overlap states) = throughput graph buffers no_overlap states
 
 -- how the command of the words may end over the files of a shelf, and after how many executions
 abbrev pub course_of : List (List ℕ) → Files → Ending → ℕ → Type 0

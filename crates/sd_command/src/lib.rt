@@ -4,6 +4,7 @@
 mod answer;
 mod asking;
 mod balancing;
+mod buffering;
 mod command;
 mod delivering;
 mod file_kind;

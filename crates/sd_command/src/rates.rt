@@ -1,12 +1,14 @@
-ghost use Rattle.std.specs.Prelude.{◌≡◌, ℕ, ◌+◌, ◌-◌, ◌≤◌, IfOk, sum};
+ghost use Rattle.std.specs.Prelude.{◌≡◌, ℕ, ◌+◌, ◌-◌, ◌≤◌, IfOk, length, sum};
 ghost use Rattle.sd_base.specs.Tables.{IsTimed, KeepsRules};
 ghost use Rattle.sd_base.specs.Net.{IsRepetitionOf};
 ghost use Rattle.sd_base.specs.FileNet.{net_of};
+ghost use Rattle.storage.specs.Distributions.{CanHold};
+ghost use Rattle.storage.specs.BoundedNets.{HasNoSpaces, bound};
 ghost use Rattle.sd_base.specs.Untimed.{IsLive};
 ghost use Rattle.lasso.specs.LoopAnswers.{IsFound};
 ghost use Rattle.report.specs.LinkTexts.{IsNamed};
 ghost use Rattle.sd_base.specs.Connection.{IsStronglyConnected};
-ghost use Rattle.sd_base.specs.declared.limits.TheConstants.{ROUND, STATES};
+ghost use Rattle.sd_base.specs.declared.limits.TheConstants.{NET_CHANNELS, ROUND, STATES};
 ghost use Rattle.sd_command.specs.Nets.{IsFed};
 ghost use Rattle.sd_command.specs.RateAnswers.{IsRunRefusal, IsRateText, rate_of};
 ghost use Rattle.sd_command.specs.Courses.{deciding};
@@ -23,14 +25,16 @@ use periodic::from_loop;
 use report::{Refusal, rate_text};
 use sd_base::{GraphFile, Kind, Ledger, NoMemory, Quantity, Rows, Steps};
 use std::alloc::Global;
+use storage::{Bounded, Distribution};
 
-/// The rate of the net of a graph with its repetition vector. Each kind of graphs has a net of its own, so that the
-/// analyses ask nothing of the kind at each event.
+/// The rate of the net of a graph with its repetition vector, bounded by a distribution. Each kind of graphs has a net
+/// of its own, so that the analyses ask nothing of the kind at each event.
 pub(crate) fn rate_of_graph<L: Ledger>(
     alloc: Global,
     graph: &GraphFile,
     gamma: &[u64],
     no_overlap: bool,
+    distribution: &Distribution,
     states: u64,
     steps: &mut Steps<L>,
 ) -> Result<Answer, Stop>
@@ -38,23 +42,49 @@ pub(crate) fn rate_of_graph<L: Ledger>(
     requires timed { IsTimed graph.now }
     requires gamma { IsRepetitionOf graph.now gamma.now }
     requires small { sum gamma.now ≤ ROUND }
+    requires held { CanHold (net_of graph.now gamma.now no_overlap).channels distribution.now.capacities }
+    requires over { length distribution.now.capacities ≤ length graph.now.channels }
     requires some { 1 ≤ states }
     requires few { states ≤ STATES }
     ensures goes { (faults : ℕ) →
-        Goes (rate_of graph.now (net_of graph.now gamma.now no_overlap) states) result (steps.new.count - steps.old.count) faults faults }
+        Goes (rate_of graph.now (bound (net_of graph.now gamma.now no_overlap) distribution.now.capacities) states) result (steps.new.count - steps.old.count) faults faults }
     ensures rises { steps.old.count ≤ steps.new.count }
     ensures share { steps.new.share ≡ steps.old.share }
 {
     match graph.kind {
         Kind::Sdf => {
             let net = SdfNet::new(alloc, graph, gamma, no_overlap)?;
-            rate_of(alloc, &net, graph, states, steps)
+            rate_within(alloc, &net, graph, distribution, states, steps)
         }
         Kind::Csdf => {
             let net = CsdfNet::new(alloc, graph, gamma, no_overlap)?;
-            rate_of(alloc, &net, graph, states, steps)
+            rate_within(alloc, &net, graph, distribution, states, steps)
         }
     }
+}
+
+// The rate of a net bounded by a distribution.
+fn rate_within<F: Firing, L: Ledger>(
+    alloc: Global,
+    net: &F,
+    graph: &GraphFile,
+    distribution: &Distribution,
+    states: u64,
+    steps: &mut Steps<L>,
+) -> Result<Answer, Stop>
+    requires none { HasNoSpaces (F.net net.now) }
+    requires held { CanHold (F.net net.now).channels distribution.now.capacities }
+    requires fits { length (bound (F.net net.now) distribution.now.capacities).channels ≤ NET_CHANNELS }
+    requires named { IsNamed graph.now (bound (F.net net.now) distribution.now.capacities) }
+    requires some { 1 ≤ states }
+    requires few { states ≤ STATES }
+    ensures goes { (faults : ℕ) →
+        Goes (rate_of graph.now (bound (F.net net.now) distribution.now.capacities) states) result (steps.new.count - steps.old.count) faults faults }
+    ensures rises { steps.old.count ≤ steps.new.count }
+    ensures share { steps.new.share ≡ steps.old.share }
+{
+    let bounded = Bounded::new(alloc, net, distribution)?;
+    rate_of(alloc, &bounded, graph, states, steps)
 }
 
 /// The rate of a net, with the schedule that reaches it and the need cycle that bounds it. `graph` has the names of

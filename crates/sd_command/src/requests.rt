@@ -1,5 +1,5 @@
 ghost use Rattle.std.specs.Prelude.{◌≡◌, ℕ, ◌-◌, ◌≤◌, List};
-ghost use Rattle.sd_words.specs.Asked.{HasStates};
+ghost use Rattle.sd_words.specs.Asked.{IsWithinLimits};
 ghost use Rattle.sd_command.specs.Takings.{Files};
 ghost use Rattle.sd_command.specs.Requests.{command_of, course_of};
 ghost use Rattle.sd_command.specs.inside.Going.{Goes};
@@ -39,7 +39,7 @@ fn command_answer<S: Shelf, L: Ledger>(
     shelf: &mut S,
     steps: &mut Steps<L>,
 ) -> Result<Answer, Stop>
-    requires { HasStates request.now }
+    requires { IsWithinLimits request.now }
     ensures goes { let files : Files = record { tells = S.tells shelf.old; named = S.file shelf.old } in
         Goes (command_of request.now files) result (steps.new.count - steps.old.count) (S.faults shelf.old) (S.faults shelf.new) }
     ensures stays { (n : List ℕ) → S.file shelf.new n ≡ S.file shelf.old n }
@@ -52,8 +52,17 @@ fn command_answer<S: Shelf, L: Ledger>(
         Request::Repetition { graph } => repetition::answer(alloc, shelf, graph.as_str()),
         Request::Throughput {
             graph,
+            buffers,
             no_overlap,
             states,
-        } => throughput::answer(alloc, shelf, graph.as_str(), *no_overlap, *states, steps),
+        } => throughput::answer(
+            alloc,
+            shelf,
+            graph.as_str(),
+            buffers.as_slice(),
+            *no_overlap,
+            *states,
+            steps,
+        ),
     }
 }

@@ -1,17 +1,20 @@
-ghost use Rattle.std.specs.Prelude.{◌≡◌, ℕ, ◌-◌, ◌≤◌, List};
-ghost use Rattle.sd_base.specs.declared.limits.TheConstants.{STATES};
+ghost use Rattle.std.specs.Prelude.{◌≡◌, ℕ, ◌-◌, ◌≤◌, All, List};
+ghost use Rattle.sd_base.specs.declared.limits.TheConstants.{CAPACITY, STATES};
+ghost use Rattle.sd_base.specs.Tables.{IsTimed, KeepsRules};
+ghost use Rattle.storage.specs.NamedBuffers.{Buffer};
 ghost use Rattle.sd_command.specs.Takings.{Files};
-ghost use Rattle.sd_command.specs.Throughputs.{throughput};
+ghost use Rattle.sd_command.specs.Throughputs.{bounded_rate, throughput};
 ghost use Rattle.sd_command.specs.inside.Going.{Goes};
 
 use crate::answer::Answer;
 use crate::balancing::balanced;
+use crate::buffering::buffered;
 use crate::file_kind::FileKind;
 use crate::rates::rate_of_graph;
 use crate::reading::read;
 use crate::stop::Stop;
 use crate::taking::take;
-use sd_base::{Ledger, Steps};
+use sd_base::{GraphFile, Ledger, Steps, Text};
 use sd_io::Shelf;
 use std::alloc::Global;
 
@@ -20,14 +23,16 @@ pub(crate) fn answer<S: Shelf, L: Ledger>(
     alloc: Global,
     shelf: &mut S,
     name: &str,
+    buffers: &[(Text, u64)],
     no_overlap: bool,
     states: u64,
     steps: &mut Steps<L>,
 ) -> Result<Answer, Stop>
+    requires small { All (λ (b : Buffer). b.1 ≤ CAPACITY) buffers.now }
     requires some { 1 ≤ states }
     requires few { states ≤ STATES }
     ensures goes { let files : Files = record { tells = S.tells shelf.old; named = S.file shelf.old } in
-        Goes (throughput name.now no_overlap states files) result (steps.new.count - steps.old.count) (S.faults shelf.old) (S.faults shelf.new) }
+        Goes (throughput name.now buffers.now no_overlap states files) result (steps.new.count - steps.old.count) (S.faults shelf.old) (S.faults shelf.new) }
     ensures stays { (n : List ℕ) → S.file shelf.new n ≡ S.file shelf.old n }
     ensures telling { S.tells shelf.new ≡ S.tells shelf.old }
     ensures grows { S.faults shelf.old ≤ S.faults shelf.new }
@@ -36,6 +41,29 @@ pub(crate) fn answer<S: Shelf, L: Ledger>(
 {
     let bytes = take(alloc, shelf, FileKind::Graph, name)?;
     let graph = read(alloc, bytes.as_slice(), true)?;
-    let gamma = balanced(alloc, &graph)?;
-    rate_of_graph(alloc, &graph, gamma.as_slice(), no_overlap, states, steps)
+    bounded_rate(alloc, &graph, buffers, no_overlap, states, steps)
+}
+
+// The rate of a graph whose named channels have a capacity.
+fn bounded_rate<L: Ledger>(
+    alloc: Global,
+    graph: &GraphFile,
+    buffers: &[(Text, u64)],
+    no_overlap: bool,
+    states: u64,
+    steps: &mut Steps<L>,
+) -> Result<Answer, Stop>
+    requires rules { KeepsRules graph.now }
+    requires timed { IsTimed graph.now }
+    requires small { All (λ (b : Buffer). b.1 ≤ CAPACITY) buffers.now }
+    requires some { 1 ≤ states }
+    requires few { states ≤ STATES }
+    ensures goes { (faults : ℕ) →
+        Goes (bounded_rate buffers.now no_overlap states graph.now) result (steps.new.count - steps.old.count) faults faults }
+    ensures rises { steps.old.count ≤ steps.new.count }
+    ensures share { steps.new.share ≡ steps.old.share }
+{
+    let distribution = buffered(alloc, graph, buffers)?;
+    let gamma = balanced(alloc, graph)?;
+    rate_of_graph(alloc, graph, gamma.as_slice(), no_overlap, &distribution, states, steps)
 }

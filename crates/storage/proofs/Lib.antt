@@ -1,4 +1,5 @@
 pub mod NamedFaults
+pub mod NamedCapacities
 pub mod Pairs
 pub mod SpaceChannels
 pub mod Lawfulness

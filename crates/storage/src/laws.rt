@@ -1,5 +1,5 @@
 //! Laws of storage, each on a function that does nothing.
-ghost use Rattle.std.specs.Prelude.{◌≡◌, ◌↔◌, ℕ, ◌*◌, ◌≤◌, Option, List, length};
+ghost use Rattle.std.specs.Prelude.{◌≡◌, ◌↔◌, ℕ, ◌*◌, ◌≤◌, All, Bool, None, Option, List, length};
 ghost use Rattle.sd_base.specs.Net.{Net};
 ghost use Rattle.sd_base.specs.Lawful.{Lawful};
 ghost use Rattle.sd_base.specs.Rates.{Rate};
@@ -11,7 +11,11 @@ ghost use Rattle.storage.specs.ShownSpaces.{ShowsSpace};
 ghost use Rattle.storage.specs.ParetoPoints.{IsFront, Pair, Reaches};
 ghost use Rattle.storage.specs.ClosedLists.{Entry, IsClosed, IsCovered, IsFrontOver};
 ghost use Rattle.sd_base.specs.Connection.{IsConnected, IsStronglyConnected};
-ghost use Rattle.sd_base.specs.declared.limits.TheConstants.{NET_CHANNELS};
+ghost use Rattle.sd_base.specs.declared.limits.TheConstants.{CAPACITY, NET_CHANNELS};
+ghost use Rattle.sd_base.specs.declared.tables.GraphFile.{GraphFile};
+ghost use Rattle.sd_base.specs.Tables.{KeepsRules};
+ghost use Rattle.sd_base.specs.FileNet.{net_of};
+ghost use Rattle.storage.specs.NamedBuffers.{Buffer, capacities_of, first_fault};
 ghost use Rattle.sd_base.specs.Schedules.{HasInputs};
 
 /// A net bounded by capacities that it can hold keeps the laws of nets.
@@ -55,4 +59,12 @@ pub fn closed_lists_give_the_front()
         IsCovered net es ds p q }
     ensures front { (net : Net) (limit : ℕ) (es : List Entry) (pairs : List Pair) → Lawful net → IsClosed net limit es → IsFrontOver net limit es pairs →
         IsFront net limit pairs }
+{}
+
+/// Buffers without a fault give the net of their graph capacities that it can hold, and not too many channels.
+pub fn named_buffers_fit()
+    ensures held { (graph : GraphFile) (gamma : List ℕ) (no_overlap : Bool) (buffers : List Buffer) → first_fault graph.channels buffers ≡ None →
+        All (λ (b : Buffer). b.1 ≤ CAPACITY) buffers → CanHold (net_of graph gamma no_overlap).channels (capacities_of graph.channels buffers) }
+    ensures few { (graph : GraphFile) (gamma : List ℕ) (no_overlap : Bool) (ds : List (Option ℕ)) → KeepsRules graph → length ds ≤ length graph.channels →
+        length (bound (net_of graph gamma no_overlap) ds).channels ≤ NET_CHANNELS }
 {}
