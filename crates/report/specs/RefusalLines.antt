@@ -4,7 +4,7 @@ use Rattle.std.specs.Fmt.{decimal}
 use Rattle.report.specs.declared.refusal.Refusal.{Refusal}
 use Rattle.report.specs.declared.refusal.Class.{Class}
 use Rattle.report.specs.declared.refusal.Class.TheVariants as class
-use Rattle.report.specs.declared.refusal.Refusal.TheVariants.{UsageWords, UsageMissing, UsageNotFor, UsageBadValue, Text, DocumentType, CdataSection, Instruction, CharReference, Encoding, WrongKind, Missing, Unknown, Twice, BadWord, BadNumber, Above, Ratio, Inconsistent, Apart, OneWay, NoInput, Deadlock, StatesSpent, ShelfGraph}
+use Rattle.report.specs.declared.refusal.Refusal.TheVariants.{UsageWords, UsageMissing, UsageNotFor, UsageBadValue, Text, DocumentType, CdataSection, Instruction, CharReference, Encoding, WrongKind, Missing, Unknown, Twice, BadWord, BadNumber, PhasesDiffer, Above, Ratio, Inconsistent, Apart, OneWay, NoInput, Deadlock, StatesSpent, ShelfGraph}
 
 -- the scenario that a refusal speaks of
 unfoldable pub scenario_prefix : Option (List ℕ) → List ℕ
@@ -36,6 +36,9 @@ unknown_reason what name = codes "unknown " ++ (what ++ (codes " " ++ name))
 
 unfoldable pub twice_reason : List ℕ → List ℕ → List ℕ
 twice_reason what name = what ++ (codes " " ++ (name ++ codes " twice"))
+
+unfoldable pub phases_reason : List ℕ → List ℕ
+phases_reason actor = codes "phases of " ++ (actor ++ codes " differ")
 
 unfoldable pub missing_reason : List ℕ → List ℕ
 missing_reason option = codes "missing --" ++ option
@@ -87,6 +90,7 @@ cause_of (Missing what of) = because class.Form (within_reason (codes "missing")
 cause_of (Unknown what name) = because class.Form (unknown_reason what name)
 cause_of (Twice what name) = because class.Form (twice_reason what name)
 cause_of (BadWord what of) = because class.Form (within_reason (codes "bad word") what of)
+cause_of (PhasesDiffer actor) = because class.Form (phases_reason actor)
 cause_of (BadNumber what of) = because class.Form (within_reason (codes "bad number") what of)
 cause_of (Above scenario quantity number) = because class.Limit (above_reason (scenario_prefix scenario) quantity number)
 cause_of (Ratio scenario number path) = because class.Limit (ratio_reason (scenario_prefix scenario) number path)

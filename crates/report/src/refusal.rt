@@ -113,6 +113,10 @@ pub enum Refusal {
         what: Text,
         of: Text,
     },
+    /// A list of the actor, of rates or of times, has neither a number for each phase nor one for all.
+    PhasesDiffer {
+        actor: Text,
+    },
     /// A quantity passes its greatest number.
     Above {
         scenario: Option<Text>,

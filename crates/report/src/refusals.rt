@@ -1,6 +1,6 @@
 ghost use Rattle.std.specs.Prelude.{◌≡◌, IfOk};
 ghost use Rattle.std.specs.String.{string_bytes};
-ghost use Rattle.report.specs.RefusalLines.{above_reason, apart_reason, at_list, bad_value_reason, cause_line, cause_of, deadlock_reason, inconsistent_reason, line_of, memory_line, missing_reason, no_input_reason, not_for_reason, one_way_reason, place_reason, ratio_reason, scenario_prefix, states_reason, twice_reason, unknown_reason, within_reason};
+ghost use Rattle.report.specs.RefusalLines.{above_reason, apart_reason, at_list, bad_value_reason, cause_line, cause_of, deadlock_reason, inconsistent_reason, line_of, memory_line, missing_reason, no_input_reason, not_for_reason, one_way_reason, phases_reason, place_reason, ratio_reason, scenario_prefix, states_reason, twice_reason, unknown_reason, within_reason};
 
 use crate::answers::bytes_of;
 use crate::{Class, Refusal};
@@ -99,6 +99,7 @@ fn cause(alloc: Global, refusal: &Refusal) -> Result<(Class, String), AllocError
             Class::Form,
             within_text(alloc, "bad number", what.as_str(), of.as_str())?,
         )),
+        Refusal::PhasesDiffer { actor } => Ok((Class::Form, phases_text(alloc, actor.as_str())?)),
         Refusal::Above {
             scenario,
             quantity,
@@ -195,6 +196,13 @@ fn twice_text(alloc: Global, what: &str, name: &str) -> Result<String, AllocErro
     ensures { IfOk result (λ t. string_bytes t ≡ twice_reason what.now name.now) }
 {
     format!(in alloc; "{what} {name} twice")
+}
+
+#[tactic(auto, unfolding(crate::specs::RefusalLines::phases_reason))]
+fn phases_text(alloc: Global, actor: &str) -> Result<String, AllocError>
+    ensures { IfOk result (λ t. string_bytes t ≡ phases_reason actor.now) }
+{
+    format!(in alloc; "phases of {actor} differ")
 }
 
 #[tactic(auto, unfolding(crate::specs::RefusalLines::above_reason))]

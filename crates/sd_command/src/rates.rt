@@ -1,9 +1,12 @@
-ghost use Rattle.std.specs.Prelude.{◌≡◌, ℕ, ◌+◌, ◌-◌, ◌≤◌, IfOk};
+ghost use Rattle.std.specs.Prelude.{◌≡◌, ℕ, ◌+◌, ◌-◌, ◌≤◌, IfOk, sum};
+ghost use Rattle.sd_base.specs.Tables.{IsTimed, KeepsRules};
+ghost use Rattle.sd_base.specs.Net.{IsRepetitionOf};
+ghost use Rattle.sd_base.specs.FileNet.{net_of};
 ghost use Rattle.sd_base.specs.Untimed.{IsLive};
 ghost use Rattle.lasso.specs.LoopAnswers.{IsFound};
 ghost use Rattle.report.specs.LinkTexts.{IsNamed};
 ghost use Rattle.sd_base.specs.Connection.{IsStronglyConnected};
-ghost use Rattle.sd_base.specs.declared.limits.TheConstants.{STATES};
+ghost use Rattle.sd_base.specs.declared.limits.TheConstants.{ROUND, STATES};
 ghost use Rattle.sd_command.specs.Nets.{IsFed};
 ghost use Rattle.sd_command.specs.RateAnswers.{IsRunRefusal, IsRateText, rate_of};
 ghost use Rattle.sd_command.specs.Courses.{deciding};
@@ -14,12 +17,45 @@ use crate::nets::{complete, feed, join};
 use crate::reading::above;
 use crate::stop::Stop;
 use critical::cycle_of;
-use firing::{Firing, LoopTable, know_laws};
+use firing::{CsdfNet, Firing, LoopTable, SdfNet, know_laws};
 use lasso::{RunError, run_loop};
 use periodic::from_loop;
 use report::{Refusal, rate_text};
-use sd_base::{GraphFile, Ledger, NoMemory, Quantity, Rows, Steps};
+use sd_base::{GraphFile, Kind, Ledger, NoMemory, Quantity, Rows, Steps};
 use std::alloc::Global;
+
+/// The rate of the net of a graph with its repetition vector. Each kind of graphs has a net of its own, so that the
+/// analyses ask nothing of the kind at each event.
+pub(crate) fn rate_of_graph<L: Ledger>(
+    alloc: Global,
+    graph: &GraphFile,
+    gamma: &[u64],
+    no_overlap: bool,
+    states: u64,
+    steps: &mut Steps<L>,
+) -> Result<Answer, Stop>
+    requires rules { KeepsRules graph.now }
+    requires timed { IsTimed graph.now }
+    requires gamma { IsRepetitionOf graph.now gamma.now }
+    requires small { sum gamma.now ≤ ROUND }
+    requires some { 1 ≤ states }
+    requires few { states ≤ STATES }
+    ensures goes { (faults : ℕ) →
+        Goes (rate_of graph.now (net_of graph.now gamma.now no_overlap) states) result (steps.new.count - steps.old.count) faults faults }
+    ensures rises { steps.old.count ≤ steps.new.count }
+    ensures share { steps.new.share ≡ steps.old.share }
+{
+    match graph.kind {
+        Kind::Sdf => {
+            let net = SdfNet::new(alloc, graph, gamma, no_overlap)?;
+            rate_of(alloc, &net, graph, states, steps)
+        }
+        Kind::Csdf => {
+            let net = CsdfNet::new(alloc, graph, gamma, no_overlap)?;
+            rate_of(alloc, &net, graph, states, steps)
+        }
+    }
+}
 
 /// The rate of a net, with the schedule that reaches it and the need cycle that bounds it. `graph` has the names of
 /// its actors and channels.

@@ -1,6 +1,5 @@
 ghost use Rattle.std.specs.Prelude.{◌≡◌, ◌≢◌, IfOk, IsTrue, None};
 ghost use Rattle.sd_base.specs.Tables.{IsTimed, KeepsRules};
-ghost use Rattle.sd_base.specs.declared.tables.Kind.TheVariants.{Sdf};
 ghost use Rattle.file_text.specs.declared.error.TextError.TheVariants as text;
 ghost use Rattle.graph_reader.specs.declared.error.ReadError.TheVariants as reading;
 ghost use Rattle.graph_reader.specs.Field.{word_of};
@@ -21,7 +20,6 @@ use std::alloc::Global;
 pub(crate) fn read(alloc: Global, bytes: &[u8], times: bool) -> Result<GraphFile, Stop>
     ensures does { Does (reading_graph bytes.now times) result }
     ensures keeps { IfOk result KeepsRules }
-    ensures kind { IfOk result (λ graph. graph.kind ≡ Sdf) }
     ensures timed { IfOk result (λ graph. IsTrue times → IsTimed graph) }
 {
     match read_graph(alloc, bytes, times) {
@@ -56,6 +54,9 @@ fn refusal_of(alloc: Global, error: &ReadError) -> Result<Refusal, NoMemory>
         ReadError::BadNumber { what, of } => Ok(Refusal::BadNumber {
             what: word(alloc, *what)?,
             of: escaped(alloc, of.as_str())?,
+        }),
+        ReadError::PhaseCount { actor } => Ok(Refusal::PhasesDiffer {
+            actor: escaped(alloc, actor.as_str())?,
         }),
         ReadError::Limit { what } => above(alloc, *what),
         ReadError::NoMemory => Err(NoMemory),

@@ -7,11 +7,10 @@ ghost use Rattle.sd_command.specs.inside.Going.{Goes};
 use crate::answer::Answer;
 use crate::balancing::balanced;
 use crate::file_kind::FileKind;
-use crate::rates::rate_of;
+use crate::rates::rate_of_graph;
 use crate::reading::read;
 use crate::stop::Stop;
 use crate::taking::take;
-use firing::SdfNet;
 use sd_base::{Ledger, Steps};
 use sd_io::Shelf;
 use std::alloc::Global;
@@ -38,6 +37,5 @@ pub(crate) fn answer<S: Shelf, L: Ledger>(
     let bytes = take(alloc, shelf, FileKind::Graph, name)?;
     let graph = read(alloc, bytes.as_slice(), true)?;
     let gamma = balanced(alloc, &graph)?;
-    let net = SdfNet::new(alloc, &graph, gamma.as_slice(), no_overlap)?;
-    rate_of(alloc, &net, &graph, states, steps)
+    rate_of_graph(alloc, &graph, gamma.as_slice(), no_overlap, states, steps)
 }

@@ -25,13 +25,9 @@ returns-in_err-gamma-clause-goes g c =
     let p = err_from_is_err_and c.from_residual-in_err-gamma.result c.from_residual-in_err-gamma.ensures.1 in
     rw (p.1, p.2) (balancing_stops _ _ true (λ (graph : GraphFile) (gamma : List ℕ). rate_of graph (net_of graph gamma c.args.no_overlap) c.args.states) c.in_ok-bytes.bytes _ _ _ _ c.in_ok-bytes.ensures.takes c.as_slice.ensures c.in_ok-graph.graph c.in_ok-graph.ensures.does _ (omega arith) c.in_err-gamma.ensures)
 
-pub rate_of-requires-clause-named : goal.rate_of-requires-clause-named
-rate_of-requires-clause-named g c =
-    subst (λ (net : Net). IsNamed c.in_ok-graph.graph net) (sym c.in_ok-net.ensures) (net-over c.in_ok-graph.graph c.as_slice-2.result.now c.args.no_overlap)
-
 pub returns-clause-goes : goal.returns-clause-goes
 returns-clause-goes g c =
     balanced_goes _ _ true (λ (graph : GraphFile) (gamma : List ℕ). rate_of graph (net_of graph gamma c.args.no_overlap) c.args.states) c.in_ok-bytes.bytes _ _ _ _ c.in_ok-bytes.ensures.takes c.as_slice.ensures c.in_ok-graph.graph c.in_ok-graph.ensures.does c.in_ok-gamma.gamma _ c.in_ok-gamma.ensures
-    (subst (λ (net : Net). Goes (rate_of c.in_ok-graph.graph net c.args.states) c.rate_of.result (c.rate_of.new.steps.count - c.args.steps.now.count) (g.S.Shelf.faults c.args.shelf.now) (g.S.Shelf.faults c.args.shelf.now))
-    (c.in_ok-net.ensures ∙ ap (λ (v : List ℕ). net_of c.in_ok-graph.graph v c.args.no_overlap) c.as_slice-2.ensures)
-    (c.rate_of.ensures.goes (g.S.Shelf.faults c.args.shelf.now)))
+    (subst (λ (v : List ℕ). Goes (rate_of c.in_ok-graph.graph (net_of c.in_ok-graph.graph v c.args.no_overlap) c.args.states) c.rate_of_graph.result (c.rate_of_graph.new.steps.count - c.args.steps.now.count) (g.S.Shelf.faults c.args.shelf.now) (g.S.Shelf.faults c.args.shelf.now))
+    c.as_slice-2.ensures
+    (c.rate_of_graph.ensures.goes (g.S.Shelf.faults c.args.shelf.now)))
