@@ -1,5 +1,7 @@
 """What the benchmarks share: programs of the repository that are built where sources changed, and the least time of some runs."""
 import os
+import re
+import shutil
 import subprocess
 import sys
 import time
@@ -37,3 +39,20 @@ def least_time(words):
         took = time.perf_counter() - start
         best = took if best is None else min(best, took)
     return best, done
+
+
+def instructions(words):
+    """The instructions of a run, in millions, where valgrind is there."""
+    if shutil.which("valgrind") is None:
+        return None
+    done = subprocess.run(["valgrind", "--tool=callgrind", "--callgrind-out-file=/dev/null", *words], capture_output=True, text=True)
+    found = re.search(r"Collected : (\d+)", done.stderr)
+    return int(found.group(1)) / 1e6 if found else None
+
+
+def memory(words):
+    """The most memory of a run at one moment, in megabytes."""
+    child = subprocess.Popen(words, stdout=subprocess.DEVNULL, stderr=subprocess.DEVNULL)
+    _, _, usage = os.wait4(child.pid, 0)
+    child.returncode = 0
+    return usage.ru_maxrss / 1e3

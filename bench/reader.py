@@ -4,13 +4,13 @@
     bench/reader.py [MIB]        the greatest file in MiB, 4 by default
 
 Where sources changed since the last build it builds, and so proves, the program first. A row is the least wall-clock time of
-five runs.
+five runs, the most memory of one, and the millions of instructions of one, where valgrind is there.
 """
 import os
 import sys
 import tempfile
 
-from programs import least_time, program
+from programs import instructions, least_time, memory, program
 
 LIMIT = 4 * 1024 * 1024
 
@@ -62,6 +62,10 @@ def cases(size):
     yield "channels", channels(size)
     yield "open tags", "<a>" * (size // 3)
     yield "half-open tags", "<a " * (size // 3)
+    yield "small tags", filled(size, "<a>", lambda _: "<o a=''/>", "</a>")
+    yield "a comment", "<a><!--" + "x" * (size - 14) + "--></a>"
+    yield "a text", "<a>" + "x" * (size - 7) + "</a>"
+    yield "a value", "<a b='" + "x" * (size - 9) + "'/>"
     yield "hyphens in a comment", "<a><!--" + "-" * (size - 20)
     yield "broken UTF-8 at the end", "<a>" + "x" * (size - 10)
     yield "10,000 attributes", attributes(10_000)
@@ -74,7 +78,7 @@ def cases(size):
 def main():
     size = min(LIMIT, int(float(sys.argv[1]) * 1024 * 1024) if len(sys.argv) > 1 else LIMIT)
     built = program("sdf3analysis")
-    print(f"{'file':32} {'bytes':>9} {'status':>6} {'ms':>8} {'MB/s':>8}")
+    print(f"{'file':32} {'bytes':>9} {'status':>6} {'ms':>8} {'MB/s':>8} {'MB':>6} {'M instr.':>8}")
     with tempfile.TemporaryDirectory() as folder:
         for name, text in cases(size):
             data = text.encode()
@@ -83,8 +87,12 @@ def main():
             path = os.path.join(folder, "graph.xml")
             with open(path, "wb") as file:
                 file.write(data)
-            seconds, done = least_time([built, "--algo", "repetition", "--graph", path])
-            print(f"{name:32} {len(data):9} {done.returncode:6} {seconds * 1e3:8.1f} {len(data) / seconds / 1e6:8.1f}")
+            words = [built, "--algo", "repetition", "--graph", path]
+            seconds, done = least_time(words)
+            count = instructions(words)
+            shown = "-" if count is None else f"{count:.0f}"
+            print(f"{name:32} {len(data):9} {done.returncode:6} {seconds * 1e3:8.1f} {len(data) / seconds / 1e6:8.1f} "
+                  f"{memory(words):6.0f} {shown:>8}")
 
 
 main()

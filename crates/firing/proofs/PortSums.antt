@@ -6,7 +6,10 @@ use Rattle.std.proofs.lemmas.List.Sums.{get_or-le-sum_by}
 use Rattle.sd_base.specs.Net.{Channel, Net, channel_at, phase_entry, total}
 use Rattle.sd_base.specs.Schedules.{IsNeed}
 use Rattle.sd_base.specs.Lawful.{Lawful}
-use Rattle.sd_base.proofs.Sums.{total-zero, total-more, total-le, total-split, total-shift, total-turns, total-turn}
+use Rattle.sd_base.proofs.Sums.{total-zero, total-more, total-le, total-split, total-shift, total-turns, total-turn, total-bound}
+use Rattle.firing.specs.declared.sums.Port.{Port}
+use Rattle.firing.specs.declared.sums.Port.TheVariants.{Made, Taken}
+use Rattle.firing.specs.Ports.{rates_at}
 use Rattle.sd_base.proofs.Parts.{wired, balanced}
 use Rattle.sd_base.proofs.Rounds.{need-by_rounds}
 
@@ -85,3 +88,12 @@ product-le q f p n e = omega arith
 
 pub at_length : (xs : List ℕ) (f turn n : ℕ) → f ≡ length xs → turn ≡ total xs f → n ≤ turn → n ≤ total xs (length xs)
 at_length xs f turn n phases at_turn small = rw (← phases) (rw (← at_turn) small)
+
+-- ---- the sums of the first phases
+
+pub rates-small : (net : Net) (laws : Lawful net) (port : Port) (i n : ℕ) → i < length net.channels → total (rates_at port (channel_at net i)) n ≤ n * 1000000
+rates-small net laws Made i n place = total-bound (channel_at net i).made 1000000 n (λ p. laws.small_made i p place)
+rates-small net laws Taken i n place = total-bound (channel_at net i).taken 1000000 n (λ p. laws.small_taken i p place)
+
+pub whole-turn : (xs : List ℕ) (f wanted : ℕ) → f ≡ length xs → wanted ≤ total xs (length xs) → wanted ≤ total xs f
+whole-turn xs f wanted phases enough = rw phases enough

@@ -1,3 +1,5 @@
 pub mod Sdf
 pub mod Wiring
 pub mod Ports
+pub mod Csdf
+pub mod inside

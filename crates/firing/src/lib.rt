@@ -1,13 +1,17 @@
-//! Dataflow nets as one trait with its laws, the net of a synchronous graph, and needs between firings.
+//! Dataflow nets as one trait with its laws, the nets of synchronous and of cyclo-static graphs, and needs between firings.
 #![tactic(auto)]
 
+mod csdf;
+mod graph_channels;
 mod net;
+mod phases;
 mod sdf;
 mod sums;
 mod table;
 mod tokens;
 mod wiring;
 
+pub use csdf::CsdfNet;
 pub use net::{Firing, know_laws};
 pub use sdf::SdfNet;
 pub use sums::{Port, made_sum, need, port_phases, port_rate, taken_sum};

@@ -1,5 +1,5 @@
-ghost use Rattle.std.specs.Prelude.{◌≡◌, ◌<◌, [], length, slice_index, slice_index_or};
-ghost use Rattle.sd_base.specs.Net.{Net, channel_at};
+ghost use Rattle.std.specs.Prelude.{◌≡◌, ◌<◌, ◌≤◌, [], length, slice_index, slice_index_or};
+ghost use Rattle.sd_base.specs.Net.{Net, channel_at, total};
 ghost use Rattle.sd_base.specs.Schedules.{phases_at};
 ghost use Rattle.sd_base.specs.Lawful.{Lawful};
 
@@ -60,6 +60,33 @@ pub trait Firing {
         requires channel { channel < length (net self.now).channels }
         requires phase { phase < length (channel_at (net self.now) channel).taken }
         ensures { result ≡ slice_index (channel_at (net self.now) channel).taken phase };
+
+    /// The tokens that the source puts on a channel in the phases below `phases`. Cost: linear in them, unless the
+    /// net keeps these sums.
+    fn made_before(&self, channel: u32, phases: u32) -> u64
+        requires channel { channel < length (net self.now).channels }
+        requires phases { phases ≤ length (channel_at (net self.now) channel).made }
+        ensures { result ≡ total (channel_at (net self.now) channel).made phases }
+    {
+        let mut sum: u64 = 0;
+        for phase in 0..phases {
+            sum += self.made(channel, phase);
+        }
+        sum
+    }
+
+    /// The tokens that the target takes from a channel in the phases below `phases`. Cost: as of `made_before`.
+    fn taken_before(&self, channel: u32, phases: u32) -> u64
+        requires channel { channel < length (net self.now).channels }
+        requires phases { phases ≤ length (channel_at (net self.now) channel).taken }
+        ensures { result ≡ total (channel_at (net self.now) channel).taken phases }
+    {
+        let mut sum: u64 = 0;
+        for phase in 0..phases {
+            sum += self.taken(channel, phase);
+        }
+        sum
+    }
 
     /// The firings of an actor in a round.
     fn round(&self, actor: u32) -> u64

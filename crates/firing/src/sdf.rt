@@ -1,14 +1,16 @@
-ghost use Rattle.std.specs.Prelude.{◌≡◌, ◌+◌, ◌<◌, ◌≤◌, [], ◌∷◌, ◌++◌, All, IfOk, OnOk, length, map, sum};
-ghost use Rattle.sd_base.specs.declared.limits.TheConstants.{ROUND, CHANNELS, ACTORS};
+//! The net of a synchronous graph.
+
+ghost use Rattle.std.specs.Prelude.{◌≡◌, ◌≤◌, [], ◌∷◌, All, IfOk, length, map, replicate, sum};
+ghost use Rattle.sd_base.specs.declared.limits.TheConstants.{ROUND};
 ghost use Rattle.sd_base.specs.declared.tables.Kind.TheVariants.{Sdf};
 ghost use Rattle.sd_base.specs.declared.tables.ActorRow.{ActorRow};
-ghost use Rattle.sd_base.specs.declared.tables.ChannelRow.{ChannelRow};
 ghost use Rattle.sd_base.specs.Tables.{KeepsRules, IsTimed};
-ghost use Rattle.sd_base.specs.Net.{file_channel, file_channels, IsRepetitionOf};
+ghost use Rattle.sd_base.specs.Net.{file_channel, IsRepetitionOf};
 ghost use Rattle.sd_base.specs.Lawful.{Lawful};
-ghost use Rattle.sd_base.specs.FileNet.{has_self_loop, gets_own, own_channel, own_channels_from, net_of};
+ghost use Rattle.sd_base.specs.FileNet.{own_channel, net_of};
 ghost use Rattle.firing.specs.Sdf.{plain_channel, plain_net};
 
+use crate::graph_channels::{NetChannel, net_channels};
 use crate::net::Firing;
 use sd_base::{ChannelRow, GraphFile, NoMemory, Role};
 use std::alloc::Global;
@@ -23,6 +25,36 @@ pub(crate) struct SdfChannel {
     tokens: u64,
     size: u64,
     role: Role,
+}
+
+impl NetChannel for SdfChannel {
+    ghost plain = { plain_channel };
+
+    ghost Keeps = { λ rates. length rates ≡ 1 };
+
+    fn of_file(_alloc: Global, number: u32, row: &ChannelRow) -> Result<SdfChannel, NoMemory> {
+        Ok(SdfChannel {
+            source: row.source,
+            target: row.target,
+            made: row.made.as_slice()[0],
+            taken: row.taken.as_slice()[0],
+            tokens: row.tokens,
+            size: row.size,
+            role: Role::Token(number),
+        })
+    }
+
+    fn own(_alloc: Global, actor: u32, _phases: u32) -> Result<SdfChannel, NoMemory> {
+        Ok(SdfChannel {
+            source: actor,
+            target: actor,
+            made: 1,
+            taken: 1,
+            tokens: 1,
+            size: 1,
+            role: Role::Own(actor),
+        })
+    }
 }
 
 /// The net of a synchronous graph, in which each actor has one phase.
@@ -79,6 +111,22 @@ impl Firing for SdfNet {
         self.channels[channel as usize].taken
     }
 
+    fn made_before(&self, channel: u32, phases: u32) -> u64 {
+        if phases == 0 {
+            0
+        } else {
+            self.channels[channel as usize].made
+        }
+    }
+
+    fn taken_before(&self, channel: u32, phases: u32) -> u64 {
+        if phases == 0 {
+            0
+        } else {
+            self.channels[channel as usize].taken
+        }
+    }
+
     fn round(&self, actor: u32) -> u64 {
         self.rounds[actor as usize]
     }
@@ -106,8 +154,7 @@ impl SdfNet {
         ensures { IfOk result (λ n. ⟦<SdfNet as Firing>⟧.net n ≡ net_of graph.now gamma.now no_overlap) }
     {
         let times = single_times(alloc, graph)?;
-        let mut channels = file_table(alloc, graph)?;
-        push_own_channels(&mut channels, graph, no_overlap)?;
+        let channels = net_channels(alloc, graph, no_overlap)?;
         let rounds = Vec::from_slice(alloc, gamma)?;
         Ok(SdfNet {
             times,
@@ -127,87 +174,4 @@ fn single_times(alloc: Global, graph: &GraphFile) -> Result<Vec<u64>, NoMemory>
         times.push(actor.times.as_slice()[0])?;
     }
     Ok(times)
-}
-
-/// The channels of the file, in its order.
-fn file_table(alloc: Global, graph: &GraphFile) -> Result<Vec<SdfChannel>, NoMemory>
-    requires made { All (λ (c : ChannelRow). length c.made ≡ 1) graph.now.channels }
-    requires taken { All (λ (c : ChannelRow). length c.taken ≡ 1) graph.now.channels }
-    requires few { length graph.now.channels ≤ CHANNELS }
-    ensures { IfOk result (λ v. map plain_channel v.items ≡ file_channels graph.now) }
-{
-    let mut table = Vec::new(alloc);
-    for (i, row) in graph.channels.as_slice().iter().enumerate() {
-        table.push(channel_of(i as u32, row))?;
-    }
-    Ok(table)
-}
-
-/// A channel of the file, by its number.
-fn channel_of(number: u32, row: &ChannelRow) -> SdfChannel
-    requires made { length row.now.made ≡ 1 }
-    requires taken { length row.now.taken ≡ 1 }
-    ensures { plain_channel result ≡ file_channel number row.now }
-{
-    SdfChannel {
-        source: row.source,
-        target: row.target,
-        made: row.made.as_slice()[0],
-        taken: row.taken.as_slice()[0],
-        tokens: row.tokens,
-        size: row.size,
-        role: Role::Token(number),
-    }
-}
-
-/// Adds the own channels of the actors that have one.
-fn push_own_channels(
-    channels: &mut Vec<SdfChannel>,
-    graph: &GraphFile,
-    no_overlap: bool,
-) -> Result<(), NoMemory>
-    requires phases { All (λ (a : ActorRow). a.phases ≡ 1) graph.now.actors }
-    requires few { length graph.now.actors ≤ ACTORS }
-    ensures { OnOk result (map plain_channel channels.new.items ≡ map plain_channel channels.old.items
-        ++ own_channels_from no_overlap graph.now.channels 0 graph.now.actors) }
-{
-    for i in 0..graph.actors.len() {
-        if gets_own_channel(graph, i as u32, no_overlap) {
-            channels.push(own_channel_of(i as u32))?;
-        }
-    }
-    Ok(())
-}
-
-/// Whether an actor of one phase gets an own channel.
-fn gets_own_channel(graph: &GraphFile, actor: u32, no_overlap: bool) -> bool
-    ensures { result ≡ gets_own no_overlap graph.now.channels actor 1 }
-{
-    no_overlap && !leads_to_itself(graph, actor)
-}
-
-/// Whether a channel of the file leads from an actor to itself.
-fn leads_to_itself(graph: &GraphFile, actor: u32) -> bool
-    ensures { result ≡ has_self_loop graph.now.channels actor }
-{
-    graph
-        .channels
-        .as_slice()
-        .iter()
-        .any(|row| row.source == actor && row.target == actor)
-}
-
-/// The channel that keeps the firings of an actor of one phase from overlapping.
-fn own_channel_of(actor: u32) -> SdfChannel
-    ensures { plain_channel result ≡ own_channel actor 1 }
-{
-    SdfChannel {
-        source: actor,
-        target: actor,
-        made: 1,
-        taken: 1,
-        tokens: 1,
-        size: 1,
-        role: Role::Own(actor),
-    }
 }

@@ -15,8 +15,8 @@ pub enum Port {
     Taken,
 }
 
-/// The tokens that the first `firings` firings of the source put on a channel. Cost: linear in the phases
-/// of the source.
+/// The tokens that the first `firings` firings of the source put on a channel. Cost: that of
+/// `Firing::made_before`.
 pub fn made_sum<F: Firing>(net: &F, channel: u32, firings: u128) -> u128
     requires channel { channel < length (F.net net.now).channels }
     requires few { firings ≤ 2 ^ 96 }
@@ -25,8 +25,8 @@ pub fn made_sum<F: Firing>(net: &F, channel: u32, firings: u128) -> u128
     port_sum(net, channel, Port::Made, firings)
 }
 
-/// The tokens that the first `firings` firings of the target take from a channel. Cost: linear in the
-/// phases of the target.
+/// The tokens that the first `firings` firings of the target take from a channel. Cost: that of
+/// `Firing::taken_before`.
 pub fn taken_sum<F: Firing>(net: &F, channel: u32, firings: u128) -> u128
     requires channel { channel < length (F.net net.now).channels }
     requires few { firings ≤ 2 ^ 96 }
@@ -42,9 +42,23 @@ fn port_sum<F: Firing>(net: &F, channel: u32, port: Port, firings: u128) -> u128
     ensures { result ≡ total (rates_at port (channel_at (F.net net.now) channel)) firings }
 {
     let phases = port_phases(net, channel, port);
-    let turn = turn_sum(net, channel, port, phases);
-    let rest = turn_sum(net, channel, port, (firings % phases as u128) as u32);
+    let turn = sum_before(net, channel, port, phases) as u128;
+    let rest = sum_before(net, channel, port, (firings % phases as u128) as u32) as u128;
     firings / phases as u128 * turn + rest
+}
+
+/// The sum over the phases below `phases` at an end of a channel.
+fn sum_before<F: Firing>(net: &F, channel: u32, port: Port, phases: u32) -> u64
+    requires channel { channel < length (F.net net.now).channels }
+    requires phases { phases ≤ length (rates_at port (channel_at (F.net net.now) channel)) }
+    ensures sum { result ≡ total (rates_at port (channel_at (F.net net.now) channel)) phases }
+    ensures small { result ≤ phases * RATE }
+{
+    know_laws(net);
+    match port {
+        Port::Made => net.made_before(channel, phases),
+        Port::Taken => net.taken_before(channel, phases),
+    }
 }
 
 /// How many phases the actor at an end of a channel has.
@@ -74,22 +88,8 @@ pub fn port_rate<F: Firing>(net: &F, channel: u32, port: Port, phase: u32) -> u6
     }
 }
 
-/// The sum over the first phases of one turn.
-fn turn_sum<F: Firing>(net: &F, channel: u32, port: Port, phases: u32) -> u128
-    requires channel { channel < length (F.net net.now).channels }
-    requires phases { phases ≤ length (rates_at port (channel_at (F.net net.now) channel)) }
-    ensures sum { result ≡ total (rates_at port (channel_at (F.net net.now) channel)) phases }
-    ensures small { result ≤ phases * RATE }
-{
-    let mut sum = 0u128;
-    for phase in 0..phases {
-        sum += port_rate(net, channel, port, phase) as u128;
-    }
-    sum
-}
-
 /// The least number of firings of the source of a channel with which there are tokens enough for firing
-/// number `firing` of its target. Cost: linear in the phases of both.
+/// number `firing` of its target. Cost: that of `Firing::made_before` times the logarithm of the phases.
 pub fn need<F: Firing>(net: &F, channel: u32, firing: u64) -> u64
     requires channel { channel < length (F.net net.now).channels }
     requires few { firing ≤ 2 ^ 40 }
@@ -103,14 +103,14 @@ pub fn need<F: Firing>(net: &F, channel: u32, firing: u64) -> u64
     }
     let lack = taken - tokens;
     let phases = port_phases(net, channel, Port::Made);
-    let turn = turn_sum(net, channel, Port::Made, phases);
+    let turn = sum_before(net, channel, Port::Made, phases) as u128;
     let turns = (lack - 1) / turn;
-    let rest = firings_making(net, channel, lack - turns * turn);
+    let rest = firings_making(net, channel, (lack - turns * turn) as u64);
     (turns * phases as u128 + rest as u128) as u64
 }
 
 /// The least number of firings of the source, within one turn of its phases, that make so many tokens.
-fn firings_making<F: Firing>(net: &F, channel: u32, wanted: u128) -> u32
+fn firings_making<F: Firing>(net: &F, channel: u32, wanted: u64) -> u32
     requires channel { channel < length (F.net net.now).channels }
     requires some { 1 ≤ wanted }
     requires enough { wanted ≤ total (channel_at (F.net net.now) channel).made (length (channel_at (F.net net.now) channel).made) }
@@ -119,13 +119,15 @@ fn firings_making<F: Firing>(net: &F, channel: u32, wanted: u128) -> u32
     ensures enough { wanted ≤ total (channel_at (F.net net.now) channel).made result }
     ensures least { total (channel_at (F.net net.now) channel).made (result - 1) < wanted }
 {
-    let phases = port_phases(net, channel, Port::Made);
-    let mut sum = 0u128;
-    for phase in 0..phases {
-        sum += port_rate(net, channel, Port::Made, phase) as u128;
-        if sum >= wanted {
-            return phase + 1;
+    let mut few: u32 = 0;
+    let mut enough = port_phases(net, channel, Port::Made);
+    while enough - few > 1 {
+        let middle = few + (enough - few) / 2;
+        if sum_before(net, channel, Port::Made, middle) < wanted {
+            few = middle;
+        } else {
+            enough = middle;
         }
     }
-    unreachable!()
+    enough
 }

@@ -1,12 +1,13 @@
 -- What a tree spells is read of it.
-use Rattle.std.proofs.Common.{◌≡◌, ◌≢◌, ℕ, suc, ◌+◌, ◌<◌, ◌≤◌, Bool, true, false, cond, ◌==◌, List, [], ◌∷◌, ◌++◌, length, map, Option, Some, None, Ok, Err, refl, sym, ap, ◌∙◌, subst, arith}
+use Rattle.std.proofs.Common.{◌≡◌, ◌≢◌, ◌⊎◌, ℕ, suc, ◌+◌, ◌<◌, ◌≤◌, Bool, true, false, not, cond, ◌==◌, nat_le, List, [], ◌∷◌, ◌++◌, length, map, Option, Some, None, Ok, inl, inr, refl, sym, ap, ◌∙◌, subst, arith}
 use Rattle.std.specs.Prelude.{IsTrue, codes}
-use Rattle.std.specs.List.{All, list_any, find}
+use Rattle.std.specs.List.{All, list_any, list_all, find}
 use Rattle.std.specs.Option.{option_to_list}
-use Rattle.std.proofs.lemmas.Bool.{le-ltb, ne_eqb}
+use Rattle.std.proofs.lemmas.Bool.{le-ltb, eq-eqb, le-leb, or_left, or_right}
 use Rattle.std.proofs.lemmas.Slice.Eq.{bytes_eq-Decides}
-use Rattle.sd_base.specs.declared.limits.Quantity.{Quantity}
 use Rattle.sd_base.specs.declared.limits.Quantity.TheVariants as quantity
+use Rattle.sd_base.specs.declared.tables.Kind.{Kind}
+use Rattle.sd_base.specs.declared.tables.Kind.TheVariants.{Sdf, Csdf}
 use Rattle.sd_base.specs.declared.tables.GraphFile.{GraphFile}
 use Rattle.sd_base.specs.declared.tables.ActorRow.{ActorRow}
 use Rattle.sd_base.specs.Tables.{IsTimed}
@@ -14,7 +15,6 @@ use Rattle.file_text.specs.Node.{Node, name_of}
 use Rattle.file_text.specs.Grammar.{Each}
 use Rattle.graph_reader.specs.declared.field.Field.{Field}
 use Rattle.graph_reader.specs.declared.field.Field.TheVariants as field
-use Rattle.graph_reader.specs.declared.error.ReadError.TheVariants as error
 use Rattle.graph_reader.specs.declared.actors.Direction.{Direction}
 use Rattle.graph_reader.specs.declared.actors.Direction.TheVariants.{In, Out}
 use Rattle.graph_reader.specs.declared.actors.Port.{Port}
@@ -29,34 +29,15 @@ use Rattle.graph_reader.specs.TreeSteps.{◌>>=◌, file}
 use Rattle.graph_reader.specs.NumberTexts
 use Rattle.graph_reader.specs.Sections
 use Rattle.graph_reader.specs.Spelled
-use Rattle.graph_reader.specs.Spelled.{Pairwise, EachTwo, Has, IsNumber, HasPositive, HasName}
-use Rattle.graph_reader.proofs.ReaderSteps.{then-ok, passes}
+use Rattle.graph_reader.specs.Spelled.{Pairwise, EachTwo, Has, HasName}
+use Rattle.graph_reader.proofs.ReaderSteps.{then-ok}
+use Rattle.graph_reader.proofs.NumberLists.{within-again, number-again, not-zero, again}
+use Rattle.graph_reader.proofs.PhaseLists.{longest-some}
 use Rattle.graph_reader.proofs.ElementPlaces.{AfterEach, each-given, Related, after-from_two, Counted, counted-from_few, no-count, none-from_Each, Each-weaker, not-among, among, length-push, port_count-cons, port_count-push}
 
 required : (what : Field) (of : List ℕ) (e : Node) (value : List ℕ) → Has what e value → TreeSteps.required what of e ≡ Ok value
 unfolding TreeSteps.required
 required what of e value has = ap (TreeSteps.present what of) has
-
--- ---- numbers
-
-within : (q : Quantity) (limit n : ℕ) → n ≤ limit → NumberTexts.within q limit n ≡ Ok n
-unfolding NumberTexts.within
-within q limit n few = rw (le-ltb limit n few) refl
-
-number : (what : Field) (of : List ℕ) (q : Quantity) (limit : ℕ) (text : List ℕ) (n : ℕ) → IsNumber limit text n → NumberTexts.number what of q limit text ≡ Ok n
-unfolding NumberTexts.number
-number what of q limit text n is = then-ok (NumberTexts.formed what of (NumberTexts.number_in text)) (λ m. NumberTexts.within q limit m) n (Ok n) (ap (NumberTexts.formed what of) is.0) (within q limit n is.1)
-
-not-zero : (n : ℕ) → 1 ≤ n → (n == 0) ≡ false
-not-zero n some =
-    let other : n ≢ 0 = omega arith in
-    ne_eqb n 0 other
-
-positive : (what : Field) (of : List ℕ) (q : Quantity) (limit : ℕ) (text : List ℕ) (n : ℕ) → IsNumber limit text n → 1 ≤ n → NumberTexts.positive what of q limit text ≡ Ok n
-unfolding NumberTexts.positive
-positive what of q limit text n is some =
-    then-ok (NumberTexts.number what of q limit text) (λ m. cond (m == 0) (Err (error.BadNumber what of)) (Ok m)) n (Ok n) (number what of q limit text n is)
-    (passes (n == 0) (Err (error.BadNumber what of)) (Ok n) (Ok n) (not-zero n some) refl)
 
 -- ---- names
 
@@ -84,15 +65,15 @@ direction_in of Out = refl
 abbrev PortsDiffer : Port → Port → Type 0
 PortsDiffer p q = p.name ≢ q.name
 
-port_of : (actor : List ℕ) (before : ℕ) (done : List Port) (e : Node) (p : Port) → Spelled.IsPort e p → Related PortsDiffer (Counted before 1024) done p → Sections.port_of actor before done e ≡ Ok p
+port_of : (kind : Kind) (actor : List ℕ) (before : ℕ) (done : List Port) (e : Node) (p : Port) → Spelled.IsPort kind e p → Related PortsDiffer (Counted before 1024) done p → Sections.port_of kind actor before done e ≡ Ok p
 unfolding Sections.port_of
-port_of actor before done e p is new =
+port_of kind actor before done e p is new =
     then-ok (Sections.new_name actor (map (λ (q : Port). q.name) done) e) _ p.name (Ok p) (new_name (λ (q : Port). q.name) actor done e p.name is.name new.0) (
-    then-ok (NumberTexts.within quantity.Ports 1024 (before + length done + 1)) _ (before + length done + 1) (Ok p) (within quantity.Ports 1024 (before + length done + 1) new.1) (
+    then-ok (NumberTexts.within quantity.Ports 1024 (before + length done + 1)) _ (before + length done + 1) (Ok p) (within-again quantity.Ports 1024 (before + length done + 1) new.1) (
     then-ok (TreeSteps.required field.TypeWord actor e) _ (Spelled.direction_word p.direction) (Ok p) (required field.TypeWord actor e (Spelled.direction_word p.direction) is.direction) (
     then-ok (Sections.direction_in actor (Spelled.direction_word p.direction)) _ p.direction (Ok p) (direction_in actor p.direction) (
-    then-ok (TreeSteps.required field.Rate actor e) _ is.rate.0 (Ok p) (required field.Rate actor e is.rate.0 is.rate.1) (
-    then-ok (NumberTexts.positive field.Rate actor quantity.Rate 1000000 is.rate.0) _ p.rate (Ok p) (positive field.Rate actor quantity.Rate 1000000 is.rate.0 p.rate is.rate.2 is.rate.3) refl)))))
+    then-ok (TreeSteps.required field.Rate actor e) _ is.rates.0 (Ok p) (required field.Rate actor e is.rates.0 is.rates.1) (
+    then-ok (NumberTexts.numbers kind 0 field.Rate actor quantity.Rate 1000000 is.rates.0) _ p.rates (Ok p) (again kind 0 field.Rate actor quantity.Rate 1000000 is.rates.0 p.rates is.rates.2 is.rates.3) refl)))))
 
 abbrev PortsFit : ℕ → List Port → Type 0
 PortsFit before ports = (0 < length ports) → before + length ports ≤ 1024
@@ -109,15 +90,15 @@ ActorsDiffer a b = a.name ≢ b.name
 abbrev ActorCounted : List Actor → Actor → Type 0
 ActorCounted done a = (length done + 1 ≤ 128) × PortsFit (Sections.port_count done) a.ports
 
-actor_of : (done : List Actor) (e : Node) (a : Actor) → Spelled.IsActor e a → Related ActorsDiffer ActorCounted done a → Sections.actor_of done e ≡ Ok a
+actor_of : (kind : Kind) (done : List Actor) (e : Node) (a : Actor) → Spelled.IsActor kind e a → Related ActorsDiffer ActorCounted done a → Sections.actor_of kind done e ≡ Ok a
 unfolding Sections.actor_of
-actor_of done e a is new =
+actor_of kind done e a is new =
     let before = Sections.port_count done in
     let after = after-from_two PortsDiffer (Counted before 1024) a.ports is.apart (counted-ports before a.ports new.1.1) in
     then-ok (Sections.new_name file (map (λ (b : Actor). b.name) done) e) _ a.name (Ok a) (new_name (λ (b : Actor). b.name) file done e a.name is.name new.0) (
-    then-ok (NumberTexts.within quantity.Actors 128 (length done + 1)) _ (length done + 1) (Ok a) (within quantity.Actors 128 (length done + 1) new.1.0) (
-    then-ok (TreeSteps.each (Sections.port_of a.name before) [] (TreeSteps.children (codes "port") e)) _ a.ports (Ok a)
-    (each-given Spelled.IsPort (Related PortsDiffer (Counted before 1024)) (Sections.port_of a.name before) (port_of a.name before) [] (TreeSteps.children (codes "port") e) a.ports is.ports after) refl))
+    then-ok (NumberTexts.within quantity.Actors 128 (length done + 1)) _ (length done + 1) (Ok a) (within-again quantity.Actors 128 (length done + 1) new.1.0) (
+    then-ok (TreeSteps.each (Sections.port_of kind a.name before) [] (TreeSteps.children (codes "port") e)) _ a.ports (Ok a)
+    (each-given (Spelled.IsPort kind) (Related PortsDiffer (Counted before 1024)) (Sections.port_of kind a.name before) (port_of kind a.name before) [] (TreeSteps.children (codes "port") e) a.ports is.ports after) refl))
 
 counted-actors : (done actors : List Actor) → length done + length actors ≤ 128 → Sections.port_count done + Sections.port_count actors ≤ 1024 → AfterEach ActorCounted done actors
 counted-actors done [] few few_ports = tt
@@ -132,33 +113,33 @@ some_actor : (actors : List Actor) → 1 ≤ length actors → Sections.some_act
 some_actor [] some = absurd (omega (arith, some))
 some_actor (a ∷ rest) some = refl
 
-actors_of : (section : Node) (actors : List Actor) → Spelled.AreActors section actors → Sections.actors_of section ≡ Ok actors
+actors_of : (kind : Kind) (section : Node) (actors : List Actor) → Spelled.AreActors kind section actors → Sections.actors_of kind section ≡ Ok actors
 unfolding Sections.actors_of
-actors_of section actors are =
+actors_of kind section actors are =
     let elements = TreeSteps.children (word_of field.Actor) section in
     let few = are.few in
     let few_ports = are.few_ports in
     let after = after-from_two ActorsDiffer ActorCounted actors are.apart (counted-actors [] actors (omega arith) (omega arith)) in
-    then-ok (TreeSteps.each Sections.actor_of [] elements) Sections.some_actor actors (Ok actors) (each-given Spelled.IsActor (Related ActorsDiffer ActorCounted) Sections.actor_of actor_of [] elements actors are.rows after) (some_actor actors are.some)
+    then-ok (TreeSteps.each (Sections.actor_of kind) [] elements) Sections.some_actor actors (Ok actors) (each-given (Spelled.IsActor kind) (Related ActorsDiffer ActorCounted) (Sections.actor_of kind) (actor_of kind) [] elements actors are.rows after) (some_actor actors are.some)
 
 -- ---- channels
 
 end_of : (actors : List Actor) (direction : Direction) (actor_word port_word : Field) (of : List ℕ) (e : Node) (x : End) → Spelled.IsEnd actors direction actor_word port_word e x → Sections.end_of actors direction actor_word port_word of e ≡ Ok x
 unfolding Sections.end_of
 end_of actors direction actor_word port_word of e x is =
-    let made : ℕ → End = λ rate. record { actor = x.actor; port = x.port; rate = rate } in
+    let made : List ℕ → End = λ rates. record { actor = x.actor; port = x.port; rates = rates } in
     then-ok (TreeSteps.required actor_word of e) _ is.actor_name (Ok x) (required actor_word of e is.actor_name is.has_actor) (
     then-ok (Sections.known actor_word is.actor_name (Sections.numbered 0 is.actor_name actors)) _ (x.actor, is.actor) (Ok x) (ap (Sections.known actor_word is.actor_name) is.is_actor) (
     then-ok (TreeSteps.required port_word of e) _ x.port (Ok x) (required port_word of e x.port is.has_port) (
     then-ok (Sections.known port_word x.port (find (Sections.is_port direction x.port) is.actor.ports)) _ is.port (Ok x) (ap (Sections.known port_word x.port) is.is_port) (
-    ap (λ rate. Ok (made rate)) is.rate))))
+    ap (λ rates. Ok (made rates)) is.rates))))
 
 unused : (what : Field) (e : End) (used : Bool) → used ≡ false → Sections.unused what e used ≡ Ok e
 unused what e used none = rw none refl
 
 tokens_in : (of : List ℕ) (o : Option (List ℕ)) (n : ℕ) → Spelled.AreTokens o n → Sections.tokens_in of o ≡ Ok n
 tokens_in of None n is = ap Ok (sym is)
-tokens_in of (Some text) n is = number field.InitialTokens of quantity.Tokens 1000000 text n is
+tokens_in of (Some text) n is = number-again field.InitialTokens of quantity.Tokens 1000000 text n is
 
 channel_of : (actors : List Actor) (done : List Channel) (e : Node) (c : Channel) → Spelled.IsChannel actors e c → Related Spelled.AreApart (Counted 0 256) done c → Sections.channel_of actors done e ≡ Ok c
 unfolding Sections.channel_of
@@ -168,7 +149,7 @@ channel_of actors done e c is new =
     let sources = none-from_Each (λ (d : Channel). Sections.is_same_port d.source c.source) done (Each-weaker (λ d. Spelled.AreApart d c) (λ (d : Channel). Sections.is_same_port d.source c.source ≡ false) done new.0 (λ d apart. apart.sources)) in
     let targets = none-from_Each (λ (d : Channel). Sections.is_same_port d.target c.target) done (Each-weaker (λ d. Spelled.AreApart d c) (λ (d : Channel). Sections.is_same_port d.target c.target ≡ false) done new.0 (λ d apart. apart.targets)) in
     then-ok (Sections.new_name file (map (λ (d : Channel). d.name) done) e) _ c.name (Ok c) (new_name (λ (d : Channel). d.name) file done e c.name is.name names) (
-    then-ok (NumberTexts.within quantity.Channels 256 (length done + 1)) _ (length done + 1) (Ok c) (within quantity.Channels 256 (length done + 1) count) (
+    then-ok (NumberTexts.within quantity.Channels 256 (length done + 1)) _ (length done + 1) (Ok c) (within-again quantity.Channels 256 (length done + 1) count) (
     then-ok (Sections.end_of actors Out field.SrcActor field.SrcPort c.name e) _ c.source (Ok c) (end_of actors Out field.SrcActor field.SrcPort c.name e c.source is.source) (
     then-ok (Sections.unused field.SrcPort c.source (list_any (λ (d : Channel). Sections.is_same_port d.source c.source) done)) _ c.source (Ok c) (unused field.SrcPort c.source _ sources) (
     then-ok (Sections.end_of actors In field.DstActor field.DstPort c.name e) _ c.target (Ok c) (end_of actors In field.DstActor field.DstPort c.name e c.target is.target) (
@@ -184,15 +165,15 @@ channels_of actors section channels are =
 
 -- ---- properties
 
-time_by : (of : List ℕ) (o : Option Node) (time : Option ℕ) → Spelled.IsTime o time → Sections.time_by of o ≡ Ok time
-time_by of None time is = ap Ok (sym is)
-time_by of (Some execution) time is =
-    then-ok (TreeSteps.required field.Time of execution) _ is.2.0 (Ok time) (required field.Time of execution is.2.0 is.2.1) (
-    then-ok (NumberTexts.positive field.Time of quantity.Time 1000000000 is.2.0) _ is.0 (Ok time) (positive field.Time of quantity.Time 1000000000 is.2.0 is.0 is.2.2 is.2.3) (ap Ok (sym is.1)))
+times_by : (kind : Kind) (of : List ℕ) (o : Option Node) (times : List ℕ) → Spelled.AreGiven kind o times → Sections.times_by kind of o ≡ Ok times
+times_by kind of None times is = ap Ok (sym is)
+times_by kind of (Some execution) times is =
+    then-ok (TreeSteps.required field.Time of execution) _ is.0 (Ok times) (required field.Time of execution is.0 is.1) (
+    again kind 1 field.Time of quantity.Time 1000000000 is.0 times is.2 is.3)
 
-time_of : (of : List ℕ) (e : Node) (time : Option ℕ) → Spelled.IsTime (Sections.execution_of e) time → Sections.time_of of e ≡ Ok time
-unfolding Sections.time_of
-time_of of e time is = time_by of (Sections.execution_of e) time is
+times_in : (kind : Kind) (of : List ℕ) (e : Node) (times : List ℕ) → Spelled.AreGiven kind (Sections.execution_of e) times → Sections.times_in kind of e ≡ Ok times
+unfolding Sections.times_in
+times_in kind of e times is = times_by kind of (Sections.execution_of e) times is
 
 abbrev NoCount : {X : Type 0} → List X → X → Type 0
 NoCount done x = Unit {0}
@@ -200,23 +181,23 @@ NoCount done x = Unit {0}
 abbrev TimesDiffer : TimeEntry → TimeEntry → Type 0
 TimesDiffer s t = s.actor ≢ t.actor
 
-time_entry : (actors : List Actor) (done : List TimeEntry) (e : Node) (t : TimeEntry) → Spelled.IsTimeEntry actors e t → Related TimesDiffer NoCount done t → Sections.time_entry actors done e ≡ Ok t
+time_entry : (kind : Kind) (actors : List Actor) (done : List TimeEntry) (e : Node) (t : TimeEntry) → Spelled.IsTimeEntry kind actors e t → Related TimesDiffer NoCount done t → Sections.time_entry kind actors done e ≡ Ok t
 unfolding Sections.time_entry
-time_entry actors done e t is new =
+time_entry kind actors done e t is new =
     then-ok (Sections.mention field.Actor (map (λ (a : Actor). a.name) actors) (map (λ (s : TimeEntry). s.actor) done) e) _ t.actor (Ok t)
     (mention (λ (a : Actor). a.name) (λ (s : TimeEntry). s.actor) field.Actor actors done e t.actor is.actor is.known new.0) (
-    then-ok (Sections.time_of t.actor e) _ t.time (Ok t) (time_of t.actor e t.time is.time) refl)
+    then-ok (Sections.times_in kind t.actor e) _ t.times (Ok t) (times_in kind t.actor e t.times is.times) refl)
 
-times_of : (actors : List Actor) (o : Option Node) (times : List TimeEntry) → Spelled.AreTimes actors o times → Sections.times_of actors o ≡ Ok times
+times_of : (kind : Kind) (actors : List Actor) (o : Option Node) (times : List TimeEntry) → Spelled.AreTimes kind actors o times → Sections.times_of kind actors o ≡ Ok times
 unfolding Sections.times_of
-times_of actors None times are = ap Ok (sym are)
-times_of actors (Some properties) times are =
-    each-given (Spelled.IsTimeEntry actors) (Related TimesDiffer NoCount) (Sections.time_entry actors) (time_entry actors) [] (TreeSteps.children (codes "actorProperties") properties) times are.0
+times_of kind actors None times are = ap Ok (sym are)
+times_of kind actors (Some properties) times are =
+    each-given (Spelled.IsTimeEntry kind actors) (Related TimesDiffer NoCount) (Sections.time_entry kind actors) (time_entry kind actors) [] (TreeSteps.children (codes "actorProperties") properties) times are.0
     (after-from_two TimesDiffer NoCount times are.1 (no-count [] times))
 
 size_in : (of : List ℕ) (o : Option (List ℕ)) (size : ℕ) → Spelled.IsSize o size → Sections.size_in of o ≡ Ok size
 size_in of None size is = ap Ok (sym is)
-size_in of (Some text) size is = then-ok (NumberTexts.number field.Sz of quantity.Size 1000000 text) _ is.0 (Ok size) (number field.Sz of quantity.Size 1000000 text is.0 is.1) (ap Ok (sym is.2))
+size_in of (Some text) size is = then-ok (NumberTexts.number field.Sz of quantity.Size 1000000 text) _ is.0 (Ok size) (number-again field.Sz of quantity.Size 1000000 text is.0 is.1) (ap Ok (sym is.2))
 
 size_of : (of : List ℕ) (e : Node) (size : ℕ) → Spelled.IsSize (Sections.size_text e) size → Sections.size_of of e ≡ Ok size
 unfolding Sections.size_of
@@ -255,9 +236,27 @@ root_of : (e : Node) → name_of e ≡ word_of field.Sdf3 → Sections.root_of e
 unfolding Sections.root_of
 root_of e is = rw ((bytes_eq-Decides (name_of e) (word_of field.Sdf3)).1 is) refl
 
-sdf_kind : Sections.sdf_kind (word_of field.Sdf) ≡ Ok (word_of field.Sdf)
-unfolding Sections.sdf_kind
-sdf_kind = rw ((bytes_eq-Decides (word_of field.Sdf) (word_of field.Sdf)).1 refl) refl
+kind_in : (kind : Kind) → Sections.kind_in (word_of (Sections.section_of kind)) ≡ Ok kind
+unfolding Sections.kind_in word_of
+kind_in Sdf = refl
+kind_in Csdf = refl
+
+fits-each : (phases : ℕ) (lists : List (List ℕ)) → Each (λ xs. (length xs ≡ phases) ⊎ (length xs ≤ 1)) lists → list_all (Sections.fits_phases phases) lists ≡ true
+fits-each phases [] all = refl
+fits-each phases (xs ∷ lists) all =
+    let here : Sections.fits_phases phases xs ≡ true = elim all.0 [
+      | inl same ↦ or_left (length xs == phases) (nat_le (length xs) 1) (eq-eqb (length xs) phases same)
+      | inr few ↦ or_right (length xs == phases) (nat_le (length xs) 1) (le-leb (length xs) 1 few)
+    ] in
+    rw here (fits-each phases lists all.1)
+
+none-uneven : (times : List TimeEntry) (actors : List Actor) → Each (Spelled.IsEven times) actors → find (λ (a : Actor). not (Sections.is_even times a)) actors ≡ None
+none-uneven times [] all = refl
+none-uneven times (a ∷ actors) all = rw (fits-each (Sections.phases_in times a) (Sections.lists_of times a) all.0) (none-uneven times actors all.1)
+
+even_phases : (times : List TimeEntry) (actors : List Actor) → Each (Spelled.IsEven times) actors → Sections.even_phases times actors ≡ Ok actors
+unfolding Sections.even_phases
+even_phases times actors all = ap (Sections.even actors) (none-uneven times actors all)
 
 abbrev HasNone : ActorRow → Bool
 HasNone a = length a.times == 0
@@ -266,15 +265,16 @@ no-row : (times : List TimeEntry) (actors : List Actor) → All (λ (a : ActorRo
 no-row times [] all = refl
 no-row times (a ∷ actors) all =
     let row = Sections.actor_row times a in
-    let one : length row.times ≡ 1 = all 0 row (omega arith) in
+    let whole : length row.times ≡ row.phases = all 0 row (omega arith) in
+    let some : 1 ≤ row.phases = longest-some (Sections.lists_of times a) in
     let first : HasNone row ≡ false = not-zero (length row.times) (omega arith) in
     rw first (no-row times actors (λ k d lt. all (suc k) d (omega arith)))
 
-all_timed : (need_times : Bool) (actors : List Actor) (channels : List Channel) (times : List TimeEntry) (sizes : List SizeEntry) → (IsTrue need_times → IsTimed (Sections.table actors channels times sizes))
-    → Sections.all_timed need_times (Sections.table actors channels times sizes) ≡ Ok (Sections.table actors channels times sizes)
+all_timed : (kind : Kind) (need_times : Bool) (actors : List Actor) (channels : List Channel) (times : List TimeEntry) (sizes : List SizeEntry) → (IsTrue need_times → IsTimed (Sections.table kind actors channels times sizes))
+    → Sections.all_timed need_times (Sections.table kind actors channels times sizes) ≡ Ok (Sections.table kind actors channels times sizes)
 unfolding Sections.all_timed Sections.table
-all_timed need_times actors channels times sizes given =
-    let t = Sections.table actors channels times sizes in
+all_timed kind need_times actors channels times sizes given =
+    let t = Sections.table kind actors channels times sizes in
     let cases : (b : Bool) → (IsTrue b → IsTimed t) → cond b (Sections.timed t (find HasNone t.actors)) (Ok t) ≡ Ok t = λ b. elim b as (λ v. (IsTrue v → IsTimed t) → cond v (Sections.timed t (find HasNone t.actors)) (Ok t) ≡ Ok t) [
       | true ↦ λ timed. ap (Sections.timed t) (no-row times actors (timed refl))
       | false ↦ λ timed. refl
@@ -285,13 +285,14 @@ pub table_of : (need_times : Bool) (tree : Node) (t : GraphFile) → Spelled.IsT
 unfolding Sections.table_of
 table_of need_times tree t is =
     then-ok (Sections.root_of tree) _ tree (Ok t) (root_of tree is.root) (
-    then-ok (TreeSteps.required field.TypeWord file tree) _ (word_of field.Sdf) (Ok t) (required field.TypeWord file tree (word_of field.Sdf) is.kind) (
-    then-ok (Sections.sdf_kind (word_of field.Sdf)) _ (word_of field.Sdf) (Ok t) sdf_kind (
+    then-ok (TreeSteps.required field.TypeWord file tree) _ (word_of (Sections.section_of t.kind)) (Ok t) (required field.TypeWord file tree (word_of (Sections.section_of t.kind)) is.kind) (
+    then-ok (Sections.kind_in (word_of (Sections.section_of t.kind))) _ t.kind (Ok t) (kind_in t.kind) (
     then-ok (TreeSteps.one field.ApplicationGraph tree) _ is.graph (Ok t) (one field.ApplicationGraph tree is.graph is.one_graph) (
-    then-ok (TreeSteps.one field.Sdf is.graph) _ is.section (Ok t) (one field.Sdf is.graph is.section is.one_section) (
-    then-ok (Sections.actors_of is.section) _ is.actors (Ok t) (actors_of is.section is.actors is.are_actors) (
+    then-ok (TreeSteps.one (Sections.section_of t.kind) is.graph) _ is.section (Ok t) (one (Sections.section_of t.kind) is.graph is.section is.one_section) (
+    then-ok (Sections.actors_of t.kind is.section) _ is.actors (Ok t) (actors_of t.kind is.section is.actors is.are_actors) (
     then-ok (Sections.channels_of is.actors is.section) _ is.channels (Ok t) (channels_of is.actors is.section is.channels is.are_channels) (
-    then-ok (TreeSteps.at_most_one field.SdfProperties is.graph) _ is.properties (Ok t) (at_most_one field.SdfProperties is.graph is.properties is.no_second) (
-    then-ok (Sections.times_of is.actors is.properties) _ is.times (Ok t) (times_of is.actors is.properties is.times is.are_times) (
+    then-ok (TreeSteps.at_most_one (Sections.properties_of t.kind) is.graph) _ is.properties (Ok t) (at_most_one (Sections.properties_of t.kind) is.graph is.properties is.no_second) (
+    then-ok (Sections.times_of t.kind is.actors is.properties) _ is.times (Ok t) (times_of t.kind is.actors is.properties is.times is.are_times) (
     then-ok (Sections.sizes_of is.channels is.properties) _ is.sizes (Ok t) (sizes_of is.channels is.properties is.sizes is.are_sizes) (
-    all_timed need_times is.actors is.channels is.times is.sizes (λ needed. subst IsTimed is.is_table (is.timed needed)) ∙ ap Ok (sym is.is_table)))))))))))
+    then-ok (Sections.even_phases is.times is.actors) _ is.actors (Ok t) (even_phases is.times is.actors is.even) (
+    all_timed t.kind need_times is.actors is.channels is.times is.sizes (λ needed. subst IsTimed is.is_table (is.timed needed)) ∙ ap Ok (sym is.is_table))))))))))))

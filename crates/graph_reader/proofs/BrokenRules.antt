@@ -1,13 +1,16 @@
 -- What refuses a tree is a broken rule of its sections: no fault of a text, and no want of memory.
 use Rattle.std.proofs.Common.{◌≡◌, ℕ, ◌+◌, Bool, true, false, cond, ◌==◌, nat_lt, not, List, [], ◌∷◌, ◌++◌, length, map, Option, Some, None, Result, Ok, Err, subst, sym, ap, ◌∙◌, ◌⊎◌, inl, inr}
 use Rattle.std.specs.Prelude.{IfErr, codes}
-use Rattle.std.specs.List.{list_any, find}
+use Rattle.std.specs.List.{list_any, list_all, find}
 use Rattle.std.specs.Str.{bytes_eq}
 use Rattle.sd_base.specs.declared.limits.Quantity.{Quantity}
 use Rattle.sd_base.specs.declared.limits.Quantity.TheVariants as quantity
+use Rattle.sd_base.specs.declared.tables.Kind.{Kind}
+use Rattle.sd_base.specs.declared.tables.Kind.TheVariants.{Sdf, Csdf}
 use Rattle.sd_base.specs.declared.tables.GraphFile.{GraphFile}
 use Rattle.sd_base.specs.declared.tables.ActorRow.{ActorRow}
 use Rattle.file_text.specs.Node.{Node, name_of}
+use Rattle.graph_reader.specs.declared.numbers.Item.{Item}
 use Rattle.graph_reader.specs.declared.field.Field.{Field}
 use Rattle.graph_reader.specs.declared.field.Field.TheVariants as field
 use Rattle.graph_reader.specs.declared.error.ReadError.{ReadError}
@@ -96,6 +99,27 @@ positive : (what : Field) (of : List ℕ) (q : Quantity) (limit : ℕ) (text : L
 unfolding NumberTexts.positive
 positive what of q limit text = then (NumberTexts.number what of q limit text) _ (number what of q limit text) (λ n. choice (n == 0) _ _ tt tt)
 
+formed_items : (what : Field) (of : List ℕ) (o : Option (List Item)) → Rules (NumberTexts.formed_items what of o)
+formed_items what of None = tt
+formed_items what of (Some items) = tt
+
+tested_items : (least : ℕ) (what : Field) (of : List ℕ) (q : Quantity) (limit : ℕ) (items : List Item) → Rules (NumberTexts.tested_items least what of q limit items)
+unfolding NumberTexts.tested_items
+tested_items least what of q limit items =
+    then (NumberTexts.all_within q limit items) _ (choice (list_any (λ (i : Item). nat_lt limit i.value) items) _ _ tt tt) (λ above.
+    then (NumberTexts.none_below least what of items) _ (choice (list_any (λ (i : Item). nat_lt i.value least) items) _ _ tt tt) (λ below.
+    then (NumberTexts.within quantity.Phases 4096 (NumberTexts.count_in items)) _ (within quantity.Phases 4096 (NumberTexts.count_in items)) (λ count.
+    choice (list_all (λ n. n == 0) (NumberTexts.numbers_of items)) _ _ tt tt)))
+
+number_list : (least : ℕ) (what : Field) (of : List ℕ) (q : Quantity) (limit : ℕ) (text : List ℕ) → Rules (NumberTexts.number_list least what of q limit text)
+unfolding NumberTexts.number_list
+number_list least what of q limit text = then (NumberTexts.formed_items what of (NumberTexts.items_in text)) _ (formed_items what of (NumberTexts.items_in text)) (λ items. tested_items least what of q limit items)
+
+numbers : (kind : Kind) (least : ℕ) (what : Field) (of : List ℕ) (q : Quantity) (limit : ℕ) (text : List ℕ) → Rules (NumberTexts.numbers kind least what of q limit text)
+unfolding NumberTexts.numbers
+numbers Sdf least what of q limit text = then (NumberTexts.positive what of q limit text) _ (positive what of q limit text) (λ n. tt)
+numbers Csdf least what of q limit text = number_list least what of q limit text
+
 tested_name : (of : List ℕ) (earlier : List (List ℕ)) (name : List ℕ) → Rules (Sections.tested_name of earlier name)
 tested_name of earlier name = choice (length name == 0) _ _ tt (choice (nat_lt 128 (length name)) _ _ tt (choice (Sections.is_among name earlier) _ _ tt tt))
 
@@ -115,31 +139,31 @@ mention what names earlier e = then (TreeSteps.required what file e) _ (required
 direction_in : (of word : List ℕ) → Rules (Sections.direction_in of word)
 direction_in of word = choice (bytes_eq word (codes "in")) _ _ tt (choice (bytes_eq word (codes "out")) _ _ tt tt)
 
-port_of : (actor : List ℕ) (before : ℕ) (done : List Port) (e : Node) → Rules (Sections.port_of actor before done e)
+port_of : (kind : Kind) (actor : List ℕ) (before : ℕ) (done : List Port) (e : Node) → Rules (Sections.port_of kind actor before done e)
 unfolding Sections.port_of
-port_of actor before done e =
+port_of kind actor before done e =
     then (Sections.new_name actor (map (λ (p : Port). p.name) done) e) _ (new_name actor (map (λ (p : Port). p.name) done) e) (λ name.
     then (NumberTexts.within quantity.Ports 1024 (before + length done + 1)) _ (within quantity.Ports 1024 (before + length done + 1)) (λ count.
     then (TreeSteps.required field.TypeWord actor e) _ (required field.TypeWord actor e) (λ word.
     then (Sections.direction_in actor word) _ (direction_in actor word) (λ direction.
     then (TreeSteps.required field.Rate actor e) _ (required field.Rate actor e) (λ text.
-    then (NumberTexts.positive field.Rate actor quantity.Rate 1000000 text) _ (positive field.Rate actor quantity.Rate 1000000 text) (λ rate. tt))))))
+    then (NumberTexts.numbers kind 0 field.Rate actor quantity.Rate 1000000 text) _ (numbers kind 0 field.Rate actor quantity.Rate 1000000 text) (λ rates. tt))))))
 
-actor_of : (done : List Actor) (e : Node) → Rules (Sections.actor_of done e)
+actor_of : (kind : Kind) (done : List Actor) (e : Node) → Rules (Sections.actor_of kind done e)
 unfolding Sections.actor_of
-actor_of done e =
+actor_of kind done e =
     then (Sections.new_name file (map (λ (a : Actor). a.name) done) e) _ (new_name file (map (λ (a : Actor). a.name) done) e) (λ name.
     then (NumberTexts.within quantity.Actors 128 (length done + 1)) _ (within quantity.Actors 128 (length done + 1)) (λ count.
-    then (TreeSteps.each (Sections.port_of name (Sections.port_count done)) [] (TreeSteps.children (codes "port") e)) _
-    (each (Sections.port_of name (Sections.port_count done)) (port_of name (Sections.port_count done)) [] (TreeSteps.children (codes "port") e)) (λ ports. tt)))
+    then (TreeSteps.each (Sections.port_of kind name (Sections.port_count done)) [] (TreeSteps.children (codes "port") e)) _
+    (each (Sections.port_of kind name (Sections.port_count done)) (port_of kind name (Sections.port_count done)) [] (TreeSteps.children (codes "port") e)) (λ ports. tt)))
 
 some_actor : (actors : List Actor) → Rules (Sections.some_actor actors)
 some_actor [] = tt
 some_actor (a ∷ rest) = tt
 
-actors_of : (section : Node) → Rules (Sections.actors_of section)
+actors_of : (kind : Kind) (section : Node) → Rules (Sections.actors_of kind section)
 unfolding Sections.actors_of
-actors_of section = then (TreeSteps.each Sections.actor_of [] (TreeSteps.children (word_of field.Actor) section)) _ (each Sections.actor_of actor_of [] (TreeSteps.children (word_of field.Actor) section)) some_actor
+actors_of kind section = then (TreeSteps.each (Sections.actor_of kind) [] (TreeSteps.children (word_of field.Actor) section)) _ (each (Sections.actor_of kind) (actor_of kind) [] (TreeSteps.children (word_of field.Actor) section)) some_actor
 
 -- ---- channels
 
@@ -179,26 +203,26 @@ channels_of actors section = each (Sections.channel_of actors) (channel_of actor
 
 -- ---- properties
 
-time_by : (of : List ℕ) (o : Option Node) → Rules (Sections.time_by of o)
-time_by of None = tt
-time_by of (Some execution) =
+times_by : (kind : Kind) (of : List ℕ) (o : Option Node) → Rules (Sections.times_by kind of o)
+times_by kind of None = tt
+times_by kind of (Some execution) =
     then (TreeSteps.required field.Time of execution) _ (required field.Time of execution) (λ text.
-    then (NumberTexts.positive field.Time of quantity.Time 1000000000 text) _ (positive field.Time of quantity.Time 1000000000 text) (λ time. tt))
+    numbers kind 1 field.Time of quantity.Time 1000000000 text)
 
-time_of : (of : List ℕ) (e : Node) → Rules (Sections.time_of of e)
-unfolding Sections.time_of
-time_of of e = time_by of (Sections.execution_of e)
+times_in : (kind : Kind) (of : List ℕ) (e : Node) → Rules (Sections.times_in kind of e)
+unfolding Sections.times_in
+times_in kind of e = times_by kind of (Sections.execution_of e)
 
-time_entry : (actors : List Actor) (done : List TimeEntry) (e : Node) → Rules (Sections.time_entry actors done e)
+time_entry : (kind : Kind) (actors : List Actor) (done : List TimeEntry) (e : Node) → Rules (Sections.time_entry kind actors done e)
 unfolding Sections.time_entry
-time_entry actors done e =
+time_entry kind actors done e =
     then (Sections.mention field.Actor (map (λ (a : Actor). a.name) actors) (map (λ (t : TimeEntry). t.actor) done) e) _ (mention field.Actor (map (λ (a : Actor). a.name) actors) (map (λ (t : TimeEntry). t.actor) done) e) (λ name.
-    then (Sections.time_of name e) _ (time_of name e) (λ time. tt))
+    then (Sections.times_in kind name e) _ (times_in kind name e) (λ times. tt))
 
-times_of : (actors : List Actor) (o : Option Node) → Rules (Sections.times_of actors o)
+times_of : (kind : Kind) (actors : List Actor) (o : Option Node) → Rules (Sections.times_of kind actors o)
 unfolding Sections.times_of
-times_of actors None = tt
-times_of actors (Some properties) = each (Sections.time_entry actors) (time_entry actors) [] (TreeSteps.children (codes "actorProperties") properties)
+times_of kind actors None = tt
+times_of kind actors (Some properties) = each (Sections.time_entry kind actors) (time_entry kind actors) [] (TreeSteps.children (codes "actorProperties") properties)
 
 size_in : (of : List ℕ) (o : Option (List ℕ)) → Rules (Sections.size_in of o)
 size_in of None = tt
@@ -233,24 +257,33 @@ root_of : (e : Node) → Rules (Sections.root_of e)
 unfolding Sections.root_of
 root_of e = choice (bytes_eq (name_of e) (word_of field.Sdf3)) _ _ tt tt
 
-sdf_kind : (word : List ℕ) → Rules (Sections.sdf_kind word)
-unfolding Sections.sdf_kind
-sdf_kind word = choice (bytes_eq word (word_of field.Sdf)) _ _ tt tt
+kind_in : (word : List ℕ) → Rules (Sections.kind_in word)
+unfolding Sections.kind_in
+kind_in word = choice (bytes_eq word (word_of field.Sdf)) _ _ tt (choice (bytes_eq word (word_of field.Csdf)) _ _ tt tt)
+
+even : (actors : List Actor) (o : Option Actor) → Rules (Sections.even actors o)
+even actors None = tt
+even actors (Some a) = tt
+
+even_phases : (times : List TimeEntry) (actors : List Actor) → Rules (Sections.even_phases times actors)
+unfolding Sections.even_phases
+even_phases times actors = even actors (find (λ (a : Actor). not (Sections.is_even times a)) actors)
 
 table_of : (need_times : Bool) (tree : Node) → IfErr (Sections.table_of need_times tree) IsRule
 unfolding Sections.table_of
 table_of need_times tree =
     then (Sections.root_of tree) _ (root_of tree) (λ root.
     then (TreeSteps.required field.TypeWord file root) _ (required field.TypeWord file root) (λ word.
-    then (Sections.sdf_kind word) _ (sdf_kind word) (λ kind.
+    then (Sections.kind_in word) _ (kind_in word) (λ kind.
     then (TreeSteps.one field.ApplicationGraph root) _ (one field.ApplicationGraph root) (λ graph.
-    then (TreeSteps.one field.Sdf graph) _ (one field.Sdf graph) (λ section.
-    then (Sections.actors_of section) _ (actors_of section) (λ actors.
+    then (TreeSteps.one (Sections.section_of kind) graph) _ (one (Sections.section_of kind) graph) (λ section.
+    then (Sections.actors_of kind section) _ (actors_of kind section) (λ actors.
     then (Sections.channels_of actors section) _ (channels_of actors section) (λ channels.
-    then (TreeSteps.at_most_one field.SdfProperties graph) _ (at_most_one field.SdfProperties graph) (λ properties.
-    then (Sections.times_of actors properties) _ (times_of actors properties) (λ times.
+    then (TreeSteps.at_most_one (Sections.properties_of kind) graph) _ (at_most_one (Sections.properties_of kind) graph) (λ properties.
+    then (Sections.times_of kind actors properties) _ (times_of kind actors properties) (λ times.
     then (Sections.sizes_of channels properties) _ (sizes_of channels properties) (λ sizes.
-    all_timed need_times (Sections.table actors channels times sizes)))))))))))
+    then (Sections.even_phases times actors) _ (even_phases times actors) (λ fit.
+    all_timed need_times (Sections.table kind actors channels times sizes))))))))))))
 
 fault_is : (bytes : List ℕ) (need_times : Bool) (e : Node) → IsText e bytes → (refusal : ReadError) → Fails refusal (Sections.table_of need_times e) → IsFirstFault bytes need_times refusal
 fault_is bytes need_times e spelled error.NoMemory fails = tt

@@ -41,6 +41,7 @@ sorted bytes need (reading.Unknown what name) some h = inr h
 sorted bytes need (reading.Twice what name) some h = inr h
 sorted bytes need (reading.BadWord what of) some h = inr h
 sorted bytes need (reading.BadNumber what of) some h = inr h
+sorted bytes need (reading.PhaseCount actor) some h = inr h
 sorted bytes need (reading.Limit what) some h = inr h
 
 pub one_table : OneTree → HasOneTable

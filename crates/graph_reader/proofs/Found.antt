@@ -1,13 +1,14 @@
 -- What is read of a tree is what the tree spells.
-use Rattle.std.proofs.Common.{◌≡◌, ◌≢◌, ℕ, ◌+◌, ◌<◌, ◌≤◌, Bool, true, false, cond, nat_lt, ◌==◌, ◌||◌, not, List, [], ◌∷◌, ◌++◌, length, map, Option, Some, None, Ok, Err, refl, sym, ap, ◌∙◌, subst, inl, inr, arith}
+use Rattle.std.proofs.Common.{◌≡◌, ◌≢◌, ◌⊎◌, ℕ, ◌+◌, ◌<◌, ◌≤◌, Bool, true, false, cond, nat_lt, nat_le, ◌==◌, ◌||◌, not, List, [], ◌∷◌, ◌++◌, length, map, Option, Some, None, Ok, refl, sym, ap, ◌∙◌, subst, inl, inr, arith}
 use Rattle.std.specs.Prelude.{IfOk, IsTrue, codes}
-use Rattle.std.specs.List.{list_any, find}
+use Rattle.std.specs.List.{list_any, list_all, find}
 use Rattle.std.specs.Option.{option_to_list}
 use Rattle.std.specs.Str.{bytes_eq}
-use Rattle.std.proofs.lemmas.Bool.{cases_lt, lt-ltb, le-ltb, ltb-false, eqb-false}
+use Rattle.std.proofs.lemmas.Bool.{cases_lt, ltb-false, eqb-false, eqb-true, leb-true, and_parts, or_cases}
 use Rattle.std.proofs.lemmas.Slice.Eq.{bytes_eq-Decides}
-use Rattle.sd_base.specs.declared.limits.Quantity.{Quantity}
 use Rattle.sd_base.specs.declared.limits.Quantity.TheVariants as quantity
+use Rattle.sd_base.specs.declared.tables.Kind.{Kind}
+use Rattle.sd_base.specs.declared.tables.Kind.TheVariants.{Sdf, Csdf}
 use Rattle.sd_base.specs.declared.tables.GraphFile.{GraphFile}
 use Rattle.sd_base.specs.declared.tables.ActorRow.{ActorRow}
 use Rattle.sd_base.specs.Tables.{IsTimed}
@@ -15,7 +16,6 @@ use Rattle.file_text.specs.Node.{Node, name_of}
 use Rattle.file_text.specs.Grammar.{Each}
 use Rattle.graph_reader.specs.declared.field.Field.{Field}
 use Rattle.graph_reader.specs.declared.field.Field.TheVariants as field
-use Rattle.graph_reader.specs.declared.error.ReadError.TheVariants as error
 use Rattle.graph_reader.specs.declared.actors.Direction.{Direction}
 use Rattle.graph_reader.specs.declared.actors.Direction.TheVariants.{In, Out}
 use Rattle.graph_reader.specs.declared.actors.Port.{Port}
@@ -30,8 +30,9 @@ use Rattle.graph_reader.specs.TreeSteps.{◌>>=◌, file}
 use Rattle.graph_reader.specs.NumberTexts
 use Rattle.graph_reader.specs.Sections
 use Rattle.graph_reader.specs.Spelled
-use Rattle.graph_reader.specs.Spelled.{Pairwise, EachTwo, Has, IsNumber, HasPositive, HasName}
+use Rattle.graph_reader.specs.Spelled.{Pairwise, EachTwo, Has, IsNumber, Spells, ArePhased, HasName}
 use Rattle.graph_reader.proofs.ReaderSteps.{then, weaker, choice}
+use Rattle.graph_reader.proofs.NumberLists.{within, number, found}
 use Rattle.graph_reader.proofs.ElementPlaces.{AfterEach, Follows, each-gives, Related, two-from_after, count-from_after, Counted, few-from_counted, Each-from_none, Each-both, differ, length-push, port_count-cons, port_count-push}
 
 required : (what : Field) (of : List ℕ) (e : Node) → IfOk (TreeSteps.required what of e) (Has what e)
@@ -39,34 +40,6 @@ unfolding TreeSteps.required
 required what of e =
     let cases : (o : Option (List ℕ)) → IfOk (TreeSteps.present what of o) (λ v. o ≡ Some v) = λ o. elim o as (λ p. IfOk (TreeSteps.present what of p) (λ v. p ≡ Some v)) [ None ↦ tt | Some v ↦ refl ] in
     cases (TreeSteps.attribute (word_of what) e)
-
--- ---- numbers
-
-within : (q : Quantity) (limit n : ℕ) → IfOk (NumberTexts.within q limit n) (λ m. (m ≡ n) × (n ≤ limit))
-unfolding NumberTexts.within
-within q limit n =
-    elim (cases_lt limit n) [
-      | inl above ↦ rw (lt-ltb limit n above) tt
-      | inr below ↦ rw (le-ltb limit n below) (refl, below)
-    ]
-
-formed : (what : Field) (of : List ℕ) (o : Option ℕ) → IfOk (NumberTexts.formed what of o) (λ n. o ≡ Some n)
-formed what of None = tt
-formed what of (Some n) = refl
-
-number : (what : Field) (of : List ℕ) (q : Quantity) (limit : ℕ) (text : List ℕ) → IfOk (NumberTexts.number what of q limit text) (IsNumber limit text)
-unfolding NumberTexts.number
-number what of q limit text =
-    then (λ n. NumberTexts.number_in text ≡ Some n) (IsNumber limit text) (NumberTexts.formed what of (NumberTexts.number_in text)) (λ n. NumberTexts.within q limit n) (formed what of (NumberTexts.number_in text)) (λ n is.
-    weaker (λ m. (m ≡ n) × (n ≤ limit)) (IsNumber limit text) (NumberTexts.within q limit n) (within q limit n) (λ m h. subst (IsNumber limit text) (sym h.0) (is, h.1)))
-
-positive : (what : Field) (of : List ℕ) (q : Quantity) (limit : ℕ) (text : List ℕ) → IfOk (NumberTexts.positive what of q limit text) (λ n. IsNumber limit text n × (1 ≤ n))
-unfolding NumberTexts.positive
-positive what of q limit text =
-    then (IsNumber limit text) (λ n. IsNumber limit text n × (1 ≤ n)) (NumberTexts.number what of q limit text) (λ n. cond (n == 0) (Err (error.BadNumber what of)) (Ok n)) (number what of q limit text) (λ n is.
-    choice (λ m. IsNumber limit text m × (1 ≤ m)) (n == 0) (Err (error.BadNumber what of)) (Ok n) (λ h. tt) (λ h.
-    let some : n ≢ 0 = eqb-false n 0 h in
-    (is, omega arith)))
 
 -- ---- names
 
@@ -122,16 +95,16 @@ direction_in of word =
 abbrev PortsDiffer : Port → Port → Type 0
 PortsDiffer p q = p.name ≢ q.name
 
-port_of : (actor : List ℕ) (before : ℕ) (done : List Port) (e : Node) → IfOk (Sections.port_of actor before done e) (λ p. Spelled.IsPort e p × Related PortsDiffer (Counted before 1024) done p)
+port_of : (kind : Kind) (actor : List ℕ) (before : ℕ) (done : List Port) (e : Node) → IfOk (Sections.port_of kind actor before done e) (λ p. Spelled.IsPort kind e p × Related PortsDiffer (Counted before 1024) done p)
 unfolding Sections.port_of
-port_of actor before done e =
+port_of kind actor before done e =
     then (IsNew (λ (p : Port). p.name) done e) _ (Sections.new_name actor (map (λ (p : Port). p.name) done) e) _ (new_name (λ (p : Port). p.name) actor done e) (λ name new.
     then (λ m. (m ≡ before + length done + 1) × (before + length done + 1 ≤ 1024)) _ (NumberTexts.within quantity.Ports 1024 (before + length done + 1)) _ (within quantity.Ports 1024 (before + length done + 1)) (λ count few.
     then (Has field.TypeWord e) _ (TreeSteps.required field.TypeWord actor e) _ (required field.TypeWord actor e) (λ word typed.
     then (λ d. word ≡ Spelled.direction_word d) _ (Sections.direction_in actor word) _ (direction_in actor word) (λ direction word_is.
     then (Has field.Rate e) _ (TreeSteps.required field.Rate actor e) _ (required field.Rate actor e) (λ text has.
-    then (λ n. IsNumber 1000000 text n × (1 ≤ n)) _ (NumberTexts.positive field.Rate actor quantity.Rate 1000000 text) _ (positive field.Rate actor quantity.Rate 1000000 text) (λ rate is.
-    (record { name = new.0; direction = typed ∙ ap Some word_is; rate = (text, has, is.0, is.1) }, (new.1, few.1))))))))
+    then (λ ns. Spells kind text ns × ArePhased 0 1000000 ns) _ (NumberTexts.numbers kind 0 field.Rate actor quantity.Rate 1000000 text) _ (found kind 0 field.Rate actor quantity.Rate 1000000 text (omega arith)) (λ rates is.
+    (record { name = new.0; direction = typed ∙ ap Some word_is; rates = (text, has, is.0, is.1) }, (new.1, few.1))))))))
 
 -- an actor's ports are few after those of the earlier actors
 abbrev PortsFit : ℕ → List Port → Type 0
@@ -150,14 +123,14 @@ ActorsDiffer a b = a.name ≢ b.name
 abbrev ActorCounted : List Actor → Actor → Type 0
 ActorCounted done a = (length done + 1 ≤ 128) × PortsFit (Sections.port_count done) a.ports
 
-actor_of : (done : List Actor) (e : Node) → IfOk (Sections.actor_of done e) (λ a. Spelled.IsActor e a × Related ActorsDiffer ActorCounted done a)
+actor_of : (kind : Kind) (done : List Actor) (e : Node) → IfOk (Sections.actor_of kind done e) (λ a. Spelled.IsActor kind e a × Related ActorsDiffer ActorCounted done a)
 unfolding Sections.actor_of
-actor_of done e =
+actor_of kind done e =
     then (IsNew (λ (a : Actor). a.name) done e) _ (Sections.new_name file (map (λ (a : Actor). a.name) done) e) _ (new_name (λ (a : Actor). a.name) file done e) (λ name new.
     then (λ m. (m ≡ length done + 1) × (length done + 1 ≤ 128)) _ (NumberTexts.within quantity.Actors 128 (length done + 1)) _ (within quantity.Actors 128 (length done + 1)) (λ count few.
-    then (Follows Spelled.IsPort (Related PortsDiffer (Counted (Sections.port_count done) 1024)) [] (TreeSteps.children (codes "port") e)) _ (TreeSteps.each (Sections.port_of name (Sections.port_count done)) [] (TreeSteps.children (codes "port") e)) _
-    (each-gives Spelled.IsPort (Related PortsDiffer (Counted (Sections.port_count done) 1024)) (Sections.port_of name (Sections.port_count done)) (port_of name (Sections.port_count done)) [] (TreeSteps.children (codes "port") e)) (λ ports f.
-    let pairs : Pairwise Spelled.IsPort (TreeSteps.children (codes "port") e) ports = subst (Pairwise Spelled.IsPort (TreeSteps.children (codes "port") e)) (sym f.1) f.2 in
+    then (Follows (Spelled.IsPort kind) (Related PortsDiffer (Counted (Sections.port_count done) 1024)) [] (TreeSteps.children (codes "port") e)) _ (TreeSteps.each (Sections.port_of kind name (Sections.port_count done)) [] (TreeSteps.children (codes "port") e)) _
+    (each-gives (Spelled.IsPort kind) (Related PortsDiffer (Counted (Sections.port_count done) 1024)) (Sections.port_of kind name (Sections.port_count done)) (port_of kind name (Sections.port_count done)) [] (TreeSteps.children (codes "port") e)) (λ ports f.
+    let pairs : Pairwise (Spelled.IsPort kind) (TreeSteps.children (codes "port") e) ports = subst (Pairwise (Spelled.IsPort kind) (TreeSteps.children (codes "port") e)) (sym f.1) f.2 in
     let after : AfterEach (Related PortsDiffer (Counted (Sections.port_count done) 1024)) [] ports = subst (AfterEach (Related PortsDiffer (Counted (Sections.port_count done) 1024)) []) (sym f.1) f.3 in
     let counted = count-from_after PortsDiffer (Counted (Sections.port_count done) 1024) ports after in
     (record { name = new.0; ports = pairs; apart = two-from_after PortsDiffer (Counted (Sections.port_count done) 1024) ports after }, (new.1, (few.1, few-from_counted-ports (Sections.port_count done) ports counted))))))
@@ -181,17 +154,17 @@ some_actor : (actors : List Actor) → IfOk (Sections.some_actor actors) (λ rea
 some_actor [] = tt
 some_actor (a ∷ rest) = (refl, omega arith)
 
-actors_of : (section : Node) → IfOk (Sections.actors_of section) (Spelled.AreActors section)
+actors_of : (kind : Kind) (section : Node) → IfOk (Sections.actors_of kind section) (Spelled.AreActors kind section)
 unfolding Sections.actors_of
-actors_of section =
+actors_of kind section =
     let elements = TreeSteps.children (word_of field.Actor) section in
     let C = Related ActorsDiffer ActorCounted in
-    then (Follows Spelled.IsActor C [] elements) (Spelled.AreActors section) (TreeSteps.each Sections.actor_of [] elements) Sections.some_actor (each-gives Spelled.IsActor C Sections.actor_of actor_of [] elements) (λ actors f.
-    let pairs : Pairwise Spelled.IsActor elements actors = subst (Pairwise Spelled.IsActor elements) (sym f.1) f.2 in
+    then (Follows (Spelled.IsActor kind) C [] elements) (Spelled.AreActors kind section) (TreeSteps.each (Sections.actor_of kind) [] elements) Sections.some_actor (each-gives (Spelled.IsActor kind) C (Sections.actor_of kind) (actor_of kind) [] elements) (λ actors f.
+    let pairs : Pairwise (Spelled.IsActor kind) elements actors = subst (Pairwise (Spelled.IsActor kind) elements) (sym f.1) f.2 in
     let after : AfterEach C [] actors = subst (AfterEach C []) (sym f.1) f.3 in
     let few = are_few [] actors (omega arith) (omega arith) (count-from_after ActorsDiffer ActorCounted actors after) in
-    weaker (λ read. (read ≡ actors) × (1 ≤ length actors)) (Spelled.AreActors section) (Sections.some_actor actors) (some_actor actors) (λ read h.
-    subst (Spelled.AreActors section) (sym h.0) (record {
+    weaker (λ read. (read ≡ actors) × (1 ≤ length actors)) (Spelled.AreActors kind section) (Sections.some_actor actors) (some_actor actors) (λ read h.
+    subst (Spelled.AreActors kind section) (sym h.0) (record {
       rows = pairs;
       apart = two-from_after ActorsDiffer ActorCounted actors after;
       some = h.1;
@@ -212,7 +185,7 @@ end_of actors direction actor_word port_word of e =
     then (λ r. Sections.numbered 0 actor_name actors ≡ Some r) _ (Sections.known actor_word actor_name (Sections.numbered 0 actor_name actors)) _ (known actor_word actor_name (Sections.numbered 0 actor_name actors)) (λ actor is_actor.
     then (Has port_word e) _ (TreeSteps.required port_word of e) _ (required port_word of e) (λ port_name has_port.
     then (λ p. find (Sections.is_port direction port_name) actor.1.ports ≡ Some p) _ (Sections.known port_word port_name (find (Sections.is_port direction port_name) actor.1.ports)) _ (known port_word port_name (find (Sections.is_port direction port_name) actor.1.ports)) (λ port is_port.
-    record { actor_name = actor_name; actor = actor.1; port = port; has_actor = has_actor; is_actor = is_actor; has_port = has_port; is_port = is_port; rate = refl }))))
+    record { actor_name = actor_name; actor = actor.1; port = port; has_actor = has_actor; is_actor = is_actor; has_port = has_port; is_port = is_port; rates = refl }))))
 
 unused : (what : Field) (e : End) (used : Bool) → IfOk (Sections.unused what e used) (λ x. (x ≡ e) × (used ≡ false))
 unused what e used = choice (λ x. (x ≡ e) × (used ≡ false)) used _ (Ok e) (λ h. tt) (λ h. (refl, h))
@@ -261,16 +234,16 @@ channels_of actors section =
 
 -- ---- properties
 
-time_by : (of : List ℕ) (o : Option Node) → IfOk (Sections.time_by of o) (Spelled.IsTime o)
-time_by of None = refl
-time_by of (Some execution) =
+times_by : (kind : Kind) (of : List ℕ) (o : Option Node) → IfOk (Sections.times_by kind of o) (Spelled.AreGiven kind o)
+times_by kind of None = refl
+times_by kind of (Some execution) =
     then (Has field.Time execution) _ (TreeSteps.required field.Time of execution) _ (required field.Time of execution) (λ text has.
-    then (λ n. IsNumber 1000000000 text n × (1 ≤ n)) _ (NumberTexts.positive field.Time of quantity.Time 1000000000 text) _ (positive field.Time of quantity.Time 1000000000 text) (λ time is.
-    (time, refl, (text, has, is.0, is.1))))
+    weaker (λ ns. Spells kind text ns × ArePhased 1 1000000000 ns) (Spelled.AreGiven kind (Some execution)) (NumberTexts.numbers kind 1 field.Time of quantity.Time 1000000000 text) (found kind 1 field.Time of quantity.Time 1000000000 text (omega arith)) (λ times is.
+    (text, has, is.0, is.1)))
 
-time_of : (of : List ℕ) (e : Node) → IfOk (Sections.time_of of e) (Spelled.IsTime (Sections.execution_of e))
-unfolding Sections.time_of
-time_of of e = time_by of (Sections.execution_of e)
+times_in : (kind : Kind) (of : List ℕ) (e : Node) → IfOk (Sections.times_in kind of e) (Spelled.AreGiven kind (Sections.execution_of e))
+unfolding Sections.times_in
+times_in kind of e = times_by kind of (Sections.execution_of e)
 
 abbrev NoCount : {X : Type 0} → List X → X → Type 0
 NoCount done x = Unit {0}
@@ -278,22 +251,22 @@ NoCount done x = Unit {0}
 abbrev TimesDiffer : TimeEntry → TimeEntry → Type 0
 TimesDiffer s t = s.actor ≢ t.actor
 
-time_entry : (actors : List Actor) (done : List TimeEntry) (e : Node) → IfOk (Sections.time_entry actors done e) (λ t. Spelled.IsTimeEntry actors e t × Related TimesDiffer NoCount done t)
+time_entry : (kind : Kind) (actors : List Actor) (done : List TimeEntry) (e : Node) → IfOk (Sections.time_entry kind actors done e) (λ t. Spelled.IsTimeEntry kind actors e t × Related TimesDiffer NoCount done t)
 unfolding Sections.time_entry
-time_entry actors done e =
+time_entry kind actors done e =
     then (IsMention (λ (a : Actor). a.name) (λ (t : TimeEntry). t.actor) field.Actor actors done e) _ (Sections.mention field.Actor (map (λ (a : Actor). a.name) actors) (map (λ (t : TimeEntry). t.actor) done) e) _
     (mention (λ (a : Actor). a.name) (λ (t : TimeEntry). t.actor) field.Actor actors done e) (λ name is.
-    then (Spelled.IsTime (Sections.execution_of e)) _ (Sections.time_of name e) _ (time_of name e) (λ time timed.
-    (record { actor = is.0; known = is.1; time = timed }, (is.2, tt))))
+    then (Spelled.AreGiven kind (Sections.execution_of e)) _ (Sections.times_in kind name e) _ (times_in kind name e) (λ times given.
+    (record { actor = is.0; known = is.1; times = given }, (is.2, tt))))
 
-times_of : (actors : List Actor) (o : Option Node) → IfOk (Sections.times_of actors o) (Spelled.AreTimes actors o)
+times_of : (kind : Kind) (actors : List Actor) (o : Option Node) → IfOk (Sections.times_of kind actors o) (Spelled.AreTimes kind actors o)
 unfolding Sections.times_of
-times_of actors None = refl
-times_of actors (Some properties) =
+times_of kind actors None = refl
+times_of kind actors (Some properties) =
     let elements = TreeSteps.children (codes "actorProperties") properties in
     let C = Related TimesDiffer NoCount in
-    weaker (Follows (Spelled.IsTimeEntry actors) C [] elements) (Spelled.AreTimes actors (Some properties)) (TreeSteps.each (Sections.time_entry actors) [] elements) (each-gives (Spelled.IsTimeEntry actors) C (Sections.time_entry actors) (time_entry actors) [] elements) (λ times f.
-    let pairs : Pairwise (Spelled.IsTimeEntry actors) elements times = subst (Pairwise (Spelled.IsTimeEntry actors) elements) (sym f.1) f.2 in
+    weaker (Follows (Spelled.IsTimeEntry kind actors) C [] elements) (Spelled.AreTimes kind actors (Some properties)) (TreeSteps.each (Sections.time_entry kind actors) [] elements) (each-gives (Spelled.IsTimeEntry kind actors) C (Sections.time_entry kind actors) (time_entry kind actors) [] elements) (λ times f.
+    let pairs : Pairwise (Spelled.IsTimeEntry kind actors) elements times = subst (Pairwise (Spelled.IsTimeEntry kind actors) elements) (sym f.1) f.2 in
     let after : AfterEach C [] times = subst (AfterEach C []) (sym f.1) f.3 in
     (pairs, two-from_after TimesDiffer NoCount times after))
 
@@ -352,9 +325,39 @@ root_of : (e : Node) → IfOk (Sections.root_of e) (λ root. (root ≡ e) × (na
 unfolding Sections.root_of
 root_of e = choice (λ root. (root ≡ e) × (name_of e ≡ word_of field.Sdf3)) (bytes_eq (name_of e) (word_of field.Sdf3)) (Ok e) _ (λ h. (refl, (bytes_eq-Decides (name_of e) (word_of field.Sdf3)).0 h)) (λ h. tt)
 
-sdf_kind : (word : List ℕ) → IfOk (Sections.sdf_kind word) (λ kind. word ≡ word_of field.Sdf)
-unfolding Sections.sdf_kind
-sdf_kind word = choice (λ kind. word ≡ word_of field.Sdf) (bytes_eq word (word_of field.Sdf)) (Ok word) _ (λ h. (bytes_eq-Decides word (word_of field.Sdf)).0 h) (λ h. tt)
+abbrev Names : List ℕ → Kind → Type 0
+Names word kind = word ≡ word_of (Sections.section_of kind)
+
+kind_in : (word : List ℕ) → IfOk (Sections.kind_in word) (Names word)
+unfolding Sections.kind_in
+kind_in word =
+    choice (Names word) (bytes_eq word (word_of field.Sdf)) (Ok Sdf) _ (λ h. (bytes_eq-Decides word (word_of field.Sdf)).0 h) (λ h.
+    choice (Names word) (bytes_eq word (word_of field.Csdf)) (Ok Csdf) _ (λ k. (bytes_eq-Decides word (word_of field.Csdf)).0 k) (λ k. tt))
+
+-- a test that each list passes
+each-fits : (phases : ℕ) (lists : List (List ℕ)) → list_all (Sections.fits_phases phases) lists ≡ true → Each (λ xs. (length xs ≡ phases) ⊎ (length xs ≤ 1)) lists
+each-fits phases [] all = tt
+each-fits phases (xs ∷ lists) all =
+    let parts = and_parts (Sections.fits_phases phases xs) (list_all (Sections.fits_phases phases) lists) all in
+    let here : (length xs ≡ phases) ⊎ (length xs ≤ 1) = elim (or_cases (length xs == phases) (nat_le (length xs) 1) parts.0) [ inl same ↦ inl (eqb-true (length xs) phases same) | inr few ↦ inr (leb-true (length xs) 1 few) ] in
+    (here, each-fits phases lists parts.1)
+
+-- where no actor is found whose lists differ, each has its lists by phase
+pub evens : (times : List TimeEntry) (all actors : List Actor) → IfOk (Sections.even all (find (λ (a : Actor). not (Sections.is_even times a)) actors)) (λ read. (read ≡ all) × Each (Spelled.IsEven times) actors)
+evens times all [] = (refl, tt)
+evens times all (a ∷ actors) =
+    let Q : List Actor → List Actor → Type 0 = λ rows read. (read ≡ all) × Each (Spelled.IsEven times) rows in
+    let o = find (λ (b : Actor). not (Sections.is_even times b)) actors in
+    let cases : (b : Bool) → Sections.is_even times a ≡ b → IfOk (Sections.even all (cond (not b) (Some a) o)) (Q (a ∷ actors)) =
+    λ b. elim b as (λ v. Sections.is_even times a ≡ v → IfOk (Sections.even all (cond (not v) (Some a) o)) (Q (a ∷ actors))) [
+      | true ↦ λ h. weaker (Q actors) (Q (a ∷ actors)) (Sections.even all o) (evens times all actors) (λ read rest. (rest.0, (each-fits (Sections.phases_in times a) (Sections.lists_of times a) h, rest.1)))
+      | false ↦ λ h. tt
+    ] in
+    cases (Sections.is_even times a) refl
+
+pub even_phases : (times : List TimeEntry) (actors : List Actor) → IfOk (Sections.even_phases times actors) (λ read. (read ≡ actors) × Each (Spelled.IsEven times) actors)
+unfolding Sections.even_phases
+even_phases times actors = evens times actors actors
 
 timed : (t : GraphFile) (o : Option ActorRow) → IfOk (Sections.timed t o) (λ u. u ≡ t)
 timed t None = refl
@@ -364,22 +367,28 @@ all_timed : (need_times : Bool) (t : GraphFile) → IfOk (Sections.all_timed nee
 unfolding Sections.all_timed
 all_timed need_times t = choice (λ u. u ≡ t) need_times _ (Ok t) (λ h. timed t (find (λ (a : ActorRow). length a.times == 0) t.actors)) (λ h. refl)
 
+table-kind : (kind : Kind) (actors : List Actor) (channels : List Channel) (times : List TimeEntry) (sizes : List SizeEntry) → (Sections.table kind actors channels times sizes).kind ≡ kind
+unfolding Sections.table
+table-kind kind actors channels times sizes = refl
+
 -- the table that is read is one that the tree spells; that its times are given where they are needed stands beside it
 pub table_of : (need_times : Bool) (tree : Node) → IfOk (Sections.table_of need_times tree) (λ t. (IsTrue need_times → IsTimed t) → Spelled.IsTable need_times tree t)
 unfolding Sections.table_of
 table_of need_times tree =
     then (λ root. (root ≡ tree) × (name_of tree ≡ word_of field.Sdf3)) _ (Sections.root_of tree) _ (root_of tree) (λ root is_root.
     then (Has field.TypeWord root) _ (TreeSteps.required field.TypeWord file root) _ (required field.TypeWord file root) (λ word has.
-    then (λ kind. word ≡ word_of field.Sdf) _ (Sections.sdf_kind word) _ (sdf_kind word) (λ kind is_kind.
+    then (Names word) _ (Sections.kind_in word) _ (kind_in word) (λ kind is_kind.
     then (λ c. TreeSteps.children (word_of field.ApplicationGraph) root ≡ c ∷ []) _ (TreeSteps.one field.ApplicationGraph root) _ (one field.ApplicationGraph root) (λ graph one_graph.
-    then (λ c. TreeSteps.children (word_of field.Sdf) graph ≡ c ∷ []) _ (TreeSteps.one field.Sdf graph) _ (one field.Sdf graph) (λ section one_section.
-    then (Spelled.AreActors section) _ (Sections.actors_of section) _ (actors_of section) (λ actors are_actors.
+    then (λ c. TreeSteps.children (word_of (Sections.section_of kind)) graph ≡ c ∷ []) _ (TreeSteps.one (Sections.section_of kind) graph) _ (one (Sections.section_of kind) graph) (λ section one_section.
+    then (Spelled.AreActors kind section) _ (Sections.actors_of kind section) _ (actors_of kind section) (λ actors are_actors.
     then (Spelled.AreChannels actors section) _ (Sections.channels_of actors section) _ (channels_of actors section) (λ channels are_channels.
-    then (λ o. TreeSteps.children (word_of field.SdfProperties) graph ≡ option_to_list o) _ (TreeSteps.at_most_one field.SdfProperties graph) _ (at_most_one field.SdfProperties graph) (λ properties no_second.
-    then (Spelled.AreTimes actors properties) _ (Sections.times_of actors properties) _ (times_of actors properties) (λ times are_times.
+    then (λ o. TreeSteps.children (word_of (Sections.properties_of kind)) graph ≡ option_to_list o) _ (TreeSteps.at_most_one (Sections.properties_of kind) graph) _ (at_most_one (Sections.properties_of kind) graph) (λ properties no_second.
+    then (Spelled.AreTimes kind actors properties) _ (Sections.times_of kind actors properties) _ (times_of kind actors properties) (λ times are_times.
     then (Spelled.AreSizes channels properties) _ (Sections.sizes_of channels properties) _ (sizes_of channels properties) (λ sizes are_sizes.
-    weaker (λ u. u ≡ Sections.table actors channels times sizes) (λ t. (IsTrue need_times → IsTimed t) → Spelled.IsTable need_times tree t) (Sections.all_timed need_times (Sections.table actors channels times sizes)) (all_timed need_times (Sections.table actors channels times sizes)) (λ t is_table given.
-    record {
+    then (λ read. (read ≡ actors) × Each (Spelled.IsEven times) actors) _ (Sections.even_phases times actors) _ (even_phases times actors) (λ read even.
+    weaker (λ u. u ≡ Sections.table kind actors channels times sizes) (λ t. (IsTrue need_times → IsTimed t) → Spelled.IsTable need_times tree t) (Sections.all_timed need_times (Sections.table kind actors channels times sizes)) (all_timed need_times (Sections.table kind actors channels times sizes)) (λ t is_table given.
+    let k = table-kind kind actors channels times sizes in
+    let table : Spelled.IsTable need_times tree (Sections.table kind actors channels times sizes) = record {
       graph = graph;
       section = section;
       properties = properties;
@@ -388,14 +397,16 @@ table_of need_times tree =
       times = times;
       sizes = sizes;
       root = is_root.1;
-      kind = subst (λ r. Has field.TypeWord r (word_of field.Sdf)) is_root.0 (has ∙ ap Some is_kind);
+      kind = rw k (subst (λ r. Has field.TypeWord r (word_of (Sections.section_of kind))) is_root.0 (has ∙ ap Some is_kind));
       one_graph = subst (λ r. TreeSteps.children (word_of field.ApplicationGraph) r ≡ graph ∷ []) is_root.0 one_graph;
-      one_section = one_section;
-      no_second = no_second;
-      are_actors = are_actors;
+      one_section = rw k one_section;
+      no_second = rw k no_second;
+      are_actors = rw k are_actors;
       are_channels = are_channels;
-      are_times = are_times;
+      are_times = rw k are_times;
       are_sizes = are_sizes;
-      is_table = is_table;
-      timed = given;
-    })))))))))))
+      even = even.1;
+      is_table = ap (λ (x : Kind). Sections.table x actors channels times sizes) (sym k);
+      timed = λ needed. subst IsTimed is_table (given needed);
+    } in
+    subst (Spelled.IsTable need_times tree) (sym is_table) table))))))))))))

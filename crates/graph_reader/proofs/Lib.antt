@@ -5,6 +5,9 @@ pub mod Again
 pub mod Registered
 pub mod ElementPlaces
 pub mod NumberDigits
+pub mod NumberLists
+pub mod ItemLists
+pub mod PhaseLists
 pub mod FilesDecide
 pub mod ReaderSteps
 pub mod BrokenRules

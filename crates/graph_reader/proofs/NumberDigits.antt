@@ -50,7 +50,7 @@ capped-all c ds i n past few h =
     here ∙ same
 
 -- a number that was held at a greatest one above the limit is within the limit if the number itself is
-within-capped : (quantity : Quantity) (limit c n m : ℕ) → limit < c → m ≡ min n c → within quantity limit m ≡ within quantity limit n
+pub within-capped : (quantity : Quantity) (limit c n m : ℕ) → limit < c → m ≡ min n c → within quantity limit m ≡ within quantity limit n
 unfolding within
 within-capped quantity limit c n m lt is =
     let choose : Bool → ℕ → Result ℕ ReadError = λ b k. cond b (Err (Limit quantity)) (Ok k) in

@@ -7,3 +7,4 @@ pub mod Register
 pub mod FirstFaults
 pub mod NumberTexts
 pub mod TreeSteps
+pub mod inside

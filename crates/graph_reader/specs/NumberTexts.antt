@@ -1,9 +1,15 @@
--- Numbers of a graph file: white, digits, white; and their limits.
-use Rattle.std.specs.Prelude.{ℕ, ◌+◌, ◌-◌, ◌*◌, Bool, ◌&&◌, ◌==◌, nat_lt, if◌then◌else◌, List, [], ◌∷◌, length, Option, Some, None, Result, Ok, Err}
-use Rattle.std.specs.List.{fold, take_while}
+-- Numbers of a graph file: white, digits, white; lists of them; and their limits.
+use Rattle.std.specs.Prelude.{ℕ, ◌+◌, ◌-◌, ◌*◌, Bool, ◌&&◌, ◌==◌, nat_lt, if◌then◌else◌, List, [], ◌∷◌, ◌++◌, length, replicate, Option, Some, None, Result, Ok, Err}
+use Rattle.std.specs.List.{fold, take_while, list_any, list_all, slice_split, position_or_len, before_first, after_first}
+use Rattle.std.specs.Option.{option_map}
 use Rattle.std.specs.Char.{is_ascii_digit}
 use Rattle.sd_base.specs.declared.limits.Quantity.{Quantity}
+use Rattle.sd_base.specs.declared.limits.Quantity.TheVariants as quantity
+use Rattle.sd_base.specs.declared.limits.TheConstants.{PHASES}
+use Rattle.sd_base.specs.declared.tables.Kind.{Kind}
+use Rattle.sd_base.specs.declared.tables.Kind.TheVariants.{Sdf, Csdf}
 use Rattle.file_text.specs.Grammar.{is_white}
+use Rattle.graph_reader.specs.declared.numbers.Item.{Item}
 use Rattle.graph_reader.specs.declared.field.Field.{Field}
 use Rattle.graph_reader.specs.declared.error.ReadError.{ReadError}
 use Rattle.graph_reader.specs.declared.error.ReadError.TheVariants.{BadNumber, Limit}
@@ -54,3 +60,80 @@ unfoldable pub positive : Field → List ℕ → Quantity → ℕ → List ℕ �
 positive what of quantity limit text = do
   n ← number what of quantity limit text
   if n == 0 then Err (BadNumber what of) else Ok n
+
+-- ---- lists
+
+-- so many times a number, where that isn't none
+abbrev pub run : Option ℕ → Option ℕ → Option Item
+run None value = None
+run (Some count) None = None
+run (Some count) (Some value) = if count == 0 then None else Some (record { count = count; value = value })
+
+-- the item of a text: a number, or so many times one, with a star between
+unfoldable pub item_in : List ℕ → Option Item
+item_in text =
+    if nat_lt (position_or_len (λ b. b == 42) text) (length text)
+    then run (number_in (before_first (λ b. b == 42) text)) (number_in (after_first (λ b. b == 42) text))
+    else run (Some 1) (number_in text)
+
+-- an item before some others
+abbrev pub with_item : Option Item → Option (List Item) → Option (List Item)
+with_item None items = None
+with_item (Some i) items = option_map (λ is. i ∷ is) items
+
+-- the items of these texts, if each has one
+abbrev pub items_of : List (List ℕ) → Option (List Item)
+items_of [] = Some []
+items_of (text ∷ texts) = with_item (item_in text) (items_of texts)
+
+-- the items of a list, with commas between
+unfoldable pub items_in : List ℕ → Option (List Item)
+items_in text = items_of (slice_split (λ b. b == 44) text)
+
+-- items that have to be well formed
+abbrev pub formed_items : Field → List ℕ → Option (List Item) → Result (List Item) ReadError
+formed_items what of None = Err (BadNumber what of)
+formed_items what of (Some items) = Ok items
+
+-- no number is above the limit
+abbrev pub all_within : Quantity → ℕ → List Item → Result (List Item) ReadError
+all_within quantity limit items = if list_any (λ i. nat_lt limit i.value) items then Err (Limit quantity) else Ok items
+
+-- none is below the least one
+abbrev pub none_below : ℕ → Field → List ℕ → List Item → Result (List Item) ReadError
+none_below least what of items = if list_any (λ i. nat_lt i.value least) items then Err (BadNumber what of) else Ok items
+
+-- how many numbers the items stand for
+abbrev pub count_in : List Item → ℕ
+count_in [] = 0
+count_in (i ∷ is) = i.count + count_in is
+
+-- the numbers of the items
+abbrev pub numbers_of : List Item → List ℕ
+numbers_of [] = []
+numbers_of (i ∷ is) = replicate i.count i.value ++ numbers_of is
+
+-- not all of the numbers are 0
+abbrev pub some_number : Field → List ℕ → List ℕ → Result (List ℕ) ReadError
+some_number what of numbers = if list_all (λ n. n == 0) numbers then Err (BadNumber what of) else Ok numbers
+
+-- the numbers of items, within their limits
+unfoldable pub tested_items : ℕ → Field → List ℕ → Quantity → ℕ → List Item → Result (List ℕ) ReadError
+tested_items least what of q limit items = do
+  within_limit ← all_within q limit items
+  from_least ← none_below least what of items
+  count ← within quantity.Phases PHASES (count_in items)
+  some_number what of (numbers_of items)
+
+-- a list of numbers from a least one up to a limit, at most one for each phase that an actor may have, and not all 0
+unfoldable pub number_list : ℕ → Field → List ℕ → Quantity → ℕ → List ℕ → Result (List ℕ) ReadError
+number_list least what of quantity limit text = do
+  items ← formed_items what of (items_in text)
+  tested_items least what of quantity limit items
+
+-- numbers by phase: one that isn't 0 in a synchronous graph, a list in a cyclo-static one
+unfoldable pub numbers : Kind → ℕ → Field → List ℕ → Quantity → ℕ → List ℕ → Result (List ℕ) ReadError
+numbers Sdf least what of quantity limit text = do
+  n ← positive what of quantity limit text
+  Ok (n ∷ [])
+numbers Csdf least what of quantity limit text = number_list least what of quantity limit text

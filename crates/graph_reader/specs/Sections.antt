@@ -1,11 +1,12 @@
--- The rules of a graph file for synchronous dataflow, in the order in which they are tested.
-use Rattle.std.specs.Prelude.{ℕ, ◌+◌, Bool, true, false, ◌&&◌, not, ◌==◌, nat_lt, if◌then◌else◌, List, [], ◌∷◌, length, map, Option, Some, None, Result, Ok, Err, sum_by, codes}
-use Rattle.std.specs.List.{list_any, find}
-use Rattle.std.specs.Option.{option_or, option_and_then, option_map_or, option_to_list}
+-- The rules of a graph file for synchronous or cyclo-static dataflow, in the order in which they are tested.
+use Rattle.std.specs.Prelude.{ℕ, ◌+◌, Bool, true, false, ◌&&◌, ◌||◌, not, ◌==◌, nat_lt, nat_le, if◌then◌else◌, List, [], ◌∷◌, length, map, max, replicate, slice_index, Option, Some, None, Result, Ok, Err, sum_by, codes}
+use Rattle.std.specs.List.{list_any, list_all, find}
+use Rattle.std.specs.Option.{option_or, option_and_then, option_map_or}
 use Rattle.std.specs.Str.{bytes_eq}
 use Rattle.sd_base.specs.declared.limits.Quantity.TheVariants as quantity
 use Rattle.sd_base.specs.declared.limits.TheConstants.{ACTORS, CHANNELS, NAME_BYTES, PORTS, RATE, SIZE, TIME, TOKENS}
-use Rattle.sd_base.specs.declared.tables.Kind.TheVariants.{Sdf}
+use Rattle.sd_base.specs.declared.tables.Kind.{Kind}
+use Rattle.sd_base.specs.declared.tables.Kind.TheVariants.{Sdf, Csdf}
 use Rattle.sd_base.specs.declared.tables.GraphFile.{GraphFile}
 use Rattle.sd_base.specs.declared.tables.ActorRow.{ActorRow}
 use Rattle.sd_base.specs.declared.tables.ChannelRow.{ChannelRow}
@@ -13,7 +14,7 @@ use Rattle.file_text.specs.Node.{Node, name_of}
 use Rattle.graph_reader.specs.declared.field.Field.{Field}
 use Rattle.graph_reader.specs.declared.field.Field.TheVariants as field
 use Rattle.graph_reader.specs.declared.error.ReadError.{ReadError}
-use Rattle.graph_reader.specs.declared.error.ReadError.TheVariants.{WrongKind, Missing, Unknown, Twice, BadWord, Limit}
+use Rattle.graph_reader.specs.declared.error.ReadError.TheVariants.{WrongKind, Missing, Unknown, Twice, BadWord, PhaseCount, Limit}
 use Rattle.graph_reader.specs.declared.actors.Direction.{Direction}
 use Rattle.graph_reader.specs.declared.actors.Direction.TheVariants.{In, Out}
 use Rattle.graph_reader.specs.declared.actors.Port.{Port}
@@ -24,7 +25,7 @@ use Rattle.graph_reader.specs.declared.properties.TimeEntry.{TimeEntry}
 use Rattle.graph_reader.specs.declared.properties.SizeEntry.{SizeEntry}
 use Rattle.graph_reader.specs.Field.{word_of}
 use Rattle.graph_reader.specs.TreeSteps.{◌>>=◌, file, children, first_child, attribute, required, at_most_one, one, each}
-use Rattle.graph_reader.specs.NumberTexts.{within, number, positive}
+use Rattle.graph_reader.specs.NumberTexts.{within, number, numbers}
 
 -- ---- names
 
@@ -69,26 +70,26 @@ direction_in of word =
     else Err (BadWord field.TypeWord of)
 
 -- a port of an actor, after the actor's earlier ones and with that many ports of other actors before it
-unfoldable pub port_of : List ℕ → ℕ → List Port → Node → Result Port ReadError
-port_of actor before done e = do
+unfoldable pub port_of : Kind → List ℕ → ℕ → List Port → Node → Result Port ReadError
+port_of kind actor before done e = do
   name ← new_name actor (map (λ (p : Port). p.name) done) e
   count ← within quantity.Ports PORTS (before + length done + 1)
   word ← required field.TypeWord actor e
   direction ← direction_in actor word
   text ← required field.Rate actor e
-  rate ← positive field.Rate actor quantity.Rate RATE text
-  Ok (record { name = name; direction = direction; rate = rate })
+  rates ← numbers kind 0 field.Rate actor quantity.Rate RATE text
+  Ok (record { name = name; direction = direction; rates = rates })
 
 -- the ports of some actors
 abbrev pub port_count : List Actor → ℕ
 port_count actors = sum_by (λ (a : Actor). length a.ports) actors
 
 -- an actor, after the earlier ones
-unfoldable pub actor_of : List Actor → Node → Result Actor ReadError
-actor_of done e = do
+unfoldable pub actor_of : Kind → List Actor → Node → Result Actor ReadError
+actor_of kind done e = do
   name ← new_name file (map (λ (a : Actor). a.name) done) e
   count ← within quantity.Actors ACTORS (length done + 1)
-  ports ← each (port_of name (port_count done)) [] (children (codes "port") e)
+  ports ← each (port_of kind name (port_count done)) [] (children (codes "port") e)
   Ok (record { name = name; ports = ports })
 
 -- there is an actor
@@ -97,9 +98,9 @@ some_actor [] = Err (Missing field.Actor file)
 some_actor (a ∷ rest) = Ok (a ∷ rest)
 
 -- the actors of a section; there is one at least
-unfoldable pub actors_of : Node → Result (List Actor) ReadError
-actors_of section = do
-  actors ← each actor_of [] (children (word_of field.Actor) section)
+unfoldable pub actors_of : Kind → Node → Result (List Actor) ReadError
+actors_of kind section = do
+  actors ← each (actor_of kind) [] (children (word_of field.Actor) section)
   some_actor actors
 
 -- ---- channels
@@ -132,7 +133,7 @@ end_of actors direction actor_word port_word of e = do
   actor ← known actor_word actor_name (numbered 0 actor_name actors)
   port_name ← required port_word of e
   port ← known port_word port_name (find (is_port direction port_name) actor.1.ports)
-  Ok (record { actor = actor.0; port = port_name; rate = port.rate })
+  Ok (record { actor = actor.0; port = port_name; rates = port.rates })
 
 -- whether two ends are at one port
 abbrev pub is_same_port : End → End → Bool
@@ -187,29 +188,28 @@ counting_processor e = first_by is_default (children (codes "processor") e)
 unfoldable pub execution_of : Node → Option Node
 execution_of e = option_and_then (first_child (word_of field.ExecutionTime)) (counting_processor e)
 
--- the time of an execution
-abbrev pub time_by : List ℕ → Option Node → Result (Option ℕ) ReadError
-time_by of None = Ok None
-time_by of (Some execution) = do
+-- the times of an execution, by phase
+abbrev pub times_by : Kind → List ℕ → Option Node → Result (List ℕ) ReadError
+times_by kind of None = Ok []
+times_by kind of (Some execution) = do
   text ← required field.Time of execution
-  time ← positive field.Time of quantity.Time TIME text
-  Ok (Some time)
+  numbers kind 1 field.Time of quantity.Time TIME text
 
--- the time that an actor's properties give, if any
-unfoldable pub time_of : List ℕ → Node → Result (Option ℕ) ReadError
-time_of of e = time_by of (execution_of e)
+-- the times that an actor's properties give; none, where they give no execution
+unfoldable pub times_in : Kind → List ℕ → Node → Result (List ℕ) ReadError
+times_in kind of e = times_by kind of (execution_of e)
 
--- the time that is given for an actor, after the earlier ones
-unfoldable pub time_entry : List Actor → List TimeEntry → Node → Result TimeEntry ReadError
-time_entry actors done e = do
+-- the times that are given for an actor, after the earlier ones
+unfoldable pub time_entry : Kind → List Actor → List TimeEntry → Node → Result TimeEntry ReadError
+time_entry kind actors done e = do
   name ← mention field.Actor (map (λ (a : Actor). a.name) actors) (map (λ (t : TimeEntry). t.actor) done) e
-  time ← time_of name e
-  Ok (record { actor = name; time = time })
+  times ← times_in kind name e
+  Ok (record { actor = name; times = times })
 
 -- the times that the properties give
-unfoldable pub times_of : List Actor → Option Node → Result (List TimeEntry) ReadError
-times_of actors None = Ok []
-times_of actors (Some properties) = each (time_entry actors) [] (children (codes "actorProperties") properties)
+unfoldable pub times_of : Kind → List Actor → Option Node → Result (List TimeEntry) ReadError
+times_of kind actors None = Ok []
+times_of kind actors (Some properties) = each (time_entry kind actors) [] (children (codes "actorProperties") properties)
 
 -- a size of 0 is one of 1
 abbrev pub some_size : ℕ → ℕ
@@ -244,25 +244,73 @@ sizes_of channels (Some properties) = each (size_entry channels) [] (children (c
 
 -- ---- the table
 
--- the time that is given for an actor
-abbrev pub time_at : List TimeEntry → List ℕ → Option ℕ
-time_at times name = option_and_then (λ (t : TimeEntry). t.time) (find (λ (t : TimeEntry). bytes_eq t.actor name) times)
+-- the times that are given for an actor
+abbrev pub times_at : List TimeEntry → List ℕ → List ℕ
+times_at times name = option_map_or (λ (t : TimeEntry). t.times) (find (λ (t : TimeEntry). bytes_eq t.actor name) times) []
 
 -- the size that is given for a channel, else 1
 abbrev pub size_at : List SizeEntry → List ℕ → ℕ
 size_at sizes name = option_map_or (λ (s : SizeEntry). s.size) (find (λ (s : SizeEntry). bytes_eq s.channel name) sizes) 1
 
--- the row of an actor, which has one phase
-abbrev pub actor_row : List TimeEntry → Actor → ActorRow
-actor_row times a = record { name = a.name; phases = 1; times = option_to_list (time_at times a.name) }
+-- the greatest length of some lists, and 1 at the least
+abbrev pub longest : List (List ℕ) → ℕ
+longest [] = 1
+longest (xs ∷ lists) = max (length xs) (longest lists)
 
--- the row of a channel
-abbrev pub channel_row : List SizeEntry → Channel → ChannelRow
-channel_row sizes c = record { name = c.name; source = c.source.actor; target = c.target.actor; made = c.source.rate ∷ []; taken = c.target.rate ∷ []; tokens = c.tokens; size = size_at sizes c.name }
+-- the lists that an actor has by phase: its times, and the rates of its ports
+abbrev pub lists_of : List TimeEntry → Actor → List (List ℕ)
+lists_of times a = times_at times a.name ∷ map (λ (p : Port). p.rates) a.ports
+
+-- the phases of an actor
+abbrev pub phases_in : List TimeEntry → Actor → ℕ
+phases_in times a = longest (lists_of times a)
+
+-- a list is one of so many phases: it has a number for each, or one for all, or none
+abbrev pub fits_phases : ℕ → List ℕ → Bool
+fits_phases phases xs = (length xs == phases) || nat_le (length xs) 1
+
+-- the lists of an actor are all of its phases
+abbrev pub is_even : List TimeEntry → Actor → Bool
+is_even times a = list_all (fits_phases (phases_in times a)) (lists_of times a)
+
+-- actors among which none is found whose lists differ
+abbrev pub even : List Actor → Option Actor → Result (List Actor) ReadError
+even actors None = Ok actors
+even actors (Some a) = Err (PhaseCount a.name)
+
+-- the lists of each actor are of its phases
+unfoldable pub even_phases : List TimeEntry → List Actor → Result (List Actor) ReadError
+even_phases times actors = even actors (find (λ (a : Actor). not (is_even times a)) actors)
+
+-- a number for each phase, of a list that has one for all
+abbrev pub widened : ℕ → List ℕ → List ℕ
+widened phases [] = []
+widened phases (x ∷ []) = replicate phases x
+widened phases (x ∷ (y ∷ xs)) = x ∷ (y ∷ xs)
+
+-- the row of an actor
+abbrev pub actor_row : List TimeEntry → Actor → ActorRow
+actor_row times a = record { name = a.name; phases = phases_in times a; times = widened (phases_in times a) (times_at times a.name) }
+
+-- the row of a channel between actors of these phases
+abbrev pub channel_row : List ℕ → List SizeEntry → Channel → ChannelRow
+channel_row phases sizes c = record {
+  name = c.name;
+  source = c.source.actor;
+  target = c.target.actor;
+  made = widened (slice_index phases c.source.actor) c.source.rates;
+  taken = widened (slice_index phases c.target.actor) c.target.rates;
+  tokens = c.tokens;
+  size = size_at sizes c.name;
+}
 
 -- the table of these actors and channels
-unfoldable pub table : List Actor → List Channel → List TimeEntry → List SizeEntry → GraphFile
-table actors channels times sizes = record { kind = Sdf; actors = map (actor_row times) actors; channels = map (channel_row sizes) channels }
+unfoldable pub table : Kind → List Actor → List Channel → List TimeEntry → List SizeEntry → GraphFile
+table kind actors channels times sizes = record {
+  kind = kind;
+  actors = map (actor_row times) actors;
+  channels = map (channel_row (map (phases_in times) actors) sizes) channels;
+}
 
 -- a table in which no actor without a time is found
 abbrev pub timed : GraphFile → Option ActorRow → Result GraphFile ReadError
@@ -274,29 +322,43 @@ unfoldable pub all_timed : Bool → GraphFile → Result GraphFile ReadError
 all_timed need_times t = if need_times then timed t (find (λ (a : ActorRow). length a.times == 0) t.actors) else Ok t
 
 -- the table of these actors and channels with what the properties give
-abbrev pub with_properties : Bool → List Actor → List Channel → Option Node → Result GraphFile ReadError
-with_properties need_times actors channels properties = do
-  times ← times_of actors properties
+abbrev pub with_properties : Kind → Bool → List Actor → List Channel → Option Node → Result GraphFile ReadError
+with_properties kind need_times actors channels properties = do
+  times ← times_of kind actors properties
   sizes ← sizes_of channels properties
-  all_timed need_times (table actors channels times sizes)
+  fit ← even_phases times actors
+  all_timed need_times (table kind actors channels times sizes)
 
 -- the root is named as it has to be
 unfoldable pub root_of : Node → Result Node ReadError
 root_of e = if bytes_eq (name_of e) (word_of field.Sdf3) then Ok e else Err (Missing field.Sdf3 file)
 
--- the kind is synchronous dataflow
-unfoldable pub sdf_kind : List ℕ → Result (List ℕ) ReadError
-sdf_kind word = if bytes_eq word (word_of field.Sdf) then Ok word else Err WrongKind
+-- the element of a kind's actors and channels, whose name is the kind's word
+abbrev pub section_of : Kind → Field
+section_of Sdf = field.Sdf
+section_of Csdf = field.Csdf
+
+-- the element of a kind's properties
+abbrev pub properties_of : Kind → Field
+properties_of Sdf = field.SdfProperties
+properties_of Csdf = field.CsdfProperties
+
+-- the kind that a word names
+unfoldable pub kind_in : List ℕ → Result Kind ReadError
+kind_in word =
+    if bytes_eq word (word_of field.Sdf) then Ok Sdf
+    else if bytes_eq word (word_of field.Csdf) then Ok Csdf
+    else Err WrongKind
 
 -- the table of a tree, or the first rule that the tree breaks
 unfoldable pub table_of : Bool → Node → Result GraphFile ReadError
 table_of need_times tree = do
   root ← root_of tree
   word ← required field.TypeWord file root
-  kind ← sdf_kind word
+  kind ← kind_in word
   graph ← one field.ApplicationGraph root
-  section ← one field.Sdf graph
-  actors ← actors_of section
+  section ← one (section_of kind) graph
+  actors ← actors_of kind section
   channels ← channels_of actors section
-  properties ← at_most_one field.SdfProperties graph
-  with_properties need_times actors channels properties
+  properties ← at_most_one (properties_of kind) graph
+  with_properties kind need_times actors channels properties

@@ -1,14 +1,17 @@
 -- The table that a tree spells, said of both at once, without an order of tests.
-use Rattle.std.specs.Prelude.{◌≡◌, ◌≢◌, ℕ, ◌≤◌, Bool, false, IsTrue, List, [], ◌∷◌, length, Option, Some, None, codes}
+use Rattle.std.specs.Prelude.{◌≡◌, ◌≢◌, ℕ, ◌≤◌, ◌⊎◌, Bool, false, IsTrue, List, [], ◌∷◌, length, sum, All, Option, Some, None, codes}
 use Rattle.std.specs.List.{find}
 use Rattle.std.specs.Option.{option_to_list}
 use Rattle.sd_base.specs.declared.tables.GraphFile.{GraphFile}
 use Rattle.sd_base.specs.Tables.{IsTimed}
-use Rattle.sd_base.specs.declared.limits.TheConstants.{ACTORS, CHANNELS, NAME_BYTES, PORTS, RATE, SIZE, TIME, TOKENS}
+use Rattle.sd_base.specs.declared.limits.TheConstants.{ACTORS, CHANNELS, NAME_BYTES, PHASES, PORTS, RATE, SIZE, TIME, TOKENS}
+use Rattle.sd_base.specs.declared.tables.Kind.{Kind}
+use Rattle.sd_base.specs.declared.tables.Kind.TheVariants.{Sdf, Csdf}
 use Rattle.file_text.specs.Node.{Node, name_of}
 use Rattle.file_text.specs.Grammar.{Each}
 use Rattle.graph_reader.specs.declared.field.Field.{Field}
 use Rattle.graph_reader.specs.declared.field.Field.TheVariants as field
+use Rattle.graph_reader.specs.declared.numbers.Item.{Item}
 use Rattle.graph_reader.specs.declared.actors.Direction.{Direction}
 use Rattle.graph_reader.specs.declared.actors.Direction.TheVariants.{In, Out}
 use Rattle.graph_reader.specs.declared.actors.Port.{Port}
@@ -19,8 +22,8 @@ use Rattle.graph_reader.specs.declared.properties.TimeEntry.{TimeEntry}
 use Rattle.graph_reader.specs.declared.properties.SizeEntry.{SizeEntry}
 use Rattle.graph_reader.specs.Field.{word_of}
 use Rattle.graph_reader.specs.TreeSteps.{children, attribute}
-use Rattle.graph_reader.specs.NumberTexts.{number_in}
-use Rattle.graph_reader.specs.Sections.{port_count, numbered, is_port, is_same_port, execution_of, size_text, some_size, table}
+use Rattle.graph_reader.specs.NumberTexts.{number_in, items_in, numbers_of}
+use Rattle.graph_reader.specs.Sections.{port_count, numbered, is_port, is_same_port, execution_of, size_text, some_size, lists_of, phases_in, section_of, properties_of, table}
 
 -- the relation holds of elements and what is read of them, place by place
 abbrev pub Pairwise : {X : Type 0} → (Node → X → Type 0) → List Node → List X → Type 0
@@ -42,9 +45,20 @@ Has what e value = attribute (word_of what) e ≡ Some value
 abbrev pub IsNumber : ℕ → List ℕ → ℕ → Type 0
 IsNumber limit text n = (number_in text ≡ Some n) × (n ≤ limit)
 
--- an attribute is a number that isn't 0, up to a limit
-abbrev pub HasPositive : Field → ℕ → Node → ℕ → Type 0
-HasPositive what limit e n = (text : List ℕ) × Has what e text × IsNumber limit text n × (1 ≤ n)
+-- the text is one number or, of a cyclo-static graph, a list of numbers
+abbrev pub Spells : Kind → List ℕ → List ℕ → Type 0
+Spells Sdf text numbers = (n : ℕ) × (number_in text ≡ Some n) × (numbers ≡ n ∷ [])
+Spells Csdf text numbers = (items : List Item) × (items_in text ≡ Some items) × (numbers ≡ numbers_of items)
+
+-- numbers by phase: each from a least one up to a limit, at most one for each phase that an actor may have, and not all 0
+pub record ArePhased (least limit : ℕ) (numbers : List ℕ) : Type 0 where
+  pub within : All (λ n. (least ≤ n) × (n ≤ limit)) numbers
+  pub few : length numbers ≤ PHASES
+  pub moves : 1 ≤ sum numbers
+
+-- an attribute spells numbers by phase
+abbrev pub HasNumbers : Kind → Field → ℕ → ℕ → Node → List ℕ → Type 0
+HasNumbers kind what least limit e numbers = (text : List ℕ) × Has what e text × Spells kind text numbers × ArePhased least limit numbers
 
 -- the element's name, which isn't empty or too long
 pub record HasName (e : Node) (name : List ℕ) : Type 0 where
@@ -58,26 +72,26 @@ direction_word In = codes "in"
 direction_word Out = codes "out"
 
 -- an element spells a port
-pub record IsPort (e : Node) (p : Port) : Type 0 where
+pub record IsPort (kind : Kind) (e : Node) (p : Port) : Type 0 where
   pub name : HasName e p.name
   pub direction : Has field.TypeWord e (direction_word p.direction)
-  pub rate : HasPositive field.Rate RATE e p.rate
+  pub rates : HasNumbers kind field.Rate 0 RATE e p.rates
 
 -- an actor's ports have names of their own
-pub record IsActor (e : Node) (a : Actor) : Type 0 where
+pub record IsActor (kind : Kind) (e : Node) (a : Actor) : Type 0 where
   pub name : HasName e a.name
-  pub ports : Pairwise IsPort (children (codes "port") e) a.ports
+  pub ports : Pairwise (IsPort kind) (children (codes "port") e) a.ports
   pub apart : EachTwo (λ (p q : Port). p.name ≢ q.name) a.ports
 
 -- actors have names of their own; there is one at least, and neither they nor their ports are too many
-pub record AreActors (section : Node) (actors : List Actor) : Type 0 where
-  pub rows : Pairwise IsActor (children (word_of field.Actor) section) actors
+pub record AreActors (kind : Kind) (section : Node) (actors : List Actor) : Type 0 where
+  pub rows : Pairwise (IsActor kind) (children (word_of field.Actor) section) actors
   pub apart : EachTwo (λ (a b : Actor). a.name ≢ b.name) actors
   pub some : 1 ≤ length actors
   pub few : length actors ≤ ACTORS
   pub few_ports : port_count actors ≤ PORTS
 
--- an end of a channel: the number of the actor that is named, and the rate of the port of it that is named
+-- an end of a channel: the number of the actor that is named, and the rates of the port of it that is named
 pub record IsEnd (actors : List Actor) (direction : Direction) (actor_word port_word : Field) (e : Node) (x : End) : Type 0 where
   pub actor_name : List ℕ
   pub actor : Actor
@@ -86,7 +100,7 @@ pub record IsEnd (actors : List Actor) (direction : Direction) (actor_word port_
   pub is_actor : numbered 0 actor_name actors ≡ Some (x.actor, actor)
   pub has_port : Has port_word e x.port
   pub is_port : find (is_port direction x.port) actor.ports ≡ Some port
-  pub rate : port.rate ≡ x.rate
+  pub rates : port.rates ≡ x.rates
 
 -- initial tokens: as many as are given, or none
 abbrev pub AreTokens : Option (List ℕ) → ℕ → Type 0
@@ -112,22 +126,22 @@ pub record AreChannels (actors : List Actor) (section : Node) (channels : List C
   pub apart : EachTwo AreApart channels
   pub few : length channels ≤ CHANNELS
 
--- the time of an execution, if there is one
-abbrev pub IsTime : Option Node → Option ℕ → Type 0
-IsTime None time = time ≡ None
-IsTime (Some execution) time = (n : ℕ) × (time ≡ Some n) × HasPositive field.Time TIME execution n
+-- the times of an execution, if there is one
+abbrev pub AreGiven : Kind → Option Node → List ℕ → Type 0
+AreGiven kind None times = times ≡ []
+AreGiven kind (Some execution) times = HasNumbers kind field.Time 1 TIME execution times
 
 -- what properties say of an actor
-pub record IsTimeEntry (actors : List Actor) (e : Node) (t : TimeEntry) : Type 0 where
+pub record IsTimeEntry (kind : Kind) (actors : List Actor) (e : Node) (t : TimeEntry) : Type 0 where
   pub actor : Has field.Actor e t.actor
   pub known : Each (λ (a : Actor). a.name ≢ t.actor) actors → ⊥
-  pub time : IsTime (execution_of e) t.time
+  pub times : AreGiven kind (execution_of e) t.times
 
 -- each entry is of another actor
-abbrev pub AreTimes : List Actor → Option Node → List TimeEntry → Type 0
-AreTimes actors None times = times ≡ []
-AreTimes actors (Some properties) times =
-    Pairwise (IsTimeEntry actors) (children (codes "actorProperties") properties) times
+abbrev pub AreTimes : Kind → List Actor → Option Node → List TimeEntry → Type 0
+AreTimes kind actors None times = times ≡ []
+AreTimes kind actors (Some properties) times =
+    Pairwise (IsTimeEntry kind actors) (children (codes "actorProperties") properties) times
     × EachTwo (λ (s t : TimeEntry). s.actor ≢ t.actor) times
 
 -- the size of a token: 1 where none is given
@@ -148,6 +162,10 @@ AreSizes channels (Some properties) sizes =
     Pairwise (IsSizeEntry channels) (children (codes "channelProperties") properties) sizes
     × EachTwo (λ (s t : SizeEntry). s.channel ≢ t.channel) sizes
 
+-- the lists of an actor are of its phases: each as long, or with one number for all, or none
+abbrev pub IsEven : List TimeEntry → Actor → Type 0
+IsEven times a = Each (λ xs. (length xs ≡ phases_in times a) ⊎ (length xs ≤ 1)) (lists_of times a)
+
 -- the tree spells the table
 pub record IsTable (need_times : Bool) (tree : Node) (t : GraphFile) : Type 0 where
   pub graph : Node
@@ -158,13 +176,14 @@ pub record IsTable (need_times : Bool) (tree : Node) (t : GraphFile) : Type 0 wh
   pub times : List TimeEntry
   pub sizes : List SizeEntry
   pub root : name_of tree ≡ word_of field.Sdf3
-  pub kind : Has field.TypeWord tree (word_of field.Sdf)
+  pub kind : Has field.TypeWord tree (word_of (section_of t.kind))
   pub one_graph : children (word_of field.ApplicationGraph) tree ≡ graph ∷ []
-  pub one_section : children (word_of field.Sdf) graph ≡ section ∷ []
-  pub no_second : children (word_of field.SdfProperties) graph ≡ option_to_list properties
-  pub are_actors : AreActors section actors
+  pub one_section : children (word_of (section_of t.kind)) graph ≡ section ∷ []
+  pub no_second : children (word_of (properties_of t.kind)) graph ≡ option_to_list properties
+  pub are_actors : AreActors t.kind section actors
   pub are_channels : AreChannels actors section channels
-  pub are_times : AreTimes actors properties times
+  pub are_times : AreTimes t.kind actors properties times
   pub are_sizes : AreSizes channels properties sizes
-  pub is_table : t ≡ table actors channels times sizes
+  pub even : Each (IsEven times) actors
+  pub is_table : t ≡ table t.kind actors channels times sizes
   pub timed : IsTrue need_times → IsTimed t

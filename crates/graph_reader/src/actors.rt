@@ -8,12 +8,12 @@ ghost use Rattle.graph_reader.specs.Sections.{is_among, direction_in, port_of, p
 use crate::elements::{elements_in, required, split_named};
 use crate::error::{bad_word, copied, missing};
 use crate::names::new_name;
-use crate::numbers::{positive, within};
+use crate::numbers::{numbers, within};
 use crate::register::{Named, Register};
 use crate::{Field, ReadError};
 use file_text::Element;
 use sd_base::limits::{ACTORS, PORTS, RATE};
-use sd_base::{Quantity, Text};
+use sd_base::{Kind, Quantity, Rows, Text};
 use std::alloc::Global;
 
 /// Whether tokens come in or go out at a port.
@@ -27,7 +27,8 @@ pub enum Direction {
 pub struct Port {
     pub name: Text,
     pub direction: Direction,
-    pub rate: u64,
+    /// Tokens of a firing, by phase, as the file has them.
+    pub rates: Rows<u64>,
 }
 
 #[derive(Drop)]
@@ -67,13 +68,14 @@ fn direction_in(alloc: Global, of: &str, word: &str) -> Result<Direction, ReadEr
 #[tactic(auto, unfolding(crate::specs::Sections::port_of))]
 fn read_port(
     alloc: Global,
+    kind: Kind,
     actor: &str,
     before: u64,
     done: &Register<Port>,
     element: &Element,
 ) -> Result<Port, ReadError>
     requires { before + length done.now ≤ PORTS }
-    ensures gives { Gives (λ p. p) result (port_of actor.now before done.now (tree_of element.now)) }
+    ensures gives { Gives (λ p. p) result (port_of kind actor.now before done.now (tree_of element.now)) }
     ensures few { IfOk result (λ _. before + length done.now + 1 ≤ PORTS) }
     ensures new { IfOk result (λ p. is_among p.name (map (λ (p : Port). p.name) done.now) ≡ false) }
 {
@@ -82,31 +84,41 @@ fn read_port(
     let word = required(alloc, element, Field::TypeWord, actor)?;
     let direction = direction_in(alloc, actor, word)?;
     let text = required(alloc, element, Field::Rate, actor)?;
-    let rate = positive(alloc, text, Field::Rate, actor, Quantity::Rate, RATE)?;
+    let rates = numbers(
+        alloc,
+        kind,
+        text,
+        0,
+        Field::Rate,
+        actor,
+        Quantity::Rate,
+        RATE,
+    )?;
     let name = copied(alloc, name)?;
     Ok(Port {
         name,
         direction,
-        rate,
+        rates,
     })
 }
 
 #[tactic(auto, unfolding(crate::specs::TreeSteps::children))]
 fn read_ports(
     alloc: Global,
+    kind: Kind,
     actor: &str,
     before: u64,
     element: &Element,
 ) -> Result<Register<Port>, ReadError>
     requires { before ≤ PORTS }
     ensures gives { let elements = children (codes "port") (tree_of element.now) in
-        Gives (λ ps. ps) result (each (port_of actor.now before) [] elements) }
+        Gives (λ ps. ps) result (each (port_of kind actor.now before) [] elements) }
     ensures few { IfOk result (λ ps. before + length ps ≤ PORTS) }
 {
     let mut ports = Register::new(alloc);
     let mut left = elements_in(element);
     while let Some((child, rest)) = split_named(left, "port") {
-        let port = read_port(alloc, actor, before, &ports, child)?;
+        let port = read_port(alloc, kind, actor, before, &ports, child)?;
         ports = ports.with(alloc, port)?;
         left = rest;
     }
@@ -116,6 +128,7 @@ fn read_ports(
 #[tactic(auto, unfolding(crate::specs::Sections::actor_of))]
 fn read_actor(
     alloc: Global,
+    kind: Kind,
     ports_before: u64,
     done: &Register<Actor>,
     element: &Element,
@@ -123,29 +136,33 @@ fn read_actor(
     requires counted { ports_before ≡ port_count done.now }
     requires few_ports { ports_before ≤ PORTS }
     requires few_actors { length done.now ≤ ACTORS }
-    ensures gives { Gives (λ a. a) result (actor_of done.now (tree_of element.now)) }
+    ensures gives { Gives (λ a. a) result (actor_of kind done.now (tree_of element.now)) }
     ensures few_ports { IfOk result (λ a. ports_before + length a.ports ≤ PORTS) }
     ensures few_actors { IfOk result (λ _. length done.now + 1 ≤ ACTORS) }
     ensures new { IfOk result (λ a. is_among a.name (map (λ (b : Actor). b.name) done.now) ≡ false) }
 {
     let name = new_name(alloc, "file", done, element)?;
     within(Quantity::Actors, ACTORS, done.len() as u64 + 1)?;
-    let ports = read_ports(alloc, name, ports_before, element)?;
+    let ports = read_ports(alloc, kind, name, ports_before, element)?;
     let name = copied(alloc, name)?;
     Ok(Actor { name, ports })
 }
 
 /// The actors of a section, of which there is one at least.
 #[tactic(auto, unfolding(crate::specs::Sections::actors_of, crate::specs::TreeSteps::children))]
-pub fn read_actors(alloc: Global, section: &Element) -> Result<Register<Actor>, ReadError>
-    ensures gives { Gives (λ actors. actors) result (actors_of (tree_of section.now)) }
+pub fn read_actors(
+    alloc: Global,
+    kind: Kind,
+    section: &Element,
+) -> Result<Register<Actor>, ReadError>
+    ensures gives { Gives (λ actors. actors) result (actors_of kind (tree_of section.now)) }
     ensures few { IfOk result (λ actors. length actors ≤ ACTORS) }
 {
     let mut actors = Register::new(alloc);
     let mut ports: u64 = 0;
     let mut left = elements_in(section);
     while let Some((child, rest)) = split_named(left, Field::Actor.word()) {
-        let actor = read_actor(alloc, ports, &actors, child)?;
+        let actor = read_actor(alloc, kind, ports, &actors, child)?;
         ports += actor.ports.len() as u64;
         actors = actors.with(alloc, actor)?;
         left = rest;

@@ -11,20 +11,20 @@ use crate::actors::{Actor, Direction, Port};
 use crate::elements::{attribute, elements_in, required, split_named};
 use crate::error::{copied, twice, unknown};
 use crate::names::new_name;
-use crate::numbers::{number, within};
+use crate::numbers::{list_copy, number, within};
 use crate::register::{Named, Register};
 use crate::{Field, ReadError};
 use file_text::Element;
 use sd_base::limits::{ACTORS, CHANNELS, TOKENS};
-use sd_base::{Quantity, Text};
+use sd_base::{Quantity, Rows, Text};
 use std::alloc::Global;
 
-/// Where a channel begins or ends: a port of the actor of this number, and the port's rate.
+/// Where a channel begins or ends: a port of the actor of this number, and the port's rates.
 #[derive(Drop)]
 pub struct End {
     pub actor: u32,
     pub port: Text,
-    pub rate: u64,
+    pub rates: Rows<u64>,
 }
 
 #[derive(Drop)]
@@ -107,12 +107,12 @@ fn read_end(
     let Some(port) = port_named(&actor.ports, side.direction, port_name) else {
         return Err(unknown(alloc, side.port, port_name));
     };
-    let rate = port.rate;
+    let rates = list_copy(alloc, port.rates.as_slice())?;
     let name = copied(alloc, port_name)?;
     Ok(End {
         actor: number,
         port: name,
-        rate,
+        rates,
     })
 }
 

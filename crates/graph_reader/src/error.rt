@@ -30,6 +30,9 @@ pub enum ReadError {
     BadWord { what: Field, of: Text },
     #[error("a number has a bad form or is 0")]
     BadNumber { what: Field, of: Text },
+    /// A list of the actor, of rates or of times, has neither a number for each phase nor one for all.
+    #[error("the lists of an actor differ in their phases")]
+    PhaseCount { actor: Text },
     /// A number or a count above its limit.
     #[error("a limit is passed")]
     Limit { what: Quantity },
@@ -112,6 +115,15 @@ pub fn bad_number(alloc: Global, what: Field, of: &str) -> ReadError
 {
     match copied(alloc, of) {
         Ok(of) => ReadError::BadNumber { what, of },
+        Err(_) => ReadError::NoMemory,
+    }
+}
+
+pub fn phase_count(alloc: Global, actor: &str) -> ReadError
+    ensures { result ≢ ReadError.NoMemory → result ≡ ReadError.PhaseCount actor.now }
+{
+    match copied(alloc, actor) {
+        Ok(actor) => ReadError::PhaseCount { actor },
         Err(_) => ReadError::NoMemory,
     }
 }

@@ -7,7 +7,6 @@ ghost use Rattle.file_text.specs.Node.{Node};
 ghost use Rattle.file_text.specs.Grammar.{IsText};
 ghost use Rattle.graph_reader.specs.FirstFaults.{IsFirstFault};
 ghost use Rattle.sd_base.specs.declared.tables.GraphFile.{GraphFile};
-ghost use Rattle.sd_base.specs.declared.tables.Kind.TheVariants.{Sdf};
 ghost use Rattle.graph_reader.specs.TreeSteps.{Gives};
 ghost use Rattle.graph_reader.specs.Sections.{table_of};
 ghost use Rattle.graph_reader.specs.Spelled.{IsTable};
@@ -31,9 +30,9 @@ pub use laws::know_files;
 use sd_base::GraphFile;
 use std::alloc::Global;
 
-/// Reads the table of a graph file for synchronous dataflow. With `need_times` each actor must have an
-/// execution time. Cost: the one of reading the text, the length of each name, and a comparison of each
-/// channel's ends with those of the earlier channels, of which there are at most 256.
+/// Reads the table of a graph file for synchronous or cyclo-static dataflow. With `need_times` each actor must
+/// have its execution times. Cost: the one of reading the text, the length of each name, the phases of each port,
+/// and a comparison of each channel's ends with those of the earlier channels, of which there are at most 256.
 pub fn read_graph(alloc: Global, bytes: &[u8], need_times: bool) -> Result<GraphFile, ReadError>
     ensures found { IfOk result (λ t. (e : Node) × IsText e bytes.now × (table_of need_times e ≡ Ok t)) }
     ensures fault { IfErr result (IsFirstFault bytes.now need_times) }
@@ -41,7 +40,6 @@ pub fn read_graph(alloc: Global, bytes: &[u8], need_times: bool) -> Result<Graph
     ensures exact { (e : Node) → IsText e bytes.now → Gives (λ t. t) result (table_of need_times e) }
     ensures keeps { IfOk result KeepsRules }
     ensures timed { IfOk result (λ t. IsTrue need_times → IsTimed t) }
-    ensures kind { IfOk result (λ t. t.kind ≡ Sdf) }
 {
     match read_tree(alloc, bytes) {
         Ok(tree) => table::table_of(alloc, &tree.root, need_times),

@@ -1,17 +1,22 @@
-//! Numbers: white, digits, white.
+//! Numbers: white, digits, white; and lists of them.
 
-ghost use Rattle.std.specs.Prelude.{◌≡◌, ◌<◌, ◌≤◌, ℕ, length, min, take, drop, OnOk, Ok, Err};
-ghost use Rattle.std.specs.List.{fold, take_while};
+ghost use Rattle.std.specs.Prelude.{◌≡◌, ◌<◌, ◌≤◌, ◌+◌, ◌==◌, ◌++◌, ◌∷◌, [], ℕ, List, length, map, min, replicate, nat_lt, take, drop, IfOk, OnOk, Ok, Err};
+ghost use Rattle.std.specs.List.{fold, take_while, list_any, list_all};
 ghost use Rattle.std.specs.Char.{is_ascii_digit};
 ghost use Rattle.std.specs.Option.{option_map};
 ghost use Rattle.file_text.specs.Grammar.{is_white};
 ghost use Rattle.graph_reader.specs.TreeSteps.{Gives};
-ghost use Rattle.graph_reader.specs.NumberTexts.{drop_while, value, number_in, within, number, positive};
+ghost use Rattle.sd_base.specs.declared.limits.TheConstants.{PHASES};
+ghost use Rattle.sd_base.specs.declared.limits.Quantity.TheVariants.{Phases};
+ghost use Rattle.graph_reader.specs.declared.numbers.Item.{Item};
+ghost use Rattle.graph_reader.specs.NumberTexts.{drop_while, value, number_in, within, number, positive, item_in, items_in, count_in, numbers_of, tested_items, number_list, numbers};
+ghost use Rattle.graph_reader.specs.inside.Capped.{capped};
 
 use crate::error::bad_number;
 use crate::{Field, ReadError};
-use sd_base::Quantity;
-use std::alloc::Global;
+use sd_base::limits::PHASES;
+use sd_base::{Kind, Quantity, Rows};
+use std::alloc::{AllocError, Global};
 
 /// A number from here on is far above each limit, so it stays here, however many digits follow.
 const GREATEST: u64 = 1_000_000_000_000_000;
@@ -123,4 +128,194 @@ pub fn positive(
         return Err(bad_number(alloc, what, of));
     }
     Ok(n)
+}
+
+/// So many times a number, in a list.
+#[derive(Clone, Copy, Debug)]
+pub struct Item {
+    pub count: u64,
+    pub value: u64,
+}
+
+/// The item of a text: a number, or so many times one, with a star between.
+#[tactic(auto, unfolding(crate::specs::NumberTexts::item_in))]
+fn item_in(text: &str) -> Option<Item>
+    ensures { result ≡ option_map capped (item_in text.now) }
+{
+    let Some((count, value)) = text.split_once('*') else {
+        let value = number_in(text.as_bytes())?;
+        return Some(Item { count: 1, value });
+    };
+    let count = number_in(count.as_bytes())?;
+    let value = number_in(value.as_bytes())?;
+    if count == 0 {
+        return None;
+    }
+    Some(Item { count, value })
+}
+
+/// The items of a list, with commas between, if each is well formed.
+fn items_in(alloc: Global, text: &str) -> Result<Option<Vec<Item>>, AllocError>
+    ensures { IfOk result (λ o. option_map (λ v. v.items) o ≡ option_map (map capped) (items_in text.now)) }
+{
+    let mut items = Vec::new(alloc);
+    let mut left = text;
+    while let Some((first, rest)) = left.split_once(',') {
+        let Some(item) = item_in(first) else {
+            return Ok(None);
+        };
+        items.push(item)?;
+        left = rest;
+    }
+    let Some(item) = item_in(left) else {
+        return Ok(None);
+    };
+    items.push(item)?;
+    Ok(Some(items))
+}
+
+/// How many numbers items stand for; one more than an actor may have phases stands for more.
+fn count_in(items: &[Item]) -> u64
+    ensures { result ≡ min (count_in items.now) (PHASES + 1) }
+{
+    let mut count: u64 = 0;
+    for item in items {
+        count = (count + item.count.min(PHASES + 1)).min(PHASES + 1);
+    }
+    count
+}
+
+/// The numbers of items. Cost: linear in the numbers.
+fn numbers_of(alloc: Global, items: &[Item]) -> Result<Rows<u64>, AllocError>
+    ensures { IfOk result (λ list. list ≡ numbers_of items.now) }
+{
+    let mut list = Rows::new(alloc);
+    for item in items {
+        push_run(&mut list, *item)?;
+    }
+    Ok(list)
+}
+
+fn push_run(list: &mut Rows<u64>, item: Item) -> Result<(), AllocError>
+    ensures { OnOk result (list.new ≡ list.old ++ replicate item.count item.value) }
+{
+    for _i in 0..item.count {
+        list.push(item.value)?;
+    }
+    Ok(())
+}
+
+fn is_some_above(items: &[Item], limit: u64) -> bool
+    ensures { result ≡ list_any (λ (i : Item). nat_lt limit i.value) items.now }
+{
+    items.iter().any(|item| limit < item.value)
+}
+
+fn is_some_below(items: &[Item], least: u64) -> bool
+    ensures { result ≡ list_any (λ (i : Item). nat_lt i.value least) items.now }
+{
+    items.iter().any(|item| item.value < least)
+}
+
+fn are_all_zero(list: &[u64]) -> bool
+    ensures { result ≡ list_all (λ n. n == 0) list.now }
+{
+    list.iter().all(|n| *n == 0)
+}
+
+/// The count of the items' numbers, if an actor may have as many phases.
+fn few_numbers(items: &[Item]) -> Result<u64, ReadError>
+    ensures { Gives (λ n. n) result (within Phases PHASES (count_in items.now)) }
+{
+    within(Quantity::Phases, PHASES, count_in(items))
+}
+
+/// The numbers of items, within their limits. Numbers are counted before the list is made, so a long list that is
+/// written short wants no memory.
+#[tactic(auto, unfolding(crate::specs::NumberTexts::tested_items))]
+fn tested_items(
+    alloc: Global,
+    items: &[Item],
+    least: u64,
+    what: Field,
+    of: &str,
+    quantity: Quantity,
+    limit: u64,
+) -> Result<Rows<u64>, ReadError>
+    ensures { Gives (λ ns. ns) result (tested_items least what of.now quantity limit items.now) }
+{
+    if is_some_above(items, limit) {
+        return Err(ReadError::Limit { what: quantity });
+    }
+    if is_some_below(items, least) {
+        return Err(bad_number(alloc, what, of));
+    }
+    few_numbers(items)?;
+    let list = numbers_of(alloc, items)?;
+    if are_all_zero(list.as_slice()) {
+        return Err(bad_number(alloc, what, of));
+    }
+    Ok(list)
+}
+
+/// A list of numbers from a least one up to a limit, at most one for each phase that an actor may have, and not all 0.
+#[tactic(auto, unfolding(crate::specs::NumberTexts::number_list))]
+fn number_list(
+    alloc: Global,
+    text: &str,
+    least: u64,
+    what: Field,
+    of: &str,
+    quantity: Quantity,
+    limit: u64,
+) -> Result<Rows<u64>, ReadError>
+    requires limit { limit < GREATEST }
+    requires least { least < GREATEST }
+    ensures { Gives (λ ns. ns) result (number_list least what of.now quantity limit text.now) }
+{
+    match items_in(alloc, text)? {
+        Some(items) => tested_items(alloc, items.as_slice(), least, what, of, quantity, limit),
+        None => Err(bad_number(alloc, what, of)),
+    }
+}
+
+/// A list of one number.
+fn single(alloc: Global, n: u64) -> Result<Rows<u64>, AllocError>
+    ensures { IfOk result (λ list. list ≡ n ∷ []) }
+{
+    let mut list = Rows::new(alloc);
+    list.push(n)?;
+    Ok(list)
+}
+
+/// Numbers by phase: one that isn't 0 in a synchronous graph, a list in a cyclo-static one.
+#[tactic(auto, unfolding(crate::specs::NumberTexts::numbers))]
+pub fn numbers(
+    alloc: Global,
+    kind: Kind,
+    text: &str,
+    least: u64,
+    what: Field,
+    of: &str,
+    quantity: Quantity,
+    limit: u64,
+) -> Result<Rows<u64>, ReadError>
+    requires limit { limit < GREATEST }
+    requires least { least < GREATEST }
+    ensures { Gives (λ ns. ns) result (numbers kind least what of.now quantity limit text.now) }
+{
+    match kind {
+        Kind::Sdf => {
+            let n = positive(alloc, text, what, of, quantity, limit)?;
+            Ok(single(alloc, n)?)
+        }
+        Kind::Csdf => number_list(alloc, text, least, what, of, quantity, limit),
+    }
+}
+
+/// A list of its own with these numbers.
+pub fn list_copy(alloc: Global, list: &[u64]) -> Result<Rows<u64>, AllocError>
+    ensures { IfOk result (λ copy. copy ≡ list.now) }
+{
+    Ok(Rows::from_vec(Vec::from_slice(alloc, list)?))
 }

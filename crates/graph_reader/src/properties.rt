@@ -5,26 +5,26 @@ ghost use Rattle.std.specs.List.{find};
 ghost use Rattle.std.specs.Option.{option_map};
 ghost use Rattle.file_text.specs.Node.{tree_of};
 ghost use Rattle.graph_reader.specs.TreeSteps.{Gives, each, children, named};
-ghost use Rattle.graph_reader.specs.Sections.{is_among, is_default, counting_processor, execution_of, time_of, time_entry, times_of, size_text, size_of, size_entry, sizes_of};
+ghost use Rattle.graph_reader.specs.Sections.{is_among, is_default, counting_processor, execution_of, times_in, time_entry, times_of, size_text, size_of, size_entry, sizes_of};
 
 use crate::actors::Actor;
 use crate::channels::Channel;
 use crate::elements::{attribute, elements_in, first_child, required, split_named};
 use crate::error::copied;
 use crate::names::mention;
-use crate::numbers::{number, positive};
+use crate::numbers::{number, numbers};
 use crate::register::{Named, Register};
 use crate::{Field, ReadError};
 use file_text::Element;
 use sd_base::limits::{SIZE, TIME};
-use sd_base::{Quantity, Text};
+use sd_base::{Kind, Quantity, Rows, Text};
 use std::alloc::Global;
 
-/// The time that is given for an actor, if any.
+/// The times that are given for an actor, by phase; none, where none are given.
 #[derive(Debug, Drop)]
 pub struct TimeEntry {
     pub actor: Text,
-    pub time: Option<u64>,
+    pub times: Rows<u64>,
 }
 
 /// The size that is given for a channel.
@@ -83,43 +83,44 @@ fn execution_of(element: &Element) -> Option<&Element>
     first_child(counting_processor(element)?, Field::ExecutionTime.word())
 }
 
-#[tactic(auto, unfolding(crate::specs::Sections::time_of))]
-fn time_of(alloc: Global, of: &str, element: &Element) -> Result<Option<u64>, ReadError>
-    ensures { Gives (λ t. t) result (time_of of.now (tree_of element.now)) }
+#[tactic(auto, unfolding(crate::specs::Sections::times_in))]
+fn times_in(alloc: Global, kind: Kind, of: &str, element: &Element) -> Result<Rows<u64>, ReadError>
+    ensures { Gives (λ ts. ts) result (times_in kind of.now (tree_of element.now)) }
 {
     let Some(execution) = execution_of(element) else {
-        return Ok(None);
+        return Ok(Rows::new(alloc));
     };
     let text = required(alloc, execution, Field::Time, of)?;
-    let time = positive(alloc, text, Field::Time, of, Quantity::Time, TIME)?;
-    Ok(Some(time))
+    numbers(alloc, kind, text, 1, Field::Time, of, Quantity::Time, TIME)
 }
 
 #[tactic(auto, unfolding(crate::specs::Sections::time_entry))]
 fn read_time(
     alloc: Global,
+    kind: Kind,
     actors: &Register<Actor>,
     done: &Register<TimeEntry>,
     element: &Element,
 ) -> Result<TimeEntry, ReadError>
-    ensures gives { Gives (λ t. t) result (time_entry actors.now done.now (tree_of element.now)) }
+    ensures gives { Gives (λ t. t) result (time_entry kind actors.now done.now (tree_of element.now)) }
     ensures new { IfOk result (λ t. is_among t.actor (map (λ (u : TimeEntry). u.actor) done.now) ≡ false) }
 {
     let name = mention(alloc, Field::Actor, actors, done, element)?;
-    let time = time_of(alloc, name, element)?;
+    let times = times_in(alloc, kind, name, element)?;
     let actor = copied(alloc, name)?;
-    Ok(TimeEntry { actor, time })
+    Ok(TimeEntry { actor, times })
 }
 
 /// The times that the properties give.
 #[tactic(auto, unfolding(crate::specs::Sections::times_of, crate::specs::TreeSteps::children))]
 pub fn read_times(
     alloc: Global,
+    kind: Kind,
     actors: &Register<Actor>,
     properties: Option<&Element>,
 ) -> Result<Register<TimeEntry>, ReadError>
     ensures { let tree = option_map (λ e. tree_of e.now) properties.entry in
-        Gives (λ ts. ts) result (times_of actors.now tree) }
+        Gives (λ ts. ts) result (times_of kind actors.now tree) }
 {
     let mut times = Register::new(alloc);
     let Some(element) = properties else {
@@ -127,7 +128,7 @@ pub fn read_times(
     };
     let mut left = elements_in(element);
     while let Some((child, rest)) = split_named(left, "actorProperties") {
-        let time = read_time(alloc, actors, &times, child)?;
+        let time = read_time(alloc, kind, actors, &times, child)?;
         times = times.with(alloc, time)?;
         left = rest;
     }

@@ -1,16 +1,18 @@
 //! The table of a tree.
 
-ghost use Rattle.std.specs.Prelude.{◌≡◌, ◌==◌, ℕ, Bool, [], map, length, IfOk, OnOk};
-ghost use Rattle.std.specs.Option.{option_copied, option_map, option_to_list};
-ghost use Rattle.std.specs.List.{find};
+ghost use Rattle.std.specs.Prelude.{◌≡◌, ◌==◌, ◌<◌, ◌≤◌, ℕ, Bool, not, [], map, max, replicate, length, All, IfOk, OnOk};
+ghost use Rattle.std.specs.Option.{option_copied, option_map};
+ghost use Rattle.std.specs.List.{find, list_all};
 ghost use Rattle.file_text.specs.Node.{tree_of};
 ghost use Rattle.graph_reader.specs.TreeSteps.{Gives};
-ghost use Rattle.graph_reader.specs.Sections.{time_at, size_at, actor_row, channel_row, table, all_timed, root_of, sdf_kind, table_of, with_properties};
+ghost use Rattle.graph_reader.specs.Sections.{times_at, size_at, lists_of, phases_in, fits_phases, is_even, even_phases, widened, actor_row, channel_row, table, all_timed, root_of, kind_in, section_of, properties_of, table_of, with_properties};
+ghost use Rattle.graph_reader.specs.inside.Lists.{AreShort, HasShortPorts, JoinActors};
 
-use crate::actors::{Actor, read_actors};
+use crate::actors::{Actor, Port, read_actors};
 use crate::channels::{Channel, read_channels};
 use crate::elements::{at_most_one, is_named, one, required};
-use crate::error::missing;
+use crate::error::{missing, phase_count};
+use crate::numbers::list_copy;
 use crate::properties::{SizeEntry, TimeEntry, read_sizes, read_times};
 use crate::register::Register;
 use crate::{Field, ReadError};
@@ -18,22 +20,12 @@ use file_text::Element;
 use sd_base::{ActorRow, ChannelRow, GraphFile, Kind, Rows};
 use std::alloc::{AllocError, Global};
 
-fn list_of(alloc: Global, n: Option<u64>) -> Result<Rows<u64>, AllocError>
-    ensures { IfOk result (λ list. list ≡ option_to_list n) }
-{
-    let mut list = Rows::new(alloc);
-    if let Some(n) = n {
-        list.push(n)?;
-    }
-    Ok(list)
-}
-
-fn time_at(times: &Register<TimeEntry>, name: &str) -> Option<u64>
-    ensures { result ≡ time_at times.now name.now }
+fn times_at<'a>(times: &'a Register<TimeEntry>, name: &str) -> &'a [u64]
+    ensures { result.now ≡ times_at times.now name.now }
 {
     match times.find(name) {
-        Some(entry) => entry.time,
-        None => None,
+        Some(entry) => entry.times.as_slice(),
+        None => &[],
     }
 }
 
@@ -46,33 +38,125 @@ fn size_at(sizes: &Register<SizeEntry>, name: &str) -> u64
     }
 }
 
+/// The phases of an actor: the greatest length of its times and of the rates of its ports, and 1 at the least.
+fn phases_in(times: &Register<TimeEntry>, actor: &Actor) -> u32
+    requires { AreShort (lists_of times.now actor.now) }
+    ensures { result ≡ phases_in times.now actor.now }
+{
+    let mut phases = times_at(times, actor.name.as_str()).len().max(1);
+    for port in actor.ports.as_slice() {
+        phases = phases.max(port.rates.len());
+    }
+    phases as u32
+}
+
+fn fits_phases(phases: u32, list: &[u64]) -> bool
+    ensures { result ≡ fits_phases phases list.now }
+{
+    list.len() == phases as usize || list.len() <= 1
+}
+
+fn do_ports_fit(phases: u32, ports: &[Port]) -> bool
+    ensures { result ≡ list_all (λ (p : Port). fits_phases phases p.rates) ports.now }
+{
+    ports
+        .iter()
+        .all(|port| fits_phases(phases, port.rates.as_slice()))
+}
+
+fn is_even(times: &Register<TimeEntry>, actor: &Actor) -> bool
+    requires { AreShort (lists_of times.now actor.now) }
+    ensures { result ≡ is_even times.now actor.now }
+{
+    let phases = phases_in(times, actor);
+    fits_phases(phases, times_at(times, actor.name.as_str()))
+        && do_ports_fit(phases, actor.ports.as_slice())
+}
+
+fn uneven_actor<'a>(times: &Register<TimeEntry>, actors: &'a [Actor]) -> Option<&'a Actor>
+    requires { All (λ a. AreShort (lists_of times.now a)) actors.now }
+    ensures { option_copied result ≡ find (λ (a : Actor). not (is_even times.now a)) actors.now }
+{
+    let mut left = actors;
+    while let [first, rest @ ..] = left {
+        if !is_even(times, first) {
+            return Some(first);
+        }
+        left = rest;
+    }
+    None
+}
+
+#[tactic(auto, unfolding(crate::specs::Sections::even_phases))]
+fn even_phases(
+    alloc: Global,
+    times: &Register<TimeEntry>,
+    actors: &[Actor],
+) -> Result<(), ReadError>
+    requires { All (λ a. AreShort (lists_of times.now a)) actors.now }
+    ensures { Gives (λ _. actors.now) result (even_phases times.now actors.now) }
+{
+    match uneven_actor(times, actors) {
+        Some(actor) => Err(phase_count(alloc, actor.name.as_str())),
+        None => Ok(()),
+    }
+}
+
+/// A number for each phase, of a list that has one for all.
+fn widened(alloc: Global, phases: u32, list: &[u64]) -> Result<Rows<u64>, AllocError>
+    ensures { IfOk result (λ wide. wide ≡ widened phases list.now) }
+{
+    match list {
+        [one] => repeated(alloc, phases, *one),
+        _ => list_copy(alloc, list),
+    }
+}
+
+fn repeated(alloc: Global, count: u32, n: u64) -> Result<Rows<u64>, AllocError>
+    ensures { IfOk result (λ list. list ≡ replicate count n) }
+{
+    let mut list = Rows::new(alloc);
+    for _i in 0..count {
+        list.push(n)?;
+    }
+    Ok(list)
+}
+
 fn actor_row(
     alloc: Global,
     times: &Register<TimeEntry>,
     actor: &Actor,
 ) -> Result<ActorRow, AllocError>
+    requires { AreShort (lists_of times.now actor.now) }
     ensures { IfOk result (λ row. row ≡ actor_row times.now actor.now) }
 {
+    let phases = phases_in(times, actor);
     Ok(ActorRow {
         name: actor.name.copy(alloc)?,
-        phases: 1,
-        times: list_of(alloc, time_at(times, actor.name.as_str()))?,
+        phases,
+        times: widened(alloc, phases, times_at(times, actor.name.as_str()))?,
     })
 }
 
+/// The row of a channel between actors of these phases.
 fn channel_row(
     alloc: Global,
+    phases: &[u32],
     sizes: &Register<SizeEntry>,
     channel: &Channel,
 ) -> Result<ChannelRow, AllocError>
-    ensures { IfOk result (λ row. row ≡ channel_row sizes.now channel.now) }
+    requires source { channel.now.source.actor < length phases.now }
+    requires target { channel.now.target.actor < length phases.now }
+    ensures { IfOk result (λ row. row ≡ channel_row phases.now sizes.now channel.now) }
 {
+    let source = phases[channel.source.actor as usize];
+    let target = phases[channel.target.actor as usize];
     Ok(ChannelRow {
         name: channel.name.copy(alloc)?,
         source: channel.source.actor,
         target: channel.target.actor,
-        made: list_of(alloc, Some(channel.source.rate))?,
-        taken: list_of(alloc, Some(channel.target.rate))?,
+        made: widened(alloc, source, channel.source.rates.as_slice())?,
+        taken: widened(alloc, target, channel.target.rates.as_slice())?,
         tokens: channel.tokens,
         size: size_at(sizes, channel.name.as_str()),
     })
@@ -83,6 +167,7 @@ fn actor_rows(
     times: &Register<TimeEntry>,
     actors: &[Actor],
 ) -> Result<Rows<ActorRow>, AllocError>
+    requires { All (λ a. AreShort (lists_of times.now a)) actors.now }
     ensures { IfOk result (λ rows. rows ≡ map (actor_row times.now) actors.now) }
 {
     let mut rows = Rows::new(alloc);
@@ -92,16 +177,33 @@ fn actor_rows(
     Ok(rows)
 }
 
+fn phase_counts(
+    alloc: Global,
+    times: &Register<TimeEntry>,
+    actors: &[Actor],
+) -> Result<Vec<u32>, AllocError>
+    requires { All (λ a. AreShort (lists_of times.now a)) actors.now }
+    ensures { IfOk result (λ v. v.items ≡ map (phases_in times.now) actors.now) }
+{
+    let mut phases = Vec::new(alloc);
+    for actor in actors {
+        phases.push(phases_in(times, actor))?;
+    }
+    Ok(phases)
+}
+
 fn channel_rows(
     alloc: Global,
+    phases: &[u32],
     sizes: &Register<SizeEntry>,
     channels: &[Channel],
 ) -> Result<Rows<ChannelRow>, AllocError>
-    ensures { IfOk result (λ rows. rows ≡ map (channel_row sizes.now) channels.now) }
+    requires { All (JoinActors (length phases.now)) channels.now }
+    ensures { IfOk result (λ rows. rows ≡ map (channel_row phases.now sizes.now) channels.now) }
 {
     let mut rows = Rows::new(alloc);
     for channel in channels {
-        rows.push(channel_row(alloc, sizes, channel)?)?;
+        rows.push(channel_row(alloc, phases, sizes, channel)?)?;
     }
     Ok(rows)
 }
@@ -109,17 +211,21 @@ fn channel_rows(
 #[tactic(auto, unfolding(crate::specs::Sections::table))]
 fn table(
     alloc: Global,
+    kind: Kind,
     actors: &[Actor],
     channels: &[Channel],
     times: &Register<TimeEntry>,
     sizes: &Register<SizeEntry>,
 ) -> Result<GraphFile, AllocError>
-    ensures { IfOk result (λ t. t ≡ table actors.now channels.now times.now sizes.now) }
+    requires short { All (λ a. AreShort (lists_of times.now a)) actors.now }
+    requires join { All (JoinActors (length actors.now)) channels.now }
+    ensures { IfOk result (λ t. t ≡ table kind actors.now channels.now times.now sizes.now) }
 {
+    let phases = phase_counts(alloc, times, actors)?;
     Ok(GraphFile {
-        kind: Kind::Sdf,
+        kind,
         actors: actor_rows(alloc, times, actors)?,
-        channels: channel_rows(alloc, sizes, channels)?,
+        channels: channel_rows(alloc, phases.as_slice(), sizes, channels)?,
     })
 }
 
@@ -151,18 +257,23 @@ fn all_timed(alloc: Global, need_times: bool, table: GraphFile) -> Result<GraphF
 /// The table of these actors and channels with what the properties give.
 fn with_properties(
     alloc: Global,
+    kind: Kind,
     need_times: bool,
     actors: &Register<Actor>,
     channels: &Register<Channel>,
     properties: Option<&Element>,
 ) -> Result<GraphFile, ReadError>
+    requires short { All HasShortPorts actors.now }
+    requires join { All (JoinActors (length actors.now)) channels.now }
     ensures { let tree = option_map (λ e. tree_of e.now) properties.entry in
-        Gives (λ t. t) result (with_properties need_times actors.now channels.now tree) }
+        Gives (λ t. t) result (with_properties kind need_times actors.now channels.now tree) }
 {
-    let times = read_times(alloc, actors, properties)?;
+    let times = read_times(alloc, kind, actors, properties)?;
     let sizes = read_sizes(alloc, channels, properties)?;
+    even_phases(alloc, &times, actors.as_slice())?;
     let rows = table(
         alloc,
+        kind,
         actors.as_slice(),
         channels.as_slice(),
         &times,
@@ -182,14 +293,36 @@ fn test_root(alloc: Global, root: &Element) -> Result<(), ReadError>
     }
 }
 
-#[tactic(auto, unfolding(crate::specs::Sections::sdf_kind))]
-fn test_kind(word: &str) -> Result<(), ReadError>
-    ensures { Gives (λ _. word.now) result (sdf_kind word.now) }
+#[tactic(auto, unfolding(crate::specs::Sections::kind_in))]
+fn kind_in(word: &str) -> Result<Kind, ReadError>
+    ensures { Gives (λ k. k) result (kind_in word.now) }
 {
     if word == Field::Sdf.word() {
-        Ok(())
-    } else {
-        Err(ReadError::WrongKind)
+        return Ok(Kind::Sdf);
+    }
+    if word == Field::Csdf.word() {
+        return Ok(Kind::Csdf);
+    }
+    Err(ReadError::WrongKind)
+}
+
+/// The element of a kind's actors and channels.
+fn section_of(kind: Kind) -> Field
+    ensures { result ≡ section_of kind }
+{
+    match kind {
+        Kind::Sdf => Field::Sdf,
+        Kind::Csdf => Field::Csdf,
+    }
+}
+
+/// The element of a kind's properties.
+fn properties_of(kind: Kind) -> Field
+    ensures { result ≡ properties_of kind }
+{
+    match kind {
+        Kind::Sdf => Field::SdfProperties,
+        Kind::Csdf => Field::CsdfProperties,
     }
 }
 
@@ -199,11 +332,11 @@ pub fn table_of(alloc: Global, root: &Element, need_times: bool) -> Result<Graph
     ensures { Gives (λ t. t) result (table_of need_times (tree_of root.now)) }
 {
     test_root(alloc, root)?;
-    test_kind(required(alloc, root, Field::TypeWord, "file")?)?;
+    let kind = kind_in(required(alloc, root, Field::TypeWord, "file")?)?;
     let graph = one(alloc, root, Field::ApplicationGraph)?;
-    let section = one(alloc, graph, Field::Sdf)?;
-    let actors = read_actors(alloc, section)?;
+    let section = one(alloc, graph, section_of(kind))?;
+    let actors = read_actors(alloc, kind, section)?;
     let channels = read_channels(alloc, &actors, section)?;
-    let properties = at_most_one(alloc, graph, Field::SdfProperties)?;
-    with_properties(alloc, need_times, &actors, &channels, properties)
+    let properties = at_most_one(alloc, graph, properties_of(kind))?;
+    with_properties(alloc, kind, need_times, &actors, &channels, properties)
 }

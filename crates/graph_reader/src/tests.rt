@@ -77,6 +77,7 @@ fn words_of(alloc: Global, error: &ReadError) -> Result<String, AllocError> {
         ReadError::BadNumber { what, of } => {
             format!(in alloc; "bad number {} in {}", what.word(), of.as_str())
         }
+        ReadError::PhaseCount { actor } => format!(in alloc; "phases of {}", actor.as_str()),
         ReadError::Limit { what } => format!(in alloc; "limit {what:?}"),
         ReadError::NoMemory => format!(in alloc; "memory"),
     }
@@ -279,7 +280,7 @@ fn roots_are_refused(rt: HostRuntime) -> Result<(), Fail> {
     let rows = [
         ("sdf type=sdf", "missing sdf3 in file"),
         ("sdf3 version=1.0", "missing type in file"),
-        ("sdf3 type=csdf", "wrong kind"),
+        ("sdf3 type=fsmsadf", "wrong kind"),
         ("sdf3 type=sdf", "missing applicationGraph in file"),
         (
             "sdf3 type=sdf\n.applicationGraph\n.applicationGraph",

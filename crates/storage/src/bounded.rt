@@ -108,6 +108,26 @@ impl<'a, F: Firing> Firing for Bounded<'a, F> {
         }
     }
 
+    fn made_before(&self, channel: u32, phases: u32) -> u64 {
+        let own = self.net.channels();
+        if channel < own {
+            self.net.made_before(channel, phases)
+        } else {
+            self.net
+                .taken_before(self.spaces[(channel - own) as usize].channel, phases)
+        }
+    }
+
+    fn taken_before(&self, channel: u32, phases: u32) -> u64 {
+        let own = self.net.channels();
+        if channel < own {
+            self.net.taken_before(channel, phases)
+        } else {
+            self.net
+                .made_before(self.spaces[(channel - own) as usize].channel, phases)
+        }
+    }
+
     fn round(&self, actor: u32) -> u64 {
         self.net.round(actor)
     }

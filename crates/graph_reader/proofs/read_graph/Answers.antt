@@ -3,7 +3,7 @@ use Rattle.file_text.specs.Node.{tree_of}
 use Rattle.graph_reader.specs.TreeSteps.{Gives}
 use Rattle.graph_reader.specs.Sections.{table_of}
 use Rattle.graph_reader.proofs.BrokenRules.{first_fault, text_fault, text_exact}
-use Rattle.graph_reader.proofs.Rules.{keeps_rules, is_timed, is_sdf}
+use Rattle.graph_reader.proofs.Rules.{keeps_rules, is_timed}
 use Rattle.graph_reader.proofs.read_graph.Goals as goal
 
 pub returns-in-Ok-clause-fault : goal.returns-in-Ok-clause-fault
@@ -14,9 +14,6 @@ returns-in-Ok-clause-keeps c = keeps_rules c.args.need_times (tree_of c.in-Ok.tr
 
 pub returns-in-Ok-clause-timed : goal.returns-in-Ok-clause-timed
 returns-in-Ok-clause-timed c = is_timed c.args.need_times (tree_of c.in-Ok.tree.root) c.table_of.result c.table_of.ensures
-
-pub returns-in-Ok-clause-kind : goal.returns-in-Ok-clause-kind
-returns-in-Ok-clause-kind c = is_sdf c.args.need_times (tree_of c.in-Ok.tree.root) c.table_of.result c.table_of.ensures
 
 pub returns-in-Ok-clause-exact : goal.returns-in-Ok-clause-exact
 returns-in-Ok-clause-exact c = λ e spelled. subst (λ d. Gives (λ t. t) c.table_of.result (table_of c.args.need_times d)) (c.in-Ok.ensures.only e spelled) c.table_of.ensures

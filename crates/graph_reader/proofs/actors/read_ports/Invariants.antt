@@ -7,7 +7,7 @@ use Rattle.graph_reader.proofs.actors.read_ports.Given as goal
 
 abbrev pub invariant-loop-child : goal.invariant-loop-child
 invariant-loop-child l = record {
-  same : each (port_of l.actor l.before) l.ports (named (codes "port") (map tree_of l.left)) ≡ each (port_of l.actor l.before) [] (named (codes "port") (children_of (tree_of l.element)));
+  same : each (port_of l.kind l.actor l.before) l.ports (named (codes "port") (map tree_of l.left)) ≡ each (port_of l.kind l.actor l.before) [] (named (codes "port") (children_of (tree_of l.element)));
   few : l.before + length l.ports ≤ 1024;
 }
 

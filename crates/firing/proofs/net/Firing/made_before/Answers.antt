@@ -1,0 +1,16 @@
+use Rattle.std.proofs.Common.{arith}
+use Rattle.sd_base.specs.Net.{channel_at}
+use Rattle.firing.proofs.PortSums.{turn-none, turn-more}
+use Rattle.firing.proofs.net.Firing.made_before.Goals as goal
+
+pub loop-phase-init : goal.loop-phase-init
+loop-phase-init g c = record { sum = turn-none _; small = omega arith }
+
+pub overflow_add-sum : goal.overflow_add-sum
+overflow_add-sum g c = omega (arith, c.made-sum.ensures, (g.met.Self.Firing.lawful c.args.self.now).small_made c.args.channel c.loop-phase.phase c.requires.channel, c.loop-phase.invariant.small)
+
+pub loop-phase-preserved : goal.loop-phase-preserved
+loop-phase-preserved g c = record {
+  sum = turn-more (channel_at (g.Self.Firing.net c.args.self.now) c.args.channel).made c.loop-phase.phase c.loop-phase.sum c.made-sum.result c.loop-phase.invariant.sum (omega (arith, c.requires.phases, c.loop-phase-test.true)) c.made-sum.ensures;
+  small = omega (arith, c.made-sum.ensures, (g.met.Self.Firing.lawful c.args.self.now).small_made c.args.channel c.loop-phase.phase c.requires.channel, c.loop-phase.invariant.small);
+}
