@@ -1,6 +1,7 @@
 //! Dataflow nets as one trait with its laws, the net of a synchronous graph, and needs between firings.
 #![tactic(auto)]
 
+mod groups;
 mod net;
 mod sdf;
 mod sums;
@@ -8,9 +9,10 @@ mod table;
 mod tokens;
 mod wiring;
 
+pub use groups::Groups;
 pub use net::{Firing, know_laws};
 pub use sdf::SdfNet;
 pub use sums::{Port, made_sum, need, port_phases, port_rate, taken_sum};
 pub use table::LoopTable;
 pub use tokens::{first_lack, initial_tokens, put_tokens, take_tokens};
-pub use wiring::Wiring;
+pub use wiring::{Wiring, know_wiring};
