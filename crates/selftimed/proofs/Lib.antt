@@ -7,5 +7,6 @@ pub mod Beginning
 pub mod Advancing
 pub mod Exactness
 pub mod Shaping
+pub mod Comparing
 pub mod ExecutionStands
 pub mod FiringsEnd

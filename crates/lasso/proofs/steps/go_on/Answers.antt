@@ -1,5 +1,5 @@
 use Rattle.lasso.proofs.Going.{stuck-never, goes-over}
-use Rattle.lasso.proofs.repeat.go_on.Goals as goal
+use Rattle.lasso.proofs.steps.go_on.Goals as goal
 
 pub unreachable-requires : goal.unreachable-requires
 unreachable-requires g c =
