@@ -1,8 +1,8 @@
 use crate::compare_tests::compare;
 use crate::loop_tests::{check_answer, find_answer};
 use crate::phase_net::TwoPhases;
-use liveness::{Round, one_round};
 use firing::Wiring;
+use liveness::{Round, one_round};
 use selftimed::{Engine, Move, Stage};
 use std::alloc::Global;
 use std::process::Abort;
