@@ -14,5 +14,5 @@ pub use net::{Firing, know_laws};
 pub use sdf::SdfNet;
 pub use sums::{Port, made_sum, need, port_phases, port_rate, taken_sum};
 pub use table::LoopTable;
-pub use tokens::{first_lack, initial_tokens, put_tokens, take_tokens};
+pub use tokens::{first_lack, initial_tokens, put_tokens, span_sum, take_tokens};
 pub use wiring::{Wiring, know_wiring};

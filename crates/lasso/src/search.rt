@@ -1,8 +1,8 @@
 //! The search for two equal shapes, by one execution that keeps one shape (Brent 1980).
-ghost use Rattle.std.specs.Prelude.{◌≡◌, ◌*◌, ◌≤◌, IfErr, IfOk, MatchOption};
+ghost use Rattle.std.specs.Prelude.{◌≡◌, ◌↔◌, ◌*◌, ◌≤◌, IfErr, IfOk, IsTrue, MatchOption};
 ghost use Rattle.sd_base.specs.declared.limits.TheConstants.{STARTS};
 ghost use Rattle.sd_base.specs.Schedules.{HasInputs};
-ghost use Rattle.sd_base.specs.SelfTimed.{IsEvent};
+ghost use Rattle.sd_base.specs.SelfTimed.{IsEvent, shape_at};
 ghost use Rattle.sd_base.specs.Untimed.{IsLive};
 ghost use Rattle.firing.specs.Wiring.{IsWiringOf};
 ghost use Rattle.selftimed.specs.declared.engine.Stage.TheVariants.{Fresh, Running};
@@ -32,6 +32,7 @@ pub(crate) struct Pair {
 #[derive(Drop)]
 pub(crate) struct Checkpoint {
     pub(crate) shape: Shape,
+    pub(crate) print: u64,
     pub(crate) moment: u64,
     pub(crate) starts: u64,
 }
@@ -95,7 +96,7 @@ fn search_allowed<F: Firing>(
         if !go_on(engine)? {
             return Err(RunError::TooManyStarts);
         }
-        if engine.same_shape(&checkpoint.shape) {
+        if stands_at(engine, &checkpoint) {
             return Ok(Some(Pair {
                 earlier: checkpoint.moment,
                 later: engine.moment(),
@@ -138,9 +139,22 @@ fn checkpoint_of<F: Firing>(alloc: Global, engine: &Engine<F>) -> Result<Checkpo
 {
     Ok(Checkpoint {
         shape: engine.shape(alloc)?,
+        print: engine.print(),
         moment: engine.moment(),
         starts: engine.starts(),
     })
+}
+
+/// Whether an engine stands at the shape of a checkpoint. Cost: mostly constant where it doesn't.
+fn stands_at<F: Firing>(engine: &Engine<F>, checkpoint: &Checkpoint) -> bool
+    requires running { engine.now.stage ≡ Running }
+    requires checkpoint { IsCheckpoint (F.net engine.now.net.now) checkpoint.now }
+    ensures { IsTrue result ↔ (shape_at (F.net engine.now.net.now) engine.now.moment ≡ shape_at (F.net engine.now.net.now) checkpoint.now.moment) }
+{
+    if engine.print() != checkpoint.print {
+        return false;
+    }
+    engine.same_shape(&checkpoint.shape)
 }
 
 /// Looks for the shape of the checkpoint at which the engine stands, up to twice its moment and over
@@ -160,7 +174,7 @@ fn search_on<F: Firing>(
         if !go_on(engine)? {
             return Ok(None);
         }
-        if engine.same_shape(&checkpoint.shape) {
+        if stands_at(engine, checkpoint) {
             return Ok(Some(Pair {
                 earlier: checkpoint.moment,
                 later: engine.moment(),

@@ -3,6 +3,7 @@ ghost use Rattle.sd_base.specs.Schedules.{count_of};
 ghost use Rattle.sd_base.specs.SelfTimed.{earliest, shape_at, starts_by};
 ghost use Rattle.selftimed.specs.inside.Plans.{Plans};
 ghost use Rattle.selftimed.specs.EngineShapes.{form};
+ghost use Rattle.selftimed.specs.Prints.{print_of};
 ghost use Rattle.selftimed.specs.Moves.{IsMove, IsStuck, IsSpent};
 ghost use Rattle.firing.specs.declared.sums.Port.TheVariants.{Made, Taken};
 ghost use Rattle.firing.specs.Wiring.{AreListed, IsWiringOf};
@@ -17,7 +18,8 @@ use crate::event::Event;
 use crate::shape::{
     Shape, phases_of, remaining_of, same_phases, same_remaining, same_tokens, tokens_of,
 };
-use firing::{Firing, Wiring, initial_tokens, know_wiring};
+use crate::tokens::Tokens;
+use firing::{Firing, Wiring, know_wiring};
 use sd_base::NoMemory;
 use std::alloc::Global;
 
@@ -60,15 +62,15 @@ pub struct Engine<'a, F: Firing> {
     wiring: &'a Wiring,
     all: u64,
     actors: Vec<ActorState>,
-    tokens: Vec<u128>,
+    tokens: Tokens,
     agenda: Agenda,
     ghost few: { most ≤ 2 ^ 32 },
     ghost inputs: { AreListed (F.net net.now) Taken wiring.now.inputs },
     ghost outputs: { AreListed (F.net net.now) Made wiring.now.outputs },
-    ghost fresh: { stage ≡ Stage.Fresh → IsFresh (F.net net.now) most actors.items tokens.items all },
+    ghost fresh: { stage ≡ Stage.Fresh → IsFresh (F.net net.now) most actors.items tokens all },
     ghost waits: { stage ≡ Stage.Fresh → Plans (F.net net.now) actors.items agenda },
     ghost goes: { stage ≡ Stage.Running → Plans (F.net net.now) actors.items agenda },
-    ghost stands: { stage ≡ Stage.Running → Stands (F.net net.now) moment most actors.items tokens.items all },
+    ghost stands: { stage ≡ Stage.Running → Stands (F.net net.now) moment most actors.items tokens all },
 }
 
 impl<'a, F: Firing> Engine<'a, F> {
@@ -88,7 +90,7 @@ impl<'a, F: Firing> Engine<'a, F> {
     {
         know_wiring(net, wiring);
         let actors = new_actors(alloc, net.actors())?;
-        let tokens = initial_tokens(alloc, net)?;
+        let tokens = Tokens::new(alloc, net)?;
         let agenda = Agenda::new(alloc, net.actors())?;
         Ok(Engine {
             net,
@@ -143,7 +145,7 @@ impl<'a, F: Firing> Engine<'a, F> {
         let fits = event.begin(
             &mut self.all,
             self.actors.as_mut_slice(),
-            self.tokens.as_mut_slice(),
+            &mut self.tokens,
             &mut self.agenda,
         )?;
         if !fits {
@@ -180,7 +182,7 @@ impl<'a, F: Firing> Engine<'a, F> {
         let fits = event.follow(
             &mut self.all,
             self.actors.as_mut_slice(),
-            self.tokens.as_mut_slice(),
+            &mut self.tokens,
             &mut self.agenda,
         )?;
         if !fits {
@@ -221,6 +223,14 @@ impl<'a, F: Firing> Engine<'a, F> {
         self.all
     }
 
+    /// The print of the tokens that stand after the starts of the last event: equal shapes have equal prints.
+    pub fn print(&self) -> u64
+        requires { self.now.stage ≡ Stage.Running }
+        ensures { result ≡ print_of (shape_at (F.net self.now.net.now) self.now.moment).tokens }
+    {
+        self.tokens.print()
+    }
+
     /// What stands after the starts of the last event.
     pub fn shape(&self, alloc: Global) -> Result<Shape, NoMemory>
         requires { self.now.stage ≡ Stage.Running }
@@ -258,7 +268,7 @@ impl<'a, F: Firing> Engine<'a, F> {
         requires there { other.now.stage ≡ Stage.Running }
         ensures { IsTrue result ↔ (shape_at (F.net self.now.net.now) self.now.moment ≡ shape_at (F.net self.now.net.now) other.now.moment) }
     {
-        if !same_tokens(self.tokens.as_slice(), other.tokens.as_slice()) {
+        if !self.tokens.same_as(&other.tokens) {
             return false;
         }
         if !same_stands(self.net, self.actors.as_slice(), other.actors.as_slice()) {

@@ -10,6 +10,7 @@ mod event;
 mod running;
 mod shape;
 mod starts;
+mod tokens;
 
 pub use engine::{Engine, Move, Stage};
 pub use shape::Shape;

@@ -35,12 +35,12 @@ returns-then-not-branch-2-clause-refused g c =
     let here : c.starts.result ≡ starts_by (g.F.Firing.net c.args.engine.now.net.now) c.loop-event.engine.moment = rw c.loop-event.invariant.net at c.starts.ensures in
     many-next (g.F.Firing.net c.args.engine.now.net.now) (g.met.F.Firing.lawful c.args.engine.now.net.now) c.requires.inputs c.args.states c.loop-event.engine.moment goes.0 goes.1 (omega (arith, c.loop-event.invariant.number, c.loop-event-test.true)) (omega (arith, here, c.if-starts-gt-STARTS.false)) (omega (arith, goes.2))
 
-pub returns-then-same_shape-clause-found : goal.returns-then-same_shape-clause-found
-returns-then-same_shape-clause-found g c =
+pub returns-then-stands_at-clause-found : goal.returns-then-stands_at-clause-found
+returns-then-stands_at-clause-found g c =
     let goes = rw c.loop-event.invariant.running at (rw c.loop-event.invariant.net at (rw c.if-not-branch-2.false at c.in_ok-go_on-2.ensures.goes)) in
     let next : IsNext (g.F.Firing.net c.args.engine.now.net.now) c.loop-event.engine.moment c.go_on-in-loop-event.new.engine.moment = goes.1 in
     let same : shape_at (g.F.Firing.net c.args.engine.now.net.now) c.go_on-in-loop-event.new.engine.moment ≡ shape_at (g.F.Firing.net c.args.engine.now.net.now) c.loop-event.checkpoint.moment =
-    rw c.loop-event.invariant.net at (rw c.go_on-in-loop-event.ensures.net at (c.if-same_shape.ensures.0 refl)) ∙ c.loop-event.invariant.checkpoint.shape in
+    rw c.loop-event.invariant.net at (rw c.go_on-in-loop-event.ensures.net at (c.if-stands_at.ensures.0 refl)) in
     rw c.moment.ensures (record {
       order = omega (arith, next.later, c.loop-event.invariant.ahead);
       start = c.loop-event.invariant.checkpoint.event;
@@ -71,5 +71,5 @@ next_checkpoint-requires-clause-none g c =
     let goes = rw c.loop-event.invariant.running at (rw c.loop-event.invariant.net at (rw c.if-not-branch-2.false at c.in_ok-go_on-2.ensures.goes)) in
     let next : IsNext (g.F.Firing.net c.args.engine.now.net.now) c.loop-event.engine.moment c.go_on-in-loop-event.new.engine.moment = goes.1 in
     let other : shape_at (g.F.Firing.net c.args.engine.now.net.now) c.go_on-in-loop-event.new.engine.moment ≢ shape_at (g.F.Firing.net c.args.engine.now.net.now) c.loop-event.checkpoint.moment =
-    λ same. false≢true (c.if-same_shape.ensures.1 (rw (c.go_on-in-loop-event.ensures.net, c.loop-event.invariant.net) (same ∙ sym c.loop-event.invariant.checkpoint.shape))) in
+    λ same. false≢true (c.if-stands_at.ensures.1 (rw (c.go_on-in-loop-event.ensures.net, c.loop-event.invariant.net) same)) in
     rw (c.go_on-in-loop-event.ensures.net, c.loop-event.invariant.net) (none-more (g.F.Firing.net c.args.engine.now.net.now) (g.met.F.Firing.lawful c.args.engine.now.net.now) c.requires.inputs c.loop-event.checkpoint.moment c.loop-event.engine.moment c.go_on-in-loop-event.new.engine.moment c.loop-event.invariant.none next other)

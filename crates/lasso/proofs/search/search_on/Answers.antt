@@ -24,14 +24,14 @@ returns-then-not-branch g c =
     let goes = rw c.events.invariant.running at (rw c.events.invariant.most at (rw c.events.invariant.net at (rw c.if-not-branch.true at c.in_ok-go_on.ensures.goes))) in
     record { found = none-spent (g.F.Firing.net c.args.engine.now.net.now) (g.met.F.Firing.lawful c.args.engine.now.net.now) c.requires.inputs c.args.checkpoint.now.moment c.events.engine.moment goes.0 c.args.engine.now.most c.events.invariant.none goes.1 goes.2 }
 
-pub returns-then-same_shape : goal.returns-then-same_shape
-returns-then-same_shape g c =
+pub returns-then-stands_at : goal.returns-then-stands_at
+returns-then-stands_at g c =
     let goes = rw c.events.invariant.running at (rw c.events.invariant.net at (rw c.if-not-branch.false at c.in_ok-go_on.ensures.goes)) in
     let next : IsNext (g.F.Firing.net c.args.engine.now.net.now) c.events.engine.moment c.go_on.new.engine.moment = goes.1 in
     let same : shape_at (g.F.Firing.net c.args.engine.now.net.now) c.go_on.new.engine.moment ≡ shape_at (g.F.Firing.net c.args.engine.now.net.now) c.args.checkpoint.now.moment =
-    rw c.events.invariant.net at (rw c.go_on.ensures.net at (c.if-same_shape.ensures.0 refl)) ∙ c.requires.checkpoint.shape in
+    rw c.events.invariant.net at (rw c.go_on.ensures.net at (c.if-stands_at.ensures.0 refl)) in
     record {
-      found = rw c.moment-then-same_shape.ensures (record {
+      found = rw c.moment-then-stands_at.ensures (record {
         order = omega (arith, next.later, c.events.invariant.ahead);
         start = c.requires.checkpoint.event;
         end = next.event;
@@ -45,7 +45,7 @@ events-preserved g c =
     let goes = rw c.events.invariant.running at (rw c.events.invariant.net at (rw c.if-not-branch.false at c.in_ok-go_on.ensures.goes)) in
     let next : IsNext (g.F.Firing.net c.args.engine.now.net.now) c.events.engine.moment c.go_on.new.engine.moment = goes.1 in
     let other : shape_at (g.F.Firing.net c.args.engine.now.net.now) c.go_on.new.engine.moment ≢ shape_at (g.F.Firing.net c.args.engine.now.net.now) c.args.checkpoint.now.moment =
-    λ same. false≢true (c.if-same_shape.ensures.1 (rw (c.go_on.ensures.net, c.events.invariant.net) (same ∙ sym c.requires.checkpoint.shape))) in
+    λ same. false≢true (c.if-stands_at.ensures.1 (rw (c.go_on.ensures.net, c.events.invariant.net) same)) in
     record {
       net = c.go_on.ensures.net ∙ c.events.invariant.net;
       most = c.go_on.ensures.most ∙ c.events.invariant.most;
@@ -67,7 +67,7 @@ returns-then-starts-checkpoint-gt-STARTS g c =
     let goes = rw c.events.invariant.running at (rw c.events.invariant.net at (rw c.if-not-branch.false at c.in_ok-go_on.ensures.goes)) in
     let next : IsNext (g.F.Firing.net c.args.engine.now.net.now) c.events.engine.moment c.go_on.new.engine.moment = goes.1 in
     let other : shape_at (g.F.Firing.net c.args.engine.now.net.now) c.go_on.new.engine.moment ≢ shape_at (g.F.Firing.net c.args.engine.now.net.now) c.args.checkpoint.now.moment =
-    λ same. false≢true (c.if-same_shape.ensures.1 (rw (c.go_on.ensures.net, c.events.invariant.net) (same ∙ sym c.requires.checkpoint.shape))) in
+    λ same. false≢true (c.if-stands_at.ensures.1 (rw (c.go_on.ensures.net, c.events.invariant.net) same)) in
     let here : c.starts.result ≡ starts_by (g.F.Firing.net c.args.engine.now.net.now) c.go_on.new.engine.moment = rw c.events.invariant.net at (rw c.go_on.ensures.net at c.starts.ensures) in
     let many : starts_by (g.F.Firing.net c.args.engine.now.net.now) c.args.checkpoint.now.moment + 4000000 < starts_by (g.F.Firing.net c.args.engine.now.net.now) c.go_on.new.engine.moment = omega (arith, here, c.requires.checkpoint.starts, c.if-starts-checkpoint-gt-STARTS.true) in
     record {
