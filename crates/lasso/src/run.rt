@@ -22,8 +22,8 @@ use std::alloc::Global;
 ///
 /// Cost: an execution to a shape that came before, at most three times as long as one up to the first
 /// repeat; then one up to the first repeat, followed by a second one up to the entry, which then makes the
-/// starts round the loop. Where a refusal comes, at most four times the shapes and starts up to it. Memory:
-/// three shapes, and the starts of the table.
+/// starts round the loop. Where a refusal comes, an execution up to twice the moment of the last shape that is
+/// allowed, of at most `STARTS` starts more. Memory: three shapes, and the starts of the table.
 pub fn run_loop<F: Firing, L: Ledger>(
     alloc: Global,
     net: &F,

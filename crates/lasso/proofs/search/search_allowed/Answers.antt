@@ -1,4 +1,4 @@
-use Rattle.std.proofs.Common.{◌∙◌, ◌≡◌, ◌≢◌, ◌+◌, refl, sym, inl, ap, arith}
+use Rattle.std.proofs.Common.{◌∙◌, ◌≡◌, ◌≢◌, ◌+◌, refl, inl, ap, arith}
 use Rattle.std.proofs.lemmas.Bool.{false≢true}
 use Rattle.sd_base.specs.SelfTimed.{events_by, shape_at, starts_by}
 use Rattle.selftimed.specs.Moves.{IsNext}
