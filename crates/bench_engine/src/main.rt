@@ -5,7 +5,7 @@
 
 mod words;
 
-use firing::{Firing, SdfNet};
+use firing::{Firing, SdfNet, Wiring};
 use sd_base::NoMemory;
 use selftimed::{Engine, Move};
 use std::alloc::Global;
@@ -54,7 +54,8 @@ fn net_of(alloc: Global, which: Which) -> Result<SdfNet, TableError> {
 
 /// Runs an engine until it has made so many starts, or can't go on.
 fn run(alloc: Global, net: &SdfNet, wanted: u64) -> Result<Made, NoMemory> {
-    let mut engine = Engine::new(alloc, net, 1 << 32)?;
+    let wiring = Wiring::new(alloc, net)?;
+    let mut engine = Engine::new(alloc, net, &wiring, 1 << 32)?;
     let mut made = Made {
         starts: 0,
         events: 0,

@@ -2,6 +2,8 @@ pub mod PortSums
 pub mod Singles
 pub mod SdfTables
 pub mod Listings
+pub mod Counting
+pub mod Wirings
 pub mod TokenMoves
 pub mod GraphTables
 pub mod PhaseLists

@@ -1,4 +1,5 @@
 pub mod Sdf
+pub mod Groups
 pub mod Wiring
 pub mod Ports
 pub mod Csdf

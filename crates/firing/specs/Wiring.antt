@@ -1,7 +1,10 @@
 -- The channels of a net by actor, and the tokens on channels.
-use Rattle.std.specs.Prelude.{◌≡◌, ◌≢◌, ℕ, ◌+◌, ◌≤◌, ◌<◌, true, List, [], length, slice_index, slice_index_or, ◌==◌}
+use Rattle.std.specs.Prelude.{◌≡◌, ◌≢◌, ℕ, ◌+◌, ◌≤◌, ◌<◌, true, List, [], length, map, slice_index, slice_index_or, ◌==◌}
 use Rattle.std.specs.List.{list_any}
 use Rattle.sd_base.specs.Net.{Channel, Net, channel_at, phase_entry, total}
+use Rattle.sd_base.specs.Connection.{ends_of}
+use Rattle.firing.specs.Groups.{AreGroups}
+use Rattle.firing.specs.declared.wiring.Wiring.{Wiring}
 use Rattle.firing.specs.declared.sums.Port.{Port}
 use Rattle.firing.specs.declared.sums.Port.TheVariants.{Made, Taken}
 
@@ -21,6 +24,15 @@ pub record IsListed (net : Net) (port : Port) (a : ℕ) (xs : List ℕ) : Type 0
 pub record AreListed (net : Net) (port : Port) (rows : List (List ℕ)) : Type 0 where
   pub actors : length rows ≡ length net.times
   pub each : (a : ℕ) → a < length net.times → IsListed net port a (slice_index_or rows a [])
+
+-- by actor the channels into it and out of it, where channels are pairs of a source and a target
+pub record IsWiring (actors : ℕ) (ends : List (ℕ × ℕ)) (w : Wiring) : Type 0 where
+  pub inputs : AreGroups (map (λ (e : ℕ × ℕ). e.1) ends) actors w.inputs
+  pub outputs : AreGroups (map (λ (e : ℕ × ℕ). e.0) ends) actors w.outputs
+
+-- a wiring of a net is that of its number of actors and of its channels' ends
+abbrev pub IsWiringOf : Net → Wiring → Type 0
+IsWiringOf net w = IsWiring (length net.times) (ends_of net) w
 
 -- channel i into a has fewer tokens than firing k of a takes
 pub record LacksNow (net : Net) (tokens : List ℕ) (a k i : ℕ) : Type 0 where

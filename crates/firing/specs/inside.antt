@@ -1,1 +1,3 @@
 pub mod PhaseSums
+pub mod Cuts
+pub mod Counting

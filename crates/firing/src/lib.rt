@@ -3,6 +3,7 @@
 
 mod csdf;
 mod graph_channels;
+mod groups;
 mod net;
 mod phases;
 mod sdf;
@@ -12,9 +13,10 @@ mod tokens;
 mod wiring;
 
 pub use csdf::CsdfNet;
+pub use groups::Groups;
 pub use net::{Firing, know_laws};
 pub use sdf::SdfNet;
 pub use sums::{Port, made_sum, need, port_phases, port_rate, taken_sum};
 pub use table::LoopTable;
-pub use tokens::{first_lack, initial_tokens, put_tokens, take_tokens};
-pub use wiring::Wiring;
+pub use tokens::{first_lack, initial_tokens, put_tokens, span_sum, take_tokens};
+pub use wiring::{Wiring, know_wiring};

@@ -90,7 +90,7 @@ pub fn put_tokens<F: Firing>(
 
 /// The sum over `firings` firings from number `from` on at an end of a channel. Cost: constant where the
 /// actor has one phase, else linear in the firings.
-fn span_sum<F: Firing>(net: &F, channel: u32, port: Port, from: u64, firings: u64) -> u128
+pub fn span_sum<F: Firing>(net: &F, channel: u32, port: Port, from: u64, firings: u64) -> u128
     requires channel { channel < length (F.net net.now).channels }
     requires few { from + firings < 2 ^ 64 }
     ensures sum { total (rates_at port (channel_at (F.net net.now) channel)) from + result

@@ -1,25 +1,29 @@
-ghost use Rattle.std.specs.Prelude.{◌≡◌, ◌<◌, [], IfOk, length, slice_index_or};
+ghost use Rattle.std.specs.Prelude.{◌≡◌, ◌<◌, [], IfOk, length, map, slice_index_or};
 ghost use Rattle.sd_base.specs.Net.{channel_at};
 ghost use Rattle.firing.specs.declared.sums.Port.TheVariants.{Made, Taken};
-ghost use Rattle.firing.specs.Wiring.{actor_at, IsListed, AreListed};
+ghost use Rattle.firing.specs.Groups.{AreGroups};
+ghost use Rattle.firing.specs.Wiring.{actor_at, AreListed, IsWiringOf};
 
-use crate::net::Firing;
+use crate::groups::Groups;
+use crate::net::{Firing, know_laws};
 use crate::sums::Port;
-use sd_base::{NoMemory, Rows};
+use sd_base::NoMemory;
 use std::alloc::Global;
 
-/// The channels of a net by actor, ascending.
+/// The channels of a net by actor, ascending. It depends on the number of actors and the ends of the
+/// channels alone, so one wiring serves each net with these: nets that differ in tokens, rates or times.
 #[derive(Debug, Drop)]
 pub struct Wiring {
     /// By actor the channels into it.
-    pub inputs: Rows<Rows<u32>>,
+    pub inputs: Groups,
     /// By actor the channels out of it.
-    pub outputs: Rows<Rows<u32>>,
+    pub outputs: Groups,
 }
 
 impl Wiring {
-    /// The channels of a net by actor. Cost: linear in the product of actors and channels.
+    /// The channels of a net by actor. Cost: linear in the sum of actors and channels.
     pub fn new<F: Firing>(alloc: Global, net: &F) -> Result<Wiring, NoMemory>
+        ensures wired { IfOk result (IsWiringOf (F.net net.now)) }
         ensures inputs { IfOk result (λ w. AreListed (F.net net.now) Taken w.inputs) }
         ensures outputs { IfOk result (λ w. AreListed (F.net net.now) Made w.outputs) }
     {
@@ -34,7 +38,7 @@ impl Wiring {
         requires { actor < length self.now.inputs }
         ensures { result.now ≡ slice_index_or self.now.inputs actor [] }
     {
-        self.inputs.as_slice()[actor as usize].as_slice()
+        self.inputs.of(actor)
     }
 
     /// The channels out of an actor.
@@ -42,41 +46,35 @@ impl Wiring {
         requires { actor < length self.now.outputs }
         ensures { result.now ≡ slice_index_or self.now.outputs actor [] }
     {
-        self.outputs.as_slice()[actor as usize].as_slice()
+        self.outputs.of(actor)
     }
 }
+
+/// What a wiring lists of each net whose wiring it is, for callers that are passed both. It does nothing.
+pub fn know_wiring<F: Firing>(net: &F, wiring: &Wiring)
+    requires { IsWiringOf (F.net net.now) wiring.now }
+    ensures inputs { AreListed (F.net net.now) Taken wiring.now.inputs }
+    ensures outputs { AreListed (F.net net.now) Made wiring.now.outputs }
+{}
 
 /// By actor the channels with an end at it.
-fn channels_by_actor<F: Firing>(
-    alloc: Global,
-    net: &F,
-    port: Port,
-) -> Result<Rows<Rows<u32>>, NoMemory>
-    ensures { IfOk result (λ rows. AreListed (F.net net.now) port rows) }
+fn channels_by_actor<F: Firing>(alloc: Global, net: &F, port: Port) -> Result<Groups, NoMemory>
+    ensures { IfOk result (AreGroups (map (actor_at port) (F.net net.now).channels) (length (F.net net.now).times)) }
 {
-    let mut rows = Rows::new(alloc);
-    for actor in 0..net.actors() {
-        rows.push(channels_of(alloc, net, port, actor)?)?;
-    }
-    Ok(rows)
+    know_laws(net);
+    let ends = ends_at(alloc, net, port)?;
+    Groups::new(alloc, net.actors(), ends.as_slice())
 }
 
-/// The channels with an end at one actor.
-fn channels_of<F: Firing>(
-    alloc: Global,
-    net: &F,
-    port: Port,
-    actor: u32,
-) -> Result<Rows<u32>, NoMemory>
-    ensures { IfOk result (IsListed (F.net net.now) port actor) }
+/// By channel the actor at an end of it.
+fn ends_at<F: Firing>(alloc: Global, net: &F, port: Port) -> Result<Vec<u32>, NoMemory>
+    ensures { IfOk result (λ ends. ends.items ≡ map (actor_at port) (F.net net.now).channels) }
 {
-    let mut found = Rows::new(alloc);
+    let mut ends = Vec::with_capacity(alloc, net.channels() as usize)?;
     for channel in 0..net.channels() {
-        if end_of(net, channel, port) == actor {
-            found.push(channel)?;
-        }
+        ends.push(end_of(net, channel, port))?;
     }
-    Ok(found)
+    Ok(ends)
 }
 
 /// The actor at an end of a channel.

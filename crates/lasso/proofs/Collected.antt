@@ -17,8 +17,6 @@ use Rattle.sd_base.proofs.Tight.{earliest-within}
 use Rattle.sd_base.proofs.Alike.{count-rises}
 use Rattle.sd_base.proofs.Returns.{loop-whole}
 use Rattle.selftimed.specs.Moves.{IsNext}
-use Rattle.lasso.specs.declared.repeat.Repeat.{Repeat}
-use Rattle.lasso.specs.inside.Visits.{IsRepeat}
 use Rattle.lasso.specs.inside.Collecting.{AreStartsAfter, AddsStarts}
 
 module _ (net : Net) (laws : Lawful net) (fed : HasInputs net) where
@@ -154,11 +152,10 @@ empty-rows n a = ⊎_elim
     (λ (past : n ≤ a). ap length (get_or_past (replicate n []) a [] (omega (arith, length-replicate {A = List ℕ} n []))))
     (cases_lt a n)
 
--- the starts that a second execution collects up to the end of a loop are its table
-pub table-from : (net other : Net) → other ≡ net → Lawful net → HasInputs net → IsConnected net → (states m rounds : ℕ) (repeat : Repeat) (before lent : List ℕ) (starts : List (List ℕ)) → IsRepeat net states repeat →
-    m ≡ repeat.entry → length before ≡ length other.times → ((a : ℕ) → a < length other.times → slice_index before a ≡ count_of (earliest other (m + 1)) a) → lent ≡ before →
-    AreStartsAfter other repeat.end lent starts → rounds ≡ count_of starts 0 / slice_index net.round 0 → IsLoopTable net repeat.entry (repeat.end - repeat.entry) rounds before starts
-table-from net other same laws fed connected states m rounds repeat before lent starts found at long counts lends have quotient =
-    let later : repeat.entry < repeat.end = found.later in
-    let end : repeat.entry + (repeat.end - repeat.entry) ≡ repeat.end = omega arith in
-    loop-is-table net laws fed connected repeat.entry (repeat.end - repeat.entry) rounds before starts found.loop (rw same at long) (rw at at (rw same at counts)) (rw end (rw lends at (rw same at have))) quotient
+-- the starts that an execution from the entry of a loop collects up to its end are its table
+pub table-from : (net : Net) → Lawful net → HasInputs net → IsConnected net → (entry end rounds : ℕ) (before lent : List ℕ) (starts : List (List ℕ)) → entry ≤ end → IsLoop net entry (end - entry) →
+    length before ≡ length net.times → ((a : ℕ) → a < length net.times → slice_index before a ≡ count_of (earliest net (entry + 1)) a) → lent ≡ before →
+    AreStartsAfter net end lent starts → rounds ≡ count_of starts 0 / slice_index net.round 0 → IsLoopTable net entry (end - entry) rounds before starts
+table-from net laws fed connected entry end rounds before lent starts later loop long counts lends have quotient =
+    let there : entry + (end - entry) ≡ end = omega arith in
+    loop-is-table net laws fed connected entry (end - entry) rounds before starts loop long counts (rw there (rw lends at have)) quotient

@@ -1,6 +1,5 @@
 -- In a live net events go on, so it is decided whether the shapes of the first ones differ.
-use Rattle.std.proofs.Common.{◌≡◌, ◌≢◌, ℕ, zero, suc, ◌+◌, ◌-◌, ◌≤◌, ◌<◌, ◌⊎◌, true, false, List, [], ◌∷◌, ◌++◌, length, inl, inr, ⊎_elim, sym, refl, ◌∙◌, arith, length-append}
-use Rattle.std.specs.Prelude.{slice_index, slice_index_or}
+use Rattle.std.proofs.Common.{◌≡◌, ◌≢◌, ℕ, zero, suc, ◌+◌, ◌-◌, ◌≤◌, ◌<◌, ◌⊎◌, true, false, length, inl, inr, ⊎_elim, sym, refl, ◌∙◌, arith}
 use Rattle.std.proofs.lemmas.Bool.{cases_lt, cases_eq, cases_Bool, false≢true}
 use Rattle.sd_base.specs.Net.{Net}
 use Rattle.sd_base.specs.Schedules.{HasInputs, count_of, start_of, end_of}
@@ -15,30 +14,20 @@ use Rattle.sd_base.proofs.Liveness.{live-never-stuck}
 use Rattle.sd_base.proofs.Tight.{earliest-within}
 use Rattle.selftimed.specs.Moves.{IsNext}
 use Rattle.selftimed.specs.declared.shape.Shape.{Shape}
-use Rattle.selftimed.specs.EngineShapes.{form}
-use Rattle.lasso.specs.LoopAnswers.{IsTooManyStarts, PassesStarts}
-use Rattle.lasso.specs.inside.Visits.{no_shape, AreVisits}
-use Rattle.lasso.proofs.Ranks.{event-test, rank-first, rank-grows, rank-orders, rank-after, starts-rise}
+use Rattle.lasso.specs.LoopAnswers.{FirstDiffer, IsTooManyStarts, PassesStarts}
+use Rattle.lasso.proofs.Ranks.{event-test, rank-first, rank-rises, rank-grows, rank-orders, rank-after, starts-rise}
 use Rattle.lasso.proofs.Keys.{alike, alike-tells, alike-holds}
-use Rattle.lasso.proofs.Visiting.{loop-closes, visits-push, no-visits}
 
--- one of the first n shapes is a shape, or none is
-Among : List Shape → Shape → ℕ → Type 0
-Among shapes shape n =
-    ((k : ℕ) × (k < n) × (form (slice_index_or shapes k no_shape) ≡ form shape)) ⊎ ((k : ℕ) → k < n → form (slice_index_or shapes k no_shape) ≢ form shape)
+below_apart : (x y : ℕ) → x ≤ y → (x ≡ y → ⊥) → x < y
+below_apart x y le apart = ⊎_elim (λ (h : x < y). h) (λ (h : y ≤ x). absurd (apart (omega arith))) (cases_lt x y)
 
-among : (shapes : List Shape) (shape : Shape) (n : ℕ) → Among shapes shape n
-unfolding Among
-among shapes shape zero = inr (λ k below same. absurd (omega arith))
-among shapes shape (suc n) = step (among shapes shape n) (cases_Bool (alike (slice_index_or shapes n no_shape) shape))
-  where
-    step : Among shapes shape n → (alike (slice_index_or shapes n no_shape) shape ≡ true) ⊎ (alike (slice_index_or shapes n no_shape) shape ≡ false) → Among shapes shape (suc n)
-    step (inl found) test = inl (found.0, omega (arith, found.1), found.2)
-    step (inr none) (inl here) = inl (n, omega arith, alike-tells (slice_index_or shapes n no_shape) shape here)
-    step (inr none) (inr other) = inr (λ k below same. ⊎_elim
-        (λ (last : k ≡ n). absurd (false≢true (sym other ∙ alike-holds (slice_index_or shapes n no_shape) shape (rw last at same))))
-        (λ (apart : k ≡ n → ⊥). none k (omega arith) same)
-        (cases_eq k n))
+-- the shape that stands at a moment
+abbrev standing : Net → ℕ → Shape
+standing net t = record { tokens = (shape_at net t).tokens; phases = (shape_at net t).phases; remaining = (shape_at net t).remaining }
+
+-- an event before m has the shape at t, or none has
+Among : Net → ℕ → ℕ → Type 0
+Among net t m = ((u : ℕ) × (u < m) × IsEvent net u × (shape_at net u ≡ shape_at net t)) ⊎ ((u : ℕ) → u < m → IsEvent net u → shape_at net u ≢ shape_at net t)
 
 module _ (net : Net) (laws : Lawful net) (fed : HasInputs net) (live : IsLive net) where
   -- one of the first n actors has a firing that runs on, or all of their firings have ended
@@ -114,43 +103,73 @@ module _ (net : Net) (laws : Lawful net) (fed : HasInputs net) (live : IsLive ne
       step : (t : ℕ) × IsEvent net t × (events_by net t ≡ n + 1) → (t : ℕ) × IsEvent net t × (events_by net t ≡ suc n + 1)
       step (t, event, number) = let next = next-event t in (next.0, next.1.event, omega (arith, rank-after net laws fed t next.0 next.1))
 
+  among : (t m : ℕ) → Among net t m
+  unfolding Among
+  among t zero = inr (λ u below event same. absurd (omega arith))
+  among t (suc m) = step (among t m) (cases_Bool (is_event net m)) (cases_Bool (alike (standing net m) (standing net t)))
+    where
+      step : Among net t m → (is_event net m ≡ true) ⊎ (is_event net m ≡ false) → (alike (standing net m) (standing net t) ≡ true) ⊎ (alike (standing net m) (standing net t) ≡ false) → Among net t (suc m)
+      step (inl found) event test = inl (found.0, omega (arith, found.1), found.2, found.3)
+      step (inr none) (inl event) (inl here) = inl (m, omega arith, event-tells net m event, alike-tells (standing net m) (standing net t) here)
+      step (inr none) (inl event) (inr other) = inr (λ u below at same. ⊎_elim
+          (λ (last : u ≡ m). absurd (false≢true (sym other ∙ alike-holds (standing net m) (standing net t) (rw last at same))))
+          (λ (apart : u ≡ m → ⊥). none u (omega arith) at same)
+          (cases_eq u m))
+      step (inr none) (inr quiet) test = inr (λ u below at same. ⊎_elim
+          (λ (last : u ≡ m). absurd (false≢true (sym quiet ∙ rw last at (event-test net laws fed u at))))
+          (λ (apart : u ≡ m → ⊥). none u (omega arith) at same)
+          (cases_eq u m))
+
   -- the shapes of the first n events differ, or a loop closes among them
   Differs : ℕ → Type 0
-  Differs n =
-      ((moments : List ℕ) × (shapes : List Shape) × (length moments ≡ n) × AreVisits net moments shapes)
-      ⊎ ((entry : ℕ) × (period : ℕ) × IsLoop net entry period × (events_by net (entry + period) ≤ n))
+  Differs n = FirstDiffer net n ⊎ ((entry : ℕ) × (period : ℕ) × IsLoop net entry period × (events_by net (entry + period) ≤ n))
 
   differs : (n : ℕ) → Differs n
   unfolding Differs Among
-  differs zero = inl ([], [], refl, no-visits net [] [] refl refl)
+  differs zero = inl (λ t u one other less few same. absurd (omega (arith, rank-first net, rank-rises net 0 u (omega arith))))
   differs (suc n) = step (differs n) (numbered n)
     where
       step : Differs n → (t : ℕ) × IsEvent net t × (events_by net t ≡ n + 1) → Differs (suc n)
       step (inr (entry, period, loop, number)) next = inr (entry, period, loop, omega arith)
-      step (inl (moments, shapes, long, visits)) (t, event, number) =
-          let shape : Shape = record { tokens = (shape_at net t).tokens; phases = (shape_at net t).phases; remaining = (shape_at net t).remaining } in
-          ⊎_elim
-          (λ (found : (k : ℕ) × (k < length shapes) × (form (slice_index_or shapes k no_shape) ≡ shape_at net t)).
-          let place : found.0 < length moments = omega (arith, found.1, visits.long) in
-          let closes = loop-closes net laws fed moments shapes t found.0 visits place event (omega arith) (sym (visits.stand found.0 place) ∙ found.2) in
-          let less : slice_index moments found.0 < t = closes.0 in
-          let end : slice_index moments found.0 + (t - slice_index moments found.0) ≡ t = omega arith in
-          inr (slice_index moments found.0, t - slice_index moments found.0, closes.1, rw end (omega arith)))
-          (λ (none : (k : ℕ) → k < length shapes → form (slice_index_or shapes k no_shape) ≢ shape_at net t).
-          inl (moments ++ t ∷ [], shapes ++ shape ∷ [], omega (arith, length-append moments (t ∷ [])), visits-push net laws fed moments shapes t shape visits event (omega arith) refl none))
-          (among shapes shape (length shapes))
+      step (inl differ) (t, event, number) = ⊎_elim
+          (λ (found : (u : ℕ) × (u < t) × IsEvent net u × (shape_at net u ≡ shape_at net t)).
+          let end : found.0 + (t - found.0) ≡ t = omega (arith, found.1) in
+          inr (
+            found.0,
+            t - found.0,
+            record {
+              enters = found.2;
+              repeats = rw end event;
+              passes = omega (arith, found.1);
+              same = rw end found.3;
+              first = λ x y one other less soon. differ x y one other less (omega (arith, rank-grows net laws fed y t (rw end at soon) event));
+            },
+            rw end (omega arith),
+          ))
+          (λ (none : (u : ℕ) → u < t → IsEvent net u → shape_at net u ≢ shape_at net t).
+          inl (λ x y one other less few same. ⊎_elim
+          (λ (last : y ≡ t). none x (omega arith) one (rw last at same))
+          (λ (apart : y ≡ t → ⊥). differ x y one other less (before y other few apart) same)
+          (cases_eq y t)))
+          (among t t)
+        where
+          before : (y : ℕ) → IsEvent net y → events_by net y ≤ suc n → (y ≡ t → ⊥) → events_by net y ≤ n
+          before y other few apart =
+              let le : y ≤ t = rank-orders net laws fed y t other (omega arith) in
+              let less : y < t = below_apart y t le apart in
+              omega (arith, rank-grows net laws fed y t less event)
 
   pub many-passes : (states : ℕ) → 1 ≤ states → IsTooManyStarts net states → PassesStarts net states
   unfolding Differs
   many-passes states some many = step (differs states) (numbered (states - 1))
     where
       step : Differs states → (t : ℕ) × IsEvent net t × (events_by net t ≡ states - 1 + 1) → PassesStarts net states
-      step (inl (moments, shapes, long, visits)) (t, event, number) =
+      step (inl differ) (t, event, number) =
           let whole : events_by net t ≡ states = omega arith in
           let number_there : events_by net many.last ≤ states = many.number in
           let more : 4000000 < starts_by net many.last = many.many in
           let order : many.last ≤ t = rank-orders net laws fed many.last t many.event (omega arith) in
-          inl (rw long at visits.differ, (t, event, whole, omega (arith, starts-rise net laws fed many.last t order)))
+          inl (differ, (t, event, whole, omega (arith, starts-rise net laws fed many.last t order)))
       step (inr (entry, period, loop, number)) next =
           let passes : 1 ≤ period = loop.passes in
           let more : 4000000 < starts_by net many.last = many.many in

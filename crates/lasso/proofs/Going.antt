@@ -14,7 +14,7 @@ use Rattle.selftimed.specs.declared.engine.Stage.TheVariants.{Fresh, Running, Sp
 use Rattle.selftimed.specs.declared.engine.Move.{Move}
 use Rattle.selftimed.specs.declared.engine.Move.TheVariants.{Stepped, Stuck}
 use Rattle.selftimed.specs.Moves.{IsNext, ComesNext, IsStuck, IsMove}
-use Rattle.lasso.specs.inside.Visits.{GoesOn}
+use Rattle.lasso.specs.inside.Going.{GoesOn}
 use Rattle.lasso.proofs.Ranks.{starts-rise}
 
 pub never-stuck : (net : Net) → Lawful net → IsLive net → (stage : Stage) (now : ℕ) → IsStuck net stage now → ⊥

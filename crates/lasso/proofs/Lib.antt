@@ -1,6 +1,9 @@
 pub mod Ranks
+pub mod Recurring
 pub mod Going
 pub mod Visiting
+pub mod Searched
+pub mod Repeated
 pub mod Collected
 pub mod Keys
 pub mod OneEnding

@@ -1,2 +1,3 @@
-pub mod Visits
+pub mod Going
+pub mod Searching
 pub mod Collecting

@@ -5,9 +5,10 @@ mod error;
 mod laws;
 mod repeat;
 mod run;
+mod search;
+mod steps;
 mod table;
-mod visits;
 
 pub use error::RunError;
 pub use laws::{one_ending, starts_are_counted_to_the_first_repeat};
-pub use run::run_loop;
+pub use run::{run_loop, run_loop_on};

@@ -1,63 +1,108 @@
-ghost use Rattle.std.specs.Prelude.{◌≡◌, ◌≤◌, ◌<◌, ◌⊎◌, IfErr, IfOk};
+//! The first shape that comes again, once the time from a shape to its like is known.
+ghost use Rattle.std.specs.Prelude.{◌≡◌, ℕ, ◌↔◌, ◌+◌, ◌≤◌, IfErr, IfOk, IsTrue, MatchBool};
+ghost use Rattle.sd_base.specs.declared.limits.TheConstants.{STARTS};
 ghost use Rattle.sd_base.specs.Schedules.{HasInputs};
+ghost use Rattle.sd_base.specs.SelfTimed.{IsEvent, starts_by};
 ghost use Rattle.sd_base.specs.Untimed.{IsLive};
 ghost use Rattle.selftimed.specs.declared.engine.Stage.TheVariants.{Fresh, Running};
 ghost use Rattle.lasso.specs.LoopAnswers.{IsRunRefusal};
-ghost use Rattle.lasso.specs.inside.Visits.{GoesOn, IsRepeat};
+ghost use Rattle.lasso.specs.inside.Going.{Follows};
+ghost use Rattle.lasso.specs.inside.Searching.{IsPeriod, IsLikeness, IsRepeat};
 
 use crate::error::RunError;
-use crate::visits::Visits;
+use crate::steps::{go_on, next_event};
 use firing::Firing;
 use sd_base::NoMemory;
-use sd_base::limits::STARTS;
-use selftimed::{Engine, Move};
-use std::alloc::Global;
+use selftimed::Engine;
 
-/// The moments at which the shape of the loop's entry stands first and again.
-#[derive(Clone, Copy, Debug)]
-pub(crate) struct Repeat {
-    pub(crate) entry: u64,
-    pub(crate) end: u64,
-}
-
-/// Runs until a shape comes again, for at most `states` shapes.
-pub(crate) fn first_repeat<F: Firing>(
-    alloc: Global,
-    net: &F,
+/// Runs `lead` until it stands where `trail`, which follows it `period` time units behind, stands too, for
+/// at most `states` shapes. Answers the moment of `lead`.
+pub(crate) fn first_repeat<'a, F: Firing>(
+    lead: &mut Engine<'a, F>,
+    trail: &mut Engine<'a, F>,
+    period: u64,
     states: u64,
-) -> Result<Repeat, RunError>
-    requires live { IsLive (F.net net.now) }
-    requires inputs { HasInputs (F.net net.now) }
+) -> Result<u64, RunError>
+    requires live { IsLive (F.net lead.old.net.now) }
+    requires inputs { HasInputs (F.net lead.old.net.now) }
+    requires net { trail.old.net.now ≡ lead.old.net.now }
+    requires lead { lead.old.stage ≡ Fresh }
+    requires start { lead.old.moment ≡ 0 }
+    requires trail { trail.old.stage ≡ Fresh }
+    requires lead_most { lead.old.most ≡ STARTS }
+    requires trail_most { trail.old.most ≡ STARTS }
+    requires period { IsPeriod (F.net lead.old.net.now) period }
     requires some { 1 ≤ states }
-    ensures found { IfOk result (IsRepeat (F.net net.now) states) }
-    ensures refused { IfErr result (IsRunRefusal (F.net net.now) states) }
+    ensures net { trail.new.net ≡ trail.old.net }
+    ensures most { trail.new.most ≡ trail.old.most }
+    ensures running { IfOk result (λ end. trail.new.stage ≡ Running) }
+    ensures found { IfOk result (λ end. IsRepeat (F.net lead.old.net.now) states trail.new.moment end) }
+    ensures refused { IfErr result (IsRunRefusal (F.net lead.old.net.now) states) }
 {
-    let mut engine = Engine::new(alloc, net, STARTS)?;
-    let mut visits = Visits::new(alloc);
+    if !go_on(trail)? {
+        return Err(RunError::TooManyStarts);
+    }
     'events: for _event in 0..states {
-        if !go_on(&mut engine)? {
+        if !go_on(lead)? {
             return Err(RunError::TooManyStarts);
         }
-        let end = engine.moment();
-        if let Some(entry) = visits.visit(engine.shape(alloc)?, end)? {
-            return Ok(Repeat { entry, end });
+        if meets(lead, trail, period)? {
+            return Ok(lead.moment());
         }
     }
     Err(RunError::StatesSpent)
 }
 
-/// Goes to the next event, which every live net has, and tells whether its starts are within the bound.
-pub(crate) fn go_on<F: Firing>(engine: &mut Engine<F>) -> Result<bool, NoMemory>
-    requires live { IsLive (F.net engine.old.net.now) }
-    requires inputs { HasInputs (F.net engine.old.net.now) }
-    requires stage { (engine.old.stage ≡ Fresh) ⊎ (engine.old.stage ≡ Running) }
-    ensures net { engine.new.net ≡ engine.old.net }
-    ensures most { engine.new.most ≡ engine.old.most }
-    ensures goes { IfOk result (λ goes. GoesOn (F.net engine.old.net.now) engine.old.most engine.old.stage engine.old.moment goes engine.new.stage engine.new.moment) }
+/// Brings `trail` so far behind `lead`, and tells whether the same stands at both.
+fn meets<'a, F: Firing>(
+    lead: &Engine<'a, F>,
+    trail: &mut Engine<'a, F>,
+    period: u64,
+) -> Result<bool, NoMemory>
+    requires live { IsLive (F.net lead.now.net.now) }
+    requires inputs { HasInputs (F.net lead.now.net.now) }
+    requires net { trail.old.net.now ≡ lead.now.net.now }
+    requires lead { lead.now.stage ≡ Running }
+    requires trail { trail.old.stage ≡ Running }
+    requires some { 1 ≤ period }
+    requires event { IsEvent (F.net lead.now.net.now) lead.now.moment }
+    requires few { starts_by (F.net lead.now.net.now) lead.now.moment ≤ trail.old.most }
+    requires follows { Follows (F.net lead.now.net.now) period lead.now.moment trail.old.moment }
+    ensures net { trail.new.net ≡ trail.old.net }
+    ensures most { trail.new.most ≡ trail.old.most }
+    ensures running { IfOk result (λ met. trail.new.stage ≡ Running) }
+    ensures follows { IfOk result (λ met. Follows (F.net lead.now.net.now) period lead.now.moment trail.new.moment) }
+    ensures met { IfOk result (λ met. MatchBool met (IsLikeness (F.net lead.now.net.now) period trail.new.moment lead.now.moment)
+        ((x : ℕ) → ¬ IsLikeness (F.net lead.now.net.now) period x lead.now.moment)) }
 {
-    match engine.advance()? {
-        Move::Stepped => Ok(true),
-        Move::Spent => Ok(false),
-        Move::Stuck => unreachable!(),
+    if !follow(trail, lead.moment(), period)? {
+        return Ok(false);
     }
+    Ok(lead.same_as(trail))
+}
+
+/// Brings an engine to the first event that is not before `period` time units ahead of `end`, and tells
+/// whether it stands just there.
+fn follow<F: Firing>(trail: &mut Engine<F>, end: u64, period: u64) -> Result<bool, NoMemory>
+    requires live { IsLive (F.net trail.old.net.now) }
+    requires inputs { HasInputs (F.net trail.old.net.now) }
+    requires running { trail.old.stage ≡ Running }
+    requires some { 1 ≤ period }
+    requires event { IsEvent (F.net trail.old.net.now) end }
+    requires few { starts_by (F.net trail.old.net.now) end ≤ trail.old.most }
+    requires follows { Follows (F.net trail.old.net.now) period end trail.old.moment }
+    ensures net { trail.new.net ≡ trail.old.net }
+    ensures most { trail.new.most ≡ trail.old.most }
+    ensures running { IfOk result (λ there. trail.new.stage ≡ Running) }
+    ensures follows { IfOk result (λ there. Follows (F.net trail.old.net.now) period end trail.new.moment) }
+    ensures reached { IfOk result (λ there. end ≤ trail.new.moment + period) }
+    ensures there { IfOk result (λ there. IsTrue there ↔ (trail.new.moment + period ≡ end)) }
+{
+    if end < period {
+        return Ok(false);
+    }
+    'events: while trail.moment() < end - period {
+        next_event(trail)?;
+    }
+    Ok(trail.moment() == end - period)
 }

@@ -3,21 +3,27 @@ ghost use Rattle.sd_base.specs.declared.limits.TheConstants.{STATES, LEAST_STATE
 ghost use Rattle.sd_base.specs.Schedules.{HasInputs};
 ghost use Rattle.sd_base.specs.Untimed.{IsLive};
 ghost use Rattle.sd_base.specs.Connection.{IsConnected};
+ghost use Rattle.firing.specs.Wiring.{IsWiringOf};
 ghost use Rattle.lasso.specs.LoopAnswers.{IsFound, IsRunRefusal};
 
 use crate::error::RunError;
 use crate::repeat::first_repeat;
+use crate::search::find_pair;
 use crate::table::loop_table;
-use firing::{Firing, LoopTable};
+use firing::{Firing, LoopTable, Wiring};
+use sd_base::limits::STARTS;
 use sd_base::{Ledger, Steps};
+use selftimed::Engine;
 use std::alloc::Global;
 
-/// The loop of self-timed execution, found by keeping each shape until one comes again (Ghamarian et al.
-/// 2006). At most `states` shapes are looked at, and at most `STARTS` firings started. `steps` counts the
+/// The loop of self-timed execution (Ghamarian et al. 2006), found without keeping its shapes (Brent
+/// 1980). At most `states` shapes are looked at, and at most `STARTS` firings started. `steps` counts the
 /// call.
 ///
-/// Cost: an execution up to the first repeat, twice; the shapes up to there are kept meanwhile, each with a
-/// number for each channel, actor and running firing.
+/// Cost: an execution to a shape that came before, at most three times as long as one up to the first
+/// repeat; then one up to the first repeat, followed by a second one up to the entry, which then makes the
+/// starts round the loop. Where a refusal comes, an execution up to twice the moment of the last shape that is
+/// allowed, of at most `STARTS` starts more. Memory: three shapes, and the starts of the table.
 pub fn run_loop<F: Firing, L: Ledger>(
     alloc: Global,
     net: &F,
@@ -35,11 +41,41 @@ pub fn run_loop<F: Firing, L: Ledger>(
     ensures kept { steps.new.share ≡ steps.old.share }
 {
     steps.tick();
-    find_loop(alloc, net, states)
+    let wiring = Wiring::new(alloc, net)?;
+    find_loop(alloc, net, &wiring, states)
+}
+
+/// The loop of a net whose wiring is there already, as `run_loop` finds it.
+pub fn run_loop_on<F: Firing, L: Ledger>(
+    alloc: Global,
+    net: &F,
+    wiring: &Wiring,
+    states: u64,
+    steps: &mut Steps<L>,
+) -> Result<LoopTable, RunError>
+    requires wired { IsWiringOf (F.net net.now) wiring.now }
+    requires live { IsLive (F.net net.now) }
+    requires connected { IsConnected (F.net net.now) }
+    requires inputs { HasInputs (F.net net.now) }
+    requires some { LEAST_STATES ≤ states }
+    requires few { states ≤ STATES }
+    ensures found { IfOk result (IsFound (F.net net.now) states) }
+    ensures refused { IfErr result (IsRunRefusal (F.net net.now) states) }
+    ensures ticked { steps.new.count ≡ steps.old.count + 1 }
+    ensures kept { steps.new.share ≡ steps.old.share }
+{
+    steps.tick();
+    find_loop(alloc, net, wiring, states)
 }
 
 /// The loop, uncounted.
-fn find_loop<F: Firing>(alloc: Global, net: &F, states: u64) -> Result<LoopTable, RunError>
+fn find_loop<F: Firing>(
+    alloc: Global,
+    net: &F,
+    wiring: &Wiring,
+    states: u64,
+) -> Result<LoopTable, RunError>
+    requires wired { IsWiringOf (F.net net.now) wiring.now }
     requires live { IsLive (F.net net.now) }
     requires connected { IsConnected (F.net net.now) }
     requires inputs { HasInputs (F.net net.now) }
@@ -47,7 +83,10 @@ fn find_loop<F: Firing>(alloc: Global, net: &F, states: u64) -> Result<LoopTable
     ensures found { IfOk result (IsFound (F.net net.now) states) }
     ensures refused { IfErr result (IsRunRefusal (F.net net.now) states) }
 {
-    let repeat = first_repeat(alloc, net, states)?;
-    let table = loop_table(alloc, net, repeat)?;
+    let pair = find_pair(alloc, net, wiring, states)?;
+    let mut lead = Engine::new(alloc, net, wiring, STARTS)?;
+    let mut trail = Engine::new(alloc, net, wiring, STARTS)?;
+    let end = first_repeat(&mut lead, &mut trail, pair.later - pair.earlier, states)?;
+    let table = loop_table(alloc, &mut trail, end)?;
     Ok(table)
 }

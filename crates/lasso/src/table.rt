@@ -1,88 +1,47 @@
-ghost use Rattle.std.specs.Prelude.{◌≡◌, ℕ, ◌+◌, ◌-◌, ◌≤◌, ◌<◌, ◌⊎◌, [], ◌++◌, IfOk, OnOk, length, replicate, slice_index};
+ghost use Rattle.std.specs.Prelude.{◌≡◌, ℕ, ◌+◌, ◌-◌, ◌≤◌, ◌<◌, [], ◌++◌, IfOk, OnOk, length, replicate, slice_index};
 ghost use Rattle.sd_base.specs.Schedules.{HasInputs, count_of};
 ghost use Rattle.sd_base.specs.Untimed.{IsLive};
 ghost use Rattle.sd_base.specs.SelfTimed.{earliest, IsEvent, starts_by};
-ghost use Rattle.sd_base.specs.Rates.{IsLoopTable};
+ghost use Rattle.sd_base.specs.Rates.{IsLoop, IsLoopTable};
 ghost use Rattle.sd_base.specs.Connection.{IsConnected};
-ghost use Rattle.selftimed.specs.declared.engine.Stage.TheVariants.{Fresh, Running};
-ghost use Rattle.selftimed.specs.Moves.{ComesNext};
-ghost use Rattle.lasso.specs.inside.Visits.{IsRepeat};
+ghost use Rattle.selftimed.specs.declared.engine.Stage.TheVariants.{Running};
 ghost use Rattle.lasso.specs.inside.Collecting.{AreStartsAfter, AddsStarts};
 
-use crate::repeat::{Repeat, go_on};
+use crate::steps::next_event;
 use firing::{Firing, LoopTable};
-use sd_base::limits::STARTS;
 use sd_base::{NoMemory, Rows};
 use selftimed::Engine;
 use std::alloc::Global;
 
-/// The firings round a loop, by a second execution up to its end.
+/// The firings round a loop, by an engine that stands at its entry and runs to its end.
 pub(crate) fn loop_table<F: Firing>(
     alloc: Global,
-    net: &F,
-    repeat: Repeat,
+    engine: &mut Engine<F>,
+    end: u64,
 ) -> Result<LoopTable, NoMemory>
-    requires live { IsLive (F.net net.now) }
-    requires connected { IsConnected (F.net net.now) }
-    requires inputs { HasInputs (F.net net.now) }
-    requires repeat { (states : ℕ) × IsRepeat (F.net net.now) states repeat }
-    ensures entry { IfOk result (λ table. table.entry ≡ repeat.entry) }
-    ensures period { IfOk result (λ table. table.entry + table.period ≡ repeat.end) }
-    ensures table { IfOk result (λ table. IsLoopTable (F.net net.now) table.entry table.period table.rounds table.before table.starts) }
+    requires live { IsLive (F.net engine.old.net.now) }
+    requires connected { IsConnected (F.net engine.old.net.now) }
+    requires inputs { HasInputs (F.net engine.old.net.now) }
+    requires running { engine.old.stage ≡ Running }
+    requires ahead { engine.old.moment ≤ end }
+    requires loops { IsLoop (F.net engine.old.net.now) engine.old.moment (end - engine.old.moment) }
+    requires few { starts_by (F.net engine.old.net.now) end ≤ engine.old.most }
+    ensures entry { IfOk result (λ table. table.entry ≡ engine.old.moment) }
+    ensures period { IfOk result (λ table. table.entry + table.period ≡ end) }
+    ensures table { IfOk result (λ table. IsLoopTable (F.net engine.old.net.now) table.entry table.period table.rounds table.before table.starts) }
 {
-    let mut engine = Engine::new(alloc, net, STARTS)?;
-    run_to(&mut engine, repeat.entry)?;
-    let before = counts(alloc, &engine)?;
+    let net = engine.net;
+    let entry = engine.moment();
+    let before = counts(alloc, engine)?;
     let mut starts = empty_rows(alloc, net.actors())?;
-    collect(
-        &mut engine,
-        repeat.end,
-        before.as_slice(),
-        starts.as_mut_slice(),
-    )?;
+    collect(engine, end, before.as_slice(), starts.as_mut_slice())?;
     Ok(LoopTable {
-        entry: repeat.entry,
-        period: repeat.end - repeat.entry,
+        entry,
+        period: end - entry,
         rounds: starts[0].len() as u64 / net.round(0),
         before,
         starts: Rows::from_vec(starts),
     })
-}
-
-/// Runs up to and with the event at a moment.
-fn run_to<F: Firing>(engine: &mut Engine<F>, end: u64) -> Result<(), NoMemory>
-    requires live { IsLive (F.net engine.old.net.now) }
-    requires inputs { HasInputs (F.net engine.old.net.now) }
-    requires fresh { engine.old.stage ≡ Fresh }
-    requires event { IsEvent (F.net engine.old.net.now) end }
-    requires few { starts_by (F.net engine.old.net.now) end ≤ engine.old.most }
-    ensures net { engine.new.net ≡ engine.old.net }
-    ensures most { engine.new.most ≡ engine.old.most }
-    ensures running { OnOk result (engine.new.stage ≡ Running) }
-    ensures moment { OnOk result (engine.new.moment ≡ end) }
-{
-    next_event(engine)?;
-    'events: while engine.moment() < end {
-        next_event(engine)?;
-    }
-    Ok(())
-}
-
-/// Goes to an event whose starts are known to be within the bound.
-fn next_event<F: Firing>(engine: &mut Engine<F>) -> Result<(), NoMemory>
-    requires live { IsLive (F.net engine.old.net.now) }
-    requires inputs { HasInputs (F.net engine.old.net.now) }
-    requires stage { (engine.old.stage ≡ Fresh) ⊎ (engine.old.stage ≡ Running) }
-    requires few { (t : ℕ) → ComesNext (F.net engine.old.net.now) engine.old.stage engine.old.moment t → starts_by (F.net engine.old.net.now) t ≤ engine.old.most }
-    ensures net { engine.new.net ≡ engine.old.net }
-    ensures most { engine.new.most ≡ engine.old.most }
-    ensures running { OnOk result (engine.new.stage ≡ Running) }
-    ensures next { OnOk result (ComesNext (F.net engine.old.net.now) engine.old.stage engine.old.moment engine.new.moment) }
-{
-    if !go_on(engine)? {
-        unreachable!()
-    }
-    Ok(())
 }
 
 /// By actor how many firings have started.

@@ -26,12 +26,15 @@ use Rattle.selftimed.proofs.Starting.{sum_to-all, sum_to-same}
 use Rattle.selftimed.proofs.Moving.{inputs-from, starts-sum, next-event, stuck-ended, stuck-lacks}
 
 module _ (net : Net) (laws : Lawful net) (now most : ℕ) (actors : List ActorState) (tokens : List ℕ) (all : ℕ) (stands : Stands net now most actors tokens all) where
-  pub within-most : starts_by net now ≤ most
-  within-most =
+  pub all-starts : all ≡ starts_by net now
+  all-starts =
       let long : length (earliest net (suc now)) ≡ length net.times = (early_at net (regular net laws) (inputs-from net stands.fed) (suc now)).admissible.actors in
       let e : now + 1 ≡ suc now = omega arith in
       let counts : sum_to (started_in actors) (length net.times) ≡ sum_to (count_of (earliest net (suc now))) (length net.times) = sum_to-same (count_of (earliest net (suc now))) (started_in actors) (length net.times) stands.counts in
-      rw e (omega (arith, starts-sum (earliest net (suc now)) (length net.times) long, sum_to-all actors (length net.times) stands.stand.long, stands.counted.total, stands.counted.within))
+      rw e (omega (arith, starts-sum (earliest net (suc now)) (length net.times) long, sum_to-all actors (length net.times) stands.stand.long, stands.counted.total))
+
+  pub within-most : starts_by net now ≤ most
+  within-most = omega (arith, all-starts, stands.counted.within)
 
   pub moved-stuck : (stage : Stage) → stage ≡ Running → IsQuiet actors → (stage ≡ stage) × (now ≡ now) × IsStuck net stage now
   moved-stuck stage runs quiet =

@@ -76,6 +76,13 @@ module _ (net : Net) (laws : Lawful net) (now most : ℕ) (actors : List ActorSt
       let e : now + 1 ≡ suc now = omega arith in
       rw (e, tokens_are ∙ tokens-are, phases_are ∙ phases-are, remaining_are ∙ remaining-are) refl
 
+  -- the lists that stand
+  abbrev pub standing : Shape
+  standing = record { tokens = tokens; phases = phases_now net actors; remaining = remaining_now now actors }
+
+  pub stands-form : form standing ≡ shape_at net now
+  stands-form = shape-is tokens (phases_now net actors) (remaining_now now actors) refl refl refl
+
   pub shape-tokens : (other : Shape) → shape_at net now ≡ form other → tokens ≡ other.tokens
   shape-tokens other same =
       let e : now + 1 ≡ suc now = omega arith in

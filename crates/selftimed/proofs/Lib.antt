@@ -6,6 +6,8 @@ pub mod Moving
 pub mod Beginning
 pub mod Advancing
 pub mod Exactness
+pub mod Printing
 pub mod Shaping
+pub mod Comparing
 pub mod ExecutionStands
 pub mod FiringsEnd

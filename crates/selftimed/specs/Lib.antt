@@ -1,3 +1,4 @@
+pub mod Prints
 pub mod Moves
 pub mod inside
 pub mod EngineShapes

@@ -6,7 +6,8 @@ ghost use Rattle.selftimed.specs.inside.Agendas.{Lists};
 
 use crate::actors::{ActorState, ended_by};
 use crate::agenda::Agenda;
-use firing::{Firing, put_tokens};
+use crate::tokens::{Tokens, put_all};
+use firing::Firing;
 use sd_base::NoMemory;
 
 /// Ends the firings of an actor whose end has come.
@@ -16,7 +17,7 @@ pub(crate) fn end_actor<F: Firing>(
     actor: u32,
     moment: u64,
     state: &mut ActorState,
-    tokens: &mut [u128],
+    tokens: &mut Tokens,
 )
     requires actor { actor < length (F.net net.now).times }
     requires listed { IsListed (F.net net.now) Made actor outputs.now }
@@ -26,9 +27,10 @@ pub(crate) fn end_actor<F: Firing>(
     ensures ended { EndsOne moment state.old state.new }
     ensures puts { PutsTokens (F.net net.now) actor state.old.ended (state.new.ended - state.old.ended) tokens.old tokens.new }
     ensures touched { state.new.touched ≡ state.old.touched }
+    ensures long { length tokens.new ≡ length tokens.old }
 {
     let firings = ended_by(state.running.as_slice(), moment);
-    put_tokens(net, outputs, tokens, actor, state.ended, firings as u64);
+    put_all(net, outputs, tokens, actor, state.ended, firings as u64);
     state.running.pop_front(firings);
     state.ended += firings as u64;
 }

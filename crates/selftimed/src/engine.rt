@@ -1,22 +1,25 @@
 ghost use Rattle.std.specs.Prelude.{◌≡◌, ◌↔◌, IsTrue, ◌+◌, ◌^◌, ◌<◌, ◌≤◌, length, IfOk, IfErr};
 ghost use Rattle.sd_base.specs.Schedules.{count_of};
-ghost use Rattle.sd_base.specs.SelfTimed.{earliest, shape_at};
+ghost use Rattle.sd_base.specs.SelfTimed.{earliest, shape_at, starts_by};
 ghost use Rattle.selftimed.specs.inside.Plans.{Plans};
 ghost use Rattle.selftimed.specs.EngineShapes.{form};
+ghost use Rattle.selftimed.specs.Prints.{print_of};
 ghost use Rattle.selftimed.specs.Moves.{IsMove, IsStuck, IsSpent};
 ghost use Rattle.firing.specs.declared.sums.Port.TheVariants.{Made, Taken};
-ghost use Rattle.firing.specs.Wiring.{AreListed};
+ghost use Rattle.firing.specs.Wiring.{AreListed, IsWiringOf};
 ghost use Rattle.selftimed.specs.declared.engine.Stage.{Stage};
 ghost use Rattle.selftimed.specs.declared.engine.Move.{Move};
 ghost use Rattle.selftimed.specs.inside.Stands.{IsFresh, Stands};
 
 use crate::actors::{ActorState, new_actors};
 use crate::agenda::Agenda;
+use crate::compare::{same_running, same_stands};
 use crate::event::Event;
 use crate::shape::{
     Shape, phases_of, remaining_of, same_phases, same_remaining, same_tokens, tokens_of,
 };
-use firing::{Firing, Wiring, initial_tokens};
+use crate::tokens::Tokens;
+use firing::{Firing, Wiring, know_wiring};
 use sd_base::NoMemory;
 use std::alloc::Global;
 
@@ -56,32 +59,38 @@ pub struct Engine<'a, F: Firing> {
     pub moment: u64,
     /// How many firings may start in all.
     pub most: u64,
-    wiring: Wiring,
+    wiring: &'a Wiring,
     all: u64,
     actors: Vec<ActorState>,
-    tokens: Vec<u128>,
+    tokens: Tokens,
     agenda: Agenda,
     ghost few: { most ≤ 2 ^ 32 },
-    ghost inputs: { AreListed (F.net net.now) Taken wiring.inputs },
-    ghost outputs: { AreListed (F.net net.now) Made wiring.outputs },
-    ghost fresh: { stage ≡ Stage.Fresh → IsFresh (F.net net.now) most actors.items tokens.items all },
+    ghost inputs: { AreListed (F.net net.now) Taken wiring.now.inputs },
+    ghost outputs: { AreListed (F.net net.now) Made wiring.now.outputs },
+    ghost fresh: { stage ≡ Stage.Fresh → IsFresh (F.net net.now) most actors.items tokens all },
     ghost waits: { stage ≡ Stage.Fresh → Plans (F.net net.now) actors.items agenda },
     ghost goes: { stage ≡ Stage.Running → Plans (F.net net.now) actors.items agenda },
-    ghost stands: { stage ≡ Stage.Running → Stands (F.net net.now) moment most actors.items tokens.items all },
+    ghost stands: { stage ≡ Stage.Running → Stands (F.net net.now) moment most actors.items tokens all },
 }
 
 impl<'a, F: Firing> Engine<'a, F> {
-    /// An engine that stands before the first event. Cost: that of the wiring of the net.
-    pub fn new(alloc: Global, net: &'a F, most: u64) -> Result<Engine<'a, F>, NoMemory>
-        requires { most ≤ 2 ^ 32 }
+    /// An engine that stands before the first event. Cost: linear in the actors and channels of the net.
+    pub fn new(
+        alloc: Global,
+        net: &'a F,
+        wiring: &'a Wiring,
+        most: u64,
+    ) -> Result<Engine<'a, F>, NoMemory>
+        requires wired { IsWiringOf (F.net net.now) wiring.now }
+        requires most { most ≤ 2 ^ 32 }
         ensures net { IfOk result (λ e. e.net.now ≡ net.now) }
         ensures stage { IfOk result (λ e. e.stage ≡ Stage.Fresh) }
         ensures moment { IfOk result (λ e. e.moment ≡ 0) }
         ensures most { IfOk result (λ e. e.most ≡ most) }
     {
-        let wiring = Wiring::new(alloc, net)?;
+        know_wiring(net, wiring);
         let actors = new_actors(alloc, net.actors())?;
-        let tokens = initial_tokens(alloc, net)?;
+        let tokens = Tokens::new(alloc, net)?;
         let agenda = Agenda::new(alloc, net.actors())?;
         Ok(Engine {
             net,
@@ -129,14 +138,14 @@ impl<'a, F: Firing> Engine<'a, F> {
         self.stage = Stage::OutOfMemory;
         let event = Event {
             net: self.net,
-            wiring: &self.wiring,
+            wiring: self.wiring,
             moment: 0,
             most: self.most,
         };
         let fits = event.begin(
             &mut self.all,
             self.actors.as_mut_slice(),
-            self.tokens.as_mut_slice(),
+            &mut self.tokens,
             &mut self.agenda,
         )?;
         if !fits {
@@ -166,14 +175,14 @@ impl<'a, F: Firing> Engine<'a, F> {
         self.stage = Stage::OutOfMemory;
         let event = Event {
             net: self.net,
-            wiring: &self.wiring,
+            wiring: self.wiring,
             moment,
             most: self.most,
         };
         let fits = event.follow(
             &mut self.all,
             self.actors.as_mut_slice(),
-            self.tokens.as_mut_slice(),
+            &mut self.tokens,
             &mut self.agenda,
         )?;
         if !fits {
@@ -206,6 +215,22 @@ impl<'a, F: Firing> Engine<'a, F> {
         self.moment
     }
 
+    /// How many firings have started up to and with the last event.
+    pub fn starts(&self) -> u64
+        requires { self.now.stage ≡ Stage.Running }
+        ensures { result ≡ starts_by (F.net self.now.net.now) self.now.moment }
+    {
+        self.all
+    }
+
+    /// The print of the tokens that stand after the starts of the last event: equal shapes have equal prints.
+    pub fn print(&self) -> u64
+        requires { self.now.stage ≡ Stage.Running }
+        ensures { result ≡ print_of (shape_at (F.net self.now.net.now) self.now.moment).tokens }
+    {
+        self.tokens.print()
+    }
+
     /// What stands after the starts of the last event.
     pub fn shape(&self, alloc: Global) -> Result<Shape, NoMemory>
         requires { self.now.stage ≡ Stage.Running }
@@ -233,6 +258,27 @@ impl<'a, F: Firing> Engine<'a, F> {
             self.moment,
             self.actors.as_slice(),
             other.remaining.as_slice(),
+        )
+    }
+
+    /// Whether the same stands after the last event of another execution of the net.
+    pub fn same_as(&self, other: &Engine<'a, F>) -> bool
+        requires net { other.now.net.now ≡ self.now.net.now }
+        requires here { self.now.stage ≡ Stage.Running }
+        requires there { other.now.stage ≡ Stage.Running }
+        ensures { IsTrue result ↔ (shape_at (F.net self.now.net.now) self.now.moment ≡ shape_at (F.net self.now.net.now) other.now.moment) }
+    {
+        if !self.tokens.same_as(&other.tokens) {
+            return false;
+        }
+        if !same_stands(self.net, self.actors.as_slice(), other.actors.as_slice()) {
+            return false;
+        }
+        same_running(
+            self.moment,
+            self.actors.as_slice(),
+            other.moment,
+            other.actors.as_slice(),
         )
     }
 }

@@ -13,6 +13,7 @@ use crate::actors::ActorState;
 use crate::agenda::Agenda;
 use crate::ends::{end_actor, touch_targets};
 use crate::starts::Turn;
+use crate::tokens::Tokens;
 use firing::{Firing, Wiring, know_laws};
 use sd_base::NoMemory;
 
@@ -34,7 +35,7 @@ impl<F: Firing> Event<'_, F> {
         &self,
         all: &mut u64,
         actors: &mut [ActorState],
-        tokens: &mut [u128],
+        tokens: &mut Tokens,
         agenda: &mut Agenda,
     ) -> Result<bool, NoMemory>
         requires first { self.now.moment ≡ 0 }
@@ -54,7 +55,7 @@ impl<F: Firing> Event<'_, F> {
         &self,
         all: &mut u64,
         actors: &mut [ActorState],
-        tokens: &mut [u128],
+        tokens: &mut Tokens,
         agenda: &mut Agenda,
     ) -> Result<bool, NoMemory>
         requires stands { (now : ℕ) × Stands (F.net self.now.net.now) now self.now.most actors.old tokens.old all.old }
@@ -74,7 +75,7 @@ impl<F: Firing> Event<'_, F> {
     fn end_all(
         &self,
         actors: &mut [ActorState],
-        tokens: &mut [u128],
+        tokens: &mut Tokens,
         agenda: &mut Agenda,
     ) -> Result<(), NoMemory>
         requires stand { Stand (F.net self.now.net.now) actors.old tokens.old }
@@ -105,7 +106,7 @@ impl<F: Firing> Event<'_, F> {
         &self,
         all: &mut u64,
         actors: &mut [ActorState],
-        tokens: &mut [u128],
+        tokens: &mut Tokens,
         agenda: &mut Agenda,
     ) -> Result<bool, NoMemory>
         requires stand { Stand (F.net self.now.net.now) actors.old tokens.old }

@@ -3,12 +3,14 @@
 
 mod actors;
 mod agenda;
+mod compare;
 mod ends;
 mod engine;
 mod event;
 mod running;
 mod shape;
 mod starts;
+mod tokens;
 
 pub use engine::{Engine, Move, Stage};
 pub use shape::Shape;

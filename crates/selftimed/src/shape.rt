@@ -44,7 +44,7 @@ pub(crate) fn phases_of<F: Firing>(
 }
 
 /// The phase of an actor's next firing.
-fn phase_of<F: Firing>(net: &F, actor: u32, state: &ActorState) -> u32
+pub(crate) fn phase_of<F: Firing>(net: &F, actor: u32, state: &ActorState) -> u32
     requires { actor < length (F.net net.now).times }
     ensures { result ≡ state.now.started % phases_at (F.net net.now) actor }
 {

@@ -6,7 +6,8 @@ ghost use Rattle.selftimed.specs.inside.Starts.{AddsEnds, Feeds, StartsAll, Over
 
 use crate::actors::ActorState;
 use crate::running::Running;
-use firing::{Firing, first_lack, know_laws, take_tokens};
+use crate::tokens::{Tokens, take_all};
+use firing::{Firing, first_lack, know_laws};
 use sd_base::NoMemory;
 
 /// The turn of an actor at a moment, to start what firings of it can start.
@@ -29,11 +30,12 @@ impl<F: Firing> Turn<'_, F> {
         &self,
         room: u64,
         state: &mut ActorState,
-        tokens: &mut [u128],
+        tokens: &mut Tokens,
     ) -> Result<Option<u64>, NoMemory>
         requires tokens { length tokens.old ≡ length (F.net self.now.net.now).channels }
         requires few { state.old.started + room ≤ 2 ^ 32 }
-        ensures { IfOk result (λ o. MatchOption o (Overfills (F.net self.now.net.now) tokens.old self.now.actor state.old.started room)
+        ensures long { length tokens.new ≡ length tokens.old }
+        ensures starts { IfOk result (λ o. MatchOption o (Overfills (F.net self.now.net.now) tokens.old self.now.actor state.old.started room)
             (λ n. (n ≤ room) × StartsOne (F.net self.now.net.now) self.now.actor self.now.moment n tokens.old tokens.new state.old state.new)) }
     {
         state.touched = false;
@@ -52,12 +54,13 @@ impl<F: Firing> Turn<'_, F> {
         &self,
         from: u64,
         room: u64,
-        tokens: &mut [u128],
+        tokens: &mut Tokens,
         running: &mut Running,
     ) -> Result<Option<u64>, NoMemory>
         requires tokens { length tokens.old ≡ length (F.net self.now.net.now).channels }
         requires few { from + room ≤ 2 ^ 32 }
-        ensures { IfOk result (λ o. MatchOption o (Overfills (F.net self.now.net.now) tokens.old self.now.actor from room)
+        ensures long { length tokens.new ≡ length tokens.old }
+        ensures starts { IfOk result (λ o. MatchOption o (Overfills (F.net self.now.net.now) tokens.old self.now.actor from room)
             (λ n. (n ≤ room) × StartsAll (F.net self.now.net.now) self.now.actor self.now.moment from n tokens.old tokens.new running.old running.new)) }
     {
         let mut count = 0u64;
@@ -65,17 +68,17 @@ impl<F: Firing> Turn<'_, F> {
             if let Some(_lacking) = first_lack(
                 self.net,
                 self.inputs,
-                tokens,
+                tokens.as_slice(),
                 self.actor,
                 from + count,
             ) {
                 return Ok(Some(count));
             }
-            let batch = self.batch_size(tokens, from + count, room - count + 1);
+            let batch = self.batch_size(tokens.as_slice(), from + count, room - count + 1);
             if batch > room - count {
                 return Ok(None);
             }
-            take_tokens(
+            take_all(
                 self.net,
                 self.inputs,
                 tokens,

@@ -2,7 +2,7 @@ ghost use Rattle.std.specs.Prelude.{◌≤◌, ◌^◌, ◌<◌};
 
 use crate::engine_tests::half_blocked;
 use crate::{PlainRun, run_until};
-use firing::Firing;
+use firing::{Firing, Wiring};
 use liveness::{Round, one_round};
 use selftimed::{Engine, Move, Shape, Stage};
 use std::alloc::Global;
@@ -22,7 +22,8 @@ pub(crate) fn compare<F: Firing>(
     let Some(plain) = run_until(alloc, net, last)? else {
         panic!(rt; "too many starts");
     };
-    let mut engine = Engine::new(alloc, net, 1_000_000)?;
+    let wiring = Wiring::new(alloc, net)?;
+    let mut engine = Engine::new(alloc, net, &wiring, 1_000_000)?;
     let mut next = plain.first_event();
     for _event in 0..last + 2 {
         let step = engine.advance()?;

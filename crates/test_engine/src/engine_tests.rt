@@ -1,6 +1,6 @@
 ghost use Rattle.std.specs.Prelude.{◌≡◌, ◌^◌, ◌≤◌, ◌<◌};
 
-use firing::{Firing, SdfNet};
+use firing::{Firing, SdfNet, Wiring};
 use liveness::{Round, one_round};
 use selftimed::{Engine, Move, Shape, Stage};
 use std::alloc::Global;
@@ -29,7 +29,8 @@ fn at<'a>(moment: u64, started: &'a [u64], tokens: &'a [u128], left: &'a [&'a [u
 
 /// Steps an engine through events.
 fn follow(rt: &impl Abort, alloc: Global, net: &SdfNet, events: &[Event]) -> Result<(), Fail> {
-    let mut engine = Engine::new(alloc, net, 1000)?;
+    let wiring = Wiring::new(alloc, net)?;
+    let mut engine = Engine::new(alloc, net, &wiring, 1000)?;
     for event in events {
         let step = engine.advance()?;
         assert_eq!(rt; step, Move::Stepped, "to {}", event.moment);
@@ -131,7 +132,8 @@ fn multi_rate_ring_enters_its_loop_at_24(rt: HostRuntime) -> Result<(), Fail> {
 
 /// Steps an engine until what stands has stood before, and tells at which two moments.
 fn first_repeat(rt: &impl Abort, alloc: Global, net: &SdfNet) -> Result<Option<(u64, u64)>, Fail> {
-    let mut engine = Engine::new(alloc, net, 1000)?;
+    let wiring = Wiring::new(alloc, net)?;
+    let mut engine = Engine::new(alloc, net, &wiring, 1000)?;
     let mut shapes = Vec::new(alloc);
     for _event in 0..100 {
         let step = engine.advance()?;
@@ -186,7 +188,8 @@ pub(crate) fn half_blocked(alloc: Global) -> Result<SdfNet, test_nets::TableErro
 #[test]
 fn what_cannot_start_is_stuck(rt: HostRuntime) -> Result<(), Fail> {
     let pair = blocked_pair(rt.alloc())?;
-    let mut engine = Engine::new(rt.alloc(), &pair, 1000)?;
+    let wiring = Wiring::new(rt.alloc(), &pair)?;
+    let mut engine = Engine::new(rt.alloc(), &pair, &wiring, 1000)?;
     for _call in 0..2 {
         let step = engine.advance()?;
         assert_eq!(rt; step, Move::Stuck);
@@ -194,7 +197,8 @@ fn what_cannot_start_is_stuck(rt: HostRuntime) -> Result<(), Fail> {
     }
     // The second and the third actor start at 0 and end at 1.
     let half = half_blocked(rt.alloc())?;
-    let mut engine = Engine::new(rt.alloc(), &half, 1000)?;
+    let wiring = Wiring::new(rt.alloc(), &half)?;
+    let mut engine = Engine::new(rt.alloc(), &half, &wiring, 1000)?;
     let steps = [Move::Stepped, Move::Stepped, Move::Stuck, Move::Stuck];
     for want in steps {
         let step = engine.advance()?;
@@ -208,7 +212,8 @@ fn what_cannot_start_is_stuck(rt: HostRuntime) -> Result<(), Fail> {
 fn is_spent_after(alloc: Global, net: &SdfNet, most: u64, steps: u32) -> Result<bool, Fail>
     requires { most ≤ 2 ^ 32 }
 {
-    let mut engine = Engine::new(alloc, net, most)?;
+    let wiring = Wiring::new(alloc, net)?;
+    let mut engine = Engine::new(alloc, net, &wiring, most)?;
     for _step in 0..steps {
         if engine.advance()? != Move::Stepped {
             return Ok(false);

@@ -17,6 +17,8 @@ mod cycle_tests;
 #[cfg(test)]
 mod engine_tests;
 #[cfg(test)]
+mod kept_tests;
+#[cfg(test)]
 mod lasso_tests;
 #[cfg(test)]
 mod loop_tests;

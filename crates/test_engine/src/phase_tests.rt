@@ -1,6 +1,7 @@
 use crate::compare_tests::compare;
 use crate::loop_tests::{check_answer, find_answer};
 use crate::phase_net::TwoPhases;
+use firing::Wiring;
 use liveness::{Round, one_round};
 use selftimed::{Engine, Move, Stage};
 use std::alloc::Global;
@@ -67,7 +68,8 @@ fn follow(
 #[test]
 fn phases_take_turns(rt: HostRuntime) -> Result<(), Fail> {
     let net = TwoPhases::new();
-    let mut engine = Engine::new(rt.alloc(), &net, 1000)?;
+    let wiring = Wiring::new(rt.alloc(), &net)?;
+    let mut engine = Engine::new(rt.alloc(), &net, &wiring, 1000)?;
     let events = [
         at(0, [1, 0], &[0, 1, 0], 1, [&[1], &[]]),
         at(1, [2, 1], &[0, 0, 0], 0, [&[4], &[2]]),

@@ -1,7 +1,9 @@
-use Rattle.firing.proofs.Listings.{rows-push}
+use Rattle.std.proofs.Common.{ℕ, List, ◌<◌, length, subst, sym, ◌∙◌}
+use Rattle.std.specs.Prelude.{slice_index}
+use Rattle.firing.proofs.Wirings.{ends-below}
 use Rattle.firing.proofs.wiring.channels_by_actor.Goals as goal
 
-pub loop-actor-preserved : goal.loop-actor-preserved
-loop-actor-preserved g c =
-    rows-push (g.F.Firing.net c.args.net.now) c.args.port c.loop-actor.actor c.loop-actor.rows c.push.new.self c.in_ok-channels_of.field-0
-    c.in_ok-push.ensures.ok c.loop-actor.invariant c.in_ok-channels_of.ensures
+pub new-requires-clause-below : goal.new-requires-clause-below
+new-requires-clause-below g c =
+    subst (λ (list : List ℕ). (i : ℕ) → i < length list → slice_index list i < c.actors.result) (sym (c.as_slice.ensures.value ∙ c.in_ok-ends.ensures))
+    (rw c.actors.ensures (ends-below (g.F.Firing.net c.args.net.now) c.args.port c.know_laws.ensures))

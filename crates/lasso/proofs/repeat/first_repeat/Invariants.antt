@@ -1,12 +1,18 @@
-use Rattle.std.proofs.Common.{◌≡◌, length}
-use Rattle.lasso.specs.inside.Visits.{AreVisits, StandsAt}
+use Rattle.std.proofs.Common.{◌≡◌}
+use Rattle.selftimed.specs.declared.engine.Stage.TheVariants.{Fresh, Running}
+use Rattle.lasso.specs.inside.Going.{Follows, StandsAt}
+use Rattle.lasso.specs.inside.Searching.{NoneApart}
 use Rattle.lasso.proofs.repeat.first_repeat.Given as goal
 
 abbrev pub invariant-events : goal.invariant-events
 invariant-events g l = record {
-  net : l.engine.net.now ≡ l.net;
-  most : l.engine.most ≡ 4000000;
-  visits : AreVisits (g.F.Firing.net l.net) l.visits.moments.items l.visits.shapes.keys;
-  count : length l.visits.moments.items ≡ l._event;
-  stands : StandsAt (g.F.Firing.net l.net) l._event l.engine.stage l.engine.moment;
+  net : l.lead.net ≡ l.fn.lead.net;
+  most : l.lead.most ≡ 4000000;
+  stands : StandsAt (g.F.Firing.net l.fn.lead.net.now) l._event l.lead.stage l.lead.moment;
+  start : l.lead.stage ≡ Fresh → l.lead.moment ≡ 0;
+  none : NoneApart (g.F.Firing.net l.fn.lead.net.now) l.period l._event;
+  trail_net : l.trail.net ≡ l.fn.trail.net;
+  trail_most : l.trail.most ≡ l.fn.trail.most;
+  trail_running : l.trail.stage ≡ Running;
+  follows : Follows (g.F.Firing.net l.fn.lead.net.now) l.period l.lead.moment l.trail.moment;
 }

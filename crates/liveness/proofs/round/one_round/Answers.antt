@@ -43,3 +43,9 @@ returns-clause-exact g c =
       λ live. absurd (blocked-not_live (g.F.Firing.net c.args.net.now) c.run_out.new.counts c.run_out.new.tokens c.run_out.new.order.items
           (g.met.F.Firing.lawful c.args.net.now) c.in_ok-run_out.ensures.run c.in_ok-run_out.ensures.closed (λ whole. false≢true (c.if-is_whole.ensures.1 (rw (c.as_slice.ensures.value, back) whole))) live),
     )
+
+pub lacking_channels-requires-clause-closed : goal.lacking_channels-requires-clause-closed
+lacking_channels-requires-clause-closed g c =
+    let size : length c.run_out.new.counts ≡ c.in_ok-counts.counts.len = omega (arith, c.run_out.auto.counts, c.as_mut_slice.ensures.len) in
+    let back : take c.in_ok-counts.counts.len (c.run_out.new.counts ++ drop (length c.run_out.new.counts) c.in_ok-counts.counts.items) ≡ c.run_out.new.counts = take_at c.run_out.new.counts (drop (length c.run_out.new.counts) c.in_ok-counts.counts.items) c.in_ok-counts.counts.len size in
+    rw (c.as_slice-2.ensures.value, back) c.in_ok-run_out.ensures.closed

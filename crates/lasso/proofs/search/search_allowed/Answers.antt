@@ -1,0 +1,75 @@
+use Rattle.std.proofs.Common.{◌∙◌, ◌≡◌, ◌≢◌, ◌+◌, refl, inl, ap, arith}
+use Rattle.std.proofs.lemmas.Bool.{false≢true}
+use Rattle.sd_base.specs.SelfTimed.{events_by, shape_at, starts_by}
+use Rattle.selftimed.specs.Moves.{IsNext}
+use Rattle.lasso.proofs.Ranks.{rank-first, rank-after}
+use Rattle.lasso.proofs.Searched.{none-yet, none-more, first-since, few-before, few-first, many-next, many-first}
+use Rattle.lasso.proofs.search.search_allowed.Goals as goal
+
+pub returns-then-not-branch-clause-refused : goal.returns-then-not-branch-clause-refused
+returns-then-not-branch-clause-refused g c =
+    let goes = rw c.requires.fresh at (rw c.requires.most at (rw c.if-not-branch.true at c.in_ok-go_on.ensures.goes)) in
+    many-first (g.F.Firing.net c.args.engine.now.net.now) (g.met.F.Firing.lawful c.args.engine.now.net.now) c.requires.inputs c.args.states goes.0 goes.1 c.requires.some (omega (arith, goes.2))
+
+pub loop-event-init : goal.loop-event-init
+loop-event-init g c =
+    let goes = rw c.requires.fresh at (rw c.if-not-branch.false at c.in_ok-go_on.ensures.goes) in
+    record {
+      net = c.go_on.ensures.net;
+      most = c.go_on.ensures.most;
+      running = goes.0;
+      event = inl goes.1;
+      number = ap (events_by (g.F.Firing.net c.args.engine.now.net.now)) goes.1 ∙ rank-first (g.F.Firing.net c.args.engine.now.net.now);
+      few = few-first (g.F.Firing.net c.args.engine.now.net.now) (g.met.F.Firing.lawful c.args.engine.now.net.now) c.requires.inputs c.go_on.new.engine.moment goes.1;
+      checkpoint = rw c.go_on.ensures.net at c.in_ok-checkpoint.ensures.checkpoint;
+      ahead = omega (arith, c.in_ok-checkpoint.ensures.moment);
+      none = rw c.in_ok-checkpoint.ensures.moment (none-yet (g.F.Firing.net c.args.engine.now.net.now) c.go_on.new.engine.moment);
+    }
+
+pub go_on-requires-in-loop-event-clause-inputs : goal.go_on-requires-in-loop-event-clause-inputs
+go_on-requires-in-loop-event-clause-inputs g c = rw c.loop-event.invariant.net c.requires.inputs
+
+pub returns-then-not-branch-2-clause-refused : goal.returns-then-not-branch-2-clause-refused
+returns-then-not-branch-2-clause-refused g c =
+    let goes = rw c.loop-event.invariant.running at (rw (c.loop-event.invariant.most, c.requires.most) at (rw c.loop-event.invariant.net at (rw c.if-not-branch-2.true at c.in_ok-go_on-2.ensures.goes))) in
+    let here : c.starts.result ≡ starts_by (g.F.Firing.net c.args.engine.now.net.now) c.loop-event.engine.moment = rw c.loop-event.invariant.net at c.starts.ensures in
+    many-next (g.F.Firing.net c.args.engine.now.net.now) (g.met.F.Firing.lawful c.args.engine.now.net.now) c.requires.inputs c.args.states c.loop-event.engine.moment goes.0 goes.1 (omega (arith, c.loop-event.invariant.number, c.loop-event-test.true)) (omega (arith, here, c.if-starts-gt-STARTS.false)) (omega (arith, goes.2))
+
+pub returns-then-stands_at-clause-found : goal.returns-then-stands_at-clause-found
+returns-then-stands_at-clause-found g c =
+    let goes = rw c.loop-event.invariant.running at (rw c.loop-event.invariant.net at (rw c.if-not-branch-2.false at c.in_ok-go_on-2.ensures.goes)) in
+    let next : IsNext (g.F.Firing.net c.args.engine.now.net.now) c.loop-event.engine.moment c.go_on-in-loop-event.new.engine.moment = goes.1 in
+    let same : shape_at (g.F.Firing.net c.args.engine.now.net.now) c.go_on-in-loop-event.new.engine.moment ≡ shape_at (g.F.Firing.net c.args.engine.now.net.now) c.loop-event.checkpoint.moment =
+    rw c.loop-event.invariant.net at (rw c.go_on-in-loop-event.ensures.net at (c.if-stands_at.ensures.0 refl)) in
+    rw c.moment.ensures (record {
+      order = omega (arith, next.later, c.loop-event.invariant.ahead);
+      start = c.loop-event.invariant.checkpoint.event;
+      end = next.event;
+      same = same;
+      first = λ u event after before. first-since (g.F.Firing.net c.args.engine.now.net.now) (g.met.F.Firing.lawful c.args.engine.now.net.now) c.requires.inputs c.loop-event.checkpoint.moment c.loop-event.engine.moment c.go_on-in-loop-event.new.engine.moment u c.loop-event.invariant.none next event after before;
+    })
+
+pub loop-event-preserved : goal.loop-event-preserved
+loop-event-preserved g c =
+    let goes = rw c.loop-event.invariant.running at (rw c.loop-event.invariant.net at (rw c.if-not-branch-2.false at c.in_ok-go_on-2.ensures.goes)) in
+    let next : IsNext (g.F.Firing.net c.args.engine.now.net.now) c.loop-event.engine.moment c.go_on-in-loop-event.new.engine.moment = goes.1 in
+    let here : c.starts.result ≡ starts_by (g.F.Firing.net c.args.engine.now.net.now) c.loop-event.engine.moment = rw c.loop-event.invariant.net at c.starts.ensures in
+    record {
+      net = c.go_on-in-loop-event.ensures.net ∙ c.loop-event.invariant.net;
+      most = c.go_on-in-loop-event.ensures.most ∙ c.loop-event.invariant.most;
+      running = goes.0;
+      event = next.event;
+      number = rank-after (g.F.Firing.net c.args.engine.now.net.now) (g.met.F.Firing.lawful c.args.engine.now.net.now) c.requires.inputs c.loop-event.engine.moment c.go_on-in-loop-event.new.engine.moment next ∙ ap (λ n. n + 1) c.loop-event.invariant.number;
+      few = few-before (g.F.Firing.net c.args.engine.now.net.now) (g.met.F.Firing.lawful c.args.engine.now.net.now) c.requires.inputs c.loop-event.engine.moment c.go_on-in-loop-event.new.engine.moment (omega (arith, here, c.if-starts-gt-STARTS.false)) next;
+      checkpoint = rw (c.go_on-in-loop-event.ensures.net, c.loop-event.invariant.net) at c.in_ok-checkpoint-2.ensures.checkpoint;
+      ahead = c.in_ok-checkpoint-2.ensures.ahead;
+      none = rw (c.go_on-in-loop-event.ensures.net, c.loop-event.invariant.net) at c.in_ok-checkpoint-2.ensures.none;
+    }
+
+pub next_checkpoint-requires-clause-none : goal.next_checkpoint-requires-clause-none
+next_checkpoint-requires-clause-none g c =
+    let goes = rw c.loop-event.invariant.running at (rw c.loop-event.invariant.net at (rw c.if-not-branch-2.false at c.in_ok-go_on-2.ensures.goes)) in
+    let next : IsNext (g.F.Firing.net c.args.engine.now.net.now) c.loop-event.engine.moment c.go_on-in-loop-event.new.engine.moment = goes.1 in
+    let other : shape_at (g.F.Firing.net c.args.engine.now.net.now) c.go_on-in-loop-event.new.engine.moment ≢ shape_at (g.F.Firing.net c.args.engine.now.net.now) c.loop-event.checkpoint.moment =
+    λ same. false≢true (c.if-stands_at.ensures.1 (rw (c.go_on-in-loop-event.ensures.net, c.loop-event.invariant.net) same)) in
+    rw (c.go_on-in-loop-event.ensures.net, c.loop-event.invariant.net) (none-more (g.F.Firing.net c.args.engine.now.net.now) (g.met.F.Firing.lawful c.args.engine.now.net.now) c.requires.inputs c.loop-event.checkpoint.moment c.loop-event.engine.moment c.go_on-in-loop-event.new.engine.moment c.loop-event.invariant.none next other)

@@ -1,0 +1,18 @@
+use Rattle.std.proofs.Common.{◌≡◌, ◌≤◌}
+use Rattle.sd_base.specs.SelfTimed.{IsEvent, events_by}
+use Rattle.selftimed.specs.declared.engine.Stage.TheVariants.{Running}
+use Rattle.lasso.specs.inside.Searching.{IsCheckpoint, NoneSince, FewBefore}
+use Rattle.lasso.proofs.search.search_allowed.Given as goal
+
+abbrev pub invariant-loop-event : goal.invariant-loop-event
+invariant-loop-event g l = record {
+  net : l.engine.net ≡ l.fn.engine.net;
+  most : l.engine.most ≡ l.fn.engine.most;
+  running : l.engine.stage ≡ Running;
+  event : IsEvent (g.F.Firing.net l.fn.engine.net.now) l.engine.moment;
+  number : events_by (g.F.Firing.net l.fn.engine.net.now) l.engine.moment ≡ l._event;
+  few : FewBefore (g.F.Firing.net l.fn.engine.net.now) l.engine.moment;
+  checkpoint : IsCheckpoint (g.F.Firing.net l.fn.engine.net.now) l.checkpoint;
+  ahead : l.checkpoint.moment ≤ l.engine.moment;
+  none : NoneSince (g.F.Firing.net l.fn.engine.net.now) l.checkpoint.moment l.engine.moment;
+}

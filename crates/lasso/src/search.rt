@@ -1,0 +1,188 @@
+//! The search for two equal shapes, by one execution that keeps one shape (Brent 1980).
+ghost use Rattle.std.specs.Prelude.{◌≡◌, ◌↔◌, ◌*◌, ◌≤◌, IfErr, IfOk, IsTrue, MatchOption};
+ghost use Rattle.sd_base.specs.declared.limits.TheConstants.{STARTS};
+ghost use Rattle.sd_base.specs.Schedules.{HasInputs};
+ghost use Rattle.sd_base.specs.SelfTimed.{IsEvent, shape_at};
+ghost use Rattle.sd_base.specs.Untimed.{IsLive};
+ghost use Rattle.firing.specs.Wiring.{IsWiringOf};
+ghost use Rattle.selftimed.specs.declared.engine.Stage.TheVariants.{Fresh, Running};
+ghost use Rattle.lasso.specs.LoopAnswers.{IsRunRefusal};
+ghost use Rattle.lasso.specs.inside.Searching.{IsPair, IsCheckpoint, IsLast, NoneSince, NoneSoon};
+
+use crate::error::RunError;
+use crate::steps::go_on;
+use firing::{Firing, Wiring};
+use sd_base::NoMemory;
+use sd_base::limits::STARTS;
+use selftimed::{Engine, Shape};
+use std::alloc::Global;
+
+/// How many starts the search makes at most. If a shape comes again within `STARTS` starts, the last
+/// checkpoint stands within twice as many, and comes again within as many more.
+const SEARCH_STARTS: u64 = 4 * STARTS;
+
+/// Two moments of equal shapes: the later one is the first at which the shape of the earlier one comes again.
+#[derive(Clone, Copy, Debug)]
+pub(crate) struct Pair {
+    pub(crate) earlier: u64,
+    pub(crate) later: u64,
+}
+
+/// A shape that the later ones are compared with.
+#[derive(Drop)]
+pub(crate) struct Checkpoint {
+    pub(crate) shape: Shape,
+    pub(crate) print: u64,
+    pub(crate) moment: u64,
+    pub(crate) starts: u64,
+}
+
+/// Finds a shape and the first one after it that is equal. The first shape is the first checkpoint. A
+/// later shape becomes the checkpoint when the starts up to it are more than twice those up to the one
+/// before, and so does the last shape that is allowed: if a shape up to there comes again, then it does.
+pub(crate) fn find_pair<F: Firing>(
+    alloc: Global,
+    net: &F,
+    wiring: &Wiring,
+    states: u64,
+) -> Result<Pair, RunError>
+    requires wired { IsWiringOf (F.net net.now) wiring.now }
+    requires live { IsLive (F.net net.now) }
+    requires inputs { HasInputs (F.net net.now) }
+    requires some { 1 ≤ states }
+    ensures found { IfOk result (IsPair (F.net net.now)) }
+    ensures refused { IfErr result (IsRunRefusal (F.net net.now) states) }
+{
+    let mut engine = Engine::new(alloc, net, wiring, SEARCH_STARTS)?;
+    if let Some(pair) = search_allowed(alloc, &mut engine, states)? {
+        return Ok(pair);
+    }
+    let last = checkpoint_of(alloc, &engine)?;
+    if let Some(pair) = search_on(&mut engine, &last)? {
+        return Ok(pair);
+    }
+    if last.starts <= STARTS {
+        Err(RunError::StatesSpent)
+    } else {
+        Err(RunError::TooManyStarts)
+    }
+}
+
+/// Compares each of the first `states` shapes with the checkpoint, up to the first one with more than
+/// `STARTS` starts. None: no checkpoint came again.
+fn search_allowed<F: Firing>(
+    alloc: Global,
+    engine: &mut Engine<F>,
+    states: u64,
+) -> Result<Option<Pair>, RunError>
+    requires live { IsLive (F.net engine.old.net.now) }
+    requires inputs { HasInputs (F.net engine.old.net.now) }
+    requires fresh { engine.old.stage ≡ Fresh }
+    requires most { engine.old.most ≡ 4 * STARTS }
+    requires some { 1 ≤ states }
+    ensures net { engine.new.net ≡ engine.old.net }
+    ensures most { engine.new.most ≡ engine.old.most }
+    ensures found { IfOk result (λ o. MatchOption o ((engine.new.stage ≡ Running) × IsLast (F.net engine.old.net.now) states engine.new.moment) (IsPair (F.net engine.old.net.now))) }
+    ensures refused { IfErr result (IsRunRefusal (F.net engine.old.net.now) states) }
+{
+    if !go_on(engine)? {
+        return Err(RunError::TooManyStarts);
+    }
+    let mut checkpoint = checkpoint_of(alloc, engine)?;
+    for _event in 1..states {
+        if engine.starts() > STARTS {
+            return Ok(None);
+        }
+        if !go_on(engine)? {
+            return Err(RunError::TooManyStarts);
+        }
+        if stands_at(engine, &checkpoint) {
+            return Ok(Some(Pair {
+                earlier: checkpoint.moment,
+                later: engine.moment(),
+            }));
+        }
+        checkpoint = next_checkpoint(alloc, engine, checkpoint)?;
+    }
+    Ok(None)
+}
+
+/// The shape at which an engine stands if its starts are more than twice those of the checkpoint, else the
+/// checkpoint.
+fn next_checkpoint<F: Firing>(
+    alloc: Global,
+    engine: &Engine<F>,
+    checkpoint: Checkpoint,
+) -> Result<Checkpoint, NoMemory>
+    requires running { engine.now.stage ≡ Running }
+    requires event { IsEvent (F.net engine.now.net.now) engine.now.moment }
+    requires checkpoint { IsCheckpoint (F.net engine.now.net.now) checkpoint }
+    requires ahead { checkpoint.moment ≤ engine.now.moment }
+    requires none { NoneSince (F.net engine.now.net.now) checkpoint.moment engine.now.moment }
+    ensures checkpoint { IfOk result (IsCheckpoint (F.net engine.now.net.now)) }
+    ensures ahead { IfOk result (λ c. c.moment ≤ engine.now.moment) }
+    ensures none { IfOk result (λ c. NoneSince (F.net engine.now.net.now) c.moment engine.now.moment) }
+{
+    if engine.starts() / 2 > checkpoint.starts {
+        checkpoint_of(alloc, engine)
+    } else {
+        Ok(checkpoint)
+    }
+}
+
+/// The shape at which an engine stands.
+fn checkpoint_of<F: Firing>(alloc: Global, engine: &Engine<F>) -> Result<Checkpoint, NoMemory>
+    requires running { engine.now.stage ≡ Running }
+    requires event { IsEvent (F.net engine.now.net.now) engine.now.moment }
+    ensures moment { IfOk result (λ c. c.moment ≡ engine.now.moment) }
+    ensures checkpoint { IfOk result (IsCheckpoint (F.net engine.now.net.now)) }
+{
+    Ok(Checkpoint {
+        shape: engine.shape(alloc)?,
+        print: engine.print(),
+        moment: engine.moment(),
+        starts: engine.starts(),
+    })
+}
+
+/// Whether an engine stands at the shape of a checkpoint. Cost: mostly constant where it doesn't.
+fn stands_at<F: Firing>(engine: &Engine<F>, checkpoint: &Checkpoint) -> bool
+    requires running { engine.now.stage ≡ Running }
+    requires checkpoint { IsCheckpoint (F.net engine.now.net.now) checkpoint.now }
+    ensures { IsTrue result ↔ (shape_at (F.net engine.now.net.now) engine.now.moment ≡ shape_at (F.net engine.now.net.now) checkpoint.now.moment) }
+{
+    if engine.print() != checkpoint.print {
+        return false;
+    }
+    engine.same_shape(&checkpoint.shape)
+}
+
+/// Looks for the shape of the checkpoint at which the engine stands, up to twice its moment and over
+/// `STARTS` more starts.
+fn search_on<F: Firing>(
+    engine: &mut Engine<F>,
+    checkpoint: &Checkpoint,
+) -> Result<Option<Pair>, NoMemory>
+    requires live { IsLive (F.net engine.old.net.now) }
+    requires inputs { HasInputs (F.net engine.old.net.now) }
+    requires running { engine.old.stage ≡ Running }
+    requires checkpoint { IsCheckpoint (F.net engine.old.net.now) checkpoint.now }
+    requires here { engine.old.moment ≡ checkpoint.now.moment }
+    ensures found { IfOk result (λ o. MatchOption o (NoneSoon (F.net engine.old.net.now) checkpoint.now.moment engine.old.most) (IsPair (F.net engine.old.net.now))) }
+{
+    'events: while engine.moment() - checkpoint.moment < checkpoint.moment {
+        if !go_on(engine)? {
+            return Ok(None);
+        }
+        if stands_at(engine, checkpoint) {
+            return Ok(Some(Pair {
+                earlier: checkpoint.moment,
+                later: engine.moment(),
+            }));
+        }
+        if engine.starts() - checkpoint.starts > STARTS {
+            return Ok(None);
+        }
+    }
+    Ok(None)
+}

@@ -1,0 +1,70 @@
+-- Where the actors of two executions stand alike.
+use Rattle.std.proofs.Common.{◌≡◌, ◌≢◌, ℕ, ◌+◌, ◌-◌, ◌%◌, ◌≤◌, ◌<◌, List, [], length, map, sym, ap, ◌∙◌, ⊎_elim, arith}
+use Rattle.std.specs.Prelude.{slice_index, slice_index_or}
+use Rattle.std.proofs.lemmas.Bool.{cases_lt}
+use Rattle.std.proofs.lemmas.List.{ext_get_or, get_or-map, length-map}
+use Rattle.std.proofs.lemmas.List.FromFn.{length-map-range_with_len}
+use Rattle.sd_base.specs.Net.{Net}
+use Rattle.sd_base.specs.Schedules.{phases_at}
+use Rattle.selftimed.specs.declared.actors.ActorState.{ActorState}
+use Rattle.selftimed.specs.inside.Actors.{idle, started_in, running_in}
+use Rattle.selftimed.specs.EngineShapes.{phases_now, remaining_now}
+use Rattle.selftimed.proofs.Shaping.{phase-at}
+
+-- the first n actors' next firings are in the same phases
+abbrev pub PhasesAgree : Net → List ActorState → List ActorState → ℕ → Type 0
+PhasesAgree net left right n = (a : ℕ) → a < n → started_in left a % phases_at net a ≡ started_in right a % phases_at net a
+
+pub phases-agree : (net : Net) (left right : List ActorState) (n : ℕ) → length net.times ≤ n → PhasesAgree net left right n → phases_now net left ≡ phases_now net right
+phases-agree net left right n whole agree = ext_get_or 0 (phases_now net left) (phases_now net right)
+    (length-map-range_with_len (λ (a : ℕ). started_in left a % phases_at net a) 0 (length net.times) ∙ sym (length-map-range_with_len (λ (a : ℕ). started_in right a % phases_at net a) 0 (length net.times)))
+    (λ a below.
+    let actor : a < length net.times = rw (length-map-range_with_len (λ (a : ℕ). started_in left a % phases_at net a) 0 (length net.times)) at below in
+    phase-at net left a actor ∙ (agree a (omega arith) ∙ sym (phase-at net right a actor)))
+
+pub phases-apart : (net : Net) (left right : List ActorState) (a : ℕ) → a < length net.times → started_in left a % phases_at net a ≢ started_in right a % phases_at net a → phases_now net left ≢ phases_now net right
+phases-apart net left right a actor away same = away (sym (phase-at net left a actor) ∙ (ap (λ (xs : List ℕ). slice_index xs a) same ∙ phase-at net right a actor))
+
+-- what holds below n and of n holds below n + 1
+pub below_next : (P : ℕ → Type 0) (n : ℕ) → ((a : ℕ) → a < n → P a) → P n → (a : ℕ) → a < n + 1 → P a
+below_next P n old new a below = ⊎_elim
+    (λ (h : a < n). old a h)
+    (λ (h : n ≤ a). let e : n ≡ a = omega arith in rw (← e) new)
+    (cases_lt a n)
+
+-- the times left of the first n actors' running firings are the same
+abbrev pub TimesAgree : ℕ → List ActorState → ℕ → List ActorState → ℕ → Type 0
+TimesAgree now left then right n = (a : ℕ) → a < n → map (λ e. e - now) (running_in left a) ≡ map (λ e. e - then) (running_in right a)
+
+times-at : (now : ℕ) (actors : List ActorState) (a : ℕ) → a < length actors → slice_index_or (remaining_now now actors) a [] ≡ map (λ e. e - now) (running_in actors a)
+times-at now actors a place = get_or-map (λ (s : ActorState). map (λ e. e - now) s.running) actors a idle [] place
+
+pub times-agree : (now : ℕ) (left : List ActorState) (then : ℕ) (right : List ActorState) (n : ℕ) → length left ≤ n → length right ≡ length left → TimesAgree now left then right n → remaining_now now left ≡ remaining_now then right
+times-agree now left then right n whole long agree = ext_get_or [] (remaining_now now left) (remaining_now then right)
+    (length-map left (λ (s : ActorState). map (λ e. e - now) s.running) ∙ (sym long ∙ sym (length-map right (λ (s : ActorState). map (λ e. e - then) s.running))))
+    (λ a below.
+    let place : a < length left = rw (length-map left (λ (s : ActorState). map (λ e. e - now) s.running)) at below in
+    times-at now left a place ∙ (agree a (omega arith) ∙ sym (times-at then right a (omega arith))))
+
+pub times-apart : (now : ℕ) (left : List ActorState) (then : ℕ) (right : List ActorState) (a : ℕ) → a < length left → length right ≡ length left → map (λ e. e - now) (running_in left a) ≢ map (λ e. e - then) (running_in right a) → remaining_now now left ≢ remaining_now then right
+times-apart now left then right a place long away same = away (sym (times-at now left a place) ∙ (ap (λ (xs : List (List ℕ)). slice_index_or xs a []) same ∙ times-at then right a (omega arith)))
+
+-- the times from a moment to the first n ends are those from another one to others
+abbrev pub EndsAgree : ℕ → List ℕ → ℕ → List ℕ → ℕ → Type 0
+EndsAgree now ends then others n = (k : ℕ) → k < n → slice_index ends k - now ≡ slice_index others k - then
+
+end-at : (now : ℕ) (ends : List ℕ) (k : ℕ) → k < length ends → slice_index (map (λ e. e - now) ends) k ≡ slice_index ends k - now
+end-at now ends k below = get_or-map (λ (e : ℕ). e - now) ends k 0 0 below
+
+pub ends-agree : (now : ℕ) (ends : List ℕ) (then : ℕ) (others : List ℕ) (n : ℕ) → length ends ≤ n → length ends ≡ length others → EndsAgree now ends then others n → map (λ e. e - now) ends ≡ map (λ e. e - then) others
+ends-agree now ends then others n whole long agree = ext_get_or 0 (map (λ e. e - now) ends) (map (λ e. e - then) others)
+    (length-map ends (λ (e : ℕ). e - now) ∙ (long ∙ sym (length-map others (λ (e : ℕ). e - then))))
+    (λ k below.
+    let place : k < length ends = rw (length-map ends (λ (e : ℕ). e - now)) at below in
+    end-at now ends k place ∙ (agree k (omega arith) ∙ sym (end-at then others k (omega arith))))
+
+pub ends-apart : (now : ℕ) (ends : List ℕ) (then : ℕ) (others : List ℕ) (k : ℕ) → k < length ends → length ends ≡ length others → slice_index ends k - now ≢ slice_index others k - then → map (λ e. e - now) ends ≢ map (λ e. e - then) others
+ends-apart now ends then others k place long away same = away (sym (end-at now ends k place) ∙ (ap (λ (xs : List ℕ). slice_index xs k) same ∙ end-at then others k (omega arith)))
+
+pub ends-length : (now : ℕ) (ends : List ℕ) (then : ℕ) (others : List ℕ) → map (λ e. e - now) ends ≡ map (λ e. e - then) others → length ends ≡ length others
+ends-length now ends then others same = sym (length-map ends (λ (e : ℕ). e - now)) ∙ (ap length same ∙ length-map others (λ (e : ℕ). e - then))

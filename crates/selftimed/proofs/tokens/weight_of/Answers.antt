@@ -1,0 +1,7 @@
+use Rattle.std.proofs.Common.{refl}
+use Rattle.selftimed.specs.Prints.{weight, spread}
+use Rattle.selftimed.proofs.tokens.weight_of.Goals as goal
+
+pub returns : goal.returns
+unfolding weight spread
+returns c = refl

@@ -1,0 +1,59 @@
+//! Where the actors of two executions of one net stand, compared without a shape of either.
+ghost use Rattle.std.specs.Prelude.{◌≡◌, ◌↔◌, ℕ, ◌-◌, ◌<◌, ◌≤◌, IsTrue, length, map, slice_index};
+ghost use Rattle.selftimed.specs.EngineShapes.{phases_now, remaining_now, IsPast};
+
+use crate::actors::ActorState;
+use crate::shape::phase_of;
+use firing::Firing;
+
+/// Whether each actor's next firing is in the same phase.
+pub(crate) fn same_stands<F: Firing>(net: &F, left: &[ActorState], right: &[ActorState]) -> bool
+    requires left { length left.now ≡ length (F.net net.now).times }
+    requires right { length right.now ≡ length (F.net net.now).times }
+    ensures { IsTrue result ↔ (phases_now (F.net net.now) left.now ≡ phases_now (F.net net.now) right.now) }
+{
+    for actor in 0..net.actors() {
+        let here = phase_of(net, actor, &left[actor as usize]);
+        if here != phase_of(net, actor, &right[actor as usize]) {
+            return false;
+        }
+    }
+    true
+}
+
+/// Whether each actor's running firings have the same times left.
+pub(crate) fn same_running(now: u64, left: &[ActorState], then: u64, right: &[ActorState]) -> bool
+    requires long { length right.now ≡ length left.now }
+    requires left { IsPast now left.now }
+    requires right { IsPast then right.now }
+    ensures { IsTrue result ↔ (remaining_now now left.now ≡ remaining_now then right.now) }
+{
+    for (actor, state) in left.iter().enumerate() {
+        if !same_left(
+            now,
+            state.running.as_slice(),
+            then,
+            right[actor].running.as_slice(),
+        ) {
+            return false;
+        }
+    }
+    true
+}
+
+/// Whether the times from a moment to each end are those from another one to others.
+fn same_left(now: u64, ends: &[u64], then: u64, others: &[u64]) -> bool
+    requires left { (k : ℕ) → k < length ends.now → now ≤ slice_index ends.now k }
+    requires right { (k : ℕ) → k < length others.now → then ≤ slice_index others.now k }
+    ensures { IsTrue result ↔ (map (λ end. end - now) ends.now ≡ map (λ end. end - then) others.now) }
+{
+    if ends.len() != others.len() {
+        return false;
+    }
+    for (k, end) in ends.iter().enumerate() {
+        if *end - now != others[k] - then {
+            return false;
+        }
+    }
+    true
+}

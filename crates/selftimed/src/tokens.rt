@@ -1,0 +1,161 @@
+ghost use Rattle.std.specs.Prelude.{◌≡◌, ◌↔◌, ℕ, ◌+◌, ◌-◌, ◌^◌, ◌<◌, ◌≤◌, [], ◌∷◌, ◌++◌, length, map, set, slice_index, IfOk, IsTrue, OnOk};
+ghost use Rattle.sd_base.specs.Net.{Channel, channel_at, total};
+ghost use Rattle.firing.specs.declared.sums.Port.TheVariants.{Made, Taken};
+ghost use Rattle.firing.specs.Wiring.{IsListed, TakesTokens, PutsTokens};
+ghost use Rattle.selftimed.specs.Prints.{print_of, weight};
+
+use crate::shape::same_tokens;
+use firing::{Firing, Port, span_sum};
+use sd_base::NoMemory;
+use std::alloc::Global;
+use std::marker::Model;
+
+/// The tokens on each channel, with their print: a weighted sum, by which most unequal tokens are told apart at
+/// once. Contracts see the list of tokens.
+#[derive(Drop)]
+pub(crate) struct Tokens {
+    counts: Vec<u128>,
+    print: u64,
+}
+
+impl Model for Tokens {
+    ghost use Rattle.std.specs.Prelude.{◌≡◌, List, ℕ};
+    ghost use Rattle.selftimed.specs.Prints.{print_of};
+
+    ghost Value = { List ℕ };
+
+    ghost view = { λ t. t.counts.items };
+
+    ghost invariant = { λ t. t.print ≡ print_of t.counts.items };
+}
+
+impl Tokens {
+    /// The tokens with which each channel starts.
+    pub(crate) fn new<F: Firing>(alloc: Global, net: &F) -> Result<Tokens, NoMemory>
+        ensures { IfOk result (λ tokens. tokens ≡ map (λ (c : Channel). c.tokens) (F.net net.now).channels) }
+    {
+        let mut tokens = Tokens {
+            counts: Vec::new(alloc),
+            print: 0,
+        };
+        for channel in 0..net.channels() {
+            tokens.push(net.tokens(channel))?;
+        }
+        Ok(tokens)
+    }
+
+    fn push(&mut self, count: u64) -> Result<(), NoMemory>
+        ensures { OnOk result (self.new ≡ self.old ++ count ∷ []) }
+    {
+        let channel = self.counts.as_slice().len() as u64;
+        self.counts.push(count as u128)?;
+        self.print = self
+            .print
+            .wrapping_add(weight_of(channel).wrapping_mul(count));
+        Ok(())
+    }
+
+    pub(crate) fn as_slice(&self) -> &[u128]
+        ensures { result.now ≡ self.now }
+    {
+        self.counts.as_slice()
+    }
+
+    /// The print of the tokens.
+    pub(crate) fn print(&self) -> u64
+        ensures { result ≡ print_of self.now }
+    {
+        self.print
+    }
+
+    /// Whether the tokens of two executions are equal. Cost: mostly constant where they aren't.
+    pub(crate) fn same_as(&self, other: &Tokens) -> bool
+        ensures { IsTrue result ↔ (self.now ≡ other.now) }
+    {
+        if self.print != other.print {
+            return false;
+        }
+        same_tokens(self.counts.as_slice(), other.counts.as_slice())
+    }
+
+    /// Takes tokens off a channel.
+    pub(crate) fn take(&mut self, channel: u32, count: u64)
+        requires channel { channel < length self.old }
+        requires enough { count ≤ slice_index self.old channel }
+        ensures { self.new ≡ set self.old channel (slice_index self.old channel - count) }
+    {
+        self.counts[channel as usize] -= count as u128;
+        self.print = self
+            .print
+            .wrapping_sub(weight_of(channel as u64).wrapping_mul(count));
+    }
+
+    /// Puts tokens on a channel.
+    pub(crate) fn put(&mut self, channel: u32, count: u64)
+        requires channel { channel < length self.old }
+        requires small { slice_index self.old channel + count < 2 ^ 128 }
+        ensures { self.new ≡ set self.old channel (slice_index self.old channel + count) }
+    {
+        self.counts[channel as usize] += count as u128;
+        self.print = self
+            .print
+            .wrapping_add(weight_of(channel as u64).wrapping_mul(count));
+    }
+}
+
+/// Takes the tokens of `firings` firings of an actor, from number `from` on, off the channels into it.
+pub(crate) fn take_all<F: Firing>(
+    net: &F,
+    inputs: &[u32],
+    tokens: &mut Tokens,
+    actor: u32,
+    from: u64,
+    firings: u64,
+)
+    requires actor { actor < length (F.net net.now).times }
+    requires listed { IsListed (F.net net.now) Taken actor inputs.now }
+    requires tokens { length tokens.old ≡ length (F.net net.now).channels }
+    requires few { from + firings ≤ 2 ^ 32 }
+    requires enough { (i : ℕ) → i < length (F.net net.now).channels → (channel_at (F.net net.now) i).target ≡ actor →
+        total (channel_at (F.net net.now) i).taken (from + firings)
+        ≤ slice_index tokens.old i + total (channel_at (F.net net.now) i).taken from }
+    ensures takes { TakesTokens (F.net net.now) actor from firings tokens.old tokens.new }
+    ensures long { length tokens.new ≡ length tokens.old }
+{
+    for channel in inputs {
+        let all = span_sum(net, *channel, Port::Taken, from, firings);
+        tokens.take(*channel, all as u64);
+    }
+}
+
+/// Puts the tokens of `firings` firings of an actor, from number `from` on, on the channels out of it.
+pub(crate) fn put_all<F: Firing>(
+    net: &F,
+    outputs: &[u32],
+    tokens: &mut Tokens,
+    actor: u32,
+    from: u64,
+    firings: u64,
+)
+    requires actor { actor < length (F.net net.now).times }
+    requires listed { IsListed (F.net net.now) Made actor outputs.now }
+    requires tokens { length tokens.old ≡ length (F.net net.now).channels }
+    requires few { from + firings ≤ 2 ^ 32 }
+    requires small { (i : ℕ) → i < length (F.net net.now).channels → slice_index tokens.old i ≤ 2 ^ 100 }
+    ensures puts { PutsTokens (F.net net.now) actor from firings tokens.old tokens.new }
+    ensures long { length tokens.new ≡ length tokens.old }
+{
+    for channel in outputs {
+        let all = span_sum(net, *channel, Port::Made, from, firings);
+        tokens.put(*channel, all as u64);
+    }
+}
+
+/// The weight of a channel's tokens in a print.
+fn weight_of(channel: u64) -> u64
+    ensures { result ≡ weight channel }
+{
+    let odd = channel.wrapping_add(1).wrapping_mul(0x9E37_79B9_7F4A_7C15);
+    let square = odd.wrapping_mul(odd);
+    square.wrapping_mul(square.wrapping_add(odd))
+}

@@ -1,0 +1,138 @@
+//! Loops against a body that keeps every shape.
+ghost use Rattle.selftimed.specs.declared.engine.Stage.{Stage};
+ghost use Rattle.selftimed.specs.declared.engine.Stage.TheVariants.{Running};
+ghost use Rattle.std.specs.Prelude.{◌≡◌};
+
+use crate::checks::run_net;
+use firing::{Firing, LoopTable, SdfNet, Wiring};
+use lasso::RunError;
+use sd_base::NoMemory;
+use selftimed::{Engine, Move, Shape, Stage};
+use std::alloc::Global;
+use std::process::Abort;
+use std::test::Fail;
+use test_nets::{channel, multi_rate_ring, ring_of_two, table_net};
+
+/// An event: its moment, what stands then, and by actor how many firings have started.
+#[derive(Drop)]
+struct Seen {
+    moment: u64,
+    shape: Shape,
+    counts: Vec<u64>,
+}
+
+/// Steps through the first `states` events and keeps them all, up to and with the first whose shape came before. Tells
+/// the place of that earlier one.
+fn keep_all(
+    rt: &impl Abort,
+    alloc: Global,
+    net: &SdfNet,
+    states: u64,
+) -> Result<(Vec<Seen>, Option<usize>), Fail> {
+    let wiring = Wiring::new(alloc, net)?;
+    let mut engine = Engine::new(alloc, net, &wiring, 1000)?;
+    let mut seen = Vec::new(alloc);
+    for _event in 0..states {
+        let step = engine.advance()?;
+        assert_eq!(rt; step, Move::Stepped);
+        assert_eq!(rt; engine.stage, Stage::Running);
+        let before = place_of(&engine, seen.as_slice());
+        seen.push(Seen {
+            moment: engine.moment(),
+            shape: engine.shape(alloc)?,
+            counts: counts_of(alloc, &engine)?,
+        })?;
+        if before.is_some() {
+            return Ok((seen, before));
+        }
+    }
+    Ok((seen, None))
+}
+
+/// The place of the first event whose shape is what stands now.
+fn place_of(engine: &Engine<'_, SdfNet>, seen: &[Seen]) -> Option<usize>
+    requires { engine.now.stage ≡ Running }
+{
+    for (place, event) in seen.iter().enumerate() {
+        if engine.same_shape(&event.shape) {
+            return Some(place);
+        }
+    }
+    None
+}
+
+/// By actor how many firings have started.
+fn counts_of(alloc: Global, engine: &Engine<'_, SdfNet>) -> Result<Vec<u64>, NoMemory>
+    requires { engine.now.stage ≡ Running }
+{
+    let mut counts = Vec::new(alloc);
+    for actor in 0..engine.net.actors() {
+        counts.push(engine.started(actor))?;
+    }
+    Ok(counts)
+}
+
+/// Asserts that a table has the firings between two of these events.
+fn check_table(rt: &impl Abort, table: &LoopTable, seen: &[Seen], from: usize) {
+    assert!(rt; from < seen.len());
+    let entry = &seen[from];
+    let end = &seen[seen.len() - 1];
+    assert_eq!(rt; table.entry, entry.moment);
+    assert!(rt; entry.moment <= end.moment);
+    assert_eq!(rt; table.period, end.moment - entry.moment);
+    assert_eq!(rt; table.before.as_slice(), entry.counts.as_slice());
+    assert_eq!(rt; table.starts.len(), entry.counts.len());
+    for (actor, row) in table.starts.as_slice().iter().enumerate() {
+        check_row(rt, row.as_slice(), &seen[from..], actor);
+    }
+}
+
+/// Asserts that a row has a start at each of these events but the first for each firing that started then.
+fn check_row(rt: &impl Abort, row: &[u64], seen: &[Seen], actor: usize) {
+    let mut done = 0usize;
+    for place in 1..seen.len() {
+        assert!(rt; actor < seen[place].counts.len() && actor < seen[place - 1].counts.len());
+        let firings = seen[place].counts[actor].saturating_sub(seen[place - 1].counts[actor]);
+        for _firing in 0..firings {
+            assert!(rt; done < row.len());
+            assert_eq!(rt; row[done], seen[place].moment);
+            done += 1;
+        }
+    }
+    assert_eq!(rt; done, row.len());
+}
+
+/// Asserts that with each of 1 to 20 shapes allowed the loop is the one that keeping all shapes finds.
+fn compare_to_20(rt: &impl Abort, alloc: Global, net: &SdfNet) -> Result<(), Fail> {
+    for states in 1..21 {
+        let answer = run_net(rt, alloc, net, states)?;
+        let (seen, before) = keep_all(rt, alloc, net, states)?;
+        match (answer, before) {
+            (Ok(table), Some(from)) => check_table(rt, &table, seen.as_slice(), from),
+            (Err(RunError::StatesSpent), None) => {}
+            (_answer, _before) => panic!(rt; "they differ with {states} shapes"),
+        }
+    }
+    Ok(())
+}
+
+#[test]
+fn loops_are_those_of_the_body_that_keeps_all_shapes(rt: HostRuntime) -> Result<(), Fail> {
+    compare_to_20(&rt, rt.alloc(), &ring_of_two(rt.alloc())?)?;
+    compare_to_20(&rt, rt.alloc(), &multi_rate_ring(rt.alloc())?)
+}
+
+/// The multi-rate ring with 8,000 tokens on `q` enters its loop late.
+#[test]
+fn a_loop_is_entered_after_thousands_of_shapes(rt: HostRuntime) -> Result<(), Fail> {
+    let lines = [
+        channel(0, 2, 1, 1, 0),
+        channel(1, 1, 2, 0, 8_000),
+        channel(0, 1, 1, 0, 1),
+        channel(1, 1, 1, 1, 1),
+    ];
+    let net = table_net(rt.alloc(), &[4, 5], &lines, false)?;
+    let table = run_net(&rt, rt.alloc(), &net, 200_000)??;
+    assert_eq!(rt; (table.entry, table.period, table.rounds), (26_664, 10, 1));
+    Ok(())
+}
