@@ -1,0 +1,5 @@
+pub mod Ends
+pub mod Tasks
+pub mod Elements
+pub mod WaitingOrder
+pub mod Inserts
