@@ -68,8 +68,8 @@ sorted-order net (w ∷ ws) sorted totals = (before, sorted-order net ws (sorted
         let mine : w.total ≡ storage_of net.channels w.capacities.capacities = totals w (inl refl) in
         let its : found.0.total ≡ storage_of net.channels found.0.capacities.capacities = totals found.0 (inr found.1) in
         let at : IsBefore net w.capacities.capacities found.0.capacities.capacities =
-              ⊎_elim
-                (λ (less : w.total < found.0.total). inl (omega arith))
-                (λ (level : (w.total ≡ found.0.total) × _). inr (omega (arith, level.0), level.1))
-                (waits-before w found.0 (sorted-front w found.0 ws sorted found.1)) in
+        ⊎_elim
+        (λ (less : w.total < found.0.total). inl (omega arith))
+        (λ (level : (w.total ≡ found.0.total) × _). inr (omega (arith, level.0), level.1))
+        (waits-before w found.0 (sorted-front w found.0 ws sorted found.1)) in
         subst (IsBefore net w.capacities.capacities) found.2 at

@@ -3,3 +3,5 @@ pub mod Tasks
 pub mod Elements
 pub mod WaitingOrder
 pub mod Inserts
+pub mod Stepping
+pub mod Spreading

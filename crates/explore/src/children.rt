@@ -1,9 +1,9 @@
-ghost use Rattle.std.specs.Prelude.{◌≡◌, ◌+◌, ◌≤◌, ◌<◌, ℕ, IfOk, MatchOption, length};
+ghost use Rattle.std.specs.Prelude.{◌≡◌, ◌+◌, ◌≤◌, ◌<◌, ℕ, IfOk, OnOk, MatchOption, length};
 ghost use Rattle.sd_base.specs.declared.limits.TheConstants.{NET_TOKENS};
 ghost use Rattle.critical.specs.Spaces.{Has};
 ghost use Rattle.storage.specs.Distributions.{storage_of};
 ghost use Rattle.explore.specs.Reachable.{stepped};
-ghost use Rattle.explore.specs.inside.Searches.{AreChildren, IsCandidate};
+ghost use Rattle.explore.specs.inside.Searches.{AreChildren, IsCandidate, IsChildAdded};
 
 use crate::waiting::Waiting;
 use firing::{Firing, know_laws};
@@ -27,11 +27,32 @@ pub(crate) fn children_of<F: Firing>(
 {
     let mut children = Vec::new(alloc);
     for channel in enlarge {
-        if let Some(child) = child(alloc, net, limit, capacities, *channel)? {
-            children.push(child)?;
-        }
+        add_child(alloc, net, limit, capacities, *channel, &mut children)?;
     }
     Ok(children)
+}
+
+/// Puts the distribution with a step more room on one channel last, if it is within the limit.
+fn add_child<F: Firing>(
+    alloc: Global,
+    net: &F,
+    limit: u64,
+    capacities: &Distribution,
+    channel: u32,
+    children: &mut Vec<Waiting>,
+) -> Result<(), NoMemory>
+    requires channel { channel < length (F.net net.now).channels }
+    requires fits { IsCandidate (F.net net.now) limit capacities.now.capacities }
+    requires small { limit ≤ NET_TOKENS }
+    ensures { OnOk result (IsChildAdded (F.net net.now) limit capacities.now.capacities channel children.old.items children.new.items) }
+{
+    match child(alloc, net, limit, capacities, channel)? {
+        Some(child) => {
+            children.push(child)?;
+            Ok(())
+        }
+        None => Ok(()),
+    }
 }
 
 /// The distribution with a step more room on one channel, if it is within the limit.

@@ -1,7 +1,8 @@
 //! The distributions that wait, in the order in which they are evaluated.
 ghost use Rattle.std.specs.Prelude.{◌≡◌, ◌+◌, ◌≤◌, ◌<◌, [], ◌∷◌, IfErr, IfOk, OnOk, MatchOption, length, slice_get, Some};
 ghost use Rattle.explore.specs.declared.waiting.Waiting.{Waiting as AWaiting};
-ghost use Rattle.explore.specs.inside.Searches.{EndsWaiting, HaveWaited, IsTakenOff, StopsAt};
+ghost use Rattle.explore.specs.inside.Searches.{EndsWaiting, HaveWaited, IsTakenOff, StopsAt, waiting_order};
+ghost use Rattle.std.specs.BTreeSet.{insert_key};
 
 use crate::error::ExploreError;
 use crate::waiting::Waiting;
@@ -66,12 +67,30 @@ pub(crate) fn wait_all(
 {
     let mut children = children;
     while let Some(child) = children.pop() {
-        if waiting.insert(child)? {
-            if *found == distributions {
-                return Err(ExploreError::DistributionsSpent);
-            }
-            *found += 1;
-        }
+        wait(distributions, child, waiting, found)?;
     }
+    Ok(())
+}
+
+/// Lets a distribution wait, unless it does so already.
+fn wait(
+    distributions: u64,
+    child: Waiting,
+    waiting: &mut BTreeSet<Waiting>,
+    found: &mut u64,
+) -> Result<(), ExploreError>
+    requires { found.old ≤ distributions }
+    ensures waited { OnOk result (waiting.new.keys ≡ insert_key waiting_order waiting.old.keys child) }
+    ensures count { OnOk result (found.new + length waiting.old.keys ≡ found.old + length waiting.new.keys) }
+    ensures few { OnOk result (found.new ≤ distributions) }
+    ensures ended { IfErr result (EndsWaiting (child ∷ []) waiting.old.keys waiting.new.keys found.old distributions) }
+{
+    if !waiting.insert(child)? {
+        return Ok(());
+    }
+    if *found == distributions {
+        return Err(ExploreError::DistributionsSpent);
+    }
+    *found += 1;
     Ok(())
 }

@@ -52,6 +52,12 @@ pub record IsChild (net : Net) (limit : ℕ) (ds : List (Option ℕ)) (enlarge :
   pub total : w.total ≡ storage_of net.channels w.capacities.capacities
   pub within : w.total ≤ limit
 
+-- the distribution with a step more room on one channel has come to others, if it is within the limit
+pub record IsChildAdded (net : Net) (limit : ℕ) (ds : List (Option ℕ)) (c : ℕ) (old new : List Waiting) : Type 0 where
+  pub kept : (w : Waiting) → IsOneOf old w → IsOneOf new w
+  pub each : (w : Waiting) → IsOneOf new w → IsOneOf old w ⊎ ((w.capacities.capacities ≡ stepped net ds c) × (w.total ≡ storage_of net.channels w.capacities.capacities) × (w.total ≤ limit))
+  pub here : storage_of net.channels (stepped net ds c) ≤ limit → (w : Waiting) × IsOneOf new w × (w.capacities.capacities ≡ stepped net ds c)
+
 -- so do all of them, and those within the limit are all there
 pub record AreChildren (net : Net) (limit : ℕ) (ds : List (Option ℕ)) (enlarge : List ℕ) (children : List Waiting) : Type 0 where
   pub each : (w : Waiting) → IsOneOf children w → IsChild net limit ds enlarge w
