@@ -5,3 +5,4 @@ pub mod WaitingOrder
 pub mod Inserts
 pub mod Stepping
 pub mod Spreading
+pub mod TakenOff

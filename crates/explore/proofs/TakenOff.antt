@@ -1,6 +1,5 @@
 -- Taking the first ones off those that wait, and letting others wait.
-use Rattle.std.proofs.Common.{◌≡◌, ◌≢◌, ℕ, ◌+◌, ◌≤◌, ◌<◌, ◌⊎◌, Option, None, Some, List, [], ◌∷◌, ◌++◌, length, map, append_assoc, inl, inr, ⊎_elim, refl, sym, ap, ◌∙◌, subst, arith}
-use Rattle.std.specs.Prelude.{◌↔◌, IfSome, IsSome, MatchOption, slice_get}
+use Rattle.std.proofs.Common.{◌≡◌, ℕ, ◌+◌, ◌≤◌, ◌<◌, ◌⊎◌, List, [], ◌∷◌, ◌++◌, length, map, append_assoc, inl, inr, ⊎_elim, refl, sym, ap, ◌∙◌, subst, arith}
 use Rattle.std.proofs.lemmas.List.{map-append}
 use Rattle.std.specs.BTreeSet.{insert_key}
 use Rattle.storage.specs.declared.distribution.Distribution.{Distribution}
@@ -11,18 +10,6 @@ use Rattle.explore.specs.Explorations.{IsOneOf}
 use Rattle.explore.specs.inside.Searches.{ArePast, EndsWaiting, HaveWaited, IsTakenOff, StopsAt, waiting_order}
 use Rattle.explore.proofs.Elements.{one-left, one-right, one-split}
 use Rattle.explore.proofs.Inserts.{insert-new, insert-old, insert-only}
-
-pub stops-at : (total : ℕ) (ws : List Waiting) (w : Waiting) → slice_get ws 0 ≡ Some w → w.total ≢ total → StopsAt total ws
-stops-at total [] w first apart = tt
-stops-at total (x ∷ ws) w first apart = let same : w ≡ x = cc in subst (λ (y : Waiting). y.total ≢ total) same apart
-
-pub popped : (total : ℕ) (r : Option Waiting) (old new : List Waiting) (w : Waiting) → slice_get old 0 ≡ Some w → w.total ≡ total → (IsSome r ↔ (0 < length old)) → IfSome r (λ k. old ≡ k ∷ new) → MatchOption r ((new ≡ old) × StopsAt total new) (λ k. (old ≡ k ∷ new) × (k.total ≡ total))
-popped total None [] new w first is some removed = cc
-popped total None (x ∷ old) new w first is some removed = absurd (some.1 (omega arith))
-popped total (Some k) old new w first is some removed =
-    let at : slice_get (k ∷ new) 0 ≡ Some w = subst (λ (ws : List Waiting). slice_get ws 0 ≡ Some w) removed first in
-    let same : w ≡ k = cc in
-    (removed, subst (λ (x : Waiting). x.total ≡ total) same is)
 
 -- one more of the level
 
