@@ -6,3 +6,5 @@ pub mod Inserts
 pub mod Stepping
 pub mod Spreading
 pub mod TakenOff
+pub mod Knowing
+pub mod TakenIn

@@ -4,7 +4,7 @@ use Rattle.std.specs.Prelude.{◌↔◌, slice_index}
 use Rattle.std.specs.List.{AllByRecursion}
 use Rattle.std.specs.List.Sorted.{IsStrictlySortedBy}
 use Rattle.std.proofs.lemmas.Bool.{cases_lt}
-use Rattle.std.proofs.lemmas.List.{map-map}
+use Rattle.std.specs.declared.cmp.Ordering.TheVariants.{Less}
 use Rattle.sd_base.specs.declared.limits.Limits.{Limits}
 use Rattle.sd_base.specs.declared.numbers.Fraction.{Fraction}
 use Rattle.sd_base.specs.Net.{Net}
@@ -33,7 +33,7 @@ found-more done more old new ds front back (inr (w, is, same)) = subst (WasFound
 
 led-more : (net : Net) (ms new : List Member) (ds : List (Option ℕ)) → IsLedTo net ms ds → IsLedTo net (ms ++ new) ds
 led-more net ms new ds (inl corner) = inl corner
-led-more net ms new ds (inr (m, one, c, shows, is)) = inr (m, one-left ms new m one, c, shows, is)
+led-more net ms new ds (inr (m, one, how)) = inr (m, one-left ms new m one, how)
 
 -- the same ones wait
 pub spread-moved : (net : Net) (limit floor : ℕ) (members : List Member) (done : List (List (Option ℕ))) (old new : List Waiting) → ((w : Waiting) → IsOneOf old w → IsOneOf new w) → ((w : Waiting) → IsOneOf new w → IsOneOf old w) → IsSpread net limit floor members done old → IsSpread net limit floor members done new
@@ -85,18 +85,18 @@ module _ (net : Net) (laws : Lawful net) (can : IsExplorable net) (limit floor :
 
   nexts : (m : Member) (c : ℕ) → IsOneOf members m ⊎ IsOneOf (member_of d e ∷ []) m → ShowsChannel net m.capacities.capacities m.shown c → storage_of net.channels (stepped net m.capacities.capacities c) ≤ limit → WasFound done (children ++ pending) (stepped net m.capacities.capacities c)
   nexts m c (inl old) shows small = there (stepped net m.capacities.capacities c) (s.next m c old shows small)
-  nexts m c (inr (inl same)) = subst (λ (x : Member). ShowsChannel net x.capacities.capacities x.shown c → storage_of net.channels (stepped net x.capacities.capacities c) ≤ limit → WasFound done (children ++ pending) (stepped net x.capacities.capacities c)) same (its-children c)
-  nexts m c (inr (inr none)) = absurd none
+  nexts m c (inr (inl same)) shows small = (subst (λ (x : Member). ShowsChannel net x.capacities.capacities x.shown c → storage_of net.channels (stepped net x.capacities.capacities c) ≤ limit → WasFound done (children ++ pending) (stepped net x.capacities.capacities c)) same (its-children c)) shows small
+  nexts m c (inr (inr none)) shows small = absurd none
 
   leads : (ds : List (Option ℕ)) → WasFound done (children ++ pending) ds → IsLedTo net (members ++ member_of d e ∷ []) ds
   leads ds (inl one) = led-more net members (member_of d e ∷ []) ds (s.led ds (inl one))
   leads ds (inr (w, one, same)) =
       ⊎_elim
-        (λ (new : IsOneOf children w).
-          let child : IsChild net limit d.capacities e.enlarge w = are.each w new in
-          inr (member_of d e, one-right members (member_of d e ∷ []) (member_of d e) (inl refl), child.channel, (evaluation-shown net d states e is child.channel).0 child.has, sym same ∙ child.is))
-        (λ (old : IsOneOf pending w). led-more net members (member_of d e ∷ []) ds (s.led ds (inr (w, old, same))))
-        (one-split children pending w one)
+      (λ (new : IsOneOf children w).
+      let child : IsChild net limit d.capacities e.enlarge w = are.each w new in
+      inr (member_of d e, one-right members (member_of d e ∷ []) (member_of d e) (inl refl), (child.channel, (evaluation-shown net d states e is child.channel).0 child.has, sym same ∙ child.is)))
+      (λ (old : IsOneOf pending w). led-more net members (member_of d e ∷ []) ds (s.led ds (inr (w, old, same))))
+      (one-split children pending w one)
 
   pub spread-member : IsSpread net limit floor (members ++ member_of d e ∷ []) done (children ++ pending)
   spread-member = record {
@@ -112,6 +112,10 @@ module _ (net : Net) (laws : Lawful net) (can : IsExplorable net) (limit floor :
   }
 
 -- a level that is taken off those that wait
+
+map-map : {A B C : Type 0} (f : B → C) (g : A → B) (xs : List A) → map f (map g xs) ≡ map (λ (x : A). f (g x)) xs
+map-map f g [] = refl
+map-map f g (x ∷ xs) = ap (λ ys. f (g x) ∷ ys) (map-map f g xs)
 
 sorted-left : (xs ys : List Waiting) → IsStrictlySortedBy waiting_order (xs ++ ys) → IsStrictlySortedBy waiting_order xs
 unfolding IsStrictlySortedBy
@@ -174,9 +178,9 @@ module _ (net : Net) (limit floor : ℕ) (members : List Member) (done : List (L
   found-in ds found = found-more done (done ++ map (λ (d : Distribution). d.capacities) level) (first ∷ rest) new ds
       (λ es one. one-left done (map (λ (d : Distribution). d.capacities) level) es one)
       (λ w one. ⊎_elim
-        (λ (taken : IsOneOf off.taken w). inl (one-right done (map (λ (d : Distribution). d.capacities) level) w.capacities.capacities (subst (λ (xs : List (List (Option ℕ))). IsOneOf xs w.capacities.capacities) (sym level-are) (one-map (λ (x : Waiting). x.capacities.capacities) off.taken w taken))))
-        (λ (later : IsOneOf new w). inr (w, later, refl))
-        (one-split off.taken new w (subst (λ (ws : List Waiting). IsOneOf ws w) off.parts one)))
+      (λ (taken : IsOneOf off.taken w). inl (one-right done (map (λ (d : Distribution). d.capacities) level) w.capacities.capacities (subst (λ (xs : List (List (Option ℕ))). IsOneOf xs w.capacities.capacities) (sym level-are) (one-map (λ (x : Waiting). x.capacities.capacities) off.taken w taken))))
+      (λ (later : IsOneOf new w). inr (w, later, refl))
+      (one-split off.taken new w (subst (λ (ws : List Waiting). IsOneOf ws w) off.parts one)))
       found
 
   found-back : (ds : List (Option ℕ)) → WasFound (done ++ map (λ (d : Distribution). d.capacities) level) new ds → WasFound done (first ∷ rest) ds

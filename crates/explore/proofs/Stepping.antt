@@ -155,9 +155,9 @@ pub children-more : (net : Net) (limit : ℕ) (ds : List (Option ℕ)) (enlarge 
 children-more net limit ds enlarge n old new below each all added = (
   λ w one. ⊎_elim (λ (h : IsOneOf old w). each w h) (λ (h : (w.capacities.capacities ≡ stepped net ds (slice_index enlarge n)) × (w.total ≡ storage_of net.channels w.capacities.capacities) × (w.total ≤ limit)). record { channel = slice_index enlarge n; has = (n, below, refl); is = h.0; total = h.1; within = h.2 }) (added.each w one),
   λ j less small. ⊎_elim
-    (λ (before : j < n). let found = all j before small in (found.0, added.kept found.0 found.1, found.2))
-    (λ (past : n ≤ j). let same : n ≡ j = omega arith in subst (λ (i : ℕ). storage_of net.channels (stepped net ds (slice_index enlarge i)) ≤ limit → (w : Waiting) × IsOneOf new w × (w.capacities.capacities ≡ stepped net ds (slice_index enlarge i))) same added.here small)
-    (cases_lt j n),
+      (λ (before : j < n). let found = all j before small in (found.0, added.kept found.0 found.1, found.2))
+      (λ (past : n ≤ j). let same : n ≡ j = omega arith in subst (λ (i : ℕ). storage_of net.channels (stepped net ds (slice_index enlarge i)) ≤ limit → (w : Waiting) × IsOneOf new w × (w.capacities.capacities ≡ stepped net ds (slice_index enlarge i))) same added.here small)
+      (cases_lt j n),
 )
 
 pub children-all : (net : Net) (limit : ℕ) (ds : List (Option ℕ)) (enlarge : List ℕ) (n : ℕ) (ws : List Waiting) → length enlarge ≤ n → HasEach net limit ds enlarge ws → HasUpTo net limit ds enlarge n ws → AreChildren net limit ds enlarge ws

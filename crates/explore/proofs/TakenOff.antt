@@ -38,13 +38,13 @@ AreSame children old left now =
 pub same-more : (children old left rest now new : List Waiting) (w : Waiting) → AreSame children old left now → left ≡ rest ++ w ∷ [] → new ≡ insert_key waiting_order now w → AreSame children old rest new
 same-more children old left rest now new w same popped inserted = (
   λ v one. ⊎_elim
-    (λ (h : IsOneOf left v). ⊎_elim (λ (k : IsOneOf rest v). inl k) (λ (k : IsOneOf (w ∷ []) v). ⊎_elim (λ (e : w ≡ v). inr (subst (IsOneOf new) e (subst (λ (ws : List Waiting). IsOneOf ws w) (sym inserted) (insert-new now w)))) (λ (none : ⊥). absurd none) k) (one-split rest (w ∷ []) v (subst (λ (ws : List Waiting). IsOneOf ws v) popped h)))
-    (λ (h : IsOneOf now v). inr (subst (λ (ws : List Waiting). IsOneOf ws v) (sym inserted) (insert-old now w v h)))
-    (same.0 v one),
+      (λ (h : IsOneOf left v). ⊎_elim (λ (k : IsOneOf rest v). inl k) (λ (k : IsOneOf (w ∷ []) v). ⊎_elim (λ (e : w ≡ v). inr (subst (IsOneOf new) e (subst (λ (ws : List Waiting). IsOneOf ws w) (sym inserted) (insert-new now w)))) (λ (none : ⊥). absurd none) k) (one-split rest (w ∷ []) v (subst (λ (ws : List Waiting). IsOneOf ws v) popped h)))
+      (λ (h : IsOneOf now v). inr (subst (λ (ws : List Waiting). IsOneOf ws v) (sym inserted) (insert-old now w v h)))
+      (same.0 v one),
   λ v one. same.1 v (⊎_elim
-    (λ (h : IsOneOf rest v). inl (subst (λ (ws : List Waiting). IsOneOf ws v) (sym popped) (one-left rest (w ∷ []) v h)))
-    (λ (h : IsOneOf new v). ⊎_elim (λ (e : w ≡ v). inl (subst (λ (ws : List Waiting). IsOneOf ws v) (sym popped) (one-right rest (w ∷ []) v (inl e)))) (λ (k : IsOneOf now v). inr k) (insert-only now w v (subst (λ (ws : List Waiting). IsOneOf ws v) inserted h)))
-    one),
+      (λ (h : IsOneOf rest v). inl (subst (λ (ws : List Waiting). IsOneOf ws v) (sym popped) (one-left rest (w ∷ []) v h)))
+      (λ (h : IsOneOf new v). ⊎_elim (λ (e : w ≡ v). inl (subst (λ (ws : List Waiting). IsOneOf ws v) (sym popped) (one-right rest (w ∷ []) v (inl e)))) (λ (k : IsOneOf now v). inr k) (insert-only now w v (subst (λ (ws : List Waiting). IsOneOf ws v) inserted h)))
+      one),
 )
 
 pub same-waited : (children old now : List Waiting) → AreSame children old [] now → HaveWaited children old now
@@ -59,9 +59,9 @@ ends-waiting children old left rest now new w first found distributions (TooMany
 ends-waiting children old left rest now new w first found distributions NoMemory same popped count ends = ends
 ends-waiting children old left rest now new w first found distributions DistributionsSpent same popped count ends = record {
   only = λ v one. same.1 v (⊎_elim
-    (λ (h : IsOneOf (w ∷ []) v). ⊎_elim (λ (e : w ≡ v). inl (subst (λ (ws : List Waiting). IsOneOf ws v) (sym popped) (one-right rest (w ∷ []) v (inl e)))) (λ (none : ⊥). absurd none) h)
-    (λ (h : IsOneOf now v). inr h)
-    (ends.only v one));
+      (λ (h : IsOneOf (w ∷ []) v). ⊎_elim (λ (e : w ≡ v). inl (subst (λ (ws : List Waiting). IsOneOf ws v) (sym popped) (one-right rest (w ∷ []) v (inl e)))) (λ (none : ⊥). absurd none) h)
+      (λ (h : IsOneOf now v). inr h)
+      (ends.only v one));
   sorted = ends.sorted;
   count = omega (arith, ends.count);
 }

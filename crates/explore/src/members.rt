@@ -1,20 +1,19 @@
 //! How the answers of a level become members.
-ghost use Rattle.std.specs.Prelude.{◌≡◌, ◌+◌, ◌≤◌, ◌<◌, ◌++◌, ℕ, [], ◌∷◌, Option, List, IfErr, IfOk, OnOk, map};
+ghost use Rattle.std.specs.Prelude.{◌≡◌, ◌+◌, ◌≤◌, ◌⊎◌, ◌++◌, ℕ, [], ◌∷◌, Option, List, IfErr, IfOk, OnOk, map};
 ghost use Rattle.sd_base.specs.declared.limits.TheConstants.{STORAGE};
 ghost use Rattle.sd_base.specs.declared.limits.Limits.{Limits as SomeLimits};
 ghost use Rattle.sd_base.specs.Net.{Net};
 ghost use Rattle.pareto_front.specs.declared.point.Point.{Point as APoint};
 ghost use Rattle.pareto_front.specs.Offers.{Offer};
 ghost use Rattle.pareto_front.specs.Points.{IsFrontOf, offer_of};
-ghost use Rattle.lasso.specs.LoopAnswers.{IsFound};
-ghost use Rattle.storage.specs.BoundedNets.{bound};
 ghost use Rattle.storage.specs.Distributions.{storage_of};
 ghost use Rattle.guide.specs.Evaluations.{IsEvaluated, IsRefused};
+ghost use Rattle.explore.specs.declared.exploration.Member.{Member as AMember};
 ghost use Rattle.explore.specs.declared.level.Answered.{Answered as AnAnswered};
 ghost use Rattle.explore.specs.Explorations.{IsOneOf, IsRefusal, capacities_of, cycles_in};
 ghost use Rattle.explore.specs.Reachable.{IsExplorable, IsReachable};
 ghost use Rattle.explore.specs.inside.Levels.{least_loops, most_loops, sum_of};
-ghost use Rattle.explore.specs.inside.Searches.{HasTable, IsAnswerOf, IsCandidate, IsSearch, member_of, offers_of, turned};
+ghost use Rattle.explore.specs.inside.Searches.{AreKnown, IsAnswerOf, IsCandidate, IsMemberAdded, IsSearch, member_of, offers_at, turned};
 
 use crate::children::children_of;
 use crate::error::ExploreError;
@@ -22,7 +21,7 @@ use crate::exploration::{Member, Shown};
 use crate::level::Answered;
 use crate::pending::wait_all;
 use crate::search::Search;
-use firing::{Firing, LoopTable};
+use firing::{Firing, LoopTable, know_laws};
 use guide::{Evaluation, Outcome};
 use lasso::RunError;
 use pareto_front::{Front, Point};
@@ -50,13 +49,40 @@ pub(crate) fn take_in_all<F: Firing>(
     ensures refused { IfErr result (IsRefusal (F.net net.now) limits) }
 {
     let mut answers = answers;
-    while let Some(Answered { capacities, answer }) = answers.pop() {
-        match answer {
-            Ok(evaluation) => take_in(alloc, net, limits, total, capacities, evaluation, search)?,
-            Err(error) => return Err(refusal(error, capacities)),
-        }
+    while let Some(answered) = answers.pop() {
+        take_answer(alloc, net, limits, total, answered, search)?;
     }
     Ok(())
+}
+
+/// Takes in one answer.
+fn take_answer<F: Firing>(
+    alloc: Global,
+    net: &F,
+    limits: Limits,
+    total: u64,
+    answered: Answered,
+    search: &mut Search,
+) -> Result<(), ExploreError>
+    requires net { IsExplorable (F.net net.now) }
+    requires small { limits.total ≤ STORAGE }
+    requires few { search.old.found ≤ limits.distributions }
+    requires answer { IsAnswerOf (F.net net.now) limits total answered }
+    requires fits { IsCandidate (F.net net.now) limits.total answered.capacities.capacities }
+    ensures search { OnOk result ((done : List (List (Option ℕ))) → IsSearch (F.net net.now) limits (total + 1) done search.old → IsOneOf done answered.capacities.capacities →
+        IsSearch (F.net net.now) limits (total + 1) done search.new) }
+    ensures member { OnOk result (IsMemberAdded answered search.old.members.items search.new.members.items) }
+    ensures refused { IfErr result (λ e. (done : List (List (Option ℕ))) → IsSearch (F.net net.now) limits (total + 1) done search.old → IsOneOf done answered.capacities.capacities →
+        IsRefusal (F.net net.now) limits e) }
+{
+    let Answered { capacities, answer } = answered;
+    match answer {
+        Ok(evaluation) => {
+            take_in(alloc, net, limits, total, capacities, evaluation, search)?;
+            Ok(())
+        }
+        Err(error) => Err(refusal(error, capacities)),
+    }
 }
 
 /// Why a distribution ends the exploration.
@@ -82,6 +108,7 @@ fn take_in<F: Firing>(
 ) -> Result<(), ExploreError>
     requires net { IsExplorable (F.net net.now) }
     requires small { limits.total ≤ STORAGE }
+    requires few { search.old.found ≤ limits.distributions }
     requires evaluated { IsEvaluated (F.net net.now) capacities.capacities limits.states evaluation }
     requires total { storage_of (F.net net.now).channels capacities.capacities ≡ total }
     requires fits { IsCandidate (F.net net.now) limits.total capacities.capacities }
@@ -91,6 +118,7 @@ fn take_in<F: Firing>(
     ensures refused { IfErr result (λ e. (done : List (List (Option ℕ))) → IsSearch (F.net net.now) limits (total + 1) done search.old → IsOneOf done capacities.capacities →
         IsRefusal (F.net net.now) limits e) }
 {
+    know_laws(net);
     let children = children_of(
         alloc,
         net,
@@ -105,7 +133,8 @@ fn take_in<F: Firing>(
         children,
         &mut search.waiting,
         &mut search.found,
-    )
+    )?;
+    Ok(())
 }
 
 /// The member that an evaluation makes of a distribution, which is offered to the front if its rate is above 0.
@@ -117,29 +146,31 @@ fn offered<F: Firing>(
     evaluation: Evaluation,
     front: &mut Front,
 ) -> Result<Member, NoMemory>
-    requires total { storage_of (F.net net.now).channels capacities.capacities ≡ total }
+    requires { storage_of (F.net net.now).channels capacities.capacities ≡ total }
     ensures member { IfOk result (λ m. m ≡ member_of capacities evaluation) }
-    ensures front { IfOk result (λ m. (os : List Offer) → IsFrontOf os (map offer_of front.old) → IsFrontOf (os ++ offers_of (F.net net.now) (m ∷ [])) (map offer_of front.new)) }
-    ensures tables { IfOk result (λ m. (states : ℕ) → IsEvaluated (F.net net.now) capacities.capacities states evaluation →
-        ((p : APoint) → IsOneOf front.old p → HasTable (F.net net.now) states p) → (p : APoint) → IsOneOf front.new p → HasTable (F.net net.now) states p) }
+    ensures known { IfOk result (λ m. (states : ℕ) (ms : List AMember) → IsEvaluated (F.net net.now) capacities.capacities states evaluation → AreKnown (F.net net.now) states ms front.old →
+        AreKnown (F.net net.now) states (ms ++ member_of capacities evaluation ∷ []) front.new) }
 {
     let Evaluation {
         rate,
         enlarge: _,
         outcome,
     } = evaluation;
-    let shown = match outcome {
+    match outcome {
         Outcome::Live { table, cycle } => {
             offer(alloc, total, rate, &capacities, table, front)?;
-            Shown::Cycle(cycle)
+            Ok(Member {
+                capacities,
+                rate,
+                shown: Shown::Cycle(cycle),
+            })
         }
-        Outcome::Blocked { counts, lacks: _ } => Shown::Blocked { counts },
-    };
-    Ok(Member {
-        capacities,
-        rate,
-        shown,
-    })
+        Outcome::Blocked { counts, lacks: _ } => Ok(Member {
+            capacities,
+            rate,
+            shown: Shown::Blocked { counts },
+        }),
+    }
 }
 
 /// Offers the point of a distribution, if its rate is above 0.
@@ -150,7 +181,10 @@ fn offer(
     capacities: &Distribution,
     table: LoopTable,
     front: &mut Front,
-) -> Result<(), NoMemory> {
+) -> Result<(), NoMemory>
+    ensures front { OnOk result ((os : List Offer) → IsFrontOf os (map offer_of front.old) → IsFrontOf (os ++ offers_at total rate capacities.now.capacities) (map offer_of front.new)) }
+    ensures points { OnOk result ((p : APoint) → IsOneOf front.new p → ((p.capacities ≡ capacities.now) × (p.table ≡ table)) ⊎ IsOneOf front.old p) }
+{
     if rate.is_zero() {
         return Ok(());
     }
@@ -160,5 +194,6 @@ fn offer(
         rate,
         capacities,
         table,
-    })
+    })?;
+    Ok(())
 }

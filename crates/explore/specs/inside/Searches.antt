@@ -3,6 +3,7 @@ use Rattle.std.specs.Prelude.{◌≡◌, ◌≢◌, ℕ, ◌+◌, ◌≤◌, ◌
 use Rattle.std.specs.declared.cmp.Ordering.{Ordering}
 use Rattle.std.specs.List.Sorted.{IsStrictlySortedBy}
 use Rattle.sd_base.specs.declared.limits.Limits.{Limits}
+use Rattle.sd_base.specs.declared.numbers.Fraction.{Fraction}
 use Rattle.sd_base.specs.Net.{Net}
 use Rattle.lasso.specs.LoopAnswers.{IsFound}
 use Rattle.critical.specs.Spaces.{Has}
@@ -26,10 +27,10 @@ use Rattle.explore.specs.declared.search.Search.{Search}
 use Rattle.explore.specs.declared.level.Answered.{Answered}
 use Rattle.explore.specs.declared.error.ExploreError.{ExploreError}
 use Rattle.explore.specs.declared.error.ExploreError.TheVariants.{StatesSpent, TooManyStarts, DistributionsSpent, NoMemory}
-use Rattle.explore.specs.inside.Levels.{IsEvaluation, onto}
+use Rattle.explore.specs.inside.Levels.{IsEvaluation, least_loops, most_loops, onto}
 use Rattle.explore.specs.inside.WaitingOrder.{waiting_cmp}
 use Rattle.explore.specs.Reachable.{IsReachable, stepped}
-use Rattle.explore.specs.Explorations.{IsLedTo, IsMember, IsOneOf, AreInOrder, ShowsChannel, capacities_of}
+use Rattle.explore.specs.Explorations.{IsLedTo, IsMember, IsOneOf, AreInOrder, ShowsChannel, capacities_of, shows_cycle}
 
 -- a distribution on the grid and within the limit that can be reached
 pub record IsCandidate (net : Net) (limit : ℕ) (ds : List (Option ℕ)) : Type 0 where
@@ -106,6 +107,10 @@ abbrev pub offers_of : Net → List Member → List Offer
 offers_of net [] = []
 offers_of net (m ∷ ms) = if m.rate.num == 0 then offers_of net ms else offer_for net m ∷ offers_of net ms
 
+-- the offer of a distribution, if its rate is above 0
+abbrev pub offers_at : ℕ → Fraction → List (Option ℕ) → List Offer
+offers_at total rate ds = if rate.num == 0 then [] else record { storage = total; rate = rate; capacities = ds } ∷ []
+
 -- the table of a point is the loop of its net
 abbrev pub HasTable : Net → ℕ → Point → Type 0
 HasTable net states p = IsFound (bound net p.capacities.capacities) states p.table
@@ -175,3 +180,11 @@ turned answers = map (λ (d : Distribution). d.capacities) (onto (λ (a : Answer
 pub record IsAnswerOf (net : Net) (limits : Limits) (total : ℕ) (a : Answered) : Type 0 where
   pub answer : IsEvaluation net limits.states a.capacities a.answer
   pub storage : storage_of net.channels a.capacities.capacities ≡ total
+
+-- the member that an answer makes stands last
+pub record IsMemberAdded (a : Answered) (old new : List Member) : Type 0 where
+  pub member : Member
+  pub added : new ≡ old ++ member ∷ []
+  pub same : member.capacities ≡ a.capacities
+  pub least : shows_cycle member.shown ≡ least_loops a.answer
+  pub most : shows_cycle member.shown ≡ most_loops a.answer

@@ -8,9 +8,9 @@ add_child-requires-clause-channel g c = c.requires.channels _ (c.loop-channel.ch
 pub loop-channel-preserved : goal.loop-channel-preserved
 loop-channel-preserved g c =
     children-more (g.F.Firing.net c.args.net.now) c.args.limit c.args.capacities.now.capacities c.args.enlarge.now c.loop-channel.channel-index c.loop-channel.children.items _ (omega arith)
-      c.loop-channel.invariant.0 c.loop-channel.invariant.1 c.in_ok-add_child.ensures
+    c.loop-channel.invariant.0 c.loop-channel.invariant.1 c.in_ok-add_child.ensures
 
 pub returns : goal.returns
 returns g c =
     children-all (g.F.Firing.net c.args.net.now) c.args.limit c.args.capacities.now.capacities c.args.enlarge.now c.loop-channel.channel-index c.loop-channel.children.items (omega arith)
-      c.loop-channel.invariant.0 c.loop-channel.invariant.1
+    c.loop-channel.invariant.0 c.loop-channel.invariant.1

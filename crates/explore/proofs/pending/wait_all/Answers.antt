@@ -16,5 +16,5 @@ pub returns-in_err-wait-clause-ended : goal.returns-in_err-wait-clause-ended
 returns-in_err-wait-clause-ended c =
     let p = err_from_is_err_and c.from_residual.result c.from_residual.ensures.1 in
     rw (p.1, p.2)
-      (ends-waiting c.args.children.items c.args.waiting.now.keys c.loop-child.children.items c.pop.new.self.items c.loop-child.waiting.keys c.wait.new.waiting.keys c.in-Some.child c.args.found.now c.loop-child.found c.args.distributions c.in_err-wait.field-0.0
-        c.loop-child.invariant.0 c.in-Some.ensures.items c.loop-child.invariant.1 c.in_err-wait.ensures.ended)
+    (ends-waiting c.args.children.items c.args.waiting.now.keys c.loop-child.children.items c.pop.new.self.items c.loop-child.waiting.keys c.wait.new.waiting.keys c.in-Some.child c.args.found.now c.loop-child.found c.args.distributions c.in_err-wait.field-0.0
+    c.loop-child.invariant.0 c.in-Some.ensures.items c.loop-child.invariant.1 c.in_err-wait.ensures.ended)
