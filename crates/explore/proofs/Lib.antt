@@ -8,3 +8,6 @@ pub mod Spreading
 pub mod TakenOff
 pub mod Knowing
 pub mod TakenIn
+pub mod Levelled
+pub mod OfferFronts
+pub mod Ending
