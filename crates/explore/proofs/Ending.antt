@@ -37,34 +37,31 @@ use Rattle.explore.proofs.OfferFronts.{front-of_offers, IsOffered, pair_of as of
 zero-test : (n : ℕ) → (((n == 0) ≡ true) × (n ≡ 0)) ⊎ (((n == 0) ≡ false) × (1 ≤ n))
 zero-test n =
     ⊎_elim
-      (λ (h : (n == 0) ≡ true). inl (h, (Decides-eqb n 0).0 h))
-      (λ (h : (n == 0) ≡ false). inr (h, ⊎_elim (λ (less : n < 1). absurd (true≢false (sym ((Decides-eqb n 0).1 (omega arith)) ∙ h))) (λ (some : 1 ≤ n). some) (cases_lt n 1)))
-      (cases_Bool (n == 0))
+    (λ (h : (n == 0) ≡ true). inl (h, (Decides-eqb n 0).0 h))
+    (λ (h : (n == 0) ≡ false). inr (h, ⊎_elim (λ (less : n < 1). absurd (true≢false (sym ((Decides-eqb n 0).1 (omega arith)) ∙ h))) (λ (some : 1 ≤ n). some) (cases_lt n 1)))
+    (cases_Bool (n == 0))
 
 offer-there : (net : Net) (ms : List Member) (m : Member) → IsOneOf ms m → 1 ≤ m.rate.num → IsOffer (offers_of net ms) (offer_for net m)
 offer-there net [] m is some = absurd is
-offer-there net (x ∷ ms) m is some = ⊎_elim zero nonzero (zero-test x.rate.num)
+offer-there net (x ∷ ms) m is some = at (zero-test x.rate.num) (λ later. offer-there net ms m later some)
   where
-    zero : ((x.rate.num == 0) ≡ true) × (x.rate.num ≡ 0) → IsOffer (offers_of net (x ∷ ms)) (offer_for net m)
-    zero test = rw test.0 (⊎_elim (λ (same : x ≡ m). absurd (let none : m.rate.num ≡ 0 = subst (λ (y : Member). y.rate.num ≡ 0) same test.1 in omega arith)) (λ (later : IsOneOf ms m). offer-there net ms m later some) is)
+    at : (((x.rate.num == 0) ≡ true) × (x.rate.num ≡ 0)) ⊎ (((x.rate.num == 0) ≡ false) × (1 ≤ x.rate.num)) → (IsOneOf ms m → IsOffer (offers_of net ms) (offer_for net m)) → IsOffer (offers_of net (x ∷ ms)) (offer_for net m)
+    at (inl test) rest = rw test.0 (⊎_elim (λ (same : x ≡ m). absurd (let none : m.rate.num ≡ 0 = subst (λ (y : Member). y.rate.num ≡ 0) same test.1 in omega arith)) rest is)
+    at (inr test) rest = rw test.0 (⊎_elim (λ (same : x ≡ m). inl (ap (offer_for net) same)) (λ (later : IsOneOf ms m). inr (rest later)) is)
 
-    nonzero : ((x.rate.num == 0) ≡ false) × (1 ≤ x.rate.num) → IsOffer (offers_of net (x ∷ ms)) (offer_for net m)
-    nonzero test = rw test.0 (⊎_elim (λ (same : x ≡ m). inl (ap (offer_for net) same)) (λ (later : IsOneOf ms m). inr (offer-there net ms m later some)) is)
+abbrev IsOfferOf : Net → List Member → Offer → Type 0
+IsOfferOf net ms o = (m : Member) × IsOneOf ms m × (offer_for net m ≡ o) × (1 ≤ m.rate.num)
 
-offer-from : (net : Net) (ms : List Member) (o : Offer) → IsOffer (offers_of net ms) o → (m : Member) × IsOneOf ms m × (offer_for net m ≡ o) × (1 ≤ m.rate.num)
+offer-from : (net : Net) (ms : List Member) (o : Offer) → IsOffer (offers_of net ms) o → IsOfferOf net ms o
 offer-from net [] o is = absurd is
-offer-from net (x ∷ ms) o is = ⊎_elim zero nonzero (zero-test x.rate.num)
+offer-from net (x ∷ ms) o is = at (zero-test x.rate.num) (λ later. offer-from net ms o later)
   where
-    zero : ((x.rate.num == 0) ≡ true) × (x.rate.num ≡ 0) → (m : Member) × IsOneOf (x ∷ ms) m × (offer_for net m ≡ o) × (1 ≤ m.rate.num)
-    zero test = let later : IsOffer (offers_of net ms) o = rw test.0 at is in let found = offer-from net ms o later in (found.0, inr found.1, found.2, found.3)
+    further : IsOfferOf net ms o → IsOfferOf net (x ∷ ms) o
+    further found = (found.0, inr found.1, found.2, found.3)
 
-    nonzero : ((x.rate.num == 0) ≡ false) × (1 ≤ x.rate.num) → (m : Member) × IsOneOf (x ∷ ms) m × (offer_for net m ≡ o) × (1 ≤ m.rate.num)
-    nonzero test =
-        let here : (offer_for net x ≡ o) ⊎ IsOffer (offers_of net ms) o = rw test.0 at is in
-        ⊎_elim
-          (λ (same : offer_for net x ≡ o). let it : (m : Member) × IsOneOf (x ∷ ms) m × (offer_for net m ≡ o) × (1 ≤ m.rate.num) = (x, inl refl, same, test.1) in it)
-          (λ (later : IsOffer (offers_of net ms) o). let found = offer-from net ms o later in (found.0, inr found.1, found.2, found.3))
-          here
+    at : (((x.rate.num == 0) ≡ true) × (x.rate.num ≡ 0)) ⊎ (((x.rate.num == 0) ≡ false) × (1 ≤ x.rate.num)) → (IsOffer (offers_of net ms) o → IsOfferOf net ms o) → IsOfferOf net (x ∷ ms) o
+    at (inl test) rest = further (rest (rw test.0 at is))
+    at (inr test) rest = ⊎_elim (λ (same : offer_for net x ≡ o). (x, inl refl, same, test.1)) (λ (later : IsOffer (offers_of net ms) o). further (rest later)) (rw test.0 at is)
 
 noted-at : (net : Net) (states : ℕ) (ms : List Member) (es : List Entry) (e : Entry) → AreNoted net states ms es → IsOneOf es e → (m : Member) × IsOneOf ms m × IsNoted net states m e
 noted-at net states [] [] e are is = absurd is
@@ -91,7 +88,7 @@ above-one p [] q above is = absurd is
 above-one p (r ∷ ps) q above (inl same) = subst (λ (x : Offer). (p.storage < x.storage) × (p.rate.num * x.rate.den < x.rate.num * p.rate.den)) same (above.0, above.1)
 above-one p (r ∷ ps) q above (inr later) =
     let next = above-one r ps q above.2 later in
-    (omega (arith, above.0, next.0), less_on p.rate.num p.rate.den r.rate.num r.rate.den q.rate.num q.rate.den p.rate.positive r.rate.positive q.rate.positive above.1 next.1)
+    (omega (arith, above.0, next.0), less_on p.rate.num p.rate.den r.rate.num r.rate.den q.rate.num q.rate.den p.rate.positive r.rate.positive q.rate.positive above.1 (omega (arith, next.1)))
 
 covering-one : (ps : List Offer) (o : Offer) → IsCoveredBy ps o → (q : Offer) × IsOffer ps q × Covers q o
 covering-one [] o covered = absurd covered
@@ -115,7 +112,6 @@ same-covers (q ∷ ps) p o order (inr later) (inl covers) storage rate =
     let no_more : p.rate.num * q.rate.den ≤ q.rate.num * p.rate.den = no_less p.rate.num p.rate.den o.rate.num o.rate.den q.rate.num q.rate.den o.rate.positive (omega arith) covers.rate in
     absurd (omega (arith, above.1, no_more))
 same-covers (q ∷ ps) p o order (inr later) (inr covered) storage rate = same-covers ps p o (rest-rising q ps order) later covered storage rate
-
 
 module _ (net : Net) (laws : Lawful net) (can : IsExplorable net) (limits : Limits) (small : limits.total ≤ STORAGE) (floor : ℕ) (members : List Member) (points : List Point) (spread : IsSpread net limits.total floor members (capacities_of members) []) (known : AreKnown net limits.states members points) where
   candidate : (m : Member) → IsOneOf members m → IsCandidate net limits.total m.capacities.capacities
@@ -149,7 +145,7 @@ module _ (net : Net) (laws : Lawful net) (can : IsExplorable net) (limits : Limi
       let c : ℕ = slice_index (entry_at known.entries i).shown j in
       let caps : (entry_at known.entries i).capacities ≡ n.0.capacities.capacities = ap (λ (x : Entry). x.capacities) n.2.is in
       let from : storage_of net.channels (stepped net n.0.capacities.capacities (slice_index (entry_at known.entries i).shown j)) ≤ limits.total → HasEntry known.entries (stepped net n.0.capacities.capacities (slice_index (entry_at known.entries i).shown j)) =
-            λ fits. has-entry _ (found-one _ (spread.next n.0 (slice_index (entry_at known.entries i).shown j) n.1 ((n.2.shows (slice_index (entry_at known.entries i).shown j)).0 (j, shown, refl)) fits)) in
+      λ fits. has-entry _ (found-one _ (spread.next n.0 (slice_index (entry_at known.entries i).shown j) n.1 ((n.2.shows (slice_index (entry_at known.entries i).shown j)).0 (j, shown, refl)) fits)) in
       subst (λ (ds : List (Option ℕ)). storage_of net.channels (stepped net ds (slice_index (entry_at known.entries i).shown j)) ≤ limits.total → HasEntry known.entries (stepped net ds (slice_index (entry_at known.entries i).shown j))) (sym caps) from within
 
   bounds : (i : ℕ) → i < length known.entries → (ds : List (Option ℕ)) → IsDistribution net.channels ds → storage_of net.channels ds ≤ limits.total → AtMost (entry_at known.entries i).capacities ds → AgreesOn (entry_at known.entries i).shown (entry_at known.entries i).capacities ds → (p q : ℕ) → Rate (bound net ds) p q → p * (entry_at known.entries i).den ≤ (entry_at known.entries i).num * q
@@ -188,19 +184,19 @@ module _ (net : Net) (laws : Lawful net) (can : IsExplorable net) (limits : Limi
   over : IsFrontOver net limits.total known.entries (map offer_pair (map offer_of points))
   over = front-of_offers net limits.total known.entries (map offer_of points) known.front.order
       (λ i below.
-        let o = one-unmap offer_pair (map offer_of points) (slice_index_or (map offer_pair (map offer_of points)) i no_pair) (one-at (map offer_pair (map offer_of points)) i no_pair below) in
-        let reaches = reached-offer o.0 (to-offer (map offer_of points) o.0 o.1) in
-        subst (IsReached net limits.total) o.2 (o.0.capacities, reaches.3))
+      let o = one-unmap offer_pair (map offer_of points) (slice_index_or (map offer_pair (map offer_of points)) i no_pair) (one-at (map offer_pair (map offer_of points)) i no_pair below) in
+      let reaches = reached-offer o.0 (to-offer (map offer_of points) o.0 o.1) in
+      subst (IsReached net limits.total) o.2 (o.0.capacities, reaches.3))
       (λ i below runs.
-        let n = noted i below in
-        let some : 1 ≤ n.0.rate.num = subst (λ (x : Entry). 1 ≤ x.num) n.2.is runs in
-        record {
-          offer = offer_for net n.0;
-          storage = sym (ap (λ (x : Entry). storage_of net.channels x.capacities) n.2.is);
-          num = sym (ap (λ (x : Entry). x.num) n.2.is);
-          den = sym (ap (λ (x : Entry). x.den) n.2.is);
-          covered = known.front.covers (offer_for net n.0) (offer-there net members n.0 n.1 some);
-        })
+      let n = noted i below in
+      let some : 1 ≤ n.0.rate.num = subst (λ (x : Entry). 1 ≤ x.num) n.2.is runs in
+      record {
+        offer = offer_for net n.0;
+        storage = sym (ap (λ (x : Entry). storage_of net.channels x.capacities) n.2.is);
+        num = sym (ap (λ (x : Entry). x.num) n.2.is);
+        den = sym (ap (λ (x : Entry). x.den) n.2.is);
+        covered = known.front.covers (offer_for net n.0) (offer-there net members n.0 n.1 some);
+      })
 
   front : IsFront net limits.total (map pair_of points)
   front = subst (IsFront net limits.total) (map-map offer_pair offer_of points) (front-over net laws limits.total known.entries (map offer_pair (map offer_of points)) closed over)
@@ -229,11 +225,11 @@ module _ (net : Net) (laws : Lawful net) (can : IsExplorable net) (limits : Limi
   explored few = record {
     front = front;
     reached = λ p one.
-      let at = reached-offer (offer_of p) (to-offer (map offer_of points) (offer_of p) (one-map offer_of points p one)) in
-      record { reaches = at.3; least = least p one; found = known.tables p one };
+        let at = reached-offer (offer_of p) (to-offer (map offer_of points) (offer_of p) (one-map offer_of points p one)) in
+        record { reaches = at.3; least = least p one; found = known.tables p one };
     listed = λ p one.
-      let at = reached-offer (offer_of p) (to-offer (map offer_of points) (offer_of p) (one-map offer_of points p one)) in
-      subst (IsOneOf (capacities_of members)) (ap (λ (o : Offer). o.capacities) at.2) (one-map (λ (x : Member). x.capacities.capacities) members at.0 at.1);
+        let at = reached-offer (offer_of p) (to-offer (map offer_of points) (offer_of p) (one-map offer_of points p one)) in
+        subst (IsOneOf (capacities_of members)) (ap (λ (o : Offer). o.capacities) at.2) (one-map (λ (x : Member). x.capacities.capacities) members at.0 at.1);
     evaluated = λ m one. (noted-of net limits.states members known.entries m known.noted one).2.member;
     reachable = λ ds one. (spread.candidates ds one).reachable;
     order = spread.order;

@@ -29,7 +29,7 @@ done-same all ms new answers rest a popped is same =
 pub done-here : (all : List (List (Option ℕ))) (ms : List Member) (answers rest : List Answered) (a : Answered) → answers ≡ rest ++ a ∷ [] → capacities_of ms ++ turned answers ≡ all → IsOneOf all a.capacities.capacities
 done-here all ms answers rest a popped same =
     subst (λ (xs : List (List (Option ℕ))). IsOneOf xs a.capacities.capacities) same
-      (one-right (capacities_of ms) (turned answers) a.capacities.capacities (subst (λ (xs : List (List (Option ℕ))). IsOneOf xs a.capacities.capacities) (sym (ap turned popped ∙ turned-more rest a)) (inl refl)))
+    (one-right (capacities_of ms) (turned answers) a.capacities.capacities (subst (λ (xs : List (List (Option ℕ))). IsOneOf xs a.capacities.capacities) (sym (ap turned popped ∙ turned-more rest a)) (inl refl)))
 
 pub cycles-same : (f : Result Evaluation RunError → ℕ) (n : ℕ) (ms new : List Member) (answers rest : List Answered) (a : Answered) → answers ≡ rest ++ a ∷ [] → (is : IsMemberAdded a ms new) → shows_cycle is.member.shown ≡ f a.answer → cycles_in ms + sum_of f answers ≡ n → cycles_in new + sum_of f rest ≡ n
 cycles-same f n ms new answers rest a popped is loops same =

@@ -11,3 +11,5 @@ pub mod TakenIn
 pub mod Levelled
 pub mod OfferFronts
 pub mod Ending
+pub mod Turning
+pub mod Beginning

@@ -27,9 +27,9 @@ module _ (net : Net) (laws : Lawful net) (can : IsExplorable net) (limits : Limi
   pub taken-in : (new : Search) → new.members.items ≡ old.members.items ++ member_of d e ∷ [] → AreKnown net limits.states (old.members.items ++ member_of d e ∷ []) new.front → HaveWaited children old.waiting.keys new.waiting.keys → new.found + length old.waiting.keys ≡ old.found + length new.waiting.keys → new.found ≤ limits.distributions → IsSearch net limits (total + 1) done new
   taken-in new members known waited count few = record {
     spread = subst (λ (ms : List Member). IsSpread net limits.total (total + 1) ms done new.waiting.keys) (sym members) (spread-moved net limits.total (total + 1) (old.members.items ++ member_of d e ∷ []) done (children ++ old.waiting.keys) new.waiting.keys
-      (λ w one. waited.kept w (one-split children old.waiting.keys w one))
-      (λ w one. ⊎_elim (λ (h : IsOneOf children w). one-left children old.waiting.keys w h) (λ (h : IsOneOf old.waiting.keys w). one-right children old.waiting.keys w h) (waited.only w one))
-      spread);
+        (λ w one. waited.kept w (one-split children old.waiting.keys w one))
+        (λ w one. ⊎_elim (λ (h : IsOneOf children w). one-left children old.waiting.keys w h) (λ (h : IsOneOf old.waiting.keys w). one-right children old.waiting.keys w h) (waited.only w one))
+        spread);
     known = subst (λ (ms : List Member). AreKnown net limits.states ms new.front) (sym members) known;
     found = omega (arith, s.found);
     few = few;

@@ -1,7 +1,6 @@
 //! The distributions that wait, in the order in which they are evaluated.
-ghost use Rattle.std.specs.Prelude.{◌≡◌, ◌+◌, ◌≤◌, ◌<◌, [], ◌∷◌, IfErr, IfOk, OnOk, MatchOption, length, slice_get, Some};
-ghost use Rattle.explore.specs.declared.waiting.Waiting.{Waiting as AWaiting};
-ghost use Rattle.explore.specs.inside.Searches.{EndsWaiting, HaveWaited, IsTakenOff, StopsAt, waiting_order};
+ghost use Rattle.std.specs.Prelude.{◌≡◌, ◌+◌, ◌≤◌, ◌<◌, [], ◌∷◌, IfErr, IfOk, OnOk, MatchOption, length};
+ghost use Rattle.explore.specs.inside.Searches.{EndsWaiting, HaveWaited, IsNext, IsTakenOff, StopsAt, waiting_order};
 ghost use Rattle.std.specs.BTreeSet.{insert_key};
 
 use crate::error::ExploreError;
@@ -13,8 +12,11 @@ use storage::Distribution;
 
 /// The least storage of those that wait.
 pub(crate) fn next_total(waiting: &BTreeSet<Waiting>) -> Option<u64>
-    ensures { MatchOption result (waiting.now.keys ≡ []) (λ t. (w : AWaiting) × (slice_get waiting.now.keys 0 ≡ Some w) × (w.total ≡ t)) }
+    ensures { MatchOption result (waiting.now.keys ≡ []) (λ t. IsNext t waiting.now.keys) }
 {
+    if waiting.len() == 0 {
+        return None;
+    }
     match waiting.first() {
         Some(first) => Some(first.total),
         None => None,

@@ -142,6 +142,18 @@ pub record IsSearch (net : Net) (limits : Limits) (floor : ℕ) (done : List (Li
   pub found : s.found ≡ length done + length s.waiting.keys
   pub few : s.found ≤ limits.distributions
 
+-- where an exploration stands between two levels
+abbrev pub IsStanding : Net → Limits → Search → Type 0
+IsStanding net limits s = (floor : ℕ) × IsSearch net limits floor (capacities_of s.members.items) s
+
+-- those that wait are in order, and the first one needs this storage
+pub record IsNext (storage : ℕ) (ws : List Waiting) : Type 0 where
+  pub first : Waiting
+  pub rest : List Waiting
+  pub are : ws ≡ first ∷ rest
+  pub least : first.total ≡ storage
+  pub sorted : IsStrictlySortedBy waiting_order ws
+
 -- what waits afterwards is what waited before, and the children
 pub record HaveWaited (children old new : List Waiting) : Type 0 where
   pub kept : (w : Waiting) → IsOneOf children w ⊎ IsOneOf old w → IsOneOf new w

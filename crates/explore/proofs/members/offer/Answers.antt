@@ -20,6 +20,6 @@ pub returns-clause-points : goal.returns-clause-points
 returns-clause-points c = λ p one.
     let point : Point = record { total = c.args.total; rate = c.args.rate; capacities = c.in_ok-capacities.capacities; table = c.args.table } in
     ⊎_elim
-      (λ (same : point ≡ p). inl (sym (ap (λ (q : Point). q.capacities) same) ∙ c.in_ok-capacities.ensures, sym (ap (λ (q : Point). q.table) same)))
-      (λ (old : IsOneOf c.args.front.now p). inr old)
-      (offered-one point c.args.front.now _ p c.in_ok-offer.ensures.offered one)
+    (λ (same : point ≡ p). inl (sym (ap (λ (q : Point). q.capacities) same) ∙ c.in_ok-capacities.ensures, sym (ap (λ (q : Point). q.table) same)))
+    (λ (old : IsOneOf c.args.front.now p). inr old)
+    (offered-one point c.args.front.now _ p c.in_ok-offer.ensures.offered one)

@@ -26,12 +26,13 @@ loop-answered-preserved g c =
     let answers = c.loop-answered.answers.items in
     let rest = c.pop.new.self.items in
     let a = c.in-Some.answered in
-    let member = c.in_ok-take_answer.ensures.member in
-    ( c.in_ok-take_answer.ensures.search _ c.loop-answered.invariant.0 (done-here _ ms answers rest a c.in-Some.ensures.items c.loop-answered.invariant.1),
+    let member = c.in_ok-take_answer.ensures.member in (
+      c.in_ok-take_answer.ensures.search _ c.loop-answered.invariant.0 (done-here _ ms answers rest a c.in-Some.ensures.items c.loop-answered.invariant.1),
       done-same _ ms _ answers rest a c.in-Some.ensures.items member c.loop-answered.invariant.1,
       λ b one. c.loop-answered.invariant.2 b (subst (λ (xs : List Answered). IsOneOf xs b) (sym c.in-Some.ensures.items) (one-left rest (a ∷ []) b one)),
       cycles-same least_loops _ ms _ answers rest a c.in-Some.ensures.items member member.least c.loop-answered.invariant.3,
-      cycles-same most_loops _ ms _ answers rest a c.in-Some.ensures.items member member.most c.loop-answered.invariant.4 )
+      cycles-same most_loops _ ms _ answers rest a c.in-Some.ensures.items member member.most c.loop-answered.invariant.4,
+    )
 
 pub returns-in_err-take_answer-clause-refused : goal.returns-in_err-take_answer-clause-refused
 returns-in_err-take_answer-clause-refused g c =
