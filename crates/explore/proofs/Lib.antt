@@ -13,3 +13,4 @@ pub mod OfferFronts
 pub mod Ending
 pub mod Turning
 pub mod Beginning
+pub mod Explorable

@@ -5,6 +5,7 @@
 mod children;
 mod error;
 mod exploration;
+pub mod laws;
 mod level;
 mod members;
 mod pending;
