@@ -34,7 +34,9 @@ pub(crate) fn explored<R: Threads + Abort + Sync, F: Firing + Sync, G: Gate + Sy
 ) -> Result<Exploration, ExploreError> {
     assert!(rt; limits.total <= STORAGE);
     assert!(rt; LEAST_STATES <= limits.states && limits.states <= STATES);
-    assert!(rt; LEAST_DISTRIBUTIONS <= limits.distributions && limits.distributions <= DISTRIBUTIONS);
+    assert!(rt;
+        LEAST_DISTRIBUTIONS <= limits.distributions && limits.distributions <= DISTRIBUTIONS
+    );
     assert!(rt; is_explorable(net));
     let mut steps = Steps::new(Loops);
     let found = explore(rt, alloc, net, limits, gate, &mut steps);

@@ -1,4 +1,5 @@
-//! Runs the calls of `guide` and `explore` on small nets, whose values are worked out by hand. It has no calls of its own.
+//! Runs the calls of `explore` on small nets, whose values are worked out by hand, and shows that the distributions of a
+//! level are evaluated side by side. It has no calls of its own.
 #![tactic(auto)]
 
 #[cfg(test)]
@@ -6,4 +7,8 @@ mod checks;
 #[cfg(test)]
 mod explore_tests;
 #[cfg(test)]
+mod meeting_tests;
+#[cfg(test)]
 mod nets;
+#[cfg(test)]
+mod watched;
