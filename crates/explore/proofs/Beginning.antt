@@ -1,9 +1,7 @@
 -- An exploration begins at the corner.
-use Rattle.std.proofs.Common.{◌≡◌, ℕ, ◌+◌, ◌≤◌, ◌<◌, ◌⊎◌, Option, List, [], ◌∷◌, length, inl, inr, ⊎_elim, refl, sym, ap, ◌∙◌, subst, arith}
+use Rattle.std.proofs.Common.{◌≡◌, ℕ, ◌≤◌, ◌<◌, Option, List, [], ◌∷◌, length, inl, inr, ⊎_elim, refl, sym, ap, ◌∙◌, subst, arith}
 use Rattle.sd_base.specs.declared.limits.Limits.{Limits}
 use Rattle.sd_base.specs.Net.{Net}
-use Rattle.sd_base.specs.Lawful.{Lawful}
-use Rattle.storage.specs.declared.distribution.Distribution.{Distribution}
 use Rattle.storage.specs.Distributions.{storage_of}
 use Rattle.storage.specs.Steps.{IsCorner}
 use Rattle.storage.proofs.CornerLists.{corner-distribution, corner-grid}
@@ -11,8 +9,8 @@ use Rattle.explore.specs.declared.exploration.Member.{Member}
 use Rattle.explore.specs.declared.search.Search.{Search}
 use Rattle.explore.specs.declared.waiting.Waiting.{Waiting}
 use Rattle.explore.specs.Reachable.{IsExplorable, corner}
-use Rattle.explore.specs.Explorations.{IsLedTo, IsOneOf}
-use Rattle.explore.specs.inside.Searches.{AreKnown, IsCandidate, IsSearch, IsSpread, Waits, WasFound}
+use Rattle.explore.specs.Explorations.{IsOneOf}
+use Rattle.explore.specs.inside.Searches.{AreKnown, IsCandidate, IsSearch, IsSpread, Waits}
 
 module _ (net : Net) (can : IsExplorable net) (limits : Limits) (ds : List (Option ℕ)) (is : IsCorner net.channels ds) where
   known-none : AreKnown net limits.states [] []

@@ -1,5 +1,5 @@
 -- Elements of lists, and lists of distributions in order.
-use Rattle.std.proofs.Common.{◌≡◌, ℕ, zero, suc, ◌<◌, ◌≤◌, ◌⊎◌, Option, List, [], ◌∷◌, ◌++◌, length, map, inl, inr, ⊎_elim, refl, sym, ap, ◌∙◌, subst, arith}
+use Rattle.std.proofs.Common.{◌≡◌, ℕ, zero, suc, ◌<◌, ◌⊎◌, Option, List, [], ◌∷◌, ◌++◌, length, map, inl, inr, ⊎_elim, refl, ap, arith}
 use Rattle.std.specs.Prelude.{slice_index_or}
 use Rattle.sd_base.specs.Net.{Net}
 use Rattle.explore.specs.Explorations.{AreInOrder, IsBefore, IsOneOf}

@@ -1,38 +1,33 @@
 -- A search whose distributions are all members is an exploration: its points are the front.
-use Rattle.std.proofs.Common.{◌≡◌, ℕ, zero, suc, ◌+◌, ◌*◌, ◌≤◌, ◌<◌, ◌⊎◌, Bool, true, false, Option, List, [], ◌∷◌, ◌++◌, length, map, inl, inr, ⊎_elim, refl, sym, ap, ◌∙◌, subst, arith}
-use Rattle.std.specs.Prelude.{◌==◌, if◌then◌else◌, slice_index, slice_index_or}
-use Rattle.std.specs.Int.{IsGcd}
+use Rattle.std.proofs.Common.{◌≡◌, ℕ, ◌*◌, ◌≤◌, ◌<◌, ◌⊎◌, true, false, Option, List, [], ◌∷◌, length, map, inl, inr, ⊎_elim, refl, sym, ap, ◌∙◌, subst, arith}
+use Rattle.std.specs.Prelude.{◌==◌, slice_index, slice_index_or}
 use Rattle.std.proofs.lemmas.Bool.{cases_lt, cases_Bool, true≢false}
 use Rattle.std.proofs.lemmas.Bool.Decides.{Decides-eqb}
 use Rattle.sd_base.specs.declared.limits.Limits.{Limits}
-use Rattle.sd_base.specs.declared.limits.TheConstants.{NET_TOKENS, STORAGE}
-use Rattle.sd_base.specs.declared.numbers.Fraction.{Fraction}
-use Rattle.sd_base.specs.Net.{Net, channel_at}
+use Rattle.sd_base.specs.declared.limits.TheConstants.{STORAGE}
+use Rattle.sd_base.specs.Net.{Net}
 use Rattle.sd_base.specs.Lawful.{Lawful}
 use Rattle.sd_base.specs.Rates.{Rate}
 use Rattle.sd_base.proofs.LoopRates.{one-rate}
-use Rattle.critical.specs.Spaces.{Has}
-use Rattle.storage.specs.declared.distribution.Distribution.{Distribution}
 use Rattle.storage.specs.BoundedNets.{bound}
 use Rattle.storage.specs.CapacityOrder.{no_later}
 use Rattle.storage.specs.Distributions.{AtMost, IsDistribution, storage_of}
-use Rattle.storage.specs.ParetoPoints.{IsFront, IsPareto, IsReached, Pair, Reaches, no_pair}
+use Rattle.storage.specs.ParetoPoints.{IsFront, IsPareto, IsReached, Reaches, no_pair}
 use Rattle.storage.specs.ClosedLists.{AgreesOn, Entry, HasEntry, IsClosed, IsFrontOver, entry_at, no_entry}
-use Rattle.storage.specs.Steps.{IsOnGrid, step_of}
+use Rattle.storage.specs.Steps.{IsOnGrid}
 use Rattle.storage.proofs.Fits.{within-lawful}
 use Rattle.storage.proofs.FileChannels.{plain-no_spaces}
-use Rattle.storage.proofs.FrontsFromMembers.{AreExact, front-over, less_on, no_less, pareto-listed, same_fraction}
+use Rattle.storage.proofs.FrontsFromMembers.{AreExact, front-over, less_on, no_less, pareto-listed}
 use Rattle.pareto_front.specs.declared.point.Point.{Point}
 use Rattle.pareto_front.specs.Offers.{AreAbove, AreInOrder as AreRising, Covers, IsCoveredBy, IsOneOf as IsOffer, Offer}
-use Rattle.pareto_front.specs.Points.{IsFrontOf, offer_of}
+use Rattle.pareto_front.specs.Points.{offer_of}
 use Rattle.explore.specs.declared.exploration.Member.{Member}
-use Rattle.explore.specs.declared.waiting.Waiting.{Waiting}
 use Rattle.explore.specs.Reachable.{IsExplorable, stepped}
-use Rattle.explore.specs.Explorations.{IsExploration, IsMember, IsOneOf, IsPoint, capacities_of, pair_of}
-use Rattle.explore.specs.inside.Searches.{AreKnown, AreNoted, IsCandidate, IsNoted, IsSpread, WasFound, entry_of, offer_for, offers_of}
+use Rattle.explore.specs.Explorations.{IsExploration, IsOneOf, capacities_of, pair_of}
+use Rattle.explore.specs.inside.Searches.{AreKnown, AreNoted, IsCandidate, IsNoted, IsSpread, WasFound, offer_for, offers_of}
 use Rattle.explore.proofs.Elements.{at-one, one-at, one-map, one-unmap}
 use Rattle.explore.proofs.Spreading.{map-map}
-use Rattle.explore.proofs.OfferFronts.{front-of_offers, IsOffered, pair_of as offer_pair}
+use Rattle.explore.proofs.OfferFronts.{front-of_offers, pair_of as offer_pair}
 
 zero-test : (n : ℕ) → (((n == 0) ≡ true) × (n ≡ 0)) ⊎ (((n == 0) ≡ false) × (1 ≤ n))
 zero-test n =

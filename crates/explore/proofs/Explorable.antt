@@ -1,5 +1,5 @@
 -- Nets that can be explored.
-use Rattle.std.proofs.Common.{◌≡◌, ℕ, zero, suc, ◌+◌, ◌*◌, ◌≤◌, ◌<◌, ◌⊎◌, Option, None, Some, List, [], ◌∷◌, length, inl, inr, ⊎_elim, refl, sym, ap, ◌∙◌, subst, arith}
+use Rattle.std.proofs.Common.{◌≡◌, ℕ, suc, ◌*◌, ◌≤◌, ◌<◌, ◌⊎◌, Option, None, Some, List, [], ◌∷◌, length, ⊎_elim, sym, ap, ◌∙◌, arith}
 use Rattle.std.proofs.lemmas.Bool.{cases_eq}
 use Rattle.sd_base.specs.declared.limits.TheConstants.{NET_CHANNELS}
 use Rattle.sd_base.specs.Net.{Channel, Net, channel_at}
@@ -26,12 +26,12 @@ touched-inputs net touched ds dist a actor = at (touched a actor)
     back : (i : ℕ) → i < length net.channels → (channel_at net i).source ≡ a → (j : ℕ) × (j < length (bound net ds).channels) × ((channel_at (bound net ds) j).target ≡ a)
     back i place source =
         ⊎_elim
-          (λ (same : (channel_at net i).source ≡ (channel_at net i).target). into i place (sym same ∙ source))
-          (λ (apart : (channel_at net i).source ≡ (channel_at net i).target → ⊥).
-            let room = capacity-there net.channels ds i dist place apart in
-            let space = bound-space net ds i room.0 place room.1 in
-            (space.0, space.1, ap (λ (c : Channel). c.target) space.2 ∙ source))
-          (cases_eq (channel_at net i).source (channel_at net i).target)
+        (λ (same : (channel_at net i).source ≡ (channel_at net i).target). into i place (sym same ∙ source))
+        (λ (apart : (channel_at net i).source ≡ (channel_at net i).target → ⊥).
+        let room = capacity-there net.channels ds i dist place apart in
+        let space = bound-space net ds i room.0 place room.1 in
+        (space.0, space.1, ap (λ (c : Channel). c.target) space.2 ∙ source))
+        (cases_eq (channel_at net i).source (channel_at net i).target)
 
     at : (i : ℕ) × (i < length net.channels) × (((channel_at net i).source ≡ a) ⊎ ((channel_at net i).target ≡ a)) → (j : ℕ) × (j < length (bound net ds).channels) × ((channel_at (bound net ds) j).target ≡ a)
     at (i, place, ends) = ⊎_elim (λ (h : (channel_at net i).source ≡ a). back i place h) (λ (h : (channel_at net i).target ≡ a). into i place h) ends

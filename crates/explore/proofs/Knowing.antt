@@ -1,5 +1,5 @@
 -- What is known of members, with one more.
-use Rattle.std.proofs.Common.{◌≡◌, ℕ, ◌+◌, ◌*◌, ◌≤◌, ◌<◌, ◌⊎◌, Bool, true, false, Option, List, [], ◌∷◌, ◌++◌, length, map, inl, inr, ⊎_elim, refl, sym, ap, ◌∙◌, subst, arith, eq-eqb}
+use Rattle.std.proofs.Common.{◌≡◌, ℕ, ◌+◌, ◌⊎◌, Bool, true, false, Option, List, [], ◌∷◌, ◌++◌, map, inl, inr, ⊎_elim, refl, sym, ap, subst, arith, eq-eqb}
 use Rattle.std.specs.Prelude.{◌==◌, if◌then◌else◌, nat_le}
 use Rattle.std.proofs.lemmas.List.{append-nil}
 use Rattle.sd_base.specs.declared.numbers.Fraction.{Fraction}
@@ -12,14 +12,14 @@ use Rattle.storage.specs.BoundedNets.{bound}
 use Rattle.storage.specs.Distributions.{storage_of}
 use Rattle.storage.specs.ClosedLists.{Entry}
 use Rattle.pareto_front.specs.declared.point.Point.{Point}
-use Rattle.pareto_front.specs.Offers.{Offer, IsCoveredBy, is_slower}
+use Rattle.pareto_front.specs.Offers.{Offer, is_slower}
 use Rattle.pareto_front.specs.Points.{IsFrontOf, IsOffered, left_points, offer_of, put_point}
 use Rattle.guide.specs.declared.rating.Evaluation.{Evaluation}
 use Rattle.guide.specs.declared.rating.Outcome.{Outcome}
 use Rattle.guide.specs.declared.rating.Outcome.TheVariants as outcomes
 use Rattle.guide.specs.Evaluations.{IsEvaluated, IsOutcome, loops_run}
 use Rattle.explore.specs.declared.exploration.Member.{Member}
-use Rattle.explore.specs.Explorations.{IsMember, IsOneOf, ShowsRate, cycles_in, shows_cycle}
+use Rattle.explore.specs.Explorations.{IsOneOf, ShowsRate, cycles_in, shows_cycle}
 use Rattle.explore.specs.inside.Searches.{AreKnown, AreNoted, HasTable, IsNoted, entry_of, member_of, offer_for, offers_at, offers_of, shown_by}
 use Rattle.explore.proofs.Spreading.{evaluation-shown}
 

@@ -1,5 +1,5 @@
 -- One more answer of a level.
-use Rattle.std.proofs.Common.{◌≡◌, ℕ, ◌+◌, ◌≤◌, ◌<◌, ◌⊎◌, Option, List, [], ◌∷◌, ◌++◌, Result, length, map, append_assoc, inl, inr, refl, sym, ap, ◌∙◌, subst, arith}
+use Rattle.std.proofs.Common.{◌≡◌, ℕ, ◌+◌, Option, List, [], ◌∷◌, ◌++◌, Result, map, append_assoc, inl, refl, sym, ap, ◌∙◌, subst, arith}
 use Rattle.std.proofs.lemmas.List.{append-nil, map-append}
 use Rattle.lasso.specs.declared.error.RunError.{RunError}
 use Rattle.storage.specs.declared.distribution.Distribution.{Distribution}
@@ -7,9 +7,9 @@ use Rattle.guide.specs.declared.rating.Evaluation.{Evaluation}
 use Rattle.explore.specs.declared.exploration.Member.{Member}
 use Rattle.explore.specs.declared.level.Answered.{Answered}
 use Rattle.explore.specs.Explorations.{IsOneOf, capacities_of, cycles_in, shows_cycle}
-use Rattle.explore.specs.inside.Levels.{least_loops, most_loops, onto, sum_of}
+use Rattle.explore.specs.inside.Levels.{sum_of}
 use Rattle.explore.specs.inside.Searches.{IsMemberAdded, turned}
-use Rattle.explore.proofs.Elements.{one-left, one-right}
+use Rattle.explore.proofs.Elements.{one-right}
 use Rattle.explore.proofs.Knowing.{cycles-more}
 use Rattle.explore.proofs.Tasks.{onto-more, sum-more}
 

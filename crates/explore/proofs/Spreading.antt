@@ -1,11 +1,10 @@
 -- How what an exploration has found spreads: by a level that is taken off, a member that is taken in, and others that wait.
-use Rattle.std.proofs.Common.{◌≡◌, ℕ, ◌+◌, ◌≤◌, ◌<◌, ◌⊎◌, Option, List, [], ◌∷◌, ◌++◌, length, map, inl, inr, ⊎_elim, refl, sym, ap, ◌∙◌, subst, arith}
-use Rattle.std.specs.Prelude.{◌↔◌, slice_index}
+use Rattle.std.proofs.Common.{◌≡◌, ℕ, ◌+◌, ◌≤◌, ◌<◌, ◌⊎◌, Option, List, [], ◌∷◌, ◌++◌, map, inl, inr, ⊎_elim, refl, sym, ap, ◌∙◌, subst, arith}
+use Rattle.std.specs.Prelude.{◌↔◌}
 use Rattle.std.specs.List.{AllByRecursion}
 use Rattle.std.specs.List.Sorted.{IsStrictlySortedBy}
 use Rattle.std.proofs.lemmas.Bool.{cases_lt}
 use Rattle.std.specs.declared.cmp.Ordering.TheVariants.{Less}
-use Rattle.sd_base.specs.declared.limits.Limits.{Limits}
 use Rattle.sd_base.specs.declared.numbers.Fraction.{Fraction}
 use Rattle.sd_base.specs.Net.{Net}
 use Rattle.sd_base.specs.Lawful.{Lawful}
@@ -20,7 +19,7 @@ use Rattle.guide.specs.Evaluations.{IsEvaluated, IsOutcome}
 use Rattle.explore.specs.declared.exploration.Member.{Member}
 use Rattle.explore.specs.declared.waiting.Waiting.{Waiting}
 use Rattle.explore.specs.Reachable.{IsExplorable, IsReachable, stepped}
-use Rattle.explore.specs.Explorations.{AreFound, AreInOrder, IsBefore, IsLedTo, IsOneOf, IsRefusal, ShowsChannel}
+use Rattle.explore.specs.Explorations.{AreFound, AreInOrder, IsBefore, IsLedTo, IsOneOf, ShowsChannel}
 use Rattle.explore.specs.inside.Searches.{AreChildren, ArePast, IsCandidate, IsChild, IsSpread, IsTakenOff, StopsAt, Waits, WasFound, member_of, shown_by, waiting_order}
 use Rattle.explore.proofs.Elements.{one-left, one-map, one-right, one-split, one-unmap, order-append}
 use Rattle.explore.proofs.Inserts.{sorted-front, sorted-order, sorted-rest}

@@ -1,5 +1,5 @@
 -- Distributions with a step more room.
-use Rattle.std.proofs.Common.{◌≡◌, ℕ, zero, suc, ◌+◌, ◌*◌, ◌≤◌, ◌<◌, ◌⊎◌, Option, None, Some, List, [], ◌∷◌, ◌++◌, length, inl, inr, ⊎_elim, refl, sym, ap, ◌∙◌, subst, arith, mul-le-mul_right, mul-le-mul_left}
+use Rattle.std.proofs.Common.{◌≡◌, ℕ, zero, suc, ◌+◌, ◌*◌, ◌≤◌, ◌<◌, Option, None, Some, List, [], ◌∷◌, ◌++◌, length, inl, inr, ⊎_elim, refl, sym, ap, ◌∙◌, subst, arith, mul-le-mul_right}
 use Rattle.std.specs.Prelude.{slice_index, slice_index_or}
 use Rattle.std.proofs.lemmas.Bool.{cases_lt, true≢false}
 use Rattle.sd_base.specs.declared.limits.TheConstants.{NET_TOKENS}
@@ -13,17 +13,16 @@ use Rattle.storage.specs.Distributions.{CanHold, IsDistribution, capacity_at, en
 use Rattle.storage.specs.ShownSpaces.{ShowsSpace}
 use Rattle.storage.specs.Steps.{IsOnGrid, step_of}
 use Rattle.storage.proofs.ChannelSteps.{some-step}
-use Rattle.storage.proofs.SpaceChannels.{SpaceAt, bound-front, bound-long, bound-back}
+use Rattle.storage.proofs.SpaceChannels.{SpaceAt, bound-front, bound-back}
 use Rattle.storage.proofs.FileChannels.{plain-no_spaces}
 use Rattle.storage.proofs.Fits.{can-hold}
 use Rattle.guide.specs.declared.rating.Evaluation.{Evaluation}
 use Rattle.guide.specs.declared.rating.Outcome.{Outcome}
 use Rattle.guide.specs.declared.rating.Outcome.TheVariants as outcomes
 use Rattle.guide.specs.Evaluations.{IsEvaluable, IsEvaluated, IsOutcome}
-use Rattle.guide.specs.Guides.{IsInGuide}
 use Rattle.guide.proofs.Evaluating.{chain-places}
 use Rattle.guide.proofs.Shown.{evaluation-shows}
-use Rattle.explore.specs.Reachable.{IsExplorable, IsReachable, next, stepped}
+use Rattle.explore.specs.Reachable.{IsExplorable, next, stepped}
 use Rattle.explore.specs.declared.waiting.Waiting.{Waiting}
 use Rattle.explore.specs.Explorations.{IsOneOf}
 use Rattle.explore.specs.inside.Searches.{AreChildren, IsCandidate, IsChild, IsChildAdded}

@@ -1,12 +1,11 @@
 -- A member that is taken in leaves the search as it has to be; or more were found than allowed.
-use Rattle.std.proofs.Common.{◌≡◌, ℕ, ◌+◌, ◌≤◌, ◌<◌, ◌⊎◌, Option, List, [], ◌∷◌, ◌++◌, length, map, inl, inr, ⊎_elim, refl, sym, ap, ◌∙◌, subst, arith}
+use Rattle.std.proofs.Common.{◌≡◌, ℕ, ◌+◌, ◌≤◌, Option, List, [], ◌∷◌, ◌++◌, length, map, ⊎_elim, sym, ap, subst, arith}
 use Rattle.std.proofs.lemmas.List.{length-append, length-map}
 use Rattle.sd_base.specs.declared.limits.Limits.{Limits}
 use Rattle.sd_base.specs.Net.{Net}
 use Rattle.sd_base.specs.Lawful.{Lawful}
 use Rattle.storage.specs.declared.distribution.Distribution.{Distribution}
 use Rattle.storage.specs.Distributions.{storage_of}
-use Rattle.pareto_front.specs.declared.point.Point.{Point}
 use Rattle.guide.specs.declared.rating.Evaluation.{Evaluation}
 use Rattle.guide.specs.Evaluations.{IsEvaluated}
 use Rattle.explore.specs.declared.error.ExploreError.{ExploreError}

@@ -1,5 +1,5 @@
 -- Taking the first ones off those that wait, and letting others wait.
-use Rattle.std.proofs.Common.{◌≡◌, ℕ, ◌+◌, ◌≤◌, ◌<◌, ◌⊎◌, List, [], ◌∷◌, ◌++◌, length, map, append_assoc, inl, inr, ⊎_elim, refl, sym, ap, ◌∙◌, subst, arith}
+use Rattle.std.proofs.Common.{◌≡◌, ℕ, ◌+◌, ◌⊎◌, List, [], ◌∷◌, ◌++◌, length, map, append_assoc, inl, inr, ⊎_elim, sym, ap, ◌∙◌, subst, arith}
 use Rattle.std.proofs.lemmas.List.{map-append}
 use Rattle.std.specs.BTreeSet.{insert_key}
 use Rattle.storage.specs.declared.distribution.Distribution.{Distribution}
@@ -7,7 +7,7 @@ use Rattle.explore.specs.declared.error.ExploreError.{ExploreError}
 use Rattle.explore.specs.declared.error.ExploreError.TheVariants.{StatesSpent, TooManyStarts, DistributionsSpent, NoMemory}
 use Rattle.explore.specs.declared.waiting.Waiting.{Waiting}
 use Rattle.explore.specs.Explorations.{IsOneOf}
-use Rattle.explore.specs.inside.Searches.{ArePast, EndsWaiting, HaveWaited, IsTakenOff, StopsAt, waiting_order}
+use Rattle.explore.specs.inside.Searches.{EndsWaiting, HaveWaited, IsTakenOff, StopsAt, waiting_order}
 use Rattle.explore.proofs.Elements.{one-left, one-right, one-split}
 use Rattle.explore.proofs.Inserts.{insert-new, insert-old, insert-only}
 

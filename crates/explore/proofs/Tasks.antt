@@ -1,6 +1,5 @@
 -- A task that was fresh is done when it has run; and the list behind a slice that was lent.
-use Rattle.std.proofs.Common.{◌≡◌, ℕ, zero, suc, ◌+◌, ◌≤◌, ◌<◌, Option, List, [], ◌∷◌, ◌++◌, Result, Ok, Err, length, map, reverse, take, drop, append_assoc, refl, sym, ap, ◌∙◌, subst, arith}
-use Rattle.std.specs.Prelude.{slice_index_or}
+use Rattle.std.proofs.Common.{◌≡◌, ℕ, suc, ◌+◌, ◌≤◌, Option, List, [], ◌∷◌, ◌++◌, Result, Ok, Err, length, map, reverse, take, drop, append_assoc, refl, sym, ap, ◌∙◌, subst, arith}
 use Rattle.std.proofs.lemmas.List.{append-nil, reverse-append}
 use Rattle.fanout.specs.JobRuns.{EachRan}
 use Rattle.sd_base.specs.Net.{Net}

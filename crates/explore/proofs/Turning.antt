@@ -1,10 +1,10 @@
 -- A level is taken off those that wait, and its answers can be taken in.
-use Rattle.std.proofs.Common.{◌≡◌, ℕ, zero, suc, ◌+◌, ◌≤◌, ◌<◌, ◌⊎◌, Option, List, [], ◌∷◌, ◌++◌, Result, Ok, Err, length, map, inl, inr, ⊎_elim, refl, sym, ap, ◌∙◌, subst, arith}
+use Rattle.std.proofs.Common.{◌≡◌, ℕ, ◌+◌, ◌≤◌, Option, List, [], ◌∷◌, ◌++◌, Result, Ok, Err, length, map, inl, inr, sym, ap, ◌∙◌, subst, arith}
 use Rattle.std.specs.Prelude.{All, slice_index_or}
 use Rattle.std.specs.List.Sorted.{IsStrictlySortedBy}
 use Rattle.std.proofs.lemmas.List.{length-append, length-map}
 use Rattle.sd_base.specs.declared.limits.Limits.{Limits}
-use Rattle.sd_base.specs.declared.limits.TheConstants.{NET_TOKENS, STORAGE}
+use Rattle.sd_base.specs.declared.limits.TheConstants.{STORAGE}
 use Rattle.sd_base.specs.Net.{Net}
 use Rattle.sd_base.specs.Lawful.{Lawful}
 use Rattle.lasso.specs.declared.error.RunError.{RunError}
@@ -21,7 +21,7 @@ use Rattle.explore.specs.declared.search.Search.{Search}
 use Rattle.explore.specs.declared.waiting.Waiting.{Waiting}
 use Rattle.explore.specs.Reachable.{IsExplorable}
 use Rattle.explore.specs.Explorations.{CountsFew, IsOneOf, capacities_of, cycles_in, shows_cycle}
-use Rattle.explore.specs.inside.Levels.{IsEvaluation, least_loops, most_loops, onto, sum_of}
+use Rattle.explore.specs.inside.Levels.{IsEvaluation, most_loops, onto, sum_of}
 use Rattle.explore.specs.inside.Searches.{AreKnown, IsAnswerOf, IsNext, IsSearch, IsSpread, IsTakenOff, StopsAt, turned, waiting_order}
 use Rattle.explore.proofs.Elements.{at-one, one-at, one-map}
 use Rattle.explore.proofs.Spreading.{level-candidate, level-storage, spread-found, spread-level}

@@ -1,5 +1,5 @@
 -- What the evaluation of a level comes to.
-use Rattle.std.specs.Prelude.{◌≡◌, ℕ, ◌+◌, ◌≤◌, Bool, true, Option, None, Some, List, [], ◌∷◌, Result, Ok, Err}
+use Rattle.std.specs.Prelude.{◌≡◌, ℕ, ◌+◌, ◌≤◌, true, Option, None, Some, List, [], ◌∷◌, Result, Ok, Err}
 use Rattle.sd_base.specs.declared.limits.TheConstants.{LEAST_STATES, STATES}
 use Rattle.sd_base.specs.Net.{Net}
 use Rattle.sd_base.specs.Counter.{Tally}

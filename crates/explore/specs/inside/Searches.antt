@@ -1,5 +1,5 @@
 -- Where an exploration stands: its members, the distributions that are being evaluated, and those that wait.
-use Rattle.std.specs.Prelude.{◌≡◌, ◌≢◌, ℕ, ◌+◌, ◌≤◌, ◌<◌, ◌⊎◌, ◌↔◌, Bool, true, false, Option, List, [], ◌∷◌, ◌++◌, length, map, slice_index, if◌then◌else◌, ◌==◌}
+use Rattle.std.specs.Prelude.{◌≡◌, ◌≢◌, ℕ, ◌+◌, ◌≤◌, ◌<◌, ◌⊎◌, ◌↔◌, Option, List, [], ◌∷◌, ◌++◌, length, map, if◌then◌else◌, ◌==◌}
 use Rattle.std.specs.declared.cmp.Ordering.{Ordering}
 use Rattle.std.specs.List.Sorted.{IsStrictlySortedBy}
 use Rattle.sd_base.specs.declared.limits.Limits.{Limits}

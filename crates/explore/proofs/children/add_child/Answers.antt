@@ -1,4 +1,4 @@
-use Rattle.std.proofs.Common.{◌≡◌, ◌≤◌, ◌<◌, ◌+◌, inl, inr, arith, rules}
+use Rattle.std.proofs.Common.{◌<◌, inl, arith, rules}
 use Rattle.storage.specs.Distributions.{storage_of}
 use Rattle.explore.specs.Reachable.{stepped}
 use Rattle.explore.proofs.Stepping.{child-added}

@@ -1,8 +1,5 @@
-use Rattle.std.proofs.Common.{◌≡◌, ◌≤◌, ◌+◌, ◌<◌, ℕ, Option, List, length, subst, sym, ap, ◌∙◌, arith, rules}
-use Rattle.sd_base.specs.Net.{channel_at}
-use Rattle.storage.specs.Distributions.{enlarged, storage_of}
-use Rattle.storage.specs.Steps.{step_of}
-use Rattle.explore.specs.Reachable.{stepped}
+use Rattle.std.proofs.Common.{◌≤◌, ℕ, Option, List, length, subst, sym, arith}
+use Rattle.storage.specs.Distributions.{enlarged}
 use Rattle.explore.proofs.Stepping.{candidate-small, child-distribution, distribution-length}
 use Rattle.explore.proofs.children.child.Goals as goal
 

@@ -1,4 +1,4 @@
-use Rattle.std.proofs.Common.{◌≤◌, ◌<◌, length, refl, arith}
+use Rattle.std.proofs.Common.{refl, arith}
 use Rattle.explore.proofs.Stepping.{children-all, children-more}
 use Rattle.explore.proofs.children.children_of.Goals as goal
 

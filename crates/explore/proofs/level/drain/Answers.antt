@@ -1,4 +1,4 @@
-use Rattle.std.proofs.Common.{◌≡◌, ◌++◌, ◌∷◌, [], ℕ, ◌+◌, ◌≤◌, All, Result, Some, map, append_assoc, ap, subst, sym, refl, ◌∙◌, arith, rules}
+use Rattle.std.proofs.Common.{◌≡◌, ◌++◌, ◌∷◌, [], ℕ, ◌+◌, All, Result, Some, map, append_assoc, ap, subst, sym, ◌∙◌, arith}
 use Rattle.explore.specs.declared.task.Task.{Task}
 use Rattle.explore.specs.declared.level.Answered.{Answered}
 use Rattle.explore.specs.inside.Levels.{IsAnswered, IsDone, IsEvaluation, least_loops, most_loops, onto, sum_of}

@@ -1,4 +1,4 @@
-use Rattle.std.proofs.Common.{◌≡◌, ◌+◌, ◌-◌, ◌≤◌, ◌++◌, [], map, All, vec_len, vec_capacity}
+use Rattle.std.proofs.Common.{◌≡◌, ◌+◌, ◌≤◌, ◌++◌, [], map, All, vec_len, vec_capacity}
 use Rattle.explore.specs.inside.Levels.{IsDone, IsEvaluation, least_loops, most_loops, onto, sum_of}
 use Rattle.explore.proofs.level.drain.Given as goal
 

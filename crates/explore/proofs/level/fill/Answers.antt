@@ -1,4 +1,4 @@
-use Rattle.std.proofs.Common.{◌≡◌, ◌++◌, ◌∷◌, [], All, List, None, append_assoc, subst, sym, refl, ap, ◌∙◌, arith, rules}
+use Rattle.std.proofs.Common.{◌++◌, ◌∷◌, [], All, None, append_assoc, subst, sym, refl, ap, ◌∙◌, arith}
 use Rattle.storage.specs.declared.distribution.Distribution.{Distribution}
 use Rattle.guide.specs.Evaluations.{IsEvaluable}
 use Rattle.explore.specs.declared.task.Task.{Task}

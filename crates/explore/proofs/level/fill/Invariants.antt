@@ -1,4 +1,4 @@
-use Rattle.std.proofs.Common.{◌≡◌, ◌+◌, ◌-◌, ◌≤◌, ◌++◌, [], All, vec_len, vec_capacity}
+use Rattle.std.proofs.Common.{◌≡◌, ◌+◌, ◌++◌, [], All, vec_len, vec_capacity}
 use Rattle.guide.specs.Evaluations.{IsEvaluable}
 use Rattle.explore.specs.inside.Levels.{IsFresh, onto}
 use Rattle.explore.proofs.level.fill.Given as goal

@@ -1,4 +1,4 @@
-use Rattle.std.proofs.Common.{◌≡◌, ◌++◌, [], All, length, map, reverse, take, drop, subst, sym, ap, ◌∙◌, arith, rules}
+use Rattle.std.proofs.Common.{◌≡◌, ◌++◌, [], All, length, map, reverse, take, drop, subst, sym, ap, ◌∙◌, rules}
 use Rattle.std.proofs.lemmas.List.{reverse-reverse}
 use Rattle.storage.specs.declared.distribution.Distribution.{Distribution}
 use Rattle.fanout.specs.JobRuns.{EachRan}

@@ -1,9 +1,7 @@
-use Rattle.std.proofs.Common.{◌≡◌, ◌++◌, ◌∷◌, [], List, map, false, inl, inr, ⊎_elim, subst, sym, ap, ◌∙◌}
+use Rattle.std.proofs.Common.{◌≡◌, false, inl, inr, ⊎_elim, sym, ap, ◌∙◌}
 use Rattle.std.specs.Prelude.{◌==◌}
 use Rattle.storage.specs.declared.distribution.Distribution.{Distribution}
 use Rattle.pareto_front.specs.declared.point.Point.{Point}
-use Rattle.pareto_front.specs.Offers.{Offer}
-use Rattle.pareto_front.specs.Points.{IsFrontOf, offer_of}
 use Rattle.explore.specs.Explorations.{IsOneOf}
 use Rattle.explore.specs.inside.Searches.{offers_at}
 use Rattle.explore.proofs.Knowing.{front-as, offered-one, offers-some}

@@ -1,4 +1,4 @@
-use Rattle.std.proofs.Common.{◌≡◌, refl, subst, sym, ap, ◌∙◌}
+use Rattle.std.proofs.Common.{refl, sym, ap, ◌∙◌}
 use Rattle.explore.specs.inside.Levels.{least_loops, most_loops}
 use Rattle.explore.specs.inside.Searches.{member_of}
 use Rattle.explore.proofs.Knowing.{loops-shown}

@@ -1,11 +1,11 @@
-use Rattle.std.proofs.Common.{◌≡◌, ◌++◌, ◌∷◌, [], List, inl, refl, subst, sym, arith, rules}
+use Rattle.std.proofs.Common.{◌++◌, ◌∷◌, [], List, inl, refl, subst, sym}
 use Rattle.std.proofs.lemmas.Result.{err_from_is_err_and}
 use Rattle.explore.specs.declared.level.Answered.{Answered}
 use Rattle.explore.specs.Explorations.{IsOneOf, capacities_of}
-use Rattle.explore.specs.inside.Levels.{least_loops, most_loops, sum_of}
-use Rattle.explore.specs.inside.Searches.{IsSearch, turned}
+use Rattle.explore.specs.inside.Levels.{least_loops, most_loops}
+use Rattle.explore.specs.inside.Searches.{turned}
 use Rattle.explore.proofs.Elements.{one-left, one-right}
-use Rattle.explore.proofs.Levelled.{cycles-same, done-all, done-here, done-same}
+use Rattle.explore.proofs.Levelled.{cycles-same, done-here, done-same}
 use Rattle.explore.proofs.members.take_in_all.Goals as goal
 
 pub take_answer-requires-clause-few : goal.take_answer-requires-clause-few

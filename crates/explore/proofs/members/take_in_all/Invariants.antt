@@ -1,4 +1,4 @@
-use Rattle.std.proofs.Common.{◌≡◌, ◌+◌, ◌≤◌, ◌++◌, vec_len}
+use Rattle.std.proofs.Common.{◌≡◌, ◌+◌, ◌++◌, vec_len}
 use Rattle.explore.specs.declared.level.Answered.{Answered}
 use Rattle.explore.specs.Explorations.{IsOneOf, capacities_of, cycles_in}
 use Rattle.explore.specs.inside.Levels.{least_loops, most_loops, sum_of}

@@ -1,4 +1,4 @@
-use Rattle.std.proofs.Common.{◌≡◌, ◌++◌, ◌∷◌, [], rules}
+use Rattle.std.proofs.Common.{rules}
 use Rattle.explore.proofs.TakenOff.{taken-more}
 use Rattle.explore.proofs.pending.take_level.Goals as goal
 

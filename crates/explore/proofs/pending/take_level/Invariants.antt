@@ -1,4 +1,4 @@
-use Rattle.std.proofs.Common.{ℕ, length}
+use Rattle.std.proofs.Common.{length}
 use Rattle.explore.proofs.TakenOff.{IsTakenSoFar}
 use Rattle.explore.proofs.pending.take_level.Given as goal
 

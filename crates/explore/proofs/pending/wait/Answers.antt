@@ -1,6 +1,5 @@
-use Rattle.std.proofs.Common.{◌≡◌, ◌+◌, ◌∷◌, [], length, true, inl, inr, ⊎_elim, if◌then◌else◌, subst, arith, rules}
+use Rattle.std.proofs.Common.{◌≡◌, ◌+◌, length, inl, inr, ⊎_elim, if◌then◌else◌, subst, arith}
 use Rattle.std.specs.BTreeSet.{insert_key}
-use Rattle.explore.specs.declared.waiting.Waiting.{Waiting}
 use Rattle.explore.specs.Explorations.{IsOneOf}
 use Rattle.explore.specs.inside.Searches.{waiting_order}
 use Rattle.explore.proofs.Inserts.{insert-only}

@@ -1,7 +1,5 @@
-use Rattle.std.proofs.Common.{◌≡◌, ◌++◌, ◌∷◌, [], ◌+◌, ◌≤◌, length, subst, sym, arith, rules}
+use Rattle.std.proofs.Common.{arith}
 use Rattle.std.proofs.lemmas.Result.{err_from_is_err_and}
-use Rattle.std.specs.Result.{IfErr}
-use Rattle.explore.specs.inside.Searches.{EndsWaiting}
 use Rattle.explore.proofs.TakenOff.{ends-waiting, same-more}
 use Rattle.explore.proofs.pending.wait_all.Goals as goal
 

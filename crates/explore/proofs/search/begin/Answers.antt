@@ -1,4 +1,4 @@
-use Rattle.std.proofs.Common.{◌≡◌, ◌≤◌, ◌<◌, List, [], ◌∷◌, length, refl, ap, ◌∙◌, arith, rules}
+use Rattle.std.proofs.Common.{◌≡◌, List, [], ◌∷◌, refl, ap, ◌∙◌, arith}
 use Rattle.std.specs.BTreeSet.{insert_key}
 use Rattle.storage.proofs.CornerLists.{corner-distribution}
 use Rattle.explore.specs.declared.waiting.Waiting.{Waiting}

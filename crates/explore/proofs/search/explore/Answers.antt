@@ -1,9 +1,7 @@
-use Rattle.std.proofs.Common.{◌≡◌, ℕ, ◌+◌, ◌≤◌, Option, [], List, length, map, refl, ap, ◌∙◌, subst, sym, arith, rules}
+use Rattle.std.proofs.Common.{◌≡◌, ℕ, Option, [], List, refl, ap, subst, sym, arith}
 use Rattle.pareto_front.specs.declared.point.Point.{Point}
-use Rattle.explore.specs.declared.exploration.Member.{Member}
-use Rattle.explore.specs.declared.waiting.Waiting.{Waiting}
 use Rattle.explore.specs.Explorations.{IsExploration, capacities_of, cycles_in}
-use Rattle.explore.specs.inside.Searches.{IsSearch, IsSpread, IsStanding}
+use Rattle.explore.specs.inside.Searches.{IsSearch, IsSpread}
 use Rattle.explore.proofs.Ending.{explored}
 use Rattle.explore.proofs.Turning.{capacities-length, counts-few, cycles-few}
 use Rattle.explore.proofs.search.explore.Goals as goal

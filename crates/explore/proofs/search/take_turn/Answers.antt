@@ -1,10 +1,10 @@
-use Rattle.std.proofs.Common.{◌≡◌, ◌+◌, ◌≤◌, ◌<◌, ◌++◌, length, refl, ap, arith, rules}
+use Rattle.std.proofs.Common.{◌≡◌, ◌+◌, ◌++◌, length, refl, ap, arith}
 use Rattle.std.proofs.lemmas.Result.{err_from_is_err_and}
 use Rattle.std.proofs.lemmas.List.{length-append}
 use Rattle.sd_base.specs.Counter.{Tally}
-use Rattle.explore.specs.Explorations.{capacities_of, cycles_in}
+use Rattle.explore.specs.Explorations.{capacities_of}
 use Rattle.explore.specs.inside.Searches.{turned}
-use Rattle.explore.proofs.Turning.{capacities-length, counts-few, cycles-few, level-answers, level-evaluable, level-search, level-some, sum-few, turned-length}
+use Rattle.explore.proofs.Turning.{capacities-length, counts-few, cycles-few, level-answers, level-evaluable, level-search, sum-few, turned-length}
 use Rattle.explore.proofs.search.take_turn.Goals as goal
 
 pub run_level-requires-clause-fits : goal.run_level-requires-clause-fits
