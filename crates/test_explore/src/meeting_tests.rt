@@ -71,10 +71,7 @@ impl Gate for Begins<'_> {
 fn two_distributions_of_a_level_are_evaluated_at_once(rt: HostRuntime) -> Result<(), Fail> {
     let net = chain(rt.alloc(), (1, 1))?;
     let watch = Watch::new(TURNS);
-    let watched = Watched {
-        net: &net,
-        watch: &watch,
-    };
+    let watched = Watched::new(&net, &watch);
     let gate = Begins { watch: &watch };
     let found = explored(&rt, rt.alloc(), &watched, limits(10, 1000, 1000), &gate)?;
     check_points(&rt, rt.alloc(), found.points.as_slice(), &CHAIN_POINTS)?;

@@ -1,6 +1,7 @@
 ghost use Rattle.std.specs.Prelude.{◌≡◌};
+ghost use Rattle.sd_base.specs.Lawful.{Lawful};
 
-use firing::{Firing, SdfNet};
+use firing::{Firing, know_laws};
 use sd_base::Role;
 use std::sync::atomic::Ordering::SeqCst;
 use std::sync::atomic::{AtomicBool, AtomicU64};
@@ -60,15 +61,23 @@ impl Watch {
 
 /// A net whose calls are watched.
 #[derive(Drop)]
-pub(crate) struct Watched<'a> {
-    pub(crate) net: &'a SdfNet,
-    pub(crate) watch: &'a Watch,
+pub(crate) struct Watched<'a, F: Firing> {
+    net: &'a F,
+    watch: &'a Watch,
+    ghost laws: { Lawful (F.net net.now) },
 }
 
-impl<'a> Firing for Watched<'a> {
-    ghost net = { λ w. ⟦<SdfNet as Firing>⟧.net w.net.now };
+impl<'a, F: Firing> Watched<'a, F> {
+    pub(crate) fn new(net: &'a F, watch: &'a Watch) -> Watched<'a, F> {
+        know_laws(net);
+        Watched { net, watch }
+    }
+}
 
-    ghost lawful = { λ w. ⟦<SdfNet as Firing>⟧.lawful w.net.now };
+impl<'a, F: Firing> Firing for Watched<'a, F> {
+    ghost net = { λ w. F.net w.net.now };
+
+    ghost lawful = { λ w. w.laws };
 
     fn actors(&self) -> u32 {
         self.watch.call();
