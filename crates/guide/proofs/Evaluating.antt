@@ -1,7 +1,6 @@
 -- The loop of a live bounded net and its critical cycle are what is promised of its distribution.
-use Rattle.std.proofs.Common.{◌≡◌, ℕ, zero, suc, ◌*◌, ◌≤◌, ◌<◌, Option, Some, List, [], ◌∷◌, length, inl, inr, ⊎_elim, subst, sym, ap, ◌∙◌, arith, mul-le-mul_left}
+use Rattle.std.proofs.Common.{◌≡◌, ℕ, zero, suc, ◌*◌, ◌≤◌, ◌<◌, Option, Some, List, [], ◌∷◌, length, inl, inr, ⊎_elim, subst, ap, arith, mul-le-mul_left}
 use Rattle.std.specs.Prelude.{All, slice_get}
-use Rattle.std.specs.Int.{IsGcd}
 use Rattle.std.proofs.Math.Nat.{eq_of_mul-eq-mul_left, le_of_mul-le-mul_left}
 use Rattle.std.proofs.lemmas.Bool.{cases_lt}
 use Rattle.sd_base.specs.declared.numbers.Fraction.{Fraction}

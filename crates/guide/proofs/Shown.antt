@@ -1,6 +1,6 @@
 -- The channels on which a distribution is to be enlarged are in its guide: those on the critical cycle of a loop are storage
 -- dependencies of the loop.
-use Rattle.std.proofs.Common.{◌≡◌, ℕ, zero, suc, ◌+◌, ◌*◌, ◌≤◌, ◌<◌, Option, List, [], ◌∷◌, length, inl, inr, subst, sym, arith}
+use Rattle.std.proofs.Common.{◌≡◌, ℕ, zero, suc, ◌+◌, ◌*◌, ◌<◌, Option, List, [], ◌∷◌, length, inl, inr, subst, sym, arith}
 use Rattle.std.specs.Prelude.{slice_index}
 use Rattle.sd_base.specs.declared.role.Role.TheVariants.{Space}
 use Rattle.sd_base.specs.Net.{Net, channel_at}
@@ -12,7 +12,7 @@ use Rattle.critical.specs.declared.cycle.CycleStep.{CycleStep}
 use Rattle.critical.specs.declared.cycle.NeedCycle.{NeedCycle}
 use Rattle.critical.specs.Cycles.{IsStep, IsChain}
 use Rattle.critical.specs.Spaces.{Has, IsSpaceAt}
-use Rattle.critical.specs.CriticalCycles.{IsTight, AreTight, IsCriticalCycleOf, InSecondPass, HasTightNeed}
+use Rattle.critical.specs.CriticalCycles.{IsTight, AreTight, IsCriticalCycleOf, InSecondPass}
 use Rattle.sd_base.specs.declared.numbers.Fraction.{Fraction}
 use Rattle.storage.specs.BoundedNets.{bound}
 use Rattle.guide.specs.declared.rating.Evaluation.{Evaluation}

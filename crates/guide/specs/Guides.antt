@@ -1,9 +1,7 @@
 -- The guide of a distribution: the channels that hold it back.
-use Rattle.std.specs.Prelude.{◌≡◌, ℕ, ◌+◌, ◌*◌, ◌≤◌, ◌<◌, ◌⊎◌, Option, List, length}
+use Rattle.std.specs.Prelude.{◌≡◌, ℕ, ◌<◌, ◌⊎◌, Option, List, length}
 use Rattle.sd_base.specs.declared.role.Role.TheVariants.{Space}
 use Rattle.sd_base.specs.Net.{Net, channel_at}
-use Rattle.sd_base.specs.Schedules.{LastNeed, count_of, start_of, end_of}
-use Rattle.sd_base.specs.SelfTimed.{earliest}
 use Rattle.sd_base.specs.Untimed.{Blocks, IsEnd}
 use Rattle.sd_base.specs.Rates.{IsLoop}
 use Rattle.critical.specs.CriticalCycles.{InSecondPass, HasTightNeed}

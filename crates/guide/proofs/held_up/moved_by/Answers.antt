@@ -1,4 +1,4 @@
-use Rattle.std.proofs.Common.{◌≤◌, ◌+◌, ◌*◌, arith, subst}
+use Rattle.std.proofs.Common.{◌≤◌, ◌*◌}
 use Rattle.sd_base.specs.declared.limits.TheConstants.{RATE}
 use Rattle.sd_base.specs.Net.{channel_at, total}
 use Rattle.sd_base.proofs.Sums.{total-bound}

@@ -1,4 +1,4 @@
-use Rattle.std.proofs.Common.{◌≡◌, ◌+◌, ◌++◌, ◌∷◌, ◌<◌, [], ℕ, List, slice_index, true, false, refl, sym, ap, ◌∙◌, subst, true≢false, arith, rules}
+use Rattle.std.proofs.Common.{◌≡◌, ◌+◌, ◌++◌, ◌∷◌, ◌<◌, [], ℕ, List, slice_index, sym, ◌∙◌, subst, true≢false, arith, rules}
 use Rattle.std.specs.Prelude.{◌↔◌}
 use Rattle.critical.specs.Spaces.{Has, IsRising}
 use Rattle.storage.specs.ShownSpaces.{ShowsSpace}

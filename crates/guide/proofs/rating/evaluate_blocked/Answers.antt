@@ -1,4 +1,4 @@
-use Rattle.std.proofs.Common.{◌≡◌, ◌*◌, ℕ, List, slice_index, subst, arith, rules}
+use Rattle.std.proofs.Common.{◌≡◌, ℕ, List, slice_index, subst, arith, rules}
 use Rattle.std.specs.Prelude.{◌↔◌}
 use Rattle.critical.specs.Spaces.{Has}
 use Rattle.storage.specs.ShownSpaces.{ShowsSpace}

@@ -1,0 +1,235 @@
+-- A search whose distributions are all members is an exploration: its points are the front.
+use Rattle.std.proofs.Common.{◌≡◌, ℕ, ◌*◌, ◌≤◌, ◌<◌, ◌⊎◌, true, false, Option, List, [], ◌∷◌, length, map, inl, inr, ⊎_elim, refl, sym, ap, ◌∙◌, subst, arith}
+use Rattle.std.specs.Prelude.{◌==◌, slice_index, slice_index_or}
+use Rattle.std.proofs.lemmas.Bool.{cases_lt, cases_Bool, true≢false}
+use Rattle.std.proofs.lemmas.Bool.Decides.{Decides-eqb}
+use Rattle.sd_base.specs.declared.limits.Limits.{Limits}
+use Rattle.sd_base.specs.declared.limits.TheConstants.{STORAGE}
+use Rattle.sd_base.specs.Net.{Net}
+use Rattle.sd_base.specs.Lawful.{Lawful}
+use Rattle.sd_base.specs.Rates.{Rate}
+use Rattle.sd_base.proofs.LoopRates.{one-rate}
+use Rattle.storage.specs.BoundedNets.{bound}
+use Rattle.storage.specs.CapacityOrder.{no_later}
+use Rattle.storage.specs.Distributions.{AtMost, IsDistribution, storage_of}
+use Rattle.storage.specs.ParetoPoints.{IsFront, IsPareto, IsReached, Reaches, no_pair}
+use Rattle.storage.specs.ClosedLists.{AgreesOn, Entry, HasEntry, IsClosed, IsFrontOver, entry_at, no_entry}
+use Rattle.storage.specs.Steps.{IsOnGrid}
+use Rattle.storage.proofs.Fits.{within-lawful}
+use Rattle.storage.proofs.FileChannels.{plain-no_spaces}
+use Rattle.storage.proofs.FrontsFromMembers.{AreExact, front-over, less_on, no_less, pareto-listed}
+use Rattle.pareto_front.specs.declared.point.Point.{Point}
+use Rattle.pareto_front.specs.Offers.{AreAbove, AreInOrder as AreRising, Covers, IsCoveredBy, IsOneOf as IsOffer, Offer}
+use Rattle.pareto_front.specs.Points.{offer_of}
+use Rattle.explore.specs.declared.exploration.Member.{Member}
+use Rattle.explore.specs.Reachable.{IsExplorable, stepped}
+use Rattle.explore.specs.Explorations.{IsExploration, IsOneOf, capacities_of, pair_of}
+use Rattle.explore.specs.inside.Searches.{AreKnown, AreNoted, IsCandidate, IsNoted, IsSpread, WasFound, offer_for, offers_of}
+use Rattle.explore.proofs.Elements.{at-one, one-at, one-map, one-unmap}
+use Rattle.explore.proofs.Spreading.{map-map}
+use Rattle.explore.proofs.OfferFronts.{front-of_offers, pair_of as offer_pair}
+
+zero-test : (n : ℕ) → (((n == 0) ≡ true) × (n ≡ 0)) ⊎ (((n == 0) ≡ false) × (1 ≤ n))
+zero-test n =
+    ⊎_elim
+    (λ (h : (n == 0) ≡ true). inl (h, (Decides-eqb n 0).0 h))
+    (λ (h : (n == 0) ≡ false). inr (h, ⊎_elim (λ (less : n < 1). absurd (true≢false (sym ((Decides-eqb n 0).1 (omega arith)) ∙ h))) (λ (some : 1 ≤ n). some) (cases_lt n 1)))
+    (cases_Bool (n == 0))
+
+offer-there : (net : Net) (ms : List Member) (m : Member) → IsOneOf ms m → 1 ≤ m.rate.num → IsOffer (offers_of net ms) (offer_for net m)
+offer-there net [] m is some = absurd is
+offer-there net (x ∷ ms) m is some = at (zero-test x.rate.num) (λ later. offer-there net ms m later some)
+  where
+    at : (((x.rate.num == 0) ≡ true) × (x.rate.num ≡ 0)) ⊎ (((x.rate.num == 0) ≡ false) × (1 ≤ x.rate.num)) → (IsOneOf ms m → IsOffer (offers_of net ms) (offer_for net m)) → IsOffer (offers_of net (x ∷ ms)) (offer_for net m)
+    at (inl test) rest = rw test.0 (⊎_elim (λ (same : x ≡ m). absurd (let none : m.rate.num ≡ 0 = subst (λ (y : Member). y.rate.num ≡ 0) same test.1 in omega arith)) rest is)
+    at (inr test) rest = rw test.0 (⊎_elim (λ (same : x ≡ m). inl (ap (offer_for net) same)) (λ (later : IsOneOf ms m). inr (rest later)) is)
+
+abbrev IsOfferOf : Net → List Member → Offer → Type 0
+IsOfferOf net ms o = (m : Member) × IsOneOf ms m × (offer_for net m ≡ o) × (1 ≤ m.rate.num)
+
+offer-from : (net : Net) (ms : List Member) (o : Offer) → IsOffer (offers_of net ms) o → IsOfferOf net ms o
+offer-from net [] o is = absurd is
+offer-from net (x ∷ ms) o is = at (zero-test x.rate.num) (λ later. offer-from net ms o later)
+  where
+    further : IsOfferOf net ms o → IsOfferOf net (x ∷ ms) o
+    further found = (found.0, inr found.1, found.2, found.3)
+
+    at : (((x.rate.num == 0) ≡ true) × (x.rate.num ≡ 0)) ⊎ (((x.rate.num == 0) ≡ false) × (1 ≤ x.rate.num)) → (IsOffer (offers_of net ms) o → IsOfferOf net ms o) → IsOfferOf net (x ∷ ms) o
+    at (inl test) rest = further (rest (rw test.0 at is))
+    at (inr test) rest = ⊎_elim (λ (same : offer_for net x ≡ o). (x, inl refl, same, test.1)) (λ (later : IsOffer (offers_of net ms) o). further (rest later)) (rw test.0 at is)
+
+noted-at : (net : Net) (states : ℕ) (ms : List Member) (es : List Entry) (e : Entry) → AreNoted net states ms es → IsOneOf es e → (m : Member) × IsOneOf ms m × IsNoted net states m e
+noted-at net states [] [] e are is = absurd is
+noted-at net states [] (f ∷ es) e are is = absurd are
+noted-at net states (m ∷ ms) [] e are is = absurd are
+noted-at net states (m ∷ ms) (f ∷ es) e are (inl same) = (m, inl refl, subst (IsNoted net states m) same are.0)
+noted-at net states (m ∷ ms) (f ∷ es) e are (inr later) = let found = noted-at net states ms es e are.1 later in (found.0, inr found.1, found.2)
+
+noted-of : (net : Net) (states : ℕ) (ms : List Member) (es : List Entry) (m : Member) → AreNoted net states ms es → IsOneOf ms m → (e : Entry) × IsOneOf es e × IsNoted net states m e
+noted-of net states [] es m are is = absurd is
+noted-of net states (x ∷ ms) [] m are is = absurd are
+noted-of net states (x ∷ ms) (f ∷ es) m are (inl same) = (f, inl refl, subst (λ (y : Member). IsNoted net states y f) same are.0)
+noted-of net states (x ∷ ms) (f ∷ es) m are (inr later) = let found = noted-of net states ms es m are.1 later in (found.0, inr found.1, found.2)
+
+to-offer : (os : List Offer) (o : Offer) → IsOneOf os o → IsOffer os o
+to-offer [] o is = is
+to-offer (p ∷ os) o (inl same) = inl same
+to-offer (p ∷ os) o (inr later) = inr (to-offer os o later)
+
+-- of offers in order, the one with the storage and the rate of another one is the one that covers it
+
+above-one : (p : Offer) (ps : List Offer) (q : Offer) → AreAbove p ps → IsOffer ps q → (p.storage < q.storage) × (p.rate.num * q.rate.den < q.rate.num * p.rate.den)
+above-one p [] q above is = absurd is
+above-one p (r ∷ ps) q above (inl same) = subst (λ (x : Offer). (p.storage < x.storage) × (p.rate.num * x.rate.den < x.rate.num * p.rate.den)) same (above.0, above.1)
+above-one p (r ∷ ps) q above (inr later) =
+    let next = above-one r ps q above.2 later in
+    (omega (arith, above.0, next.0), less_on p.rate.num p.rate.den r.rate.num r.rate.den q.rate.num q.rate.den p.rate.positive r.rate.positive q.rate.positive above.1 (omega (arith, next.1)))
+
+covering-one : (ps : List Offer) (o : Offer) → IsCoveredBy ps o → (q : Offer) × IsOffer ps q × Covers q o
+covering-one [] o covered = absurd covered
+covering-one (p ∷ ps) o (inl covers) = (p, inl refl, covers)
+covering-one (p ∷ ps) o (inr later) = let found = covering-one ps o later in (found.0, inr found.1, found.2)
+
+rest-rising : (p : Offer) (ps : List Offer) → AreAbove p ps → AreRising ps
+rest-rising p [] above = tt
+rest-rising p (q ∷ ps) above = above.2
+
+same-covers : (ps : List Offer) (p o : Offer) → AreRising ps → IsOffer ps p → IsCoveredBy ps o → o.storage ≡ p.storage → o.rate.num * p.rate.den ≡ p.rate.num * o.rate.den → Covers p o
+same-covers [] p o order is covered storage rate = absurd is
+same-covers (q ∷ ps) p o order (inl same) (inl covers) storage rate = subst (λ (x : Offer). Covers x o) same covers
+same-covers (q ∷ ps) p o order (inl same) (inr later) storage rate =
+    let found = covering-one ps o later in
+    let above = above-one q ps found.0 order found.1 in
+    let level : q.storage ≡ p.storage = ap (λ (x : Offer). x.storage) same in
+    absurd (omega (arith, above.0, found.2.storage, level, storage))
+same-covers (q ∷ ps) p o order (inr later) (inl covers) storage rate =
+    let above = above-one q ps p order later in
+    let no_more : p.rate.num * q.rate.den ≤ q.rate.num * p.rate.den = no_less p.rate.num p.rate.den o.rate.num o.rate.den q.rate.num q.rate.den o.rate.positive (omega arith) covers.rate in
+    absurd (omega (arith, above.1, no_more))
+same-covers (q ∷ ps) p o order (inr later) (inr covered) storage rate = same-covers ps p o (rest-rising q ps order) later covered storage rate
+
+module _ (net : Net) (laws : Lawful net) (can : IsExplorable net) (limits : Limits) (small : limits.total ≤ STORAGE) (floor : ℕ) (members : List Member) (points : List Point) (spread : IsSpread net limits.total floor members (capacities_of members) []) (known : AreKnown net limits.states members points) where
+  candidate : (m : Member) → IsOneOf members m → IsCandidate net limits.total m.capacities.capacities
+  candidate m one = spread.candidates m.capacities.capacities (one-map (λ (x : Member). x.capacities.capacities) members m one)
+
+  lawful-at : (ds : List (Option ℕ)) → (m : Member) → IsOneOf members m → IsDistribution net.channels ds → storage_of net.channels ds ≤ limits.total → Lawful (bound net ds)
+  lawful-at ds m one dist within =
+      let mine = candidate m one in
+      within-lawful net laws (plain-no_spaces net can.plain) m.capacities.capacities ds mine.distribution (can.few m.capacities.capacities mine.distribution) dist (omega (arith, small, within))
+
+  found-one : (ds : List (Option ℕ)) → WasFound (capacities_of members) [] ds → IsOneOf (capacities_of members) ds
+  found-one ds (inl one) = one
+  found-one ds (inr (w, none, same)) = absurd none
+
+  noted : (i : ℕ) → i < length known.entries → (m : Member) × IsOneOf members m × IsNoted net limits.states m (entry_at known.entries i)
+  noted i below = noted-at net limits.states members known.entries (entry_at known.entries i) known.noted (one-at known.entries i no_entry below)
+
+  has-entry : (ds : List (Option ℕ)) → IsOneOf (capacities_of members) ds → HasEntry known.entries ds
+  has-entry ds one =
+      let m = one-unmap (λ (x : Member). x.capacities.capacities) members ds one in
+      let e = noted-of net limits.states members known.entries m.0 known.noted m.1 in
+      let at = at-one known.entries no_entry e.0 e.1 in
+      (at.0, at.1, ap (λ (x : Entry). x.capacities) at.2 ∙ (ap (λ (x : Entry). x.capacities) e.2.is ∙ m.2))
+
+  nexts : (i j : ℕ) → i < length known.entries → j < length (entry_at known.entries i).shown →
+      storage_of net.channels (stepped net (entry_at known.entries i).capacities (slice_index (entry_at known.entries i).shown j)) ≤ limits.total →
+      HasEntry known.entries (stepped net (entry_at known.entries i).capacities (slice_index (entry_at known.entries i).shown j))
+  nexts i j below shown within =
+      let n = noted i below in
+      let e : Entry = entry_at known.entries i in
+      let c : ℕ = slice_index (entry_at known.entries i).shown j in
+      let caps : (entry_at known.entries i).capacities ≡ n.0.capacities.capacities = ap (λ (x : Entry). x.capacities) n.2.is in
+      let from : storage_of net.channels (stepped net n.0.capacities.capacities (slice_index (entry_at known.entries i).shown j)) ≤ limits.total → HasEntry known.entries (stepped net n.0.capacities.capacities (slice_index (entry_at known.entries i).shown j)) =
+      λ fits. has-entry _ (found-one _ (spread.next n.0 (slice_index (entry_at known.entries i).shown j) n.1 ((n.2.shows (slice_index (entry_at known.entries i).shown j)).0 (j, shown, refl)) fits)) in
+      subst (λ (ds : List (Option ℕ)). storage_of net.channels (stepped net ds (slice_index (entry_at known.entries i).shown j)) ≤ limits.total → HasEntry known.entries (stepped net ds (slice_index (entry_at known.entries i).shown j))) (sym caps) from within
+
+  bounds : (i : ℕ) → i < length known.entries → (ds : List (Option ℕ)) → IsDistribution net.channels ds → storage_of net.channels ds ≤ limits.total → AtMost (entry_at known.entries i).capacities ds → AgreesOn (entry_at known.entries i).shown (entry_at known.entries i).capacities ds → (p q : ℕ) → Rate (bound net ds) p q → p * (entry_at known.entries i).den ≤ (entry_at known.entries i).num * q
+  bounds i below ds dist within most agrees p q rate =
+      let n = noted i below in
+      (subst (λ (x : Entry). AtMost x.capacities ds → AgreesOn (entry_at known.entries i).shown x.capacities ds → p * x.den ≤ x.num * q) (sym n.2.is) (λ under same. n.2.bounds ds p q under same (lawful-at ds n.0 n.1 dist within) rate)) most agrees
+
+  closed : IsClosed net limits.total known.entries
+  closed = record {
+    corner = spread.corner;
+    is_corner = spread.is_corner;
+    start = λ fits. has-entry spread.corner (found-one spread.corner (spread.start fits));
+    distributions = λ i below. let n = noted i below in subst (λ (x : Entry). IsDistribution net.channels x.capacities) (sym n.2.is) (candidate n.0 n.1).distribution;
+    grid = λ i below. let n = noted i below in subst (λ (x : Entry). IsOnGrid net.channels x.capacities) (sym n.2.is) (candidate n.0 n.1).grid;
+    within = λ i below. let n = noted i below in subst (λ (x : Entry). storage_of net.channels x.capacities ≤ limits.total) (sym n.2.is) (candidate n.0 n.1).within;
+    next = nexts;
+    positive = λ i below. let n = noted i below in subst (λ (x : Entry). 1 ≤ x.den) (sym n.2.is) n.0.rate.positive;
+    bounds = bounds;
+  }
+
+  exact : AreExact net known.entries
+  exact i below runs = let n = noted i below in subst (λ (x : Entry). Rate (bound net x.capacities) x.num x.den) (sym n.2.is) n.2.member.rate
+
+  member-rate : (m : Member) → IsOneOf members m → Rate (bound net m.capacities.capacities) m.rate.num m.rate.den
+  member-rate m one = (noted-of net limits.states members known.entries m known.noted one).2.member.rate
+
+  offers : List Offer
+  offers = map offer_of points
+
+  reached-offer : (o : Offer) → IsOffer (map offer_of points) o → (m : Member) × IsOneOf members m × (offer_for net m ≡ o) × Reaches net limits.total o.storage o.rate.num o.rate.den o.capacities
+  reached-offer o one =
+      let from = offer-from net members o (known.front.among o one) in
+      let mine = candidate from.0 from.1 in
+      (from.0, from.1, from.2, subst (λ (x : Offer). Reaches net limits.total x.storage x.rate.num x.rate.den x.capacities) from.2 (record { distribution = mine.distribution; total = refl; within = mine.within; rate = member-rate from.0 from.1; runs = from.3 }))
+
+  over : IsFrontOver net limits.total known.entries (map offer_pair (map offer_of points))
+  over = front-of_offers net limits.total known.entries (map offer_of points) known.front.order
+      (λ i below.
+      let o = one-unmap offer_pair (map offer_of points) (slice_index_or (map offer_pair (map offer_of points)) i no_pair) (one-at (map offer_pair (map offer_of points)) i no_pair below) in
+      let reaches = reached-offer o.0 (to-offer (map offer_of points) o.0 o.1) in
+      subst (IsReached net limits.total) o.2 (o.0.capacities, reaches.3))
+      (λ i below runs.
+      let n = noted i below in
+      let some : 1 ≤ n.0.rate.num = subst (λ (x : Entry). 1 ≤ x.num) n.2.is runs in
+      record {
+        offer = offer_for net n.0;
+        storage = sym (ap (λ (x : Entry). storage_of net.channels x.capacities) n.2.is);
+        num = sym (ap (λ (x : Entry). x.num) n.2.is);
+        den = sym (ap (λ (x : Entry). x.den) n.2.is);
+        covered = known.front.covers (offer_for net n.0) (offer-there net members n.0 n.1 some);
+      })
+
+  front : IsFront net limits.total (map pair_of points)
+  front = subst (IsFront net limits.total) (map-map offer_pair offer_of points) (front-over net laws limits.total known.entries (map offer_pair (map offer_of points)) closed over)
+
+  pareto : (p : Point) → IsOneOf points p → IsPareto net limits.total (pair_of p)
+  pareto p one =
+      let at = at-one (map pair_of points) no_pair (pair_of p) (one-map pair_of points p one) in
+      subst (IsPareto net limits.total) at.2 (front.points at.0 at.1)
+
+  least : (p : Point) → IsOneOf points p → (ds : List (Option ℕ)) → Reaches net limits.total p.total p.rate.num p.rate.den ds → no_later p.capacities.capacities ds ≡ true
+  least p one ds reaches =
+      let has = pareto-listed net laws limits.total known.entries closed exact (pair_of p) (pareto p one) ds reaches in
+      let n = noted has.0 has.1 in
+      let same : n.0.capacities.capacities ≡ ds = sym (ap (λ (x : Entry). x.capacities) n.2.is) ∙ has.2 in
+      let mine : Rate (bound net ds) n.0.rate.num n.0.rate.den = subst (λ (es : List (Option ℕ)). Rate (bound net es) n.0.rate.num n.0.rate.den) same n.2.member.rate in
+      let fits : storage_of net.channels ds ≤ limits.total = omega (arith, reaches.total, reaches.within) in
+      let rates = one-rate (bound net ds) n.0.rate.num n.0.rate.den p.rate.num p.rate.den (lawful-at ds n.0 n.1 reaches.distribution fits) mine reaches.rate in
+      let some : 1 ≤ n.0.rate.num = omega (arith, rates.0, reaches.runs) in
+      let covered = known.front.covers (offer_for net n.0) (offer-there net members n.0 n.1 some) in
+      let storage : storage_of net.channels n.0.capacities.capacities ≡ p.total = ap (storage_of net.channels) same ∙ reaches.total in
+      let cross : n.0.rate.num * p.rate.den ≡ p.rate.num * n.0.rate.den = ap (λ (x : ℕ). x * p.rate.den) rates.0 ∙ ap (λ (x : ℕ). p.rate.num * x) (sym rates.1) in
+      let covers : Covers (offer_of p) (offer_for net n.0) = same-covers (map offer_of points) (offer_of p) (offer_for net n.0) known.front.order (to-offer (map offer_of points) (offer_of p) (one-map offer_of points p one)) covered storage cross in
+      subst (λ (es : List (Option ℕ)). no_later p.capacities.capacities es ≡ true) same (covers.tie (sym storage) cross)
+
+  pub explored : length members ≤ limits.distributions → IsExploration net limits members points
+  explored few = record {
+    front = front;
+    reached = λ p one.
+        let at = reached-offer (offer_of p) (to-offer (map offer_of points) (offer_of p) (one-map offer_of points p one)) in
+        record { reaches = at.3; least = least p one; found = known.tables p one };
+    listed = λ p one.
+        let at = reached-offer (offer_of p) (to-offer (map offer_of points) (offer_of p) (one-map offer_of points p one)) in
+        subst (IsOneOf (capacities_of members)) (ap (λ (o : Offer). o.capacities) at.2) (one-map (λ (x : Member). x.capacities.capacities) members at.0 at.1);
+    evaluated = λ m one. (noted-of net limits.states members known.entries m known.noted one).2.member;
+    reachable = λ ds one. (spread.candidates ds one).reachable;
+    order = spread.order;
+    start = record { corner = spread.corner; is_corner = spread.is_corner; start = λ fits. found-one spread.corner (spread.start fits) };
+    closed = λ m c one shows fits. found-one (stepped net m.capacities.capacities c) (spread.next m c one shows fits);
+    led = λ ds one. spread.led ds (inl one);
+    few = few;
+  }

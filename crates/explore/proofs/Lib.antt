@@ -1,0 +1,16 @@
+pub mod Ends
+pub mod Tasks
+pub mod Elements
+pub mod WaitingOrder
+pub mod Inserts
+pub mod Stepping
+pub mod Spreading
+pub mod TakenOff
+pub mod Knowing
+pub mod TakenIn
+pub mod Levelled
+pub mod OfferFronts
+pub mod Ending
+pub mod Turning
+pub mod Beginning
+pub mod Explorable

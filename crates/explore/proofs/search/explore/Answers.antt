@@ -1,0 +1,36 @@
+use Rattle.std.proofs.Common.{◌≡◌, ℕ, Option, [], List, refl, ap, subst, sym, arith}
+use Rattle.pareto_front.specs.declared.point.Point.{Point}
+use Rattle.explore.specs.Explorations.{IsExploration, capacities_of, cycles_in}
+use Rattle.explore.specs.inside.Searches.{IsSearch, IsSpread}
+use Rattle.explore.proofs.Ending.{explored}
+use Rattle.explore.proofs.Turning.{capacities-length, counts-few, cycles-few}
+use Rattle.explore.proofs.search.explore.Goals as goal
+
+pub returns-clause-explored : goal.returns-clause-explored
+returns-clause-explored g c =
+    let net = g.F.Firing.net c.args.net.now in
+    let s = c.loop-total.search in
+    let stands = c.loop-total.invariant.0.1 in
+    let none : s.waiting.keys ≡ [] = rw c.in_default.is at c.next_total.ensures in
+    let spread : IsSpread net c.args.limits.total c.loop-total.invariant.0.0 s.members.items (capacities_of s.members.items) [] = subst (IsSpread net c.args.limits.total c.loop-total.invariant.0.0 s.members.items (capacities_of s.members.items)) none stands.spread in
+    subst (λ (ps : List Point). IsExploration net c.args.limits s.members.items ps) (sym c.into_points.ensures)
+    (explored net c.know_laws.ensures c.requires.net c.args.limits c.requires.total c.loop-total.invariant.0.0 s.members.items s.front spread stands.known
+    (omega (arith, stands.found, stands.few, capacities-length s.members.items)))
+
+pub returns-clause-most : goal.returns-clause-most
+returns-clause-most g c =
+    let s = c.loop-total.search in
+    let stands = c.loop-total.invariant.0.1 in
+    counts-few (g.F.Firing.net c.args.net.now) c.args.limits c.loop-total.invariant.0.0 s.members.items (capacities_of s.members.items) s.waiting.keys c.args.steps.now.count c.loop-total.steps.count stands.spread
+    (omega (arith, c.loop-total.invariant.1, cycles-few s.members.items, capacities-length s.members.items)) (omega (arith, stands.found, stands.few))
+
+pub loop-total-init : goal.loop-total-init
+loop-total-init g c =
+    let net = g.F.Firing.net c.args.net.now in
+    let s = c.in_ok-search.search in
+    let none : capacities_of s.members.items ≡ [] = ap capacities_of c.in_ok-search.ensures.members in
+    let cycles : cycles_in s.members.items ≡ 0 = ap cycles_in c.in_ok-search.ensures.members in (
+      (0, subst (λ (ds : List (List (Option ℕ))). IsSearch net c.args.limits 0 ds s) (sym none) (c.in_ok-search.ensures.search c.args.limits refl c.requires.some)),
+      omega (arith, cycles),
+      refl,
+    )

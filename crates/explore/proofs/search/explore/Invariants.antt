@@ -1,0 +1,13 @@
+use Rattle.std.proofs.Common.{◌≡◌, ◌+◌, ◌-◌, length}
+use Rattle.explore.specs.Explorations.{cycles_in}
+use Rattle.explore.specs.inside.Searches.{IsStanding}
+use Rattle.explore.proofs.search.explore.Given as goal
+
+abbrev pub invariant-loop-total : goal.invariant-loop-total
+invariant-loop-total g l =
+    IsStanding (g.F.Firing.net l.net) l.limits l.search
+    × (l.steps.count ≡ l.initial.steps.count + cycles_in l.search.members.items)
+    × (l.steps.share ≡ l.initial.steps.share)
+
+abbrev pub decreases-loop-total : goal.decreases-loop-total
+decreases-loop-total g l = l.limits.distributions + 1 - length l.search.members.items

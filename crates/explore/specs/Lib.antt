@@ -1,0 +1,3 @@
+pub mod Reachable
+pub mod Explorations
+pub mod inside

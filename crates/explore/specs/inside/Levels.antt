@@ -1,0 +1,69 @@
+-- What the evaluation of a level comes to.
+use Rattle.std.specs.Prelude.{◌≡◌, ℕ, ◌+◌, ◌≤◌, true, Option, None, Some, List, [], ◌∷◌, Result, Ok, Err}
+use Rattle.sd_base.specs.declared.limits.TheConstants.{LEAST_STATES, STATES}
+use Rattle.sd_base.specs.Net.{Net}
+use Rattle.sd_base.specs.Counter.{Tally}
+use Rattle.lasso.specs.declared.error.RunError.{RunError}
+use Rattle.storage.specs.declared.distribution.Distribution.{Distribution}
+use Rattle.guide.specs.declared.rating.Evaluation.{Evaluation}
+use Rattle.guide.specs.Evaluations.{IsEvaluable, IsEvaluated, IsRefused, loops_run}
+use Rattle.explore.specs.declared.level.Answered.{Answered}
+
+-- the answer is that of `evaluate`, and the counter rose as it says
+abbrev pub IsAnswer : Net → List (Option ℕ) → ℕ → ℕ → ℕ → Result Evaluation RunError → Type 0
+IsAnswer net ds states before after (Ok e) = IsEvaluated net ds states e × (after ≡ before + loops_run e.outcome)
+IsAnswer net ds states before after (Err error) = IsRefused net ds states error × (after ≤ before + 1)
+
+abbrev pub IsAnswered : Net → List (Option ℕ) → ℕ → ℕ → ℕ → Option (Result Evaluation RunError) → Type 0
+IsAnswered net ds states before after None = ⊥
+IsAnswered net ds states before after (Some answer) = IsAnswer net ds states before after answer
+
+-- a task keeps its distribution and has its answer
+pub record HasRun (net : Net) (capacities : Distribution) (states : ℕ) (before : Tally) (now : Distribution) (after : Tally) (answer : Option (Result Evaluation RunError)) : Type 0 where
+  pub same : now ≡ capacities
+  pub share : after.share ≡ before.share
+  pub answered : IsAnswered net capacities.capacities states before.count after.count answer
+
+-- a task can run
+pub record IsReady (net : Net) (capacities : Distribution) (states : ℕ) : Type 0 where
+  pub fits : IsEvaluable net capacities.capacities
+  pub some : LEAST_STATES ≤ states
+  pub few : states ≤ STATES
+
+-- a task for the net, whose share hasn't counted yet
+pub record IsFresh (net own : Net) (states : ℕ) (capacities : Distribution) (wanted : ℕ) (steps : Tally) : Type 0 where
+  pub net_is : own ≡ net
+  pub states_are : wanted ≡ states
+  pub fits : IsEvaluable net capacities.capacities
+  pub share : steps.share ≡ true
+  pub count : steps.count ≡ 0
+
+-- a task that has its answer
+pub record IsDone (net : Net) (states : ℕ) (capacities : Distribution) (steps : Tally) (answer : Option (Result Evaluation RunError)) : Type 0 where
+  pub share : steps.share ≡ true
+  pub fits : IsEvaluable net capacities.capacities
+  pub answered : IsAnswered net capacities.capacities states 0 steps.count answer
+
+-- what `evaluate` answers of a distribution
+abbrev pub IsEvaluation : Net → ℕ → Distribution → Result Evaluation RunError → Type 0
+IsEvaluation net states capacities (Ok e) = IsEvaluated net capacities.capacities states e
+IsEvaluation net states capacities (Err error) = IsRefused net capacities.capacities states error
+
+-- the loops that were run for an answer at least, and at most
+abbrev pub least_loops : Result Evaluation RunError → ℕ
+least_loops (Ok e) = loops_run e.outcome
+least_loops (Err error) = 0
+
+abbrev pub most_loops : Result Evaluation RunError → ℕ
+most_loops (Ok e) = loops_run e.outcome
+most_loops (Err error) = 1
+
+-- the sums over answers
+abbrev pub sum_of : (Result Evaluation RunError → ℕ) → List Answered → ℕ
+sum_of f [] = 0
+sum_of f (a ∷ rest) = f a.answer + sum_of f rest
+
+-- what f gives of a list, turned round, before what follows
+abbrev pub onto : {A : Type 0} → (A → Distribution) → List A → List Distribution → List Distribution
+onto f [] rest = rest
+onto f (x ∷ xs) rest = onto f xs (f x ∷ rest)

@@ -1,0 +1,139 @@
+ghost use Rattle.std.specs.Prelude.{◌≡◌, ◌+◌, ◌≤◌, ◌<◌, ℕ, [], IfErr, IfOk, OnOk, length};
+ghost use Rattle.sd_base.specs.declared.limits.TheConstants.{DISTRIBUTIONS, LEAST_DISTRIBUTIONS, LEAST_STATES, STATES, STORAGE};
+ghost use Rattle.sd_base.specs.declared.limits.Limits.{Limits as SomeLimits};
+ghost use Rattle.explore.specs.Explorations.{CountsFew, IsExploration, IsRefusal, cycles_in};
+ghost use Rattle.explore.specs.Reachable.{IsExplorable};
+ghost use Rattle.explore.specs.inside.Searches.{IsNext, IsSearch, IsStanding};
+
+use crate::error::ExploreError;
+use crate::exploration::{Exploration, Member};
+use crate::level::run_level;
+use crate::members::take_in_all;
+use crate::pending::{next_total, take_level};
+use crate::waiting::Waiting;
+use fanout::Gate;
+use firing::{Firing, know_laws};
+use pareto_front::Front;
+use sd_base::{Ledger, Limits, NoMemory, Steps};
+use std::alloc::Global;
+use std::collections::BTreeSet;
+use std::thread::Threads;
+use storage::corner;
+
+/// Where an exploration stands: the distributions that wait, the members so far, the points among them, and how many
+/// distributions were found.
+#[derive(Drop)]
+pub(crate) struct Search {
+    pub(crate) waiting: BTreeSet<Waiting>,
+    pub(crate) members: Vec<Member>,
+    pub(crate) front: Front,
+    pub(crate) found: u64,
+}
+
+/// The Pareto points of all storage distributions within a limit, and the members that show it: the corner, and with each
+/// member those that have a step more room on a channel that the member shows (Stuijk, Geilen and Basten 2008, with one
+/// need cycle in place of all storage dependencies). The members of one storage are one level: the gate is entered with
+/// that storage, and they are evaluated side by side. A step is counted for each loop that is run. Cost: that of
+/// `evaluate` for each member, a logarithm of the distributions that wait for each one found, and the points for each
+/// member with a rate; memory linear in the members.
+pub fn explore<R: Threads + Sync, F: Firing + Sync, G: Gate + Sync, L: Ledger + Send>(
+    rt: &R,
+    alloc: Global,
+    net: &F,
+    limits: Limits,
+    gate: &G,
+    steps: &mut Steps<L>,
+) -> Result<Exploration, ExploreError>
+    requires net { IsExplorable (F.net net.now) }
+    requires total { limits.total ≤ STORAGE }
+    requires some_states { LEAST_STATES ≤ limits.states }
+    requires few_states { limits.states ≤ STATES }
+    requires some { LEAST_DISTRIBUTIONS ≤ limits.distributions }
+    requires few { limits.distributions ≤ DISTRIBUTIONS }
+    ensures explored { IfOk result (λ e. IsExploration (F.net net.now) limits e.members.items e.points.items) }
+    ensures refused { IfErr result (IsRefusal (F.net net.now) limits) }
+    ensures count { IfOk result (λ e. steps.new.count ≡ steps.old.count + cycles_in e.members.items) }
+    ensures most { CountsFew (F.net net.now) limits steps.old.count steps.new.count }
+    ensures share { steps.new.share ≡ steps.old.share }
+{
+    know_laws(net);
+    let mut search = begin(alloc, net, limits.total)?;
+    while let Some(total) = next_total(&search.waiting) {
+        take_turn(rt, alloc, net, limits, total, gate, &mut search, steps)?;
+    }
+    let Search {
+        waiting: _,
+        members,
+        front,
+        found: _,
+    } = search;
+    Ok(Exploration {
+        members,
+        points: front.into_points(),
+    })
+}
+
+/// Takes the next level off those that wait, and its distributions in as members.
+fn take_turn<R: Threads + Sync, F: Firing + Sync, G: Gate + Sync, L: Ledger + Send>(
+    rt: &R,
+    alloc: Global,
+    net: &F,
+    limits: Limits,
+    total: u64,
+    gate: &G,
+    search: &mut Search,
+    steps: &mut Steps<L>,
+) -> Result<(), ExploreError>
+    requires net { IsExplorable (F.net net.now) }
+    requires small { limits.total ≤ STORAGE }
+    requires some_states { LEAST_STATES ≤ limits.states }
+    requires few_states { limits.states ≤ STATES }
+    requires stands { IsStanding (F.net net.now) limits search.old }
+    requires next { IsNext total search.old.waiting.keys }
+    ensures stands { OnOk result (IsStanding (F.net net.now) limits search.new) }
+    ensures more { OnOk result (length search.old.members.items < length search.new.members.items) }
+    ensures few { OnOk result (length search.new.members.items ≤ limits.distributions) }
+    ensures count { OnOk result (steps.new.count + cycles_in search.old.members.items ≡ steps.old.count + cycles_in search.new.members.items) }
+    ensures refused { IfErr result (IsRefusal (F.net net.now) limits) }
+    ensures most { IfErr result (λ e. (before : ℕ) → steps.old.count ≡ before + cycles_in search.old.members.items → CountsFew (F.net net.now) limits before steps.new.count) }
+    ensures share { steps.new.share ≡ steps.old.share }
+{
+    know_laws(net);
+    let level = take_level(alloc, total, &mut search.waiting)?;
+    let answers = run_level(rt, alloc, net, total, limits.states, level, gate, steps)?;
+    take_in_all(alloc, net, limits, total, answers, search)?;
+    Ok(())
+}
+
+/// The corner waits, if it is within the limit.
+fn begin<F: Firing>(alloc: Global, net: &F, limit: u64) -> Result<Search, NoMemory>
+    requires { IsExplorable (F.net net.now) }
+    ensures members { IfOk result (λ s. s.members.items ≡ []) }
+    ensures search { IfOk result (λ s. (limits : SomeLimits) → limits.total ≡ limit → 1 ≤ limits.distributions → IsSearch (F.net net.now) limits 0 [] s) }
+{
+    know_laws(net);
+    let mut waiting = BTreeSet::new(alloc);
+    let capacities = corner(alloc, net)?;
+    match capacities.total_within(net, limit) {
+        Some(total) => {
+            waiting.insert(Waiting { total, capacities })?;
+            Ok(search_over(alloc, waiting, 1))
+        }
+        None => Ok(search_over(alloc, waiting, 0)),
+    }
+}
+
+/// A search that has no members yet.
+fn search_over(alloc: Global, waiting: BTreeSet<Waiting>, found: u64) -> Search
+    ensures waiting { result.waiting.keys ≡ waiting.keys }
+    ensures members { result.members.items ≡ [] }
+    ensures front { result.front ≡ [] }
+    ensures found { result.found ≡ found }
+{
+    Search {
+        waiting,
+        members: Vec::new(alloc),
+        front: Front::new(alloc),
+        found,
+    }
+}

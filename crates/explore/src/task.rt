@@ -1,0 +1,37 @@
+ghost use Rattle.std.specs.Prelude.{◌≡◌, ◌≤◌};
+ghost use Rattle.explore.specs.inside.Levels.{HasRun, IsReady};
+
+use fanout::Job;
+use firing::Firing;
+use guide::{Evaluation, evaluate};
+use lasso::RunError;
+use sd_base::{Ledger, Steps};
+use std::alloc::Global;
+use storage::Distribution;
+
+/// The evaluation of one distribution, with a share of the counter and a place for the answer.
+pub(crate) struct Task<'a, F: Firing, L: Ledger> {
+    pub(crate) alloc: Global,
+    pub(crate) net: &'a F,
+    pub(crate) capacities: Distribution,
+    pub(crate) states: u64,
+    pub(crate) steps: Steps<L>,
+    pub(crate) answer: Option<Result<Evaluation, RunError>>,
+}
+
+impl<'a, F: Firing + Sync, L: Ledger + Send> Job for Task<'a, F, L> {
+    ghost ready = { λ t. IsReady (F.net t.net.now) t.capacities t.states };
+
+    ghost ran = { λ old new. HasRun (F.net old.net.now) old.capacities old.states old.steps new.capacities new.steps new.answer };
+
+    fn run(&mut self) {
+        let answer = evaluate(
+            self.alloc,
+            self.net,
+            &self.capacities,
+            self.states,
+            &mut self.steps,
+        );
+        self.answer = Some(answer);
+    }
+}

@@ -1,0 +1,14 @@
+//! Runs the calls of `explore` on small nets, whose values are worked out by hand, and shows that the distributions of a
+//! level are evaluated side by side. It has no calls of its own.
+#![tactic(auto)]
+
+#[cfg(test)]
+mod checks;
+#[cfg(test)]
+mod explore_tests;
+#[cfg(test)]
+mod meeting_tests;
+#[cfg(test)]
+mod nets;
+#[cfg(test)]
+mod watched;
