@@ -13,7 +13,7 @@ use Rattle.sd_base.proofs.Ends.{sum_to}
 use Rattle.token_matrix.specs.Stamps.{IsTakenBy, IsPutBy}
 use Rattle.token_matrix.specs.inside.LaterRows.{shifted, AreWithin, AreWide, Reaches}
 use Rattle.token_matrix.specs.inside.Lines.{line_at, taken_on, made_on, HasOnePhase, AreReady, AreTaken, IsLatest, ArePut}
-use Rattle.token_matrix.specs.inside.RoundRows.{HasEntry, IsTokenRow, Stands}
+use Rattle.token_matrix.specs.inside.RoundRows.{Table, row_at, HasEntry, IsRowOf, IsTokenRow, AreTokens, Stands}
 use Rattle.token_matrix.proofs.RowsSoFar.{IsNextRow, HasRowMore, rows_more, row_new}
 use Rattle.token_matrix.proofs.OneRow.{row_put, row_same}
 use Rattle.token_matrix.proofs.LeftRows.{token_entry}

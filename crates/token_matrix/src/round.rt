@@ -1,12 +1,9 @@
 //! One round of a net in which each actor has one phase, carried out on rows in place of stamps.
-ghost use Rattle.std.specs.Prelude.{◌≡◌, ◌≤◌, ◌<◌, ◌+◌, ◌*◌, ℕ, [], IfOk, OnOk, length, slice_index, take};
-ghost use Rattle.sd_base.specs.declared.limits.TheConstants.{TIME, ROUND};
-ghost use Rattle.sd_base.specs.Schedules.{HasInputs};
-ghost use Rattle.sd_base.specs.Untimed.{IsRoundOrder};
+ghost use Rattle.std.specs.Prelude.{◌≡◌, ◌<◌, ◌+◌, ℕ, IfOk, OnOk, length, take};
 ghost use Rattle.firing.specs.declared.sums.Port.TheVariants.{Made, Taken};
-ghost use Rattle.firing.specs.Wiring.{IsListed, AreListed};
+ghost use Rattle.firing.specs.Wiring.{IsListed};
 ghost use Rattle.token_matrix.specs.inside.Lines.{HasOnePhase, AreReady, AreTaken, IsLatest, ArePut};
-ghost use Rattle.token_matrix.specs.inside.RoundRows.{StandsAfter};
+ghost use Rattle.token_matrix.specs.inside.RoundRows.{IsStart, IsDue, StandsAfter};
 
 use crate::entries::{copied, free_row, put_row};
 use crate::line::Line;
@@ -24,10 +21,7 @@ pub(crate) fn run_round<F: Firing>(
     lines: &mut [Line],
 ) -> Result<(), NoMemory>
     ghost first: { ℕ → ℕ }
-    requires order { IsRoundOrder (F.net net.now) order.now }
-    requires phases { HasOnePhase (F.net net.now) }
-    requires inputs { HasInputs (F.net net.now) }
-    requires stands { StandsAfter (F.net net.now) first size [] lines.old }
+    requires { IsStart (F.net net.now) first size order.now lines.old }
     ensures { OnOk result (StandsAfter (F.net net.now) first size order.now lines.new) }
 {
     let wiring = Wiring::new(alloc, net)?;
@@ -48,13 +42,7 @@ fn fire<F: Firing>(
     lines: &mut [Line],
 ) -> Result<(), NoMemory>
     ghost first: { ℕ → ℕ }
-    requires order { IsRoundOrder (F.net net.now) order.now }
-    requires place { place < length order.now }
-    requires phases { HasOnePhase (F.net net.now) }
-    requires inputs { HasInputs (F.net net.now) }
-    requires listed { AreListed (F.net net.now) Taken wiring.now.inputs }
-    requires made { AreListed (F.net net.now) Made wiring.now.outputs }
-    requires stands { StandsAfter (F.net net.now) first size (take place order.now) lines.old }
+    requires { IsDue (F.net net.now) first size order.now place wiring.now.inputs wiring.now.outputs lines.old }
     ensures { OnOk result (StandsAfter (F.net net.now) first size (take (place + 1) order.now) lines.new) }
 {
     know_laws(net);

@@ -1,13 +1,15 @@
 -- The rows of the firings of a round, which stand for their starts whatever the stamps before it are.
-use Rattle.std.specs.Prelude.{◌≡◌, ℕ, ◌+◌, ◌*◌, ◌≤◌, ◌<◌, ◌⊎◌, List, [], length, slice_index_or, Option, Some, None}
+use Rattle.std.specs.Prelude.{◌≡◌, ℕ, ◌+◌, ◌*◌, ◌≤◌, ◌<◌, ◌⊎◌, List, [], length, take, slice_index_or, Option, Some, None}
 use Rattle.sd_base.specs.declared.limits.TheConstants.{TIME}
 use Rattle.sd_base.specs.Net.{Net, channel_at, total}
-use Rattle.sd_base.specs.Schedules.{time_of}
-use Rattle.sd_base.specs.Untimed.{none_fired, counts_after}
+use Rattle.sd_base.specs.Schedules.{time_of, HasInputs}
+use Rattle.sd_base.specs.Untimed.{none_fired, counts_after, IsRoundOrder}
+use Rattle.firing.specs.declared.sums.Port.TheVariants.{Made, Taken}
+use Rattle.firing.specs.Wiring.{AreListed}
 use Rattle.sd_base.proofs.Ends.{sum_to}
 use Rattle.token_matrix.specs.Stamps.{IsTakenBy, IsPutBy}
 use Rattle.token_matrix.specs.inside.LaterRows.{AreWide}
-use Rattle.token_matrix.specs.inside.Lines.{line_at}
+use Rattle.token_matrix.specs.inside.Lines.{line_at, HasOnePhase}
 
 -- by actor and firing a row
 abbrev pub Table : Type 0
@@ -67,3 +69,20 @@ pub record Stands (net : Net) (first : ℕ → ℕ) (count : ℕ) (v : ℕ → �
 -- the same after the firings of an order
 abbrev pub StandsAfter : Net → (ℕ → ℕ) → ℕ → List ℕ → List (List (List (Option ℕ))) → Type 0
 StandsAfter net first count order lines = Stands net first count (counts_after none_fired order) lines
+
+-- an order of a round can be carried out on these lines
+pub record IsStart (net : Net) (first : ℕ → ℕ) (count : ℕ) (order : List ℕ) (lines : List (List (List (Option ℕ)))) : Type 0 where
+  pub round : IsRoundOrder net order
+  pub phases : HasOnePhase net
+  pub fed : HasInputs net
+  pub stands : StandsAfter net first count [] lines
+
+-- the firing at a place of the order is next, and its actor's channels are listed
+pub record IsDue (net : Net) (first : ℕ → ℕ) (count : ℕ) (order : List ℕ) (place : ℕ) (inputs outputs : List (List ℕ)) (lines : List (List (List (Option ℕ)))) : Type 0 where
+  pub round : IsRoundOrder net order
+  pub within : place < length order
+  pub phases : HasOnePhase net
+  pub fed : HasInputs net
+  pub listed : AreListed net Taken inputs
+  pub made : AreListed net Made outputs
+  pub stands : StandsAfter net first count (take place order) lines
