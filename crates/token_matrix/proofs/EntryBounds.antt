@@ -1,7 +1,7 @@
 -- Entries of the rows by firing are short, and one of 0 leads to an earlier token.
-use Rattle.std.proofs.Common.{◌≡◌, ℕ, zero, suc, ◌+◌, ◌*◌, ◌≤◌, ◌<◌, false, List, [], ◌∷◌, length, take, sum, Option, Some, None, refl, sym, ap, subst, ◌∙◌, inl, inr, ⊎_elim, arith, mod-lt}
+use Rattle.std.proofs.Common.{◌≡◌, ℕ, zero, suc, ◌+◌, ◌*◌, ◌≤◌, ◌<◌, false, List, [], length, take, sum, Option, Some, None, refl, sym, ap, subst, ◌∙◌, inl, inr, ⊎_elim, arith, mod-lt}
 use Rattle.std.specs.Prelude.{slice_index, slice_index_or}
-use Rattle.std.proofs.lemmas.Bool.{cases_lt, cases_eq}
+use Rattle.std.proofs.lemmas.Bool.{cases_lt}
 use Rattle.std.proofs.lemmas.List.{take_all}
 use Rattle.std.proofs.lemmas.List.Sums.{sum_by_more}
 use Rattle.sd_base.specs.declared.tables.Kind.TheVariants.{Sdf}
@@ -12,16 +12,16 @@ use Rattle.sd_base.specs.Schedules.{time_of}
 use Rattle.sd_base.specs.Lawful.{Lawful}
 use Rattle.sd_base.specs.FileNet.{net_of}
 use Rattle.sd_base.specs.Untimed.{one_more, CanFire, IsRoundOrder}
-use Rattle.sd_base.proofs.Sums.{total-le, total-grows}
+use Rattle.sd_base.proofs.Sums.{total-grows}
 use Rattle.sd_base.proofs.Parts.{timed, wired, balanced}
 use Rattle.sd_base.proofs.Rounds.{whole-round}
-use Rattle.sd_base.proofs.Blocking.{bump-same, bump-other}
+use Rattle.sd_base.proofs.Blocking.{bump-same}
 use Rattle.sd_base.proofs.Ends.{sum_to, sum_to-le, sum_to-lt}
 use Rattle.sd_base.proofs.FileNets.{net_of-lawful}
 use Rattle.sd_base.specs.declared.tables.SharedRow.{SharedRow}
 use Rattle.sd_base.specs.declared.limits.TheConstants.{TIME, ROUND}
 use Rattle.sd_base.specs.Scenarios.{shared_count, Shares}
-use Rattle.token_matrix.specs.Stamps.{IsPutBy, first_of}
+use Rattle.token_matrix.specs.Stamps.{first_of}
 use Rattle.token_matrix.specs.Matrices.{entry_at, IsMatrix}
 use Rattle.token_matrix.specs.inside.RoundRows.{Table, row_at, HasEntry, UpTo, Small}
 use Rattle.token_matrix.proofs.Symbolic.{AreRows}

@@ -1,13 +1,11 @@
 -- The rows of the tokens that are left after a round.
-use Rattle.std.proofs.Common.{◌≡◌, ℕ, zero, suc, ◌+◌, ◌≤◌, ◌<◌, ◌⊎◌, ◌↔◌, List, [], length, Option, Some, None, refl, sym, ap, subst, ◌∙◌, inl, inr, ⊎_elim, arith}
+use Rattle.std.proofs.Common.{◌≡◌, ℕ, ◌+◌, ◌≤◌, ◌<◌, ◌↔◌, List, [], length, Option, Some, None, refl, sym, ap, subst, ◌∙◌, inl, inr, ⊎_elim, arith}
 use Rattle.std.specs.Prelude.{slice_index, slice_index_or}
 use Rattle.std.proofs.lemmas.Bool.{cases_lt}
 use Rattle.sd_base.specs.Net.{Net, channel_at, total}
 use Rattle.sd_base.specs.Schedules.{time_of}
 use Rattle.sd_base.specs.Lawful.{Lawful}
-use Rattle.sd_base.proofs.Sums.{total-le, total-zero}
 use Rattle.sd_base.proofs.Parts.{balanced}
-use Rattle.token_matrix.specs.Stamps.{IsPutBy}
 use Rattle.token_matrix.specs.Matrices.{entry_at}
 use Rattle.token_matrix.specs.inside.RoundRows.{Table, row_at, HasEntry, IsRowOf}
 use Rattle.token_matrix.proofs.Putters.{one_putter, putter}

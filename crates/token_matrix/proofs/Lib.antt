@@ -16,3 +16,6 @@ pub mod Orders
 pub mod Standing
 pub mod ChannelLines
 pub mod Moving
+pub mod FirstLines
+pub mod LeftTokens
+pub mod MatrixOf

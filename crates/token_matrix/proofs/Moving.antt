@@ -1,7 +1,7 @@
 -- A firing that is carried out on rows.
-use Rattle.std.proofs.Common.{◌≡◌, ◌≢◌, ℕ, ◌+◌, ◌-◌, ◌*◌, ◌%◌, ◌≤◌, ◌<◌, ◌⊎◌, zero, suc, List, [], ◌∷◌, ◌++◌, length, set, drop, replicate, sum, map, Option, Some, None, refl, sym, ap, subst, ◌∙◌, inl, inr, ⊎_elim, arith, length-append, length-drop}
+use Rattle.std.proofs.Common.{◌≡◌, ℕ, ◌+◌, ◌-◌, ◌*◌, ◌%◌, ◌≤◌, ◌<◌, suc, List, [], ◌∷◌, ◌++◌, length, set, drop, replicate, sum, Option, Some, None, refl, sym, ap, subst, ◌∙◌, ⊎_elim, arith, length-append, length-drop}
 use Rattle.std.specs.Prelude.{slice_index, slice_index_or}
-use Rattle.std.proofs.lemmas.Bool.{cases_lt, cases_eq}
+use Rattle.std.proofs.lemmas.Bool.{cases_eq}
 use Rattle.std.proofs.lemmas.List.{length-set, length-map, length-replicate, get_or-set_same, get_or-set_other}
 use Rattle.sd_base.specs.declared.limits.TheConstants.{TIME, ROUND}
 use Rattle.sd_base.specs.Net.{Net, channel_at, phase_entry, total}
@@ -11,7 +11,7 @@ use Rattle.sd_base.specs.Untimed.{one_more, CanFire}
 use Rattle.sd_base.proofs.Blocking.{bump-same, bump-other}
 use Rattle.sd_base.proofs.Ends.{sum_to}
 use Rattle.token_matrix.specs.Stamps.{IsTakenBy, IsPutBy}
-use Rattle.token_matrix.specs.inside.LaterRows.{shifted, AreWithin, AreWide, Reaches}
+use Rattle.token_matrix.specs.inside.LaterRows.{shifted, AreWithin, Reaches}
 use Rattle.token_matrix.specs.inside.Lines.{line_at, taken_on, made_on, HasOnePhase, AreReady, AreTaken, IsLatest, ArePut}
 use Rattle.token_matrix.specs.inside.RoundRows.{Table, row_at, HasEntry, IsRowOf, IsTokenRow, AreTokens, Stands}
 use Rattle.token_matrix.proofs.RowsSoFar.{IsNextRow, HasRowMore, rows_more, row_new}
@@ -138,7 +138,7 @@ module _ (net : Net) (laws : Lawful net) (phases : HasOnePhase net) where
             let before : v (channel_at net i).target ≡ v a = ap v into in
             let more : total (channel_at net i).taken (v a + 1) ≡ total (channel_at net i).taken (v a) + taken_on net i = taken-more i (v a) place in
             let sum : total (channel_at net i).taken (v (channel_at net i).target) + taken_on net i ≡ total (channel_at net i).taken (one_more v a (channel_at net i).target) =
-              ap (λ (n : ℕ). total (channel_at net i).taken n + taken_on net i) before ∙ sym more ∙ sym (ap (λ (n : ℕ). total (channel_at net i).taken n) counts) in
+            ap (λ (n : ℕ). total (channel_at net i).taken n + taken_on net i) before ∙ sym more ∙ sym (ap (λ (n : ℕ). total (channel_at net i).taken n) counts) in
             let is : line_at mid i ≡ drop (taken_on net i) (line_at lines i) = taken.taken i place into in
             let enough : taken_on net i ≤ length (line_at lines i) = fed i place into in
             let long : length (line_at mid i) ≡ length (line_at lines i) - taken_on net i = ap (λ (l : List (List (Option ℕ))). length l) is ∙ length-drop (taken_on net i) (line_at lines i) in
@@ -161,14 +161,14 @@ module _ (net : Net) (laws : Lawful net) (phases : HasOnePhase net) where
             let more : total (channel_at net i).made (v a + 1) ≡ total (channel_at net i).made (v a) + made_on net i = made-more i (v a) place in
             let by : IsPutBy (channel_at net i) ((channel_at net i).tokens + total (channel_at net i).made (v a) + k) (v a) = ((omega arith), (omega arith)) in
             let counted : v a < length (slice_index_or table (channel_at net i).source []) =
-              subst (λ (b : ℕ). v a < length (slice_index_or table b [])) (sym from) (subst (λ (l : List (List (Option ℕ))). v a < length l) (sym has_more.pushed) (let h : v a < length (slice_index_or st.table a [] ++ row ∷ []) = omega (arith, length-append (slice_index_or st.table a []) (row ∷ []), st.up.whole a actor) in h)) in
+            subst (λ (b : ℕ). v a < length (slice_index_or table b [])) (sym from) (subst (λ (l : List (List (Option ℕ))). v a < length l) (sym has_more.pushed) (let h : v a < length (slice_index_or st.table a [] ++ row ∷ []) = omega (arith, length-append (slice_index_or st.table a []) (row ∷ []), st.up.whole a actor) in h)) in
             let mine : row_at table (channel_at net i).source (v a) ≡ row =
-              ap (λ (b : ℕ). row_at table b (v a)) from ∙ row_new net laws first count st.table table v a row st.up actor can (is_next inputs) has_more in
+            ap (λ (b : ℕ). row_at table b (v a)) from ∙ row_new net laws first count st.table table v a row st.up actor can (is_next inputs) has_more in
             let time : time_of net (channel_at net i).source (v a) ≡ slice_index (slice_index_or net.times a []) 0 = ap (λ (b : ℕ). time_of net b (v a)) from ∙ time-is a (v a) actor in
             let of : IsRowOf net first table (λ j n. (j ≡ i) × IsPutBy (channel_at net i) n (v a) × (n ≡ (channel_at net i).tokens + total (channel_at net i).made (v a) + k)) put =
-              subst (λ (r : List (Option ℕ)). IsRowOf net first table (λ j n. (j ≡ i) × IsPutBy (channel_at net i) n (v a) × (n ≡ (channel_at net i).tokens + total (channel_at net i).made (v a) + k)) r)
-              (ap (λ (r : List (Option ℕ)). shifted (time_of net (channel_at net i).source (v a)) r) mine ∙ ap (λ (t : ℕ). shifted t row) time ∙ sym later)
-              (row_put net first table (λ n. n ≡ (channel_at net i).tokens + total (channel_at net i).made (v a) + k) i (v a) ((channel_at net i).tokens + total (channel_at net i).made (v a) + k) by refl counted) in
+            subst (λ (r : List (Option ℕ)). IsRowOf net first table (λ j n. (j ≡ i) × IsPutBy (channel_at net i) n (v a) × (n ≡ (channel_at net i).tokens + total (channel_at net i).made (v a) + k)) r)
+            (ap (λ (r : List (Option ℕ)). shifted (time_of net (channel_at net i).source (v a)) r) mine ∙ ap (λ (t : ℕ). shifted t row) time ∙ sym later)
+            (row_put net first table (λ n. n ≡ (channel_at net i).tokens + total (channel_at net i).made (v a) + k) i (v a) ((channel_at net i).tokens + total (channel_at net i).made (v a) + k) by refl counted) in
             row_same net first table (λ j n. (j ≡ i) × IsPutBy (channel_at net i) n (v a) × (n ≡ (channel_at net i).tokens + total (channel_at net i).made (v a) + k)) (λ j n. (j ≡ i) × (n ≡ (channel_at net i).tokens + total (channel_at net i).made (v a) + k)) put
             (λ j n. ((λ h. (h.0, h.2)), (λ h. (h.0, subst (λ (p : ℕ). IsPutBy (channel_at net i) p (v a)) (sym h.1) by, h.1)))) of
 
@@ -182,7 +182,7 @@ module _ (net : Net) (laws : Lawful net) (phases : HasOnePhase net) where
             let l = left_on i place in
             let many : length (line_at mid i) + total (channel_at net i).taken (one_more v a (channel_at net i).target) ≡ (channel_at net i).tokens + total (channel_at net i).made (v (channel_at net i).source) = l.1 in
             let kept : AreTokens net first count table i (total (channel_at net i).taken (one_more v a (channel_at net i).target)) (line_at mid i) =
-              tokens_kept net laws first count st.table table v a row st.up actor can (is_next inputs) has_more i (total (channel_at net i).taken (one_more v a (channel_at net i).target)) (line_at mid i) place (omega arith) l.0 in
+            tokens_kept net laws first count st.table table v a row st.up actor can (is_next inputs) has_more i (total (channel_at net i).taken (one_more v a (channel_at net i).target)) (line_at mid i) place (omega arith) l.0 in
             ⊎_elim
             (λ (from : (channel_at net i).source ≡ a).
             let counts : one_more v a (channel_at net i).source ≡ v a + 1 = ap (one_more v a) from ∙ bump-same v a in

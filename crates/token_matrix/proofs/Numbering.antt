@@ -1,7 +1,8 @@
 -- The numbers of the shared tokens.
-use Rattle.std.proofs.Common.{◌≡◌, ℕ, zero, suc, ◌+◌, ◌-◌, ◌≤◌, ◌<◌, Bool, true, false, List, [], ◌∷◌, length, Some, refl, sym, ap, subst, ◌∙◌, inl, inr, arith, bytes_eq}
+use Rattle.std.proofs.Common.{◌≡◌, ℕ, zero, suc, ◌+◌, ◌-◌, ◌≤◌, ◌<◌, Bool, true, false, List, [], ◌∷◌, length, drop, Some, refl, sym, ap, subst, ◌∙◌, inl, inr, arith, bytes_eq}
 use Rattle.std.specs.Prelude.{slice_get, slice_index_or}
-use Rattle.std.proofs.lemmas.Bool.{cases_lt}
+use Rattle.std.proofs.lemmas.Bool.{cases_lt, cases_Bool}
+use Rattle.std.proofs.lemmas.List.{at_drop_more}
 use Rattle.std.proofs.lemmas.Option.{slice_get_within, get_or_from_slice_get, slice_get-get_or}
 use Rattle.std.proofs.lemmas.Slice.Eq.{bytes_eq-Decides}
 use Rattle.sd_base.specs.declared.tables.GraphFile.{GraphFile}
@@ -14,11 +15,25 @@ use Rattle.sd_base.specs.Scenarios.{shared_count, Shares}
 abbrev pub RowsDiffer : List SharedRow → Type 0
 RowsDiffer shared = (s t : ℕ) (x y : SharedRow) → slice_get shared s ≡ Some x → slice_get shared t ≡ Some y → x.name ≡ y.name → s ≡ t
 
-later_differ : (r : SharedRow) (rest : List SharedRow) → RowsDiffer (r ∷ rest) → RowsDiffer rest
+pub later_differ : (r : SharedRow) (rest : List SharedRow) → RowsDiffer (r ∷ rest) → RowsDiffer rest
 later_differ r rest differ s t x y at there same = let e : suc s ≡ suc t = differ (suc s) (suc t) x y at there same in omega arith
 
-one_head : (r row : SharedRow) (rest : List SharedRow) (s : ℕ) → RowsDiffer (r ∷ rest) → slice_get (r ∷ rest) s ≡ Some row → r.name ≡ row.name → s ≡ 0
+pub one_head : (r row : SharedRow) (rest : List SharedRow) (s : ℕ) → RowsDiffer (r ∷ rest) → slice_get (r ∷ rest) s ≡ Some row → r.name ≡ row.name → s ≡ 0
 one_head r row rest s differ at same = sym (differ 0 s r row refl at same)
+
+-- the rows before a name's row are passed one after another
+pub first_here : (shared : List SharedRow) (i : ℕ) (row : SharedRow) (name : List ℕ) → i < length shared → row ≡ slice_index_or shared i row → row.name ≡ name → first_token (drop i shared) name ≡ 0
+first_here shared i row name below is named =
+    at_drop_more (λ (l : List SharedRow). first_token l name) shared i row below ∙ ap (λ (r : SharedRow). first_token (r ∷ drop (i + 1) shared) name) (sym is)
+    ∙ (let same : bytes_eq row.name name ≡ true = (bytes_eq-Decides row.name name).1 named in rw same refl)
+
+pub first_on : (shared : List SharedRow) (i : ℕ) (row : SharedRow) (name : List ℕ) → i < length shared → row ≡ slice_index_or shared i row → (row.name ≡ name → ⊥) → first_token (drop i shared) name ≡ row.tokens + first_token (drop (i + 1) shared) name
+first_on shared i row name below is other =
+    at_drop_more (λ (l : List SharedRow). first_token l name) shared i row below ∙ ap (λ (r : SharedRow). first_token (r ∷ drop (i + 1) shared) name) (sym is)
+    ∙ elim (cases_Bool (bytes_eq row.name name)) [ inl same ↦ absurd (other ((bytes_eq-Decides row.name name).0 same)) | inr off ↦ rw off refl ]
+
+pub count_on : (shared : List SharedRow) (i : ℕ) (row : SharedRow) → i < length shared → row ≡ slice_index_or shared i row → shared_count (drop i shared) ≡ row.tokens + shared_count (drop (i + 1) shared)
+count_on shared i row below is = at_drop_more (λ (l : List SharedRow). shared_count l) shared i row below ∙ ap (λ (r : SharedRow). r.tokens + shared_count (drop (i + 1) shared)) (sym is)
 
 -- a row's tokens are numbered below the count
 pub first_inside : (shared : List SharedRow) (s m : ℕ) (row : SharedRow) (name : List ℕ) → RowsDiffer shared → slice_get shared s ≡ Some row → row.name ≡ name → m < row.tokens

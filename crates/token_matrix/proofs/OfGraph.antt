@@ -21,7 +21,7 @@ use Rattle.token_matrix.proofs.Numbering.{number_inside, number_covers}
 use Rattle.token_matrix.proofs.Symbolic.{AreRows}
 use Rattle.token_matrix.proofs.Carrying.{IsLeft, carries}
 
-no_actor : ActorRow
+pub no_actor : ActorRow
 no_actor = record { name = []; phases = 0; times = [] }
 
 -- actors of one phase get no own channels

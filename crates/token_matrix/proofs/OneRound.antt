@@ -10,7 +10,7 @@ use Rattle.sd_base.specs.Untimed.{none_fired, one_more, Fires, counts_after, IsR
 use Rattle.sd_base.proofs.Sums.{total-le}
 use Rattle.sd_base.proofs.Blocking.{bump-same, bump-other}
 use Rattle.token_matrix.proofs.Putters.{one_putter}
-use Rattle.token_matrix.specs.Stamps.{IsPutBy, HasStamp, AreRoundStarts, AreStamps}
+use Rattle.token_matrix.specs.Stamps.{HasStamp, AreRoundStarts, AreStamps}
 
 -- each shared token is one of a channel
 abbrev pub Covers : Net → (ℕ → ℕ) → ℕ → Type 0

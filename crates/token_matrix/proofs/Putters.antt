@@ -27,4 +27,3 @@ putter net i m (suc n) low high = step (putter net i m n low) (cases_lt m ((chan
         → (m < (channel_at net i).tokens + total (channel_at net i).made n) ⊎ ((channel_at net i).tokens + total (channel_at net i).made n ≤ m) → (k : ℕ) × (k < suc n) × IsPutBy (channel_at net i) m k
     step before (inl h) = let k = before h in (k.0, (let g : k.0 < suc n = omega (arith, k.1) in g), k.2)
     step before (inr h) = (n, omega arith, (h, (let e : suc n ≡ n + 1 = omega arith in subst (λ (x : ℕ). m < (channel_at net i).tokens + total (channel_at net i).made x) e high)))
-

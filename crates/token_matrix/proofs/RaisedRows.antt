@@ -89,9 +89,9 @@ raised_both xs ys a b c first then = record {
       (cases_lt k (length xs));
   just = λ p e at. (elim (then.just p e at) [
     | inl old ↦ (elim (first.just p e old) [
-        | inl older ↦ inl older
-        | inr (k, below, is) ↦ inr (k, (omega (arith, length-append xs ys)), subst (λ (r : List (Option ℕ)). slice_index_or r p None ≡ Some e) (sym (get_or_append_left xs ys [] k below)) is)
-      ])
+      | inl older ↦ inl older
+      | inr (k, below, is) ↦ inr (k, (omega (arith, length-append xs ys)), subst (λ (r : List (Option ℕ)). slice_index_or r p None ≡ Some e) (sym (get_or_append_left xs ys [] k below)) is)
+    ])
     | inr (k, below, is) ↦ inr (length xs + k, (omega (arith, length-append xs ys)), subst (λ (r : List (Option ℕ)). slice_index_or r p None ≡ Some e) (sym (at_end k)) is)
   ]);
 }

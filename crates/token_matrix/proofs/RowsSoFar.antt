@@ -8,7 +8,7 @@ use Rattle.sd_base.specs.Lawful.{Lawful}
 use Rattle.sd_base.specs.Untimed.{none_fired, one_more, CanFire}
 use Rattle.sd_base.proofs.Sums.{total-le}
 use Rattle.sd_base.proofs.Blocking.{bump-same, bump-other}
-use Rattle.token_matrix.specs.Stamps.{IsTakenBy, IsPutBy}
+use Rattle.token_matrix.specs.Stamps.{IsTakenBy}
 use Rattle.token_matrix.specs.inside.RoundRows.{Table, row_at, HasEntry, UpTo}
 use Rattle.token_matrix.proofs.Putters.{put_earlier}
 use Rattle.token_matrix.proofs.Symbolic.{AreRows}

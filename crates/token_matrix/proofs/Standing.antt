@@ -1,13 +1,11 @@
 -- Where a round that is carried out on rows stands after some firings.
-use Rattle.std.proofs.Common.{◌≡◌, ℕ, ◌+◌, ◌-◌, ◌*◌, ◌≤◌, ◌<◌, List, [], ◌++◌, length, drop, replicate, Option, Some, None, refl, sym, ap, subst, ◌∙◌, ⊎_elim, arith, length-append, length-drop}
+use Rattle.std.proofs.Common.{◌≡◌, ℕ, ◌+◌, ◌-◌, ◌≤◌, ◌<◌, List, [], ◌++◌, length, drop, replicate, Option, refl, sym, ap, subst, ◌∙◌, ⊎_elim, arith, length-append, length-drop}
 use Rattle.std.specs.Prelude.{slice_index_or}
 use Rattle.std.proofs.lemmas.Bool.{cases_lt}
 use Rattle.std.proofs.lemmas.List.{get_or-drop, get_or_append_left, get_or-append_right, get_or-replicate, length-replicate}
 use Rattle.sd_base.specs.Net.{Net, channel_at, total}
 use Rattle.sd_base.specs.Lawful.{Lawful}
-use Rattle.sd_base.specs.Untimed.{none_fired, one_more, CanFire, counts_after}
-use Rattle.token_matrix.specs.inside.LaterRows.{AreWide}
-use Rattle.token_matrix.specs.inside.Lines.{line_at}
+use Rattle.sd_base.specs.Untimed.{CanFire}
 use Rattle.token_matrix.specs.inside.RoundRows.{Table, HasEntry, UpTo, IsTokenRow, AreTokens}
 use Rattle.token_matrix.proofs.RowsSoFar.{IsNextRow, HasRowMore, entry_on, entry_back}
 

@@ -1,11 +1,11 @@
 -- Rows by firing give the starts of a round for all stamps before it.
-use Rattle.std.proofs.Common.{◌≡◌, ℕ, ◌+◌, ◌≤◌, ◌<◌, ◌⊎◌, List, [], length, map, Option, Some, None, refl, sym, ap, subst, ◌∙◌, inl, inr, arith}
+use Rattle.std.proofs.Common.{◌≡◌, ℕ, ◌+◌, ◌≤◌, ◌<◌, List, [], length, map, Option, Some, None, refl, sym, ap, subst, ◌∙◌, inl, inr, arith}
 use Rattle.std.specs.Prelude.{slice_index, slice_index_or}
 use Rattle.std.proofs.lemmas.List.{get_or-map, length-map}
 use Rattle.sd_base.specs.Net.{Net, channel_at}
 use Rattle.sd_base.specs.Schedules.{Schedule, count_of, start_of, end_of, time_of}
 use Rattle.sd_base.specs.Lawful.{Lawful}
-use Rattle.token_matrix.specs.Stamps.{IsTakenBy, IsPutBy, HasStamp, AreRoundStarts}
+use Rattle.token_matrix.specs.Stamps.{IsTakenBy, HasStamp, AreRoundStarts}
 use Rattle.token_matrix.specs.Matrices.{apply_row, applied}
 use Rattle.token_matrix.specs.inside.RoundRows.{Table, row_at, HasEntry}
 use Rattle.token_matrix.proofs.Rows.{row-least, row-gives, Gives}

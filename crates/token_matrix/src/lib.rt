@@ -10,8 +10,6 @@ mod matrix;
 mod round;
 #[cfg(test)]
 mod tests;
-#[cfg(test)]
-mod dev_tests;
 
 pub use laws::matrices_are_one;
 pub use making::{MatrixError, matrix_of};

@@ -1,5 +1,5 @@
 //! One round of a net in which each actor has one phase, carried out on rows in place of stamps.
-ghost use Rattle.std.specs.Prelude.{◌≡◌, ◌<◌, ◌+◌, ℕ, IfOk, OnOk, length, take};
+ghost use Rattle.std.specs.Prelude.{◌≡◌, ◌<◌, ◌+◌, ℕ, [], IfOk, OnOk, length, take};
 ghost use Rattle.firing.specs.declared.sums.Port.TheVariants.{Made, Taken};
 ghost use Rattle.firing.specs.Wiring.{IsListed};
 ghost use Rattle.token_matrix.specs.inside.Lines.{HasOnePhase, AreReady, AreTaken, IsLatest, ArePut};
@@ -20,9 +20,8 @@ pub(crate) fn run_round<F: Firing>(
     size: usize,
     lines: &mut [Line],
 ) -> Result<(), NoMemory>
-    ghost first: { ℕ → ℕ }
-    requires { IsStart (F.net net.now) first size order.now lines.old }
-    ensures { OnOk result (StandsAfter (F.net net.now) first size order.now lines.new) }
+    requires { (first : (ℕ → ℕ)) × IsStart (F.net net.now) first size order.now lines.old }
+    ensures { OnOk result ((first : (ℕ → ℕ)) → StandsAfter (F.net net.now) first size [] lines.old → StandsAfter (F.net net.now) first size order.now lines.new) }
 {
     let wiring = Wiring::new(alloc, net)?;
     for place in 0..order.len() {
@@ -41,15 +40,22 @@ fn fire<F: Firing>(
     size: usize,
     lines: &mut [Line],
 ) -> Result<(), NoMemory>
-    ghost first: { ℕ → ℕ }
-    requires { IsDue (F.net net.now) first size order.now place wiring.now.inputs wiring.now.outputs lines.old }
-    ensures { OnOk result (StandsAfter (F.net net.now) first size (take (place + 1) order.now) lines.new) }
+    requires { (first : (ℕ → ℕ)) × IsDue (F.net net.now) first size order.now place wiring.now.inputs wiring.now.outputs lines.old }
+    ensures { OnOk result ((first : (ℕ → ℕ)) → StandsAfter (F.net net.now) first size (take place order.now) lines.old
+        → StandsAfter (F.net net.now) first size (take (place + 1) order.now) lines.new) }
 {
     know_laws(net);
     let actor = order[place];
     let row = take_row(alloc, net, wiring.inputs_of(actor), actor, size, lines)?;
     let put = put_row(alloc, row.as_slice(), net.time(actor, 0))?;
-    put_tokens(alloc, net, wiring.outputs_of(actor), actor, put.as_slice(), lines)
+    put_tokens(
+        alloc,
+        net,
+        wiring.outputs_of(actor),
+        actor,
+        put.as_slice(),
+        lines,
+    )
 }
 
 /// Takes the tokens of a firing, and gives the latest of their rows.

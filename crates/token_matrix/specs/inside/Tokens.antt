@@ -1,7 +1,6 @@
 -- The shared tokens on the channels of a graph, before a round and after it.
-use Rattle.std.specs.Prelude.{◌≡◌, ℕ, ◌+◌, ◌≤◌, ◌<◌, List, [], length, slice_get, slice_index_or, Option, Some}
+use Rattle.std.specs.Prelude.{◌≡◌, ℕ, ◌+◌, ◌<◌, List, [], length, slice_index_or, Option}
 use Rattle.sd_base.specs.declared.tables.GraphFile.{GraphFile}
-use Rattle.sd_base.specs.declared.tables.ChannelRow.{ChannelRow}
 use Rattle.sd_base.specs.declared.tables.SharedRow.{SharedRow}
 use Rattle.sd_base.specs.Scenarios.{shared_count}
 use Rattle.token_matrix.specs.Stamps.{no_row, first_of}

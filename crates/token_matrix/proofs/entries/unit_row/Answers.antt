@@ -1,4 +1,4 @@
-use Rattle.std.proofs.Common.{◌≡◌, arith, subst, sym}
+use Rattle.std.proofs.Common.{◌≡◌, arith}
 use Rattle.token_matrix.proofs.OneRow.{unit_is}
 use Rattle.token_matrix.proofs.entries.unit_row.Goals as goal
 

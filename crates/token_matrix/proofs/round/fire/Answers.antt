@@ -1,4 +1,4 @@
-use Rattle.std.proofs.Common.{◌≡◌, ◌+◌, ◌<◌, ℕ, List, [], Option, Result, Ok, Err, length, take, ap, sym, subst, ◌∙◌, arith}
+use Rattle.std.proofs.Common.{◌≡◌, ◌+◌, ℕ, List, [], Option, Result, Ok, Err, take, ap, sym, subst, ◌∙◌, arith}
 use Rattle.std.specs.Prelude.{slice_index, slice_index_or}
 use Rattle.sd_base.specs.Untimed.{none_fired, counts_after}
 use Rattle.firing.specs.declared.sums.Port.TheVariants.{Made, Taken}
@@ -26,7 +26,7 @@ take_row-requires-clause-listed g c =
 pub take_row-requires-clause-ready : goal.take_row-requires-clause-ready
 take_row-requires-clause-ready g c =
     let f = fires_at (g.F.Firing.net c.args.net.now) none_fired c.args.order.now c.args.place c.requires.1.round.fires c.requires.1.within in
-    are_ready (g.F.Firing.net c.args.net.now) c.know_laws.ensures c.requires.1.phases g.first c.args.size (counts_after none_fired (take c.args.place c.args.order.now)) c.args.lines.now (slice_index c.args.order.now c.args.place)
+    are_ready (g.F.Firing.net c.args.net.now) c.know_laws.ensures c.requires.1.phases c.requires.0 c.args.size (counts_after none_fired (take c.args.place c.args.order.now)) c.args.lines.now (slice_index c.args.order.now c.args.place)
     c.requires.1.stands f.actor f.can
 
 pub time-requires-clause-actor : goal.time-requires-clause-actor
@@ -39,7 +39,7 @@ pub put_row-requires-clause-within : goal.put_row-requires-clause-within
 put_row-requires-clause-within g c =
     let f = fires_at (g.F.Firing.net c.args.net.now) none_fired c.args.order.now c.args.place c.requires.1.round.fires c.requires.1.within in
     subst (AreWithin _) (sym c.as_slice.ensures.value)
-    (row_within (g.F.Firing.net c.args.net.now) c.know_laws.ensures c.requires.1.phases g.first c.args.size (counts_after none_fired (take c.args.place c.args.order.now)) c.args.lines.now (slice_index c.args.order.now c.args.place)
+    (row_within (g.F.Firing.net c.args.net.now) c.know_laws.ensures c.requires.1.phases c.requires.0 c.args.size (counts_after none_fired (take c.args.place c.args.order.now)) c.args.lines.now (slice_index c.args.order.now c.args.place)
     c.requires.1.stands f.actor f.can c.in_ok-row.row.items c.in_ok-row.ensures.latest c.requires.1.fed
     (after_within (g.F.Firing.net c.args.net.now) none_fired c.args.order.now c.args.place c.requires.1.round.fires (λ b there. omega arith)))
 
@@ -61,10 +61,13 @@ returns g c = on c.put_tokens.result c.put_tokens.ensures
     later = c.in_ok-put.ensures ∙ ap (λ (r : List (Option ℕ)). shifted c.time.result r) c.as_slice.ensures.value ∙ ap (λ (t : ℕ). shifted t c.in_ok-row.row.items) c.time.ensures
 
     on : (r : Result (Unit {0}) NoMemory) → OnOk r (ArePut (g.F.Firing.net c.args.net.now) (slice_index c.args.order.now c.args.place) c.as_slice-2.result.now c.take_row.new.lines c.put_tokens.new.lines)
-        → OnOk r (Stands (g.F.Firing.net c.args.net.now) g.first c.args.size (counts_after none_fired (take (c.args.place + 1) c.args.order.now)) c.put_tokens.new.lines)
-    on (Ok o) put =
+        → OnOk r ((first : ℕ → ℕ) → Stands (g.F.Firing.net c.args.net.now) first c.args.size (counts_after none_fired (take c.args.place c.args.order.now)) c.args.lines.now
+        → Stands (g.F.Firing.net c.args.net.now) first c.args.size (counts_after none_fired (take (c.args.place + 1) c.args.order.now)) c.put_tokens.new.lines)
+    on (Ok o) put = λ first stands.
         let f = fires_at (g.F.Firing.net c.args.net.now) none_fired c.args.order.now c.args.place c.requires.1.round.fires c.requires.1.within in
-        subst (λ (v : ℕ → ℕ). Stands (g.F.Firing.net c.args.net.now) g.first c.args.size v c.put_tokens.new.lines) (sym (after_more none_fired c.args.order.now c.args.place c.requires.1.within))
-        (stands_more (g.F.Firing.net c.args.net.now) c.know_laws.ensures c.requires.1.phases g.first c.args.size (counts_after none_fired (take c.args.place c.args.order.now)) c.args.lines.now (slice_index c.args.order.now c.args.place)
-        c.requires.1.stands f.actor f.can c.in_ok-row.row.items c.in_ok-row.ensures.latest c.requires.1.fed c.in_ok-put.put later c.take_row.new.lines c.put_tokens.new.lines c.in_ok-row.ensures.taken (subst (λ (r : List (Option ℕ)). ArePut (g.F.Firing.net c.args.net.now) (slice_index c.args.order.now c.args.place) r c.take_row.new.lines c.put_tokens.new.lines) c.as_slice-2.ensures put) (omega (arith, c.put_tokens.auto.lines, c.take_row.auto.lines)))
+        subst (λ (v : ℕ → ℕ). Stands (g.F.Firing.net c.args.net.now) first c.args.size v c.put_tokens.new.lines) (sym (after_more none_fired c.args.order.now c.args.place c.requires.1.within))
+        (stands_more (g.F.Firing.net c.args.net.now) c.know_laws.ensures c.requires.1.phases first c.args.size (counts_after none_fired (take c.args.place c.args.order.now)) c.args.lines.now (slice_index c.args.order.now c.args.place)
+        stands f.actor f.can c.in_ok-row.row.items c.in_ok-row.ensures.latest c.requires.1.fed c.in_ok-put.put later c.take_row.new.lines c.put_tokens.new.lines c.in_ok-row.ensures.taken
+        (subst (λ (r : List (Option ℕ)). ArePut (g.F.Firing.net c.args.net.now) (slice_index c.args.order.now c.args.place) r c.take_row.new.lines c.put_tokens.new.lines) c.as_slice-2.ensures put)
+        (omega (arith, c.put_tokens.auto.lines, c.take_row.auto.lines)))
     on (Err e) put = tt

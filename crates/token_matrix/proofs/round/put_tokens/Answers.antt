@@ -1,4 +1,4 @@
-use Rattle.std.proofs.Common.{◌≡◌, ◌++◌, ◌<◌, List, Option, ℕ, length, replicate, ap, refl, ◌∙◌, arith}
+use Rattle.std.proofs.Common.{◌++◌, ◌<◌, List, Option, ℕ, length, replicate, ap, refl, ◌∙◌, arith}
 use Rattle.std.specs.Prelude.{slice_index}
 use Rattle.token_matrix.specs.inside.Lines.{line_at, made_on}
 use Rattle.token_matrix.proofs.ChannelLines.{put_more, put_all, put_none, read_line}

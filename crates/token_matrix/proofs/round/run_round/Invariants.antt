@@ -1,9 +1,7 @@
-use Rattle.std.proofs.Common.{take}
+use Rattle.std.proofs.Common.{ℕ, [], take}
 use Rattle.token_matrix.specs.inside.RoundRows.{StandsAfter}
 use Rattle.token_matrix.proofs.round.run_round.Given as goal
 
-abbrev pub ghost-fire : goal.ghost-fire
-ghost-fire g a = g.first
-
+-- the lines stand where the firings so far lead, however the shared tokens are numbered
 abbrev pub invariant-loop-place : goal.invariant-loop-place
-invariant-loop-place g l = StandsAfter (g.F.Firing.net l.net) g.first l.size (take l.place l.order) l.lines
+invariant-loop-place g l = (first : ℕ → ℕ) → StandsAfter (g.F.Firing.net l.net) first l.size [] l.initial.lines → StandsAfter (g.F.Firing.net l.net) first l.size (take l.place l.order) l.lines

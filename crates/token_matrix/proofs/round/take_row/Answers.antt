@@ -1,6 +1,6 @@
-use Rattle.std.proofs.Common.{◌≡◌, ◌++◌, List, Option, ℕ, length, drop, take, ap, refl, ◌∙◌, arith}
+use Rattle.std.proofs.Common.{◌≡◌, ◌++◌, List, Option, ℕ, length, drop, take, ap, arith}
 use Rattle.std.proofs.lemmas.List.{take_at}
-use Rattle.token_matrix.proofs.ChannelLines.{taken_none, enough_at, wide_at, more_at, taken_all}
+use Rattle.token_matrix.proofs.ChannelLines.{enough_at, wide_at, more_at, taken_all}
 use Rattle.token_matrix.proofs.round.take_row.Goals as goal
 
 pub take-requires-clause-enough : goal.take-requires-clause-enough

@@ -1,4 +1,4 @@
-use Rattle.std.proofs.Common.{◌≡◌, ◌++◌, ◌+◌, ◌<◌, length, List, Option, ℕ, take, replicate, ap, sym, ◌∙◌, append_assoc, arith}
+use Rattle.std.proofs.Common.{◌++◌, ◌<◌, length, List, Option, ℕ, take, replicate, ap, sym, ◌∙◌, append_assoc, arith}
 use Rattle.token_matrix.specs.inside.Batches.{rows_of}
 use Rattle.token_matrix.proofs.BatchRows.{rows_of-more}
 use Rattle.token_matrix.proofs.line.Line.spell.Goals as goal

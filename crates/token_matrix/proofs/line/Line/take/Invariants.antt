@@ -1,4 +1,4 @@
-use Rattle.std.proofs.Common.{◌≡◌, ◌≤◌, ◌-◌, length, take, drop}
+use Rattle.std.proofs.Common.{◌≡◌, ◌≤◌, ◌-◌, take, drop}
 use Rattle.token_matrix.specs.inside.LaterRows.{IsRaised}
 use Rattle.token_matrix.proofs.line.Line.take.Given as goal
 
