@@ -13,8 +13,8 @@ use Rattle.scenario_rate.specs.Answers.{IsApart}
 use Rattle.scenario_rate.specs.ChosenCycles.{IsTight, IsTightPath, nodes_of, IsNoLater, IsChosen}
 use Rattle.scenario_rate.specs.inside.Levels.{cell_at}
 use Rattle.scenario_rate.specs.inside.Searches.{AreLevels, IsLast, potential_of, node_after, from_in, from_of}
-use Rattle.scenario_rate.specs.inside.Choosing.{IsAmong, IsWalk, HasCycle, IsChosenOf, IsEven, IsTightIn, AreTight}
-use Rattle.scenario_rate.proofs.Scoring.{edge-inside, over, only-reached}
+use Rattle.scenario_rate.specs.inside.Choosing.{IsAmong, AreKnown, IsWalk, HasCycle, IsChosenOf, IsEven, IsTightIn, AreTight}
+use Rattle.scenario_rate.proofs.Scoring.{edge-inside, over, only-reached, fit}
 use Rattle.scenario_rate.proofs.Shortening.{cut, length-cut}
 
 -- ---- edge by edge
@@ -54,6 +54,9 @@ tight_pass es row l w n ts so_far not_tight = record {
       (λ (last : n ≤ k). absurd (let same : k ≡ n = omega arith in not_tight (subst (IsTightIn es row l w) same is)))
       (cases_lt k n);
 }
+
+pub tight_known : (es : List Edge) (row : List (Option Cell)) (l w n : ℕ) (ts : List ℕ) → AreTight es row l w n ts → AreKnown es ts
+tight_known es row l w n ts tight i k at = let t = tight.each k (i, at) in slice_get_within es k t.0 t.1
 
 -- ---- no node stands twice on a shortest closed walk
 
@@ -114,13 +117,11 @@ module _ (graph : TimedGraph) (l w : ℕ) (rows : List (List (Option Cell))) (le
 
   -- a reached node has a score
   some_cell : (v : ℕ) → IsReached graph v → (c : Cell) × (cell_at row v ≡ Some c)
-  some_cell v reached = elim_cell (cell_at row v) refl
+  some_cell v reached = of_potential (cell_at row v) refl
     where
-      f = Rattle.scenario_rate.proofs.Scoring.fit graph l w rows levels k row last
-
-      elim_cell : (o : Option Cell) → cell_at row v ≡ o → (c : Cell) × (cell_at row v ≡ Some c)
-      elim_cell (Some c) at = (c, at)
-      elim_cell None at = absurd (let t = f.there v reached in let h : None ≡ Some t.0 = sym (ap (potential_of (k * w)) at) ∙ t.1 in cc)
+      of_potential : (o : Option Cell) → cell_at row v ≡ o → (c : Cell) × (cell_at row v ≡ Some c)
+      of_potential (Some c) at = (c, at)
+      of_potential None at = absurd (let t = (fit graph l w rows levels k row last).there v reached in let h : None ≡ Some t.0 = sym (ap (potential_of (k * w)) at) ∙ t.1 in cc)
 
   -- a critical cycle is one of tight edges
   pub has_cycle : (cycle : List ℕ) → IsCritical graph l w cycle → HasCycle graph.edges ts (node_count graph)
@@ -138,22 +139,24 @@ module _ (graph : TimedGraph) (l w : ℕ) (rows : List (List (Option Cell))) (le
       inside_of [] u v some path = absurd (omega arith)
       inside_of (x ∷ ks) u v some (e, is, from, rest) = subst (λ (n : ℕ). n < node_count graph) (sym from) (sound.edges.from x e is)
 
+  -- where a tight edge leads
+  even_end : (x : ℕ) (e : Edge) (c : Cell) → slice_get graph.edges x ≡ Some e → cell_at row e.from ≡ Some c → IsTightIn graph.edges row l w x → (d : Cell) × (cell_at row e.to ≡ Some d) × (c.score + e.weight * l ≡ d.score + w)
+  even_end x e c is at (f, is_f, even) =
+      let same : f ≡ e = (let h : Some f ≡ Some e = sym is_f ∙ is in cc) in
+      let mine : IsEven l w e (Some c) (cell_at row e.to) = subst (λ (z : Option Cell). IsEven l w e z (cell_at row e.to)) at (subst (λ (g : Edge). IsEven l w g (cell_at row g.from) (cell_at row g.to)) same even) in
+      next (cell_at row e.to) refl mine
+    where
+      next : (o : Option Cell) → cell_at row e.to ≡ o → IsEven l w e (Some c) o → (d : Cell) × (cell_at row e.to ≡ Some d) × (c.score + e.weight * l ≡ d.score + w)
+      next None to even = absurd even
+      next (Some d) to even = (d, to, even)
+
   -- the weights of a walk of tight edges
   walk_sum : (ks : List ℕ) (u v : ℕ) (c : Cell) → cell_at row u ≡ Some c → IsWalk graph.edges ts u ks v → (d : Cell) × (cell_at row v ≡ Some d) × (c.score + weights graph.edges ks * l ≡ d.score + w * length ks) × IsPath graph.edges u ks v
   walk_sum [] u v c at walk = (c, ap (cell_at row) (sym walk) ∙ at, omega arith, walk)
-  walk_sum (x ∷ ks) u v c at (e, is, from, among, rest) = go (tight.each x among)
-    where
-      go : IsTightIn graph.edges row l w x → (d : Cell) × (cell_at row v ≡ Some d) × (c.score + weights graph.edges (x ∷ ks) * l ≡ d.score + w * length (x ∷ ks)) × IsPath graph.edges u (x ∷ ks) v
-      go (f, is_f, even) =
-          let same : f ≡ e = (let h : Some f ≡ Some e = sym is_f ∙ is in cc) in
-          let mine : IsEven l w e (Some c) (cell_at row e.to) = subst (λ (z : Option Cell). IsEven l w e z (cell_at row e.to)) (ap (cell_at row) (sym from) ∙ at) (subst (λ (g : Edge). IsEven l w g (cell_at row g.from) (cell_at row g.to)) same even) in
-          next (cell_at row e.to) refl mine
-        where
-          next : (o : Option Cell) → cell_at row e.to ≡ o → IsEven l w e (Some c) o → (d : Cell) × (cell_at row v ≡ Some d) × (c.score + weights graph.edges (x ∷ ks) * l ≡ d.score + w * length (x ∷ ks)) × IsPath graph.edges u (x ∷ ks) v
-          next None to even = absurd even
-          next (Some d) to even =
-              let r = walk_sum ks e.to v d to rest in
-              (r.0, r.1, (let h : c.score + weights graph.edges (x ∷ ks) * l ≡ r.0.score + w * suc (length ks) = omega (arith, sums e ks x is, longer (length ks), r.2, even) in h), (e, is, from, r.3))
+  walk_sum (x ∷ ks) u v c at (e, is, from, among, rest) =
+      let o = even_end x e c is (ap (cell_at row) (sym from) ∙ at) (tight.each x among) in
+      let r = walk_sum ks e.to v o.0 o.1 rest in
+      (r.0, r.1, (let h : c.score + weights graph.edges (x ∷ ks) * l ≡ r.0.score + w * suc (length ks) = omega (arith, sums e ks x is, longer (length ks), r.2, o.2) in h), (e, is, from, r.3))
 
   -- the chosen walk is a critical cycle
   pub chosen_critical : (cycle : List ℕ) → IsChosenOf graph.edges ts cycle → IsCritical graph l w cycle

@@ -8,13 +8,16 @@ ghost use Rattle.automaton.specs.CriticalCycles.{IsCritical, IsReached, Fit, wei
 ghost use Rattle.scenario_rate.specs.Graphs.{Grows, IsSound, AreInside, node_count};
 ghost use Rattle.scenario_rate.specs.inside.Levels.{cell_at, AreSmall};
 ghost use Rattle.scenario_rate.specs.inside.Searches.{AreLevels, IsRaisedAt, AreNumbers, IsLastOf, potential_of};
+ghost use Rattle.scenario_rate.specs.ChosenCycles.{IsChosen};
 ghost use Rattle.scenario_rate.specs.Answers.{IsApart, potential_at};
 ghost use Rattle.scenario_rate.specs.inside.Bests.{IsBest, IsAnswer, IsTurn};
 
 use crate::answer::Worst;
+use crate::chosen::chosen_cycle;
 use crate::levels::Cell;
 use crate::repeat::{edges_of, first_return};
 use crate::search::{Levels, Outcome, row_at, search};
+use crate::tight::tight_edges;
 use crate::trace::walk_to;
 use automaton::{Edge, TimedGraph, worst_is_shown};
 use sd_base::{Fraction, NoMemory, Rows};
@@ -47,6 +50,7 @@ pub fn worst(alloc: Global, graph: &TimedGraph) -> Result<Worst, NoMemory>
     requires sound { IsSound graph.now }
     requires grows { Grows graph.now }
     ensures critical { IfOk result (λ r. IsCritical graph.now r.rate.num r.rate.den r.cycle) }
+    ensures chosen { IfOk result (λ r. IsChosen graph.now r.rate.num r.rate.den (potential_at r.potentials) r.cycle) }
     ensures apart { IfOk result (λ r. IsApart graph.now.edges r.cycle) }
     ensures fit { IfOk result (λ r. Fit graph.now r.rate.num r.rate.den (potential_at r.potentials)) }
     ensures count { IfOk result (λ r. length r.potentials ≡ node_count graph.now) }
@@ -175,9 +179,12 @@ fn finish(alloc: Global, graph: &TimedGraph, best: Best, levels: &Levels) -> Res
     let level = levels.rows.len() - 1;
     let row = row_at(levels.rows.as_slice(), level);
     let potentials = potentials(alloc, row, level as u128 * levels.time as u128)?;
+    let edges = graph.edges.as_slice();
+    let tight = tight_edges(alloc, edges, row, best.rate.num, levels.time)?;
+    let cycle = chosen_cycle(alloc, edges, tight.as_slice(), graph.states * graph.tokens)?;
     Ok(Worst {
         rate: best.rate,
-        cycle: Rows::from_vec(best.cycle),
+        cycle: Rows::from_vec(cycle),
         potentials: Rows::from_vec(potentials),
     })
 }

@@ -8,6 +8,7 @@ use Rattle.scenario_rate.specs.declared.passes.Turn.TheVariants.{Settled, Gains}
 use Rattle.scenario_rate.specs.inside.Searches.{AreLevels, IsLastOf}
 use Rattle.scenario_rate.specs.declared.answer.Worst.{Worst}
 use Rattle.scenario_rate.specs.Graphs.{node_count}
+use Rattle.scenario_rate.specs.ChosenCycles.{IsChosen}
 use Rattle.scenario_rate.specs.Answers.{potential_at, IsApart}
 
 -- a critical cycle of its rate on which no node stands twice, and the limits on the rate's numbers
@@ -23,6 +24,7 @@ pub record IsBest (graph : TimedGraph) (best : Best) : Type 0 where
 pub record IsAnswer (graph : TimedGraph) (r : Worst) : Type 0 where
   pub critical : IsCritical graph r.rate.num r.rate.den r.cycle
   pub apart : IsApart graph.edges r.cycle
+  pub chosen : IsChosen graph r.rate.num r.rate.den (potential_at r.potentials) r.cycle
   pub some_round : 1 ≤ r.rate.num
   pub fit : Fit graph r.rate.num r.rate.den (potential_at r.potentials)
   pub count : length r.potentials ≡ node_count graph
