@@ -1,10 +1,9 @@
 -- The cycle that is chosen, root by root.
-use Rattle.std.proofs.Common.{◌≡◌, ℕ, suc, ◌+◌, ◌≤◌, ◌<◌, ◌⊎◌, List, [], ◌∷◌, length, Option, Some, refl, sym, ap, subst, ◌∙◌, ⊎_elim, arith}
-use Rattle.std.specs.Prelude.{slice_get}
+use Rattle.std.proofs.Common.{◌≡◌, ℕ, ◌+◌, ◌≤◌, ◌<◌, List, length, Option, subst, ◌∙◌, ⊎_elim, arith}
 use Rattle.std.proofs.lemmas.Bool.{cases_lt}
 use Rattle.automaton.specs.declared.graph.Edge.{Edge}
 use Rattle.scenario_rate.specs.Graphs.{AreInside}
-use Rattle.scenario_rate.specs.inside.Choosing.{IsWalk, HasCycle, IsChosenOf, IsDistance, NoneBack, IsFewest, IsOnWay, IsLeastWay}
+use Rattle.scenario_rate.specs.inside.Choosing.{IsWalk, IsChosenOf, IsDistance, NoneBack, IsFewest, IsOnWay, IsLeastWay}
 use Rattle.scenario_rate.proofs.Choosing.{none_short, on_way_back}
 use Rattle.scenario_rate.proofs.Shortening.{shorten}
 

@@ -1,12 +1,11 @@
 -- The way of the least nodes, and the closed walk that is chosen.
-use Rattle.std.proofs.Common.{◌≡◌, ℕ, zero, suc, ◌+◌, ◌-◌, ◌≤◌, ◌<◌, ◌⊎◌, List, [], ◌∷◌, ◌++◌, length, Option, Some, None, MatchOption, min, refl, sym, ap, subst, ◌∙◌, inl, inr, ⊎_elim, arith, length-append}
-use Rattle.std.specs.Prelude.{slice_get, slice_index_or}
-use Rattle.std.proofs.lemmas.Bool.{cases_lt, cases_eq}
+use Rattle.std.proofs.Common.{◌≡◌, ℕ, suc, ◌+◌, ◌≤◌, ◌<◌, List, [], ◌∷◌, length, Option, Some, None, MatchOption, min, refl, sym, ap, subst, ◌∙◌, inl, inr, ⊎_elim, arith}
+use Rattle.std.specs.Prelude.{slice_get}
+use Rattle.std.proofs.lemmas.Bool.{cases_lt}
 use Rattle.std.proofs.lemmas.Option.{slice_get_within}
 use Rattle.automaton.specs.declared.graph.Edge.{Edge}
-use Rattle.scenario_rate.specs.Graphs.{AreInside}
 use Rattle.scenario_rate.specs.ChosenCycles.{end_in, nodes_of, IsNoLater}
-use Rattle.scenario_rate.specs.inside.Choosing.{IsAmong, AreKnown, IsWalk, HasCycle, IsChosenOf, steps_at, IsWithin, IsDistance, NoneBack, IsFewest, fewer_of, NoneNext, IsNext, IsNearer, IsOnWay, IsLeastWay}
+use Rattle.scenario_rate.specs.inside.Choosing.{IsAmong, IsWalk, steps_at, IsDistance, NoneBack, IsFewest, fewer_of, NoneNext, IsNext, IsNearer, IsOnWay, IsLeastWay}
 
 -- ---- the least way
 
@@ -117,30 +116,62 @@ module _ (es : List Edge) (ts : List ℕ) (steps : List (Option ℕ)) (n k : ℕ
           (λ (old : i < n). absurd (none i j c f old at_j is_j back to))
           (λ (last : n ≤ i). let same : e ≡ f = same_place es ts n i k j e f at is (omega arith) at_j is_j in let h : Some d ≡ Some c = sym there ∙ ap (λ (g : Edge). steps_at steps g.to) same ∙ to in let g : d ≡ c = cc in omega arith)
           (cases_lt i n);
-      place = n; number = k; steps_there = d; edge = e; at = at; is = is; from = from; to = there; count = refl;
+      place = n;
+      number = k;
+      steps_there = d;
+      edge = e;
+      at = at;
+      is = is;
+      from = from;
+      to = there;
+      count = refl;
     }
     fewest_more (Some r) None from there few = record {
       least = λ i j c f below at_j is_j back to. ⊎_elim
           (λ (old : i < n). few.least i j c f old at_j is_j back to)
           (λ (last : n ≤ i). absurd (let same : e ≡ f = same_place es ts n i k j e f at is (omega arith) at_j is_j in let h : None ≡ Some c = sym there ∙ ap (λ (g : Edge). steps_at steps g.to) same ∙ to in cc))
           (cases_lt i n);
-      place = few.place; number = few.number; steps_there = few.steps_there; edge = few.edge; at = few.at; is = few.is; from = few.from; to = few.to; count = few.count;
+      place = few.place;
+      number = few.number;
+      steps_there = few.steps_there;
+      edge = few.edge;
+      at = few.at;
+      is = few.is;
+      from = few.from;
+      to = few.to;
+      count = few.count;
     }
     fewest_more (Some r) (Some d) from there few = elim (cases_lt r (d + 2)) [
       | inl low ↦ (let m : min r (d + 1) ≡ r = omega arith in subst (IsFewest es ts steps root (n + 1)) (sym m) (record {
-          least = λ i j c f below at_j is_j back to. ⊎_elim
-              (λ (old : i < n). few.least i j c f old at_j is_j back to)
-              (λ (last : n ≤ i). let same : e ≡ f = same_place es ts n i k j e f at is (omega arith) at_j is_j in let h : Some d ≡ Some c = sym there ∙ ap (λ (g : Edge). steps_at steps g.to) same ∙ to in let g : d ≡ c = cc in omega arith)
-              (cases_lt i n);
-          place = few.place; number = few.number; steps_there = few.steps_there; edge = few.edge; at = few.at; is = few.is; from = few.from; to = few.to; count = few.count;
-        }))
+        least = λ i j c f below at_j is_j back to. ⊎_elim
+            (λ (old : i < n). few.least i j c f old at_j is_j back to)
+            (λ (last : n ≤ i). let same : e ≡ f = same_place es ts n i k j e f at is (omega arith) at_j is_j in let h : Some d ≡ Some c = sym there ∙ ap (λ (g : Edge). steps_at steps g.to) same ∙ to in let g : d ≡ c = cc in omega arith)
+            (cases_lt i n);
+        place = few.place;
+        number = few.number;
+        steps_there = few.steps_there;
+        edge = few.edge;
+        at = few.at;
+        is = few.is;
+        from = few.from;
+        to = few.to;
+        count = few.count;
+      }))
       | inr high ↦ (let m : min r (d + 1) ≡ d + 1 = omega arith in subst (IsFewest es ts steps root (n + 1)) (sym m) (record {
-          least = λ i j c f below at_j is_j back to. ⊎_elim
-              (λ (old : i < n). let l : r ≤ c + 1 = few.least i j c f old at_j is_j back to in omega arith)
-              (λ (last : n ≤ i). let same : e ≡ f = same_place es ts n i k j e f at is (omega arith) at_j is_j in let h : Some d ≡ Some c = sym there ∙ ap (λ (g : Edge). steps_at steps g.to) same ∙ to in let g : d ≡ c = cc in omega arith)
-              (cases_lt i n);
-          place = n; number = k; steps_there = d; edge = e; at = at; is = is; from = from; to = there; count = refl;
-        }))
+        least = λ i j c f below at_j is_j back to. ⊎_elim
+            (λ (old : i < n). let l : r ≤ c + 1 = few.least i j c f old at_j is_j back to in omega arith)
+            (λ (last : n ≤ i). let same : e ≡ f = same_place es ts n i k j e f at is (omega arith) at_j is_j in let h : Some d ≡ Some c = sym there ∙ ap (λ (g : Edge). steps_at steps g.to) same ∙ to in let g : d ≡ c = cc in omega arith)
+            (cases_lt i n);
+        place = n;
+        number = k;
+        steps_there = d;
+        edge = e;
+        at = at;
+        is = is;
+        from = from;
+        to = there;
+        count = refl;
+      }))
     ]
 
     pub fewest_pass : (o : Option ℕ) → (e.from ≡ root → ⊥) → MatchOption o (NoneBack es ts steps root n) (IsFewest es ts steps root n) → MatchOption o (NoneBack es ts steps root (n + 1)) (IsFewest es ts steps root (n + 1))
@@ -153,14 +184,26 @@ module _ (es : List Edge) (ts : List ℕ) (steps : List (Option ℕ)) (n k : ℕ
           (λ (old : i < n). few.least i j c f old at_j is_j back to)
           (λ (last : n ≤ i). absurd (let same : e ≡ f = same_place es ts n i k j e f at is (omega arith) at_j is_j in away (ap (λ (g : Edge). g.from) same ∙ back)))
           (cases_lt i n);
-      place = few.place; number = few.number; steps_there = few.steps_there; edge = few.edge; at = few.at; is = few.is; from = few.from; to = few.to; count = few.count;
+      place = few.place;
+      number = few.number;
+      steps_there = few.steps_there;
+      edge = few.edge;
+      at = few.at;
+      is = few.is;
+      from = few.from;
+      to = few.to;
+      count = few.count;
     }
 
   module _ (node left : ℕ) where
     pub next_more : (o r : Option ℕ) → e.from ≡ node → steps_at steps e.to ≡ Some left → IsNearer es o k r → MatchOption o (NoneNext es ts steps node left n) (IsNext es ts steps node left n)
         → MatchOption r (NoneNext es ts steps node left (n + 1)) (IsNext es ts steps node left (n + 1))
     next_more None r from there nearer none = subst (λ (o : Option ℕ). MatchOption o (NoneNext es ts steps node left (n + 1)) (IsNext es ts steps node left (n + 1))) (sym nearer) (record {
-      among = (n, at); edge = e; is = is; from = from; to = there;
+      among = (n, at);
+      edge = e;
+      is = is;
+      from = from;
+      to = there;
       least = λ i j f below at_j is_j back to. ⊎_elim
           (λ (old : i < n). absurd (none i j f old at_j is_j back to))
           (λ (last : n ≤ i). let same : e ≡ f = same_place es ts n i k j e f at is (omega arith) at_j is_j in let h : e.to ≡ f.to = ap (λ (g : Edge). g.to) same in omega arith)
@@ -168,20 +211,28 @@ module _ (es : List Edge) (ts : List ℕ) (steps : List (Option ℕ)) (n k : ℕ
     })
     next_more (Some old) r from there nearer next = elim nearer [
       | inl (less, new) ↦ subst (λ (o : Option ℕ). MatchOption o (NoneNext es ts steps node left (n + 1)) (IsNext es ts steps node left (n + 1))) (sym new) (record {
-          among = (n, at); edge = e; is = is; from = from; to = there;
-          least = λ i j f below at_j is_j back to. ⊎_elim
-              (λ (before : i < n). let l : next.edge.to ≤ f.to = next.least i j f before at_j is_j back to in let a : end_in (slice_get es k) ≡ e.to = ap end_in is in let b : end_in (slice_get es old) ≡ next.edge.to = ap end_in next.is in let h : end_in (slice_get es k) < end_in (slice_get es old) = less in omega arith)
-              (λ (last : n ≤ i). let same : e ≡ f = same_place es ts n i k j e f at is (omega arith) at_j is_j in let h : e.to ≡ f.to = ap (λ (g : Edge). g.to) same in omega arith)
-              (cases_lt i n);
-        })
+        among = (n, at);
+        edge = e;
+        is = is;
+        from = from;
+        to = there;
+        least = λ i j f below at_j is_j back to. ⊎_elim
+            (λ (before : i < n). let l : next.edge.to ≤ f.to = next.least i j f before at_j is_j back to in let a : end_in (slice_get es k) ≡ e.to = ap end_in is in let b : end_in (slice_get es old) ≡ next.edge.to = ap end_in next.is in let h : end_in (slice_get es k) < end_in (slice_get es old) = less in omega arith)
+            (λ (last : n ≤ i). let same : e ≡ f = same_place es ts n i k j e f at is (omega arith) at_j is_j in let h : e.to ≡ f.to = ap (λ (g : Edge). g.to) same in omega arith)
+            (cases_lt i n);
+      })
       | inr (more, kept) ↦ subst (λ (o : Option ℕ). MatchOption o (NoneNext es ts steps node left (n + 1)) (IsNext es ts steps node left (n + 1))) (sym kept) (record {
-          among = next.among; edge = next.edge; is = next.is; from = next.from; to = next.to;
-          least = λ i j f below at_j is_j back to. ⊎_elim
-              (λ (before : i < n). next.least i j f before at_j is_j back to)
-              (λ (last : n ≤ i). let same : e ≡ f = same_place es ts n i k j e f at is (omega arith) at_j is_j in let h : e.to ≡ f.to = ap (λ (g : Edge). g.to) same in
-              let a : end_in (slice_get es k) ≡ e.to = ap end_in is in let b : end_in (slice_get es old) ≡ next.edge.to = ap end_in next.is in let g : end_in (slice_get es old) ≤ end_in (slice_get es k) = more in omega arith)
-              (cases_lt i n);
-        })
+        among = next.among;
+        edge = next.edge;
+        is = next.is;
+        from = next.from;
+        to = next.to;
+        least = λ i j f below at_j is_j back to. ⊎_elim
+            (λ (before : i < n). next.least i j f before at_j is_j back to)
+            (λ (last : n ≤ i). let same : e ≡ f = same_place es ts n i k j e f at is (omega arith) at_j is_j in let h : e.to ≡ f.to = ap (λ (g : Edge). g.to) same in
+            let a : end_in (slice_get es k) ≡ e.to = ap end_in is in let b : end_in (slice_get es old) ≡ next.edge.to = ap end_in next.is in let g : end_in (slice_get es old) ≤ end_in (slice_get es k) = more in omega arith)
+            (cases_lt i n);
+      })
     ]
 
     pub next_pass : (o : Option ℕ) → (e.from ≡ node → steps_at steps e.to ≡ Some left → ⊥) → MatchOption o (NoneNext es ts steps node left n) (IsNext es ts steps node left n)
@@ -191,7 +242,11 @@ module _ (es : List Edge) (ts : List ℕ) (steps : List (Option ℕ)) (n k : ℕ
         (λ (last : n ≤ i). let same : e ≡ f = same_place es ts n i k j e f at is (omega arith) at_j is_j in away (ap (λ (g : Edge). g.from) same ∙ back) (ap (λ (g : Edge). steps_at steps g.to) same ∙ to))
         (cases_lt i n)
     next_pass (Some old) away next = record {
-      among = next.among; edge = next.edge; is = next.is; from = next.from; to = next.to;
+      among = next.among;
+      edge = next.edge;
+      is = next.is;
+      from = next.from;
+      to = next.to;
       least = λ i j f below at_j is_j back to. ⊎_elim
           (λ (before : i < n). next.least i j f before at_j is_j back to)
           (λ (last : n ≤ i). absurd (let same : e ≡ f = same_place es ts n i k j e f at is (omega arith) at_j is_j in away (ap (λ (g : Edge). g.from) same ∙ back) (ap (λ (g : Edge). steps_at steps g.to) same ∙ to)))

@@ -1,6 +1,6 @@
 -- Tight edges, the walks over them, and what a chosen walk shows.
 use Rattle.std.proofs.Common.{◌≡◌, ℕ, zero, suc, ◌+◌, ◌*◌, ◌-◌, ◌≤◌, ◌<◌, ◌⊎◌, ◌↔◌, List, [], ◌∷◌, ◌++◌, length, Option, Some, None, refl, sym, ap, subst, ◌∙◌, inl, inr, ⊎_elim, arith}
-use Rattle.std.specs.Prelude.{slice_get, slice_index_or, ℤ, pos, ◌+ℤ◌, ◌-ℤ◌}
+use Rattle.std.specs.Prelude.{slice_get, ℤ, pos, ◌+ℤ◌, ◌-ℤ◌}
 use Rattle.std.proofs.lemmas.Int.{ints}
 use Rattle.std.proofs.lemmas.Bool.{cases_lt}
 use Rattle.std.proofs.lemmas.Option.{slice_get_within}
@@ -10,7 +10,7 @@ use Rattle.automaton.specs.CriticalCycles.{IsPath, IsReached, IsCritical, weight
 use Rattle.scenario_rate.specs.declared.levels.Cell.{Cell}
 use Rattle.scenario_rate.specs.Graphs.{IsSound, node_count}
 use Rattle.scenario_rate.specs.Answers.{IsApart}
-use Rattle.scenario_rate.specs.ChosenCycles.{IsTight, IsTightPath, nodes_of, IsNoLater, IsChosen}
+use Rattle.scenario_rate.specs.ChosenCycles.{IsTight, IsTightPath, IsChosen}
 use Rattle.scenario_rate.specs.inside.Levels.{cell_at}
 use Rattle.scenario_rate.specs.inside.Searches.{AreLevels, IsLast, potential_of, node_after, from_in, from_of}
 use Rattle.scenario_rate.specs.inside.Choosing.{IsAmong, AreKnown, IsWalk, HasCycle, IsChosenOf, IsEven, IsTightIn, AreTight}

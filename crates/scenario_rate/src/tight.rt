@@ -26,7 +26,13 @@ pub fn tight_edges(
     let mut tight = Vec::new(alloc);
     for number in 0..edges.len() {
         let edge = edges[number];
-        if is_even(edge, row[edge.from as usize], row[edge.to as usize], rounds, time) {
+        if is_even(
+            edge,
+            row[edge.from as usize],
+            row[edge.to as usize],
+            rounds,
+            time,
+        ) {
             tight.push(number as u32)?;
         }
     }

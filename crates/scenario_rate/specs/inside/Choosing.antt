@@ -150,4 +150,3 @@ IsTightIn es row l w k = (e : Edge) × (slice_get es k ≡ Some e) × IsEven l w
 pub record AreTight (es : List Edge) (row : List (Option Cell)) (l w n : ℕ) (ts : List ℕ) : Type 0 where
   pub each : (k : ℕ) → IsAmong ts k → IsTightIn es row l w k
   pub all : (k : ℕ) → k < n → IsTightIn es row l w k → IsAmong ts k
-

@@ -1,4 +1,4 @@
-use Rattle.std.proofs.Common.{◌≡◌, ◌-◌, ◌∷◌, ℕ, suc, List, length, ap, sym, subst, ◌∙◌, arith}
+use Rattle.std.proofs.Common.{◌≡◌, ◌-◌, ℕ, suc, length, sym, subst, arith}
 use Rattle.std.specs.Prelude.{slice_index_or}
 use Rattle.std.proofs.lemmas.Option.{get_or_from_slice_get}
 use Rattle.automaton.specs.declared.graph.Edge.{Edge}
@@ -15,11 +15,21 @@ unreachable-requires t c =
 pub least_way-requires : goal.least_way-requires
 least_way-requires t c =
     let e : c.args.left ≡ suc (c.args.left - 1) = omega (arith, c.if-left-eq0.false) in
-    let n = c.in-Some.ensures in
-    (omega (arith, c.decreases, c.if-left-eq0.false), (c.requires.inside, (c.requires.known, (c.requires.way.0,
-    subst (λ (f : Edge). IsOnWay c.args.edges.now c.args.tight.now c.args.steps.now (length c.args.steps.now) c.requires.way.0 f.to (c.args.left - 1)) (sym (get_or_from_slice_get c.args.edges.now c.in-Some.number n.edge (record { from = 0; to = 0; weight = 0 }) n.is))
-    (on_way c.args.edges.now c.args.tight.now c.args.steps.now (length c.args.steps.now) c.requires.way.0 c.args.node (c.args.left - 1)
-    (subst (IsOnWay c.args.edges.now c.args.tight.now c.args.steps.now (length c.args.steps.now) c.requires.way.0 c.args.node) e c.requires.way.1) c.in-Some.number n)))))
+    let n = c.in-Some.ensures in (
+      omega (arith, c.decreases, c.if-left-eq0.false),
+      (
+        c.requires.inside,
+        (
+          c.requires.known,
+          (
+            c.requires.way.0,
+            subst (λ (f : Edge). IsOnWay c.args.edges.now c.args.tight.now c.args.steps.now (length c.args.steps.now) c.requires.way.0 f.to (c.args.left - 1)) (sym (get_or_from_slice_get c.args.edges.now c.in-Some.number n.edge (record { from = 0; to = 0; weight = 0 }) n.is))
+                (on_way c.args.edges.now c.args.tight.now c.args.steps.now (length c.args.steps.now) c.requires.way.0 c.args.node (c.args.left - 1)
+                (subst (IsOnWay c.args.edges.now c.args.tight.now c.args.steps.now (length c.args.steps.now) c.requires.way.0 c.args.node) e c.requires.way.1) c.in-Some.number n),
+          ),
+        ),
+      ),
+    )
 
 pub returns : goal.returns
 returns t c = λ root way.

@@ -1,9 +1,9 @@
-use Rattle.std.proofs.Common.{◌≡◌, ◌+◌, ◌<◌, ℕ, List, Option, MatchOption, length, ap, sym, subst, refl, ◌∙◌, arith}
+use Rattle.std.proofs.Common.{◌≡◌, ◌+◌, ◌<◌, ℕ, Option, MatchOption, length, sym, subst, refl}
 use Rattle.std.specs.Prelude.{slice_get, slice_index, slice_index_or, Some}
 use Rattle.std.proofs.lemmas.Option.{slice_get-get_or}
 use Rattle.std.proofs.lemmas.Bool.{false≢true}
 use Rattle.automaton.specs.declared.graph.Edge.{Edge}
-use Rattle.scenario_rate.specs.inside.Choosing.{steps_at, NoneNext, IsNext}
+use Rattle.scenario_rate.specs.inside.Choosing.{NoneNext, IsNext}
 use Rattle.scenario_rate.proofs.Choosing.{next_more, next_pass, next-known}
 use Rattle.scenario_rate.proofs.chosen.next_edge.Goals as goal
 use Rattle.scenario_rate.proofs.chosen.next_edge.Goals.{then-leads_on, else-leads_on}

@@ -1,6 +1,6 @@
-use Rattle.std.proofs.Common.{◌≡◌, ◌++◌, ◌<◌, ℕ, List, Option, length, take, drop, sym, subst, ◌∙◌, arith}
+use Rattle.std.proofs.Common.{◌≡◌, ◌++◌, length, take, drop, sym, subst, arith}
 use Rattle.std.proofs.lemmas.List.{take_at}
-use Rattle.scenario_rate.specs.inside.Choosing.{IsDistance, IsSwept}
+use Rattle.scenario_rate.specs.inside.Choosing.{IsDistance}
 use Rattle.scenario_rate.proofs.Sweeping.{IsNear, near_more, near_still}
 use Rattle.scenario_rate.proofs.distances.distances.Goals as goal
 

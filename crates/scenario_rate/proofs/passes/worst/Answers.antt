@@ -1,4 +1,4 @@
-use Rattle.std.proofs.Common.{◌*◌, ◌<◌, subst}
+use Rattle.std.proofs.Common.{subst}
 use Rattle.scenario_rate.specs.declared.passes.Turn.{Turn}
 use Rattle.scenario_rate.specs.inside.Bests.{IsTurn}
 use Rattle.scenario_rate.specs.Answers.{potential_at}
