@@ -1,5 +1,5 @@
 //! The matrix of a scenario.
-ghost use Rattle.std.specs.Prelude.{◌≡◌, ◌≤◌, ◌<◌, ◌+◌, ◌*◌, ℕ, [], false, Err, IfOk, IfErr, OnOk, MatchOption, All, length, sum, map, slice_index_or};
+ghost use Rattle.std.specs.Prelude.{◌≡◌, ◌≤◌, ◌<◌, ◌+◌, ◌*◌, ℕ, false, IfOk, IfErr, OnOk, MatchOption, length, sum};
 ghost use Rattle.sd_base.specs.declared.limits.TheConstants.{ROUND, STAMPS};
 ghost use Rattle.sd_base.specs.declared.tables.Kind.TheVariants.{Sdf};
 ghost use Rattle.sd_base.specs.Tables.{KeepsRules, IsTimed};
