@@ -44,7 +44,7 @@ numbers es [] u v path i k h = absurd (let no : ◌≡◌ {A = Option ℕ} None 
 numbers es (x ∷ ks) u v (e, is, from, rest) zero k h = let same : x ≡ k = (cc) in subst (λ n. n < length es) same (edge-inside es x e is)
 numbers es (x ∷ ks) u v (e, is, from, rest) (suc i) k h = numbers es ks e.to v rest i k h
 
-node-inside : (es : List Edge) (n : ℕ) → AreInside es n → (ks : List ℕ) (u v i : ℕ) → IsPath es u ks v → v < n → node_after es ks v i < n
+pub node-inside : (es : List Edge) (n : ℕ) → AreInside es n → (ks : List ℕ) (u v i : ℕ) → IsPath es u ks v → v < n → node_after es ks v i < n
 node-inside es n inside [] u v i path below = below
 node-inside es n inside (x ∷ ks) u v zero (e, is, from, rest) below = subst (λ (o : Option Edge). from_in o < n) (sym is) (inside.from x e is)
 node-inside es n inside (x ∷ ks) u v (suc i) (e, is, from, rest) below = node-inside es n inside ks e.to v i rest below

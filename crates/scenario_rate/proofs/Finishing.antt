@@ -11,7 +11,11 @@ use Rattle.scenario_rate.specs.declared.answer.Worst.{Worst}
 use Rattle.scenario_rate.specs.inside.Levels.{cell_at}
 use Rattle.scenario_rate.specs.inside.Searches.{AreLevels, IsLastOf, potential_of}
 use Rattle.scenario_rate.specs.Answers.{IsApart, potential_at}
+use Rattle.scenario_rate.specs.Graphs.{IsSound, node_count}
+use Rattle.scenario_rate.specs.ChosenCycles.{IsChosen}
+use Rattle.scenario_rate.specs.inside.Choosing.{HasCycle, IsChosenOf, AreTight}
 use Rattle.scenario_rate.specs.inside.Bests.{IsBest, IsAnswer}
+use Rattle.scenario_rate.proofs.Tightness.{has_cycle, chosen_critical, chosen_apart, is_chosen}
 use Rattle.scenario_rate.proofs.Scoring.{fit, only-reached, least}
 
 mapped : (b : ℕ) (row : List (Option Cell)) (v : ℕ) → potential_at (map (potential_of b) row) v ≡ potential_of b (cell_at row v)
@@ -30,10 +34,10 @@ fit-same graph l w p q same f = record {
   steps = λ k e x y r at a b. f.steps k e x y r at (sym (same e.from) ∙ a) (sym (same e.to) ∙ b);
 }
 
-pub answered : (graph : TimedGraph) (b : Best) (r : Worst) (rows : List (List (Option Cell))) (level time : ℕ) (row : List (Option Cell)) → IsBest graph b
+pub answered : (graph : TimedGraph) (b : Best) (r : Worst) (rows : List (List (Option Cell))) (level time : ℕ) (row : List (Option Cell)) (ts cycle : List ℕ) → IsSound graph → IsBest graph b
     → AreLevels graph b.rate.num b.rate.den rows → IsLastOf graph b.rate.num b.rate.den rows → level + 1 ≡ length rows → time ≡ b.rate.den → row ≡ slice_index_or rows level []
-    → r.rate ≡ b.rate → r.cycle ≡ b.cycle.items → r.potentials ≡ map (potential_of (level * time)) row → IsAnswer graph r
-answered graph b r rows level time row best levels (k, last_row, few, last) count time_is row_is rate cycle list =
+    → AreTight graph.edges row b.rate.num time (length graph.edges) ts → IsChosenOf graph.edges ts cycle → r.rate ≡ b.rate → r.cycle ≡ cycle → r.potentials ≡ map (potential_of (level * time)) row → IsAnswer graph r
+answered graph b r rows level time row ts cycle sound best levels (k, last_row, few, last) count time_is row_is tight chosen rate cycle_is list =
     let n : length rows ≡ k + 1 = last.count in
     let level_is : level ≡ k = omega arith in
     let same_row : row ≡ last_row = row_is ∙ ap (λ m. slice_index_or rows m []) level_is ∙ get_or_from_slice_get rows k last_row [] last.at in
@@ -44,12 +48,29 @@ answered graph b r rows level time row best levels (k, last_row, few, last) coun
     let fits : Fit graph b.rate.num b.rate.den (potential_at r.potentials) = fit-same graph b.rate.num b.rate.den (λ v. potential_of (k * b.rate.den) (cell_at last_row v)) (potential_at r.potentials) same
     (fit graph b.rate.num b.rate.den rows levels k last_row last) in
     let rate' : b.rate ≡ r.rate = sym rate in
+    let tight' : AreTight graph.edges last_row b.rate.num b.rate.den (length graph.edges) ts =
+    subst (λ (z : List (Option Cell)). AreTight graph.edges z b.rate.num b.rate.den (length graph.edges) ts) same_row (subst (λ (n : ℕ). AreTight graph.edges row b.rate.num n (length graph.edges) ts) time_is tight) in
     record {
-      critical = subst (λ (z : List ℕ). IsCritical graph r.rate.num r.rate.den z) (sym cycle) (subst (λ (f : Fraction). IsCritical graph f.num f.den b.cycle.items) rate' best.critical);
-      apart = subst (λ (z : List ℕ). IsApart graph.edges z) (sym cycle) best.apart;
+      critical = subst (λ (z : List ℕ). IsCritical graph r.rate.num r.rate.den z) (sym cycle_is) (subst (λ (f : Fraction). IsCritical graph f.num f.den cycle) rate'
+          (chosen_critical graph b.rate.num b.rate.den rows levels k last_row last sound ts tight' cycle chosen));
+      apart = subst (λ (z : List ℕ). IsApart graph.edges z) (sym cycle_is) (chosen_apart graph.edges ts cycle chosen);
+      chosen = subst (λ (z : List ℕ). IsChosen graph r.rate.num r.rate.den (potential_at r.potentials) z) (sym cycle_is) (subst (λ (f : Fraction). IsChosen graph f.num f.den (potential_at r.potentials) cycle) rate'
+          (is_chosen graph b.rate.num b.rate.den rows levels k last_row last sound ts tight' (potential_at r.potentials) same cycle chosen));
       some_round = subst (λ (f : Fraction). 1 ≤ f.num) rate' best.some_round;
       fit = subst (λ (f : Fraction). Fit graph f.num f.den (potential_at r.potentials)) rate' fits;
       count = ap (λ (z : List (Option ℤ)). length z) list' ∙ length-mapped (k * b.rate.den) last_row ∙ levels.wide k last_row last.at;
       reached = λ v x at. only-reached graph b.rate.num b.rate.den rows levels k last_row last v x (sym (same v) ∙ at);
       least = λ q f v x y at py. least graph b.rate.num b.rate.den rows levels k last_row last q (subst (λ (g : Fraction). Fit graph g.num g.den q) rate f) v x y (sym (same v) ∙ at) py;
     }
+
+-- the cycle of the rate is one of tight edges
+pub some_cycle : (graph : TimedGraph) (b : Best) (rows : List (List (Option Cell))) (level time : ℕ) (row : List (Option Cell)) (ts : List ℕ) → IsSound graph → IsBest graph b
+    → AreLevels graph b.rate.num b.rate.den rows → IsLastOf graph b.rate.num b.rate.den rows → level + 1 ≡ length rows → time ≡ b.rate.den → row ≡ slice_index_or rows level []
+    → AreTight graph.edges row b.rate.num time (length graph.edges) ts → HasCycle graph.edges ts (node_count graph)
+some_cycle graph b rows level time row ts sound best levels (k, last_row, few, last) count time_is row_is tight =
+    let n : length rows ≡ k + 1 = last.count in
+    let level_is : level ≡ k = omega arith in
+    let same_row : row ≡ last_row = row_is ∙ ap (λ m. slice_index_or rows m []) level_is ∙ get_or_from_slice_get rows k last_row [] last.at in
+    let tight' : AreTight graph.edges last_row b.rate.num b.rate.den (length graph.edges) ts =
+    subst (λ (z : List (Option Cell)). AreTight graph.edges z b.rate.num b.rate.den (length graph.edges) ts) same_row (subst (λ (n : ℕ). AreTight graph.edges row b.rate.num n (length graph.edges) ts) time_is tight) in
+    has_cycle graph b.rate.num b.rate.den rows levels k last_row last sound ts tight' b.cycle.items best.critical

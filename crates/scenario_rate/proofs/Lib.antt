@@ -9,3 +9,8 @@ pub mod Looping
 pub mod Finishing
 pub mod Never
 pub mod Growing
+pub mod Sweeping
+pub mod Choosing
+pub mod Shortening
+pub mod Choice
+pub mod Tightness

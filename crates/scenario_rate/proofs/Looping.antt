@@ -32,9 +32,10 @@ pub record IsLoop (graph : TimedGraph) (l w : ℕ) (cycle : List ℕ) : Type 0 w
   pub heavy : 1 ≤ weights graph.edges cycle
 
 -- what the walk of a raised node closes
-pub record Loops (graph : TimedGraph) (l w : ℕ) (es : List Edge) (walk : List ℕ) (v : ℕ) : Type 0 where
+pub record Loops (graph : TimedGraph) (l w : ℕ) (es : List Edge) (walk : List ℕ) (n v : ℕ) : Type 0 where
+  pub full : length walk ≡ n
   pub numbered : AreNumbers es walk
-  pub back : DifferBelow es walk v (length walk + 1) → ⊥
+  pub back : DifferBelow es walk v (length walk + 1) → length walk < node_count graph
   pub part : (i j : ℕ) (cycle : List ℕ) → i < j → j ≤ length walk → node_after es walk v i ≡ node_after es walk v j → DifferBelow es walk v j
       → cycle ≡ take (j - i) (drop i walk) → IsLoop graph l w cycle
 
@@ -48,19 +49,23 @@ length-zero n zero b w l h = absurd (let no : ⊥ = omega arith in no)
 length-zero n (suc a) b w l h = (let g : 1 ≤ suc a = omega arith in g)
 
 module _ (graph : TimedGraph) (l w : ℕ) (rows : List (List (Option Cell))) (levels : AreLevels graph l w rows) (sound : IsSound graph) where
-  looping : (n v : ℕ) (walk : List ℕ) → n ≡ node_count graph → v < node_count graph → IsRaisedAt rows n v → IsScoredAt graph l w rows n walk v → Loops graph l w graph.edges walk v
-  looping zero v walk count below raised scored = absurd (let no : ⊥ = omega arith in no)
-  looping (suc k) v walk count below (row, c, number, at, is, edge) (b, b_at, scored) =
+  looping : (n v : ℕ) (walk : List ℕ) → 1 ≤ n → n ≤ node_count graph → v < node_count graph → IsRaisedAt rows n v → IsScoredAt graph l w rows n walk v → Loops graph l w graph.edges walk n v
+  looping zero v walk some count below raised scored = absurd (let no : ⊥ = omega arith in no)
+  looping (suc k) v walk some count below (row, c, number, at, is, edge) (b, b_at, scored) =
       let row_is : slice_index_or rows (suc k) [] ≡ row = get_or_from_slice_get rows (suc k) row [] at in
       let same : b ≡ c = (let e : ◌≡◌ {A = Option Cell} (Some b) (Some c) = sym b_at ∙ ap (λ (z : List (Option Cell)). cell_at z v) row_is ∙ is in (cc)) in
       let s : IsScored graph l w (suc k) walk v c.score = subst (λ (z : Cell). IsScored graph l w (suc k) walk v z.score) same scored in
       let long : length walk ≡ suc k = full graph l w rows levels k row v c number at is edge walk s in
       record {
+        full = long;
         numbered = numbers graph.edges walk s.0 v s.3;
-        back = comes-back graph.edges (graph.states * graph.tokens) sound.edges walk s.0 v s.3 below (long ∙ count);
+        back = λ differ. (elim (cases_lt (length walk) (graph.states * graph.tokens)) [
+          | inl less ↦ less
+          | inr more ↦ absurd (comes-back graph.edges (graph.states * graph.tokens) sound.edges walk s.0 v s.3 below (let e : length walk ≡ graph.states * graph.tokens = omega arith in e) differ)
+        ]);
         part = λ i j cycle order within equal differ is_part.
             (let g = gains graph l w rows levels k row v c number at is edge walk i j s order within equal in
-            let small : length walk ≤ 1024 = (let a : graph.states * graph.tokens ≤ 1024 = sound.nodes in let q : length walk ≡ graph.states * graph.tokens = long ∙ count in omega arith) in
+            let small : length walk ≤ 1024 = (let a : graph.states * graph.tokens ≤ 1024 = sound.nodes in omega arith) in
             subst (λ (z : List ℕ). IsLoop graph l w z) (sym is_part) (record {
               node = node_after graph.edges walk v i;
               reached = g.1;
@@ -73,10 +78,10 @@ module _ (graph : TimedGraph) (l w : ℕ) (rows : List (List (Option Cell))) (le
             }));
       }
 
-  pub loops : (n v : ℕ) (es : List Edge) (walk : List ℕ) → es ≡ graph.edges → n + 1 ≡ length rows → length rows ≡ node_count graph + 1 → v < node_count graph → IsRaisedAt rows (node_count graph) v
-      → IsScoredAt graph l w rows n walk v → Loops graph l w es walk v
-  loops n v es walk es_is count whole below raised scored = subst (λ (z : List Edge). Loops graph l w z walk v) (sym es_is)
-      (let e : n ≡ node_count graph = omega arith in looping n v walk e below (subst (λ m. IsRaisedAt rows m v) (sym e) raised) scored)
+  pub loops : (n v : ℕ) (es : List Edge) (walk : List ℕ) → es ≡ graph.edges → n ≡ length rows - 1 → 2 ≤ length rows → length rows ≤ node_count graph + 1 → v < node_count graph → IsRaisedAt rows (length rows - 1) v
+      → IsScoredAt graph l w rows n walk v → Loops graph l w es walk n v
+  loops n v es walk es_is count some few below raised scored = subst (λ (z : List Edge). Loops graph l w z walk n v) (sym es_is)
+      (looping n v walk (omega arith) (omega arith) below (subst (λ m. IsRaisedAt rows m v) (sym count) raised) scored)
 
 -- ---- the rate of a cycle
 

@@ -1,3 +1,4 @@
 pub mod Graphs
 pub mod Answers
 pub mod inside
+pub mod ChosenCycles

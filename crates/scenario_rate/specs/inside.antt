@@ -1,3 +1,4 @@
 pub mod Levels
 pub mod Searches
 pub mod Bests
+pub mod Choosing

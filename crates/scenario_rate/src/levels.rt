@@ -3,7 +3,7 @@
 
 ghost use Rattle.std.specs.Prelude.{◌≡◌, ◌*◌, ◌+◌, ◌≤◌, ◌<◌, IfOk, MatchBool, MatchOption, length, slice_get};
 ghost use Rattle.scenario_rate.specs.Graphs.{IsSound, AreInside, node_count};
-ghost use Rattle.scenario_rate.specs.inside.Levels.{cell_at, IsBelow, IsAtLeast, IsBrought, IsAged, IsRaised, IsFirst, IsFirstCell, aged_of, AreSmall, AreSettled, edge_in};
+ghost use Rattle.scenario_rate.specs.inside.Levels.{cell_at, IsBelow, IsAtLeast, IsBrought, IsAged, IsRaised, IsFirst, IsFirstCell, aged_of, AreSmall, AreSettled, edge_in, IsNoHigher, WasRaised};
 
 use automaton::{Edge, TimedGraph};
 use sd_base::{NoMemory, Rows};
@@ -129,17 +129,39 @@ fn is_below(cell: Option<Cell>, score: u128) -> bool
     }
 }
 
-/// The first node that an edge raised.
+/// Of the nodes that an edge raised the last one with the greatest score: its walk most often closes a cycle that
+/// gains much.
 pub fn raised_node(row: &[Option<Cell>]) -> Option<usize>
     ensures { MatchOption result (AreSettled (cell_at row.now))
         (λ v. (v < length row.now) × ((c : Cell) × (cell_at row.now v ≡ Some c) × ((k : _) × (c.edge ≡ Some k)))) }
 {
+    let mut best = None;
+    let mut most = 0u128;
     for node in 0..row.len() {
-        if let Some(_edge) = edge_of(row[node]) {
-            return Some(node);
+        if let Some(score) = raised_score(row[node], most) {
+            best = Some(node);
+            most = score;
         }
     }
-    None
+    best
+}
+
+/// The score of a cell that an edge raised, if it is at least so much.
+fn raised_score(cell: Option<Cell>, least: u128) -> Option<u128>
+    ensures { MatchOption result (IsNoHigher cell least) (λ _. WasRaised cell) }
+{
+    match cell {
+        None => None,
+        Some(cell) => match cell.edge {
+            None => None,
+            Some(_edge) => {
+                if cell.score < least {
+                    return None;
+                }
+                Some(cell.score)
+            },
+        },
+    }
 }
 
 /// The edge that raised a cell.

@@ -2,11 +2,14 @@
 #![tactic(auto)]
 
 mod answer;
+mod chosen;
+mod distances;
 mod laws;
 mod levels;
 mod passes;
 mod repeat;
 mod search;
+mod tight;
 mod trace;
 
 pub use answer::Worst;

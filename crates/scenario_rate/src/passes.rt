@@ -1,6 +1,6 @@
 //! The worst rate: the rate of a cycle, raised until no cycle gains on it.
 
-ghost use Rattle.std.specs.Prelude.{◌≡◌, ◌*◌, ◌+◌, ◌≤◌, ◌<◌, ◌≤ℤ◌, ℕ, ℤ, IfOk, MatchOption, Option, Some, length, map};
+ghost use Rattle.std.specs.Prelude.{◌≡◌, ◌*◌, ◌+◌, ◌-◌, ◌≤◌, ◌<◌, ◌≤ℤ◌, ℕ, ℤ, IfOk, MatchOption, Option, Some, length, map};
 ghost use Rattle.sd_base.specs.declared.tables.ScenarioFile.{ScenarioFile};
 ghost use Rattle.automaton.specs.WorstRates.{IsWorst};
 ghost use Rattle.automaton.specs.TimedGraphs.{IsTimedGraph};
@@ -8,13 +8,16 @@ ghost use Rattle.automaton.specs.CriticalCycles.{IsCritical, IsReached, Fit, wei
 ghost use Rattle.scenario_rate.specs.Graphs.{Grows, IsSound, AreInside, node_count};
 ghost use Rattle.scenario_rate.specs.inside.Levels.{cell_at, AreSmall};
 ghost use Rattle.scenario_rate.specs.inside.Searches.{AreLevels, IsRaisedAt, AreNumbers, IsLastOf, potential_of};
+ghost use Rattle.scenario_rate.specs.ChosenCycles.{IsChosen};
 ghost use Rattle.scenario_rate.specs.Answers.{IsApart, potential_at};
-ghost use Rattle.scenario_rate.specs.inside.Bests.{IsBest, IsAnswer};
+ghost use Rattle.scenario_rate.specs.inside.Bests.{IsBest, IsAnswer, IsTurn};
 
 use crate::answer::Worst;
+use crate::chosen::chosen_cycle;
 use crate::levels::Cell;
 use crate::repeat::{edges_of, first_return};
 use crate::search::{Levels, Outcome, row_at, search};
+use crate::tight::tight_edges;
 use crate::trace::walk_to;
 use automaton::{Edge, TimedGraph, worst_is_shown};
 use sd_base::{Fraction, NoMemory, Rows};
@@ -27,14 +30,27 @@ struct Best {
     cycle: Vec<u32>,
 }
 
+/// What a rate comes to.
+#[derive(Debug, Drop)]
+enum Turn {
+    /// No cycle gains on it.
+    Settled(Levels),
+    /// A cycle gains on it.
+    Gains(Best),
+}
+
+/// The levels of the first search at a rate.
+const FIRST_LEVELS: u32 = 16;
+
 /// The worst rate of a timed graph, which is that of each file whose timed graph it is: least of all rounds per time
 /// unit around cycles that the initial state reaches. From the rate of some cycle on, a search by levels (Bellman and
-/// Ford) finds a cycle that gains on it, or potentials. Cost: at most nodes times edges, and memory of nodes squared,
-/// for each cycle that gains on the one before.
+/// Ford) finds a cycle that gains on it, or potentials. Cost: for each cycle that gains on the one before, at most
+/// nodes times edges, and memory of nodes squared; mostly some sixteen times the edges.
 pub fn worst(alloc: Global, graph: &TimedGraph) -> Result<Worst, NoMemory>
     requires sound { IsSound graph.now }
     requires grows { Grows graph.now }
     ensures critical { IfOk result (λ r. IsCritical graph.now r.rate.num r.rate.den r.cycle) }
+    ensures chosen { IfOk result (λ r. IsChosen graph.now r.rate.num r.rate.den (potential_at r.potentials) r.cycle) }
     ensures apart { IfOk result (λ r. IsApart graph.now.edges r.cycle) }
     ensures fit { IfOk result (λ r. Fit graph.now r.rate.num r.rate.den (potential_at r.potentials)) }
     ensures count { IfOk result (λ r. length r.potentials ≡ node_count graph.now) }
@@ -46,13 +62,13 @@ pub fn worst(alloc: Global, graph: &TimedGraph) -> Result<Worst, NoMemory>
     worst_is_shown();
     let mut best = first_cycle(alloc, graph)?;
     'passes: loop {
-        match search(alloc, graph, best.rate.num, best.rate.den)? {
-            Outcome::Settled(levels) => {
+        match search_at(alloc, graph, best.rate.num, best.rate.den)? {
+            Turn::Settled(levels) => {
                 let answer = finish(alloc, graph, best, &levels)?;
                 return Ok(answer);
             },
-            Outcome::Raised(levels, node) => {
-                best = better_cycle(alloc, graph, &levels, node)?;
+            Turn::Gains(next) => {
+                best = next;
             },
         }
     }
@@ -64,39 +80,61 @@ fn first_cycle(alloc: Global, graph: &TimedGraph) -> Result<Best, NoMemory>
     requires grows { Grows graph.now }
     ensures { IfOk result (IsBest graph.now) }
 {
-    match search(alloc, graph, 1, 0)? {
-        Outcome::Settled(_levels) => unreachable!(),
-        Outcome::Raised(levels, node) => {
-            let best = better_cycle(alloc, graph, &levels, node)?;
-            Ok(best)
-        },
+    match search_at(alloc, graph, 1, 0)? {
+        Turn::Settled(_levels) => unreachable!(),
+        Turn::Gains(best) => Ok(best),
     }
 }
 
-/// A cycle that gains on the rate of a search.
+/// Levels that settle at a rate, or a cycle that gains on it. A search of few levels most often finds one of them;
+/// where it doesn't, the next one has twice as many.
+fn search_at(alloc: Global, graph: &TimedGraph, rounds: u64, time: u64) -> Result<Turn, NoMemory>
+    requires sound { IsSound graph.now }
+    requires rounds { rounds ≤ 1024 }
+    requires time { time ≤ 102400000000000000 }
+    ensures { IfOk result (IsTurn graph.now rounds time) }
+{
+    let nodes = graph.states * graph.tokens;
+    let mut most = FIRST_LEVELS.min(nodes);
+    'searches: loop {
+        match search(alloc, graph, rounds, time, most)? {
+            Outcome::Settled(levels) => return Ok(Turn::Settled(levels)),
+            Outcome::Raised(levels, node) => {
+                if let Some(best) = better_cycle(alloc, graph, &levels, node)? {
+                    return Ok(Turn::Gains(best));
+                }
+                most = (2 * most).min(nodes);
+            },
+        }
+    }
+}
+
+/// A cycle that gains on the rate of a search, if the walk of a node that was raised at the last level closes one. It
+/// does where it has as many edges as there are nodes.
 fn better_cycle(
     alloc: Global,
     graph: &TimedGraph,
     levels: &Levels,
     node: u32,
-) -> Result<Best, NoMemory>
+) -> Result<Option<Best>, NoMemory>
     requires sound { IsSound graph.now }
     requires levels { AreLevels graph.now levels.now.rounds levels.now.time levels.now.rows.items }
-    requires count { length levels.now.rows.items ≡ node_count graph.now + 1 }
+    requires some { 2 ≤ length levels.now.rows.items }
+    requires few { length levels.now.rows.items ≤ node_count graph.now + 1 }
     requires node { node < node_count graph.now }
-    requires raised { IsRaisedAt levels.now.rows.items (node_count graph.now) node }
-    ensures best { IfOk result (IsBest graph.now) }
-    ensures gains { IfOk result (λ b. levels.now.time * b.rate.num < b.rate.den * levels.now.rounds) }
+    requires raised { IsRaisedAt levels.now.rows.items (length levels.now.rows.items - 1) node }
+    ensures { IfOk result (λ o. MatchOption o (length levels.now.rows.items ≤ node_count graph.now)
+        (λ b. IsBest graph.now b × (levels.now.time * b.rate.num < b.rate.den * levels.now.rounds))) }
 {
-    let nodes = levels.rows.len() - 1;
-    let walk = walk_to(alloc, graph, levels, nodes, node)?;
+    let last = levels.rows.len() - 1;
+    let walk = walk_to(alloc, graph, levels, last, node)?;
     let edges = graph.edges.as_slice();
     match first_return(edges, walk.as_slice(), node) {
-        None => unreachable!(),
+        None => Ok(None),
         Some(part) => {
             let cycle = edges_of(alloc, walk.as_slice(), part)?;
             let best = best_of(edges, cycle);
-            Ok(best)
+            Ok(Some(best))
         },
     }
 }
@@ -141,9 +179,12 @@ fn finish(alloc: Global, graph: &TimedGraph, best: Best, levels: &Levels) -> Res
     let level = levels.rows.len() - 1;
     let row = row_at(levels.rows.as_slice(), level);
     let potentials = potentials(alloc, row, level as u128 * levels.time as u128)?;
+    let edges = graph.edges.as_slice();
+    let tight = tight_edges(alloc, edges, row, best.rate.num, levels.time)?;
+    let cycle = chosen_cycle(alloc, edges, tight.as_slice(), graph.states * graph.tokens)?;
     Ok(Worst {
         rate: best.rate,
-        cycle: Rows::from_vec(best.cycle),
+        cycle: Rows::from_vec(cycle),
         potentials: Rows::from_vec(potentials),
     })
 }

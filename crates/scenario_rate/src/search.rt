@@ -1,7 +1,7 @@
-//! A search by levels: either no edge raises a node any more, or the walks get longer than there are nodes.
+//! A search by levels: either no edge raises a node any more, or the walks get as long as they may.
 
 ghost use Rattle.std.specs.Prelude.{◌≡◌, ◌*◌, ◌+◌, ◌≤◌, ◌<◌, ℕ, IfOk, length, slice_index_or, []};
-ghost use Rattle.scenario_rate.specs.Graphs.{IsSound};
+ghost use Rattle.scenario_rate.specs.Graphs.{IsSound, node_count};
 ghost use Rattle.scenario_rate.specs.inside.Searches.{IsOutcome};
 
 use crate::levels::{Cell, first_row, next_row, raised_node};
@@ -22,26 +22,29 @@ pub struct Levels {
 pub enum Outcome {
     /// No edge raises a node of the last row.
     Settled(Levels),
-    /// An edge raised this node at the level that has as many edges as there are nodes.
+    /// An edge raised this node at the last level.
     Raised(Levels, u32),
 }
 
-/// Makes level after level. Cost: at most the nodes times the edges.
+/// Makes level after level, `most` at most. Cost: linear in the levels that are made, times the edges.
 pub fn search(
     alloc: Global,
     graph: &TimedGraph,
     rounds: u64,
     time: u64,
+    most: u32,
 ) -> Result<Outcome, NoMemory>
     requires sound { IsSound graph.now }
+    requires some { 1 ≤ most }
+    requires most { most ≤ node_count graph.now }
     requires rounds { rounds ≤ 1024 }
     requires time { time ≤ 102400000000000000 }
-    ensures { IfOk result (IsOutcome graph.now rounds time) }
+    ensures { IfOk result (IsOutcome graph.now rounds time most) }
 {
     let mut node = 0u32;
     let mut rows = Vec::new(alloc);
     rows.push(Rows::from_vec(first_row(alloc, graph)?))?;
-    for level in 0..(graph.states * graph.tokens) as usize {
+    for level in 0..most as usize {
         let next = next_row(
             alloc,
             graph.edges.as_slice(),

@@ -1,2 +1,4 @@
 pub mod Stamps
 pub mod Matrices
+pub mod MatrixRefusals
+pub mod inside

@@ -4,7 +4,7 @@ ghost use Rattle.sd_base.specs.declared.tables.GraphFile.{GraphFile};
 ghost use Rattle.sd_base.specs.declared.tables.SharedRow.{SharedRow};
 ghost use Rattle.token_matrix.specs.Matrices.{IsMatrix};
 
-/// A scenario has at most one matrix. That it has one, and how to compute it, is not said here.
+/// A scenario has at most one matrix; `matrix_of` computes it, where a round can be completed.
 pub fn matrices_are_one()
     ensures { (shared : List SharedRow) (g : GraphFile) (gamma : List ℕ) (m n : List (List (Option ℕ))) →
         IsMatrix shared g gamma m → IsMatrix shared g gamma n → m ≡ n }

@@ -66,3 +66,13 @@ pub record IsRaised (es : List Edge) (n l w : ℕ) (d d' : ℕ → Option Cell) 
 -- no edge raised a node
 abbrev pub AreSettled : (ℕ → Option Cell) → Type 0
 AreSettled d = (v : ℕ) (c : Cell) → d v ≡ Some c → c.edge ≡ None
+
+-- no edge raised a cell, or its score is below a number
+abbrev pub IsNoHigher : Option Cell → ℕ → Type 0
+IsNoHigher None s = Unit {0}
+IsNoHigher (Some c) s = (c.edge ≡ None) ⊎ (c.score < s)
+
+-- an edge raised a cell
+abbrev pub WasRaised : Option Cell → Type 0
+WasRaised None = ⊥
+WasRaised (Some c) = (k : ℕ) × (c.edge ≡ Some k)

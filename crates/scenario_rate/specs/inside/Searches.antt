@@ -53,12 +53,12 @@ from_of es v (Some k) = from_in (slice_get es k)
 abbrev pub node_after : List Edge → List ℕ → ℕ → ℕ → ℕ
 node_after es ks v i = from_of es v (slice_get ks i)
 
--- what a search at the rate l/w comes to
-abbrev pub IsOutcome : TimedGraph → ℕ → ℕ → Outcome → Type 0
-IsOutcome graph l w (Settled levels) = (levels.rounds ≡ l) × (levels.time ≡ w) × AreLevels graph l w levels.rows.items
+-- what a search at the rate l/w over so many levels comes to
+abbrev pub IsOutcome : TimedGraph → ℕ → ℕ → ℕ → Outcome → Type 0
+IsOutcome graph l w most (Settled levels) = (levels.rounds ≡ l) × (levels.time ≡ w) × AreLevels graph l w levels.rows.items
     × ((k : ℕ) × (row : List (Option Cell)) × (k ≤ 1024) × IsLast graph l w levels.rows.items k row)
-IsOutcome graph l w (Raised levels v) = (levels.rounds ≡ l) × (levels.time ≡ w) × AreLevels graph l w levels.rows.items
-    × (length levels.rows.items ≡ node_count graph + 1) × (v < node_count graph) × IsRaisedAt levels.rows.items (node_count graph) v
+IsOutcome graph l w most (Raised levels v) = (levels.rounds ≡ l) × (levels.time ≡ w) × AreLevels graph l w levels.rows.items
+    × (length levels.rows.items ≡ most + 1) × (v < node_count graph) × IsRaisedAt levels.rows.items most v
 
 -- the cell of a node at a level
 abbrev pub cell_of : List (List (Option Cell)) → ℕ → ℕ → Option Cell

@@ -1,6 +1,6 @@
-use Rattle.std.proofs.Common.{◌*◌, ◌<◌, subst}
-use Rattle.scenario_rate.specs.declared.search.Outcome.{Outcome}
-use Rattle.scenario_rate.specs.inside.Searches.{IsOutcome}
+use Rattle.std.proofs.Common.{subst}
+use Rattle.scenario_rate.specs.declared.passes.Turn.{Turn}
+use Rattle.scenario_rate.specs.inside.Bests.{IsTurn}
 use Rattle.scenario_rate.specs.Answers.{potential_at}
 use Rattle.scenario_rate.proofs.Ending.{room-falls}
 use Rattle.scenario_rate.proofs.passes.worst.Goals as goal
@@ -13,10 +13,6 @@ returns-in-Settled-clause-shows c = λ file is.
 pub passes-smaller : goal.passes-smaller
 passes-smaller c =
     let b = c.passes.invariant in
-    let n = c.in_ok-best-in-Raised.ensures.best in
-    let old = c.passes.best.rate in
-    let new = c.in_ok-best-in-Raised.best.rate in
-    let o = subst (λ (x : Outcome). IsOutcome c.args.graph.now c.passes.best.rate.num c.passes.best.rate.den x) c.in-Raised.is c.in_ok-levels.ensures in
-    let less : old.den * new.num < new.den * old.num =
-    subst (λ m. m * new.num < new.den * old.num) o.1 (subst (λ m. c.in-Raised.levels.time * new.num < new.den * m) o.0 c.in_ok-best-in-Raised.ensures.gains) in
-    room-falls old.num old.den new.num new.den b.some_round b.few n.some_round n.few n.slow less
+    let t = subst (λ (x : Turn). IsTurn c.args.graph.now c.passes.best.rate.num c.passes.best.rate.den x) c.in-Gains.is c.in_ok-levels.ensures in
+    let n = t.0 in
+    room-falls c.passes.best.rate.num c.passes.best.rate.den c.in-Gains.next.rate.num c.in-Gains.next.rate.den b.some_round b.few n.some_round n.few n.slow t.1

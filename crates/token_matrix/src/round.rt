@@ -1,0 +1,107 @@
+//! One round of a net in which each actor has one phase, carried out on rows in place of stamps.
+ghost use Rattle.std.specs.Prelude.{◌≡◌, ◌<◌, ◌+◌, ℕ, [], IfOk, OnOk, length, take};
+ghost use Rattle.firing.specs.declared.sums.Port.TheVariants.{Made, Taken};
+ghost use Rattle.firing.specs.Wiring.{IsListed};
+ghost use Rattle.token_matrix.specs.inside.Lines.{HasOnePhase, AreReady, AreTaken, IsLatest, ArePut};
+ghost use Rattle.token_matrix.specs.inside.RoundRows.{IsStart, IsDue, StandsAfter};
+
+use crate::entries::{copied, free_row, put_row};
+use crate::line::Line;
+use firing::{Firing, Wiring, know_laws};
+use sd_base::NoMemory;
+use std::alloc::Global;
+
+/// Fires a whole round in an order. Cost: linear in the firings times the channels of the actors fired times the
+/// shared tokens.
+pub(crate) fn run_round<F: Firing>(
+    alloc: Global,
+    net: &F,
+    order: &[u32],
+    size: usize,
+    lines: &mut [Line],
+) -> Result<(), NoMemory>
+    requires { (first : (ℕ → ℕ)) × IsStart (F.net net.now) first size order.now lines.old }
+    ensures { OnOk result ((first : (ℕ → ℕ)) → StandsAfter (F.net net.now) first size [] lines.old → StandsAfter (F.net net.now) first size order.now lines.new) }
+{
+    let wiring = Wiring::new(alloc, net)?;
+    for place in 0..order.len() {
+        fire(alloc, net, &wiring, order, place, size, lines)?;
+    }
+    Ok(())
+}
+
+/// Fires the actor at a place of an order: its row is the latest of the rows of the tokens that it takes.
+fn fire<F: Firing>(
+    alloc: Global,
+    net: &F,
+    wiring: &Wiring,
+    order: &[u32],
+    place: usize,
+    size: usize,
+    lines: &mut [Line],
+) -> Result<(), NoMemory>
+    requires { (first : (ℕ → ℕ)) × IsDue (F.net net.now) first size order.now place wiring.now.inputs wiring.now.outputs lines.old }
+    ensures { OnOk result ((first : (ℕ → ℕ)) → StandsAfter (F.net net.now) first size (take place order.now) lines.old
+        → StandsAfter (F.net net.now) first size (take (place + 1) order.now) lines.new) }
+{
+    know_laws(net);
+    let actor = order[place];
+    let row = take_row(alloc, net, wiring.inputs_of(actor), actor, size, lines)?;
+    let put = put_row(alloc, row.as_slice(), net.time(actor, 0))?;
+    put_tokens(
+        alloc,
+        net,
+        wiring.outputs_of(actor),
+        actor,
+        put.as_slice(),
+        lines,
+    )
+}
+
+/// Takes the tokens of a firing, and gives the latest of their rows.
+fn take_row<F: Firing>(
+    alloc: Global,
+    net: &F,
+    inputs: &[u32],
+    actor: u32,
+    size: usize,
+    lines: &mut [Line],
+) -> Result<Vec<Option<u64>>, NoMemory>
+    requires actor { actor < length (F.net net.now).times }
+    requires phases { HasOnePhase (F.net net.now) }
+    requires listed { IsListed (F.net net.now) Taken actor inputs.now }
+    requires ready { AreReady (F.net net.now) actor size lines.old }
+    ensures taken { OnOk result (AreTaken (F.net net.now) actor lines.old lines.new) }
+    ensures latest { IfOk result (λ row. IsLatest (F.net net.now) actor size lines.old row.items) }
+{
+    know_laws(net);
+    let mut row = free_row(alloc, size)?;
+    for channel in inputs {
+        let tokens = net.taken(*channel, 0);
+        lines[*channel as usize].take(tokens, row.as_mut_slice())?;
+    }
+    Ok(row)
+}
+
+/// Puts the tokens of a firing, all with one row.
+fn put_tokens<F: Firing>(
+    alloc: Global,
+    net: &F,
+    outputs: &[u32],
+    actor: u32,
+    row: &[Option<u64>],
+    lines: &mut [Line],
+) -> Result<(), NoMemory>
+    requires actor { actor < length (F.net net.now).times }
+    requires phases { HasOnePhase (F.net net.now) }
+    requires listed { IsListed (F.net net.now) Made actor outputs.now }
+    requires long { length lines.old ≡ length (F.net net.now).channels }
+    ensures { OnOk result (ArePut (F.net net.now) actor row.now lines.old lines.new) }
+{
+    know_laws(net);
+    for channel in outputs {
+        let tokens = net.made(*channel, 0);
+        lines[*channel as usize].put(copied(alloc, row)?, tokens)?;
+    }
+    Ok(())
+}
