@@ -7,12 +7,10 @@ use Rattle.sd_command.specs.declared.answer.Answer.{Answer}
 use Rattle.sd_command.specs.declared.stop.Stop.{Stop}
 use Rattle.sd_command.specs.declared.stop.Stop.TheVariants as stop
 use Rattle.sd_command.specs.Courses.{Step, deciding, Ending, Answered, Refused, Failed, Lacking, After, ends_by, refused, failed, lacking, passed}
-use Rattle.balance.specs.Repetition.{IsRound}
 use Rattle.graph_reader.specs.Laws.{Gives}
 use Rattle.sd_command.specs.declared.file_kind.FileKind.TheVariants.{Graph}
 use Rattle.sd_command.specs.Takings.{Files, IsTaken, taking}
 use Rattle.sd_command.specs.Readings.{reading_graph}
-use Rattle.sd_command.specs.Balances.{balancing}
 use Rattle.sd_command.specs.RateAnswers.{IsRateText, IsRunRefusal, execution}
 use Rattle.sd_command.specs.Repetitions.{printing}
 use Rattle.sd_command.specs.inside.Going.{Does, Takes, Goes}
@@ -56,13 +54,10 @@ pub same_count : (command : Ending → ℕ → Type 0) (result : Result Answer S
     → Goes command result n faults faults → Goes command result n faults faults'
 same_count command result n faults faults' same goes = subst (λ (f : ℕ). Goes command result n faults f) (sym same) goes
 
--- Commands that begin by taking, reading and balancing a graph file.
-module _ (files : Files) (name : List ℕ) (times : Bool) (next : GraphFile → List ℕ → Ending → ℕ → Type 0) where
-  abbrev of_graph : List ℕ → GraphFile → Ending → ℕ → Type 0
-  of_graph bytes graph = After (balancing graph) (λ gamma. next graph gamma)
-
+-- Commands that begin by taking and reading a graph file.
+module _ (files : Files) (name : List ℕ) (times : Bool) (rest : GraphFile → Ending → ℕ → Type 0) where
   abbrev of_bytes : List ℕ → Ending → ℕ → Type 0
-  of_bytes bytes = After (reading_graph bytes times) (λ graph. of_graph bytes graph)
+  of_bytes bytes = After (reading_graph bytes times) (λ graph. rest graph)
 
   abbrev pub of_file : Ending → ℕ → Type 0
   of_file = After (taking files Graph name) (λ bytes. of_bytes bytes)
@@ -74,14 +69,7 @@ module _ (files : Files) (name : List ℕ) (times : Bool) (next : GraphFile → 
         (goes_on (taking files Graph name) (λ b. of_bytes b) bytes result n faults faults took.0 (subst (λ (b : List ℕ). Goes (of_bytes b) result n faults faults) same goes))
 
     pub reading_stops : (why : Stop) → n ≡ 0 → Does (reading_graph shown times) (Err why) → Goes of_file (Err why) n faults faults'
-    reading_stops why none is = from_bytes (Err why) (step_stops (reading_graph shown times) (λ graph. of_graph shown graph) n none why faults is)
+    reading_stops why none is = from_bytes (Err why) (step_stops (reading_graph shown times) (λ graph. rest graph) n none why faults is)
 
-    module _ (graph : GraphFile) (read : Gives shown times graph) where
-      from_graph : (result : Result Answer Stop) → Goes (of_graph shown graph) result n faults faults → Goes of_file result n faults faults'
-      from_graph result goes = from_bytes result (goes_on (reading_graph shown times) (λ g. of_graph shown g) graph result n faults faults read goes)
-
-      pub balancing_stops : (why : Stop) → n ≡ 0 → Does (balancing graph) (Err why) → Goes of_file (Err why) n faults faults'
-      balancing_stops why none is = from_graph (Err why) (step_stops (balancing graph) (λ gamma. next graph gamma) n none why faults is)
-
-      pub balanced_goes : (gamma : List ℕ) (result : Result Answer Stop) → IsRound graph gamma → Goes (next graph gamma) result n faults faults → Goes of_file result n faults faults'
-      balanced_goes gamma result round goes = from_graph result (goes_on (balancing graph) (λ v. next graph v) gamma result n faults faults round goes)
+    pub read_goes : (graph : GraphFile) (result : Result Answer Stop) → Gives shown times graph → Goes (rest graph) result n faults faults → Goes of_file result n faults faults'
+    read_goes graph result read goes = from_bytes result (goes_on (reading_graph shown times) (λ g. rest g) graph result n faults faults read goes)

@@ -43,6 +43,19 @@ own-role g no_overlap cs a [] fits j below = absurd (omega arith)
 own-role g no_overlap cs a (row ∷ rows) fits j below =
     one-more g a row (own_channels_from no_overlap cs (suc a) rows) (omega arith) (own-role g no_overlap cs (suc a) rows (omega arith)) (gets_own no_overlap cs a row.phases) j below
 
+-- so do those of free spaces
+pub bound-over : (g : GraphFile) (net : Net) (ds : List (Option ℕ)) → length ds ≤ length g.channels → IsNamed g net → IsNamed g (bound net ds)
+bound-over g net ds many named = record { actors = named.actors; roles = roles }
+  where
+    roles : (i : ℕ) → i < length (bound net ds).channels → IsRoleIn g (channel_at (bound net ds) i).role
+    roles i below = ⊎_elim
+        (λ (own : i < length net.channels). subst (λ (c : Channel). IsRoleIn g c.role) (sym (bound-front net ds i own)) (named.roles i own))
+        (λ (space : length net.channels ≤ i).
+        let at = bound-back net ds i space below in
+        let there = entry-below ds at.place at.room at.has in
+        subst (λ (c : Channel). IsRoleIn g c.role) (sym at.is) (omega arith))
+        (cases_lt i (length net.channels))
+
 pub net-over : (g : GraphFile) (gamma : List ℕ) (no_overlap : Bool) → IsNamed g (net_of g gamma no_overlap)
 net-over g gamma no_overlap = record { actors = length-map g.actors (λ (a : ActorRow). a.times); roles = roles }
   where
