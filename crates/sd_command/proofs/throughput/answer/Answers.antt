@@ -1,12 +1,9 @@
-use Rattle.std.proofs.Common.{◌∙◌, ◌-◌, List, ℕ, true, ap, arith, subst, sym}
+use Rattle.std.proofs.Common.{◌-◌, List, ℕ, true, arith, subst}
 use Rattle.std.proofs.lemmas.Result.{err_from_is_err_and}
 use Rattle.sd_base.specs.declared.tables.GraphFile.{GraphFile}
-use Rattle.sd_base.specs.Net.{Net}
 use Rattle.sd_base.specs.FileNet.{net_of}
-use Rattle.report.specs.LinkTexts.{IsNamed}
 use Rattle.sd_command.specs.RateAnswers.{rate_of}
 use Rattle.sd_command.specs.inside.Going.{Goes}
-use Rattle.sd_command.proofs.Overs.{net-over}
 use Rattle.sd_command.proofs.Goings.{taking_stops, reading_stops, balancing_stops, balanced_goes}
 use Rattle.sd_command.proofs.throughput.answer.Goals as goal
 
