@@ -1,5 +1,5 @@
 -- A run of ordinary bytes leaves the machine where it stands, but for a value, which grows by them.
-use Rattle.std.proofs.Common.{◌≡◌, ℕ, suc, ◌+◌, ◌-◌, ◌<◌, ◌≤◌, Bool, true, false, cond, ◌&&◌, ◌==◌, not, nat_lt, nat_le, List, [], ◌∷◌, ◌++◌, length, take, drop, Option, Some, None, refl, sym, ap, ◌∙◌, subst, arith, append_assoc, append-nil}
+use Rattle.std.proofs.Common.{◌≡◌, ℕ, suc, ◌+◌, ◌-◌, Bool, true, false, cond, List, [], ◌∷◌, ◌++◌, length, take, drop, Option, Some, refl, sym, ap, ◌∙◌, subst, arith, append_assoc, append-nil}
 use Rattle.std.specs.List.{take_while, prefix_len}
 use Rattle.std.proofs.lemmas.List.Folds.{length-prefix_len}
 use Rattle.std.proofs.lemmas.Bool.Decides.{nat_tests}
@@ -8,9 +8,9 @@ use Rattle.file_text.specs.declared.class.Class.{Class}
 use Rattle.file_text.specs.declared.class.Class.TheVariants.{Wide, White, Control, Letter, Digit, Hyphen, Less, Greater, Slash, Bang, Question, Equals, Quote, Ampersand, Other}
 use Rattle.file_text.specs.declared.mode.Comment.TheVariants as comment
 use Rattle.file_text.specs.declared.due.Due.{Due}
-use Rattle.file_text.specs.declared.due.Due.TheVariants.{Nothing, Byte}
+use Rattle.file_text.specs.declared.due.Due.TheVariants.{Nothing}
 use Rattle.file_text.specs.inside.Utf8.{due_after}
-use Rattle.file_text.specs.inside.Machine.{class_of, Around, within, Opened, Holder, Shape, at_between, in_comment, in_value, Step, goes, leaves, comment_step, between_step, character_step, value_step, table, State, both, follow, advance, move, run, start}
+use Rattle.file_text.specs.inside.Machine.{class_of, Around, within, Opened, Holder, Shape, at_between, in_comment, in_value, Step, goes, comment_step, between_step, value_step, table, State, both, follow, move, run, start}
 use Rattle.file_text.specs.inside.Runs.{is_ordinary}
 use Rattle.std.proofs.Math.Seq.{take-add}
 use Rattle.std.proofs.lemmas.List.{take_all, length-drop}

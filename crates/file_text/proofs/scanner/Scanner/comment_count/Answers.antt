@@ -1,8 +1,7 @@
 use Rattle.std.proofs.Common.{◌≡◌, refl}
 use Rattle.file_text.specs.declared.due.Due.TheVariants.{Nothing}
-use Rattle.file_text.specs.declared.mode.Mode.TheVariants as mode
 use Rattle.file_text.specs.declared.mode.Comment.TheVariants as comment
-use Rattle.file_text.specs.inside.Machine.{in_comment, State}
+use Rattle.file_text.specs.inside.Machine.{in_comment}
 use Rattle.file_text.specs.inside.Seen.{around_of, state_of}
 use Rattle.file_text.proofs.PassedRuns.{in-body, run-as}
 use Rattle.file_text.proofs.scanner.Scanner.comment_count.Goals as goal

@@ -1,4 +1,4 @@
-use Rattle.std.proofs.Common.{◌≡◌, ◌∙◌, sym, refl, rules}
+use Rattle.std.proofs.Common.{◌≡◌, refl, rules}
 use Rattle.file_text.specs.declared.due.Due.TheVariants.{Nothing}
 use Rattle.file_text.specs.inside.Machine.{in_value}
 use Rattle.file_text.specs.inside.Seen.{around_of, holder_of, state_of}
