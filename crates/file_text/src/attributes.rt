@@ -70,8 +70,9 @@ impl Attributes {
     ) -> Result<Attributes, AllocError>
         ensures { IfOk result (λ r. r ≡ self ++ record { name = string_bytes name; value = string_bytes value } ∷ []) }
     {
-        let Attributes { mut rows, names } = self;
+        let Attributes { rows, names } = self;
         let names = names_with(alloc, names, rows.as_slice(), name.as_str())?;
+        let mut rows = with_room(alloc, rows)?;
         rows.push(Attribute {
             name: Text::new(name),
             value: Text::new(value),
@@ -85,6 +86,16 @@ impl Attributes {
         let Attributes { rows, names: _ } = self;
         rows
     }
+}
+
+/// The same attributes, with room for one where there are none, which is all that most tags need.
+fn with_room(alloc: Global, rows: Rows<Attribute>) -> Result<Rows<Attribute>, AllocError>
+    ensures { IfOk result (λ same. same ≡ rows) }
+{
+    if rows.is_empty() {
+        return Ok(Rows::from_vec(Vec::with_capacity(alloc, 1)?));
+    }
+    Ok(rows)
 }
 
 fn stands_among(attributes: &[Attribute], name: &str) -> bool
