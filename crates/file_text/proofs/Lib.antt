@@ -24,3 +24,4 @@ pub mod OneTreeOrFault
 pub mod MachineSteps
 pub mod MachineWalks
 pub mod RecognisedFaults
+pub mod PassedRuns

@@ -3,3 +3,4 @@ pub mod Machine
 pub mod AttributeNames
 pub mod Seen
 pub mod Utf8
+pub mod Runs

@@ -1,6 +1,8 @@
-ghost use Rattle.std.specs.Prelude.{◌≡◌, ◌==◌, [], ◌∷◌, ◌++◌, length, IfOk};
+ghost use Rattle.std.specs.Prelude.{◌≡◌, ◌==◌, ◌<◌, ◌≤◌, ℕ, true, if◌then◌else◌, List, [], ◌∷◌, ◌++◌, length, IfOk};
 ghost use Rattle.std.specs.String.{string_bytes};
-ghost use Rattle.file_text.specs.inside.AttributeNames.{has_name};
+ghost use Rattle.std.specs.Str.{bytes_eq};
+ghost use Rattle.std.specs.BTreeSet.{contains_text};
+ghost use Rattle.file_text.specs.inside.AttributeNames.{has_name, AreNamesOf, AreNamesWith};
 
 use crate::Attribute;
 use sd_base::{Rows, Text};
@@ -8,8 +10,11 @@ use std::alloc::{AllocError, Global};
 use std::collections::BTreeSet;
 use std::marker::Model;
 
-/// The attributes of a tag so far, with their names beside them, so that a name is looked for at the cost of the
-/// logarithm of their count.
+/// Among so many attributes a name is looked for one by one.
+const FEW: usize = 8;
+
+/// The attributes of a tag so far. Where they are more than a few their names stand beside them, so that a name is
+/// looked for at the cost of the logarithm of their count.
 #[derive(Drop)]
 pub(crate) struct Attributes {
     rows: Rows<Attribute>,
@@ -17,16 +22,17 @@ pub(crate) struct Attributes {
 }
 
 impl Model for Attributes {
-    ghost use Rattle.std.specs.Prelude.{◌≡◌, List, ℕ};
+    ghost use Rattle.std.specs.Prelude.{◌<◌, List, length};
     ghost use Rattle.std.specs.BTreeSet.{contains_text};
+    ghost use Rattle.file_text.specs.declared.attributes.TheConstants.{FEW};
     ghost use Rattle.file_text.specs.declared.tree.Attribute.{Attribute};
-    ghost use Rattle.file_text.specs.inside.AttributeNames.{has_name};
+    ghost use Rattle.file_text.specs.inside.AttributeNames.{AreNamesOf};
 
     ghost Value = { List Attribute };
 
     ghost view = { λ a. a.rows };
 
-    ghost invariant = { λ a. (q : List ℕ) → contains_text a.names q ≡ has_name q a.rows };
+    ghost invariant = { λ a. FEW < length a.rows → AreNamesOf (contains_text a.names) a.rows };
 }
 
 impl Attributes {
@@ -48,7 +54,11 @@ impl Attributes {
     pub(crate) fn has(&self, name: &str) -> bool
         ensures { result ≡ has_name name.now self.now }
     {
-        self.names.contains(name)
+        if self.rows.len() <= FEW {
+            stands_among(self.rows.as_slice(), name)
+        } else {
+            self.names.contains(name)
+        }
     }
 
     /// The attributes and one more.
@@ -60,11 +70,9 @@ impl Attributes {
     ) -> Result<Attributes, AllocError>
         ensures { IfOk result (λ r. r ≡ self ++ record { name = string_bytes name; value = string_bytes value } ∷ []) }
     {
-        let Attributes {
-            mut rows,
-            mut names,
-        } = self;
-        names.insert(String::from_str(alloc, name.as_str())?)?;
+        let Attributes { rows, names } = self;
+        let names = names_with(alloc, names, rows.as_slice(), name.as_str())?;
+        let mut rows = with_room(alloc, rows)?;
         rows.push(Attribute {
             name: Text::new(name),
             value: Text::new(value),
@@ -78,4 +86,74 @@ impl Attributes {
         let Attributes { rows, names: _ } = self;
         rows
     }
+}
+
+/// The same attributes, with room for one where there are none, which is all that most tags need.
+fn with_room(alloc: Global, rows: Rows<Attribute>) -> Result<Rows<Attribute>, AllocError>
+    ensures { IfOk result (λ same. same ≡ rows) }
+{
+    if rows.is_empty() {
+        return Ok(Rows::from_vec(Vec::with_capacity(alloc, 1)?));
+    }
+    Ok(rows)
+}
+
+fn stands_among(attributes: &[Attribute], name: &str) -> bool
+    ensures { result ≡ has_name name.now attributes.now }
+{
+    attributes
+        .iter()
+        .any(|attribute| attribute.name.as_str() == name)
+}
+
+/// The names of attributes and one more name, once they are more than a few.
+fn names_with(
+    alloc: Global,
+    names: BTreeSet<String>,
+    attributes: &[Attribute],
+    name: &str,
+) -> Result<BTreeSet<String>, AllocError>
+    requires { FEW < length attributes.now → AreNamesOf (contains_text names) attributes.now }
+    ensures { IfOk result (λ more. FEW ≤ length attributes.now → AreNamesWith (contains_text more) name.now attributes.now) }
+{
+    if attributes.len() < FEW {
+        return Ok(names);
+    }
+    let names = names_of(alloc, names, attributes)?;
+    with_name(names, String::from_str(alloc, name)?)
+}
+
+/// The names of attributes that are more than a few, or just become so.
+fn names_of(
+    alloc: Global,
+    names: BTreeSet<String>,
+    attributes: &[Attribute],
+) -> Result<BTreeSet<String>, AllocError>
+    requires some { FEW ≤ length attributes.now }
+    requires known { FEW < length attributes.now → AreNamesOf (contains_text names) attributes.now }
+    ensures { IfOk result (λ all. AreNamesOf (contains_text all) attributes.now) }
+{
+    if attributes.len() == FEW {
+        collected(alloc, attributes)
+    } else {
+        Ok(names)
+    }
+}
+
+fn collected(alloc: Global, attributes: &[Attribute]) -> Result<BTreeSet<String>, AllocError>
+    ensures { IfOk result (λ all. AreNamesOf (contains_text all) attributes.now) }
+{
+    let mut names = BTreeSet::new(alloc);
+    for attribute in attributes {
+        let name = String::from_str(alloc, attribute.name.as_str())?;
+        names = with_name(names, name)?;
+    }
+    Ok(names)
+}
+
+fn with_name(mut names: BTreeSet<String>, name: String) -> Result<BTreeSet<String>, AllocError>
+    ensures { IfOk result (λ more. (q : List ℕ) → contains_text more q ≡ if bytes_eq (string_bytes name) q then true else contains_text names q) }
+{
+    names.insert(name)?;
+    Ok(names)
 }

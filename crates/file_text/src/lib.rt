@@ -11,6 +11,7 @@ mod laws;
 mod mode;
 mod read;
 mod reference;
+mod runs;
 mod scanner;
 mod starts;
 mod tags;

@@ -18,10 +18,16 @@ pub fn read_tree(alloc: Global, bytes: &[u8]) -> Result<Tree, TextError>
     ensures fault { IfErr result (λ error. (error ≡ NoMemory) ⊎ FirstFault bytes.now error) }
 {
     let mut scanner = Scanner::new(alloc);
-    for (i, b) in bytes.iter().enumerate() {
-        match scanner.take(alloc, *b)? {
-            Taken::Goes => {}
-            stop => return Err(fault_of(bytes, i, stop)),
+    let mut i = 0;
+    while i < bytes.len() {
+        let passed = scanner.pass(&bytes[i..])?;
+        if passed > 0 {
+            i += passed;
+        } else {
+            match scanner.take(alloc, bytes[i])? {
+                Taken::Goes => i += 1,
+                stop => return Err(fault_of(bytes, i, stop)),
+            }
         }
     }
     match scanner.finish() {

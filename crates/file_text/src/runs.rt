@@ -1,0 +1,93 @@
+//! Runs of ordinary bytes, each of which is passed in one step.
+
+ghost use Rattle.std.specs.Prelude.{◌≡◌, ◌≤◌, ℕ, length, true, take, Some, IfOk};
+ghost use Rattle.std.specs.List.{take_while};
+ghost use Rattle.file_text.specs.inside.Machine.{run};
+ghost use Rattle.file_text.specs.inside.Runs.{is_ordinary};
+ghost use Rattle.file_text.specs.inside.Seen.{state_of};
+
+use crate::due::Due;
+use crate::mode::{Comment, Mode};
+use crate::scanner::Scanner;
+use std::alloc::AllocError;
+
+/// Whether a byte is an ordinary character of comments, of the text in elements, and of values.
+fn is_ordinary(b: u8) -> bool
+    ensures { result ≡ is_ordinary b }
+{
+    b >= b' ' && b < 128 && b != b'-' && b != b'<' && b != b'&' && b != b'"' && b != b'\''
+}
+
+/// How many ordinary bytes stand in front.
+fn ordinary_count(bytes: &[u8]) -> usize
+    ensures count { result ≡ length (take_while is_ordinary bytes.now) }
+    ensures within { result ≤ length bytes.now }
+{
+    bytes.iter().take_while(|b| is_ordinary(**b)).count()
+}
+
+impl Scanner {
+    /// Passes the ordinary bytes in front where they are of a comment, of a text or of a value, and says how many.
+    pub(crate) fn pass(&mut self, bytes: &[u8]) -> Result<usize, AllocError>
+        ensures within { IfOk result (λ n. n ≤ length bytes.now) }
+        ensures same { IfOk result (λ n. run true (Some (state_of self.old)) (take n bytes.now) ≡ Some (state_of self.new)) }
+    {
+        match self.due {
+            Due::Nothing => self.pass_characters(bytes),
+            Due::Byte { .. } => Ok(0),
+        }
+    }
+
+    /// The same between two characters.
+    fn pass_characters(&mut self, bytes: &[u8]) -> Result<usize, AllocError>
+        requires { self.old.due ≡ Due.Nothing }
+        ensures within { IfOk result (λ n. n ≤ length bytes.now) }
+        ensures same { IfOk result (λ n. run true (Some (state_of self.old)) (take n bytes.now) ≡ Some (state_of self.new)) }
+    {
+        match self.mode {
+            Mode::Comment(comment) => Ok(self.comment_count(comment, bytes)),
+            Mode::Between => Ok(self.text_count(bytes)),
+            Mode::Value => self.pass_value(bytes),
+            _ => Ok(0),
+        }
+    }
+
+    /// How many ordinary bytes of a comment stand in front.
+    fn comment_count(&self, comment: Comment, bytes: &[u8]) -> usize
+        requires due { self.now.due ≡ Due.Nothing }
+        requires mode { self.now.mode ≡ Mode.Comment comment }
+        ensures within { result ≤ length bytes.now }
+        ensures same { run true (Some (state_of self.now)) (take result bytes.now) ≡ Some (state_of self.now) }
+    {
+        match comment {
+            Comment::Body => ordinary_count(bytes),
+            _ => 0,
+        }
+    }
+
+    /// How many ordinary bytes of a text stand in front.
+    fn text_count(&self, bytes: &[u8]) -> usize
+        requires due { self.now.due ≡ Due.Nothing }
+        requires mode { self.now.mode ≡ Mode.Between }
+        ensures within { result ≤ length bytes.now }
+        ensures same { run true (Some (state_of self.now)) (take result bytes.now) ≡ Some (state_of self.now) }
+    {
+        if self.frames.is_empty() {
+            0
+        } else {
+            ordinary_count(bytes)
+        }
+    }
+
+    /// Takes the ordinary bytes in front into a value.
+    fn pass_value(&mut self, bytes: &[u8]) -> Result<usize, AllocError>
+        requires due { self.old.due ≡ Due.Nothing }
+        requires mode { self.old.mode ≡ Mode.Value }
+        ensures within { IfOk result (λ n. n ≤ length bytes.now) }
+        ensures same { IfOk result (λ n. run true (Some (state_of self.old)) (take n bytes.now) ≡ Some (state_of self.new)) }
+    {
+        let count = ordinary_count(bytes);
+        self.tag.value.extend_from_slice(&bytes[..count])?;
+        Ok(count)
+    }
+}
