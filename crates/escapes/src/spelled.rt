@@ -41,11 +41,10 @@ fn is_escaped(text: &[u8]) -> bool
     loop {
         match rest {
             [] => return true,
-            [b'%', high, low, after @ ..]
-                if high.is_ascii_hexdigit() && low.is_ascii_hexdigit() =>
-            {
-                rest = after;
-            }
+            [b'%', high, low, after @ ..] if high.is_ascii_hexdigit() && low.is_ascii_hexdigit() =>
+                {
+                    rest = after;
+                }
             [byte, after @ ..] => {
                 if !is_bare_byte(*byte) {
                     return false;

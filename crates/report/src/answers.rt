@@ -5,10 +5,10 @@ ghost use Rattle.report.specs.CycleTexts.{IsCycleIn};
 ghost use Rattle.report.specs.AnswerTexts.{number_line, rate_line, rate_lines, repetition_header, repetition_lines};
 
 use crate::cycles::put_cycle;
-use escapes::escaped;
 use crate::fractions::put_lowest;
 use crate::schedules::put_schedule;
 use critical::NeedCycle;
+use escapes::escaped;
 use firing::Firing;
 use periodic::Periodic;
 use sd_base::{GraphFile, NoMemory, Rows};

@@ -104,7 +104,10 @@ fn cause(alloc: Global, refusal: &Refusal) -> Result<(Class, String), AllocError
             Class::Form,
             unknown_text(alloc, "channel", name.as_str())?,
         )),
-        Refusal::SelfLoopBuffer { name } => Ok((Class::Form, self_loop_text(alloc, name.as_str())?)),
+        Refusal::SelfLoopBuffer { name } => Ok((
+            Class::Form,
+            self_loop_text(alloc, name.as_str())?,
+        )),
         Refusal::BelowTokens { name } => Ok((
             Class::Form,
             below_tokens_text(alloc, name.as_str())?,

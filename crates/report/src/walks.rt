@@ -2,8 +2,8 @@ ghost use Rattle.std.specs.Prelude.{◌≡◌, ◌<◌, ◌++◌, All, IfOk, OnO
 ghost use Rattle.std.specs.String.{string_bytes};
 ghost use Rattle.report.specs.WalkTexts.{more_steps, step_text, steps_text};
 
-use escapes::escaped;
 use balance::WalkStep;
+use escapes::escaped;
 use sd_base::{GraphFile, NoMemory, Text};
 use std::alloc::Global;
 

@@ -10,9 +10,9 @@ ghost use Rattle.sd_command.specs.Readings.{construct_refusal, reading_graph, re
 ghost use Rattle.sd_command.specs.inside.Going.{Does};
 
 use crate::stop::Stop;
+use escapes::escaped;
 use file_text::{Construct, TextError};
 use graph_reader::{Field, ReadError, read_graph};
-use escapes::escaped;
 use report::{Refusal, quantity_word};
 use sd_base::{GraphFile, NoMemory, Quantity, Text};
 use std::alloc::Global;

@@ -65,5 +65,13 @@ fn bounded_rate<L: Ledger>(
 {
     let distribution = buffered(alloc, graph, buffers)?;
     let gamma = balanced(alloc, graph)?;
-    rate_of_graph(alloc, graph, gamma.as_slice(), no_overlap, &distribution, states, steps)
+    rate_of_graph(
+        alloc,
+        graph,
+        gamma.as_slice(),
+        no_overlap,
+        &distribution,
+        states,
+        steps,
+    )
 }

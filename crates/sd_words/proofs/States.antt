@@ -95,6 +95,7 @@ all-small (p ∷ ps) bs cs is small = of (λ more. all-small ps more cs) (buffer
     added : Rest ps cs → (b : Buffer) → b.1 ≤ CAPACITY → (m : Option (List Buffer)) → with_buffer bs b ≡ m → option_and_then (λ more. with_parts more ps) m ≡ Some cs → AreSmall cs
     added rest b one (Some more) put e = rest more e (put-small bs more b put small one)
     added rest b one None put e = absurd (cc)
+
     of : Rest ps cs → (o : Option Buffer) → buffer_of p ≡ o → option_and_then (λ b. option_and_then (λ more. with_parts more ps) (with_buffer bs b)) o ≡ Some cs → AreSmall cs
     of rest (Some b) at e = added rest b (parted p b at) (with_buffer bs b) refl e
     of rest None at e = absurd (cc)
@@ -106,6 +107,7 @@ capacities-small values = given-small (values option.Buffers)
     or-none : (o : Option (List Buffer)) → ((bs : List Buffer) → o ≡ Some bs → AreSmall bs) → AreSmall (unwrap_or o [])
     or-none (Some bs) small = small bs refl
     or-none None small = none-small
+
     given-small : (o : Option (List ℕ)) → AreSmall (unwrap_or (option_and_then buffers_of o) [])
     given-small (Some text) = or-none (buffers_of text) (λ bs is. all-small _ [] bs is none-small)
     given-small None = none-small

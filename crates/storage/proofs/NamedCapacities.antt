@@ -96,8 +96,8 @@ all-hold rows [] i d k below none small is = absurd (cc)
 all-hold rows (b ∷ bs) i d k below none small is =
     let parts = first-none (fault_of rows b) (first_fault rows bs) none in
     elim (at-first (λ (b : Buffer). bytes_eq b.0 (slice_index_or rows i d).name) b bs k is) [
-    | inl h ↦ subst (Holds (slice_index_or rows i d)) h.1 (one-holds rows b i d below parts.0 (small 0 b (omega arith)) (flip b.0 (slice_index_or rows i d).name h.0))
-    | inr h ↦ all-hold rows bs i d k below parts.1 (λ j e within. small (suc j) e (omega arith)) h
+      | inl h ↦ subst (Holds (slice_index_or rows i d)) h.1 (one-holds rows b i d below parts.0 (small 0 b (omega arith)) (flip b.0 (slice_index_or rows i d).name h.0))
+      | inr h ↦ all-hold rows bs i d k below parts.1 (λ j e within. small (suc j) e (omega arith)) h
     ]
 
 held : (n : ℕ) (rows : List ChannelRow) (rest : List Channel) (d : ChannelRow) (bs : List Buffer)

@@ -114,15 +114,11 @@ fn is_known(channels: &[ChannelRow], name: &str) -> bool
 fn is_loop(channels: &[ChannelRow], name: &str) -> bool
     ensures { result ≡ has_named channels.now name.now (λ c. c.source == c.target) }
 {
-    channels
-        .iter()
-        .any(|channel| channel.name.as_str() == name && channel.source == channel.target)
+    channels.iter().any(|channel| channel.name.as_str() == name && channel.source == channel.target)
 }
 
 fn is_below_tokens(channels: &[ChannelRow], name: &str, capacity: u64) -> bool
     ensures { result ≡ has_named channels.now name.now (λ c. nat_lt capacity c.tokens) }
 {
-    channels
-        .iter()
-        .any(|channel| channel.name.as_str() == name && capacity < channel.tokens)
+    channels.iter().any(|channel| channel.name.as_str() == name && capacity < channel.tokens)
 }

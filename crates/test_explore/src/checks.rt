@@ -50,10 +50,12 @@ fn is_explorable<F: Firing>(net: &F) -> bool
 {
     know_laws(net);
     touched_nets_are_explorable();
-    2 <= net.actors()
-        && 2 * u64::from(net.channels()) <= NET_CHANNELS
-        && is_plain(net)
-        && are_joined(net)
+    if net.actors() < 2 || 2 * u64::from(net.channels()) > NET_CHANNELS {
+        return false;
+    }
+    let plain = is_plain(net);
+    let joined = are_joined(net);
+    plain && joined
 }
 
 /// Whether each channel is one of the file, or a self-loop that is no free space.

@@ -2,7 +2,8 @@ use Rattle.std.proofs.Common.{◌≡◌, ◌≤◌, ◌*◌, length, arith, rule
 use Rattle.test_explore.proofs.Joined.{joined-connected, joined-touched}
 use Rattle.test_explore.proofs.checks.is_explorable.Goals as goal
 
-pub returns-then-is_plain : goal.returns-then-is_plain
-returns-then-is_plain g c = λ holds.
+pub returns-then-plain : goal.returns-then-plain
+returns-then-plain g c = λ holds.
     let net = g.F.Firing.net c.args.net.now in
-    c.touched_nets_are_explorable.ensures net (c.is_plain.ensures c.if-is_plain.true) (joined-connected net (c.are_joined.ensures holds)) (joined-touched net (omega arith) (c.are_joined.ensures holds)) (omega arith)
+    let joined = c.are_joined-joined.ensures holds in
+    c.touched_nets_are_explorable.ensures net (c.is_plain-plain.ensures c.if-plain.true) (joined-connected net joined) (joined-touched net (omega arith) joined) (omega arith)
