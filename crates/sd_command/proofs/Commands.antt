@@ -2,6 +2,11 @@
 use Rattle.std.proofs.Common.{◌≡◌, ℕ, Bool, true, false, List}
 use Rattle.sd_base.specs.FileNet.{net_of}
 use Rattle.sd_words.specs.declared.request.Request.{Request}
+use Rattle.sd_words.specs.Asked.{IsWithinLimits}
+use Rattle.sd_words.proofs.Within.{asked_within}
+use Rattle.storage.specs.BoundedNets.{bound}
+use Rattle.storage.specs.NamedBuffers.{Buffer}
+use Rattle.sd_command.specs.Bufferings.{buffering}
 use Rattle.sd_words.specs.declared.request.Request.TheVariants as requests
 use Rattle.report.specs.AnswerTexts.{repetition_lines}
 use Rattle.sd_command.specs.declared.file_kind.FileKind.TheVariants.{Graph}
@@ -12,7 +17,7 @@ use Rattle.sd_command.specs.Repetitions.{printing, repetition}
 use Rattle.sd_command.specs.Throughputs.{throughput}
 use Rattle.sd_command.specs.Requests.{asking, command_of, course_of}
 use Rattle.sd_command.proofs.CommandsDecide.{Decides, DecidesLast, after_decides, last_decides}
-use Rattle.sd_command.proofs.SharedSteps.{FileLaws, asking_determines, taking_determines, reading_determines, balancing_determines, lawful_net}
+use Rattle.sd_command.proofs.SharedSteps.{FileLaws, asking_determines, taking_determines, reading_determines, buffering_determines, balancing_determines, AreSmall, bounded_net}
 use Rattle.sd_command.proofs.OneRate.{rate_decides}
 
 pub prints : (text : List ℕ) → DecidesLast (printing text)
@@ -30,16 +35,18 @@ module _ (laws : FileLaws) (shelf : Files) (tells : shelf.tells ≡ true) where
       after_decides (balancing graph) _ (balancing_determines laws graph (laws.keeps bytes false graph given)) (λ gamma round.
       last_decides (printing (repetition_lines graph gamma)) (prints (repetition_lines graph gamma)))))
 
-  throughput_decides : (name : List ℕ) (no_overlap : Bool) (states : ℕ) → Decides (throughput name no_overlap states shelf)
-  throughput_decides name no_overlap states =
+  throughput_decides : (name : List ℕ) (buffers : List Buffer) (no_overlap : Bool) (states : ℕ) → AreSmall buffers → Decides (throughput name buffers no_overlap states shelf)
+  throughput_decides name buffers no_overlap states small =
       after_decides (taking shelf Graph name) _ (taking_determines shelf tells Graph name) (λ bytes taken.
       after_decides (reading_graph bytes true) _ (reading_determines laws bytes true) (λ graph given.
+      after_decides (buffering graph buffers) _ (buffering_determines graph buffers) (λ distribution gives.
       after_decides (balancing graph) _ (balancing_determines laws graph (laws.keeps bytes true graph given)) (λ gamma round.
-      rate_decides laws.nets (net_of graph gamma no_overlap) (lawful_net laws bytes graph gamma no_overlap given round) graph states)))
+      rate_decides laws.nets (bound (net_of graph gamma no_overlap) distribution.capacities)
+      (bounded_net laws bytes graph gamma no_overlap buffers distribution given round small gives) graph states))))
 
-  command_decides : (request : Request) → Decides (command_of request shelf)
-  command_decides (requests.Repetition name) = repetition_decides name
-  command_decides (requests.Throughput name no_overlap states) = throughput_decides name no_overlap states
+  command_decides : (request : Request) → IsWithinLimits request → Decides (command_of request shelf)
+  command_decides (requests.Repetition name) within = repetition_decides name
+  command_decides (requests.Throughput name buffers no_overlap states) within = throughput_decides name buffers no_overlap states within.0
 
   pub course_decides : (words : List (List ℕ)) → Decides (course_of words shelf)
-  course_decides words = after_decides (asking words) _ (asking_determines words) (λ request asked. command_decides request)
+  course_decides words = after_decides (asking words) _ (asking_determines words) (λ request asked. command_decides request (asked_within words request asked))

@@ -20,6 +20,9 @@ use Rattle.critical.specs.declared.cycle.NeedCycle.{NeedCycle}
 use Rattle.critical.specs.declared.cycle.CycleStep.{CycleStep}
 use Rattle.critical.specs.declared.cycle.FiringNo.{FiringNo}
 use Rattle.critical.specs.Cycles.{IsChain, HoldsOn}
+use Rattle.storage.specs.Distributions.{capacity_at}
+use Rattle.storage.specs.BoundedNets.{bound}
+use Rattle.storage.proofs.SpaceChannels.{bound-front, bound-back}
 use Rattle.report.specs.LinkTexts.{IsRoleIn, IsNamed}
 use Rattle.report.specs.LackTexts.{HasLacks}
 use Rattle.report.specs.CycleTexts.{IsStepIn, IsCycleIn}
@@ -42,6 +45,12 @@ own-role : (g : GraphFile) (no_overlap : Bool) (cs : List ChannelRow) (a : ℕ) 
 own-role g no_overlap cs a [] fits j below = absurd (omega arith)
 own-role g no_overlap cs a (row ∷ rows) fits j below =
     one-more g a row (own_channels_from no_overlap cs (suc a) rows) (omega arith) (own-role g no_overlap cs (suc a) rows (omega arith)) (gets_own no_overlap cs a row.phases) j below
+
+-- a capacity that is there belongs to one of the entries
+entry-below : (ds : List (Option ℕ)) (place room : ℕ) → capacity_at ds place ≡ Some room → place < length ds
+entry-below [] place room has = absurd (cc)
+entry-below (d ∷ ds) zero room has = omega arith
+entry-below (d ∷ ds) (suc place) room has = let rest = entry-below ds place room has in omega arith
 
 -- so do those of free spaces
 pub bound-over : (g : GraphFile) (net : Net) (ds : List (Option ℕ)) → length ds ≤ length g.channels → IsNamed g net → IsNamed g (bound net ds)

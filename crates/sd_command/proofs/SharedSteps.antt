@@ -1,5 +1,5 @@
 -- The words and files decide the steps that commands share.
-use Rattle.std.proofs.Common.{◌≡◌, ◌≢◌, ℕ, ◌≤◌, ◌<◌, Bool, true, List, length, sum, Option, Some, None, Result, Ok, Err, IsSomeAnd, refl, sym, ap, ◌∙◌, arith}
+use Rattle.std.proofs.Common.{◌≡◌, ◌≢◌, ℕ, ◌≤◌, ◌<◌, Bool, true, List, length, sum, subst, All, Option, Some, None, Result, Ok, Err, IsSomeAnd, refl, sym, ap, ◌∙◌, arith}
 use Rattle.sd_base.specs.declared.tables.GraphFile.{GraphFile}
 use Rattle.sd_base.specs.Tables.{KeepsRules, IsTimed}
 use Rattle.sd_base.specs.Net.{IsRepetitionOf}
@@ -14,7 +14,20 @@ use Rattle.balance.specs.declared.refusal.BalanceError.{BalanceError}
 use Rattle.balance.specs.declared.refusal.BalanceError.TheVariants as errors
 use Rattle.balance.specs.Repetition.{IsRound, IsRefusal, HasOneAnswer}
 use Rattle.report.specs.declared.refusal.Refusal.{Refusal}
-use Rattle.report.specs.declared.refusal.Refusal.TheVariants.{UsageWords, Above, Ratio, Inconsistent, Apart}
+use Rattle.report.specs.declared.refusal.Refusal.TheVariants.{UsageWords, UnknownChannel, SelfLoopBuffer, BelowTokens, Above, Ratio, Inconsistent, Apart}
+use Rattle.escapes.specs.EscapedNames.{escaped_name}
+use Rattle.storage.specs.declared.buffers.BufferError.{BufferError}
+use Rattle.storage.specs.declared.buffers.BufferError.TheVariants as faults
+use Rattle.storage.specs.declared.distribution.Distribution.{Distribution}
+use Rattle.storage.specs.NamedBuffers.{Buffer, first_fault}
+use Rattle.storage.specs.Distributions.{CanHold}
+use Rattle.storage.specs.BoundedNets.{bound}
+use Rattle.storage.proofs.Lawfulness.{bound-lawful}
+use Rattle.storage.proofs.FileChannels.{file-plain, plain-no_spaces}
+use Rattle.storage.proofs.NamedCapacities.{bounded-few, named-held}
+use Rattle.sd_base.specs.declared.limits.TheConstants.{CAPACITY}
+use Rattle.std.proofs.lemmas.List.{length-map}
+use Rattle.sd_command.specs.Bufferings.{IsBufferRefusal, unknown, self_loop, below_tokens, GivesCapacities, buffering}
 use Rattle.report.specs.WalkTexts.{steps_text}
 use Rattle.sd_base.specs.Limits.{greatest_of}
 use Rattle.report.specs.QuantityWords.{quantity_text}
@@ -60,6 +73,45 @@ told_from g r (apart x y is e) = record { error = errors.Apart x y; cause = is; 
 told_from g r (ratio path is e) = record { error = errors.RatioTooLarge path; cause = is; no_lack = λ e. (cc); told = e }
 told_from g r (inconsistent walk num den is e) = record { error = errors.Unbalanced walk num den; cause = is; no_lack = λ e. (cc); told = e }
 told_from g r (above is e) = record { error = errors.RoundTooLarge; cause = is; no_lack = λ e. (cc); told = e }
+
+-- the refusal that tells of a fault of a buffer
+told_of : BufferError → Refusal
+told_of (faults.Unknown name) = UnknownChannel (escaped_name name)
+told_of (faults.SelfLoop name) = SelfLoopBuffer (escaped_name name)
+told_of (faults.BelowTokens name) = BelowTokens (escaped_name name)
+told_of faults.NoMemory = UsageWords
+
+-- each refusal of buffers tells of one such fault
+record Faulty (g : GraphFile) (bs : List Buffer) (r : Refusal) : Type 0 where
+  fault : BufferError
+  first : first_fault g.channels bs ≡ Some fault
+  told : r ≡ told_of fault
+
+faulty : (g : GraphFile) (bs : List Buffer) (r : Refusal) → IsBufferRefusal g bs r → Faulty g bs r
+unfolding told_of
+faulty g bs r (unknown name is e) = record { fault = faults.Unknown name; first = is; told = e }
+faulty g bs r (self_loop name is e) = record { fault = faults.SelfLoop name; first = is; told = e }
+faulty g bs r (below_tokens name is e) = record { fault = faults.BelowTokens name; first = is; told = e }
+
+one_fault : (o : Option BufferError) (a b : BufferError) → o ≡ Some a → o ≡ Some b → a ≡ b
+one_fault o a b p q = let e : ◌≡◌ {A = Option BufferError} (Some a) (Some b) = sym p ∙ q in (cc)
+
+no_fault : (o : Option BufferError) (a : BufferError) → o ≡ Some a → o ≡ None → ⊥
+no_fault o a p q = let e : ◌≡◌ {A = Option BufferError} (Some a) None = sym p ∙ q in (cc)
+
+pub buffering_determines : (g : GraphFile) (bs : List Buffer) → Determines (buffering g bs)
+buffering_determines g bs = record {
+  one = λ d e is also. ap (λ (cs : List (Option ℕ)). record { capacities = cs }) (is.named ∙ sym also.named);
+  refusal = λ r s is also.
+      let a = faulty g bs r is in
+      let b = faulty g bs s also in
+      a.told ∙ ap told_of (one_fault (first_fault g.channels bs) a.fault b.fault a.first b.first) ∙ sym b.told;
+  never = λ r d is gives. let a = faulty g bs r is in no_fault (first_fault g.channels bs) a.fault a.first gives.whole;
+}
+
+-- the capacities are those that words may name
+abbrev pub AreSmall : List Buffer → Type 0
+AreSmall bs = All (λ (b : Buffer). b.1 ≤ CAPACITY) bs
 
 -- what a balance comes to
 abbrev Solved : Type 0
@@ -137,6 +189,16 @@ module _ (laws : FileLaws) where
   pub lawful_net : (bytes : List ℕ) (g : GraphFile) (gamma : List ℕ) (no_overlap : Bool) → files.Gives bytes true g → IsRound g gamma → Lawful (net_of g gamma no_overlap)
   lawful_net bytes g gamma no_overlap spelled is =
       laws.lawful g gamma no_overlap (laws.keeps bytes true g spelled) (laws.timed bytes g spelled) is.least is.fits
+
+  -- so is the net bounded by the capacities
+  pub bounded_net : (bytes : List ℕ) (g : GraphFile) (gamma : List ℕ) (no_overlap : Bool) (bs : List Buffer) (d : Distribution) → files.Gives bytes true g → IsRound g gamma → AreSmall bs
+      → GivesCapacities g bs d → Lawful (bound (net_of g gamma no_overlap) d.capacities)
+  bounded_net bytes g gamma no_overlap bs d spelled is small gives =
+      let net = net_of g gamma no_overlap in
+      let many : length d.capacities ≡ length g.channels = ap length gives.named ∙ length-map g.channels _ in
+      bound-lawful net (lawful_net bytes g gamma no_overlap spelled is) d.capacities (plain-no_spaces net (file-plain g gamma no_overlap))
+      (subst (λ (ds : List (Option ℕ)). CanHold net.channels ds) (sym gives.named) (named-held g gamma no_overlap bs gives.whole small))
+      (bounded-few g gamma no_overlap d.capacities (laws.keeps bytes true g spelled) (omega (arith, many)))
 
   -- ---- the steps
 

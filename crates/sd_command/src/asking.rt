@@ -1,5 +1,5 @@
 ghost use Rattle.std.specs.Prelude.{◌≡◌, IfOk};
-ghost use Rattle.sd_words.specs.Asked.{HasStates};
+ghost use Rattle.sd_words.specs.Asked.{IsWithinLimits};
 ghost use Rattle.sd_command.specs.Requests.{asking, usage_refusal};
 ghost use Rattle.sd_command.specs.inside.Going.{Does};
 
@@ -12,7 +12,7 @@ use std::alloc::{AllocError, Global};
 /// What the words ask for.
 pub(crate) fn ask(alloc: Global, words: &[Text]) -> Result<Request, Stop>
     ensures does { Does (asking words.now) result }
-    ensures states { IfOk result HasStates }
+    ensures states { IfOk result IsWithinLimits }
 {
     match parse_words(alloc, words) {
         Ok(request) => Ok(request),

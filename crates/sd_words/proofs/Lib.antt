@@ -5,6 +5,7 @@ pub mod Apart
 pub mod Spelled
 pub mod Causes
 pub mod States
+pub mod Within
 pub mod Parsed
 pub mod CutWords
 pub mod CappedDigits

@@ -6,7 +6,7 @@ ghost use Rattle.sd_words.specs.declared.request.UsageCause.{UsageCause};
 ghost use Rattle.sd_words.specs.Spelling.{IsSpelling, Setting};
 ghost use Rattle.sd_words.specs.Reading.{settings_of};
 ghost use Rattle.sd_words.specs.Rules.{AreMisspelled, Asks, AskNothing};
-ghost use Rattle.sd_words.specs.Asked.{request_of};
+ghost use Rattle.sd_words.specs.Asked.{IsWithinLimits, request_of};
 
 /// Reading from the left gives the settings that the words split into, where the words are well spelled.
 /// So they have one spelling.
@@ -17,6 +17,7 @@ pub fn words_are_read_as_spelled()
 /// Each answer comes exactly where its rule says, said without a reading.
 pub fn answers_follow_the_rules()
     ensures request { (words : List (List ℕ)) (request : Request) → (request_of words ≡ Ok request) ↔ Asks words request }
+    ensures within { (words : List (List ℕ)) (request : Request) → request_of words ≡ Ok request → IsWithinLimits request }
     ensures cause { (words : List (List ℕ)) (cause : UsageCause) → (request_of words ≡ Err cause) ↔ AskNothing words cause }
     ensures words { (words : List (List ℕ)) → (request_of words ≡ Err UsageCause.Words) ↔ AreMisspelled words }
 {}
