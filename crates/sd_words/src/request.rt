@@ -14,7 +14,7 @@ pub enum Request {
         graph: Text,
     },
     /// The throughput of the graph: with `no_overlap` the firings of each actor come one after another, and
-    /// the execution may have at most `states` states before one is repeated.
+    /// the execution may have at most `states` shapes until one comes again.
     Throughput {
         graph: Text,
         /// Channels by name that have a capacity, in tokens; no two are of one name.

@@ -1,5 +1,5 @@
-use Rattle.std.proofs.Common.{refl, rules}
-use Rattle.sd_command.specs.Bufferings.{IsBufferRefusal, unknown, self_loop, below_tokens}
+use Rattle.std.proofs.Common.{rules}
+use Rattle.sd_command.specs.Bufferings.{unknown, self_loop, below_tokens}
 use Rattle.sd_command.proofs.buffering.buffered.Goals as goal
 
 pub returns-in_ok-escaped-in-Err-Unknown : goal.returns-in_ok-escaped-in-Err-Unknown
