@@ -1,5 +1,5 @@
 -- Self-timed execution pass by pass round a loop, and the second pass as the loop's table has it.
-use Rattle.std.proofs.Common.{◌≡◌, ℕ, zero, suc, ◌+◌, ◌-◌, ◌*◌, ◌≤◌, ◌<◌, length, ⊎_elim, subst, sym, arith, mul-le-mul, mul-le-mul_left, mul-le-mul_right}
+use Rattle.std.proofs.Common.{◌≡◌, ℕ, zero, suc, ◌+◌, ◌-◌, ◌*◌, ◌≤◌, ◌<◌, length, ⊎_elim, subst, sym, arith}
 use Rattle.std.proofs.lemmas.Bool.{cases_lt}
 use Rattle.std.specs.Prelude.{slice_index}
 use Rattle.firing.specs.declared.table.LoopTable.{LoopTable}
@@ -9,11 +9,9 @@ use Rattle.sd_base.specs.Schedules.{time_of, Schedule, count_of, start_of, end_o
 use Rattle.sd_base.specs.SelfTimed.{earliest}
 use Rattle.sd_base.specs.Lawful.{Lawful}
 use Rattle.sd_base.specs.Futures.{Repeats}
-use Rattle.sd_base.proofs.Parts.{regular, wired, balanced}
-use Rattle.sd_base.proofs.Admissibles.{is_actor}
-use Rattle.sd_base.proofs.Counts.{early_at, ended_at, ended-at-is}
-use Rattle.sd_base.proofs.Rounds.{Whole, whole-times, whole-rounds, time-shift}
-use Rattle.sd_base.proofs.Tight.{earliest-within}
+use Rattle.sd_base.proofs.Parts.{regular}
+use Rattle.sd_base.proofs.Counts.{ended_at, ended-at-is}
+use Rattle.sd_base.proofs.Rounds.{Whole}
 use Rattle.sd_base.proofs.Alike.{Alike, futures, since-then, since-whole, same-alike}
 use Rattle.sd_base.proofs.LoopPasses as passes
 use Rattle.critical.specs.CriticalCycles.{pass_of}

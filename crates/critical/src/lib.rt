@@ -13,5 +13,5 @@ mod tight;
 mod walk;
 
 pub use cycle::{CycleStep, FiringNo, NeedCycle};
-pub use find::cycle_of;
+pub use find::{cycle_of, cycle_of_on};
 pub use tight::is_tight_on;

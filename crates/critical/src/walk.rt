@@ -35,12 +35,13 @@ pub(crate) struct Way {
 pub(crate) fn walk_back<F: Firing>(
     alloc: Global,
     net: &F,
+    wiring: &Wiring,
     table: &LoopTable,
 ) -> Result<Way, NoMemory>
-    requires { IsShortLoop (F.net net.now) table.now }
+    requires table { IsShortLoop (F.net net.now) table.now }
+    requires wired { AreListed (F.net net.now) Taken wiring.now.inputs }
     ensures { IfOk result (λ w. ComesAgain (F.net net.now) table.now w.met.items w.from) }
 {
-    let wiring = Wiring::new(alloc, net)?;
     let offsets = offsets(alloc, table)?;
     let places = places_of(table, offsets.as_slice());
     let mut marks = no_marks(alloc, places)?;
@@ -56,7 +57,7 @@ pub(crate) fn walk_back<F: Firing>(
         if let Some(from) = before {
             return Ok(Way { met, from });
         }
-        here = next_met(net, table, &wiring, here);
+        here = next_met(net, table, wiring, here);
     }
     unreachable!()
 }

@@ -8,3 +8,4 @@ pub mod TokenMoves
 pub mod GraphTables
 pub mod PhaseLists
 pub mod CsdfTables
+pub mod SingleCopies

@@ -18,13 +18,13 @@ use std::alloc::Global;
 /// A channel with one rate at each end.
 #[derive(Clone, Copy, Debug)]
 pub(crate) struct SdfChannel {
-    source: u32,
-    target: u32,
-    made: u64,
-    taken: u64,
-    tokens: u64,
-    size: u64,
-    role: Role,
+    pub(crate) source: u32,
+    pub(crate) target: u32,
+    pub(crate) made: u64,
+    pub(crate) taken: u64,
+    pub(crate) tokens: u64,
+    pub(crate) size: u64,
+    pub(crate) role: Role,
 }
 
 impl NetChannel for SdfChannel {
@@ -161,6 +161,18 @@ impl SdfNet {
             channels,
             rounds,
         })
+    }
+}
+
+/// The net of tables that keep the laws.
+pub(crate) fn net_of_tables(times: Vec<u64>, channels: Vec<SdfChannel>, rounds: Vec<u64>) -> SdfNet
+    requires { Lawful (plain_net times.items channels.items rounds.items) }
+    ensures { ⟦<SdfNet as Firing>⟧.net result ≡ plain_net times.items channels.items rounds.items }
+{
+    SdfNet {
+        times,
+        channels,
+        rounds,
     }
 }
 

@@ -1,16 +1,20 @@
-ghost use Rattle.std.specs.Prelude.{◌≡◌, ◌+◌, ◌≤◌, ℕ, IfErr, IfOk};
+ghost use Rattle.std.specs.Prelude.{◌≡◌, ◌+◌, ◌≤◌, ℕ, IfErr, IfOk, List, Option};
 ghost use Rattle.sd_base.specs.declared.limits.TheConstants.{LEAST_STATES, STATES};
+ghost use Rattle.sd_base.specs.Net.{Net};
+ghost use Rattle.sd_base.specs.Schedules.{HasInputs};
+ghost use Rattle.sd_base.specs.Connection.{IsConnected};
 ghost use Rattle.sd_base.specs.Untimed.{IsBlockedBy, IsLive};
+ghost use Rattle.firing.specs.Wiring.{IsWiringOf};
 ghost use Rattle.lasso.specs.LoopAnswers.{IsRunRefusal};
 ghost use Rattle.storage.specs.BoundedNets.{bound};
 ghost use Rattle.guide.specs.Evaluations.{IsEvaluable, IsEvaluated, IsRefused, loops_run};
 
 use crate::held_up::shown_channels;
 use crate::laws::need_cycles_hold_with_more_room;
-use critical::{NeedCycle, cycle_of};
-use firing::{Firing, LoopTable, know_laws};
-use lasso::{RunError, run_loop};
-use liveness::{Round, one_round};
+use critical::{NeedCycle, cycle_of_on};
+use firing::{Firing, LoopTable, Wiring, is_single_phase, know_laws, single_phase_copy};
+use lasso::{RunError, run_loop_on};
+use liveness::{Round, one_round_on};
 use sd_base::{Fraction, Ledger, NoMemory, Rows, Steps};
 use std::alloc::Global;
 use storage::{Bounded, Distribution};
@@ -61,8 +65,35 @@ pub fn evaluate<F: Firing, L: Ledger>(
     ensures share { steps.new.share ≡ steps.old.share }
 {
     let bounded = Bounded::new(alloc, net, capacities)?;
-    match one_round(alloc, &bounded)? {
-        Round::Live { order: _ } => evaluate_live(alloc, net, capacities, states, steps),
+    if !is_single_phase(&bounded) {
+        return evaluate_on(alloc, net, capacities, &bounded, states, steps);
+    }
+    let copy = single_phase_copy(alloc, &bounded)?;
+    evaluate_on(alloc, net, capacities, &copy, states, steps)
+}
+
+/// The same on the net that the distribution bounds.
+fn evaluate_on<F: Firing, B: Firing, L: Ledger>(
+    alloc: Global,
+    net: &F,
+    capacities: &Distribution,
+    bounded: &B,
+    states: u64,
+    steps: &mut Steps<L>,
+) -> Result<Evaluation, RunError>
+    requires fits { IsEvaluable (F.net net.now) capacities.now.capacities }
+    requires bounded { B.net bounded.now ≡ bound (F.net net.now) capacities.now.capacities }
+    requires some { LEAST_STATES ≤ states }
+    requires few { states ≤ STATES }
+    ensures evaluated { IfOk result (IsEvaluated (F.net net.now) capacities.now.capacities states) }
+    ensures refused { IfErr result (IsRefused (F.net net.now) capacities.now.capacities states) }
+    ensures count { IfOk result (λ e. steps.new.count ≡ steps.old.count + loops_run e.outcome) }
+    ensures most { steps.new.count ≤ steps.old.count + 1 }
+    ensures share { steps.new.share ≡ steps.old.share }
+{
+    let wiring = Wiring::new(alloc, bounded)?;
+    match one_round_on(alloc, bounded, &wiring)? {
+        Round::Live { order: _ } => evaluate_live(alloc, bounded, &wiring, states, steps),
         Round::Blocked { counts, lacks } => {
             Ok(evaluate_blocked(alloc, net, capacities, counts, lacks)?)
         }
@@ -91,30 +122,31 @@ fn evaluate_blocked<F: Firing>(
     })
 }
 
-/// The rate of a live distribution by the loop of its net.
-fn evaluate_live<F: Firing, L: Ledger>(
+/// The rate of a live distribution by the loop of the net that it bounds.
+fn evaluate_live<B: Firing, L: Ledger>(
     alloc: Global,
-    net: &F,
-    capacities: &Distribution,
+    bounded: &B,
+    wiring: &Wiring,
     states: u64,
     steps: &mut Steps<L>,
 ) -> Result<Evaluation, RunError>
-    requires fits { IsEvaluable (F.net net.now) capacities.now.capacities }
-    requires live { IsLive (bound (F.net net.now) capacities.now.capacities) }
+    requires wired { IsWiringOf (B.net bounded.now) wiring.now }
+    requires live { IsLive (B.net bounded.now) }
+    requires connected { IsConnected (B.net bounded.now) }
+    requires inputs { HasInputs (B.net bounded.now) }
     requires some { LEAST_STATES ≤ states }
     requires few { states ≤ STATES }
-    ensures evaluated { IfOk result (IsEvaluated (F.net net.now) capacities.now.capacities states) }
-    ensures refused { IfErr result (IsRunRefusal (bound (F.net net.now) capacities.now.capacities) states) }
+    ensures evaluated { IfOk result (λ e. (net : Net) (ds : List (Option ℕ)) → B.net bounded.now ≡ bound net ds → IsEvaluated net ds states e) }
+    ensures refused { IfErr result (IsRunRefusal (B.net bounded.now) states) }
     ensures count { IfOk result (λ e. steps.new.count ≡ steps.old.count + loops_run e.outcome) }
     ensures most { steps.new.count ≤ steps.old.count + 1 }
     ensures share { steps.new.share ≡ steps.old.share }
 {
-    know_laws(net);
+    know_laws(bounded);
     need_cycles_hold_with_more_room();
-    let bounded = Bounded::new(alloc, net, capacities)?;
-    let table = run_loop(alloc, &bounded, states, steps)?;
-    let cycle = cycle_of(alloc, &bounded, &table)?;
-    let enlarge = cycle.storage_channels(alloc, &bounded)?;
+    let table = run_loop_on(alloc, bounded, wiring, states, steps)?;
+    let cycle = cycle_of_on(alloc, bounded, wiring, &table)?;
+    let enlarge = cycle.storage_channels(alloc, bounded)?;
     Ok(Evaluation {
         rate: Fraction::new(table.rounds, table.period),
         enlarge,

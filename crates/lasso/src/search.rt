@@ -33,6 +33,7 @@ pub(crate) struct Pair {
 pub(crate) struct Checkpoint {
     pub(crate) shape: Shape,
     pub(crate) print: u64,
+    pub(crate) running_print: u64,
     pub(crate) moment: u64,
     pub(crate) starts: u64,
 }
@@ -140,18 +141,23 @@ fn checkpoint_of<F: Firing>(alloc: Global, engine: &Engine<F>) -> Result<Checkpo
     Ok(Checkpoint {
         shape: engine.shape(alloc)?,
         print: engine.print(),
+        running_print: engine.running_print(),
         moment: engine.moment(),
         starts: engine.starts(),
     })
 }
 
-/// Whether an engine stands at the shape of a checkpoint. Cost: mostly constant where it doesn't.
+/// Whether an engine stands at the shape of a checkpoint. Cost: where it doesn't, mostly constant if the tokens
+/// differ, and linear in the actors if the running firings do.
 fn stands_at<F: Firing>(engine: &Engine<F>, checkpoint: &Checkpoint) -> bool
     requires running { engine.now.stage ≡ Running }
     requires checkpoint { IsCheckpoint (F.net engine.now.net.now) checkpoint.now }
     ensures { IsTrue result ↔ (shape_at (F.net engine.now.net.now) engine.now.moment ≡ shape_at (F.net engine.now.net.now) checkpoint.now.moment) }
 {
     if engine.print() != checkpoint.print {
+        return false;
+    }
+    if engine.running_print() != checkpoint.running_print {
         return false;
     }
     engine.same_shape(&checkpoint.shape)

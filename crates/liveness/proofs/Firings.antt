@@ -1,5 +1,5 @@
 -- One firing of a run.
-use Rattle.std.proofs.Common.{◌≡◌, ◌≢◌, ℕ, ◌+◌, ◌*◌, ◌≤◌, ◌<◌, ◌^◌, Bool, true, false, MatchBool, Option, List, [], ◌∷◌, ◌++◌, length, map, set, replicate, sum, ⊎_elim, subst, sym, ap, ◌∙◌, arith}
+use Rattle.std.proofs.Common.{◌≡◌, ◌≢◌, ℕ, ◌+◌, ◌*◌, ◌≤◌, ◌<◌, ◌^◌, Option, List, [], ◌∷◌, ◌++◌, length, map, set, replicate, sum, ⊎_elim, subst, sym, ap, ◌∙◌, arith}
 use Rattle.std.specs.Prelude.{slice_index}
 use Rattle.std.proofs.lemmas.Bool.{cases_lt, cases_eq}
 use Rattle.std.proofs.lemmas.List.{length-set, length-map, length-replicate, get_or-map, get_or-replicate, get_or_past}
@@ -73,35 +73,6 @@ module _ (net : Net) (laws : Lawful net) (counts tokens order : List ℕ) (a : �
       let place : a < length counts = rw run.actors actor in
       let by : MoreBy a 1 (slice_index counts) (slice_index (set counts a (slice_index counts a + 1))) = more-set counts a 1 place in
       left-more net (slice_index counts) (slice_index (set counts a (slice_index counts a + 1))) a actor less by.here by.others
-
--- ---- one turn of the actors
-
--- the counts after some turns: fewer firings are left, or nothing fired and the first actors are stopped
-abbrev pub TurnSoFar : Net → List ℕ → List ℕ → ℕ → Bool → Type 0
-TurnSoFar net first counts actor fired =
-    MatchBool fired (left_of net (slice_index counts) < left_of net (slice_index first))
-    ((counts ≡ first) × ((b : ℕ) → b < actor → IsStopped net (slice_index counts) b))
-
-pub turn-fired : (net : Net) (first counts new : List ℕ) (actor : ℕ) (fired : Bool) → TurnSoFar net first counts actor fired → left_of net (slice_index new) < left_of net (slice_index counts) →
-    left_of net (slice_index new) < left_of net (slice_index first)
-turn-fired net first counts new actor true so_far less = omega arith
-turn-fired net first counts new actor false so_far less =
-    let same : left_of net (slice_index counts) ≡ left_of net (slice_index first) = ap (λ (xs : List ℕ). left_of net (slice_index xs)) so_far.0 in omega arith
-
-pub turn-still : (net : Net) (first counts new : List ℕ) (actor : ℕ) (fired : Bool) → TurnSoFar net first counts actor fired → (new ≡ counts) × IsStopped net (slice_index new) actor → TurnSoFar net first new (actor + 1) fired
-turn-still net first counts new actor true so_far still = rw still.0 so_far
-turn-still net first counts new actor false so_far still = (
-  still.0 ∙ so_far.0,
-  λ b below. ⊎_elim
-      (λ (before : b < actor). subst (λ (xs : List ℕ). IsStopped net (slice_index xs) b) (sym still.0) (so_far.1 b before))
-      (λ (here : actor ≤ b). let same : actor ≡ b = omega arith in subst (λ (x : ℕ). IsStopped net (slice_index new) x) same still.1)
-      (cases_lt b actor),
-)
-
-pub turn-done : (net : Net) (first counts : List ℕ) (actor : ℕ) (fired : Bool) → length net.times ≤ actor → TurnSoFar net first counts actor fired →
-    MatchBool fired (left_of net (slice_index counts) < left_of net (slice_index first)) (Closed net (slice_index counts))
-turn-done net first counts actor true past so_far = so_far
-turn-done net first counts actor false past so_far = λ a below less. so_far.1 a (omega arith) less
 
 -- ---- a whole run
 

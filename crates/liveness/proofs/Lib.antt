@@ -1,2 +1,3 @@
 pub mod Firings
 pub mod Naming
+pub mod Looking

@@ -1,1 +1,2 @@
 pub mod UntimedRuns
+pub mod Looks

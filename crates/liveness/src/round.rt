@@ -1,10 +1,10 @@
 ghost use Rattle.std.specs.Prelude.{◌≡◌, ◌≤◌, ◌<◌, ◌↔◌, ℕ, IsTrue, IfOk, MatchOption, length, slice_index};
 ghost use Rattle.sd_base.specs.Untimed.{IsLive, Closed};
 ghost use Rattle.firing.specs.declared.sums.Port.TheVariants.{Made, Taken};
-ghost use Rattle.firing.specs.Wiring.{AreListed, IsLevel};
+ghost use Rattle.firing.specs.Wiring.{AreListed, IsLevel, IsWiringOf};
 
 use crate::run::run_out;
-use firing::{Firing, Wiring, first_lack, initial_tokens};
+use firing::{Firing, Wiring, first_lack, initial_tokens, know_wiring};
 use sd_base::{NoMemory, Rows};
 use std::alloc::Global;
 
@@ -26,18 +26,30 @@ pub enum Round {
 ghost use Rattle.sd_base.specs.Untimed.{IsFirstLacking, NamesLacks};
 ghost use Rattle.liveness.specs.RoundAnswers.{IsAnswer, is_live};
 
-/// Fires a round, or as much of it as can fire. Cost: linear in the firings of a round times the channels.
+/// Fires a round, or as much of it as can fire. Cost: linear in the actors and channels, and for each firing in
+/// the channels of its actor and of those that it makes tokens for.
 pub fn one_round<F: Firing>(alloc: Global, net: &F) -> Result<Round, NoMemory>
     ensures answer { IfOk result (IsAnswer (F.net net.now)) }
     ensures exact { IfOk result (λ round. IsTrue (is_live round) ↔ IsLive (F.net net.now)) }
 {
     let wiring = Wiring::new(alloc, net)?;
+    one_round_on(alloc, net, &wiring)
+}
+
+/// A round of a net whose wiring is there already, as `one_round` fires it.
+pub fn one_round_on<F: Firing>(alloc: Global, net: &F, wiring: &Wiring) -> Result<Round, NoMemory>
+    requires wired { IsWiringOf (F.net net.now) wiring.now }
+    ensures answer { IfOk result (IsAnswer (F.net net.now)) }
+    ensures exact { IfOk result (λ round. IsTrue (is_live round) ↔ IsLive (F.net net.now)) }
+{
+    know_wiring(net, wiring);
     let mut counts = vec![in alloc; 0u64; net.actors() as usize]?;
     let mut tokens = initial_tokens(alloc, net)?;
     let mut order = Vec::new(alloc);
     run_out(
+        alloc,
         net,
-        &wiring,
+        wiring,
         counts.as_mut_slice(),
         tokens.as_mut_slice(),
         &mut order,
@@ -47,7 +59,7 @@ pub fn one_round<F: Firing>(alloc: Global, net: &F) -> Result<Round, NoMemory>
             order: Rows::from_vec(order),
         });
     }
-    let lacks = lacking_channels(alloc, net, &wiring, counts.as_slice(), tokens.as_slice())?;
+    let lacks = lacking_channels(alloc, net, wiring, counts.as_slice(), tokens.as_slice())?;
     Ok(Round::Blocked {
         counts: Rows::from_vec(counts),
         lacks,

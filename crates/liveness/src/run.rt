@@ -1,15 +1,19 @@
-ghost use Rattle.std.specs.Prelude.{◌≡◌, ◌<◌, IfOk, OnOk, MatchBool, length, slice_index};
+ghost use Rattle.std.specs.Prelude.{◌≡◌, ◌≢◌, ℕ, ◌<◌, IfOk, OnOk, MatchBool, length, slice_index};
 ghost use Rattle.sd_base.specs.Untimed.{Closed};
 ghost use Rattle.sd_base.proofs.Ends.{left_of};
 ghost use Rattle.firing.specs.declared.sums.Port.TheVariants.{Made, Taken};
 ghost use Rattle.firing.specs.Wiring.{AreListed};
 ghost use Rattle.liveness.specs.inside.UntimedRuns.{IsRun, IsStopped};
 
+use crate::flags::Flags;
 use firing::{Firing, Wiring, first_lack, know_laws, put_tokens, take_tokens};
 use sd_base::NoMemory;
+use std::alloc::Global;
 
-/// Fires actors one after another until none can fire within its round.
+/// Fires actors one after another until none can fire within its round. An actor is looked at again only when
+/// a channel into it has gained tokens.
 pub(crate) fn run_out<F: Firing>(
+    alloc: Global,
     net: &F,
     wiring: &Wiring,
     counts: &mut [u64],
@@ -22,33 +26,13 @@ pub(crate) fn run_out<F: Firing>(
     ensures run { OnOk result (IsRun (F.net net.now) counts.new tokens.new order.new.items) }
     ensures closed { OnOk result (Closed (F.net net.now) (slice_index counts.new)) }
 {
-    'turns: while one_turn(net, wiring, counts, tokens, order)? {}
-    Ok(())
-}
-
-/// Gives each actor its turn, and tells whether any fired.
-fn one_turn<F: Firing>(
-    net: &F,
-    wiring: &Wiring,
-    counts: &mut [u64],
-    tokens: &mut [u128],
-    order: &mut Vec<u32>,
-) -> Result<bool, NoMemory>
-    requires inputs { AreListed (F.net net.now) Taken wiring.now.inputs }
-    requires outputs { AreListed (F.net net.now) Made wiring.now.outputs }
-    requires run { IsRun (F.net net.now) counts.old tokens.old order.old.items }
-    ensures run { OnOk result (IsRun (F.net net.now) counts.new tokens.new order.new.items) }
-    ensures fired { IfOk result (λ b. MatchBool b
-        (left_of (F.net net.now) (slice_index counts.new) < left_of (F.net net.now) (slice_index counts.old))
-        (Closed (F.net net.now) (slice_index counts.new))) }
-{
-    let mut fired = false;
-    for actor in 0..net.actors() {
+    let mut flags = Flags::new(alloc, net.actors())?;
+    'looks: while let Some(actor) = flags.pop() {
         if fire_while_able(net, wiring, actor, counts, tokens, order)? {
-            fired = true;
+            flags.flag_targets(net, wiring.outputs_of(actor))?;
         }
     }
-    Ok(fired)
+    Ok(())
 }
 
 /// Fires an actor as often as it can within its round, and tells whether it fired.
@@ -65,9 +49,11 @@ fn fire_while_able<F: Firing>(
     requires outputs { AreListed (F.net net.now) Made wiring.now.outputs }
     requires run { IsRun (F.net net.now) counts.old tokens.old order.old.items }
     ensures run { OnOk result (IsRun (F.net net.now) counts.new tokens.new order.new.items) }
+    ensures stopped { IfOk result (λ b. IsStopped (F.net net.now) (slice_index counts.new) actor) }
+    ensures others { IfOk result (λ b. (a : ℕ) → a ≢ actor → slice_index counts.new a ≡ slice_index counts.old a) }
     ensures fired { IfOk result (λ b. MatchBool b
         (left_of (F.net net.now) (slice_index counts.new) < left_of (F.net net.now) (slice_index counts.old))
-        ((counts.new ≡ counts.old) × IsStopped (F.net net.now) (slice_index counts.new) actor)) }
+        (counts.new ≡ counts.old)) }
 {
     let mut fired = false;
     'firings: while fire_if_able(net, wiring, actor, counts, tokens, order)? {
@@ -90,6 +76,7 @@ fn fire_if_able<F: Firing>(
     requires outputs { AreListed (F.net net.now) Made wiring.now.outputs }
     requires run { IsRun (F.net net.now) counts.old tokens.old order.old.items }
     ensures run { OnOk result (IsRun (F.net net.now) counts.new tokens.new order.new.items) }
+    ensures others { IfOk result (λ b. (a : ℕ) → a ≢ actor → slice_index counts.new a ≡ slice_index counts.old a) }
     ensures fired { IfOk result (λ b. MatchBool b
         (left_of (F.net net.now) (slice_index counts.new) < left_of (F.net net.now) (slice_index counts.old))
         ((counts.new ≡ counts.old) × IsStopped (F.net net.now) (slice_index counts.new) actor)) }

@@ -160,8 +160,8 @@ start-more net a moment k room tokens left after runs more most n m so_far fits 
 }
 
 pub start-all : (net : Net) (a moment k room : ℕ) (tokens left runs more : List ℕ) (n i : ℕ) → StartSoFar net a moment k room tokens left runs more n → IsFirstLack net left a (k + n) i →
-    (n ≤ room) × StartsAll net a moment k n tokens left runs more
-start-all net a moment k room tokens left runs more n i so_far lack = (so_far.within, record { takes = so_far.takes; ends = so_far.ends; lacks = (i, lack.lacks) })
+    (n ≤ room) × StartsAll net a moment k n i tokens left runs more
+start-all net a moment k room tokens left runs more n i so_far lack = (so_far.within, record { takes = so_far.takes; ends = so_far.ends; lacks = lack.lacks })
 
 pub start-over : (net : Net) (a moment k room : ℕ) (tokens left runs more : List ℕ) (n m : ℕ) → StartSoFar net a moment k room tokens left runs more n → room - n < m → Feeds net left a (k + n) m → Overfills net tokens a k room
 start-over net a moment k room tokens left runs more n m so_far much feeds = (

@@ -13,12 +13,12 @@ use Rattle.sd_base.specs.Lawful.{Lawful}
 use Rattle.sd_base.proofs.Sums.{total-zero, total-le}
 use Rattle.sd_base.proofs.Parts.{Regular, regular}
 use Rattle.sd_base.proofs.Moment.{Able, Full}
-use Rattle.sd_base.proofs.Existence.{allows-true, allows-false, LacksAmong}
+use Rattle.sd_base.proofs.Existence.{allows-true}
 use Rattle.sd_base.proofs.Counts.{early_at, able-along, full-along, first-counts, first-ended}
 use Rattle.sd_base.proofs.Ends.{sum_to, sum_to-le}
 use Rattle.sd_base.proofs.Events.{is_event-zero}
 use Rattle.selftimed.specs.declared.actors.ActorState.{ActorState}
-use Rattle.selftimed.specs.inside.Actors.{started_in, ended_in, running_in, touched_in, Stand, Counted, StartedAll, CanOverrun}
+use Rattle.selftimed.specs.inside.Actors.{started_in, ended_in, running_in, touched_in, lacking_in, LacksAt, Stand, Counted, StartedAll, CanOverrun}
 use Rattle.selftimed.specs.inside.Stands.{IsFresh, Stands, Begins}
 use Rattle.selftimed.specs.Moves.{Overruns}
 use Rattle.selftimed.proofs.Starting.{started-le}
@@ -92,10 +92,10 @@ module _ (net : Net) (laws : Lawful net) (most : ℕ) (old : List ActorState) (t
   running-none : (a : ℕ) → a < length net.times → length (running_in old a) ≡ 0
   running-none a actor = omega (arith, fresh.stand.counts a actor, fresh.started a actor)
 
-  pub fresh-lacks : (b : ℕ) → b < length net.times → touched_in old b ≡ false → Lacks net (ended_in old) b (started_in old b)
+  pub fresh-lacks : (b : ℕ) → b < length net.times → touched_in old b ≡ false → LacksAt net (ended_in old) b (started_in old b) (lacking_in old b)
   fresh-lacks b actor calm =
-      let lack : LacksAmong net.channels (λ a. 0) b 0 = allows-false net.channels (λ a. 0) b 0 (fresh.lacks b actor calm) in
-      (lack.0, lack.1, lack.2, rw (fresh.started b actor, ended-none (channel_at net lack.0).source (laws.sources lack.0 lack.1)) lack.3)
+      let lack : LacksAt net (λ a. 0) b 0 (lacking_in old b) = fresh.lacks b actor calm in
+      (lack.0, lack.1, rw (fresh.started b actor, ended-none (channel_at net (lacking_in old b)).source (laws.sources (lacking_in old b) lack.0)) lack.2)
 
   -- more starts were due at moment 0 than the bound
   pub fresh-overruns : CanOverrun net (ended_in old) most → Overruns net 0 most
@@ -116,7 +116,7 @@ module _ (net : Net) (laws : Lawful net) (most : ℕ) (old : List ActorState) (t
     }
 
     new-full : Full net (λ a. 0) (started_in new)
-    new-full = full-along net (ended_in old) (λ a. 0) (started_in new) (started_in new) (regular net laws).wired ended-none (λ b is. refl) started.lacks
+    new-full = full-along net (ended_in old) (λ a. 0) (started_in new) (started_in new) (regular net laws).wired ended-none (λ b is. refl) (λ b is. (lacking_in new b, (started.lacks b is).0, (started.lacks b is).1, (started.lacks b is).2))
 
     fed : HasInputs net
     fed = inputs-from net (fed-from net (λ a. 0) (started_in new) new-full)
@@ -148,6 +148,9 @@ module _ (net : Net) (laws : Lawful net) (most : ℕ) (old : List ActorState) (t
           let zero_start : 0 ≡ start_of (earliest net 1) a (ended_in new a + k) = omega arith in
           (rw (e, f) at added) ∙ ap (λ (x : ℕ). x + time_of net a (ended_in new a + k)) zero_start;
       calm = started.calm;
+      lacks = λ b is.
+          let lack : LacksAt net (ended_in old) b (started_in new b) (lacking_in new b) = started.lacks b is in
+          (lack.0, lack.1, rw (started.ended (channel_at net (lacking_in new b)).source) lack.2);
       clock = omega arith;
       event = is_event-zero net;
     }
@@ -164,7 +167,11 @@ module _ (net : Net) (laws : Lawful net) (most : ℕ) (old : List ActorState) (t
       stand = stand;
       counted = counted;
       started = λ a actor. omega (arith, started-le new total_now most a counted (rw stand.long actor));
-      lacks = λ a actor calm. allows-none net (λ b. 0) a 0 (fresh-stuck none a actor);
+      lacks = λ a actor calm.
+          let lack : LacksAt net (ended_in old) a (started_in new a) (lacking_in new a) = started.lacks a actor in
+          let zero_now : started_in new a ≡ 0 = omega (arith, started-le new total_now most a counted (rw stand.long actor)) in
+          let none_ended : ended_in old (channel_at net (lacking_in new a)).source ≡ 0 = ended-none (channel_at net (lacking_in new a)).source (laws.sources (lacking_in new a) lack.0) in
+          (lack.0, lack.1, rw (zero_now, none_ended) at lack.2);
     }
 
 -- what the starts of moment 0 come to

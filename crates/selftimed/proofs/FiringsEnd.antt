@@ -12,7 +12,7 @@ use Rattle.firing.specs.Wiring.{IsListed, PutsTokens, IsLevel}
 use Rattle.firing.proofs.Listings.{place_of}
 use Rattle.firing.proofs.TokenMoves.{MoreBy, level-puts, level-small}
 use Rattle.selftimed.specs.declared.actors.ActorState.{ActorState}
-use Rattle.selftimed.specs.inside.Actors.{idle, started_in, ended_in, running_in, touched_in, EndsOne, Touches, EndsAll, Stand}
+use Rattle.selftimed.specs.inside.Actors.{idle, started_in, ended_in, running_in, touched_in, lacking_in, EndsOne, Touches, EndsAll, Stand}
 use Rattle.selftimed.specs.inside.Agendas.{Entry, entry, Announces, IsFirst, Lists, IsAgenda}
 use Rattle.selftimed.proofs.Agendas.{HasFirsts, has-firsts, entries-found, has-number, number-found, runs-place, besides, announced-kept, announced-there, announced-all}
 
@@ -27,11 +27,12 @@ pub record TouchesSoFar (net : Net) (channels : List ℕ) (old new : List ActorS
   pub ended : (b : ℕ) → ended_in new b ≡ ended_in old b
   pub running : (b : ℕ) → running_in new b ≡ running_in old b
   pub kept : (b : ℕ) → touched_in new b ≡ false → touched_in old b ≡ false
-  pub there : (j : ℕ) → j < done → touched_in new (channel_at net (slice_index channels j)).target ≡ true
+  pub lacking : (b : ℕ) → lacking_in new b ≡ lacking_in old b
+  pub there : (j : ℕ) → j < done → touched_in new (channel_at net (slice_index channels j)).target ≡ false → lacking_in new (channel_at net (slice_index channels j)).target ≢ slice_index channels j
   pub lists : Lists net new touched
 
 pub touches-none : (net : Net) (channels : List ℕ) (old : List ActorState) (touched : List ℕ) → Lists net old touched → TouchesSoFar net channels old old touched 0
-touches-none net channels old touched lists = record { long = refl; started = λ b. refl; ended = λ b. refl; running = λ b. refl; kept = λ b e. e; there = λ j h. absurd (omega arith); lists = lists }
+touches-none net channels old touched lists = record { long = refl; started = λ b. refl; ended = λ b. refl; running = λ b. refl; kept = λ b e. e; lacking = λ b. refl; there = λ j h. absurd (omega arith); lists = lists }
 
 pub touches-all : (net : Net) (channels : List ℕ) (old new : List ActorState) (touched : List ℕ) (done : ℕ) → length channels ≤ done → TouchesSoFar net channels old new touched done → Touches net channels old new
 touches-all net channels old new touched done past so_far = record {
@@ -40,7 +41,25 @@ touches-all net channels old new touched done past so_far = record {
   ended = so_far.ended;
   running = so_far.running;
   kept = so_far.kept;
+  lacking = so_far.lacking;
   there = λ j h. so_far.there j (omega arith);
+}
+
+-- an actor that lacks tokens on another channel isn't touched
+pub touches-skip : (net : Net) (channels : List ℕ) (old now : List ActorState) (touched : List ℕ) (done t : ℕ) → t ≡ (channel_at net (slice_index channels done)).target → lacking_in now t ≢ slice_index channels done →
+    TouchesSoFar net channels old now touched done → TouchesSoFar net channels old now touched (done + 1)
+touches-skip net channels old now touched done t into away so_far = record {
+  long = so_far.long;
+  started = so_far.started;
+  ended = so_far.ended;
+  running = so_far.running;
+  kept = so_far.kept;
+  lacking = so_far.lacking;
+  there = λ j h off. ⊎_elim
+      (λ (before : j < done). so_far.there j before off)
+      (λ (here : done ≤ j). let same : j ≡ done = omega arith in rw (same, ← into) away)
+      (cases_lt j done);
+  lists = so_far.lists;
 }
 
 -- one more actor is touched
@@ -96,12 +115,18 @@ module _ (net : Net) (channels : List ℕ) (old now : List ActorState) (touched 
         absurd (false≢true (sym off ∙ yes)))
         (λ (away : b ≢ t). so_far.kept b (sym (kept-on b away) ∙ off))
         (cases_eq b t);
-    there = λ j h. ⊎_elim
+    lacking = λ b. keeps (λ (s : ActorState). s.lacking) refl b ∙ so_far.lacking b;
+    there = λ j h off. ⊎_elim
         (λ (before : j < done). ⊎_elim
-        (λ (e : (channel_at net (slice_index channels j)).target ≡ t). rw e (ap (λ (s : ActorState). s.touched) here))
-        (λ (away : (channel_at net (slice_index channels j)).target ≢ t). kept-on (channel_at net (slice_index channels j)).target away ∙ so_far.there j before)
+        (λ (e : (channel_at net (slice_index channels j)).target ≡ t). absurd (false≢true (sym off ∙ rw e (ap (λ (s : ActorState). s.touched) here))))
+        (λ (away : (channel_at net (slice_index channels j)).target ≢ t).
+        rw (keeps (λ (s : ActorState). s.lacking) refl (channel_at net (slice_index channels j)).target)
+        (so_far.there j before (sym (kept-on (channel_at net (slice_index channels j)).target away) ∙ off)))
         (cases_eq (channel_at net (slice_index channels j)).target t))
-        (λ (now_one : done ≤ j). let same : j ≡ done = omega arith in rw (same, ← into) (ap (λ (s : ActorState). s.touched) here))
+        (λ (now_one : done ≤ j).
+        let same : j ≡ done = omega arith in
+        let target : (channel_at net (slice_index channels j)).target ≡ t = rw same (sym into) in
+        absurd (false≢true (sym off ∙ rw target (ap (λ (s : ActorState). s.touched) here))))
         (cases_lt j done);
     lists = lists-more;
   }
@@ -169,7 +194,8 @@ pub record EndsSoFar (net : Net) (moment : ℕ) (first now : List ActorState) (t
   pub long : length now ≡ length first
   pub ones : (b : ℕ) → b < length net.times → EndsSome moment (slice_index_or first b idle) (slice_index_or now b idle)
   pub stand : Stand net now tokens
-  pub fed : (i : ℕ) → i < length net.channels → touched_in now (channel_at net i).target ≡ false → ended_in now (channel_at net i).source ≡ ended_in first (channel_at net i).source
+  pub lacking : (b : ℕ) → lacking_in now b ≡ lacking_in first b
+  pub fed : (i : ℕ) → i < length net.channels → touched_in now (channel_at net i).target ≡ false → lacking_in now (channel_at net i).target ≡ i → ended_in now (channel_at net i).source ≡ ended_in first (channel_at net i).source
   pub near : All (Near net moment now) ends
   pub whole : HasFirsts now ends
   pub lists : Lists net now touched
@@ -179,7 +205,8 @@ ends-none net moment first tokens ends touched stand agenda = record {
   long = refl;
   ones = λ b is. ends-nothing moment (slice_index_or first b idle);
   stand = stand;
-  fed = λ i there off. refl;
+  lacking = λ b. refl;
+  fed = λ i there off lacks. refl;
   near = All-weaker (IsFirst first) (Near net moment first) (λ e is. (omega (arith, runs-place first e.1 is.0, stand.long), inr is)) ends agenda.firsts;
   whole = has-firsts first ends agenda.firsts agenda.whole;
   lists = agenda.lists;
@@ -192,15 +219,16 @@ pub record Kept (old new : List ActorState) : Type 0 where
   pub ended : (b : ℕ) → ended_in new b ≡ ended_in old b
   pub running : (b : ℕ) → running_in new b ≡ running_in old b
   pub kept : (b : ℕ) → touched_in new b ≡ false → touched_in old b ≡ false
+  pub lacking : (b : ℕ) → lacking_in new b ≡ lacking_in old b
 
 pub kept-touches : (net : Net) (channels : List ℕ) (old new : List ActorState) → Touches net channels old new → Kept old new
-kept-touches net channels old new t = record { long = t.long; started = t.started; ended = t.ended; running = t.running; kept = t.kept }
+kept-touches net channels old new t = record { long = t.long; started = t.started; ended = t.ended; running = t.running; kept = t.kept; lacking = t.lacking }
 
 module _ (net : Net) (moment : ℕ) (first now : List ActorState) (tokens left : List ℕ) (t a : ℕ) (s : ActorState) (new : List ActorState) (ends mid more : List Entry) (touched longer : List ℕ) (actor : a < length net.times)
     (so_far : EndsSoFar net moment first now tokens ends touched) (taken : IsPermutation ends (entry t a ∷ mid)) (announced : Announces a s.running mid more) (lists : Lists net new longer)
-    (one : EndsOne moment (slice_index_or now a idle) s) (still : s.touched ≡ touched_in now a) (kept : Kept (set now a s) new)
+    (one : EndsOne moment (slice_index_or now a idle) s) (still : s.touched ≡ touched_in now a) (noted : s.lacking ≡ lacking_in now a) (kept : Kept (set now a s) new)
     (puts : PutsTokens net a (ended_in now a) (s.ended - ended_in now a) tokens left) (long_left : length left ≡ length tokens)
-    (fed : (i : ℕ) → i < length net.channels → (channel_at net i).source ≡ a → touched_in new (channel_at net i).target ≡ false → s.ended ≡ ended_in now a) where
+    (fed : (i : ℕ) → i < length net.channels → (channel_at net i).source ≡ a → touched_in new (channel_at net i).target ≡ false → lacking_in new (channel_at net i).target ≡ i → s.ended ≡ ended_in now a) where
   place : a < length now
   place = rw so_far.stand.long actor
 
@@ -300,17 +328,26 @@ module _ (net : Net) (moment : ℕ) (first now : List ActorState) (tokens left :
         (λ (away : b ≢ a). ends_some-along moment (slice_index_or first b idle) (slice_index_or now b idle) (slice_index_or new b idle) (sym (started-other b away)) (sym (ended-other b away)) (sym (running-other b away)) (so_far.ones b is))
         (cases_eq b a);
     stand = stand;
-    fed = λ i there off. ⊎_elim
+    lacking = λ b. lacking-all b ∙ so_far.lacking b;
+    fed = λ i there off lacks.
+        let was_lacking : lacking_in now (channel_at net i).target ≡ i = sym (lacking-all (channel_at net i).target) ∙ lacks in
+        ⊎_elim
         (λ (e : (channel_at net i).source ≡ a).
-        let was : ended_in now a ≡ ended_in first a = rw e at (so_far.fed i there (untouched (channel_at net i).target off)) in
-        rw e (ended-here ∙ (fed i there e off ∙ was)))
-        (λ (away : (channel_at net i).source ≢ a). ended-other (channel_at net i).source away ∙ so_far.fed i there (untouched (channel_at net i).target off))
+        let was : ended_in now a ≡ ended_in first a = rw e at (so_far.fed i there (untouched (channel_at net i).target off) was_lacking) in
+        rw e (ended-here ∙ (fed i there e off lacks ∙ was)))
+        (λ (away : (channel_at net i).source ≢ a). ended-other (channel_at net i).source away ∙ so_far.fed i there (untouched (channel_at net i).target off) was_lacking)
         (cases_eq (channel_at net i).source a);
     near = near;
     whole = whole;
     lists = lists;
   }
     where
+      lacking-all : (b : ℕ) → lacking_in new b ≡ lacking_in now b
+      lacking-all b = kept.lacking b ∙ ⊎_elim
+          (λ (e : b ≡ a). rw e (ap (λ (x : ActorState). x.lacking) mid-here ∙ noted))
+          (λ (away : b ≢ a). ap (λ (x : ActorState). x.lacking) (mid-other b away))
+          (cases_eq b a)
+
       untouched : (b : ℕ) → touched_in new b ≡ false → touched_in now b ≡ false
       untouched b off = ⊎_elim
           (λ (e : b ≡ a). rw e (sym still ∙ (sym (ap (λ (x : ActorState). x.touched) mid-here) ∙ rw e at (kept.kept b off))))
@@ -344,6 +381,7 @@ module _ (net : Net) (moment : ℕ) (first now : List ActorState) (tokens : List
               let e : n + 0 ≡ n = omega arith in
               omega (arith, ap (slice_index (running_in first b)) e);
         };
+    lacking = so_far.lacking;
     untouched = so_far.fed;
   }
 
@@ -379,24 +417,24 @@ stand-small net actors tokens laws stand i there =
     let small : slice_index tokens i ≤ 2000000000 + 2 ^ 32 * 1000000 = level-small net (started_in actors) (ended_in actors) tokens (2 ^ 32) i laws stand.level there few in
     omega arith
 
--- the targets of the channels out of an actor are touched
+-- an actor that lacked tokens on a channel out of another one is touched
 pub touched-fed : (net : Net) (a : ℕ) (channels : List ℕ) (mid new : List ActorState) → IsListed net Made a channels → Touches net channels mid new →
-    (i : ℕ) → i < length net.channels → (channel_at net i).source ≡ a → touched_in new (channel_at net i).target ≡ false → ⊥
-touched-fed net a channels mid new listed touches i there from off =
+    (i : ℕ) → i < length net.channels → (channel_at net i).source ≡ a → touched_in new (channel_at net i).target ≡ false → lacking_in new (channel_at net i).target ≡ i → ⊥
+touched-fed net a channels mid new listed touches i there from off lacks =
     let found = place_of net Made a channels listed i there from in
-    let on : touched_in new (channel_at net (slice_index channels found.0)).target ≡ true = touches.there found.0 found.1 in
-    let here : touched_in new (channel_at net i).target ≡ true = subst (λ (c : ℕ). touched_in new (channel_at net c).target ≡ true) found.2 on in
-    false≢true (sym off ∙ here)
+    let other : touched_in new (channel_at net i).target ≡ false → lacking_in new (channel_at net i).target ≢ i =
+    subst (λ (c : ℕ). touched_in new (channel_at net c).target ≡ false → lacking_in new (channel_at net c).target ≢ c) found.2 (touches.there found.0 found.1) in
+    other off lacks
 
 -- the same over the state as it was read
 pub ends-step : (net : Net) (moment : ℕ) (first now : List ActorState) (tokens left : List ℕ) (t a : ℕ) (base s : ActorState) (new : List ActorState) (ends mid more : List Entry) (touched longer : List ℕ) → base ≡ slice_index_or now a idle → a < length net.times →
     EndsSoFar net moment first now tokens ends touched → IsPermutation ends (entry t a ∷ mid) → Announces a s.running mid more → Lists net new longer →
-    EndsOne moment base s → s.touched ≡ base.touched → Kept (set now a s) new → PutsTokens net a base.ended (s.ended - base.ended) tokens left → length left ≡ length tokens →
-    ((i : ℕ) → i < length net.channels → (channel_at net i).source ≡ a → touched_in new (channel_at net i).target ≡ false → s.ended ≡ base.ended) →
+    EndsOne moment base s → s.touched ≡ base.touched → s.lacking ≡ base.lacking → Kept (set now a s) new → PutsTokens net a base.ended (s.ended - base.ended) tokens left → length left ≡ length tokens →
+    ((i : ℕ) → i < length net.channels → (channel_at net i).source ≡ a → touched_in new (channel_at net i).target ≡ false → lacking_in new (channel_at net i).target ≡ i → s.ended ≡ base.ended) →
     EndsSoFar net moment first new left more longer
-ends-step net moment first now tokens left t a base s new ends mid more touched longer was actor so_far taken announced lists one still kept puts long_left fed =
+ends-step net moment first now tokens left t a base s new ends mid more touched longer was actor so_far taken announced lists one still noted kept puts long_left fed =
     ends-more net moment first now tokens left t a s new ends mid more touched longer actor so_far taken announced lists
     (subst (λ (x : ActorState). EndsOne moment x s) was one)
-    (subst (λ (x : ActorState). s.touched ≡ x.touched) was still) kept
+    (subst (λ (x : ActorState). s.touched ≡ x.touched) was still) (subst (λ (x : ActorState). s.lacking ≡ x.lacking) was noted) kept
     (subst (λ (x : ActorState). PutsTokens net a x.ended (s.ended - x.ended) tokens left) was puts) long_left
-    (λ i there from off. subst (λ (x : ActorState). s.ended ≡ x.ended) was (fed i there from off))
+    (λ i there from off lacks. subst (λ (x : ActorState). s.ended ≡ x.ended) was (fed i there from off lacks))

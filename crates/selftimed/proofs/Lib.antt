@@ -11,3 +11,4 @@ pub mod Shaping
 pub mod Comparing
 pub mod ExecutionStands
 pub mod FiringsEnd
+pub mod RunningPrints

@@ -18,7 +18,7 @@ use Rattle.sd_base.proofs.Counts.{Same, Quiet, ended_at, early_at, ended-at-is, 
 use Rattle.sd_base.proofs.Ends.{sum_to, sum_to-le, sum_to-lt}
 use Rattle.sd_base.proofs.Events.{is_event-end, event-tells}
 use Rattle.selftimed.specs.declared.actors.ActorState.{ActorState}
-use Rattle.selftimed.specs.inside.Actors.{started_in, ended_in, running_in, touched_in, IsFirstEnd, IsQuiet, EndsAll, Stand, Counted, StartedAll, CanOverrun}
+use Rattle.selftimed.specs.inside.Actors.{started_in, ended_in, running_in, touched_in, lacking_in, LacksAt, IsFirstEnd, IsQuiet, EndsAll, Stand, Counted, StartedAll, CanOverrun}
 use Rattle.selftimed.specs.inside.Stands.{Stands}
 use Rattle.selftimed.specs.Moves.{IsNext, Overruns}
 use Rattle.selftimed.proofs.Starting.{sum_to-all, sum_to-same}
@@ -185,14 +185,14 @@ module _ (net : Net) (laws : Lawful net) (now most : ℕ) (old : List ActorState
                 omega (arith, here.1);
           }
 
-      -- an actor whose channels gained nothing lacks what it lacked
-      pub mid-lacks : (b : ℕ) → b < length net.times → touched_in mid b ≡ false → Lacks net (ended_in mid) b (started_in mid b)
+      -- an actor lacks what it lacked if that channel gained nothing
+      pub mid-lacks : (b : ℕ) → b < length net.times → touched_in mid b ≡ false → LacksAt net (ended_in mid) b (started_in mid b) (lacking_in mid b)
       mid-lacks b actor calm =
-          let lack : Lacks net (ended_at net now) b (count_of (earliest net (suc now)) b) = full-at net reg fed now b actor in
-          let source : (channel_at net lack.0).source < length net.times = laws.sources lack.0 lack.1 in
-          let still : ended_in mid (channel_at net lack.0).source ≡ ended_in old (channel_at net lack.0).source = ends.untouched lack.0 lack.1 (rw lack.2 calm) in
-          let count : started_in mid b ≡ count_of (earliest net (suc now)) b = (ends.each b actor).started ∙ stands.counts b actor in
-          (lack.0, lack.1, lack.2, rw (count, still, stands.ended (channel_at net lack.0).source source) lack.3)
+          let i : ℕ = lacking_in old b in
+          let lack : LacksAt net (ended_in old) b (started_in old b) i = stands.lacks b actor in
+          let still : ended_in mid (channel_at net i).source ≡ ended_in old (channel_at net i).source = ends.untouched i lack.0 (rw lack.1 calm) (rw lack.1 (ends.lacking b)) in
+          let count : started_in mid b ≡ started_in old b = (ends.each b actor).started in
+          rw (ends.lacking b, count) (lack.0, lack.1, rw still lack.2)
 
       pub mid-counted : Counted mid all most
       mid-counted =
@@ -232,7 +232,7 @@ module _ (net : Net) (laws : Lawful net) (now most : ℕ) (old : List ActorState
         }
 
         new-counts : (a : ℕ) → a < length net.times → started_in new a ≡ count_of (earliest net (suc t)) a
-        new-counts a actor = advance-counts net reg fed now t quiet later (ended_in mid) mid-ended (started_in new) new-able started.lacks a actor
+        new-counts a actor = advance-counts net reg fed now t quiet later (ended_in mid) mid-ended (started_in new) new-able (λ b is. (lacking_in new b, (started.lacks b is).0, (started.lacks b is).1, (started.lacks b is).2)) a actor
 
         new-ends : (a k : ℕ) → a < length net.times → k < length (running_in new a) → slice_index (running_in new a) k ≡ end_of net (earliest net (suc t)) a (ended_in new a + k)
         new-ends a k actor below =
@@ -289,6 +289,9 @@ module _ (net : Net) (laws : Lawful net) (now most : ℕ) (old : List ActorState
           ended = λ a actor. started.ended a ∙ advance-ended net reg fed now t quiet later (ended_in mid) mid-ended a actor;
           ends = new-ends;
           calm = started.calm;
+          lacks = λ b is.
+              let lack : LacksAt net (ended_in mid) b (started_in new b) (lacking_in new b) = started.lacks b is in
+              (lack.0, lack.1, rw (started.ended (channel_at net (lacking_in new b)).source) lack.2);
           clock = new-clock;
           event = event;
         }

@@ -1,4 +1,4 @@
--- How a print changes with the tokens of a channel.
+-- How a print changes with the tokens of a channel, and with the times left of an actor's firings.
 use Rattle.std.proofs.Common.{◌≡◌, ℕ, zero, suc, ◌+◌, ◌-◌, ◌*◌, ◌/◌, ◌%◌, ◌^◌, ◌≤◌, ◌<◌, List, [], ◌∷◌, ◌++◌, length, set, sym, ap, ◌∙◌, arith}
 use Rattle.std.specs.Prelude.{slice_index}
 use Rattle.std.proofs.Math.Nat.{mod-add-mod, mod-add-div, mod-lt, add-mul-mod_self_left, mul-add}
@@ -26,7 +26,7 @@ mod-sum p q m =
     let back : q + p ≡ p + q = omega arith in
     mod-add-mod p m (q % m) ∙ (ap (λ (x : ℕ). x % m) turn ∙ (mod-add-mod q m p ∙ ap (λ (x : ℕ). x % m) back))
 
-mod-less : (p q w m : ℕ) → 0 < m → q + w ≡ p → (p % m + (m - w % m)) % m ≡ q % m
+pub mod-less : (p q w m : ℕ) → 0 < m → q + w ≡ p → (p % m + (m - w % m)) % m ≡ q % m
 mod-less p q w m some whole =
     let rest : w % m < m = mod-lt w some in
     let parts : w % m + m * (w / m) ≡ w = mod-add-div w m in

@@ -7,7 +7,7 @@ use Rattle.std.proofs.lemmas.List.{length-set, get_or-set_same, get_or-set_other
 use Rattle.std.proofs.lemmas.List.Elements.{All-contains, All-pop, All-weaker, Contains-push, Contains-push_cases}
 use Rattle.std.proofs.lemmas.List.Sums.{sum_by-set, sum_by_more, get_or-le-sum_by}
 use Rattle.sd_base.specs.Net.{Net, channel_at, total}
-use Rattle.sd_base.specs.Schedules.{Needs, Lacks}
+use Rattle.sd_base.specs.Schedules.{Needs}
 use Rattle.sd_base.proofs.Moment.{Able}
 use Rattle.sd_base.proofs.Ends.{sum_to}
 use Rattle.firing.specs.Wiring.{LacksNow, IsLevel}
@@ -15,7 +15,7 @@ use Rattle.firing.proofs.TokenMoves.{MoreBy, level-takes, level-needs}
 use Rattle.selftimed.specs.inside.Starts.{AddsEnds, Overfills}
 use Rattle.selftimed.proofs.Batches.{adds-none}
 use Rattle.selftimed.specs.declared.actors.ActorState.{ActorState}
-use Rattle.selftimed.specs.inside.Actors.{idle, started_in, ended_in, running_in, touched_in, Stand, Counted, StartsOne, StartedAll, CanOverrun}
+use Rattle.selftimed.specs.inside.Actors.{idle, started_in, ended_in, running_in, touched_in, lacking_in, LacksAt, Stand, Counted, StartsOne, StartedAll, CanOverrun}
 use Rattle.selftimed.specs.inside.Agendas.{Entry, entry, Announces, IsFirst, Lists, IsAgenda}
 use Rattle.selftimed.proofs.Agendas.{HasFirsts, has-firsts, entries-found, has-number, number-found, announced-kept, announced-there, announced-all}
 
@@ -56,7 +56,7 @@ pub record StartsSoFar (net : Net) (moment : ℕ) (first now : List ActorState) 
   pub ended : (b : ℕ) → ended_in now b ≡ ended_in first b
   pub more : (b : ℕ) → b < length net.times → touched_in now b ≡ false → started_in first b ≤ started_in now b
   pub adds : (b : ℕ) → b < length net.times → touched_in now b ≡ false → AddsEnds net b moment (started_in first b) (started_in now b - started_in first b) (running_in first b) (running_in now b)
-  pub lacks : (b : ℕ) → b < length net.times → touched_in now b ≡ false → Lacks net (ended_in first) b (started_in now b)
+  pub lacks : (b : ℕ) → b < length net.times → touched_in now b ≡ false → LacksAt net (ended_in first) b (started_in now b) (lacking_in now b)
   pub started : (b : ℕ) → touched_in now b ≡ true → started_in now b ≡ started_in first b
   pub running : (b : ℕ) → touched_in now b ≡ true → running_in now b ≡ running_in first b
   pub stand : Stand net now tokens
@@ -64,7 +64,7 @@ pub record StartsSoFar (net : Net) (moment : ℕ) (first now : List ActorState) 
   pub agenda : IsAgenda net now ends touched
 
 pub starts-none : (net : Net) (moment : ℕ) (first : List ActorState) (tokens : List ℕ) (all most : ℕ) (ends : List Entry) (touched : List ℕ) → Stand net first tokens → Counted first all most → IsAgenda net first ends touched →
-    ((b : ℕ) → b < length net.times → touched_in first b ≡ false → Lacks net (ended_in first) b (started_in first b)) → StartsSoFar net moment first first tokens all most ends touched
+    ((b : ℕ) → b < length net.times → touched_in first b ≡ false → LacksAt net (ended_in first) b (started_in first b) (lacking_in first b)) → StartsSoFar net moment first first tokens all most ends touched
 starts-none net moment first tokens all most ends touched stand counted agenda lacking = record {
   long = refl;
   ended = λ b. refl;
@@ -201,13 +201,18 @@ module _ (net : Net) (moment : ℕ) (first now : List ActorState) (tokens : List
       level = level;
     }
 
-    lack-here : Lacks net (ended_in first) a (started_in (set now a s) a)
+    lacking-here : lacking_in (set now a s) a ≡ s.lacking
+    lacking-here = ap (λ (x : ActorState). x.lacking) here
+
+    lacking-other : (b : ℕ) → b ≢ a → lacking_in (set now a s) b ≡ lacking_in now b
+    lacking-other b away = ap (λ (x : ActorState). x.lacking) (other b away)
+
+    lack-here : LacksAt net (ended_in first) a (started_in (set now a s) a) (lacking_in (set now a s) a)
     lack-here =
-        let found = one.all.lacks in
-        let short : LacksNow net left a (started_in (set now a s) a) found.0 = rw started-here found.1 in
-        let need : Needs (channel_at net found.0) (started_in (set now a s) a) (ended_in (set now a s) (channel_at net found.0).source) =
-        level-needs net (started_in (set now a s)) (ended_in (set now a s)) left a found.0 level short in
-        (found.0, short.place, short.into, rw (ended-all (channel_at net found.0).source ∙ so_far.ended (channel_at net found.0).source) at need)
+        let short : LacksNow net left a (started_in (set now a s) a) s.lacking = rw started-here one.all.lacks in
+        let need : Needs (channel_at net s.lacking) (started_in (set now a s) a) (ended_in (set now a s) (channel_at net s.lacking).source) =
+        level-needs net (started_in (set now a s)) (ended_in (set now a s)) left a s.lacking level short in
+        rw lacking-here (short.place, short.into, rw (ended-all (channel_at net s.lacking).source ∙ so_far.ended (channel_at net s.lacking).source) at need)
 
     first-kept : (e : Entry) → IsFirst now e → IsFirst (set now a s) e
     first-kept e is = ⊎_elim
@@ -276,8 +281,8 @@ module _ (net : Net) (moment : ℕ) (first now : List ActorState) (tokens : List
           (λ (away : b ≢ a). rw (started-other b away, running-other b away) (so_far.adds b is (sym (touched-other b away) ∙ off)))
           (cases_eq b a);
       lacks = λ b is off. ⊎_elim
-          (λ (e : b ≡ a). subst (λ (x : ℕ). Lacks net (ended_in first) x (started_in (set now a s) x)) (sym e) lack-here)
-          (λ (away : b ≢ a). rw (started-other b away) (so_far.lacks b is (sym (touched-other b away) ∙ off)))
+          (λ (e : b ≡ a). subst (λ (x : ℕ). LacksAt net (ended_in first) x (started_in (set now a s) x) (lacking_in (set now a s) x)) (sym e) lack-here)
+          (λ (away : b ≢ a). rw (started-other b away, lacking-other b away) (so_far.lacks b is (sym (touched-other b away) ∙ off)))
           (cases_eq b a);
       started = λ b is. started-other b (away-from b is) ∙ so_far.started b (still b is);
       running = λ b is. running-other b (away-from b is) ∙ so_far.running b (still b is);

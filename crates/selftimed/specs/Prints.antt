@@ -1,5 +1,5 @@
--- The print of tokens: equal tokens have equal prints.
-use Rattle.std.specs.Prelude.{ℕ, ◌+◌, ◌*◌, ◌%◌, ◌^◌, List, [], ◌∷◌}
+-- The prints of tokens and of running firings: equal ones have equal prints.
+use Rattle.std.specs.Prelude.{ℕ, ◌+◌, ◌*◌, ◌%◌, ◌^◌, List, [], ◌∷◌, map, sum}
 
 -- what the tokens of a channel count in a print
 unfoldable pub spread : ℕ → ℕ
@@ -17,3 +17,7 @@ weighed_from channel (t ∷ ts) = weight channel * t + weighed_from (channel + 1
 -- the weighted sum of the tokens, in 64 bits
 abbrev pub print_of : List ℕ → ℕ
 print_of tokens = weighed_from 0 tokens % 2 ^ 64
+
+-- the weighted sum of the actors' remaining times, in 64 bits
+abbrev pub running_print_of : List (List ℕ) → ℕ
+running_print_of remaining = print_of (map sum remaining)

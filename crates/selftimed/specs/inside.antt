@@ -1,6 +1,6 @@
 pub mod Actors
 pub mod Agendas
-pub mod RunningFirings
+pub mod Queues
 pub mod Starts
 pub mod Stands
 pub mod Plans

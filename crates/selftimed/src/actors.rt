@@ -5,14 +5,15 @@ use crate::running::Running;
 use sd_base::NoMemory;
 use std::alloc::Global;
 
-/// Where an actor stands: how many of its firings have started and ended, the ends of those between, and
-/// whether a channel into it has gained tokens since its last starts.
+/// Where an actor stands: how many of its firings have started and ended, the ends of those between, whether
+/// it is to be looked at, and if not, a channel that lacks tokens for its next firing.
 #[derive(Debug, Drop)]
 pub(crate) struct ActorState {
     pub(crate) started: u64,
     pub(crate) ended: u64,
     pub(crate) running: Running,
     pub(crate) touched: bool,
+    pub(crate) lacking: u32,
 }
 
 /// Actors of which nothing has started, all to be looked at.
@@ -26,6 +27,7 @@ pub(crate) fn new_actors(alloc: Global, count: u32) -> Result<Vec<ActorState>, N
             ended: 0,
             running: Running::new(alloc),
             touched: true,
+            lacking: 0,
         })?;
     }
     Ok(actors)

@@ -1,9 +1,11 @@
 //! Where the actors of two executions of one net stand, compared without a shape of either.
 ghost use Rattle.std.specs.Prelude.{◌≡◌, ◌↔◌, ℕ, ◌-◌, ◌<◌, ◌≤◌, IsTrue, length, map, slice_index};
 ghost use Rattle.selftimed.specs.EngineShapes.{phases_now, remaining_now, IsPast};
+ghost use Rattle.selftimed.specs.Prints.{running_print_of};
 
 use crate::actors::ActorState;
 use crate::shape::phase_of;
+use crate::tokens::weight_of;
 use firing::Firing;
 
 /// Whether each actor's next firing is in the same phase.
@@ -19,6 +21,19 @@ pub(crate) fn same_stands<F: Firing>(net: &F, left: &[ActorState], right: &[Acto
         }
     }
     true
+}
+
+/// The print of the times left of the actors' running firings. Cost: linear in the actors.
+pub(crate) fn running_print(moment: u64, actors: &[ActorState]) -> u64
+    requires { IsPast moment actors.now }
+    ensures { result ≡ running_print_of (remaining_now moment actors.now) }
+{
+    let mut print = 0u64;
+    for (actor, state) in actors.iter().enumerate() {
+        let left = state.running.time_left(moment);
+        print = print.wrapping_add(weight_of(actor as u64).wrapping_mul(left));
+    }
+    print
 }
 
 /// Whether each actor's running firings have the same times left.

@@ -27,6 +27,7 @@ pub(crate) fn end_actor<F: Firing>(
     ensures ended { EndsOne moment state.old state.new }
     ensures puts { PutsTokens (F.net net.now) actor state.old.ended (state.new.ended - state.old.ended) tokens.old tokens.new }
     ensures touched { state.new.touched ≡ state.old.touched }
+    ensures lacking { state.new.lacking ≡ state.old.lacking }
     ensures long { length tokens.new ≡ length tokens.old }
 {
     let firings = ended_by(state.running.as_slice(), moment);
@@ -35,7 +36,7 @@ pub(crate) fn end_actor<F: Firing>(
     state.ended += firings as u64;
 }
 
-/// Touches the actors into which these channels lead.
+/// Touches the actors into which these channels lead and that lacked tokens there.
 pub(crate) fn touch_targets<F: Firing>(
     net: &F,
     channels: &[u32],
@@ -51,7 +52,9 @@ pub(crate) fn touch_targets<F: Firing>(
 {
     for channel in channels {
         let target = net.target(*channel);
-        agenda.touch(target, &mut actors[target as usize])?;
+        if actors[target as usize].lacking == *channel {
+            agenda.touch(target, &mut actors[target as usize])?;
+        }
     }
     Ok(())
 }

@@ -3,7 +3,7 @@ ghost use Rattle.sd_base.specs.Schedules.{count_of};
 ghost use Rattle.sd_base.specs.SelfTimed.{earliest, shape_at, starts_by};
 ghost use Rattle.selftimed.specs.inside.Plans.{Plans};
 ghost use Rattle.selftimed.specs.EngineShapes.{form};
-ghost use Rattle.selftimed.specs.Prints.{print_of};
+ghost use Rattle.selftimed.specs.Prints.{print_of, running_print_of};
 ghost use Rattle.selftimed.specs.Moves.{IsMove, IsStuck, IsSpent};
 ghost use Rattle.firing.specs.declared.sums.Port.TheVariants.{Made, Taken};
 ghost use Rattle.firing.specs.Wiring.{AreListed, IsWiringOf};
@@ -13,7 +13,7 @@ ghost use Rattle.selftimed.specs.inside.Stands.{IsFresh, Stands};
 
 use crate::actors::{ActorState, new_actors};
 use crate::agenda::Agenda;
-use crate::compare::{same_running, same_stands};
+use crate::compare::{running_print, same_running, same_stands};
 use crate::event::Event;
 use crate::shape::{
     Shape, phases_of, remaining_of, same_phases, same_remaining, same_tokens, tokens_of,
@@ -109,7 +109,7 @@ impl<'a, F: Firing> Engine<'a, F> {
     /// endlessly many firings could start, so a net with one spends the engine at once.
     ///
     /// Cost: a step for each firing that ends or starts, the channels of the actors that end, and the channels
-    /// into those whose channels gained tokens; for each of these actors also the logarithm of the actors that
+    /// into those that lacked the tokens made; for each of these actors also the logarithm of the actors that
     /// run. Actors at whose channels nothing changes cost nothing.
     pub fn advance(&mut self) -> Result<Move, NoMemory>
         ensures net { self.new.net ≡ self.old.net }
@@ -231,6 +231,15 @@ impl<'a, F: Firing> Engine<'a, F> {
         self.tokens.print()
     }
 
+    /// The print of the remaining times of the firings that run after the last event: equal shapes have equal
+    /// prints. Cost: linear in the actors.
+    pub fn running_print(&self) -> u64
+        requires { self.now.stage ≡ Stage.Running }
+        ensures { result ≡ running_print_of (shape_at (F.net self.now.net.now) self.now.moment).remaining }
+    {
+        running_print(self.moment, self.actors.as_slice())
+    }
+
     /// What stands after the starts of the last event.
     pub fn shape(&self, alloc: Global) -> Result<Shape, NoMemory>
         requires { self.now.stage ≡ Stage.Running }
@@ -261,7 +270,8 @@ impl<'a, F: Firing> Engine<'a, F> {
         )
     }
 
-    /// Whether the same stands after the last event of another execution of the net.
+    /// Whether the same stands after the last event of another execution of the net. Cost: mostly constant where the
+    /// tokens differ, and linear in the actors where the running firings do.
     pub fn same_as(&self, other: &Engine<'a, F>) -> bool
         requires net { other.now.net.now ≡ self.now.net.now }
         requires here { self.now.stage ≡ Stage.Running }
@@ -269,6 +279,9 @@ impl<'a, F: Firing> Engine<'a, F> {
         ensures { IsTrue result ↔ (shape_at (F.net self.now.net.now) self.now.moment ≡ shape_at (F.net self.now.net.now) other.now.moment) }
     {
         if !self.tokens.same_as(&other.tokens) {
+            return false;
+        }
+        if self.running_print() != other.running_print() {
             return false;
         }
         if !same_stands(self.net, self.actors.as_slice(), other.actors.as_slice()) {

@@ -1,10 +1,9 @@
 //! An event of an execution: the firings that end at its moment, and those that start then.
 ghost use Rattle.std.specs.Prelude.{◌≡◌, ℕ, false, ◌^◌, ◌<◌, ◌≤◌, length, IfOk, OnOk, MatchBool};
 ghost use Rattle.std.specs.Bool.{OnTrue};
-ghost use Rattle.sd_base.specs.Schedules.{Lacks};
 ghost use Rattle.firing.specs.declared.sums.Port.TheVariants.{Made, Taken};
 ghost use Rattle.firing.specs.Wiring.{AreListed};
-ghost use Rattle.selftimed.specs.inside.Actors.{started_in, ended_in, touched_in, EndsAll, Stand, Counted, StartedAll, CanOverrun, IsFirstEnd};
+ghost use Rattle.selftimed.specs.inside.Actors.{started_in, ended_in, touched_in, lacking_in, LacksAt, EndsAll, Stand, Counted, StartedAll, CanOverrun, IsFirstEnd};
 ghost use Rattle.selftimed.specs.inside.Plans.{Plans};
 ghost use Rattle.selftimed.specs.inside.Stands.{IsFresh, Stands, Begins};
 ghost use Rattle.selftimed.specs.Moves.{Overruns};
@@ -71,7 +70,7 @@ impl<F: Firing> Event<'_, F> {
         Ok(fits)
     }
 
-    /// Ends the firings whose end has come, and touches the actors whose channels gain tokens.
+    /// Ends the firings whose end has come, and touches the actors that lacked the tokens made.
     fn end_all(
         &self,
         actors: &mut [ActorState],
@@ -113,7 +112,7 @@ impl<F: Firing> Event<'_, F> {
         requires agenda { Plans (F.net self.now.net.now) actors.old agenda.old }
         requires counted { Counted actors.old all.old self.now.most }
         requires lacks { (b : ℕ) → b < length (F.net self.now.net.now).times → touched_in actors.old b ≡ false →
-            Lacks (F.net self.now.net.now) (ended_in actors.old) b (started_in actors.old b) }
+            LacksAt (F.net self.now.net.now) (ended_in actors.old) b (started_in actors.old b) (lacking_in actors.old b) }
         requires soon { self.now.moment ≤ 2 ^ 62 }
         ensures started { IfOk result (λ fits. MatchBool fits (StartedAll (F.net self.now.net.now) self.now.moment actors.old actors.new)
             (CanOverrun (F.net self.now.net.now) (ended_in actors.old) self.now.most)) }

@@ -7,6 +7,7 @@ mod compare;
 mod ends;
 mod engine;
 mod event;
+mod queue;
 mod running;
 mod shape;
 mod starts;

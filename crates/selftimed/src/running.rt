@@ -1,30 +1,26 @@
-ghost use Rattle.std.specs.Prelude.{◌≡◌, ℕ, ◌+◌, ◌-◌, ◌<◌, ◌≤◌, [], ◌∷◌, ◌++◌, OnErr, OnOk, drop, length, slice_get, take};
+ghost use Rattle.std.specs.Prelude.{◌≡◌, ℕ, ◌-◌, ◌%◌, ◌^◌, ◌<◌, ◌≤◌, [], ◌∷◌, ◌++◌, OnErr, OnOk, drop, length, map, slice_get, slice_index, sum};
 
-use smallvec::SmallVec;
+use crate::queue::Queue;
 use std::alloc::{AllocError, Global};
 use std::marker::Model;
 
-/// The firings of an actor that run, as the moments at which they end, ascending. Contracts see the list
-/// of these moments. Those of a few firings need no allocation.
+/// The firings of an actor that run, as the moments at which they end, ascending, with the sum of these
+/// moments, by which most unequal lists of them are told apart at once. Contracts see the list.
 #[derive(Debug, Drop)]
 pub(crate) struct Running {
-    ends: SmallVec<u64, 4>,
-    /// The ends before this place are past.
-    head: usize,
-    /// The end at this place, kept here since each start and each end asks for it.
-    first: Option<u64>,
+    ends: Queue,
+    /// The sum of the ends, in 64 bits.
+    total: u64,
 }
 
 impl Model for Running {
-    ghost use Rattle.std.specs.Prelude.{List, ℕ};
+    ghost use Rattle.std.specs.Prelude.{◌≡◌, ◌%◌, ◌^◌, List, ℕ, sum};
 
     ghost Value = { List ℕ };
 
-    ghost use Rattle.selftimed.specs.inside.RunningFirings.{still_running, IsQueue};
+    ghost view = { λ r. r.ends };
 
-    ghost view = { still_running };
-
-    ghost invariant = { IsQueue };
+    ghost invariant = { λ r. r.total ≡ sum r.ends % 2 ^ 64 };
 }
 
 impl Running {
@@ -32,9 +28,8 @@ impl Running {
         ensures { result ≡ [] }
     {
         Running {
-            ends: SmallVec::new(alloc),
-            head: 0,
-            first: None,
+            ends: Queue::new(alloc),
+            total: 0,
         }
     }
 
@@ -42,13 +37,13 @@ impl Running {
     pub(crate) fn first(&self) -> Option<u64>
         ensures { result ≡ slice_get self.now 0 }
     {
-        self.first
+        self.ends.first()
     }
 
     pub(crate) fn as_slice(&self) -> &[u64]
         ensures { result.now ≡ self.now }
     {
-        &self.ends.as_slice()[self.head..]
+        self.ends.as_slice()
     }
 
     pub(crate) fn push(&mut self, end: u64) -> Result<(), AllocError>
@@ -56,9 +51,7 @@ impl Running {
         ensures err { OnErr result (self.new ≡ self.old) }
     {
         self.ends.push(end)?;
-        if self.first.is_none() {
-            self.first = Some(end);
-        }
+        self.total = self.total.wrapping_add(end);
         Ok(())
     }
 
@@ -67,24 +60,28 @@ impl Running {
         requires { firings ≤ length self.old }
         ensures { self.new ≡ drop firings self.old }
     {
-        let all = self.ends.len();
-        self.head += firings;
-        let left = all - self.head;
-        if left < self.head {
-            shift_down(self.ends.as_mut_slice(), self.head);
-            self.ends.truncate(left);
-            self.head = 0;
-        }
-        self.first = self.ends.as_slice().get(self.head).copied();
+        let past = total_of(&self.ends.as_slice()[..firings]);
+        self.ends.pop_front(firings);
+        self.total = self.total.wrapping_sub(past);
+    }
+
+    /// The sum of the times from a moment to the ends, in 64 bits. Cost: constant.
+    pub(crate) fn time_left(&self, moment: u64) -> u64
+        requires { (k : ℕ) → k < length self.now → moment ≤ slice_index self.now k }
+        ensures { result ≡ sum (map (λ end. end - moment) self.now) % 2 ^ 64 }
+    {
+        let firings = self.ends.as_slice().len() as u64;
+        self.total.wrapping_sub(moment.wrapping_mul(firings))
     }
 }
 
-/// Moves what stands from a place on to the front.
-fn shift_down(ends: &mut [u64], from: usize)
-    requires { from ≤ length ends.old }
-    ensures { take (length ends.old - from) ends.new ≡ drop from ends.old }
+/// The sum of some ends, in 64 bits.
+fn total_of(ends: &[u64]) -> u64
+    ensures { result ≡ sum ends.now % 2 ^ 64 }
 {
-    for place in from..ends.len() {
-        ends[place - from] = ends[place];
+    let mut total = 0u64;
+    for end in ends {
+        total = total.wrapping_add(*end);
     }
+    total
 }

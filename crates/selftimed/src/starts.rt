@@ -10,6 +10,13 @@ use crate::tokens::{Tokens, take_all};
 use firing::{Firing, first_lack, know_laws};
 use sd_base::NoMemory;
 
+/// Firings of an actor that started together, and the first channel that lacks tokens for the next one.
+#[derive(Clone, Copy, Debug)]
+pub(crate) struct Begun {
+    pub(crate) firings: u64,
+    pub(crate) lacking: u32,
+}
+
 /// The turn of an actor at a moment, to start what firings of it can start.
 #[derive(Drop)]
 pub(crate) struct Turn<'a, F: Firing> {
@@ -40,11 +47,14 @@ impl<F: Firing> Turn<'_, F> {
     {
         state.touched = false;
         let from = state.started;
-        let started = self.start_from(from, room, tokens, &mut state.running)?;
-        if let Some(firings) = started {
-            state.started = from + firings;
+        match self.start_from(from, room, tokens, &mut state.running)? {
+            Some(begun) => {
+                state.started = from + begun.firings;
+                state.lacking = begun.lacking;
+                Ok(Some(begun.firings))
+            }
+            None => Ok(None),
         }
-        Ok(started)
     }
 
     /// Starts firings from number `from` on, until a channel into the actor lacks tokens. None: more than `room` firings can
@@ -56,23 +66,26 @@ impl<F: Firing> Turn<'_, F> {
         room: u64,
         tokens: &mut Tokens,
         running: &mut Running,
-    ) -> Result<Option<u64>, NoMemory>
+    ) -> Result<Option<Begun>, NoMemory>
         requires tokens { length tokens.old ≡ length (F.net self.now.net.now).channels }
         requires few { from + room ≤ 2 ^ 32 }
         ensures long { length tokens.new ≡ length tokens.old }
         ensures starts { IfOk result (λ o. MatchOption o (Overfills (F.net self.now.net.now) tokens.old self.now.actor from room)
-            (λ n. (n ≤ room) × StartsAll (F.net self.now.net.now) self.now.actor self.now.moment from n tokens.old tokens.new running.old running.new)) }
+            (λ b. (b.firings ≤ room) × StartsAll (F.net self.now.net.now) self.now.actor self.now.moment from b.firings b.lacking tokens.old tokens.new running.old running.new)) }
     {
         let mut count = 0u64;
         'batches: loop {
-            if let Some(_lacking) = first_lack(
+            if let Some(lacking) = first_lack(
                 self.net,
                 self.inputs,
                 tokens.as_slice(),
                 self.actor,
                 from + count,
             ) {
-                return Ok(Some(count));
+                return Ok(Some(Begun {
+                    firings: count,
+                    lacking,
+                }));
             }
             let batch = self.batch_size(tokens.as_slice(), from + count, room - count + 1);
             if batch > room - count {

@@ -151,8 +151,8 @@ pub(crate) fn put_all<F: Firing>(
     }
 }
 
-/// The weight of a channel's tokens in a print.
-fn weight_of(channel: u64) -> u64
+/// The weight of a channel's tokens, or of an actor's remaining times, in a print.
+pub(crate) fn weight_of(channel: u64) -> u64
     ensures { result ≡ weight channel }
 {
     let odd = channel.wrapping_add(1).wrapping_mul(0x9E37_79B9_7F4A_7C15);

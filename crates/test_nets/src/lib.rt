@@ -8,7 +8,7 @@ mod table;
 mod worked;
 
 pub use drawn::drawn_net;
-pub use table::{Line, TableError, channel, table_net};
+pub use table::{Line, TableError, channel, is_lawful, table_net};
 pub use worked::{
     blocked_pair, decoder, multi_rate_ring, ring_of_two, sample_rate_converter, three_at_once,
     token_ring,

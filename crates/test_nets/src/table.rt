@@ -127,7 +127,7 @@ fn single(alloc: Global, number: u64) -> Result<Rows<u64>, NoMemory> {
 }
 
 /// Whether a synchronous graph table keeps its rules and has its times.
-fn is_lawful(graph: &GraphFile) -> bool
+pub fn is_lawful(graph: &GraphFile) -> bool
     ensures rules { result ≡ true → KeepsRules graph.now }
     ensures kind { result ≡ true → graph.now.kind ≡ Sdf }
     ensures timed { result ≡ true → IsTimed graph.now }

@@ -16,11 +16,11 @@ Feeds net tokens a k n =
     (i : ℕ) → i < length net.channels → (channel_at net i).target ≡ a →
     total (channel_at net i).taken (k + n) ≤ slice_index tokens i + total (channel_at net i).taken k
 
--- n firings of a from number k on start at a moment, and no more can
-pub record StartsAll (net : Net) (a moment k n : ℕ) (tokens left runs more : List ℕ) : Type 0 where
+-- n firings of a from number k on start at a moment, and no more can, for want of tokens on channel i
+pub record StartsAll (net : Net) (a moment k n i : ℕ) (tokens left runs more : List ℕ) : Type 0 where
   pub takes : TakesTokens net a k n tokens left
   pub ends : AddsEnds net a moment k n runs more
-  pub lacks : (i : ℕ) × LacksNow net left a (k + n) i
+  pub lacks : LacksNow net left a (k + n) i
 
 -- more firings of a can start than there is room for
 abbrev pub Overfills : Net → List ℕ → ℕ → ℕ → ℕ → Type 0

@@ -1,10 +1,13 @@
-use Rattle.std.specs.Prelude.{slice_index}
-use Rattle.sd_base.proofs.Ends.{left_of}
 use Rattle.liveness.specs.inside.UntimedRuns.{IsRun}
+use Rattle.liveness.specs.inside.Looks.{LeavesFlags}
+use Rattle.liveness.proofs.Looking.{looks_left}
 use Rattle.liveness.proofs.run.run_out.Given as goal
 
-abbrev pub invariant-turns : goal.invariant-turns
-invariant-turns g l = IsRun (g.F.Firing.net l.net) l.counts l.tokens l.order.items
+abbrev pub invariant-looks : goal.invariant-looks
+invariant-looks g l = record {
+  run : IsRun (g.F.Firing.net l.net) l.counts l.tokens l.order.items;
+  leaves : LeavesFlags (g.F.Firing.net l.net) l.counts l.flags.flagged.items l.flags.stack.items;
+}
 
-abbrev pub decreases-turns : goal.decreases-turns
-decreases-turns g l = left_of (g.F.Firing.net l.net) (slice_index l.counts)
+abbrev pub decreases-looks : goal.decreases-looks
+decreases-looks g l = looks_left (g.F.Firing.net l.net) l.counts l.flags.stack.items

@@ -2,7 +2,7 @@ use Rattle.std.proofs.Common.{◌≡◌, ◌++◌, length, drop, take, refl, ari
 use Rattle.std.proofs.lemmas.Bool.{false≢true}
 use Rattle.std.proofs.lemmas.List.{take_at}
 use Rattle.liveness.proofs.Firings.{run-start, run-round, blocked-answer, blocked-not_live}
-use Rattle.liveness.proofs.round.one_round.Goals as goal
+use Rattle.liveness.proofs.round.one_round_on.Goals as goal
 
 pub run_out-requires-clause-run : goal.run_out-requires-clause-run
 run_out-requires-clause-run g c =

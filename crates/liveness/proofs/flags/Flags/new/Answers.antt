@@ -1,0 +1,9 @@
+use Rattle.std.proofs.Common.{sym, arith}
+use Rattle.liveness.proofs.Looking.{range-more, trues-more}
+use Rattle.liveness.proofs.flags.Flags.new.Goals as goal
+
+pub loop-actor-preserved : goal.loop-actor-preserved
+loop-actor-preserved c = record {
+  flagged = rw (c.in_ok-push.ensures.items, c.loop-actor.invariant.flagged) (sym (trues-more c.loop-actor.actor));
+  stack = rw (c.in_ok-push-2.ensures.items, c.loop-actor.invariant.stack) (sym (range-more 0 c.loop-actor.actor c.loop-actor.actor (omega arith)));
+}

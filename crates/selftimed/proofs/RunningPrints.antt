@@ -1,0 +1,59 @@
+-- How the sum of ends changes, and what it says of the times left.
+use Rattle.std.proofs.Common.{◌≡◌, ℕ, suc, ◌+◌, ◌-◌, ◌*◌, ◌%◌, ◌^◌, ◌≤◌, ◌<◌, List, [], ◌∷◌, ◌++◌, length, map, take, drop, sym, refl, ap, ◌∙◌, arith}
+use Rattle.std.specs.Prelude.{slice_index, slice_index_or, sum}
+use Rattle.std.proofs.Math.Nat.{mod-add-mod, mul-add}
+use Rattle.std.proofs.lemmas.Nat.{mul-mod_second}
+use Rattle.std.proofs.lemmas.List.{length-map, length-take-le, map_push}
+use Rattle.std.proofs.lemmas.List.Sums.{sum_by-cons, sum_by_push, sum_by_more, sum_by-take-drop}
+use Rattle.selftimed.specs.declared.actors.ActorState.{ActorState}
+use Rattle.selftimed.specs.inside.Actors.{idle}
+use Rattle.selftimed.specs.EngineShapes.{remaining_now}
+use Rattle.selftimed.specs.Prints.{weight, print_of, running_print_of}
+use Rattle.selftimed.proofs.Printing.{mod-less, print-push}
+use Rattle.selftimed.proofs.Shaping.{remaining-more}
+
+-- ---- the sum of ends
+
+pub total-more : (ends : List ℕ) (k total : ℕ) → k < length ends → total ≡ sum (take k ends) % 2 ^ 64 → (total + slice_index ends k) % 2 ^ 64 ≡ sum (take (k + 1) ends) % 2 ^ 64
+total-more ends k total below is =
+    rw is (mod-add-mod (sum (take k ends)) (2 ^ 64) (slice_index ends k) ∙ ap (λ (x : ℕ). x % 2 ^ 64) (sym (sum_by_more (λ (x : ℕ). x) ends k 0 below)))
+
+pub total-push : (ends : List ℕ) (total end : ℕ) → total ≡ sum ends % 2 ^ 64 → (total + end) % 2 ^ 64 ≡ sum (ends ++ end ∷ []) % 2 ^ 64
+total-push ends total end is = rw is (mod-add-mod (sum ends) (2 ^ 64) end ∙ ap (λ (x : ℕ). x % 2 ^ 64) (sym (sum_by_push (λ (x : ℕ). x) ends end)))
+
+pub total-pop : (runs : List ℕ) (n total past : ℕ) → total ≡ sum runs % 2 ^ 64 → past ≡ sum (take n runs) % 2 ^ 64 → (total + (2 ^ 64 - past)) % 2 ^ 64 ≡ sum (drop n runs) % 2 ^ 64
+total-pop runs n total past is was =
+    let parts : sum (take n runs) + sum (drop n runs) ≡ sum runs = sum_by-take-drop (λ (x : ℕ). x) runs n in
+    rw (is, was) (mod-less (sum runs) (sum (drop n runs)) (sum (take n runs)) (2 ^ 64) (omega arith) (omega (arith, parts)))
+
+-- ---- the times left
+
+left-sum : (moment : ℕ) (ends : List ℕ) → ((k : ℕ) → k < length ends → moment ≤ slice_index ends k) → sum (map (λ e. e - moment) ends) + moment * length ends ≡ sum ends
+left-sum moment [] past = omega arith
+left-sum moment (e ∷ es) past =
+    let here : moment ≤ e = past 0 (omega arith) in
+    let rest : sum (map (λ x. x - moment) es) + moment * length es ≡ sum es = left-sum moment es (λ k below. past (suc k) (omega arith)) in
+    let one : suc (length es) ≡ length es + 1 = omega arith in
+    let times : moment * suc (length es) ≡ moment * length es + moment * 1 = ap (λ (n : ℕ). moment * n) one ∙ mul-add moment (length es) 1 in
+    let left : sum ((e - moment) ∷ map (λ x. x - moment) es) ≡ (e - moment) + sum (map (λ x. x - moment) es) = sum_by-cons (λ (x : ℕ). x) (e - moment) (map (λ x. x - moment) es) in
+    let all : sum (e ∷ es) ≡ e + sum es = sum_by-cons (λ (x : ℕ). x) e es in
+    omega (arith, here, rest, times, left, all)
+
+pub left-total : (moment total : ℕ) (ends : List ℕ) → ((k : ℕ) → k < length ends → moment ≤ slice_index ends k) → total ≡ sum ends % 2 ^ 64 →
+    (total + (2 ^ 64 - (moment * length ends) % 2 ^ 64)) % 2 ^ 64 ≡ sum (map (λ e. e - moment) ends) % 2 ^ 64
+left-total moment total ends past is =
+    rw is (mod-less (sum ends) (sum (map (λ e. e - moment) ends)) (moment * length ends) (2 ^ 64) (omega arith) (left-sum moment ends past))
+
+-- ---- the print of one more actor's running firings
+
+pub running-more : (moment : ℕ) (actors : List ActorState) (a : ℕ) (one : ActorState) (print w left add : ℕ) → a < length actors → slice_index_or actors a idle ≡ one →
+    print ≡ running_print_of (remaining_now moment (take a actors)) → w ≡ weight a → left ≡ sum (map (λ e. e - moment) one.running) % 2 ^ 64 → add ≡ (w * left) % 2 ^ 64 →
+    (print + add) % 2 ^ 64 ≡ running_print_of (remaining_now moment (take (a + 1) actors))
+running-more moment actors a one print w left add place read is weighs times added =
+    let row : List ℕ = map (λ e. e - moment) one.running in
+    let rows : List (List ℕ) = remaining_now moment (take a actors) in
+    let more : rows ++ row ∷ [] ≡ remaining_now moment (take (a + 1) actors) = remaining-more moment actors a one one.running row rows (rows ++ row ∷ []) place read refl refl refl refl in
+    let sums : map sum (rows ++ row ∷ []) ≡ map sum rows ++ sum row ∷ [] = map_push sum rows row in
+    let long : length (map sum rows) ≡ a = length-map rows sum ∙ (length-map (take a actors) (λ (s : ActorState). map (λ e. e - moment) s.running) ∙ length-take-le a actors (omega arith)) in
+    let add_is : add ≡ (w * sum row) % 2 ^ 64 = added ∙ (ap (λ (y : ℕ). (w * y) % 2 ^ 64) times ∙ mul-mod_second w (sum row) (2 ^ 64)) in
+    print-push (map sum rows) (sum row) print w add is (weighs ∙ ap weight (sym long)) add_is ∙ (ap print_of (sym sums) ∙ ap running_print_of more)

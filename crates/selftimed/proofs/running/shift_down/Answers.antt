@@ -1,5 +1,0 @@
-use Rattle.selftimed.proofs.Shifts.{shifted-all}
-use Rattle.selftimed.proofs.running.shift_down.Goals as goal
-
-pub returns : goal.returns
-returns c = shifted-all c.args.ends.now c.loop-place.ends c.args.from c.loop-place.place c.requires c.loop-place-test.false c.loop-place.invariant
