@@ -35,7 +35,7 @@ use Rattle.graph_reader.proofs.NumberLists.{within-again, number-again, not-zero
 use Rattle.graph_reader.proofs.PhaseLists.{longest-some}
 use Rattle.graph_reader.proofs.ElementPlaces.{AfterEach, each-given, Related, after-from_two, Counted, counted-from_few, no-count, none-from_Each, Each-weaker, not-among, among, length-push, port_count-cons, port_count-push}
 
-required : (what : Field) (of : List ℕ) (e : Node) (value : List ℕ) → Has what e value → TreeSteps.required what of e ≡ Ok value
+pub required : (what : Field) (of : List ℕ) (e : Node) (value : List ℕ) → Has what e value → TreeSteps.required what of e ≡ Ok value
 unfolding TreeSteps.required
 required what of e value has = ap (TreeSteps.present what of) has
 
@@ -45,15 +45,15 @@ tested_name : {X : Type 0} (f : X → List ℕ) (of : List ℕ) (earlier : List 
 tested_name f of earlier e name is differ =
     rw (not-zero (length name) is.some, le-ltb 128 (length name) is.short, not-among f name earlier differ) refl
 
-new_name : {X : Type 0} (f : X → List ℕ) (of : List ℕ) (earlier : List X) (e : Node) (name : List ℕ) → HasName e name → Each (λ x. f x ≢ name) earlier → Sections.new_name of (map f earlier) e ≡ Ok name
+pub new_name : {X : Type 0} (f : X → List ℕ) (of : List ℕ) (earlier : List X) (e : Node) (name : List ℕ) → HasName e name → Each (λ x. f x ≢ name) earlier → Sections.new_name of (map f earlier) e ≡ Ok name
 unfolding Sections.new_name
 new_name f of earlier e name is differ = then-ok (TreeSteps.required field.Name of e) (Sections.tested_name of (map f earlier)) name (Ok name) (required field.Name of e name is.has) (tested_name f of earlier e name is differ)
 
-mention : {X Y : Type 0} (f : X → List ℕ) (g : Y → List ℕ) (what : Field) (rows : List X) (earlier : List Y) (e : Node) (name : List ℕ) → Has what e name → (Each (λ x. f x ≢ name) rows → ⊥) → Each (λ y. g y ≢ name) earlier
-    → Sections.mention what (map f rows) (map g earlier) e ≡ Ok name
+mention : {X Y : Type 0} (f : X → List ℕ) (g : Y → List ℕ) (what : Field) (of : List ℕ) (rows : List X) (earlier : List Y) (e : Node) (name : List ℕ) → Has what e name → (Each (λ x. f x ≢ name) rows → ⊥) → Each (λ y. g y ≢ name) earlier
+    → Sections.mention what of (map f rows) (map g earlier) e ≡ Ok name
 unfolding Sections.mention
-mention f g what rows earlier e name has known differ =
-    then-ok (TreeSteps.required what file e) (Sections.tested_mention what (map f rows) (map g earlier)) name (Ok name) (required what file e name has)
+mention f g what of rows earlier e name has known differ =
+    then-ok (TreeSteps.required what of e) (Sections.tested_mention what (map f rows) (map g earlier)) name (Ok name) (required what of e name has)
     (rw (among f name rows known, not-among g name earlier differ) refl)
 
 -- ---- actors
@@ -90,12 +90,12 @@ ActorsDiffer a b = a.name ≢ b.name
 abbrev ActorCounted : List Actor → Actor → Type 0
 ActorCounted done a = (length done + 1 ≤ 128) × PortsFit (Sections.port_count done) a.ports
 
-actor_of : (kind : Kind) (done : List Actor) (e : Node) (a : Actor) → Spelled.IsActor kind e a → Related ActorsDiffer ActorCounted done a → Sections.actor_of kind done e ≡ Ok a
+actor_of : (kind : Kind) (of : List ℕ) (done : List Actor) (e : Node) (a : Actor) → Spelled.IsActor kind e a → Related ActorsDiffer ActorCounted done a → Sections.actor_of kind of done e ≡ Ok a
 unfolding Sections.actor_of
-actor_of kind done e a is new =
+actor_of kind of done e a is new =
     let before = Sections.port_count done in
     let after = after-from_two PortsDiffer (Counted before 1024) a.ports is.apart (counted-ports before a.ports new.1.1) in
-    then-ok (Sections.new_name file (map (λ (b : Actor). b.name) done) e) _ a.name (Ok a) (new_name (λ (b : Actor). b.name) file done e a.name is.name new.0) (
+    then-ok (Sections.new_name of (map (λ (b : Actor). b.name) done) e) _ a.name (Ok a) (new_name (λ (b : Actor). b.name) of done e a.name is.name new.0) (
     then-ok (NumberTexts.within quantity.Actors 128 (length done + 1)) _ (length done + 1) (Ok a) (within-again quantity.Actors 128 (length done + 1) new.1.0) (
     then-ok (TreeSteps.each (Sections.port_of kind a.name before) [] (TreeSteps.children (codes "port") e)) _ a.ports (Ok a)
     (each-given (Spelled.IsPort kind) (Related PortsDiffer (Counted before 1024)) (Sections.port_of kind a.name before) (port_of kind a.name before) [] (TreeSteps.children (codes "port") e) a.ports is.ports after) refl))
@@ -109,18 +109,18 @@ counted-actors done (a ∷ actors) few few_ports =
     let fit : Sections.port_count done + length a.ports ≤ 1024 = omega arith in
     ((omega arith, λ some. fit), counted-actors (done ++ a ∷ []) actors (omega arith) (omega arith))
 
-some_actor : (actors : List Actor) → 1 ≤ length actors → Sections.some_actor actors ≡ Ok actors
-some_actor [] some = absurd (omega (arith, some))
-some_actor (a ∷ rest) some = refl
+some_actor : (of : List ℕ) (actors : List Actor) → 1 ≤ length actors → Sections.some_actor of actors ≡ Ok actors
+some_actor of [] some = absurd (omega (arith, some))
+some_actor of (a ∷ rest) some = refl
 
-actors_of : (kind : Kind) (section : Node) (actors : List Actor) → Spelled.AreActors kind section actors → Sections.actors_of kind section ≡ Ok actors
+actors_of : (kind : Kind) (of : List ℕ) (section : Node) (actors : List Actor) → Spelled.AreActors kind section actors → Sections.actors_of kind of section ≡ Ok actors
 unfolding Sections.actors_of
-actors_of kind section actors are =
+actors_of kind of section actors are =
     let elements = TreeSteps.children (word_of field.Actor) section in
     let few = are.few in
     let few_ports = are.few_ports in
     let after = after-from_two ActorsDiffer ActorCounted actors are.apart (counted-actors [] actors (omega arith) (omega arith)) in
-    then-ok (TreeSteps.each (Sections.actor_of kind) [] elements) Sections.some_actor actors (Ok actors) (each-given (Spelled.IsActor kind) (Related ActorsDiffer ActorCounted) (Sections.actor_of kind) (actor_of kind) [] elements actors are.rows after) (some_actor actors are.some)
+    then-ok (TreeSteps.each (Sections.actor_of kind of) [] elements) (Sections.some_actor of) actors (Ok actors) (each-given (Spelled.IsActor kind) (Related ActorsDiffer ActorCounted) (Sections.actor_of kind of) (actor_of kind of) [] elements actors are.rows after) (some_actor of actors are.some)
 
 -- ---- channels
 
@@ -141,14 +141,14 @@ tokens_in : (of : List ℕ) (o : Option (List ℕ)) (n : ℕ) → Spelled.AreTok
 tokens_in of None n is = ap Ok (sym is)
 tokens_in of (Some text) n is = number-again field.InitialTokens of quantity.Tokens 1000000 text n is
 
-channel_of : (actors : List Actor) (done : List Channel) (e : Node) (c : Channel) → Spelled.IsChannel actors e c → Related Spelled.AreApart (Counted 0 256) done c → Sections.channel_of actors done e ≡ Ok c
+channel_of : (of : List ℕ) (actors : List Actor) (done : List Channel) (e : Node) (c : Channel) → Spelled.IsChannel actors e c → Related Spelled.AreApart (Counted 0 256) done c → Sections.channel_of of actors done e ≡ Ok c
 unfolding Sections.channel_of
-channel_of actors done e c is new =
+channel_of of actors done e c is new =
     let count : length done + 1 ≤ 256 = omega (arith, new.1) in
     let names = Each-weaker (λ d. Spelled.AreApart d c) (λ (d : Channel). d.name ≢ c.name) done new.0 (λ d apart. apart.names) in
     let sources = none-from_Each (λ (d : Channel). Sections.is_same_port d.source c.source) done (Each-weaker (λ d. Spelled.AreApart d c) (λ (d : Channel). Sections.is_same_port d.source c.source ≡ false) done new.0 (λ d apart. apart.sources)) in
     let targets = none-from_Each (λ (d : Channel). Sections.is_same_port d.target c.target) done (Each-weaker (λ d. Spelled.AreApart d c) (λ (d : Channel). Sections.is_same_port d.target c.target ≡ false) done new.0 (λ d apart. apart.targets)) in
-    then-ok (Sections.new_name file (map (λ (d : Channel). d.name) done) e) _ c.name (Ok c) (new_name (λ (d : Channel). d.name) file done e c.name is.name names) (
+    then-ok (Sections.new_name of (map (λ (d : Channel). d.name) done) e) _ c.name (Ok c) (new_name (λ (d : Channel). d.name) of done e c.name is.name names) (
     then-ok (NumberTexts.within quantity.Channels 256 (length done + 1)) _ (length done + 1) (Ok c) (within-again quantity.Channels 256 (length done + 1) count) (
     then-ok (Sections.end_of actors Out field.SrcActor field.SrcPort c.name e) _ c.source (Ok c) (end_of actors Out field.SrcActor field.SrcPort c.name e c.source is.source) (
     then-ok (Sections.unused field.SrcPort c.source (list_any (λ (d : Channel). Sections.is_same_port d.source c.source) done)) _ c.source (Ok c) (unused field.SrcPort c.source _ sources) (
@@ -156,12 +156,12 @@ channel_of actors done e c is new =
     then-ok (Sections.unused field.DstPort c.target (list_any (λ (d : Channel). Sections.is_same_port d.target c.target) done)) _ c.target (Ok c) (unused field.DstPort c.target _ targets) (
     then-ok (Sections.tokens_in c.name (TreeSteps.attribute (word_of field.InitialTokens) e)) _ c.tokens (Ok c) (tokens_in c.name (TreeSteps.attribute (word_of field.InitialTokens) e) c.tokens is.tokens) refl))))))
 
-channels_of : (actors : List Actor) (section : Node) (channels : List Channel) → Spelled.AreChannels actors section channels → Sections.channels_of actors section ≡ Ok channels
+channels_of : (of : List ℕ) (actors : List Actor) (section : Node) (channels : List Channel) → Spelled.AreChannels actors section channels → Sections.channels_of of actors section ≡ Ok channels
 unfolding Sections.channels_of
-channels_of actors section channels are =
+channels_of of actors section channels are =
     let few = are.few in
     let after = after-from_two Spelled.AreApart (Counted 0 256) channels are.apart (counted-from_few 0 256 [] channels (omega arith)) in
-    each-given (Spelled.IsChannel actors) (Related Spelled.AreApart (Counted 0 256)) (Sections.channel_of actors) (channel_of actors) [] (TreeSteps.children (word_of field.Channel) section) channels are.rows after
+    each-given (Spelled.IsChannel actors) (Related Spelled.AreApart (Counted 0 256)) (Sections.channel_of of actors) (channel_of of actors) [] (TreeSteps.children (word_of field.Channel) section) channels are.rows after
 
 -- ---- properties
 
@@ -181,18 +181,18 @@ NoCount done x = Unit {0}
 abbrev TimesDiffer : TimeEntry → TimeEntry → Type 0
 TimesDiffer s t = s.actor ≢ t.actor
 
-time_entry : (kind : Kind) (actors : List Actor) (done : List TimeEntry) (e : Node) (t : TimeEntry) → Spelled.IsTimeEntry kind actors e t → Related TimesDiffer NoCount done t → Sections.time_entry kind actors done e ≡ Ok t
+time_entry : (kind : Kind) (of : List ℕ) (actors : List Actor) (done : List TimeEntry) (e : Node) (t : TimeEntry) → Spelled.IsTimeEntry kind actors e t → Related TimesDiffer NoCount done t → Sections.time_entry kind of actors done e ≡ Ok t
 unfolding Sections.time_entry
-time_entry kind actors done e t is new =
-    then-ok (Sections.mention field.Actor (map (λ (a : Actor). a.name) actors) (map (λ (s : TimeEntry). s.actor) done) e) _ t.actor (Ok t)
-    (mention (λ (a : Actor). a.name) (λ (s : TimeEntry). s.actor) field.Actor actors done e t.actor is.actor is.known new.0) (
+time_entry kind of actors done e t is new =
+    then-ok (Sections.mention field.Actor of (map (λ (a : Actor). a.name) actors) (map (λ (s : TimeEntry). s.actor) done) e) _ t.actor (Ok t)
+    (mention (λ (a : Actor). a.name) (λ (s : TimeEntry). s.actor) field.Actor of actors done e t.actor is.actor is.known new.0) (
     then-ok (Sections.times_in kind t.actor e) _ t.times (Ok t) (times_in kind t.actor e t.times is.times) refl)
 
-times_of : (kind : Kind) (actors : List Actor) (o : Option Node) (times : List TimeEntry) → Spelled.AreTimes kind actors o times → Sections.times_of kind actors o ≡ Ok times
+times_of : (kind : Kind) (of : List ℕ) (actors : List Actor) (o : Option Node) (times : List TimeEntry) → Spelled.AreTimes kind actors o times → Sections.times_of kind of actors o ≡ Ok times
 unfolding Sections.times_of
-times_of kind actors None times are = ap Ok (sym are)
-times_of kind actors (Some properties) times are =
-    each-given (Spelled.IsTimeEntry kind actors) (Related TimesDiffer NoCount) (Sections.time_entry kind actors) (time_entry kind actors) [] (TreeSteps.children (codes "actorProperties") properties) times are.0
+times_of kind of actors None times are = ap Ok (sym are)
+times_of kind of actors (Some properties) times are =
+    each-given (Spelled.IsTimeEntry kind actors) (Related TimesDiffer NoCount) (Sections.time_entry kind of actors) (time_entry kind of actors) [] (TreeSteps.children (codes "actorProperties") properties) times are.0
     (after-from_two TimesDiffer NoCount times are.1 (no-count [] times))
 
 size_in : (of : List ℕ) (o : Option (List ℕ)) (size : ℕ) → Spelled.IsSize o size → Sections.size_in of o ≡ Ok size
@@ -206,18 +206,18 @@ size_of of e size is = size_in of (Sections.size_text e) size is
 abbrev SizesDiffer : SizeEntry → SizeEntry → Type 0
 SizesDiffer s t = s.channel ≢ t.channel
 
-size_entry : (channels : List Channel) (done : List SizeEntry) (e : Node) (s : SizeEntry) → Spelled.IsSizeEntry channels e s → Related SizesDiffer NoCount done s → Sections.size_entry channels done e ≡ Ok s
+size_entry : (of : List ℕ) (channels : List Channel) (done : List SizeEntry) (e : Node) (s : SizeEntry) → Spelled.IsSizeEntry channels e s → Related SizesDiffer NoCount done s → Sections.size_entry of channels done e ≡ Ok s
 unfolding Sections.size_entry
-size_entry channels done e s is new =
-    then-ok (Sections.mention field.Channel (map (λ (c : Channel). c.name) channels) (map (λ (r : SizeEntry). r.channel) done) e) _ s.channel (Ok s)
-    (mention (λ (c : Channel). c.name) (λ (r : SizeEntry). r.channel) field.Channel channels done e s.channel is.channel is.known new.0) (
+size_entry of channels done e s is new =
+    then-ok (Sections.mention field.Channel of (map (λ (c : Channel). c.name) channels) (map (λ (r : SizeEntry). r.channel) done) e) _ s.channel (Ok s)
+    (mention (λ (c : Channel). c.name) (λ (r : SizeEntry). r.channel) field.Channel of channels done e s.channel is.channel is.known new.0) (
     then-ok (Sections.size_of s.channel e) _ s.size (Ok s) (size_of s.channel e s.size is.size) refl)
 
-sizes_of : (channels : List Channel) (o : Option Node) (sizes : List SizeEntry) → Spelled.AreSizes channels o sizes → Sections.sizes_of channels o ≡ Ok sizes
+sizes_of : (of : List ℕ) (channels : List Channel) (o : Option Node) (sizes : List SizeEntry) → Spelled.AreSizes channels o sizes → Sections.sizes_of of channels o ≡ Ok sizes
 unfolding Sections.sizes_of
-sizes_of channels None sizes are = ap Ok (sym are)
-sizes_of channels (Some properties) sizes are =
-    each-given (Spelled.IsSizeEntry channels) (Related SizesDiffer NoCount) (Sections.size_entry channels) (size_entry channels) [] (TreeSteps.children (codes "channelProperties") properties) sizes are.0
+sizes_of of channels None sizes are = ap Ok (sym are)
+sizes_of of channels (Some properties) sizes are =
+    each-given (Spelled.IsSizeEntry channels) (Related SizesDiffer NoCount) (Sections.size_entry of channels) (size_entry of channels) [] (TreeSteps.children (codes "channelProperties") properties) sizes are.0
     (after-from_two SizesDiffer NoCount sizes are.1 (no-count [] sizes))
 
 -- ---- the table
@@ -228,11 +228,11 @@ at_most_one what e o is =
     let cases : (p : Option Node) → TreeSteps.not_two what (option_to_list p) ≡ Ok p = λ p. elim p as (λ q. TreeSteps.not_two what (option_to_list q) ≡ Ok q) [ None ↦ refl | Some c ↦ refl ] in
     ap (TreeSteps.not_two what) is ∙ cases o
 
-one : (what : Field) (e c : Node) → TreeSteps.children (word_of what) e ≡ c ∷ [] → TreeSteps.one what e ≡ Ok c
+pub one : (what : Field) (of : List ℕ) (e c : Node) → TreeSteps.children (word_of what) e ≡ c ∷ [] → TreeSteps.one what of e ≡ Ok c
 unfolding TreeSteps.one
-one what e c is = then-ok (TreeSteps.at_most_one what e) (TreeSteps.there what) (Some c) (Ok c) (at_most_one what e (Some c) is) refl
+one what of e c is = then-ok (TreeSteps.at_most_one what e) (TreeSteps.there what of) (Some c) (Ok c) (at_most_one what e (Some c) is) refl
 
-root_of : (e : Node) → name_of e ≡ word_of field.Sdf3 → Sections.root_of e ≡ Ok e
+pub root_of : (e : Node) → name_of e ≡ word_of field.Sdf3 → Sections.root_of e ≡ Ok e
 unfolding Sections.root_of
 root_of e is = rw ((bytes_eq-Decides (name_of e) (word_of field.Sdf3)).1 is) refl
 
@@ -281,18 +281,23 @@ all_timed kind need_times actors channels times sizes given =
     ] in
     cases need_times given
 
+pub graph_in : (kind : Kind) (of : List ℕ) (need_times : Bool) (e : Node) (t : GraphFile) → Spelled.IsGraph kind need_times e t → Sections.graph_in kind of need_times e ≡ Ok t
+unfolding Sections.graph_in
+graph_in kind of need_times e t is =
+    then-ok (TreeSteps.one (Sections.section_of kind) of e) _ is.section (Ok t) (one (Sections.section_of kind) of e is.section is.one_section) (
+    then-ok (Sections.actors_of kind of is.section) _ is.actors (Ok t) (actors_of kind of is.section is.actors is.are_actors) (
+    then-ok (Sections.channels_of of is.actors is.section) _ is.channels (Ok t) (channels_of of is.actors is.section is.channels is.are_channels) (
+    then-ok (TreeSteps.at_most_one (Sections.properties_of kind) e) _ is.properties (Ok t) (at_most_one (Sections.properties_of kind) e is.properties is.no_second) (
+    then-ok (Sections.times_of kind of is.actors is.properties) _ is.times (Ok t) (times_of kind of is.actors is.properties is.times is.are_times) (
+    then-ok (Sections.sizes_of of is.channels is.properties) _ is.sizes (Ok t) (sizes_of of is.channels is.properties is.sizes is.are_sizes) (
+    then-ok (Sections.even_phases is.times is.actors) _ is.actors (Ok t) (even_phases is.times is.actors is.even) (
+    all_timed kind need_times is.actors is.channels is.times is.sizes (λ needed. subst IsTimed is.is_table (is.timed needed)) ∙ ap Ok (sym is.is_table))))))))
+
 pub table_of : (need_times : Bool) (tree : Node) (t : GraphFile) → Spelled.IsTable need_times tree t → Sections.table_of need_times tree ≡ Ok t
 unfolding Sections.table_of
 table_of need_times tree t is =
     then-ok (Sections.root_of tree) _ tree (Ok t) (root_of tree is.root) (
     then-ok (TreeSteps.required field.TypeWord file tree) _ (word_of (Sections.section_of t.kind)) (Ok t) (required field.TypeWord file tree (word_of (Sections.section_of t.kind)) is.kind) (
     then-ok (Sections.kind_in (word_of (Sections.section_of t.kind))) _ t.kind (Ok t) (kind_in t.kind) (
-    then-ok (TreeSteps.one field.ApplicationGraph tree) _ is.graph (Ok t) (one field.ApplicationGraph tree is.graph is.one_graph) (
-    then-ok (TreeSteps.one (Sections.section_of t.kind) is.graph) _ is.section (Ok t) (one (Sections.section_of t.kind) is.graph is.section is.one_section) (
-    then-ok (Sections.actors_of t.kind is.section) _ is.actors (Ok t) (actors_of t.kind is.section is.actors is.are_actors) (
-    then-ok (Sections.channels_of is.actors is.section) _ is.channels (Ok t) (channels_of is.actors is.section is.channels is.are_channels) (
-    then-ok (TreeSteps.at_most_one (Sections.properties_of t.kind) is.graph) _ is.properties (Ok t) (at_most_one (Sections.properties_of t.kind) is.graph is.properties is.no_second) (
-    then-ok (Sections.times_of t.kind is.actors is.properties) _ is.times (Ok t) (times_of t.kind is.actors is.properties is.times is.are_times) (
-    then-ok (Sections.sizes_of is.channels is.properties) _ is.sizes (Ok t) (sizes_of is.channels is.properties is.sizes is.are_sizes) (
-    then-ok (Sections.even_phases is.times is.actors) _ is.actors (Ok t) (even_phases is.times is.actors is.even) (
-    all_timed t.kind need_times is.actors is.channels is.times is.sizes (λ needed. subst IsTimed is.is_table (is.timed needed)) ∙ ap Ok (sym is.is_table))))))))))))
+    then-ok (TreeSteps.one field.ApplicationGraph file tree) _ is.graph (Ok t) (one field.ApplicationGraph file tree is.graph is.one_graph) (
+    graph_in t.kind file need_times is.graph t is.is_graph))))

@@ -11,6 +11,7 @@ use Rattle.sd_base.specs.declared.tables.Kind.{Kind}
 use Rattle.sd_base.specs.declared.tables.Kind.TheVariants.{Sdf, Csdf}
 use Rattle.sd_base.specs.declared.tables.GraphFile.{GraphFile}
 use Rattle.sd_base.specs.declared.tables.ActorRow.{ActorRow}
+use Rattle.sd_base.specs.declared.tables.ChannelRow.{ChannelRow}
 use Rattle.sd_base.specs.Tables.{IsTimed}
 use Rattle.file_text.specs.Node.{Node, name_of}
 use Rattle.file_text.specs.Grammar.{Each}
@@ -35,7 +36,7 @@ use Rattle.graph_reader.proofs.ReaderSteps.{then, weaker, choice}
 use Rattle.graph_reader.proofs.NumberLists.{within, number, found}
 use Rattle.graph_reader.proofs.ElementPlaces.{AfterEach, Follows, each-gives, Related, two-from_after, count-from_after, Counted, few-from_counted, Each-from_none, Each-both, differ, length-push, port_count-cons, port_count-push}
 
-required : (what : Field) (of : List ℕ) (e : Node) → IfOk (TreeSteps.required what of e) (Has what e)
+pub required : (what : Field) (of : List ℕ) (e : Node) → IfOk (TreeSteps.required what of e) (Has what e)
 unfolding TreeSteps.required
 required what of e =
     let cases : (o : Option (List ℕ)) → IfOk (TreeSteps.present what of o) (λ v. o ≡ Some v) = λ o. elim o as (λ p. IfOk (TreeSteps.present what of p) (λ v. p ≡ Some v)) [ None ↦ tt | Some v ↦ refl ] in
@@ -44,10 +45,10 @@ required what of e =
 -- ---- names
 
 -- a name that may be taken after earlier rows
-abbrev IsNew : {X : Type 0} → (X → List ℕ) → List X → Node → List ℕ → Type 0
+abbrev pub IsNew : {X : Type 0} → (X → List ℕ) → List X → Node → List ℕ → Type 0
 IsNew f earlier e name = HasName e name × Each (λ x. f x ≢ name) earlier
 
-new_name : {X : Type 0} (f : X → List ℕ) (of : List ℕ) (earlier : List X) (e : Node) → IfOk (Sections.new_name of (map f earlier) e) (IsNew f earlier e)
+pub new_name : {X : Type 0} (f : X → List ℕ) (of : List ℕ) (earlier : List X) (e : Node) → IfOk (Sections.new_name of (map f earlier) e) (IsNew f earlier e)
 unfolding Sections.new_name
 new_name f of earlier e =
     then (Has field.Name e) (IsNew f earlier e) (TreeSteps.required field.Name of e) (Sections.tested_name of (map f earlier)) (required field.Name of e) (λ name has.
@@ -76,10 +77,10 @@ is-among-none f name (x ∷ xs) all h =
     ] in
     cases test refl h
 
-mention : {X Y : Type 0} (f : X → List ℕ) (g : Y → List ℕ) (what : Field) (rows : List X) (earlier : List Y) (e : Node) → IfOk (Sections.mention what (map f rows) (map g earlier) e) (IsMention f g what rows earlier e)
+mention : {X Y : Type 0} (f : X → List ℕ) (g : Y → List ℕ) (what : Field) (of : List ℕ) (rows : List X) (earlier : List Y) (e : Node) → IfOk (Sections.mention what of (map f rows) (map g earlier) e) (IsMention f g what rows earlier e)
 unfolding Sections.mention
-mention f g what rows earlier e =
-    then (Has what e) (IsMention f g what rows earlier e) (TreeSteps.required what file e) (Sections.tested_mention what (map f rows) (map g earlier)) (required what file e) (λ name has.
+mention f g what of rows earlier e =
+    then (Has what e) (IsMention f g what rows earlier e) (TreeSteps.required what of e) (Sections.tested_mention what (map f rows) (map g earlier)) (required what of e) (λ name has.
     choice (IsMention f g what rows earlier e) (not (Sections.is_among name (map f rows))) _ _ (λ h. tt) (λ known.
     choice (IsMention f g what rows earlier e) (Sections.is_among name (map g earlier)) _ (Ok name) (λ h. tt) (λ none.
     (has, (λ all. is-among-none f name rows all (not_false _ known)), differ g name earlier none))))
@@ -123,10 +124,10 @@ ActorsDiffer a b = a.name ≢ b.name
 abbrev ActorCounted : List Actor → Actor → Type 0
 ActorCounted done a = (length done + 1 ≤ 128) × PortsFit (Sections.port_count done) a.ports
 
-actor_of : (kind : Kind) (done : List Actor) (e : Node) → IfOk (Sections.actor_of kind done e) (λ a. Spelled.IsActor kind e a × Related ActorsDiffer ActorCounted done a)
+actor_of : (kind : Kind) (of : List ℕ) (done : List Actor) (e : Node) → IfOk (Sections.actor_of kind of done e) (λ a. Spelled.IsActor kind e a × Related ActorsDiffer ActorCounted done a)
 unfolding Sections.actor_of
-actor_of kind done e =
-    then (IsNew (λ (a : Actor). a.name) done e) _ (Sections.new_name file (map (λ (a : Actor). a.name) done) e) _ (new_name (λ (a : Actor). a.name) file done e) (λ name new.
+actor_of kind of done e =
+    then (IsNew (λ (a : Actor). a.name) done e) _ (Sections.new_name of (map (λ (a : Actor). a.name) done) e) _ (new_name (λ (a : Actor). a.name) of done e) (λ name new.
     then (λ m. (m ≡ length done + 1) × (length done + 1 ≤ 128)) _ (NumberTexts.within quantity.Actors 128 (length done + 1)) _ (within quantity.Actors 128 (length done + 1)) (λ count few.
     then (Follows (Spelled.IsPort kind) (Related PortsDiffer (Counted (Sections.port_count done) 1024)) [] (TreeSteps.children (codes "port") e)) _ (TreeSteps.each (Sections.port_of kind name (Sections.port_count done)) [] (TreeSteps.children (codes "port") e)) _
     (each-gives (Spelled.IsPort kind) (Related PortsDiffer (Counted (Sections.port_count done) 1024)) (Sections.port_of kind name (Sections.port_count done)) (port_of kind name (Sections.port_count done)) [] (TreeSteps.children (codes "port") e)) (λ ports f.
@@ -150,20 +151,20 @@ are_few done (a ∷ actors) few few_ports after =
     let rest = are_few (done ++ a ∷ []) actors (omega arith) (omega arith) after.1 in
     record { few = omega (arith, rest.few); few_ports = omega (arith, rest.few_ports) }
 
-some_actor : (actors : List Actor) → IfOk (Sections.some_actor actors) (λ read. (read ≡ actors) × (1 ≤ length actors))
-some_actor [] = tt
-some_actor (a ∷ rest) = (refl, omega arith)
+some_actor : (of : List ℕ) (actors : List Actor) → IfOk (Sections.some_actor of actors) (λ read. (read ≡ actors) × (1 ≤ length actors))
+some_actor of [] = tt
+some_actor of (a ∷ rest) = (refl, omega arith)
 
-actors_of : (kind : Kind) (section : Node) → IfOk (Sections.actors_of kind section) (Spelled.AreActors kind section)
+actors_of : (kind : Kind) (of : List ℕ) (section : Node) → IfOk (Sections.actors_of kind of section) (Spelled.AreActors kind section)
 unfolding Sections.actors_of
-actors_of kind section =
+actors_of kind of section =
     let elements = TreeSteps.children (word_of field.Actor) section in
     let C = Related ActorsDiffer ActorCounted in
-    then (Follows (Spelled.IsActor kind) C [] elements) (Spelled.AreActors kind section) (TreeSteps.each (Sections.actor_of kind) [] elements) Sections.some_actor (each-gives (Spelled.IsActor kind) C (Sections.actor_of kind) (actor_of kind) [] elements) (λ actors f.
+    then (Follows (Spelled.IsActor kind) C [] elements) (Spelled.AreActors kind section) (TreeSteps.each (Sections.actor_of kind of) [] elements) (Sections.some_actor of) (each-gives (Spelled.IsActor kind) C (Sections.actor_of kind of) (actor_of kind of) [] elements) (λ actors f.
     let pairs : Pairwise (Spelled.IsActor kind) elements actors = subst (Pairwise (Spelled.IsActor kind) elements) (sym f.1) f.2 in
     let after : AfterEach C [] actors = subst (AfterEach C []) (sym f.1) f.3 in
     let few = are_few [] actors (omega arith) (omega arith) (count-from_after ActorsDiffer ActorCounted actors after) in
-    weaker (λ read. (read ≡ actors) × (1 ≤ length actors)) (Spelled.AreActors kind section) (Sections.some_actor actors) (some_actor actors) (λ read h.
+    weaker (λ read. (read ≡ actors) × (1 ≤ length actors)) (Spelled.AreActors kind section) (Sections.some_actor of actors) (some_actor of actors) (λ read h.
     subst (Spelled.AreActors kind section) (sym h.0) (record {
       rows = pairs;
       apart = two-from_after ActorsDiffer ActorCounted actors after;
@@ -197,10 +198,10 @@ tokens_in of (Some text) = number field.InitialTokens of quantity.Tokens 1000000
 abbrev ChannelCounted : List Channel → Channel → Type 0
 ChannelCounted = Counted 0 256
 
-channel_of : (actors : List Actor) (done : List Channel) (e : Node) → IfOk (Sections.channel_of actors done e) (λ c. Spelled.IsChannel actors e c × Related Spelled.AreApart ChannelCounted done c)
+channel_of : (of : List ℕ) (actors : List Actor) (done : List Channel) (e : Node) → IfOk (Sections.channel_of of actors done e) (λ c. Spelled.IsChannel actors e c × Related Spelled.AreApart ChannelCounted done c)
 unfolding Sections.channel_of
-channel_of actors done e =
-    then (IsNew (λ (c : Channel). c.name) done e) _ (Sections.new_name file (map (λ (c : Channel). c.name) done) e) _ (new_name (λ (c : Channel). c.name) file done e) (λ name new.
+channel_of of actors done e =
+    then (IsNew (λ (c : Channel). c.name) done e) _ (Sections.new_name of (map (λ (c : Channel). c.name) done) e) _ (new_name (λ (c : Channel). c.name) of done e) (λ name new.
     then (λ m. (m ≡ length done + 1) × (length done + 1 ≤ 256)) _ (NumberTexts.within quantity.Channels 256 (length done + 1)) _ (within quantity.Channels 256 (length done + 1)) (λ count few.
     then (Spelled.IsEnd actors Out field.SrcActor field.SrcPort e) _ (Sections.end_of actors Out field.SrcActor field.SrcPort name e) _ (end_of actors Out field.SrcActor field.SrcPort name e) (λ start is_start.
     then (λ x. (x ≡ start) × (list_any (λ (c : Channel). Sections.is_same_port c.source start) done ≡ false)) _ (Sections.unused field.SrcPort start (list_any (λ (c : Channel). Sections.is_same_port c.source start) done)) _ (unused field.SrcPort start (list_any (λ (c : Channel). Sections.is_same_port c.source start) done)) (λ source source_is.
@@ -221,12 +222,12 @@ channel_of actors done e =
       (apart, omega (arith, few.1)),
     ))))))))
 
-channels_of : (actors : List Actor) (section : Node) → IfOk (Sections.channels_of actors section) (Spelled.AreChannels actors section)
+channels_of : (of : List ℕ) (actors : List Actor) (section : Node) → IfOk (Sections.channels_of of actors section) (Spelled.AreChannels actors section)
 unfolding Sections.channels_of
-channels_of actors section =
+channels_of of actors section =
     let elements = TreeSteps.children (word_of field.Channel) section in
     let C = Related Spelled.AreApart ChannelCounted in
-    weaker (Follows (Spelled.IsChannel actors) C [] elements) (Spelled.AreChannels actors section) (TreeSteps.each (Sections.channel_of actors) [] elements) (each-gives (Spelled.IsChannel actors) C (Sections.channel_of actors) (channel_of actors) [] elements) (λ channels f.
+    weaker (Follows (Spelled.IsChannel actors) C [] elements) (Spelled.AreChannels actors section) (TreeSteps.each (Sections.channel_of of actors) [] elements) (each-gives (Spelled.IsChannel actors) C (Sections.channel_of of actors) (channel_of of actors) [] elements) (λ channels f.
     let pairs : Pairwise (Spelled.IsChannel actors) elements channels = subst (Pairwise (Spelled.IsChannel actors) elements) (sym f.1) f.2 in
     let after : AfterEach C [] channels = subst (AfterEach C []) (sym f.1) f.3 in
     let few = few-from_counted 0 256 [] channels (omega arith) (count-from_after Spelled.AreApart ChannelCounted channels after) in
@@ -251,21 +252,21 @@ NoCount done x = Unit {0}
 abbrev TimesDiffer : TimeEntry → TimeEntry → Type 0
 TimesDiffer s t = s.actor ≢ t.actor
 
-time_entry : (kind : Kind) (actors : List Actor) (done : List TimeEntry) (e : Node) → IfOk (Sections.time_entry kind actors done e) (λ t. Spelled.IsTimeEntry kind actors e t × Related TimesDiffer NoCount done t)
+time_entry : (kind : Kind) (of : List ℕ) (actors : List Actor) (done : List TimeEntry) (e : Node) → IfOk (Sections.time_entry kind of actors done e) (λ t. Spelled.IsTimeEntry kind actors e t × Related TimesDiffer NoCount done t)
 unfolding Sections.time_entry
-time_entry kind actors done e =
-    then (IsMention (λ (a : Actor). a.name) (λ (t : TimeEntry). t.actor) field.Actor actors done e) _ (Sections.mention field.Actor (map (λ (a : Actor). a.name) actors) (map (λ (t : TimeEntry). t.actor) done) e) _
-    (mention (λ (a : Actor). a.name) (λ (t : TimeEntry). t.actor) field.Actor actors done e) (λ name is.
+time_entry kind of actors done e =
+    then (IsMention (λ (a : Actor). a.name) (λ (t : TimeEntry). t.actor) field.Actor actors done e) _ (Sections.mention field.Actor of (map (λ (a : Actor). a.name) actors) (map (λ (t : TimeEntry). t.actor) done) e) _
+    (mention (λ (a : Actor). a.name) (λ (t : TimeEntry). t.actor) field.Actor of actors done e) (λ name is.
     then (Spelled.AreGiven kind (Sections.execution_of e)) _ (Sections.times_in kind name e) _ (times_in kind name e) (λ times given.
     (record { actor = is.0; known = is.1; times = given }, (is.2, tt))))
 
-times_of : (kind : Kind) (actors : List Actor) (o : Option Node) → IfOk (Sections.times_of kind actors o) (Spelled.AreTimes kind actors o)
+times_of : (kind : Kind) (of : List ℕ) (actors : List Actor) (o : Option Node) → IfOk (Sections.times_of kind of actors o) (Spelled.AreTimes kind actors o)
 unfolding Sections.times_of
-times_of kind actors None = refl
-times_of kind actors (Some properties) =
+times_of kind of actors None = refl
+times_of kind of actors (Some properties) =
     let elements = TreeSteps.children (codes "actorProperties") properties in
     let C = Related TimesDiffer NoCount in
-    weaker (Follows (Spelled.IsTimeEntry kind actors) C [] elements) (Spelled.AreTimes kind actors (Some properties)) (TreeSteps.each (Sections.time_entry kind actors) [] elements) (each-gives (Spelled.IsTimeEntry kind actors) C (Sections.time_entry kind actors) (time_entry kind actors) [] elements) (λ times f.
+    weaker (Follows (Spelled.IsTimeEntry kind actors) C [] elements) (Spelled.AreTimes kind actors (Some properties)) (TreeSteps.each (Sections.time_entry kind of actors) [] elements) (each-gives (Spelled.IsTimeEntry kind actors) C (Sections.time_entry kind of actors) (time_entry kind of actors) [] elements) (λ times f.
     let pairs : Pairwise (Spelled.IsTimeEntry kind actors) elements times = subst (Pairwise (Spelled.IsTimeEntry kind actors) elements) (sym f.1) f.2 in
     let after : AfterEach C [] times = subst (AfterEach C []) (sym f.1) f.3 in
     (pairs, two-from_after TimesDiffer NoCount times after))
@@ -281,21 +282,21 @@ size_of of e = size_in of (Sections.size_text e)
 abbrev SizesDiffer : SizeEntry → SizeEntry → Type 0
 SizesDiffer s t = s.channel ≢ t.channel
 
-size_entry : (channels : List Channel) (done : List SizeEntry) (e : Node) → IfOk (Sections.size_entry channels done e) (λ s. Spelled.IsSizeEntry channels e s × Related SizesDiffer NoCount done s)
+size_entry : (of : List ℕ) (channels : List Channel) (done : List SizeEntry) (e : Node) → IfOk (Sections.size_entry of channels done e) (λ s. Spelled.IsSizeEntry channels e s × Related SizesDiffer NoCount done s)
 unfolding Sections.size_entry
-size_entry channels done e =
-    then (IsMention (λ (c : Channel). c.name) (λ (s : SizeEntry). s.channel) field.Channel channels done e) _ (Sections.mention field.Channel (map (λ (c : Channel). c.name) channels) (map (λ (s : SizeEntry). s.channel) done) e) _
-    (mention (λ (c : Channel). c.name) (λ (s : SizeEntry). s.channel) field.Channel channels done e) (λ name is.
+size_entry of channels done e =
+    then (IsMention (λ (c : Channel). c.name) (λ (s : SizeEntry). s.channel) field.Channel channels done e) _ (Sections.mention field.Channel of (map (λ (c : Channel). c.name) channels) (map (λ (s : SizeEntry). s.channel) done) e) _
+    (mention (λ (c : Channel). c.name) (λ (s : SizeEntry). s.channel) field.Channel of channels done e) (λ name is.
     then (Spelled.IsSize (Sections.size_text e)) _ (Sections.size_of name e) _ (size_of name e) (λ size sized.
     (record { channel = is.0; known = is.1; size = sized }, (is.2, tt))))
 
-sizes_of : (channels : List Channel) (o : Option Node) → IfOk (Sections.sizes_of channels o) (Spelled.AreSizes channels o)
+sizes_of : (of : List ℕ) (channels : List Channel) (o : Option Node) → IfOk (Sections.sizes_of of channels o) (Spelled.AreSizes channels o)
 unfolding Sections.sizes_of
-sizes_of channels None = refl
-sizes_of channels (Some properties) =
+sizes_of of channels None = refl
+sizes_of of channels (Some properties) =
     let elements = TreeSteps.children (codes "channelProperties") properties in
     let C = Related SizesDiffer NoCount in
-    weaker (Follows (Spelled.IsSizeEntry channels) C [] elements) (Spelled.AreSizes channels (Some properties)) (TreeSteps.each (Sections.size_entry channels) [] elements) (each-gives (Spelled.IsSizeEntry channels) C (Sections.size_entry channels) (size_entry channels) [] elements) (λ sizes f.
+    weaker (Follows (Spelled.IsSizeEntry channels) C [] elements) (Spelled.AreSizes channels (Some properties)) (TreeSteps.each (Sections.size_entry of channels) [] elements) (each-gives (Spelled.IsSizeEntry channels) C (Sections.size_entry of channels) (size_entry of channels) [] elements) (λ sizes f.
     let pairs : Pairwise (Spelled.IsSizeEntry channels) elements sizes = subst (Pairwise (Spelled.IsSizeEntry channels) elements) (sym f.1) f.2 in
     let after : AfterEach C [] sizes = subst (AfterEach C []) (sym f.1) f.3 in
     (pairs, two-from_after SizesDiffer NoCount sizes after))
@@ -311,17 +312,17 @@ at_most_one : (what : Field) (e : Node) → IfOk (TreeSteps.at_most_one what e) 
 unfolding TreeSteps.at_most_one
 at_most_one what e = not_two what (TreeSteps.children (word_of what) e)
 
-there : (what : Field) (o : Option Node) → IfOk (TreeSteps.there what o) (λ e. o ≡ Some e)
-there what None = tt
-there what (Some e) = refl
+there : (what : Field) (of : List ℕ) (o : Option Node) → IfOk (TreeSteps.there what of o) (λ e. o ≡ Some e)
+there what of None = tt
+there what of (Some e) = refl
 
-one : (what : Field) (e : Node) → IfOk (TreeSteps.one what e) (λ c. TreeSteps.children (word_of what) e ≡ c ∷ [])
+pub one : (what : Field) (of : List ℕ) (e : Node) → IfOk (TreeSteps.one what of e) (λ c. TreeSteps.children (word_of what) e ≡ c ∷ [])
 unfolding TreeSteps.one
-one what e =
-    then (λ o. TreeSteps.children (word_of what) e ≡ option_to_list o) (λ c. TreeSteps.children (word_of what) e ≡ c ∷ []) (TreeSteps.at_most_one what e) (TreeSteps.there what) (at_most_one what e) (λ o is.
-    weaker (λ c. o ≡ Some c) (λ c. TreeSteps.children (word_of what) e ≡ c ∷ []) (TreeSteps.there what o) (there what o) (λ c found. is ∙ ap option_to_list found))
+one what of e =
+    then (λ o. TreeSteps.children (word_of what) e ≡ option_to_list o) (λ c. TreeSteps.children (word_of what) e ≡ c ∷ []) (TreeSteps.at_most_one what e) (TreeSteps.there what of) (at_most_one what e) (λ o is.
+    weaker (λ c. o ≡ Some c) (λ c. TreeSteps.children (word_of what) e ≡ c ∷ []) (TreeSteps.there what of o) (there what of o) (λ c found. is ∙ ap option_to_list found))
 
-root_of : (e : Node) → IfOk (Sections.root_of e) (λ root. (root ≡ e) × (name_of e ≡ word_of field.Sdf3))
+pub root_of : (e : Node) → IfOk (Sections.root_of e) (λ root. (root ≡ e) × (name_of e ≡ word_of field.Sdf3))
 unfolding Sections.root_of
 root_of e = choice (λ root. (root ≡ e) × (name_of e ≡ word_of field.Sdf3)) (bytes_eq (name_of e) (word_of field.Sdf3)) (Ok e) _ (λ h. (refl, (bytes_eq-Decides (name_of e) (word_of field.Sdf3)).0 h)) (λ h. tt)
 
@@ -371,42 +372,72 @@ table-kind : (kind : Kind) (actors : List Actor) (channels : List Channel) (time
 unfolding Sections.table
 table-kind kind actors channels times sizes = refl
 
--- the table that is read is one that the tree spells; that its times are given where they are needed stands beside it
-pub table_of : (need_times : Bool) (tree : Node) → IfOk (Sections.table_of need_times tree) (λ t. (IsTrue need_times → IsTimed t) → Spelled.IsTable need_times tree t)
-unfolding Sections.table_of
-table_of need_times tree =
-    then (λ root. (root ≡ tree) × (name_of tree ≡ word_of field.Sdf3)) _ (Sections.root_of tree) _ (root_of tree) (λ root is_root.
-    then (Has field.TypeWord root) _ (TreeSteps.required field.TypeWord file root) _ (required field.TypeWord file root) (λ word has.
-    then (Names word) _ (Sections.kind_in word) _ (kind_in word) (λ kind is_kind.
-    then (λ c. TreeSteps.children (word_of field.ApplicationGraph) root ≡ c ∷ []) _ (TreeSteps.one field.ApplicationGraph root) _ (one field.ApplicationGraph root) (λ graph one_graph.
-    then (λ c. TreeSteps.children (word_of (Sections.section_of kind)) graph ≡ c ∷ []) _ (TreeSteps.one (Sections.section_of kind) graph) _ (one (Sections.section_of kind) graph) (λ section one_section.
-    then (Spelled.AreActors kind section) _ (Sections.actors_of kind section) _ (actors_of kind section) (λ actors are_actors.
-    then (Spelled.AreChannels actors section) _ (Sections.channels_of actors section) _ (channels_of actors section) (λ channels are_channels.
-    then (λ o. TreeSteps.children (word_of (Sections.properties_of kind)) graph ≡ option_to_list o) _ (TreeSteps.at_most_one (Sections.properties_of kind) graph) _ (at_most_one (Sections.properties_of kind) graph) (λ properties no_second.
-    then (Spelled.AreTimes kind actors properties) _ (Sections.times_of kind actors properties) _ (times_of kind actors properties) (λ times are_times.
-    then (Spelled.AreSizes channels properties) _ (Sections.sizes_of channels properties) _ (sizes_of channels properties) (λ sizes are_sizes.
+-- the table that is read is one that the sections spell; that its times are given where they are needed stands beside it
+pub graph_in : (kind : Kind) (of : List ℕ) (need_times : Bool) (e : Node) → IfOk (Sections.graph_in kind of need_times e) (λ t. (IsTrue need_times → IsTimed t) → Spelled.IsGraph kind need_times e t)
+unfolding Sections.graph_in
+graph_in kind of need_times e =
+    then (λ c. TreeSteps.children (word_of (Sections.section_of kind)) e ≡ c ∷ []) _ (TreeSteps.one (Sections.section_of kind) of e) _ (one (Sections.section_of kind) of e) (λ section one_section.
+    then (Spelled.AreActors kind section) _ (Sections.actors_of kind of section) _ (actors_of kind of section) (λ actors are_actors.
+    then (Spelled.AreChannels actors section) _ (Sections.channels_of of actors section) _ (channels_of of actors section) (λ channels are_channels.
+    then (λ o. TreeSteps.children (word_of (Sections.properties_of kind)) e ≡ option_to_list o) _ (TreeSteps.at_most_one (Sections.properties_of kind) e) _ (at_most_one (Sections.properties_of kind) e) (λ properties no_second.
+    then (Spelled.AreTimes kind actors properties) _ (Sections.times_of kind of actors properties) _ (times_of kind of actors properties) (λ times are_times.
+    then (Spelled.AreSizes channels properties) _ (Sections.sizes_of of channels properties) _ (sizes_of of channels properties) (λ sizes are_sizes.
     then (λ read. (read ≡ actors) × Each (Spelled.IsEven times) actors) _ (Sections.even_phases times actors) _ (even_phases times actors) (λ read even.
-    weaker (λ u. u ≡ Sections.table kind actors channels times sizes) (λ t. (IsTrue need_times → IsTimed t) → Spelled.IsTable need_times tree t) (Sections.all_timed need_times (Sections.table kind actors channels times sizes)) (all_timed need_times (Sections.table kind actors channels times sizes)) (λ t is_table given.
-    let k = table-kind kind actors channels times sizes in
-    let table : Spelled.IsTable need_times tree (Sections.table kind actors channels times sizes) = record {
-      graph = graph;
+    weaker (λ u. u ≡ Sections.table kind actors channels times sizes) (λ t. (IsTrue need_times → IsTimed t) → Spelled.IsGraph kind need_times e t) (Sections.all_timed need_times (Sections.table kind actors channels times sizes)) (all_timed need_times (Sections.table kind actors channels times sizes)) (λ t is_table given.
+    record {
       section = section;
       properties = properties;
       actors = actors;
       channels = channels;
       times = times;
       sizes = sizes;
+      one_section = one_section;
+      no_second = no_second;
+      are_actors = are_actors;
+      are_channels = are_channels;
+      are_times = are_times;
+      are_sizes = are_sizes;
+      even = even.1;
+      is_table = is_table;
+      timed = given;
+    }))))))))
+
+pub graph-kind : (kind : Kind) (need_times : Bool) (e : Node) (t : GraphFile) → Spelled.IsGraph kind need_times e t → t.kind ≡ kind
+graph-kind kind need_times e t is = ap (λ (u : GraphFile). u.kind) is.is_table ∙ table-kind kind is.actors is.channels is.times is.sizes
+
+-- channels that are read have names of their own
+abbrev pub NamesDiffer : ChannelRow → ChannelRow → Type 0
+NamesDiffer c d = c.name ≢ d.name
+
+row-names : (phases : List ℕ) (sizes : List SizeEntry) (c : Channel) (channels : List Channel) → Each (Spelled.AreApart c) channels → Each (NamesDiffer (Sections.channel_row phases sizes c)) (map (Sections.channel_row phases sizes) channels)
+row-names phases sizes c [] all = tt
+row-names phases sizes c (d ∷ channels) all = (all.0.names, row-names phases sizes c channels all.1)
+
+rows-apart : (phases : List ℕ) (sizes : List SizeEntry) (channels : List Channel) → EachTwo Spelled.AreApart channels → EachTwo NamesDiffer (map (Sections.channel_row phases sizes) channels)
+rows-apart phases sizes [] two = tt
+rows-apart phases sizes (c ∷ channels) two = (row-names phases sizes c channels two.0, rows-apart phases sizes channels two.1)
+
+table-names : (kind : Kind) (actors : List Actor) (channels : List Channel) (times : List TimeEntry) (sizes : List SizeEntry) → EachTwo Spelled.AreApart channels → EachTwo NamesDiffer (Sections.table kind actors channels times sizes).channels
+unfolding Sections.table
+table-names kind actors channels times sizes two = rows-apart (map (Sections.phases_in times) actors) sizes channels two
+
+pub names-apart : (kind : Kind) (need_times : Bool) (e : Node) (t : GraphFile) → Spelled.IsGraph kind need_times e t → EachTwo NamesDiffer t.channels
+names-apart kind need_times e t is = subst (λ (u : GraphFile). EachTwo NamesDiffer u.channels) (sym is.is_table) (table-names kind is.actors is.channels is.times is.sizes is.are_channels.apart)
+
+pub table_of : (need_times : Bool) (tree : Node) → IfOk (Sections.table_of need_times tree) (λ t. (IsTrue need_times → IsTimed t) → Spelled.IsTable need_times tree t)
+unfolding Sections.table_of
+table_of need_times tree =
+    then (λ root. (root ≡ tree) × (name_of tree ≡ word_of field.Sdf3)) _ (Sections.root_of tree) _ (root_of tree) (λ root is_root.
+    then (Has field.TypeWord root) _ (TreeSteps.required field.TypeWord file root) _ (required field.TypeWord file root) (λ word has.
+    then (Names word) _ (Sections.kind_in word) _ (kind_in word) (λ kind is_kind.
+    then (λ c. TreeSteps.children (word_of field.ApplicationGraph) root ≡ c ∷ []) _ (TreeSteps.one field.ApplicationGraph file root) _ (one field.ApplicationGraph file root) (λ graph one_graph.
+    weaker (λ t. (IsTrue need_times → IsTimed t) → Spelled.IsGraph kind need_times graph t) (λ t. (IsTrue need_times → IsTimed t) → Spelled.IsTable need_times tree t) (Sections.graph_in kind file need_times graph) (graph_in kind file need_times graph) (λ t read given.
+    let is = read given in
+    let k = graph-kind kind need_times graph t is in
+    record {
+      graph = graph;
       root = is_root.1;
       kind = rw k (subst (λ r. Has field.TypeWord r (word_of (Sections.section_of kind))) is_root.0 (has ∙ ap Some is_kind));
       one_graph = subst (λ r. TreeSteps.children (word_of field.ApplicationGraph) r ≡ graph ∷ []) is_root.0 one_graph;
-      one_section = rw k one_section;
-      no_second = rw k no_second;
-      are_actors = rw k are_actors;
-      are_channels = are_channels;
-      are_times = rw k are_times;
-      are_sizes = are_sizes;
-      even = even.1;
-      is_table = ap (λ (x : Kind). Sections.table x actors channels times sizes) (sym k);
-      timed = λ needed. subst IsTimed is_table (given needed);
-    } in
-    subst (Spelled.IsTable need_times tree) (sym is_table) table))))))))))))
+      is_graph = subst (λ (x : Kind). Spelled.IsGraph x need_times graph t) (sym k) is;
+    })))))

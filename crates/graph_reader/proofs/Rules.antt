@@ -94,18 +94,18 @@ port_of kind actor before done e =
     skip _ (TreeSteps.required field.Rate actor e) _ (λ text.
     then (ListFits kind 0 1000000) _ (NumberTexts.numbers kind 0 field.Rate actor quantity.Rate 1000000 text) _ (numbers kind 0 field.Rate actor quantity.Rate 1000000 text (omega arith)) (λ rates fits. fits))))))
 
-actor_of : (kind : Kind) (done : List Actor) (e : Node) → IfOk (Sections.actor_of kind done e) (ActorFits kind)
+actor_of : (kind : Kind) (of : List ℕ) (done : List Actor) (e : Node) → IfOk (Sections.actor_of kind of done e) (ActorFits kind)
 unfolding Sections.actor_of
-actor_of kind done e =
-    skip _ (Sections.new_name file (map (λ (a : Actor). a.name) done) e) _ (λ name.
+actor_of kind of done e =
+    skip _ (Sections.new_name of (map (λ (a : Actor). a.name) done) e) _ (λ name.
     skip _ (NumberTexts.within quantity.Actors 128 (length done + 1)) _ (λ count.
     then (AllByRecursion (PortFits kind)) _ (TreeSteps.each (Sections.port_of kind name (Sections.port_count done)) [] (TreeSteps.children (codes "port") e)) _
     (each-all (PortFits kind) (Sections.port_of kind name (Sections.port_count done)) (port_of kind name (Sections.port_count done)) [] (TreeSteps.children (codes "port") e) tt) (λ ports fit. fit)))
 
-actor_counted : (kind : Kind) (done : List Actor) (e : Node) → IfOk (Sections.actor_of kind done e) (λ _. length done + 1 ≤ 128)
+actor_counted : (kind : Kind) (of : List ℕ) (done : List Actor) (e : Node) → IfOk (Sections.actor_of kind of done e) (λ _. length done + 1 ≤ 128)
 unfolding Sections.actor_of
-actor_counted kind done e =
-    skip _ (Sections.new_name file (map (λ (a : Actor). a.name) done) e) _ (λ name.
+actor_counted kind of done e =
+    skip _ (Sections.new_name of (map (λ (a : Actor). a.name) done) e) _ (λ name.
     then (λ m. (m ≡ length done + 1) × (length done + 1 ≤ 128)) _ (NumberTexts.within quantity.Actors 128 (length done + 1)) _ (within quantity.Actors 128 (length done + 1)) (λ count few.
     skip _ (TreeSteps.each (Sections.port_of kind name (Sections.port_count done)) [] (TreeSteps.children (codes "port") e)) _ (λ ports. few.1)))
 
@@ -114,19 +114,19 @@ record ActorsFit (kind : Kind) (actors : List Actor) : Type 0 where
   few : length actors ≤ 128
   fit : AllByRecursion (ActorFits kind) actors
 
-some_actor : (kind : Kind) (actors : List Actor) → length actors ≤ 128 → AllByRecursion (ActorFits kind) actors → IfOk (Sections.some_actor actors) (ActorsFit kind)
-some_actor kind [] few fit = tt
-some_actor kind (a ∷ rest) few fit = record { some = omega arith; few = few; fit = fit }
+some_actor : (kind : Kind) (of : List ℕ) (actors : List Actor) → length actors ≤ 128 → AllByRecursion (ActorFits kind) actors → IfOk (Sections.some_actor of actors) (ActorsFit kind)
+some_actor kind of [] few fit = tt
+some_actor kind of (a ∷ rest) few fit = record { some = omega arith; few = few; fit = fit }
 
-actors_of : (kind : Kind) (section : Node) → IfOk (Sections.actors_of kind section) (ActorsFit kind)
+actors_of : (kind : Kind) (of : List ℕ) (section : Node) → IfOk (Sections.actors_of kind of section) (ActorsFit kind)
 unfolding Sections.actors_of
-actors_of kind section =
+actors_of kind of section =
     let elements = TreeSteps.children (word_of field.Actor) section in
-    let few = each-few 128 (Sections.actor_of kind) (actor_counted kind) [] elements (omega arith) in
-    let fit = each-all (ActorFits kind) (Sections.actor_of kind) (actor_of kind) [] elements tt in
-    then (λ actors. (length actors ≤ 128) × AllByRecursion (ActorFits kind) actors) (ActorsFit kind) (TreeSteps.each (Sections.actor_of kind) [] elements) Sections.some_actor
-    (both (λ actors. length actors ≤ 128) (AllByRecursion (ActorFits kind)) (TreeSteps.each (Sections.actor_of kind) [] elements) few fit)
-    (λ actors h. some_actor kind actors h.0 h.1)
+    let few = each-few 128 (Sections.actor_of kind of) (actor_counted kind of) [] elements (omega arith) in
+    let fit = each-all (ActorFits kind) (Sections.actor_of kind of) (actor_of kind of) [] elements tt in
+    then (λ actors. (length actors ≤ 128) × AllByRecursion (ActorFits kind) actors) (ActorsFit kind) (TreeSteps.each (Sections.actor_of kind of) [] elements) (Sections.some_actor of)
+    (both (λ actors. length actors ≤ 128) (AllByRecursion (ActorFits kind)) (TreeSteps.each (Sections.actor_of kind of) [] elements) few fit)
+    (λ actors h. some_actor kind of actors h.0 h.1)
 
 -- ---- channels
 
@@ -188,10 +188,10 @@ record ChannelFits (actors : List Actor) (c : Channel) : Type 0 where
   target : EndFits actors c.target
   tokens : c.tokens ≤ 1000000
 
-channel_of : (actors : List Actor) (done : List Channel) (e : Node) → IfOk (Sections.channel_of actors done e) (ChannelFits actors)
+channel_of : (of : List ℕ) (actors : List Actor) (done : List Channel) (e : Node) → IfOk (Sections.channel_of of actors done e) (ChannelFits actors)
 unfolding Sections.channel_of
-channel_of actors done e =
-    skip _ (Sections.new_name file (map (λ (c : Channel). c.name) done) e) _ (λ name.
+channel_of of actors done e =
+    skip _ (Sections.new_name of (map (λ (c : Channel). c.name) done) e) _ (λ name.
     skip _ (NumberTexts.within quantity.Channels 256 (length done + 1)) _ (λ count.
     then (EndFits actors) _ (Sections.end_of actors Out field.SrcActor field.SrcPort name e) _ (end_of actors Out field.SrcActor field.SrcPort name e) (λ start start_fits.
     then (λ x. x ≡ start) _ (Sections.unused field.SrcPort start (list_any (λ (c : Channel). Sections.is_same_port c.source start) done)) _ (unused field.SrcPort start (list_any (λ (c : Channel). Sections.is_same_port c.source start) done)) (λ source source_is.
@@ -200,10 +200,10 @@ channel_of actors done e =
     then (λ n. n ≤ 1000000) _ (Sections.tokens_in name (TreeSteps.attribute (word_of field.InitialTokens) e)) _ (tokens_in name (TreeSteps.attribute (word_of field.InitialTokens) e)) (λ tokens few.
     record { source = subst (EndFits actors) (sym source_is) start_fits; target = subst (EndFits actors) (sym target_is) stop_fits; tokens = few })))))))
 
-channel_counted : (actors : List Actor) (done : List Channel) (e : Node) → IfOk (Sections.channel_of actors done e) (λ _. length done + 1 ≤ 256)
+channel_counted : (of : List ℕ) (actors : List Actor) (done : List Channel) (e : Node) → IfOk (Sections.channel_of of actors done e) (λ _. length done + 1 ≤ 256)
 unfolding Sections.channel_of
-channel_counted actors done e =
-    skip _ (Sections.new_name file (map (λ (c : Channel). c.name) done) e) _ (λ name.
+channel_counted of actors done e =
+    skip _ (Sections.new_name of (map (λ (c : Channel). c.name) done) e) _ (λ name.
     then (λ m. (m ≡ length done + 1) × (length done + 1 ≤ 256)) _ (NumberTexts.within quantity.Channels 256 (length done + 1)) _ (within quantity.Channels 256 (length done + 1)) (λ count few.
     skip _ (Sections.end_of actors Out field.SrcActor field.SrcPort name e) _ (λ start.
     skip _ (Sections.unused field.SrcPort start (list_any (λ (c : Channel). Sections.is_same_port c.source start) done)) _ (λ source.
@@ -215,14 +215,14 @@ record ChannelsFit (actors : List Actor) (channels : List Channel) : Type 0 wher
   few : length channels ≤ 256
   fit : AllByRecursion (ChannelFits actors) channels
 
-channels_of : (actors : List Actor) (section : Node) → IfOk (Sections.channels_of actors section) (ChannelsFit actors)
+channels_of : (of : List ℕ) (actors : List Actor) (section : Node) → IfOk (Sections.channels_of of actors section) (ChannelsFit actors)
 unfolding Sections.channels_of
-channels_of actors section =
+channels_of of actors section =
     let elements = TreeSteps.children (word_of field.Channel) section in
-    let few = each-few 256 (Sections.channel_of actors) (channel_counted actors) [] elements (omega arith) in
-    let fits = each-all (ChannelFits actors) (Sections.channel_of actors) (channel_of actors) [] elements tt in
-    weaker (λ channels. (length channels ≤ 256) × AllByRecursion (ChannelFits actors) channels) (ChannelsFit actors) (TreeSteps.each (Sections.channel_of actors) [] elements)
-    (both (λ channels. length channels ≤ 256) (AllByRecursion (ChannelFits actors)) (TreeSteps.each (Sections.channel_of actors) [] elements) few fits)
+    let few = each-few 256 (Sections.channel_of of actors) (channel_counted of actors) [] elements (omega arith) in
+    let fits = each-all (ChannelFits actors) (Sections.channel_of of actors) (channel_of of actors) [] elements tt in
+    weaker (λ channels. (length channels ≤ 256) × AllByRecursion (ChannelFits actors) channels) (ChannelsFit actors) (TreeSteps.each (Sections.channel_of of actors) [] elements)
+    (both (λ channels. length channels ≤ 256) (AllByRecursion (ChannelFits actors)) (TreeSteps.each (Sections.channel_of of actors) [] elements) few fits)
     (λ channels h. record { few = h.0; fit = h.1 })
 
 -- ---- properties
@@ -244,16 +244,16 @@ times_in kind of e = times_by kind of (Sections.execution_of e)
 abbrev TimeEntryFits : Kind → TimeEntry → Type 0
 TimeEntryFits kind t = TimesFit kind t.times
 
-time_entry : (kind : Kind) (actors : List Actor) (done : List TimeEntry) (e : Node) → IfOk (Sections.time_entry kind actors done e) (TimeEntryFits kind)
+time_entry : (kind : Kind) (of : List ℕ) (actors : List Actor) (done : List TimeEntry) (e : Node) → IfOk (Sections.time_entry kind of actors done e) (TimeEntryFits kind)
 unfolding Sections.time_entry
-time_entry kind actors done e =
-    skip _ (Sections.mention field.Actor (map (λ (a : Actor). a.name) actors) (map (λ (t : TimeEntry). t.actor) done) e) _ (λ name.
+time_entry kind of actors done e =
+    skip _ (Sections.mention field.Actor of (map (λ (a : Actor). a.name) actors) (map (λ (t : TimeEntry). t.actor) done) e) _ (λ name.
     then (TimesFit kind) _ (Sections.times_in kind name e) _ (times_in kind name e) (λ times fits. fits))
 
-times_of : (kind : Kind) (actors : List Actor) (o : Option Node) → IfOk (Sections.times_of kind actors o) (AllByRecursion (TimeEntryFits kind))
+times_of : (kind : Kind) (of : List ℕ) (actors : List Actor) (o : Option Node) → IfOk (Sections.times_of kind of actors o) (AllByRecursion (TimeEntryFits kind))
 unfolding Sections.times_of
-times_of kind actors None = tt
-times_of kind actors (Some properties) = each-all (TimeEntryFits kind) (Sections.time_entry kind actors) (time_entry kind actors) [] (TreeSteps.children (codes "actorProperties") properties) tt
+times_of kind of actors None = tt
+times_of kind of actors (Some properties) = each-all (TimeEntryFits kind) (Sections.time_entry kind of actors) (time_entry kind of actors) [] (TreeSteps.children (codes "actorProperties") properties) tt
 
 pick : (b : Bool) (n : ℕ) → (b ≡ false → 1 ≤ n) → n ≤ 1000000 → IsFrom1 1000000 (cond b 1 n)
 pick true n some few = (omega arith, omega arith)
@@ -276,16 +276,16 @@ size_of of e = size_in of (Sections.size_text e)
 abbrev SizeEntryFits : SizeEntry → Type 0
 SizeEntryFits s = IsFrom1 1000000 s.size
 
-size_entry : (channels : List Channel) (done : List SizeEntry) (e : Node) → IfOk (Sections.size_entry channels done e) SizeEntryFits
+size_entry : (of : List ℕ) (channels : List Channel) (done : List SizeEntry) (e : Node) → IfOk (Sections.size_entry of channels done e) SizeEntryFits
 unfolding Sections.size_entry
-size_entry channels done e =
-    skip _ (Sections.mention field.Channel (map (λ (c : Channel). c.name) channels) (map (λ (s : SizeEntry). s.channel) done) e) _ (λ name.
+size_entry of channels done e =
+    skip _ (Sections.mention field.Channel of (map (λ (c : Channel). c.name) channels) (map (λ (s : SizeEntry). s.channel) done) e) _ (λ name.
     then (IsFrom1 1000000) _ (Sections.size_of name e) _ (size_of name e) (λ size fits. fits))
 
-sizes_of : (channels : List Channel) (o : Option Node) → IfOk (Sections.sizes_of channels o) (AllByRecursion SizeEntryFits)
+sizes_of : (of : List ℕ) (channels : List Channel) (o : Option Node) → IfOk (Sections.sizes_of of channels o) (AllByRecursion SizeEntryFits)
 unfolding Sections.sizes_of
-sizes_of channels None = tt
-sizes_of channels (Some properties) = each-all SizeEntryFits (Sections.size_entry channels) (size_entry channels) [] (TreeSteps.children (codes "channelProperties") properties) tt
+sizes_of of channels None = tt
+sizes_of of channels (Some properties) = each-all SizeEntryFits (Sections.size_entry of channels) (size_entry of channels) [] (TreeSteps.children (codes "channelProperties") properties) tt
 
 -- ---- the table
 
@@ -450,7 +450,7 @@ none-untimed kind t (a ∷ rows) keep =
     ] in
     cases (length a.times == 0) refl
 
-abbrev Keeps : Bool → GraphFile → Type 0
+abbrev pub Keeps : Bool → GraphFile → Type 0
 Keeps need_times t = KeepsRules t × (IsTrue need_times → IsTimed t)
 
 all_timed : (kind : Kind) (need_times : Bool) (t : GraphFile) → KeepsRules t → AllByRecursion (ActorKeepsRules kind) t.actors → IfOk (Sections.all_timed need_times t) (Keeps need_times)
@@ -471,21 +471,26 @@ table-rows : (kind : Kind) (actors : List Actor) (channels : List Channel) (time
 unfolding Sections.table
 table-rows kind actors channels times sizes fit fits even = actor_rows kind times actors fit fits even
 
+pub graph_in : (kind : Kind) (of : List ℕ) (need_times : Bool) (e : Node) → IfOk (Sections.graph_in kind of need_times e) (Keeps need_times)
+unfolding Sections.graph_in
+graph_in kind of need_times e =
+    skip _ (TreeSteps.one (Sections.section_of kind) of e) _ (λ section.
+    then (ActorsFit kind) _ (Sections.actors_of kind of section) _ (actors_of kind of section) (λ actors actors_fit.
+    then (ChannelsFit actors) _ (Sections.channels_of of actors section) _ (channels_of of actors section) (λ channels channels_fit.
+    skip _ (TreeSteps.at_most_one (Sections.properties_of kind) e) _ (λ properties.
+    then (AllByRecursion (TimeEntryFits kind)) _ (Sections.times_of kind of actors properties) _ (times_of kind of actors properties) (λ times times_fit.
+    then (AllByRecursion SizeEntryFits) _ (Sections.sizes_of of channels properties) _ (sizes_of of channels properties) (λ sizes sizes_fit.
+    then (λ read. (read ≡ actors) × Each (IsEven times) actors) _ (Sections.even_phases times actors) _ (even_phases times actors) (λ read even.
+    all_timed kind need_times (Sections.table kind actors channels times sizes) (table kind actors channels times sizes actors_fit channels_fit times_fit sizes_fit even.1) (table-rows kind actors channels times sizes times_fit actors_fit.fit even.1))))))))
+
 table_of : (need_times : Bool) (tree : Node) → IfOk (Sections.table_of need_times tree) (Keeps need_times)
 unfolding Sections.table_of
 table_of need_times tree =
     skip _ (Sections.root_of tree) _ (λ root.
     skip _ (TreeSteps.required field.TypeWord file root) _ (λ word.
     skip _ (Sections.kind_in word) _ (λ kind.
-    skip _ (TreeSteps.one field.ApplicationGraph root) _ (λ graph.
-    skip _ (TreeSteps.one (Sections.section_of kind) graph) _ (λ section.
-    then (ActorsFit kind) _ (Sections.actors_of kind section) _ (actors_of kind section) (λ actors actors_fit.
-    then (ChannelsFit actors) _ (Sections.channels_of actors section) _ (channels_of actors section) (λ channels channels_fit.
-    skip _ (TreeSteps.at_most_one (Sections.properties_of kind) graph) _ (λ properties.
-    then (AllByRecursion (TimeEntryFits kind)) _ (Sections.times_of kind actors properties) _ (times_of kind actors properties) (λ times times_fit.
-    then (AllByRecursion SizeEntryFits) _ (Sections.sizes_of channels properties) _ (sizes_of channels properties) (λ sizes sizes_fit.
-    then (λ read. (read ≡ actors) × Each (IsEven times) actors) _ (Sections.even_phases times actors) _ (even_phases times actors) (λ read even.
-    all_timed kind need_times (Sections.table kind actors channels times sizes) (table kind actors channels times sizes actors_fit channels_fit times_fit sizes_fit even.1) (table-rows kind actors channels times sizes times_fit actors_fit.fit even.1))))))))))))
+    skip _ (TreeSteps.one field.ApplicationGraph file root) _ (λ graph.
+    graph_in kind file need_times graph))))
 
 from_given : (need_times : Bool) (tree : Node) (result : Result GraphFile ReadError) → Gives (λ t. t) result (Sections.table_of need_times tree) → IfOk result (Keeps need_times)
 from_given need_times tree (Ok t) gives = subst (λ r. IfOk r (Keeps need_times)) gives (table_of need_times tree)
@@ -503,19 +508,19 @@ actors-short : (kind : Kind) (actors : List Actor) → AllByRecursion (ActorFits
 actors-short kind [] fit = tt
 actors-short kind (a ∷ actors) fit = (All-from_recursion (λ (xs : List ℕ). length xs ≤ 4096) (map (λ (p : Port). p.rates) a.ports) (ports-short kind 4096 (few-phases kind) a.ports fit.0), actors-short kind actors fit.1)
 
-pub short_ports : (kind : Kind) (section : Node) (actors : List Actor) → Sections.actors_of kind section ≡ Ok actors → All HasShortPorts actors
-short_ports kind section actors read = All-from_recursion HasShortPorts actors (actors-short kind actors (if-ok (ActorsFit kind) (Sections.actors_of kind section) actors (actors_of kind section) read).fit)
+pub short_ports : (kind : Kind) (of : List ℕ) (section : Node) (actors : List Actor) → Sections.actors_of kind of section ≡ Ok actors → All HasShortPorts actors
+short_ports kind of section actors read = All-from_recursion HasShortPorts actors (actors-short kind actors (if-ok (ActorsFit kind) (Sections.actors_of kind of section) actors (actors_of kind of section) read).fit)
 
 channels-join : (actors : List Actor) (channels : List Channel) → AllByRecursion (ChannelFits actors) channels → AllByRecursion (JoinActors (length actors)) channels
 channels-join actors [] fit = tt
 channels-join actors (c ∷ channels) fit = (record { source = fit.0.source.actor; target = fit.0.target.actor }, channels-join actors channels fit.1)
 
-pub join : (actors : List Actor) (section : Node) (channels : List Channel) → Sections.channels_of actors section ≡ Ok channels → All (JoinActors (length actors)) channels
-join actors section channels read = All-from_recursion (JoinActors (length actors)) channels (channels-join actors channels (if-ok (ChannelsFit actors) (Sections.channels_of actors section) channels (channels_of actors section) read).fit)
+pub join : (of : List ℕ) (actors : List Actor) (section : Node) (channels : List Channel) → Sections.channels_of of actors section ≡ Ok channels → All (JoinActors (length actors)) channels
+join of actors section channels read = All-from_recursion (JoinActors (length actors)) channels (channels-join actors channels (if-ok (ChannelsFit actors) (Sections.channels_of of actors section) channels (channels_of of actors section) read).fit)
 
-pub short_lists : (kind : Kind) (actors : List Actor) (o : Option Node) (times : List TimeEntry) → Sections.times_of kind actors o ≡ Ok times → All HasShortPorts actors → All (λ a. AreShort (Sections.lists_of times a)) actors
-short_lists kind actors o times read short k d below =
+pub short_lists : (kind : Kind) (of : List ℕ) (actors : List Actor) (o : Option Node) (times : List TimeEntry) → Sections.times_of kind of actors o ≡ Ok times → All HasShortPorts actors → All (λ a. AreShort (Sections.lists_of times a)) actors
+short_lists kind of actors o times read short k d below =
     let a : Actor = get_or actors k d in
-    let fit : AllByRecursion (TimeEntryFits kind) times = if-ok (AllByRecursion (TimeEntryFits kind)) (Sections.times_of kind actors o) times (times_of kind actors o) read in
+    let fit : AllByRecursion (TimeEntryFits kind) times = if-ok (AllByRecursion (TimeEntryFits kind)) (Sections.times_of kind of actors o) times (times_of kind of actors o) read in
     All-from_recursion (λ (xs : List ℕ). length xs ≤ 4096) (Sections.lists_of times a)
     (times-short kind 4096 (few-phases kind) (Sections.times_at times a.name) (times_at kind times a.name fit), recursion_from_All (λ (xs : List ℕ). length xs ≤ 4096) (map (λ (p : Port). p.rates) a.ports) (short k d below))

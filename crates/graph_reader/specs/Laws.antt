@@ -1,5 +1,5 @@
 -- Laws of graph files: the bytes decide their table or their first fault.
-use Rattle.std.specs.Prelude.{◌≡◌, ◌≢◌, ℕ, Bool, true, List, Ok}
+use Rattle.std.specs.Prelude.{◌≡◌, ◌≢◌, ℕ, Bool, true, List, Result, Ok}
 use Rattle.sd_base.specs.declared.tables.GraphFile.{GraphFile}
 use Rattle.sd_base.specs.Tables.{KeepsRules, IsTimed}
 use Rattle.file_text.specs.Node.{Node}
@@ -9,9 +9,13 @@ use Rattle.graph_reader.specs.declared.error.ReadError.TheVariants.{NoMemory}
 use Rattle.graph_reader.specs.FirstFaults.{IsFirstFault}
 use Rattle.graph_reader.specs.Sections.{table_of}
 
+-- the bytes spell a tree, and a walk through it gives this
+abbrev pub GivesBy : {T : Type 0} → (Node → Result T ReadError) → List ℕ → T → Type 0
+GivesBy walk bytes t = (e : Node) × IsText e bytes × (walk e ≡ Ok t)
+
 -- the bytes spell a tree whose sections give this table
 abbrev pub Gives : List ℕ → Bool → GraphFile → Type 0
-Gives bytes need_times t = (e : Node) × IsText e bytes × (table_of need_times e ≡ Ok t)
+Gives bytes need_times t = GivesBy (table_of need_times) bytes t
 
 -- bytes have one table
 abbrev pub HasOneTable : Type 0

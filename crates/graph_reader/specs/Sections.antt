@@ -55,9 +55,9 @@ tested_mention what names earlier name =
     else Ok name
 
 -- the name of what an element speaks of: one of these names, and none of which an earlier element speaks
-unfoldable pub mention : Field → List (List ℕ) → List (List ℕ) → Node → Result (List ℕ) ReadError
-mention what names earlier e = do
-  name ← required what file e
+unfoldable pub mention : Field → List ℕ → List (List ℕ) → List (List ℕ) → Node → Result (List ℕ) ReadError
+mention what of names earlier e = do
+  name ← required what of e
   tested_mention what names earlier name
 
 -- ---- actors
@@ -85,23 +85,23 @@ abbrev pub port_count : List Actor → ℕ
 port_count actors = sum_by (λ (a : Actor). length a.ports) actors
 
 -- an actor, after the earlier ones
-unfoldable pub actor_of : Kind → List Actor → Node → Result Actor ReadError
-actor_of kind done e = do
-  name ← new_name file (map (λ (a : Actor). a.name) done) e
+unfoldable pub actor_of : Kind → List ℕ → List Actor → Node → Result Actor ReadError
+actor_of kind of done e = do
+  name ← new_name of (map (λ (a : Actor). a.name) done) e
   count ← within quantity.Actors ACTORS (length done + 1)
   ports ← each (port_of kind name (port_count done)) [] (children (codes "port") e)
   Ok (record { name = name; ports = ports })
 
 -- there is an actor
-abbrev pub some_actor : List Actor → Result (List Actor) ReadError
-some_actor [] = Err (Missing field.Actor file)
-some_actor (a ∷ rest) = Ok (a ∷ rest)
+abbrev pub some_actor : List ℕ → List Actor → Result (List Actor) ReadError
+some_actor of [] = Err (Missing field.Actor of)
+some_actor of (a ∷ rest) = Ok (a ∷ rest)
 
 -- the actors of a section; there is one at least
-unfoldable pub actors_of : Kind → Node → Result (List Actor) ReadError
-actors_of kind section = do
-  actors ← each (actor_of kind) [] (children (word_of field.Actor) section)
-  some_actor actors
+unfoldable pub actors_of : Kind → List ℕ → Node → Result (List Actor) ReadError
+actors_of kind of section = do
+  actors ← each (actor_of kind of) [] (children (word_of field.Actor) section)
+  some_actor of actors
 
 -- ---- channels
 
@@ -149,9 +149,9 @@ tokens_in of None = Ok 0
 tokens_in of (Some text) = number field.InitialTokens of quantity.Tokens TOKENS text
 
 -- a channel between ports of these actors, after the earlier ones; each port serves one channel
-unfoldable pub channel_of : List Actor → List Channel → Node → Result Channel ReadError
-channel_of actors done e = do
-  name ← new_name file (map (λ (c : Channel). c.name) done) e
+unfoldable pub channel_of : List ℕ → List Actor → List Channel → Node → Result Channel ReadError
+channel_of of actors done e = do
+  name ← new_name of (map (λ (c : Channel). c.name) done) e
   count ← within quantity.Channels CHANNELS (length done + 1)
   start ← end_of actors Out field.SrcActor field.SrcPort name e
   source ← unused field.SrcPort start (list_any (λ (c : Channel). is_same_port c.source start) done)
@@ -161,8 +161,8 @@ channel_of actors done e = do
   Ok (record { name = name; source = source; target = target; tokens = tokens })
 
 -- the channels of a section
-unfoldable pub channels_of : List Actor → Node → Result (List Channel) ReadError
-channels_of actors section = each (channel_of actors) [] (children (word_of field.Channel) section)
+unfoldable pub channels_of : List ℕ → List Actor → Node → Result (List Channel) ReadError
+channels_of of actors section = each (channel_of of actors) [] (children (word_of field.Channel) section)
 
 -- ---- properties
 
@@ -200,16 +200,16 @@ unfoldable pub times_in : Kind → List ℕ → Node → Result (List ℕ) ReadE
 times_in kind of e = times_by kind of (execution_of e)
 
 -- the times that are given for an actor, after the earlier ones
-unfoldable pub time_entry : Kind → List Actor → List TimeEntry → Node → Result TimeEntry ReadError
-time_entry kind actors done e = do
-  name ← mention field.Actor (map (λ (a : Actor). a.name) actors) (map (λ (t : TimeEntry). t.actor) done) e
+unfoldable pub time_entry : Kind → List ℕ → List Actor → List TimeEntry → Node → Result TimeEntry ReadError
+time_entry kind of actors done e = do
+  name ← mention field.Actor of (map (λ (a : Actor). a.name) actors) (map (λ (t : TimeEntry). t.actor) done) e
   times ← times_in kind name e
   Ok (record { actor = name; times = times })
 
 -- the times that the properties give
-unfoldable pub times_of : Kind → List Actor → Option Node → Result (List TimeEntry) ReadError
-times_of kind actors None = Ok []
-times_of kind actors (Some properties) = each (time_entry kind actors) [] (children (codes "actorProperties") properties)
+unfoldable pub times_of : Kind → List ℕ → List Actor → Option Node → Result (List TimeEntry) ReadError
+times_of kind of actors None = Ok []
+times_of kind of actors (Some properties) = each (time_entry kind of actors) [] (children (codes "actorProperties") properties)
 
 -- a size of 0 is one of 1
 abbrev pub some_size : ℕ → ℕ
@@ -231,16 +231,16 @@ unfoldable pub size_of : List ℕ → Node → Result ℕ ReadError
 size_of of e = size_in of (size_text e)
 
 -- the size that is given for a channel, after the earlier ones
-unfoldable pub size_entry : List Channel → List SizeEntry → Node → Result SizeEntry ReadError
-size_entry channels done e = do
-  name ← mention field.Channel (map (λ (c : Channel). c.name) channels) (map (λ (s : SizeEntry). s.channel) done) e
+unfoldable pub size_entry : List ℕ → List Channel → List SizeEntry → Node → Result SizeEntry ReadError
+size_entry of channels done e = do
+  name ← mention field.Channel of (map (λ (c : Channel). c.name) channels) (map (λ (s : SizeEntry). s.channel) done) e
   size ← size_of name e
   Ok (record { channel = name; size = size })
 
 -- the sizes that the properties give
-unfoldable pub sizes_of : List Channel → Option Node → Result (List SizeEntry) ReadError
-sizes_of channels None = Ok []
-sizes_of channels (Some properties) = each (size_entry channels) [] (children (codes "channelProperties") properties)
+unfoldable pub sizes_of : List ℕ → List Channel → Option Node → Result (List SizeEntry) ReadError
+sizes_of of channels None = Ok []
+sizes_of of channels (Some properties) = each (size_entry of channels) [] (children (codes "channelProperties") properties)
 
 -- ---- the table
 
@@ -322,10 +322,10 @@ unfoldable pub all_timed : Bool → GraphFile → Result GraphFile ReadError
 all_timed need_times t = if need_times then timed t (find (λ (a : ActorRow). length a.times == 0) t.actors) else Ok t
 
 -- the table of these actors and channels with what the properties give
-abbrev pub with_properties : Kind → Bool → List Actor → List Channel → Option Node → Result GraphFile ReadError
-with_properties kind need_times actors channels properties = do
-  times ← times_of kind actors properties
-  sizes ← sizes_of channels properties
+abbrev pub with_properties : Kind → List ℕ → Bool → List Actor → List Channel → Option Node → Result GraphFile ReadError
+with_properties kind of need_times actors channels properties = do
+  times ← times_of kind of actors properties
+  sizes ← sizes_of of channels properties
   fit ← even_phases times actors
   all_timed need_times (table kind actors channels times sizes)
 
@@ -350,15 +350,20 @@ kind_in word =
     else if bytes_eq word (word_of field.Csdf) then Ok Csdf
     else Err WrongKind
 
+-- the table of the sections in an element; `of` is named where no actor or channel is being read
+unfoldable pub graph_in : Kind → List ℕ → Bool → Node → Result GraphFile ReadError
+graph_in kind of need_times e = do
+  section ← one (section_of kind) of e
+  actors ← actors_of kind of section
+  channels ← channels_of of actors section
+  properties ← at_most_one (properties_of kind) e
+  with_properties kind of need_times actors channels properties
+
 -- the table of a tree, or the first rule that the tree breaks
 unfoldable pub table_of : Bool → Node → Result GraphFile ReadError
 table_of need_times tree = do
   root ← root_of tree
   word ← required field.TypeWord file root
   kind ← kind_in word
-  graph ← one field.ApplicationGraph root
-  section ← one (section_of kind) graph
-  actors ← actors_of kind section
-  channels ← channels_of actors section
-  properties ← at_most_one (properties_of kind) graph
-  with_properties kind need_times actors channels properties
+  graph ← one field.ApplicationGraph file root
+  graph_in kind file need_times graph

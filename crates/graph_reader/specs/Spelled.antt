@@ -166,24 +166,28 @@ AreSizes channels (Some properties) sizes =
 abbrev pub IsEven : List TimeEntry → Actor → Type 0
 IsEven times a = Each (λ xs. (length xs ≡ phases_in times a) ⊎ (length xs ≤ 1)) (lists_of times a)
 
--- the tree spells the table
-pub record IsTable (need_times : Bool) (tree : Node) (t : GraphFile) : Type 0 where
-  pub graph : Node
+-- the sections in an element spell the table
+pub record IsGraph (kind : Kind) (need_times : Bool) (e : Node) (t : GraphFile) : Type 0 where
   pub section : Node
   pub properties : Option Node
   pub actors : List Actor
   pub channels : List Channel
   pub times : List TimeEntry
   pub sizes : List SizeEntry
+  pub one_section : children (word_of (section_of kind)) e ≡ section ∷ []
+  pub no_second : children (word_of (properties_of kind)) e ≡ option_to_list properties
+  pub are_actors : AreActors kind section actors
+  pub are_channels : AreChannels actors section channels
+  pub are_times : AreTimes kind actors properties times
+  pub are_sizes : AreSizes channels properties sizes
+  pub even : Each (IsEven times) actors
+  pub is_table : t ≡ table kind actors channels times sizes
+  pub timed : IsTrue need_times → IsTimed t
+
+-- the tree spells the table
+pub record IsTable (need_times : Bool) (tree : Node) (t : GraphFile) : Type 0 where
+  pub graph : Node
   pub root : name_of tree ≡ word_of field.Sdf3
   pub kind : Has field.TypeWord tree (word_of (section_of t.kind))
   pub one_graph : children (word_of field.ApplicationGraph) tree ≡ graph ∷ []
-  pub one_section : children (word_of (section_of t.kind)) graph ≡ section ∷ []
-  pub no_second : children (word_of (properties_of t.kind)) graph ≡ option_to_list properties
-  pub are_actors : AreActors t.kind section actors
-  pub are_channels : AreChannels actors section channels
-  pub are_times : AreTimes t.kind actors properties times
-  pub are_sizes : AreSizes channels properties sizes
-  pub even : Each (IsEven times) actors
-  pub is_table : t ≡ table t.kind actors channels times sizes
-  pub timed : IsTrue need_times → IsTimed t
+  pub is_graph : IsGraph t.kind need_times graph t

@@ -22,7 +22,7 @@ Fails error read = error ≢ NoMemory → read ≡ Err error
 abbrev pub Gives : {X Y : Type 0} → (X → Y) → Result X ReadError → Result Y ReadError → Type 0
 Gives view result read = MatchResult result (λ x. read ≡ Ok (view x)) (λ error. Fails error read)
 
--- what is read where no actor or channel is
+-- what is read where nothing that has a name is
 abbrev pub file : List ℕ
 file = codes "file"
 
@@ -72,15 +72,15 @@ unfoldable pub at_most_one : Field → Node → Result (Option Node) ReadError
 at_most_one what e = not_two what (children (word_of what) e)
 
 -- an element that has to be there
-abbrev pub there : Field → Option Node → Result Node ReadError
-there what None = Err (Missing what file)
-there what (Some e) = Ok e
+abbrev pub there : Field → List ℕ → Option Node → Result Node ReadError
+there what of None = Err (Missing what of)
+there what of (Some e) = Ok e
 
 -- the element that stands once
-unfoldable pub one : Field → Node → Result Node ReadError
-one what e = do
+unfoldable pub one : Field → List ℕ → Node → Result Node ReadError
+one what of e = do
   found ← at_most_one what e
-  there what found
+  there what of found
 
 -- reads elements one after another; what was read before an element counts for it
 abbrev pub each : {A : Type 0} → (List A → Node → Result A ReadError) → List A → List Node → Result (List A) ReadError

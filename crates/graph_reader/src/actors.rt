@@ -129,6 +129,7 @@ fn read_ports(
 fn read_actor(
     alloc: Global,
     kind: Kind,
+    of: &str,
     ports_before: u64,
     done: &Register<Actor>,
     element: &Element,
@@ -136,12 +137,12 @@ fn read_actor(
     requires counted { ports_before ≡ port_count done.now }
     requires few_ports { ports_before ≤ PORTS }
     requires few_actors { length done.now ≤ ACTORS }
-    ensures gives { Gives (λ a. a) result (actor_of kind done.now (tree_of element.now)) }
+    ensures gives { Gives (λ a. a) result (actor_of kind of.now done.now (tree_of element.now)) }
     ensures few_ports { IfOk result (λ a. ports_before + length a.ports ≤ PORTS) }
     ensures few_actors { IfOk result (λ _. length done.now + 1 ≤ ACTORS) }
     ensures new { IfOk result (λ a. is_among a.name (map (λ (b : Actor). b.name) done.now) ≡ false) }
 {
-    let name = new_name(alloc, "file", done, element)?;
+    let name = new_name(alloc, of, done, element)?;
     within(Quantity::Actors, ACTORS, done.len() as u64 + 1)?;
     let ports = read_ports(alloc, kind, name, ports_before, element)?;
     let name = copied(alloc, name)?;
@@ -153,22 +154,23 @@ fn read_actor(
 pub fn read_actors(
     alloc: Global,
     kind: Kind,
+    of: &str,
     section: &Element,
 ) -> Result<Register<Actor>, ReadError>
-    ensures gives { Gives (λ actors. actors) result (actors_of kind (tree_of section.now)) }
+    ensures gives { Gives (λ actors. actors) result (actors_of kind of.now (tree_of section.now)) }
     ensures few { IfOk result (λ actors. length actors ≤ ACTORS) }
 {
     let mut actors = Register::new(alloc);
     let mut ports: u64 = 0;
     let mut left = elements_in(section);
     while let Some((child, rest)) = split_named(left, Field::Actor.word()) {
-        let actor = read_actor(alloc, kind, ports, &actors, child)?;
+        let actor = read_actor(alloc, kind, of, ports, &actors, child)?;
         ports += actor.ports.len() as u64;
         actors = actors.with(alloc, actor)?;
         left = rest;
     }
     if actors.is_empty() {
-        return Err(missing(alloc, Field::Actor, "file"));
+        return Err(missing(alloc, Field::Actor, of));
     }
     Ok(actors)
 }

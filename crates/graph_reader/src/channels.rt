@@ -171,17 +171,18 @@ const TARGET: Side = Side {
 #[tactic(auto, unfolding(crate::specs::Sections::channel_of))]
 fn read_channel(
     alloc: Global,
+    of: &str,
     actors: &Register<Actor>,
     done: &Register<Channel>,
     element: &Element,
 ) -> Result<Channel, ReadError>
     requires few_actors { length actors.now ≤ ACTORS }
     requires few_channels { length done.now ≤ CHANNELS }
-    ensures gives { Gives (λ c. c) result (channel_of actors.now done.now (tree_of element.now)) }
+    ensures gives { Gives (λ c. c) result (channel_of of.now actors.now done.now (tree_of element.now)) }
     ensures few { IfOk result (λ _. length done.now + 1 ≤ CHANNELS) }
     ensures new { IfOk result (λ c. is_among c.name (map (λ (d : Channel). d.name) done.now) ≡ false) }
 {
-    let name = new_name(alloc, "file", done, element)?;
+    let name = new_name(alloc, of, done, element)?;
     within(Quantity::Channels, CHANNELS, done.len() as u64 + 1)?;
     let source = read_end(alloc, actors, SOURCE, name, element)?;
     if is_source_used(done, &source) {
@@ -205,16 +206,17 @@ fn read_channel(
 #[tactic(auto, unfolding(crate::specs::Sections::channels_of, crate::specs::TreeSteps::children))]
 pub fn read_channels(
     alloc: Global,
+    of: &str,
     actors: &Register<Actor>,
     section: &Element,
 ) -> Result<Register<Channel>, ReadError>
     requires { length actors.now ≤ ACTORS }
-    ensures { Gives (λ cs. cs) result (channels_of actors.now (tree_of section.now)) }
+    ensures { Gives (λ cs. cs) result (channels_of of.now actors.now (tree_of section.now)) }
 {
     let mut channels = Register::new(alloc);
     let mut left = elements_in(section);
     while let Some((child, rest)) = split_named(left, Field::Channel.word()) {
-        let channel = read_channel(alloc, actors, &channels, child)?;
+        let channel = read_channel(alloc, of, actors, &channels, child)?;
         channels = channels.with(alloc, channel)?;
         left = rest;
     }

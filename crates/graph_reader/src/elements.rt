@@ -108,11 +108,16 @@ pub fn at_most_one<'a>(
 
 /// The element in an element that stands once.
 #[tactic(auto, unfolding(crate::specs::TreeSteps::one))]
-pub fn one<'a>(alloc: Global, element: &'a Element, what: Field) -> Result<&'a Element, ReadError>
-    ensures { Gives (λ c. tree_of c.now) result (one what (tree_of element.now)) }
+pub fn one<'a>(
+    alloc: Global,
+    element: &'a Element,
+    what: Field,
+    of: &str,
+) -> Result<&'a Element, ReadError>
+    ensures { Gives (λ c. tree_of c.now) result (one what of.now (tree_of element.now)) }
 {
     match at_most_one(alloc, element, what)? {
         Some(child) => Ok(child),
-        None => Err(missing(alloc, what, "file")),
+        None => Err(missing(alloc, what, of)),
     }
 }

@@ -8,7 +8,7 @@ use sd_base::{Quantity, Text};
 use std::alloc::{AllocError, AllocFailed, Global};
 use thiserror::Error;
 
-/// Why a graph file has no table: the first rule that it breaks. `of` is the name of the actor or channel
+/// Why a file has no table: the first rule that it breaks. `of` is the name of the actor, channel, scenario or state
 /// that is being read, or `file` where none is; names stand as the file has them.
 #[derive(Debug, Drop, Error)]
 pub enum ReadError {
@@ -36,6 +36,12 @@ pub enum ReadError {
     /// A number or a count above its limit.
     #[error("a limit is passed")]
     Limit { what: Quantity },
+    /// A scenario has other tokens between rounds than the first one, on the channel of this name.
+    #[error("the tokens that scenarios share differ")]
+    SharedDiffer { channel: Text },
+    /// No state may come after this one.
+    #[error("a state has no successor")]
+    DeadEnd { state: Text },
     #[error("out of memory")]
     NoMemory,
 }
@@ -124,6 +130,24 @@ pub fn phase_count(alloc: Global, actor: &str) -> ReadError
 {
     match copied(alloc, actor) {
         Ok(actor) => ReadError::PhaseCount { actor },
+        Err(_) => ReadError::NoMemory,
+    }
+}
+
+pub fn shared_differ(alloc: Global, channel: &str) -> ReadError
+    ensures { result ≢ ReadError.NoMemory → result ≡ ReadError.SharedDiffer channel.now }
+{
+    match copied(alloc, channel) {
+        Ok(channel) => ReadError::SharedDiffer { channel },
+        Err(_) => ReadError::NoMemory,
+    }
+}
+
+pub fn dead_end(alloc: Global, state: &str) -> ReadError
+    ensures { result ≢ ReadError.NoMemory → result ≡ ReadError.DeadEnd state.now }
+{
+    match copied(alloc, state) {
+        Ok(state) => ReadError::DeadEnd { state },
         Err(_) => ReadError::NoMemory,
     }
 }

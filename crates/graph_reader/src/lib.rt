@@ -22,6 +22,7 @@ mod numbers;
 mod properties;
 mod register;
 mod table;
+pub mod walk;
 
 pub use error::ReadError;
 pub use field::Field;

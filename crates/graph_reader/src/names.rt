@@ -45,15 +45,16 @@ pub fn new_name<'a, R: Named>(
 pub fn mention<'a, R: Named, E: Named>(
     alloc: Global,
     what: Field,
+    of: &str,
     rows: &Register<R>,
     earlier: &Register<E>,
     element: &'a Element,
 ) -> Result<&'a str, ReadError>
     ensures gives { let names = map R.name_of rows.now in
-        Gives (λ v. v.now) result (mention what names (map E.name_of earlier.now) (tree_of element.now)) }
+        Gives (λ v. v.now) result (mention what of.now names (map E.name_of earlier.now) (tree_of element.now)) }
     ensures new { IfOk result (λ v. is_among v.now (map E.name_of earlier.now) ≡ false) }
 {
-    let name = required(alloc, element, what, "file")?;
+    let name = required(alloc, element, what, of)?;
     if !rows.has(name) {
         return Err(unknown(alloc, what, name));
     }

@@ -98,14 +98,15 @@ fn times_in(alloc: Global, kind: Kind, of: &str, element: &Element) -> Result<Ro
 fn read_time(
     alloc: Global,
     kind: Kind,
+    of: &str,
     actors: &Register<Actor>,
     done: &Register<TimeEntry>,
     element: &Element,
 ) -> Result<TimeEntry, ReadError>
-    ensures gives { Gives (λ t. t) result (time_entry kind actors.now done.now (tree_of element.now)) }
+    ensures gives { Gives (λ t. t) result (time_entry kind of.now actors.now done.now (tree_of element.now)) }
     ensures new { IfOk result (λ t. is_among t.actor (map (λ (u : TimeEntry). u.actor) done.now) ≡ false) }
 {
-    let name = mention(alloc, Field::Actor, actors, done, element)?;
+    let name = mention(alloc, Field::Actor, of, actors, done, element)?;
     let times = times_in(alloc, kind, name, element)?;
     let actor = copied(alloc, name)?;
     Ok(TimeEntry { actor, times })
@@ -116,11 +117,12 @@ fn read_time(
 pub fn read_times(
     alloc: Global,
     kind: Kind,
+    of: &str,
     actors: &Register<Actor>,
     properties: Option<&Element>,
 ) -> Result<Register<TimeEntry>, ReadError>
     ensures { let tree = option_map (λ e. tree_of e.now) properties.entry in
-        Gives (λ ts. ts) result (times_of kind actors.now tree) }
+        Gives (λ ts. ts) result (times_of kind of.now actors.now tree) }
 {
     let mut times = Register::new(alloc);
     let Some(element) = properties else {
@@ -128,7 +130,7 @@ pub fn read_times(
     };
     let mut left = elements_in(element);
     while let Some((child, rest)) = split_named(left, "actorProperties") {
-        let time = read_time(alloc, kind, actors, &times, child)?;
+        let time = read_time(alloc, kind, of, actors, &times, child)?;
         times = times.with(alloc, time)?;
         left = rest;
     }
@@ -156,14 +158,15 @@ fn size_of(alloc: Global, of: &str, element: &Element) -> Result<u64, ReadError>
 #[tactic(auto, unfolding(crate::specs::Sections::size_entry))]
 fn read_size(
     alloc: Global,
+    of: &str,
     channels: &Register<Channel>,
     done: &Register<SizeEntry>,
     element: &Element,
 ) -> Result<SizeEntry, ReadError>
-    ensures gives { Gives (λ s. s) result (size_entry channels.now done.now (tree_of element.now)) }
+    ensures gives { Gives (λ s. s) result (size_entry of.now channels.now done.now (tree_of element.now)) }
     ensures new { IfOk result (λ s. is_among s.channel (map (λ (t : SizeEntry). t.channel) done.now) ≡ false) }
 {
-    let name = mention(alloc, Field::Channel, channels, done, element)?;
+    let name = mention(alloc, Field::Channel, of, channels, done, element)?;
     let size = size_of(alloc, name, element)?;
     let channel = copied(alloc, name)?;
     Ok(SizeEntry { channel, size })
@@ -173,11 +176,12 @@ fn read_size(
 #[tactic(auto, unfolding(crate::specs::Sections::sizes_of, crate::specs::TreeSteps::children))]
 pub fn read_sizes(
     alloc: Global,
+    of: &str,
     channels: &Register<Channel>,
     properties: Option<&Element>,
 ) -> Result<Register<SizeEntry>, ReadError>
     ensures { let tree = option_map (λ e. tree_of e.now) properties.entry in
-        Gives (λ ss. ss) result (sizes_of channels.now tree) }
+        Gives (λ ss. ss) result (sizes_of of.now channels.now tree) }
 {
     let mut sizes = Register::new(alloc);
     let Some(element) = properties else {
@@ -185,7 +189,7 @@ pub fn read_sizes(
     };
     let mut left = elements_in(element);
     while let Some((child, rest)) = split_named(left, "channelProperties") {
-        let size = read_size(alloc, channels, &sizes, child)?;
+        let size = read_size(alloc, of, channels, &sizes, child)?;
         sizes = sizes.with(alloc, size)?;
         left = rest;
     }

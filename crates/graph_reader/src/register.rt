@@ -8,7 +8,7 @@ ghost use Rattle.graph_reader.specs.Sections.{is_among};
 ghost use Rattle.graph_reader.specs.Register.{tested};
 
 use indexmap::IndexSet;
-use sd_base::Text;
+use sd_base::{ScenarioRow, Text};
 use std::alloc::{AllocError, Global};
 use std::marker::Model;
 
@@ -18,6 +18,15 @@ pub trait Named {
 
     fn name(&self) -> &Text
         ensures { result.now ≡ name_of self.now };
+}
+
+// The type is that of another crate, and so is the trait for the reader of scenarios: the impl can stand here alone.
+impl Named for ScenarioRow {
+    ghost name_of = { λ s. s.name };
+
+    fn name(&self) -> &Text {
+        &self.name
+    }
 }
 
 /// Rows in order, each of which has a name of its own. A name costs its length, however many rows there are.
@@ -69,6 +78,14 @@ impl<R: Named> Register<R> {
         ensures { result.now ≡ self.now }
     {
         self.rows.as_slice()
+    }
+
+    /// Gives the rows back, without memory.
+    pub fn into_rows(self) -> Vec<R>
+        ensures { result.items ≡ self }
+    {
+        let Register { rows, .. } = self;
+        rows
     }
 
     pub fn has(&self, name: &str) -> bool

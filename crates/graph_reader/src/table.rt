@@ -5,7 +5,7 @@ ghost use Rattle.std.specs.Option.{option_copied, option_map};
 ghost use Rattle.std.specs.List.{find, list_all};
 ghost use Rattle.file_text.specs.Node.{tree_of};
 ghost use Rattle.graph_reader.specs.TreeSteps.{Gives};
-ghost use Rattle.graph_reader.specs.Sections.{times_at, size_at, lists_of, phases_in, fits_phases, is_even, even_phases, widened, actor_row, channel_row, table, all_timed, root_of, kind_in, section_of, properties_of, table_of, with_properties};
+ghost use Rattle.graph_reader.specs.Sections.{times_at, size_at, lists_of, phases_in, fits_phases, is_even, even_phases, widened, actor_row, channel_row, table, all_timed, root_of, kind_in, section_of, properties_of, graph_in, table_of, with_properties};
 ghost use Rattle.graph_reader.specs.inside.Lists.{AreShort, HasShortPorts, JoinActors};
 
 use crate::actors::{Actor, Port, read_actors};
@@ -258,6 +258,7 @@ fn all_timed(alloc: Global, need_times: bool, table: GraphFile) -> Result<GraphF
 fn with_properties(
     alloc: Global,
     kind: Kind,
+    of: &str,
     need_times: bool,
     actors: &Register<Actor>,
     channels: &Register<Channel>,
@@ -266,10 +267,10 @@ fn with_properties(
     requires short { All HasShortPorts actors.now }
     requires join { All (JoinActors (length actors.now)) channels.now }
     ensures { let tree = option_map (λ e. tree_of e.now) properties.entry in
-        Gives (λ t. t) result (with_properties kind need_times actors.now channels.now tree) }
+        Gives (λ t. t) result (with_properties kind of.now need_times actors.now channels.now tree) }
 {
-    let times = read_times(alloc, kind, actors, properties)?;
-    let sizes = read_sizes(alloc, channels, properties)?;
+    let times = read_times(alloc, kind, of, actors, properties)?;
+    let sizes = read_sizes(alloc, of, channels, properties)?;
     even_phases(alloc, &times, actors.as_slice())?;
     let rows = table(
         alloc,
@@ -283,7 +284,7 @@ fn with_properties(
 }
 
 #[tactic(auto, unfolding(crate::specs::Sections::root_of))]
-fn test_root(alloc: Global, root: &Element) -> Result<(), ReadError>
+pub fn test_root(alloc: Global, root: &Element) -> Result<(), ReadError>
     ensures { Gives (λ _. tree_of root.now) result (root_of (tree_of root.now)) }
 {
     if is_named(root, Field::Sdf3.word()) {
@@ -326,6 +327,24 @@ fn properties_of(kind: Kind) -> Field
     }
 }
 
+/// The table of the sections in an element. A refusal names `of` where no actor or channel is being read.
+#[tactic(auto, unfolding(crate::specs::Sections::graph_in))]
+pub fn graph_in(
+    alloc: Global,
+    kind: Kind,
+    of: &str,
+    need_times: bool,
+    element: &Element,
+) -> Result<GraphFile, ReadError>
+    ensures { Gives (λ t. t) result (graph_in kind of.now need_times (tree_of element.now)) }
+{
+    let section = one(alloc, element, section_of(kind), of)?;
+    let actors = read_actors(alloc, kind, of, section)?;
+    let channels = read_channels(alloc, of, &actors, section)?;
+    let properties = at_most_one(alloc, element, properties_of(kind))?;
+    with_properties(alloc, kind, of, need_times, &actors, &channels, properties)
+}
+
 /// The table of the elements inside a root element.
 #[tactic(auto, unfolding(crate::specs::Sections::table_of))]
 pub fn table_of(alloc: Global, root: &Element, need_times: bool) -> Result<GraphFile, ReadError>
@@ -333,10 +352,6 @@ pub fn table_of(alloc: Global, root: &Element, need_times: bool) -> Result<Graph
 {
     test_root(alloc, root)?;
     let kind = kind_in(required(alloc, root, Field::TypeWord, "file")?)?;
-    let graph = one(alloc, root, Field::ApplicationGraph)?;
-    let section = one(alloc, graph, section_of(kind))?;
-    let actors = read_actors(alloc, kind, section)?;
-    let channels = read_channels(alloc, &actors, section)?;
-    let properties = at_most_one(alloc, graph, properties_of(kind))?;
-    with_properties(alloc, kind, need_times, &actors, &channels, properties)
+    let graph = one(alloc, root, Field::ApplicationGraph, "file")?;
+    graph_in(alloc, kind, "file", need_times, graph)
 }

@@ -79,6 +79,12 @@ fn words_of(alloc: Global, error: &ReadError) -> Result<String, AllocError> {
         }
         ReadError::PhaseCount { actor } => format!(in alloc; "phases of {}", actor.as_str()),
         ReadError::Limit { what } => format!(in alloc; "limit {what:?}"),
+        ReadError::SharedDiffer { channel } => {
+            format!(in alloc; "shared channel {} differs", channel.as_str())
+        }
+        ReadError::DeadEnd { state } => {
+            format!(in alloc; "state {} has no successor", state.as_str())
+        }
         ReadError::NoMemory => format!(in alloc; "memory"),
     }
 }

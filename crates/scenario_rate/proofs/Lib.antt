@@ -9,6 +9,7 @@ pub mod Looping
 pub mod Finishing
 pub mod Never
 pub mod Growing
+pub mod FileGraphs
 pub mod Sweeping
 pub mod Choosing
 pub mod Shortening

@@ -1,13 +1,19 @@
 //! Laws of timed graphs that are searched, each on a function that does nothing.
-ghost use Rattle.std.specs.Prelude.{◌≤◌};
+ghost use Rattle.std.specs.Prelude.{◌*◌, ◌≤◌, length};
+ghost use Rattle.sd_base.specs.declared.limits.TheConstants.{EDGES, NODES};
 ghost use Rattle.sd_base.specs.declared.tables.ScenarioFile.{ScenarioFile};
 ghost use Rattle.automaton.specs.declared.graph.TimedGraph.{TimedGraph};
 ghost use Rattle.automaton.specs.TimedGraphs.{IsTimedGraph};
-ghost use Rattle.scenario_rate.specs.Graphs.{Grows};
+ghost use Rattle.scenario_rate.specs.Graphs.{Grows, IsSound};
 
 /// In the timed graph of a file whose scenarios share some token, walks from the initial state get heavier than any
 /// number: its states lead on, each token that is left depends on one that was there, and an entry of 0 leads to an
 /// earlier token.
 pub fn files_grow()
     ensures { (file : ScenarioFile) (graph : TimedGraph) → IsTimedGraph file graph → 1 ≤ graph.tokens → Grows graph }
+{}
+
+/// The timed graph of a file whose scenarios share some token is within the limits, where its nodes and edges are.
+pub fn files_are_sound()
+    ensures { (file : ScenarioFile) (graph : TimedGraph) → IsTimedGraph file graph → 1 ≤ graph.tokens → graph.states * graph.tokens ≤ NODES → length graph.edges ≤ EDGES → IsSound graph }
 {}

@@ -13,5 +13,5 @@ mod tight;
 mod trace;
 
 pub use answer::Worst;
-pub use laws::files_grow;
+pub use laws::{files_are_sound, files_grow};
 pub use passes::worst;

@@ -8,7 +8,7 @@ use Rattle.graph_reader.proofs.actors.read_actors.Given as goal
 
 abbrev pub invariant-loop-child : goal.invariant-loop-child
 invariant-loop-child l = record {
-  same : each (actor_of l.kind) l.actors (named (word_of field.Actor) (map tree_of l.left)) ≡ each (actor_of l.kind) [] (named (word_of field.Actor) (children_of (tree_of l.section)));
+  same : each (actor_of l.kind l.of) l.actors (named (word_of field.Actor) (map tree_of l.left)) ≡ each (actor_of l.kind l.of) [] (named (word_of field.Actor) (children_of (tree_of l.section)));
   counted : l.ports ≡ port_count l.actors;
   few_ports : l.ports ≤ 1024;
   few_actors : length l.actors ≤ 128;

@@ -8,7 +8,7 @@ use Rattle.graph_reader.proofs.channels.read_channels.Given as goal
 
 abbrev pub invariant-loop-child : goal.invariant-loop-child
 invariant-loop-child l = record {
-  same : each (channel_of l.actors) l.channels (named (word_of field.Channel) (map tree_of l.left)) ≡ each (channel_of l.actors) [] (named (word_of field.Channel) (children_of (tree_of l.section)));
+  same : each (channel_of l.of l.actors) l.channels (named (word_of field.Channel) (map tree_of l.left)) ≡ each (channel_of l.of l.actors) [] (named (word_of field.Channel) (children_of (tree_of l.section)));
   few : length l.channels ≤ 256;
 }
 

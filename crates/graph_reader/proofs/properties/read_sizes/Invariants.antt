@@ -7,7 +7,7 @@ use Rattle.graph_reader.proofs.properties.read_sizes.Given as goal
 
 abbrev pub invariant-loop-child : goal.invariant-loop-child
 invariant-loop-child l = record {
-  same : each (size_entry l.channels) l.sizes (named (codes "channelProperties") (map tree_of l.left)) ≡ each (size_entry l.channels) [] (named (codes "channelProperties") (map tree_of l.initial.left));
+  same : each (size_entry l.of l.channels) l.sizes (named (codes "channelProperties") (map tree_of l.left)) ≡ each (size_entry l.of l.channels) [] (named (codes "channelProperties") (map tree_of l.initial.left));
 }
 
 abbrev pub decreases-loop-child : goal.decreases-loop-child

@@ -7,7 +7,7 @@ use Rattle.graph_reader.proofs.properties.read_times.Given as goal
 
 abbrev pub invariant-loop-child : goal.invariant-loop-child
 invariant-loop-child l = record {
-  same : each (time_entry l.kind l.actors) l.times (named (codes "actorProperties") (map tree_of l.left)) ≡ each (time_entry l.kind l.actors) [] (named (codes "actorProperties") (map tree_of l.initial.left));
+  same : each (time_entry l.kind l.of l.actors) l.times (named (codes "actorProperties") (map tree_of l.left)) ≡ each (time_entry l.kind l.of l.actors) [] (named (codes "actorProperties") (map tree_of l.initial.left));
 }
 
 abbrev pub decreases-loop-child : goal.decreases-loop-child

@@ -1,8 +1,0 @@
-use Rattle.graph_reader.proofs.Rules.{short_ports, join}
-use Rattle.graph_reader.proofs.table.table_of.Goals as goal
-
-pub with_properties-requires-clause-short : goal.with_properties-requires-clause-short
-with_properties-requires-clause-short c = short_ports _ _ c.in_ok-actors.actors c.in_ok-actors.ensures.gives
-
-pub with_properties-requires-clause-join : goal.with_properties-requires-clause-join
-with_properties-requires-clause-join c = join c.in_ok-actors.actors _ c.in_ok-channels.channels c.in_ok-channels.ensures

@@ -1,0 +1,5 @@
+pub mod ScenarioRules
+pub mod SharedRows
+pub mod FileRules
+pub mod ScenarioFound
+pub mod ScenarioAgain

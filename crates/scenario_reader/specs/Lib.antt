@@ -1,0 +1,3 @@
+pub mod ScenarioSections
+pub mod ScenarioFiles
+pub mod ScenarioSpelled

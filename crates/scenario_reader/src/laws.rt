@@ -1,0 +1,13 @@
+ghost use Rattle.scenario_reader.specs.ScenarioFiles.{HasOneFile, HasOneFileFault, ReadFileHasNoFault, ReadFileKeepsRules};
+
+use file_text::answers_are_one;
+
+/// The bytes decide whether they have a file of scenarios, and which, or what their first fault is.
+pub fn know_scenario_files()
+    ensures file { HasOneFile }
+    ensures fault { HasOneFileFault }
+    ensures either { ReadFileHasNoFault }
+    ensures keeps { ReadFileKeepsRules }
+{
+    answers_are_one();
+}
