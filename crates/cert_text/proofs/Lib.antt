@@ -1,0 +1,4 @@
+pub mod Numerals
+pub mod Texts
+pub mod Uses
+pub mod Wholes

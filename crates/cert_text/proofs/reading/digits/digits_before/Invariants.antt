@@ -1,0 +1,7 @@
+use Rattle.std.proofs.Common.{ℕ, ◌<◌}
+use Rattle.std.specs.Prelude.{slice_index}
+use Rattle.cert_text.specs.Digits.{IsDigit}
+use Rattle.cert_text.proofs.reading.digits.digits_before.Given as goal
+
+abbrev pub invariant-loop-i : goal.invariant-loop-i
+invariant-loop-i l = (k : ℕ) → k < l.i → IsDigit (slice_index l.text k)

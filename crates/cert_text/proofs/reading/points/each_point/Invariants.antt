@@ -1,0 +1,13 @@
+use Rattle.std.proofs.Common.{◌≡◌, ◌<◌, ◌≤◌, List, [], ◌∷◌, ◌++◌, ℕ, All, length}
+use Rattle.std.specs.List.{flat_map}
+use Rattle.cert_text.specs.MemberLines.{point_lines}
+use Rattle.cert_text.specs.Spellable.{AreStarts}
+use Rattle.cert_text.specs.declared.certificates.PointLine.{PointLine}
+use Rattle.cert_text.proofs.reading.points.each_point.Given as goal
+
+abbrev pub invariant-loop-place : goal.invariant-loop-place
+invariant-loop-place l = record {
+  text : l.fn.lines.rest.now ≡ flat_map point_lines l.points.items ++ l.lines.rest.now;
+  many : length l.points.items ≡ l.place;
+  each : All (λ (p : PointLine). All AreStarts p.schedule.starts) l.points.items;
+}

@@ -1,0 +1,14 @@
+use Rattle.std.proofs.Common.{◌≡◌, ◌<◌, ◌≤◌, List, [], ◌∷◌, ◌++◌, ℕ, All, length}
+use Rattle.std.specs.List.{flat_map}
+use Rattle.cert_text.specs.NumberLines.{numbers_line}
+use Rattle.cert_text.specs.Spellable.{AreStarts}
+use Rattle.cert_text.proofs.reading.schedules.actors.Given as goal
+
+abbrev pub invariant-actors : goal.invariant-actors
+invariant-actors l = record {
+  text : l.fn.lines.rest.now ≡ flat_map numbers_line l.starts.items ++ l.lines.rest.now;
+  each : All AreStarts l.starts.items;
+}
+
+abbrev pub decreases-actors : goal.decreases-actors
+decreases-actors l = length l.lines.rest.now

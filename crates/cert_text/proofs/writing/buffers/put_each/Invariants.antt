@@ -1,0 +1,8 @@
+use Rattle.std.proofs.Common.{◌≡◌, ◌++◌, take}
+use Rattle.std.specs.String.{string_bytes}
+use Rattle.std.specs.List.{flat_map}
+use Rattle.cert_text.specs.BufferLines.{buffer_text}
+use Rattle.cert_text.proofs.writing.buffers.put_each.Given as goal
+
+abbrev pub invariant-loop-buffer : goal.invariant-loop-buffer
+invariant-loop-buffer l = string_bytes l.text ≡ string_bytes l.initial.text ++ flat_map buffer_text (take l.buffer-index l.buffers)

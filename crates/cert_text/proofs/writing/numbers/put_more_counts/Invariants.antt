@@ -1,0 +1,8 @@
+use Rattle.std.proofs.Common.{◌≡◌, ◌++◌, take}
+use Rattle.std.specs.String.{string_bytes}
+use Rattle.std.specs.List.{flat_map}
+use Rattle.cert_text.specs.NumberLines.{spaced}
+use Rattle.cert_text.proofs.writing.numbers.put_more_counts.Given as goal
+
+abbrev pub invariant-loop-count : goal.invariant-loop-count
+invariant-loop-count l = string_bytes l.text ≡ string_bytes l.initial.text ++ flat_map spaced (take l.count-index l.counts)

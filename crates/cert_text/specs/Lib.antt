@@ -1,0 +1,11 @@
+pub mod Digits
+pub mod NumberLines
+pub mod BufferLines
+pub mod CycleLines
+pub mod ScheduleLines
+pub mod MemberLines
+pub mod ScenarioLines
+pub mod Spelling
+pub mod Spellable
+pub mod Orderly
+pub mod Reading

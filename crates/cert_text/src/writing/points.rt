@@ -1,0 +1,29 @@
+ghost use Rattle.std.specs.Prelude.{◌≡◌, ◌++◌, OnOk};
+ghost use Rattle.std.specs.String.{string_bytes};
+ghost use Rattle.cert_text.specs.MemberLines.{point_line, point_lines};
+
+use crate::certificates::PointLine;
+use crate::writing::schedules::put_schedule;
+use std::alloc::AllocError;
+
+/// Puts the lines of a point.
+#[tactic(auto, unfolding(crate::specs::MemberLines::point_lines))]
+pub(crate) fn put_point(text: &mut String, point: &PointLine) -> Result<(), AllocError>
+    ensures { OnOk result (string_bytes text.new ≡ string_bytes text.old ++ point_lines point.now) }
+{
+    put_header(text, point.total, point.rate, point.member)?;
+    put_schedule(text, &point.schedule)
+}
+
+#[tactic(auto, unfolding(crate::specs::MemberLines::point_line))]
+fn put_header(
+    text: &mut String,
+    total: u64,
+    rate: (u64, u64),
+    member: u64,
+) -> Result<(), AllocError>
+    ensures { OnOk result (string_bytes text.new ≡ string_bytes text.old ++ point_line total rate member) }
+{
+    let (num, den) = rate;
+    write!(text, "point {total} {num}/{den} {member}\n")
+}

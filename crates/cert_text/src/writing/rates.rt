@@ -1,0 +1,27 @@
+ghost use Rattle.std.specs.Prelude.{◌≡◌, ◌++◌, OnOk};
+ghost use Rattle.std.specs.String.{string_bytes};
+ghost use Rattle.cert_text.specs.Spelling.{rate_lines};
+
+use crate::certificates::RateCertificate;
+use crate::writing::buffers::put_buffers;
+use crate::writing::cycles::put_cycle;
+use crate::writing::numbers::{put_overlap, put_rate};
+use crate::writing::schedules::put_schedule;
+use std::alloc::AllocError;
+
+/// Puts the lines of a certificate of a rate, but for the first one.
+#[tactic(auto, unfolding(crate::specs::Spelling::rate_lines, crate::specs::Spelling::rate_kind, crate::specs::Spelling::end_line))]
+pub(crate) fn put_rate_certificate(
+    text: &mut String,
+    certificate: &RateCertificate,
+) -> Result<(), AllocError>
+    ensures { OnOk result (string_bytes text.new ≡ string_bytes text.old ++ rate_lines certificate.now) }
+{
+    text.push_str("throughput\n")?;
+    put_overlap(text, certificate.no_overlap)?;
+    put_buffers(text, certificate.buffers.as_slice())?;
+    put_rate(text, certificate.rate)?;
+    put_schedule(text, &certificate.schedule)?;
+    put_cycle(text, &certificate.cycle)?;
+    text.push_str("end\n")
+}

@@ -1,0 +1,92 @@
+ghost use Rattle.std.specs.Prelude.{◌≡◌, ◌++◌, OnOk};
+ghost use Rattle.std.specs.String.{string_bytes};
+ghost use Rattle.std.specs.List.{flat_map};
+ghost use Rattle.cert_text.specs.ScenarioLines.{node_line, nodes_header, nodes_lines, potential_line};
+ghost use Rattle.cert_text.specs.Spelling.{potential_list, scenario_lines};
+
+use crate::certificates::ScenarioCertificate;
+use crate::writing::numbers::{put_potentials_line, put_rate};
+use std::alloc::AllocError;
+
+/// Puts the lines of a certificate of a worst-case rate, but for the first one.
+#[tactic(auto, unfolding(crate::specs::Spelling::scenario_lines, crate::specs::Spelling::scenario_kind, crate::specs::Spelling::end_line))]
+pub(crate) fn put_scenario_certificate(
+    text: &mut String,
+    certificate: &ScenarioCertificate,
+) -> Result<(), AllocError>
+    ensures { OnOk result (string_bytes text.new ≡ string_bytes text.old ++ scenario_lines certificate.now) }
+{
+    text.push_str("scenario\n")?;
+    put_rate(text, certificate.rate)?;
+    put_nodes(text, certificate.time, certificate.nodes.as_slice())?;
+    put_potentials(text, certificate.potentials.as_slice())?;
+    text.push_str("end\n")
+}
+
+#[tactic(auto, unfolding(crate::specs::ScenarioLines::nodes_lines))]
+fn put_nodes(text: &mut String, time: u64, nodes: &[(u32, u32)]) -> Result<(), AllocError>
+    ensures { OnOk result (string_bytes text.new ≡ string_bytes text.old ++ nodes_lines time nodes.now) }
+{
+    match nodes {
+        [] => Ok(()),
+        [first, rest @ ..] => {
+            put_header(text, time, rest.len(), *first)?;
+            put_entered(text, rest)
+        }
+    }
+}
+
+#[tactic(auto, unfolding(crate::specs::ScenarioLines::nodes_header, crate::specs::ScenarioLines::node_line))]
+fn put_header(
+    text: &mut String,
+    time: u64,
+    edges: usize,
+    first: (u32, u32),
+) -> Result<(), AllocError>
+    ensures { OnOk result (string_bytes text.new ≡ string_bytes text.old ++ nodes_header time edges first) }
+{
+    let (state, token) = first;
+    write!(text, "cycle {time} {edges} {state} {token}\n")
+}
+
+fn put_entered(text: &mut String, nodes: &[(u32, u32)]) -> Result<(), AllocError>
+    ensures { OnOk result (string_bytes text.new ≡ string_bytes text.old ++ flat_map node_line nodes.now) }
+{
+    for node in nodes {
+        put_node(text, *node)?;
+    }
+    Ok(())
+}
+
+#[tactic(auto, unfolding(crate::specs::ScenarioLines::node_line))]
+fn put_node(text: &mut String, node: (u32, u32)) -> Result<(), AllocError>
+    ensures { OnOk result (string_bytes text.new ≡ string_bytes text.old ++ node_line node) }
+{
+    let (state, token) = node;
+    write!(text, "{state} {token}\n")
+}
+
+#[tactic(auto, unfolding(crate::specs::Spelling::potential_list))]
+fn put_potentials(text: &mut String, potentials: &[(u32, u32, i128)]) -> Result<(), AllocError>
+    ensures { OnOk result (string_bytes text.new ≡ string_bytes text.old ++ potential_list potentials.now) }
+{
+    put_potentials_line(text, potentials.len())?;
+    put_each(text, potentials)
+}
+
+fn put_each(text: &mut String, potentials: &[(u32, u32, i128)]) -> Result<(), AllocError>
+    ensures { OnOk result (string_bytes text.new ≡ string_bytes text.old ++ flat_map potential_line potentials.now) }
+{
+    for potential in potentials {
+        put_potential(text, *potential)?;
+    }
+    Ok(())
+}
+
+#[tactic(auto, unfolding(crate::specs::ScenarioLines::potential_line))]
+fn put_potential(text: &mut String, line: (u32, u32, i128)) -> Result<(), AllocError>
+    ensures { OnOk result (string_bytes text.new ≡ string_bytes text.old ++ potential_line line) }
+{
+    let (state, token, potential) = line;
+    write!(text, "{state} {token} {potential}\n")
+}

@@ -1,0 +1,118 @@
+ghost use Rattle.std.specs.Prelude.{◌≡◌, ◌++◌, All, OnOk, length};
+ghost use Rattle.std.specs.String.{string_bytes};
+ghost use Rattle.std.specs.List.{flat_map};
+ghost use Rattle.cert_text.specs.CycleLines.{cycle_lines};
+ghost use Rattle.cert_text.specs.MemberLines.{member_lines, point_lines};
+ghost use Rattle.cert_text.specs.Orderly.{IsStorageOrderly, NameOnes};
+ghost use Rattle.cert_text.specs.Spelling.{cycle_list, member_list, point_list, storage_lines, storage_lists};
+
+use crate::certificates::{LinkCycle, MemberLine, PointLine, StorageCertificate};
+use crate::writing::cycles::put_cycle;
+use crate::writing::members::put_member;
+use crate::writing::numbers::{
+    put_cycles_line, put_limit, put_members_line, put_overlap, put_points_line,
+};
+use crate::writing::points::put_point;
+use std::alloc::AllocError;
+
+/// Puts the lines of a certificate of a trade-off, but for the first one.
+#[tactic(auto, unfolding(crate::specs::Spelling::storage_lines, crate::specs::Spelling::storage_kind))]
+pub(crate) fn put_storage_certificate(
+    text: &mut String,
+    certificate: &StorageCertificate,
+    version: u32,
+) -> Result<(), AllocError>
+    requires { IsStorageOrderly certificate.now }
+    ensures { OnOk result (string_bytes text.new ≡ string_bytes text.old ++ storage_lines version certificate.now) }
+{
+    let cycles = certificate.cycles.as_slice();
+    let members = certificate.members.as_slice();
+    let points = certificate.points.as_slice();
+    text.push_str("storage\n")?;
+    put_overlap(text, certificate.no_overlap)?;
+    put_limit(text, certificate.limit)?;
+    put_lists(text, cycles, members, points, version)
+}
+
+#[tactic(auto, unfolding(crate::specs::Spelling::storage_lists, crate::specs::Spelling::end_line))]
+fn put_lists(
+    text: &mut String,
+    cycles: &[LinkCycle],
+    members: &[MemberLine],
+    points: &[PointLine],
+    version: u32,
+) -> Result<(), AllocError>
+    requires { NameOnes (length cycles.now) members.now }
+    ensures { OnOk result (string_bytes text.new ≡ string_bytes text.old ++ storage_lists version cycles.now members.now points.now) }
+{
+    put_cycles(text, cycles, version)?;
+    put_members(text, members, cycles, version)?;
+    put_points(text, points)?;
+    text.push_str("end\n")
+}
+
+#[tactic(auto, unfolding(crate::specs::Spelling::cycle_list))]
+fn put_cycles(text: &mut String, cycles: &[LinkCycle], version: u32) -> Result<(), AllocError>
+    ensures { OnOk result (string_bytes text.new ≡ string_bytes text.old ++ cycle_list version cycles.now) }
+{
+    if version == 1 {
+        return Ok(());
+    }
+    put_cycles_line(text, cycles.len())?;
+    put_each_cycle(text, cycles)
+}
+
+fn put_each_cycle(text: &mut String, cycles: &[LinkCycle]) -> Result<(), AllocError>
+    ensures { OnOk result (string_bytes text.new ≡ string_bytes text.old ++ flat_map cycle_lines cycles.now) }
+{
+    for cycle in cycles {
+        put_cycle(text, cycle)?;
+    }
+    Ok(())
+}
+
+#[tactic(auto, unfolding(crate::specs::Spelling::member_list))]
+fn put_members(
+    text: &mut String,
+    members: &[MemberLine],
+    cycles: &[LinkCycle],
+    version: u32,
+) -> Result<(), AllocError>
+    requires { NameOnes (length cycles.now) members.now }
+    ensures { OnOk result (string_bytes text.new ≡ string_bytes text.old ++ member_list version cycles.now members.now) }
+{
+    put_members_line(text, members.len())?;
+    put_each_member(text, members, cycles, version)
+}
+
+fn put_each_member(
+    text: &mut String,
+    members: &[MemberLine],
+    cycles: &[LinkCycle],
+    version: u32,
+) -> Result<(), AllocError>
+    requires { NameOnes (length cycles.now) members.now }
+    ensures { OnOk result (string_bytes text.new ≡ string_bytes text.old ++ flat_map (member_lines version cycles.now) members.now) }
+{
+    for member in members {
+        put_member(text, member, cycles, version)?;
+    }
+    Ok(())
+}
+
+#[tactic(auto, unfolding(crate::specs::Spelling::point_list))]
+fn put_points(text: &mut String, points: &[PointLine]) -> Result<(), AllocError>
+    ensures { OnOk result (string_bytes text.new ≡ string_bytes text.old ++ point_list points.now) }
+{
+    put_points_line(text, points.len())?;
+    put_each_point(text, points)
+}
+
+fn put_each_point(text: &mut String, points: &[PointLine]) -> Result<(), AllocError>
+    ensures { OnOk result (string_bytes text.new ≡ string_bytes text.old ++ flat_map point_lines points.now) }
+{
+    for point in points {
+        put_point(text, point)?;
+    }
+    Ok(())
+}

@@ -1,0 +1,5 @@
+mod OneMore
+mod Values
+mod ElementTexts
+mod TreeTexts
+mod MadeTables

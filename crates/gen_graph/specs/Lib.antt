@@ -1,0 +1,4 @@
+pub mod MadeGraphs
+pub mod NodeTexts
+pub mod GraphTrees
+pub mod Writable
