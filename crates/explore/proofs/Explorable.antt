@@ -6,10 +6,13 @@ use Rattle.sd_base.specs.Net.{Channel, Net, channel_at}
 use Rattle.sd_base.specs.Connection.{IsConnected}
 use Rattle.sd_base.specs.Schedules.{HasInputs}
 use Rattle.storage.specs.BoundedNets.{bound, spaces_from}
-use Rattle.storage.specs.Distributions.{IsDistribution, IsPlain}
+use Rattle.storage.specs.Distributions.{IsDistribution, IsPlain, storage_of}
+use Rattle.storage.specs.Steps.{step_of}
+use Rattle.storage.proofs.CornerLists.{corner-distribution}
 use Rattle.storage.proofs.SpaceChannels.{bound-front, bound-long, bound-space}
 use Rattle.storage.proofs.SpacesJoinEnds.{capacity-there}
-use Rattle.explore.specs.Reachable.{AreTouched, IsExplorable}
+use Rattle.explore.specs.Reachable.{AreTouched, IsExplorable, IsReachable, corner, next}
+use Rattle.explore.proofs.Stepping.{child-distribution}
 
 spaces-few : (n : ℕ) (cs : List Channel) (ds : List (Option ℕ)) → length (spaces_from n cs ds) ≤ length cs
 spaces-few n [] ds = omega arith
@@ -43,3 +46,8 @@ touched-explorable net plain connected touched few = record {
   inputs = touched-inputs net touched;
   few = λ ds dist. (let long = bound-long net ds in let spaces = spaces-few 0 net.channels ds in omega (arith, long, spaces, few));
 }
+
+-- what can be reached is a distribution within the limit
+pub reachable-fits : (net : Net) (limit : ℕ) (ds : List (Option ℕ)) → IsPlain net → IsReachable net limit ds → IsDistribution net.channels ds × (storage_of net.channels ds ≤ limit)
+reachable-fits net limit ds plain (corner _ is within) = (corner-distribution net.channels ds plain is, within)
+reachable-fits net limit _ plain (next ds c reach shows within) = (child-distribution net.channels ds c (step_of (channel_at net c)) (reachable-fits net limit ds plain reach).0, within)

@@ -54,6 +54,7 @@ pub fn explore<R: Threads + Sync, F: Firing + Sync, G: Gate + Sync, L: Ledger + 
     ensures refused { IfErr result (IsRefusal (F.net net.now) limits) }
     ensures count { IfOk result (λ e. steps.new.count ≡ steps.old.count + cycles_in e.members.items) }
     ensures most { CountsFew (F.net net.now) limits steps.old.count steps.new.count }
+    ensures rises { steps.old.count ≤ steps.new.count }
     ensures share { steps.new.share ≡ steps.old.share }
 {
     know_laws(net);
@@ -96,6 +97,7 @@ fn take_turn<R: Threads + Sync, F: Firing + Sync, G: Gate + Sync, L: Ledger + Se
     ensures count { OnOk result (steps.new.count + cycles_in search.old.members.items ≡ steps.old.count + cycles_in search.new.members.items) }
     ensures refused { IfErr result (IsRefusal (F.net net.now) limits) }
     ensures most { IfErr result (λ e. (before : ℕ) → steps.old.count ≡ before + cycles_in search.old.members.items → CountsFew (F.net net.now) limits before steps.new.count) }
+    ensures rises { steps.old.count ≤ steps.new.count }
     ensures share { steps.new.share ≡ steps.old.share }
 {
     know_laws(net);

@@ -9,12 +9,15 @@ use Rattle.balance.specs.declared.walk.WalkStep.{WalkStep}
 use Rattle.report.specs.WalkTexts.{more_steps, step_text}
 use Rattle.sd_base.specs.Net.{Net}
 use Rattle.periodic.specs.declared.schedule.Periodic.{Periodic}
+use Rattle.pareto_front.specs.declared.point.Point.{Point}
 use Rattle.critical.specs.declared.cycle.CycleStep.{CycleStep}
 use Rattle.critical.specs.declared.cycle.NeedCycle.{NeedCycle}
 use Rattle.escapes.specs.EscapedNames.{escaped_name}
+use Rattle.report.specs.ListTexts.{lines_of}
 use Rattle.report.specs.LinkTexts.{actor_lines}
 use Rattle.report.specs.ScheduleTexts.{schedule_header, spaced, starts_line, schedule_lines}
 use Rattle.report.specs.CycleTexts.{cycle_header, step_on, cycle_lines}
+use Rattle.report.specs.StorageTexts.{point_text, points_header, points_lines}
 use Rattle.report.specs.AnswerTexts.{number_line, repetition_header, repetition_lines, rate_line, rate_lines}
 
 -- a piece more is written and a piece less is left
@@ -31,33 +34,46 @@ flat_next f start text new xs i d h kept is =
 pub flat_end : {X : Type 0} (f : X → List ℕ) (start text : List ℕ) (xs : List X) (i : ℕ) → length xs ≤ i → text ≡ start ++ flat_map f (take i xs) → text ≡ start ++ flat_map f xs
 flat_end f start text xs i past kept = kept ∙ ap (λ ys. start ++ flat_map f ys) (take_all i xs past)
 
-lines-nil : {V : Type 0} (line : List ℕ → V → List ℕ) (vs : List V) → actor_lines line [] vs ≡ []
-unfolding actor_lines
+lines-nil : {R V : Type 0} (line : R → V → List ℕ) (vs : List V) → lines_of line [] vs ≡ []
+unfolding lines_of
 lines-nil line vs = refl
 
-lines-drop : {V : Type 0} (line : List ℕ → V → List ℕ) (rows : List ActorRow) (vs : List V) (i : ℕ) (d : V) (row : ActorRow) → i < length rows → i < length vs
-    → actor_lines line (drop i rows) (drop i vs) ≡ line (get_or rows i row).name (get_or vs i d) ++ actor_lines line (drop (i + 1) rows) (drop (i + 1) vs)
-unfolding actor_lines
+lines-drop : {R V : Type 0} (line : R → V → List ℕ) (rows : List R) (vs : List V) (i : ℕ) (d : V) (row : R) → i < length rows → i < length vs
+    → lines_of line (drop i rows) (drop i vs) ≡ line (get_or rows i row) (get_or vs i d) ++ lines_of line (drop (i + 1) rows) (drop (i + 1) vs)
+unfolding lines_of
 lines-drop line rows vs i d row h k = rw (add-one, drop-cons rows i row h, drop-cons vs i d k) refl
 
 -- a line more
+pub lines_more : {R V : Type 0} (line : R → V → List ℕ) (text whole new : List ℕ) (rows : List R) (vs : List V) (i : ℕ) (v d : V) (row : R)
+    → i < length rows → i < length vs → v ≡ get_or vs i d
+    → text ++ lines_of line (drop i rows) (drop i vs) ≡ whole → new ≡ text ++ line (get_or rows i row) v
+    → new ++ lines_of line (drop (i + 1) rows) (drop (i + 1) vs) ≡ whole
+lines_more line text whole new rows vs i v d row h k value kept is =
+    next text _ _ _ whole new (lines-drop line rows vs i d row h k) kept (is ∙ ap (λ x. text ++ line (get_or rows i row) x) value)
+
+-- an actor's line more
 pub lines_next : {V : Type 0} (line : List ℕ → V → List ℕ) (text whole new name : List ℕ) (rows shown : List ActorRow) (vs : List V) (i : ℕ) (v d : V) (row : ActorRow)
     → i < length rows → i < length vs → shown ≡ rows → name ≡ (get_or shown i row).name → v ≡ get_or vs i d
     → text ++ actor_lines line (drop i rows) (drop i vs) ≡ whole → new ≡ text ++ line name v
     → new ++ actor_lines line (drop (i + 1) rows) (drop (i + 1) vs) ≡ whole
 lines_next line text whole new name rows shown vs i v d row h k same named value kept is =
-    next text _ _ _ whole new (lines-drop line rows vs i d row h k) kept
-    (is ∙ (ap (λ (l : List ℕ). text ++ line l v) (named ∙ ap (λ (rs : List ActorRow). (get_or rs i row).name) same) ∙ ap (λ x. text ++ line (get_or rows i row).name x) value))
+    lines_more (λ (a : ActorRow) x. line a.name x) text whole new rows vs i v d row h k value kept
+    (is ∙ ap (λ (l : List ℕ). text ++ line l v) (named ∙ ap (λ (rs : List ActorRow). (get_or rs i row).name) same))
 
--- no line is left where no actor is left
-pub lines_end : {V : Type 0} (line : List ℕ → V → List ℕ) (text whole : List ℕ) (rows : List ActorRow) (vs : List V) (i : ℕ) → length rows ≤ i
-    → text ++ actor_lines line (drop i rows) (drop i vs) ≡ whole → text ≡ whole
+-- no line is left where no row is left
+pub lines_end : {R V : Type 0} (line : R → V → List ℕ) (text whole : List ℕ) (rows : List R) (vs : List V) (i : ℕ) → length rows ≤ i
+    → text ++ lines_of line (drop i rows) (drop i vs) ≡ whole → text ≡ whole
 lines_end line text whole rows vs i past kept =
-    sym (append-nil text) ∙ ap (λ (l : List ℕ). text ++ l) (sym (at_drop_all (λ r. actor_lines line r (drop i vs)) rows i past ∙ lines-nil line (drop i vs))) ∙ kept
+    sym (append-nil text) ∙ ap (λ (l : List ℕ). text ++ l) (sym (at_drop_all (λ r. lines_of line r (drop i vs)) rows i past ∙ lines-nil line (drop i vs))) ∙ kept
 
 pub lines_start : (g : GraphFile) (vs text : List ℕ) → text ≡ repetition_header (length g.actors) → text ++ actor_lines number_line (drop 0 g.actors) (drop 0 vs) ≡ repetition_lines g vs
 unfolding repetition_lines
 lines_start g vs text is = ap (λ (l : List ℕ). l ++ actor_lines number_line g.actors vs) is
+
+pub points_start : (g : GraphFile) (points : List Point) (schedules : List Periodic) (text : List ℕ) → text ≡ points_header (length points)
+    → text ++ lines_of (point_text g) (drop 0 points) (drop 0 schedules) ≡ points_lines g points schedules
+unfolding points_lines
+points_start g points schedules text is = ap (λ (l : List ℕ). l ++ lines_of (point_text g) points schedules) is
 
 walk-nil : (g : GraphFile) → more_steps g [] ≡ []
 unfolding more_steps
@@ -99,7 +115,7 @@ pub schedule_end : (g : GraphFile) (schedule : Periodic) (start headed text : Li
 unfolding schedule_lines
 schedule_end g schedule start headed text i past header kept =
     joined start (schedule_header schedule.period schedule.rounds) (actor_lines starts_line g.actors schedule.starts) text
-    (lines_end starts_line text (headed ++ actor_lines starts_line g.actors schedule.starts) g.actors schedule.starts i past kept ∙ ap (λ (l : List ℕ). l ++ actor_lines starts_line g.actors schedule.starts) header)
+    (lines_end (λ (a : ActorRow) starts. starts_line a.name starts) text (headed ++ actor_lines starts_line g.actors schedule.starts) g.actors schedule.starts i past kept ∙ ap (λ (l : List ℕ). l ++ actor_lines starts_line g.actors schedule.starts) header)
 
 pub cycle_end : (g : GraphFile) (net : Net) (cycle : NeedCycle) (start headed text : List ℕ) (steps : List CycleStep) (i : ℕ) → steps ≡ cycle.steps → length steps ≤ i
     → headed ≡ start ++ cycle_header g cycle.time cycle.rounds cycle.first → text ≡ headed ++ flat_map (step_on g net) (take i steps) → text ≡ start ++ cycle_lines g net cycle

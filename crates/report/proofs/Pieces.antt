@@ -1,75 +1,106 @@
--- A list of texts that is written with `, ` between.
+-- The texts of the entries of a list, which a loop over the places writes with a separator between.
 use Rattle.std.proofs.Common.{◌≡◌, ℕ, ◌+◌, List, [], ◌∷◌, ◌++◌, Option, Some, None, length, refl, sym, ap, ◌∙◌, add-one}
 use Rattle.std.specs.Prelude.{slice_index, slice_index_or, codes}
-use Rattle.std.specs.List.{flat_map, join_by}
+use Rattle.std.specs.List.{flat_map}
 use Rattle.std.proofs.lemmas.List.{append_assoc, append-nil}
 use Rattle.std.proofs.lemmas.Grind.{flat_map-append}
 use Rattle.sd_base.specs.declared.tables.GraphFile.{GraphFile}
 use Rattle.sd_base.specs.Net.{Net, channel_at}
 use Rattle.sd_base.specs.declared.role.Role.{Role}
-use Rattle.report.specs.LackTexts.{lack_text, lack_on, lack_piece, lack_pieces, lacks_list}
-
-abbrev pub joined : List (List ℕ) → List ℕ
-joined pieces = join_by (λ (piece : List ℕ). piece) (codes ", ") pieces
+use Rattle.report.specs.ListTexts.{joined, piece_of, pieces_of}
+use Rattle.report.specs.LackTexts.{lack_text, lack_on, lacks_list}
+use Rattle.report.specs.StorageTexts.{buffer_on, buffers_list, listed}
 
 -- what stands before the next piece
-abbrev pub between : List (List ℕ) → List ℕ
-between [] = []
-between (piece ∷ pieces) = codes ", "
+abbrev pub between : List ℕ → List (List ℕ) → List ℕ
+between sep [] = []
+between sep (piece ∷ pieces) = sep
 
-joined-more : (pieces : List (List ℕ)) (piece : List ℕ) → joined (pieces ++ piece ∷ []) ≡ (joined pieces ++ between pieces) ++ piece
-joined-more [] piece = append-nil piece
-joined-more (first ∷ pieces) piece =
-    let sep : List ℕ → List ℕ = λ y. codes ", " ++ y in
-    let split : flat_map sep (pieces ++ piece ∷ []) ≡ flat_map sep pieces ++ flat_map sep (piece ∷ []) = flat_map-append sep pieces (piece ∷ []) in
-    let last : flat_map sep (piece ∷ []) ≡ codes ", " ++ piece = append-nil (codes ", " ++ piece) in
-    ap (λ (l : List ℕ). first ++ l) (split ∙ ap (λ (l : List ℕ). flat_map sep pieces ++ l) last)
-    ∙ (sym (append_assoc first (flat_map sep pieces) (codes ", " ++ piece)) ∙ sym (append_assoc (first ++ flat_map sep pieces) (codes ", ") piece))
+joined-more : (sep : List ℕ) (pieces : List (List ℕ)) (piece : List ℕ) → joined sep (pieces ++ piece ∷ []) ≡ (joined sep pieces ++ between sep pieces) ++ piece
+joined-more sep [] piece = append-nil piece
+joined-more sep (first ∷ pieces) piece =
+    let put : List ℕ → List ℕ = λ y. sep ++ y in
+    let split : flat_map put (pieces ++ piece ∷ []) ≡ flat_map put pieces ++ flat_map put (piece ∷ []) = flat_map-append put pieces (piece ∷ []) in
+    let last : flat_map put (piece ∷ []) ≡ sep ++ piece = append-nil (sep ++ piece) in
+    ap (λ (l : List ℕ). first ++ l) (split ∙ ap (λ (l : List ℕ). flat_map put pieces ++ l) last)
+    ∙ (sym (append_assoc first (flat_map put pieces) (sep ++ piece)) ∙ sym (append_assoc (first ++ flat_map put pieces) sep piece))
 
-between-more : (pieces : List (List ℕ)) (piece : List ℕ) → between (pieces ++ piece ∷ []) ≡ codes ", "
-between-more [] piece = refl
-between-more (first ∷ pieces) piece = refl
+between-more : (sep : List ℕ) (pieces : List (List ℕ)) (piece : List ℕ) → between sep (pieces ++ piece ∷ []) ≡ sep
+between-more sep [] piece = refl
+between-more sep (first ∷ pieces) piece = refl
 
 none-left : (o : Option ℕ) → ((i : ℕ) → o ≡ Some i → ⊥) → None ≡ o
 none-left None none = refl
 none-left (Some i) none = absurd (none i refl)
 
-module _ (g : GraphFile) (net : Net) (counts : List ℕ) (lacks : List (Option ℕ)) where
-  pub pieces-none : lack_pieces g net counts lacks 0 ≡ []
-  unfolding lack_pieces
-  pieces-none = refl
+module _ (sep : List ℕ) (show : ℕ → ℕ → List ℕ) (entries : List (Option ℕ)) where
+  pub text-start : (start : List ℕ) → start ≡ start ++ joined sep (pieces_of show entries 0)
+  unfolding pieces_of
+  text-start start = sym (append-nil start)
 
-  pieces-next : (a : ℕ) (found : Option ℕ) → found ≡ slice_index_or lacks a None → lack_pieces g net counts lacks (a + 1) ≡ lack_pieces g net counts lacks a ++ lack_piece g net a (slice_index counts a) found
-  unfolding lack_pieces
-  pieces-next a found same = rw add-one (ap (λ (o : Option ℕ). lack_pieces g net counts lacks a ++ lack_piece g net a (slice_index counts a) o) (sym same))
+  pub between-start : [] ≡ between sep (pieces_of show entries 0)
+  unfolding pieces_of
+  between-start = refl
 
-  pieces-skip : (a : ℕ) → ((i : ℕ) → slice_index_or lacks a None ≡ Some i → ⊥) → lack_pieces g net counts lacks a ≡ lack_pieces g net counts lacks (a + 1)
-  unfolding lack_piece
-  pieces-skip a none = sym (pieces-next a None (none-left (slice_index_or lacks a None) none) ∙ append-nil (lack_pieces g net counts lacks a))
+  pieces-next : (i : ℕ) (found : Option ℕ) → found ≡ slice_index_or entries i None → pieces_of show entries (i + 1) ≡ pieces_of show entries i ++ piece_of (show i) found
+  unfolding pieces_of
+  pieces-next i found same = rw add-one (ap (λ (o : Option ℕ). pieces_of show entries i ++ piece_of (show i) o) (sym same))
 
-  pub text-skip : (a : ℕ) (text : List ℕ) → ((i : ℕ) → slice_index_or lacks a None ≡ Some i → ⊥) → text ≡ joined (lack_pieces g net counts lacks a) → text ≡ joined (lack_pieces g net counts lacks (a + 1))
-  text-skip a text none kept = kept ∙ ap joined (pieces-skip a none)
+  pieces-skip : (i : ℕ) → ((k : ℕ) → slice_index_or entries i None ≡ Some k → ⊥) → pieces_of show entries i ≡ pieces_of show entries (i + 1)
+  pieces-skip i none = sym (pieces-next i None (none-left (slice_index_or entries i None) none) ∙ append-nil (pieces_of show entries i))
 
-  pub between-skip : (a : ℕ) (sep : List ℕ) → ((i : ℕ) → slice_index_or lacks a None ≡ Some i → ⊥) → sep ≡ between (lack_pieces g net counts lacks a) → sep ≡ between (lack_pieces g net counts lacks (a + 1))
-  between-skip a sep none kept = kept ∙ ap between (pieces-skip a none)
+  pieces-more : (i k : ℕ) → slice_index_or entries i None ≡ Some k → pieces_of show entries (i + 1) ≡ pieces_of show entries i ++ show i k ∷ []
+  pieces-more i k some = pieces-next i (Some k) (sym some)
 
-  pieces-more : (a i fired : ℕ) → slice_index_or lacks a None ≡ Some i → fired ≡ slice_index counts a →
-      lack_pieces g net counts lacks (a + 1) ≡ lack_pieces g net counts lacks a ++ lack_on g net a fired i ∷ []
-  unfolding lack_piece
-  pieces-more a i fired some count = pieces-next a (Some i) (sym some) ∙ ap (λ (n : ℕ). lack_pieces g net counts lacks a ++ lack_on g net a n i ∷ []) (sym count)
+  pub text-skip : (i : ℕ) (start text : List ℕ) → ((k : ℕ) → slice_index_or entries i None ≡ Some k → ⊥) → text ≡ start ++ joined sep (pieces_of show entries i)
+      → text ≡ start ++ joined sep (pieces_of show entries (i + 1))
+  text-skip i start text none kept = kept ∙ ap (λ pieces. start ++ joined sep pieces) (pieces-skip i none)
 
-  pub text-more : (a i fired round : ℕ) (role : Role) (text sep spaced new : List ℕ) → slice_index_or lacks a None ≡ Some i → fired ≡ slice_index counts a →
-      round ≡ slice_index net.round a → role ≡ (channel_at net i).role → text ≡ joined (lack_pieces g net counts lacks a) → sep ≡ between (lack_pieces g net counts lacks a) →
-      spaced ≡ text ++ sep → new ≡ spaced ++ lack_text g a fired round role → new ≡ joined (lack_pieces g net counts lacks (a + 1))
-  text-more a i fired round role text sep spaced new some count at_round at_role kept separates one other =
-      let here : lack_text g a fired round role ≡ lack_on g net a fired i = ap (λ (n : ℕ). lack_text g a fired n role) at_round ∙ ap (λ (r : Role). lack_text g a fired (slice_index net.round a) r) at_role in
-      let before : spaced ≡ joined (lack_pieces g net counts lacks a) ++ between (lack_pieces g net counts lacks a) = one ∙ (ap (λ (l : List ℕ). l ++ sep) kept ∙ ap (λ (l : List ℕ). joined (lack_pieces g net counts lacks a) ++ l) separates) in
-      other ∙ (ap (λ (l : List ℕ). spaced ++ l) here ∙ (ap (λ (l : List ℕ). l ++ lack_on g net a fired i) before
-      ∙ (sym (joined-more (lack_pieces g net counts lacks a) (lack_on g net a fired i)) ∙ ap joined (sym (pieces-more a i fired some count)))))
+  pub between-skip : (i : ℕ) (before : List ℕ) → ((k : ℕ) → slice_index_or entries i None ≡ Some k → ⊥) → before ≡ between sep (pieces_of show entries i)
+      → before ≡ between sep (pieces_of show entries (i + 1))
+  between-skip i before none kept = kept ∙ ap (between sep) (pieces-skip i none)
 
-  pub between-then : (a i fired : ℕ) (sep : List ℕ) → slice_index_or lacks a None ≡ Some i → fired ≡ slice_index counts a → sep ≡ codes ", " → sep ≡ between (lack_pieces g net counts lacks (a + 1))
-  between-then a i fired sep some count is = is ∙ (sym (between-more (lack_pieces g net counts lacks a) (lack_on g net a fired i)) ∙ ap between (sym (pieces-more a i fired some count)))
+  pub text-more : (i k : ℕ) (start text before spaced piece new : List ℕ) → slice_index_or entries i None ≡ Some k → piece ≡ show i k
+      → text ≡ start ++ joined sep (pieces_of show entries i) → before ≡ between sep (pieces_of show entries i) → spaced ≡ text ++ before → new ≡ spaced ++ piece
+      → new ≡ start ++ joined sep (pieces_of show entries (i + 1))
+  text-more i k start text before spaced piece new some here kept separates one other =
+      let pieces = pieces_of show entries i in
+      let written : spaced ≡ (start ++ joined sep pieces) ++ between sep pieces = one ∙ (ap (λ (l : List ℕ). l ++ before) kept ∙ ap (λ (l : List ℕ). (start ++ joined sep pieces) ++ l) separates) in
+      let more : (joined sep pieces ++ between sep pieces) ++ show i k ≡ joined sep (pieces_of show entries (i + 1)) = sym (joined-more sep pieces (show i k)) ∙ ap (joined sep) (sym (pieces-more i k some)) in
+      other ∙ (ap (λ (l : List ℕ). spaced ++ l) here ∙ (ap (λ (l : List ℕ). l ++ show i k) (written ∙ append_assoc start (joined sep pieces) (between sep pieces))
+      ∙ (append_assoc start (joined sep pieces ++ between sep pieces) (show i k) ∙ ap (λ (l : List ℕ). start ++ l) more)))
 
-  pub list-end : (n : ℕ) (text : List ℕ) → length net.times ≡ n → text ≡ joined (lack_pieces g net counts lacks n) → text ≡ lacks_list g net counts lacks
-  unfolding lacks_list
-  list-end n text all kept = kept ∙ ap (λ (k : ℕ). joined (lack_pieces g net counts lacks k)) (sym all)
+  pub between-then : (i k : ℕ) (before : List ℕ) → slice_index_or entries i None ≡ Some k → before ≡ sep → before ≡ between sep (pieces_of show entries (i + 1))
+  between-then i k before some is = is ∙ (sym (between-more sep (pieces_of show entries i) (show i k)) ∙ ap (between sep) (sym (pieces-more i k some)))
+
+-- what an actor lacks
+pub lack-here : (g : GraphFile) (net : Net) (counts : List ℕ) (a i fired round : ℕ) (role : Role) → fired ≡ slice_index counts a → round ≡ slice_index net.round a → role ≡ (channel_at net i).role
+    → lack_text g a fired round role ≡ lack_on g net a (slice_index counts a) i
+lack-here g net counts a i fired round role first second third = rw (first, second, third) refl
+
+pub lacks-end : (g : GraphFile) (net : Net) (counts : List ℕ) (lacks : List (Option ℕ)) (n : ℕ) (text : List ℕ) → length net.times ≡ n
+    → text ≡ joined (codes ", ") (pieces_of (λ a i. lack_on g net a (slice_index counts a) i) lacks n) → text ≡ lacks_list g net counts lacks
+unfolding lacks_list
+lacks-end g net counts lacks n text all kept = kept ∙ ap (λ (k : ℕ). joined (codes ", ") (pieces_of (λ a i. lack_on g net a (slice_index counts a) i) lacks k)) (sym all)
+
+-- a list of no pieces is a hyphen
+listed-none : (pieces : List (List ℕ)) (before start text new : List ℕ) → before ≡ between (codes ",") pieces → before ≡ [] → text ≡ start ++ joined (codes ",") pieces → new ≡ text ++ codes "-"
+    → new ≡ start ++ listed pieces
+unfolding listed
+listed-none [] before start text new is none kept more = more ∙ ap (λ (l : List ℕ). l ++ codes "-") (kept ∙ append-nil start)
+listed-none (piece ∷ pieces) before start text new is none kept more = absurd (cc (is, none))
+
+listed-some : (pieces : List (List ℕ)) (before start text : List ℕ) → before ≡ between (codes ",") pieces → (before ≡ [] → ⊥) → text ≡ start ++ joined (codes ",") pieces → text ≡ start ++ listed pieces
+unfolding listed
+listed-some [] before start text is some kept = absurd (some is)
+listed-some (piece ∷ pieces) before start text is some kept = kept
+
+module _ (g : GraphFile) (ds : List (Option ℕ)) (n : ℕ) (all : length ds ≡ n) (before start text : List ℕ) where
+  pub buffers-none : (new : List ℕ) → before ≡ between (codes ",") (pieces_of (buffer_on g) ds n) → before ≡ [] → text ≡ start ++ joined (codes ",") (pieces_of (buffer_on g) ds n) → new ≡ text ++ codes "-"
+      → new ≡ start ++ buffers_list g ds
+  unfolding buffers_list
+  buffers-none new is none kept more = listed-none (pieces_of (buffer_on g) ds n) before start text new is none kept more ∙ ap (λ (k : ℕ). start ++ listed (pieces_of (buffer_on g) ds k)) (sym all)
+
+  pub buffers-some : before ≡ between (codes ",") (pieces_of (buffer_on g) ds n) → (before ≡ [] → ⊥) → text ≡ start ++ joined (codes ",") (pieces_of (buffer_on g) ds n) → text ≡ start ++ buffers_list g ds
+  unfolding buffers_list
+  buffers-some is some kept = listed-some (pieces_of (buffer_on g) ds n) before start text is some kept ∙ ap (λ (k : ℕ). start ++ listed (pieces_of (buffer_on g) ds k)) (sym all)

@@ -1,10 +1,10 @@
 -- The list of what each actor of a blocked net lacks.
-use Rattle.std.specs.Prelude.{◌≡◌, ℕ, zero, suc, ◌<◌, List, [], ◌∷◌, ◌++◌, Option, Some, None, length, slice_index, slice_index_or, IfSome, codes}
-use Rattle.std.specs.List.{join_by}
+use Rattle.std.specs.Prelude.{◌≡◌, ℕ, ◌<◌, List, ◌++◌, Option, None, length, slice_index, slice_index_or, IfSome, codes}
 use Rattle.std.specs.Fmt.{decimal}
 use Rattle.sd_base.specs.declared.role.Role.{Role}
 use Rattle.sd_base.specs.declared.tables.GraphFile.{GraphFile}
 use Rattle.sd_base.specs.Net.{Net, channel_at}
+use Rattle.report.specs.ListTexts.{joined, pieces_of}
 use Rattle.report.specs.LinkTexts.{actor_name, link_text}
 
 -- an actor, its firings of those of a round, and the link on which it lacks tokens
@@ -15,19 +15,9 @@ lack_text g a fired round role =
 abbrev pub lack_on : GraphFile → Net → ℕ → ℕ → ℕ → List ℕ
 lack_on g net a fired i = lack_text g a fired (slice_index net.round a) (channel_at net i).role
 
--- the text of an actor that lacks something
-unfoldable pub lack_piece : GraphFile → Net → ℕ → ℕ → Option ℕ → List (List ℕ)
-lack_piece g net a fired None = []
-lack_piece g net a fired (Some i) = lack_on g net a fired i ∷ []
-
--- the texts of the first n actors
-unfoldable pub lack_pieces : GraphFile → Net → List ℕ → List (Option ℕ) → ℕ → List (List ℕ)
-lack_pieces g net counts lacks zero = []
-lack_pieces g net counts lacks (suc a) = lack_pieces g net counts lacks a ++ lack_piece g net a (slice_index counts a) (slice_index_or lacks a None)
-
--- the texts of all actors, with `, ` between
+-- the texts of all actors that lack something, with `, ` between
 unfoldable pub lacks_list : GraphFile → Net → List ℕ → List (Option ℕ) → List ℕ
-lacks_list g net counts lacks = join_by (λ (piece : List ℕ). piece) (codes ", ") (lack_pieces g net counts lacks (length net.times))
+lacks_list g net counts lacks = joined (codes ", ") (pieces_of (λ a i. lack_on g net a (slice_index counts a) i) lacks (length net.times))
 
 -- a count for each actor, and where it lacks tokens a channel of the net
 pub record HasLacks (net : Net) (counts : List ℕ) (lacks : List (Option ℕ)) : Type 0 where

@@ -1,9 +1,12 @@
+pub mod ListTexts
 pub mod WalkTexts
 pub mod CycleTexts
 pub mod ScheduleTexts
 pub mod LinkTexts
 pub mod LackTexts
 pub mod FractionTexts
+pub mod StorageTexts
 pub mod AnswerTexts
 pub mod QuantityWords
 pub mod RefusalLines
+pub mod WorstTexts

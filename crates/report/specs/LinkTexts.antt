@@ -1,11 +1,12 @@
 -- Actors, channels and links, as lines show them.
-use Rattle.std.specs.Prelude.{◌≡◌, ℕ, ◌<◌, List, [], ◌∷◌, ◌++◌, length, slice_index_or, codes}
+use Rattle.std.specs.Prelude.{◌≡◌, ℕ, ◌<◌, List, [], ◌++◌, length, slice_index_or, codes}
 use Rattle.sd_base.specs.declared.role.Role.{Role}
 use Rattle.sd_base.specs.declared.role.Role.TheVariants.{Token, Own, Space, Order}
 use Rattle.sd_base.specs.declared.tables.GraphFile.{GraphFile}
 use Rattle.sd_base.specs.declared.tables.ActorRow.{ActorRow}
 use Rattle.sd_base.specs.Net.{Net, channel_at}
 use Rattle.escapes.specs.EscapedNames.{escaped_name}
+use Rattle.report.specs.ListTexts.{lines_of}
 use Rattle.report.specs.WalkTexts.{no_channel}
 
 -- what stands for an actor past the last one
@@ -17,10 +18,8 @@ unfoldable pub actor_name : GraphFile → ℕ → List ℕ
 actor_name g a = escaped_name (slice_index_or g.actors a no_actor).name
 
 -- a line for each actor, of its name and what is given for it
-unfoldable pub actor_lines : {V : Type 0} → (List ℕ → V → List ℕ) → List ActorRow → List V → List ℕ
-actor_lines line [] vs = []
-actor_lines line (a ∷ as') [] = []
-actor_lines line (a ∷ as') (v ∷ vs) = line a.name v ++ actor_lines line as' vs
+abbrev pub actor_lines : {V : Type 0} → (List ℕ → V → List ℕ) → List ActorRow → List V → List ℕ
+actor_lines line actors vs = lines_of (λ (a : ActorRow) v. line a.name v) actors vs
 
 -- the printed name of a channel of the file, by its number
 unfoldable pub channel_name : GraphFile → ℕ → List ℕ

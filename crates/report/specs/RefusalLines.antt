@@ -4,7 +4,7 @@ use Rattle.std.specs.Fmt.{decimal}
 use Rattle.report.specs.declared.refusal.Refusal.{Refusal}
 use Rattle.report.specs.declared.refusal.Class.{Class}
 use Rattle.report.specs.declared.refusal.Class.TheVariants as class
-use Rattle.report.specs.declared.refusal.Refusal.TheVariants.{UsageWords, UsageMissing, UsageNotFor, UsageBadValue, Text, DocumentType, CdataSection, Instruction, CharReference, Encoding, WrongKind, Missing, Unknown, Twice, BadWord, BadNumber, PhasesDiffer, UnknownChannel, SelfLoopBuffer, BelowTokens, Above, Ratio, Inconsistent, Apart, OneWay, NoInput, Deadlock, StatesSpent, ShelfGraph}
+use Rattle.report.specs.declared.refusal.Refusal.TheVariants.{UsageWords, UsageMissing, UsageNotFor, UsageBadValue, Text, DocumentType, CdataSection, Instruction, CharReference, Encoding, WrongKind, Missing, Unknown, Twice, BadWord, BadNumber, PhasesDiffer, SharedDiffers, NoSuccessor, UnknownChannel, SelfLoopBuffer, BelowTokens, Above, Ratio, Inconsistent, Apart, OneWay, NoInput, Deadlock, StatesSpent, DistributionsSpent, ShelfGraph}
 
 -- the scenario that a refusal speaks of
 unfoldable pub scenario_prefix : Option (List ℕ) → List ℕ
@@ -40,6 +40,12 @@ twice_reason what name = what ++ (codes " " ++ (name ++ codes " twice"))
 unfoldable pub phases_reason : List ℕ → List ℕ
 phases_reason actor = codes "phases of " ++ (actor ++ codes " differ")
 
+unfoldable pub shared_reason : List ℕ → List ℕ
+shared_reason name = codes "shared channel " ++ (name ++ codes " differs")
+
+unfoldable pub successor_reason : List ℕ → List ℕ
+successor_reason name = codes "state " ++ (name ++ codes " has no successor")
+
 unfoldable pub self_loop_reason : List ℕ → List ℕ
 self_loop_reason name = codes "buffer of self-loop " ++ name
 
@@ -72,6 +78,9 @@ at_list (Some list) = codes " at " ++ list
 unfoldable pub states_reason : ℕ → List ℕ → List ℕ
 states_reason states at = decimal states ++ (codes " states without a repeat" ++ at)
 
+unfoldable pub distributions_reason : ℕ → List ℕ
+distributions_reason number = codes "more than " ++ (decimal number ++ codes " distributions")
+
 -- what the line of a refusal says: its class, by whose word it begins, and the reason
 pub record Cause : Type 0 where
   pub class : Class
@@ -98,6 +107,8 @@ cause_of (Twice what name) = because class.Form (twice_reason what name)
 cause_of (BadWord what of) = because class.Form (within_reason (codes "bad word") what of)
 cause_of (PhasesDiffer actor) = because class.Form (phases_reason actor)
 cause_of (BadNumber what of) = because class.Form (within_reason (codes "bad number") what of)
+cause_of (SharedDiffers name) = because class.Form (shared_reason name)
+cause_of (NoSuccessor name) = because class.Form (successor_reason name)
 cause_of (UnknownChannel name) = because class.Form (unknown_reason (codes "channel") name)
 cause_of (SelfLoopBuffer name) = because class.Form (self_loop_reason name)
 cause_of (BelowTokens name) = because class.Form (below_tokens_reason name)
@@ -109,6 +120,7 @@ cause_of (OneWay from to) = because class.Connection (one_way_reason from to)
 cause_of (NoInput scenario actor) = because class.Connection (no_input_reason (scenario_prefix scenario) actor)
 cause_of (Deadlock scenario list) = because class.Deadlock (deadlock_reason (scenario_prefix scenario) list)
 cause_of (StatesSpent states at) = because class.Budget (states_reason states (at_list at))
+cause_of (DistributionsSpent number) = because class.Budget (distributions_reason number)
 cause_of ShelfGraph = because class.Shelf (codes "graph")
 
 unfoldable pub class_word : Class → List ℕ

@@ -14,7 +14,7 @@ pub(crate) fn put_lowest(text: &mut String, n: u64, d: u64) -> Result<(), AllocE
 }
 
 #[tactic(auto, unfolding(crate::specs::FractionTexts::fraction_text))]
-fn put_fraction(text: &mut String, fraction: Fraction) -> Result<(), AllocError>
+pub(crate) fn put_fraction(text: &mut String, fraction: Fraction) -> Result<(), AllocError>
     ensures { OnOk result (string_bytes text.new ≡ string_bytes text.old ++ fraction_text fraction.num fraction.den) }
 {
     let num = fraction.num();

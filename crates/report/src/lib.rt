@@ -2,10 +2,12 @@
 #![tactic(auto)]
 
 mod answers;
+mod buffers;
 mod cycles;
 mod fractions;
 mod lacks;
 mod links;
+mod points;
 mod quantities;
 mod refusal;
 mod refusals;
@@ -13,10 +15,16 @@ mod schedules;
 #[cfg(test)]
 mod tests;
 mod walks;
+mod worst_rates;
+#[cfg(test)]
+mod worst_tests;
 
 pub use answers::{rate_text, repetition_text};
+pub use buffers::buffers_text;
 pub use lacks::lacks_text;
+pub use points::points_text;
 pub use quantities::quantity_word;
 pub use refusal::{Class, Refusal};
 pub use refusals::{memory_text, refusal_line, refusal_text};
 pub use walks::walk_text;
+pub use worst_rates::worst_text;

@@ -117,6 +117,14 @@ pub enum Refusal {
     PhasesDiffer {
         actor: Text,
     },
+    /// A scenario has other tokens between rounds than the first one, on the channel of this name.
+    SharedDiffers {
+        name: Text,
+    },
+    /// No state may come after the one of this name.
+    NoSuccessor {
+        name: Text,
+    },
     /// Words give a capacity to a name that no channel has.
     UnknownChannel {
         name: Text,
@@ -174,6 +182,10 @@ pub enum Refusal {
     StatesSpent {
         states: u64,
         at: Option<Text>,
+    },
+    /// More distributions of storage than so many are found.
+    DistributionsSpent {
+        number: u64,
     },
     /// The graph file can't be taken.
     ShelfGraph,

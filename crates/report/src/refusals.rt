@@ -1,6 +1,6 @@
 ghost use Rattle.std.specs.Prelude.{◌≡◌, IfOk};
 ghost use Rattle.std.specs.String.{string_bytes};
-ghost use Rattle.report.specs.RefusalLines.{above_reason, apart_reason, at_list, bad_value_reason, below_tokens_reason, cause_line, cause_of, deadlock_reason, inconsistent_reason, line_of, memory_line, missing_reason, no_input_reason, not_for_reason, one_way_reason, phases_reason, place_reason, ratio_reason, scenario_prefix, self_loop_reason, states_reason, twice_reason, unknown_reason, within_reason};
+ghost use Rattle.report.specs.RefusalLines.{above_reason, apart_reason, at_list, bad_value_reason, below_tokens_reason, cause_line, cause_of, deadlock_reason, distributions_reason, inconsistent_reason, line_of, memory_line, missing_reason, no_input_reason, not_for_reason, one_way_reason, phases_reason, place_reason, ratio_reason, scenario_prefix, self_loop_reason, shared_reason, states_reason, successor_reason, twice_reason, unknown_reason, within_reason};
 
 use crate::answers::bytes_of;
 use crate::{Class, Refusal};
@@ -100,6 +100,8 @@ fn cause(alloc: Global, refusal: &Refusal) -> Result<(Class, String), AllocError
             within_text(alloc, "bad number", what.as_str(), of.as_str())?,
         )),
         Refusal::PhasesDiffer { actor } => Ok((Class::Form, phases_text(alloc, actor.as_str())?)),
+        Refusal::SharedDiffers { name } => Ok((Class::Form, shared_text(alloc, name.as_str())?)),
+        Refusal::NoSuccessor { name } => Ok((Class::Form, successor_text(alloc, name.as_str())?)),
         Refusal::UnknownChannel { name } => Ok((
             Class::Form,
             unknown_text(alloc, "channel", name.as_str())?,
@@ -156,6 +158,10 @@ fn cause(alloc: Global, refusal: &Refusal) -> Result<(Class, String), AllocError
         Refusal::StatesSpent { states, at } => Ok((
             Class::Budget,
             states_text(alloc, *states, at)?,
+        )),
+        Refusal::DistributionsSpent { number } => Ok((
+            Class::Budget,
+            distributions_text(alloc, *number)?,
         )),
         Refusal::ShelfGraph => Ok((Class::Shelf, String::from_str(alloc, "graph")?)),
     }
@@ -215,6 +221,20 @@ fn phases_text(alloc: Global, actor: &str) -> Result<String, AllocError>
     ensures { IfOk result (λ t. string_bytes t ≡ phases_reason actor.now) }
 {
     format!(in alloc; "phases of {actor} differ")
+}
+
+#[tactic(auto, unfolding(crate::specs::RefusalLines::shared_reason))]
+fn shared_text(alloc: Global, name: &str) -> Result<String, AllocError>
+    ensures { IfOk result (λ t. string_bytes t ≡ shared_reason name.now) }
+{
+    format!(in alloc; "shared channel {name} differs")
+}
+
+#[tactic(auto, unfolding(crate::specs::RefusalLines::successor_reason))]
+fn successor_text(alloc: Global, name: &str) -> Result<String, AllocError>
+    ensures { IfOk result (λ t. string_bytes t ≡ successor_reason name.now) }
+{
+    format!(in alloc; "state {name} has no successor")
 }
 
 #[tactic(auto, unfolding(crate::specs::RefusalLines::self_loop_reason))]
@@ -333,6 +353,13 @@ fn at_text(alloc: Global, at: &Option<Text>) -> Result<String, AllocError>
             format!(in alloc; " at {list}")
         }
     }
+}
+
+#[tactic(auto, unfolding(crate::specs::RefusalLines::distributions_reason))]
+fn distributions_text(alloc: Global, number: u64) -> Result<String, AllocError>
+    ensures { IfOk result (λ t. string_bytes t ≡ distributions_reason number) }
+{
+    format!(in alloc; "more than {number} distributions")
 }
 
 #[tactic(auto, unfolding(crate::specs::RefusalLines::scenario_prefix))]

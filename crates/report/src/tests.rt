@@ -1,17 +1,22 @@
+ghost use Rattle.std.specs.Prelude.{◌≡◌, IfOk, length};
 ghost use Rattle.report.specs.LinkTexts.{IsRoleIn};
 
 use crate::answers::put_rate;
 use crate::cycles::{put_header, put_step};
 use crate::lacks::put_lack;
 use crate::links::put_link;
+use crate::points::put_point;
 use crate::schedules::put_schedule;
-use crate::{Refusal, refusal_text};
+use crate::{Refusal, buffers_text, refusal_text};
 use critical::{FiringNo, NeedCycle};
+use firing::LoopTable;
+use pareto_front::Point;
 use periodic::Periodic;
-use sd_base::{ActorRow, ChannelRow, GraphFile, Kind, NoMemory, Role, Rows, Text};
+use sd_base::{ActorRow, ChannelRow, Fraction, GraphFile, Kind, NoMemory, Role, Rows, Text};
 use std::alloc::Global;
 use std::process::Abort;
 use std::test::Fail;
+use storage::Distribution;
 
 fn text(alloc: Global, bytes: &str) -> Result<Text, NoMemory> {
     Ok(Text::new(String::from_str(alloc, bytes)?))
@@ -101,6 +106,73 @@ fn a_rate_has_its_schedule_and_cycle(rt: HostRuntime) -> Result<(), Fail> {
     Ok(())
 }
 
+fn distribution(
+    alloc: Global,
+    first: Option<u64>,
+    second: Option<u64>,
+) -> Result<Distribution, NoMemory>
+    ensures { IfOk result (λ d. length d.capacities ≡ 2) }
+{
+    Ok(Distribution {
+        capacities: Rows::from_vec(vec![in alloc; first, second]?),
+    })
+}
+
+#[test]
+fn a_distribution_lists_its_capacities(rt: HostRuntime) -> Result<(), Fail> {
+    let alloc = rt.alloc();
+    let graph = ring(alloc)?;
+    assert_eq!(rt; graph.channels.len(), 2);
+    for (first, second, wanted) in [
+        (Some(4), Some(10), "xy=4,my%20buf=10"),
+        (None, Some(2), "my%20buf=2"),
+        (Some(0), None, "xy=0"),
+        (None, None, "-"),
+    ] {
+        let capacities = distribution(alloc, first, second)?;
+        let text = buffers_text(alloc, &graph, &capacities)?;
+        assert_eq!(rt; text.as_str(), wanted);
+    }
+    let none = Distribution {
+        capacities: Rows::new(alloc),
+    };
+    assert_eq!(rt; none.capacities.len(), 0);
+    let text = buffers_text(alloc, &graph, &none)?;
+    assert_eq!(rt; text.as_str(), "-");
+    Ok(())
+}
+
+#[test]
+fn a_point_has_its_distribution_and_schedule(rt: HostRuntime) -> Result<(), Fail> {
+    let alloc = rt.alloc();
+    let graph = ring(alloc)?;
+    assert_eq!(rt; graph.actors.len(), 2);
+    assert_eq!(rt; graph.channels.len(), 2);
+    let schedule = Periodic {
+        period: 5,
+        rounds: 1,
+        starts: Rows::from_vec(vec![in alloc; starts(alloc, 0)?, starts(alloc, 2)?]?),
+    };
+    assert_eq!(rt; schedule.starts.len(), 2);
+    let point = Point {
+        total: 12,
+        rate: Fraction::new(2, 10),
+        capacities: distribution(alloc, Some(5), Some(7))?,
+        table: LoopTable {
+            entry: 0,
+            period: 5,
+            rounds: 1,
+            before: Rows::new(alloc),
+            starts: Rows::new(alloc),
+        },
+    };
+    let mut text = String::new(alloc);
+    put_point(&mut text, &graph, &point, &schedule)?;
+    let wanted = "point 12 1/5\nbuffers xy=5,my%20buf=7\nschedule 5 1\nx 0\ny 2\n";
+    assert_eq!(rt; text.as_str(), wanted);
+    Ok(())
+}
+
 fn link(alloc: Global, graph: &GraphFile, role: Role) -> Result<String, NoMemory>
     requires { IsRoleIn graph.now role }
 {
@@ -186,5 +258,12 @@ fn refused_analyses_name_their_cause(rt: HostRuntime) -> Result<(), Fail> {
         states: 2,
         at: None,
     };
-    says(&rt, alloc, &states, "budget: 2 states without a repeat")
+    says(&rt, alloc, &states, "budget: 2 states without a repeat")?;
+    let distributions = Refusal::DistributionsSpent { number: 10 };
+    says(
+        &rt,
+        alloc,
+        &distributions,
+        "budget: more than 10 distributions",
+    )
 }

@@ -1,5 +1,6 @@
 -- The words and files decide each command.
 use Rattle.std.proofs.Common.{◌≡◌, ℕ, Bool, true, false, List}
+use Rattle.sd_base.specs.declared.limits.Limits.{Limits}
 use Rattle.sd_base.specs.FileNet.{net_of}
 use Rattle.sd_words.specs.declared.request.Request.{Request}
 use Rattle.sd_words.specs.Asked.{IsWithinLimits}
@@ -15,10 +16,15 @@ use Rattle.sd_command.specs.Readings.{reading_graph}
 use Rattle.sd_command.specs.Balances.{balancing}
 use Rattle.sd_command.specs.Repetitions.{printing, repetition}
 use Rattle.sd_command.specs.Throughputs.{throughput}
+use Rattle.sd_command.specs.TradeOffs.{storage}
 use Rattle.sd_command.specs.Requests.{asking, command_of, course_of}
 use Rattle.sd_command.proofs.CommandsDecide.{Decides, DecidesLast, after_decides, last_decides}
-use Rattle.sd_command.proofs.SharedSteps.{FileLaws, asking_determines, taking_determines, reading_determines, buffering_determines, balancing_determines, AreSmall, bounded_net}
+use Rattle.sd_command.proofs.SharedSteps.{FileLaws, asking_determines, taking_determines, reading_determines, buffering_determines, balancing_determines, AreSmall, bounded_net, lawful_net}
 use Rattle.sd_command.proofs.OneRate.{rate_decides}
+use Rattle.sd_command.proofs.OneTradeOff.{points_decide}
+use Rattle.sd_command.specs.ScenarioSteps.{reading_scenarios}
+use Rattle.sd_command.specs.WorstAnswers.{scenario}
+use Rattle.sd_command.proofs.OneWorst.{ScenarioLaws, reading_file_determines, worst_decides}
 
 pub prints : (text : List ℕ) → DecidesLast (printing text)
 prints text = record {
@@ -27,7 +33,7 @@ prints text = record {
   no_end = λ r s n m is also. is;
 }
 
-module _ (laws : FileLaws) (shelf : Files) (tells : shelf.tells ≡ true) where
+module _ (laws : FileLaws) (scenarios : ScenarioLaws) (shelf : Files) (tells : shelf.tells ≡ true) where
   repetition_decides : (name : List ℕ) → Decides (repetition name shelf)
   repetition_decides name =
       after_decides (taking shelf Graph name) _ (taking_determines shelf tells Graph name) (λ bytes taken.
@@ -44,9 +50,24 @@ module _ (laws : FileLaws) (shelf : Files) (tells : shelf.tells ≡ true) where
       rate_decides laws.nets (bound (net_of graph gamma no_overlap) distribution.capacities)
       (bounded_net laws bytes graph gamma no_overlap buffers distribution given round small gives) graph states))))
 
+  storage_decides : (name : List ℕ) (limits : Limits) (no_overlap : Bool) → Decides (storage name limits no_overlap shelf)
+  storage_decides name limits no_overlap =
+      after_decides (taking shelf Graph name) _ (taking_determines shelf tells Graph name) (λ bytes taken.
+      after_decides (reading_graph bytes true) _ (reading_determines laws bytes true) (λ graph given.
+      after_decides (balancing graph) _ (balancing_determines laws graph (laws.keeps bytes true graph given)) (λ gamma round.
+      points_decide graph (net_of graph gamma no_overlap) laws.nets (lawful_net laws bytes graph gamma no_overlap given round) limits)))
+
+  scenario_decides : (name : List ℕ) → Decides (scenario name shelf)
+  scenario_decides name =
+      after_decides (taking shelf Graph name) _ (taking_determines shelf tells Graph name) (λ bytes taken.
+      after_decides (reading_scenarios bytes) _ (reading_file_determines laws scenarios bytes) (λ file given.
+      worst_decides laws scenarios file (scenarios.keeps bytes file given)))
+
   command_decides : (request : Request) → IsWithinLimits request → Decides (command_of request shelf)
   command_decides (requests.Repetition name) within = repetition_decides name
   command_decides (requests.Throughput name buffers no_overlap states) within = throughput_decides name buffers no_overlap states within.0
+  command_decides (requests.Storage name limits no_overlap) within = storage_decides name limits no_overlap
+  command_decides (requests.Scenario name) within = scenario_decides name
 
   pub course_decides : (words : List (List ℕ)) → Decides (course_of words shelf)
   course_decides words = after_decides (asking words) _ (asking_determines words) (λ request asked. command_decides request (asked_within words request asked))

@@ -28,7 +28,7 @@ use Rattle.sd_command.proofs.OneRate.{unrefused}
 use Rattle.sd_command.proofs.SharedSteps.{AreSmall, FileLaws, bounded_net}
 use Rattle.sd_command.proofs.Ended.{else_is_done}
 
-one_request : (words : List (List ℕ)) (q r : Request) → request_of words ≡ Ok q → request_of words ≡ Ok r → q ≡ r
+pub one_request : (words : List (List ℕ)) (q r : Request) → request_of words ≡ Ok q → request_of words ≡ Ok r → q ≡ r
 one_request words q r p s = let e : ◌≡◌ {A = Result Request UsageCause} (Ok q) (Ok r) = sym p ∙ s in (cc)
 
 module _ (words : List (List ℕ)) (shelf : Files) (name : List ℕ) (buffers : List Buffer) (no_overlap : Bool) (states : ℕ) (asked : request_of words ≡ Ok (Throughput name buffers no_overlap states)) where

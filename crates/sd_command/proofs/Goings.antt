@@ -1,18 +1,26 @@
 -- From what steps do to how a command goes.
-use Rattle.std.proofs.Common.{◌≡◌, ℕ, Bool, List, None, Result, Ok, Err, refl, sym, subst, inl, inr, arith}
+use Rattle.std.proofs.Common.{◌≡◌, ℕ, ◌-◌, Bool, List, None, Result, Ok, Err, refl, sym, subst, inl, inr, arith}
 use Rattle.sd_base.specs.declared.tables.GraphFile.{GraphFile}
+use Rattle.sd_base.specs.declared.limits.Limits.{Limits}
 use Rattle.sd_base.specs.Net.{Net}
 use Rattle.lasso.specs.LoopAnswers.{IsFound}
+use Rattle.explore.specs.declared.exploration.Exploration.{Exploration}
+use Rattle.explore.specs.declared.exploration.Member.{Member}
+use Rattle.explore.specs.Explorations.{CountsFew, IsExploration, cycles_in}
 use Rattle.sd_command.specs.declared.answer.Answer.{Answer}
 use Rattle.sd_command.specs.declared.stop.Stop.{Stop}
 use Rattle.sd_command.specs.declared.stop.Stop.TheVariants as stop
-use Rattle.sd_command.specs.Courses.{Step, deciding, Ending, Answered, Refused, Failed, Lacking, After, ends_by, refused, failed, lacking, passed}
+use Rattle.sd_command.specs.Courses.{Step, deciding, Ending, Answered, Refused, Ended, Failed, Lacking, After, ends_by, refused, failed, lacking, passed}
 use Rattle.graph_reader.specs.Laws.{Gives}
 use Rattle.sd_command.specs.declared.file_kind.FileKind.TheVariants.{Graph}
 use Rattle.sd_command.specs.Takings.{Files, IsTaken, taking}
 use Rattle.sd_command.specs.Readings.{reading_graph}
 use Rattle.sd_command.specs.RateAnswers.{IsRateText, IsRunRefusal, execution}
+use Rattle.sd_command.specs.PointAnswers.{IsExplorationEnd, IsPointsText, exploration}
 use Rattle.sd_command.specs.Repetitions.{printing}
+use Rattle.sd_base.specs.declared.tables.ScenarioFile.{ScenarioFile}
+use Rattle.scenario_reader.specs.ScenarioFiles.{GivesFile}
+use Rattle.sd_command.specs.ScenarioSteps.{reading_scenarios}
 use Rattle.sd_command.specs.inside.Going.{Does, Takes, Goes}
 
 module _ {A : Type 0} (step : Step A) (next : A → Ending → ℕ → Type 0) (n : ℕ) (none : n ≡ 0) where
@@ -41,6 +49,24 @@ module _ (graph : GraphFile) (net : Net) (states n : ℕ) (one : n ≡ 1) (fault
   -- it answers with the text of the rate
   pub run_answers : (answer : Answer) → IsRateText graph net states answer.text → answer.put ≡ None → Goes (ends_by (execution graph net states)) (Ok answer) n faults faults
   run_answers answer is none = record { ending = Answered answer; is = refl; came = (one, record { text = is; put = none }); counted = refl }
+
+module _ (graph : GraphFile) (net : Net) (limits : Limits) (n faults : ℕ) where
+  -- an exploration stops
+  pub exploration_stops : CountsFew net limits 0 n → (why : Stop)
+      → Does (deciding (λ (e : Exploration). IsExploration net limits e.members.items e.points.items) (IsExplorationEnd graph net limits)) (Err why)
+      → Goes (ends_by (exploration graph net limits)) (Err why) n faults faults
+  exploration_stops few (stop.Refused refusal) is = record { ending = Ended refusal; is = refl; came = (few, is); counted = refl }
+  exploration_stops few stop.OutOfMemory is = record { ending = Lacking; is = refl; came = few; counted = refl }
+
+  -- it answers with the text of its points
+  pub points_answer : (answer : Answer) (members : List Member) → n ≡ cycles_in members → IsPointsText graph net limits members answer.text → answer.put ≡ None
+      → Goes (ends_by (exploration graph net limits)) (Ok answer) n faults faults
+  points_answer answer members count is none =
+      record { ending = Answered answer; is = refl; came = record { members = members; text = is; put = none; counted = count }; counted = refl }
+
+-- counts from some number on are counts from 0 on
+pub few_from : (net : Net) (limits : Limits) (before after : ℕ) → CountsFew net limits before after → CountsFew net limits 0 (after - before)
+few_from net limits before after (dss, found, most, few) = (dss, found, omega (arith, most), few)
 
 -- a text answers
 pub print_answers : (text : List ℕ) (answer : Answer) (faults : ℕ) → answer.text ≡ text → answer.put ≡ None → Goes (ends_by (printing text)) (Ok answer) 0 faults faults
@@ -73,3 +99,23 @@ module _ (files : Files) (name : List ℕ) (times : Bool) (rest : GraphFile → 
 
     pub read_goes : (graph : GraphFile) (result : Result Answer Stop) → Gives shown times graph → Goes (rest graph) result n faults faults → Goes of_file result n faults faults'
     read_goes graph result read goes = from_bytes result (goes_on (reading_graph shown times) (λ g. rest g) graph result n faults faults read goes)
+
+-- The command that begins by taking and reading a file of scenarios.
+module _ (files : Files) (name : List ℕ) (rest : ScenarioFile → Ending → ℕ → Type 0) where
+  abbrev of_file_bytes : List ℕ → Ending → ℕ → Type 0
+  of_file_bytes bytes = After (reading_scenarios bytes) (λ file. rest file)
+
+  abbrev pub of_scenario_file : Ending → ℕ → Type 0
+  of_scenario_file = After (taking files Graph name) (λ bytes. of_file_bytes bytes)
+
+  module _ (bytes shown : List ℕ) (n faults faults' : ℕ) (took : IsTaken files Graph name bytes × (faults' ≡ faults)) (same : shown ≡ bytes) where
+    from_file_bytes : (result : Result Answer Stop) → Goes (of_file_bytes shown) result n faults faults → Goes of_scenario_file result n faults faults'
+    from_file_bytes result goes =
+        same_count of_scenario_file result n faults faults' took.1
+        (goes_on (taking files Graph name) (λ b. of_file_bytes b) bytes result n faults faults took.0 (subst (λ (b : List ℕ). Goes (of_file_bytes b) result n faults faults) same goes))
+
+    pub file_stops : (why : Stop) → n ≡ 0 → Does (reading_scenarios shown) (Err why) → Goes of_scenario_file (Err why) n faults faults'
+    file_stops why none is = from_file_bytes (Err why) (step_stops (reading_scenarios shown) (λ file. rest file) n none why faults is)
+
+    pub file_goes : (file : ScenarioFile) (result : Result Answer Stop) → GivesFile shown file → Goes (rest file) result n faults faults → Goes of_scenario_file result n faults faults'
+    file_goes file result read goes = from_file_bytes result (goes_on (reading_scenarios shown) (λ f. rest f) file result n faults faults read goes)

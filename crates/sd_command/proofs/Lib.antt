@@ -9,5 +9,12 @@ mod Reached
 mod Refusals
 mod Overs
 mod WalkSteps
+mod FileConnections
+mod PointSchedules
+mod OneTradeOff
+mod CompleteStorage
 pub mod CommandsDecide
 pub mod SharedSteps
+mod Throughs
+mod OneWorst
+mod Measured

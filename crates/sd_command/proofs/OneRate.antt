@@ -38,7 +38,7 @@ pub record NetLaws : Type 0 where
   pub found_many : (net : Net) (states : ℕ) (table : LoopTable) → Lawful net → HasInputs net → IsFound net states table → IsTooManyStarts net states → ⊥
 
 -- the least numbers with a property agree
-one-least : (P : ℕ → Type 0) (x y : ℕ) → (P x → ⊥) → (P y → ⊥) → ((c : ℕ) → c < x → P c) → ((c : ℕ) → c < y → P c) → x ≡ y
+pub one-least : (P : ℕ → Type 0) (x y : ℕ) → (P x → ⊥) → (P y → ⊥) → ((c : ℕ) → c < x → P c) → ((c : ℕ) → c < y → P c) → x ≡ y
 one-least P x y not-x not-y below-x below-y =
     ⊎_elim (λ (h : x < y). absurd (not-x (below-y x h)))
     (λ (h : y ≤ x). ⊎_elim (λ (k : y < x). absurd (not-y (below-x y k))) (λ (k : x ≤ y). omega arith) (cases_lt y x))

@@ -26,16 +26,16 @@ gcd_of (suc fuel) a (suc b) below =
     (found.0, IsGcd-from_mod a (suc b) found.0 found.1)
 
 -- two numbers over their greatest common divisor
-record Lowest (n d : ℕ) : Type 0 where
-  num : ℕ
-  den : ℕ
-  common : ℕ
-  some : 0 < common
-  first : n ≡ common * num
-  second : d ≡ common * den
-  lowest : IsGcd num den 1
+pub record Lowest (n d : ℕ) : Type 0 where
+  pub num : ℕ
+  pub den : ℕ
+  pub common : ℕ
+  pub some : 0 < common
+  pub first : n ≡ common * num
+  pub second : d ≡ common * den
+  pub lowest : IsGcd num den 1
 
-lowest_of : (n d : ℕ) → 0 < n → Lowest n d
+pub lowest_of : (n d : ℕ) → 0 < n → Lowest n d
 lowest_of n d positive =
     let found = gcd_of (suc d) n d (omega arith) in
     let g : ℕ = found.0 in

@@ -1,5 +1,5 @@
 -- A command as a course of steps, which is the order in which it is refused.
-use Rattle.std.specs.Prelude.{◌≡◌, ℕ}
+use Rattle.std.specs.Prelude.{◌≡◌, ℕ, ◌⊎◌}
 use Rattle.report.specs.declared.refusal.Refusal.{Refusal}
 use Rattle.sd_command.specs.declared.answer.Answer.{Answer}
 
@@ -21,6 +21,14 @@ pub record Step (A : Type 0) : Type 1 where
 -- a step that takes no file
 abbrev pub deciding : {A : Type 0} → (A → Type 0) → (Refusal → Type 0) → Step A
 deciding passes refuses = record { passes = passes; refuses = refuses; fails = λ refusal. ⊥ }
+
+-- a step, and then another one with the value that it passes on, as one step
+abbrev pub through : {A B : Type 0} → Step A → (A → Step B) → Step B
+through {A} step next = record {
+  passes = λ b. (a : A) × step.passes a × (next a).passes b;
+  refuses = λ refusal. step.refuses refusal ⊎ ((a : A) × step.passes a × (next a).refuses refusal);
+  fails = λ refusal. step.fails refusal ⊎ ((a : A) × step.passes a × (next a).fails refusal);
+}
 
 -- a step, and then what the command does with the value that it passes on: how the command may end, and after how many executions
 pub data After {A : Type 0} (step : Step A) (next : A → Ending → ℕ → Type 0) (ending : Ending) (n : ℕ) : Type 0 where

@@ -1,15 +1,19 @@
 -- Laws of how a run ends: the words and files decide it.
-use Rattle.std.specs.Prelude.{◌≡◌, ℕ, ◌+◌, ◌≤◌, ◌⊎◌, Bool, true, List, Some, Ok}
+use Rattle.std.specs.Prelude.{◌≡◌, ℕ, ◌+◌, ◌≤◌, ◌⊎◌, Bool, true, List, length, Option, Some, Ok}
 use Rattle.sd_base.specs.declared.tables.GraphFile.{GraphFile}
+use Rattle.sd_base.specs.declared.limits.Limits.{Limits}
 use Rattle.sd_base.specs.declared.limits.TheConstants.{STARTS}
 use Rattle.sd_base.specs.Net.{Net}
 use Rattle.sd_base.specs.FileNet.{net_of}
 use Rattle.sd_base.specs.SelfTimed.{events_by, starts_by}
 use Rattle.sd_base.specs.Rates.{IsLoop}
-use Rattle.sd_words.specs.declared.request.Request.TheVariants.{Throughput}
+use Rattle.sd_base.specs.Untimed.{IsLive}
+use Rattle.sd_words.specs.declared.request.Request.TheVariants.{Storage, Throughput}
 use Rattle.sd_words.specs.Asked.{request_of}
 use Rattle.storage.specs.BoundedNets.{bound}
 use Rattle.storage.specs.NamedBuffers.{Buffer, capacities_of}
+use Rattle.explore.specs.Explorations.{AreFound}
+use Rattle.explore.specs.Reachable.{IsReachable}
 use Rattle.graph_reader.specs.Laws.{Gives}
 use Rattle.balance.specs.Repetition.{IsRound}
 use Rattle.report.specs.declared.refusal.Refusal.{Refusal}
@@ -62,4 +66,19 @@ ThroughputIsComplete = (run : Run) (cut : Bool) (name : List ℕ) (buffers : Lis
     → ((refusal : Refusal) → course_of run.words run.outside.shelf.files (Refused refusal) 0 → ⊥)
     → ((bytes gamma : List ℕ) (graph : GraphFile) → run.outside.shelf.files.named name ≡ Some bytes → Gives bytes true graph → IsRound graph gamma
     → Repeats (bound (net_of graph gamma no_overlap) (capacities_of graph.channels buffers)) states)
+    → Shows run cut → (run.status ≡ statuses.Done) ⊎ (run.status ≡ statuses.Memory)
+
+-- the limits are enough for an exploration: each distribution that it may come to, if its bounded net completes a round,
+-- repeats a shape in time, and there are no more of them than it may find
+pub record Suffice (net : Net) (limits : Limits) : Type 0 where
+  pub repeats : (ds : List (Option ℕ)) → IsReachable net limits.total ds → IsLive (bound net ds) → Repeats (bound net ds) limits.states
+  pub few : (dss : List (List (Option ℕ))) → AreFound net limits.total dss → length dss ≤ limits.distributions
+
+-- such a run of `storage` is done, or ends for want of memory, where no refusal is due and the limits are enough
+abbrev pub StorageIsComplete : Type 0
+StorageIsComplete = (run : Run) (cut : Bool) (name : List ℕ) (limits : Limits) (no_overlap : Bool) → IsFaultless run
+    → request_of run.words ≡ Ok (Storage name limits no_overlap)
+    → ((refusal : Refusal) (n : ℕ) → course_of run.words run.outside.shelf.files (Refused refusal) n → ⊥)
+    → ((bytes gamma : List ℕ) (graph : GraphFile) → run.outside.shelf.files.named name ≡ Some bytes → Gives bytes true graph → IsRound graph gamma
+    → Suffice (net_of graph gamma no_overlap) limits)
     → Shows run cut → (run.status ≡ statuses.Done) ⊎ (run.status ≡ statuses.Memory)

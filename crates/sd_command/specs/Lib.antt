@@ -7,9 +7,13 @@ pub mod Bufferings
 pub mod Nets
 pub mod Repetitions
 pub mod Throughputs
+pub mod PointAnswers
+pub mod TradeOffs
 pub mod Requests
 pub mod Runs
 pub mod inside
 pub mod Endings
 pub mod ActorNames
 pub mod RateAnswers
+pub mod ScenarioSteps
+pub mod WorstAnswers

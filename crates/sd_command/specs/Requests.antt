@@ -12,6 +12,8 @@ use Rattle.sd_command.specs.Courses.{Step, deciding, Ending, After}
 use Rattle.sd_command.specs.Takings.{Files}
 use Rattle.sd_command.specs.Repetitions.{repetition}
 use Rattle.sd_command.specs.Throughputs.{throughput}
+use Rattle.sd_command.specs.TradeOffs.{storage}
+use Rattle.sd_command.specs.WorstAnswers.{scenario}
 
 -- the refusal of words that aren't those of a command
 abbrev pub usage_refusal : UsageCause → Refusal
@@ -32,6 +34,8 @@ asking words = deciding (λ request. request_of words ≡ Ok request) (λ refusa
 abbrev pub command_of : Request → Files → Ending → ℕ → Type 0
 command_of (requests.Repetition graph) = repetition graph
 command_of (requests.Throughput graph buffers no_overlap states) = throughput graph buffers no_overlap states
+command_of (requests.Storage graph limits no_overlap) = storage graph limits no_overlap
+command_of (requests.Scenario graph) = scenario graph
 
 -- how the command of the words may end over the files of a shelf, and after how many executions
 abbrev pub course_of : List (List ℕ) → Files → Ending → ℕ → Type 0

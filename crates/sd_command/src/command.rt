@@ -4,21 +4,23 @@ ghost use Rattle.sd_command.specs.Runs.{Run, Shows};
 use crate::delivering::{deliver, send_stop};
 use crate::requests::answer_of;
 use crate::status::Status;
+use fanout::Gate;
 use sd_base::{Ledger, Steps, Text};
 use sd_io::{Shelf, Sink};
 use std::alloc::Global;
 use std::thread::Threads;
 
 /// Carries one command out: `words` are those after the program's name. The answer goes to `out`, the line of a
-/// refusal to `err`. All texts are made before anything is put or sent. The runtime is for the commands that fork; `steps`
-/// counts the executions that were run round their loop.
-pub fn analyse<R: Threads + Sync, S: Shelf, K: Sink, L: Ledger + Send>(
-    _rt: &R,
+/// refusal to `err`. All texts are made before anything is put or sent. The runtime and the gate are for the commands that
+/// fork; `steps` counts the executions that were run round their loop.
+pub fn analyse<R: Threads + Sync, S: Shelf, K: Sink, G: Gate + Sync, L: Ledger + Send>(
+    rt: &R,
     alloc: Global,
     words: &[Text],
     shelf: &mut S,
     out: &mut K,
     err: &mut K,
+    gate: &G,
     steps: &mut Steps<L>,
 ) -> Status
     ensures shows { let run : Run = record {
@@ -42,7 +44,7 @@ pub fn analyse<R: Threads + Sync, S: Shelf, K: Sink, L: Ledger + Send>(
     ensures err_grows { K.faults err.old ≤ K.faults err.new }
     ensures steps_stay { steps.new.share ≡ steps.old.share }
 {
-    match answer_of(alloc, words, shelf, steps) {
+    match answer_of(rt, alloc, words, shelf, gate, steps) {
         Ok(answer) => deliver(alloc, shelf, out, err, &answer),
         Err(stop) => send_stop(alloc, err, &stop),
     }

@@ -1,11 +1,13 @@
-ghost use Rattle.sd_command.specs.Endings.{DueIsAnswered, DueIsOne, ElseIsDone, ThroughputIsComplete};
+ghost use Rattle.sd_command.specs.Endings.{DueIsAnswered, DueIsOne, ElseIsDone, StorageIsComplete, ThroughputIsComplete};
 
 use balance::one_answer;
 use graph_reader::know_files;
 use lasso::one_ending;
+use scenario_reader::know_scenario_files;
 use sd_base::laws::{
     blocking_counts_bound_each_schedule, ending_counts_are_one, file_nets_are_lawful,
 };
+use token_matrix::matrices_are_one;
 
 /// The words and files decide how a run ends, but for faults and want of memory.
 pub fn know_endings()
@@ -13,8 +15,11 @@ pub fn know_endings()
     ensures due { DueIsAnswered }
     ensures done { ElseIsDone }
     ensures throughput { ThroughputIsComplete }
+    ensures storage { StorageIsComplete }
 {
     know_files();
+    know_scenario_files();
+    matrices_are_one();
     one_answer();
     file_nets_are_lawful();
     ending_counts_are_one();

@@ -11,14 +11,18 @@ mod file_kind;
 mod laws;
 mod names;
 mod nets;
+mod points;
 mod rates;
 mod reading;
 mod repetition;
 mod requests;
+mod scenario;
+mod scenario_steps;
 mod status;
 mod stop;
 mod taking;
 mod throughput;
+mod trade_off;
 
 pub use command::analyse;
 pub use laws::know_endings;

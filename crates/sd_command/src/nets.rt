@@ -1,7 +1,8 @@
-ghost use Rattle.std.specs.Prelude.{◌≡◌, IfOk};
+ghost use Rattle.std.specs.Prelude.{◌≡◌, ◌↔◌, IfOk, IsTrue, MatchOption};
 ghost use Rattle.report.specs.LinkTexts.{IsNamed};
 ghost use Rattle.sd_base.specs.Connection.{ends_of};
-ghost use Rattle.sd_command.specs.Nets.{completing, feeding, joining};
+ghost use Rattle.explore.specs.Reachable.{AreTouched, IsTouched};
+ghost use Rattle.sd_command.specs.Nets.{IsFirstUntouched, completing, feeding, joining, touching};
 ghost use Rattle.sd_command.specs.inside.Going.{Does};
 
 use crate::names::name_of;
@@ -55,6 +56,44 @@ fn ends<F: Firing>(alloc: Global, net: &F) -> Result<Vec<(u32, u32)>, NoMemory>
         ends.push((net.source(channel), net.target(channel)))?;
     }
     Ok(ends)
+}
+
+/// Tests that a channel begins or ends at each actor.
+pub(crate) fn touch<F: Firing>(alloc: Global, net: &F, graph: &GraphFile) -> Result<(), Stop>
+    requires { IsNamed graph.now (F.net net.now) }
+    ensures { Does (touching graph.now (F.net net.now)) result }
+{
+    match first_untouched(net) {
+        None => Ok(()),
+        Some(actor) => Err(Stop::Refused(Refusal::NoInput {
+            scenario: None,
+            actor: name_of(alloc, graph, actor)?,
+        })),
+    }
+}
+
+// The first actor at which no channel begins or ends.
+fn first_untouched<F: Firing>(net: &F) -> Option<u32>
+    ensures { MatchOption result (AreTouched (F.net net.now)) (IsFirstUntouched (F.net net.now)) }
+{
+    for actor in 0..net.actors() {
+        if !is_touched(net, actor) {
+            return Some(actor);
+        }
+    }
+    None
+}
+
+// Whether a channel begins or ends at an actor.
+fn is_touched<F: Firing>(net: &F, actor: u32) -> bool
+    ensures { IsTrue result ↔ IsTouched (F.net net.now) actor }
+{
+    for channel in 0..net.channels() {
+        if net.source(channel) == actor || net.target(channel) == actor {
+            return true;
+        }
+    }
+    false
 }
 
 /// Tests that a round can be completed.

@@ -30,7 +30,7 @@ pub(crate) fn read(alloc: Global, bytes: &[u8], times: bool) -> Result<GraphFile
 }
 
 // The refusal of a file's first fault. Want of memory has none.
-fn refusal_of(alloc: Global, error: &ReadError) -> Result<Refusal, NoMemory>
+pub(crate) fn refusal_of(alloc: Global, error: &ReadError) -> Result<Refusal, NoMemory>
     ensures { IfOk result (λ refusal. (refusal ≡ reading_refusal error.now) × (error.now ≢ reading.NoMemory)) }
 {
     match error {
@@ -60,6 +60,12 @@ fn refusal_of(alloc: Global, error: &ReadError) -> Result<Refusal, NoMemory>
             actor: escaped(alloc, actor.as_str())?,
         }),
         ReadError::Limit { what } => above(alloc, *what),
+        ReadError::SharedDiffer { channel } => Ok(Refusal::SharedDiffers {
+            name: escaped(alloc, channel.as_str())?,
+        }),
+        ReadError::DeadEnd { state } => Ok(Refusal::NoSuccessor {
+            name: escaped(alloc, state.as_str())?,
+        }),
         ReadError::NoMemory => Err(NoMemory),
     }
 }

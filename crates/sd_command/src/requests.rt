@@ -7,17 +7,21 @@ ghost use Rattle.sd_command.specs.inside.Going.{Goes};
 use crate::answer::Answer;
 use crate::asking::ask;
 use crate::stop::Stop;
-use crate::{repetition, throughput};
+use crate::{repetition, scenario, throughput, trade_off};
+use fanout::Gate;
 use sd_base::{Ledger, Steps, Text};
 use sd_io::Shelf;
 use sd_words::Request;
 use std::alloc::Global;
+use std::thread::Threads;
 
 /// What answers the words.
-pub(crate) fn answer_of<S: Shelf, L: Ledger>(
+pub(crate) fn answer_of<R: Threads + Sync, S: Shelf, G: Gate + Sync, L: Ledger + Send>(
+    rt: &R,
     alloc: Global,
     words: &[Text],
     shelf: &mut S,
+    gate: &G,
     steps: &mut Steps<L>,
 ) -> Result<Answer, Stop>
     ensures goes { let files : Files = record { tells = S.tells shelf.old; named = S.file shelf.old } in
@@ -29,14 +33,16 @@ pub(crate) fn answer_of<S: Shelf, L: Ledger>(
     ensures share { steps.new.share ≡ steps.old.share }
 {
     let request = ask(alloc, words)?;
-    command_answer(alloc, &request, shelf, steps)
+    command_answer(rt, alloc, &request, shelf, gate, steps)
 }
 
 // What answers a request.
-fn command_answer<S: Shelf, L: Ledger>(
+fn command_answer<R: Threads + Sync, S: Shelf, G: Gate + Sync, L: Ledger + Send>(
+    rt: &R,
     alloc: Global,
     request: &Request,
     shelf: &mut S,
+    gate: &G,
     steps: &mut Steps<L>,
 ) -> Result<Answer, Stop>
     requires { IsWithinLimits request.now }
@@ -64,5 +70,20 @@ fn command_answer<S: Shelf, L: Ledger>(
             *states,
             steps,
         ),
+        Request::Storage {
+            graph,
+            limits,
+            no_overlap,
+        } => trade_off::answer(
+            rt,
+            alloc,
+            shelf,
+            graph.as_str(),
+            *limits,
+            *no_overlap,
+            gate,
+            steps,
+        ),
+        Request::Scenario { graph } => scenario::answer(alloc, shelf, graph.as_str()),
     }
 }

@@ -126,6 +126,8 @@ named-word : (a : Algorithm) → algorithm_named (algorithm_word a) ≡ Some a
 unfolding algorithm_named algorithm_word
 named-word algorithm.Repetition = refl
 named-word algorithm.Throughput = refl
+named-word algorithm.Storage = refl
+named-word algorithm.Scenario = refl
 
 found-first : (b : Bool) (x a : Algorithm) (w : List ℕ) (r : Option Algorithm) → bytes_eq (algorithm_word x) w ≡ b → cond b (Some x) r ≡ Some a → (w ≡ algorithm_word a) ⊎ (r ≡ Some a)
 found-first true x a w r e h =

@@ -6,13 +6,13 @@ use Rattle.std.specs.Str.{bytes_eq}
 use Rattle.std.proofs.lemmas.List.Elements.{All-nil, All-push}
 use Rattle.std.proofs.lemmas.Bool.{leb-true}
 use Rattle.std.specs.Prelude.{◌==◌, nat_le, nat_lt, unwrap_or, option_and_then}
-use Rattle.sd_base.specs.declared.limits.TheConstants.{CAPACITY, LEAST_STATES, STATES, USUAL_STATES}
+use Rattle.sd_base.specs.declared.limits.TheConstants.{CAPACITY, DISTRIBUTIONS, LEAST_DISTRIBUTIONS, LEAST_STATES, STATES, STORAGE, USUAL_DISTRIBUTIONS, USUAL_STATES}
 use Rattle.sd_words.specs.declared.names.OptionName.{OptionName}
 use Rattle.sd_words.specs.declared.names.OptionName.TheVariants as option
 use Rattle.sd_words.specs.declared.names.Algorithm.{Algorithm}
 use Rattle.sd_words.specs.declared.names.Algorithm.TheVariants as algorithm
 use Rattle.sd_words.specs.Values.{is_decimal, number as value, number_within}
-use Rattle.sd_words.specs.Asked.{AreStates, IsWithinLimits, Values, capacities_of, number_of, request_for, states_of}
+use Rattle.sd_words.specs.Asked.{AreLimits, AreStates, IsWithinLimits, Values, capacities_of, limits_of, number_of, request_for, states_of}
 use Rattle.sd_words.specs.Buffers.{Buffer, buffer_of, buffers_of, named_number, with_buffer, with_parts}
 use Rattle.escapes.specs.SpelledNames.{unescaped}
 
@@ -37,6 +37,13 @@ module _ (least greatest usual : ℕ) (above : least ≤ usual) (below : usual �
 
 states-given : (values : Values) → AreStates (states_of values)
 states-given values = number-given LEAST_STATES STATES USUAL_STATES (lit≤ tt) (lit≤ tt) option.States values
+
+limits-given : (values : Values) → AreLimits (limits_of values)
+limits-given values = record {
+  total = (number-given 0 STORAGE 0 (lit≤ tt) (lit≤ tt) option.Limit values).1;
+  states = states-given values;
+  distributions = number-given LEAST_DISTRIBUTIONS DISTRIBUTIONS USUAL_DISTRIBUTIONS (lit≤ tt) (lit≤ tt) option.Distributions values;
+}
 
 -- ---- buffers
 
@@ -116,3 +123,5 @@ pub request-within : (a : Algorithm) (values : Values) → IsWithinLimits (reque
 unfolding request_for
 request-within algorithm.Repetition values = tt
 request-within algorithm.Throughput values = (capacities-small values, states-given values)
+request-within algorithm.Storage values = limits-given values
+request-within algorithm.Scenario values = tt

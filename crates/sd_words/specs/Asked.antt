@@ -1,7 +1,8 @@
 -- What settings ask for, or the first cause why they ask for nothing.
 use Rattle.std.specs.Prelude.{All, ◌≡◌, ◌≤◌, ℕ, Bool, true, List, [], ◌∷◌, Option, Some, None, Result, Ok, Err, MatchResult, is_some, unwrap_or, option_and_then, if◌then◌else◌}
 use Rattle.std.specs.Str.{bytes_eq}
-use Rattle.sd_base.specs.declared.limits.TheConstants.{CAPACITY, LEAST_STATES, STATES, USUAL_STATES}
+use Rattle.sd_base.specs.declared.limits.TheConstants.{CAPACITY, DISTRIBUTIONS, LEAST_DISTRIBUTIONS, LEAST_STATES, STATES, STORAGE, USUAL_DISTRIBUTIONS, USUAL_STATES}
+use Rattle.sd_base.specs.declared.limits.Limits.{Limits}
 use Rattle.sd_words.specs.declared.names.OptionName.{OptionName}
 use Rattle.sd_words.specs.declared.names.OptionName.TheVariants as option
 use Rattle.sd_words.specs.declared.names.Algorithm.{Algorithm}
@@ -63,6 +64,12 @@ standing algorithm.Throughput option.Graph = Required form.Any
 standing algorithm.Throughput option.Buffers = Allowed form.Buffers
 standing algorithm.Throughput option.States = Allowed (form.Number LEAST_STATES STATES)
 standing algorithm.Throughput option.NoOverlap = Allowed form.Any
+standing algorithm.Storage option.Graph = Required form.Any
+standing algorithm.Storage option.States = Allowed (form.Number LEAST_STATES STATES)
+standing algorithm.Storage option.Distributions = Allowed (form.Number LEAST_DISTRIBUTIONS DISTRIBUTIONS)
+standing algorithm.Storage option.Limit = Required (form.Number 0 STORAGE)
+standing algorithm.Storage option.NoOverlap = Allowed form.Any
+standing algorithm.Scenario option.Graph = Required form.Any
 standing a o = Foreign
 
 -- a value is of the form that the table asks
@@ -104,19 +111,37 @@ states_of values = number_of option.States LEAST_STATES STATES USUAL_STATES valu
 unfoldable pub capacities_of : Values → List Buffer
 capacities_of values = unwrap_or (option_and_then buffers_of (values option.Buffers)) []
 
+-- what an exploration may use: its limit is a required option, so that no other number stands for it
+abbrev pub limits_of : Values → Limits
+limits_of values = record {
+  total = number_of option.Limit 0 STORAGE 0 values;
+  states = states_of values;
+  distributions = number_of option.Distributions LEAST_DISTRIBUTIONS DISTRIBUTIONS USUAL_DISTRIBUTIONS values;
+}
+
 -- the request of values that are as the algorithm asks
 unfoldable pub request_for : Algorithm → Values → Request
 request_for algorithm.Repetition values = request.Repetition (graph_of values)
 request_for algorithm.Throughput values = request.Throughput (graph_of values) (capacities_of values) (is_some (values option.NoOverlap)) (states_of values)
+request_for algorithm.Storage values = request.Storage (graph_of values) (limits_of values) (is_some (values option.NoOverlap))
+request_for algorithm.Scenario values = request.Scenario (graph_of values)
 
 -- a number of states is within its range
 abbrev pub AreStates : ℕ → Type 0
 AreStates states = (LEAST_STATES ≤ states) × (states ≤ STATES)
 
+-- the numbers that bound an exploration are within their ranges
+pub record AreLimits (limits : Limits) : Type 0 where
+  pub total : limits.total ≤ STORAGE
+  pub states : AreStates limits.states
+  pub distributions : (LEAST_DISTRIBUTIONS ≤ limits.distributions) × (limits.distributions ≤ DISTRIBUTIONS)
+
 -- the numbers of a request are within their ranges
 abbrev pub IsWithinLimits : Request → Type 0
 IsWithinLimits (request.Repetition graph) = Unit {0}
 IsWithinLimits (request.Throughput graph buffers no_overlap states) = All (λ (b : Buffer). b.1 ≤ CAPACITY) buffers × AreStates states
+IsWithinLimits (request.Storage graph limits no_overlap) = AreLimits limits
+IsWithinLimits (request.Scenario graph) = Unit {0}
 
 -- what values ask for
 unfoldable pub request_from : Values → Result Request UsageCause

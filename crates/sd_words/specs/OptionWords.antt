@@ -36,10 +36,12 @@ names_flag name = bytes_eq (option_word option.NoOverlap) name
 unfoldable pub algorithm_word : Algorithm → List ℕ
 algorithm_word algorithm.Repetition = codes "repetition"
 algorithm_word algorithm.Throughput = codes "throughput"
+algorithm_word algorithm.Storage = codes "storage"
+algorithm_word algorithm.Scenario = codes "scenario"
 
 -- the algorithms
 abbrev pub algorithms : List Algorithm
-algorithms = algorithm.Repetition ∷ algorithm.Throughput ∷ []
+algorithms = algorithm.Repetition ∷ algorithm.Throughput ∷ algorithm.Storage ∷ algorithm.Scenario ∷ []
 
 -- the algorithm of a word
 unfoldable pub algorithm_named : List ℕ → Option Algorithm

@@ -74,9 +74,16 @@ pub(crate) fn names_flag(name: &str) -> bool
 pub enum Algorithm {
     Repetition,
     Throughput,
+    Storage,
+    Scenario,
 }
 
-const ALGORITHMS: [Algorithm; 2] = [Algorithm::Repetition, Algorithm::Throughput];
+const ALGORITHMS: [Algorithm; 4] = [
+    Algorithm::Repetition,
+    Algorithm::Throughput,
+    Algorithm::Storage,
+    Algorithm::Scenario,
+];
 
 impl Algorithm {
     /// The algorithm as it stands in the words.
@@ -87,6 +94,8 @@ impl Algorithm {
         match self {
             Algorithm::Repetition => "repetition",
             Algorithm::Throughput => "throughput",
+            Algorithm::Storage => "storage",
+            Algorithm::Scenario => "scenario",
         }
     }
 

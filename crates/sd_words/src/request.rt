@@ -2,7 +2,7 @@ ghost use Rattle.std.specs.Prelude.{◌≡◌};
 ghost use Rattle.sd_words.specs.declared.request.WordsError.TheVariants.{NoMemory, Usage};
 
 use crate::{Algorithm, OptionName};
-use sd_base::{Rows, Text};
+use sd_base::{Limits, Rows, Text};
 use std::alloc::{AllocError, AllocFailed};
 use thiserror::Error;
 
@@ -21,6 +21,17 @@ pub enum Request {
         buffers: Rows<(Text, u64)>,
         no_overlap: bool,
         states: u64,
+    },
+    /// The Pareto points of storage and rate of the graph: up to the total of `limits`, and within its numbers of
+    /// states and of distributions; with `no_overlap` the firings of each actor come one after another.
+    Storage {
+        graph: Text,
+        limits: Limits,
+        no_overlap: bool,
+    },
+    /// The worst rate of the scenarios of the file, over all paths of its automaton.
+    Scenario {
+        graph: Text,
     },
 }
 

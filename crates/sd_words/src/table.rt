@@ -4,15 +4,18 @@ ghost use Rattle.std.specs.Prelude.{◌≡◌, IfOk, Ok, Err, if◌then◌else�
 ghost use Rattle.sd_words.specs.declared.request.UsageCause.TheVariants.{BadValue};
 ghost use Rattle.sd_words.specs.Forms.{fits};
 ghost use Rattle.std.specs.Option.{option_map};
-ghost use Rattle.sd_words.specs.Asked.{Gives, algorithm_of, all_checked, capacities_of, checked, graph_of, number_of, options, request_for, standing, states_of};
+ghost use Rattle.sd_words.specs.Asked.{Gives, algorithm_of, all_checked, capacities_of, checked, graph_of, limits_of, number_of, options, request_for, standing, states_of};
 ghost use Rattle.sd_words.specs.Given.{values_given};
 
 use crate::buffers::buffers_of;
 use crate::form::{Form, fits, number_within};
 use crate::given::Given;
 use crate::{Algorithm, OptionName, Request, UsageCause, WordsError};
-use sd_base::limits::{LEAST_STATES, STATES, USUAL_STATES};
-use sd_base::{Rows, Text};
+use sd_base::limits::{
+    DISTRIBUTIONS, LEAST_DISTRIBUTIONS, LEAST_STATES, STATES, STORAGE, USUAL_DISTRIBUTIONS,
+    USUAL_STATES,
+};
+use sd_base::{Limits, Rows, Text};
 use std::alloc::{AllocError, Global};
 
 /// The options beside `--algo`, in the order in which they are tested.
@@ -32,6 +35,18 @@ const BESIDE_ALGO: [OptionName; 9] = [
 const OF_STATES: Form = Form::Number {
     least: LEAST_STATES,
     greatest: STATES,
+};
+
+/// A number of distributions.
+const OF_DISTRIBUTIONS: Form = Form::Number {
+    least: LEAST_DISTRIBUTIONS,
+    greatest: DISTRIBUTIONS,
+};
+
+/// The storage of a distribution.
+const OF_STORAGE: Form = Form::Number {
+    least: 0,
+    greatest: STORAGE,
 };
 
 /// Whether an algorithm has an option, and the values that the option may have.
@@ -57,6 +72,18 @@ fn standing_of(algo: Algorithm, option: OptionName) -> Standing
             OptionName::Buffers => Standing::Allowed(Form::Buffers),
             OptionName::States => Standing::Allowed(OF_STATES),
             OptionName::NoOverlap => Standing::Allowed(Form::Any),
+            _ => Standing::Foreign,
+        },
+        Algorithm::Storage => match option {
+            OptionName::Graph => Standing::Required(Form::Any),
+            OptionName::States => Standing::Allowed(OF_STATES),
+            OptionName::Distributions => Standing::Allowed(OF_DISTRIBUTIONS),
+            OptionName::Limit => Standing::Required(OF_STORAGE),
+            OptionName::NoOverlap => Standing::Allowed(Form::Any),
+            _ => Standing::Foreign,
+        },
+        Algorithm::Scenario => match option {
+            OptionName::Graph => Standing::Required(Form::Any),
             _ => Standing::Foreign,
         },
     }
@@ -143,6 +170,23 @@ fn states_of(given: &Given<'_>) -> u64
     )
 }
 
+/// What an exploration may use. Its limit is a required option.
+fn limits_of(given: &Given<'_>) -> Limits
+    ensures { result ≡ limits_of (values_given given.now) }
+{
+    Limits {
+        total: number_of(given, OptionName::Limit, 0, STORAGE, 0),
+        states: states_of(given),
+        distributions: number_of(
+            given,
+            OptionName::Distributions,
+            LEAST_DISTRIBUTIONS,
+            DISTRIBUTIONS,
+            USUAL_DISTRIBUTIONS,
+        ),
+    }
+}
+
 /// The channels that are given a capacity.
 #[tactic(auto, unfolding(crate::specs::Asked::capacities_of))]
 fn capacities_of(alloc: Global, given: &Given<'_>) -> Result<Rows<(Text, u64)>, AllocError>
@@ -183,5 +227,11 @@ pub(crate) fn request_for(
             no_overlap,
             states: states_of(given),
         }),
+        Algorithm::Storage => Ok(Request::Storage {
+            graph,
+            limits: limits_of(given),
+            no_overlap,
+        }),
+        Algorithm::Scenario => Ok(Request::Scenario { graph }),
     }
 }

@@ -34,6 +34,20 @@ fn shown(alloc: Global, words: &[Text]) -> Result<String, Fail> {
             }
             Ok(text)
         }
+        Ok(
+            Request::Storage {
+                graph,
+                limits,
+                no_overlap,
+            },
+        ) => Ok(format!(in alloc;
+            "storage of {}, {}, {}, {}, {no_overlap}",
+            graph.as_str(),
+            limits.total,
+            limits.states,
+            limits.distributions
+        )?),
+        Ok(Request::Scenario { graph }) => Ok(format!(in alloc; "scenario of {}", graph.as_str())?),
         Err(WordsError::NoMemory) => Ok(String::from_str(alloc, "memory")?),
         Err(WordsError::Usage { cause }) => shown_cause(alloc, cause),
     }
@@ -106,6 +120,41 @@ fn numbers_of_states(rt: HostRuntime) -> Result<(), Fail> {
         ("-3", "words"),
     ] {
         let line = format!(in rt.alloc(); "--algo throughput --graph f --states={states}")?;
+        answers(&rt, rt.alloc(), line.as_str(), expected)?;
+    }
+    Ok(())
+}
+
+#[test]
+fn limits_of_an_exploration(rt: HostRuntime) -> Result<(), Fail> {
+    for (words, expected) in [
+        ("--limit 10", "storage of f, 10, 20000, 10000, false"),
+        (
+            "--no-overlap --limit=0 --distributions 1 --states 1",
+            "storage of f, 0, 1, 1, true",
+        ),
+        (
+            "--distributions=1000000 --states=200000 --limit 1000000000",
+            "storage of f, 1000000000, 200000, 1000000, false",
+        ),
+        ("--limit 1000000001", "bad limit"),
+        ("--limit 1x", "bad limit"),
+        ("--limit 10 --distributions 0", "bad distributions"),
+        ("--limit 10 --distributions 1000001", "bad distributions"),
+        ("--limit 10 --states 0", "bad states"),
+        ("--states 7", "missing limit"),
+        ("--limit x --distributions y --states z", "bad states"),
+        ("--limit x --distributions y", "bad distributions"),
+        ("--distributions y", "bad distributions"),
+        ("--limit 10 --buffers a=1", "buffers is not for storage"),
+        ("--limit 10 --seed 1", "seed is not for storage"),
+        ("--limit 10 --actors 2", "actors is not for storage"),
+        (
+            "--limit 10 --certificate k",
+            "certificate is not for storage",
+        ),
+    ] {
+        let line = format!(in rt.alloc(); "--algo storage --graph f {words}")?;
         answers(&rt, rt.alloc(), line.as_str(), expected)?;
     }
     Ok(())
@@ -185,7 +234,15 @@ fn first_cause_in_the_order_of_the_tests(rt: HostRuntime) -> Result<(), Fail> {
             "--algo repetition --graph f --limit 3",
             "limit is not for repetition",
         ),
-        ("--algo storage --graph f", "bad algo"),
+        ("--algo storages --graph f", "bad algo"),
+        ("--algo storage --graph f", "missing limit"),
+        ("--algo scenario --graph f", "scenario of f"),
+        ("--algo scenario", "missing graph"),
+        (
+            "--algo scenario --graph f --no-overlap",
+            "no-overlap is not for scenario",
+        ),
+        ("--algo storage --limit 3", "missing graph"),
         ("--algo Repetition", "bad algo"),
         ("--limit 3 --graph f", "missing algo"),
         ("--algo repetition", "missing graph"),

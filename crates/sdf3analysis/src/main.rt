@@ -1,6 +1,7 @@
 //! `sdf3analysis`: the program over real files and the standard streams.
 #![tactic(auto)]
 
+use fanout::OpenGate;
 use sd_base::{Ledger, Steps, Text};
 use sd_command::analyse;
 use sd_io::{RealShelf, RealSink};
@@ -39,6 +40,7 @@ fn main(rt: HostRuntime) -> ExitCode {
         &mut shelf,
         &mut out,
         &mut err,
+        &OpenGate,
         &mut steps,
     );
     let Executions = steps.finish();

@@ -1,5 +1,6 @@
 use crate::case::Case;
 use anyhow::{Result, ensure};
+use fanout::OpenGate;
 use sd_base::{Ledger, Rows, Steps, Text};
 use sd_command::{Status, analyse};
 use sd_io::{MemoryShelf, MemorySink, names_differ};
@@ -29,7 +30,9 @@ pub(crate) fn run<R: Threads + Sync>(rt: &R, alloc: Global, case: &Case) -> Resu
     let mut err = MemorySink::new(alloc, case.err_room, case.most, err_fails)?;
     let mut steps = Steps::new(Executions);
     let words = case.words.as_slice();
-    let status = analyse(rt, alloc, words, &mut shelf, &mut out, &mut err, &mut steps);
+    let status = analyse(
+        rt, alloc, words, &mut shelf, &mut out, &mut err, &OpenGate, &mut steps,
+    );
     let Executions = steps.finish();
     Ok(Left {
         status,

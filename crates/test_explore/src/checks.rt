@@ -20,7 +20,7 @@ use std::process::Abort;
 use std::thread::Threads;
 
 /// Loops that were run.
-struct Loops;
+pub(crate) struct Loops;
 
 impl Ledger for Loops {}
 
@@ -45,7 +45,7 @@ pub(crate) fn explored<R: Threads + Abort + Sync, F: Firing + Sync, G: Gate + Sy
 }
 
 /// Whether a net has a few plain channels that join neighbouring actors, of which there are two at least.
-fn is_explorable<F: Firing>(net: &F) -> bool
+pub(crate) fn is_explorable<F: Firing>(net: &F) -> bool
     ensures { result ≡ true → IsExplorable (F.net net.now) }
 {
     know_laws(net);

@@ -1,11 +1,17 @@
-//! Runs the calls of `explore` on small nets, whose values are worked out by hand, and shows that the distributions of a
-//! level are evaluated side by side. It has no calls of its own.
+//! Runs the calls of `explore` and of `guide` on small nets, whose values are worked out by hand, and shows that the distributions of a
+//! level are evaluated side by side, also by the top call. It has no calls of its own.
 #![tactic(auto)]
 
 #[cfg(test)]
 mod checks;
 #[cfg(test)]
+mod command_tests;
+#[cfg(test)]
+mod evaluable;
+#[cfg(test)]
 mod explore_tests;
+#[cfg(test)]
+mod guide_tests;
 #[cfg(test)]
 mod meeting_tests;
 #[cfg(test)]

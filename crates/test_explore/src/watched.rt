@@ -45,9 +45,9 @@ impl Watch {
         }
     }
 
-    /// Looks for a second call.
+    /// Looks for a second call, until the turns of all calls together are used.
     fn look(&self) {
-        for _turn in 0..1000u64 {
+        for _turn in 0..self.most {
             if self.running.load(SeqCst) >= 2 {
                 self.two.store(true, SeqCst);
                 return;

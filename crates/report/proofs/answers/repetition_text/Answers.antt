@@ -15,4 +15,4 @@ loop-i-preserved c =
 pub returns : goal.returns
 returns c =
     c.bytes_of.ensures
-    ∙ lines_end number_line _ _ c.args.graph.now.actors _ c.loop-i.i (omega (arith, c.loop-i-test.false, c.requires)) c.loop-i.invariant
+    ∙ lines_end (λ (a : ActorRow) n. number_line a.name n) _ _ c.args.graph.now.actors _ c.loop-i.i (omega (arith, c.loop-i-test.false, c.requires)) c.loop-i.invariant

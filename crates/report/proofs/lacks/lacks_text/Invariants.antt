@@ -1,14 +1,18 @@
 use Rattle.std.proofs.Common.{◌≡◌}
 use denote.Text.{Utf8}
 use denote.Shadow.{shadow}
+use Rattle.std.specs.Prelude.{slice_index, codes}
 use Rattle.std.specs.String.{string_bytes}
-use Rattle.report.specs.LackTexts.{lack_pieces}
-use Rattle.report.proofs.Pieces.{joined, between}
+use Rattle.report.specs.ListTexts.{joined, pieces_of}
+use Rattle.report.specs.LackTexts.{lack_on}
+use Rattle.report.proofs.Pieces.{between}
 use Rattle.report.proofs.lacks.lacks_text.Given as goal
 
 abbrev pub invariant-loop-actor : goal.invariant-loop-actor
-invariant-loop-actor g l = record {
-  utf8 : shadow (Utf8 l.between);
-  text : string_bytes l.text ≡ joined (lack_pieces l.graph (g.F.Firing.net l.net) l.counts l.lacks l.actor);
-  between : l.between ≡ between (lack_pieces l.graph (g.F.Firing.net l.net) l.counts l.lacks l.actor);
-}
+invariant-loop-actor g l =
+    let pieces = pieces_of (λ a i. lack_on l.graph (g.F.Firing.net l.net) a (slice_index l.counts a) i) l.lacks l.actor in
+    record {
+      utf8 : shadow (Utf8 l.between);
+      text : string_bytes l.text ≡ joined (codes ", ") pieces;
+      between : l.between ≡ between (codes ", ") pieces;
+    }

@@ -1,8 +1,10 @@
 use Rattle.sd_command.specs.Endings.{DueIsOne}
 use Rattle.sd_command.proofs.SharedSteps.{FileLaws}
 use Rattle.sd_command.proofs.Commands.{course_decides}
+use Rattle.sd_command.proofs.OneWorst.{ScenarioLaws}
 use Rattle.sd_command.proofs.Ended.{due_is_answered, else_is_done}
 use Rattle.sd_command.proofs.Complete.{throughput_is_complete}
+use Rattle.sd_command.proofs.CompleteStorage.{storage_is_complete}
 use Rattle.sd_command.proofs.laws.know_endings.Goals as goal
 
 -- what the calls tell
@@ -26,8 +28,17 @@ laws c = record {
   };
 }
 
+scenarios : goal.After-one_ending → ScenarioLaws
+scenarios c = record {
+  file = c.know_scenario_files.ensures.file;
+  fault = c.know_scenario_files.ensures.fault;
+  either = c.know_scenario_files.ensures.either;
+  keeps = c.know_scenario_files.ensures.keeps;
+  one_matrix = c.matrices_are_one.ensures;
+}
+
 one : goal.After-one_ending → DueIsOne
-one c words files refusal n m ending tells = course_decides (laws c) files tells words refusal n m ending
+one c words files refusal n m ending tells = course_decides (laws c) (scenarios c) files tells words refusal n m ending
 
 pub returns-clause-one : goal.returns-clause-one
 returns-clause-one c = one c
@@ -40,3 +51,6 @@ returns-clause-done c = else_is_done
 
 pub returns-clause-throughput : goal.returns-clause-throughput
 returns-clause-throughput c = throughput_is_complete (laws c)
+
+pub returns-clause-storage : goal.returns-clause-storage
+returns-clause-storage c = storage_is_complete (laws c)

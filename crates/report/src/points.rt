@@ -1,0 +1,85 @@
+ghost use Rattle.std.specs.Prelude.{◌≡◌, ◌≤◌, ◌++◌, All, IfOk, OnOk, length};
+ghost use Rattle.std.specs.String.{string_bytes};
+ghost use Rattle.report.specs.LinkTexts.{IsNamed};
+ghost use Rattle.report.specs.StorageTexts.{buffers_line, point_line, point_text, points_header, points_lines};
+
+use crate::answers::bytes_of;
+use crate::buffers::put_buffers;
+use crate::fractions::put_fraction;
+use crate::schedules::put_schedule;
+use firing::Firing;
+use pareto_front::Point;
+use periodic::Periodic;
+use sd_base::{Fraction, GraphFile, NoMemory, Rows};
+use std::alloc::{AllocError, Global};
+use storage::Distribution;
+
+/// The text of the Pareto points of a net: a line `points N` with their number, then for each point a line `point TOTAL
+/// RATE` with its storage and its rate in lowest terms, a line `buffers LIST` with its distribution, and the lines of a
+/// schedule. Cost: linear in the channels of each point and the text.
+pub fn points_text<F: Firing>(
+    alloc: Global,
+    net: &F,
+    graph: &GraphFile,
+    points: &[Point],
+    schedules: &[Periodic],
+) -> Result<Rows<u8>, NoMemory>
+    requires net { IsNamed graph.now (F.net net.now) }
+    requires many { length schedules.now ≡ length points.now }
+    requires channels { All (λ (p : Point). length p.capacities.capacities ≤ length graph.now.channels) points.now }
+    requires actors { All (λ (s : Periodic). length s.starts ≡ length (F.net net.now).times) schedules.now }
+    ensures { IfOk result (λ t. t ≡ points_lines graph.now points.now schedules.now) }
+{
+    let mut text = header(alloc, points.len())?;
+    for (i, point) in points.iter().enumerate() {
+        put_point(&mut text, graph, point, &schedules[i])?;
+    }
+    Ok(bytes_of(text))
+}
+
+#[tactic(auto, unfolding(crate::specs::StorageTexts::points_header))]
+fn header(alloc: Global, points: usize) -> Result<String, NoMemory>
+    ensures { IfOk result (λ t. string_bytes t ≡ points_header points) }
+{
+    Ok(format!(in alloc; "points {points}\n")?)
+}
+
+/// Puts a point, its distribution and a schedule at the end of a text.
+#[tactic(auto, unfolding(crate::specs::StorageTexts::point_text))]
+pub(crate) fn put_point(
+    text: &mut String,
+    graph: &GraphFile,
+    point: &Point,
+    schedule: &Periodic,
+) -> Result<(), AllocError>
+    requires channels { length point.now.capacities.capacities ≤ length graph.now.channels }
+    requires actors { length schedule.now.starts ≡ length graph.now.actors }
+    ensures { OnOk result (string_bytes text.new ≡ string_bytes text.old ++ point_text graph.now point.now schedule.now) }
+{
+    put_header(text, point.total, point.rate)?;
+    put_distribution(text, graph, &point.capacities)?;
+    put_schedule(text, graph, schedule)
+}
+
+#[tactic(auto, unfolding(crate::specs::StorageTexts::point_line))]
+fn put_header(text: &mut String, total: u64, rate: Fraction) -> Result<(), AllocError>
+    ensures { OnOk result (string_bytes text.new ≡ string_bytes text.old ++ point_line total rate) }
+{
+    write!(text, "point {total} ")?;
+    put_fraction(text, rate)?;
+    text.push_str("\n")
+}
+
+#[tactic(auto, unfolding(crate::specs::StorageTexts::buffers_line))]
+fn put_distribution(
+    text: &mut String,
+    graph: &GraphFile,
+    capacities: &Distribution,
+) -> Result<(), AllocError>
+    requires { length capacities.now.capacities ≤ length graph.now.channels }
+    ensures { OnOk result (string_bytes text.new ≡ string_bytes text.old ++ buffers_line graph.now capacities.now.capacities) }
+{
+    text.push_str("buffers ")?;
+    put_buffers(text, graph, capacities.capacities.as_slice())?;
+    text.push_str("\n")
+}

@@ -1,0 +1,50 @@
+-- A run of `storage` whose limits are enough is done.
+use Rattle.std.proofs.Common.{◌≡◌, ℕ, Bool, true, List, Some, Ok, subst}
+use Rattle.sd_base.specs.declared.tables.GraphFile.{GraphFile}
+use Rattle.sd_base.specs.declared.limits.Limits.{Limits}
+use Rattle.sd_base.specs.Net.{Net}
+use Rattle.sd_base.specs.FileNet.{net_of}
+use Rattle.storage.proofs.FileChannels.{file-plain}
+use Rattle.explore.specs.Reachable.{IsExplorable}
+use Rattle.explore.proofs.Explorable.{touched-explorable}
+use Rattle.sd_words.proofs.Within.{asked_within}
+use Rattle.sd_words.specs.declared.request.Request.{Request}
+use Rattle.sd_words.specs.declared.request.Request.TheVariants.{Storage}
+use Rattle.sd_words.specs.Asked.{request_of}
+use Rattle.graph_reader.specs.Laws as files
+use Rattle.balance.specs.Repetition.{IsRound}
+use Rattle.report.specs.declared.refusal.Refusal.{Refusal}
+use Rattle.sd_command.specs.declared.file_kind.FileKind.TheVariants.{Graph}
+use Rattle.sd_command.specs.Courses.{Ended}
+use Rattle.sd_command.specs.Takings.{Files, taking}
+use Rattle.sd_command.specs.Readings.{reading_graph}
+use Rattle.sd_command.specs.Balances.{balancing}
+use Rattle.sd_command.specs.Nets.{touching, completing}
+use Rattle.sd_command.specs.Requests.{asking, command_of, course_of}
+use Rattle.sd_command.specs.Endings.{StorageIsComplete, Suffice}
+use Rattle.sd_command.proofs.CommandsDecide.{never_ends}
+use Rattle.sd_command.proofs.Complete.{one_request}
+use Rattle.sd_command.proofs.FileConnections.{file-connected, file-few}
+use Rattle.sd_command.proofs.OneTradeOff.{unspent}
+use Rattle.sd_command.proofs.SharedSteps.{FileLaws, lawful_net}
+use Rattle.sd_command.proofs.Ended.{else_is_done}
+
+module _ (laws : FileLaws) (words : List (List ℕ)) (shelf : Files) (tells : shelf.tells ≡ true) (name : List ℕ) (limits : Limits) (no_overlap : Bool) (asked : request_of words ≡ Ok (Storage name limits no_overlap)) where
+  -- nothing ends it but what words and files decide
+  unended : ((bytes gamma : List ℕ) (graph : GraphFile) → shelf.named name ≡ Some bytes → files.Gives bytes true graph → IsRound graph gamma → Suffice (net_of graph gamma no_overlap) limits)
+      → (r : Refusal) (n : ℕ) → course_of words shelf (Ended r) n → ⊥
+  unended enough r n = never_ends (asking words) _ r n (λ q also ends.
+      never_ends (taking shelf Graph name) _ r n (λ bytes taken.
+      never_ends (reading_graph bytes true) _ r n (λ graph given.
+      never_ends (balancing graph) _ r n (λ gamma round.
+      never_ends (touching graph (net_of graph gamma no_overlap)) _ r n (λ a touched.
+      never_ends (completing graph (net_of graph gamma no_overlap)) _ r n (λ b live end.
+      let net : Net = net_of graph gamma no_overlap in
+      let can : IsExplorable net = touched-explorable net (file-plain graph gamma no_overlap) (file-connected graph gamma no_overlap round.balanced.connected) touched (file-few graph gamma no_overlap (laws.keeps bytes true graph given)) in
+      unspent graph net laws.nets (lawful_net laws bytes graph gamma no_overlap given round) can limits (asked_within words (Storage name limits no_overlap) asked).total
+      (enough bytes gamma graph (taken.told tells) given round) r end.1)))))
+      (subst (λ (q : Request). command_of q shelf (Ended r) n) (one_request words q (Storage name limits no_overlap) also asked) ends))
+
+pub storage_is_complete : FileLaws → StorageIsComplete
+storage_is_complete laws run cut name limits no_overlap good asked unrefused enough =
+    else_is_done run cut good unrefused (unended laws run.words run.outside.shelf.files good.told name limits no_overlap asked enough)

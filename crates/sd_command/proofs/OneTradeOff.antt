@@ -1,0 +1,54 @@
+-- A net decides the step that tests its actors, and what ends an exploration.
+use Rattle.std.proofs.Common.{ℕ, ◌≤◌, None, refl, sym, ap, ◌∙◌, arith}
+use Rattle.sd_base.specs.declared.tables.GraphFile.{GraphFile}
+use Rattle.sd_base.specs.declared.limits.Limits.{Limits}
+use Rattle.sd_base.specs.declared.limits.TheConstants.{STORAGE}
+use Rattle.sd_base.specs.Net.{Net}
+use Rattle.sd_base.specs.Lawful.{Lawful}
+use Rattle.storage.specs.BoundedNets.{bound}
+use Rattle.explore.specs.Reachable.{IsExplorable, IsTouched}
+use Rattle.explore.proofs.Explorable.{reachable-fits}
+use Rattle.report.specs.declared.refusal.Refusal.{Refusal}
+use Rattle.report.specs.declared.refusal.Refusal.TheVariants.{NoInput}
+use Rattle.sd_command.specs.ActorNames.{actor_shown}
+use Rattle.sd_command.specs.Nets.{touching, completing}
+use Rattle.sd_command.specs.PointAnswers.{IsExplorationEnd, states_spent, too_many_starts, distributions_spent, exploration, points_of}
+use Rattle.sd_command.specs.Endings.{Suffice}
+use Rattle.sd_command.proofs.CommandsDecide.{Determines, Decides, DecidesLast, after_decides, last_decides}
+use Rattle.sd_command.proofs.OneRate.{NetLaws, completing_determines, one-least}
+use Rattle.sd_command.proofs.PointSchedules.{fits-lawful}
+
+module _ (graph : GraphFile) (net : Net) where
+  touching_determines : Determines (touching graph net)
+  touching_determines = record {
+    one = λ a b is also. refl;
+    refusal = λ r s is also.
+        is.told ∙ ap (λ (x : ℕ). NoInput None (actor_shown graph x)) (one-least (IsTouched net) is.actor also.actor is.is.none also.is.none is.is.first also.is.first) ∙ sym also.told;
+    never = λ r a is touched. is.is.none (touched is.actor is.is.place);
+  }
+
+  exploration_decides : (limits : Limits) → DecidesLast (exploration graph net limits)
+  exploration_decides limits = record {
+    one = λ r s n m is also. absurd is;
+    no_answer = λ r answer n m is also. is;
+    no_end = λ r s n m is also. is;
+  }
+
+  module _ (facts : NetLaws) (laws : Lawful net) where
+    pub points_decide : (limits : Limits) → Decides (points_of graph net limits)
+    points_decide limits =
+        after_decides (touching graph net) _ touching_determines (λ a touched.
+        after_decides (completing graph net) _ (completing_determines facts net laws graph) (λ b live.
+        last_decides (exploration graph net limits) (exploration_decides limits)))
+
+    -- where the limits are enough, no exploration is ended by them
+    pub unspent : IsExplorable net → (limits : Limits) → limits.total ≤ STORAGE → Suffice net limits → (r : Refusal) → IsExplorationEnd graph net limits r → ⊥
+    unspent can limits small enough r (states_spent ds reach live spent p) =
+        let fits = reachable-fits net limits.total ds can.plain reach in
+        let loop = enough.repeats ds reach live in
+        facts.not_spent (bound net ds) limits.states loop.0 loop.1 (fits-lawful net laws can ds fits.0 (omega (arith, fits.1))) (can.inputs ds fits.0) loop.2 loop.3 spent
+    unspent can limits small enough r (too_many_starts ds reach live many p) =
+        let fits = reachable-fits net limits.total ds can.plain reach in
+        let loop = enough.repeats ds reach live in
+        facts.not_many (bound net ds) limits.states loop.0 loop.1 (fits-lawful net laws can ds fits.0 (omega (arith, fits.1))) (can.inputs ds fits.0) loop.2 loop.4 many
+    unspent can limits small enough r (distributions_spent dss found more p) = let few = enough.few dss found in omega (arith, few)

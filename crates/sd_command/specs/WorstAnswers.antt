@@ -1,0 +1,61 @@
+-- The command `scenario`.
+use Rattle.std.specs.Prelude.{◌≡◌, ℕ, ℤ, ◌≤ℤ◌, List, Option, Some, None}
+use Rattle.sd_base.specs.declared.tables.ScenarioFile.{ScenarioFile}
+use Rattle.automaton.specs.declared.graph.TimedGraph.{TimedGraph}
+use Rattle.automaton.specs.TimedGraphs.{IsTimedGraph}
+use Rattle.automaton.specs.CriticalCycles.{IsCritical, IsReached, Fit}
+use Rattle.automaton.specs.WorstRates.{IsWorst}
+use Rattle.scenario_rate.specs.declared.answer.Worst.{Worst}
+use Rattle.scenario_rate.specs.Answers.{potential_at}
+use Rattle.scenario_rate.specs.ChosenCycles.{IsChosen}
+use Rattle.report.specs.WorstTexts.{worst_lines}
+use Rattle.sd_command.specs.declared.file_kind.FileKind.TheVariants.{Graph}
+use Rattle.sd_command.specs.declared.answer.Answer.{Answer}
+use Rattle.sd_command.specs.Courses.{Analysis, Ending, After, ends_by}
+use Rattle.sd_command.specs.Takings.{Files, taking}
+use Rattle.sd_command.specs.ScenarioSteps.{Entries, reading_scenarios, measuring, linking}
+
+-- a worst rate of a file is shown by its timed graph: by the chosen critical cycle, and by the least potentials that fit, which
+-- stand at the nodes that are reached
+pub record IsShown (file : ScenarioFile) (graph : TimedGraph) (worst : Worst) : Type 0 where
+  pub timed : IsTimedGraph file graph
+  pub rate : IsWorst file worst.rate.num worst.rate.den
+  pub critical : IsCritical graph worst.rate.num worst.rate.den worst.cycle
+  pub chosen : IsChosen graph worst.rate.num worst.rate.den (potential_at worst.potentials) worst.cycle
+  pub fit : Fit graph worst.rate.num worst.rate.den (potential_at worst.potentials)
+  pub reached : (v : ℕ) (x : ℤ) → potential_at worst.potentials v ≡ Some x → IsReached graph v
+  pub least : (q : ℕ → Option ℤ) → Fit graph worst.rate.num worst.rate.den q → (v : ℕ) (x y : ℤ) → potential_at worst.potentials v ≡ Some x → q v ≡ Some y → x ≤ℤ y
+
+-- its text is sent; nothing is executed
+pub record IsWorstAnswer (file : ScenarioFile) (graph : TimedGraph) (answer : Answer) (n : ℕ) : Type 0 where
+  pub worst : Worst
+  pub is : IsShown file graph worst
+  pub text : answer.text ≡ worst_lines file graph worst
+  pub put : answer.put ≡ None
+  pub none : n ≡ 0
+
+abbrev pub telling_worst : ScenarioFile → TimedGraph → Analysis
+telling_worst file graph = record {
+  answered = λ answer n. IsWorstAnswer file graph answer n;
+  refused = λ refusal n. ⊥;
+  ended = λ refusal n. ⊥;
+  counted = λ n. n ≡ 0;
+}
+
+-- the worst rate of a file by the matrices of its scenarios
+abbrev pub worst_by : ScenarioFile → List Entries → Ending → ℕ → Type 0
+worst_by file matrices =
+    After (linking file matrices) λ graph.
+    ends_by (telling_worst file graph)
+
+-- the worst rate of a file of scenarios
+abbrev pub worst_of : ScenarioFile → Ending → ℕ → Type 0
+worst_of file =
+    After (measuring file) λ matrices.
+    worst_by file matrices
+
+abbrev pub scenario : List ℕ → Files → Ending → ℕ → Type 0
+scenario name files =
+    After (taking files Graph name) λ bytes.
+    After (reading_scenarios bytes) λ file.
+    worst_of file

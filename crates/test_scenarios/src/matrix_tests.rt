@@ -1,0 +1,134 @@
+use crate::graphs::{graph_of, shared_rows};
+use crate::shared::matrix;
+use std::alloc::Global;
+use std::process::Abort;
+use std::test::Fail;
+use test_nets::{Line, channel};
+use token_matrix::MatrixError;
+
+/// Asserts the rows of the matrix of a graph by its times and channels, of which the first are shared.
+fn check(
+    rt: &impl Abort,
+    alloc: Global,
+    times: &[u64],
+    channels: &[(&str, Line)],
+    shared: &[(&str, u64)],
+    rows: &[&[Option<u64>]],
+) -> Result<(), Fail> {
+    let graph = graph_of(alloc, times, channels)?;
+    let tokens = shared_rows(alloc, shared)?;
+    match matrix(rt, alloc, &graph, tokens.as_slice()) {
+        Ok(found) => {
+            assert_eq!(rt; found.rows().len(), rows.len());
+            for (row, wanted) in found.rows().iter().zip(rows) {
+                assert_eq!(rt; row.as_slice(), *wanted);
+            }
+            Ok(())
+        }
+        Err(_) => panic!(rt; "a graph without a matrix"),
+    }
+}
+
+// x takes 2 time units and y 3, one after the other.
+#[test]
+fn a_ring_takes_the_times_of_its_actors(rt: HostRuntime) -> Result<(), Fail> {
+    let channels = [
+        ("yx", channel(1, 1, 1, 0, 1)),
+        ("xy", channel(0, 1, 1, 1, 0)),
+    ];
+    check(
+        &rt,
+        rt.alloc(),
+        &[2, 3],
+        &channels,
+        &[("yx", 1)],
+        &[&[Some(5)]],
+    )
+}
+
+// x and y have a token of their own each, and y waits for x.
+#[test]
+fn a_token_that_is_not_waited_for_has_no_entry(rt: HostRuntime) -> Result<(), Fail> {
+    let channels = [
+        ("sx", channel(0, 1, 1, 0, 1)),
+        ("sy", channel(1, 1, 1, 1, 1)),
+        ("xy", channel(0, 1, 1, 1, 0)),
+    ];
+    let rows: [&[Option<u64>]; 2] = [&[Some(3), None], &[Some(5), Some(2)]];
+    check(
+        &rt,
+        rt.alloc(),
+        &[3, 2],
+        &channels,
+        &[("sx", 1), ("sy", 1)],
+        &rows,
+    )
+}
+
+// One of three tokens is taken in a round, and the others move up.
+#[test]
+fn tokens_that_are_left_move_up(rt: HostRuntime) -> Result<(), Fail> {
+    let channels = [("s", channel(0, 1, 1, 0, 3))];
+    let rows: [&[Option<u64>]; 3] = [
+        &[None, Some(0), None],
+        &[None, None, Some(0)],
+        &[Some(7), None, None],
+    ];
+    check(&rt, rt.alloc(), &[7], &channels, &[("s", 3)], &rows)
+}
+
+// x fires three times and y twice: y's first firing needs x's first two, its second one the last two.
+#[test]
+fn each_firing_waits_for_what_it_takes(rt: HostRuntime) -> Result<(), Fail> {
+    let channels = [("q", channel(1, 3, 2, 0, 6)), ("p", channel(0, 2, 3, 1, 0))];
+    let first: &[Option<u64>] = &[Some(5), Some(5), Some(5), Some(5), None, None];
+    let second: &[Option<u64>] = &[None, None, Some(5), Some(5), Some(5), Some(5)];
+    let rows = [first, first, first, second, second, second];
+    check(&rt, rt.alloc(), &[2, 3], &channels, &[("q", 6)], &rows)
+}
+
+// x lacks tokens on u and y on t.
+#[test]
+fn a_blocked_round_tells_what_is_lacked(rt: HostRuntime) -> Result<(), Fail> {
+    let channels = [
+        ("s", channel(1, 1, 1, 0, 1)),
+        ("t", channel(0, 1, 1, 1, 0)),
+        ("u", channel(1, 1, 1, 0, 0)),
+    ];
+    let graph = graph_of(rt.alloc(), &[1, 1], &channels)?;
+    let tokens = shared_rows(rt.alloc(), &[("s", 1)])?;
+    match matrix(&rt, rt.alloc(), &graph, tokens.as_slice()) {
+        Err(MatrixError::Blocked { counts, lacks }) => {
+            assert_eq!(rt; counts.as_slice(), [0, 0].as_slice());
+            assert_eq!(rt; lacks.as_slice(), [Some(2), Some(1)].as_slice());
+            Ok(())
+        }
+        _ => panic!(&rt; "no round can be completed"),
+    }
+}
+
+// One firing times five million tokens is more than four million.
+#[test]
+fn stamps_have_a_limit(rt: HostRuntime) -> Result<(), Fail> {
+    let loops = channel(0, 1, 1, 0, 1_000_000);
+    let channels = [
+        ("a", loops),
+        ("b", loops),
+        ("c", loops),
+        ("d", loops),
+        ("e", loops),
+    ];
+    let tokens = [
+        ("a", 1_000_000),
+        ("b", 1_000_000),
+        ("c", 1_000_000),
+        ("d", 1_000_000),
+        ("e", 1_000_000),
+    ];
+    let graph = graph_of(rt.alloc(), &[1], &channels)?;
+    let shared = shared_rows(rt.alloc(), &tokens)?;
+    match matrix(&rt, rt.alloc(), &graph, shared.as_slice()) {
+        Err(MatrixError::Limit) => Ok(()),
+        _ => panic!(&rt; "five million stamps are too many"),
+    }
+}
