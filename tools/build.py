@@ -12,9 +12,9 @@ import time
 from concurrent.futures import FIRST_COMPLETED, ThreadPoolExecutor, wait
 
 ROOT = os.path.dirname(os.path.dirname(os.path.abspath(__file__)))
-# On one core some 26 minutes, and never less than the longest chain of crates.
-MINUTES_OF_ONE_CORE = 26
-MINUTES_OF_THE_CHAIN = 8
+# On one core some 45 minutes, and never less than the longest chain of crates.
+MINUTES_OF_ONE_CORE = 45
+MINUTES_OF_THE_CHAIN = 18
 
 
 def say(line):
