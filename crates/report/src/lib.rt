@@ -16,8 +16,6 @@ mod schedules;
 mod tests;
 mod walks;
 mod worst_rates;
-#[cfg(test)]
-mod worst_tests;
 
 pub use answers::{rate_text, repetition_text};
 pub use buffers::buffers_text;
