@@ -45,5 +45,3 @@ pub fn walk_is_exact()
     ensures { (e : Node) (f : ScenarioFile) → (file_of e ≡ Ok f) ↔ IsScenarioFile e f }
 {}
 
-#[cfg(test)]
-mod tests;
