@@ -1,6 +1,6 @@
 //! The earliest schedule of a net, moment by moment, straight from its definition. It is there to compare faster
 //! programs with, and isn't proved to be anything but safe.
-//! Its tests also run loops, schedules and need cycles, and their texts, on small nets.
+//! Its tests also run loops, schedules and need cycles on small nets.
 #![tactic(auto)]
 
 mod run;
@@ -30,5 +30,3 @@ mod phase_tests;
 mod schedule_tests;
 #[cfg(test)]
 mod space_net;
-#[cfg(test)]
-mod text_tests;
