@@ -6,3 +6,4 @@ pub mod MovedBack
 pub mod LoopsHold
 pub mod LoopStarts
 pub mod TestsDecide
+pub mod Lines

@@ -1,16 +1,12 @@
 -- The periodic schedule of a loop holds: far enough on it is the earliest schedule, but for a constant.
-use Rattle.std.proofs.Common.{◌≡◌, ℕ, zero, suc, ◌+◌, ◌-◌, ◌*◌, ◌/◌, ◌%◌, ◌≤◌, ◌<◌, List, [], length, ⊎_elim, sym, ap, ◌∙◌, arith, mod-lt, div-add-mod', mul-le-mul, mul-le-mul_left, mul-le-mul_right}
-use Rattle.std.proofs.lemmas.Bool.{cases_lt}
+use Rattle.std.proofs.Common.{◌≡◌, ℕ, ◌+◌, ◌-◌, ◌*◌, ◌/◌, ◌%◌, ◌≤◌, ◌<◌, List, [], length, sym, ap, ◌∙◌, arith, mod-lt, div-add-mod'}
 use Rattle.std.specs.Prelude.{slice_index, slice_index_or}
 use Rattle.sd_base.specs.Net.{Net, channel_at}
 use Rattle.sd_base.specs.Schedules.{time_of, Needs, count_of, start_of, end_of, Earliest, HasInputs}
 use Rattle.sd_base.specs.SelfTimed.{earliest}
 use Rattle.sd_base.specs.Lawful.{Lawful}
 use Rattle.sd_base.specs.Rates.{IsLoopTable}
-use Rattle.sd_base.specs.Futures.{Repeats}
-use Rattle.sd_base.proofs.Parts.{regular, wired, balanced}
-use Rattle.sd_base.proofs.Counts.{early_at}
-use Rattle.sd_base.proofs.Tight.{earliest-within}
+use Rattle.sd_base.proofs.Parts.{wired, balanced}
 use Rattle.sd_base.proofs.Rounds.{Whole, whole-rounds, whole-times, time-shift, needs-shift}
 use Rattle.sd_base.proofs.LoopPasses as passes
 use Rattle.periodic.specs.Periods.{start_at, Holds}

@@ -9,11 +9,11 @@ use Rattle.sd_base.specs.Schedules.{time_of, phases_at, Needs, LastNeed, IsNeed,
 use Rattle.sd_base.specs.Lawful.{Lawful}
 use Rattle.sd_base.proofs.Sums.{total-zero, total-le, total-grows, total-whole, total-times, total-turn, one-last-need}
 use Rattle.sd_base.proofs.Parts.{wired, balanced}
-use Rattle.sd_base.proofs.Rounds.{Whole, whole-rounds, need-by_rounds}
+use Rattle.sd_base.proofs.Rounds.{Whole, whole-rounds, whole-times, need-by_rounds}
 use Rattle.firing.proofs.PortSums.{wanted-rest, need-some}
-use Rattle.periodic.specs.Periods.{start_in, start_at, HasRounds}
+use Rattle.periodic.specs.Periods.{start_in, start_at}
+use Rattle.periodic.specs.ScheduleLines.{HasTurn}
 use Rattle.periodic.specs.inside.FiniteTests.{FirstNeedy, InTime}
-use Rattle.periodic.proofs.Recurring.{some-turn, whole-starts}
 
 -- ---- the first firing of its residue that needs anything
 
@@ -108,32 +108,39 @@ need-fits net laws i j n place few need =
     let le : (j / slice_index net.round target + 1) * slice_index net.round source ≤ 2 ^ 96 * 100000 = mul-le-mul {n₁ = j / slice_index net.round target + 1} {m₁ = slice_index net.round source} {n₂ = 2 ^ 96} {m₂ = 100000} (omega arith) (omega arith) in
     omega arith
 
+-- a turn has a firing
+pub turn-some : (net : Net) (laws : Lawful net) (rounds : ℕ) (starts : List (List ℕ)) → 1 ≤ rounds → (a : ℕ) → a < length net.times → HasTurn net rounds starts a → 0 < count_of starts a
+turn-some net laws rounds starts turns a actor listed =
+    let le : 1 * 1 ≤ rounds * slice_index net.round a = mul-le-mul turns ((balanced net laws).fires a actor) in
+    rw listed (omega arith)
+
 -- the last need of a firing of a turn is of the same turn or an earlier one
-pub last-near : (net : Net) (laws : Lawful net) (rounds : ℕ) (starts : List (List ℕ)) → 1 ≤ rounds → HasRounds net rounds starts → (i k q n : ℕ) → i < length net.channels →
+pub last-near : (net : Net) (laws : Lawful net) (rounds : ℕ) (starts : List (List ℕ)) → 1 ≤ rounds → (i k q n : ℕ) → i < length net.channels →
+    HasTurn net rounds starts (channel_at net i).source → HasTurn net rounds starts (channel_at net i).target →
     k < count_of starts (channel_at net i).target → LastNeed (channel_at net i) (k + q * count_of starts (channel_at net i).target) n → n / count_of starts (channel_at net i).source ≤ q
-last-near net laws rounds starts turns listed i k q n place below last =
+last-near net laws rounds starts turns i k q n place listed_from listed_to below last =
     let c : Channel = channel_at net i in
     let from : ℕ = count_of starts (channel_at net i).source in
     let to : ℕ = count_of starts (channel_at net i).target in
-    let whole : Whole net (λ a. (q + 1) * count_of starts a) = Rattle.sd_base.proofs.Rounds.whole-times net (count_of starts) (q + 1) (whole-starts net (wired net laws) (balanced net laws) rounds starts turns listed) in
-    let kept : total c.made ((q + 1) * from) ≡ total c.taken ((q + 1) * to) = whole.kept i place in
+    let whole : Whole net (λ a. (q + 1) * (rounds * slice_index net.round a)) = whole-times net (λ a. rounds * slice_index net.round a) (q + 1) (whole-rounds net rounds (wired net laws) (balanced net laws)) in
+    let kept : total c.made ((q + 1) * from) ≡ total c.taken ((q + 1) * to) = rw (listed_from, listed_to) (whole.kept i place) in
     let reach : total c.taken (k + q * to + 1) ≤ total c.taken ((q + 1) * to) = total-le c.taken (omega arith) in
     let short : c.tokens + total c.made n < total c.taken (k + q * to + 1) = last.needed in
     let less : n < (q + 1) * from = ⊎_elim (λ (h : n < (q + 1) * from). h)
     (λ (past : (q + 1) * from ≤ n). absurd (let le : total c.made ((q + 1) * from) ≤ total c.made n = total-le c.made past in omega arith))
     (cases_lt n ((q + 1) * from)) in
-    let turn : n / from < q + 1 = (div-lt_iff_lt-mul (some-turn net (wired net laws) (balanced net laws) rounds starts turns listed (channel_at net i).source (laws.sources i place))).1 less in
+    let turn : n / from < q + 1 = (div-lt_iff_lt-mul (turn-some net laws rounds starts turns (channel_at net i).source (laws.sources i place) listed_from)).1 less in
     omega arith
 
 -- the same, where the rows are read first
-pub near-in_row : (net : Net) (laws : Lawful net) (rounds : ℕ) (starts : List (List ℕ)) → 1 ≤ rounds → HasRounds net rounds starts → (i k q n source target : ℕ) (from to : List ℕ) →
-    i < length net.channels → source ≡ (channel_at net i).source → target ≡ (channel_at net i).target → from ≡ slice_index_or starts source [] → to ≡ slice_index_or starts target [] →
+pub near-in_row : (net : Net) (laws : Lawful net) (rounds : ℕ) (starts : List (List ℕ)) → 1 ≤ rounds → (i k q n source target : ℕ) (from to : List ℕ) →
+    i < length net.channels → HasTurn net rounds starts (channel_at net i).source → HasTurn net rounds starts (channel_at net i).target → source ≡ (channel_at net i).source → target ≡ (channel_at net i).target → from ≡ slice_index_or starts source [] → to ≡ slice_index_or starts target [] →
     k < count_of starts (channel_at net i).target → q ≤ 2000000001 → LastNeed (channel_at net i) (k + q * length to) n → n / length from ≤ 4294967296
-near-in_row net laws rounds starts turns listed i k q n source target from to place at_source at_target at_from at_to below few last =
+near-in_row net laws rounds starts turns i k q n source target from to place listed_from listed_to at_source at_target at_from at_to below few last =
     let row_from : from ≡ slice_index_or starts (channel_at net i).source [] = at_from ∙ ap (λ (a : ℕ). slice_index_or starts a []) at_source in
     let row_to : to ≡ slice_index_or starts (channel_at net i).target [] = at_to ∙ ap (λ (a : ℕ). slice_index_or starts a []) at_target in
     let moved : LastNeed (channel_at net i) (k + q * count_of starts (channel_at net i).target) n = subst (λ (row : List ℕ). LastNeed (channel_at net i) (k + q * length row) n) row_to last in
-    let near : n / count_of starts (channel_at net i).source ≤ q = last-near net laws rounds starts turns listed i k q n place below moved in
+    let near : n / count_of starts (channel_at net i).source ≤ q = last-near net laws rounds starts turns i k q n place listed_from listed_to below moved in
     rw row_from (omega arith)
 
 -- ---- one test

@@ -8,7 +8,7 @@ use Rattle.sd_base.specs.Schedules.{count_of}
 use Rattle.sd_base.proofs.Parts.{Wired, Balanced}
 use Rattle.sd_base.proofs.Rounds.{Whole, whole-rounds}
 use Rattle.periodic.specs.Periods.{start_in, HasRounds}
-use Rattle.periodic.specs.inside.FiniteTests.{Rises}
+use Rattle.periodic.specs.ScheduleLines.{Rises}
 
 -- q turns on, a firing starts q periods later
 pub start-later : (period : ℕ) (row : List ℕ) (k q : ℕ) → 0 < length row → start_in period row (k + q * length row) ≡ start_in period row k + q * period

@@ -10,7 +10,8 @@ use Rattle.sd_base.specs.Lawful.{Lawful}
 use Rattle.sd_base.proofs.Parts.{wired, balanced, one_by_one}
 use Rattle.sd_base.proofs.Admissibles.{no_actor}
 use Rattle.periodic.specs.Periods.{start_at, IsCut, HasRounds, Holds}
-use Rattle.periodic.specs.inside.FiniteTests.{Rises, IsFed}
+use Rattle.periodic.specs.ScheduleLines.{Rises}
+use Rattle.periodic.specs.inside.FiniteTests.{IsFed}
 use Rattle.periodic.proofs.Recurring.{start-later, all-rise, listed-rise, starts-in_order, some-turn, whole-starts}
 use Rattle.periodic.proofs.Feeding.{AllFed, all-fed}
 

@@ -1,3 +1,4 @@
 pub mod Periods
+pub mod ScheduleLines
 pub mod LoopSchedules
 pub mod inside

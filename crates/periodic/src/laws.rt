@@ -1,10 +1,16 @@
 ghost use Rattle.periodic.specs.LoopSchedules.{LoopHolds, OneLoopSchedule};
 ghost use Rattle.periodic.specs.Periods.{RoundsBelow};
+ghost use Rattle.periodic.specs.ScheduleLines.{LinesDecide};
 
 /// A periodic schedule that holds on a net whose actors all have an input shows that self-timed execution
 /// completes no fewer than its rounds in each of its periods, up to a constant. It does nothing.
 pub fn schedules_bound_the_rate()
     ensures { RoundsBelow }
+{}
+
+/// A periodic schedule holds on a net exactly where the line of each actor does. It does nothing.
+pub fn lines_decide()
+    ensures { LinesDecide }
 {}
 
 /// The schedule of the loop of self-timed execution, read at the second pass and continued backwards to

@@ -7,5 +7,7 @@ mod passes;
 mod schedule;
 mod turns;
 
-pub use laws::{loop_schedules_hold, loops_have_one_schedule, schedules_bound_the_rate};
+pub use laws::{
+    lines_decide, loop_schedules_hold, loops_have_one_schedule, schedules_bound_the_rate,
+};
 pub use schedule::{Periodic, from_loop};

@@ -1,13 +1,14 @@
-ghost use Rattle.std.specs.Prelude.{◌↔◌, ◌+◌, ◌≤◌, ◌^◌, ℕ, IfOk, IsTrue};
+ghost use Rattle.std.specs.Prelude.{◌≡◌, ◌↔◌, ◌+◌, ◌≤◌, ◌<◌, ◌^◌, ℕ, IfOk, IsTrue, length};
 ghost use Rattle.sd_base.specs.declared.limits.TheConstants.{STARTS, START};
 ghost use Rattle.sd_base.specs.Schedules.{start_of, HasInputs};
 ghost use Rattle.sd_base.specs.SelfTimed.{starts_by};
 ghost use Rattle.sd_base.specs.Rates.{IsLoopTable};
 ghost use Rattle.periodic.specs.Periods.{HasRounds, Holds};
+ghost use Rattle.periodic.specs.ScheduleLines.{LineHolds};
 ghost use Rattle.periodic.specs.LoopSchedules.{IsScheduleOf};
 
 use crate::passes::moved_starts;
-use crate::turns::{all_fed, all_rise, has_rounds};
+use crate::turns::{all_fed, all_rise, has_rounds, line_holds};
 use firing::{Firing, LoopTable, know_laws};
 use sd_base::{NoMemory, Rows};
 use std::alloc::Global;
@@ -35,6 +36,20 @@ impl Periodic {
         }
         all_rise(net, self.rounds, self.period, rows)
             && all_fed(net, self.rounds, self.period, rows)
+    }
+
+    /// Whether the starts of one actor are those of `rounds` rounds, none falls, and each of its needs is met in
+    /// every period, but for needs of an actor that hasn't so many starts listed. So a fault is told at the line
+    /// where it stands. Cost: linear in the channels, and in the starts of the actor times the channels into it
+    /// times the phases.
+    pub fn line_holds<F: Firing>(&self, net: &F, actor: u32) -> bool
+        requires turns { 1 ≤ self.now.rounds }
+        requires actors { length self.now.starts ≡ length (F.net net.now).times }
+        requires actor { actor < length (F.net net.now).times }
+        requires small { (a k : ℕ) → start_of self.now.starts a k ≤ START }
+        ensures { IsTrue result ↔ LineHolds (F.net net.now) self.now.period self.now.rounds self.now.starts actor }
+    {
+        line_holds(net, actor, self.rounds, self.period, self.starts.as_slice())
     }
 }
 

@@ -3,7 +3,8 @@ ghost use Rattle.sd_base.specs.declared.limits.TheConstants.{START};
 ghost use Rattle.sd_base.specs.Schedules.{start_of, count_of};
 ghost use Rattle.sd_base.specs.Net.{channel_at};
 ghost use Rattle.periodic.specs.Periods.{HasRounds, start_in};
-ghost use Rattle.periodic.specs.inside.FiniteTests.{Rises, IsFed, InTime};
+ghost use Rattle.periodic.specs.ScheduleLines.{Rises, HasTurn, IsMet, LineHolds};
+ghost use Rattle.periodic.specs.inside.FiniteTests.{IsFed, InTime};
 
 use crate::needs::{first_needy, last_need};
 use firing::{Firing, know_laws};
@@ -17,11 +18,77 @@ pub(crate) fn has_rounds<F: Firing>(net: &F, rounds: u64, rows: &[Rows<u128>]) -
         return false;
     }
     for actor in 0..net.actors() {
-        if row(rows, actor).len() as u128 != rounds as u128 * net.round(actor) as u128 {
+        if !has_turn(net, rounds, actor, rows) {
             return false;
         }
     }
     true
+}
+
+/// Whether the row of an actor is that of so many rounds.
+fn has_turn<F: Firing>(net: &F, rounds: u64, actor: u32, rows: &[Rows<u128>]) -> bool
+    requires actors { length rows.now ≡ length (F.net net.now).times }
+    requires actor { actor < length (F.net net.now).times }
+    ensures { IsTrue result ↔ HasTurn (F.net net.now) rounds rows.now actor }
+{
+    row(rows, actor).len() as u128 == rounds as u128 * net.round(actor) as u128
+}
+
+/// Whether the line of an actor is right.
+pub(crate) fn line_holds<F: Firing>(
+    net: &F,
+    actor: u32,
+    rounds: u64,
+    period: u64,
+    rows: &[Rows<u128>],
+) -> bool
+    requires turns { 1 ≤ rounds }
+    requires actors { length rows.now ≡ length (F.net net.now).times }
+    requires actor { actor < length (F.net net.now).times }
+    requires small { (a k : ℕ) → start_of rows.now a k ≤ START }
+    ensures { IsTrue result ↔ LineHolds (F.net net.now) period rounds rows.now actor }
+{
+    know_laws(net);
+    if !has_turn(net, rounds, actor, rows) {
+        return false;
+    }
+    if !rises(period, row(rows, actor)) {
+        return false;
+    }
+    all_met(net, actor, rounds, period, rows)
+}
+
+/// Whether on each channel into an actor each need is met, but where the row of its source isn't that of a turn.
+fn all_met<F: Firing>(net: &F, actor: u32, rounds: u64, period: u64, rows: &[Rows<u128>]) -> bool
+    requires turns { 1 ≤ rounds }
+    requires actors { length rows.now ≡ length (F.net net.now).times }
+    requires turn { HasTurn (F.net net.now) rounds rows.now actor }
+    requires small { (a k : ℕ) → start_of rows.now a k ≤ START }
+    ensures { IsTrue result ↔ ((i : ℕ) → i < length (F.net net.now).channels → (channel_at (F.net net.now) i).target ≡ actor
+        → HasTurn (F.net net.now) rounds rows.now (channel_at (F.net net.now) i).source → IsMet (F.net net.now) period rows.now i) }
+{
+    for channel in 0..net.channels() {
+        if net.target(channel) == actor && !is_met(net, channel, rounds, period, rows) {
+            return false;
+        }
+    }
+    true
+}
+
+/// Whether on a channel each need is met, or the row of its source isn't that of a turn.
+fn is_met<F: Firing>(net: &F, channel: u32, rounds: u64, period: u64, rows: &[Rows<u128>]) -> bool
+    requires channel { channel < length (F.net net.now).channels }
+    requires turns { 1 ≤ rounds }
+    requires actors { length rows.now ≡ length (F.net net.now).times }
+    requires turn { HasTurn (F.net net.now) rounds rows.now (channel_at (F.net net.now) channel).target }
+    requires small { (a k : ℕ) → start_of rows.now a k ≤ START }
+    ensures { IsTrue result ↔ (HasTurn (F.net net.now) rounds rows.now (channel_at (F.net net.now) channel).source → IsMet (F.net net.now) period rows.now channel) }
+{
+    know_laws(net);
+    if !has_turn(net, rounds, net.source(channel), rows) {
+        return true;
+    }
+    is_fed(net, channel, rounds, period, rows)
 }
 
 /// Whether the starts of no actor fall.
@@ -72,7 +139,9 @@ pub(crate) fn all_fed<F: Firing>(net: &F, rounds: u64, period: u64, rows: &[Rows
 fn is_fed<F: Firing>(net: &F, channel: u32, rounds: u64, period: u64, rows: &[Rows<u128>]) -> bool
     requires channel { channel < length (F.net net.now).channels }
     requires turns { 1 ≤ rounds }
-    requires rounds { HasRounds (F.net net.now) rounds rows.now }
+    requires actors { length rows.now ≡ length (F.net net.now).times }
+    requires from { HasTurn (F.net net.now) rounds rows.now (channel_at (F.net net.now) channel).source }
+    requires to { HasTurn (F.net net.now) rounds rows.now (channel_at (F.net net.now) channel).target }
     requires small { (a k : ℕ) → start_of rows.now a k ≤ START }
     ensures { IsTrue result ↔ IsFed (F.net net.now) period rows.now channel }
 {
@@ -96,7 +165,9 @@ fn in_time<F: Firing>(
 ) -> bool
     requires channel { channel < length (F.net net.now).channels }
     requires turns { 1 ≤ rounds }
-    requires rounds { HasRounds (F.net net.now) rounds rows.now }
+    requires actors { length rows.now ≡ length (F.net net.now).times }
+    requires from { HasTurn (F.net net.now) rounds rows.now (channel_at (F.net net.now) channel).source }
+    requires to { HasTurn (F.net net.now) rounds rows.now (channel_at (F.net net.now) channel).target }
     requires small { (a k : ℕ) → start_of rows.now a k ≤ START }
     requires place { place < count_of rows.now (channel_at (F.net net.now) channel).target }
     ensures { IsTrue result ↔ InTime (F.net net.now) period rows.now channel place }

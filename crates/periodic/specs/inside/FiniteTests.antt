@@ -1,13 +1,8 @@
 -- The finitely many tests that decide whether a periodic schedule holds.
-use Rattle.std.specs.Prelude.{ℕ, ◌+◌, ◌-◌, ◌*◌, ◌≤◌, ◌<◌, List, length, slice_index}
+use Rattle.std.specs.Prelude.{ℕ, ◌+◌, ◌*◌, ◌≤◌, ◌<◌, List}
 use Rattle.sd_base.specs.Net.{Channel, Net, channel_at}
 use Rattle.sd_base.specs.Schedules.{time_of, Needs, LastNeed, count_of}
 use Rattle.periodic.specs.Periods.{start_at}
-
--- no start falls, from the last one to the first of the next period too
-pub record Rises (period : ℕ) (row : List ℕ) : Type 0 where
-  pub within : (k : ℕ) → k + 1 < length row → slice_index row k ≤ slice_index row (k + 1)
-  pub over : slice_index row (length row - 1) ≤ slice_index row 0 + period
 
 -- of the firings k, k + turn, k + 2 * turn and so on of the target, the one after q turns is the first that needs a firing
 pub record FirstNeedy (c : Channel) (turn k q : ℕ) : Type 0 where

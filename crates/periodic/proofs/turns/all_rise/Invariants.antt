@@ -1,6 +1,6 @@
 use Rattle.std.proofs.Common.{ℕ, ◌<◌, []}
 use Rattle.std.specs.Prelude.{slice_index_or}
-use Rattle.periodic.specs.inside.FiniteTests.{Rises}
+use Rattle.periodic.specs.ScheduleLines.{Rises}
 use Rattle.periodic.proofs.turns.all_rise.Given as goal
 
 abbrev pub invariant-loop-actor : goal.invariant-loop-actor
