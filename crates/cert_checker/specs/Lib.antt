@@ -1,0 +1,5 @@
+pub mod Verdicts
+pub mod NumberedBuffers
+pub mod LinkCycles
+pub mod Schedules
+pub mod RateCertificates

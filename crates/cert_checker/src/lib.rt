@@ -1,0 +1,15 @@
+//! The checker: whether a certificate is valid, or its first faulty line. It stands on the definitions alone, and uses no
+//! execution of a net.
+#![tactic(auto)]
+
+mod buffers;
+mod cycles;
+mod joins;
+mod laws;
+mod rates;
+mod schedules;
+mod verdict;
+
+pub use laws::rate_is_shown;
+pub use rates::check_rate;
+pub use verdict::{Claim, Reason, Verdict};
