@@ -1,9 +1,9 @@
--- The starts of each next event are added to those collected so far.
-use Rattle.std.proofs.Common.{◌≡◌, ℕ, suc, ◌+◌, ◌-◌, ◌*◌, ◌≤◌, ◌<◌, ◌⊎◌, List, [], ◌++◌, length, inl, inr, ⊎_elim, sym, refl, ap, ◌∙◌, arith, set, length-append}
+-- The starts of each next event are added to those collected so far, and those round a loop are cut out.
+use Rattle.std.proofs.Common.{◌≡◌, ℕ, suc, ◌+◌, ◌-◌, ◌*◌, ◌≤◌, ◌<◌, ◌⊎◌, List, [], ◌∷◌, ◌++◌, length, drop, inl, inr, ⊎_elim, sym, refl, ap, ◌∙◌, arith, set, length-append}
 use Rattle.std.specs.Prelude.{◌/◌, slice_index, slice_index_or, replicate}
 use Rattle.std.proofs.Math.Nat.{mul-div_cancel}
 use Rattle.std.proofs.lemmas.Bool.{cases_lt, cases_eq}
-use Rattle.std.proofs.lemmas.List.{get_or_append_left, get_or-append_right, get_or-replicate, length-replicate, get_or_past, length-set, get_or-set_same, get_or-set_other}
+use Rattle.std.proofs.lemmas.List.{get_or_append_left, get_or-append_right, get_or-replicate, length-replicate, get_or_past, length-set, get_or-set_same, get_or-set_other, length-drop, get_or-drop, get_or_push, length_push}
 use Rattle.sd_base.specs.Net.{Net}
 use Rattle.sd_base.specs.Schedules.{HasInputs, count_of, start_of, end_of}
 use Rattle.sd_base.specs.SelfTimed.{earliest}
@@ -16,8 +16,17 @@ use Rattle.sd_base.proofs.Existence.{extended-is}
 use Rattle.sd_base.proofs.Tight.{earliest-within}
 use Rattle.sd_base.proofs.Alike.{count-rises}
 use Rattle.sd_base.proofs.Returns.{loop-whole}
-use Rattle.selftimed.specs.Moves.{IsNext}
-use Rattle.lasso.specs.inside.Collecting.{AreStartsAfter, AddsStarts}
+use Rattle.selftimed.specs.declared.engine.Stage.{Stage}
+use Rattle.selftimed.specs.declared.engine.Stage.TheVariants.{Fresh, Running, Spent, OutOfMemory}
+use Rattle.selftimed.specs.Moves.{IsNext, ComesNext}
+use Rattle.lasso.specs.inside.Collecting.{AreStarts, HasStarts, AddsStarts, AreLater, AreStartsAfter}
+
+-- rows without starts
+empty-rows : (n a : ℕ) → count_of (replicate n []) a ≡ 0
+empty-rows n a = ⊎_elim
+    (λ (place : a < n). ap length (get_or-replicate n a [] [] place))
+    (λ (past : n ≤ a). ap length (get_or_past (replicate n []) a [] (omega (arith, length-replicate {A = List ℕ} n []))))
+    (cases_lt a n)
 
 module _ (net : Net) (laws : Lawful net) (fed : HasInputs net) where
   -- nothing that runs ends before the next event
@@ -45,51 +54,105 @@ module _ (net : Net) (laws : Lawful net) (fed : HasInputs net) where
       let here : k < count_of (earliest net (suc u)) a = rw f at there in
       rw f ((extended-is net (regular net laws) fed u).added a k (omega arith) here)
 
-  -- at the entry no starts are collected
-  pub starts-none : (entry : ℕ) (before : List ℕ) (starts : List (List ℕ)) → length starts ≡ length net.times →
-      ((a : ℕ) → a < length net.times → slice_index before a ≡ count_of (earliest net (entry + 1)) a) → ((a : ℕ) → count_of starts a ≡ 0) → AreStartsAfter net entry before starts
-  starts-none entry before starts long counts empty = record {
-    rows = long;
-    all = λ a actor. omega (arith, counts a actor, empty a);
-    moments = λ a k actor there. absurd (omega (arith, empty a));
-  }
+  -- before moment 0 nothing starts
+  first-none : (a : ℕ) → count_of (earliest net 0) a ≡ 0
+  first-none a =
+      let none : (k : ℕ) → k < count_of (earliest net 0) a → ⊥ = λ k below. let before : start_of (earliest net 0) a k < 0 = (early_at net (regular net laws) fed 0).before a k below in omega arith in
+      ⊎_elim (λ (some : 0 < count_of (earliest net 0) a). absurd (none 0 some)) (λ (h : count_of (earliest net 0) a ≤ 0). omega arith) (cases_lt 0 (count_of (earliest net 0) a))
 
-  pub starts-next : (m u : ℕ) (before : List ℕ) (old new : List (List ℕ)) → IsNext net m u → AreStartsAfter net m before old → AddsStarts net u before old new → AreStartsAfter net u before new
-  starts-next m u before old new next have adds = record {
-    rows = adds.rows ∙ have.rows;
+  -- what starts up to and with moment 0 starts at 0
+  first-start : (a k : ℕ) → k < count_of (earliest net (0 + 1)) a → start_of (earliest net (0 + 1)) a k ≡ 0
+  first-start a k there = (extended-is net (regular net laws) fed 0).added a k (omega (arith, first-none a)) there
+
+  -- rows with starts of the earliest schedule gain those that come at a moment
+  starts-join : (t : ℕ) (old new : List (List ℕ)) → length old ≡ length net.times →
+      ((a : ℕ) → a < length net.times → count_of old a ≤ count_of (earliest net (t + 1)) a) →
+      ((a k : ℕ) → a < length net.times → k < count_of old a → start_of old a k ≡ start_of (earliest net (t + 1)) a k) →
+      ((a k : ℕ) → a < length net.times → count_of old a ≤ k → k < count_of (earliest net (t + 1)) a → start_of (earliest net (t + 1)) a k ≡ t) →
+      AddsStarts net t old new → AreStarts net t new
+  starts-join t old new rows fewer kept fresh adds = record {
+    rows = adds.rows ∙ rows;
     all = all;
     moments = λ a k actor there. moments a k actor there (cases_lt k (count_of old a));
   }
     where
-      rises : (a : ℕ) → count_of (earliest net (m + 1)) a ≤ count_of (earliest net (u + 1)) a
-      rises a = let later : m < u = next.later in count-rises net (regular net laws) fed (m + 1) (u + 1) (omega arith) a
+      count : (a : ℕ) → a < length net.times → count_of new a ≡ count_of old a + (count_of (earliest net (t + 1)) a - count_of old a)
+      count a actor = ap length (adds.each a actor) ∙ (length-append (slice_index_or old a []) (replicate (count_of (earliest net (t + 1)) a - count_of old a) t) ∙ ap (λ (x : ℕ). count_of old a + x) (length-replicate (count_of (earliest net (t + 1)) a - count_of old a) t))
 
-      count : (a : ℕ) → a < length net.times → count_of new a ≡ count_of old a + (count_of (earliest net (u + 1)) a - slice_index before a - count_of old a)
-      count a actor = ap length (adds.each a actor) ∙ (length-append (slice_index_or old a []) (replicate (count_of (earliest net (u + 1)) a - slice_index before a - count_of old a) u) ∙ ap (λ (x : ℕ). count_of old a + x) (length-replicate (count_of (earliest net (u + 1)) a - slice_index before a - count_of old a) u))
+      all : (a : ℕ) → a < length net.times → count_of new a ≡ count_of (earliest net (t + 1)) a
+      all a actor = omega (arith, fewer a actor, count a actor)
 
-      all : (a : ℕ) → a < length net.times → count_of (earliest net (u + 1)) a ≡ slice_index before a + count_of new a
-      all a actor = omega (arith, rises a, count a actor, have.all a actor)
-
-      moments : (a k : ℕ) → a < length net.times → k < count_of new a → (k < count_of old a) ⊎ (count_of old a ≤ k) → start_of new a k ≡ start_of (earliest net (u + 1)) a (slice_index before a + k)
+      moments : (a k : ℕ) → a < length net.times → k < count_of new a → (k < count_of old a) ⊎ (count_of old a ≤ k) → start_of new a k ≡ start_of (earliest net (t + 1)) a k
       moments a k actor there (inl before_it) =
           let read : start_of new a k ≡ start_of old a k = ap (λ (row : List ℕ). slice_index row k) (adds.each a actor)
-          ∙ get_or_append_left (slice_index_or old a []) (replicate (count_of (earliest net (u + 1)) a - slice_index before a - count_of old a) u) 0 k before_it in
-          let later : m < u = next.later in
-          let there_before : slice_index before a + k < count_of (earliest net (m + 1)) a = omega (arith, have.all a actor) in
-          let kept : start_of (earliest net (u + 1)) a (slice_index before a + k) ≡ start_of (earliest net (m + 1)) a (slice_index before a + k) =
-          (earliest-within net (m + 1) (u + 1) (earliest net (m + 1)) (earliest net (u + 1)) (early_at net (regular net laws) fed (m + 1)) (early_at net (regular net laws) fed (u + 1)) (omega arith) a (slice_index before a + k) there_before).1 in
-          read ∙ (have.moments a k actor before_it ∙ sym kept)
+          ∙ get_or_append_left (slice_index_or old a []) (replicate (count_of (earliest net (t + 1)) a - count_of old a) t) 0 k before_it in
+          read ∙ kept a k actor before_it
       moments a k actor there (inr after_it) =
-          let read : start_of new a k ≡ slice_index (replicate (count_of (earliest net (u + 1)) a - slice_index before a - count_of old a) u) (k - count_of old a) = ap (λ (row : List ℕ). slice_index row k) (adds.each a actor)
-          ∙ get_or-append_right (slice_index_or old a []) (replicate (count_of (earliest net (u + 1)) a - slice_index before a - count_of old a) u) (count_of old a) k 0 refl after_it in
-          let within : k - count_of old a < count_of (earliest net (u + 1)) a - slice_index before a - count_of old a = omega (arith, count a actor) in
-          let now : slice_index (replicate (count_of (earliest net (u + 1)) a - slice_index before a - count_of old a) u) (k - count_of old a) ≡ u = get_or-replicate (count_of (earliest net (u + 1)) a - slice_index before a - count_of old a) (k - count_of old a) u 0 within in
-          read ∙ (now ∙ sym (new-start m u a (slice_index before a + k) next (omega (arith, have.all a actor)) (omega (arith, all a actor))))
+          let read : start_of new a k ≡ slice_index (replicate (count_of (earliest net (t + 1)) a - count_of old a) t) (k - count_of old a) = ap (λ (row : List ℕ). slice_index row k) (adds.each a actor)
+          ∙ get_or-append_right (slice_index_or old a []) (replicate (count_of (earliest net (t + 1)) a - count_of old a) t) (count_of old a) k 0 refl after_it in
+          let within : k - count_of old a < count_of (earliest net (t + 1)) a - count_of old a = omega (arith, count a actor) in
+          let now : slice_index (replicate (count_of (earliest net (t + 1)) a - count_of old a) t) (k - count_of old a) ≡ t = get_or-replicate (count_of (earliest net (t + 1)) a - count_of old a) (k - count_of old a) t 0 within in
+          read ∙ (now ∙ sym (fresh a k actor after_it (omega (arith, all a actor))))
 
-  -- no more starts are collected than are made later
-  pub starts-fewer : (m u : ℕ) (before : List ℕ) (starts : List (List ℕ)) → m ≤ u → AreStartsAfter net m before starts →
-      (a : ℕ) → a < length net.times → slice_index before a + count_of starts a ≤ count_of (earliest net (u + 1)) a
-  starts-fewer m u before starts le have a actor = omega (arith, have.all a actor, count-rises net (regular net laws) fed (m + 1) (u + 1) (omega arith) a)
+  -- the rows of an engine have no more starts than there are up to its next event
+  pub has-fewer : (stage : Stage) (now t : ℕ) (old : List (List ℕ)) → HasStarts net stage now old → ComesNext net stage now t →
+      (a : ℕ) → a < length net.times → count_of old a ≤ count_of (earliest net (t + 1)) a
+  has-fewer Fresh now t old have next a actor =
+      let none : count_of old a ≡ 0 = rw have (empty-rows (length net.times) a) in
+      omega arith
+  has-fewer Running now t old have next a actor =
+      let later : now < t = next.later in
+      omega (arith, have.all a actor, count-rises net (regular net laws) fed (now + 1) (t + 1) (omega arith) a)
+  has-fewer Spent now t old have next a actor = absurd next
+  has-fewer OutOfMemory now t old have next a actor = absurd next
+
+  pub has-rows : (stage : Stage) (now t : ℕ) (old : List (List ℕ)) → HasStarts net stage now old → ComesNext net stage now t → length old ≡ length net.times
+  has-rows Fresh now t old have next = rw have (length-replicate {A = List ℕ} (length net.times) [])
+  has-rows Running now t old have next = have.rows
+  has-rows Spent now t old have next = absurd next
+  has-rows OutOfMemory now t old have next = absurd next
+
+  -- with those of the next event they have all up to there
+  pub has-next : (stage : Stage) (now t : ℕ) (old new : List (List ℕ)) → HasStarts net stage now old → ComesNext net stage now t → AddsStarts net t old new → AreStarts net t new
+  has-next Fresh now t old new have next adds =
+      let none : (a : ℕ) → count_of old a ≡ 0 = λ a. rw have (empty-rows (length net.times) a) in
+      starts-join t old new (has-rows Fresh now t old have next) (has-fewer Fresh now t old have next)
+      (λ a k actor there. absurd (omega (arith, none a)))
+      (λ a k actor past there. rw next (first-start a k (rw next at there))) adds
+  has-next Running now t old new have next adds =
+      starts-join t old new have.rows (has-fewer Running now t old have next)
+      (λ a k actor there.
+      let later : now < t = next.later in
+      let below : k < count_of (earliest net (now + 1)) a = omega (arith, have.all a actor) in
+      have.moments a k actor there ∙ sym ((earliest-within net (now + 1) (t + 1) (earliest net (now + 1)) (earliest net (t + 1)) (early_at net (regular net laws) fed (now + 1)) (early_at net (regular net laws) fed (t + 1)) (omega arith) a k below).1))
+      (λ a k actor past there. new-start now t a k next (omega (arith, have.all a actor)) there) adds
+  has-next Spent now t old new have next adds = absurd next
+  has-next OutOfMemory now t old new have next adds = absurd next
+
+  -- the rows are as long as is needed to leave out what started before the entry
+  pub later-within : (entry end : ℕ) (before : List ℕ) (starts : List (List ℕ)) → entry ≤ end → ((a : ℕ) → a < length net.times → slice_index before a ≡ count_of (earliest net (entry + 1)) a) → AreStarts net end starts →
+      (a : ℕ) → a < length starts → slice_index before a ≤ count_of starts a
+  later-within entry end before starts ahead counts have a place =
+      let actor : a < length net.times = omega (arith, have.rows) in
+      omega (arith, counts a actor, have.all a actor, count-rises net (regular net laws) fed (entry + 1) (end + 1) (omega arith) a)
+
+  -- without them they are the starts after it
+  pub later-after : (entry end : ℕ) (before : List ℕ) (starts later : List (List ℕ)) → entry ≤ end → ((a : ℕ) → a < length net.times → slice_index before a ≡ count_of (earliest net (entry + 1)) a) → AreStarts net end starts →
+      AreLater starts before (length starts) later → AreStartsAfter net end before later
+  later-after entry end before starts later ahead counts have cut = record {
+    rows = cut.rows ∙ have.rows;
+    all = λ a actor. omega (arith, count a actor, have.all a actor, later-within entry end before starts ahead counts have a (place a actor));
+    moments = λ a k actor there.
+        let read : start_of later a k ≡ slice_index (drop (slice_index before a) (slice_index_or starts a [])) k = ap (λ (row : List ℕ). slice_index row k) (cut.each a (place a actor)) in
+        let from : slice_index (drop (slice_index before a) (slice_index_or starts a [])) k ≡ start_of starts a (slice_index before a + k) = get_or-drop (slice_index before a) (slice_index_or starts a []) k 0 in
+        read ∙ (from ∙ have.moments a (slice_index before a + k) actor (omega (arith, count a actor)));
+  }
+    where
+      place : (a : ℕ) → a < length net.times → a < length starts
+      place a actor = omega (arith, have.rows)
+
+      count : (a : ℕ) → a < length net.times → count_of later a ≡ count_of starts a - slice_index before a
+      count a actor = ap length (cut.each a (place a actor)) ∙ length-drop (slice_index before a) (slice_index_or starts a [])
 
   -- the starts collected up to the end of a loop are its table
   pub loop-is-table : IsConnected net → (entry period rounds : ℕ) (before : List ℕ) (starts : List (List ℕ)) → IsLoop net entry period → length before ≡ length net.times →
@@ -117,40 +180,48 @@ module _ (net : Net) (laws : Lawful net) (fed : HasInputs net) where
 -- ---- the rows of the actors one after another
 
 -- of the first n actors the rows have gained their starts
-pub record AddsSoFar (net : Net) (now : ℕ) (before : List ℕ) (old new : List (List ℕ)) (n : ℕ) : Type 0 where
+pub record AddsSoFar (net : Net) (now : ℕ) (old new : List (List ℕ)) (n : ℕ) : Type 0 where
   pub rows : length new ≡ length old
-  pub done : (a : ℕ) → a < n →
-      slice_index_or new a [] ≡ slice_index_or old a [] ++ replicate (count_of (earliest net (now + 1)) a - slice_index before a - count_of old a) now
+  pub done : (a : ℕ) → a < n → slice_index_or new a [] ≡ slice_index_or old a [] ++ replicate (count_of (earliest net (now + 1)) a - count_of old a) now
   pub kept : (a : ℕ) → n ≤ a → slice_index_or new a [] ≡ slice_index_or old a []
 
-pub adds-none : (net : Net) (now : ℕ) (before : List ℕ) (old : List (List ℕ)) → AddsSoFar net now before old old 0
-adds-none net now before old = record { rows = refl; done = λ a below. absurd (omega arith); kept = λ a past. refl }
+pub adds-none : (net : Net) (now : ℕ) (old : List (List ℕ)) → AddsSoFar net now old old 0
+adds-none net now old = record { rows = refl; done = λ a below. absurd (omega arith); kept = λ a past. refl }
 
-pub adds-step : (net : Net) (now n : ℕ) (before : List ℕ) (old new : List (List ℕ)) (row : List ℕ) → AddsSoFar net now before old new n → n < length old →
-    row ≡ slice_index_or new n [] ++ replicate (count_of (earliest net (now + 1)) n - slice_index before n - count_of new n) now → AddsSoFar net now before old (set new n row) (n + 1)
-adds-step net now n before old new row adds place filled = record {
+pub adds-step : (net : Net) (now n : ℕ) (old new : List (List ℕ)) (row : List ℕ) → AddsSoFar net now old new n → n < length old →
+    row ≡ slice_index_or new n [] ++ replicate (count_of (earliest net (now + 1)) n - count_of new n) now → AddsSoFar net now old (set new n row) (n + 1)
+adds-step net now n old new row adds place filled = record {
   rows = length-set new n row ∙ adds.rows;
   done = λ a below. each a below (cases_eq a n);
   kept = λ a past. get_or-set_other new n a row [] (λ same. absurd (omega arith)) ∙ adds.kept a (omega arith);
 }
   where
     each : (a : ℕ) → a < n + 1 → (a ≡ n) ⊎ (a ≡ n → ⊥) →
-        slice_index_or (set new n row) a [] ≡ slice_index_or old a [] ++ replicate (count_of (earliest net (now + 1)) a - slice_index before a - count_of old a) now
+        slice_index_or (set new n row) a [] ≡ slice_index_or old a [] ++ replicate (count_of (earliest net (now + 1)) a - count_of old a) now
     each a below (inl here) =
         let same : slice_index_or new n [] ≡ slice_index_or old n [] = adds.kept n (omega arith) in
         let read : slice_index_or (set new n row) n [] ≡ row = get_or-set_same new n row [] (omega (arith, adds.rows)) in
-        rw here (read ∙ (filled ∙ ap (λ (r : List ℕ). r ++ replicate (count_of (earliest net (now + 1)) n - slice_index before n - length r) now) same))
+        rw here (read ∙ (filled ∙ ap (λ (r : List ℕ). r ++ replicate (count_of (earliest net (now + 1)) n - length r) now) same))
     each a below (inr other) = get_or-set_other new n a row [] other ∙ adds.done a (omega arith)
 
-pub adds-all : (net : Net) (now : ℕ) (before : List ℕ) (old new : List (List ℕ)) → AddsSoFar net now before old new (length net.times) → AddsStarts net now before old new
-adds-all net now before old new adds = record { rows = adds.rows; each = adds.done }
+pub adds-all : (net : Net) (now : ℕ) (old new : List (List ℕ)) → AddsSoFar net now old new (length net.times) → AddsStarts net now old new
+adds-all net now old new adds = record { rows = adds.rows; each = adds.done }
 
--- rows without starts
-pub empty-rows : (n a : ℕ) → count_of (replicate n []) a ≡ 0
-empty-rows n a = ⊎_elim
-    (λ (place : a < n). ap length (get_or-replicate n a [] [] place))
-    (λ (past : n ≤ a). ap length (get_or_past (replicate n []) a [] (omega (arith, length-replicate {A = List ℕ} n []))))
-    (cases_lt a n)
+-- one row more is cut
+pub later-none : (starts : List (List ℕ)) (before : List ℕ) → AreLater starts before 0 []
+later-none starts before = record { rows = refl; each = λ a below. absurd (omega arith) }
+
+pub later-more : (starts : List (List ℕ)) (before : List ℕ) (n : ℕ) (later : List (List ℕ)) (row : List ℕ) → AreLater starts before n later → row ≡ drop (slice_index before n) (slice_index_or starts n []) →
+    AreLater starts before (n + 1) (later ++ row ∷ [])
+later-more starts before n later row cut at = record {
+  rows = length_push later row ∙ ap (λ (x : ℕ). x + 1) cut.rows;
+  each = λ a below. ⊎_elim
+      (λ (old : a < n). get_or_append_left later (row ∷ []) [] a (omega (arith, cut.rows)) ∙ cut.each a old)
+      (λ (last : n ≤ a).
+      let same : a ≡ n = omega arith in
+      rw same (get_or_push later row [] n cut.rows ∙ at))
+      (cases_lt a n);
+}
 
 -- the starts that an execution from the entry of a loop collects up to its end are its table
 pub table-from : (net : Net) → Lawful net → HasInputs net → IsConnected net → (entry end rounds : ℕ) (before lent : List ℕ) (starts : List (List ℕ)) → entry ≤ end → IsLoop net entry (end - entry) →

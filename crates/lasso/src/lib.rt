@@ -1,6 +1,7 @@
 //! The loop of self-timed execution, and with it the rate of a net.
 #![tactic(auto)]
 
+mod collect;
 mod error;
 mod laws;
 mod repeat;

@@ -1,25 +1,28 @@
 //! The first shape that comes again, once the time from a shape to its like is known.
-ghost use Rattle.std.specs.Prelude.{◌≡◌, ℕ, ◌↔◌, ◌+◌, ◌≤◌, IfErr, IfOk, IsTrue, MatchBool};
+ghost use Rattle.std.specs.Prelude.{◌≡◌, ℕ, ◌↔◌, ◌+◌, ◌≤◌, [], IfErr, IfOk, IsTrue, MatchBool, length, replicate};
 ghost use Rattle.sd_base.specs.declared.limits.TheConstants.{STARTS};
 ghost use Rattle.sd_base.specs.Schedules.{HasInputs};
 ghost use Rattle.sd_base.specs.SelfTimed.{IsEvent, starts_by};
 ghost use Rattle.sd_base.specs.Untimed.{IsLive};
 ghost use Rattle.selftimed.specs.declared.engine.Stage.TheVariants.{Fresh, Running};
 ghost use Rattle.lasso.specs.LoopAnswers.{IsRunRefusal};
+ghost use Rattle.lasso.specs.inside.Collecting.{AreStarts};
 ghost use Rattle.lasso.specs.inside.Going.{Follows};
 ghost use Rattle.lasso.specs.inside.Searching.{IsPeriod, IsLikeness, IsRepeat};
 
+use crate::collect::add_starts;
 use crate::error::RunError;
 use crate::steps::{go_on, next_event};
 use firing::Firing;
-use sd_base::NoMemory;
+use sd_base::{NoMemory, Rows};
 use selftimed::Engine;
 
 /// Runs `lead` until it stands where `trail`, which follows it `period` time units behind, stands too, for
-/// at most `states` shapes. Answers the moment of `lead`.
+/// at most `states` shapes, and adds the starts of `lead` to the rows of its actors. Answers the moment of `lead`.
 pub(crate) fn first_repeat<'a, F: Firing>(
     lead: &mut Engine<'a, F>,
     trail: &mut Engine<'a, F>,
+    starts: &mut [Rows<u64>],
     period: u64,
     states: u64,
 ) -> Result<u64, RunError>
@@ -31,12 +34,14 @@ pub(crate) fn first_repeat<'a, F: Firing>(
     requires trail { trail.old.stage ≡ Fresh }
     requires lead_most { lead.old.most ≡ STARTS }
     requires trail_most { trail.old.most ≡ STARTS }
+    requires starts { starts.old ≡ replicate (length (F.net lead.old.net.now).times) [] }
     requires period { IsPeriod (F.net lead.old.net.now) period }
     requires some { 1 ≤ states }
     ensures net { trail.new.net ≡ trail.old.net }
     ensures most { trail.new.most ≡ trail.old.most }
     ensures running { IfOk result (λ end. trail.new.stage ≡ Running) }
     ensures found { IfOk result (λ end. IsRepeat (F.net lead.old.net.now) states trail.new.moment end) }
+    ensures starts { IfOk result (λ end. AreStarts (F.net lead.old.net.now) end starts.new) }
     ensures refused { IfErr result (IsRunRefusal (F.net lead.old.net.now) states) }
 {
     if !go_on(trail)? {
@@ -46,6 +51,7 @@ pub(crate) fn first_repeat<'a, F: Firing>(
         if !go_on(lead)? {
             return Err(RunError::TooManyStarts);
         }
+        add_starts(lead, starts)?;
         if meets(lead, trail, period)? {
             return Ok(lead.moment());
         }

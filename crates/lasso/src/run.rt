@@ -6,6 +6,7 @@ ghost use Rattle.sd_base.specs.Connection.{IsConnected};
 ghost use Rattle.firing.specs.Wiring.{IsWiringOf};
 ghost use Rattle.lasso.specs.LoopAnswers.{IsFound, IsRunRefusal};
 
+use crate::collect::empty_rows;
 use crate::error::RunError;
 use crate::repeat::first_repeat;
 use crate::search::find_pair;
@@ -20,10 +21,10 @@ use std::alloc::Global;
 /// 1980). At most `states` shapes are looked at, and at most `STARTS` firings started. `steps` counts the
 /// call.
 ///
-/// Cost: an execution to a shape that came before, at most three times as long as one up to the first
-/// repeat; then one up to the first repeat, followed by a second one up to the entry, which then makes the
-/// starts round the loop. Where a refusal comes, an execution up to twice the moment of the last shape that is
-/// allowed, of at most `STARTS` starts more. Memory: three shapes, and the starts of the table.
+/// Cost: an execution to a shape that came before, about twice as long as one up to the first repeat where the
+/// loop is entered early, and at most some four times as long; then two side by side, up to the first repeat and
+/// up to the entry. Where a refusal comes, an execution up to twice the moment of the last shape that is allowed, of
+/// at most `STARTS` starts more. Memory: three shapes, and the starts up to the first repeat.
 pub fn run_loop<F: Firing, L: Ledger>(
     alloc: Global,
     net: &F,
@@ -86,7 +87,14 @@ fn find_loop<F: Firing>(
     let pair = find_pair(alloc, net, wiring, states)?;
     let mut lead = Engine::new(alloc, net, wiring, STARTS)?;
     let mut trail = Engine::new(alloc, net, wiring, STARTS)?;
-    let end = first_repeat(&mut lead, &mut trail, pair.later - pair.earlier, states)?;
-    let table = loop_table(alloc, &mut trail, end)?;
+    let mut starts = empty_rows(alloc, net.actors())?;
+    let end = first_repeat(
+        &mut lead,
+        &mut trail,
+        starts.as_mut_slice(),
+        pair.later - pair.earlier,
+        states,
+    )?;
+    let table = loop_table(alloc, &trail, end, starts.as_slice())?;
     Ok(table)
 }

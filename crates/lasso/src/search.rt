@@ -39,8 +39,9 @@ pub(crate) struct Checkpoint {
 }
 
 /// Finds a shape and the first one after it that is equal. The first shape is the first checkpoint. A
-/// later shape becomes the checkpoint when the starts up to it are more than twice those up to the one
-/// before, and so does the last shape that is allowed: if a shape up to there comes again, then it does.
+/// later shape becomes the checkpoint when the starts up to it are more than four times those up to the one
+/// before, and so does the last shape that is allowed: if a shape up to there comes again, then it does. Four in
+/// place of Brent's two lets a loop that is entered early come again at an earlier checkpoint.
 pub(crate) fn find_pair<F: Firing>(
     alloc: Global,
     net: &F,
@@ -108,7 +109,7 @@ fn search_allowed<F: Firing>(
     Ok(None)
 }
 
-/// The shape at which an engine stands if its starts are more than twice those of the checkpoint, else the
+/// The shape at which an engine stands if its starts are more than four times those of the checkpoint, else the
 /// checkpoint.
 fn next_checkpoint<F: Firing>(
     alloc: Global,
@@ -124,7 +125,7 @@ fn next_checkpoint<F: Firing>(
     ensures ahead { IfOk result (λ c. c.moment ≤ engine.now.moment) }
     ensures none { IfOk result (λ c. NoneSince (F.net engine.now.net.now) c.moment engine.now.moment) }
 {
-    if engine.starts() / 2 > checkpoint.starts {
+    if engine.starts() / 4 > checkpoint.starts {
         checkpoint_of(alloc, engine)
     } else {
         Ok(checkpoint)

@@ -1,8 +1,7 @@
 -- Firings of one actor that start at one moment.
-use Rattle.std.proofs.Common.{◌≡◌, ℕ, ◌+◌, ◌-◌, ◌*◌, ◌/◌, ◌%◌, ◌≤◌, ◌<◌, List, [], ◌∷◌, ◌++◌, length, sum, ⊎_elim, subst, sym, refl, ap, ◌∙◌, arith, mul-le-mul_right, div-mul-le_self, zero-add}
+use Rattle.std.proofs.Common.{◌≡◌, ℕ, ◌+◌, ◌-◌, ◌*◌, ◌%◌, ◌≤◌, ◌<◌, List, [], ◌∷◌, ◌++◌, length, sum, ⊎_elim, subst, sym, refl, ap, ◌∙◌, arith, mul-le-mul_right, zero-add}
 use Rattle.std.specs.Prelude.{slice_index, slice_index_or}
 use Rattle.std.proofs.lemmas.Bool.{cases_lt}
-use Rattle.std.proofs.lemmas.Nat.{le-div}
 use Rattle.std.proofs.lemmas.List.{get_or_append_left, get_or_push, length_push}
 use Rattle.sd_base.specs.Net.{Net, channel_at, phase_entry, total}
 use Rattle.sd_base.specs.Schedules.{time_of, phases_at}
@@ -10,10 +9,10 @@ use Rattle.sd_base.specs.Lawful.{Lawful}
 use Rattle.sd_base.proofs.Sums.{total-more}
 use Rattle.sd_base.proofs.Admissibles.{one_time}
 use Rattle.firing.specs.declared.sums.Port.TheVariants.{Taken}
-use Rattle.firing.specs.Wiring.{IsListed, SufficesBefore, IsFirstLack, TakesTokens}
+use Rattle.firing.specs.Wiring.{IsListed, SufficesBefore, LacksNow, IsFirstLack, TakesTokens}
 use Rattle.firing.proofs.Listings.{place_of}
 use Rattle.firing.proofs.TokenMoves.{span-one}
-use Rattle.selftimed.specs.inside.Starts.{AddsEnds, Feeds, StartsAll, Overfills}
+use Rattle.selftimed.specs.inside.Starts.{AddsEnds, Feeds, FeedsNoMore, StartsAll, Overfills}
 
 -- ---- how many start together
 
@@ -34,66 +33,84 @@ one-sum (x ∷ []) one = zero-add x
 one-sum (x ∷ y ∷ xs) one = absurd (omega arith)
 
 -- as many as the channels that were looked at feed, of an actor of one phase
-pub record BatchSoFar (net : Net) (xs tokens : List ℕ) (most best done : ℕ) : Type 0 where
-  pub some : 1 ≤ best
+pub record BatchSoFar (net : Net) (a : ℕ) (xs tokens : List ℕ) (most best lacking done : ℕ) : Type 0 where
   pub within : best ≤ most
   pub fed : (j : ℕ) → j < done → best * slice_index (channel_at net (slice_index xs j)).taken 0 ≤ slice_index tokens (slice_index xs j)
+  pub lacks : best < most → FeedsNoMore net tokens a best lacking
 
-pub batch-none : (net : Net) (xs tokens : List ℕ) (most : ℕ) → 1 ≤ most → BatchSoFar net xs tokens most most 0
-batch-none net xs tokens most some = record { some = some; within = omega arith; fed = λ j h. absurd (omega arith) }
+pub batch-none : (net : Net) (a : ℕ) (xs tokens : List ℕ) (most : ℕ) → BatchSoFar net a xs tokens most most 0 0
+batch-none net a xs tokens most = record { within = omega arith; fed = λ j h. absurd (omega arith); lacks = λ less. absurd (omega arith) }
 
-module _ (net : Net) (laws : Lawful net) (a : ℕ) (xs tokens : List ℕ) (firing : ℕ) (listed : IsListed net Taken a xs) (one : phases_at net a ≡ 1) (enough : SufficesBefore net tokens a firing (length net.channels)) where
+module _ (net : Net) (laws : Lawful net) (a : ℕ) (xs tokens : List ℕ) (listed : IsListed net Taken a xs) (one : phases_at net a ≡ 1) where
   taken-one : (j : ℕ) → j < length xs → length (channel_at net (slice_index xs j)).taken ≡ 1
   taken-one j below = laws.taken_phases (slice_index xs j) (listed.place j below) ∙ (ap (phases_at net) (listed.there j below) ∙ one)
 
   pub rate-some : (j : ℕ) → j < length xs → 0 < slice_index (channel_at net (slice_index xs j)).taken 0
   rate-some j below = rw (one-sum (channel_at net (slice_index xs j)).taken (taken-one j below)) at (laws.some_taken (slice_index xs j) (listed.place j below))
 
-  feeds-some : (j : ℕ) → j < length xs → 1 ≤ slice_index tokens (slice_index xs j) / slice_index (channel_at net (slice_index xs j)).taken 0
-  feeds-some j below =
-      let here : phase_entry (channel_at net (slice_index xs j)).taken firing ≤ slice_index tokens (slice_index xs j) = enough (slice_index xs j) (listed.place j below) (listed.there j below) in
-      let same : phase_entry (channel_at net (slice_index xs j)).taken firing ≡ slice_index (channel_at net (slice_index xs j)).taken 0 = one-entry (channel_at net (slice_index xs j)).taken firing (taken-one j below) in
-      le-div 1 (slice_index tokens (slice_index xs j)) (slice_index (channel_at net (slice_index xs j)).taken 0) (rate-some j below) (omega arith)
+  -- a channel without tokens for one firing
+  pub batch-empty : (most done : ℕ) → done < length xs → slice_index tokens (slice_index xs done) < slice_index (channel_at net (slice_index xs done)).taken 0 → FeedsNoMore net tokens a 0 (slice_index xs done)
+  batch-empty most done below few = (listed.place done below, listed.there done below, omega arith)
 
-  pub batch-lower : (most best done feeds : ℕ) → done < length xs → feeds ≡ slice_index tokens (slice_index xs done) / slice_index (channel_at net (slice_index xs done)).taken 0 → feeds < best →
-      BatchSoFar net xs tokens most best done → BatchSoFar net xs tokens most feeds (done + 1)
-  batch-lower most best done feeds below at less so_far = record {
-    some = rw at (feeds-some done below);
-    within = omega (arith, so_far.within);
+  pub batch-lower : (most best lacking done feeds : ℕ) → done < length xs → feeds * slice_index (channel_at net (slice_index xs done)).taken 0 ≤ slice_index tokens (slice_index xs done) →
+      slice_index tokens (slice_index xs done) < (feeds + 1) * slice_index (channel_at net (slice_index xs done)).taken 0 → slice_index tokens (slice_index xs done) < best * slice_index (channel_at net (slice_index xs done)).taken 0 →
+      BatchSoFar net a xs tokens most best lacking done → BatchSoFar net a xs tokens most feeds (slice_index xs done) (done + 1)
+  batch-lower most best lacking done feeds below fits next fewer so_far = record {
+    within = omega (arith, so_far.within, less);
     fed = λ j h. ⊎_elim
         (λ (old : j < done).
-        let le : feeds * slice_index (channel_at net (slice_index xs j)).taken 0 ≤ best * slice_index (channel_at net (slice_index xs j)).taken 0 = mul-le-mul_right (slice_index (channel_at net (slice_index xs j)).taken 0) (omega arith) in
+        let le : feeds * slice_index (channel_at net (slice_index xs j)).taken 0 ≤ best * slice_index (channel_at net (slice_index xs j)).taken 0 = mul-le-mul_right (slice_index (channel_at net (slice_index xs j)).taken 0) (omega (arith, less)) in
         omega (arith, so_far.fed j old))
         (λ (new : done ≤ j).
         let same : j ≡ done = omega arith in
-        rw (same, at) (div-mul-le_self (slice_index tokens (slice_index xs done)) (slice_index (channel_at net (slice_index xs done)).taken 0)))
+        rw same fits)
         (cases_lt j done);
+    lacks = λ low. (listed.place done below, listed.there done below, next);
   }
+    where
+      less : feeds < best
+      less = ⊎_elim
+          (λ (h : feeds < best). h)
+          (λ (h : best ≤ feeds).
+          let le : best * slice_index (channel_at net (slice_index xs done)).taken 0 ≤ feeds * slice_index (channel_at net (slice_index xs done)).taken 0 = mul-le-mul_right (slice_index (channel_at net (slice_index xs done)).taken 0) h in
+          absurd (omega arith))
+          (cases_lt feeds best)
 
-  pub batch-keep : (most best done feeds : ℕ) → done < length xs → feeds ≡ slice_index tokens (slice_index xs done) / slice_index (channel_at net (slice_index xs done)).taken 0 → best ≤ feeds →
-      BatchSoFar net xs tokens most best done → BatchSoFar net xs tokens most best (done + 1)
-  batch-keep most best done feeds below at more so_far = record {
-    some = so_far.some;
+  pub batch-keep : (most best lacking done : ℕ) → best * slice_index (channel_at net (slice_index xs done)).taken 0 ≤ slice_index tokens (slice_index xs done) →
+      BatchSoFar net a xs tokens most best lacking done → BatchSoFar net a xs tokens most best lacking (done + 1)
+  batch-keep most best lacking done fits so_far = record {
     within = so_far.within;
     fed = λ j h. ⊎_elim
         (λ (old : j < done). so_far.fed j old)
-        (λ (new : done ≤ j).
-        let same : j ≡ done = omega arith in
-        let part : slice_index tokens (slice_index xs done) / slice_index (channel_at net (slice_index xs done)).taken 0 * slice_index (channel_at net (slice_index xs done)).taken 0 ≤ slice_index tokens (slice_index xs done) = div-mul-le_self (slice_index tokens (slice_index xs done)) (slice_index (channel_at net (slice_index xs done)).taken 0) in
-        let le : best * slice_index (channel_at net (slice_index xs done)).taken 0 ≤ slice_index tokens (slice_index xs done) / slice_index (channel_at net (slice_index xs done)).taken 0 * slice_index (channel_at net (slice_index xs done)).taken 0 = mul-le-mul_right (slice_index (channel_at net (slice_index xs done)).taken 0) (omega arith) in
-        rw same (omega arith))
+        (λ (new : done ≤ j). let same : j ≡ done = omega arith in rw same fits)
         (cases_lt j done);
+    lacks = so_far.lacks;
   }
 
-  pub batch-feeds : (most best done : ℕ) → length xs ≤ done → BatchSoFar net xs tokens most best done → Feeds net tokens a firing best
-  batch-feeds most best done past so_far i place into =
+  pub batch-feeds : (most best lacking done : ℕ) → length xs ≤ done → BatchSoFar net a xs tokens most best lacking done → (k : ℕ) → Feeds net tokens a k best
+  batch-feeds most best lacking done past so_far k i place into =
       let found = place_of net Taken a xs listed i place into in
       let j : ℕ = found.0 in
       let len : length (channel_at net i).taken ≡ 1 = laws.taken_phases i place ∙ (ap (phases_at net) into ∙ one) in
-      let span : total (channel_at net i).taken firing + best * slice_index (channel_at net i).taken 0 ≡ total (channel_at net i).taken (firing + best) = span-one (channel_at net i).taken firing best 1 (slice_index (channel_at net i).taken 0) (sym len) refl refl in
+      let span : total (channel_at net i).taken k + best * slice_index (channel_at net i).taken 0 ≡ total (channel_at net i).taken (k + best) = span-one (channel_at net i).taken k best 1 (slice_index (channel_at net i).taken 0) (sym len) refl refl in
       let fed : best * slice_index (channel_at net (slice_index xs j)).taken 0 ≤ slice_index tokens (slice_index xs j) = so_far.fed j (omega (arith, found.1)) in
       let here : best * slice_index (channel_at net i).taken 0 ≤ slice_index tokens i = subst (λ (c : ℕ). best * slice_index (channel_at net c).taken 0 ≤ slice_index tokens c) found.2 fed in
       omega arith
+
+-- none is always fed
+pub feeds-none : (net : Net) (tokens : List ℕ) (a k : ℕ) → Feeds net tokens a k 0
+feeds-none net tokens a k i place into =
+    let e : k + 0 ≡ k = omega arith in
+    rw e (omega arith)
+
+-- when they have taken their tokens, a channel that feeds no more lacks
+pub lacks-then : (net : Net) (laws : Lawful net) (a k n i : ℕ) (tokens left : List ℕ) → phases_at net a ≡ 1 → FeedsNoMore net tokens a n i → TakesTokens net a k n tokens left → LacksNow net left a (k + n) i
+lacks-then net laws a k n i tokens left one (place, into, few) takes =
+    let len : length (channel_at net i).taken ≡ 1 = laws.taken_phases i place ∙ (ap (phases_at net) into ∙ one) in
+    let span : total (channel_at net i).taken k + n * slice_index (channel_at net i).taken 0 ≡ total (channel_at net i).taken (k + n) = span-one (channel_at net i).taken k n 1 (slice_index (channel_at net i).taken 0) (sym len) refl refl in
+    let took : slice_index left i + total (channel_at net i).taken (k + n) ≡ slice_index tokens i + total (channel_at net i).taken k = takes.taken i place into in
+    let entry : phase_entry (channel_at net i).taken (k + n) ≡ slice_index (channel_at net i).taken 0 = one-entry (channel_at net i).taken (k + n) len in
+    record { place = place; into = into; short = rw entry (omega arith) }
 
 -- ---- their ends
 
@@ -176,3 +193,13 @@ start-over net a moment k room tokens left runs more n m so_far much feeds = (
 
 pub end-at : (net : Net) (a moment k n phases time : ℕ) → phases ≡ phases_at net a → time ≡ slice_index (slice_index_or net.times a []) ((k + n) % phases) → moment + time ≡ moment + time_of net a (k + n)
 end-at net a moment k n phases time many here = ap (λ (x : ℕ). moment + x) (rw (← many) here)
+
+-- ---- all together
+
+pub starts-together : (net : Net) (laws : Lawful net) (a moment k n i : ℕ) (tokens left runs more : List ℕ) → phases_at net a ≡ 1 → FeedsNoMore net tokens a n i → TakesTokens net a k n tokens left → AddsEnds net a moment k n runs more →
+    StartsAll net a moment k n i tokens left runs more
+starts-together net laws a moment k n i tokens left runs more one few takes ends = record { takes = takes; ends = ends; lacks = lacks-then net laws a k n i tokens left one few takes }
+
+pub starts-nothing : (net : Net) (laws : Lawful net) (a moment k n i : ℕ) (tokens runs : List ℕ) → phases_at net a ≡ 1 → n ≡ 0 → FeedsNoMore net tokens a n i → StartsAll net a moment k n i tokens tokens runs runs
+starts-nothing net laws a moment k n i tokens runs one none few =
+    starts-together net laws a moment k n i tokens tokens runs runs one few (rw none (takes-none net a k tokens)) (rw none (adds-none net a moment k runs))

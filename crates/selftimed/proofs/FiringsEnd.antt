@@ -5,12 +5,12 @@ use Rattle.std.proofs.lemmas.Bool.{cases_lt, cases_eq, cases_Bool, false≢true}
 use Rattle.std.proofs.lemmas.List.{length-set, get_or-set_same, get_or-set_other, length-drop, get_or-drop, drop-drop}
 use Rattle.std.proofs.lemmas.List.Elements.{All-push, All-weaker, All-head, All-tail, All-contains, Contains-push, Contains-append_left}
 use Rattle.std.proofs.lemmas.List.Sorted.{All-permutation}
-use Rattle.sd_base.specs.Net.{Net, channel_at}
+use Rattle.sd_base.specs.Net.{Net, channel_at, phase_entry}
 use Rattle.sd_base.specs.Lawful.{Lawful}
 use Rattle.firing.specs.declared.sums.Port.TheVariants.{Made}
 use Rattle.firing.specs.Wiring.{IsListed, PutsTokens, IsLevel}
 use Rattle.firing.proofs.Listings.{place_of}
-use Rattle.firing.proofs.TokenMoves.{MoreBy, level-puts, level-small}
+use Rattle.firing.proofs.TokenMoves.{MoreBy, level-puts, level-small, level-needs}
 use Rattle.selftimed.specs.declared.actors.ActorState.{ActorState}
 use Rattle.selftimed.specs.inside.Actors.{idle, started_in, ended_in, running_in, touched_in, lacking_in, EndsOne, Touches, EndsAll, Stand}
 use Rattle.selftimed.specs.inside.Agendas.{Entry, entry, Announces, IsFirst, Lists, IsAgenda}
@@ -21,21 +21,22 @@ at actors a = slice_index_or actors a idle
 
 -- ---- touched actors
 
-pub record TouchesSoFar (net : Net) (channels : List ℕ) (old new : List ActorState) (touched : List ℕ) (done : ℕ) : Type 0 where
+pub record TouchesSoFar (net : Net) (tokens channels : List ℕ) (old new : List ActorState) (touched : List ℕ) (done : ℕ) : Type 0 where
   pub long : length new ≡ length old
   pub started : (b : ℕ) → started_in new b ≡ started_in old b
   pub ended : (b : ℕ) → ended_in new b ≡ ended_in old b
   pub running : (b : ℕ) → running_in new b ≡ running_in old b
   pub kept : (b : ℕ) → touched_in new b ≡ false → touched_in old b ≡ false
   pub lacking : (b : ℕ) → lacking_in new b ≡ lacking_in old b
-  pub there : (j : ℕ) → j < done → touched_in new (channel_at net (slice_index channels j)).target ≡ false → lacking_in new (channel_at net (slice_index channels j)).target ≢ slice_index channels j
+  pub there : (j : ℕ) → j < done → touched_in new (channel_at net (slice_index channels j)).target ≡ false → lacking_in new (channel_at net (slice_index channels j)).target ≡ slice_index channels j →
+      slice_index tokens (slice_index channels j) < phase_entry (channel_at net (slice_index channels j)).taken (started_in new (channel_at net (slice_index channels j)).target)
   pub lists : Lists net new touched
 
-pub touches-none : (net : Net) (channels : List ℕ) (old : List ActorState) (touched : List ℕ) → Lists net old touched → TouchesSoFar net channels old old touched 0
-touches-none net channels old touched lists = record { long = refl; started = λ b. refl; ended = λ b. refl; running = λ b. refl; kept = λ b e. e; lacking = λ b. refl; there = λ j h. absurd (omega arith); lists = lists }
+pub touches-none : (net : Net) (tokens channels : List ℕ) (old : List ActorState) (touched : List ℕ) → Lists net old touched → TouchesSoFar net tokens channels old old touched 0
+touches-none net tokens channels old touched lists = record { long = refl; started = λ b. refl; ended = λ b. refl; running = λ b. refl; kept = λ b e. e; lacking = λ b. refl; there = λ j h. absurd (omega arith); lists = lists }
 
-pub touches-all : (net : Net) (channels : List ℕ) (old new : List ActorState) (touched : List ℕ) (done : ℕ) → length channels ≤ done → TouchesSoFar net channels old new touched done → Touches net channels old new
-touches-all net channels old new touched done past so_far = record {
+pub touches-all : (net : Net) (tokens channels : List ℕ) (old new : List ActorState) (touched : List ℕ) (done : ℕ) → length channels ≤ done → TouchesSoFar net tokens channels old new touched done → Touches net tokens channels old new
+touches-all net tokens channels old new touched done past so_far = record {
   long = so_far.long;
   started = so_far.started;
   ended = so_far.ended;
@@ -45,10 +46,11 @@ touches-all net channels old new touched done past so_far = record {
   there = λ j h. so_far.there j (omega arith);
 }
 
--- an actor that lacks tokens on another channel isn't touched
-pub touches-skip : (net : Net) (channels : List ℕ) (old now : List ActorState) (touched : List ℕ) (done t : ℕ) → t ≡ (channel_at net (slice_index channels done)).target → lacking_in now t ≢ slice_index channels done →
-    TouchesSoFar net channels old now touched done → TouchesSoFar net channels old now touched (done + 1)
-touches-skip net channels old now touched done t into away so_far = record {
+-- an actor that lacks tokens on another channel, or still lacks them on this one, isn't touched
+pub touches-skip : (net : Net) (tokens channels : List ℕ) (old now : List ActorState) (touched : List ℕ) (done t : ℕ) → t ≡ (channel_at net (slice_index channels done)).target →
+    (lacking_in now t ≡ slice_index channels done → slice_index tokens (slice_index channels done) < phase_entry (channel_at net (slice_index channels done)).taken (started_in now t)) →
+    TouchesSoFar net tokens channels old now touched done → TouchesSoFar net tokens channels old now touched (done + 1)
+touches-skip net tokens channels old now touched done t into short so_far = record {
   long = so_far.long;
   started = so_far.started;
   ended = so_far.ended;
@@ -57,14 +59,14 @@ touches-skip net channels old now touched done t into away so_far = record {
   lacking = so_far.lacking;
   there = λ j h off. ⊎_elim
       (λ (before : j < done). so_far.there j before off)
-      (λ (here : done ≤ j). let same : j ≡ done = omega arith in rw (same, ← into) away)
+      (λ (here : done ≤ j). let same : j ≡ done = omega arith in rw (same, ← into) short)
       (cases_lt j done);
   lists = so_far.lists;
 }
 
 -- one more actor is touched
-module _ (net : Net) (channels : List ℕ) (old now : List ActorState) (touched more : List ℕ) (done t : ℕ) (below : done < length channels) (into : t ≡ (channel_at net (slice_index channels done)).target) (actor : t < length net.times) (place : t < length now) (base : ActorState)
-    (was : base ≡ slice_index_or now t idle) (so_far : TouchesSoFar net channels old now touched done) (listed : more ≡ (if base.touched then touched else touched ++ t ∷ [])) where
+module _ (net : Net) (tokens channels : List ℕ) (old now : List ActorState) (touched more : List ℕ) (done t : ℕ) (below : done < length channels) (into : t ≡ (channel_at net (slice_index channels done)).target) (actor : t < length net.times) (place : t < length now) (base : ActorState)
+    (was : base ≡ slice_index_or now t idle) (so_far : TouchesSoFar net tokens channels old now touched done) (listed : more ≡ (if base.touched then touched else touched ++ t ∷ [])) where
   read : (b : ℕ) → b ≢ t → slice_index_or (set now t (record base { touched = true })) b idle ≡ slice_index_or now b idle
   read b away = get_or-set_other now t b (record base { touched = true }) idle away
 
@@ -103,7 +105,7 @@ module _ (net : Net) (channels : List ℕ) (old now : List ActorState) (touched 
       }))
       (cases_Bool base.touched)
 
-  pub touches-more : TouchesSoFar net channels old (set now t (record base { touched = true })) more (done + 1)
+  pub touches-more : TouchesSoFar net tokens channels old (set now t (record base { touched = true })) more (done + 1)
   touches-more = record {
     long = length-set now t (record base { touched = true }) ∙ so_far.long;
     started = λ b. keeps (λ (s : ActorState). s.started) refl b ∙ so_far.started b;
@@ -120,7 +122,7 @@ module _ (net : Net) (channels : List ℕ) (old now : List ActorState) (touched 
         (λ (before : j < done). ⊎_elim
         (λ (e : (channel_at net (slice_index channels j)).target ≡ t). absurd (false≢true (sym off ∙ rw e (ap (λ (s : ActorState). s.touched) here))))
         (λ (away : (channel_at net (slice_index channels j)).target ≢ t).
-        rw (keeps (λ (s : ActorState). s.lacking) refl (channel_at net (slice_index channels j)).target)
+        rw (keeps (λ (s : ActorState). s.lacking) refl (channel_at net (slice_index channels j)).target, keeps (λ (s : ActorState). s.started) refl (channel_at net (slice_index channels j)).target)
         (so_far.there j before (sym (kept-on (channel_at net (slice_index channels j)).target away) ∙ off)))
         (cases_eq (channel_at net (slice_index channels j)).target t))
         (λ (now_one : done ≤ j).
@@ -195,7 +197,8 @@ pub record EndsSoFar (net : Net) (moment : ℕ) (first now : List ActorState) (t
   pub ones : (b : ℕ) → b < length net.times → EndsSome moment (slice_index_or first b idle) (slice_index_or now b idle)
   pub stand : Stand net now tokens
   pub lacking : (b : ℕ) → lacking_in now b ≡ lacking_in first b
-  pub fed : (i : ℕ) → i < length net.channels → touched_in now (channel_at net i).target ≡ false → lacking_in now (channel_at net i).target ≡ i → ended_in now (channel_at net i).source ≡ ended_in first (channel_at net i).source
+  pub fed : (i : ℕ) → i < length net.channels → touched_in now (channel_at net i).target ≡ false → lacking_in now (channel_at net i).target ≡ i →
+      (ended_in now (channel_at net i).source ≡ ended_in first (channel_at net i).source) ⊎ (slice_index tokens i < phase_entry (channel_at net i).taken (started_in now (channel_at net i).target))
   pub near : All (Near net moment now) ends
   pub whole : HasFirsts now ends
   pub lists : Lists net now touched
@@ -206,7 +209,7 @@ ends-none net moment first tokens ends touched stand agenda = record {
   ones = λ b is. ends-nothing moment (slice_index_or first b idle);
   stand = stand;
   lacking = λ b. refl;
-  fed = λ i there off lacks. refl;
+  fed = λ i there off lacks. inl refl;
   near = All-weaker (IsFirst first) (Near net moment first) (λ e is. (omega (arith, runs-place first e.1 is.0, stand.long), inr is)) ends agenda.firsts;
   whole = has-firsts first ends agenda.firsts agenda.whole;
   lists = agenda.lists;
@@ -221,14 +224,14 @@ pub record Kept (old new : List ActorState) : Type 0 where
   pub kept : (b : ℕ) → touched_in new b ≡ false → touched_in old b ≡ false
   pub lacking : (b : ℕ) → lacking_in new b ≡ lacking_in old b
 
-pub kept-touches : (net : Net) (channels : List ℕ) (old new : List ActorState) → Touches net channels old new → Kept old new
-kept-touches net channels old new t = record { long = t.long; started = t.started; ended = t.ended; running = t.running; kept = t.kept; lacking = t.lacking }
+pub kept-touches : (net : Net) (tokens channels : List ℕ) (old new : List ActorState) → Touches net tokens channels old new → Kept old new
+kept-touches net tokens channels old new t = record { long = t.long; started = t.started; ended = t.ended; running = t.running; kept = t.kept; lacking = t.lacking }
 
 module _ (net : Net) (moment : ℕ) (first now : List ActorState) (tokens left : List ℕ) (t a : ℕ) (s : ActorState) (new : List ActorState) (ends mid more : List Entry) (touched longer : List ℕ) (actor : a < length net.times)
     (so_far : EndsSoFar net moment first now tokens ends touched) (taken : IsPermutation ends (entry t a ∷ mid)) (announced : Announces a s.running mid more) (lists : Lists net new longer)
     (one : EndsOne moment (slice_index_or now a idle) s) (still : s.touched ≡ touched_in now a) (noted : s.lacking ≡ lacking_in now a) (kept : Kept (set now a s) new)
     (puts : PutsTokens net a (ended_in now a) (s.ended - ended_in now a) tokens left) (long_left : length left ≡ length tokens)
-    (fed : (i : ℕ) → i < length net.channels → (channel_at net i).source ≡ a → touched_in new (channel_at net i).target ≡ false → lacking_in new (channel_at net i).target ≡ i → s.ended ≡ ended_in now a) where
+    (fed : (i : ℕ) → i < length net.channels → (channel_at net i).source ≡ a → touched_in new (channel_at net i).target ≡ false → lacking_in new (channel_at net i).target ≡ i → slice_index left i < phase_entry (channel_at net i).taken (started_in new (channel_at net i).target)) where
   place : a < length now
   place = rw so_far.stand.long actor
 
@@ -332,10 +335,11 @@ module _ (net : Net) (moment : ℕ) (first now : List ActorState) (tokens left :
     fed = λ i there off lacks.
         let was_lacking : lacking_in now (channel_at net i).target ≡ i = sym (lacking-all (channel_at net i).target) ∙ lacks in
         ⊎_elim
-        (λ (e : (channel_at net i).source ≡ a).
-        let was : ended_in now a ≡ ended_in first a = rw e at (so_far.fed i there (untouched (channel_at net i).target off) was_lacking) in
-        rw e (ended-here ∙ (fed i there e off lacks ∙ was)))
-        (λ (away : (channel_at net i).source ≢ a). ended-other (channel_at net i).source away ∙ so_far.fed i there (untouched (channel_at net i).target off) was_lacking)
+        (λ (e : (channel_at net i).source ≡ a). inr (fed i there e off lacks))
+        (λ (away : (channel_at net i).source ≢ a). ⊎_elim
+        (λ (same : ended_in now (channel_at net i).source ≡ ended_in first (channel_at net i).source). inl (ended-other (channel_at net i).source away ∙ same))
+        (λ (short : slice_index tokens i < phase_entry (channel_at net i).taken (started_in now (channel_at net i).target)). inr (rw (puts.others i there away, started-all (channel_at net i).target) short))
+        (so_far.fed i there (untouched (channel_at net i).target off) was_lacking))
         (cases_eq (channel_at net i).source a);
     near = near;
     whole = whole;
@@ -382,7 +386,11 @@ module _ (net : Net) (moment : ℕ) (first now : List ActorState) (tokens : List
               omega (arith, ap (slice_index (running_in first b)) e);
         };
     lacking = so_far.lacking;
-    untouched = so_far.fed;
+    untouched = λ i there off lacks. ⊎_elim
+        (λ (same : ended_in now (channel_at net i).source ≡ ended_in first (channel_at net i).source). inl same)
+        (λ (short : slice_index tokens i < phase_entry (channel_at net i).taken (started_in now (channel_at net i).target)).
+        inr (level-needs net (started_in now) (ended_in now) tokens (channel_at net i).target i so_far.stand.level (record { place = there; into = refl; short = short })))
+        (so_far.fed i there off lacks);
   }
 
   pub ends-agenda : IsAgenda net now ends touched
@@ -417,24 +425,25 @@ stand-small net actors tokens laws stand i there =
     let small : slice_index tokens i ≤ 2000000000 + 2 ^ 32 * 1000000 = level-small net (started_in actors) (ended_in actors) tokens (2 ^ 32) i laws stand.level there few in
     omega arith
 
--- an actor that lacked tokens on a channel out of another one is touched
-pub touched-fed : (net : Net) (a : ℕ) (channels : List ℕ) (mid new : List ActorState) → IsListed net Made a channels → Touches net channels mid new →
-    (i : ℕ) → i < length net.channels → (channel_at net i).source ≡ a → touched_in new (channel_at net i).target ≡ false → lacking_in new (channel_at net i).target ≡ i → ⊥
-touched-fed net a channels mid new listed touches i there from off lacks =
+-- an actor that lacked tokens on a channel out of another one is touched, or lacks them still
+pub touched-fed : (net : Net) (a : ℕ) (tokens channels : List ℕ) (mid new : List ActorState) → IsListed net Made a channels → Touches net tokens channels mid new →
+    (i : ℕ) → i < length net.channels → (channel_at net i).source ≡ a → touched_in new (channel_at net i).target ≡ false → lacking_in new (channel_at net i).target ≡ i →
+    slice_index tokens i < phase_entry (channel_at net i).taken (started_in new (channel_at net i).target)
+touched-fed net a tokens channels mid new listed touches i there from off lacks =
     let found = place_of net Made a channels listed i there from in
-    let other : touched_in new (channel_at net i).target ≡ false → lacking_in new (channel_at net i).target ≢ i =
-    subst (λ (c : ℕ). touched_in new (channel_at net c).target ≡ false → lacking_in new (channel_at net c).target ≢ c) found.2 (touches.there found.0 found.1) in
-    other off lacks
+    let short : touched_in new (channel_at net i).target ≡ false → lacking_in new (channel_at net i).target ≡ i → slice_index tokens i < phase_entry (channel_at net i).taken (started_in new (channel_at net i).target) =
+    subst (λ (c : ℕ). touched_in new (channel_at net c).target ≡ false → lacking_in new (channel_at net c).target ≡ c → slice_index tokens c < phase_entry (channel_at net c).taken (started_in new (channel_at net c).target)) found.2 (touches.there found.0 found.1) in
+    short off lacks
 
 -- the same over the state as it was read
 pub ends-step : (net : Net) (moment : ℕ) (first now : List ActorState) (tokens left : List ℕ) (t a : ℕ) (base s : ActorState) (new : List ActorState) (ends mid more : List Entry) (touched longer : List ℕ) → base ≡ slice_index_or now a idle → a < length net.times →
     EndsSoFar net moment first now tokens ends touched → IsPermutation ends (entry t a ∷ mid) → Announces a s.running mid more → Lists net new longer →
     EndsOne moment base s → s.touched ≡ base.touched → s.lacking ≡ base.lacking → Kept (set now a s) new → PutsTokens net a base.ended (s.ended - base.ended) tokens left → length left ≡ length tokens →
-    ((i : ℕ) → i < length net.channels → (channel_at net i).source ≡ a → touched_in new (channel_at net i).target ≡ false → lacking_in new (channel_at net i).target ≡ i → s.ended ≡ base.ended) →
+    ((i : ℕ) → i < length net.channels → (channel_at net i).source ≡ a → touched_in new (channel_at net i).target ≡ false → lacking_in new (channel_at net i).target ≡ i → slice_index left i < phase_entry (channel_at net i).taken (started_in new (channel_at net i).target)) →
     EndsSoFar net moment first new left more longer
 ends-step net moment first now tokens left t a base s new ends mid more touched longer was actor so_far taken announced lists one still noted kept puts long_left fed =
     ends-more net moment first now tokens left t a s new ends mid more touched longer actor so_far taken announced lists
     (subst (λ (x : ActorState). EndsOne moment x s) was one)
     (subst (λ (x : ActorState). s.touched ≡ x.touched) was still) (subst (λ (x : ActorState). s.lacking ≡ x.lacking) was noted) kept
     (subst (λ (x : ActorState). PutsTokens net a x.ended (s.ended - x.ended) tokens left) was puts) long_left
-    (λ i there from off lacks. subst (λ (x : ActorState). s.ended ≡ x.ended) was (fed i there from off lacks))
+    fed

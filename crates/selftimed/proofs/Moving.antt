@@ -7,7 +7,7 @@ use Rattle.std.proofs.lemmas.Bool.{cases_lt, cases_eq, cases_Bool, false≢true}
 use Rattle.std.proofs.lemmas.List.{get_or-drop, length-drop, get_or-map, length-map, take_all}
 use Rattle.std.proofs.lemmas.List.Sums.{sum_by_more}
 use Rattle.sd_base.specs.Net.{Channel, Net, nowhere, channel_at, total}
-use Rattle.sd_base.specs.Schedules.{time_of, phases_at, Lacks, Schedule, count_of, start_of, end_of, Earliest, HasInputs}
+use Rattle.sd_base.specs.Schedules.{time_of, phases_at, Needs, Lacks, Schedule, count_of, start_of, end_of, Earliest, HasInputs}
 use Rattle.sd_base.specs.SelfTimed.{ended_by, earliest, IsEvent, is_event}
 use Rattle.sd_base.specs.Lawful.{Lawful}
 use Rattle.sd_base.proofs.Parts.{Regular, regular, list_any-tells}
@@ -185,14 +185,17 @@ module _ (net : Net) (laws : Lawful net) (now most : ℕ) (old : List ActorState
                 omega (arith, here.1);
           }
 
-      -- an actor lacks what it lacked if that channel gained nothing
+      -- an untouched actor lacks what it lacked
       pub mid-lacks : (b : ℕ) → b < length net.times → touched_in mid b ≡ false → LacksAt net (ended_in mid) b (started_in mid b) (lacking_in mid b)
       mid-lacks b actor calm =
           let i : ℕ = lacking_in old b in
           let lack : LacksAt net (ended_in old) b (started_in old b) i = stands.lacks b actor in
-          let still : ended_in mid (channel_at net i).source ≡ ended_in old (channel_at net i).source = ends.untouched i lack.0 (rw lack.1 calm) (rw lack.1 (ends.lacking b)) in
           let count : started_in mid b ≡ started_in old b = (ends.each b actor).started in
-          rw (ends.lacking b, count) (lack.0, lack.1, rw still lack.2)
+          let short : Needs (channel_at net i) (started_in mid b) (ended_in mid (channel_at net i).source) = ⊎_elim
+          (λ (still : ended_in mid (channel_at net i).source ≡ ended_in old (channel_at net i).source). rw (still, count) lack.2)
+          (λ (needs : Needs (channel_at net i) (started_in mid (channel_at net i).target) (ended_in mid (channel_at net i).source)). rw lack.1 at needs)
+          (ends.untouched i lack.0 (rw lack.1 calm) (rw lack.1 (ends.lacking b))) in
+          rw (ends.lacking b) (lack.0, lack.1, short)
 
       pub mid-counted : Counted mid all most
       mid-counted =

@@ -1,4 +1,5 @@
-ghost use Rattle.std.specs.Prelude.{◌≡◌, ℕ, ◌+◌, ◌-◌, ◌^◌, ◌<◌, ◌≤◌, OnOk, length, slice_index};
+ghost use Rattle.std.specs.Prelude.{◌≡◌, ◌↔◌, ℕ, ◌+◌, ◌-◌, ◌^◌, ◌<◌, ◌≤◌, IsTrue, OnOk, length, slice_index};
+ghost use Rattle.sd_base.specs.Net.{channel_at, phase_entry};
 ghost use Rattle.firing.specs.declared.sums.Port.TheVariants.{Made};
 ghost use Rattle.firing.specs.Wiring.{IsListed, PutsTokens};
 ghost use Rattle.selftimed.specs.inside.Actors.{EndsOne, Touches};
@@ -7,7 +8,7 @@ ghost use Rattle.selftimed.specs.inside.Agendas.{Lists};
 use crate::actors::{ActorState, ended_by};
 use crate::agenda::Agenda;
 use crate::tokens::{Tokens, put_all};
-use firing::Firing;
+use firing::{Firing, Port, port_phases, port_rate};
 use sd_base::NoMemory;
 
 /// Ends the firings of an actor whose end has come.
@@ -36,25 +37,42 @@ pub(crate) fn end_actor<F: Firing>(
     state.ended += firings as u64;
 }
 
-/// Touches the actors into which these channels lead and that lacked tokens there.
+/// Touches the actors into which these channels lead and that lacked tokens there, if they have enough now.
 pub(crate) fn touch_targets<F: Firing>(
     net: &F,
     channels: &[u32],
+    tokens: &[u128],
     actors: &mut [ActorState],
     agenda: &mut Agenda,
 ) -> Result<(), NoMemory>
     requires long { length actors.old ≡ length (F.net net.now).times }
+    requires tokens { length tokens.now ≡ length (F.net net.now).channels }
     requires there { (j : ℕ) → j < length channels.now → slice_index channels.now j < length (F.net net.now).channels }
     requires lists { Lists (F.net net.now) actors.old agenda.old.touched.items }
-    ensures touched { OnOk result (Touches (F.net net.now) channels.now actors.old actors.new) }
+    ensures touched { OnOk result (Touches (F.net net.now) tokens.now channels.now actors.old actors.new) }
     ensures lists { OnOk result (Lists (F.net net.now) actors.new agenda.new.touched.items) }
     ensures ends { agenda.new.ends ≡ agenda.old.ends }
 {
     for channel in channels {
         let target = net.target(*channel);
-        if actors[target as usize].lacking == *channel {
+        if has_enough(net, tokens, *channel, &actors[target as usize]) {
             agenda.touch(target, &mut actors[target as usize])?;
         }
     }
     Ok(())
+}
+
+/// Whether an actor lacked tokens on a channel that has enough for its next firing now.
+fn has_enough<F: Firing>(net: &F, tokens: &[u128], channel: u32, state: &ActorState) -> bool
+    requires channel { channel < length (F.net net.now).channels }
+    requires tokens { length tokens.now ≡ length (F.net net.now).channels }
+    ensures { IsTrue result ↔ ((state.now.lacking ≡ channel)
+        × (phase_entry (channel_at (F.net net.now) channel).taken state.now.started ≤ slice_index tokens.now channel)) }
+{
+    if state.lacking != channel {
+        return false;
+    }
+    let phases = port_phases(net, channel, Port::Taken) as u64;
+    let needed = port_rate(net, channel, Port::Taken, (state.started % phases) as u32);
+    needed as u128 <= tokens[channel as usize]
 }

@@ -70,7 +70,7 @@ impl<F: Firing> Event<'_, F> {
         Ok(fits)
     }
 
-    /// Ends the firings whose end has come, and touches the actors that lacked the tokens made.
+    /// Ends the firings whose end has come, and touches the actors that lacked the tokens made and have enough now.
     fn end_all(
         &self,
         actors: &mut [ActorState],
@@ -94,7 +94,7 @@ impl<F: Firing> Event<'_, F> {
                 tokens,
             );
             agenda.announce(actor, &actors[actor as usize])?;
-            touch_targets(self.net, outputs, actors, agenda)?;
+            touch_targets(self.net, outputs, tokens.as_slice(), actors, agenda)?;
         }
         Ok(())
     }

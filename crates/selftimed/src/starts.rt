@@ -1,8 +1,9 @@
-ghost use Rattle.std.specs.Prelude.{◌≡◌, ◌+◌, ◌^◌, ◌<◌, ◌≤◌, length, IfOk, OnOk, MatchOption};
+ghost use Rattle.std.specs.Prelude.{◌≡◌, ℕ, ◌+◌, ◌*◌, ◌^◌, ◌<◌, ◌≤◌, length, IfOk, OnOk, MatchOption};
+ghost use Rattle.sd_base.specs.Schedules.{phases_at};
 ghost use Rattle.firing.specs.declared.sums.Port.TheVariants.{Taken};
-ghost use Rattle.firing.specs.Wiring.{IsListed, SufficesBefore};
+ghost use Rattle.firing.specs.Wiring.{IsListed};
 ghost use Rattle.selftimed.specs.inside.Actors.{StartsOne};
-ghost use Rattle.selftimed.specs.inside.Starts.{AddsEnds, Feeds, StartsAll, Overfills};
+ghost use Rattle.selftimed.specs.inside.Starts.{AddsEnds, Feeds, FeedsNoMore, StartsAll, Overfills};
 
 use crate::actors::ActorState;
 use crate::running::Running;
@@ -10,7 +11,7 @@ use crate::tokens::{Tokens, take_all};
 use firing::{Firing, first_lack, know_laws};
 use sd_base::NoMemory;
 
-/// Firings of an actor that started together, and the first channel that lacks tokens for the next one.
+/// Firings of an actor that start together, and a channel that lacks tokens for the next one.
 #[derive(Clone, Copy, Debug)]
 pub(crate) struct Begun {
     pub(crate) firings: u64,
@@ -73,8 +74,91 @@ impl<F: Firing> Turn<'_, F> {
         ensures starts { IfOk result (λ o. MatchOption o (Overfills (F.net self.now.net.now) tokens.old self.now.actor from room)
             (λ b. (b.firings ≤ room) × StartsAll (F.net self.now.net.now) self.now.actor self.now.moment from b.firings b.lacking tokens.old tokens.new running.old running.new)) }
     {
+        if self.net.phases(self.actor) == 1 {
+            self.start_together(from, room, tokens, running)
+        } else {
+            self.start_in_turn(from, room, tokens, running)
+        }
+    }
+
+    /// The same of an actor of one phase, by one look at its channels.
+    fn start_together(
+        &self,
+        from: u64,
+        room: u64,
+        tokens: &mut Tokens,
+        running: &mut Running,
+    ) -> Result<Option<Begun>, NoMemory>
+        requires single { phases_at (F.net self.now.net.now) self.now.actor ≡ 1 }
+        requires tokens { length tokens.old ≡ length (F.net self.now.net.now).channels }
+        requires few { from + room ≤ 2 ^ 32 }
+        ensures long { length tokens.new ≡ length tokens.old }
+        ensures starts { IfOk result (λ o. MatchOption o (Overfills (F.net self.now.net.now) tokens.old self.now.actor from room)
+            (λ b. (b.firings ≤ room) × StartsAll (F.net self.now.net.now) self.now.actor self.now.moment from b.firings b.lacking tokens.old tokens.new running.old running.new)) }
+    {
+        let begun = self.fed_together(tokens.as_slice(), room + 1);
+        if begun.firings > room {
+            return Ok(None);
+        }
+        if begun.firings > 0 {
+            take_all(
+                self.net,
+                self.inputs,
+                tokens,
+                self.actor,
+                from,
+                begun.firings,
+            );
+            self.push_ends(running, from, begun.firings)?;
+        }
+        Ok(Some(begun))
+    }
+
+    /// How many firings of an actor of one phase the tokens feed, at most `most`, and a channel that feeds no more.
+    fn fed_together(&self, tokens: &[u128], most: u64) -> Begun
+        requires single { phases_at (F.net self.now.net.now) self.now.actor ≡ 1 }
+        requires tokens { length tokens.now ≡ length (F.net self.now.net.now).channels }
+        requires few { most ≤ 2 ^ 33 }
+        ensures within { result.firings ≤ most }
+        ensures feeds { (k : ℕ) → Feeds (F.net self.now.net.now) tokens.now self.now.actor k result.firings }
+        ensures lacks { result.firings < most → FeedsNoMore (F.net self.now.net.now) tokens.now self.now.actor result.firings result.lacking }
+    {
+        know_laws(self.net);
+        let mut firings = most;
+        let mut lacking = 0;
+        for channel in self.inputs {
+            let count = tokens[*channel as usize];
+            let rate = self.net.taken(*channel, 0);
+            if count < rate as u128 {
+                return Begun {
+                    firings: 0,
+                    lacking: *channel,
+                };
+            }
+            if count < firings as u128 * rate as u128 {
+                firings = times_in(count, rate, firings);
+                lacking = *channel;
+            }
+        }
+        Begun { firings, lacking }
+    }
+
+    /// Starts firings one by one.
+    fn start_in_turn(
+        &self,
+        from: u64,
+        room: u64,
+        tokens: &mut Tokens,
+        running: &mut Running,
+    ) -> Result<Option<Begun>, NoMemory>
+        requires tokens { length tokens.old ≡ length (F.net self.now.net.now).channels }
+        requires few { from + room ≤ 2 ^ 32 }
+        ensures long { length tokens.new ≡ length tokens.old }
+        ensures starts { IfOk result (λ o. MatchOption o (Overfills (F.net self.now.net.now) tokens.old self.now.actor from room)
+            (λ b. (b.firings ≤ room) × StartsAll (F.net self.now.net.now) self.now.actor self.now.moment from b.firings b.lacking tokens.old tokens.new running.old running.new)) }
+    {
         let mut count = 0u64;
-        'batches: loop {
+        'firings: loop {
             if let Some(lacking) = first_lack(
                 self.net,
                 self.inputs,
@@ -87,61 +171,13 @@ impl<F: Firing> Turn<'_, F> {
                     lacking,
                 }));
             }
-            let batch = self.batch_size(tokens.as_slice(), from + count, room - count + 1);
-            if batch > room - count {
+            if count >= room {
                 return Ok(None);
             }
-            take_all(
-                self.net,
-                self.inputs,
-                tokens,
-                self.actor,
-                from + count,
-                batch,
-            );
-            self.push_ends(running, from + count, batch)?;
-            count += batch;
+            take_all(self.net, self.inputs, tokens, self.actor, from + count, 1);
+            self.push_ends(running, from + count, 1)?;
+            count += 1;
         }
-    }
-
-    /// A number of firings that can start together, at most `most`: of an actor of one phase as many as the tokens feed.
-    fn batch_size(&self, tokens: &[u128], firing: u64, most: u64) -> u64
-        requires tokens { length tokens.now ≡ length (F.net self.now.net.now).channels }
-        requires some { 1 ≤ most }
-        requires enough { SufficesBefore (F.net self.now.net.now) tokens.now self.now.actor firing (length (F.net self.now.net.now).channels) }
-        ensures some { 1 ≤ result }
-        ensures within { result ≤ most }
-        ensures feeds { Feeds (F.net self.now.net.now) tokens.now self.now.actor firing result }
-    {
-        know_laws(self.net);
-        if self.net.phases(self.actor) > 1 {
-            return 1;
-        }
-        if self.feeds_one_only(tokens) {
-            return 1;
-        }
-        let mut best = most;
-        for channel in self.inputs {
-            let feeds = tokens[*channel as usize] / self.net.taken(*channel, 0) as u128;
-            if feeds < best as u128 {
-                best = feeds as u64;
-            }
-        }
-        best
-    }
-
-    /// Whether some channel into an actor of one phase has too few tokens for two firings. It is quicker than a division
-    /// for each channel.
-    fn feeds_one_only(&self, tokens: &[u128]) -> bool
-        requires tokens { length tokens.now ≡ length (F.net self.now.net.now).channels }
-    {
-        know_laws(self.net);
-        for channel in self.inputs {
-            if tokens[*channel as usize] < 2 * self.net.taken(*channel, 0) as u128 {
-                return true;
-            }
-        }
-        false
     }
 
     /// Adds the ends of firings that start, from number `from` on.
@@ -157,4 +193,19 @@ impl<F: Firing> Turn<'_, F> {
         }
         Ok(())
     }
+}
+
+/// How many times a rate fits into a count that has it, if fewer than `most` times.
+fn times_in(count: u128, rate: u64, most: u64) -> u64
+    requires some { 0 < rate }
+    requires enough { rate ≤ count }
+    requires few { count < most * rate }
+    ensures fits { result * rate ≤ count }
+    ensures next { count < (result + 1) * rate }
+{
+    // mostly once, which is known sooner than by a division
+    if count < 2 * rate as u128 {
+        return 1;
+    }
+    (count / rate as u128) as u64
 }

@@ -1,7 +1,7 @@
 -- Where the actors stand in an execution.
-use Rattle.std.specs.Prelude.{◌≡◌, ℕ, ◌+◌, ◌-◌, ◌^◌, ◌≤◌, ◌<◌, ◌≢◌, Bool, true, false, List, [], length, drop, slice_index, slice_index_or}
+use Rattle.std.specs.Prelude.{◌≡◌, ℕ, ◌+◌, ◌-◌, ◌^◌, ◌≤◌, ◌<◌, ◌⊎◌, Bool, true, false, List, [], length, drop, slice_index, slice_index_or}
 use Rattle.std.specs.List.{sum_by}
-use Rattle.sd_base.specs.Net.{Net, channel_at}
+use Rattle.sd_base.specs.Net.{Net, channel_at, phase_entry}
 use Rattle.sd_base.specs.Schedules.{Needs}
 use Rattle.sd_base.proofs.Moment.{Able}
 use Rattle.sd_base.proofs.Ends.{sum_to}
@@ -54,24 +54,27 @@ pub record EndsOne (moment : ℕ) (old new : ActorState) : Type 0 where
   pub past : (k : ℕ) → k < new.ended - old.ended → slice_index old.running k ≤ moment
   pub next : new.ended - old.ended < length old.running → moment < slice_index old.running (new.ended - old.ended)
 
--- the targets of those of these channels that they lacked are touched, and nothing else is changed
-pub record Touches (net : Net) (channels : List ℕ) (old new : List ActorState) : Type 0 where
+-- the targets of those of these channels that they lacked are touched, but for those that still lack tokens there, and nothing
+-- else is changed
+pub record Touches (net : Net) (tokens channels : List ℕ) (old new : List ActorState) : Type 0 where
   pub long : length new ≡ length old
   pub started : (b : ℕ) → started_in new b ≡ started_in old b
   pub ended : (b : ℕ) → ended_in new b ≡ ended_in old b
   pub running : (b : ℕ) → running_in new b ≡ running_in old b
   pub kept : (b : ℕ) → touched_in new b ≡ false → touched_in old b ≡ false
   pub lacking : (b : ℕ) → lacking_in new b ≡ lacking_in old b
-  pub there : (j : ℕ) → j < length channels → touched_in new (channel_at net (slice_index channels j)).target ≡ false → lacking_in new (channel_at net (slice_index channels j)).target ≢ slice_index channels j
+  pub there : (j : ℕ) → j < length channels → touched_in new (channel_at net (slice_index channels j)).target ≡ false → lacking_in new (channel_at net (slice_index channels j)).target ≡ slice_index channels j →
+      slice_index tokens (slice_index channels j) < phase_entry (channel_at net (slice_index channels j)).taken (started_in new (channel_at net (slice_index channels j)).target)
 
 -- each actor's firings that ended by a moment are off its list, and an actor may be untouched if the channel that it lacked
--- gained nothing
+-- gained nothing, or still lacks tokens
 pub record EndsAll (net : Net) (moment : ℕ) (old new : List ActorState) : Type 0 where
   pub long : length new ≡ length old
   pub each : (b : ℕ) → b < length net.times → EndsOne moment (slice_index_or old b idle) (slice_index_or new b idle)
   pub lacking : (b : ℕ) → lacking_in new b ≡ lacking_in old b
   pub untouched : (i : ℕ) → i < length net.channels → touched_in new (channel_at net i).target ≡ false → lacking_in new (channel_at net i).target ≡ i →
-      ended_in new (channel_at net i).source ≡ ended_in old (channel_at net i).source
+      (ended_in new (channel_at net i).source ≡ ended_in old (channel_at net i).source)
+      ⊎ Needs (channel_at net i) (started_in new (channel_at net i).target) (ended_in new (channel_at net i).source)
 
 -- where the actors stand fits together
 pub record Stand (net : Net) (actors : List ActorState) (tokens : List ℕ) : Type 0 where

@@ -1,5 +1,5 @@
 -- What the starts of an actor at one moment do.
-use Rattle.std.specs.Prelude.{◌≡◌, ℕ, ◌+◌, ◌≤◌, ◌<◌, List, length, slice_index}
+use Rattle.std.specs.Prelude.{◌≡◌, ℕ, ◌+◌, ◌*◌, ◌≤◌, ◌<◌, List, length, slice_index}
 use Rattle.sd_base.specs.Net.{Net, channel_at, total}
 use Rattle.sd_base.specs.Schedules.{time_of}
 use Rattle.firing.specs.Wiring.{LacksNow, TakesTokens}
@@ -15,6 +15,11 @@ abbrev pub Feeds : Net → List ℕ → ℕ → ℕ → ℕ → Type 0
 Feeds net tokens a k n =
     (i : ℕ) → i < length net.channels → (channel_at net i).target ≡ a →
     total (channel_at net i).taken (k + n) ≤ slice_index tokens i + total (channel_at net i).taken k
+
+-- channel i into a, which has one phase, has too few tokens for more than n firings
+abbrev pub FeedsNoMore : Net → List ℕ → ℕ → ℕ → ℕ → Type 0
+FeedsNoMore net tokens a n i =
+    (i < length net.channels) × ((channel_at net i).target ≡ a) × (slice_index tokens i < (n + 1) * slice_index (channel_at net i).taken 0)
 
 -- n firings of a from number k on start at a moment, and no more can, for want of tokens on channel i
 pub record StartsAll (net : Net) (a moment k n i : ℕ) (tokens left runs more : List ℕ) : Type 0 where

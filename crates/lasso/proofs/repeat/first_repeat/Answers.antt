@@ -3,6 +3,7 @@ use Rattle.selftimed.specs.declared.engine.Stage.TheVariants.{Fresh, Running}
 use Rattle.lasso.proofs.Visiting.{next-visit, ends-many, ends-spent}
 use Rattle.lasso.proofs.Searched.{many-first}
 use Rattle.lasso.proofs.Repeated.{none-apart, differ-apart, apart-more, repeat-here, follows-later, follows-first, lead-later}
+use Rattle.lasso.proofs.Collected.{has-rows, has-fewer, has-next}
 use Rattle.lasso.proofs.repeat.first_repeat.Goals as goal
 
 pub go_on-requires-clause-inputs : goal.go_on-requires-clause-inputs
@@ -21,6 +22,7 @@ events-init g c =
       most = c.requires.lead_most;
       stands = rw c.requires.lead refl;
       start = λ fresh. c.requires.start;
+      collected = rw c.requires.lead c.requires.starts;
       none = none-apart (g.F.Firing.net c.args.lead.now.net.now) c.args.period;
       trail_net = c.go_on.ensures.net;
       trail_most = c.go_on.ensures.most;
@@ -37,6 +39,18 @@ returns-then-not-branch-2-clause-refused g c =
     ends-many (g.F.Firing.net c.args.lead.now.net.now) (g.met.F.Firing.lawful c.args.lead.now.net.now) c.requires.inputs c.events._event c.args.states c.events.lead.moment c.events.lead.stage
     (differ-apart (g.F.Firing.net c.args.lead.now.net.now) (g.met.F.Firing.lawful c.args.lead.now.net.now) c.requires.inputs c.args.period c.requires.period c.events._event c.events.invariant.none) c.events.invariant.stands c.events-test.true goes
 
+pub add_starts-requires-clause-rows : goal.add_starts-requires-clause-rows
+add_starts-requires-clause-rows g c =
+    let goes = rw c.events.invariant.net at (rw c.if-not-branch-2.false at c.in_ok-go_on-2.ensures.goes) in
+    rw (c.go_on-in-events.ensures.net, c.events.invariant.net) (has-rows (g.F.Firing.net c.args.lead.now.net.now) (g.met.F.Firing.lawful c.args.lead.now.net.now) c.requires.inputs c.events.lead.stage c.events.lead.moment c.go_on-in-events.new.engine.moment c.events.starts
+    c.events.invariant.collected goes.1)
+
+pub add_starts-requires-clause-fewer : goal.add_starts-requires-clause-fewer
+add_starts-requires-clause-fewer g c =
+    let goes = rw c.events.invariant.net at (rw c.if-not-branch-2.false at c.in_ok-go_on-2.ensures.goes) in
+    rw (c.go_on-in-events.ensures.net, c.events.invariant.net) (has-fewer (g.F.Firing.net c.args.lead.now.net.now) (g.met.F.Firing.lawful c.args.lead.now.net.now) c.requires.inputs c.events.lead.stage c.events.lead.moment c.go_on-in-events.new.engine.moment c.events.starts
+    c.events.invariant.collected goes.1)
+
 pub meets-requires-clause-inputs : goal.meets-requires-clause-inputs
 meets-requires-clause-inputs g c = rw (c.go_on-in-events.ensures.net, c.events.invariant.net) c.requires.inputs
 
@@ -52,6 +66,12 @@ returns-then-branch-clause-found g c =
     rw c.moment.ensures (repeat-here (g.F.Firing.net c.args.lead.now.net.now) (g.met.F.Firing.lawful c.args.lead.now.net.now) c.requires.inputs c.args.period c.requires.period c.events._event c.args.states c.events.lead.moment c.meets.new.trail.moment c.go_on-in-events.new.engine.moment c.events.lead.stage
     c.events.invariant.none c.events.invariant.stands goes.1 goes.2 c.events-test.true (rw (c.go_on-in-events.ensures.net, c.events.invariant.net) at (rw c.if-branch.true at c.in_ok-meets.ensures.met)))
 
+pub returns-then-branch-clause-starts : goal.returns-then-branch-clause-starts
+returns-then-branch-clause-starts g c =
+    let goes = rw c.events.invariant.net at (rw c.if-not-branch-2.false at c.in_ok-go_on-2.ensures.goes) in
+    rw c.moment.ensures (has-next (g.F.Firing.net c.args.lead.now.net.now) (g.met.F.Firing.lawful c.args.lead.now.net.now) c.requires.inputs c.events.lead.stage c.events.lead.moment c.go_on-in-events.new.engine.moment c.events.starts c.add_starts.new.starts
+    c.events.invariant.collected goes.1 (rw (c.go_on-in-events.ensures.net, c.events.invariant.net) at c.in_ok-add_starts.ensures))
+
 pub events-preserved : goal.events-preserved
 events-preserved g c =
     let goes = rw c.events.invariant.most at (rw c.events.invariant.net at (rw c.if-not-branch-2.false at c.in_ok-go_on-2.ensures.goes)) in
@@ -60,6 +80,8 @@ events-preserved g c =
       net = c.go_on-in-events.ensures.net ∙ c.events.invariant.net;
       most = c.go_on-in-events.ensures.most ∙ c.events.invariant.most;
       stands = rw goes.0 (event.0, event.1, goes.2);
+      collected = rw goes.0 (has-next (g.F.Firing.net c.args.lead.now.net.now) (g.met.F.Firing.lawful c.args.lead.now.net.now) c.requires.inputs c.events.lead.stage c.events.lead.moment c.go_on-in-events.new.engine.moment c.events.starts c.add_starts.new.starts
+          c.events.invariant.collected goes.1 (rw (c.go_on-in-events.ensures.net, c.events.invariant.net) at c.in_ok-add_starts.ensures));
       start = λ fresh. absurd (let clash : Fresh ≡ Running = sym fresh ∙ goes.0 in cc);
       none = apart-more (g.F.Firing.net c.args.lead.now.net.now) (g.met.F.Firing.lawful c.args.lead.now.net.now) c.requires.inputs c.args.period c.requires.period c.events._event c.go_on-in-events.new.engine.moment c.events.invariant.none event.0 event.1
           (rw (c.go_on-in-events.ensures.net, c.events.invariant.net) at (rw c.if-branch.false at c.in_ok-meets.ensures.met));

@@ -1,5 +1,6 @@
 use Rattle.std.proofs.Common.{◌≡◌}
 use Rattle.selftimed.specs.declared.engine.Stage.TheVariants.{Fresh, Running}
+use Rattle.lasso.specs.inside.Collecting.{HasStarts}
 use Rattle.lasso.specs.inside.Going.{Follows, StandsAt}
 use Rattle.lasso.specs.inside.Searching.{NoneApart}
 use Rattle.lasso.proofs.repeat.first_repeat.Given as goal
@@ -10,6 +11,7 @@ invariant-events g l = record {
   most : l.lead.most ≡ 4000000;
   stands : StandsAt (g.F.Firing.net l.fn.lead.net.now) l._event l.lead.stage l.lead.moment;
   start : l.lead.stage ≡ Fresh → l.lead.moment ≡ 0;
+  collected : HasStarts (g.F.Firing.net l.fn.lead.net.now) l.lead.stage l.lead.moment l.starts;
   none : NoneApart (g.F.Firing.net l.fn.lead.net.now) l.period l._event;
   trail_net : l.trail.net ≡ l.fn.trail.net;
   trail_most : l.trail.most ≡ l.fn.trail.most;

@@ -67,10 +67,10 @@ loop-actor-preserved g c =
     (heap_items c.loop-actor.agenda.ends) (heap_items c.pop_due.new.self.ends) (heap_items c.announce.new.self.ends) c.loop-actor.agenda.touched.items c.touch_targets.new.agenda.touched.items
     (get_or_default c.loop-actor.actors c.in-Some.actor c.index-actors-actor.result idle place) actor c.loop-actor.invariant c.in-Some.ensures.taken.2 announced c.in_ok-touch_targets.ensures.lists
     c.end_actor.ensures.ended c.end_actor.ensures.touched c.end_actor.ensures.lacking
-    (kept-touches (g.F.Firing.net c.args.self.now.net.now) c.outputs_of-outputs.result.now (set c.loop-actor.actors c.in-Some.actor c.end_actor.new.state) c.touch_targets.new.actors c.in_ok-touch_targets.ensures.touched)
+    (kept-touches (g.F.Firing.net c.args.self.now.net.now) c.as_slice.result.now c.outputs_of-outputs.result.now (set c.loop-actor.actors c.in-Some.actor c.end_actor.new.state) c.touch_targets.new.actors c.in_ok-touch_targets.ensures.touched)
     c.end_actor.ensures.puts c.end_actor.ensures.long
-    (λ i there from off lacks. absurd (touched-fed (g.F.Firing.net c.args.self.now.net.now) c.in-Some.actor c.outputs_of-outputs.result.now (set c.loop-actor.actors c.in-Some.actor c.end_actor.new.state) c.touch_targets.new.actors
-    (rw c.outputs_of-outputs.ensures (c.args.self.now.outputs.each c.in-Some.actor actor)) c.in_ok-touch_targets.ensures.touched i there from off lacks)))
+    (rw c.as_slice.ensures at (touched-fed (g.F.Firing.net c.args.self.now.net.now) c.in-Some.actor c.as_slice.result.now c.outputs_of-outputs.result.now (set c.loop-actor.actors c.in-Some.actor c.end_actor.new.state) c.touch_targets.new.actors
+    (rw c.outputs_of-outputs.ensures (c.args.self.now.outputs.each c.in-Some.actor actor)) c.in_ok-touch_targets.ensures.touched)))
 
 pub returns-clause-ended : goal.returns-clause-ended
 returns-clause-ended g c =

@@ -1,5 +1,0 @@
-use Rattle.selftimed.proofs.Batches.{BatchSoFar}
-use Rattle.selftimed.proofs.starts.Turn.batch_size.Given as goal
-
-abbrev pub invariant-loop-channel : goal.invariant-loop-channel
-invariant-loop-channel g l = BatchSoFar (g.F.Firing.net l.self.net.now) l.self.inputs.now l.tokens l.most l.best l.channel-index
