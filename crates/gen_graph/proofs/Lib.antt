@@ -2,4 +2,8 @@ mod OneMore
 mod Values
 mod ElementTexts
 mod TreeTexts
-mod MadeTables
+pub mod MadeTables
+mod NumbersBack
+mod Listed
+mod ReadBack
+mod TableBack

@@ -1,8 +1,9 @@
 //! Graph tables as graph files.
 
-ghost use Rattle.std.specs.Prelude.{◌≡◌, ◌<◌, [], ◌∷◌, ◌++◌, IfOk, OnOk, length, map, All};
+ghost use Rattle.std.specs.Prelude.{◌≡◌, ◌<◌, Bool, IsTrue, [], ◌∷◌, ◌++◌, IfOk, OnOk, length, map, All};
 ghost use Rattle.sd_base.specs.declared.tables.ChannelRow.{ChannelRow};
-ghost use Rattle.sd_base.specs.Tables.{KeepsRules};
+ghost use Rattle.sd_base.specs.Tables.{IsTimed, KeepsRules};
+ghost use Rattle.graph_reader.specs.Laws.{Gives};
 ghost use Rattle.file_text.specs.Grammar.{IsText};
 ghost use Rattle.file_text.specs.Node.{nodes};
 ghost use Rattle.gen_graph.specs.NodeTexts.{element_text, elements_text};
@@ -22,6 +23,8 @@ pub fn write_graph(alloc: Global, graph: &GraphFile) -> Result<Rows<u8>, NoMemor
     ensures written { IfOk result (λ t. t ≡ written graph.now) }
     // The file spells the table's tree.
     ensures spells { IfOk result (λ t. IsWritable graph.now → IsText (graph_tree graph.now) t) }
+    // It is read as the table, with times needed where each actor has its times.
+    ensures read { IfOk result (λ t. IsWritable graph.now → (need_times : Bool) → (IsTrue need_times → IsTimed graph.now) → Gives t need_times graph.now) }
 {
     let mut text = Vec::new(alloc);
     put(&mut text, "<?xml version=\"1.0\" encoding=\"UTF-8\"?>\n")?;
