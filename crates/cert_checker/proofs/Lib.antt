@@ -4,3 +4,8 @@ pub mod Connected
 pub mod RateFaults
 pub mod RateClaims
 pub mod BuffersHeld
+pub mod Marking
+pub mod WalkTimes
+pub mod Listing
+pub mod ScenarioFaults
+pub mod WorstClaims
