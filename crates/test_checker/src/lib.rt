@@ -1,0 +1,5 @@
+//! Runs the checker on certificates whose verdicts are worked out by hand. It has no calls of its own.
+#![tactic(auto)]
+
+#[cfg(test)]
+mod rates;
