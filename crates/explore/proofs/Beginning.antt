@@ -2,6 +2,8 @@
 use Rattle.std.proofs.Common.{◌≡◌, ℕ, ◌≤◌, ◌<◌, Option, List, [], ◌∷◌, length, inl, inr, ⊎_elim, refl, sym, ap, ◌∙◌, subst, arith}
 use Rattle.sd_base.specs.declared.limits.Limits.{Limits}
 use Rattle.sd_base.specs.Net.{Net}
+use Rattle.liveness.specs.RoundAnswers.{IsReached}
+use Rattle.storage.specs.BoundedNets.{bound}
 use Rattle.storage.specs.Distributions.{storage_of}
 use Rattle.storage.specs.Steps.{IsCorner}
 use Rattle.storage.proofs.CornerLists.{corner-distribution, corner-grid}
@@ -13,7 +15,7 @@ use Rattle.explore.specs.Explorations.{IsOneOf}
 use Rattle.explore.specs.inside.Searches.{AreKnown, IsCandidate, IsSearch, IsSpread, Waits}
 
 module _ (net : Net) (can : IsExplorable net) (limits : Limits) (ds : List (Option ℕ)) (is : IsCorner net.channels ds) where
-  known-none : AreKnown net limits.states [] []
+  pub known-none : AreKnown net limits.states [] []
   known-none = record {
     entries = [];
     noted = tt;
@@ -21,7 +23,7 @@ module _ (net : Net) (can : IsExplorable net) (limits : Limits) (ds : List (Opti
     tables = λ p one. absurd one;
   }
 
-  candidate : storage_of net.channels ds ≤ limits.total → IsCandidate net limits.total ds
+  pub candidate : storage_of net.channels ds ≤ limits.total → IsCandidate net limits.total ds
   candidate within = record {
     distribution = corner-distribution net.channels ds can.plain is;
     grid = corner-grid net.channels ds is;
@@ -29,7 +31,7 @@ module _ (net : Net) (can : IsExplorable net) (limits : Limits) (ds : List (Opti
     reachable = corner ds is within;
   }
 
-  spread-none : limits.total < storage_of net.channels ds → IsSpread net limits.total 0 [] [] []
+  pub spread-none : limits.total < storage_of net.channels ds → IsSpread net limits.total 0 [] [] []
   spread-none past = record {
     candidates = λ es one. absurd one;
     order = tt;
@@ -42,8 +44,8 @@ module _ (net : Net) (can : IsExplorable net) (limits : Limits) (ds : List (Opti
     led = λ es found. ⊎_elim (λ (none : ⊥). absurd none) (λ (w : (v : Waiting) × ⊥ × (v.capacities.capacities ≡ es)). absurd w.1) found;
   }
 
-  spread-one : (w : Waiting) → w.capacities.capacities ≡ ds → w.total ≡ storage_of net.channels ds → storage_of net.channels ds ≤ limits.total → IsSpread net limits.total 0 [] [] (w ∷ [])
-  spread-one w same total within = record {
+  spread-one : (w : Waiting) → w.capacities.capacities ≡ ds → w.total ≡ storage_of net.channels ds → storage_of net.channels ds ≤ limits.total → IsReached (bound net w.capacities.capacities) w.counts → IsSpread net limits.total 0 [] [] (w ∷ [])
+  spread-one w same total within reached = record {
     candidates = λ es one. absurd one;
     order = tt;
     low = λ es one. absurd one;
@@ -56,7 +58,7 @@ module _ (net : Net) (can : IsExplorable net) (limits : Limits) (ds : List (Opti
   }
     where
       mine : Waits net limits.total 0 w
-      mine = record { candidate = subst (IsCandidate net limits.total) (sym same) (candidate within); total = total ∙ ap (storage_of net.channels) (sym same); above = omega arith }
+      mine = record { candidate = subst (IsCandidate net limits.total) (sym same) (candidate within); total = total ∙ ap (storage_of net.channels) (sym same); above = omega arith; reached = reached }
 
   search-from : (s : Search) (ws : List Waiting) → IsSpread net limits.total 0 [] [] ws → s.waiting.keys ≡ ws → s.members.items ≡ [] → s.front ≡ [] → s.found ≡ length ws → length ws ≤ limits.distributions → IsSearch net limits 0 [] s
   search-from s ws spread waiting members front found few = record {
@@ -66,8 +68,5 @@ module _ (net : Net) (can : IsExplorable net) (limits : Limits) (ds : List (Opti
     few = omega (arith, found, few);
   }
 
-  pub begun-none : (s : Search) → limits.total < storage_of net.channels ds → s.waiting.keys ≡ [] → s.members.items ≡ [] → s.front ≡ [] → s.found ≡ 0 → IsSearch net limits 0 [] s
-  begun-none s past waiting members front found = search-from s [] (spread-none past) waiting members front found (omega arith)
-
-  pub begun-one : (s : Search) (w : Waiting) → w.capacities.capacities ≡ ds → w.total ≡ storage_of net.channels ds → storage_of net.channels ds ≤ limits.total → s.waiting.keys ≡ w ∷ [] → s.members.items ≡ [] → s.front ≡ [] → s.found ≡ 1 → 1 ≤ limits.distributions → IsSearch net limits 0 [] s
-  begun-one s w same total within waiting members front found some = search-from s (w ∷ []) (spread-one w same total within) waiting members front found some
+  pub begun-one : (s : Search) (w : Waiting) → w.capacities.capacities ≡ ds → w.total ≡ storage_of net.channels ds → storage_of net.channels ds ≤ limits.total → IsReached (bound net w.capacities.capacities) w.counts → s.waiting.keys ≡ w ∷ [] → s.members.items ≡ [] → s.front ≡ [] → s.found ≡ 1 → 1 ≤ limits.distributions → IsSearch net limits 0 [] s
+  begun-one s w same total within reached waiting members front found some = search-from s (w ∷ []) (spread-one w same total within reached) waiting members front found some

@@ -10,7 +10,7 @@ use Rattle.sd_base.specs.Net.{Net}
 use Rattle.storage.specs.Distributions.{storage_of}
 use Rattle.explore.specs.declared.waiting.Waiting.{Waiting}
 use Rattle.explore.specs.Explorations.{AreInOrder, IsBefore, IsOneOf}
-use Rattle.explore.specs.inside.Searches.{waiting_order}
+use Rattle.explore.specs.inside.Searches.{StandsIn, waiting_order}
 use Rattle.explore.proofs.Elements.{one-unmap}
 use Rattle.explore.proofs.WaitingOrder.{waits-before, waits-same}
 
@@ -34,14 +34,14 @@ insert-old (x ∷ ws) k w is = at (waiting_order k x) (insert-old ws k w) is
     at Greater rest (inl same) = inl same
     at Greater rest (inr later) = inr (rest later)
 
-pub insert-new : (ws : List Waiting) (k : Waiting) → IsOneOf (insert_key waiting_order ws k) k
-insert-new [] k = inl refl
+pub insert-new : (ws : List Waiting) (k : Waiting) → StandsIn (insert_key waiting_order ws k) k
+insert-new [] k = (k, inl refl, refl)
 insert-new (x ∷ ws) k = at (waiting_order k x) refl (insert-new ws k)
   where
-    at : (o : Ordering) → waiting_order k x ≡ o → IsOneOf (insert_key waiting_order ws k) k → IsOneOf (match_ordering o (k ∷ x ∷ ws) (x ∷ ws) (x ∷ insert_key waiting_order ws k)) k
-    at Less is rest = inl refl
-    at Equal is rest = inl (sym (waits-same k x is))
-    at Greater is rest = inr rest
+    at : (o : Ordering) → waiting_order k x ≡ o → StandsIn (insert_key waiting_order ws k) k → StandsIn (match_ordering o (k ∷ x ∷ ws) (x ∷ ws) (x ∷ insert_key waiting_order ws k)) k
+    at Less is rest = (k, inl refl, refl)
+    at Equal is rest = (x, inl refl, sym (waits-same k x is))
+    at Greater is rest = (rest.0, inr rest.1, rest.2)
 
 all-one : (P : Waiting → Type 0) (ws : List Waiting) (w : Waiting) → AllByRecursion P ws → IsOneOf ws w → P w
 all-one P [] w all is = absurd is

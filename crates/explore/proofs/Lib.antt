@@ -14,3 +14,4 @@ pub mod Ending
 pub mod Turning
 pub mod Beginning
 pub mod Explorable
+pub mod Reaching

@@ -20,7 +20,7 @@ use Rattle.explore.specs.declared.exploration.Member.{Member}
 use Rattle.explore.specs.declared.waiting.Waiting.{Waiting}
 use Rattle.explore.specs.Reachable.{IsExplorable, IsReachable, stepped}
 use Rattle.explore.specs.Explorations.{AreFound, AreInOrder, IsBefore, IsLedTo, IsOneOf, ShowsChannel}
-use Rattle.explore.specs.inside.Searches.{AreChildren, ArePast, IsCandidate, IsChild, IsSpread, IsTakenOff, StopsAt, Waits, WasFound, member_of, shown_by, waiting_order}
+use Rattle.explore.specs.inside.Searches.{AreChildren, ArePast, IsCandidate, IsChild, IsSpread, IsTakenOff, StandsIn, StopsAt, Waits, WasFound, member_of, shown_by, waiting_order}
 use Rattle.explore.proofs.Elements.{one-left, one-map, one-right, one-split, one-unmap, order-append}
 use Rattle.explore.proofs.Inserts.{sorted-front, sorted-order, sorted-rest}
 use Rattle.explore.proofs.WaitingOrder.{waits-before}
@@ -35,7 +35,7 @@ led-more net ms new ds (inl corner) = inl corner
 led-more net ms new ds (inr (m, one, how)) = inr (m, one-left ms new m one, how)
 
 -- the same ones wait
-pub spread-moved : (net : Net) (limit floor : ℕ) (members : List Member) (done : List (List (Option ℕ))) (old new : List Waiting) → ((w : Waiting) → IsOneOf old w → IsOneOf new w) → ((w : Waiting) → IsOneOf new w → IsOneOf old w) → IsSpread net limit floor members done old → IsSpread net limit floor members done new
+pub spread-moved : (net : Net) (limit floor : ℕ) (members : List Member) (done : List (List (Option ℕ))) (old new : List Waiting) → ((w : Waiting) → IsOneOf old w → StandsIn new w) → ((w : Waiting) → IsOneOf new w → IsOneOf old w) → IsSpread net limit floor members done old → IsSpread net limit floor members done new
 spread-moved net limit floor members done old new kept only s = record {
   candidates = s.candidates;
   order = s.order;
@@ -49,7 +49,7 @@ spread-moved net limit floor members done old new kept only s = record {
 }
   where
     there : (ds : List (Option ℕ)) → WasFound done old ds → WasFound done new ds
-    there ds found = found-more done done old new ds (λ es is. is) (λ w is. inr (w, kept w is, refl)) found
+    there ds found = found-more done done old new ds (λ es is. is) (λ w is. inr (kept w is)) found
 
 -- what an outcome shows is what its member shows
 outcome-shown : (net : Net) (ds : List (Option ℕ)) (states : ℕ) (rate : Fraction) (shown : List ℕ) (outcome : Outcome) → IsOutcome net ds states rate shown outcome → (c : ℕ) → Has shown c ↔ ShowsChannel net ds (shown_by outcome) c
@@ -72,6 +72,7 @@ module _ (net : Net) (laws : Lawful net) (can : IsExplorable net) (limit floor :
         candidate = subst (IsCandidate net limit) (sym child.is) (child-candidate net laws can limit d.capacities fits states e is child.channel child.has within);
         total = child.total;
         above = omega (arith, child.total, above);
+        reached = child.reached;
       }
 
   there : (ds : List (Option ℕ)) → WasFound done pending ds → WasFound done (children ++ pending) ds
@@ -140,61 +141,61 @@ above-stop total (x ∷ ws) stops sorted least w is =
     let first : total < x.total = ⊎_elim (λ (less : total < x.total). less) (λ (no_less : x.total ≤ total). absurd (stops (omega (arith, least x (inl refl))))) (cases_lt total x.total) in
     omega (arith, first, least-first x w ws sorted is)
 
-module _ (net : Net) (limit floor : ℕ) (members : List Member) (done : List (List (Option ℕ))) (total : ℕ) (level : List Distribution) (first : Waiting) (rest new : List Waiting) (starts : first.total ≡ total) (off : IsTakenOff total level (first ∷ rest) new) (sorted : IsStrictlySortedBy waiting_order (first ∷ rest)) (s : IsSpread net limit floor members done (first ∷ rest)) where
-  both : IsStrictlySortedBy waiting_order (off.taken ++ new)
+module _ (net : Net) (limit floor : ℕ) (members : List Member) (done : List (List (Option ℕ))) (total : ℕ) (level : List Waiting) (first : Waiting) (rest new : List Waiting) (starts : first.total ≡ total) (off : IsTakenOff total level (first ∷ rest) new) (sorted : IsStrictlySortedBy waiting_order (first ∷ rest)) (s : IsSpread net limit floor members done (first ∷ rest)) where
+  both : IsStrictlySortedBy waiting_order (level ++ new)
   both = subst (IsStrictlySortedBy waiting_order) off.parts sorted
 
-  was : (w : Waiting) → IsOneOf (off.taken ++ new) w → IsOneOf (first ∷ rest) w
+  was : (w : Waiting) → IsOneOf (level ++ new) w → IsOneOf (first ∷ rest) w
   was w one = subst (λ (ws : List Waiting). IsOneOf ws w) (sym off.parts) one
 
-  waits-in : (w : Waiting) → IsOneOf (off.taken ++ new) w → Waits net limit floor w
+  waits-in : (w : Waiting) → IsOneOf (level ++ new) w → Waits net limit floor w
   waits-in w one = s.waits w (was w one)
 
-  at-least : (w : Waiting) → IsOneOf (off.taken ++ new) w → total ≤ w.total
+  at-least : (w : Waiting) → IsOneOf (level ++ new) w → total ≤ w.total
   at-least w one = omega (arith, starts, least-first first w rest sorted (was w one))
 
   floor-low : floor ≤ total
   floor-low = let waits : Waits net limit floor first = s.waits first (inl refl) in omega (arith, waits.above, starts)
 
-  pub level-are : map (λ (d : Distribution). d.capacities) level ≡ map (λ (w : Waiting). w.capacities.capacities) off.taken
-  level-are = ap (λ (ds : List Distribution). map (λ (d : Distribution). d.capacities) ds) off.are ∙ map-map (λ (d : Distribution). d.capacities) (λ (w : Waiting). w.capacities) off.taken
+  of-level : (ds : List (Option ℕ)) → IsOneOf (map (λ (w : Waiting). w.capacities.capacities) level) ds → (w : Waiting) × IsOneOf level w × (w.capacities.capacities ≡ ds)
+  of-level ds one = one-unmap (λ (w : Waiting). w.capacities.capacities) level ds one
 
-  of-level : (ds : List (Option ℕ)) → IsOneOf (map (λ (d : Distribution). d.capacities) level) ds → (w : Waiting) × IsOneOf off.taken w × (w.capacities.capacities ≡ ds)
-  of-level ds one = one-unmap (λ (w : Waiting). w.capacities.capacities) off.taken ds (subst (λ (xs : List (List (Option ℕ))). IsOneOf xs ds) level-are one)
+  pub level-waits : (w : Waiting) → IsOneOf level w → Waits net limit floor w
+  level-waits w one = waits-in w (one-left level new w one)
 
-  pub level-candidate : (ds : List (Option ℕ)) → IsOneOf (map (λ (d : Distribution). d.capacities) level) ds → IsCandidate net limit ds
-  level-candidate ds one = let w = of-level ds one in subst (IsCandidate net limit) w.2 (waits-in w.0 (one-left off.taken new w.0 w.1)).candidate
+  pub level-candidate : (ds : List (Option ℕ)) → IsOneOf (map (λ (w : Waiting). w.capacities.capacities) level) ds → IsCandidate net limit ds
+  level-candidate ds one = let w = of-level ds one in subst (IsCandidate net limit) w.2 (waits-in w.0 (one-left level new w.0 w.1)).candidate
 
-  pub level-storage : (ds : List (Option ℕ)) → IsOneOf (map (λ (d : Distribution). d.capacities) level) ds → storage_of net.channels ds ≡ total
+  pub level-storage : (ds : List (Option ℕ)) → IsOneOf (map (λ (w : Waiting). w.capacities.capacities) level) ds → storage_of net.channels ds ≡ total
   level-storage ds one =
       let w = of-level ds one in
-      subst (λ (es : List (Option ℕ)). storage_of net.channels es ≡ total) w.2 (sym (waits-in w.0 (one-left off.taken new w.0 w.1)).total ∙ off.totals w.0 w.1)
+      subst (λ (es : List (Option ℕ)). storage_of net.channels es ≡ total) w.2 (sym (waits-in w.0 (one-left level new w.0 w.1)).total ∙ off.totals w.0 w.1)
 
-  level-order : AreInOrder net (map (λ (d : Distribution). d.capacities) level)
-  level-order = subst (AreInOrder net) (sym level-are) (sorted-order net off.taken (sorted-left off.taken new both) (λ w one. (waits-in w (one-left off.taken new w one)).total))
+  level-order : AreInOrder net (map (λ (w : Waiting). w.capacities.capacities) level)
+  level-order = sorted-order net level (sorted-left level new both) (λ w one. (waits-in w (one-left level new w one)).total)
 
-  found-in : (ds : List (Option ℕ)) → WasFound done (first ∷ rest) ds → WasFound (done ++ map (λ (d : Distribution). d.capacities) level) new ds
-  found-in ds found = found-more done (done ++ map (λ (d : Distribution). d.capacities) level) (first ∷ rest) new ds
-      (λ es one. one-left done (map (λ (d : Distribution). d.capacities) level) es one)
+  found-in : (ds : List (Option ℕ)) → WasFound done (first ∷ rest) ds → WasFound (done ++ map (λ (w : Waiting). w.capacities.capacities) level) new ds
+  found-in ds found = found-more done (done ++ map (λ (w : Waiting). w.capacities.capacities) level) (first ∷ rest) new ds
+      (λ es one. one-left done (map (λ (w : Waiting). w.capacities.capacities) level) es one)
       (λ w one. ⊎_elim
-      (λ (taken : IsOneOf off.taken w). inl (one-right done (map (λ (d : Distribution). d.capacities) level) w.capacities.capacities (subst (λ (xs : List (List (Option ℕ))). IsOneOf xs w.capacities.capacities) (sym level-are) (one-map (λ (x : Waiting). x.capacities.capacities) off.taken w taken))))
+      (λ (taken : IsOneOf level w). inl (one-right done (map (λ (w : Waiting). w.capacities.capacities) level) w.capacities.capacities (one-map (λ (x : Waiting). x.capacities.capacities) level w taken)))
       (λ (later : IsOneOf new w). inr (w, later, refl))
-      (one-split off.taken new w (subst (λ (ws : List Waiting). IsOneOf ws w) off.parts one)))
+      (one-split level new w (subst (λ (ws : List Waiting). IsOneOf ws w) off.parts one)))
       found
 
-  found-back : (ds : List (Option ℕ)) → WasFound (done ++ map (λ (d : Distribution). d.capacities) level) new ds → WasFound done (first ∷ rest) ds
-  found-back ds (inr (w, one, same)) = inr (w, was w (one-right off.taken new w one), same)
-  found-back ds (inl one) = ⊎_elim (λ (h : IsOneOf done ds). inl h) (λ (h : IsOneOf (map (λ (d : Distribution). d.capacities) level) ds). let w = of-level ds h in inr (w.0, was w.0 (one-left off.taken new w.0 w.1), w.2)) (one-split done (map (λ (d : Distribution). d.capacities) level) ds one)
+  found-back : (ds : List (Option ℕ)) → WasFound (done ++ map (λ (w : Waiting). w.capacities.capacities) level) new ds → WasFound done (first ∷ rest) ds
+  found-back ds (inr (w, one, same)) = inr (w, was w (one-right level new w one), same)
+  found-back ds (inl one) = ⊎_elim (λ (h : IsOneOf done ds). inl h) (λ (h : IsOneOf (map (λ (w : Waiting). w.capacities.capacities) level) ds). let w = of-level ds h in inr (w.0, was w.0 (one-left level new w.0 w.1), w.2)) (one-split done (map (λ (w : Waiting). w.capacities.capacities) level) ds one)
 
-  apart : (ds es : List (Option ℕ)) → IsOneOf done ds → IsOneOf (map (λ (d : Distribution). d.capacities) level) es → IsBefore net ds es
+  apart : (ds es : List (Option ℕ)) → IsOneOf done ds → IsOneOf (map (λ (w : Waiting). w.capacities.capacities) level) es → IsBefore net ds es
   apart ds es one other = inl (omega (arith, s.low ds one, level-storage es other, floor-low))
 
-  pub spread-level : IsSpread net limit (total + 1) members (done ++ map (λ (d : Distribution). d.capacities) level) new
+  pub spread-level : IsSpread net limit (total + 1) members (done ++ map (λ (w : Waiting). w.capacities.capacities) level) new
   spread-level = record {
-    candidates = λ ds one. ⊎_elim (λ (h : IsOneOf done ds). s.candidates ds h) (λ (h : IsOneOf (map (λ (d : Distribution). d.capacities) level) ds). level-candidate ds h) (one-split done (map (λ (d : Distribution). d.capacities) level) ds one);
-    order = order-append net done (map (λ (d : Distribution). d.capacities) level) s.order level-order apart;
-    low = λ ds one. ⊎_elim (λ (h : IsOneOf done ds). omega (arith, s.low ds h, floor-low)) (λ (h : IsOneOf (map (λ (d : Distribution). d.capacities) level) ds). omega (arith, level-storage ds h)) (one-split done (map (λ (d : Distribution). d.capacities) level) ds one);
-    waits = λ w one. let it = waits-in w (one-right off.taken new w one) in record { candidate = it.candidate; total = it.total; above = omega (arith, above-stop total new off.stops (sorted-right off.taken new both) (λ v later. at-least v (one-right off.taken new v later)) w one) };
+    candidates = λ ds one. ⊎_elim (λ (h : IsOneOf done ds). s.candidates ds h) (λ (h : IsOneOf (map (λ (w : Waiting). w.capacities.capacities) level) ds). level-candidate ds h) (one-split done (map (λ (w : Waiting). w.capacities.capacities) level) ds one);
+    order = order-append net done (map (λ (w : Waiting). w.capacities.capacities) level) s.order level-order apart;
+    low = λ ds one. ⊎_elim (λ (h : IsOneOf done ds). omega (arith, s.low ds h, floor-low)) (λ (h : IsOneOf (map (λ (w : Waiting). w.capacities.capacities) level) ds). omega (arith, level-storage ds h)) (one-split done (map (λ (w : Waiting). w.capacities.capacities) level) ds one);
+    waits = λ w one. let it = waits-in w (one-right level new w one) in record { candidate = it.candidate; total = it.total; reached = it.reached; above = omega (arith, above-stop total new off.stops (sorted-right level new both) (λ v later. at-least v (one-right level new v later)) w one) };
     corner = s.corner;
     is_corner = s.is_corner;
     start = λ small. found-in s.corner (s.start small);

@@ -9,7 +9,8 @@ use Rattle.sd_base.specs.declared.role.Role.TheVariants.{Space}
 use Rattle.sd_base.specs.declared.numbers.Fraction.{Fraction}
 use Rattle.critical.specs.Spaces.{Has, IsSpaceAt, no_step}
 use Rattle.storage.specs.BoundedNets.{HasNoSpaces, bound, is_space_role}
-use Rattle.storage.specs.Distributions.{CanHold, IsDistribution, capacity_at, enlarged, storage_of}
+use Rattle.liveness.specs.RoundAnswers.{IsReached}
+use Rattle.storage.specs.Distributions.{AtMost, CanHold, IsDistribution, capacity_at, enlarged, storage_of}
 use Rattle.storage.specs.ShownSpaces.{ShowsSpace}
 use Rattle.storage.specs.Steps.{IsOnGrid, step_of}
 use Rattle.storage.proofs.ChannelSteps.{some-step}
@@ -36,6 +37,18 @@ child-distribution (x ∷ cs) (None ∷ ds) zero by dist = dist
 child-distribution (x ∷ cs) (Some k ∷ ds) zero by dist = (dist.0, dist.1, omega (arith, dist.2), dist.3)
 child-distribution (x ∷ cs) (None ∷ ds) (suc c) by dist = (dist.0, dist.1, child-distribution cs ds c by dist.2)
 child-distribution (x ∷ cs) (Some k ∷ ds) (suc c) by dist = (dist.0, dist.1, dist.2, child-distribution cs ds c by dist.3)
+
+most-same : (ds : List (Option ℕ)) → AtMost ds ds
+most-same [] = tt
+most-same (None ∷ ds) = most-same ds
+most-same (Some k ∷ ds) = (omega arith, most-same ds)
+
+pub child-most : (ds : List (Option ℕ)) (c by : ℕ) → AtMost ds (enlarged ds c by)
+child-most [] c by = tt
+child-most (None ∷ ds) zero by = most-same ds
+child-most (Some k ∷ ds) zero by = (omega arith, most-same ds)
+child-most (None ∷ ds) (suc c) by = child-most ds c by
+child-most (Some k ∷ ds) (suc c) by = (omega arith, child-most ds c by)
 
 child-grid : (cs : List Channel) (ds : List (Option ℕ)) (c : ℕ) → IsOnGrid cs ds → IsOnGrid cs (enlarged ds c (step_of (slice_index_or cs c nowhere)))
 child-grid [] [] c grid = tt
@@ -136,10 +149,10 @@ module _ (net : Net) (laws : Lawful net) (can : IsExplorable net) (limit : ℕ) 
 
 -- the distributions with a step more room, one channel after another
 
-pub child-added : (net : Net) (limit : ℕ) (ds : List (Option ℕ)) (c : ℕ) (old new : List Waiting) (w : Waiting) → new ≡ old ++ w ∷ [] → w.capacities.capacities ≡ stepped net ds c → (w.total ≡ storage_of net.channels w.capacities.capacities) × (w.total ≤ limit) → IsChildAdded net limit ds c old new
-child-added net limit ds c old new w pushed is total = subst (IsChildAdded net limit ds c old) (sym pushed) (record {
+pub child-added : (net : Net) (limit : ℕ) (ds : List (Option ℕ)) (c : ℕ) (old new : List Waiting) (w : Waiting) → new ≡ old ++ w ∷ [] → w.capacities.capacities ≡ stepped net ds c → (w.total ≡ storage_of net.channels w.capacities.capacities) × (w.total ≤ limit) → IsReached (bound net w.capacities.capacities) w.counts → IsChildAdded net limit ds c old new
+child-added net limit ds c old new w pushed is total reached = subst (IsChildAdded net limit ds c old) (sym pushed) (record {
   kept = λ v one. one-left old (w ∷ []) v one;
-  each = λ v one. ⊎_elim (λ (h : IsOneOf old v). inl h) (λ (h : IsOneOf (w ∷ []) v). inr (⊎_elim (λ (same : w ≡ v). subst (λ (x : Waiting). (x.capacities.capacities ≡ stepped net ds c) × (x.total ≡ storage_of net.channels x.capacities.capacities) × (x.total ≤ limit)) same (is, total.0, total.1)) (λ (none : ⊥). absurd none) h)) (one-split old (w ∷ []) v one);
+  each = λ v one. ⊎_elim (λ (h : IsOneOf old v). inl h) (λ (h : IsOneOf (w ∷ []) v). inr (⊎_elim (λ (same : w ≡ v). subst (λ (x : Waiting). (x.capacities.capacities ≡ stepped net ds c) × (x.total ≡ storage_of net.channels x.capacities.capacities) × (x.total ≤ limit) × IsReached (bound net x.capacities.capacities) x.counts) same (is, total.0, total.1, reached)) (λ (none : ⊥). absurd none) h)) (one-split old (w ∷ []) v one);
   here = λ small. (w, one-right old (w ∷ []) w (inl refl), is);
 })
 
@@ -152,7 +165,7 @@ HasUpTo net limit ds enlarge n ws =
 
 pub children-more : (net : Net) (limit : ℕ) (ds : List (Option ℕ)) (enlarge : List ℕ) (n : ℕ) (old new : List Waiting) → n < length enlarge → HasEach net limit ds enlarge old → HasUpTo net limit ds enlarge n old → IsChildAdded net limit ds (slice_index enlarge n) old new → HasEach net limit ds enlarge new × HasUpTo net limit ds enlarge (n + 1) new
 children-more net limit ds enlarge n old new below each all added = (
-  λ w one. ⊎_elim (λ (h : IsOneOf old w). each w h) (λ (h : (w.capacities.capacities ≡ stepped net ds (slice_index enlarge n)) × (w.total ≡ storage_of net.channels w.capacities.capacities) × (w.total ≤ limit)). record { channel = slice_index enlarge n; has = (n, below, refl); is = h.0; total = h.1; within = h.2 }) (added.each w one),
+  λ w one. ⊎_elim (λ (h : IsOneOf old w). each w h) (λ (h : (w.capacities.capacities ≡ stepped net ds (slice_index enlarge n)) × (w.total ≡ storage_of net.channels w.capacities.capacities) × (w.total ≤ limit) × IsReached (bound net w.capacities.capacities) w.counts). record { channel = slice_index enlarge n; has = (n, below, refl); is = h.0; total = h.1; within = h.2; reached = h.3 }) (added.each w one),
   λ j less small. ⊎_elim
       (λ (before : j < n). let found = all j before small in (found.0, added.kept found.0 found.1, found.2))
       (λ (past : n ≤ j). let same : n ≡ j = omega arith in subst (λ (i : ℕ). storage_of net.channels (stepped net ds (slice_index enlarge i)) ≤ limit → (w : Waiting) × IsOneOf new w × (w.capacities.capacities ≡ stepped net ds (slice_index enlarge i))) same added.here small)

@@ -1,9 +1,10 @@
 -- A task that was fresh is done when it has run; and the list behind a slice that was lent.
 use Rattle.std.proofs.Common.{◌≡◌, ℕ, suc, ◌+◌, ◌≤◌, Option, List, [], ◌∷◌, ◌++◌, Result, Ok, Err, length, map, reverse, take, drop, append_assoc, refl, sym, ap, ◌∙◌, subst, arith}
-use Rattle.std.proofs.lemmas.List.{append-nil, reverse-append}
+use Rattle.std.proofs.lemmas.List.{append-nil, map-append, reverse-append, reverse-reverse}
 use Rattle.fanout.specs.JobRuns.{EachRan}
 use Rattle.sd_base.specs.Net.{Net}
 use Rattle.sd_base.specs.Counter.{Tally}
+use Rattle.firing.specs.declared.wiring.Wiring.{Wiring}
 use Rattle.lasso.specs.declared.error.RunError.{RunError}
 use Rattle.storage.specs.declared.distribution.Distribution.{Distribution}
 use Rattle.guide.specs.declared.rating.Evaluation.{Evaluation}
@@ -11,14 +12,14 @@ use Rattle.guide.specs.Evaluations.{IsEvaluable}
 use Rattle.explore.specs.inside.Levels.{HasRun, IsAnswer, IsAnswered, IsDone, IsEvaluation, IsFresh, least_loops, most_loops, onto, sum_of}
 use Rattle.explore.specs.declared.level.Answered.{Answered}
 
-pub done-from : (net own : Net) (states wanted : ℕ) (was : Distribution) (before : Tally) (now : Distribution) (after : Tally) (answer : Option (Result Evaluation RunError)) → IsFresh net own states was wanted before → HasRun own was wanted before now after answer → IsDone net states now after answer
-done-from net own states wanted was before now after answer fresh ran =
+pub done-from : (net own : Net) (wiring : Wiring) (counts : List ℕ) (states wanted : ℕ) (was : Distribution) (before : Tally) (now : Distribution) (after : Tally) (answer : Option (Result Evaluation RunError)) → IsFresh net own wiring states was counts wanted before → HasRun own was wanted before now after answer → IsDone net states now after answer
+done-from net own wiring counts states wanted was before now after answer fresh ran =
     let a = subst (λ (n : Net). IsAnswered n was.capacities wanted before.count after.count answer) fresh.net_is ran.answered in
     let b = subst (λ (s : ℕ). IsAnswered net was.capacities s before.count after.count answer) fresh.states_are a in
     let d = subst (λ (k : ℕ). IsAnswered net was.capacities states k after.count answer) fresh.count b in
     record {
       share = ran.share ∙ fresh.share;
-      fits = subst (λ (x : Distribution). IsEvaluable net x.capacities) (sym ran.same) fresh.fits;
+      fits = subst (λ (x : Distribution). IsEvaluable net x.capacities) (sym ran.same) fresh.start.fits;
       answered = subst (λ (x : Distribution). IsAnswered net x.capacities states 0 after.count answer) (sym ran.same) d;
     }
 
@@ -68,3 +69,11 @@ onto-aux f (x ∷ xs) rest =
 
 pub onto-reverse : {A : Type 0} (f : A → Distribution) (xs : List A) → onto f xs [] ≡ reverse (map f xs)
 onto-reverse f xs = onto-aux f xs [] ∙ append-nil (reverse (map f xs))
+
+map-reverse : {A : Type 0} (f : A → Distribution) (xs : List A) → map f (reverse xs) ≡ reverse (map f xs)
+map-reverse f [] = refl
+map-reverse f (x ∷ xs) = ap (map f) (reverse-append (x ∷ []) xs) ∙ (map-append f (reverse xs) (x ∷ []) ∙ (ap (λ ys. ys ++ f x ∷ []) (map-reverse f xs) ∙ sym (reverse-append (f x ∷ []) (map f xs))))
+
+-- a map of a list that was turned round, turned round
+pub turned-back : {A : Type 0} (f : A → Distribution) (xs : List A) → reverse (map f (reverse xs)) ≡ map f xs
+turned-back f xs = ap reverse (map-reverse f xs) ∙ reverse-reverse (map f xs)

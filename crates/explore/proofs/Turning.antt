@@ -7,12 +7,13 @@ use Rattle.sd_base.specs.declared.limits.Limits.{Limits}
 use Rattle.sd_base.specs.declared.limits.TheConstants.{STORAGE}
 use Rattle.sd_base.specs.Net.{Net}
 use Rattle.sd_base.specs.Lawful.{Lawful}
+use Rattle.firing.specs.declared.wiring.Wiring.{Wiring}
 use Rattle.lasso.specs.declared.error.RunError.{RunError}
 use Rattle.storage.specs.declared.distribution.Distribution.{Distribution}
 use Rattle.guide.specs.declared.rating.Evaluation.{Evaluation}
 use Rattle.guide.specs.declared.rating.Outcome.{Outcome}
 use Rattle.guide.specs.declared.rating.Outcome.TheVariants as outcomes
-use Rattle.guide.specs.Evaluations.{IsEvaluable, loops_run}
+use Rattle.guide.specs.Evaluations.{loops_run}
 use Rattle.explore.specs.declared.exploration.Member.{Member}
 use Rattle.explore.specs.declared.exploration.Shown.{Shown}
 use Rattle.explore.specs.declared.exploration.Shown.TheVariants.{Cycle, Blocked}
@@ -21,10 +22,10 @@ use Rattle.explore.specs.declared.search.Search.{Search}
 use Rattle.explore.specs.declared.waiting.Waiting.{Waiting}
 use Rattle.explore.specs.Reachable.{IsExplorable}
 use Rattle.explore.specs.Explorations.{CountsFew, IsOneOf, capacities_of, cycles_in, shows_cycle}
-use Rattle.explore.specs.inside.Levels.{IsEvaluation, most_loops, onto, sum_of}
-use Rattle.explore.specs.inside.Searches.{AreKnown, IsAnswerOf, IsNext, IsSearch, IsSpread, IsTakenOff, StopsAt, turned, waiting_order}
+use Rattle.explore.specs.inside.Levels.{IsEvaluation, IsStartable, WiresAll, most_loops, onto, sum_of}
+use Rattle.explore.specs.inside.Searches.{AreKnown, IsAnswerOf, IsNext, IsSearch, IsSpread, IsTakenOff, StopsAt, Waits, turned, waiting_order}
 use Rattle.explore.proofs.Elements.{at-one, one-at, one-map}
-use Rattle.explore.proofs.Spreading.{level-candidate, level-storage, spread-found, spread-level}
+use Rattle.explore.proofs.Spreading.{level-storage, level-waits, map-map, spread-found, spread-level}
 use Rattle.explore.proofs.Stepping.{candidate-evaluable}
 
 onto-rest : {A : Type 0} (f : A → Distribution) (xs : List A) (rest : List Distribution) (d : Distribution) → IsOneOf rest d → IsOneOf (onto f xs rest) d
@@ -72,7 +73,7 @@ counts-few net limits floor members done pending before after s rise few = (done
 pub capacities-length : (ms : List Member) → length (capacities_of ms) ≡ length ms
 capacities-length ms = length-map ms (λ (m : Member). m.capacities.capacities)
 
-module _ (net : Net) (laws : Lawful net) (can : IsExplorable net) (limits : Limits) (small : limits.total ≤ STORAGE) (floor total : ℕ) (s : Search) (search : IsSearch net limits floor (capacities_of s.members.items) s) (next : IsNext total s.waiting.keys) (level : List Distribution) (new : List Waiting) (off : IsTakenOff total level s.waiting.keys new) where
+module _ (net : Net) (laws : Lawful net) (can : IsExplorable net) (limits : Limits) (small : limits.total ≤ STORAGE) (floor total : ℕ) (s : Search) (search : IsSearch net limits floor (capacities_of s.members.items) s) (next : IsNext total s.waiting.keys) (level new : List Waiting) (off : IsTakenOff total level s.waiting.keys new) where
   off-first : IsTakenOff total level (next.first ∷ next.rest) new
   off-first = subst (λ (ws : List Waiting). IsTakenOff total level ws new) next.are off
 
@@ -82,37 +83,40 @@ module _ (net : Net) (laws : Lawful net) (can : IsExplorable net) (limits : Limi
   spread-first : IsSpread net limits.total floor s.members.items (capacities_of s.members.items) (next.first ∷ next.rest)
   spread-first = subst (IsSpread net limits.total floor s.members.items (capacities_of s.members.items)) next.are search.spread
 
-  in-level : (d : Distribution) → IsOneOf level d → IsOneOf (map (λ (x : Distribution). x.capacities) level) d.capacities
-  in-level d one = one-map (λ (x : Distribution). x.capacities) level d one
+  pub level-startable : (wiring : Wiring) → WiresAll net wiring → All (λ (w : Waiting). IsStartable net wiring w.capacities w.counts) level
+  level-startable wiring wired k d below =
+      let w : Waiting = slice_index_or level k d in
+      let waits : Waits net limits.total floor (slice_index_or level k d) = level-waits net limits.total floor s.members.items (capacities_of s.members.items) total level next.first next.rest new next.least off-first sorted-first spread-first (slice_index_or level k d) (one-at level k d below) in
+      record {
+        fits = candidate-evaluable net laws can limits.total w.capacities.capacities (omega (arith, small)) waits.candidate;
+        wired = wired w.capacities.capacities waits.candidate.distribution;
+        reached = waits.reached;
+      }
 
-  pub level-evaluable : All (λ (d : Distribution). IsEvaluable net d.capacities) level
-  level-evaluable k d below =
-      candidate-evaluable net laws can limits.total (slice_index_or level k d).capacities (omega (arith, small))
-      (level-candidate net limits.total floor s.members.items (capacities_of s.members.items) total level next.first next.rest new next.least off-first sorted-first spread-first (slice_index_or level k d).capacities (in-level (slice_index_or level k d) (one-at level k d below)))
-
-  pub level-answers : (answers : List Answered) → All (λ (a : Answered). IsEvaluation net limits.states a.capacities a.answer) answers → onto (λ (a : Answered). a.capacities) answers [] ≡ level → (a : Answered) → IsOneOf answers a → IsAnswerOf net limits total a
+  pub level-answers : (answers : List Answered) → All (λ (a : Answered). IsEvaluation net limits.states a.capacities a.answer) answers → onto (λ (a : Answered). a.capacities) answers [] ≡ map (λ (w : Waiting). w.capacities) level → (a : Answered) → IsOneOf answers a → IsAnswerOf net limits total a
   level-answers answers all order a one = record {
     answer = all-one (λ (b : Answered). IsEvaluation net limits.states b.capacities b.answer) answers a all one;
     storage = level-storage net limits.total floor s.members.items (capacities_of s.members.items) total level next.first next.rest new next.least off-first sorted-first spread-first a.capacities.capacities
-        (in-level a.capacities (subst (λ (ds : List Distribution). IsOneOf ds a.capacities) order (onto-one (λ (b : Answered). b.capacities) answers [] a one)));
+        (subst (λ (xs : List (List (Option ℕ))). IsOneOf xs a.capacities.capacities) (map-map (λ (d : Distribution). d.capacities) (λ (w : Waiting). w.capacities) level)
+        (one-map (λ (d : Distribution). d.capacities) (map (λ (w : Waiting). w.capacities) level) a.capacities (subst (λ (ds : List Distribution). IsOneOf ds a.capacities) order (onto-one (λ (b : Answered). b.capacities) answers [] a one))));
   }
 
   long : length s.waiting.keys ≡ length level + length new
   long =
-      let parts : length s.waiting.keys ≡ length (off.taken ++ new) = ap length off.parts in
-      let both = length-append off.taken new in
-      let same : length level ≡ length off.taken = ap length off.are ∙ length-map off.taken (λ (w : Waiting). w.capacities) in
-      omega (arith, parts, both, same)
+      let parts : length s.waiting.keys ≡ length (level ++ new) = ap length off.parts in
+      let both = length-append level new in
+      omega (arith, parts, both)
 
-  pub level-search : (answers : List Answered) → onto (λ (a : Answered). a.capacities) answers [] ≡ level → (t : Search) → t.waiting.keys ≡ new → t.members.items ≡ s.members.items → t.front ≡ s.front → t.found ≡ s.found → IsSearch net limits (total + 1) (capacities_of t.members.items ++ turned answers) t
+  pub level-search : (answers : List Answered) → onto (λ (a : Answered). a.capacities) answers [] ≡ map (λ (w : Waiting). w.capacities) level → (t : Search) → t.waiting.keys ≡ new → t.members.items ≡ s.members.items → t.front ≡ s.front → t.found ≡ s.found → IsSearch net limits (total + 1) (capacities_of t.members.items ++ turned answers) t
   level-search answers order t waiting members front found =
-      let are : turned answers ≡ map (λ (d : Distribution). d.capacities) level = ap (λ (ds : List Distribution). map (λ (d : Distribution). d.capacities) ds) order in
-      let done : capacities_of t.members.items ++ turned answers ≡ capacities_of s.members.items ++ map (λ (d : Distribution). d.capacities) level = ap (λ (ms : List Member). capacities_of ms ++ turned answers) members ∙ ap (λ (xs : List (List (Option ℕ))). capacities_of s.members.items ++ xs) are in
+      let are : turned answers ≡ map (λ (w : Waiting). w.capacities.capacities) level =
+      ap (λ (ds : List Distribution). map (λ (d : Distribution). d.capacities) ds) order ∙ map-map (λ (d : Distribution). d.capacities) (λ (w : Waiting). w.capacities) level in
+      let done : capacities_of t.members.items ++ turned answers ≡ capacities_of s.members.items ++ map (λ (w : Waiting). w.capacities.capacities) level = ap (λ (ms : List Member). capacities_of ms ++ turned answers) members ∙ ap (λ (xs : List (List (Option ℕ))). capacities_of s.members.items ++ xs) are in
       let spread = spread-level net limits.total floor s.members.items (capacities_of s.members.items) total level next.first next.rest new next.least off-first sorted-first spread-first in
       let a : IsSpread net limits.total (total + 1) s.members.items (capacities_of t.members.items ++ turned answers) new = subst (λ (xs : List (List (Option ℕ))). IsSpread net limits.total (total + 1) s.members.items xs new) (sym done) spread in
       let b : IsSpread net limits.total (total + 1) t.members.items (capacities_of t.members.items ++ turned answers) new = subst (λ (ms : List Member). IsSpread net limits.total (total + 1) ms (capacities_of t.members.items ++ turned answers) new) (sym members) a in
-      let lengths = length-append (capacities_of s.members.items) (map (λ (d : Distribution). d.capacities) level) in
-      let mapped = length-map level (λ (d : Distribution). d.capacities) in
+      let lengths = length-append (capacities_of s.members.items) (map (λ (w : Waiting). w.capacities.capacities) level) in
+      let mapped = length-map level (λ (w : Waiting). w.capacities.capacities) in
       let all : length (capacities_of t.members.items ++ turned answers) ≡ length (capacities_of s.members.items) + length level = ap length done ∙ omega (arith, lengths, mapped) in
       record {
         spread = subst (IsSpread net limits.total (total + 1) t.members.items (capacities_of t.members.items ++ turned answers)) (sym waiting) b;
@@ -122,10 +126,8 @@ module _ (net : Net) (laws : Lawful net) (can : IsExplorable net) (limits : Limi
       }
 
   pub level-some : 1 ≤ length level
-  level-some =
-      let same : length level ≡ length off-first.taken = ap length off-first.are ∙ length-map off-first.taken (λ (w : Waiting). w.capacities) in
-      at off-first.taken off-first.parts same
+  level-some = at level off-first.parts
     where
-      at : (taken : List Waiting) → next.first ∷ next.rest ≡ taken ++ new → length level ≡ length taken → 1 ≤ length level
-      at [] parts same = absurd ((subst (StopsAt total) (sym parts) off.stops) next.least)
-      at (w ∷ taken) parts same = omega (arith, same)
+      at : (taken : List Waiting) → next.first ∷ next.rest ≡ taken ++ new → 1 ≤ length taken
+      at [] parts = absurd ((subst (StopsAt total) (sym parts) off.stops) next.least)
+      at (w ∷ taken) parts = omega arith

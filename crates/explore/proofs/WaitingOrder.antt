@@ -47,13 +47,10 @@ waits-before v w is = at (nat_cmp v.total w.total) refl is
     at Equal same is = inr (ranked v.total w.total Equal same, less-later v.capacities.capacities w.capacities.capacities is)
     at Greater same is = cc
 
-pub waits-same : (v w : Waiting) → waiting_order v w ≡ Equal → v ≡ w
+pub waits-same : (v w : Waiting) → waiting_order v w ≡ Equal → v.capacities.capacities ≡ w.capacities.capacities
 waits-same v w is = at (nat_cmp v.total w.total) refl is
   where
-    make : ℕ → List (Option ℕ) → Waiting
-    make n ds = record { total = n; capacities = record { capacities = ds } }
-
-    at : (o : Ordering) → o ≡ nat_cmp v.total w.total → ordering_then o (capacities_cmp v.capacities.capacities w.capacities.capacities) ≡ Equal → v ≡ w
+    at : (o : Ordering) → o ≡ nat_cmp v.total w.total → ordering_then o (capacities_cmp v.capacities.capacities w.capacities.capacities) ≡ Equal → v.capacities.capacities ≡ w.capacities.capacities
     at Less same is = cc
-    at Equal same is = ap (λ (n : ℕ). make n v.capacities.capacities) (ranked v.total w.total Equal same) ∙ ap (λ (ds : List (Option ℕ)). make w.total ds) (same-capacities v.capacities.capacities w.capacities.capacities is)
+    at Equal same is = same-capacities v.capacities.capacities w.capacities.capacities is
     at Greater same is = cc

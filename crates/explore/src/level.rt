@@ -1,11 +1,11 @@
 ghost use Rattle.std.specs.Prelude.{◌≡◌, ◌+◌, ◌≤◌, [], All, IfOk, OnErr, map, vec_capacity, vec_len};
 ghost use Rattle.sd_base.specs.declared.limits.TheConstants.{LEAST_STATES, STATES};
-ghost use Rattle.guide.specs.Evaluations.{IsEvaluable};
-ghost use Rattle.explore.specs.inside.Levels.{IsDone, IsEvaluation, IsFresh, least_loops, most_loops, onto, sum_of};
+ghost use Rattle.explore.specs.inside.Levels.{IsDone, IsEvaluation, IsFresh, IsStartable, least_loops, most_loops, onto, sum_of};
 
 use crate::task::Task;
+use crate::waiting::Waiting;
 use fanout::{Gate, all};
-use firing::Firing;
+use firing::{Firing, Wiring};
 use guide::Evaluation;
 use lasso::RunError;
 use sd_base::{Ledger, NoMemory, Steps};
@@ -25,17 +25,18 @@ pub(crate) fn run_level<R: Threads + Sync, F: Firing + Sync, G: Gate + Sync, L: 
     rt: &R,
     alloc: Global,
     net: &F,
+    wiring: &Wiring,
     total: u64,
     states: u64,
-    level: Vec<Distribution>,
+    level: Vec<Waiting>,
     gate: &G,
     steps: &mut Steps<L>,
 ) -> Result<Vec<Answered>, NoMemory>
-    requires fits { All (λ d. IsEvaluable (F.net net.now) d.capacities) level.items }
+    requires fits { All (λ w. IsStartable (F.net net.now) wiring.now w.capacities w.counts) level.items }
     requires some { LEAST_STATES ≤ states }
     requires few { states ≤ STATES }
     ensures answers { IfOk result (λ v. All (λ a. IsEvaluation (F.net net.now) states a.capacities a.answer) v.items) }
-    ensures order { IfOk result (λ v. onto (λ a. a.capacities) v.items [] ≡ level.items) }
+    ensures order { IfOk result (λ v. onto (λ a. a.capacities) v.items [] ≡ map (λ w. w.capacities) level.items) }
     ensures least { IfOk result (λ v. steps.old.count + sum_of least_loops v.items ≤ steps.new.count) }
     ensures most { IfOk result (λ v. steps.new.count ≤ steps.old.count + sum_of most_loops v.items) }
     ensures err { OnErr result (steps.new ≡ steps.old) }
@@ -45,7 +46,7 @@ pub(crate) fn run_level<R: Threads + Sync, F: Firing + Sync, G: Gate + Sync, L: 
     level.reverse();
     let mut answers = Vec::with_capacity(alloc, level.len())?;
     let mut tasks = Vec::with_capacity(alloc, level.len())?;
-    fill(alloc, net, states, level, steps, &mut tasks);
+    fill(alloc, net, wiring, states, level, steps, &mut tasks);
     all(rt, total, tasks.as_mut_slice(), gate);
     drain(net, states, tasks, steps, &mut answers);
     Ok(answers)
@@ -55,25 +56,33 @@ pub(crate) fn run_level<R: Threads + Sync, F: Firing + Sync, G: Gate + Sync, L: 
 fn fill<'a, F: Firing, L: Ledger>(
     alloc: Global,
     net: &'a F,
+    wiring: &'a Wiring,
     states: u64,
-    level: Vec<Distribution>,
+    level: Vec<Waiting>,
     steps: &mut Steps<L>,
     tasks: &mut Vec<Task<'a, F, L>>,
 )
-    requires fits { All (λ d. IsEvaluable (F.net net.now) d.capacities) level.items }
+    requires fits { All (λ w. IsStartable (F.net net.now) wiring.now w.capacities w.counts) level.items }
     requires empty { tasks.old.items ≡ [] }
     requires room { vec_len level ≤ vec_capacity tasks.old }
-    ensures fresh { All (λ t. IsFresh (F.net net.now) (F.net t.net.now) states t.capacities t.states t.steps) tasks.new.items }
-    ensures order { level.items ≡ onto (λ t. t.capacities) tasks.new.items [] }
+    ensures fresh { All (λ t. IsFresh (F.net net.now) (F.net t.net.now) t.wiring.now states t.capacities t.counts t.states t.steps) tasks.new.items }
+    ensures order { map (λ w. w.capacities) level.items ≡ onto (λ t. t.capacities) tasks.new.items [] }
     ensures many { vec_len tasks.new ≡ vec_len level }
     ensures counter { steps.new ≡ steps.old }
 {
     let mut level = level;
     for _task in 0..level.len() {
+        let Waiting {
+            total: _,
+            capacities,
+            counts,
+        } = level.take_last();
         tasks.push_reserved(Task {
             alloc,
             net,
-            capacities: level.take_last(),
+            wiring,
+            capacities,
+            counts,
             states,
             steps: steps.share(),
             answer: None,
@@ -103,7 +112,9 @@ fn drain<F: Firing, L: Ledger>(
         let Task {
             alloc: _,
             net: _,
+            wiring: _,
             capacities,
+            counts: _,
             states: _,
             steps: share,
             answer,

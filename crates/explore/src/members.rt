@@ -3,11 +3,13 @@ ghost use Rattle.std.specs.Prelude.{◌≡◌, ◌+◌, ◌≤◌, ◌⊎◌, �
 ghost use Rattle.sd_base.specs.declared.limits.TheConstants.{STORAGE};
 ghost use Rattle.sd_base.specs.declared.limits.Limits.{Limits as SomeLimits};
 ghost use Rattle.sd_base.specs.Net.{Net};
+ghost use Rattle.liveness.specs.RoundAnswers.{IsReached};
+ghost use Rattle.storage.specs.BoundedNets.{bound};
 ghost use Rattle.pareto_front.specs.declared.point.Point.{Point as APoint};
 ghost use Rattle.pareto_front.specs.Offers.{Offer};
 ghost use Rattle.pareto_front.specs.Points.{IsFrontOf, offer_of};
 ghost use Rattle.storage.specs.Distributions.{storage_of};
-ghost use Rattle.guide.specs.Evaluations.{IsEvaluated, IsRefused};
+ghost use Rattle.guide.specs.Evaluations.{IsEvaluable, IsEvaluated, IsRefused};
 ghost use Rattle.explore.specs.declared.exploration.Member.{Member as AMember};
 ghost use Rattle.explore.specs.declared.level.Answered.{Answered as AnAnswered};
 ghost use Rattle.explore.specs.Explorations.{IsOneOf, IsRefusal, capacities_of, cycles_in};
@@ -24,8 +26,9 @@ use crate::search::Search;
 use firing::{Firing, LoopTable, know_laws};
 use guide::{Evaluation, Outcome};
 use lasso::RunError;
+use liveness::whole_counts;
 use pareto_front::{Front, Point};
-use sd_base::{Fraction, Limits, NoMemory};
+use sd_base::{Fraction, Limits, NoMemory, Rows};
 use std::alloc::Global;
 use storage::Distribution;
 
@@ -119,11 +122,13 @@ fn take_in<F: Firing>(
         IsRefusal (F.net net.now) limits e) }
 {
     know_laws(net);
+    let counts = reached_by(alloc, net, &evaluation)?;
     let children = children_of(
         alloc,
         net,
         limits.total,
         &capacities,
+        counts.as_slice(),
         evaluation.enlarge.as_slice(),
     )?;
     let member = offered(alloc, net, total, capacities, evaluation, &mut search.front)?;
@@ -135,6 +140,27 @@ fn take_in<F: Firing>(
         &mut search.found,
     )?;
     Ok(())
+}
+
+/// The counts that an evaluation reaches: those at which the net is blocked, or those of a whole round.
+fn reached_by<F: Firing>(
+    alloc: Global,
+    net: &F,
+    evaluation: &Evaluation,
+) -> Result<Rows<u64>, NoMemory>
+    ensures { IfOk result (λ v. (ds : List (Option ℕ)) (states : ℕ) → IsEvaluable (F.net net.now) ds → IsEvaluated (F.net net.now) ds states evaluation.now →
+        IsReached (bound (F.net net.now) ds) v) }
+{
+    know_laws(net);
+    match &evaluation.outcome {
+        Outcome::Live { table: _, cycle: _ } => {
+            let counts = whole_counts(alloc, net)?;
+            Ok(counts)
+        }
+        Outcome::Blocked { counts, lacks: _ } => {
+            Ok(Rows::from_vec(Vec::from_slice(alloc, counts.as_slice())?))
+        }
+    }
 }
 
 /// The member that an evaluation makes of a distribution, which is offered to the front if its rate is above 0.

@@ -8,7 +8,6 @@ use crate::waiting::Waiting;
 use sd_base::NoMemory;
 use std::alloc::Global;
 use std::collections::BTreeSet;
-use storage::Distribution;
 
 /// The least storage of those that wait.
 pub(crate) fn next_total(waiting: &BTreeSet<Waiting>) -> Option<u64>
@@ -29,12 +28,12 @@ pub(crate) fn take_level(
     alloc: Global,
     total: u64,
     waiting: &mut BTreeSet<Waiting>,
-) -> Result<Vec<Distribution>, NoMemory>
+) -> Result<Vec<Waiting>, NoMemory>
     ensures { IfOk result (λ level. IsTakenOff total level.items waiting.old.keys waiting.new.keys) }
 {
     let mut level = Vec::new(alloc);
     while let Some(first) = pop_with(waiting, total) {
-        level.push(first.capacities)?;
+        level.push(first)?;
     }
     Ok(level)
 }

@@ -1,9 +1,12 @@
 ghost use Rattle.std.specs.Prelude.{◌≡◌, ◌+◌, ◌≤◌, ◌<◌, ℕ, [], IfErr, IfOk, OnOk, length};
 ghost use Rattle.sd_base.specs.declared.limits.TheConstants.{DISTRIBUTIONS, LEAST_DISTRIBUTIONS, LEAST_STATES, STATES, STORAGE};
 ghost use Rattle.sd_base.specs.declared.limits.Limits.{Limits as SomeLimits};
+ghost use Rattle.storage.specs.Distributions.{storage_of};
+ghost use Rattle.storage.specs.Steps.{IsCorner};
 ghost use Rattle.explore.specs.Explorations.{CountsFew, IsExploration, IsRefusal, cycles_in};
 ghost use Rattle.explore.specs.Reachable.{IsExplorable};
-ghost use Rattle.explore.specs.inside.Searches.{IsNext, IsSearch, IsStanding};
+ghost use Rattle.explore.specs.inside.Searches.{IsCandidate, IsNext, IsSearch, IsStanding};
+ghost use Rattle.explore.specs.inside.Levels.{WiresAll};
 
 use crate::error::ExploreError;
 use crate::exploration::{Exploration, Member};
@@ -12,13 +15,15 @@ use crate::members::take_in_all;
 use crate::pending::{next_total, take_level};
 use crate::waiting::Waiting;
 use fanout::Gate;
-use firing::{Firing, know_laws};
+use firing::{Firing, Wiring, know_laws};
+use guide::laws::distributions_share_a_wiring;
+use liveness::no_counts;
 use pareto_front::Front;
 use sd_base::{Ledger, Limits, NoMemory, Steps};
 use std::alloc::Global;
 use std::collections::BTreeSet;
 use std::thread::Threads;
-use storage::corner;
+use storage::{Bounded, Distribution, corner};
 
 /// Where an exploration stands: the distributions that wait, the members so far, the points among them, and how many
 /// distributions were found.
@@ -58,9 +63,27 @@ pub fn explore<R: Threads + Sync, F: Firing + Sync, G: Gate + Sync, L: Ledger + 
     ensures share { steps.new.share ≡ steps.old.share }
 {
     know_laws(net);
-    let mut search = begin(alloc, net, limits.total)?;
+    let first = corner(alloc, net)?;
+    let Some(total) = first.total_within(net, limits.total) else {
+        return Ok(Exploration {
+            members: Vec::new(alloc),
+            points: Vec::new(alloc),
+        });
+    };
+    let wiring = wiring_of(alloc, net, limits.total, &first)?;
+    let mut search = begin(alloc, net, total, first)?;
     while let Some(total) = next_total(&search.waiting) {
-        take_turn(rt, alloc, net, limits, total, gate, &mut search, steps)?;
+        take_turn(
+            rt,
+            alloc,
+            net,
+            &wiring,
+            limits,
+            total,
+            gate,
+            &mut search,
+            steps,
+        )?;
     }
     let Search {
         waiting: _,
@@ -79,6 +102,7 @@ fn take_turn<R: Threads + Sync, F: Firing + Sync, G: Gate + Sync, L: Ledger + Se
     rt: &R,
     alloc: Global,
     net: &F,
+    wiring: &Wiring,
     limits: Limits,
     total: u64,
     gate: &G,
@@ -86,6 +110,7 @@ fn take_turn<R: Threads + Sync, F: Firing + Sync, G: Gate + Sync, L: Ledger + Se
     steps: &mut Steps<L>,
 ) -> Result<(), ExploreError>
     requires net { IsExplorable (F.net net.now) }
+    requires wired { WiresAll (F.net net.now) wiring.now }
     requires small { limits.total ≤ STORAGE }
     requires some_states { LEAST_STATES ≤ limits.states }
     requires few_states { limits.states ≤ STATES }
@@ -102,40 +127,63 @@ fn take_turn<R: Threads + Sync, F: Firing + Sync, G: Gate + Sync, L: Ledger + Se
 {
     know_laws(net);
     let level = take_level(alloc, total, &mut search.waiting)?;
-    let answers = run_level(rt, alloc, net, total, limits.states, level, gate, steps)?;
+    let answers = run_level(
+        rt,
+        alloc,
+        net,
+        wiring,
+        total,
+        limits.states,
+        level,
+        gate,
+        steps,
+    )?;
     take_in_all(alloc, net, limits, total, answers, search)?;
     Ok(())
 }
 
-/// The corner waits, if it is within the limit.
-fn begin<F: Firing>(alloc: Global, net: &F, limit: u64) -> Result<Search, NoMemory>
-    requires { IsExplorable (F.net net.now) }
-    ensures members { IfOk result (λ s. s.members.items ≡ []) }
-    ensures search { IfOk result (λ s. (limits : SomeLimits) → limits.total ≡ limit → 1 ≤ limits.distributions → IsSearch (F.net net.now) limits 0 [] s) }
+/// The channels by actor of the nets that distributions bound. Cost: that of `Wiring::new`.
+fn wiring_of<F: Firing>(
+    alloc: Global,
+    net: &F,
+    limit: u64,
+    capacities: &Distribution,
+) -> Result<Wiring, NoMemory>
+    requires net { IsExplorable (F.net net.now) }
+    requires small { limit ≤ STORAGE }
+    requires fits { IsCandidate (F.net net.now) limit capacities.now.capacities }
+    ensures { IfOk result (WiresAll (F.net net.now)) }
 {
     know_laws(net);
-    let mut waiting = BTreeSet::new(alloc);
-    let capacities = corner(alloc, net)?;
-    match capacities.total_within(net, limit) {
-        Some(total) => {
-            waiting.insert(Waiting { total, capacities })?;
-            Ok(search_over(alloc, waiting, 1))
-        }
-        None => Ok(search_over(alloc, waiting, 0)),
-    }
+    distributions_share_a_wiring();
+    let bounded = Bounded::new(alloc, net, capacities)?;
+    Wiring::new(alloc, &bounded)
 }
 
-/// A search that has no members yet.
-fn search_over(alloc: Global, waiting: BTreeSet<Waiting>, found: u64) -> Search
-    ensures waiting { result.waiting.keys ≡ waiting.keys }
-    ensures members { result.members.items ≡ [] }
-    ensures front { result.front ≡ [] }
-    ensures found { result.found ≡ found }
+/// The corner waits.
+fn begin<F: Firing>(
+    alloc: Global,
+    net: &F,
+    total: u64,
+    capacities: Distribution,
+) -> Result<Search, NoMemory>
+    requires net { IsExplorable (F.net net.now) }
+    requires corner { IsCorner (F.net net.now).channels capacities.capacities }
+    requires total { total ≡ storage_of (F.net net.now).channels capacities.capacities }
+    ensures members { IfOk result (λ s. s.members.items ≡ []) }
+    ensures search { IfOk result (λ s. (limits : SomeLimits) → total ≤ limits.total → 1 ≤ limits.distributions → IsSearch (F.net net.now) limits 0 [] s) }
 {
-    Search {
+    let counts = no_counts(alloc, net)?;
+    let mut waiting = BTreeSet::new(alloc);
+    waiting.insert(Waiting {
+        total,
+        capacities,
+        counts,
+    })?;
+    Ok(Search {
         waiting,
         members: Vec::new(alloc),
         front: Front::new(alloc),
-        found,
-    }
+        found: 1,
+    })
 }

@@ -2,33 +2,38 @@ ghost use Rattle.std.specs.Prelude.{◌≡◌, ◌≤◌};
 ghost use Rattle.explore.specs.inside.Levels.{HasRun, IsReady};
 
 use fanout::Job;
-use firing::Firing;
-use guide::{Evaluation, evaluate};
+use firing::{Firing, Wiring};
+use guide::{Evaluation, evaluate_from};
 use lasso::RunError;
-use sd_base::{Ledger, Steps};
+use sd_base::{Ledger, Rows, Steps};
 use std::alloc::Global;
 use storage::Distribution;
 
-/// The evaluation of one distribution, with a share of the counter and a place for the answer.
+/// The evaluation of one distribution, with the wiring of its net, counts that are reached there, a share of the counter and
+/// a place for the answer.
 pub(crate) struct Task<'a, F: Firing, L: Ledger> {
     pub(crate) alloc: Global,
     pub(crate) net: &'a F,
+    pub(crate) wiring: &'a Wiring,
     pub(crate) capacities: Distribution,
+    pub(crate) counts: Rows<u64>,
     pub(crate) states: u64,
     pub(crate) steps: Steps<L>,
     pub(crate) answer: Option<Result<Evaluation, RunError>>,
 }
 
 impl<'a, F: Firing + Sync, L: Ledger + Send> Job for Task<'a, F, L> {
-    ghost ready = { λ t. IsReady (F.net t.net.now) t.capacities t.states };
+    ghost ready = { λ t. IsReady (F.net t.net.now) t.wiring.now t.capacities t.counts t.states };
 
     ghost ran = { λ old new. HasRun (F.net old.net.now) old.capacities old.states old.steps new.capacities new.steps new.answer };
 
     fn run(&mut self) {
-        let answer = evaluate(
+        let answer = evaluate_from(
             self.alloc,
             self.net,
             &self.capacities,
+            self.wiring,
+            self.counts.as_slice(),
             self.states,
             &mut self.steps,
         );

@@ -4,15 +4,18 @@ ghost use Rattle.std.specs.Ordering.{eq_by_cmp, as_partial_cmp};
 ghost use Rattle.std.proofs.Common.{refl};
 ghost use Rattle.explore.specs.inside.WaitingOrder.{waiting_cmp, waiting_total};
 
+use sd_base::Rows;
 use std::cmp::Ordering;
 use storage::Distribution;
 
-/// A distribution that was found and isn't evaluated yet, with its storage. They are evaluated by rising storage, and
-/// lexicographically where that is equal.
+/// A distribution that was found and isn't evaluated yet, with its storage, and counts by actor that some order of firings
+/// of its net reaches: those at which the member that led to it is blocked, or those of a whole round where that is live.
+/// They are evaluated by rising storage, and lexicographically where that is equal.
 #[derive(Debug, Drop)]
 pub(crate) struct Waiting {
     pub(crate) total: u64,
     pub(crate) capacities: Distribution,
+    pub(crate) counts: Rows<u64>,
 }
 
 impl PartialEq for Waiting {

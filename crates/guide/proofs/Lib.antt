@@ -3,3 +3,5 @@ pub mod Shown
 pub mod Evaluating
 pub mod Blocked
 pub mod Listing
+pub mod HeldUp
+pub mod MoreRoom

@@ -5,6 +5,7 @@ ghost use Rattle.sd_base.specs.Schedules.{HasInputs};
 ghost use Rattle.sd_base.specs.Connection.{IsConnected};
 ghost use Rattle.sd_base.specs.Untimed.{IsBlockedBy, IsLive};
 ghost use Rattle.firing.specs.Wiring.{IsWiringOf};
+ghost use Rattle.liveness.specs.RoundAnswers.{IsReached};
 ghost use Rattle.lasso.specs.LoopAnswers.{IsRunRefusal};
 ghost use Rattle.storage.specs.BoundedNets.{bound};
 ghost use Rattle.guide.specs.Evaluations.{IsEvaluable, IsEvaluated, IsRefused, loops_run};
@@ -14,7 +15,7 @@ use crate::laws::need_cycles_hold_with_more_room;
 use critical::{NeedCycle, cycle_of_on};
 use firing::{Firing, LoopTable, Wiring, is_single_phase, know_laws, single_phase_copy};
 use lasso::{RunError, run_loop_on};
-use liveness::{Round, one_round_on};
+use liveness::{Ending, no_counts, one_round_from};
 use sd_base::{Fraction, Ledger, NoMemory, Rows, Steps};
 use std::alloc::Global;
 use storage::{Bounded, Distribution};
@@ -65,24 +66,36 @@ pub fn evaluate<F: Firing, L: Ledger>(
     ensures share { steps.new.share ≡ steps.old.share }
 {
     let bounded = Bounded::new(alloc, net, capacities)?;
-    if !is_single_phase(&bounded) {
-        return evaluate_on(alloc, net, capacities, &bounded, states, steps);
-    }
-    let copy = single_phase_copy(alloc, &bounded)?;
-    evaluate_on(alloc, net, capacities, &copy, states, steps)
+    let wiring = Wiring::new(alloc, &bounded)?;
+    let counts = no_counts(alloc, net)?;
+    evaluate_on(
+        alloc,
+        net,
+        capacities,
+        &bounded,
+        &wiring,
+        counts.as_slice(),
+        states,
+        steps,
+    )
 }
 
-/// The same on the net that the distribution bounds.
-fn evaluate_on<F: Firing, B: Firing, L: Ledger>(
+/// What `evaluate` answers, where the wiring of the bounded net is there already, and with counts by actor that some
+/// order of firings of it reaches, from which the test for a round begins: those at which a net with less room is blocked,
+/// or those of a whole round where one with less room is live. Cost: that of `one_round_from` and, where the net is live,
+/// of a copy of it, `run_loop` and `cycle_of`.
+pub fn evaluate_from<F: Firing, L: Ledger>(
     alloc: Global,
     net: &F,
     capacities: &Distribution,
-    bounded: &B,
+    wiring: &Wiring,
+    counts: &[u64],
     states: u64,
     steps: &mut Steps<L>,
 ) -> Result<Evaluation, RunError>
     requires fits { IsEvaluable (F.net net.now) capacities.now.capacities }
-    requires bounded { B.net bounded.now ≡ bound (F.net net.now) capacities.now.capacities }
+    requires wired { IsWiringOf (bound (F.net net.now) capacities.now.capacities) wiring.now }
+    requires reached { IsReached (bound (F.net net.now) capacities.now.capacities) counts.now }
     requires some { LEAST_STATES ≤ states }
     requires few { states ≤ STATES }
     ensures evaluated { IfOk result (IsEvaluated (F.net net.now) capacities.now.capacities states) }
@@ -91,10 +104,38 @@ fn evaluate_on<F: Firing, B: Firing, L: Ledger>(
     ensures most { steps.new.count ≤ steps.old.count + 1 }
     ensures share { steps.new.share ≡ steps.old.share }
 {
-    let wiring = Wiring::new(alloc, bounded)?;
-    match one_round_on(alloc, bounded, &wiring)? {
-        Round::Live { order: _ } => evaluate_live(alloc, bounded, &wiring, states, steps),
-        Round::Blocked { counts, lacks } => {
+    let bounded = Bounded::new(alloc, net, capacities)?;
+    evaluate_on(
+        alloc, net, capacities, &bounded, wiring, counts, states, steps,
+    )
+}
+
+/// The same on the net that the distribution bounds.
+fn evaluate_on<F: Firing, B: Firing, L: Ledger>(
+    alloc: Global,
+    net: &F,
+    capacities: &Distribution,
+    bounded: &B,
+    wiring: &Wiring,
+    counts: &[u64],
+    states: u64,
+    steps: &mut Steps<L>,
+) -> Result<Evaluation, RunError>
+    requires fits { IsEvaluable (F.net net.now) capacities.now.capacities }
+    requires bounded { B.net bounded.now ≡ bound (F.net net.now) capacities.now.capacities }
+    requires wired { IsWiringOf (B.net bounded.now) wiring.now }
+    requires reached { IsReached (B.net bounded.now) counts.now }
+    requires some { LEAST_STATES ≤ states }
+    requires few { states ≤ STATES }
+    ensures evaluated { IfOk result (IsEvaluated (F.net net.now) capacities.now.capacities states) }
+    ensures refused { IfErr result (IsRefused (F.net net.now) capacities.now.capacities states) }
+    ensures count { IfOk result (λ e. steps.new.count ≡ steps.old.count + loops_run e.outcome) }
+    ensures most { steps.new.count ≤ steps.old.count + 1 }
+    ensures share { steps.new.share ≡ steps.old.share }
+{
+    match one_round_from(alloc, bounded, wiring, counts)? {
+        Ending::Whole => evaluate_whole(alloc, bounded, wiring, states, steps),
+        Ending::Blocked { counts, lacks } => {
             Ok(evaluate_blocked(alloc, net, capacities, counts, lacks)?)
         }
     }
@@ -114,12 +155,45 @@ fn evaluate_blocked<F: Firing>(
     ensures none { IfOk result (λ e. loops_run e.outcome ≡ 0) }
 {
     know_laws(net);
-    let enlarge = shown_channels(alloc, net, capacities, counts.as_slice())?;
+    let enlarge = shown_channels(
+        alloc,
+        net,
+        capacities,
+        counts.as_slice(),
+        lacks.as_slice(),
+    )?;
     Ok(Evaluation {
         rate: Fraction::new(0, 1),
         enlarge,
         outcome: Outcome::Blocked { counts, lacks },
     })
+}
+
+/// The rate of a live distribution by the loop of the net that it bounds, or of a copy that is quicker to read.
+fn evaluate_whole<B: Firing, L: Ledger>(
+    alloc: Global,
+    bounded: &B,
+    wiring: &Wiring,
+    states: u64,
+    steps: &mut Steps<L>,
+) -> Result<Evaluation, RunError>
+    requires wired { IsWiringOf (B.net bounded.now) wiring.now }
+    requires live { IsLive (B.net bounded.now) }
+    requires connected { IsConnected (B.net bounded.now) }
+    requires inputs { HasInputs (B.net bounded.now) }
+    requires some { LEAST_STATES ≤ states }
+    requires few { states ≤ STATES }
+    ensures evaluated { IfOk result (λ e. (net : Net) (ds : List (Option ℕ)) → B.net bounded.now ≡ bound net ds → IsEvaluated net ds states e) }
+    ensures refused { IfErr result (IsRunRefusal (B.net bounded.now) states) }
+    ensures count { IfOk result (λ e. steps.new.count ≡ steps.old.count + loops_run e.outcome) }
+    ensures most { steps.new.count ≤ steps.old.count + 1 }
+    ensures share { steps.new.share ≡ steps.old.share }
+{
+    if !is_single_phase(bounded) {
+        return evaluate_live(alloc, bounded, wiring, states, steps);
+    }
+    let copy = single_phase_copy(alloc, bounded)?;
+    evaluate_live(alloc, &copy, wiring, states, steps)
 }
 
 /// The rate of a live distribution by the loop of the net that it bounds.

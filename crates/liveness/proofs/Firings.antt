@@ -14,7 +14,7 @@ use Rattle.sd_base.proofs.Ends.{left_of, left-more, fires-push, after-push}
 use Rattle.firing.specs.Wiring.{SufficesBefore, IsFirstLack, TakesTokens, PutsTokens, IsLevel}
 use Rattle.firing.proofs.TokenMoves.{MoreBy, more-set, takes-le, level-takes, level-puts, level-needs, level-feeds, level-small}
 use Rattle.sd_base.specs.Untimed.{NamesLacks, IsBlockedBy}
-use Rattle.liveness.specs.inside.UntimedRuns.{IsRun, IsStopped}
+use Rattle.liveness.specs.inside.UntimedRuns.{IsNoted, IsRun, IsStopped}
 
 -- an actor that lacks tokens is stopped
 pub stopped-lacks : (net : Net) (counts tokens : List ℕ) (a i : ℕ) → IsLevel net (slice_index counts) (slice_index counts) tokens → IsFirstLack net tokens a (slice_index counts a) i → IsStopped net (slice_index counts) a
@@ -75,6 +75,10 @@ module _ (net : Net) (laws : Lawful net) (counts tokens order : List ℕ) (a : �
       left-more net (slice_index counts) (slice_index (set counts a (slice_index counts a + 1))) a actor less by.here by.others
 
 -- ---- a whole run
+
+-- the order that was noted is that of the run
+pub noted-run : (net : Net) (counts tokens order : List ℕ) → IsNoted (λ fired. order ≡ fired) net counts tokens → IsRun net counts tokens order
+noted-run net counts tokens order is = subst (IsRun net counts tokens) (sym is.noted) is.run
 
 pub run-start : (net : Net) (counts tokens order : List ℕ) → counts ≡ replicate (length net.times) 0 → tokens ≡ map (λ (c : Channel). c.tokens) net.channels → order ≡ [] → IsRun net counts tokens order
 run-start net counts tokens order zeros initial none = record {

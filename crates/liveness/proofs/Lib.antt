@@ -1,3 +1,4 @@
 pub mod Firings
 pub mod Naming
 pub mod Looking
+pub mod Reaching

@@ -67,7 +67,7 @@ pub fn one_round_on<F: Firing>(alloc: Global, net: &F, wiring: &Wiring) -> Resul
 }
 
 /// Whether each actor has fired its round.
-fn is_whole<F: Firing>(net: &F, counts: &[u64]) -> bool
+pub(crate) fn is_whole<F: Firing>(net: &F, counts: &[u64]) -> bool
     requires { length counts.now ≡ length (F.net net.now).times }
     ensures { IsTrue result ↔ ((a : ℕ) → a < length (F.net net.now).times →
         slice_index counts.now a ≡ slice_index (F.net net.now).round a) }
@@ -81,7 +81,7 @@ fn is_whole<F: Firing>(net: &F, counts: &[u64]) -> bool
 }
 
 /// By actor the first channel on which it lacks tokens, if it is below its round.
-fn lacking_channels<F: Firing>(
+pub(crate) fn lacking_channels<F: Firing>(
     alloc: Global,
     net: &F,
     wiring: &Wiring,

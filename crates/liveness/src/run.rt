@@ -3,32 +3,33 @@ ghost use Rattle.sd_base.specs.Untimed.{Closed};
 ghost use Rattle.sd_base.proofs.Ends.{left_of};
 ghost use Rattle.firing.specs.declared.sums.Port.TheVariants.{Made, Taken};
 ghost use Rattle.firing.specs.Wiring.{AreListed};
-ghost use Rattle.liveness.specs.inside.UntimedRuns.{IsRun, IsStopped};
+ghost use Rattle.liveness.specs.inside.UntimedRuns.{IsNoted, IsStopped};
 
 use crate::flags::Flags;
+use crate::note::Note;
 use firing::{Firing, Wiring, first_lack, know_laws, put_tokens, take_tokens};
 use sd_base::NoMemory;
 use std::alloc::Global;
 
 /// Fires actors one after another until none can fire within its round. An actor is looked at again only when
 /// a channel into it has gained tokens.
-pub(crate) fn run_out<F: Firing>(
+pub(crate) fn run_out<F: Firing, N: Note>(
     alloc: Global,
     net: &F,
     wiring: &Wiring,
     counts: &mut [u64],
     tokens: &mut [u128],
-    order: &mut Vec<u32>,
+    note: &mut N,
 ) -> Result<(), NoMemory>
     requires inputs { AreListed (F.net net.now) Taken wiring.now.inputs }
     requires outputs { AreListed (F.net net.now) Made wiring.now.outputs }
-    requires run { IsRun (F.net net.now) counts.old tokens.old order.old.items }
-    ensures run { OnOk result (IsRun (F.net net.now) counts.new tokens.new order.new.items) }
+    requires run { IsNoted (N.holds note.old) (F.net net.now) counts.old tokens.old }
+    ensures run { OnOk result (IsNoted (N.holds note.new) (F.net net.now) counts.new tokens.new) }
     ensures closed { OnOk result (Closed (F.net net.now) (slice_index counts.new)) }
 {
     let mut flags = Flags::new(alloc, net.actors())?;
     'looks: while let Some(actor) = flags.pop() {
-        if fire_while_able(net, wiring, actor, counts, tokens, order)? {
+        if fire_while_able(net, wiring, actor, counts, tokens, note)? {
             flags.flag_targets(net, wiring.outputs_of(actor))?;
         }
     }
@@ -36,19 +37,19 @@ pub(crate) fn run_out<F: Firing>(
 }
 
 /// Fires an actor as often as it can within its round, and tells whether it fired.
-fn fire_while_able<F: Firing>(
+fn fire_while_able<F: Firing, N: Note>(
     net: &F,
     wiring: &Wiring,
     actor: u32,
     counts: &mut [u64],
     tokens: &mut [u128],
-    order: &mut Vec<u32>,
+    note: &mut N,
 ) -> Result<bool, NoMemory>
     requires actor { actor < length (F.net net.now).times }
     requires inputs { AreListed (F.net net.now) Taken wiring.now.inputs }
     requires outputs { AreListed (F.net net.now) Made wiring.now.outputs }
-    requires run { IsRun (F.net net.now) counts.old tokens.old order.old.items }
-    ensures run { OnOk result (IsRun (F.net net.now) counts.new tokens.new order.new.items) }
+    requires run { IsNoted (N.holds note.old) (F.net net.now) counts.old tokens.old }
+    ensures run { OnOk result (IsNoted (N.holds note.new) (F.net net.now) counts.new tokens.new) }
     ensures stopped { IfOk result (λ b. IsStopped (F.net net.now) (slice_index counts.new) actor) }
     ensures others { IfOk result (λ b. (a : ℕ) → a ≢ actor → slice_index counts.new a ≡ slice_index counts.old a) }
     ensures fired { IfOk result (λ b. MatchBool b
@@ -56,26 +57,26 @@ fn fire_while_able<F: Firing>(
         (counts.new ≡ counts.old)) }
 {
     let mut fired = false;
-    'firings: while fire_if_able(net, wiring, actor, counts, tokens, order)? {
+    'firings: while fire_if_able(net, wiring, actor, counts, tokens, note)? {
         fired = true;
     }
     Ok(fired)
 }
 
 /// Fires an actor once if it can within its round, and tells whether it did.
-fn fire_if_able<F: Firing>(
+fn fire_if_able<F: Firing, N: Note>(
     net: &F,
     wiring: &Wiring,
     actor: u32,
     counts: &mut [u64],
     tokens: &mut [u128],
-    order: &mut Vec<u32>,
+    note: &mut N,
 ) -> Result<bool, NoMemory>
     requires actor { actor < length (F.net net.now).times }
     requires inputs { AreListed (F.net net.now) Taken wiring.now.inputs }
     requires outputs { AreListed (F.net net.now) Made wiring.now.outputs }
-    requires run { IsRun (F.net net.now) counts.old tokens.old order.old.items }
-    ensures run { OnOk result (IsRun (F.net net.now) counts.new tokens.new order.new.items) }
+    requires run { IsNoted (N.holds note.old) (F.net net.now) counts.old tokens.old }
+    ensures run { OnOk result (IsNoted (N.holds note.new) (F.net net.now) counts.new tokens.new) }
     ensures others { IfOk result (λ b. (a : ℕ) → a ≢ actor → slice_index counts.new a ≡ slice_index counts.old a) }
     ensures fired { IfOk result (λ b. MatchBool b
         (left_of (F.net net.now) (slice_index counts.new) < left_of (F.net net.now) (slice_index counts.old))
@@ -90,7 +91,7 @@ fn fire_if_able<F: Firing>(
     if let Some(_lacking) = first_lack(net, inputs, tokens, actor, count) {
         return Ok(false);
     }
-    order.push(actor)?;
+    note.fired(actor)?;
     take_tokens(net, inputs, tokens, actor, count, 1);
     put_tokens(net, wiring.outputs_of(actor), tokens, actor, count, 1);
     counts[actor as usize] = count + 1;

@@ -4,6 +4,11 @@ use Rattle.sd_base.specs.declared.limits.TheConstants.{LEAST_STATES, STATES}
 use Rattle.sd_base.specs.Net.{Net}
 use Rattle.sd_base.specs.Counter.{Tally}
 use Rattle.lasso.specs.declared.error.RunError.{RunError}
+use Rattle.firing.specs.Wiring.{IsWiringOf}
+use Rattle.firing.specs.declared.wiring.Wiring.{Wiring}
+use Rattle.liveness.specs.RoundAnswers.{IsReached}
+use Rattle.storage.specs.BoundedNets.{bound}
+use Rattle.storage.specs.Distributions.{IsDistribution}
 use Rattle.storage.specs.declared.distribution.Distribution.{Distribution}
 use Rattle.guide.specs.declared.rating.Evaluation.{Evaluation}
 use Rattle.guide.specs.Evaluations.{IsEvaluable, IsEvaluated, IsRefused, loops_run}
@@ -24,17 +29,27 @@ pub record HasRun (net : Net) (capacities : Distribution) (states : ℕ) (before
   pub share : after.share ≡ before.share
   pub answered : IsAnswered net capacities.capacities states before.count after.count answer
 
--- a task can run
-pub record IsReady (net : Net) (capacities : Distribution) (states : ℕ) : Type 0 where
+-- the wiring is that of each net that a distribution bounds
+abbrev pub WiresAll : Net → Wiring → Type 0
+WiresAll net wiring = (ds : List (Option ℕ)) → IsDistribution net.channels ds → IsWiringOf (bound net ds) wiring
+
+-- the evaluation of a distribution can begin with this wiring and these counts
+pub record IsStartable (net : Net) (wiring : Wiring) (capacities : Distribution) (counts : List ℕ) : Type 0 where
   pub fits : IsEvaluable net capacities.capacities
+  pub wired : IsWiringOf (bound net capacities.capacities) wiring
+  pub reached : IsReached (bound net capacities.capacities) counts
+
+-- a task can run
+pub record IsReady (net : Net) (wiring : Wiring) (capacities : Distribution) (counts : List ℕ) (states : ℕ) : Type 0 where
+  pub start : IsStartable net wiring capacities counts
   pub some : LEAST_STATES ≤ states
   pub few : states ≤ STATES
 
 -- a task for the net, whose share hasn't counted yet
-pub record IsFresh (net own : Net) (states : ℕ) (capacities : Distribution) (wanted : ℕ) (steps : Tally) : Type 0 where
+pub record IsFresh (net own : Net) (wiring : Wiring) (states : ℕ) (capacities : Distribution) (counts : List ℕ) (wanted : ℕ) (steps : Tally) : Type 0 where
   pub net_is : own ≡ net
   pub states_are : wanted ≡ states
-  pub fits : IsEvaluable net capacities.capacities
+  pub start : IsStartable net wiring capacities counts
   pub share : steps.share ≡ true
   pub count : steps.count ≡ 0
 

@@ -8,6 +8,7 @@ use Rattle.sd_base.specs.Net.{Net}
 use Rattle.lasso.specs.LoopAnswers.{IsFound}
 use Rattle.critical.specs.Spaces.{Has}
 use Rattle.storage.specs.BoundedNets.{bound}
+use Rattle.liveness.specs.RoundAnswers.{IsReached}
 use Rattle.storage.specs.Distributions.{IsDistribution, storage_of}
 use Rattle.storage.specs.Steps.{IsCorner, IsOnGrid}
 use Rattle.storage.specs.ClosedLists.{Entry}
@@ -39,11 +40,12 @@ pub record IsCandidate (net : Net) (limit : ℕ) (ds : List (Option ℕ)) : Type
   pub within : storage_of net.channels ds ≤ limit
   pub reachable : IsReachable net limit ds
 
--- one that waits, with its storage, which is at least the floor
+-- one that waits, with its storage, which is at least the floor, and counts that are reached there
 pub record Waits (net : Net) (limit floor : ℕ) (w : Waiting) : Type 0 where
   pub candidate : IsCandidate net limit w.capacities.capacities
   pub total : w.total ≡ storage_of net.channels w.capacities.capacities
   pub above : floor ≤ w.total
+  pub reached : IsReached (bound net w.capacities.capacities) w.counts
 
 -- the distribution has a step more room than ds on one of the channels
 pub record IsChild (net : Net) (limit : ℕ) (ds : List (Option ℕ)) (enlarge : List ℕ) (w : Waiting) : Type 0 where
@@ -52,11 +54,12 @@ pub record IsChild (net : Net) (limit : ℕ) (ds : List (Option ℕ)) (enlarge :
   pub is : w.capacities.capacities ≡ stepped net ds channel
   pub total : w.total ≡ storage_of net.channels w.capacities.capacities
   pub within : w.total ≤ limit
+  pub reached : IsReached (bound net w.capacities.capacities) w.counts
 
 -- the distribution with a step more room on one channel has come to others, if it is within the limit
 pub record IsChildAdded (net : Net) (limit : ℕ) (ds : List (Option ℕ)) (c : ℕ) (old new : List Waiting) : Type 0 where
   pub kept : (w : Waiting) → IsOneOf old w → IsOneOf new w
-  pub each : (w : Waiting) → IsOneOf new w → IsOneOf old w ⊎ ((w.capacities.capacities ≡ stepped net ds c) × (w.total ≡ storage_of net.channels w.capacities.capacities) × (w.total ≤ limit))
+  pub each : (w : Waiting) → IsOneOf new w → IsOneOf old w ⊎ ((w.capacities.capacities ≡ stepped net ds c) × (w.total ≡ storage_of net.channels w.capacities.capacities) × (w.total ≤ limit) × IsReached (bound net w.capacities.capacities) w.counts)
   pub here : storage_of net.channels (stepped net ds c) ≤ limit → (w : Waiting) × IsOneOf new w × (w.capacities.capacities ≡ stepped net ds c)
 
 -- so do all of them, and those within the limit are all there
@@ -154,9 +157,13 @@ pub record IsNext (storage : ℕ) (ws : List Waiting) : Type 0 where
   pub least : first.total ≡ storage
   pub sorted : IsStrictlySortedBy waiting_order ws
 
--- what waits afterwards is what waited before, and the children
+-- one of the list has the same distribution
+abbrev pub StandsIn : List Waiting → Waiting → Type 0
+StandsIn ws w = (v : Waiting) × IsOneOf ws v × (v.capacities.capacities ≡ w.capacities.capacities)
+
+-- what waits afterwards is what waited before, and the children, each distribution once
 pub record HaveWaited (children old new : List Waiting) : Type 0 where
-  pub kept : (w : Waiting) → IsOneOf children w ⊎ IsOneOf old w → IsOneOf new w
+  pub kept : (w : Waiting) → IsOneOf children w ⊎ IsOneOf old w → StandsIn new w
   pub only : (w : Waiting) → IsOneOf new w → IsOneOf children w ⊎ IsOneOf old w
 
 -- what ended the waiting of children: one more was found than allowed; or want of memory
@@ -177,11 +184,9 @@ StopsAt total [] = Unit {0}
 StopsAt total (w ∷ ws) = w.total ≢ total
 
 -- a level was taken off those that wait: the first ones, as long as they need so much storage
-pub record IsTakenOff (total : ℕ) (level : List Distribution) (old new : List Waiting) : Type 0 where
-  pub taken : List Waiting
-  pub parts : old ≡ taken ++ new
-  pub are : level ≡ map (λ (w : Waiting). w.capacities) taken
-  pub totals : (w : Waiting) → IsOneOf taken w → w.total ≡ total
+pub record IsTakenOff (total : ℕ) (level : List Waiting) (old new : List Waiting) : Type 0 where
+  pub parts : old ≡ level ++ new
+  pub totals : (w : Waiting) → IsOneOf level w → w.total ≡ total
   pub stops : StopsAt total new
 
 -- the distributions of answers, the last one first

@@ -12,6 +12,12 @@ pub record IsRun (net : Net) (counts tokens order : List ℕ) : Type 0 where
   pub reached : (a : ℕ) → a < length net.times → counts_after none_fired order a ≡ slice_index counts a
   pub level : IsLevel net (slice_index counts) (slice_index counts) tokens
 
+-- some order fires that is noted, and these are the counts and tokens after it
+pub record IsNoted (holds : List ℕ → Type 0) (net : Net) (counts tokens : List ℕ) : Type 0 where
+  pub order : List ℕ
+  pub noted : holds order
+  pub run : IsRun net counts tokens order
+
 -- a has fired a whole round, or lacks tokens
 abbrev pub IsStopped : Net → (ℕ → ℕ) → ℕ → Type 0
 IsStopped net v a = v a < slice_index net.round a → Lacks net v a (v a)

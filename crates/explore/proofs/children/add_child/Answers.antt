@@ -13,4 +13,4 @@ returns-in-None g c =
 pub returns-in_ok-push-in-Some : goal.returns-in_ok-push-in-Some
 returns-in_ok-push-in-Some g c =
     child-added (g.F.Firing.net c.args.net.now) c.args.limit c.args.capacities.now.capacities c.args.channel c.args.children.now.items _ c.in-Some.child (search rules)
-    (rw c.in-Some.is at c.in_ok-child.ensures.child) (rw c.in-Some.is at c.in_ok-child.ensures.total)
+    (rw c.in-Some.is at c.in_ok-child.ensures.child) (rw c.in-Some.is at c.in_ok-child.ensures.total) (rw c.in-Some.is at c.in_ok-child.ensures.reached)

@@ -1,6 +1,7 @@
-use Rattle.std.proofs.Common.{arith}
+use Rattle.std.proofs.Common.{◌≡◌, [], List, subst, arith, rules}
 use Rattle.std.proofs.lemmas.Result.{err_from_is_err_and}
-use Rattle.explore.proofs.TakenOff.{ends-waiting, same-more}
+use Rattle.explore.specs.declared.waiting.Waiting.{Waiting}
+use Rattle.explore.proofs.TakenOff.{AreSame, ends-waiting, same-more, same-waited}
 use Rattle.explore.proofs.pending.wait_all.Goals as goal
 
 pub loop-child-preserved : goal.loop-child-preserved
@@ -9,6 +10,11 @@ loop-child-preserved c = (
   omega (arith, c.in_ok-wait.ensures.count, c.loop-child.invariant.1),
   c.in_ok-wait.ensures.few,
 )
+
+pub returns-clause-waited : goal.returns-clause-waited
+returns-clause-waited c =
+    let none : c.loop-child.children.items ≡ [] = search rules in
+    same-waited c.args.children.items c.args.waiting.now.keys c.loop-child.waiting.keys (subst (λ (ws : List Waiting). AreSame c.args.children.items c.args.waiting.now.keys ws c.loop-child.waiting.keys) none c.loop-child.invariant.0)
 
 pub returns-in_err-wait-clause-ended : goal.returns-in_err-wait-clause-ended
 returns-in_err-wait-clause-ended c =

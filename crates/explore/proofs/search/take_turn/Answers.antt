@@ -4,12 +4,13 @@ use Rattle.std.proofs.lemmas.List.{length-append}
 use Rattle.sd_base.specs.Counter.{Tally}
 use Rattle.explore.specs.Explorations.{capacities_of}
 use Rattle.explore.specs.inside.Searches.{turned}
-use Rattle.explore.proofs.Turning.{capacities-length, counts-few, cycles-few, level-answers, level-evaluable, level-search, sum-few, turned-length}
+use Rattle.explore.proofs.Turning.{capacities-length, counts-few, cycles-few, level-answers, level-search, level-startable, sum-few, turned-length}
 use Rattle.explore.proofs.search.take_turn.Goals as goal
 
 pub run_level-requires-clause-fits : goal.run_level-requires-clause-fits
 run_level-requires-clause-fits g c = λ κs outlive.
-    level-evaluable (g.F.Firing.net c.args.net.now) c.know_laws.ensures c.requires.net c.args.limits c.requires.small c.requires.stands.0 c.args.total c.args.search.now c.requires.stands.1 c.requires.next c.in_ok-level.level.items c.take_level.new.waiting.keys c.in_ok-level.ensures
+    level-startable (g.F.Firing.net c.args.net.now) c.know_laws.ensures c.requires.net c.args.limits c.requires.small c.requires.stands.0 c.args.total c.args.search.now c.requires.stands.1 c.requires.next c.in_ok-level.level.items c.take_level.new.waiting.keys c.in_ok-level.ensures
+    c.args.wiring.now c.requires.wired
 
 pub take_in_all-requires-clause-answers : goal.take_in_all-requires-clause-answers
 take_in_all-requires-clause-answers g c =

@@ -4,12 +4,12 @@ use Rattle.sd_base.specs.Connection.{IsConnected}
 use Rattle.guide.proofs.Evaluating.{bound-connected}
 use Rattle.guide.proofs.rating.evaluate_on.Goals as goal
 
-pub evaluate_live-requires-clause-connected : goal.evaluate_live-requires-clause-connected
-evaluate_live-requires-clause-connected g c =
+pub evaluate_whole-requires-clause-connected : goal.evaluate_whole-requires-clause-connected
+evaluate_whole-requires-clause-connected g c =
     subst IsConnected (sym c.requires.bounded) (bound-connected (g.F.Firing.net c.args.net.now) c.args.capacities.now.capacities c.requires.fits.connected)
 
-pub evaluate_live-requires-clause-inputs : goal.evaluate_live-requires-clause-inputs
-evaluate_live-requires-clause-inputs g c = subst HasInputs (sym c.requires.bounded) c.requires.fits.inputs
+pub evaluate_whole-requires-clause-inputs : goal.evaluate_whole-requires-clause-inputs
+evaluate_whole-requires-clause-inputs g c = subst HasInputs (sym c.requires.bounded) c.requires.fits.inputs
 
-pub returns-clause-evaluated : goal.returns-clause-evaluated
-returns-clause-evaluated g c = c.in_ok-evaluate_blocked-in-Blocked.ensures.evaluated c.args.states
+pub returns-in_ok-evaluate_blocked-in-Blocked-clause-evaluated : goal.returns-in_ok-evaluate_blocked-in-Blocked-clause-evaluated
+returns-in_ok-evaluate_blocked-in-Blocked-clause-evaluated g c = c.in_ok-evaluate_blocked-in-Blocked.ensures.evaluated c.args.states

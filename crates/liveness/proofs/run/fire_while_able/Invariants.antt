@@ -2,12 +2,12 @@ use Rattle.std.proofs.Common.{◌≡◌, ◌≢◌, ℕ, ◌<◌}
 use Rattle.std.specs.Prelude.{slice_index}
 use Rattle.std.specs.Bool.{MatchBool}
 use Rattle.sd_base.proofs.Ends.{left_of}
-use Rattle.liveness.specs.inside.UntimedRuns.{IsRun}
+use Rattle.liveness.specs.inside.UntimedRuns.{IsNoted}
 use Rattle.liveness.proofs.run.fire_while_able.Given as goal
 
 abbrev pub invariant-firings : goal.invariant-firings
 invariant-firings g l = record {
-  run : IsRun (g.F.Firing.net l.net) l.counts l.tokens l.order.items;
+  run : IsNoted (g.N.Note.holds l.note) (g.F.Firing.net l.net) l.counts l.tokens;
   others : (a : ℕ) → a ≢ l.actor → slice_index l.counts a ≡ slice_index l.initial.counts a;
   fired : MatchBool l.fired
       (left_of (g.F.Firing.net l.net) (slice_index l.counts) < left_of (g.F.Firing.net l.net) (slice_index l.initial.counts))

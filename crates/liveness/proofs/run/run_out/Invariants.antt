@@ -1,11 +1,11 @@
-use Rattle.liveness.specs.inside.UntimedRuns.{IsRun}
+use Rattle.liveness.specs.inside.UntimedRuns.{IsNoted}
 use Rattle.liveness.specs.inside.Looks.{LeavesFlags}
 use Rattle.liveness.proofs.Looking.{looks_left}
 use Rattle.liveness.proofs.run.run_out.Given as goal
 
 abbrev pub invariant-looks : goal.invariant-looks
 invariant-looks g l = record {
-  run : IsRun (g.F.Firing.net l.net) l.counts l.tokens l.order.items;
+  run : IsNoted (g.N.Note.holds l.note) (g.F.Firing.net l.net) l.counts l.tokens;
   leaves : LeavesFlags (g.F.Firing.net l.net) l.counts l.flags.flagged.items l.flags.stack.items;
 }
 

@@ -1,8 +1,16 @@
-use Rattle.std.proofs.Common.{◌≤◌, ◌*◌}
+use Rattle.std.proofs.Common.{◌≡◌, ◌+◌, ◌≤◌, ◌*◌, arith}
 use Rattle.sd_base.specs.declared.limits.TheConstants.{RATE}
 use Rattle.sd_base.specs.Net.{channel_at, total}
-use Rattle.sd_base.proofs.Sums.{total-bound}
-use Rattle.guide.proofs.held_up.moved_by.Goals as goal
+use Rattle.sd_base.proofs.Sums.{total-bound, total-zero}
+use Rattle.firing.specs.Ports.{rates_at}
+use Rattle.liveness.proofs.ending.moved_by.Goals as goal
+
+pub returns-then-port_phases-eq1-clause-sum : goal.returns-then-port_phases-eq1-clause-sum
+returns-then-port_phases-eq1-clause-sum g c =
+    let none : 0 + c.args.firings ≡ c.args.firings = omega arith in
+    let sum : total (rates_at c.args.port (channel_at (g.F.Firing.net c.args.net.now) c.args.channel)) 0 + c.span_sum.result
+    ≡ total (rates_at c.args.port (channel_at (g.F.Firing.net c.args.net.now) c.args.channel)) c.args.firings = rw none at c.span_sum.ensures.sum in
+    omega (arith, sum, total-zero (rates_at c.args.port (channel_at (g.F.Firing.net c.args.net.now) c.args.channel)))
 
 pub returns-in-Made-clause-small : goal.returns-in-Made-clause-small
 returns-in-Made-clause-small g c =

@@ -1,0 +1,10 @@
+use Rattle.std.proofs.Common.{subst, sym}
+use Rattle.sd_base.specs.Schedules.{HasInputs}
+use Rattle.sd_base.specs.Connection.{IsConnected}
+use Rattle.guide.proofs.rating.evaluate_whole.Goals as goal
+
+pub evaluate_live-requires-2-clause-connected : goal.evaluate_live-requires-2-clause-connected
+evaluate_live-requires-2-clause-connected g c = subst IsConnected (sym c.in_ok-copy.ensures) c.requires.connected
+
+pub evaluate_live-requires-2-clause-inputs : goal.evaluate_live-requires-2-clause-inputs
+evaluate_live-requires-2-clause-inputs g c = subst HasInputs (sym c.in_ok-copy.ensures) c.requires.inputs
