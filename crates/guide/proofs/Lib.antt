@@ -3,5 +3,4 @@ pub mod Shown
 pub mod Evaluating
 pub mod Blocked
 pub mod Listing
-pub mod HeldUp
 pub mod MoreRoom
