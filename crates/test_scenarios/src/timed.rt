@@ -44,7 +44,7 @@ pub(crate) fn worst_of(
     worst(alloc, graph)
 }
 
-fn is_sound(graph: &TimedGraph) -> bool
+pub(crate) fn is_sound(graph: &TimedGraph) -> bool
     ensures { result ≡ true → IsSound graph.now }
 {
     let nodes = u64::from(graph.states) * u64::from(graph.tokens);
