@@ -9,7 +9,7 @@ ghost use Rattle.lasso.specs.LoopAnswers.{IsFound, IsRunRefusal};
 use crate::collect::empty_rows;
 use crate::error::RunError;
 use crate::repeat::first_repeat;
-use crate::search::find_pair;
+use crate::search::{SEARCH_STARTS, find_pair};
 use crate::table::loop_table;
 use firing::{Firing, LoopTable, Wiring};
 use sd_base::limits::STARTS;
@@ -84,8 +84,9 @@ fn find_loop<F: Firing>(
     ensures found { IfOk result (IsFound (F.net net.now) states) }
     ensures refused { IfErr result (IsRunRefusal (F.net net.now) states) }
 {
-    let pair = find_pair(alloc, net, wiring, states)?;
-    let mut lead = Engine::new(alloc, net, wiring, STARTS)?;
+    let mut lead = Engine::new(alloc, net, wiring, SEARCH_STARTS)?;
+    let pair = find_pair(alloc, &mut lead, states)?;
+    lead.restart(alloc, net, STARTS)?;
     let mut trail = Engine::new(alloc, net, wiring, STARTS)?;
     let mut starts = empty_rows(alloc, net.actors())?;
     let end = first_repeat(

@@ -4,14 +4,13 @@ ghost use Rattle.sd_base.specs.declared.limits.TheConstants.{STARTS};
 ghost use Rattle.sd_base.specs.Schedules.{HasInputs};
 ghost use Rattle.sd_base.specs.SelfTimed.{IsEvent, shape_at};
 ghost use Rattle.sd_base.specs.Untimed.{IsLive};
-ghost use Rattle.firing.specs.Wiring.{IsWiringOf};
 ghost use Rattle.selftimed.specs.declared.engine.Stage.TheVariants.{Fresh, Running};
 ghost use Rattle.lasso.specs.LoopAnswers.{IsRunRefusal};
 ghost use Rattle.lasso.specs.inside.Searching.{IsPair, IsCheckpoint, IsLast, NoneSince, NoneSoon};
 
 use crate::error::RunError;
 use crate::steps::go_on;
-use firing::{Firing, Wiring};
+use firing::Firing;
 use sd_base::NoMemory;
 use sd_base::limits::STARTS;
 use selftimed::{Engine, Shape};
@@ -19,7 +18,7 @@ use std::alloc::Global;
 
 /// How many starts the search makes at most. If a shape comes again within `STARTS` starts, the last
 /// checkpoint stands within twice as many, and comes again within as many more.
-const SEARCH_STARTS: u64 = 4 * STARTS;
+pub(crate) const SEARCH_STARTS: u64 = 4 * STARTS;
 
 /// Two moments of equal shapes: the later one is the first at which the shape of the earlier one comes again.
 #[derive(Clone, Copy, Debug)]
@@ -44,23 +43,23 @@ pub(crate) struct Checkpoint {
 /// place of Brent's two lets a loop that is entered early come again at an earlier checkpoint.
 pub(crate) fn find_pair<F: Firing>(
     alloc: Global,
-    net: &F,
-    wiring: &Wiring,
+    engine: &mut Engine<F>,
     states: u64,
 ) -> Result<Pair, RunError>
-    requires wired { IsWiringOf (F.net net.now) wiring.now }
-    requires live { IsLive (F.net net.now) }
-    requires inputs { HasInputs (F.net net.now) }
+    requires live { IsLive (F.net engine.old.net.now) }
+    requires inputs { HasInputs (F.net engine.old.net.now) }
+    requires fresh { engine.old.stage ≡ Fresh }
+    requires most { engine.old.most ≡ 4 * STARTS }
     requires some { 1 ≤ states }
-    ensures found { IfOk result (IsPair (F.net net.now)) }
-    ensures refused { IfErr result (IsRunRefusal (F.net net.now) states) }
+    ensures net { engine.new.net ≡ engine.old.net }
+    ensures found { IfOk result (IsPair (F.net engine.old.net.now)) }
+    ensures refused { IfErr result (IsRunRefusal (F.net engine.old.net.now) states) }
 {
-    let mut engine = Engine::new(alloc, net, wiring, SEARCH_STARTS)?;
-    if let Some(pair) = search_allowed(alloc, &mut engine, states)? {
+    if let Some(pair) = search_allowed(alloc, engine, states)? {
         return Ok(pair);
     }
-    let last = checkpoint_of(alloc, &engine)?;
-    if let Some(pair) = search_on(&mut engine, &last)? {
+    let last = checkpoint_of(alloc, engine)?;
+    if let Some(pair) = search_on(engine, &last)? {
         return Ok(pair);
     }
     if last.starts <= STARTS {
@@ -175,6 +174,7 @@ fn search_on<F: Firing>(
     requires running { engine.old.stage ≡ Running }
     requires checkpoint { IsCheckpoint (F.net engine.old.net.now) checkpoint.now }
     requires here { engine.old.moment ≡ checkpoint.now.moment }
+    ensures net { engine.new.net ≡ engine.old.net }
     ensures found { IfOk result (λ o. MatchOption o (NoneSoon (F.net engine.old.net.now) checkpoint.now.moment engine.old.most) (IsPair (F.net engine.old.net.now))) }
 {
     'events: while engine.moment() - checkpoint.moment < checkpoint.moment {

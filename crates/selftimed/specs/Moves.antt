@@ -1,12 +1,17 @@
--- What a step of an engine does.
+-- Where an engine can be set back, and what a step of it does.
 use Rattle.std.specs.Prelude.{◌≡◌, ℕ, ◌+◌, ◌≤◌, ◌<◌, ◌⊎◌, length, map, sum}
 use Rattle.sd_base.specs.Net.{Net}
+use Rattle.sd_base.specs.Connection.{ends_of}
 use Rattle.sd_base.specs.Schedules.{Schedule, Lacks, HasInputs, Earliest, count_of}
 use Rattle.sd_base.specs.SelfTimed.{ended_by, earliest, IsEvent, starts_by}
 use Rattle.selftimed.specs.declared.engine.Stage.{Stage}
 use Rattle.selftimed.specs.declared.engine.Stage.TheVariants.{Fresh, Running, Spent, OutOfMemory}
 use Rattle.selftimed.specs.declared.engine.Move.{Move}
 use Rattle.selftimed.specs.declared.engine.Move.TheVariants.{Stepped, Stuck}
+
+-- two nets have as many actors, and channels with the same ends
+abbrev pub AreAlike : Net → Net → Type 0
+AreAlike net other = (length net.times ≡ length other.times) × (ends_of net ≡ ends_of other)
 
 -- t is the first event after now
 pub record IsNext (net : Net) (now t : ℕ) : Type 0 where

@@ -1,4 +1,4 @@
-ghost use Rattle.std.specs.Prelude.{◌≡◌, ℕ, ◌<◌, ◌≤◌, IfOk, length, replicate, slice_index};
+ghost use Rattle.std.specs.Prelude.{◌≡◌, ℕ, ◌<◌, ◌≤◌, IfOk, OnOk, length, replicate, slice_index};
 ghost use Rattle.selftimed.specs.inside.Actors.{fresh_one};
 
 use crate::running::Running;
@@ -21,6 +21,20 @@ pub(crate) fn new_actors(alloc: Global, count: u32) -> Result<Vec<ActorState>, N
     ensures { IfOk result (λ v. v.items ≡ replicate count fresh_one) }
 {
     let mut actors = Vec::new(alloc);
+    refresh(alloc, &mut actors, count)?;
+    Ok(actors)
+}
+
+/// Makes of a list so many actors of which nothing has started, all to be looked at. It allocates nothing where there were as
+/// many.
+pub(crate) fn refresh(
+    alloc: Global,
+    actors: &mut Vec<ActorState>,
+    count: u32,
+) -> Result<(), NoMemory>
+    ensures { OnOk result (actors.new.items ≡ replicate count fresh_one) }
+{
+    actors.clear();
     for _actor in 0..count {
         actors.push(ActorState {
             started: 0,
@@ -30,7 +44,7 @@ pub(crate) fn new_actors(alloc: Global, count: u32) -> Result<Vec<ActorState>, N
             lacking: 0,
         })?;
     }
-    Ok(actors)
+    Ok(())
 }
 
 /// How many of the first ends have come by a moment.

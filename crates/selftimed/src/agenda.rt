@@ -26,14 +26,25 @@ impl Agenda {
         ensures ends { IfOk result (λ a. heap_items a.ends ≡ []) }
         ensures touched { IfOk result (λ a. a.touched.items ≡ range_with_len 0 actors) }
     {
-        let mut touched = Vec::new(alloc);
-        for actor in 0..actors {
-            touched.push(actor)?;
-        }
-        Ok(Agenda {
+        let mut agenda = Agenda {
             ends: BinaryHeap::new(alloc),
-            touched,
-        })
+            touched: Vec::new(alloc),
+        };
+        agenda.refill(actors)?;
+        Ok(agenda)
+    }
+
+    /// Makes it that of so many actors, of which none runs, and all are touched. It allocates nothing where there were as many.
+    pub(crate) fn refill(&mut self, actors: u32) -> Result<(), NoMemory>
+        ensures ends { OnOk result (heap_items self.new.ends ≡ []) }
+        ensures touched { OnOk result (self.new.touched.items ≡ range_with_len 0 actors) }
+    {
+        self.ends.clear();
+        self.touched.clear();
+        for actor in 0..actors {
+            self.touched.push(actor)?;
+        }
+        Ok(())
     }
 
     /// The soonest end.

@@ -1,17 +1,17 @@
-ghost use Rattle.std.specs.Prelude.{◌≡◌, ◌↔◌, IsTrue, ◌+◌, ◌^◌, ◌<◌, ◌≤◌, length, IfOk, IfErr};
+ghost use Rattle.std.specs.Prelude.{◌≡◌, ◌↔◌, IsTrue, ◌+◌, ◌^◌, ◌<◌, ◌≤◌, length, IfOk, IfErr, OnErr, OnOk};
 ghost use Rattle.sd_base.specs.Schedules.{count_of};
 ghost use Rattle.sd_base.specs.SelfTimed.{earliest, shape_at, starts_by};
 ghost use Rattle.selftimed.specs.inside.Plans.{Plans};
 ghost use Rattle.selftimed.specs.EngineShapes.{form};
 ghost use Rattle.selftimed.specs.Prints.{print_of, running_print_of};
-ghost use Rattle.selftimed.specs.Moves.{IsMove, IsStuck, IsSpent};
+ghost use Rattle.selftimed.specs.Moves.{AreAlike, IsMove, IsStuck, IsSpent};
 ghost use Rattle.firing.specs.declared.sums.Port.TheVariants.{Made, Taken};
 ghost use Rattle.firing.specs.Wiring.{AreListed, IsWiringOf};
 ghost use Rattle.selftimed.specs.declared.engine.Stage.{Stage};
 ghost use Rattle.selftimed.specs.declared.engine.Move.{Move};
 ghost use Rattle.selftimed.specs.inside.Stands.{IsFresh, Stands};
 
-use crate::actors::{ActorState, new_actors};
+use crate::actors::{ActorState, new_actors, refresh};
 use crate::agenda::Agenda;
 use crate::compare::{running_print, same_running, same_stands};
 use crate::event::Event;
@@ -65,6 +65,7 @@ pub struct Engine<'a, F: Firing> {
     tokens: Tokens,
     agenda: Agenda,
     ghost few: { most ≤ 2 ^ 32 },
+    ghost wired: { IsWiringOf (F.net net.now) wiring.now },
     ghost inputs: { AreListed (F.net net.now) Taken wiring.now.inputs },
     ghost outputs: { AreListed (F.net net.now) Made wiring.now.outputs },
     ghost fresh: { stage ≡ Stage.Fresh → IsFresh (F.net net.now) most actors.items tokens all },
@@ -103,6 +104,30 @@ impl<'a, F: Firing> Engine<'a, F> {
             tokens,
             agenda,
         })
+    }
+
+    /// Sets the engine back before the first event, of a net with as many actors and channels with the same ends, which may have
+    /// other tokens. It allocates nothing but for running firings. Cost: linear in the actors and channels of the net.
+    pub fn restart(&mut self, alloc: Global, net: &'a F, most: u64) -> Result<(), NoMemory>
+        requires alike { AreAlike (F.net net.now) (F.net self.old.net.now) }
+        requires most { most ≤ 2 ^ 32 }
+        ensures net { OnOk result (self.new.net.now ≡ net.now) }
+        ensures stage { OnOk result (self.new.stage ≡ Stage.Fresh) }
+        ensures moment { OnOk result (self.new.moment ≡ 0) }
+        ensures most { OnOk result (self.new.most ≡ most) }
+        ensures lost { OnErr result (self.new.stage ≡ Stage.OutOfMemory) }
+    {
+        self.stage = Stage::OutOfMemory;
+        know_wiring(net, self.wiring);
+        refresh(alloc, &mut self.actors, net.actors())?;
+        self.tokens.refill(net)?;
+        self.agenda.refill(net.actors())?;
+        self.net = net;
+        self.moment = 0;
+        self.most = most;
+        self.all = 0;
+        self.stage = Stage::Fresh;
+        Ok(())
     }
 
     /// Goes to the next event, which is moment 0 at first, and makes its starts. Of an actor without an input

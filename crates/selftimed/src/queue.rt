@@ -67,6 +67,13 @@ impl Queue {
         ensures { self.new ≡ drop count self.old }
     {
         let all = self.moments.len();
+        // mostly the only one, for which there is nothing to move
+        if all == 1 && count == 1 {
+            self.moments.pop();
+            self.head = 0;
+            self.first = None;
+            return;
+        }
         self.head += count;
         let left = all - self.head;
         if left < self.head {

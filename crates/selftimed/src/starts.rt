@@ -207,5 +207,8 @@ fn times_in(count: u128, rate: u64, most: u64) -> u64
     if count < 2 * rate as u128 {
         return 1;
     }
+    if count <= u64::MAX as u128 {
+        return count as u64 / rate;
+    }
     (count / rate as u128) as u64
 }

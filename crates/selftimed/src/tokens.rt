@@ -38,10 +38,26 @@ impl Tokens {
             counts: Vec::new(alloc),
             print: 0,
         };
-        for channel in 0..net.channels() {
-            tokens.push(net.tokens(channel))?;
-        }
+        tokens.refill(net)?;
         Ok(tokens)
+    }
+
+    /// Makes them the tokens with which each channel starts. It allocates nothing where there were as many channels.
+    pub(crate) fn refill<F: Firing>(&mut self, net: &F) -> Result<(), NoMemory>
+        ensures { OnOk result (self.new ≡ map (λ (c : Channel). c.tokens) (F.net net.now).channels) }
+    {
+        self.clear();
+        for channel in 0..net.channels() {
+            self.push(net.tokens(channel))?;
+        }
+        Ok(())
+    }
+
+    fn clear(&mut self)
+        ensures { self.new ≡ [] }
+    {
+        self.counts.clear();
+        self.print = 0;
     }
 
     fn push(&mut self, count: u64) -> Result<(), NoMemory>

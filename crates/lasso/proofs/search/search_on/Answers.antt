@@ -22,7 +22,10 @@ events-init g c = record {
 pub returns-then-not-branch : goal.returns-then-not-branch
 returns-then-not-branch g c =
     let goes = rw c.events.invariant.running at (rw c.events.invariant.most at (rw c.events.invariant.net at (rw c.if-not-branch.true at c.in_ok-go_on.ensures.goes))) in
-    record { found = none-spent (g.F.Firing.net c.args.engine.now.net.now) (g.met.F.Firing.lawful c.args.engine.now.net.now) c.requires.inputs c.args.checkpoint.now.moment c.events.engine.moment goes.0 c.args.engine.now.most c.events.invariant.none goes.1 goes.2 }
+    record {
+      net = c.go_on.ensures.net ∙ c.events.invariant.net;
+      found = none-spent (g.F.Firing.net c.args.engine.now.net.now) (g.met.F.Firing.lawful c.args.engine.now.net.now) c.requires.inputs c.args.checkpoint.now.moment c.events.engine.moment goes.0 c.args.engine.now.most c.events.invariant.none goes.1 goes.2;
+    }
 
 pub returns-then-stands_at : goal.returns-then-stands_at
 returns-then-stands_at g c =
@@ -31,6 +34,7 @@ returns-then-stands_at g c =
     let same : shape_at (g.F.Firing.net c.args.engine.now.net.now) c.go_on.new.engine.moment ≡ shape_at (g.F.Firing.net c.args.engine.now.net.now) c.args.checkpoint.now.moment =
     rw c.events.invariant.net at (rw c.go_on.ensures.net at (c.if-stands_at.ensures.0 refl)) in
     record {
+      net = c.go_on.ensures.net ∙ c.events.invariant.net;
       found = rw c.moment-then-stands_at.ensures (record {
         order = omega (arith, next.later, c.events.invariant.ahead);
         start = c.requires.checkpoint.event;
@@ -71,6 +75,7 @@ returns-then-starts-checkpoint-gt-STARTS g c =
     let here : c.starts.result ≡ starts_by (g.F.Firing.net c.args.engine.now.net.now) c.go_on.new.engine.moment = rw c.events.invariant.net at (rw c.go_on.ensures.net at c.starts.ensures) in
     let many : starts_by (g.F.Firing.net c.args.engine.now.net.now) c.args.checkpoint.now.moment + 4000000 < starts_by (g.F.Firing.net c.args.engine.now.net.now) c.go_on.new.engine.moment = omega (arith, here, c.requires.checkpoint.starts, c.if-starts-checkpoint-gt-STARTS.true) in
     record {
+      net = c.go_on.ensures.net ∙ c.events.invariant.net;
       found = none-many (g.F.Firing.net c.args.engine.now.net.now) (g.met.F.Firing.lawful c.args.engine.now.net.now) c.requires.inputs c.args.checkpoint.now.moment c.go_on.new.engine.moment c.args.engine.now.most
           (none-more (g.F.Firing.net c.args.engine.now.net.now) (g.met.F.Firing.lawful c.args.engine.now.net.now) c.requires.inputs c.args.checkpoint.now.moment c.events.engine.moment c.go_on.new.engine.moment c.events.invariant.none next other) many;
     }

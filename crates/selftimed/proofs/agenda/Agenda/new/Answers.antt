@@ -1,6 +1,0 @@
-use Rattle.std.proofs.Common.{◌∷◌, ◌++◌, [], ◌∙◌, sym, ap, ℕ, List, arith}
-use Rattle.selftimed.proofs.Agendas.{range-more}
-use Rattle.selftimed.proofs.agenda.Agenda.new.Goals as goal
-
-pub loop-actor-preserved : goal.loop-actor-preserved
-loop-actor-preserved c = c.in_ok-push.ensures.items ∙ (ap (λ (xs : List ℕ). xs ++ c.loop-actor.actor ∷ []) c.loop-actor.invariant ∙ sym (range-more 0 c.loop-actor.actor c.loop-actor.actor (omega arith)))

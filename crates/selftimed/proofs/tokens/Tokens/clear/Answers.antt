@@ -1,0 +1,7 @@
+use Rattle.std.proofs.Common.{refl}
+use Rattle.selftimed.specs.Prints.{weighed_from}
+use Rattle.selftimed.proofs.tokens.Tokens.clear.Goals as goal
+
+pub invariant_of-self : goal.invariant_of-self
+unfolding weighed_from
+invariant_of-self c = rw c.clear.ensures.items refl
