@@ -10,3 +10,4 @@ pub mod AnswerTexts
 pub mod QuantityWords
 pub mod RefusalLines
 pub mod WorstTexts
+pub mod SummaryTexts

@@ -12,6 +12,7 @@ mod quantities;
 mod refusal;
 mod refusals;
 mod schedules;
+mod summaries;
 #[cfg(test)]
 mod tests;
 mod walks;
@@ -24,5 +25,6 @@ pub use points::points_text;
 pub use quantities::quantity_word;
 pub use refusal::{Class, Refusal};
 pub use refusals::{memory_text, refusal_line, refusal_text};
+pub use summaries::summary_text;
 pub use walks::walk_text;
 pub use worst_rates::worst_text;

@@ -22,6 +22,7 @@ use Rattle.sd_command.proofs.CommandsDecide.{Decides, DecidesLast, after_decides
 use Rattle.sd_command.proofs.SharedSteps.{FileLaws, asking_determines, taking_determines, reading_determines, buffering_determines, balancing_determines, AreSmall, bounded_net, lawful_net}
 use Rattle.sd_command.proofs.OneRate.{rate_decides}
 use Rattle.sd_command.proofs.OneTradeOff.{points_decide}
+use Rattle.sd_command.proofs.Summaries.{generate_decides}
 use Rattle.sd_command.specs.ScenarioSteps.{reading_scenarios}
 use Rattle.sd_command.specs.WorstAnswers.{scenario}
 use Rattle.sd_command.proofs.OneWorst.{ScenarioLaws, reading_file_determines, worst_decides}
@@ -68,6 +69,7 @@ module _ (laws : FileLaws) (scenarios : ScenarioLaws) (shelf : Files) (tells : s
   command_decides (requests.Throughput name buffers no_overlap states) within = throughput_decides name buffers no_overlap states within.0
   command_decides (requests.Storage name limits no_overlap) within = storage_decides name limits no_overlap
   command_decides (requests.Scenario name) within = scenario_decides name
+  command_decides (requests.Generate seed limit actors) within = generate_decides laws seed limit actors within.1
 
   pub course_decides : (words : List (List ℕ)) → Decides (course_of words shelf)
   course_decides words = after_decides (asking words) _ (asking_determines words) (λ request asked. command_decides request (asked_within words request asked))

@@ -13,6 +13,8 @@ mod FileConnections
 mod PointSchedules
 mod OneTradeOff
 mod CompleteStorage
+mod Summaries
+mod CompleteGenerate
 pub mod CommandsDecide
 pub mod SharedSteps
 mod Throughs

@@ -19,7 +19,7 @@ use Rattle.sd_command.proofs.OneRate.{NetLaws, completing_determines, one-least}
 use Rattle.sd_command.proofs.PointSchedules.{fits-lawful}
 
 module _ (graph : GraphFile) (net : Net) where
-  touching_determines : Determines (touching graph net)
+  pub touching_determines : Determines (touching graph net)
   touching_determines = record {
     one = λ a b is also. refl;
     refusal = λ r s is also.

@@ -8,13 +8,14 @@ use Rattle.sd_base.specs.FileNet.{net_of}
 use Rattle.sd_base.specs.SelfTimed.{events_by, starts_by}
 use Rattle.sd_base.specs.Rates.{IsLoop}
 use Rattle.sd_base.specs.Untimed.{IsLive}
-use Rattle.sd_words.specs.declared.request.Request.TheVariants.{Storage, Throughput}
+use Rattle.sd_words.specs.declared.request.Request.TheVariants.{Generate, Storage, Throughput}
 use Rattle.sd_words.specs.Asked.{request_of}
 use Rattle.storage.specs.BoundedNets.{bound}
 use Rattle.storage.specs.NamedBuffers.{Buffer, capacities_of}
 use Rattle.explore.specs.Explorations.{AreFound}
 use Rattle.explore.specs.Reachable.{IsReachable}
 use Rattle.graph_reader.specs.Laws.{Gives}
+use Rattle.gen_graph.specs.MadeGraphs.{made_graph}
 use Rattle.balance.specs.Repetition.{IsRound}
 use Rattle.report.specs.declared.refusal.Refusal.{Refusal}
 use Rattle.sd_io.specs.Outside.{Rose}
@@ -22,6 +23,7 @@ use Rattle.sd_command.specs.declared.status.Status.TheVariants as statuses
 use Rattle.sd_command.specs.Statuses.{status_of}
 use Rattle.sd_command.specs.Courses.{Ending, Refused, Ended, Failed, Lacking}
 use Rattle.sd_command.specs.Takings.{Files}
+use Rattle.sd_command.specs.Generations.{usual_limits}
 use Rattle.sd_command.specs.Requests.{course_of}
 use Rattle.sd_command.specs.Runs.{Run, Shows}
 
@@ -81,4 +83,12 @@ StorageIsComplete = (run : Run) (cut : Bool) (name : List ℕ) (limits : Limits)
     → ((refusal : Refusal) (n : ℕ) → course_of run.words run.outside.shelf.files (Refused refusal) n → ⊥)
     → ((bytes gamma : List ℕ) (graph : GraphFile) → run.outside.shelf.files.named name ≡ Some bytes → Gives bytes true graph → IsRound graph gamma
     → Suffice (net_of graph gamma no_overlap) limits)
+    → Shows run cut → (run.status ≡ statuses.Done) ⊎ (run.status ≡ statuses.Memory)
+
+-- such a run of `generate` is done, or ends for want of memory, where no refusal is due and the limits are enough
+abbrev pub GenerateIsComplete : Type 0
+GenerateIsComplete = (run : Run) (cut : Bool) (seed limit actors : ℕ) → IsFaultless run
+    → request_of run.words ≡ Ok (Generate seed limit actors)
+    → ((refusal : Refusal) (n : ℕ) → course_of run.words run.outside.shelf.files (Refused refusal) n → ⊥)
+    → ((gamma : List ℕ) → IsRound (made_graph seed actors) gamma → Suffice (net_of (made_graph seed actors) gamma true) (usual_limits limit))
     → Shows run cut → (run.status ≡ statuses.Done) ⊎ (run.status ≡ statuses.Memory)

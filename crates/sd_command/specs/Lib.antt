@@ -9,6 +9,7 @@ pub mod Repetitions
 pub mod Throughputs
 pub mod PointAnswers
 pub mod TradeOffs
+pub mod Generations
 pub mod Requests
 pub mod Runs
 pub mod inside

@@ -14,6 +14,7 @@ use Rattle.sd_command.specs.Repetitions.{repetition}
 use Rattle.sd_command.specs.Throughputs.{throughput}
 use Rattle.sd_command.specs.TradeOffs.{storage}
 use Rattle.sd_command.specs.WorstAnswers.{scenario}
+use Rattle.sd_command.specs.Generations.{generate}
 
 -- the refusal of words that aren't those of a command
 abbrev pub usage_refusal : UsageCause → Refusal
@@ -36,6 +37,7 @@ command_of (requests.Repetition graph) = repetition graph
 command_of (requests.Throughput graph buffers no_overlap states) = throughput graph buffers no_overlap states
 command_of (requests.Storage graph limits no_overlap) = storage graph limits no_overlap
 command_of (requests.Scenario graph) = scenario graph
+command_of (requests.Generate seed limit actors) = λ files. generate seed limit actors
 
 -- how the command of the words may end over the files of a shelf, and after how many executions
 abbrev pub course_of : List (List ℕ) → Files → Ending → ℕ → Type 0

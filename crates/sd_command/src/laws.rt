@@ -1,4 +1,4 @@
-ghost use Rattle.sd_command.specs.Endings.{DueIsAnswered, DueIsOne, ElseIsDone, StorageIsComplete, ThroughputIsComplete};
+ghost use Rattle.sd_command.specs.Endings.{DueIsAnswered, DueIsOne, ElseIsDone, GenerateIsComplete, StorageIsComplete, ThroughputIsComplete};
 
 use balance::one_answer;
 use graph_reader::know_files;
@@ -16,6 +16,7 @@ pub fn know_endings()
     ensures done { ElseIsDone }
     ensures throughput { ThroughputIsComplete }
     ensures storage { StorageIsComplete }
+    ensures generate { GenerateIsComplete }
 {
     know_files();
     know_scenario_files();

@@ -8,6 +8,7 @@ mod buffering;
 mod command;
 mod delivering;
 mod file_kind;
+mod generate;
 mod laws;
 mod names;
 mod nets;

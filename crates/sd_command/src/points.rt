@@ -95,8 +95,8 @@ pub(crate) fn points_of<R: Threads + Sync, F: Firing + Sync, G: Gate + Sync, L: 
     })
 }
 
-// The exploration of a net, or the refusal of one that passes a limit.
-fn explored<R: Threads + Sync, F: Firing + Sync, G: Gate + Sync, L: Ledger + Send>(
+/// The exploration of a net, or the refusal of one that passes a limit.
+pub(crate) fn explored<R: Threads + Sync, F: Firing + Sync, G: Gate + Sync, L: Ledger + Send>(
     rt: &R,
     alloc: Global,
     net: &F,

@@ -7,7 +7,7 @@ ghost use Rattle.sd_command.specs.inside.Going.{Goes};
 use crate::answer::Answer;
 use crate::asking::ask;
 use crate::stop::Stop;
-use crate::{repetition, scenario, throughput, trade_off};
+use crate::{generate, repetition, scenario, throughput, trade_off};
 use fanout::Gate;
 use sd_base::{Ledger, Steps, Text};
 use sd_io::Shelf;
@@ -85,5 +85,10 @@ fn command_answer<R: Threads + Sync, S: Shelf, G: Gate + Sync, L: Ledger + Send>
             steps,
         ),
         Request::Scenario { graph } => scenario::answer(alloc, shelf, graph.as_str()),
+        Request::Generate {
+            seed,
+            limit,
+            actors,
+        } => generate::answer(rt, alloc, *seed, *limit, *actors, gate, steps),
     }
 }

@@ -128,6 +128,7 @@ named-word algorithm.Repetition = refl
 named-word algorithm.Throughput = refl
 named-word algorithm.Storage = refl
 named-word algorithm.Scenario = refl
+named-word algorithm.Generate = refl
 
 found-first : (b : Bool) (x a : Algorithm) (w : List ℕ) (r : Option Algorithm) → bytes_eq (algorithm_word x) w ≡ b → cond b (Some x) r ≡ Some a → (w ≡ algorithm_word a) ⊎ (r ≡ Some a)
 found-first true x a w r e h =

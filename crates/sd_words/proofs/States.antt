@@ -6,13 +6,14 @@ use Rattle.std.specs.Str.{bytes_eq}
 use Rattle.std.proofs.lemmas.List.Elements.{All-nil, All-push}
 use Rattle.std.proofs.lemmas.Bool.{leb-true}
 use Rattle.std.specs.Prelude.{◌==◌, nat_le, nat_lt, unwrap_or, option_and_then}
-use Rattle.sd_base.specs.declared.limits.TheConstants.{CAPACITY, DISTRIBUTIONS, LEAST_DISTRIBUTIONS, LEAST_STATES, STATES, STORAGE, USUAL_DISTRIBUTIONS, USUAL_STATES}
+use Rattle.sd_base.specs.declared.limits.TheConstants.{ACTORS, CAPACITY, DISTRIBUTIONS, LEAST_DISTRIBUTIONS, LEAST_STATES, STATES, STORAGE, USUAL_DISTRIBUTIONS, USUAL_STATES}
+use Rattle.sd_words.specs.declared.making.TheConstants.{LEAST_ACTORS, USUAL_ACTORS}
 use Rattle.sd_words.specs.declared.names.OptionName.{OptionName}
 use Rattle.sd_words.specs.declared.names.OptionName.TheVariants as option
 use Rattle.sd_words.specs.declared.names.Algorithm.{Algorithm}
 use Rattle.sd_words.specs.declared.names.Algorithm.TheVariants as algorithm
 use Rattle.sd_words.specs.Values.{is_decimal, number as value, number_within}
-use Rattle.sd_words.specs.Asked.{AreLimits, AreStates, IsWithinLimits, Values, capacities_of, limits_of, number_of, request_for, states_of}
+use Rattle.sd_words.specs.Asked.{AreLimits, AreMadeActors, AreStates, actors_of, limit_of, IsWithinLimits, Values, capacities_of, limits_of, number_of, request_for, states_of}
 use Rattle.sd_words.specs.Buffers.{Buffer, buffer_of, buffers_of, named_number, with_buffer, with_parts}
 use Rattle.escapes.specs.SpelledNames.{unescaped}
 
@@ -38,9 +39,15 @@ module _ (least greatest usual : ℕ) (above : least ≤ usual) (below : usual �
 states-given : (values : Values) → AreStates (states_of values)
 states-given values = number-given LEAST_STATES STATES USUAL_STATES (lit≤ tt) (lit≤ tt) option.States values
 
+limit-given : (values : Values) → limit_of values ≤ STORAGE
+limit-given values = (number-given 0 STORAGE 0 (lit≤ tt) (lit≤ tt) option.Limit values).1
+
+pub actors-given : (values : Values) → AreMadeActors (actors_of values)
+actors-given values = number-given LEAST_ACTORS ACTORS USUAL_ACTORS (lit≤ tt) (lit≤ tt) option.Actors values
+
 limits-given : (values : Values) → AreLimits (limits_of values)
 limits-given values = record {
-  total = (number-given 0 STORAGE 0 (lit≤ tt) (lit≤ tt) option.Limit values).1;
+  total = limit-given values;
   states = states-given values;
   distributions = number-given LEAST_DISTRIBUTIONS DISTRIBUTIONS USUAL_DISTRIBUTIONS (lit≤ tt) (lit≤ tt) option.Distributions values;
 }
@@ -125,3 +132,4 @@ request-within algorithm.Repetition values = tt
 request-within algorithm.Throughput values = (capacities-small values, states-given values)
 request-within algorithm.Storage values = limits-given values
 request-within algorithm.Scenario values = tt
+request-within algorithm.Generate values = (limit-given values, actors-given values)

@@ -1,8 +1,9 @@
 -- What settings ask for, or the first cause why they ask for nothing.
 use Rattle.std.specs.Prelude.{All, ◌≡◌, ◌≤◌, ℕ, Bool, true, List, [], ◌∷◌, Option, Some, None, Result, Ok, Err, MatchResult, is_some, unwrap_or, option_and_then, if◌then◌else◌}
 use Rattle.std.specs.Str.{bytes_eq}
-use Rattle.sd_base.specs.declared.limits.TheConstants.{CAPACITY, DISTRIBUTIONS, LEAST_DISTRIBUTIONS, LEAST_STATES, STATES, STORAGE, USUAL_DISTRIBUTIONS, USUAL_STATES}
+use Rattle.sd_base.specs.declared.limits.TheConstants.{ACTORS, CAPACITY, DISTRIBUTIONS, LEAST_DISTRIBUTIONS, LEAST_STATES, STATES, STORAGE, USUAL_DISTRIBUTIONS, USUAL_STATES}
 use Rattle.sd_base.specs.declared.limits.Limits.{Limits}
+use Rattle.sd_words.specs.declared.making.TheConstants.{LEAST_ACTORS, SEED, USUAL_ACTORS}
 use Rattle.sd_words.specs.declared.names.OptionName.{OptionName}
 use Rattle.sd_words.specs.declared.names.OptionName.TheVariants as option
 use Rattle.sd_words.specs.declared.names.Algorithm.{Algorithm}
@@ -70,6 +71,9 @@ standing algorithm.Storage option.Distributions = Allowed (form.Number LEAST_DIS
 standing algorithm.Storage option.Limit = Required (form.Number 0 STORAGE)
 standing algorithm.Storage option.NoOverlap = Allowed form.Any
 standing algorithm.Scenario option.Graph = Required form.Any
+standing algorithm.Generate option.Limit = Required (form.Number 0 STORAGE)
+standing algorithm.Generate option.Seed = Required (form.Number 0 SEED)
+standing algorithm.Generate option.Actors = Allowed (form.Number LEAST_ACTORS ACTORS)
 standing a o = Foreign
 
 -- a value is of the form that the table asks
@@ -111,13 +115,25 @@ states_of values = number_of option.States LEAST_STATES STATES USUAL_STATES valu
 unfoldable pub capacities_of : Values → List Buffer
 capacities_of values = unwrap_or (option_and_then buffers_of (values option.Buffers)) []
 
--- what an exploration may use: its limit is a required option, so that no other number stands for it
+-- the greatest storage: a required option, so that no other number stands for it
+abbrev pub limit_of : Values → ℕ
+limit_of values = number_of option.Limit 0 STORAGE 0 values
+
+-- what an exploration may use
 abbrev pub limits_of : Values → Limits
 limits_of values = record {
-  total = number_of option.Limit 0 STORAGE 0 values;
+  total = limit_of values;
   states = states_of values;
   distributions = number_of option.Distributions LEAST_DISTRIBUTIONS DISTRIBUTIONS USUAL_DISTRIBUTIONS values;
 }
+
+-- the number that a graph is made from: a required option
+abbrev pub seed_of : Values → ℕ
+seed_of values = number_of option.Seed 0 SEED 0 values
+
+-- the actors of a graph that is made
+abbrev pub actors_of : Values → ℕ
+actors_of values = number_of option.Actors LEAST_ACTORS ACTORS USUAL_ACTORS values
 
 -- the request of values that are as the algorithm asks
 unfoldable pub request_for : Algorithm → Values → Request
@@ -125,6 +141,7 @@ request_for algorithm.Repetition values = request.Repetition (graph_of values)
 request_for algorithm.Throughput values = request.Throughput (graph_of values) (capacities_of values) (is_some (values option.NoOverlap)) (states_of values)
 request_for algorithm.Storage values = request.Storage (graph_of values) (limits_of values) (is_some (values option.NoOverlap))
 request_for algorithm.Scenario values = request.Scenario (graph_of values)
+request_for algorithm.Generate values = request.Generate (seed_of values) (limit_of values) (actors_of values)
 
 -- a number of states is within its range
 abbrev pub AreStates : ℕ → Type 0
@@ -136,12 +153,17 @@ pub record AreLimits (limits : Limits) : Type 0 where
   pub states : AreStates limits.states
   pub distributions : (LEAST_DISTRIBUTIONS ≤ limits.distributions) × (limits.distributions ≤ DISTRIBUTIONS)
 
+-- a number of actors of a graph that is made is within its range
+abbrev pub AreMadeActors : ℕ → Type 0
+AreMadeActors actors = (LEAST_ACTORS ≤ actors) × (actors ≤ ACTORS)
+
 -- the numbers of a request are within their ranges
 abbrev pub IsWithinLimits : Request → Type 0
 IsWithinLimits (request.Repetition graph) = Unit {0}
 IsWithinLimits (request.Throughput graph buffers no_overlap states) = All (λ (b : Buffer). b.1 ≤ CAPACITY) buffers × AreStates states
 IsWithinLimits (request.Storage graph limits no_overlap) = AreLimits limits
 IsWithinLimits (request.Scenario graph) = Unit {0}
+IsWithinLimits (request.Generate seed limit actors) = (limit ≤ STORAGE) × AreMadeActors actors
 
 -- what values ask for
 unfoldable pub request_from : Values → Result Request UsageCause

@@ -38,10 +38,11 @@ algorithm_word algorithm.Repetition = codes "repetition"
 algorithm_word algorithm.Throughput = codes "throughput"
 algorithm_word algorithm.Storage = codes "storage"
 algorithm_word algorithm.Scenario = codes "scenario"
+algorithm_word algorithm.Generate = codes "generate"
 
 -- the algorithms
 abbrev pub algorithms : List Algorithm
-algorithms = algorithm.Repetition ∷ algorithm.Throughput ∷ algorithm.Storage ∷ algorithm.Scenario ∷ []
+algorithms = algorithm.Repetition ∷ algorithm.Throughput ∷ algorithm.Storage ∷ algorithm.Scenario ∷ algorithm.Generate ∷ []
 
 -- the algorithm of a word
 unfoldable pub algorithm_named : List ℕ → Option Algorithm

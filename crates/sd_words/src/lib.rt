@@ -8,6 +8,7 @@ mod buffers;
 mod form;
 mod given;
 mod laws;
+mod making;
 mod names;
 mod request;
 mod spelling;

@@ -76,13 +76,15 @@ pub enum Algorithm {
     Throughput,
     Storage,
     Scenario,
+    Generate,
 }
 
-const ALGORITHMS: [Algorithm; 4] = [
+const ALGORITHMS: [Algorithm; 5] = [
     Algorithm::Repetition,
     Algorithm::Throughput,
     Algorithm::Storage,
     Algorithm::Scenario,
+    Algorithm::Generate,
 ];
 
 impl Algorithm {
@@ -96,6 +98,7 @@ impl Algorithm {
             Algorithm::Throughput => "throughput",
             Algorithm::Storage => "storage",
             Algorithm::Scenario => "scenario",
+            Algorithm::Generate => "generate",
         }
     }
 

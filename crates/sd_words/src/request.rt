@@ -33,6 +33,13 @@ pub enum Request {
     Scenario {
         graph: Text,
     },
+    /// The Pareto points, up to a total of `limit`, of the graph that is made from the number `seed`, a chain of so many
+    /// actors.
+    Generate {
+        seed: u64,
+        limit: u64,
+        actors: u32,
+    },
 }
 
 /// Why the words ask for nothing: the first cause in the order in which they are tested.

@@ -4,12 +4,13 @@ ghost use Rattle.std.specs.Prelude.{◌≡◌, IfOk, Ok, Err, if◌then◌else�
 ghost use Rattle.sd_words.specs.declared.request.UsageCause.TheVariants.{BadValue};
 ghost use Rattle.sd_words.specs.Forms.{fits};
 ghost use Rattle.std.specs.Option.{option_map};
-ghost use Rattle.sd_words.specs.Asked.{Gives, algorithm_of, all_checked, capacities_of, checked, graph_of, limits_of, number_of, options, request_for, standing, states_of};
+ghost use Rattle.sd_words.specs.Asked.{Gives, algorithm_of, all_checked, capacities_of, checked, graph_of, limit_of, limits_of, number_of, options, request_for, standing, states_of};
 ghost use Rattle.sd_words.specs.Given.{values_given};
 
 use crate::buffers::buffers_of;
 use crate::form::{Form, fits, number_within};
 use crate::given::Given;
+use crate::making::{OF_ACTORS, OF_SEED, actors_of, seed_of};
 use crate::{Algorithm, OptionName, Request, UsageCause, WordsError};
 use sd_base::limits::{
     DISTRIBUTIONS, LEAST_DISTRIBUTIONS, LEAST_STATES, STATES, STORAGE, USUAL_DISTRIBUTIONS,
@@ -86,6 +87,12 @@ fn standing_of(algo: Algorithm, option: OptionName) -> Standing
             OptionName::Graph => Standing::Required(Form::Any),
             _ => Standing::Foreign,
         },
+        Algorithm::Generate => match option {
+            OptionName::Limit => Standing::Required(OF_STORAGE),
+            OptionName::Seed => Standing::Required(OF_SEED),
+            OptionName::Actors => Standing::Allowed(OF_ACTORS),
+            _ => Standing::Foreign,
+        },
     }
 }
 
@@ -149,7 +156,13 @@ pub(crate) fn check_options(
 
 /// The number that an option is given within a range, or else the usual one.
 #[tactic(auto, unfolding(crate::specs::Asked::number_of))]
-fn number_of(given: &Given<'_>, option: OptionName, least: u64, greatest: u64, usual: u64) -> u64
+pub(crate) fn number_of(
+    given: &Given<'_>,
+    option: OptionName,
+    least: u64,
+    greatest: u64,
+    usual: u64,
+) -> u64
     ensures { result ≡ number_of option least greatest usual (values_given given.now) }
 {
     match given.value(option) {
@@ -170,12 +183,19 @@ fn states_of(given: &Given<'_>) -> u64
     )
 }
 
-/// What an exploration may use. Its limit is a required option.
+/// The greatest storage, which is a required option.
+fn limit_of(given: &Given<'_>) -> u64
+    ensures { result ≡ limit_of (values_given given.now) }
+{
+    number_of(given, OptionName::Limit, 0, STORAGE, 0)
+}
+
+/// What an exploration may use.
 fn limits_of(given: &Given<'_>) -> Limits
     ensures { result ≡ limits_of (values_given given.now) }
 {
     Limits {
-        total: number_of(given, OptionName::Limit, 0, STORAGE, 0),
+        total: limit_of(given),
         states: states_of(given),
         distributions: number_of(
             given,
@@ -233,5 +253,10 @@ pub(crate) fn request_for(
             no_overlap,
         }),
         Algorithm::Scenario => Ok(Request::Scenario { graph }),
+        Algorithm::Generate => Ok(Request::Generate {
+            seed: seed_of(given),
+            limit: limit_of(given),
+            actors: actors_of(given),
+        }),
     }
 }

@@ -5,6 +5,7 @@ use Rattle.sd_command.proofs.OneWorst.{ScenarioLaws}
 use Rattle.sd_command.proofs.Ended.{due_is_answered, else_is_done}
 use Rattle.sd_command.proofs.Complete.{throughput_is_complete}
 use Rattle.sd_command.proofs.CompleteStorage.{storage_is_complete}
+use Rattle.sd_command.proofs.CompleteGenerate.{generate_is_complete}
 use Rattle.sd_command.proofs.laws.know_endings.Goals as goal
 
 -- what the calls tell
@@ -54,3 +55,6 @@ returns-clause-throughput c = throughput_is_complete (laws c)
 
 pub returns-clause-storage : goal.returns-clause-storage
 returns-clause-storage c = storage_is_complete (laws c)
+
+pub returns-clause-generate : goal.returns-clause-generate
+returns-clause-generate c = generate_is_complete (laws c)

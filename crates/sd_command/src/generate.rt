@@ -1,0 +1,178 @@
+ghost use Rattle.std.specs.Prelude.{◌≡◌, ℕ, true, ◌-◌, ◌*◌, ◌≤◌, IfOk, length};
+ghost use Rattle.sd_base.specs.declared.limits.TheConstants.{NET_CHANNELS, STORAGE};
+ghost use Rattle.sd_base.specs.declared.tables.Kind.TheVariants.{Sdf};
+ghost use Rattle.sd_base.specs.Tables.{IsTimed, KeepsRules};
+ghost use Rattle.sd_base.specs.Connection.{IsConnected};
+ghost use Rattle.sd_base.specs.FileNet.{net_of};
+ghost use Rattle.balance.specs.Repetition.{IsRound};
+ghost use Rattle.storage.specs.Distributions.{IsPlain};
+ghost use Rattle.gen_graph.specs.MadeGraphs.{made_graph};
+ghost use Rattle.graph_reader.specs.declared.error.ReadError.TheVariants as reading;
+ghost use Rattle.report.specs.LinkTexts.{IsNamed};
+ghost use Rattle.sd_words.specs.Asked.{AreLimits, AreMadeActors};
+ghost use Rattle.sd_command.specs.Generations.{generate, summary_of, summed, usual_limits};
+ghost use Rattle.sd_command.specs.inside.Going.{Goes};
+
+use crate::answer::Answer;
+use crate::balancing::balanced;
+use crate::nets::{complete, touch};
+use crate::points::explored;
+use crate::stop::Stop;
+use fanout::Gate;
+use firing::{Firing, SdfNet};
+use gen_graph::{make, write_graph};
+use graph_reader::{ReadError, know_files, read_graph};
+use report::summary_text;
+use sd_base::limits::{USUAL_DISTRIBUTIONS, USUAL_STATES};
+use sd_base::{GraphFile, Ledger, Limits, NoMemory, Steps};
+use std::alloc::Global;
+use std::thread::Threads;
+
+/// The trade-off of the graph that is made from a number: the graph is written, read again, and explored.
+pub(crate) fn answer<R: Threads + Sync, G: Gate + Sync, L: Ledger + Send>(
+    rt: &R,
+    alloc: Global,
+    seed: u64,
+    limit: u64,
+    actors: u32,
+    gate: &G,
+    steps: &mut Steps<L>,
+) -> Result<Answer, Stop>
+    requires limit { limit ≤ STORAGE }
+    requires actors { AreMadeActors actors }
+    ensures goes { (faults : ℕ) →
+        Goes (generate seed limit actors) result (steps.new.count - steps.old.count) faults faults }
+    ensures rises { steps.old.count ≤ steps.new.count }
+    ensures share { steps.new.share ≡ steps.old.share }
+{
+    let graph = made_again(alloc, seed, actors)?;
+    summed(rt, alloc, seed, &graph, usual_limits(limit), gate, steps)
+}
+
+// The graph of a number, written as a graph file and read again.
+fn made_again(alloc: Global, seed: u64, actors: u32) -> Result<GraphFile, NoMemory>
+    requires { AreMadeActors actors }
+    ensures made { IfOk result (λ g. g ≡ made_graph seed actors) }
+    ensures keeps { IfOk result KeepsRules }
+    ensures timed { IfOk result IsTimed }
+    ensures sdf { IfOk result (λ g. g.kind ≡ Sdf) }
+{
+    know_files();
+    let graph = make(alloc, seed, actors)?;
+    let bytes = write_graph(alloc, &graph)?;
+    match read_graph(alloc, bytes.as_slice(), true) {
+        Ok(again) => Ok(again),
+        Err(error) => Err(want_of_memory(&error)),
+    }
+}
+
+// What was written is read, but for want of memory.
+fn want_of_memory(error: &ReadError) -> NoMemory
+    requires { error.now ≡ reading.NoMemory }
+{
+    match error {
+        ReadError::NoMemory => NoMemory,
+        _ => unreachable!(),
+    }
+}
+
+// What an exploration up to a total may use.
+fn usual_limits(total: u64) -> Limits
+    requires { total ≤ STORAGE }
+    ensures value { result ≡ usual_limits total }
+    ensures within { AreLimits result }
+{
+    Limits {
+        total,
+        states: USUAL_STATES,
+        distributions: USUAL_DISTRIBUTIONS,
+    }
+}
+
+// The summary of a graph.
+fn summed<R: Threads + Sync, G: Gate + Sync, L: Ledger + Send>(
+    rt: &R,
+    alloc: Global,
+    seed: u64,
+    graph: &GraphFile,
+    limits: Limits,
+    gate: &G,
+    steps: &mut Steps<L>,
+) -> Result<Answer, Stop>
+    requires rules { KeepsRules graph.now }
+    requires timed { IsTimed graph.now }
+    requires sdf { graph.now.kind ≡ Sdf }
+    requires limits { AreLimits limits }
+    ensures goes { (faults : ℕ) → Goes (summed seed limits graph.now) result (steps.new.count - steps.old.count) faults faults }
+    ensures rises { steps.old.count ≤ steps.new.count }
+    ensures share { steps.new.share ≡ steps.old.share }
+{
+    let gamma = balanced(alloc, graph)?;
+    summary_of_graph(
+        rt,
+        alloc,
+        seed,
+        graph,
+        gamma.as_slice(),
+        limits,
+        gate,
+        steps,
+    )
+}
+
+// The summary of the net of a synchronous graph with its repetition vector.
+fn summary_of_graph<R: Threads + Sync, G: Gate + Sync, L: Ledger + Send>(
+    rt: &R,
+    alloc: Global,
+    seed: u64,
+    graph: &GraphFile,
+    gamma: &[u64],
+    limits: Limits,
+    gate: &G,
+    steps: &mut Steps<L>,
+) -> Result<Answer, Stop>
+    requires rules { KeepsRules graph.now }
+    requires timed { IsTimed graph.now }
+    requires sdf { graph.now.kind ≡ Sdf }
+    requires round { IsRound graph.now gamma.now }
+    requires limits { AreLimits limits }
+    ensures goes { (faults : ℕ) →
+        Goes (summary_of seed graph.now gamma.now (net_of graph.now gamma.now true) limits) result (steps.new.count - steps.old.count) faults faults }
+    ensures rises { steps.old.count ≤ steps.new.count }
+    ensures share { steps.new.share ≡ steps.old.share }
+{
+    let net = SdfNet::new(alloc, graph, gamma, true)?;
+    summary_of(rt, alloc, &net, seed, graph, gamma, limits, gate, steps)
+}
+
+// The summary of the Pareto points of a net within a limit. `graph` has the names of its actors and channels.
+fn summary_of<R: Threads + Sync, F: Firing + Sync, G: Gate + Sync, L: Ledger + Send>(
+    rt: &R,
+    alloc: Global,
+    net: &F,
+    seed: u64,
+    graph: &GraphFile,
+    gamma: &[u64],
+    limits: Limits,
+    gate: &G,
+    steps: &mut Steps<L>,
+) -> Result<Answer, Stop>
+    requires named { IsNamed graph.now (F.net net.now) }
+    requires plain { IsPlain (F.net net.now) }
+    requires connected { IsConnected (F.net net.now) }
+    requires few { 2 * length (F.net net.now).channels ≤ NET_CHANNELS }
+    requires round { IsRound graph.now gamma.now }
+    requires limits { AreLimits limits }
+    ensures goes { (faults : ℕ) →
+        Goes (summary_of seed graph.now gamma.now (F.net net.now) limits) result (steps.new.count - steps.old.count) faults faults }
+    ensures rises { steps.old.count ≤ steps.new.count }
+    ensures share { steps.new.share ≡ steps.old.share }
+{
+    touch(alloc, net, graph)?;
+    complete(alloc, net, graph)?;
+    let exploration = explored(rt, alloc, net, graph, limits, gate, steps)?;
+    Ok(Answer {
+        text: summary_text(alloc, seed, graph, gamma, exploration.points.as_slice())?,
+        put: None,
+    })
+}
