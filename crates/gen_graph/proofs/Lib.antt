@@ -5,5 +5,9 @@ mod TreeTexts
 pub mod MadeTables
 mod NumbersBack
 mod Listed
-mod ReadBack
+mod ActorsBack
+mod ChannelsBack
+mod TimesBack
+mod SizesBack
+mod PhasesBack
 mod TableBack
