@@ -21,10 +21,10 @@ use std::alloc::Global;
 /// 1980). At most `states` shapes are looked at, and at most `STARTS` firings started. `steps` counts the
 /// call.
 ///
-/// Cost: an execution to a shape that came before, about twice as long as one up to the first repeat where the
-/// loop is entered early, and at most some four times as long; then two side by side, up to the first repeat and
-/// up to the entry. Where a refusal comes, an execution up to twice the moment of the last shape that is allowed, of
-/// at most `STARTS` starts more. Memory: three shapes, and the starts up to the first repeat.
+/// Cost: an execution to a shape that came before, at most three times as long as one up to the first repeat, and half
+/// as long again as this one where the loop is entered soon and is a round long; then two side by side, up to the
+/// first repeat and up to the entry. Where a refusal comes, an execution up to twice the moment of the last shape that
+/// is allowed, of at most `STARTS` starts more. Memory: three shapes, and the starts up to the first repeat.
 pub fn run_loop<F: Firing, L: Ledger>(
     alloc: Global,
     net: &F,

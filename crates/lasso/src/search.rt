@@ -38,9 +38,9 @@ pub(crate) struct Checkpoint {
 }
 
 /// Finds a shape and the first one after it that is equal. The first shape is the first checkpoint. A
-/// later shape becomes the checkpoint when the starts up to it are more than four times those up to the one
-/// before, and so does the last shape that is allowed: if a shape up to there comes again, then it does. Four in
-/// place of Brent's two lets a loop that is entered early come again at an earlier checkpoint.
+/// later shape becomes the checkpoint when the starts up to it are more than twice those up to the one before,
+/// and that one has stood for some time (`least_stay`); and so does the last shape that is allowed: if a shape up to
+/// there comes again, then it does.
 pub(crate) fn find_pair<F: Firing>(
     alloc: Global,
     engine: &mut Engine<F>,
@@ -90,6 +90,7 @@ fn search_allowed<F: Firing>(
         return Err(RunError::TooManyStarts);
     }
     let mut checkpoint = checkpoint_of(alloc, engine)?;
+    let round = starts_of_round(engine.net);
     for _event in 1..states {
         if engine.starts() > STARTS {
             return Ok(None);
@@ -103,17 +104,18 @@ fn search_allowed<F: Firing>(
                 later: engine.moment(),
             }));
         }
-        checkpoint = next_checkpoint(alloc, engine, checkpoint)?;
+        checkpoint = next_checkpoint(alloc, engine, checkpoint, round)?;
     }
     Ok(None)
 }
 
-/// The shape at which an engine stands if its starts are more than four times those of the checkpoint, else the
-/// checkpoint.
+/// The shape at which an engine stands if its starts are more than twice those of the checkpoint and it has stood long
+/// enough, else the checkpoint.
 fn next_checkpoint<F: Firing>(
     alloc: Global,
     engine: &Engine<F>,
     checkpoint: Checkpoint,
+    round: u64,
 ) -> Result<Checkpoint, NoMemory>
     requires running { engine.now.stage ≡ Running }
     requires event { IsEvent (F.net engine.now.net.now) engine.now.moment }
@@ -124,11 +126,33 @@ fn next_checkpoint<F: Firing>(
     ensures ahead { IfOk result (λ c. c.moment ≤ engine.now.moment) }
     ensures none { IfOk result (λ c. NoneSince (F.net engine.now.net.now) c.moment engine.now.moment) }
 {
-    if engine.starts() / 4 > checkpoint.starts {
+    let stay = engine.starts().saturating_sub(checkpoint.starts);
+    if engine.starts() / 2 > checkpoint.starts && stay > least_stay(&checkpoint, round) {
         checkpoint_of(alloc, engine)
     } else {
         Ok(checkpoint)
     }
+}
+
+/// For how many starts a checkpoint stays at least, where a round has `round` of them. A loop has the starts of a
+/// round or more, so a checkpoint that stays for fewer is of no use. The first one stays for half a round: a loop that is
+/// entered soon, and is a round long, comes again at the second one.
+fn least_stay(checkpoint: &Checkpoint, round: u64) -> u64 {
+    let half = round / 2;
+    if checkpoint.moment == 0 {
+        half
+    } else {
+        round.saturating_add(half)
+    }
+}
+
+/// How many firings a round has.
+fn starts_of_round<F: Firing>(net: &F) -> u64 {
+    let mut starts = 0u64;
+    for actor in 0..net.actors() {
+        starts = starts.saturating_add(net.round(actor));
+    }
+    starts
 }
 
 /// The shape at which an engine stands.
