@@ -21,8 +21,8 @@ impl Flags {
         ensures flagged { IfOk result (λ f. f.flagged.items ≡ replicate actors true) }
         ensures stack { IfOk result (λ f. f.stack.items ≡ range_with_len 0 actors) }
     {
-        let mut flagged = Vec::new(alloc);
-        let mut stack = Vec::new(alloc);
+        let mut flagged = Vec::with_capacity(alloc, actors as usize)?;
+        let mut stack = Vec::with_capacity(alloc, actors as usize)?;
         for actor in 0..actors {
             flagged.push(true)?;
             stack.push(actor)?;

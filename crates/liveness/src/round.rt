@@ -94,11 +94,11 @@ pub(crate) fn lacking_channels<F: Firing>(
     requires closed { Closed (F.net net.now) (slice_index counts.now) }
     ensures { IfOk result (NamesLacks (F.net net.now) (slice_index counts.now)) }
 {
-    let mut lacks = Rows::new(alloc);
+    let mut lacks = Vec::with_capacity(alloc, net.actors() as usize)?;
     for actor in 0..net.actors() {
         lacks.push(lacking_channel(net, wiring, actor, counts, tokens))?;
     }
-    Ok(lacks)
+    Ok(Rows::from_vec(lacks))
 }
 
 /// The first channel on which an actor lacks tokens, if it is below its round.
