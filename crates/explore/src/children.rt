@@ -30,7 +30,7 @@ pub(crate) fn children_of<F: Firing>(
     requires small { limit ≤ NET_TOKENS }
     ensures { IfOk result (λ v. AreChildren (F.net net.now) limit capacities.now.capacities enlarge.now v.items) }
 {
-    let mut children = Vec::new(alloc);
+    let mut children = Vec::with_capacity(alloc, enlarge.len())?;
     for channel in enlarge {
         add_child(
             alloc,

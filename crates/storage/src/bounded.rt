@@ -171,7 +171,7 @@ fn spaces_of<F: Firing>(
     ensures spaces { IfOk result (λ v. map (space_in (F.net net.now)) v.items ≡ spaces_from 0 (F.net net.now).channels capacities.now.capacities) }
 {
     know_laws(net);
-    let mut spaces = Vec::new(alloc);
+    let mut spaces = Vec::with_capacity(alloc, capacities.capacities.len())?;
     for channel in 0..capacities.capacities.len() {
         match capacities.capacities.as_slice()[channel] {
             Some(room) => spaces.push(Space {
