@@ -4,7 +4,7 @@ use Rattle.std.specs.Fmt.{decimal}
 use Rattle.report.specs.declared.refusal.Refusal.{Refusal}
 use Rattle.report.specs.declared.refusal.Class.{Class}
 use Rattle.report.specs.declared.refusal.Class.TheVariants as class
-use Rattle.report.specs.declared.refusal.Refusal.TheVariants.{UsageWords, UsageMissing, UsageNotFor, UsageBadValue, Text, DocumentType, CdataSection, Instruction, CharReference, Encoding, WrongKind, Missing, Unknown, Twice, BadWord, BadNumber, PhasesDiffer, SharedDiffers, NoSuccessor, UnknownChannel, SelfLoopBuffer, BelowTokens, Above, Ratio, Inconsistent, Apart, OneWay, NoInput, Deadlock, StatesSpent, DistributionsSpent, ShelfGraph}
+use Rattle.report.specs.declared.refusal.Refusal.TheVariants.{UsageWords, UsageMissing, UsageNotFor, UsageBadValue, Text, DocumentType, CdataSection, Instruction, CharReference, Encoding, WrongKind, Missing, Unknown, Twice, BadWord, BadNumber, PhasesDiffer, SharedDiffers, NoSuccessor, UnknownChannel, SelfLoopBuffer, BelowTokens, Above, Ratio, Inconsistent, Apart, OneWay, NoInput, Deadlock, StatesSpent, DistributionsSpent, ShelfGraph, ShelfCertificate}
 
 -- the scenario that a refusal speaks of
 unfoldable pub scenario_prefix : Option (List ℕ) → List ℕ
@@ -122,6 +122,7 @@ cause_of (Deadlock scenario list) = because class.Deadlock (deadlock_reason (sce
 cause_of (StatesSpent states at) = because class.Budget (states_reason states (at_list at))
 cause_of (DistributionsSpent number) = because class.Budget (distributions_reason number)
 cause_of ShelfGraph = because class.Shelf (codes "graph")
+cause_of ShelfCertificate = because class.Shelf (codes "certificate")
 
 unfoldable pub class_word : Class → List ℕ
 class_word class.Usage = codes "usage"

@@ -189,4 +189,6 @@ pub enum Refusal {
     },
     /// The graph file can't be taken.
     ShelfGraph,
+    /// The certificate can't be taken or put.
+    ShelfCertificate,
 }

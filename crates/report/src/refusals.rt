@@ -164,6 +164,7 @@ fn cause(alloc: Global, refusal: &Refusal) -> Result<(Class, String), AllocError
             distributions_text(alloc, *number)?,
         )),
         Refusal::ShelfGraph => Ok((Class::Shelf, String::from_str(alloc, "graph")?)),
+        Refusal::ShelfCertificate => Ok((Class::Shelf, String::from_str(alloc, "certificate")?)),
     }
 }
 

@@ -1,5 +1,5 @@
 -- The words and files decide each command.
-use Rattle.std.proofs.Common.{◌≡◌, ℕ, Bool, true, false, List}
+use Rattle.std.proofs.Common.{◌≡◌, ℕ, Bool, true, false, List, Option}
 use Rattle.sd_base.specs.declared.limits.Limits.{Limits}
 use Rattle.sd_base.specs.FileNet.{net_of}
 use Rattle.sd_words.specs.declared.request.Request.{Request}
@@ -42,14 +42,14 @@ module _ (laws : FileLaws) (scenarios : ScenarioLaws) (shelf : Files) (tells : s
       after_decides (balancing graph) _ (balancing_determines laws graph (laws.keeps bytes false graph given)) (λ gamma round.
       last_decides (printing (repetition_lines graph gamma)) (prints (repetition_lines graph gamma)))))
 
-  throughput_decides : (name : List ℕ) (buffers : List Buffer) (no_overlap : Bool) (states : ℕ) → AreSmall buffers → Decides (throughput name buffers no_overlap states shelf)
-  throughput_decides name buffers no_overlap states small =
+  throughput_decides : (name : List ℕ) (buffers : List Buffer) (no_overlap : Bool) (states : ℕ) (certificate : Option (List ℕ)) → AreSmall buffers → Decides (throughput name buffers no_overlap states certificate shelf)
+  throughput_decides name buffers no_overlap states certificate small =
       after_decides (taking shelf Graph name) _ (taking_determines shelf tells Graph name) (λ bytes taken.
       after_decides (reading_graph bytes true) _ (reading_determines laws bytes true) (λ graph given.
       after_decides (buffering graph buffers) _ (buffering_determines graph buffers) (λ distribution gives.
       after_decides (balancing graph) _ (balancing_determines laws graph (laws.keeps bytes true graph given)) (λ gamma round.
       rate_decides laws.nets (bound (net_of graph gamma no_overlap) distribution.capacities)
-      (bounded_net laws bytes graph gamma no_overlap buffers distribution given round small gives) graph states))))
+      (bounded_net laws bytes graph gamma no_overlap buffers distribution given round small gives) graph (record { no_overlap = no_overlap; capacities = distribution.capacities; certificate = certificate }) states))))
 
   storage_decides : (name : List ℕ) (limits : Limits) (no_overlap : Bool) → Decides (storage name limits no_overlap shelf)
   storage_decides name limits no_overlap =
@@ -58,17 +58,17 @@ module _ (laws : FileLaws) (scenarios : ScenarioLaws) (shelf : Files) (tells : s
       after_decides (balancing graph) _ (balancing_determines laws graph (laws.keeps bytes true graph given)) (λ gamma round.
       points_decide graph (net_of graph gamma no_overlap) laws.nets (lawful_net laws bytes graph gamma no_overlap given round) limits)))
 
-  scenario_decides : (name : List ℕ) → Decides (scenario name shelf)
-  scenario_decides name =
+  scenario_decides : (name : List ℕ) (certificate : Option (List ℕ)) → Decides (scenario name certificate shelf)
+  scenario_decides name certificate =
       after_decides (taking shelf Graph name) _ (taking_determines shelf tells Graph name) (λ bytes taken.
       after_decides (reading_scenarios bytes) _ (reading_file_determines laws scenarios bytes) (λ file given.
-      worst_decides laws scenarios file (scenarios.keeps bytes file given)))
+      worst_decides laws scenarios file (scenarios.keeps bytes file given) certificate))
 
   command_decides : (request : Request) → IsWithinLimits request → Decides (command_of request shelf)
   command_decides (requests.Repetition name) within = repetition_decides name
-  command_decides (requests.Throughput name buffers no_overlap states) within = throughput_decides name buffers no_overlap states within.0
+  command_decides (requests.Throughput name buffers no_overlap states certificate) within = throughput_decides name buffers no_overlap states certificate within.0
   command_decides (requests.Storage name limits no_overlap) within = storage_decides name limits no_overlap
-  command_decides (requests.Scenario name) within = scenario_decides name
+  command_decides (requests.Scenario name certificate) within = scenario_decides name certificate
   command_decides (requests.Generate seed limit actors) within = generate_decides laws seed limit actors within.1
 
   pub course_decides : (words : List (List ℕ)) → Decides (course_of words shelf)

@@ -1,5 +1,5 @@
 -- From what steps do to how a command goes.
-use Rattle.std.proofs.Common.{◌≡◌, ℕ, ◌-◌, Bool, List, None, Result, Ok, Err, refl, sym, subst, inl, inr, arith}
+use Rattle.std.proofs.Common.{◌≡◌, ℕ, ◌-◌, Bool, List, Option, None, Result, Ok, Err, refl, sym, subst, inl, inr, arith}
 use Rattle.sd_base.specs.declared.tables.GraphFile.{GraphFile}
 use Rattle.sd_base.specs.declared.limits.Limits.{Limits}
 use Rattle.sd_base.specs.Net.{Net}
@@ -15,8 +15,10 @@ use Rattle.graph_reader.specs.Laws.{Gives}
 use Rattle.sd_command.specs.declared.file_kind.FileKind.TheVariants.{Graph}
 use Rattle.sd_command.specs.Takings.{Files, IsTaken, taking}
 use Rattle.sd_command.specs.Readings.{reading_graph}
-use Rattle.sd_command.specs.RateAnswers.{IsRateText, IsRunRefusal, execution}
+use Rattle.sd_command.specs.RateAnswers.{IsRateAnswer, IsRateTooLong, IsRunRefusal, Wanted, execution}
 use Rattle.sd_command.specs.PointAnswers.{IsExplorationEnd, IsPointsText, exploration}
+use Rattle.automaton.specs.declared.graph.TimedGraph.{TimedGraph}
+use Rattle.sd_command.specs.WorstAnswers.{IsWorstAnswer, IsWorstTooLong, telling_worst}
 use Rattle.sd_command.specs.Repetitions.{printing}
 use Rattle.sd_base.specs.declared.tables.ScenarioFile.{ScenarioFile}
 use Rattle.scenario_reader.specs.ScenarioFiles.{GivesFile}
@@ -40,15 +42,17 @@ pub goes_on : {A : Type 0} (step : Step A) (next : A → Ending → ℕ → Type
     → Goes (next a) result n faults faults' → Goes (After step next) result n faults faults'
 goes_on step next a result n faults faults' is goes = record { ending = goes.ending; is = goes.is; came = passed a is goes.came; counted = goes.counted }
 
-module _ (graph : GraphFile) (net : Net) (states n : ℕ) (one : n ≡ 1) (faults : ℕ) where
+module _ (graph : GraphFile) (net : Net) (wanted : Wanted) (states n : ℕ) (one : n ≡ 1) (faults : ℕ) where
   -- an execution stops
-  pub run_stops : (why : Stop) → Does (deciding (IsFound net states) (IsRunRefusal net states)) (Err why) → Goes (ends_by (execution graph net states)) (Err why) n faults faults
+  pub run_stops : (why : Stop) → Does (deciding (IsFound net states) (IsRunRefusal net states)) (Err why) → Goes (ends_by (execution graph net wanted states)) (Err why) n faults faults
   run_stops (stop.Refused refusal) is = record { ending = Refused refusal; is = refl; came = (one, is); counted = refl }
   run_stops stop.OutOfMemory is = record { ending = Lacking; is = refl; came = omega arith; counted = refl }
 
-  -- it answers with the text of the rate
-  pub run_answers : (answer : Answer) → IsRateText graph net states answer.text → answer.put ≡ None → Goes (ends_by (execution graph net states)) (Ok answer) n faults faults
-  run_answers answer is none = record { ending = Answered answer; is = refl; came = (one, record { text = is; put = none }); counted = refl }
+  -- it answers with what shows the rate, or its certificate is too long
+  pub run_answers : (result : Result Answer Stop) → Does (deciding (IsRateAnswer graph net wanted states) (IsRateTooLong net wanted states)) result → Goes (ends_by (execution graph net wanted states)) result n faults faults
+  run_answers (Ok answer) is = record { ending = Answered answer; is = refl; came = (one, is); counted = refl }
+  run_answers (Err (stop.Refused refusal)) is = record { ending = Ended refusal; is = refl; came = (one, is); counted = refl }
+  run_answers (Err stop.OutOfMemory) is = record { ending = Lacking; is = refl; came = omega arith; counted = refl }
 
 module _ (graph : GraphFile) (net : Net) (limits : Limits) (n faults : ℕ) where
   -- an exploration stops
@@ -119,3 +123,10 @@ module _ (files : Files) (name : List ℕ) (rest : ScenarioFile → Ending → �
 
     pub file_goes : (file : ScenarioFile) (result : Result Answer Stop) → GivesFile shown file → Goes (rest file) result n faults faults → Goes of_scenario_file result n faults faults'
     file_goes file result read goes = from_file_bytes result (goes_on (reading_scenarios shown) (λ f. rest f) file result n faults faults read goes)
+
+-- the answer of a file of scenarios, by its timed graph: it is told, or its certificate is too long
+pub worst_told : (file : ScenarioFile) (certificate : Option (List ℕ)) (graph : TimedGraph) (result : Result Answer Stop) (faults : ℕ)
+    → Does (deciding (λ answer. IsWorstAnswer file graph certificate answer 0) (λ refusal. IsWorstTooLong file graph certificate refusal 0)) result → Goes (ends_by (telling_worst file certificate graph)) result 0 faults faults
+worst_told file certificate graph (Ok answer) faults is = record { ending = Answered answer; is = refl; came = is; counted = refl }
+worst_told file certificate graph (Err (stop.Refused refusal)) faults is = record { ending = Ended refusal; is = refl; came = is; counted = refl }
+worst_told file certificate graph (Err stop.OutOfMemory) faults is = record { ending = Lacking; is = refl; came = refl; counted = refl }

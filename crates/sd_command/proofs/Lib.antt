@@ -8,6 +8,9 @@ mod Joins
 mod Reached
 mod Refusals
 mod Overs
+mod Orderless
+mod Certified
+mod WorstSizes
 mod WalkSteps
 mod FileConnections
 mod PointSchedules

@@ -133,11 +133,11 @@ module _ (facts : FileLaws) (laws : ScenarioLaws) where
           omega (arith, many, few, same);
     }
 
-    tells : (graph : TimedGraph) → DecidesLast (telling_worst file graph)
-    tells graph = record { one = λ r s n m is also. absurd is; no_answer = λ r answer n m is also. is; no_end = λ r s n m is also. is }
+    tells : (certificate : Option (List ℕ)) (graph : TimedGraph) → DecidesLast (telling_worst file certificate graph)
+    tells certificate graph = record { one = λ r s n m is also. absurd is; no_answer = λ r answer n m is also. is; no_end = λ r s n m is also. is }
 
-    pub worst_decides : Decides (worst_of file)
-    worst_decides =
+    pub worst_decides : (certificate : Option (List ℕ)) → Decides (worst_of certificate file)
+    worst_decides certificate =
         after_decides (measuring file) _ measuring_determines (λ ms measured.
         after_decides (linking file ms) _ (linking_determines ms) (λ graph linked.
-        last_decides (telling_worst file graph) (tells graph)))
+        last_decides (telling_worst file certificate graph) (tells certificate graph)))

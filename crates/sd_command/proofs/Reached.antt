@@ -1,9 +1,7 @@
 -- The rate in lowest terms, which the loop's schedule reaches and its need cycle bounds.
-use Rattle.std.proofs.Common.{◌≡◌, ℕ, zero, suc, ◌*◌, ◌/◌, ◌%◌, ◌<◌, List, Result, Ok, Err, IfOk, refl, sym, ap, ◌∙◌, arith, mod-lt}
+use Rattle.std.proofs.Common.{◌≡◌, ℕ, zero, suc, ◌*◌, ◌/◌, ◌%◌, ◌<◌, refl, sym, ap, ◌∙◌, arith, mod-lt}
 use Rattle.std.specs.Int.{IsGcd}
 use Rattle.std.proofs.lemmas.Nat.Gcd.{IsGcd-from_zero, IsGcd-from_mod}
-use Rattle.sd_base.specs.declared.memory.NoMemory.{NoMemory}
-use Rattle.sd_base.specs.declared.tables.GraphFile.{GraphFile}
 use Rattle.sd_base.specs.Net.{Net}
 use Rattle.std.proofs.Math.Nat.{mul-div_cancel', eq_of_mul-eq-mul_left}
 use Rattle.sd_base.proofs.Divisors.{gcd_pos, quotients}
@@ -13,8 +11,7 @@ use Rattle.periodic.specs.declared.schedule.Periodic.{Periodic}
 use Rattle.periodic.specs.LoopSchedules.{IsScheduleOf}
 use Rattle.critical.specs.declared.cycle.NeedCycle.{NeedCycle}
 use Rattle.critical.specs.CriticalCycles.{IsCriticalCycleOf}
-use Rattle.report.specs.AnswerTexts.{rate_lines}
-use Rattle.sd_command.specs.RateAnswers.{IsRateText}
+use Rattle.sd_command.specs.RateAnswers.{IsRateShown}
 
 -- any two numbers have a greatest common divisor
 gcd_of : (fuel a b : ℕ) → b < fuel → (g : ℕ) × IsGcd a b g
@@ -50,9 +47,9 @@ lowest_of n d positive =
       lowest = quotients n d g some found.1;
     }
 
--- the text of the rate of a net that runs round this loop, with this schedule and this cycle
-pub rate-shown : (graph : GraphFile) (net : Net) (states : ℕ) (table : LoopTable) (schedule : Periodic) (cycle : NeedCycle) (text : List ℕ) → IsFound net states table → IsScheduleOf net table schedule → IsCriticalCycleOf net table cycle → text ≡ rate_lines graph net schedule cycle → IsRateText graph net states text
-rate-shown graph net states table schedule cycle text found of_loop critical shown =
+-- the rate of a net that runs round this loop, with this schedule and this cycle
+pub rate-shown : (net : Net) (states : ℕ) (table : LoopTable) (schedule : Periodic) (cycle : NeedCycle) → IsFound net states table → IsScheduleOf net table schedule → IsCriticalCycleOf net table cycle → IsRateShown net states schedule cycle
+rate-shown net states table schedule cycle found of_loop critical =
     let low : Lowest table.rounds table.period = lowest_of table.rounds table.period found.loop.turns in
     let g : ℕ = low.common in
     let turns : table.rounds ≡ g * low.num = low.first in
@@ -63,9 +60,7 @@ rate-shown graph net states table schedule cycle text found of_loop critical sho
       rate = found.rate low.num low.den g turns passes low.lowest;
       table = table;
       found = found;
-      schedule = schedule;
       of_loop = of_loop;
-      cycle = cycle;
       holds = critical.holds;
       reached =
           let a : schedule.rounds * low.den ≡ (g * low.num) * low.den = ap (λ (n : ℕ). n * low.den) (of_loop.rounds ∙ turns) in
@@ -76,11 +71,4 @@ rate-shown graph net states table schedule cycle text found of_loop critical sho
           let b : table.rounds * cycle.time ≡ (g * low.num) * cycle.time = ap (λ (n : ℕ). n * cycle.time) turns in
           let c : g * (cycle.rounds * low.den) ≡ g * (low.num * cycle.time) = omega (arith, critical.rate) in
           eq_of_mul-eq-mul_left g low.some _ _ c;
-      shown = shown;
     }
-
--- the same of the text that a call gives
-pub rates-shown : (graph : GraphFile) (net : Net) (table : LoopTable) (schedule : Periodic) (cycle : NeedCycle) (r : Result (List ℕ) NoMemory) → IsScheduleOf net table schedule → IsCriticalCycleOf net table cycle → IfOk r (λ text. text ≡ rate_lines graph net schedule cycle)
-    → (states : ℕ) → IsFound net states table → IfOk r (IsRateText graph net states)
-rates-shown graph net table schedule cycle (Ok text) of_loop critical shown states found = rate-shown graph net states table schedule cycle text found of_loop critical shown
-rates-shown graph net table schedule cycle (Err e) of_loop critical shown states found = shown

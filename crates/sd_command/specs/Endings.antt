@@ -12,6 +12,8 @@ use Rattle.sd_words.specs.declared.request.Request.TheVariants.{Generate, Storag
 use Rattle.sd_words.specs.Asked.{request_of}
 use Rattle.storage.specs.BoundedNets.{bound}
 use Rattle.storage.specs.NamedBuffers.{Buffer, capacities_of}
+use Rattle.periodic.specs.declared.schedule.Periodic.{Periodic}
+use Rattle.critical.specs.declared.cycle.NeedCycle.{NeedCycle}
 use Rattle.explore.specs.Explorations.{AreFound}
 use Rattle.explore.specs.Reachable.{IsReachable}
 use Rattle.graph_reader.specs.Laws.{Gives}
@@ -21,6 +23,8 @@ use Rattle.report.specs.declared.refusal.Refusal.{Refusal}
 use Rattle.sd_io.specs.Outside.{Rose}
 use Rattle.sd_command.specs.declared.status.Status.TheVariants as statuses
 use Rattle.sd_command.specs.Statuses.{status_of}
+use Rattle.sd_command.specs.Certifyings.{AreShort}
+use Rattle.sd_command.specs.RateAnswers.{IsOfRate, IsRateShown, Wanted}
 use Rattle.sd_command.specs.Courses.{Ending, Refused, Ended, Failed, Lacking}
 use Rattle.sd_command.specs.Takings.{Files}
 use Rattle.sd_command.specs.Generations.{usual_limits}
@@ -60,14 +64,21 @@ ElseIsDone = (run : Run) (cut : Bool) → IsFaultless run → ((refusal : Refusa
 abbrev pub Repeats : Net → ℕ → Type 0
 Repeats net states = (entry : ℕ) × (period : ℕ) × IsLoop net entry period × (events_by net (entry + period) ≤ states) × (starts_by net (entry + period) ≤ STARTS)
 
--- such a run of `throughput` is done, or ends for want of memory, where no refusal is due before anything is executed and the
--- net of the graph with the capacities repeats a shape
+-- where a certificate of the rate of a net is asked for, each one is short enough
+abbrev pub RateCertificatesFit : Net → Wanted → ℕ → Type 0
+RateCertificatesFit net wanted states =
+    (schedule : Periodic) (cycle : NeedCycle) → IsRateShown net states schedule cycle → AreShort wanted.certificate (IsOfRate net wanted schedule cycle)
+
+-- such a run of `throughput` is done, or ends for want of memory, where no refusal is due before anything is executed, the
+-- net of the graph with the capacities repeats a shape, and its certificates are short enough
 abbrev pub ThroughputIsComplete : Type 0
-ThroughputIsComplete = (run : Run) (cut : Bool) (name : List ℕ) (buffers : List Buffer) (no_overlap : Bool) (states : ℕ) → IsFaultless run
-    → request_of run.words ≡ Ok (Throughput name buffers no_overlap states)
+ThroughputIsComplete = (run : Run) (cut : Bool) (name : List ℕ) (buffers : List Buffer) (no_overlap : Bool) (states : ℕ) (certificate : Option (List ℕ)) → IsFaultless run
+    → request_of run.words ≡ Ok (Throughput name buffers no_overlap states certificate)
     → ((refusal : Refusal) → course_of run.words run.outside.shelf.files (Refused refusal) 0 → ⊥)
     → ((bytes gamma : List ℕ) (graph : GraphFile) → run.outside.shelf.files.named name ≡ Some bytes → Gives bytes true graph → IsRound graph gamma
-    → Repeats (bound (net_of graph gamma no_overlap) (capacities_of graph.channels buffers)) states)
+    → (let ds : List (Option ℕ) = capacities_of graph.channels buffers in
+    let net : Net = bound (net_of graph gamma no_overlap) ds in
+    Repeats net states × RateCertificatesFit net (record { no_overlap = no_overlap; capacities = ds; certificate = certificate }) states))
     → Shows run cut → (run.status ≡ statuses.Done) ⊎ (run.status ≡ statuses.Memory)
 
 -- the limits are enough for an exploration: each distribution that it may come to, if its bounded net completes a round,

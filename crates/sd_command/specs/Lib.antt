@@ -1,5 +1,6 @@
 pub mod Statuses
 pub mod Courses
+pub mod Certifyings
 pub mod Takings
 pub mod Readings
 pub mod Balances

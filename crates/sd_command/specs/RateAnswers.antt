@@ -1,5 +1,5 @@
 -- The rate of a net, with what shows it.
-use Rattle.std.specs.Prelude.{◌≡◌, ℕ, ◌*◌, ◌≤◌, List, None}
+use Rattle.std.specs.Prelude.{◌≡◌, ℕ, ◌*◌, ◌≤◌, Bool, List, Option, None}
 use Rattle.sd_base.specs.declared.tables.GraphFile.{GraphFile}
 use Rattle.sd_base.specs.declared.limits.Quantity.TheVariants as quantities
 use Rattle.sd_base.specs.Net.{Net}
@@ -10,12 +10,17 @@ use Rattle.periodic.specs.declared.schedule.Periodic.{Periodic}
 use Rattle.periodic.specs.LoopSchedules.{IsScheduleOf}
 use Rattle.critical.specs.declared.cycle.NeedCycle.{NeedCycle}
 use Rattle.critical.specs.Cycles.{HoldsOn}
+use Rattle.cert_text.specs.declared.certificates.Certificate.{Certificate}
+use Rattle.cert_text.specs.declared.certificates.Certificate.TheVariants as certificates
+use Rattle.cert_text.specs.declared.certificates.RateCertificate.{RateCertificate}
+use Rattle.cert_maker.specs.RateCertificates.{IsRateCertificate}
 use Rattle.report.specs.declared.refusal.Refusal.{Refusal}
 use Rattle.report.specs.declared.refusal.Refusal.TheVariants.{Above, StatesSpent}
 use Rattle.report.specs.AnswerTexts.{rate_lines}
 use Rattle.sd_base.specs.Limits.{greatest_of}
 use Rattle.report.specs.QuantityWords.{quantity_text}
 use Rattle.sd_command.specs.declared.answer.Answer.{Answer}
+use Rattle.sd_command.specs.Certifyings.{Certifies, IsTooLong}
 use Rattle.sd_command.specs.Courses.{Analysis, Ending, After, ends_by}
 use Rattle.sd_command.specs.Nets.{joining, feeding, completing}
 
@@ -25,39 +30,57 @@ pub data IsRunRefusal (net : Net) (states : ℕ) (refusal : Refusal) : Type 0 wh
   too_many_starts : IsTooManyStarts net states
       → refusal ≡ Above None (quantity_text quantities.Starts) (greatest_of quantities.Starts) → IsRunRefusal net states refusal
 
--- the text of the rate of a net: it is the rate; the printed schedule is that of the loop of self-timed execution, holds
--- on the net and reaches the rate; the printed need cycle holds on the net and bounds the rate
-pub record IsRateText (graph : GraphFile) (net : Net) (states : ℕ) (text : List ℕ) : Type 0 where
+-- a schedule and a need cycle show the rate of a net: the schedule is that of the loop of self-timed execution, holds on the
+-- net and reaches the rate; the need cycle holds on the net and bounds the rate
+pub record IsRateShown (net : Net) (states : ℕ) (schedule : Periodic) (cycle : NeedCycle) : Type 0 where
   pub num : ℕ
   pub den : ℕ
   pub rate : Rate net num den
   pub table : LoopTable
   pub found : IsFound net states table
-  pub schedule : Periodic
   pub of_loop : IsScheduleOf net table schedule
-  pub cycle : NeedCycle
   pub holds : HoldsOn net cycle
   pub reached : schedule.rounds * den ≡ num * schedule.period
   pub bounded : cycle.rounds * den ≡ num * cycle.time
-  pub shown : text ≡ rate_lines graph net schedule cycle
 
-pub record IsRateAnswer (graph : GraphFile) (net : Net) (states : ℕ) (answer : Answer) : Type 0 where
-  pub text : IsRateText graph net states answer.text
-  pub put : answer.put ≡ None
+-- what is asked for beside the rate: that no firings of an actor overlap, capacities, and a certificate under a name
+pub record Wanted : Type 0 where
+  pub no_overlap : Bool
+  pub capacities : List (Option ℕ)
+  pub certificate : Option (List ℕ)
 
--- one execution
-abbrev pub execution : GraphFile → Net → ℕ → Analysis
-execution graph net states = record {
-  answered = λ answer n. (n ≡ 1) × IsRateAnswer graph net states answer;
+-- a certificate of a schedule and a need cycle
+abbrev pub IsOfRate : Net → Wanted → Periodic → NeedCycle → Certificate → Type 0
+IsOfRate net wanted schedule cycle c = (r : RateCertificate) × (c ≡ certificates.Rate r) × IsRateCertificate net wanted.no_overlap wanted.capacities schedule cycle r
+
+-- what shows the rate is printed, and the certificate is made of it
+pub record IsRateAnswer (graph : GraphFile) (net : Net) (wanted : Wanted) (states : ℕ) (answer : Answer) : Type 0 where
+  pub schedule : Periodic
+  pub cycle : NeedCycle
+  pub shown : IsRateShown net states schedule cycle
+  pub text : answer.text ≡ rate_lines graph net schedule cycle
+  pub put : Certifies wanted.certificate (IsOfRate net wanted schedule cycle) answer.put
+
+-- the certificate of what shows the rate is too long
+pub record IsRateTooLong (net : Net) (wanted : Wanted) (states : ℕ) (refusal : Refusal) : Type 0 where
+  pub schedule : Periodic
+  pub cycle : NeedCycle
+  pub shown : IsRateShown net states schedule cycle
+  pub long : IsTooLong wanted.certificate (IsOfRate net wanted schedule cycle) refusal
+
+-- one execution; the length of the certificate isn't decided by words and files, since other need cycles bound the rate too
+abbrev pub execution : GraphFile → Net → Wanted → ℕ → Analysis
+execution graph net wanted states = record {
+  answered = λ answer n. (n ≡ 1) × IsRateAnswer graph net wanted states answer;
   refused = λ refusal n. (n ≡ 1) × IsRunRefusal net states refusal;
-  ended = λ refusal n. ⊥;
+  ended = λ refusal n. (n ≡ 1) × IsRateTooLong net wanted states refusal;
   counted = λ n. n ≤ 1;
 }
 
 -- the rate of a net that is joined and fed and completes a round
-abbrev pub rate_of : GraphFile → Net → ℕ → Ending → ℕ → Type 0
-rate_of graph net states =
+abbrev pub rate_of : GraphFile → Net → Wanted → ℕ → Ending → ℕ → Type 0
+rate_of graph net wanted states =
     After (joining graph net) λ joined.
     After (feeding graph net) λ fed.
     After (completing graph net) λ complete.
-    ends_by (execution graph net states)
+    ends_by (execution graph net wanted states)

@@ -34,9 +34,9 @@ asking words = deciding (λ request. request_of words ≡ Ok request) (λ refusa
 -- the command of each request
 abbrev pub command_of : Request → Files → Ending → ℕ → Type 0
 command_of (requests.Repetition graph) = repetition graph
-command_of (requests.Throughput graph buffers no_overlap states) = throughput graph buffers no_overlap states
+command_of (requests.Throughput graph buffers no_overlap states certificate) = throughput graph buffers no_overlap states certificate
 command_of (requests.Storage graph limits no_overlap) = storage graph limits no_overlap
-command_of (requests.Scenario graph) = scenario graph
+command_of (requests.Scenario graph certificate) = scenario graph certificate
 command_of (requests.Generate seed limit actors) = λ files. generate seed limit actors
 
 -- how the command of the words may end over the files of a shelf, and after how many executions

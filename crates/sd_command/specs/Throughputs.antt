@@ -1,5 +1,5 @@
 -- The command `throughput`.
-use Rattle.std.specs.Prelude.{ℕ, Bool, true, List}
+use Rattle.std.specs.Prelude.{ℕ, Bool, true, List, Option}
 use Rattle.sd_base.specs.declared.tables.GraphFile.{GraphFile}
 use Rattle.sd_base.specs.FileNet.{net_of}
 use Rattle.storage.specs.BoundedNets.{bound}
@@ -13,14 +13,15 @@ use Rattle.sd_command.specs.Balances.{balancing}
 use Rattle.sd_command.specs.RateAnswers.{rate_of}
 
 -- the rate of a graph whose named channels have a capacity
-abbrev pub bounded_rate : List Buffer → Bool → ℕ → GraphFile → Ending → ℕ → Type 0
-bounded_rate buffers no_overlap states graph =
+abbrev pub bounded_rate : List Buffer → Bool → ℕ → Option (List ℕ) → GraphFile → Ending → ℕ → Type 0
+bounded_rate buffers no_overlap states certificate graph =
     After (buffering graph buffers) λ distribution.
     After (balancing graph) λ gamma.
-    rate_of graph (bound (net_of graph gamma no_overlap) distribution.capacities) states
+    rate_of graph (bound (net_of graph gamma no_overlap) distribution.capacities)
+    (record { no_overlap = no_overlap; capacities = distribution.capacities; certificate = certificate }) states
 
-abbrev pub throughput : List ℕ → List Buffer → Bool → ℕ → Files → Ending → ℕ → Type 0
-throughput name buffers no_overlap states files =
+abbrev pub throughput : List ℕ → List Buffer → Bool → ℕ → Option (List ℕ) → Files → Ending → ℕ → Type 0
+throughput name buffers no_overlap states certificate files =
     After (taking files Graph name) λ bytes.
     After (reading_graph bytes true) λ graph.
-    bounded_rate buffers no_overlap states graph
+    bounded_rate buffers no_overlap states certificate graph

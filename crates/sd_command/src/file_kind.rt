@@ -8,6 +8,7 @@ use sd_base::Quantity;
 #[derive(Clone, Copy, Debug, PartialEq, Eq)]
 pub(crate) enum FileKind {
     Graph,
+    Certificate,
 }
 
 impl FileKind {
@@ -17,6 +18,7 @@ impl FileKind {
     {
         match self {
             FileKind::Graph => Quantity::FileBytes,
+            FileKind::Certificate => Quantity::CertificateBytes,
         }
     }
 
@@ -26,6 +28,7 @@ impl FileKind {
     {
         match self {
             FileKind::Graph => Refusal::ShelfGraph,
+            FileKind::Certificate => Refusal::ShelfCertificate,
         }
     }
 }

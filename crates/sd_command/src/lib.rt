@@ -5,6 +5,7 @@ mod answer;
 mod asking;
 mod balancing;
 mod buffering;
+mod certifying;
 mod command;
 mod delivering;
 mod file_kind;

@@ -1,4 +1,4 @@
-ghost use Rattle.std.specs.Prelude.{◌≡◌, ℕ, ◌+◌, ◌-◌, ◌≤◌, IfOk, length, sum};
+ghost use Rattle.std.specs.Prelude.{◌≡◌, ℕ, ◌+◌, ◌-◌, ◌^◌, ◌<◌, ◌≤◌, All, length, sum};
 ghost use Rattle.sd_base.specs.Tables.{IsTimed, KeepsRules};
 ghost use Rattle.sd_base.specs.Net.{IsRepetitionOf};
 ghost use Rattle.sd_base.specs.FileNet.{net_of};
@@ -7,23 +7,30 @@ ghost use Rattle.storage.specs.BoundedNets.{HasNoSpaces, bound};
 ghost use Rattle.sd_base.specs.Untimed.{IsLive};
 ghost use Rattle.lasso.specs.LoopAnswers.{IsFound};
 ghost use Rattle.report.specs.LinkTexts.{IsNamed};
+ghost use Rattle.cert_maker.specs.Links.{HasNoOrders};
 ghost use Rattle.sd_base.specs.Connection.{IsStronglyConnected};
 ghost use Rattle.sd_base.specs.declared.limits.TheConstants.{NET_CHANNELS, ROUND, STATES};
 ghost use Rattle.sd_command.specs.Nets.{IsFed};
-ghost use Rattle.sd_command.specs.RateAnswers.{IsRunRefusal, IsRateText, rate_of};
+ghost use Rattle.sd_command.specs.RateAnswers.{IsOfRate, IsRateAnswer, IsRateTooLong, IsRunRefusal, Wanted, rate_of};
+ghost use Rattle.critical.specs.declared.cycle.CycleStep.{CycleStep as AStep};
+ghost use Rattle.cert_text.specs.declared.certificates.Certificate.{Certificate as ACertificate};
+ghost use Rattle.cert_text.specs.Spellable.{AreStarts};
+ghost use Rattle.sd_command.specs.Certifyings.{Certifies, IsTooLong};
 ghost use Rattle.sd_command.specs.Courses.{deciding};
 ghost use Rattle.sd_command.specs.inside.Going.{Does, Goes};
 
-use crate::answer::Answer;
+use crate::answer::{Answer, Put};
+use crate::certifying::certify;
 use crate::nets::{complete, feed, join};
 use crate::reading::above;
 use crate::stop::Stop;
-use critical::cycle_of;
+use cert_maker::rate_certificate;
+use critical::{NeedCycle, cycle_of};
 use firing::{CsdfNet, Firing, LoopTable, SdfNet, know_laws};
 use lasso::{RunError, run_loop};
-use periodic::from_loop;
+use periodic::{Periodic, from_loop};
 use report::{Refusal, rate_text};
-use sd_base::{GraphFile, Kind, Ledger, NoMemory, Quantity, Rows, Steps};
+use sd_base::{GraphFile, Kind, Ledger, Quantity, Steps, Text};
 use std::alloc::Global;
 use storage::{Bounded, Distribution};
 
@@ -36,6 +43,7 @@ pub(crate) fn rate_of_graph<L: Ledger>(
     no_overlap: bool,
     distribution: &Distribution,
     states: u64,
+    certificate: &Option<Text>,
     steps: &mut Steps<L>,
 ) -> Result<Answer, Stop>
     requires rules { KeepsRules graph.now }
@@ -47,18 +55,36 @@ pub(crate) fn rate_of_graph<L: Ledger>(
     requires some { 1 ≤ states }
     requires few { states ≤ STATES }
     ensures goes { (faults : ℕ) →
-        Goes (rate_of graph.now (bound (net_of graph.now gamma.now no_overlap) distribution.now.capacities) states) result (steps.new.count - steps.old.count) faults faults }
+        Goes (rate_of graph.now (bound (net_of graph.now gamma.now no_overlap) distribution.now.capacities) (record { no_overlap = no_overlap; capacities = distribution.now.capacities; certificate = certificate.now }) states) result (steps.new.count - steps.old.count) faults faults }
     ensures rises { steps.old.count ≤ steps.new.count }
     ensures share { steps.new.share ≡ steps.old.share }
 {
     match graph.kind {
         Kind::Sdf => {
             let net = SdfNet::new(alloc, graph, gamma, no_overlap)?;
-            rate_within(alloc, &net, graph, distribution, states, steps)
+            rate_within(
+                alloc,
+                &net,
+                graph,
+                no_overlap,
+                distribution,
+                states,
+                certificate,
+                steps,
+            )
         }
         Kind::Csdf => {
             let net = CsdfNet::new(alloc, graph, gamma, no_overlap)?;
-            rate_within(alloc, &net, graph, distribution, states, steps)
+            rate_within(
+                alloc,
+                &net,
+                graph,
+                no_overlap,
+                distribution,
+                states,
+                certificate,
+                steps,
+            )
         }
     }
 }
@@ -68,38 +94,58 @@ fn rate_within<F: Firing, L: Ledger>(
     alloc: Global,
     net: &F,
     graph: &GraphFile,
+    no_overlap: bool,
     distribution: &Distribution,
     states: u64,
+    certificate: &Option<Text>,
     steps: &mut Steps<L>,
 ) -> Result<Answer, Stop>
     requires none { HasNoSpaces (F.net net.now) }
     requires held { CanHold (F.net net.now).channels distribution.now.capacities }
     requires fits { length (bound (F.net net.now) distribution.now.capacities).channels ≤ NET_CHANNELS }
     requires named { IsNamed graph.now (bound (F.net net.now) distribution.now.capacities) }
+    requires unordered { HasNoOrders (bound (F.net net.now) distribution.now.capacities) }
+    requires over { length distribution.now.capacities ≤ length graph.now.channels }
+    requires rules { KeepsRules graph.now }
     requires some { 1 ≤ states }
     requires few { states ≤ STATES }
     ensures goes { (faults : ℕ) →
-        Goes (rate_of graph.now (bound (F.net net.now) distribution.now.capacities) states) result (steps.new.count - steps.old.count) faults faults }
+        Goes (rate_of graph.now (bound (F.net net.now) distribution.now.capacities) (record { no_overlap = no_overlap; capacities = distribution.now.capacities; certificate = certificate.now }) states) result (steps.new.count - steps.old.count) faults faults }
     ensures rises { steps.old.count ≤ steps.new.count }
     ensures share { steps.new.share ≡ steps.old.share }
 {
     let bounded = Bounded::new(alloc, net, distribution)?;
-    rate_of(alloc, &bounded, graph, states, steps)
+    rate_of(
+        alloc,
+        &bounded,
+        graph,
+        no_overlap,
+        distribution,
+        states,
+        certificate,
+        steps,
+    )
 }
 
-/// The rate of a net, with the schedule that reaches it and the need cycle that bounds it. `graph` has the names of
-/// its actors and channels.
+/// The rate of a net that is bounded by a distribution, with the schedule that reaches it and the need cycle that bounds it.
+/// `graph` has the names of its actors and channels.
 pub(crate) fn rate_of<F: Firing, L: Ledger>(
     alloc: Global,
     net: &F,
     graph: &GraphFile,
+    no_overlap: bool,
+    distribution: &Distribution,
     states: u64,
+    certificate: &Option<Text>,
     steps: &mut Steps<L>,
 ) -> Result<Answer, Stop>
     requires named { IsNamed graph.now (F.net net.now) }
+    requires unordered { HasNoOrders (F.net net.now) }
+    requires few_channels { length distribution.now.capacities < 2 ^ 32 }
     requires some { 1 ≤ states }
     requires few { states ≤ STATES }
-    ensures goes { (faults : ℕ) → Goes (rate_of graph.now (F.net net.now) states) result (steps.new.count - steps.old.count) faults faults }
+    ensures goes { (faults : ℕ) →
+        Goes (rate_of graph.now (F.net net.now) (record { no_overlap = no_overlap; capacities = distribution.now.capacities; certificate = certificate.now }) states) result (steps.new.count - steps.old.count) faults faults }
     ensures rises { steps.old.count ≤ steps.new.count }
     ensures share { steps.new.share ≡ steps.old.share }
 {
@@ -107,10 +153,15 @@ pub(crate) fn rate_of<F: Firing, L: Ledger>(
     feed(alloc, net, graph)?;
     complete(alloc, net, graph)?;
     let table = find_loop(alloc, net, states, steps)?;
-    Ok(Answer {
-        text: shown(alloc, net, graph, &table)?,
-        put: None,
-    })
+    shown(
+        alloc,
+        net,
+        graph,
+        no_overlap,
+        distribution,
+        certificate,
+        &table,
+    )
 }
 
 // The loop of self-timed execution, or the refusal of one that passes a bound.
@@ -138,20 +189,63 @@ fn find_loop<F: Firing, L: Ledger>(
     }
 }
 
-// The text of the rate, by the loop of the net.
+// The answer by the loop of the net: its text, and its certificate where one is asked for.
 fn shown<F: Firing>(
     alloc: Global,
     net: &F,
     graph: &GraphFile,
+    no_overlap: bool,
+    distribution: &Distribution,
+    certificate: &Option<Text>,
     table: &LoopTable,
-) -> Result<Rows<u8>, NoMemory>
+) -> Result<Answer, Stop>
     requires named { IsNamed graph.now (F.net net.now) }
+    requires unordered { HasNoOrders (F.net net.now) }
+    requires few { length distribution.now.capacities < 2 ^ 32 }
     requires fed { IsFed (F.net net.now) }
     requires found { (states : ℕ) × IsFound (F.net net.now) states table.now }
-    ensures { (states : ℕ) → IsFound (F.net net.now) states table.now → IfOk result (IsRateText graph.now (F.net net.now) states) }
+    ensures { let wanted : Wanted = record { no_overlap = no_overlap; capacities = distribution.now.capacities; certificate = certificate.now } in
+        (states : ℕ) → IsFound (F.net net.now) states table.now → Does (deciding (IsRateAnswer graph.now (F.net net.now) wanted states) (IsRateTooLong (F.net net.now) wanted states)) result }
 {
     know_laws(net);
     let schedule = from_loop(alloc, net, table)?;
     let cycle = cycle_of(alloc, net, table)?;
-    rate_text(alloc, net, graph, &schedule, &cycle)
+    let text = rate_text(alloc, net, graph, &schedule, &cycle)?;
+    let put = put_for(
+        alloc,
+        net,
+        no_overlap,
+        distribution,
+        certificate,
+        schedule,
+        &cycle,
+    )?;
+    Ok(Answer { text, put })
+}
+
+// The file of the certificate of a schedule and a need cycle, where one is asked for.
+fn put_for<F: Firing>(
+    alloc: Global,
+    net: &F,
+    no_overlap: bool,
+    distribution: &Distribution,
+    certificate: &Option<Text>,
+    schedule: Periodic,
+    cycle: &NeedCycle,
+) -> Result<Option<Put>, Stop>
+    requires unordered { HasNoOrders (F.net net.now) }
+    requires few { length distribution.now.capacities < 2 ^ 32 }
+    requires period { 1 ≤ schedule.period }
+    requires starts { All AreStarts schedule.starts }
+    requires channels { All (λ (s : AStep). s.channel < length (F.net net.now).channels) cycle.now.steps }
+    ensures { let shows : ACertificate → Type 0 = IsOfRate (F.net net.now) (record { no_overlap = no_overlap; capacities = distribution.now.capacities; certificate = certificate.now }) schedule cycle.now in
+        Does (deciding (Certifies certificate.now shows) (IsTooLong certificate.now shows)) result }
+{
+    match certificate {
+        None => Ok(None),
+        Some(name) => {
+            let made = rate_certificate(alloc, net, no_overlap, distribution, schedule, cycle)?;
+            Ok(Some(certify(alloc, name.as_str(), &made)?))
+        }
+    }
 }

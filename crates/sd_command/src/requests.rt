@@ -61,6 +61,7 @@ fn command_answer<R: Threads + Sync, S: Shelf, G: Gate + Sync, L: Ledger + Send>
             buffers,
             no_overlap,
             states,
+            certificate,
         } => throughput::answer(
             alloc,
             shelf,
@@ -68,6 +69,7 @@ fn command_answer<R: Threads + Sync, S: Shelf, G: Gate + Sync, L: Ledger + Send>
             buffers.as_slice(),
             *no_overlap,
             *states,
+            certificate,
             steps,
         ),
         Request::Storage {
@@ -84,7 +86,9 @@ fn command_answer<R: Threads + Sync, S: Shelf, G: Gate + Sync, L: Ledger + Send>
             gate,
             steps,
         ),
-        Request::Scenario { graph } => scenario::answer(alloc, shelf, graph.as_str()),
+        Request::Scenario { graph, certificate } => {
+            scenario::answer(alloc, shelf, graph.as_str(), certificate)
+        }
         Request::Generate {
             seed,
             limit,

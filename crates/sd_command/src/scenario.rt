@@ -1,69 +1,112 @@
-ghost use Rattle.std.specs.Prelude.{◌≡◌, ℕ, ◌≤◌, List};
+ghost use Rattle.std.specs.Prelude.{◌≡◌, ℕ, ◌^◌, ◌<◌, ◌≤◌, All, List, length};
 ghost use Rattle.sd_base.specs.Scenarios.{FileKeepsRules};
 ghost use Rattle.automaton.specs.TimedGraphs.{IsTimedGraph};
 ghost use Rattle.scenario_rate.specs.Graphs.{IsSound};
 ghost use Rattle.sd_command.specs.ScenarioSteps.{AreMeasured};
-ghost use Rattle.sd_command.specs.Courses.{ends_by};
+ghost use Rattle.automaton.specs.CriticalCycles.{weights};
+ghost use Rattle.cert_text.specs.declared.certificates.Certificate.{Certificate as ACertificate};
+ghost use Rattle.sd_command.specs.Certifyings.{Certifies, IsTooLong};
+ghost use Rattle.sd_command.specs.Courses.{deciding, ends_by};
 ghost use Rattle.sd_command.specs.Takings.{Files};
-ghost use Rattle.sd_command.specs.WorstAnswers.{scenario, telling_worst, worst_by, worst_of};
-ghost use Rattle.sd_command.specs.inside.Going.{Goes};
+ghost use Rattle.sd_command.specs.WorstAnswers.{IsOfWorst, scenario, telling_worst, worst_by, worst_of};
+ghost use Rattle.sd_command.specs.inside.Going.{Does, Goes};
 
-use crate::answer::Answer;
+use crate::answer::{Answer, Put};
+use crate::certifying::certify;
 use crate::file_kind::FileKind;
 use crate::scenario_steps::{link, measure, read_file};
 use crate::stop::Stop;
 use crate::taking::take;
 use automaton::TimedGraph;
+use cert_maker::worst_certificate;
 use report::worst_text;
-use scenario_rate::{files_are_sound, files_grow, worst};
-use sd_base::ScenarioFile;
+use scenario_rate::{Worst, files_are_sound, files_grow, worst};
+use sd_base::{ScenarioFile, Text};
 use sd_io::Shelf;
 use std::alloc::Global;
 use token_matrix::Matrix;
 
 /// The worst rate of a file of scenarios over all paths of its automaton, with what shows it.
-pub(crate) fn answer<S: Shelf>(alloc: Global, shelf: &mut S, name: &str) -> Result<Answer, Stop>
+pub(crate) fn answer<S: Shelf>(
+    alloc: Global,
+    shelf: &mut S,
+    name: &str,
+    certificate: &Option<Text>,
+) -> Result<Answer, Stop>
     ensures goes { let files : Files = record { tells = S.tells shelf.old; named = S.file shelf.old } in
-        Goes (scenario name.now files) result 0 (S.faults shelf.old) (S.faults shelf.new) }
+        Goes (scenario name.now certificate.now files) result 0 (S.faults shelf.old) (S.faults shelf.new) }
     ensures stays { (n : List ℕ) → S.file shelf.new n ≡ S.file shelf.old n }
     ensures telling { S.tells shelf.new ≡ S.tells shelf.old }
     ensures grows { S.faults shelf.old ≤ S.faults shelf.new }
 {
     let bytes = take(alloc, shelf, FileKind::Graph, name)?;
     let file = read_file(alloc, bytes.as_slice())?;
-    worst_of(alloc, &file)
+    worst_of(alloc, &file, certificate)
 }
 
 // The worst rate of a file.
-fn worst_of(alloc: Global, file: &ScenarioFile) -> Result<Answer, Stop>
+fn worst_of(alloc: Global, file: &ScenarioFile, certificate: &Option<Text>) -> Result<Answer, Stop>
     requires { FileKeepsRules file.now }
-    ensures { (faults : ℕ) → Goes (worst_of file.now) result 0 faults faults }
+    ensures { (faults : ℕ) → Goes (worst_of certificate.now file.now) result 0 faults faults }
 {
     let matrices = measure(alloc, file)?;
-    worst_by(alloc, file, matrices.as_slice())
+    worst_by(alloc, file, matrices.as_slice(), certificate)
 }
 
 // The worst rate of a file by the matrices of its scenarios.
-fn worst_by(alloc: Global, file: &ScenarioFile, matrices: &[Matrix]) -> Result<Answer, Stop>
+fn worst_by(
+    alloc: Global,
+    file: &ScenarioFile,
+    matrices: &[Matrix],
+    certificate: &Option<Text>,
+) -> Result<Answer, Stop>
     requires rules { FileKeepsRules file.now }
     requires measured { AreMeasured file.now matrices.now }
-    ensures { (faults : ℕ) → Goes (worst_by file.now matrices.now) result 0 faults faults }
+    ensures { (faults : ℕ) → Goes (worst_by file.now certificate.now matrices.now) result 0 faults faults }
 {
     files_are_sound();
     let graph = link(alloc, file, matrices)?;
-    tell(alloc, file, &graph)
+    tell(alloc, file, &graph, certificate)
 }
 
 // The answer by the timed graph of a file.
-fn tell(alloc: Global, file: &ScenarioFile, graph: &TimedGraph) -> Result<Answer, Stop>
+fn tell(
+    alloc: Global,
+    file: &ScenarioFile,
+    graph: &TimedGraph,
+    certificate: &Option<Text>,
+) -> Result<Answer, Stop>
     requires timed { IsTimedGraph file.now graph.now }
     requires sound { IsSound graph.now }
-    ensures { (faults : ℕ) → Goes (ends_by (telling_worst file.now graph.now)) result 0 faults faults }
+    ensures { (faults : ℕ) → Goes (ends_by (telling_worst file.now certificate.now graph.now)) result 0 faults faults }
 {
     files_grow();
     let worst = worst(alloc, graph)?;
-    Ok(Answer {
-        text: worst_text(alloc, file, graph, &worst)?,
-        put: None,
-    })
+    let text = worst_text(alloc, file, graph, &worst)?;
+    let put = put_for(alloc, graph, certificate, &worst)?;
+    Ok(Answer { text, put })
+}
+
+// The file of the certificate of a worst rate, where one is asked for.
+fn put_for(
+    alloc: Global,
+    graph: &TimedGraph,
+    certificate: &Option<Text>,
+    worst: &Worst,
+) -> Result<Option<Put>, Stop>
+    requires tokens { 1 ≤ graph.now.tokens }
+    requires some { 1 ≤ length worst.now.cycle }
+    requires cycle { All (λ k. k < length graph.now.edges) worst.now.cycle }
+    requires small { weights graph.now.edges worst.now.cycle < 2 ^ 64 }
+    requires nodes { length worst.now.potentials < 2 ^ 32 }
+    ensures { let shows : ACertificate → Type 0 = IsOfWorst graph.now worst.now in
+        Does (deciding (Certifies certificate.now shows) (IsTooLong certificate.now shows)) result }
+{
+    match certificate {
+        None => Ok(None),
+        Some(name) => {
+            let made = worst_certificate(alloc, graph, worst)?;
+            Ok(Some(certify(alloc, name.as_str(), &made)?))
+        }
+    }
 }

@@ -26,13 +26,14 @@ pub(crate) fn answer<S: Shelf, L: Ledger>(
     buffers: &[(Text, u64)],
     no_overlap: bool,
     states: u64,
+    certificate: &Option<Text>,
     steps: &mut Steps<L>,
 ) -> Result<Answer, Stop>
     requires small { All (λ (b : Buffer). b.1 ≤ CAPACITY) buffers.now }
     requires some { 1 ≤ states }
     requires few { states ≤ STATES }
     ensures goes { let files : Files = record { tells = S.tells shelf.old; named = S.file shelf.old } in
-        Goes (throughput name.now buffers.now no_overlap states files) result (steps.new.count - steps.old.count) (S.faults shelf.old) (S.faults shelf.new) }
+        Goes (throughput name.now buffers.now no_overlap states certificate.now files) result (steps.new.count - steps.old.count) (S.faults shelf.old) (S.faults shelf.new) }
     ensures stays { (n : List ℕ) → S.file shelf.new n ≡ S.file shelf.old n }
     ensures telling { S.tells shelf.new ≡ S.tells shelf.old }
     ensures grows { S.faults shelf.old ≤ S.faults shelf.new }
@@ -41,7 +42,15 @@ pub(crate) fn answer<S: Shelf, L: Ledger>(
 {
     let bytes = take(alloc, shelf, FileKind::Graph, name)?;
     let graph = read(alloc, bytes.as_slice(), true)?;
-    bounded_rate(alloc, &graph, buffers, no_overlap, states, steps)
+    bounded_rate(
+        alloc,
+        &graph,
+        buffers,
+        no_overlap,
+        states,
+        certificate,
+        steps,
+    )
 }
 
 // The rate of a graph whose named channels have a capacity.
@@ -51,6 +60,7 @@ fn bounded_rate<L: Ledger>(
     buffers: &[(Text, u64)],
     no_overlap: bool,
     states: u64,
+    certificate: &Option<Text>,
     steps: &mut Steps<L>,
 ) -> Result<Answer, Stop>
     requires rules { KeepsRules graph.now }
@@ -59,7 +69,7 @@ fn bounded_rate<L: Ledger>(
     requires some { 1 ≤ states }
     requires few { states ≤ STATES }
     ensures goes { (faults : ℕ) →
-        Goes (bounded_rate buffers.now no_overlap states graph.now) result (steps.new.count - steps.old.count) faults faults }
+        Goes (bounded_rate buffers.now no_overlap states certificate.now graph.now) result (steps.new.count - steps.old.count) faults faults }
     ensures rises { steps.old.count ≤ steps.new.count }
     ensures share { steps.new.share ≡ steps.old.share }
 {
@@ -72,6 +82,7 @@ fn bounded_rate<L: Ledger>(
         no_overlap,
         &distribution,
         states,
+        certificate,
         steps,
     )
 }

@@ -18,8 +18,8 @@ use Rattle.sd_words.specs.OptionWords.{names_value, names_flag}
 use Rattle.sd_words.specs.Values.{is_value}
 use Rattle.sd_words.specs.Forms.{fits}
 use Rattle.sd_words.specs.Reading.{◌>>=◌, Progress, is_taken, with_setting, with_value, with_name, with_text, with_option, with_word, with_words, finished, settings_of}
-use Rattle.sd_words.specs.Asked.{value_of, values_in, standing, is_good, judged, checked, all_checked, options, algorithm_in, known, algorithm_of, request_for, request_from, request_of}
-use Rattle.sd_words.specs.Rules.{IsFault, AllFit, IsFirstFault, Asks, AreMisspelled, AskNothing}
+use Rattle.sd_words.specs.Asked.{value_of, values_in, standing, is_good, judged, checked, all_checked, are_one, named_apart, tested, options, algorithm_in, known, algorithm_of, request_for, request_from, request_of}
+use Rattle.sd_words.specs.Rules.{IsFault, AllFit, IsFirstFault, IsNamedTwice, IsWrong, Asks, AreMisspelled, AskNothing}
 use Rattle.sd_words.proofs.TestChains.{bind-ok}
 use Rattle.sd_words.proofs.Spelled.{read-spelled, spelled-read}
 
@@ -254,70 +254,142 @@ settings-only : (words : List (List ℕ)) → OnlyWords (settings_of words)
 unfolding settings_of
 settings-only words = only-then (with_words _ words) finished (words-only words _) (λ q. end-only q.settings q.due)
 
+-- the options, and then the name of the certificate
+
+twice-named : (w v : Option (List ℕ)) → are_one w v ≡ true → (x : List ℕ) × (w ≡ Some x) × (v ≡ Some x)
+unfolding are_one
+twice-named (Some w) (Some v) h = (w, refl, ap (λ (x : List ℕ). Some x) (sym ((bytes_eq-Decides w v).0 h)))
+twice-named (Some w) None h = absurd (cc)
+twice-named None v h = absurd (cc)
+
+named-twice : (w v : Option (List ℕ)) (x : List ℕ) → w ≡ Some x → v ≡ Some x → are_one w v ≡ true
+unfolding are_one
+named-twice w v x p q = rw (p, q) ((bytes_eq-Decides x x).1 refl)
+
+apart-or : (b : Bool) → b ≡ true ⊎ (cond b (Err (BadValue option.Certificate)) (Ok (tt {0})) ≡ Ok (tt {0}))
+apart-or true = inl refl
+apart-or false = inr refl
+
+apart-err : (b : Bool) (cause : UsageCause) → cond b (Err (BadValue option.Certificate)) (Ok (tt {0})) ≡ Err cause → (b ≡ true) × (cause ≡ BadValue option.Certificate)
+apart-err true cause h =
+    let same : cause ≡ BadValue option.Certificate = cc in
+    (refl, same)
+apart-err false cause h = absurd (cc)
+
+named-apart : (settings : List Setting) → (IsNamedTwice settings → ⊥) → named_apart (values_in settings) ≡ Ok (tt {0})
+unfolding named_apart
+named-apart settings apart = elim (apart-or (are_one (value_of option.Certificate settings) (value_of option.Graph settings))) [
+  | inl h ↦ absurd (apart (twice-named (value_of option.Certificate settings) (value_of option.Graph settings) h))
+  | inr h ↦ h
+]
+
+apart-named : (settings : List Setting) (cause : UsageCause) → named_apart (values_in settings) ≡ Err cause → IsNamedTwice settings × (cause ≡ BadValue option.Certificate)
+unfolding named_apart
+apart-named settings cause h =
+    let e = apart-err (are_one (value_of option.Certificate settings) (value_of option.Graph settings)) cause h in
+    (twice-named (value_of option.Certificate settings) (value_of option.Graph settings) e.0, e.1)
+
+twice-apart : (settings : List Setting) → IsNamedTwice settings → named_apart (values_in settings) ≡ Err (BadValue option.Certificate)
+unfolding named_apart
+twice-apart settings twice =
+    ap (λ b. cond b (Err (BadValue option.Certificate)) (Ok (tt {0}))) (named-twice (value_of option.Certificate settings) (value_of option.Graph settings) twice.0 twice.1 twice.2)
+
+tested-ok : (a : Algorithm) (settings : List Setting) (u : Unit {0}) → tested a (values_in settings) ≡ Ok u → AllFit a settings options × (IsNamedTwice settings → ⊥)
+unfolding tested
+tested-ok a settings u h =
+    let one = bind-ok (all_checked a (values_in settings) options) (λ _. named_apart (values_in settings)) u h in
+    let apart : IsNamedTwice settings → ⊥ = λ twice. cc (one.1, twice-apart settings twice) in
+    (fit-all a settings options one.0 one.1, apart)
+
+ok-tested : (a : Algorithm) (settings : List Setting) → AllFit a settings options → (IsNamedTwice settings → ⊥) → tested a (values_in settings) ≡ Ok (tt {0})
+unfolding tested
+ok-tested a settings fit apart = ap (λ r. r >>= λ _. named_apart (values_in settings)) (all-fit a settings options fit) ∙ named-apart settings apart
+
+tested-err : (a : Algorithm) (settings : List Setting) (cause : UsageCause) → tested a (values_in settings) ≡ Err cause → IsWrong a settings cause
+unfolding tested
+tested-err a settings cause h = elim (outcome (all_checked a (values_in settings) options)) [
+  | inl e ↦
+      let later : named_apart (values_in settings) ≡ Err cause = sym (ap (λ r. r >>= λ _. named_apart (values_in settings)) e.1) ∙ h in
+      let twice = apart-named settings cause later in
+      inr (fit-all a settings options e.0 e.1, twice.0, twice.1)
+  | inr e ↦
+      let same : Err e.0 ≡ Err cause = sym (ap (λ r. r >>= λ _. named_apart (values_in settings)) e.1) ∙ h in
+      let is : all_checked a (values_in settings) options ≡ Err cause = cc (e.1, same) in
+      inl (first-fault a settings options cause is)
+]
+
+err-tested : (a : Algorithm) (settings : List Setting) (cause : UsageCause) → IsWrong a settings cause → tested a (values_in settings) ≡ Err cause
+unfolding tested
+err-tested a settings cause (inl f) =
+    let fault : all_checked a (values_in settings) options ≡ Err cause = ap (all_checked a (values_in settings)) f.3 ∙ fault-first a settings f.0 f.1 f.2 cause f.4 f.5 in
+    ap (λ r. r >>= λ _. named_apart (values_in settings)) fault
+err-tested a settings cause (inr h) =
+    ap (λ r. r >>= λ _. named_apart (values_in settings)) (all-fit a settings options h.0) ∙ (twice-apart settings h.1 ∙ ap (λ c. Err c) (sym h.2))
+
 -- the answers
 
 request-ok : (settings : List Setting) (r : Request) → request_from (values_in settings) ≡ Ok r
-    → (a : Algorithm) × (value_of option.Algo settings ≡ Some (algorithm_word a)) × AllFit a settings options × (r ≡ request_for a (values_in settings))
+    → (a : Algorithm) × (value_of option.Algo settings ≡ Some (algorithm_word a)) × AllFit a settings options × (IsNamedTwice settings → ⊥) × (r ≡ request_for a (values_in settings))
 unfolding request_from
 request-ok settings r h =
-    let one = bind-ok (algorithm_of (values_in settings)) (λ a. all_checked a (values_in settings) options >>= λ _. Ok (request_for a (values_in settings))) r h in
-    let two = bind-ok (all_checked one.0 (values_in settings) options) (λ _. Ok (request_for one.0 (values_in settings))) r one.2 in
+    let one = bind-ok (algorithm_of (values_in settings)) (λ a. tested a (values_in settings) >>= λ _. Ok (request_for a (values_in settings))) r h in
+    let two = bind-ok (tested one.0 (values_in settings)) (λ _. Ok (request_for one.0 (values_in settings))) r one.2 in
     let same : r ≡ request_for one.0 (values_in settings) = cc (two.2) in
-    (one.0, algorithm-ok settings one.0 one.1, fit-all one.0 settings options two.0 two.1, same)
+    let fit = tested-ok one.0 settings two.0 two.1 in
+    (one.0, algorithm-ok settings one.0 one.1, fit.0, fit.1, same)
 
-request-asked : (settings : List Setting) (a : Algorithm) → value_of option.Algo settings ≡ Some (algorithm_word a) → AllFit a settings options → request_from (values_in settings) ≡ Ok (request_for a (values_in settings))
+request-asked : (settings : List Setting) (a : Algorithm) → value_of option.Algo settings ≡ Some (algorithm_word a) → AllFit a settings options → (IsNamedTwice settings → ⊥) → request_from (values_in settings) ≡ Ok (request_for a (values_in settings))
 unfolding request_from
-request-asked settings a h fit =
-    ap (λ r. r >>= λ b. all_checked b (values_in settings) options >>= λ _. Ok (request_for b (values_in settings))) (algorithm-named settings a h)
-    ∙ ap (λ r. r >>= λ _. Ok (request_for a (values_in settings))) (all-fit a settings options fit)
+request-asked settings a h fit apart =
+    ap (λ r. r >>= λ b. tested b (values_in settings) >>= λ _. Ok (request_for b (values_in settings))) (algorithm-named settings a h)
+    ∙ ap (λ r. r >>= λ _. Ok (request_for a (values_in settings))) (ok-tested a settings fit apart)
 
 pub asks : (words : List (List ℕ)) (r : Request) → request_of words ≡ Ok r → Asks words r
 unfolding request_of
 asks words r h =
     let one = bind-ok (settings_of words) (λ given. request_from (values_in given)) r h in
     let two = request-ok one.0 r one.2 in
-    (one.0, two.0, read-spelled words one.0 one.1, two.1, two.2, two.3)
+    (one.0, two.0, read-spelled words one.0 one.1, two.1, two.2, two.3, two.4)
 
 pub asked : (words : List (List ℕ)) (r : Request) → Asks words r → request_of words ≡ Ok r
 unfolding request_of
 asked words r h =
-    ap (λ s. s >>= λ given. request_from (values_in given)) (spelled-read words h.0 h.2) ∙ (request-asked h.0 h.1 h.3 h.4 ∙ ap (λ q. Ok q) (sym h.5))
+    ap (λ s. s >>= λ given. request_from (values_in given)) (spelled-read words h.0 h.2) ∙ (request-asked h.0 h.1 h.3 h.4 h.5 ∙ ap (λ q. Ok q) (sym h.6))
 
 abbrev Refused : List Setting → UsageCause → Type 0
 Refused settings cause =
     ((value_of option.Algo settings ≡ None) × (cause ≡ Missing option.Algo))
     ⊎ (((w : List ℕ) × (value_of option.Algo settings ≡ Some w) × ((a : Algorithm) → w ≢ algorithm_word a) × (cause ≡ BadValue option.Algo))
-    ⊎ ((a : Algorithm) × (value_of option.Algo settings ≡ Some (algorithm_word a)) × IsFirstFault a settings options cause))
+    ⊎ ((a : Algorithm) × (value_of option.Algo settings ≡ Some (algorithm_word a)) × IsWrong a settings cause))
 
 request-err : (settings : List Setting) (cause : UsageCause) → request_from (values_in settings) ≡ Err cause → Refused settings cause
 unfolding request_from
 request-err settings cause h = elim (outcome (algorithm_of (values_in settings))) [
   | inl a ↦
-      let later : (all_checked a.0 (values_in settings) options >>= λ _. Ok (request_for a.0 (values_in settings))) ≡ Err cause =
-      sym (ap (λ r. r >>= λ b. all_checked b (values_in settings) options >>= λ _. Ok (request_for b (values_in settings))) a.1) ∙ h in
-      elim (outcome (all_checked a.0 (values_in settings) options)) [
+      let later : (tested a.0 (values_in settings) >>= λ _. Ok (request_for a.0 (values_in settings))) ≡ Err cause =
+      sym (ap (λ r. r >>= λ b. tested b (values_in settings) >>= λ _. Ok (request_for b (values_in settings))) a.1) ∙ h in
+      elim (outcome (tested a.0 (values_in settings))) [
         | inl e ↦ absurd (cc (ap (λ r. r >>= λ _. Ok (request_for a.0 (values_in settings))) e.1, later))
         | inr e ↦
             let same : Err e.0 ≡ Err cause = sym (ap (λ r. r >>= λ _. Ok (request_for a.0 (values_in settings))) e.1) ∙ later in
-            let is : all_checked a.0 (values_in settings) options ≡ Err cause = cc (e.1, same) in
-            inr (inr (a.0, algorithm-ok settings a.0 a.1, first-fault a.0 settings options cause is))
+            let is : tested a.0 (values_in settings) ≡ Err cause = cc (e.1, same) in
+            inr (inr (a.0, algorithm-ok settings a.0 a.1, tested-err a.0 settings cause is))
       ]
   | inr e ↦
-      let same : Err e.0 ≡ Err cause = sym (ap (λ r. r >>= λ b. all_checked b (values_in settings) options >>= λ _. Ok (request_for b (values_in settings))) e.1) ∙ h in
+      let same : Err e.0 ≡ Err cause = sym (ap (λ r. r >>= λ b. tested b (values_in settings) >>= λ _. Ok (request_for b (values_in settings))) e.1) ∙ h in
       let is : algorithm_of (values_in settings) ≡ Err cause = cc (e.1, same) in
       elim (algorithm-err settings cause is) [ inl f ↦ inl f | inr f ↦ inr (inl f) ]
 ]
 
 refused-request : (settings : List Setting) (cause : UsageCause) → Refused settings cause → request_from (values_in settings) ≡ Err cause
 unfolding request_from algorithm_of
-refused-request settings cause (inl h) = ap (λ v. algorithm_in v >>= λ a. all_checked a (values_in settings) options >>= λ _. Ok (request_for a (values_in settings))) h.0 ∙ ap (λ c. Err c) (sym h.1)
+refused-request settings cause (inl h) = ap (λ v. algorithm_in v >>= λ a. tested a (values_in settings) >>= λ _. Ok (request_for a (values_in settings))) h.0 ∙ ap (λ c. Err c) (sym h.1)
 refused-request settings cause (inr (inl h)) =
-    ap (λ v. algorithm_in v >>= λ a. all_checked a (values_in settings) options >>= λ _. Ok (request_for a (values_in settings))) h.1
-    ∙ (ap (λ o. known o >>= λ a. all_checked a (values_in settings) options >>= λ _. Ok (request_for a (values_in settings))) (unnamed h.0 h.2) ∙ ap (λ c. Err c) (sym h.3))
+    ap (λ v. algorithm_in v >>= λ a. tested a (values_in settings) >>= λ _. Ok (request_for a (values_in settings))) h.1
+    ∙ (ap (λ o. known o >>= λ a. tested a (values_in settings) >>= λ _. Ok (request_for a (values_in settings))) (unnamed h.0 h.2) ∙ ap (λ c. Err c) (sym h.3))
 refused-request settings cause (inr (inr h)) =
-    let f = h.2 in
-    let fault : all_checked h.0 (values_in settings) options ≡ Err cause = ap (all_checked h.0 (values_in settings)) f.3 ∙ fault-first h.0 settings f.0 f.1 f.2 cause f.4 f.5 in
-    ap (λ r. r >>= λ a. all_checked a (values_in settings) options >>= λ _. Ok (request_for a (values_in settings))) (algorithm-named settings h.0 h.1)
+    let fault : tested h.0 (values_in settings) ≡ Err cause = err-tested h.0 settings cause h.2 in
+    ap (λ r. r >>= λ a. tested a (values_in settings) >>= λ _. Ok (request_for a (values_in settings))) (algorithm-named settings h.0 h.1)
     ∙ ap (λ r. r >>= λ _. Ok (request_for h.0 (values_in settings))) fault
 
 pub asks_nothing : (words : List (List ℕ)) (cause : UsageCause) → request_of words ≡ Err cause → AskNothing words cause
@@ -349,10 +421,14 @@ fault-other a settings o (inl h) = cc (h.3)
 fault-other a settings o (inr (inl h)) = cc (h.3)
 fault-other a settings o (inr (inr h)) = cc (h.4)
 
+wrong-other : (a : Algorithm) (settings : List Setting) → IsWrong a settings Words → ⊥
+wrong-other a settings (inl f) = fault-other a settings f.1 f.5
+wrong-other a settings (inr h) = cc (h.2)
+
 refused-other : (settings : List Setting) → Refused settings Words → ⊥
 refused-other settings (inl h) = cc (h.1)
 refused-other settings (inr (inl h)) = cc (h.3)
-refused-other settings (inr (inr h)) = let f = h.2 in fault-other h.0 settings f.1 f.5
+refused-other settings (inr (inr h)) = wrong-other h.0 settings h.2
 
 pub misspelled : (words : List (List ℕ)) → request_of words ≡ Err Words → AreMisspelled words
 misspelled words h = elim (asks_nothing words Words h) [

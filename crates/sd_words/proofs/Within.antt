@@ -6,4 +6,4 @@ use Rattle.sd_words.proofs.Causes.{asks}
 use Rattle.sd_words.proofs.States.{request-within}
 
 pub asked_within : (words : List (List ℕ)) (r : Request) → request_of words ≡ Ok r → IsWithinLimits r
-asked_within words r is = let a = asks words r is in subst IsWithinLimits (sym a.5) (request-within a.1 (values_in a.0))
+asked_within words r is = let a = asks words r is in subst IsWithinLimits (sym a.6) (request-within a.1 (values_in a.0))

@@ -1,5 +1,5 @@
 -- What settings ask for, or the first cause why they ask for nothing.
-use Rattle.std.specs.Prelude.{All, ◌≡◌, ◌≤◌, ℕ, Bool, true, List, [], ◌∷◌, Option, Some, None, Result, Ok, Err, MatchResult, is_some, unwrap_or, option_and_then, if◌then◌else◌}
+use Rattle.std.specs.Prelude.{All, ◌≡◌, ◌≤◌, ℕ, Bool, true, false, List, [], ◌∷◌, Option, Some, None, Result, Ok, Err, MatchResult, is_some, unwrap_or, option_and_then, if◌then◌else◌}
 use Rattle.std.specs.Str.{bytes_eq}
 use Rattle.sd_base.specs.declared.limits.TheConstants.{ACTORS, CAPACITY, DISTRIBUTIONS, LEAST_DISTRIBUTIONS, LEAST_STATES, STATES, STORAGE, USUAL_DISTRIBUTIONS, USUAL_STATES}
 use Rattle.sd_base.specs.declared.limits.Limits.{Limits}
@@ -62,6 +62,7 @@ options = option.Graph ∷ option.Certificate ∷ option.Buffers ∷ option.Stat
 unfoldable pub standing : Algorithm → OptionName → Standing
 standing algorithm.Repetition option.Graph = Required form.Any
 standing algorithm.Throughput option.Graph = Required form.Any
+standing algorithm.Throughput option.Certificate = Allowed form.Any
 standing algorithm.Throughput option.Buffers = Allowed form.Buffers
 standing algorithm.Throughput option.States = Allowed (form.Number LEAST_STATES STATES)
 standing algorithm.Throughput option.NoOverlap = Allowed form.Any
@@ -71,6 +72,7 @@ standing algorithm.Storage option.Distributions = Allowed (form.Number LEAST_DIS
 standing algorithm.Storage option.Limit = Required (form.Number 0 STORAGE)
 standing algorithm.Storage option.NoOverlap = Allowed form.Any
 standing algorithm.Scenario option.Graph = Required form.Any
+standing algorithm.Scenario option.Certificate = Allowed form.Any
 standing algorithm.Generate option.Limit = Required (form.Number 0 STORAGE)
 standing algorithm.Generate option.Seed = Required (form.Number 0 SEED)
 standing algorithm.Generate option.Actors = Allowed (form.Number LEAST_ACTORS ACTORS)
@@ -100,9 +102,26 @@ unfoldable pub all_checked : Algorithm → Values → List OptionName → Result
 all_checked a values [] = Ok tt
 all_checked a values (o ∷ os) = checked a o (values o) >>= λ _. all_checked a values os
 
+-- both are there, and the same
+unfoldable pub are_one : Option (List ℕ) → Option (List ℕ) → Bool
+are_one (Some w) (Some v) = bytes_eq w v
+are_one w v = false
+
+-- a certificate that is put has another name than the graph
+unfoldable pub named_apart : Values → Result (Unit {0}) UsageCause
+named_apart values = if are_one (values option.Certificate) (values option.Graph) then Err (BadValue option.Certificate) else Ok tt
+
+-- the options beside `--algo` are as the algorithm asks
+unfoldable pub tested : Algorithm → Values → Result (Unit {0}) UsageCause
+tested a values = all_checked a values options >>= λ _. named_apart values
+
 -- the name of the graph file
 abbrev pub graph_of : Values → List ℕ
 graph_of values = unwrap_or (values option.Graph) []
+
+-- the name under which a certificate is put
+abbrev pub certificate_of : Values → Option (List ℕ)
+certificate_of values = values option.Certificate
 
 -- the number that is asked for within a range, or else the usual one
 unfoldable pub number_of : OptionName → ℕ → ℕ → ℕ → Values → ℕ
@@ -138,9 +157,9 @@ actors_of values = number_of option.Actors LEAST_ACTORS ACTORS USUAL_ACTORS valu
 -- the request of values that are as the algorithm asks
 unfoldable pub request_for : Algorithm → Values → Request
 request_for algorithm.Repetition values = request.Repetition (graph_of values)
-request_for algorithm.Throughput values = request.Throughput (graph_of values) (capacities_of values) (is_some (values option.NoOverlap)) (states_of values)
+request_for algorithm.Throughput values = request.Throughput (graph_of values) (capacities_of values) (is_some (values option.NoOverlap)) (states_of values) (certificate_of values)
 request_for algorithm.Storage values = request.Storage (graph_of values) (limits_of values) (is_some (values option.NoOverlap))
-request_for algorithm.Scenario values = request.Scenario (graph_of values)
+request_for algorithm.Scenario values = request.Scenario (graph_of values) (certificate_of values)
 request_for algorithm.Generate values = request.Generate (seed_of values) (limit_of values) (actors_of values)
 
 -- a number of states is within its range
@@ -160,16 +179,16 @@ AreMadeActors actors = (LEAST_ACTORS ≤ actors) × (actors ≤ ACTORS)
 -- the numbers of a request are within their ranges
 abbrev pub IsWithinLimits : Request → Type 0
 IsWithinLimits (request.Repetition graph) = Unit {0}
-IsWithinLimits (request.Throughput graph buffers no_overlap states) = All (λ (b : Buffer). b.1 ≤ CAPACITY) buffers × AreStates states
+IsWithinLimits (request.Throughput graph buffers no_overlap states certificate) = All (λ (b : Buffer). b.1 ≤ CAPACITY) buffers × AreStates states
 IsWithinLimits (request.Storage graph limits no_overlap) = AreLimits limits
-IsWithinLimits (request.Scenario graph) = Unit {0}
+IsWithinLimits (request.Scenario graph certificate) = Unit {0}
 IsWithinLimits (request.Generate seed limit actors) = (limit ≤ STORAGE) × AreMadeActors actors
 
 -- what values ask for
 unfoldable pub request_from : Values → Result Request UsageCause
 request_from values = do
   a ← algorithm_of values
-  _ ← all_checked a values options
+  _ ← tested a values
   Ok (request_for a values)
 
 -- what words ask for

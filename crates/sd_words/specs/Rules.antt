@@ -29,11 +29,20 @@ abbrev pub IsFirstFault : Algorithm → List Setting → List OptionName → Usa
 IsFirstFault a settings os cause =
     (before : List OptionName) × (o : OptionName) × (after : List OptionName) × (os ≡ before ++ o ∷ after) × AllFit a settings before × IsFault a settings o cause
 
+-- the certificate is to have the name of the graph
+abbrev pub IsNamedTwice : List Setting → Type 0
+IsNamedTwice settings = (w : List ℕ) × (value_of option.Certificate settings ≡ Some w) × (value_of option.Graph settings ≡ Some w)
+
+-- the first thing that is wrong with the options of an algorithm: an option that doesn't fit, or else the name of the certificate
+abbrev pub IsWrong : Algorithm → List Setting → UsageCause → Type 0
+IsWrong a settings cause =
+    IsFirstFault a settings options cause ⊎ (AllFit a settings options × IsNamedTwice settings × (cause ≡ BadValue option.Certificate))
+
 -- the words are well spelled, name an algorithm, and give each option as it asks
 abbrev pub Asks : List (List ℕ) → Request → Type 0
 Asks words request =
     (settings : List Setting) × (a : Algorithm) × IsSpelling words settings × (value_of option.Algo settings ≡ Some (algorithm_word a))
-    × AllFit a settings options × (request ≡ request_for a (values_in settings))
+    × AllFit a settings options × (IsNamedTwice settings → ⊥) × (request ≡ request_for a (values_in settings))
 
 -- the words aren't well spelled
 abbrev pub AreMisspelled : List (List ℕ) → Type 0
@@ -46,4 +55,4 @@ AskNothing words cause =
     ⊎ ((settings : List Setting) × IsSpelling words settings
     × (((value_of option.Algo settings ≡ None) × (cause ≡ Missing option.Algo))
     ⊎ (((w : List ℕ) × (value_of option.Algo settings ≡ Some w) × ((a : Algorithm) → w ≢ algorithm_word a) × (cause ≡ BadValue option.Algo))
-    ⊎ ((a : Algorithm) × (value_of option.Algo settings ≡ Some (algorithm_word a)) × IsFirstFault a settings options cause))))
+    ⊎ ((a : Algorithm) × (value_of option.Algo settings ≡ Some (algorithm_word a)) × IsWrong a settings cause))))

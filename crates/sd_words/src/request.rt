@@ -21,6 +21,8 @@ pub enum Request {
         buffers: Rows<(Text, u64)>,
         no_overlap: bool,
         states: u64,
+        /// The name under which what shows the rate is put.
+        certificate: Option<Text>,
     },
     /// The Pareto points of storage and rate of the graph: up to the total of `limits`, and within its numbers of
     /// states and of distributions; with `no_overlap` the firings of each actor come one after another.
@@ -32,6 +34,8 @@ pub enum Request {
     /// The worst rate of the scenarios of the file, over all paths of its automaton.
     Scenario {
         graph: Text,
+        /// The name under which what shows the worst rate is put.
+        certificate: Option<Text>,
     },
     /// The Pareto points, up to a total of `limit`, of the graph that is made from the number `seed`, a chain of so many
     /// actors.
@@ -51,7 +55,7 @@ pub enum UsageCause {
     Missing { option: OptionName },
     /// An option is there that the algorithm doesn't have.
     NotFor { option: OptionName, algo: Algorithm },
-    /// The value of an option isn't of its form, or not in its range.
+    /// The value of an option isn't of its form, or not in its range; or the certificate is to have the name of the graph.
     BadValue { option: OptionName },
 }
 

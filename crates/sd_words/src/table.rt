@@ -4,7 +4,7 @@ ghost use Rattle.std.specs.Prelude.{◌≡◌, IfOk, Ok, Err, if◌then◌else�
 ghost use Rattle.sd_words.specs.declared.request.UsageCause.TheVariants.{BadValue};
 ghost use Rattle.sd_words.specs.Forms.{fits};
 ghost use Rattle.std.specs.Option.{option_map};
-ghost use Rattle.sd_words.specs.Asked.{Gives, algorithm_of, all_checked, capacities_of, checked, graph_of, limit_of, limits_of, number_of, options, request_for, standing, states_of};
+ghost use Rattle.sd_words.specs.Asked.{Gives, algorithm_of, all_checked, capacities_of, certificate_of, checked, graph_of, limit_of, limits_of, named_apart, number_of, options, request_for, standing, states_of, tested};
 ghost use Rattle.sd_words.specs.Given.{values_given};
 
 use crate::buffers::buffers_of;
@@ -70,6 +70,7 @@ fn standing_of(algo: Algorithm, option: OptionName) -> Standing
         },
         Algorithm::Throughput => match option {
             OptionName::Graph => Standing::Required(Form::Any),
+            OptionName::Certificate => Standing::Allowed(Form::Any),
             OptionName::Buffers => Standing::Allowed(Form::Buffers),
             OptionName::States => Standing::Allowed(OF_STATES),
             OptionName::NoOverlap => Standing::Allowed(Form::Any),
@@ -85,6 +86,7 @@ fn standing_of(algo: Algorithm, option: OptionName) -> Standing
         },
         Algorithm::Scenario => match option {
             OptionName::Graph => Standing::Required(Form::Any),
+            OptionName::Certificate => Standing::Allowed(Form::Any),
             _ => Standing::Foreign,
         },
         Algorithm::Generate => match option {
@@ -140,17 +142,41 @@ pub(crate) fn algorithm_of(given: &Given<'_>) -> Result<Algorithm, UsageCause>
     }
 }
 
-/// Whether each option beside `--algo` is as the algorithm asks; else the first one that isn't.
-pub(crate) fn check_options(
-    alloc: Global,
-    algo: Algorithm,
-    given: &Given<'_>,
-) -> Result<(), WordsError>
+// Whether each option beside `--algo` is as the algorithm asks; else the first one that isn't.
+fn check_each(alloc: Global, algo: Algorithm, given: &Given<'_>) -> Result<(), WordsError>
     ensures { Gives (λ done. done) result (all_checked algo (values_given given.now) options) }
 {
     for option in &BESIDE_ALGO {
         check(alloc, algo, *option, given.value(*option))?;
     }
+    Ok(())
+}
+
+// Whether a certificate that is put has another name than the graph.
+#[tactic(auto, unfolding(crate::specs::Asked::are_one, crate::specs::Asked::named_apart))]
+fn check_names(given: &Given<'_>) -> Result<(), UsageCause>
+    ensures { result ≡ named_apart (values_given given.now) }
+{
+    let option = OptionName::Certificate;
+    match (given.value(option), given.value(OptionName::Graph)) {
+        (Some(certificate), Some(graph)) if certificate == graph => {
+            Err(UsageCause::BadValue { option })
+        }
+        _ => Ok(()),
+    }
+}
+
+/// Whether the options beside `--algo` are as the algorithm asks; else the first thing that isn't.
+#[tactic(auto, unfolding(crate::specs::Asked::tested))]
+pub(crate) fn check_options(
+    alloc: Global,
+    algo: Algorithm,
+    given: &Given<'_>,
+) -> Result<(), WordsError>
+    ensures { Gives (λ done. done) result (tested algo (values_given given.now)) }
+{
+    check_each(alloc, algo, given)?;
+    check_names(given)?;
     Ok(())
 }
 
@@ -228,6 +254,16 @@ fn graph_of(alloc: Global, given: &Given<'_>) -> Result<Text, AllocError>
     Text::of(alloc, name)
 }
 
+/// The name under which a certificate is put.
+fn certificate_of(alloc: Global, given: &Given<'_>) -> Result<Option<Text>, AllocError>
+    ensures { IfOk result (λ t. t ≡ certificate_of (values_given given.now)) }
+{
+    match given.value(OptionName::Certificate) {
+        None => Ok(None),
+        Some(name) => Ok(Some(Text::of(alloc, name)?)),
+    }
+}
+
 /// The request of values that are as the algorithm asks.
 #[tactic(auto, unfolding(crate::specs::Asked::request_for))]
 pub(crate) fn request_for(
@@ -246,13 +282,17 @@ pub(crate) fn request_for(
             buffers: capacities_of(alloc, given)?,
             no_overlap,
             states: states_of(given),
+            certificate: certificate_of(alloc, given)?,
         }),
         Algorithm::Storage => Ok(Request::Storage {
             graph,
             limits: limits_of(given),
             no_overlap,
         }),
-        Algorithm::Scenario => Ok(Request::Scenario { graph }),
+        Algorithm::Scenario => Ok(Request::Scenario {
+            graph,
+            certificate: certificate_of(alloc, given)?,
+        }),
         Algorithm::Generate => Ok(Request::Generate {
             seed: seed_of(given),
             limit: limit_of(given),

@@ -6,6 +6,8 @@ use Rattle.storage.specs.BoundedNets.{HasNoSpaces, bound}
 use Rattle.storage.proofs.FileChannels.{file-plain, plain-no_spaces}
 use Rattle.storage.proofs.NamedCapacities.{bounded-few}
 use Rattle.report.specs.LinkTexts.{IsNamed}
+use Rattle.cert_maker.specs.Links.{HasNoOrders}
+use Rattle.sd_command.proofs.Orderless.{bound-orderless, net-orderless}
 use Rattle.sd_command.specs.RateAnswers.{rate_of}
 use Rattle.sd_command.specs.inside.Going.{Goes}
 use Rattle.sd_command.proofs.Overs.{bound-over, net-over}
@@ -41,8 +43,18 @@ rate_within-requires-in-Csdf-clause-named g c =
 
 pub returns-in_ok-net-in-Sdf-clause-goes : goal.returns-in_ok-net-in-Sdf-clause-goes
 returns-in_ok-net-in-Sdf-clause-goes g c = λ faults.
-    subst (λ (net : Net). Goes (rate_of c.args.graph.now (bound net c.args.distribution.now.capacities) c.args.states) c.rate_within.result (c.rate_within.new.steps.count - c.args.steps.now.count) faults faults) c.in_ok-net-in-Sdf.ensures (c.rate_within.ensures.goes faults)
+    subst (λ (net : Net). Goes (rate_of c.args.graph.now (bound net c.args.distribution.now.capacities) (record { no_overlap = c.args.no_overlap; capacities = c.args.distribution.now.capacities; certificate = c.args.certificate.now }) c.args.states) c.rate_within.result (c.rate_within.new.steps.count - c.args.steps.now.count) faults faults) c.in_ok-net-in-Sdf.ensures (c.rate_within.ensures.goes faults)
 
 pub returns-in_ok-net-in-Csdf-clause-goes : goal.returns-in_ok-net-in-Csdf-clause-goes
 returns-in_ok-net-in-Csdf-clause-goes g c = λ faults.
-    subst (λ (net : Net). Goes (rate_of c.args.graph.now (bound net c.args.distribution.now.capacities) c.args.states) c.rate_within-in-Csdf.result (c.rate_within-in-Csdf.new.steps.count - c.args.steps.now.count) faults faults) c.in_ok-net-in-Csdf.ensures (c.rate_within-in-Csdf.ensures.goes faults)
+    subst (λ (net : Net). Goes (rate_of c.args.graph.now (bound net c.args.distribution.now.capacities) (record { no_overlap = c.args.no_overlap; capacities = c.args.distribution.now.capacities; certificate = c.args.certificate.now }) c.args.states) c.rate_within-in-Csdf.result (c.rate_within-in-Csdf.new.steps.count - c.args.steps.now.count) faults faults) c.in_ok-net-in-Csdf.ensures (c.rate_within-in-Csdf.ensures.goes faults)
+
+pub rate_within-requires-clause-unordered : goal.rate_within-requires-clause-unordered
+rate_within-requires-clause-unordered g c =
+    subst (λ (net : Net). HasNoOrders (bound net c.args.distribution.now.capacities)) (sym c.in_ok-net-in-Sdf.ensures)
+    (bound-orderless (net_of c.args.graph.now c.args.gamma.now c.args.no_overlap) c.args.distribution.now.capacities (net-orderless c.args.graph.now c.args.gamma.now c.args.no_overlap))
+
+pub rate_within-requires-in-Csdf-clause-unordered : goal.rate_within-requires-in-Csdf-clause-unordered
+rate_within-requires-in-Csdf-clause-unordered g c =
+    subst (λ (net : Net). HasNoOrders (bound net c.args.distribution.now.capacities)) (sym c.in_ok-net-in-Csdf.ensures)
+    (bound-orderless (net_of c.args.graph.now c.args.gamma.now c.args.no_overlap) c.args.distribution.now.capacities (net-orderless c.args.graph.now c.args.gamma.now c.args.no_overlap))

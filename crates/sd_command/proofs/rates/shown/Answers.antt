@@ -1,6 +1,8 @@
+use Rattle.std.proofs.lemmas.Result.{err_from_is_err_and}
+use Rattle.sd_command.proofs.Certified.{rate-stops, starts-spelled}
 use Rattle.sd_command.proofs.Joins.{fed-inputs}
 use Rattle.sd_command.proofs.Overs.{cycle-over}
-use Rattle.sd_command.proofs.Reached.{rates-shown}
+use Rattle.sd_command.proofs.Reached.{rate-shown}
 use Rattle.sd_command.proofs.rates.shown.Goals as goal
 
 pub from_loop-requires-clause-inputs : goal.from_loop-requires-clause-inputs
@@ -13,7 +15,26 @@ pub rate_text-requires-clause-cycle : goal.rate_text-requires-clause-cycle
 rate_text-requires-clause-cycle g c =
     cycle-over c.args.graph.now (g.F.Firing.net c.args.net.now) c.know_laws.ensures c.requires.named c.in_ok-cycle.cycle c.in_ok-cycle.ensures.holds
 
+pub put_for-requires-clause-starts : goal.put_for-requires-clause-starts
+put_for-requires-clause-starts g c =
+    starts-spelled (g.F.Firing.net c.args.net.now) c.args.table.now c.in_ok-schedule.schedule c.know_laws.ensures c.in_ok-schedule.ensures
+
+pub put_for-requires-clause-channels : goal.put_for-requires-clause-channels
+put_for-requires-clause-channels g c =
+    let over = cycle-over c.args.graph.now (g.F.Firing.net c.args.net.now) c.know_laws.ensures c.requires.named c.in_ok-cycle.cycle c.in_ok-cycle.ensures.holds in
+    λ k d below. (over.steps k d below).channel
+
+pub returns-in_err-put : goal.returns-in_err-put
+returns-in_err-put g c = λ states found.
+    let p = err_from_is_err_and c.from_residual-in_err-put.result c.from_residual-in_err-put.ensures.1 in
+    let shown = rate-shown (g.F.Firing.net c.args.net.now) states c.args.table.now c.in_ok-schedule.schedule c.in_ok-cycle.cycle found c.in_ok-schedule.ensures c.in_ok-cycle.ensures in
+    rw (p.1, p.2) (rate-stops c.args.graph.now (g.F.Firing.net c.args.net.now) _ states c.in_ok-schedule.schedule c.in_ok-cycle.cycle shown c.in_err-put.field-0.0 c.in_err-put.ensures)
+
 pub returns : goal.returns
-returns g c =
-    rates-shown c.args.graph.now (g.F.Firing.net c.args.net.now) c.args.table.now c.in_ok-schedule.schedule c.in_ok-cycle.cycle c.rate_text.result
-    c.in_ok-schedule.ensures c.in_ok-cycle.ensures c.rate_text.ensures
+returns g c = λ states found. record {
+  schedule = c.in_ok-schedule.schedule;
+  cycle = c.in_ok-cycle.cycle;
+  shown = rate-shown (g.F.Firing.net c.args.net.now) states c.args.table.now c.in_ok-schedule.schedule c.in_ok-cycle.cycle found c.in_ok-schedule.ensures c.in_ok-cycle.ensures;
+  text = c.in_ok-text.ensures;
+  put = c.in_ok-put.ensures;
+}

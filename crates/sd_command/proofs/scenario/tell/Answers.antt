@@ -1,10 +1,12 @@
-use Rattle.std.proofs.Common.{◌≡◌, ◌<◌, ℕ, List, [], ◌∷◌, length, get_or, Some, None, refl, suc, zero, arith}
+use Rattle.std.proofs.Common.{◌≡◌, ◌<◌, ℕ, List, [], ◌∷◌, length, get_or, Some, Ok, refl, suc, zero, arith}
 use Rattle.std.specs.Prelude.{All, slice_get}
 use Rattle.std.proofs.lemmas.Option.{slice_get-get_or, slice_get_within}
 use Rattle.automaton.specs.declared.graph.Edge.{Edge}
 use Rattle.automaton.specs.CriticalCycles.{IsPath}
-use Rattle.sd_command.specs.declared.answer.Answer.{Answer}
-use Rattle.sd_command.specs.Courses.{Answered}
+use Rattle.std.proofs.lemmas.Result.{err_from_is_err_and}
+use Rattle.sd_command.proofs.Certified.{worst-stops}
+use Rattle.sd_command.proofs.Goings.{worst_told}
+use Rattle.sd_command.proofs.WorstSizes.{cycle-light}
 use Rattle.sd_command.proofs.scenario.tell.Goals as goal
 
 -- the edges of a path are edges
@@ -30,27 +32,50 @@ worst_text-requires c =
       potentials = c.in_ok-worst.ensures.count;
     }
 
+pub put_for-requires-clause-tokens : goal.put_for-requires-clause-tokens
+put_for-requires-clause-tokens c = c.requires.sound.some_token
+
+pub put_for-requires-clause-cycle : goal.put_for-requires-clause-cycle
+put_for-requires-clause-cycle c =
+    let critical = c.in_ok-worst.ensures.critical in
+    path-edges c.args.graph.now.edges c.in_ok-worst.worst.cycle critical.node critical.node critical.closed
+
+pub put_for-requires-clause-small : goal.put_for-requires-clause-small
+put_for-requires-clause-small c =
+    let critical = c.in_ok-worst.ensures.critical in
+    cycle-light c.args.graph.now c.in_ok-worst.worst.cycle c.requires.sound
+    (path-edges c.args.graph.now.edges c.in_ok-worst.worst.cycle critical.node critical.node critical.closed) c.in_ok-worst.ensures.apart
+
+pub returns-in_err-put : goal.returns-in_err-put
+returns-in_err-put c = λ faults.
+    let shown = c.in_ok-worst.ensures in
+    let p = err_from_is_err_and c.from_residual-in_err-put.result c.from_residual-in_err-put.ensures.1 in
+    rw (p.1, p.2) (worst_told c.args.file.now c.args.certificate.now c.args.graph.now _ faults
+    (worst-stops c.args.file.now c.args.graph.now c.args.certificate.now c.in_ok-worst.worst (record {
+      timed = c.requires.timed;
+      rate = shown.shows c.args.file.now c.requires.timed;
+      critical = shown.critical;
+      chosen = shown.chosen;
+      fit = shown.fit;
+      reached = shown.reached;
+      least = shown.least;
+    }) c.in_err-put.field-0.0 c.in_err-put.ensures))
+
 pub returns : goal.returns
 returns c = λ faults.
     let shown = c.in_ok-worst.ensures in
-    let answer : Answer = record { text = c.in_ok-worst_text.field-0; put = None } in
-    record {
-      ending = Answered answer;
-      is = refl;
-      came = record {
-        worst = c.in_ok-worst.worst;
-        is = record {
-          timed = c.requires.timed;
-          rate = shown.shows c.args.file.now c.requires.timed;
-          critical = shown.critical;
-          chosen = shown.chosen;
-          fit = shown.fit;
-          reached = shown.reached;
-          least = shown.least;
-        };
-        text = c.in_ok-worst_text.ensures;
-        put = refl;
-        none = refl;
+    worst_told c.args.file.now c.args.certificate.now c.args.graph.now (Ok _) faults (record {
+      worst = c.in_ok-worst.worst;
+      is = record {
+        timed = c.requires.timed;
+        rate = shown.shows c.args.file.now c.requires.timed;
+        critical = shown.critical;
+        chosen = shown.chosen;
+        fit = shown.fit;
+        reached = shown.reached;
+        least = shown.least;
       };
-      counted = refl;
-    }
+      text = c.in_ok-text.ensures;
+      put = c.in_ok-put.ensures;
+      none = refl;
+    })

@@ -1,7 +1,7 @@
 use Rattle.std.proofs.Common.{◌≡◌, drop}
 use Rattle.sd_words.specs.Asked.{all_checked, options}
 use Rattle.sd_words.specs.Given.{values_given}
-use Rattle.sd_words.proofs.table.check_options.Given as goal
+use Rattle.sd_words.proofs.table.check_each.Given as goal
 
 abbrev pub invariant-loop-option : goal.invariant-loop-option
 invariant-loop-option l = record {

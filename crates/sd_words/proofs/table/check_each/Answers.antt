@@ -4,7 +4,7 @@ use Rattle.sd_words.specs.declared.names.OptionName.TheVariants as option
 use Rattle.sd_words.specs.Asked.{Fails, options}
 use Rattle.sd_words.proofs.Turns.{fails, all_checked-fails, all_checked-goes, all_checked-end}
 use Rattle.sd_words.specs.Given.{values_given}
-use Rattle.sd_words.proofs.table.check_options.Goals as goal
+use Rattle.sd_words.proofs.table.check_each.Goals as goal
 
 pub returns-in_err-check : goal.returns-in_err-check
 returns-in_err-check c =

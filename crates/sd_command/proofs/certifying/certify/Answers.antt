@@ -1,0 +1,14 @@
+use Rattle.std.proofs.Common.{refl, inl, inr}
+use Rattle.sd_base.specs.Limits.{greatest_of}
+use Rattle.sd_command.proofs.certifying.certify.Goals as goal
+
+pub returns-in_ok-named-in-Ok : goal.returns-in_ok-named-in-Ok
+unfolding greatest_of
+returns-in_ok-named-in-Ok c = (c.in-Ok.ensures.short, rw (c.in_ok-named-in-Ok.ensures, c.in-Ok.ensures.text) refl)
+
+pub returns-in_ok-above-in-Err-TooLong : goal.returns-in_ok-above-in-Err-TooLong
+unfolding greatest_of
+returns-in_ok-above-in-Err-TooLong c = elim c.in-Err-TooLong.ensures.long [
+  | inl none ↦ absurd (cc (none))
+  | inr long ↦ (long.1, c.in_ok-above-in-Err-TooLong.ensures)
+]
