@@ -6,13 +6,17 @@ use Rattle.cert_maker.proofs.Rising.{buffers-rise}
 use Rattle.cert_maker.proofs.rates.rate_certificate.Goals as goal
 
 pub returns-clause-is : goal.returns-clause-is
-returns-clause-is g c = (_, refl, record {
-  overlap = refl;
-  buffers = c.from_vec.ensures ∙ (c.in_ok-buffers_of.ensures ∙ ap (buffers_from 0) c.as_slice.ensures);
-  rate = record { same = rw (c.num.ensures, c.den.ensures) c.new-rate.ensures.same; lowest = rw (c.num.ensures, c.den.ensures) c.new-rate.result.lowest };
-  keeps = refl;
-  bounds = c.in_ok-linked.ensures.same;
-})
+returns-clause-is g c = (
+  _,
+  refl,
+  record {
+    overlap = refl;
+    buffers = c.from_vec.ensures ∙ (c.in_ok-buffers_of.ensures ∙ ap (buffers_from 0) c.as_slice.ensures);
+    rate = record { same = rw (c.num.ensures, c.den.ensures) c.new-rate.ensures.same; lowest = rw (c.num.ensures, c.den.ensures) c.new-rate.result.lowest };
+    keeps = refl;
+    bounds = c.in_ok-linked.ensures.same;
+  },
+)
 
 pub returns-clause-spellable : goal.returns-clause-spellable
 returns-clause-spellable g c = record {
