@@ -155,13 +155,7 @@ fn evaluate_blocked<F: Firing>(
     ensures none { IfOk result (λ e. loops_run e.outcome ≡ 0) }
 {
     know_laws(net);
-    let enlarge = shown_channels(
-        alloc,
-        net,
-        capacities,
-        counts.as_slice(),
-        lacks.as_slice(),
-    )?;
+    let enlarge = shown_channels(alloc, net, capacities, counts.as_slice(), lacks.as_slice())?;
     Ok(Evaluation {
         rate: Fraction::new(0, 1),
         enlarge,

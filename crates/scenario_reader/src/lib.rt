@@ -44,4 +44,3 @@ pub fn read_scenarios(alloc: Global, bytes: &[u8]) -> Result<ScenarioFile, ReadE
 pub fn walk_is_exact()
     ensures { (e : Node) (f : ScenarioFile) → (file_of e ≡ Ok f) ↔ IsScenarioFile e f }
 {}
-
