@@ -27,6 +27,11 @@ class Picture:
         end = " marker-end='url(#tip)'" if arrow else ""
         self.parts.append(f"<line x1='{x}' y1='{y}' x2='{to_x}' y2='{to_y}' stroke='{colour}' stroke-width='{width}'{end}/>")
 
+    def bend(self, places, colour="#789"):
+        """A line through places, with an arrow at its end."""
+        shown = " ".join(f"{x},{y}" for x, y in places)
+        self.parts.append(f"<polyline points='{shown}' fill='none' stroke='{colour}' stroke-width='1.8' marker-end='url(#tip)'/>")
+
     def save(self, name):
         folder = os.path.join(ROOT, "docs", "pictures")
         os.makedirs(folder, exist_ok=True)
@@ -132,7 +137,67 @@ def run():
     picture.save("run.svg")
 
 
+def automaton(name, height, states, others, critical, below):
+    """States with the times of a scenario's actors, the ways between them, and the cycle of the worst-case rate in red."""
+    picture = Picture(640, height)
+    for colour, ways in [("#789", others), ("#b33", critical)]:
+        for way in ways:
+            picture.bend(way, colour)
+    for state, (x, y, times, on_cycle) in states.items():
+        picture.box(x, y, 100, 60, "", "#fdf0ee" if on_cycle else "#eef3fa")
+        picture.text(x + 50, y + 24, state)
+        picture.text(x + 50, y + 44, times)
+    picture.text(320, height - 15, below, colour="#567")
+    picture.save(name)
+
+
+def packets():
+    """The automaton of the receiver of packets."""
+    automaton(
+        "wlan_receiver.svg", 250,
+        {"sync": (30, 110, "4, 3, 1", True), "head": (210, 110, "4, 3, 6", True), "data": (350, 20, "4, 3, 3", False),
+         "last": (490, 110, "4, 3, 6", True)},
+        [[(290, 110), (350, 70)], [(450, 70), (520, 110)], [(60, 110), (60, 85), (100, 85), (100, 110)],
+         [(450, 35), (475, 35), (475, 55), (450, 55)]],
+        [[(130, 140), (210, 140)], [(310, 140), (490, 140)], [(540, 170), (540, 205), (80, 205), (80, 170)]],
+        "by state the times of antenna, vector core and scalar core; red: 1 + 6 + 6 = 13 for 3 symbols")
+
+
+def frames():
+    """The automaton of frames of two kinds."""
+    automaton(
+        "video_modes.svg", 190,
+        {"i": (60, 45, "12 and 8", True), "p1": (270, 45, "3 + 4 and 8", True), "p2": (480, 45, "3 + 4 and 8", True)},
+        [[(510, 45), (510, 20), (550, 20), (550, 45)]],
+        [[(160, 75), (270, 75)], [(370, 75), (480, 75)], [(530, 105), (530, 140), (110, 140), (110, 105)]],
+        "by state the times of the core and of the screen; red: the worst order, 28 ms for 3 frames")
+
+
+def player():
+    """The playback of an audio file: its actors, and its buffers with what fits."""
+    picture = Picture(700, 150)
+    actors = [("reader", "6"), ("decoder", "7, 5"), ("converter", "3"), ("player", "10")]
+    buffers = [("1", "1,0", "2 frames"), ("576", "480", "1536 samples"), ("441", "441", "882 samples")]
+    for i, (name, times) in enumerate(actors):
+        picture.box(20 + i * 185, 40, 100, 60, "", "#fdf0ee" if name == "player" else "#eef3fa")
+        picture.text(70 + i * 185, 64, name)
+        picture.text(70 + i * 185, 84, times + " ms")
+    for i, (made, taken, room) in enumerate(buffers):
+        x = 120 + i * 185
+        picture.bend([(x, 60), (x + 85, 60)])
+        picture.bend([(x + 85, 82), (x, 82)])
+        picture.text(x + 16, 53, made, colour="#567")
+        picture.text(x + 66, 53, taken, colour="#567")
+        picture.text(x + 42, 100, room, colour="#567")
+    picture.bend([(605, 40), (605, 18), (645, 18), (645, 40)], "#b33")
+    picture.text(350, 135, "red: the clock of the player, the need cycle of the rate: 12 blocks in 120 ms", colour="#567")
+    picture.save("mp3_player.svg")
+
+
 if __name__ == "__main__":
     ring()
+    packets()
+    frames()
+    player()
     crates()
     run()
