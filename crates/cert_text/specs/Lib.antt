@@ -8,4 +8,8 @@ pub mod ScenarioLines
 pub mod Spelling
 pub mod Spellable
 pub mod Orderly
+pub mod Reads
+pub mod Fields
+pub mod LineForms
+pub mod Sections
 pub mod Reading

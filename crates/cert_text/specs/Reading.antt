@@ -1,9 +1,56 @@
--- What is read of a text.
-use Rattle.std.specs.Prelude.{◌≡◌, ℕ, List}
+-- What is read of a text: the version and the certificate that it spells, or its first faulty line.
+use Rattle.std.specs.Prelude.{◌≡◌, ◌⊎◌, ℕ, ◌-◌, List, [], ◌∷◌, Result, Ok, Err, length, if◌then◌else◌}
+use Rattle.cert_text.specs.declared.error.CertError.{CertError}
+use Rattle.cert_text.specs.declared.error.CertError.TheVariants.{Syntax, Number, NoMemory}
 use Rattle.cert_text.specs.declared.certificates.Certificate.{Certificate}
 use Rattle.cert_text.specs.declared.certificates.Certificate.TheVariants.{Rate, Storage, Scenario}
+use Rattle.cert_text.specs.declared.reading.fault.Fault.{Fault}
+use Rattle.cert_text.specs.declared.reading.fault.Fault.TheVariants.{Form, Large, Memory}
+use Rattle.cert_text.specs.Reads.{Reads, ◌>>=◌, next_by, lines_of}
+use Rattle.cert_text.specs.LineForms.{same, version_of}
+use Rattle.cert_text.specs.Sections.{rate_at, storage_at, scenario_at}
 use Rattle.cert_text.specs.Spellable.{IsSpellable}
-use Rattle.cert_text.specs.Spelling.{lines_after, spelling}
+use Rattle.cert_text.specs.Spelling.{rate_kind, storage_kind, scenario_kind, lines_after, spelling}
+
+-- the lines of a certificate after the first one
+unfoldable pub certificate_at : ℕ → List (List ℕ) → Reads Certificate
+certificate_at version [] = Err (Form, [])
+certificate_at version (line ∷ left) = if same line rate_kind then (do
+  c ← rate_at left
+  Ok (Rate c.0, c.1)) else if same line storage_kind then (do
+    c ← storage_at version left
+    Ok (Storage c.0, c.1)) else if same line scenario_kind then (do
+      c ← scenario_at left
+      Ok (Scenario c.0, c.1)) else Err (Form, left)
+
+unfoldable pub text_at : List (List ℕ) → Reads (ℕ × Certificate)
+text_at lines = do
+  version ← next_by version_of lines
+  certificate ← certificate_at version.0 version.1
+  Ok ((version.0, certificate.0), certificate.1)
+
+-- the error of a line in front of `left` others, of so many lines
+abbrev pub error_of : ℕ → Fault → ℕ → CertError
+error_of all Form left = Syntax (all - left)
+error_of all Large left = Number (all - left)
+error_of all Memory left = NoMemory
+
+unfoldable pub reading_of : List ℕ → Result (ℕ × Certificate) CertError
+reading_of text = elim (text_at (lines_of text)) [
+  | Ok read ↦ Ok read.0
+  | Err fault ↦ Err (error_of (length (lines_of text)) fault.0 (length fault.1))
+]
+
+-- a text is that of a certificate in a version, or has a fault: at most one of both, and at most one of each
+abbrev pub IsCertText : List ℕ → ℕ → Certificate → Type 0
+IsCertText text version c = reading_of text ≡ Ok (version, c)
+
+abbrev pub IsCertFault : List ℕ → CertError → Type 0
+IsCertFault text error = reading_of text ≡ Err error
+
+-- what a reader answers, unless memory runs out
+abbrev pub IsReading : List ℕ → Result (ℕ × Certificate) CertError → Type 0
+IsReading text answer = (answer ≡ Err NoMemory) ⊎ (reading_of text ≡ answer)
 
 -- a certificate that has a spelling, which is the text
 pub record IsSpelled (bytes spelled : List ℕ) (c : Certificate) : Type 0 where
