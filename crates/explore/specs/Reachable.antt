@@ -1,5 +1,5 @@
 -- The distributions that an exploration may come to.
-use Rattle.std.specs.Prelude.{◌≡◌, ℕ, ◌≤◌, ◌<◌, ◌⊎◌, Option, List, length}
+use Rattle.std.specs.Prelude.{◌≡◌, ℕ, ◌≤◌, Option, List, length}
 use Rattle.sd_base.specs.declared.limits.TheConstants.{NET_CHANNELS}
 use Rattle.sd_base.specs.Net.{Net, channel_at}
 use Rattle.sd_base.specs.Schedules.{HasInputs}
@@ -16,14 +16,6 @@ pub record IsExplorable (net : Net) : Type 0 where
   pub connected : IsConnected net
   pub inputs : (ds : List (Option ℕ)) → IsDistribution net.channels ds → HasInputs (bound net ds)
   pub few : (ds : List (Option ℕ)) → IsDistribution net.channels ds → length (bound net ds).channels ≤ NET_CHANNELS
-
--- some channel begins or ends at actor a
-abbrev pub IsTouched : Net → ℕ → Type 0
-IsTouched net a = (i : ℕ) × (i < length net.channels) × (((channel_at net i).source ≡ a) ⊎ ((channel_at net i).target ≡ a))
-
--- some channel begins or ends at each actor
-abbrev pub AreTouched : Net → Type 0
-AreTouched net = (a : ℕ) → a < length net.times → IsTouched net a
 
 -- the distribution with a step more room on channel c
 abbrev pub stepped : Net → List (Option ℕ) → ℕ → List (Option ℕ)

@@ -4,7 +4,8 @@ ghost use Rattle.sd_base.specs.declared.limits.TheConstants.{NET_CHANNELS};
 ghost use Rattle.sd_base.specs.Net.{Net};
 ghost use Rattle.sd_base.specs.Connection.{IsConnected};
 ghost use Rattle.storage.specs.Distributions.{IsPlain};
-ghost use Rattle.explore.specs.Reachable.{AreTouched, IsExplorable};
+ghost use Rattle.storage.specs.TouchedActors.{AreTouched};
+ghost use Rattle.explore.specs.Reachable.{IsExplorable};
 
 /// A connected net of channels of a file and self-loops can be explored, if a channel ends at each actor and its channels,
 /// counted twice, aren't too many.

@@ -18,7 +18,7 @@ use Rattle.critical.specs.Spaces.{AreSpaces}
 use Rattle.storage.specs.BoundedNets.{bound}
 use Rattle.storage.proofs.SpaceChannels.{bound-front, bound-long}
 use Rattle.guide.specs.declared.rating.Outcome.TheVariants.{Live}
-use Rattle.guide.specs.RoomElsewhere.{CyclesBoundRoomierNets}
+use Rattle.storage.specs.RoomElsewhere.{CyclesBoundRoomierNets}
 use Rattle.guide.specs.Evaluations.{IsEvaluated, Bounds}
 
 -- a walk of the net is one of the bounded net

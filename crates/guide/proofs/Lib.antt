@@ -1,4 +1,3 @@
-pub mod Cycling
 pub mod Shown
 pub mod Evaluating
 pub mod Blocked

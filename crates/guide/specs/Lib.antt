@@ -1,3 +1,2 @@
 pub mod Guides
 pub mod Evaluations
-pub mod RoomElsewhere

@@ -14,18 +14,6 @@ ghost use Rattle.storage.specs.Distributions.{AtMost, IsDistribution};
 ghost use Rattle.guide.specs.declared.rating.Evaluation.{Evaluation};
 ghost use Rattle.guide.specs.Evaluations.{IsEvaluated};
 ghost use Rattle.guide.specs.Guides.{IsDependency, IsInGuide};
-ghost use Rattle.guide.specs.RoomElsewhere.{CyclesHoldWithMoreRoom, CyclesBoundRoomierNets};
-
-use critical::laws::cycles_bound_the_rate;
-
-/// A need cycle of a bounded net is one of each with no less room, if the channels whose free space is on the cycle have
-/// the same, and so bounds the rate of each.
-pub fn need_cycles_hold_with_more_room()
-    ensures holds { CyclesHoldWithMoreRoom }
-    ensures rate { CyclesBoundRoomierNets }
-{
-    cycles_bound_the_rate();
-}
 
 /// The channels whose free space is on the critical cycle of a loop are storage dependencies; and so the channels on which
 /// a distribution is to be enlarged are in its guide.

@@ -11,13 +11,13 @@ ghost use Rattle.storage.specs.BoundedNets.{bound};
 ghost use Rattle.guide.specs.Evaluations.{IsEvaluable, IsEvaluated, IsRefused, loops_run};
 
 use crate::held_up::shown_channels;
-use crate::laws::need_cycles_hold_with_more_room;
 use critical::{NeedCycle, cycle_of_on};
 use firing::{Firing, LoopTable, Wiring, is_single_phase, know_laws, single_phase_copy};
 use lasso::{RunError, run_loop_on};
 use liveness::{Ending, no_counts, one_round_from};
 use sd_base::{Fraction, Ledger, NoMemory, Rows, Steps};
 use std::alloc::Global;
+use storage::laws::need_cycles_hold_with_more_room;
 use storage::{Bounded, Distribution};
 
 /// What shows the rate of a distribution.

@@ -23,7 +23,7 @@ use Rattle.sd_command.specs.Requests.{asking, command_of, course_of}
 use Rattle.sd_command.specs.Endings.{GenerateIsComplete, Suffice}
 use Rattle.sd_command.proofs.CommandsDecide.{never_ends}
 use Rattle.sd_command.proofs.Complete.{one_request}
-use Rattle.sd_command.proofs.FileConnections.{file-connected, file-few}
+use Rattle.storage.proofs.FileConnections.{file-connected, file-few}
 use Rattle.sd_command.proofs.OneTradeOff.{unspent}
 use Rattle.sd_command.proofs.SharedSteps.{FileLaws}
 use Rattle.sd_command.proofs.Ended.{else_is_done}

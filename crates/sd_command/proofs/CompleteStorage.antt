@@ -24,7 +24,7 @@ use Rattle.sd_command.specs.Requests.{asking, command_of, course_of}
 use Rattle.sd_command.specs.Endings.{StorageIsComplete, Suffice}
 use Rattle.sd_command.proofs.CommandsDecide.{never_ends}
 use Rattle.sd_command.proofs.Complete.{one_request}
-use Rattle.sd_command.proofs.FileConnections.{file-connected, file-few}
+use Rattle.storage.proofs.FileConnections.{file-connected, file-few}
 use Rattle.sd_command.proofs.OneTradeOff.{unspent}
 use Rattle.sd_command.proofs.SharedSteps.{FileLaws, lawful_net}
 use Rattle.sd_command.proofs.Ended.{else_is_done}

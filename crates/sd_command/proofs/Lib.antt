@@ -12,7 +12,6 @@ mod Orderless
 mod Certified
 mod WorstSizes
 mod WalkSteps
-mod FileConnections
 mod PointSchedules
 mod OneTradeOff
 mod CompleteStorage

@@ -6,7 +6,8 @@ use Rattle.sd_base.specs.declared.limits.TheConstants.{STORAGE}
 use Rattle.sd_base.specs.Net.{Net}
 use Rattle.sd_base.specs.Lawful.{Lawful}
 use Rattle.storage.specs.BoundedNets.{bound}
-use Rattle.explore.specs.Reachable.{IsExplorable, IsTouched}
+use Rattle.storage.specs.TouchedActors.{IsTouched}
+use Rattle.explore.specs.Reachable.{IsExplorable}
 use Rattle.explore.proofs.Explorable.{reachable-fits}
 use Rattle.report.specs.declared.refusal.Refusal.{Refusal}
 use Rattle.report.specs.declared.refusal.Refusal.TheVariants.{NoInput}

@@ -7,7 +7,7 @@ use Rattle.sd_base.specs.Untimed.{IsLive}
 use Rattle.balance.specs.ConnectRefusals.{HasInput, IsConnectRefusal, IsFirstWithoutInput}
 use Rattle.balance.specs.declared.connection.ConnectError.TheVariants as connecting
 use Rattle.sd_base.specs.Untimed.{IsBlockedBy}
-use Rattle.explore.specs.Reachable.{AreTouched, IsTouched}
+use Rattle.storage.specs.TouchedActors.{AreTouched, IsTouched}
 use Rattle.report.specs.declared.refusal.Refusal.{Refusal}
 use Rattle.report.specs.declared.refusal.Refusal.TheVariants.{Deadlock, NoInput, OneWay}
 use Rattle.report.specs.LackTexts.{lacks_list}

@@ -1,7 +1,7 @@
 ghost use Rattle.std.specs.Prelude.{◌≡◌, ◌↔◌, IfOk, IsTrue, MatchOption};
 ghost use Rattle.report.specs.LinkTexts.{IsNamed};
 ghost use Rattle.sd_base.specs.Connection.{ends_of};
-ghost use Rattle.explore.specs.Reachable.{AreTouched, IsTouched};
+ghost use Rattle.storage.specs.TouchedActors.{AreTouched, IsTouched};
 ghost use Rattle.sd_command.specs.Nets.{IsFirstUntouched, completing, feeding, joining, touching};
 ghost use Rattle.sd_command.specs.inside.Going.{Does};
 

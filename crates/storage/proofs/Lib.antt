@@ -22,3 +22,8 @@ pub mod SpacesJoinEnds
 pub mod BlockedRates
 pub mod Entries
 pub mod CapacityOrder
+pub mod Cycling
+pub mod TouchedInputs
+pub mod Enlarging
+pub mod FileConnections
+pub mod BoundedChannels

@@ -6,4 +6,6 @@ pub mod Steps
 pub mod ShownSpaces
 pub mod ParetoPoints
 pub mod ClosedLists
+pub mod RoomElsewhere
+pub mod TouchedActors
 pub mod inside

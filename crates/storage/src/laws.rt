@@ -17,6 +17,10 @@ ghost use Rattle.sd_base.specs.Tables.{KeepsRules};
 ghost use Rattle.sd_base.specs.FileNet.{net_of};
 ghost use Rattle.storage.specs.NamedBuffers.{Buffer, capacities_of, first_fault};
 ghost use Rattle.sd_base.specs.Schedules.{HasInputs};
+ghost use Rattle.storage.specs.RoomElsewhere.{CyclesBoundRoomierNets, CyclesHoldWithMoreRoom};
+ghost use Rattle.storage.specs.TouchedActors.{AreTouched};
+
+use critical::laws::cycles_bound_the_rate;
 
 /// A net bounded by capacities that it can hold keeps the laws of nets.
 pub fn bounded_nets_are_lawful()
@@ -67,4 +71,18 @@ pub fn named_buffers_fit()
         All (λ (b : Buffer). b.1 ≤ CAPACITY) buffers → CanHold (net_of graph gamma no_overlap).channels (capacities_of graph.channels buffers) }
     ensures few { (graph : GraphFile) (gamma : List ℕ) (no_overlap : Bool) (ds : List (Option ℕ)) → KeepsRules graph → length ds ≤ length graph.channels →
         length (bound (net_of graph gamma no_overlap) ds).channels ≤ NET_CHANNELS }
+{}
+
+/// A need cycle of a bounded net is one of each with no less room, if the channels whose free space is on the cycle have
+/// the same, and so bounds the rate of each.
+pub fn need_cycles_hold_with_more_room()
+    ensures holds { CyclesHoldWithMoreRoom }
+    ensures rate { CyclesBoundRoomierNets }
+{
+    cycles_bound_the_rate();
+}
+
+/// Where some channel begins or ends at each actor, each actor has an input in the net of each distribution.
+pub fn touched_nets_have_inputs()
+    ensures { (net : Net) (ds : List (Option ℕ)) → AreTouched net → IsDistribution net.channels ds → HasInputs (bound net ds) }
 {}

@@ -4,7 +4,7 @@ use Rattle.explore.specs.Explorations.{IsExploration, capacities_of, cycles_in}
 use Rattle.explore.specs.inside.Searches.{IsSearch, IsSpread}
 use Rattle.storage.proofs.CornerLists.{corner-distribution}
 use Rattle.explore.proofs.Beginning.{candidate, known-none, spread-none}
-use Rattle.explore.proofs.Stepping.{distribution-length}
+use Rattle.storage.proofs.Enlarging.{distribution-length}
 use Rattle.explore.proofs.Ending.{explored}
 use Rattle.explore.proofs.Turning.{capacities-length, counts-few, cycles-few}
 use Rattle.explore.proofs.search.explore.Goals as goal

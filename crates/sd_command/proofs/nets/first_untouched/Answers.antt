@@ -1,5 +1,5 @@
 use Rattle.std.proofs.Common.{below_more}
-use Rattle.explore.specs.Reachable.{IsTouched}
+use Rattle.storage.specs.TouchedActors.{IsTouched}
 use Rattle.sd_command.proofs.nets.first_untouched.Goals as goal
 
 pub loop-actor-preserved : goal.loop-actor-preserved

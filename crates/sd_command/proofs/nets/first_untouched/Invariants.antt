@@ -1,5 +1,5 @@
 use Rattle.std.proofs.Common.{ℕ, ◌<◌}
-use Rattle.explore.specs.Reachable.{IsTouched}
+use Rattle.storage.specs.TouchedActors.{IsTouched}
 use Rattle.sd_command.proofs.nets.first_untouched.Given as goal
 
 abbrev pub invariant-loop-actor : goal.invariant-loop-actor

@@ -7,7 +7,7 @@ use Rattle.storage.proofs.FileChannels.{file-plain}
 use Rattle.report.specs.LinkTexts.{IsNamed}
 use Rattle.sd_command.specs.PointAnswers.{points_of}
 use Rattle.sd_command.specs.inside.Going.{Goes}
-use Rattle.sd_command.proofs.FileConnections.{file-connected, file-few}
+use Rattle.storage.proofs.FileConnections.{file-connected, file-few}
 use Rattle.sd_command.proofs.Overs.{net-over}
 use Rattle.sd_command.proofs.points.points_of_graph.Goals as goal
 

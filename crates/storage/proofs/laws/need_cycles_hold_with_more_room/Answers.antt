@@ -1,6 +1,6 @@
 use Rattle.storage.specs.BoundedNets.{bound}
-use Rattle.guide.proofs.Cycling.{holds-still}
-use Rattle.guide.proofs.laws.need_cycles_hold_with_more_room.Goals as goal
+use Rattle.storage.proofs.Cycling.{holds-still}
+use Rattle.storage.proofs.laws.need_cycles_hold_with_more_room.Goals as goal
 
 pub returns-clause-holds : goal.returns-clause-holds
 returns-clause-holds c = λ net ds es cycle spaces most holds are agrees. holds-still net ds es most cycle spaces holds are agrees

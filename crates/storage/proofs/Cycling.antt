@@ -1,4 +1,4 @@
--- from the page
+-- Need cycles of a bounded net hold with more room elsewhere.
 use Rattle.std.proofs.Common.{◌≡◌, ℕ, suc, ◌+◌, ◌-◌, ◌≤◌, ◌<◌, Option, None, Some, List, [], ◌∷◌, length, ⊎_elim, subst, sym, refl, ap, ◌∙◌, arith}
 use Rattle.std.specs.Prelude.{slice_index_or}
 use Rattle.std.proofs.lemmas.Bool.{cases_lt}
@@ -49,8 +49,8 @@ module _ (net : Net) (ds es : List (Option ℕ)) (most : AtMost ds es) where
     chain-stays step.to steps chain.1 (λ i c below role. same (suc i) c (omega arith) role),
   )
 
-  pub holds-still : (cycle : NeedCycle) (spaces : List ℕ) → HoldsOn (bound net ds) cycle → AreSpaces (bound net ds) cycle.steps (length cycle.steps) spaces → AgreesOn spaces ds es → HoldsOn (bound net es) cycle
-  holds-still cycle spaces holds are agrees = record {
+  pub holds-on : (cycle : NeedCycle) → HoldsOn (bound net ds) cycle → ((i c : ℕ) → i < length cycle.steps → IsSpaceAt (bound net ds) cycle.steps i c → capacity_at ds c ≡ capacity_at es c) → HoldsOn (bound net es) cycle
+  holds-on cycle holds same = record {
     some_step = holds.some_step;
     some_round = holds.some_round;
     chain = chain-stays cycle.first cycle.steps holds.chain same;
@@ -58,6 +58,9 @@ module _ (net : Net) (ds es : List (Option ℕ)) (most : AtMost ds es) where
     number = holds.number;
     time = holds.time;
   }
+
+  pub holds-still : (cycle : NeedCycle) (spaces : List ℕ) → HoldsOn (bound net ds) cycle → AreSpaces (bound net ds) cycle.steps (length cycle.steps) spaces → AgreesOn spaces ds es → HoldsOn (bound net es) cycle
+  holds-still cycle spaces holds are agrees = holds-on cycle holds same
     where
       same : (i c : ℕ) → i < length cycle.steps → IsSpaceAt (bound net ds) cycle.steps i c → capacity_at ds c ≡ capacity_at es c
       same i c below space = let has : Has spaces c = are.all i c below space in subst (λ (x : ℕ). capacity_at ds x ≡ capacity_at es x) has.2 (agrees has.0 has.1)

@@ -1,0 +1,11 @@
+-- Actors at which a channel begins or ends.
+use Rattle.std.specs.Prelude.{◌≡◌, ℕ, ◌<◌, ◌⊎◌, length}
+use Rattle.sd_base.specs.Net.{Net, channel_at}
+
+-- some channel begins or ends at actor a
+abbrev pub IsTouched : Net → ℕ → Type 0
+IsTouched net a = (i : ℕ) × (i < length net.channels) × (((channel_at net i).source ≡ a) ⊎ ((channel_at net i).target ≡ a))
+
+-- some channel begins or ends at each actor
+abbrev pub AreTouched : Net → Type 0
+AreTouched net = (a : ℕ) → a < length net.times → IsTouched net a
