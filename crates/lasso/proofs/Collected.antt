@@ -1,9 +1,9 @@
 -- The starts of each next event are added to those collected so far, and those round a loop are cut out.
-use Rattle.std.proofs.Common.{◌≡◌, ℕ, suc, ◌+◌, ◌-◌, ◌*◌, ◌≤◌, ◌<◌, ◌⊎◌, List, [], ◌∷◌, ◌++◌, length, drop, inl, inr, ⊎_elim, sym, refl, ap, ◌∙◌, arith, set, length-append}
+use Rattle.std.proofs.Common.{◌≡◌, ℕ, suc, ◌+◌, ◌-◌, ◌*◌, ◌≤◌, ◌<◌, ◌⊎◌, List, [], ◌++◌, length, inl, inr, ⊎_elim, sym, refl, ap, ◌∙◌, arith, set, length-append}
 use Rattle.std.specs.Prelude.{◌/◌, slice_index, slice_index_or, replicate}
 use Rattle.std.proofs.Math.Nat.{mul-div_cancel}
 use Rattle.std.proofs.lemmas.Bool.{cases_lt, cases_eq}
-use Rattle.std.proofs.lemmas.List.{get_or_append_left, get_or-append_right, get_or-replicate, length-replicate, get_or_past, length-set, get_or-set_same, get_or-set_other, length-drop, get_or-drop, get_or_push, length_push}
+use Rattle.std.proofs.lemmas.List.{get_or_append_left, get_or-append_right, get_or-replicate, length-replicate, get_or_past, length-set, get_or-set_same, get_or-set_other}
 use Rattle.sd_base.specs.Net.{Net}
 use Rattle.sd_base.specs.Schedules.{HasInputs, count_of, start_of, end_of}
 use Rattle.sd_base.specs.SelfTimed.{earliest}
@@ -19,7 +19,7 @@ use Rattle.sd_base.proofs.Returns.{loop-whole}
 use Rattle.selftimed.specs.declared.engine.Stage.{Stage}
 use Rattle.selftimed.specs.declared.engine.Stage.TheVariants.{Fresh, Running, Spent, OutOfMemory}
 use Rattle.selftimed.specs.Moves.{IsNext, ComesNext}
-use Rattle.lasso.specs.inside.Collecting.{AreStarts, HasStarts, AddsStarts, AreLater, AreStartsAfter}
+use Rattle.lasso.specs.inside.Collecting.{AreStarts, HasStarts, AddsStarts, AreStartsAfter}
 
 -- rows without starts
 empty-rows : (n a : ℕ) → count_of (replicate n []) a ≡ 0
@@ -129,31 +129,6 @@ module _ (net : Net) (laws : Lawful net) (fed : HasInputs net) where
   has-next Spent now t old new have next adds = absurd next
   has-next OutOfMemory now t old new have next adds = absurd next
 
-  -- the rows are as long as is needed to leave out what started before the entry
-  pub later-within : (entry end : ℕ) (before : List ℕ) (starts : List (List ℕ)) → entry ≤ end → ((a : ℕ) → a < length net.times → slice_index before a ≡ count_of (earliest net (entry + 1)) a) → AreStarts net end starts →
-      (a : ℕ) → a < length starts → slice_index before a ≤ count_of starts a
-  later-within entry end before starts ahead counts have a place =
-      let actor : a < length net.times = omega (arith, have.rows) in
-      omega (arith, counts a actor, have.all a actor, count-rises net (regular net laws) fed (entry + 1) (end + 1) (omega arith) a)
-
-  -- without them they are the starts after it
-  pub later-after : (entry end : ℕ) (before : List ℕ) (starts later : List (List ℕ)) → entry ≤ end → ((a : ℕ) → a < length net.times → slice_index before a ≡ count_of (earliest net (entry + 1)) a) → AreStarts net end starts →
-      AreLater starts before (length starts) later → AreStartsAfter net end before later
-  later-after entry end before starts later ahead counts have cut = record {
-    rows = cut.rows ∙ have.rows;
-    all = λ a actor. omega (arith, count a actor, have.all a actor, later-within entry end before starts ahead counts have a (place a actor));
-    moments = λ a k actor there.
-        let read : start_of later a k ≡ slice_index (drop (slice_index before a) (slice_index_or starts a [])) k = ap (λ (row : List ℕ). slice_index row k) (cut.each a (place a actor)) in
-        let from : slice_index (drop (slice_index before a) (slice_index_or starts a [])) k ≡ start_of starts a (slice_index before a + k) = get_or-drop (slice_index before a) (slice_index_or starts a []) k 0 in
-        read ∙ (from ∙ have.moments a (slice_index before a + k) actor (omega (arith, count a actor)));
-  }
-    where
-      place : (a : ℕ) → a < length net.times → a < length starts
-      place a actor = omega (arith, have.rows)
-
-      count : (a : ℕ) → a < length net.times → count_of later a ≡ count_of starts a - slice_index before a
-      count a actor = ap length (cut.each a (place a actor)) ∙ length-drop (slice_index before a) (slice_index_or starts a [])
-
   -- the starts collected up to the end of a loop are its table
   pub loop-is-table : IsConnected net → (entry period rounds : ℕ) (before : List ℕ) (starts : List (List ℕ)) → IsLoop net entry period → length before ≡ length net.times →
       ((a : ℕ) → a < length net.times → slice_index before a ≡ count_of (earliest net (entry + 1)) a) → AreStartsAfter net (entry + period) before starts →
@@ -206,27 +181,3 @@ adds-step net now n old new row adds place filled = record {
 
 pub adds-all : (net : Net) (now : ℕ) (old new : List (List ℕ)) → AddsSoFar net now old new (length net.times) → AddsStarts net now old new
 adds-all net now old new adds = record { rows = adds.rows; each = adds.done }
-
--- one row more is cut
-pub later-none : (starts : List (List ℕ)) (before : List ℕ) → AreLater starts before 0 []
-later-none starts before = record { rows = refl; each = λ a below. absurd (omega arith) }
-
-pub later-more : (starts : List (List ℕ)) (before : List ℕ) (n : ℕ) (later : List (List ℕ)) (row : List ℕ) → AreLater starts before n later → row ≡ drop (slice_index before n) (slice_index_or starts n []) →
-    AreLater starts before (n + 1) (later ++ row ∷ [])
-later-more starts before n later row cut at = record {
-  rows = length_push later row ∙ ap (λ (x : ℕ). x + 1) cut.rows;
-  each = λ a below. ⊎_elim
-      (λ (old : a < n). get_or_append_left later (row ∷ []) [] a (omega (arith, cut.rows)) ∙ cut.each a old)
-      (λ (last : n ≤ a).
-      let same : a ≡ n = omega arith in
-      rw same (get_or_push later row [] n cut.rows ∙ at))
-      (cases_lt a n);
-}
-
--- the starts that an execution from the entry of a loop collects up to its end are its table
-pub table-from : (net : Net) → Lawful net → HasInputs net → IsConnected net → (entry end rounds : ℕ) (before lent : List ℕ) (starts : List (List ℕ)) → entry ≤ end → IsLoop net entry (end - entry) →
-    length before ≡ length net.times → ((a : ℕ) → a < length net.times → slice_index before a ≡ count_of (earliest net (entry + 1)) a) → lent ≡ before →
-    AreStartsAfter net end lent starts → rounds ≡ count_of starts 0 / slice_index net.round 0 → IsLoopTable net entry (end - entry) rounds before starts
-table-from net laws fed connected entry end rounds before lent starts later loop long counts lends have quotient =
-    let there : entry + (end - entry) ≡ end = omega arith in
-    loop-is-table net laws fed connected entry (end - entry) rounds before starts loop long counts (rw there (rw lends at have)) quotient

@@ -8,3 +8,8 @@ pub mod Collected
 pub mod Keys
 pub mod OneEnding
 pub mod EventsGoOn
+pub mod Settling
+pub mod Traced
+pub mod RowsSettle
+pub mod Entered
+pub mod Between

@@ -1,3 +1,5 @@
 pub mod Going
 pub mod Searching
 pub mod Collecting
+pub mod Entering
+pub mod Tracing

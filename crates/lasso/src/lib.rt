@@ -2,6 +2,7 @@
 #![tactic(auto)]
 
 mod collect;
+mod entry;
 mod error;
 mod laws;
 mod repeat;
@@ -9,6 +10,7 @@ mod run;
 mod search;
 mod steps;
 mod table;
+mod trace;
 
 pub use error::RunError;
 pub use laws::{one_ending, starts_are_counted_to_the_first_repeat};

@@ -7,10 +7,12 @@ ghost use Rattle.firing.specs.Wiring.{IsWiringOf};
 ghost use Rattle.lasso.specs.LoopAnswers.{IsFound, IsRunRefusal};
 
 use crate::collect::empty_rows;
+use crate::entry::entry_of;
 use crate::error::RunError;
 use crate::repeat::first_repeat;
 use crate::search::{SEARCH_STARTS, find_pair};
 use crate::table::loop_table;
+use crate::trace::Trace;
 use firing::{Firing, LoopTable, Wiring};
 use sd_base::limits::STARTS;
 use sd_base::{Ledger, Steps};
@@ -22,9 +24,10 @@ use std::alloc::Global;
 /// call.
 ///
 /// Cost: an execution to a shape that came before, at most three times as long as one up to the first repeat, and half
-/// as long again as this one where the loop is entered soon and is a round long; then two side by side, up to the
-/// first repeat and up to the entry. Where a refusal comes, an execution up to twice the moment of the last shape that
-/// is allowed, of at most `STARTS` starts more. Memory: three shapes, and the starts up to the first repeat.
+/// as long again as this one where the loop is entered soon and is a round long; the entry is then found among its starts.
+/// Where it has more than `STARTS` of them, two more side by side, up to the first repeat and up to the entry. Where a
+/// refusal comes, an execution up to twice the moment of the last shape that is allowed, of at most `STARTS` starts more.
+/// Memory: three shapes, and at most `STARTS` starts and as many events.
 pub fn run_loop<F: Firing, L: Ledger>(
     alloc: Global,
     net: &F,
@@ -85,17 +88,19 @@ fn find_loop<F: Firing>(
     ensures refused { IfErr result (IsRunRefusal (F.net net.now) states) }
 {
     let mut lead = Engine::new(alloc, net, wiring, SEARCH_STARTS)?;
-    let pair = find_pair(alloc, &mut lead, states)?;
+    let mut trace = Trace::new(alloc, net.actors())?;
+    let pair = find_pair(alloc, &mut lead, &mut trace, states)?;
+    let period = pair.later - pair.earlier;
+    if trace.ends_at(pair.later) {
+        let entry = entry_of(net, &trace, pair);
+        let table = loop_table(alloc, net, entry, period, trace.starts.as_slice())?;
+        return Ok(table);
+    }
     lead.restart(alloc, net, STARTS)?;
     let mut trail = Engine::new(alloc, net, wiring, STARTS)?;
     let mut starts = empty_rows(alloc, net.actors())?;
-    let end = first_repeat(
-        &mut lead,
-        &mut trail,
-        starts.as_mut_slice(),
-        pair.later - pair.earlier,
-        states,
-    )?;
-    let table = loop_table(alloc, &trail, end, starts.as_slice())?;
+    let end = first_repeat(&mut lead, &mut trail, starts.as_mut_slice(), period, states)?;
+    let entry = trail.moment();
+    let table = loop_table(alloc, net, entry, end - entry, starts.as_slice())?;
     Ok(table)
 }

@@ -1,15 +1,17 @@
 //! The search for two equal shapes, by one execution that keeps one shape (Brent 1980).
-ghost use Rattle.std.specs.Prelude.{◌≡◌, ◌↔◌, ◌*◌, ◌≤◌, IfErr, IfOk, IsTrue, MatchOption};
+ghost use Rattle.std.specs.Prelude.{◌≡◌, ◌↔◌, ◌*◌, ◌≤◌, [], IfErr, IfOk, IsTrue, MatchOption, length, replicate};
 ghost use Rattle.sd_base.specs.declared.limits.TheConstants.{STARTS};
 ghost use Rattle.sd_base.specs.Schedules.{HasInputs};
 ghost use Rattle.sd_base.specs.SelfTimed.{IsEvent, shape_at};
 ghost use Rattle.sd_base.specs.Untimed.{IsLive};
 ghost use Rattle.selftimed.specs.declared.engine.Stage.TheVariants.{Fresh, Running};
 ghost use Rattle.lasso.specs.LoopAnswers.{IsRunRefusal};
+ghost use Rattle.lasso.specs.inside.Tracing.{AreAllowed};
 ghost use Rattle.lasso.specs.inside.Searching.{IsPair, IsCheckpoint, IsLast, NoneSince, NoneSoon};
 
 use crate::error::RunError;
 use crate::steps::go_on;
+use crate::trace::Trace;
 use firing::Firing;
 use sd_base::NoMemory;
 use sd_base::limits::STARTS;
@@ -37,13 +39,14 @@ pub(crate) struct Checkpoint {
     pub(crate) starts: u64,
 }
 
-/// Finds a shape and the first one after it that is equal. The first shape is the first checkpoint. A
+/// Finds a shape and the first one after it that is equal, and leaves the events and starts on the way in a trace. The first shape is the first checkpoint. A
 /// later shape becomes the checkpoint when the starts up to it are more than twice those up to the one before,
 /// and that one has stood for some time (`least_stay`); and so does the last shape that is allowed: if a shape up to
 /// there comes again, then it does.
 pub(crate) fn find_pair<F: Firing>(
     alloc: Global,
     engine: &mut Engine<F>,
+    trace: &mut Trace,
     states: u64,
 ) -> Result<Pair, RunError>
     requires live { IsLive (F.net engine.old.net.now) }
@@ -51,11 +54,14 @@ pub(crate) fn find_pair<F: Firing>(
     requires fresh { engine.old.stage ≡ Fresh }
     requires most { engine.old.most ≡ 4 * STARTS }
     requires some { 1 ≤ states }
+    requires no_events { trace.old.moments.items ≡ [] }
+    requires no_starts { trace.old.starts.items ≡ replicate (length (F.net engine.old.net.now).times) [] }
     ensures net { engine.new.net ≡ engine.old.net }
     ensures found { IfOk result (IsPair (F.net engine.old.net.now)) }
+    ensures traced { IfOk result (λ pair. AreAllowed (F.net engine.old.net.now) states trace.new.moments.items trace.new.starts.items) }
     ensures refused { IfErr result (IsRunRefusal (F.net engine.old.net.now) states) }
 {
-    if let Some(pair) = search_allowed(alloc, engine, states)? {
+    if let Some(pair) = search_allowed(alloc, engine, trace, states)? {
         return Ok(pair);
     }
     let last = checkpoint_of(alloc, engine)?;
@@ -70,10 +76,11 @@ pub(crate) fn find_pair<F: Firing>(
 }
 
 /// Compares each of the first `states` shapes with the checkpoint, up to the first one with more than
-/// `STARTS` starts. None: no checkpoint came again.
+/// `STARTS` starts, and adds their events to a trace. None: no checkpoint came again.
 fn search_allowed<F: Firing>(
     alloc: Global,
     engine: &mut Engine<F>,
+    trace: &mut Trace,
     states: u64,
 ) -> Result<Option<Pair>, RunError>
     requires live { IsLive (F.net engine.old.net.now) }
@@ -81,14 +88,18 @@ fn search_allowed<F: Firing>(
     requires fresh { engine.old.stage ≡ Fresh }
     requires most { engine.old.most ≡ 4 * STARTS }
     requires some { 1 ≤ states }
+    requires no_events { trace.old.moments.items ≡ [] }
+    requires no_starts { trace.old.starts.items ≡ replicate (length (F.net engine.old.net.now).times) [] }
     ensures net { engine.new.net ≡ engine.old.net }
     ensures most { engine.new.most ≡ engine.old.most }
+    ensures traced { IfOk result (λ o. AreAllowed (F.net engine.old.net.now) states trace.new.moments.items trace.new.starts.items) }
     ensures found { IfOk result (λ o. MatchOption o ((engine.new.stage ≡ Running) × IsLast (F.net engine.old.net.now) states engine.new.moment) (IsPair (F.net engine.old.net.now))) }
     ensures refused { IfErr result (IsRunRefusal (F.net engine.old.net.now) states) }
 {
     if !go_on(engine)? {
         return Err(RunError::TooManyStarts);
     }
+    trace.add(engine)?;
     let mut checkpoint = checkpoint_of(alloc, engine)?;
     let round = starts_of_round(engine.net);
     for _event in 1..states {
@@ -98,6 +109,7 @@ fn search_allowed<F: Firing>(
         if !go_on(engine)? {
             return Err(RunError::TooManyStarts);
         }
+        trace.add(engine)?;
         if stands_at(engine, &checkpoint) {
             return Ok(Some(Pair {
                 earlier: checkpoint.moment,

@@ -1,8 +1,9 @@
 -- The starts that an execution has collected.
-use Rattle.std.specs.Prelude.{◌≡◌, ℕ, ◌+◌, ◌-◌, ◌<◌, List, [], ◌++◌, length, replicate, drop, slice_index, slice_index_or}
+use Rattle.std.specs.Prelude.{◌≡◌, ℕ, ◌+◌, ◌-◌, ◌<◌, List, [], ◌++◌, length, replicate, drop, take, slice_index, slice_index_or}
 use Rattle.sd_base.specs.Net.{Net}
 use Rattle.sd_base.specs.Schedules.{count_of, start_of}
 use Rattle.sd_base.specs.SelfTimed.{earliest}
+use Rattle.lasso.specs.inside.Entering.{AreBy}
 use Rattle.selftimed.specs.declared.engine.Stage.{Stage}
 use Rattle.selftimed.specs.declared.engine.Stage.TheVariants.{Fresh, Running, Spent, OutOfMemory}
 
@@ -25,10 +26,15 @@ pub record AddsStarts (net : Net) (now : ℕ) (old new : List (List ℕ)) : Type
   pub each : (a : ℕ) → a < length net.times →
       slice_index_or new a [] ≡ slice_index_or old a [] ++ replicate (count_of (earliest net (now + 1)) a - count_of old a) now
 
--- of the first n actors the starts but for the first ones, of which there are `before` by actor
-pub record AreLater (starts : List (List ℕ)) (before : List ℕ) (n : ℕ) (later : List (List ℕ)) : Type 0 where
-  pub rows : length later ≡ n
-  pub each : (a : ℕ) → a < n → slice_index_or later a [] ≡ drop (slice_index before a) (slice_index_or starts a [])
+-- by actor how many of the ascending starts in its row there are up to and with a moment
+pub record AreCounts (starts : List (List ℕ)) (moment : ℕ) (counts : List ℕ) : Type 0 where
+  pub rows : length counts ≡ length starts
+  pub each : (a : ℕ) → a < length starts → AreBy (slice_index_or starts a []) moment (slice_index counts a)
+
+-- of the first n actors the starts after the first ones, of which there are `before` by actor, up to those of which there are `until`
+pub record AreBetween (starts : List (List ℕ)) (before until : List ℕ) (n : ℕ) (between : List (List ℕ)) : Type 0 where
+  pub rows : length between ≡ n
+  pub each : (a : ℕ) → a < n → slice_index_or between a [] ≡ take (slice_index until a - slice_index before a) (drop (slice_index before a) (slice_index_or starts a []))
 
 -- the rows hold the starts up to and with a moment, but for the first ones, of which there are `before` by actor
 pub record AreStartsAfter (net : Net) (now : ℕ) (before : List ℕ) (starts : List (List ℕ)) : Type 0 where

@@ -4,6 +4,9 @@ use Rattle.sd_base.specs.SelfTimed.{events_by, shape_at, starts_by}
 use Rattle.selftimed.specs.Moves.{IsNext}
 use Rattle.lasso.proofs.Ranks.{rank-first, rank-after}
 use Rattle.lasso.proofs.Searched.{none-yet, none-more, first-since, few-before, few-first, many-next, many-first}
+use Rattle.selftimed.specs.declared.engine.Stage.TheVariants.{Fresh, Running}
+use Rattle.lasso.specs.inside.Tracing.{IsTraceBefore}
+use Rattle.lasso.proofs.Traced.{none-allowed, allowed-next}
 use Rattle.lasso.proofs.search.search_allowed.Goals as goal
 
 pub returns-then-not-branch-clause-refused : goal.returns-then-not-branch-clause-refused
@@ -24,7 +27,32 @@ loop-event-init g c =
       checkpoint = rw c.go_on.ensures.net at c.in_ok-checkpoint.ensures.checkpoint;
       ahead = omega (arith, c.in_ok-checkpoint.ensures.moment);
       none = rw c.in_ok-checkpoint.ensures.moment (none-yet (g.F.Firing.net c.args.engine.now.net.now) c.go_on.new.engine.moment);
+      trace = rw c.go_on.ensures.net at c.in_ok-add.ensures.few;
+      allowed = allowed-next (g.F.Firing.net c.args.engine.now.net.now) c.args.states c.go_on.new.engine.moment c.args.trace.now.moments.items c.add.new.self.moments.items c.args.trace.now.starts.items c.add.new.self.starts.items
+          (none-allowed (g.F.Firing.net c.args.engine.now.net.now) c.args.states c.args.trace.now.moments.items c.args.trace.now.starts.items c.requires.no_events)
+          (rw c.go_on.ensures.net at c.in_ok-add.ensures.few) (rw c.go_on.ensures.net at c.in_ok-add.ensures.many) (inl goes.1)
+          (omega (arith, ap (events_by (g.F.Firing.net c.args.engine.now.net.now)) goes.1, rank-first (g.F.Firing.net c.args.engine.now.net.now), c.requires.some));
     }
+
+pub add-requires-clause-inputs : goal.add-requires-clause-inputs
+add-requires-clause-inputs g c = rw c.go_on.ensures.net c.requires.inputs
+
+pub add-requires-clause-before : goal.add-requires-clause-before
+add-requires-clause-before g c =
+    let goes = rw c.requires.fresh at (rw c.if-not-branch.false at c.in_ok-go_on.ensures.goes) in
+    let before : IsTraceBefore (g.F.Firing.net c.args.engine.now.net.now) c.go_on.new.engine.moment c.args.trace.now.moments.items c.args.trace.now.starts.items = (Fresh, 0, (c.requires.no_events, c.requires.no_starts), goes.1) in
+    rw c.go_on.ensures.net before
+
+pub add-requires-in-loop-event-clause-inputs : goal.add-requires-in-loop-event-clause-inputs
+add-requires-in-loop-event-clause-inputs g c = rw (c.go_on-in-loop-event.ensures.net, c.loop-event.invariant.net) c.requires.inputs
+
+pub add-requires-in-loop-event-clause-before : goal.add-requires-in-loop-event-clause-before
+add-requires-in-loop-event-clause-before g c =
+    let goes = rw c.loop-event.invariant.running at (rw c.loop-event.invariant.net at (rw c.if-not-branch-2.false at c.in_ok-go_on-2.ensures.goes)) in
+    let here : c.starts.result ≡ starts_by (g.F.Firing.net c.args.engine.now.net.now) c.loop-event.engine.moment = rw c.loop-event.invariant.net at c.starts.ensures in
+    let before : IsTraceBefore (g.F.Firing.net c.args.engine.now.net.now) c.go_on-in-loop-event.new.engine.moment c.loop-event.trace.moments.items c.loop-event.trace.starts.items =
+    (Running, c.loop-event.engine.moment, c.loop-event.invariant.trace (omega (arith, here, c.if-starts-gt-STARTS.false)), goes.1) in
+    rw (c.go_on-in-loop-event.ensures.net, c.loop-event.invariant.net) before
 
 pub go_on-requires-in-loop-event-clause-inputs : goal.go_on-requires-in-loop-event-clause-inputs
 go_on-requires-in-loop-event-clause-inputs g c = rw c.loop-event.invariant.net c.requires.inputs
@@ -64,7 +92,19 @@ loop-event-preserved g c =
       checkpoint = rw (c.go_on-in-loop-event.ensures.net, c.loop-event.invariant.net) at c.in_ok-checkpoint-2.ensures.checkpoint;
       ahead = c.in_ok-checkpoint-2.ensures.ahead;
       none = rw (c.go_on-in-loop-event.ensures.net, c.loop-event.invariant.net) at c.in_ok-checkpoint-2.ensures.none;
+      trace = rw (c.go_on-in-loop-event.ensures.net, c.loop-event.invariant.net) at c.in_ok-add-2.ensures.few;
+      allowed = allowed-next (g.F.Firing.net c.args.engine.now.net.now) c.args.states c.go_on-in-loop-event.new.engine.moment c.loop-event.trace.moments.items c.add-in-loop-event.new.self.moments.items c.loop-event.trace.starts.items c.add-in-loop-event.new.self.starts.items
+          c.loop-event.invariant.allowed (rw (c.go_on-in-loop-event.ensures.net, c.loop-event.invariant.net) at c.in_ok-add-2.ensures.few) (rw (c.go_on-in-loop-event.ensures.net, c.loop-event.invariant.net) at c.in_ok-add-2.ensures.many) next.event
+          (omega (arith, rank-after (g.F.Firing.net c.args.engine.now.net.now) (g.met.F.Firing.lawful c.args.engine.now.net.now) c.requires.inputs c.loop-event.engine.moment c.go_on-in-loop-event.new.engine.moment next, c.loop-event.invariant.number, c.loop-event-test.true));
     }
+
+pub returns-then-stands_at-clause-traced : goal.returns-then-stands_at-clause-traced
+returns-then-stands_at-clause-traced g c =
+    let goes = rw c.loop-event.invariant.running at (rw c.loop-event.invariant.net at (rw c.if-not-branch-2.false at c.in_ok-go_on-2.ensures.goes)) in
+    let next : IsNext (g.F.Firing.net c.args.engine.now.net.now) c.loop-event.engine.moment c.go_on-in-loop-event.new.engine.moment = goes.1 in
+    allowed-next (g.F.Firing.net c.args.engine.now.net.now) c.args.states c.go_on-in-loop-event.new.engine.moment c.loop-event.trace.moments.items c.add-in-loop-event.new.self.moments.items c.loop-event.trace.starts.items c.add-in-loop-event.new.self.starts.items
+    c.loop-event.invariant.allowed (rw (c.go_on-in-loop-event.ensures.net, c.loop-event.invariant.net) at c.in_ok-add-2.ensures.few) (rw (c.go_on-in-loop-event.ensures.net, c.loop-event.invariant.net) at c.in_ok-add-2.ensures.many) next.event
+    (omega (arith, rank-after (g.F.Firing.net c.args.engine.now.net.now) (g.met.F.Firing.lawful c.args.engine.now.net.now) c.requires.inputs c.loop-event.engine.moment c.go_on-in-loop-event.new.engine.moment next, c.loop-event.invariant.number, c.loop-event-test.true))
 
 pub next_checkpoint-requires-clause-none : goal.next_checkpoint-requires-clause-none
 next_checkpoint-requires-clause-none g c =
@@ -73,3 +113,9 @@ next_checkpoint-requires-clause-none g c =
     let other : shape_at (g.F.Firing.net c.args.engine.now.net.now) c.go_on-in-loop-event.new.engine.moment ≢ shape_at (g.F.Firing.net c.args.engine.now.net.now) c.loop-event.checkpoint.moment =
     λ same. false≢true (c.if-stands_at.ensures.1 (rw (c.go_on-in-loop-event.ensures.net, c.loop-event.invariant.net) same)) in
     rw (c.go_on-in-loop-event.ensures.net, c.loop-event.invariant.net) (none-more (g.F.Firing.net c.args.engine.now.net.now) (g.met.F.Firing.lawful c.args.engine.now.net.now) c.requires.inputs c.loop-event.checkpoint.moment c.loop-event.engine.moment c.go_on-in-loop-event.new.engine.moment c.loop-event.invariant.none next other)
+
+pub next_checkpoint-requires-clause-event : goal.next_checkpoint-requires-clause-event
+next_checkpoint-requires-clause-event g c =
+    let goes = rw c.loop-event.invariant.running at (rw c.loop-event.invariant.net at (rw c.if-not-branch-2.false at c.in_ok-go_on-2.ensures.goes)) in
+    let next : IsNext (g.F.Firing.net c.args.engine.now.net.now) c.loop-event.engine.moment c.go_on-in-loop-event.new.engine.moment = goes.1 in
+    rw (c.go_on-in-loop-event.ensures.net, c.loop-event.invariant.net) next.event

@@ -1,7 +1,9 @@
 use Rattle.std.proofs.Common.{◌≡◌, ◌≤◌}
-use Rattle.sd_base.specs.SelfTimed.{IsEvent, events_by}
+use Rattle.sd_base.specs.SelfTimed.{IsEvent, events_by, starts_by}
 use Rattle.selftimed.specs.declared.engine.Stage.TheVariants.{Running}
 use Rattle.lasso.specs.inside.Searching.{IsCheckpoint, NoneSince, FewBefore}
+use Rattle.sd_base.specs.declared.limits.TheConstants.{STARTS}
+use Rattle.lasso.specs.inside.Tracing.{IsTrace, AreAllowed}
 use Rattle.lasso.proofs.search.search_allowed.Given as goal
 
 abbrev pub invariant-loop-event : goal.invariant-loop-event
@@ -14,5 +16,7 @@ invariant-loop-event g l = record {
   few : FewBefore (g.F.Firing.net l.fn.engine.net.now) l.engine.moment;
   checkpoint : IsCheckpoint (g.F.Firing.net l.fn.engine.net.now) l.checkpoint;
   ahead : l.checkpoint.moment ≤ l.engine.moment;
+  trace : starts_by (g.F.Firing.net l.fn.engine.net.now) l.engine.moment ≤ STARTS → IsTrace (g.F.Firing.net l.fn.engine.net.now) l.engine.moment l.trace.moments.items l.trace.starts.items;
+  allowed : AreAllowed (g.F.Firing.net l.fn.engine.net.now) l.states l.trace.moments.items l.trace.starts.items;
   none : NoneSince (g.F.Firing.net l.fn.engine.net.now) l.checkpoint.moment l.engine.moment;
 }
