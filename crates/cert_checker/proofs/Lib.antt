@@ -9,3 +9,6 @@ pub mod WalkTimes
 pub mod Listing
 pub mod ScenarioFaults
 pub mod WorstClaims
+pub mod ShownLists
+pub mod TradeOffs
+pub mod TradeOffFaults

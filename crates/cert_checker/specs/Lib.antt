@@ -3,6 +3,10 @@ pub mod NumberedBuffers
 pub mod LinkCycles
 pub mod Schedules
 pub mod RateCertificates
+pub mod ShownChannels
+pub mod StorageLines
+pub mod StorageCertificates
+pub mod StorageFaults
 pub mod ListedNodes
 pub mod ScenarioCertificates
 pub mod inside

@@ -1,5 +1,7 @@
 //! Laws of certificates, each on a function that does nothing.
 ghost use Rattle.cert_checker.specs.RateCertificates.{RateIsShown};
+ghost use Rattle.cert_checker.specs.StorageCertificates.{RightPointsAreTheFront};
+ghost use Rattle.cert_checker.specs.StorageFaults.{RightLinesAreFaultless};
 
 use critical::laws::cycles_bound_the_rate;
 use periodic::schedules_bound_the_rate;
@@ -9,5 +11,15 @@ pub fn rate_is_shown()
     ensures { RateIsShown }
 {
     schedules_bound_the_rate();
+    cycles_bound_the_rate();
+}
+
+/// Where all lines of the certificate of a trade-off are right, none is faulty, and its points are the Pareto points up to
+/// its limit, all and no others.
+pub fn trade_off_is_shown()
+    ensures faultless { RightLinesAreFaultless }
+    ensures front { RightPointsAreTheFront }
+{
+    rate_is_shown();
     cycles_bound_the_rate();
 }

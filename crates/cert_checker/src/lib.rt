@@ -14,7 +14,7 @@ mod schedules;
 mod verdict;
 mod walks;
 
-pub use laws::rate_is_shown;
+pub use laws::{rate_is_shown, trade_off_is_shown};
 pub use rates::check_rate;
 pub use scenarios::check_scenario;
 pub use verdict::{Claim, Reason, Verdict};
