@@ -1,2 +1,7 @@
+pub mod Explored
+pub mod Lines
 pub mod Linked
+pub mod Listed
+pub mod Orderless
+pub mod Places
 pub mod Rising

@@ -1,5 +1,5 @@
 -- A cycle of a net without orders has a text.
-use Rattle.std.proofs.Common.{ℕ, ◌<◌, List, All, map, length, get_or}
+use Rattle.std.proofs.Common.{◌<◌, List, All, map, length, get_or}
 use Rattle.std.proofs.lemmas.List.Elements.{All-map, All-get_or, All-from_get_or}
 use Rattle.sd_base.specs.Net.{Net}
 use Rattle.critical.specs.declared.cycle.CycleStep.{CycleStep}

@@ -1,5 +1,5 @@
 -- Need cycles by links: by what the channels of a net stand for.
-use Rattle.std.specs.Prelude.{◌≡◌, ℕ, ◌<◌, List, map, length}
+use Rattle.std.specs.Prelude.{◌≡◌, ℕ, ◌<◌, map, length}
 use Rattle.sd_base.specs.declared.role.Role.TheVariants.{Order}
 use Rattle.sd_base.specs.Net.{Net, channel_at}
 use Rattle.critical.specs.declared.cycle.CycleStep.{CycleStep}

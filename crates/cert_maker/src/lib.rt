@@ -3,8 +3,13 @@
 #![tactic(auto)]
 
 mod links;
+mod listing;
+mod members;
+mod points;
 mod rates;
+mod trade_offs;
 mod worst_rates;
 
 pub use rates::rate_certificate;
+pub use trade_offs::storage_certificate;
 pub use worst_rates::worst_certificate;

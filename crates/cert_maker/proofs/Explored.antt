@@ -1,0 +1,84 @@
+-- An exploration has what its lines rest on.
+use Rattle.std.proofs.Common.{◌≡◌, ℕ, zero, suc, ◌<◌, ◌≤◌, Option, Some, List, [], ◌∷◌, All, length, map, drop, slice_get, inl, inr, refl, ap, arith}
+use Rattle.std.specs.Prelude.{slice_index_or}
+use Rattle.std.proofs.lemmas.List.{length-map}
+use Rattle.std.proofs.lemmas.List.Elements.{All-nil, All-cons}
+use Rattle.sd_base.specs.declared.limits.Limits.{Limits}
+use Rattle.sd_base.specs.declared.limits.TheConstants.{STORAGE}
+use Rattle.sd_base.specs.Net.{Net}
+use Rattle.critical.specs.declared.cycle.CycleStep.{CycleStep}
+use Rattle.critical.specs.declared.cycle.FiringNo.{FiringNo}
+use Rattle.critical.specs.Cycles.{IsChain}
+use Rattle.storage.specs.BoundedNets.{bound}
+use Rattle.storage.specs.Distributions.{IsPlain, storage_of}
+use Rattle.storage.specs.ParetoPoints.{no_pair}
+use Rattle.pareto_front.specs.declared.point.Point.{Point}
+use Rattle.explore.specs.declared.exploration.Member.{Member}
+use Rattle.explore.specs.declared.exploration.Shown.{Shown}
+use Rattle.explore.specs.declared.exploration.Shown.TheVariants.{Cycle, Blocked}
+use Rattle.explore.specs.Explorations.{AreInOrder, IsBefore, IsExploration, IsOneOf, ShowsRate, capacities_of, pair_of}
+use Rattle.explore.proofs.Elements.{one-at, one-map}
+use Rattle.explore.proofs.Explorable.{reachable-fits}
+use Rattle.sd_base.specs.declared.numbers.Fraction.{Fraction}
+use Rattle.cert_maker.specs.inside.Lines.{ArePlaced, HasLine, HasText}
+
+-- the steps of a chain are along channels of the net
+chain-places : (net : Net) (from : FiringNo) (steps : List CycleStep) → IsChain net from steps → All (λ (s : CycleStep). s.channel < length net.channels) steps
+chain-places net from [] chain = All-nil (λ (s : CycleStep). s.channel < length net.channels)
+chain-places net from (step ∷ steps) chain = All-cons (λ (s : CycleStep). s.channel < length net.channels) step steps chain.0.place (chain-places net step.to steps chain.1)
+
+shown-text : (net : Net) (ds : List (Option ℕ)) (states : ℕ) (rate : Fraction) (shown : Shown) → ShowsRate net ds states rate shown → HasText (bound net ds) shown
+shown-text net ds states rate (Cycle cycle) is = chain-places (bound net ds) cycle.first cycle.steps is.2.holds.chain
+shown-text net ds states rate (Blocked counts) is = let actor = is.1.blocks.short in let within = actor.1 in let many = is.1.actors in omega (arith, within, many)
+
+module _ (net : Net) (plain : IsPlain net) (limits : Limits) (small : limits.total ≤ STORAGE) (ms : List Member) (ps : List Point) (is : IsExploration net limits ms ps) where
+  -- each member has a line
+  pub explored-lines : All (HasLine net) ms
+  explored-lines k d below =
+      let m : Member = slice_index_or ms k d in
+      let one = one-at ms k d below in
+      let fits = reachable-fits net limits.total m.capacities.capacities plain (is.reachable m.capacities.capacities (one-map (λ (x : Member). x.capacities.capacities) ms m one)) in
+      record {
+        distribution = fits.0;
+        small = (let within = fits.1 in omega (arith, within, small));
+        shown = shown-text net m.capacities.capacities limits.states m.rate m.shown (is.evaluated m one).shown;
+      }
+
+  paired : (qs : List Point) (k : ℕ) (d : Point) → k < length qs → (slice_index_or (map pair_of qs) k no_pair).storage ≡ (slice_index_or qs k d).total
+  paired [] k d below = absurd (omega arith)
+  paired (q ∷ qs) zero d below = refl
+  paired (q ∷ qs) (suc k) d below = paired qs k d (omega arith)
+
+  -- what needs more storage than one of the list stands after it
+  after-place : (dss : List (List (Option ℕ))) (i : ℕ) (ds es : List (Option ℕ)) → AreInOrder net dss → slice_get dss i ≡ Some ds → IsOneOf dss es → storage_of net.channels ds < storage_of net.channels es → IsOneOf (drop i dss) es
+  after-place [] i ds es order at one more = absurd one
+  after-place (x ∷ xs) zero ds es order at one more = one
+  after-place (x ∷ xs) (suc i) ds es order at (inl head) more =
+      absurd (before (order.0 ds (found xs i at)))
+    where
+      found : (ys : List (List (Option ℕ))) (j : ℕ) → slice_get ys j ≡ Some ds → IsOneOf ys ds
+      found [] j none = absurd (cc)
+      found (y ∷ ys) zero there = inl (cc)
+      found (y ∷ ys) (suc j) there = inr (found ys j there)
+
+      before : IsBefore net x ds → ⊥
+      before (inl less) = let same = ap (storage_of net.channels) head in omega (arith, same, less, more)
+      before (inr equal) = let same = ap (storage_of net.channels) head in let e = equal.0 in omega (arith, same, e, more)
+  after-place (x ∷ xs) (suc i) ds es order at (inr later) more = after-place xs i ds es order.1 at later more
+
+  -- and each point's distribution is a member, after those of the points before it
+  pub explored-placed : ArePlaced (capacities_of ms) ps
+  explored-placed = record {
+    there = λ k d below. is.listed (slice_index_or ps k d) (one-at ps k d below);
+    later = λ j k i d less below at.
+        let p : Point = slice_index_or ps j d in
+        let q : Point = slice_index_or ps k d in
+        let j_below : j < length ps = omega arith in
+        let one = (is.reached p (one-at ps j d j_below)).reaches.total in
+        let other = (is.reached q (one-at ps k d below)).reaches.total in
+        let rises = is.front.rising j k less (omega (arith, below, length-map ps pair_of)) in
+        let first = paired ps j d j_below in
+        let second = paired ps k d below in
+        let more : storage_of net.channels p.capacities.capacities < storage_of net.channels q.capacities.capacities = omega (arith, one, other, rises, first, second) in
+        after-place (capacities_of ms) i p.capacities.capacities q.capacities.capacities is.order at (is.listed q (one-at ps k d below)) more;
+  }

@@ -1,0 +1,114 @@
+-- Lines one after another.
+use Rattle.std.proofs.Common.{◌≡◌, ℕ, zero, suc, ◌<◌, Option, Some, None, List, [], ◌∷◌, ◌++◌, All, length, get_or, slice_get, inl, inr, refl, sym, ap, subst, ◌∙◌, append-nil, arith}
+use Rattle.std.specs.List.{AllZip}
+use Rattle.std.proofs.lemmas.List.{length-append}
+use Rattle.std.proofs.lemmas.List.Elements.{All-nil, All-append}
+use Rattle.std.proofs.lemmas.Bool.Decides.{nat_tests}
+use Rattle.sd_base.specs.Net.{Net}
+use Rattle.sd_base.specs.declared.numbers.Fraction.{Fraction}
+use Rattle.periodic.specs.declared.schedule.Periodic.{Periodic}
+use Rattle.storage.specs.BoundedNets.{bound}
+use Rattle.explore.specs.declared.exploration.Member.{Member}
+use Rattle.explore.specs.declared.exploration.Shown.{Shown}
+use Rattle.explore.specs.declared.exploration.Shown.TheVariants as shown
+use Rattle.cert_text.specs.declared.certificates.LinkCycle.{LinkCycle}
+use Rattle.cert_text.specs.declared.certificates.MemberLine.{MemberLine}
+use Rattle.cert_text.specs.declared.certificates.MemberShown.{MemberShown}
+use Rattle.cert_text.specs.declared.certificates.MemberShown.TheVariants.{Cycle, Blocked}
+use Rattle.cert_text.specs.declared.certificates.PointLine.{PointLine}
+use Rattle.cert_text.specs.Orderly.{used_by, used_with}
+use Rattle.cert_text.specs.Spellable.{AreShown, AreStarts, IsCycleText}
+use Rattle.cert_maker.specs.StorageCertificates.{IsMemberLine, IsShownBy, schedules_of}
+use Rattle.cert_maker.specs.inside.Lines.{HasLine, HasText, IsNext}
+use Rattle.cert_maker.specs.inside.Listing.{IsEntered}
+
+-- ---- cycles
+
+pub get-left : {A : Type 0} (xs ys : List A) (i : ℕ) (x : A) → slice_get xs i ≡ Some x → slice_get (xs ++ ys) i ≡ Some x
+get-left [] ys i x at = absurd (cc)
+get-left (z ∷ xs) ys zero x at = at
+get-left (z ∷ xs) ys (suc i) x at = get-left xs ys i x at
+
+shown-left : (net : Net) (cycles more : List LinkCycle) (r : Fraction) (s : Shown) (line : MemberShown) → IsShownBy net cycles r s line → IsShownBy net (cycles ++ more) r s line
+shown-left net cycles more r (shown.Cycle cycle) (Cycle rate i) is = (is.0, get-left cycles more i _ is.1)
+shown-left net cycles more r (shown.Cycle cycle) (Blocked counts) is = is
+shown-left net cycles more r (shown.Blocked counts) (Cycle rate i) is = is
+shown-left net cycles more r (shown.Blocked counts) (Blocked listed) is = is
+
+line-left : (net : Net) (cycles more : List LinkCycle) (m : Member) (line : MemberLine) → IsMemberLine net cycles m line → IsMemberLine net (cycles ++ more) m line
+line-left net cycles more m line is = record { capacities = is.capacities; shown = shown-left (bound net m.capacities.capacities) cycles more m.rate m.shown line.shown is.shown }
+
+-- lines stay right where more cycles are listed
+pub lines-left : (net : Net) (cycles more : List LinkCycle) (ms : List Member) (lines : List MemberLine) → AllZip (IsMemberLine net cycles) ms lines → AllZip (IsMemberLine net (cycles ++ more)) ms lines
+lines-left net cycles more [] [] all = tt
+lines-left net cycles more [] (l ∷ ls) all = all
+lines-left net cycles more (m ∷ ms) [] all = all
+lines-left net cycles more (m ∷ ms) (l ∷ ls) all = (line-left net cycles more m l all.0, lines-left net cycles more ms ls all.1)
+
+-- a cycle that is entered makes its line the next
+pub entered-next : (old new : List LinkCycle) (cycle : LinkCycle) (rate : ℕ × ℕ) (i : ℕ) → IsEntered old cycle i new → IsCycleText cycle → IsNext old new (Cycle rate i)
+entered-next old new cycle rate i (inl known) text = record {
+  used = (let less = known.0 in let many = ap length known.1 in grind (arith, nat_tests, less, many));
+  more = [];
+  begins = known.1 ∙ sym (append-nil old);
+  text = All-nil IsCycleText;
+}
+entered-next old new cycle rate i (inr fresh) text = record {
+  used = (let last = fresh.0 in let many = ap length fresh.1 ∙ length-append old (cycle ∷ []) in grind (arith, nat_tests, last, many));
+  more = cycle ∷ [];
+  begins = fresh.1;
+  text = λ k d within. one k d within;
+}
+  where
+    one : (k : ℕ) (d : LinkCycle) → k < length (cycle ∷ []) → IsCycleText (get_or (cycle ∷ []) k d)
+    one zero d within = text
+    one (suc k) d within = absurd (omega arith)
+
+pub blocked-next : (old : List LinkCycle) (counts : List ℕ) → IsNext old old (Blocked counts)
+blocked-next old counts = record { used = refl; more = []; begins = sym (append-nil old); text = All-nil IsCycleText }
+
+-- one more line
+pub used-push : (lines : List MemberLine) (line : MemberLine) (used some more : ℕ) → used_by used lines ≡ Some some → used_with some line.shown ≡ Some more → used_by used (lines ++ line ∷ []) ≡ Some more
+unfolding used_by
+used-push [] line used some more all next = by all
+  where
+    by : Some used ≡ Some some → elim (used_with used line.shown) [ Some m ↦ Some m | None ↦ None ] ≡ Some more
+    by same = let e : used ≡ some = cc in subst (λ (u : ℕ). elim (used_with u line.shown) [ Some m ↦ Some m | None ↦ None ] ≡ Some more) (sym e) (ap (λ (o : Option ℕ). elim o [ Some m ↦ Some m | None ↦ None ]) next)
+used-push (l ∷ lines) line used some more all next = by (used_with used l.shown) (λ m rest. used-push lines line m some more rest next) all
+  where
+    by : (o : Option ℕ) → ((m : ℕ) → used_by m lines ≡ Some some → used_by m (lines ++ line ∷ []) ≡ Some more) → elim o [ Some m ↦ used_by m lines | None ↦ None ] ≡ Some some
+        → elim o [ Some m ↦ used_by m (lines ++ line ∷ []) | None ↦ None ] ≡ Some more
+    by (Some m) rest here = rest m here
+    by None rest here = absurd (cc)
+
+pub used-none : (lines : List MemberLine) (cycles : List LinkCycle) → lines ≡ [] → cycles ≡ [] → used_by 0 lines ≡ Some (length cycles)
+unfolding used_by
+used-none lines cycles none empty = ap (λ (ls : List MemberLine). used_by 0 ls) none ∙ ap (λ (cs : List LinkCycle). Some (length cs)) (sym empty)
+
+pub text-push : (old new : List LinkCycle) (line : MemberShown) → IsNext old new line → All IsCycleText old → All IsCycleText new
+text-push old new line next all = subst (λ (cs : List LinkCycle). All IsCycleText cs) (sym next.begins) (All-append IsCycleText old next.more all next.text)
+
+pub lines-push : (net : Net) (old new : List LinkCycle) (s : MemberShown) → IsNext old new s → (ms : List Member) (lines : List MemberLine) → AllZip (IsMemberLine net old) ms lines → AllZip (IsMemberLine net new) ms lines
+lines-push net old new s next ms lines all = subst (λ (cs : List LinkCycle). AllZip (IsMemberLine net cs) ms lines) (sym next.begins) (lines-left net old next.more ms lines all)
+
+-- ---- texts
+
+line-shown : (net : Net) (cycles : List LinkCycle) (r : Fraction) (s : Shown) (line : MemberShown) → HasText net s → IsShownBy net cycles r s line → AreShown line
+line-shown net cycles r (shown.Cycle cycle) (Cycle rate i) text is = tt
+line-shown net cycles r (shown.Cycle cycle) (Blocked counts) text is = absurd is
+line-shown net cycles r (shown.Blocked counts) (Cycle rate i) text is = absurd is
+line-shown net cycles r (shown.Blocked counts) (Blocked listed) text is = subst (λ (ns : List ℕ). 0 < length ns) (sym is) text
+
+-- each line of a member has a text
+pub lines-shown : (net : Net) (cycles : List LinkCycle) (ms : List Member) (lines : List MemberLine) → All (HasLine net) ms → AllZip (IsMemberLine net cycles) ms lines → All (λ (l : MemberLine). AreShown l.shown) lines
+lines-shown net cycles [] [] has all k d below = absurd (omega arith)
+lines-shown net cycles [] (l ∷ ls) has all k d below = absurd all
+lines-shown net cycles (m ∷ ms) [] has all k d below = absurd all
+lines-shown net cycles (m ∷ ms) (l ∷ ls) has all zero d below = line-shown (bound net m.capacities.capacities) cycles m.rate m.shown l.shown (has 0 m (omega arith)).shown all.0.shown
+lines-shown net cycles (m ∷ ms) (l ∷ ls) has all (suc k) d below = lines-shown net cycles ms ls (λ j e within. has (suc j) e (omega arith)) all.1 k d (omega arith)
+
+-- so has each schedule of a point
+pub schedules-spelled : (lines : List PointLine) → All (λ (s : Periodic). All AreStarts s.starts) (schedules_of lines) → All (λ (p : PointLine). All AreStarts p.schedule.starts) lines
+schedules-spelled [] all k d below = absurd (omega arith)
+schedules-spelled (l ∷ ls) all zero d below = all 0 l.schedule (omega arith)
+schedules-spelled (l ∷ ls) all (suc k) d below = schedules-spelled ls (λ j e within. all (suc j) e (omega arith)) k d (omega arith)

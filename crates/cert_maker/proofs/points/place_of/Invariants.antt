@@ -1,0 +1,7 @@
+use Rattle.std.proofs.Common.{drop}
+use Rattle.explore.specs.Explorations.{IsOneOf, capacities_of}
+use Rattle.cert_maker.proofs.points.place_of.Given as goal
+
+-- a member with these capacities stands from the place on
+abbrev pub invariant-loop-place : goal.invariant-loop-place
+invariant-loop-place l = IsOneOf (drop l.from (capacities_of l.members)) l.capacities.capacities → IsOneOf (drop l.place (capacities_of l.members)) l.capacities.capacities
