@@ -2,3 +2,9 @@ pub mod Numerals
 pub mod Texts
 pub mod Uses
 pub mod Wholes
+pub mod Behind
+pub mod TextLines
+pub mod Entries
+pub mod Times
+pub mod Rising
+pub mod FoundCycles

@@ -93,11 +93,11 @@ pub no-buffers : (whole line new : List ℕ) → whole ≡ line ++ new → line 
 unfolding buffers_line
 no-buffers whole line new is text = is ∙ ap (λ (l : List ℕ). l ++ new) text
 
-pub nodes-end : (time edges : ℕ) (first : ℕ × ℕ) (rest : List (ℕ × ℕ)) (whole line mid new : List ℕ) → whole ≡ line ++ mid → line ≡ nodes_header time edges first → length rest ≡ edges
+pub nodes-end : (time edges : ℕ) (first : ℕ × ℕ) (rest : List (ℕ × ℕ)) (whole mid new : List ℕ) → whole ≡ nodes_header time edges first ++ mid → length rest ≡ edges
     → mid ≡ flat_map node_line rest ++ new → whole ≡ nodes_lines time (first ∷ rest) ++ new
 unfolding nodes_lines
-nodes-end time edges first rest whole line mid new is text many entered =
-    is ∙ (ap (λ (l : List ℕ). l ++ mid) (text ∙ ap (λ (n : ℕ). nodes_header time n first) (sym many)) ∙ (ap (λ (l : List ℕ). nodes_header time (length rest) first ++ l) entered
+nodes-end time edges first rest whole mid new is many entered =
+    is ∙ (ap (λ (n : ℕ). nodes_header time n first ++ mid) (sym many) ∙ (ap (λ (l : List ℕ). nodes_header time (length rest) first ++ l) entered
     ∙ sym (append_assoc (nodes_header time (length rest) first) (flat_map node_line rest) new)))
 
 pub version-small : (n : ℕ) → n < 10 → version_line n ≡ codes "sdf3-certificate " ++ ((48 + n) ∷ 10 ∷ [])

@@ -10,6 +10,8 @@ pub mod Spellable
 pub mod Orderly
 pub mod Reads
 pub mod Fields
+pub mod Collected
 pub mod LineForms
 pub mod Sections
+pub mod Found
 pub mod Reading

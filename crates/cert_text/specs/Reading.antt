@@ -7,26 +7,26 @@ use Rattle.cert_text.specs.declared.certificates.Certificate.TheVariants.{Rate, 
 use Rattle.cert_text.specs.declared.reading.fault.Fault.{Fault}
 use Rattle.cert_text.specs.declared.reading.fault.Fault.TheVariants.{Form, Large, Memory}
 use Rattle.cert_text.specs.Reads.{Reads, ◌>>=◌, next_by, lines_of}
-use Rattle.cert_text.specs.LineForms.{same, version_of}
-use Rattle.cert_text.specs.Sections.{rate_at, storage_at, scenario_at}
+use Rattle.cert_text.specs.LineForms.{same, version_due}
+use Rattle.cert_text.specs.Sections.{rate_from, storage_from, scenario_from}
 use Rattle.cert_text.specs.Spellable.{IsSpellable}
 use Rattle.cert_text.specs.Spelling.{rate_kind, storage_kind, scenario_kind, lines_after, spelling}
 
 -- the lines of a certificate after the first one
-unfoldable pub certificate_at : ℕ → List (List ℕ) → Reads Certificate
-certificate_at version [] = Err (Form, [])
-certificate_at version (line ∷ left) = if same line rate_kind then (do
-  c ← rate_at left
+unfoldable pub certificate_from : ℕ → List (List ℕ) → Reads Certificate
+certificate_from version [] = Err (Form, [])
+certificate_from version (line ∷ left) = if same line rate_kind then (do
+  c ← rate_from left
   Ok (Rate c.0, c.1)) else if same line storage_kind then (do
-    c ← storage_at version left
+    c ← storage_from version left
     Ok (Storage c.0, c.1)) else if same line scenario_kind then (do
-      c ← scenario_at left
+      c ← scenario_from left
       Ok (Scenario c.0, c.1)) else Err (Form, left)
 
-unfoldable pub text_at : List (List ℕ) → Reads (ℕ × Certificate)
-text_at lines = do
-  version ← next_by version_of lines
-  certificate ← certificate_at version.0 version.1
+unfoldable pub text_from : List (List ℕ) → Reads (ℕ × Certificate)
+text_from lines = do
+  version ← next_by version_due lines
+  certificate ← certificate_from version.0 version.1
   Ok ((version.0, certificate.0), certificate.1)
 
 -- the error of a line in front of `left` others, of so many lines
@@ -35,11 +35,12 @@ error_of all Form left = Syntax (all - left)
 error_of all Large left = Number (all - left)
 error_of all Memory left = NoMemory
 
+abbrev pub answer_of : ℕ → Reads (ℕ × Certificate) → Result (ℕ × Certificate) CertError
+answer_of all (Ok read) = Ok read.0
+answer_of all (Err fault) = Err (error_of all fault.0 (length fault.1))
+
 unfoldable pub reading_of : List ℕ → Result (ℕ × Certificate) CertError
-reading_of text = elim (text_at (lines_of text)) [
-  | Ok read ↦ Ok read.0
-  | Err fault ↦ Err (error_of (length (lines_of text)) fault.0 (length fault.1))
-]
+reading_of text = answer_of (length (lines_of text)) (text_from (lines_of text))
 
 -- a text is that of a certificate in a version, or has a fault: at most one of both, and at most one of each
 abbrev pub IsCertText : List ℕ → ℕ → Certificate → Type 0

@@ -3,6 +3,9 @@ ghost use Rattle.std.specs.Fmt.{decimal};
 ghost use Rattle.sd_base.specs.declared.role.Role.TheVariants.{Order};
 ghost use Rattle.std.specs.List.{flat_map};
 ghost use Rattle.cert_text.specs.CycleLines.{cycle_header, cycle_lines, step_line, link_text};
+ghost use Rattle.cert_text.specs.LineForms.{header_due, last_short_due, link_due, step_due};
+ghost use Rattle.cert_text.specs.Reads.{Gives, lines_of, next_by, times_by};
+ghost use Rattle.cert_text.specs.Sections.{cycle_from};
 ghost use Rattle.cert_text.specs.Spellable.{HasText, IsCycleText};
 
 use crate::certificates::{LinkCycle, LinkStep};
@@ -14,11 +17,12 @@ use sd_base::{Role, Rows};
 use std::alloc::Global;
 
 /// Reads the lines of a cycle.
-#[tactic(auto, unfolding(crate::specs::CycleLines::cycle_lines))]
+#[tactic(auto, unfolding(crate::specs::CycleLines::cycle_lines, crate::specs::Sections::cycle_from))]
 pub(crate) fn cycle(alloc: Global, lines: &mut Lines) -> Result<LinkCycle, Fault>
-    ensures { IfOk result (λ c. (lines.old.rest.now ≡ cycle_lines c ++ lines.new.rest.now) × IsCycleText c) }
+    ensures text { IfOk result (λ c. (lines.old.rest.now ≡ cycle_lines c ++ lines.new.rest.now) × IsCycleText c) }
+    ensures exact { Gives result lines.new.rest.now (cycle_from (lines_of lines.old.rest.now)) }
 {
-    let header = header_of(lines.next()?)?;
+    let header = header(lines)?;
     let steps = steps(alloc, lines, header.steps)?;
     Ok(LinkCycle {
         time: header.time,
@@ -30,16 +34,25 @@ pub(crate) fn cycle(alloc: Global, lines: &mut Lines) -> Result<LinkCycle, Fault
 
 /// The first line of a cycle.
 #[derive(Clone, Copy)]
-struct Header {
-    time: u64,
-    rounds: u64,
-    first: FiringNo,
-    steps: u64,
+pub(crate) struct CycleHeader {
+    pub(crate) time: u64,
+    pub(crate) rounds: u64,
+    pub(crate) first: FiringNo,
+    pub(crate) steps: u64,
 }
 
-#[tactic(auto, unfolding(crate::specs::CycleLines::cycle_header))]
-fn header_of(mut line: Line) -> Result<Header, Fault>
-    ensures { IfOk result (λ h. line.entry.rest.now ≡ cycle_header h.time h.rounds h.first h.steps) }
+fn header(lines: &mut Lines) -> Result<CycleHeader, Fault>
+    ensures text { IfOk result (λ h. lines.old.rest.now ≡ cycle_header h.time h.rounds h.first h.steps ++ lines.new.rest.now) }
+    ensures exact { Gives result lines.new.rest.now (next_by header_due (lines_of lines.old.rest.now)) }
+{
+    let line = lines.next()?;
+    header_of(line)
+}
+
+#[tactic(auto, unfolding(crate::specs::CycleLines::cycle_header, crate::specs::LineForms::header_due))]
+fn header_of(mut line: Line) -> Result<CycleHeader, Fault>
+    ensures text { IfOk result (λ h. line.entry.rest.now ≡ cycle_header h.time h.rounds h.first h.steps) }
+    ensures exact { result ≡ header_due line.entry.rest.now }
 {
     line.word(b"cycle ")?;
     let time = line.digits()?;
@@ -52,7 +65,7 @@ fn header_of(mut line: Line) -> Result<Header, Fault>
     line.word(b" ")?;
     let steps = line.digits()?;
     line.end()?;
-    Ok(Header {
+    Ok(CycleHeader {
         time: long(time)?,
         rounds: long(rounds)?,
         first: FiringNo {
@@ -64,20 +77,29 @@ fn header_of(mut line: Line) -> Result<Header, Fault>
 }
 
 fn steps(alloc: Global, lines: &mut Lines, count: u64) -> Result<Rows<LinkStep>, Fault>
-    ensures { IfOk result (λ s. (lines.old.rest.now ≡ flat_map step_line s ++ lines.new.rest.now) × (length s ≡ count) × All HasText s) }
+    ensures text { IfOk result (λ s. (lines.old.rest.now ≡ flat_map step_line s ++ lines.new.rest.now) × (length s ≡ count) × All HasText s) }
+    ensures exact { Gives result lines.new.rest.now (times_by (next_by step_due) count (lines_of lines.old.rest.now)) }
 {
     let mut steps = Vec::new(alloc);
     for place in 0..count {
-        let line = lines.next()?;
-        let step = step_of(line)?;
-        steps.push(step)?;
+        let next = step(lines)?;
+        steps.push(next)?;
     }
     Ok(Rows::from_vec(steps))
 }
 
-#[tactic(auto, unfolding(crate::specs::CycleLines::step_line))]
+fn step(lines: &mut Lines) -> Result<LinkStep, Fault>
+    ensures text { IfOk result (λ s. (lines.old.rest.now ≡ step_line s ++ lines.new.rest.now) × HasText s) }
+    ensures exact { Gives result lines.new.rest.now (next_by step_due (lines_of lines.old.rest.now)) }
+{
+    let line = lines.next()?;
+    step_of(line)
+}
+
+#[tactic(auto, unfolding(crate::specs::CycleLines::step_line, crate::specs::LineForms::step_due))]
 fn step_of(mut line: Line) -> Result<LinkStep, Fault>
-    ensures { IfOk result (λ s. (line.entry.rest.now ≡ step_line s) × HasText s) }
+    ensures text { IfOk result (λ s. (line.entry.rest.now ≡ step_line s) × HasText s) }
+    ensures exact { result ≡ step_due line.entry.rest.now }
 {
     let actor = line.digits()?;
     line.word(b" ")?;
@@ -94,30 +116,25 @@ fn step_of(mut line: Line) -> Result<LinkStep, Fault>
 }
 
 /// The link at the end of a line.
-#[tactic(auto, unfolding(crate::specs::CycleLines::link_text))]
-fn link_of(mut line: Line) -> Result<Role, Fault>
+#[tactic(auto, unfolding(crate::specs::CycleLines::link_text, crate::specs::LineForms::link_due))]
+fn link_of(line: Line) -> Result<Role, Fault>
     ensures text { IfOk result (λ r. line.entry.rest.now ≡ link_text r ++ 10 ∷ []) }
     ensures shown { IfOk result (λ r. (a b : ℕ) → r ≡ Order a b → ⊥) }
+    ensures exact { result ≡ link_due line.entry.rest.now }
 {
     match line.rest {
-        [b't', ..] => {
-            line.word(b"t")?;
-            Ok(Role::Token(last_short(line)?))
-        }
-        [b's', ..] => {
-            line.word(b"s")?;
-            Ok(Role::Space(last_short(line)?))
-        }
-        _ => {
-            line.word(b"o")?;
-            Ok(Role::Own(last_short(line)?))
-        }
+        [b't', rest @ ..] => Ok(Role::Token(last_short(Line { rest })?)),
+        [b's', rest @ ..] => Ok(Role::Space(last_short(Line { rest })?)),
+        [b'o', rest @ ..] => Ok(Role::Own(last_short(Line { rest })?)),
+        _ => Err(Fault::Form),
     }
 }
 
 /// The number of 32 bits that is all that is left of a line.
+#[tactic(auto, unfolding(crate::specs::LineForms::last_short_due))]
 fn last_short(mut line: Line) -> Result<u32, Fault>
-    ensures { IfOk result (λ n. line.entry.rest.now ≡ decimal n ++ 10 ∷ []) }
+    ensures text { IfOk result (λ n. line.entry.rest.now ≡ decimal n ++ 10 ∷ []) }
+    ensures exact { result ≡ last_short_due line.entry.rest.now }
 {
     let number = line.digits()?;
     line.end()?;

@@ -1,6 +1,7 @@
-ghost use Rattle.std.specs.Prelude.{◌≡◌, ◌<◌, ◌≤◌, ◌++◌, IfOk, length};
-ghost use Rattle.cert_text.specs.CycleLines.{cycle_lines};
-ghost use Rattle.cert_text.specs.MemberLines.{cycle_at};
+ghost use Rattle.std.specs.Prelude.{OnOk};
+ghost use Rattle.cert_text.specs.Found.{FindsCycle, HasTexts};
+ghost use Rattle.cert_text.specs.Reads.{lines_of};
+ghost use Rattle.cert_text.specs.Sections.{cycle_from};
 
 use crate::certificates::LinkCycle;
 use crate::reading::cycles::cycle;
@@ -29,7 +30,11 @@ pub(crate) fn cycle_number<'a>(
     alloc: Global,
     lines: &mut Lines<'a>,
     cycles: &mut Cycles<'a>,
-) -> Result<FoundCycle, Fault> {
+) -> Result<FoundCycle, Fault>
+    requires { HasTexts cycles.old.texts.keys cycles.old.list.items }
+    ensures texts { OnOk result (HasTexts cycles.new.texts.keys cycles.new.list.items) }
+    ensures exact { FindsCycle result cycles.old.list.items cycles.new.list.items lines.new.rest.now (cycle_from (lines_of lines.old.rest.now)) }
+{
     let text = lines.rest;
     let cycle = cycle(alloc, lines)?;
     let (text, _) = text.split_at(text.len() - lines.rest.len());

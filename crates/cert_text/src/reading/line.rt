@@ -1,8 +1,11 @@
-ghost use Rattle.std.specs.Prelude.{◌≡◌, ◌++◌, ◌∷◌, [], ◌<◌, ◌≤◌, ◌^◌, IfOk, OnOk, IsTrue, length};
+ghost use Rattle.std.specs.Prelude.{◌≡◌, ◌++◌, ◌∷◌, [], ◌<◌, ◌≤◌, ◌^◌, IfOk, IfErr, OnOk, MatchResult, IsTrue, length};
 ghost use Rattle.std.specs.Fmt.{decimal};
+ghost use Rattle.cert_text.specs.declared.reading.fault.Fault.TheVariants.{Large};
 ghost use Rattle.cert_text.specs.Digits.{IsNumeral};
+ghost use Rattle.cert_text.specs.Fields.{behind, ended, limited, number_in, number_value};
+ghost use Rattle.cert_text.specs.LineForms.{limited_long, limited_short, same, spaced_number_in};
 
-use crate::reading::digits::{digits_before, value_of};
+use crate::reading::digits::{digits_before, is_numeral, value_of};
 use crate::reading::fault::Fault;
 
 /// What is left of a line, with its line feed.
@@ -14,7 +17,8 @@ pub(crate) struct Line<'a> {
 impl<'a> Line<'a> {
     /// Passes a word.
     pub(crate) fn word(&mut self, word: &[u8]) -> Result<(), Fault>
-        ensures { OnOk result (self.old.rest.now ≡ word.now ++ self.new.rest.now) }
+        ensures text { OnOk result (self.old.rest.now ≡ word.now ++ self.new.rest.now) }
+        ensures exact { MatchResult result (λ _. behind word.now self.old.rest.now ≡ Ok self.new.rest.now) (λ e. behind word.now self.old.rest.now ≡ Err e) }
     {
         if self.rest.len() < word.len() {
             return Err(Fault::Form);
@@ -29,42 +33,39 @@ impl<'a> Line<'a> {
 
     /// Passes the digits of a number.
     pub(crate) fn digits(&mut self) -> Result<&'a [u8], Fault>
-        ensures { IfOk result (λ d. (self.old.rest.now ≡ d.now ++ self.new.rest.now) × IsNumeral d.now × (length self.new.rest.now < length self.old.rest.now)) }
+        ensures text { IfOk result (λ d. (self.old.rest.now ≡ d.now ++ self.new.rest.now) × IsNumeral d.now × (length self.new.rest.now < length self.old.rest.now)) }
+        ensures exact { MatchResult result (λ d. number_in self.old.rest.now ≡ Ok (number_value d.now, self.new.rest.now)) (λ e. number_in self.old.rest.now ≡ Err e) }
     {
         let (digits, rest) = self.rest.split_at(digits_before(self.rest));
-        if digits.is_empty() || (digits.len() > 1 && digits[0] == b'0') {
+        if !is_numeral(digits) {
             return Err(Fault::Form);
         }
         self.rest = rest;
         Ok(digits)
     }
 
-    /// Passes a number up to a limit.
-    pub(crate) fn number(&mut self, limit: u128) -> Result<u128, Fault>
-        ensures { IfOk result (λ n. (self.old.rest.now ≡ decimal n ++ self.new.rest.now) × (n ≤ limit) × (length self.new.rest.now < length self.old.rest.now)) }
+    /// Passes the digits of a number after a space.
+    #[tactic(auto, unfolding(crate::specs::LineForms::spaced_number_in))]
+    pub(crate) fn spaced(&mut self) -> Result<&'a [u8], Fault>
+        ensures numeral { IfOk result (λ d. IsNumeral d.now × (length self.new.rest.now < length self.old.rest.now)) }
+        ensures exact { MatchResult result (λ d. spaced_number_in self.old.rest.now ≡ Ok (number_value d.now, self.new.rest.now)) (λ e. spaced_number_in self.old.rest.now ≡ Err e) }
     {
-        let digits = self.digits()?;
-        within(digits, limit)
-    }
-
-    /// Passes a number of 64 bits.
-    pub(crate) fn long(&mut self) -> Result<u64, Fault>
-        ensures { IfOk result (λ n. (self.old.rest.now ≡ decimal n ++ self.new.rest.now) × (length self.new.rest.now < length self.old.rest.now)) }
-    {
-        let digits = self.digits()?;
-        long(digits)
+        self.word(b" ")?;
+        self.digits()
     }
 
     /// Whether just this is left.
     pub(crate) fn is(&self, text: &[u8]) -> bool
-        ensures { IsTrue result → self.now.rest.now ≡ text.now }
+        ensures text { IsTrue result → self.now.rest.now ≡ text.now }
+        ensures exact { result ≡ same self.now.rest.now text.now }
     {
         self.rest == text
     }
 
     /// Nothing but the line feed is left.
     pub(crate) fn end(&self) -> Result<(), Fault>
-        ensures { OnOk result (self.now.rest.now ≡ 10 ∷ []) }
+        ensures text { OnOk result (self.now.rest.now ≡ 10 ∷ []) }
+        ensures exact { MatchResult result (λ _. ended self.now.rest.now ≡ Ok []) (λ e. ended self.now.rest.now ≡ Err e) }
     {
         match self.rest {
             [b'\n'] => Ok(()),
@@ -76,7 +77,9 @@ impl<'a> Line<'a> {
 /// The number that digits spell, up to a limit.
 pub(crate) fn within(digits: &[u8], limit: u128) -> Result<u128, Fault>
     requires { IsNumeral digits.now }
-    ensures { IfOk result (λ n. (digits.now ≡ decimal n) × (n ≤ limit)) }
+    ensures text { IfOk result (λ n. (digits.now ≡ decimal n) × (n ≤ limit)) }
+    ensures exact { result ≡ limited limit (number_value digits.now) }
+    ensures large { IfErr result (λ e. e ≡ Large) }
 {
     match value_of(digits, limit) {
         Some(number) => Ok(number),
@@ -87,7 +90,9 @@ pub(crate) fn within(digits: &[u8], limit: u128) -> Result<u128, Fault>
 /// The number of 64 bits that digits spell.
 pub(crate) fn long(digits: &[u8]) -> Result<u64, Fault>
     requires { IsNumeral digits.now }
-    ensures { IfOk result (λ n. digits.now ≡ decimal n) }
+    ensures text { IfOk result (λ n. digits.now ≡ decimal n) }
+    ensures exact { result ≡ limited_long (number_value digits.now) }
+    ensures large { IfErr result (λ e. e ≡ Large) }
 {
     let number = within(digits, u64::MAX as u128)?;
     Ok(number as u64)
@@ -96,7 +101,9 @@ pub(crate) fn long(digits: &[u8]) -> Result<u64, Fault>
 /// The number of 32 bits that digits spell.
 pub(crate) fn short(digits: &[u8]) -> Result<u32, Fault>
     requires { IsNumeral digits.now }
-    ensures { IfOk result (λ n. digits.now ≡ decimal n) }
+    ensures text { IfOk result (λ n. digits.now ≡ decimal n) }
+    ensures exact { result ≡ limited_short (number_value digits.now) }
+    ensures large { IfErr result (λ e. e ≡ Large) }
 {
     let number = within(digits, u32::MAX as u128)?;
     Ok(number as u32)

@@ -1,29 +1,38 @@
-ghost use Rattle.std.specs.Prelude.{◌≡◌, ◌<◌, ◌≤◌, ◌++◌, [], ◌∷◌, Some, IfOk, length};
-ghost use Rattle.std.specs.List.{flat_map};
-ghost use Rattle.cert_text.specs.MemberLines.{capacity_text, member_line, member_lines, numbered_rate_line, shown_lines};
+ghost use Rattle.std.specs.Prelude.{◌≡◌, ◌<◌, ◌≤◌, ◌+◌, ◌++◌, [], ◌∷◌, ◌==◌, if◌then◌else◌, Ok, Err, IfOk, IfErr, OnOk, MatchResult, length};
 ghost use Rattle.cert_text.specs.Digits.{IsNumeral};
-ghost use Rattle.cert_text.specs.NumberLines.{rate_line};
-ghost use Rattle.cert_text.specs.Orderly.{used_with};
-ghost use Rattle.cert_text.specs.Spellable.{AreShown};
+ghost use Rattle.cert_text.specs.Fields.{number_value};
+ghost use Rattle.cert_text.specs.Found.{HasTexts, IsNumeralSome, values_of};
+ghost use Rattle.cert_text.specs.LineForms.{among, capacities_due, capacity_in, capacity_limited, hyphen_or_number_in, numbered_rate_due, numbers_due};
+ghost use Rattle.cert_text.specs.MemberLines.{member_line};
+ghost use Rattle.cert_text.specs.NumberLines.{numbers_line};
+ghost use Rattle.cert_text.specs.Reads.{Gives, GivesKnown, GivesLine, lines_of, next_by};
+ghost use Rattle.cert_text.specs.Sections.{listed_from, member_from, numbered_from};
+ghost use Rattle.cert_text.specs.declared.reading.fault.Fault.TheVariants.{Large};
 
 use crate::certificates::{MemberLine, MemberShown};
+use crate::reading::collected::Collected;
 use crate::reading::digits::value_of;
 use crate::reading::fault::Fault;
 use crate::reading::found::{Cycles, cycle_number};
 use crate::reading::line::{Line, long};
 use crate::reading::lines::Lines;
-use crate::reading::numbers::counts_of;
+use crate::reading::numbers::{counts_of, rate_of};
 use sd_base::Rows;
 use std::alloc::Global;
 use storage::Distribution;
 
 /// Reads the lines of a member that lists its cycle. The cycle has its number among those that are found.
+#[tactic(auto, unfolding(crate::specs::Sections::member_from))]
 pub(crate) fn listed_member<'a>(
     alloc: Global,
     lines: &mut Lines<'a>,
     cycles: &mut Cycles<'a>,
-) -> Result<MemberLine, Fault> {
-    let capacities = capacities_of(alloc, lines.next()?)?;
+) -> Result<MemberLine, Fault>
+    requires { HasTexts cycles.old.texts.keys cycles.old.list.items }
+    ensures texts { OnOk result (HasTexts cycles.new.texts.keys cycles.new.list.items) }
+    ensures exact { GivesKnown result cycles.new.list.items lines.new.rest.now (member_from listed_from cycles.old.list.items (lines_of lines.old.rest.now)) }
+{
+    let capacities = capacities(alloc, lines)?;
     let shown = listed_shown(alloc, lines, cycles)?;
     Ok(MemberLine {
         capacities: Distribution { capacities },
@@ -31,14 +40,20 @@ pub(crate) fn listed_member<'a>(
     })
 }
 
+#[tactic(auto, unfolding(crate::specs::Sections::listed_from, crate::specs::Sections::blocked_from, crate::specs::MemberLines::blocked_line))]
 fn listed_shown<'a>(
     alloc: Global,
     lines: &mut Lines<'a>,
     cycles: &mut Cycles<'a>,
-) -> Result<MemberShown, Fault> {
+) -> Result<MemberShown, Fault>
+    requires { HasTexts cycles.old.texts.keys cycles.old.list.items }
+    ensures texts { OnOk result (HasTexts cycles.new.texts.keys cycles.new.list.items) }
+    ensures exact { GivesKnown result cycles.new.list.items lines.new.rest.now (listed_from cycles.old.list.items (lines_of lines.old.rest.now)) }
+{
     let line = lines.next()?;
     if line.is(b"blocked\n") {
-        return blocked(alloc, lines);
+        let counts = counts(alloc, lines)?;
+        return Ok(MemberShown::Blocked { counts });
     }
     let rate = rate_of(line)?;
     let cycle = cycle_number(alloc, lines, cycles)?;
@@ -49,13 +64,18 @@ fn listed_shown<'a>(
 }
 
 /// Reads the lines of a member that names its cycle by its number, after members that name `used` of `all` cycles.
+#[tactic(auto, unfolding(crate::specs::Sections::member_from))]
 pub(crate) fn numbered_member(
     alloc: Global,
     lines: &mut Lines,
-    used: usize,
+    used: &mut usize,
     all: usize,
-) -> Result<MemberLine, Fault> {
-    let capacities = capacities_of(alloc, lines.next()?)?;
+) -> Result<MemberLine, Fault>
+    requires { used.old ≤ all }
+    ensures within { used.new ≤ all }
+    ensures exact { GivesKnown result used.new lines.new.rest.now (member_from (numbered_from all) used.old (lines_of lines.old.rest.now)) }
+{
+    let capacities = capacities(alloc, lines)?;
     let shown = numbered_shown(alloc, lines, used, all)?;
     Ok(MemberLine {
         capacities: Distribution { capacities },
@@ -63,81 +83,115 @@ pub(crate) fn numbered_member(
     })
 }
 
+#[tactic(auto, unfolding(crate::specs::Sections::numbered_from, crate::specs::Sections::blocked_from, crate::specs::MemberLines::blocked_line))]
 fn numbered_shown(
     alloc: Global,
     lines: &mut Lines,
-    used: usize,
+    used: &mut usize,
     all: usize,
-) -> Result<MemberShown, Fault> {
+) -> Result<MemberShown, Fault>
+    requires { used.old ≤ all }
+    ensures within { used.new ≤ all }
+    ensures exact { GivesKnown result used.new lines.new.rest.now (numbered_from all used.old (lines_of lines.old.rest.now)) }
+{
     let line = lines.next()?;
     if line.is(b"blocked\n") {
-        return blocked(alloc, lines);
+        let counts = counts(alloc, lines)?;
+        return Ok(MemberShown::Blocked { counts });
     }
-    numbered_rate_of(line, used, all)
+    let (rate, cycle) = numbered_rate_of(line, *used, all)?;
+    *used = used_after(*used, all, cycle);
+    Ok(MemberShown::Cycle { rate, cycle })
+}
+
+/// How many cycles are named once a member names this one, which is one of the first `used` of `all` or the next one.
+fn used_after(used: usize, all: usize, cycle: u64) -> usize
+    requires used { used ≤ all }
+    requires next { cycle ≤ used }
+    requires among { cycle < all }
+    ensures within { result ≤ all }
+    ensures exact { result ≡ (if cycle == used then used + 1 else used) }
+{
+    if cycle == used as u64 { used + 1 } else { used }
 }
 
 /// Reads the firings at which a member is blocked.
-fn blocked(alloc: Global, lines: &mut Lines) -> Result<MemberShown, Fault> {
-    let counts = counts_of(alloc, lines.next()?)?;
-    Ok(MemberShown::Blocked { counts })
+fn counts(alloc: Global, lines: &mut Lines) -> Result<Rows<u64>, Fault>
+    ensures text { IfOk result (λ c. (lines.old.rest.now ≡ numbers_line c ++ lines.new.rest.now) × (0 < length c)) }
+    ensures exact { Gives result lines.new.rest.now (next_by (numbers_due 18446744073709551615) (lines_of lines.old.rest.now)) }
+{
+    let line = lines.next()?;
+    counts_of(alloc, line)
+}
+
+/// Reads the line of the capacities of a member.
+fn capacities(alloc: Global, lines: &mut Lines) -> Result<Rows<Option<u64>>, Fault>
+    ensures text { IfOk result (λ c. lines.old.rest.now ≡ member_line c ++ lines.new.rest.now) }
+    ensures exact { Gives result lines.new.rest.now (next_by capacities_due (lines_of lines.old.rest.now)) }
+{
+    let line = lines.next()?;
+    capacities_of(alloc, line)
 }
 
 fn capacities_of(alloc: Global, mut line: Line) -> Result<Rows<Option<u64>>, Fault>
-    ensures { IfOk result (λ c. line.entry.rest.now ≡ member_line c) }
+    ensures text { IfOk result (λ c. line.entry.rest.now ≡ member_line c) }
+    ensures exact { GivesLine result (capacities_due line.entry.rest.now) }
 {
     line.word(b"member")?;
-    are_capacities(line)?;
-    let mut capacities = Vec::new(alloc);
+    let mut capacities = Collected::new(alloc);
     while line.rest.len() > 1 {
         let next = capacity(&mut line)?;
-        capacities.push(next)?;
+        capacities.push(limited(next))?;
     }
     line.end()?;
-    Ok(Rows::from_vec(capacities))
+    capacities.rows()
 }
 
-/// Passes a capacity.
-#[tactic(auto, unfolding(crate::specs::MemberLines::capacity_text, crate::specs::NumberLines::spaced))]
-fn capacity(line: &mut Line) -> Result<Option<u64>, Fault>
-    ensures { IfOk result (λ c. (line.old.rest.now ≡ capacity_text c ++ line.new.rest.now) × (length line.new.rest.now < length line.old.rest.now)) }
+/// Passes a capacity: its digits, if the channel has one.
+#[tactic(auto, unfolding(crate::specs::LineForms::capacity_in))]
+fn capacity<'a>(line: &mut Line<'a>) -> Result<Option<&'a [u8]>, Fault>
+    ensures numeral { IfOk result (λ c. IsNumeralSome c × (length line.new.rest.now < length line.old.rest.now)) }
+    ensures exact { MatchResult result (λ c. capacity_in line.old.rest.now ≡ Ok (values_of c, line.new.rest.now)) (λ e. capacity_in line.old.rest.now ≡ Err e) }
 {
-    if let [b' ', b'-', ..] = line.rest {
-        line.word(b" -")?;
-        return Ok(None);
-    }
     line.word(b" ")?;
-    let digits = line.digits()?;
-    Ok(Some(long(digits)?))
+    hyphen_or_number(line)
 }
 
-/// The rest of a line is capacities, however great.
-fn are_capacities(mut line: Line) -> Result<(), Fault> {
-    while line.rest.len() > 1 {
-        line.word(b" ")?;
-        if let [b'-', ..] = line.rest {
-            line.word(b"-")?;
-        } else {
-            line.digits()?;
+#[tactic(auto, unfolding(crate::specs::LineForms::hyphen_or_number_in))]
+fn hyphen_or_number<'a>(line: &mut Line<'a>) -> Result<Option<&'a [u8]>, Fault>
+    ensures numeral { IfOk result (λ c. IsNumeralSome c × (length line.new.rest.now < length line.old.rest.now)) }
+    ensures exact { MatchResult result (λ c. hyphen_or_number_in line.old.rest.now ≡ Ok (values_of c, line.new.rest.now)) (λ e. hyphen_or_number_in line.old.rest.now ≡ Err e) }
+{
+    match line.rest {
+        [] => Err(Fault::Form),
+        [b'-', rest @ ..] => {
+            line.rest = rest;
+            Ok(None)
+        }
+        _ => {
+            let digits = line.digits()?;
+            Ok(Some(digits))
         }
     }
-    line.end()
 }
 
-/// The rate of a line.
-#[tactic(auto, unfolding(crate::specs::NumberLines::rate_line))]
-pub(crate) fn rate_of(mut line: Line) -> Result<(u64, u64), Fault>
-    ensures { IfOk result (λ r. line.entry.rest.now ≡ rate_line r) }
+fn limited(capacity: Option<&[u8]>) -> Result<Option<u64>, Fault>
+    requires { IsNumeralSome capacity }
+    ensures exact { result ≡ capacity_limited (values_of capacity.entry) }
+    ensures large { IfErr result (λ e. e ≡ Large) }
 {
-    line.word(b"rate ")?;
-    let num = line.digits()?;
-    line.word(b"/")?;
-    let den = line.digits()?;
-    line.end()?;
-    Ok((long(num)?, long(den)?))
+    match capacity {
+        None => Ok(None),
+        Some(digits) => Ok(Some(long(digits)?)),
+    }
 }
 
 /// The rate of a line and the number of its cycle, which is one of the first `used` of `all` or the next one.
-fn numbered_rate_of(mut line: Line, used: usize, all: usize) -> Result<MemberShown, Fault> {
+#[tactic(auto, unfolding(crate::specs::LineForms::numbered_rate_due))]
+fn numbered_rate_of(mut line: Line, used: usize, all: usize) -> Result<((u64, u64), u64), Fault>
+    ensures among { IfOk result (λ r. (r.1 ≤ used) × (r.1 < all)) }
+    ensures exact { result ≡ numbered_rate_due used all line.entry.rest.now }
+{
     line.word(b"rate ")?;
     let num = line.digits()?;
     line.word(b"/")?;
@@ -146,15 +200,14 @@ fn numbered_rate_of(mut line: Line, used: usize, all: usize) -> Result<MemberSho
     let cycle = line.digits()?;
     line.end()?;
     let cycle = number_among(cycle, used, all)?;
-    Ok(MemberShown::Cycle {
-        rate: (long(num)?, long(den)?),
-        cycle,
-    })
+    Ok(((long(num)?, long(den)?), cycle))
 }
 
 /// The number of a cycle, which is one of the first `used` of `all` or the next one.
 fn number_among(digits: &[u8], used: usize, all: usize) -> Result<u64, Fault>
     requires { IsNumeral digits.now }
+    ensures among { IfOk result (λ n. (n ≤ used) × (n < all)) }
+    ensures exact { result ≡ among used all (number_value digits.now) }
 {
     match value_of(digits, used as u128) {
         Some(number) if number < all as u128 => Ok(number as u64),

@@ -1,4 +1,10 @@
-use crate::certificates::{LinkCycle, MemberLine, MemberShown, StorageCertificate};
+ghost use Rattle.std.specs.Prelude.{◌≡◌, ◌⊎◌, ◌≤◌, [], Ok, Err, IfOk, MatchResult, OnOk, length};
+ghost use Rattle.cert_text.specs.Found.{HasTexts};
+ghost use Rattle.cert_text.specs.Reads.{Gives, GivesKnown, handing, lines_of};
+ghost use Rattle.cert_text.specs.Sections.{cycles_from, explored_from, listed_from, member_from, members_from, named_from, naming_from, new_cycle_from, new_cycles_from, numbered_from, storage_from};
+ghost use Rattle.cert_text.specs.declared.reading.fault.Fault.TheVariants.{Memory};
+
+use crate::certificates::{LinkCycle, MemberLine, StorageCertificate};
 use crate::reading::fault::Fault;
 use crate::reading::found::{Cycles, cycle_number};
 use crate::reading::lines::Lines;
@@ -11,21 +17,19 @@ use sd_base::Rows;
 use std::alloc::Global;
 
 /// Reads the lines of a certificate of a trade-off after the line of its kind.
+#[tactic(auto, unfolding(crate::specs::Sections::storage_from, crate::specs::Sections::finish))]
 pub(crate) fn storage_certificate(
     alloc: Global,
     lines: &mut Lines,
     version: u32,
-) -> Result<StorageCertificate, Fault> {
+) -> Result<StorageCertificate, Fault>
+    ensures exact { Gives result lines.new.rest.now (storage_from version (lines_of lines.old.rest.now)) }
+{
     let no_overlap = overlap(lines)?;
     let limit = limit(lines)?;
-    let explored = if version == 1 {
-        listed(alloc, lines)?
-    } else {
-        numbered(alloc, lines)?
-    };
+    let (cycles, members) = explored(alloc, lines, version)?;
     let points = points(alloc, lines)?;
     end(lines)?;
-    let Explored { cycles, members } = explored;
     Ok(StorageCertificate {
         no_overlap,
         limit,
@@ -35,61 +39,94 @@ pub(crate) fn storage_certificate(
     })
 }
 
-/// The cycles and the members of a trade-off.
-#[derive(Drop)]
-struct Explored {
-    cycles: Rows<LinkCycle>,
-    members: Rows<MemberLine>,
+/// Reads the cycles and the members of a trade-off.
+#[tactic(auto, unfolding(crate::specs::Sections::explored_from))]
+fn explored(
+    alloc: Global,
+    lines: &mut Lines,
+    version: u32,
+) -> Result<(Rows<LinkCycle>, Rows<MemberLine>), Fault>
+    ensures exact { Gives result lines.new.rest.now (explored_from version (lines_of lines.old.rest.now)) }
+{
+    if version == 1 {
+        listed(alloc, lines)
+    } else {
+        named(alloc, lines)
+    }
 }
 
 /// Reads members that list their cycles.
-fn listed(alloc: Global, lines: &mut Lines) -> Result<Explored, Fault> {
+#[tactic(auto, unfolding(crate::specs::Sections::members_from))]
+fn listed(alloc: Global, lines: &mut Lines) -> Result<(Rows<LinkCycle>, Rows<MemberLine>), Fault>
+    ensures exact { Gives result lines.new.rest.now (members_from listed_from [] (lines_of lines.old.rest.now)) }
+{
     let count = members_count(lines)?;
     let mut cycles = Cycles {
         texts: IndexSet::new(alloc),
         list: Vec::new(alloc),
     };
-    let mut members = Vec::new(alloc);
-    for _ in 0..count {
-        members.push(listed_member(alloc, lines, &mut cycles)?)?;
-    }
+    let members = each_listed(alloc, lines, count, &mut cycles)?;
     let Cycles { texts: _, list } = cycles;
-    Ok(Explored {
-        cycles: Rows::from_vec(list),
-        members: Rows::from_vec(members),
-    })
+    Ok((Rows::from_vec(list), members))
+}
+
+fn each_listed<'a>(
+    alloc: Global,
+    lines: &mut Lines<'a>,
+    count: u64,
+    cycles: &mut Cycles<'a>,
+) -> Result<Rows<MemberLine>, Fault>
+    requires { HasTexts cycles.old.texts.keys cycles.old.list.items }
+    ensures exact { GivesKnown result cycles.new.list.items lines.new.rest.now (handing (member_from listed_from) count cycles.old.list.items (lines_of lines.old.rest.now)) }
+{
+    let mut members = Vec::new(alloc);
+    for place in 0..count {
+        let next = listed_member(alloc, lines, cycles)?;
+        members.push(next)?;
+    }
+    Ok(Rows::from_vec(members))
 }
 
 /// Reads the cycles and then members that name them by their numbers.
-fn numbered(alloc: Global, lines: &mut Lines) -> Result<Explored, Fault> {
+#[tactic(auto, unfolding(crate::specs::Sections::named_from))]
+fn named(alloc: Global, lines: &mut Lines) -> Result<(Rows<LinkCycle>, Rows<MemberLine>), Fault>
+    ensures exact { Gives result lines.new.rest.now (named_from (lines_of lines.old.rest.now)) }
+{
     let cycles = cycle_list(alloc, lines)?;
-    let members = numbered_members(alloc, lines, cycles.len())?;
-    Ok(Explored {
-        cycles: Rows::from_vec(cycles),
-        members,
-    })
+    let members = naming(alloc, lines, cycles.as_slice().len())?;
+    Ok((cycles, members))
 }
 
 /// Reads the list of the cycles, which differ.
-fn cycle_list(alloc: Global, lines: &mut Lines) -> Result<Vec<LinkCycle>, Fault> {
+#[tactic(auto, unfolding(crate::specs::Sections::cycles_from))]
+fn cycle_list(alloc: Global, lines: &mut Lines) -> Result<Rows<LinkCycle>, Fault>
+    ensures exact { Gives result lines.new.rest.now (cycles_from (lines_of lines.old.rest.now)) }
+{
     let count = cycles_count(lines)?;
+    each_cycle(alloc, lines, count)
+}
+
+fn each_cycle(alloc: Global, lines: &mut Lines, count: u64) -> Result<Rows<LinkCycle>, Fault>
+    ensures exact { Gives result lines.new.rest.now (new_cycles_from count [] (lines_of lines.old.rest.now)) }
+{
     let mut cycles = Cycles {
         texts: IndexSet::new(alloc),
         list: Vec::new(alloc),
     };
-    for _ in 0..count {
+    for place in 0..count {
         new_cycle(alloc, lines, &mut cycles)?;
     }
     let Cycles { texts: _, list } = cycles;
-    Ok(list)
+    Ok(Rows::from_vec(list))
 }
 
 /// Reads the lines of a cycle that wasn't read before; else its first line is at fault.
-fn new_cycle<'a>(
-    alloc: Global,
-    lines: &mut Lines<'a>,
-    cycles: &mut Cycles<'a>,
-) -> Result<(), Fault> {
+#[tactic(auto, unfolding(crate::specs::Sections::new_cycle_from))]
+fn new_cycle<'a>(alloc: Global, lines: &mut Lines<'a>, cycles: &mut Cycles<'a>) -> Result<(), Fault>
+    requires { HasTexts cycles.old.texts.keys cycles.old.list.items }
+    ensures texts { OnOk result (HasTexts cycles.new.texts.keys cycles.new.list.items) }
+    ensures exact { MatchResult result (λ _. new_cycle_from cycles.old.list.items (lines_of lines.old.rest.now) ≡ Ok (cycles.new.list.items, lines_of lines.new.rest.now)) (λ e. (e ≡ Memory) ⊎ (new_cycle_from cycles.old.list.items (lines_of lines.old.rest.now) ≡ Err (e, lines_of lines.new.rest.now))) }
+{
     let text = lines.rest;
     let found = cycle_number(alloc, lines, cycles)?;
     if !found.is_new {
@@ -101,30 +138,34 @@ fn new_cycle<'a>(
 }
 
 /// Reads members that name all of so many cycles, each the ones before and the next one.
-fn numbered_members(
-    alloc: Global,
-    lines: &mut Lines,
-    all: usize,
-) -> Result<Rows<MemberLine>, Fault> {
+#[tactic(auto, unfolding(crate::specs::Sections::naming_from, crate::specs::Sections::members_from))]
+fn naming(alloc: Global, lines: &mut Lines, all: usize) -> Result<Rows<MemberLine>, Fault>
+    ensures exact { Gives result lines.new.rest.now (naming_from all (lines_of lines.old.rest.now)) }
+{
     let count = members_count(lines)?;
-    let mut members = Vec::new(alloc);
     let mut used = 0;
-    for _ in 0..count {
-        let member = numbered_member(alloc, lines, used, all)?;
-        used = used_after(used, all, &member.shown);
-        members.push(member)?;
-    }
+    let members = each_numbered(alloc, lines, count, &mut used, all)?;
     if used < all {
         lines.next()?;
         return Err(Fault::Form);
     }
-    Ok(Rows::from_vec(members))
+    Ok(members)
 }
 
-/// How many of all cycles are named once a member names one of the first `used` or the next one.
-fn used_after(used: usize, all: usize, shown: &MemberShown) -> usize {
-    match shown {
-        MemberShown::Cycle { rate: _, cycle } if used < all && *cycle == used as u64 => used + 1,
-        _ => used,
+fn each_numbered(
+    alloc: Global,
+    lines: &mut Lines,
+    count: u64,
+    used: &mut usize,
+    all: usize,
+) -> Result<Rows<MemberLine>, Fault>
+    requires { used.old ≤ all }
+    ensures exact { GivesKnown result used.new lines.new.rest.now (handing (member_from (numbered_from all)) count used.old (lines_of lines.old.rest.now)) }
+{
+    let mut members = Vec::new(alloc);
+    for place in 0..count {
+        let next = numbered_member(alloc, lines, used, all)?;
+        members.push(next)?;
     }
+    Ok(Rows::from_vec(members))
 }

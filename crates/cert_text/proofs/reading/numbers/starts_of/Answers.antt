@@ -1,22 +1,42 @@
-use Rattle.std.proofs.Common.{ℕ, ◌≤◌, []}
-use Rattle.std.proofs.lemmas.List.Elements.{All-nil}
+use Rattle.std.proofs.Common.{◌≡◌, ℕ, ◌^◌, ◌<◌, ◌≤◌, ◌∙◌, List, All, length, sym, arith, lit<, inr, Result, Ok, Err}
+use Rattle.std.proofs.lemmas.Result.{err_from_is_err_and}
 use Rattle.sd_base.specs.declared.limits.TheConstants.{START}
-use Rattle.cert_text.proofs.Texts.{first-number, more-number, numbers-end, some-more, all-pushed, all-first}
+use Rattle.cert_text.specs.declared.reading.fault.Fault.{Fault}
+use Rattle.cert_text.specs.Collected.{collected}
+use Rattle.cert_text.specs.Fields.{limited}
+use Rattle.cert_text.specs.LineForms.{spaced_number_in, numbers_due}
+use Rattle.cert_text.specs.NumberLines.{numbers_line}
+use Rattle.cert_text.specs.Spellable.{AreStarts}
+use Rattle.cert_text.proofs.Entries.{numbers-start, numbers-none, numbers-sound, collects-more, collects-ends, goes-fails, goes-unended, gives-same, if-ok}
 use Rattle.cert_text.proofs.reading.numbers.starts_of.Goals as goal
 
+pub returns-in_err-first-clause-exact : goal.returns-in_err-first-clause-exact
+returns-in_err-first-clause-exact c =
+    let p = err_from_is_err_and c.from_residual.result c.from_residual.ensures.1 in
+    rw (p.1, p.2) (inr (numbers-none START c.args.line.rest.now _ c.in_err-first.ensures.exact))
+
 pub loop-line-init : goal.loop-line-init
-loop-line-init c = record {
-  text = first-number _ _ _ _ _ c.in_ok-first.ensures.0 c.new-starts.ensures.items c.in_ok-push.ensures.items;
-  some = some-more _ _ _ c.in_ok-push.ensures.items;
-  early = all-first (λ (s : ℕ). s ≤ START) _ _ _ c.in_ok-first.ensures.1 c.new-starts.ensures.items c.in_ok-push.ensures.items;
-}
+loop-line-init c = numbers-start START _ _ _ _ _ _ _ _ c.in_ok-first.ensures.exact c.new-starts.ensures c.in_ok-push.ensures.exact c.within.ensures.exact
+
+pub returns-in_err-next-clause-exact : goal.returns-in_err-next-clause-exact
+returns-in_err-next-clause-exact c =
+    let p = err_from_is_err_and c.from_residual-in_err-next.result c.from_residual-in_err-next.ensures.1 in
+    rw (p.1, p.2) (inr (goes-fails _ _ _ _ _ _ c.loop-line.invariant.goes c.loop-line-test.true c.in_err-next.ensures.exact))
 
 pub loop-line-preserved : goal.loop-line-preserved
-loop-line-preserved c = record {
-  text = more-number _ _ _ _ _ _ _ c.loop-line.invariant.text c.in_ok-word.ensures c.in_ok-start.ensures.0 c.in_ok-push-2.ensures.items;
-  some = some-more _ _ _ c.in_ok-push-2.ensures.items;
-  early = all-pushed (λ (s : ℕ). s ≤ START) _ _ _ c.loop-line.invariant.early c.in_ok-start.ensures.1 c.in_ok-push-2.ensures.items;
-}
+loop-line-preserved c = collects-more _ _ (limited START) _ _ _ _ _ _ _ _ _ c.loop-line.invariant c.loop-line-test.true c.in_ok-next.ensures.exact c.in_ok-next.ensures.numeral.1 c.in_ok-push-2.ensures.exact c.within-in-loop-line.ensures.exact
 
-pub returns : goal.returns
-returns c = rw c.from_vec.ensures (numbers-end _ _ _ c.loop-line.invariant.text c.in_ok-end.ensures c.loop-line.invariant.some, record { some = c.loop-line.invariant.some; early = c.loop-line.invariant.early })
+pub returns-in_err-end-clause-exact : goal.returns-in_err-end-clause-exact
+returns-in_err-end-clause-exact c =
+    let p = err_from_is_err_and c.from_residual-in_err-end.result c.from_residual-in_err-end.ensures.1 in
+    rw (p.1, p.2) (inr (goes-unended _ _ _ _ _ _ c.loop-line.invariant.goes c.loop-line-test.false c.in_err-end.ensures.exact))
+
+pub returns-clause-text : goal.returns-clause-text
+returns-clause-text c =
+    let read : numbers_due START c.args.line.rest.now ≡ c.rows.result = collects-ends _ _ _ _ _ _ _ c.loop-line.invariant c.loop-line-test.false c.in_ok-end.ensures.exact ∙ sym c.rows.ensures in
+    if-ok (λ (s : List ℕ). (c.args.line.rest.now ≡ numbers_line s) × AreStarts s) c.rows.result (numbers_due START c.args.line.rest.now) read (λ (s : List ℕ) is.
+    let sound = numbers-sound START c.args.line.rest.now s (lit< tt) is in
+    (sound.0, record { some = sound.1; early = sound.2 }))
+
+pub returns-clause-exact : goal.returns-clause-exact
+returns-clause-exact c = gives-same _ _ (collects-ends _ _ _ _ _ _ _ c.loop-line.invariant c.loop-line-test.false c.in_ok-end.ensures.exact ∙ sym c.rows.ensures)

@@ -2,7 +2,7 @@ use Rattle.std.proofs.Common.{arith}
 use Rattle.cert_text.proofs.Texts.{nodes-end}
 use Rattle.cert_text.proofs.reading.scenarios.nodes.Goals as goal
 
-pub returns : goal.returns
-returns c =
+pub returns-clause-text : goal.returns-clause-text
+returns-clause-text c =
     let nodes = c.in_ok-nodes.ensures.text in
-    rw nodes.1 (nodes-end _ _ _ nodes.0 _ _ _ _ c.in_ok-next.ensures.0 c.in_ok-header.ensures nodes.2 nodes.3, omega arith)
+    rw nodes.1 (nodes-end _ _ _ nodes.0 _ _ _ c.in_ok-time.ensures.text nodes.2 nodes.3, omega arith)

@@ -1,0 +1,31 @@
+-- What is found while reading.
+use Rattle.std.specs.Prelude.{◌≡◌, ◌⊎◌, ℕ, List, Bool, not, Option, Some, None, Result, Ok, Err, map}
+use denote.Ref.{Bor}
+use Rattle.std.specs.List.{list_any}
+use Rattle.cert_text.specs.declared.certificates.LinkCycle.{LinkCycle}
+use Rattle.cert_text.specs.declared.reading.fault.Fault.{Fault}
+use Rattle.cert_text.specs.declared.reading.fault.Fault.TheVariants.{Memory}
+use Rattle.cert_text.specs.declared.reading.found.FoundCycle.{FoundCycle}
+use Rattle.cert_text.specs.CycleLines.{cycle_lines}
+use Rattle.cert_text.specs.Digits.{IsNumeral}
+use Rattle.cert_text.specs.Fields.{number_value}
+use Rattle.cert_text.specs.Reads.{Reads, lines_of}
+use Rattle.cert_text.specs.Sections.{same_cycle, place_of, with_cycle}
+
+-- the number of digits, if there are some
+abbrev pub values_of : Option (Bor (List ℕ)) → Option ℕ
+values_of None = None
+values_of (Some digits) = Some (number_value digits.now)
+
+abbrev pub IsNumeralSome : Option (Bor (List ℕ)) → Type 0
+IsNumeralSome None = Unit {0}
+IsNumeralSome (Some digits) = IsNumeral digits.now
+
+-- the keys are the texts of the cycles
+abbrev pub HasTexts : List (Bor (List ℕ)) → List LinkCycle → Type 0
+HasTexts keys cycles = map (λ (k : Bor (List ℕ)). k.now) keys ≡ map cycle_lines cycles
+
+-- a cycle that was read is found among those before it
+abbrev pub FindsCycle : Result FoundCycle Fault → List LinkCycle → List LinkCycle → List ℕ → Reads LinkCycle → Type 0
+FindsCycle (Ok found) old new left read = (c : LinkCycle) × (read ≡ Ok (c, lines_of left)) × (found.number ≡ place_of old c) × (found.is_new ≡ not (list_any (same_cycle c) old)) × (new ≡ with_cycle old c)
+FindsCycle (Err e) old new left read = (e ≡ Memory) ⊎ (read ≡ Err (e, lines_of left))
