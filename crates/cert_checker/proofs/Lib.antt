@@ -10,5 +10,11 @@ pub mod Listing
 pub mod ScenarioFaults
 pub mod WorstClaims
 pub mod ShownLists
+pub mod FileNets
 pub mod TradeOffs
+pub mod Glue
 pub mod TradeOffFaults
+pub mod StorageFirsts
+pub mod TradeOffFirsts
+pub mod EntryLists
+pub mod KnownLists

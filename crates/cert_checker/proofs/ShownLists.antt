@@ -1,6 +1,6 @@
 -- The channels that a member shows, as a list, and the bound that it gives for the rates of distributions that agree on them.
 use Rattle.std.proofs.Common.{◌≡◌, ℕ, zero, suc, ◌+◌, ◌*◌, ◌≤◌, ◌<◌, ◌⊎◌, Option, None, Some, List, [], ◌∷◌, length, inl, inr, ⊎_elim, subst, sym, refl, ap, ◌∙◌, arith, mul-le-mul_left}
-use Rattle.std.specs.Prelude.{◌↔◌, slice_index, slice_index_or}
+use Rattle.std.specs.Prelude.{slice_index, slice_index_or}
 use Rattle.std.proofs.lemmas.Bool.{cases_lt}
 use Rattle.std.proofs.Math.Nat.{le_of_mul-le-mul_left}
 use Rattle.sd_base.specs.declared.role.Role.{Role}
@@ -13,7 +13,6 @@ use Rattle.sd_base.specs.Untimed.{Blocks, CanFire}
 use Rattle.sd_base.proofs.Parts.{timed, wired, balanced}
 use Rattle.critical.specs.Bounds.{CyclesBoundTheRate}
 use Rattle.critical.specs.declared.cycle.CycleStep.{CycleStep}
-use Rattle.critical.specs.declared.cycle.NeedCycle.{NeedCycle}
 use Rattle.critical.specs.Cycles.{HoldsOn}
 use Rattle.critical.specs.Spaces.{IsSpaceAt, no_step}
 use Rattle.storage.specs.BoundedNets.{HasNoSpaces, bound, space_of}
@@ -31,7 +30,7 @@ use Rattle.cert_text.specs.declared.certificates.MemberShown.TheVariants.{Cycle,
 use Rattle.cert_text.specs.MemberLines.{cycle_at}
 use Rattle.cert_checker.specs.LinkCycles.{AreAlong, IsAlong, IsCycleLine}
 use Rattle.cert_checker.specs.Schedules.{IsRateLine}
-use Rattle.cert_checker.specs.ShownChannels.{IsAlongSpace, IsFull, IsShownBy, no_link}
+use Rattle.cert_checker.specs.ShownChannels.{IsAlongSpace, IsShownBy, no_link}
 use Rattle.cert_checker.specs.StorageCertificates.{AreBlocking, IsShownRight}
 
 -- ---- the spaces of links

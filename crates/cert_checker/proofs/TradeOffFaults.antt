@@ -1,5 +1,5 @@
 -- Where lines of a trade-off are right, none is faulty.
-use Rattle.std.proofs.Common.{◌≡◌, ℕ, ◌≤◌, ◌<◌, List, length, arith}
+use Rattle.std.proofs.Common.{ℕ, List, arith}
 use Rattle.sd_base.specs.Net.{Net}
 use Rattle.storage.specs.BoundedNets.{bound}
 use Rattle.cert_text.specs.declared.certificates.LinkCycle.{LinkCycle}

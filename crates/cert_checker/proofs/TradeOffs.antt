@@ -1,39 +1,34 @@
 -- What a certificate of a trade-off shows of which all lines are right.
-use Rattle.std.proofs.Common.{◌≡◌, ℕ, zero, suc, ◌+◌, ◌*◌, ◌-◌, ◌≤◌, ◌<◌, ◌⊎◌, Option, None, Some, List, [], ◌∷◌, length, map, inl, inr, ⊎_elim, subst, sym, refl, ap, ◌∙◌, arith}
+use Rattle.std.proofs.Common.{◌≡◌, ℕ, zero, suc, ◌+◌, ◌*◌, ◌-◌, ◌≤◌, ◌<◌, Option, Some, List, [], ◌∷◌, length, map, ⊎_elim, subst, sym, refl, ap, ◌∙◌, arith}
 use Rattle.std.specs.Prelude.{slice_index, slice_index_or}
-use Rattle.std.proofs.lemmas.Bool.{cases_lt}
 use Rattle.std.proofs.lemmas.List.{get_or-map, length-map}
-use Rattle.sd_base.specs.declared.limits.TheConstants.{NET_CHANNELS, NET_TOKENS, STORAGE}
-use Rattle.sd_base.specs.Net.{Channel, Net, channel_at}
+use Rattle.sd_base.specs.Net.{Net, channel_at}
 use Rattle.sd_base.specs.Lawful.{Lawful}
 use Rattle.sd_base.specs.Rates.{Rate}
 use Rattle.critical.specs.Bounds.{CyclesBoundTheRate}
 use Rattle.periodic.proofs.Lines.{lines_decide}
-use Rattle.storage.specs.BoundedNets.{HasNoSpaces, bound, spaces_from}
-use Rattle.storage.specs.ClosedLists.{Entry, HasEntry, IsClosed, IsFrontOver, entry_at, no_entry}
-use Rattle.storage.specs.Distributions.{IsDistribution, capacity_at, storage_of}
+use Rattle.storage.specs.BoundedNets.{HasNoSpaces, bound}
+use Rattle.storage.specs.ClosedLists.{Entry, HasEntry, IsClosed, IsFrontOver, entry_at}
+use Rattle.storage.specs.Distributions.{capacity_at, storage_of}
 use Rattle.storage.specs.ParetoPoints.{IsFront, IsReached, Pair, no_pair}
 use Rattle.storage.specs.Steps.{IsCorner, IsOnGrid, step_of}
 use Rattle.storage.proofs.ChannelSteps.{some-step}
 use Rattle.storage.proofs.CornerLists.{corner-grid}
 use Rattle.storage.proofs.Enlarging.{distribution-length, enlarged-grid, enlarged-storage}
-use Rattle.storage.proofs.FileChannels.{plain-no_spaces}
-use Rattle.storage.proofs.Fits.{can-hold}
 use Rattle.storage.proofs.FrontsFromMembers.{front-over, less_on}
 use Rattle.storage.proofs.Lawfulness.{bound-lawful}
-use Rattle.storage.proofs.SpaceChannels.{bound-long}
 use Rattle.storage.proofs.SpacesJoinEnds.{bound-strong}
 use Rattle.storage.proofs.TouchedInputs.{touched-inputs}
 use Rattle.cert_text.specs.declared.certificates.MemberShown.{MemberShown}
 use Rattle.cert_text.specs.declared.certificates.MemberShown.TheVariants.{Cycle, Blocked}
-use Rattle.cert_text.specs.declared.certificates.PointLine.{PointLine}
 use Rattle.cert_text.specs.declared.certificates.StorageCertificate.{StorageCertificate}
 use Rattle.cert_text.specs.declared.certificates.LinkCycle.{LinkCycle}
 use Rattle.cert_checker.specs.LinkCycles.{IsCycleLine}
 use Rattle.cert_checker.specs.Schedules.{IsRateLine}
 use Rattle.cert_checker.specs.RateCertificates.{RateIsShown}
-use Rattle.cert_checker.specs.ShownChannels.{IsMember, IsShownBy, IsWithin, Shows, capacities_at, member_at, stepped}
-use Rattle.cert_checker.specs.StorageCertificates.{HasRate, IsFileNet, IsScheduleRight, IsShownRight, IsTradeOff, capacities_of, pair_of, point_at, no_point}
+use Rattle.cert_checker.specs.ShownChannels.{IsMember, IsShownBy, IsWithin, capacities_at, member_at, stepped}
+use Rattle.cert_checker.specs.StorageCertificates.{HasRate, IsFileNet, IsShownRight, IsTradeOff, capacities_of, pair_of, point_at, no_point}
+use Rattle.cert_checker.proofs.FileNets.{bounded-few, no-spaces, within-can}
 use Rattle.cert_checker.proofs.ShownLists.{HasBound, shown-bound}
 
 -- ---- a list of what each number below n has
@@ -56,25 +51,19 @@ choose P (suc n) all =
     at e one es later zero below = one
     at e one es later (suc i) below = later i (omega arith)
 
-spaces-few : (n : ℕ) (cs : List Channel) (ds : List (Option ℕ)) → length (spaces_from n cs ds) ≤ length cs
-spaces-few n [] ds = omega arith
-spaces-few n (c ∷ cs) [] = omega arith
-spaces-few n (c ∷ cs) (None ∷ ds) = let later = spaces-few (suc n) cs ds in omega (arith, later)
-spaces-few n (c ∷ cs) (Some k ∷ ds) = let later = spaces-few (suc n) cs ds in omega (arith, later)
-
-capacity-below : (ds : List (Option ℕ)) (c k : ℕ) → capacity_at ds c ≡ Some k → c < length ds
+pub capacity-below : (ds : List (Option ℕ)) (c k : ℕ) → capacity_at ds c ≡ Some k → c < length ds
 capacity-below [] c k has = absurd (cc)
 capacity-below (d ∷ ds) zero k has = omega arith
 capacity-below (d ∷ ds) (suc c) k has = let later = capacity-below ds c k has in omega (arith, later)
 
 -- what is shown has a capacity
-shown-room : (net : Net) (cycles : List LinkCycle) (ds : List (Option ℕ)) (shown : MemberShown) (c : ℕ) → IsShownBy net cycles ds shown c → (k : ℕ) × (capacity_at ds c ≡ Some k)
+pub shown-room : (net : Net) (cycles : List LinkCycle) (ds : List (Option ℕ)) (shown : MemberShown) (c : ℕ) → IsShownBy net cycles ds shown c → (k : ℕ) × (capacity_at ds c ≡ Some k)
 shown-room net cycles ds (Cycle rate cycle) c by = (by.room, by.has)
 shown-room net cycles ds (Blocked counts) c by = (by.shows.room, by.shows.has)
 
 module _ (cycles_bound : CyclesBoundTheRate) (rates : RateIsShown) (net : Net) (c : StorageCertificate) (corner : List (Option ℕ)) (file : IsFileNet net) (is_corner : IsCorner net.channels corner) (is : IsTradeOff net c) where
   none : HasNoSpaces net
-  none = plain-no_spaces net file.plain
+  none = no-spaces net file
 
   caps : ℕ → List (Option ℕ)
   caps i = capacities_at c.members i
@@ -82,8 +71,8 @@ module _ (cycles_bound : CyclesBoundTheRate) (rates : RateIsShown) (net : Net) (
   -- the nets of distributions within the limit keep the laws
   lawful : (es : List (Option ℕ)) → IsWithin net c.limit es → Lawful (bound net es)
   lawful es fit = bound-lawful net file.laws es none
-      (can-hold net.channels es file.laws.some_size fit.distribution (omega (arith, fit.storage, is.limit)))
-      (omega (arith, bound-long net es, spaces-few 0 net.channels es, file.few))
+      (within-can net file c.limit es is.limit fit)
+      (bounded-few net file es)
 
   within : (i : ℕ) → i < length c.members → IsWithin net c.limit (capacities_at c.members i)
   within i below = (is.members i below).place.within

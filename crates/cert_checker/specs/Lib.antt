@@ -7,6 +7,7 @@ pub mod ShownChannels
 pub mod StorageLines
 pub mod StorageCertificates
 pub mod StorageFaults
+pub mod Certificates
 pub mod ListedNodes
 pub mod ScenarioCertificates
 pub mod inside

@@ -1,5 +1,5 @@
 -- Members of a trade-off, and the channels on which they show that more room may help.
-use Rattle.std.specs.Prelude.{◌≡◌, ℕ, ◌+◌, ◌≤◌, ◌<◌, List, [], Option, Some, length, slice_index, slice_index_or}
+use Rattle.std.specs.Prelude.{◌≡◌, ℕ, ◌≤◌, ◌<◌, List, [], Option, Some, length, slice_index, slice_index_or}
 use Rattle.sd_base.specs.declared.role.Role.TheVariants.{Space}
 use Rattle.sd_base.specs.Net.{Net, channel_at}
 use Rattle.storage.specs.Distributions.{IsDistribution, capacity_at, enlarged, storage_of}

@@ -1,5 +1,5 @@
 -- Valid certificates of trade-offs, and what they show.
-use Rattle.std.specs.Prelude.{◌≡◌, ℕ, ◌+◌, ◌-◌, ◌*◌, ◌≤◌, ◌<◌, ◌⊎◌, false, List, [], Option, length, map, slice_index, slice_index_or}
+use Rattle.std.specs.Prelude.{◌≡◌, ℕ, ◌-◌, ◌*◌, ◌≤◌, ◌<◌, ◌⊎◌, false, List, [], Option, length, map, slice_index, slice_index_or}
 use Rattle.sd_base.specs.declared.limits.TheConstants.{NET_CHANNELS, STORAGE}
 use Rattle.sd_base.specs.Net.{Net}
 use Rattle.sd_base.specs.Lawful.{Lawful}
@@ -13,7 +13,6 @@ use Rattle.storage.specs.ParetoPoints.{IsFront, Pair}
 use Rattle.storage.specs.Steps.{IsCorner}
 use Rattle.storage.specs.TouchedActors.{AreTouched}
 use Rattle.cert_text.specs.declared.certificates.LinkCycle.{LinkCycle}
-use Rattle.cert_text.specs.declared.certificates.MemberLine.{MemberLine}
 use Rattle.cert_text.specs.declared.certificates.MemberShown.{MemberShown}
 use Rattle.cert_text.specs.declared.certificates.MemberShown.TheVariants.{Cycle, Blocked}
 use Rattle.cert_text.specs.declared.certificates.PointLine.{PointLine}

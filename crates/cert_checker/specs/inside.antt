@@ -1,2 +1,7 @@
 pub mod Marks
 pub mod Listed
+pub mod Entries
+pub mod FirstFaults
+pub mod ShownAt
+pub mod KnownSets
+pub mod BelowPoints

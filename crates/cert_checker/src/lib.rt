@@ -2,19 +2,32 @@
 //! execution of a net.
 #![tactic(auto)]
 
+mod blocking;
 mod buffers;
+mod certificates;
 mod cycles;
+mod fault;
+mod fits;
 mod joins;
+mod known;
 mod laws;
+mod members;
+mod points;
 mod potentials;
 mod rates;
 mod reaching;
 mod scenarios;
 mod schedules;
+mod shown;
+mod sizes;
+mod touched;
+mod trade_offs;
 mod verdict;
 mod walks;
 
+pub use certificates::check;
 pub use laws::{rate_is_shown, trade_off_is_shown};
 pub use rates::check_rate;
 pub use scenarios::check_scenario;
+pub use trade_offs::check_storage;
 pub use verdict::{Claim, Reason, Verdict};

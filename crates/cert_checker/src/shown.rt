@@ -1,0 +1,92 @@
+//! The channels that members show.
+ghost use Rattle.std.specs.Prelude.{◌≡◌, ◌↔◌, ℕ, ◌<◌, IsTrue, length, slice_index, slice_index_or};
+ghost use Rattle.sd_base.specs.Net.{channel_at};
+ghost use Rattle.sd_base.specs.Schedules.{Needs};
+ghost use Rattle.storage.specs.BoundedNets.{space_of};
+ghost use Rattle.storage.specs.Distributions.{capacity_at};
+ghost use Rattle.cert_text.specs.MemberLines.{cycle_at};
+ghost use Rattle.cert_checker.specs.ShownChannels.{IsShownBy};
+ghost use Rattle.cert_checker.specs.inside.ShownAt.{HasSpaceLink, IsFullAt};
+
+use crate::blocking::can_fire;
+use cert_text::{LinkCycle, LinkStep, MemberLine, MemberShown};
+use firing::{Firing, know_laws, made_sum, taken_sum};
+use sd_base::Role;
+use storage::Distribution;
+
+/// Whether a member shows a channel, where its capacities are right. Cost: the steps of its cycle, or the channels.
+pub(crate) fn is_shown<F: Firing>(
+    net: &F,
+    cycles: &[LinkCycle],
+    member: &MemberLine,
+    channel: u32,
+) -> bool
+    requires channel { channel < length (F.net net.now).channels }
+    ensures { IsTrue result ↔ IsShownBy (F.net net.now) cycles.now member.now.capacities.capacities member.now.shown channel }
+{
+    let Some(room) = capacity_of(&member.capacities, channel) else {
+        return false;
+    };
+    match &member.shown {
+        MemberShown::Cycle { cycle, .. } => is_along_space(cycles, *cycle, channel),
+        MemberShown::Blocked { counts } => { is_full(net, counts.as_slice(), channel, room) }
+    }
+}
+
+/// The capacity of a channel, if it is bounded.
+fn capacity_of(capacities: &Distribution, channel: u32) -> Option<u64>
+    ensures { result ≡ capacity_at capacities.now.capacities channel }
+{
+    match capacities.capacities.as_slice().get(channel as usize) {
+        Some(entry) => *entry,
+        None => None,
+    }
+}
+
+/// Whether a step of a cycle is along the free space of a channel.
+fn is_along_space(cycles: &[LinkCycle], number: u64, channel: u32) -> bool
+    ensures { IsTrue result ↔ HasSpaceLink (cycle_at cycles.now number).steps channel }
+{
+    match cycles.get(number as usize) {
+        Some(cycle) => has_space(cycle.steps.as_slice(), channel),
+        None => false,
+    }
+}
+
+fn has_space(steps: &[LinkStep], channel: u32) -> bool
+    ensures { IsTrue result ↔ HasSpaceLink steps.now channel }
+{
+    for step in steps {
+        if step.link == Role::Space(channel) {
+            return true;
+        }
+    }
+    false
+}
+
+/// Whether there is a count for each actor, and the source of a channel is below its round, lacks no token, and lacks space.
+fn is_full<F: Firing>(net: &F, counts: &[u64], channel: u32, room: u64) -> bool
+    requires channel { channel < length (F.net net.now).channels }
+    ensures { IsTrue result ↔ IsFullAt (F.net net.now) counts.now channel room }
+{
+    know_laws(net);
+    if counts.len() != net.actors() as usize {
+        return false;
+    }
+    let source = net.source(channel);
+    let made = counts[source as usize];
+    let taken = counts[net.target(channel) as usize];
+    made < net.round(source)
+        && lacks_space(net, channel, room, made, taken)
+        && can_fire(net, counts, source)
+}
+
+/// Whether the free space of a channel has too few tokens for a firing of its source after so many firings of its target.
+fn lacks_space<F: Firing>(net: &F, channel: u32, room: u64, later: u64, taken: u64) -> bool
+    requires channel { channel < length (F.net net.now).channels }
+    ensures { IsTrue result ↔ Needs (space_of channel (channel_at (F.net net.now) channel) room) later taken }
+{
+    know_laws(net);
+    room.saturating_sub(net.tokens(channel)) as u128 + taken_sum(net, channel, taken as u128)
+        < made_sum(net, channel, later as u128 + 1)
+}
