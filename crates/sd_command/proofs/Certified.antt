@@ -13,6 +13,7 @@ use Rattle.periodic.specs.LoopSchedules.{IsScheduleOf}
 use Rattle.cert_text.specs.declared.certificates.Certificate.{Certificate}
 use Rattle.cert_text.specs.Spellable.{AreStarts}
 use Rattle.sd_command.specs.declared.answer.Put.{Put}
+use Rattle.sd_command.specs.declared.file_kind.FileKind.TheVariants as kinds
 use Rattle.sd_command.specs.declared.stop.Stop.{Stop}
 use Rattle.sd_command.specs.declared.stop.Stop.TheVariants as stop
 use Rattle.sd_command.specs.Certifyings.{Certifies, IsTooLong, certifying}
@@ -21,19 +22,20 @@ use Rattle.sd_base.specs.declared.tables.ScenarioFile.{ScenarioFile}
 use Rattle.critical.specs.declared.cycle.NeedCycle.{NeedCycle}
 use Rattle.automaton.specs.declared.graph.TimedGraph.{TimedGraph}
 use Rattle.scenario_rate.specs.declared.answer.Worst.{Worst}
-use Rattle.sd_command.specs.RateAnswers.{IsOfRate, IsRateAnswer, IsRateShown, IsRateTooLong, Wanted}
+use Rattle.sd_command.specs.declared.wanted.WantedRate.{WantedRate}
+use Rattle.sd_command.specs.RateAnswers.{IsOfRate, IsRateAnswer, IsRateShown, IsRateTooLong}
 use Rattle.sd_command.specs.WorstAnswers.{IsOfWorst, IsShown, IsWorstAnswer, IsWorstTooLong}
 use Rattle.sd_command.specs.Courses.{deciding}
 use Rattle.sd_command.specs.inside.Going.{Does}
 
 module _ (asked : Option (List ℕ)) (name shown : List ℕ) (is_asked : asked ≡ Some name) (same : shown ≡ name) (shows : Certificate → Type 0) (c : Certificate) (is : shows c) where
   -- a certificate is put under the name that was asked for
-  pub put-made : (p : Put) → (certifying shown c).passes p → Certifies asked shows (Some p)
+  pub put-made : (p : Put) → (certifying kinds.Certificate shown c).passes p → Certifies asked shows (Some p)
   put-made p passes =
-      subst (λ (o : Option (List ℕ)). Certifies o shows (Some p)) (sym is_asked) (c, is, (p, subst (λ (n : List ℕ). (certifying n c).passes p) same passes, refl))
+      subst (λ (o : Option (List ℕ)). Certifies o shows (Some p)) (sym is_asked) (c, is, (p, subst (λ (n : List ℕ). (certifying kinds.Certificate n c).passes p) same passes, refl))
 
   -- or it isn't
-  pub put-stops : (why : Stop) → Does (certifying shown c) (Err why) → Does (deciding (Certifies asked shows) (IsTooLong asked shows)) (Err why)
+  pub put-stops : (why : Stop) → Does (certifying kinds.Certificate shown c) (Err why) → Does (deciding (Certifies asked shows) (IsTooLong asked shows)) (Err why)
   put-stops (stop.Refused refusal) refuses = subst (λ (o : Option (List ℕ)). IsTooLong o shows refusal) (sym is_asked) (c, is, refuses)
   put-stops stop.OutOfMemory nothing = tt
 
@@ -55,11 +57,11 @@ starts-spelled net table schedule laws is = All-from_get_or AreStarts schedule.s
     }
 
 -- the certificate of a rate that is shown stops its answer
-pub rate-stops : (graph : GraphFile) (net : Net) (wanted : Wanted) (states : ℕ) (schedule : Periodic) (cycle : NeedCycle) → IsRateShown net states schedule cycle → (why : Stop)
-    → Does (deciding (Certifies wanted.certificate (IsOfRate net wanted schedule cycle)) (IsTooLong wanted.certificate (IsOfRate net wanted schedule cycle))) (Err why)
-    → Does (deciding (IsRateAnswer graph net wanted states) (IsRateTooLong net wanted states)) (Err why)
-rate-stops graph net wanted states schedule cycle shown (stop.Refused refusal) long = record { schedule = schedule; cycle = cycle; shown = shown; long = long }
-rate-stops graph net wanted states schedule cycle shown stop.OutOfMemory nothing = tt
+pub rate-stops : (graph : GraphFile) (net : Net) (ds : List (Option ℕ)) (wanted : WantedRate) (schedule : Periodic) (cycle : NeedCycle) → IsRateShown net wanted.states schedule cycle → (why : Stop)
+    → Does (deciding (Certifies wanted.certificate (IsOfRate net ds wanted schedule cycle)) (IsTooLong wanted.certificate (IsOfRate net ds wanted schedule cycle))) (Err why)
+    → Does (deciding (IsRateAnswer graph net ds wanted) (IsRateTooLong net ds wanted)) (Err why)
+rate-stops graph net ds wanted schedule cycle shown (stop.Refused refusal) long = record { schedule = schedule; cycle = cycle; shown = shown; long = long }
+rate-stops graph net ds wanted schedule cycle shown stop.OutOfMemory nothing = tt
 
 -- that of a worst rate too
 pub worst-stops : (file : ScenarioFile) (graph : TimedGraph) (certificate : Option (List ℕ)) (worst : Worst) → IsShown file graph worst → (why : Stop)

@@ -1,6 +1,5 @@
 -- The words and files decide each command.
-use Rattle.std.proofs.Common.{◌≡◌, ℕ, Bool, true, false, List, Option}
-use Rattle.sd_base.specs.declared.limits.Limits.{Limits}
+use Rattle.std.proofs.Common.{◌≡◌, ℕ, true, false, List, Option}
 use Rattle.sd_base.specs.FileNet.{net_of}
 use Rattle.sd_words.specs.declared.request.Request.{Request}
 use Rattle.sd_words.specs.Asked.{IsWithinLimits}
@@ -11,6 +10,8 @@ use Rattle.sd_command.specs.Bufferings.{buffering}
 use Rattle.sd_words.specs.declared.request.Request.TheVariants as requests
 use Rattle.report.specs.AnswerTexts.{repetition_lines}
 use Rattle.sd_command.specs.declared.file_kind.FileKind.TheVariants.{Graph}
+use Rattle.sd_command.specs.declared.wanted.WantedPoints.{WantedPoints}
+use Rattle.sd_command.specs.declared.wanted.WantedRate.{WantedRate}
 use Rattle.sd_command.specs.Takings.{Files, taking}
 use Rattle.sd_command.specs.Readings.{reading_graph}
 use Rattle.sd_command.specs.Balances.{balancing}
@@ -42,21 +43,21 @@ module _ (laws : FileLaws) (scenarios : ScenarioLaws) (shelf : Files) (tells : s
       after_decides (balancing graph) _ (balancing_determines laws graph (laws.keeps bytes false graph given)) (λ gamma round.
       last_decides (printing (repetition_lines graph gamma)) (prints (repetition_lines graph gamma)))))
 
-  throughput_decides : (name : List ℕ) (buffers : List Buffer) (no_overlap : Bool) (states : ℕ) (certificate : Option (List ℕ)) → AreSmall buffers → Decides (throughput name buffers no_overlap states certificate shelf)
-  throughput_decides name buffers no_overlap states certificate small =
+  throughput_decides : (name : List ℕ) (buffers : List Buffer) (wanted : WantedRate) → AreSmall buffers → Decides (throughput name buffers wanted shelf)
+  throughput_decides name buffers wanted small =
       after_decides (taking shelf Graph name) _ (taking_determines shelf tells Graph name) (λ bytes taken.
       after_decides (reading_graph bytes true) _ (reading_determines laws bytes true) (λ graph given.
       after_decides (buffering graph buffers) _ (buffering_determines graph buffers) (λ distribution gives.
       after_decides (balancing graph) _ (balancing_determines laws graph (laws.keeps bytes true graph given)) (λ gamma round.
-      rate_decides laws.nets (bound (net_of graph gamma no_overlap) distribution.capacities)
-      (bounded_net laws bytes graph gamma no_overlap buffers distribution given round small gives) graph (record { no_overlap = no_overlap; capacities = distribution.capacities; certificate = certificate }) states))))
+      rate_decides laws.nets (bound (net_of graph gamma wanted.no_overlap) distribution.capacities)
+      (bounded_net laws bytes graph gamma wanted.no_overlap buffers distribution given round small gives) graph distribution.capacities wanted))))
 
-  storage_decides : (name : List ℕ) (limits : Limits) (no_overlap : Bool) → Decides (storage name limits no_overlap shelf)
-  storage_decides name limits no_overlap =
+  storage_decides : (name : List ℕ) (wanted : WantedPoints) → Decides (storage name wanted shelf)
+  storage_decides name wanted =
       after_decides (taking shelf Graph name) _ (taking_determines shelf tells Graph name) (λ bytes taken.
       after_decides (reading_graph bytes true) _ (reading_determines laws bytes true) (λ graph given.
       after_decides (balancing graph) _ (balancing_determines laws graph (laws.keeps bytes true graph given)) (λ gamma round.
-      points_decide graph (net_of graph gamma no_overlap) laws.nets (lawful_net laws bytes graph gamma no_overlap given round) limits)))
+      points_decide graph (net_of graph gamma wanted.no_overlap) laws.nets (lawful_net laws bytes graph gamma wanted.no_overlap given round) wanted.limits)))
 
   scenario_decides : (name : List ℕ) (certificate : Option (List ℕ)) → Decides (scenario name certificate shelf)
   scenario_decides name certificate =
@@ -66,8 +67,8 @@ module _ (laws : FileLaws) (scenarios : ScenarioLaws) (shelf : Files) (tells : s
 
   command_decides : (request : Request) → IsWithinLimits request → Decides (command_of request shelf)
   command_decides (requests.Repetition name) within = repetition_decides name
-  command_decides (requests.Throughput name buffers no_overlap states certificate) within = throughput_decides name buffers no_overlap states certificate within.0
-  command_decides (requests.Storage name limits no_overlap) within = storage_decides name limits no_overlap
+  command_decides (requests.Throughput name buffers no_overlap states certificate) within = throughput_decides name buffers (record { no_overlap = no_overlap; states = states; certificate = certificate }) within.0
+  command_decides (requests.Storage name limits no_overlap) within = storage_decides name (record { limits = limits; no_overlap = no_overlap })
   command_decides (requests.Scenario name certificate) within = scenario_decides name certificate
   command_decides (requests.Generate seed limit actors) within = generate_decides laws seed limit actors within.1
 

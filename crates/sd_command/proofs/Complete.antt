@@ -25,7 +25,7 @@ use Rattle.sd_command.specs.Requests.{asking, command_of, course_of}
 use Rattle.sd_command.specs.Endings.{RateCertificatesFit, Repeats, ThroughputIsComplete}
 use Rattle.cert_text.specs.declared.certificates.Certificate.{Certificate}
 use Rattle.sd_command.specs.Certifyings.{AreShort, IsTooLong}
-use Rattle.sd_command.specs.RateAnswers.{Wanted}
+use Rattle.sd_command.specs.declared.wanted.WantedRate.{WantedRate}
 use Rattle.sd_command.proofs.CommandsDecide.{passes_on, never_ends}
 use Rattle.sd_command.proofs.OneRate.{unrefused}
 use Rattle.sd_command.proofs.SharedSteps.{AreSmall, FileLaws, bounded_net}
@@ -33,10 +33,6 @@ use Rattle.sd_command.proofs.Ended.{else_is_done}
 
 pub one_request : (words : List (List ℕ)) (q r : Request) → request_of words ≡ Ok q → request_of words ≡ Ok r → q ≡ r
 one_request words q r p s = let e : ◌≡◌ {A = Result Request UsageCause} (Ok q) (Ok r) = sym p ∙ s in (cc)
-
--- what is asked for beside the rate of a graph
-abbrev wanted_of : Bool → Option (List ℕ) → List (Option ℕ) → Wanted
-wanted_of no_overlap certificate ds = record { no_overlap = no_overlap; capacities = ds; certificate = certificate }
 
 -- certificates that are short enough aren't too long
 short-enough : (certificate : Option (List ℕ)) (shows : Certificate → Type 0) (r : Refusal) → AreShort certificate shows → IsTooLong certificate shows r → ⊥
@@ -47,14 +43,14 @@ module _ (words : List (List ℕ)) (shelf : Files) (name : List ℕ) (buffers : 
   abbrev net_from : List ℕ → GraphFile → List (Option ℕ) → Net
   net_from gamma graph ds = bound (net_of graph gamma no_overlap) ds
 
-  abbrev wanted : List (Option ℕ) → Wanted
-  wanted ds = wanted_of no_overlap certificate ds
+  abbrev wanted : WantedRate
+  wanted = record { no_overlap = no_overlap; states = states; certificate = certificate }
 
   -- the net of the file repeats a shape, and its certificates fit
   abbrev Suffices : Type 0
   Suffices = (bytes gamma : List ℕ) (graph : GraphFile) → shelf.named name ≡ Some bytes → files.Gives bytes true graph → IsRound graph gamma
       → Repeats (net_from gamma graph (capacities_of graph.channels buffers)) states
-      × RateCertificatesFit (net_from gamma graph (capacities_of graph.channels buffers)) (wanted (capacities_of graph.channels buffers)) states
+      × RateCertificatesFit (net_from gamma graph (capacities_of graph.channels buffers)) (capacities_of graph.channels buffers) wanted
 
   -- nothing ends it but what words and files decide
   pub unended : shelf.tells ≡ true → Suffices → (r : Refusal) (n : ℕ) → course_of words shelf (Ended r) n → ⊥
@@ -63,7 +59,7 @@ module _ (words : List (List ℕ)) (shelf : Files) (name : List ℕ) (buffers : 
       never_ends (reading_graph bytes true) _ r n (λ graph given.
       never_ends (buffering graph buffers) _ r n (λ distribution gives.
       never_ends (balancing graph) _ r n (λ gamma round.
-      let fit = subst (λ (ds : List (Option ℕ)). RateCertificatesFit (net_from gamma graph ds) (wanted ds) states) (sym gives.named) (enough bytes gamma graph (taken.told tells) given round).1 in
+      let fit = subst (λ (ds : List (Option ℕ)). RateCertificatesFit (net_from gamma graph ds) ds wanted) (sym gives.named) (enough bytes gamma graph (taken.told tells) given round).1 in
       never_ends (joining graph (net_from gamma graph distribution.capacities)) _ r n (λ a joined.
       never_ends (feeding graph (net_from gamma graph distribution.capacities)) _ r n (λ b fed.
       never_ends (completing graph (net_from gamma graph distribution.capacities)) _ r n (λ c live long.
@@ -74,7 +70,7 @@ module _ (words : List (List ℕ)) (shelf : Files) (name : List ℕ) (buffers : 
   pub late_refusal : (laws : FileLaws) → shelf.tells ≡ true → Suffices → (r : Refusal) (n : ℕ) → (n ≡ 0 → ⊥) → course_of words shelf (Refused r) n → ⊥
   late_refusal laws tells repeats r n late due =
       let ask = passes_on (asking words) _ r n late due in
-      let came : throughput name buffers no_overlap states certificate shelf (Refused r) n = subst (λ (q : Request). command_of q shelf (Refused r) n) (one_request words ask.0 (Throughput name buffers no_overlap states certificate) ask.1 asked) ask.2 in
+      let came : throughput name buffers wanted shelf (Refused r) n = subst (λ (q : Request). command_of q shelf (Refused r) n) (one_request words ask.0 (Throughput name buffers no_overlap states certificate) ask.1 asked) ask.2 in
       let take = passes_on (taking shelf Graph name) _ r n late came in
       let read = passes_on (reading_graph take.0 true) _ r n late take.2 in
       let buffer = passes_on (buffering read.0 buffers) _ r n late read.2 in

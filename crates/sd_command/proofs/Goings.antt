@@ -10,12 +10,13 @@ use Rattle.explore.specs.Explorations.{CountsFew, IsExploration, cycles_in}
 use Rattle.sd_command.specs.declared.answer.Answer.{Answer}
 use Rattle.sd_command.specs.declared.stop.Stop.{Stop}
 use Rattle.sd_command.specs.declared.stop.Stop.TheVariants as stop
+use Rattle.sd_command.specs.declared.wanted.WantedRate.{WantedRate}
 use Rattle.sd_command.specs.Courses.{Step, deciding, Ending, Answered, Refused, Ended, Failed, Lacking, After, ends_by, refused, failed, lacking, passed}
 use Rattle.graph_reader.specs.Laws.{Gives}
 use Rattle.sd_command.specs.declared.file_kind.FileKind.TheVariants.{Graph}
 use Rattle.sd_command.specs.Takings.{Files, IsTaken, taking}
 use Rattle.sd_command.specs.Readings.{reading_graph}
-use Rattle.sd_command.specs.RateAnswers.{IsRateAnswer, IsRateTooLong, IsRunRefusal, Wanted, execution}
+use Rattle.sd_command.specs.RateAnswers.{IsRateAnswer, IsRateTooLong, IsRunRefusal, execution}
 use Rattle.sd_command.specs.PointAnswers.{IsExplorationEnd, IsPointsText, exploration}
 use Rattle.automaton.specs.declared.graph.TimedGraph.{TimedGraph}
 use Rattle.sd_command.specs.WorstAnswers.{IsWorstAnswer, IsWorstTooLong, telling_worst}
@@ -42,14 +43,14 @@ pub goes_on : {A : Type 0} (step : Step A) (next : A → Ending → ℕ → Type
     → Goes (next a) result n faults faults' → Goes (After step next) result n faults faults'
 goes_on step next a result n faults faults' is goes = record { ending = goes.ending; is = goes.is; came = passed a is goes.came; counted = goes.counted }
 
-module _ (graph : GraphFile) (net : Net) (wanted : Wanted) (states n : ℕ) (one : n ≡ 1) (faults : ℕ) where
+module _ (graph : GraphFile) (net : Net) (ds : List (Option ℕ)) (wanted : WantedRate) (n : ℕ) (one : n ≡ 1) (faults : ℕ) where
   -- an execution stops
-  pub run_stops : (why : Stop) → Does (deciding (IsFound net states) (IsRunRefusal net states)) (Err why) → Goes (ends_by (execution graph net wanted states)) (Err why) n faults faults
+  pub run_stops : (why : Stop) → Does (deciding (IsFound net wanted.states) (IsRunRefusal net wanted.states)) (Err why) → Goes (ends_by (execution graph net ds wanted)) (Err why) n faults faults
   run_stops (stop.Refused refusal) is = record { ending = Refused refusal; is = refl; came = (one, is); counted = refl }
   run_stops stop.OutOfMemory is = record { ending = Lacking; is = refl; came = omega arith; counted = refl }
 
   -- it answers with what shows the rate, or its certificate is too long
-  pub run_answers : (result : Result Answer Stop) → Does (deciding (IsRateAnswer graph net wanted states) (IsRateTooLong net wanted states)) result → Goes (ends_by (execution graph net wanted states)) result n faults faults
+  pub run_answers : (result : Result Answer Stop) → Does (deciding (IsRateAnswer graph net ds wanted) (IsRateTooLong net ds wanted)) result → Goes (ends_by (execution graph net ds wanted)) result n faults faults
   run_answers (Ok answer) is = record { ending = Answered answer; is = refl; came = (one, is); counted = refl }
   run_answers (Err (stop.Refused refusal)) is = record { ending = Ended refusal; is = refl; came = (one, is); counted = refl }
   run_answers (Err stop.OutOfMemory) is = record { ending = Lacking; is = refl; came = omega arith; counted = refl }

@@ -19,10 +19,11 @@ use Rattle.sd_base.specs.Untimed.{IsBlockedBy, IsFirstLacking, NamesLacks}
 use Rattle.lasso.specs.LoopAnswers.{IsFound, IsStatesSpent, IsTooManyStarts}
 use Rattle.report.specs.declared.refusal.Refusal.{Refusal}
 use Rattle.report.specs.declared.refusal.Refusal.TheVariants.{OneWay, NoInput, Deadlock}
+use Rattle.sd_command.specs.declared.wanted.WantedRate.{WantedRate}
 use Rattle.sd_command.specs.ActorNames.{actor_shown}
 use Rattle.report.specs.LackTexts.{lacks_list}
 use Rattle.sd_command.specs.Nets.{IsFed, joining, feeding, completing}
-use Rattle.sd_command.specs.RateAnswers.{IsRunRefusal, Wanted, states_spent, too_many_starts, execution, rate_of}
+use Rattle.sd_command.specs.RateAnswers.{IsRunRefusal, states_spent, too_many_starts, execution, rate_of}
 use Rattle.sd_command.specs.Endings.{Repeats}
 use Rattle.sd_command.proofs.Joins.{fed-inputs}
 use Rattle.sd_command.proofs.CommandsDecide.{Determines, Decides, DecidesLast, after_decides, last_decides}
@@ -125,7 +126,7 @@ module _ (facts : NetLaws) (net : Net) (laws : Lawful net) where
       never = λ r a is live. facts.live net (slice_index is.counts) laws live is.is.blocks;
     }
 
-    module _ (wanted : Wanted) (states : ℕ) (fed : IsFed net) where
+    module _ (states : ℕ) (fed : IsFed net) where
       one-run : (r s : Refusal) → IsRunRefusal net states r → IsRunRefusal net states s → s ≡ r
       one-run r s (states_spent is p) (states_spent also q) = q ∙ sym p
       one-run r s (states_spent is p) (too_many_starts also q) = absurd (facts.spent net states laws (fed-inputs net fed) is also)
@@ -136,19 +137,19 @@ module _ (facts : NetLaws) (net : Net) (laws : Lawful net) where
       no-run r table (states_spent is p) found = facts.found_spent net states table laws (fed-inputs net fed) found is
       no-run r table (too_many_starts is p) found = facts.found_many net states table laws (fed-inputs net fed) found is
 
-      pub execution_decides : DecidesLast (execution graph net wanted states)
-      execution_decides = record {
-        one = λ r s n m is also. (one-run r s is.1 also.1, also.0 ∙ sym is.0);
-        no_answer = λ r answer n m is also. no-run r also.1.shown.table is.1 also.1.shown.found;
-        no_end = λ r s n m is also. no-run r also.1.shown.table is.1 also.1.shown.found;
-      }
+    execution_decides : (ds : List (Option ℕ)) (wanted : WantedRate) → IsFed net → DecidesLast (execution graph net ds wanted)
+    execution_decides ds wanted fed = record {
+      one = λ r s n m is also. (one-run wanted.states fed r s is.1 also.1, also.0 ∙ sym is.0);
+      no_answer = λ r answer n m is also. no-run wanted.states fed r also.1.shown.table is.1 also.1.shown.found;
+      no_end = λ r s n m is also. no-run wanted.states fed r also.1.shown.table is.1 also.1.shown.found;
+    }
 
-    pub rate_decides : (wanted : Wanted) (states : ℕ) → Decides (rate_of graph net wanted states)
-    rate_decides wanted states =
+    pub rate_decides : (ds : List (Option ℕ)) (wanted : WantedRate) → Decides (rate_of graph net ds wanted)
+    rate_decides ds wanted =
         after_decides (joining graph net) _ joining_determines (λ a joined.
         after_decides (feeding graph net) _ feeding_determines (λ b fed.
         after_decides (completing graph net) _ completing_determines (λ c live.
-        last_decides (execution graph net wanted states) (execution_decides wanted states fed))))
+        last_decides (execution graph net ds wanted) (execution_decides ds wanted fed))))
 
   -- where a shape is repeated in time, no execution is refused
   pub unrefused : (states : ℕ) → IsFed net → Repeats net states → (r : Refusal) → IsRunRefusal net states r → ⊥

@@ -22,9 +22,10 @@ use Rattle.balance.specs.Repetition.{IsRound}
 use Rattle.report.specs.declared.refusal.Refusal.{Refusal}
 use Rattle.sd_io.specs.Outside.{Rose}
 use Rattle.sd_command.specs.declared.status.Status.TheVariants as statuses
+use Rattle.sd_command.specs.declared.wanted.WantedRate.{WantedRate}
 use Rattle.sd_command.specs.Statuses.{status_of}
 use Rattle.sd_command.specs.Certifyings.{AreShort}
-use Rattle.sd_command.specs.RateAnswers.{IsOfRate, IsRateShown, Wanted}
+use Rattle.sd_command.specs.RateAnswers.{IsOfRate, IsRateShown}
 use Rattle.sd_command.specs.Courses.{Ending, Refused, Ended, Failed, Lacking}
 use Rattle.sd_command.specs.Takings.{Files}
 use Rattle.sd_command.specs.Generations.{usual_limits}
@@ -65,9 +66,9 @@ abbrev pub Repeats : Net → ℕ → Type 0
 Repeats net states = (entry : ℕ) × (period : ℕ) × IsLoop net entry period × (events_by net (entry + period) ≤ states) × (starts_by net (entry + period) ≤ STARTS)
 
 -- where a certificate of the rate of a net is asked for, each one is short enough
-abbrev pub RateCertificatesFit : Net → Wanted → ℕ → Type 0
-RateCertificatesFit net wanted states =
-    (schedule : Periodic) (cycle : NeedCycle) → IsRateShown net states schedule cycle → AreShort wanted.certificate (IsOfRate net wanted schedule cycle)
+abbrev pub RateCertificatesFit : Net → List (Option ℕ) → WantedRate → Type 0
+RateCertificatesFit net ds wanted =
+    (schedule : Periodic) (cycle : NeedCycle) → IsRateShown net wanted.states schedule cycle → AreShort wanted.certificate (IsOfRate net ds wanted schedule cycle)
 
 -- such a run of `throughput` is done, or ends for want of memory, where no refusal is due before anything is executed, the
 -- net of the graph with the capacities repeats a shape, and its certificates are short enough
@@ -78,7 +79,7 @@ ThroughputIsComplete = (run : Run) (cut : Bool) (name : List ℕ) (buffers : Lis
     → ((bytes gamma : List ℕ) (graph : GraphFile) → run.outside.shelf.files.named name ≡ Some bytes → Gives bytes true graph → IsRound graph gamma
     → (let ds : List (Option ℕ) = capacities_of graph.channels buffers in
     let net : Net = bound (net_of graph gamma no_overlap) ds in
-    Repeats net states × RateCertificatesFit net (record { no_overlap = no_overlap; capacities = ds; certificate = certificate }) states))
+    Repeats net states × RateCertificatesFit net ds (record { no_overlap = no_overlap; states = states; certificate = certificate })))
     → Shows run cut → (run.status ≡ statuses.Done) ⊎ (run.status ≡ statuses.Memory)
 
 -- the limits are enough for an exploration: each distribution that it may come to, if its bounded net completes a round,

@@ -1,5 +1,5 @@
 -- The rate of a net, with what shows it.
-use Rattle.std.specs.Prelude.{◌≡◌, ℕ, ◌*◌, ◌≤◌, Bool, List, Option, None}
+use Rattle.std.specs.Prelude.{◌≡◌, ℕ, ◌*◌, ◌≤◌, List, Option, None}
 use Rattle.sd_base.specs.declared.tables.GraphFile.{GraphFile}
 use Rattle.sd_base.specs.declared.limits.Quantity.TheVariants as quantities
 use Rattle.sd_base.specs.Net.{Net}
@@ -20,6 +20,7 @@ use Rattle.report.specs.AnswerTexts.{rate_lines}
 use Rattle.sd_base.specs.Limits.{greatest_of}
 use Rattle.report.specs.QuantityWords.{quantity_text}
 use Rattle.sd_command.specs.declared.answer.Answer.{Answer}
+use Rattle.sd_command.specs.declared.wanted.WantedRate.{WantedRate}
 use Rattle.sd_command.specs.Certifyings.{Certifies, IsTooLong}
 use Rattle.sd_command.specs.Courses.{Analysis, Ending, After, ends_by}
 use Rattle.sd_command.specs.Nets.{joining, feeding, completing}
@@ -43,44 +44,38 @@ pub record IsRateShown (net : Net) (states : ℕ) (schedule : Periodic) (cycle :
   pub reached : schedule.rounds * den ≡ num * schedule.period
   pub bounded : cycle.rounds * den ≡ num * cycle.time
 
--- what is asked for beside the rate: that no firings of an actor overlap, capacities, and a certificate under a name
-pub record Wanted : Type 0 where
-  pub no_overlap : Bool
-  pub capacities : List (Option ℕ)
-  pub certificate : Option (List ℕ)
-
--- a certificate of a schedule and a need cycle
-abbrev pub IsOfRate : Net → Wanted → Periodic → NeedCycle → Certificate → Type 0
-IsOfRate net wanted schedule cycle c = (r : RateCertificate) × (c ≡ certificates.Rate r) × IsRateCertificate net wanted.no_overlap wanted.capacities schedule cycle r
+-- a certificate of a schedule and a need cycle of a net with these capacities
+abbrev pub IsOfRate : Net → List (Option ℕ) → WantedRate → Periodic → NeedCycle → Certificate → Type 0
+IsOfRate net ds wanted schedule cycle c = (r : RateCertificate) × (c ≡ certificates.Rate r) × IsRateCertificate net wanted.no_overlap ds schedule cycle r
 
 -- what shows the rate is printed, and the certificate is made of it
-pub record IsRateAnswer (graph : GraphFile) (net : Net) (wanted : Wanted) (states : ℕ) (answer : Answer) : Type 0 where
+pub record IsRateAnswer (graph : GraphFile) (net : Net) (ds : List (Option ℕ)) (wanted : WantedRate) (answer : Answer) : Type 0 where
   pub schedule : Periodic
   pub cycle : NeedCycle
-  pub shown : IsRateShown net states schedule cycle
+  pub shown : IsRateShown net wanted.states schedule cycle
   pub text : answer.text ≡ rate_lines graph net schedule cycle
-  pub put : Certifies wanted.certificate (IsOfRate net wanted schedule cycle) answer.put
+  pub put : Certifies wanted.certificate (IsOfRate net ds wanted schedule cycle) answer.put
 
 -- the certificate of what shows the rate is too long
-pub record IsRateTooLong (net : Net) (wanted : Wanted) (states : ℕ) (refusal : Refusal) : Type 0 where
+pub record IsRateTooLong (net : Net) (ds : List (Option ℕ)) (wanted : WantedRate) (refusal : Refusal) : Type 0 where
   pub schedule : Periodic
   pub cycle : NeedCycle
-  pub shown : IsRateShown net states schedule cycle
-  pub long : IsTooLong wanted.certificate (IsOfRate net wanted schedule cycle) refusal
+  pub shown : IsRateShown net wanted.states schedule cycle
+  pub long : IsTooLong wanted.certificate (IsOfRate net ds wanted schedule cycle) refusal
 
 -- one execution; the length of the certificate isn't decided by words and files, since other need cycles bound the rate too
-abbrev pub execution : GraphFile → Net → Wanted → ℕ → Analysis
-execution graph net wanted states = record {
-  answered = λ answer n. (n ≡ 1) × IsRateAnswer graph net wanted states answer;
-  refused = λ refusal n. (n ≡ 1) × IsRunRefusal net states refusal;
-  ended = λ refusal n. (n ≡ 1) × IsRateTooLong net wanted states refusal;
+abbrev pub execution : GraphFile → Net → List (Option ℕ) → WantedRate → Analysis
+execution graph net ds wanted = record {
+  answered = λ answer n. (n ≡ 1) × IsRateAnswer graph net ds wanted answer;
+  refused = λ refusal n. (n ≡ 1) × IsRunRefusal net wanted.states refusal;
+  ended = λ refusal n. (n ≡ 1) × IsRateTooLong net ds wanted refusal;
   counted = λ n. n ≤ 1;
 }
 
--- the rate of a net that is joined and fed and completes a round
-abbrev pub rate_of : GraphFile → Net → Wanted → ℕ → Ending → ℕ → Type 0
-rate_of graph net wanted states =
+-- the rate of a net with these capacities, that is joined and fed and completes a round
+abbrev pub rate_of : GraphFile → Net → List (Option ℕ) → WantedRate → Ending → ℕ → Type 0
+rate_of graph net ds wanted =
     After (joining graph net) λ joined.
     After (feeding graph net) λ fed.
     After (completing graph net) λ complete.
-    ends_by (execution graph net wanted states)
+    ends_by (execution graph net ds wanted)

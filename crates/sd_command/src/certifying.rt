@@ -21,15 +21,20 @@ fn named(alloc: Global, name: &str) -> Result<Text, NoMemory>
     Ok(Text::of(alloc, name)?)
 }
 
-/// The file of a certificate under a name.
-pub(crate) fn certify(alloc: Global, name: &str, certificate: &Certificate) -> Result<Put, Stop>
+/// The file of a kind that is a certificate, under a name.
+pub(crate) fn certify(
+    alloc: Global,
+    kind: FileKind,
+    name: &str,
+    certificate: &Certificate,
+) -> Result<Put, Stop>
     requires spellable { IsSpellable certificate.now }
     requires orderly { IsOrderly certificate.now }
-    ensures { Does (certifying name.now certificate.now) result }
+    ensures { Does (certifying kind name.now certificate.now) result }
 {
     match write_certificate(alloc, certificate, VERSION) {
         Ok(bytes) => Ok(Put {
-            kind: FileKind::Certificate,
+            kind,
             name: named(alloc, name)?,
             bytes,
         }),

@@ -24,7 +24,7 @@ use gen_graph::{make, write_graph};
 use graph_reader::{ReadError, know_files, read_graph};
 use report::summary_text;
 use sd_base::limits::{USUAL_DISTRIBUTIONS, USUAL_STATES};
-use sd_base::{GraphFile, Ledger, Limits, NoMemory, Steps};
+use sd_base::{GraphFile, Ledger, Limits, NoMemory, Rows, Steps};
 use std::alloc::Global;
 use std::thread::Threads;
 
@@ -46,7 +46,7 @@ pub(crate) fn answer<R: Threads + Sync, G: Gate + Sync, L: Ledger + Send>(
     ensures share { steps.new.share ≡ steps.old.share }
 {
     let graph = made_again(alloc, seed, actors)?;
-    summed(rt, alloc, seed, &graph, usual_limits(limit), gate, steps)
+    summed(rt, alloc, seed, graph, usual_limits(limit), gate, steps)
 }
 
 // The graph of a number, written as a graph file and read again.
@@ -89,90 +89,92 @@ fn usual_limits(total: u64) -> Limits
     }
 }
 
+/// A graph that was made from a number, with its repetition vector.
+#[derive(Debug, Drop)]
+struct Made {
+    seed: u64,
+    graph: GraphFile,
+    gamma: Rows<u64>,
+}
+
 // The summary of a graph.
 fn summed<R: Threads + Sync, G: Gate + Sync, L: Ledger + Send>(
     rt: &R,
     alloc: Global,
     seed: u64,
-    graph: &GraphFile,
+    graph: GraphFile,
     limits: Limits,
     gate: &G,
     steps: &mut Steps<L>,
 ) -> Result<Answer, Stop>
-    requires rules { KeepsRules graph.now }
-    requires timed { IsTimed graph.now }
-    requires sdf { graph.now.kind ≡ Sdf }
+    requires rules { KeepsRules graph }
+    requires timed { IsTimed graph }
+    requires sdf { graph.kind ≡ Sdf }
     requires limits { AreLimits limits }
-    ensures goes { (faults : ℕ) → Goes (summed seed limits graph.now) result (steps.new.count - steps.old.count) faults faults }
+    ensures goes { (faults : ℕ) → Goes (summed seed limits graph) result (steps.new.count - steps.old.count) faults faults }
     ensures rises { steps.old.count ≤ steps.new.count }
     ensures share { steps.new.share ≡ steps.old.share }
 {
-    let gamma = balanced(alloc, graph)?;
-    summary_of_graph(
-        rt,
-        alloc,
-        seed,
-        graph,
-        gamma.as_slice(),
-        limits,
-        gate,
-        steps,
-    )
+    let gamma = balanced(alloc, &graph)?;
+    let made = Made { seed, graph, gamma };
+    summary_of_graph(rt, alloc, &made, limits, gate, steps)
 }
 
 // The summary of the net of a synchronous graph with its repetition vector.
 fn summary_of_graph<R: Threads + Sync, G: Gate + Sync, L: Ledger + Send>(
     rt: &R,
     alloc: Global,
-    seed: u64,
-    graph: &GraphFile,
-    gamma: &[u64],
+    made: &Made,
     limits: Limits,
     gate: &G,
     steps: &mut Steps<L>,
 ) -> Result<Answer, Stop>
-    requires rules { KeepsRules graph.now }
-    requires timed { IsTimed graph.now }
-    requires sdf { graph.now.kind ≡ Sdf }
-    requires round { IsRound graph.now gamma.now }
+    requires rules { KeepsRules made.now.graph }
+    requires timed { IsTimed made.now.graph }
+    requires sdf { made.now.graph.kind ≡ Sdf }
+    requires round { IsRound made.now.graph made.now.gamma }
     requires limits { AreLimits limits }
     ensures goes { (faults : ℕ) →
-        Goes (summary_of seed graph.now gamma.now (net_of graph.now gamma.now true) limits) result (steps.new.count - steps.old.count) faults faults }
+        Goes (summary_of made.now.seed made.now.graph made.now.gamma (net_of made.now.graph made.now.gamma true) limits) result (steps.new.count - steps.old.count) faults faults }
     ensures rises { steps.old.count ≤ steps.new.count }
     ensures share { steps.new.share ≡ steps.old.share }
 {
-    let net = SdfNet::new(alloc, graph, gamma, true)?;
-    summary_of(rt, alloc, &net, seed, graph, gamma, limits, gate, steps)
+    let net = SdfNet::new(alloc, &made.graph, made.gamma.as_slice(), true)?;
+    summary_of(rt, alloc, &net, made, limits, gate, steps)
 }
 
-// The summary of the Pareto points of a net within a limit. `graph` has the names of its actors and channels.
+// The summary of the Pareto points of a net within a limit. The graph has the names of its actors and channels.
 fn summary_of<R: Threads + Sync, F: Firing + Sync, G: Gate + Sync, L: Ledger + Send>(
     rt: &R,
     alloc: Global,
     net: &F,
-    seed: u64,
-    graph: &GraphFile,
-    gamma: &[u64],
+    made: &Made,
     limits: Limits,
     gate: &G,
     steps: &mut Steps<L>,
 ) -> Result<Answer, Stop>
-    requires named { IsNamed graph.now (F.net net.now) }
+    requires named { IsNamed made.now.graph (F.net net.now) }
     requires plain { IsPlain (F.net net.now) }
     requires connected { IsConnected (F.net net.now) }
     requires few { 2 * length (F.net net.now).channels ≤ NET_CHANNELS }
-    requires round { IsRound graph.now gamma.now }
+    requires round { IsRound made.now.graph made.now.gamma }
     requires limits { AreLimits limits }
     ensures goes { (faults : ℕ) →
-        Goes (summary_of seed graph.now gamma.now (F.net net.now) limits) result (steps.new.count - steps.old.count) faults faults }
+        Goes (summary_of made.now.seed made.now.graph made.now.gamma (F.net net.now) limits) result (steps.new.count - steps.old.count) faults faults }
     ensures rises { steps.old.count ≤ steps.new.count }
     ensures share { steps.new.share ≡ steps.old.share }
 {
-    touch(alloc, net, graph)?;
-    complete(alloc, net, graph)?;
-    let exploration = explored(rt, alloc, net, graph, limits, gate, steps)?;
+    touch(alloc, net, &made.graph)?;
+    complete(alloc, net, &made.graph)?;
+    let exploration = explored(rt, alloc, net, &made.graph, limits, gate, steps)?;
     Ok(Answer {
-        text: summary_text(alloc, seed, graph, gamma, exploration.points.as_slice())?,
+        text: summary_text(
+            alloc,
+            made.seed,
+            &made.graph,
+            made.gamma.as_slice(),
+            exploration.points.as_slice(),
+        )?,
         put: None,
     })
 }

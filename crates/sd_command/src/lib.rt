@@ -25,6 +25,7 @@ mod stop;
 mod taking;
 mod throughput;
 mod trade_off;
+mod wanted;
 
 pub use command::analyse;
 pub use laws::know_endings;

@@ -23,6 +23,7 @@ use crate::answer::Answer;
 use crate::nets::{complete, touch};
 use crate::reading::above;
 use crate::stop::Stop;
+use crate::wanted::WantedPoints;
 use explore::{Exploration, ExploreError, explore};
 use fanout::Gate;
 use firing::{CsdfNet, Firing, SdfNet, know_laws};
@@ -40,28 +41,27 @@ pub(crate) fn points_of_graph<R: Threads + Sync, G: Gate + Sync, L: Ledger + Sen
     alloc: Global,
     graph: &GraphFile,
     gamma: &[u64],
-    no_overlap: bool,
-    limits: Limits,
+    wanted: &WantedPoints,
     gate: &G,
     steps: &mut Steps<L>,
 ) -> Result<Answer, Stop>
     requires rules { KeepsRules graph.now }
     requires timed { IsTimed graph.now }
     requires round { IsRound graph.now gamma.now }
-    requires limits { AreLimits limits }
+    requires limits { AreLimits wanted.now.limits }
     ensures goes { (faults : ℕ) →
-        Goes (points_of graph.now (net_of graph.now gamma.now no_overlap) limits) result (steps.new.count - steps.old.count) faults faults }
+        Goes (points_of graph.now (net_of graph.now gamma.now wanted.now.no_overlap) wanted.now.limits) result (steps.new.count - steps.old.count) faults faults }
     ensures rises { steps.old.count ≤ steps.new.count }
     ensures share { steps.new.share ≡ steps.old.share }
 {
     match graph.kind {
         Kind::Sdf => {
-            let net = SdfNet::new(alloc, graph, gamma, no_overlap)?;
-            points_of(rt, alloc, &net, graph, limits, gate, steps)
+            let net = SdfNet::new(alloc, graph, gamma, wanted.no_overlap)?;
+            points_of(rt, alloc, &net, graph, wanted, gate, steps)
         }
         Kind::Csdf => {
-            let net = CsdfNet::new(alloc, graph, gamma, no_overlap)?;
-            points_of(rt, alloc, &net, graph, limits, gate, steps)
+            let net = CsdfNet::new(alloc, graph, gamma, wanted.no_overlap)?;
+            points_of(rt, alloc, &net, graph, wanted, gate, steps)
         }
     }
 }
@@ -73,7 +73,7 @@ pub(crate) fn points_of<R: Threads + Sync, F: Firing + Sync, G: Gate + Sync, L: 
     alloc: Global,
     net: &F,
     graph: &GraphFile,
-    limits: Limits,
+    wanted: &WantedPoints,
     gate: &G,
     steps: &mut Steps<L>,
 ) -> Result<Answer, Stop>
@@ -81,14 +81,14 @@ pub(crate) fn points_of<R: Threads + Sync, F: Firing + Sync, G: Gate + Sync, L: 
     requires plain { IsPlain (F.net net.now) }
     requires connected { IsConnected (F.net net.now) }
     requires few { 2 * length (F.net net.now).channels ≤ NET_CHANNELS }
-    requires limits { AreLimits limits }
-    ensures goes { (faults : ℕ) → Goes (points_of graph.now (F.net net.now) limits) result (steps.new.count - steps.old.count) faults faults }
+    requires limits { AreLimits wanted.now.limits }
+    ensures goes { (faults : ℕ) → Goes (points_of graph.now (F.net net.now) wanted.now.limits) result (steps.new.count - steps.old.count) faults faults }
     ensures rises { steps.old.count ≤ steps.new.count }
     ensures share { steps.new.share ≡ steps.old.share }
 {
     touch(alloc, net, graph)?;
     complete(alloc, net, graph)?;
-    let exploration = explored(rt, alloc, net, graph, limits, gate, steps)?;
+    let exploration = explored(rt, alloc, net, graph, wanted.limits, gate, steps)?;
     Ok(Answer {
         text: shown(alloc, net, graph, exploration.points.as_slice())?,
         put: None,

@@ -11,7 +11,7 @@ ghost use Rattle.cert_maker.specs.Links.{HasNoOrders};
 ghost use Rattle.sd_base.specs.Connection.{IsStronglyConnected};
 ghost use Rattle.sd_base.specs.declared.limits.TheConstants.{NET_CHANNELS, ROUND, STATES};
 ghost use Rattle.sd_command.specs.Nets.{IsFed};
-ghost use Rattle.sd_command.specs.RateAnswers.{IsOfRate, IsRateAnswer, IsRateTooLong, IsRunRefusal, Wanted, rate_of};
+ghost use Rattle.sd_command.specs.RateAnswers.{IsOfRate, IsRateAnswer, IsRateTooLong, IsRunRefusal, rate_of};
 ghost use Rattle.critical.specs.declared.cycle.CycleStep.{CycleStep as AStep};
 ghost use Rattle.cert_text.specs.declared.certificates.Certificate.{Certificate as ACertificate};
 ghost use Rattle.cert_text.specs.Spellable.{AreStarts};
@@ -21,16 +21,18 @@ ghost use Rattle.sd_command.specs.inside.Going.{Does, Goes};
 
 use crate::answer::{Answer, Put};
 use crate::certifying::certify;
+use crate::file_kind::FileKind;
 use crate::nets::{complete, feed, join};
 use crate::reading::above;
 use crate::stop::Stop;
+use crate::wanted::WantedRate;
 use cert_maker::rate_certificate;
 use critical::{NeedCycle, cycle_of};
 use firing::{CsdfNet, Firing, LoopTable, SdfNet, know_laws};
 use lasso::{RunError, run_loop};
 use periodic::{Periodic, from_loop};
 use report::{Refusal, rate_text};
-use sd_base::{GraphFile, Kind, Ledger, Quantity, Steps, Text};
+use sd_base::{GraphFile, Kind, Ledger, Quantity, Steps};
 use std::alloc::Global;
 use storage::{Bounded, Distribution};
 
@@ -40,51 +42,31 @@ pub(crate) fn rate_of_graph<L: Ledger>(
     alloc: Global,
     graph: &GraphFile,
     gamma: &[u64],
-    no_overlap: bool,
     distribution: &Distribution,
-    states: u64,
-    certificate: &Option<Text>,
+    wanted: &WantedRate,
     steps: &mut Steps<L>,
 ) -> Result<Answer, Stop>
     requires rules { KeepsRules graph.now }
     requires timed { IsTimed graph.now }
     requires gamma { IsRepetitionOf graph.now gamma.now }
     requires small { sum gamma.now ≤ ROUND }
-    requires held { CanHold (net_of graph.now gamma.now no_overlap).channels distribution.now.capacities }
+    requires held { CanHold (net_of graph.now gamma.now wanted.now.no_overlap).channels distribution.now.capacities }
     requires over { length distribution.now.capacities ≤ length graph.now.channels }
-    requires some { 1 ≤ states }
-    requires few { states ≤ STATES }
+    requires some { 1 ≤ wanted.now.states }
+    requires few { wanted.now.states ≤ STATES }
     ensures goes { (faults : ℕ) →
-        Goes (rate_of graph.now (bound (net_of graph.now gamma.now no_overlap) distribution.now.capacities) (record { no_overlap = no_overlap; capacities = distribution.now.capacities; certificate = certificate.now }) states) result (steps.new.count - steps.old.count) faults faults }
+        Goes (rate_of graph.now (bound (net_of graph.now gamma.now wanted.now.no_overlap) distribution.now.capacities) distribution.now.capacities wanted.now) result (steps.new.count - steps.old.count) faults faults }
     ensures rises { steps.old.count ≤ steps.new.count }
     ensures share { steps.new.share ≡ steps.old.share }
 {
     match graph.kind {
         Kind::Sdf => {
-            let net = SdfNet::new(alloc, graph, gamma, no_overlap)?;
-            rate_within(
-                alloc,
-                &net,
-                graph,
-                no_overlap,
-                distribution,
-                states,
-                certificate,
-                steps,
-            )
+            let net = SdfNet::new(alloc, graph, gamma, wanted.no_overlap)?;
+            rate_within(alloc, &net, graph, distribution, wanted, steps)
         }
         Kind::Csdf => {
-            let net = CsdfNet::new(alloc, graph, gamma, no_overlap)?;
-            rate_within(
-                alloc,
-                &net,
-                graph,
-                no_overlap,
-                distribution,
-                states,
-                certificate,
-                steps,
-            )
+            let net = CsdfNet::new(alloc, graph, gamma, wanted.no_overlap)?;
+            rate_within(alloc, &net, graph, distribution, wanted, steps)
         }
     }
 }
@@ -94,10 +76,8 @@ fn rate_within<F: Firing, L: Ledger>(
     alloc: Global,
     net: &F,
     graph: &GraphFile,
-    no_overlap: bool,
     distribution: &Distribution,
-    states: u64,
-    certificate: &Option<Text>,
+    wanted: &WantedRate,
     steps: &mut Steps<L>,
 ) -> Result<Answer, Stop>
     requires none { HasNoSpaces (F.net net.now) }
@@ -107,24 +87,15 @@ fn rate_within<F: Firing, L: Ledger>(
     requires unordered { HasNoOrders (bound (F.net net.now) distribution.now.capacities) }
     requires over { length distribution.now.capacities ≤ length graph.now.channels }
     requires rules { KeepsRules graph.now }
-    requires some { 1 ≤ states }
-    requires few { states ≤ STATES }
+    requires some { 1 ≤ wanted.now.states }
+    requires few { wanted.now.states ≤ STATES }
     ensures goes { (faults : ℕ) →
-        Goes (rate_of graph.now (bound (F.net net.now) distribution.now.capacities) (record { no_overlap = no_overlap; capacities = distribution.now.capacities; certificate = certificate.now }) states) result (steps.new.count - steps.old.count) faults faults }
+        Goes (rate_of graph.now (bound (F.net net.now) distribution.now.capacities) distribution.now.capacities wanted.now) result (steps.new.count - steps.old.count) faults faults }
     ensures rises { steps.old.count ≤ steps.new.count }
     ensures share { steps.new.share ≡ steps.old.share }
 {
     let bounded = Bounded::new(alloc, net, distribution)?;
-    rate_of(
-        alloc,
-        &bounded,
-        graph,
-        no_overlap,
-        distribution,
-        states,
-        certificate,
-        steps,
-    )
+    rate_of(alloc, &bounded, graph, distribution, wanted, steps)
 }
 
 /// The rate of a net that is bounded by a distribution, with the schedule that reaches it and the need cycle that bounds it.
@@ -133,35 +104,25 @@ pub(crate) fn rate_of<F: Firing, L: Ledger>(
     alloc: Global,
     net: &F,
     graph: &GraphFile,
-    no_overlap: bool,
     distribution: &Distribution,
-    states: u64,
-    certificate: &Option<Text>,
+    wanted: &WantedRate,
     steps: &mut Steps<L>,
 ) -> Result<Answer, Stop>
     requires named { IsNamed graph.now (F.net net.now) }
     requires unordered { HasNoOrders (F.net net.now) }
     requires few_channels { length distribution.now.capacities < 2 ^ 32 }
-    requires some { 1 ≤ states }
-    requires few { states ≤ STATES }
+    requires some { 1 ≤ wanted.now.states }
+    requires few { wanted.now.states ≤ STATES }
     ensures goes { (faults : ℕ) →
-        Goes (rate_of graph.now (F.net net.now) (record { no_overlap = no_overlap; capacities = distribution.now.capacities; certificate = certificate.now }) states) result (steps.new.count - steps.old.count) faults faults }
+        Goes (rate_of graph.now (F.net net.now) distribution.now.capacities wanted.now) result (steps.new.count - steps.old.count) faults faults }
     ensures rises { steps.old.count ≤ steps.new.count }
     ensures share { steps.new.share ≡ steps.old.share }
 {
     join(alloc, net, graph)?;
     feed(alloc, net, graph)?;
     complete(alloc, net, graph)?;
-    let table = find_loop(alloc, net, states, steps)?;
-    shown(
-        alloc,
-        net,
-        graph,
-        no_overlap,
-        distribution,
-        certificate,
-        &table,
-    )
+    let table = find_loop(alloc, net, wanted.states, steps)?;
+    shown(alloc, net, graph, distribution, wanted, &table)
 }
 
 // The loop of self-timed execution, or the refusal of one that passes a bound.
@@ -194,32 +155,22 @@ fn shown<F: Firing>(
     alloc: Global,
     net: &F,
     graph: &GraphFile,
-    no_overlap: bool,
     distribution: &Distribution,
-    certificate: &Option<Text>,
+    wanted: &WantedRate,
     table: &LoopTable,
 ) -> Result<Answer, Stop>
     requires named { IsNamed graph.now (F.net net.now) }
     requires unordered { HasNoOrders (F.net net.now) }
     requires few { length distribution.now.capacities < 2 ^ 32 }
     requires fed { IsFed (F.net net.now) }
-    requires found { (states : ℕ) × IsFound (F.net net.now) states table.now }
-    ensures { let wanted : Wanted = record { no_overlap = no_overlap; capacities = distribution.now.capacities; certificate = certificate.now } in
-        (states : ℕ) → IsFound (F.net net.now) states table.now → Does (deciding (IsRateAnswer graph.now (F.net net.now) wanted states) (IsRateTooLong (F.net net.now) wanted states)) result }
+    requires found { IsFound (F.net net.now) wanted.now.states table.now }
+    ensures { Does (deciding (IsRateAnswer graph.now (F.net net.now) distribution.now.capacities wanted.now) (IsRateTooLong (F.net net.now) distribution.now.capacities wanted.now)) result }
 {
     know_laws(net);
     let schedule = from_loop(alloc, net, table)?;
     let cycle = cycle_of(alloc, net, table)?;
     let text = rate_text(alloc, net, graph, &schedule, &cycle)?;
-    let put = put_for(
-        alloc,
-        net,
-        no_overlap,
-        distribution,
-        certificate,
-        schedule,
-        &cycle,
-    )?;
+    let put = put_for(alloc, net, distribution, wanted, schedule, &cycle)?;
     Ok(Answer { text, put })
 }
 
@@ -227,9 +178,8 @@ fn shown<F: Firing>(
 fn put_for<F: Firing>(
     alloc: Global,
     net: &F,
-    no_overlap: bool,
     distribution: &Distribution,
-    certificate: &Option<Text>,
+    wanted: &WantedRate,
     schedule: Periodic,
     cycle: &NeedCycle,
 ) -> Result<Option<Put>, Stop>
@@ -238,14 +188,21 @@ fn put_for<F: Firing>(
     requires period { 1 ≤ schedule.period }
     requires starts { All AreStarts schedule.starts }
     requires channels { All (λ (s : AStep). s.channel < length (F.net net.now).channels) cycle.now.steps }
-    ensures { let shows : ACertificate → Type 0 = IsOfRate (F.net net.now) (record { no_overlap = no_overlap; capacities = distribution.now.capacities; certificate = certificate.now }) schedule cycle.now in
-        Does (deciding (Certifies certificate.now shows) (IsTooLong certificate.now shows)) result }
+    ensures { let shows : ACertificate → Type 0 = IsOfRate (F.net net.now) distribution.now.capacities wanted.now schedule cycle.now in
+        Does (deciding (Certifies wanted.now.certificate shows) (IsTooLong wanted.now.certificate shows)) result }
 {
-    match certificate {
+    match &wanted.certificate {
         None => Ok(None),
         Some(name) => {
-            let made = rate_certificate(alloc, net, no_overlap, distribution, schedule, cycle)?;
-            Ok(Some(certify(alloc, name.as_str(), &made)?))
+            let made = rate_certificate(
+                alloc,
+                net,
+                wanted.no_overlap,
+                distribution,
+                schedule,
+                cycle,
+            )?;
+            Ok(Some(certify(alloc, FileKind::Certificate, name.as_str(), &made)?))
         }
     }
 }

@@ -7,6 +7,7 @@ ghost use Rattle.sd_command.specs.inside.Going.{Goes};
 use crate::answer::Answer;
 use crate::asking::ask;
 use crate::stop::Stop;
+use crate::wanted::{WantedPoints, WantedRate};
 use crate::{generate, repetition, scenario, throughput, trade_off};
 use fanout::Gate;
 use sd_base::{Ledger, Steps, Text};
@@ -33,21 +34,21 @@ pub(crate) fn answer_of<R: Threads + Sync, S: Shelf, G: Gate + Sync, L: Ledger +
     ensures share { steps.new.share ≡ steps.old.share }
 {
     let request = ask(alloc, words)?;
-    command_answer(rt, alloc, &request, shelf, gate, steps)
+    command_answer(rt, alloc, request, shelf, gate, steps)
 }
 
 // What answers a request.
 fn command_answer<R: Threads + Sync, S: Shelf, G: Gate + Sync, L: Ledger + Send>(
     rt: &R,
     alloc: Global,
-    request: &Request,
+    request: Request,
     shelf: &mut S,
     gate: &G,
     steps: &mut Steps<L>,
 ) -> Result<Answer, Stop>
-    requires { IsWithinLimits request.now }
+    requires { IsWithinLimits request }
     ensures goes { let files : Files = record { tells = S.tells shelf.old; named = S.file shelf.old } in
-        Goes (command_of request.now files) result (steps.new.count - steps.old.count) (S.faults shelf.old) (S.faults shelf.new) }
+        Goes (command_of request files) result (steps.new.count - steps.old.count) (S.faults shelf.old) (S.faults shelf.new) }
     ensures stays { (n : List ℕ) → S.file shelf.new n ≡ S.file shelf.old n }
     ensures telling { S.tells shelf.new ≡ S.tells shelf.old }
     ensures grows { S.faults shelf.old ≤ S.faults shelf.new }
@@ -67,9 +68,11 @@ fn command_answer<R: Threads + Sync, S: Shelf, G: Gate + Sync, L: Ledger + Send>
             shelf,
             graph.as_str(),
             buffers.as_slice(),
-            *no_overlap,
-            *states,
-            certificate,
+            &WantedRate {
+                no_overlap,
+                states,
+                certificate,
+            },
             steps,
         ),
         Request::Storage {
@@ -81,18 +84,17 @@ fn command_answer<R: Threads + Sync, S: Shelf, G: Gate + Sync, L: Ledger + Send>
             alloc,
             shelf,
             graph.as_str(),
-            *limits,
-            *no_overlap,
+            &WantedPoints { limits, no_overlap },
             gate,
             steps,
         ),
         Request::Scenario { graph, certificate } => {
-            scenario::answer(alloc, shelf, graph.as_str(), certificate)
+            scenario::answer(alloc, shelf, graph.as_str(), &certificate)
         }
         Request::Generate {
             seed,
             limit,
             actors,
-        } => generate::answer(rt, alloc, *seed, *limit, *actors, gate, steps),
+        } => generate::answer(rt, alloc, seed, limit, actors, gate, steps),
     }
 }

@@ -106,7 +106,7 @@ fn put_for(
         None => Ok(None),
         Some(name) => {
             let made = worst_certificate(alloc, graph, worst)?;
-            Ok(Some(certify(alloc, name.as_str(), &made)?))
+            Ok(Some(certify(alloc, FileKind::Certificate, name.as_str(), &made)?))
         }
     }
 }

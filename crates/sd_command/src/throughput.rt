@@ -14,6 +14,7 @@ use crate::rates::rate_of_graph;
 use crate::reading::read;
 use crate::stop::Stop;
 use crate::taking::take;
+use crate::wanted::WantedRate;
 use sd_base::{GraphFile, Ledger, Steps, Text};
 use sd_io::Shelf;
 use std::alloc::Global;
@@ -24,16 +25,14 @@ pub(crate) fn answer<S: Shelf, L: Ledger>(
     shelf: &mut S,
     name: &str,
     buffers: &[(Text, u64)],
-    no_overlap: bool,
-    states: u64,
-    certificate: &Option<Text>,
+    wanted: &WantedRate,
     steps: &mut Steps<L>,
 ) -> Result<Answer, Stop>
     requires small { All (λ (b : Buffer). b.1 ≤ CAPACITY) buffers.now }
-    requires some { 1 ≤ states }
-    requires few { states ≤ STATES }
+    requires some { 1 ≤ wanted.now.states }
+    requires few { wanted.now.states ≤ STATES }
     ensures goes { let files : Files = record { tells = S.tells shelf.old; named = S.file shelf.old } in
-        Goes (throughput name.now buffers.now no_overlap states certificate.now files) result (steps.new.count - steps.old.count) (S.faults shelf.old) (S.faults shelf.new) }
+        Goes (throughput name.now buffers.now wanted.now files) result (steps.new.count - steps.old.count) (S.faults shelf.old) (S.faults shelf.new) }
     ensures stays { (n : List ℕ) → S.file shelf.new n ≡ S.file shelf.old n }
     ensures telling { S.tells shelf.new ≡ S.tells shelf.old }
     ensures grows { S.faults shelf.old ≤ S.faults shelf.new }
@@ -42,15 +41,7 @@ pub(crate) fn answer<S: Shelf, L: Ledger>(
 {
     let bytes = take(alloc, shelf, FileKind::Graph, name)?;
     let graph = read(alloc, bytes.as_slice(), true)?;
-    bounded_rate(
-        alloc,
-        &graph,
-        buffers,
-        no_overlap,
-        states,
-        certificate,
-        steps,
-    )
+    bounded_rate(alloc, &graph, buffers, wanted, steps)
 }
 
 // The rate of a graph whose named channels have a capacity.
@@ -58,31 +49,20 @@ fn bounded_rate<L: Ledger>(
     alloc: Global,
     graph: &GraphFile,
     buffers: &[(Text, u64)],
-    no_overlap: bool,
-    states: u64,
-    certificate: &Option<Text>,
+    wanted: &WantedRate,
     steps: &mut Steps<L>,
 ) -> Result<Answer, Stop>
     requires rules { KeepsRules graph.now }
     requires timed { IsTimed graph.now }
     requires small { All (λ (b : Buffer). b.1 ≤ CAPACITY) buffers.now }
-    requires some { 1 ≤ states }
-    requires few { states ≤ STATES }
+    requires some { 1 ≤ wanted.now.states }
+    requires few { wanted.now.states ≤ STATES }
     ensures goes { (faults : ℕ) →
-        Goes (bounded_rate buffers.now no_overlap states certificate.now graph.now) result (steps.new.count - steps.old.count) faults faults }
+        Goes (bounded_rate buffers.now wanted.now graph.now) result (steps.new.count - steps.old.count) faults faults }
     ensures rises { steps.old.count ≤ steps.new.count }
     ensures share { steps.new.share ≡ steps.old.share }
 {
     let distribution = buffered(alloc, graph, buffers)?;
     let gamma = balanced(alloc, graph)?;
-    rate_of_graph(
-        alloc,
-        graph,
-        gamma.as_slice(),
-        no_overlap,
-        &distribution,
-        states,
-        certificate,
-        steps,
-    )
+    rate_of_graph(alloc, graph, gamma.as_slice(), &distribution, wanted, steps)
 }

@@ -12,8 +12,9 @@ use crate::points::points_of_graph;
 use crate::reading::read;
 use crate::stop::Stop;
 use crate::taking::take;
+use crate::wanted::WantedPoints;
 use fanout::Gate;
-use sd_base::{GraphFile, Ledger, Limits, Steps};
+use sd_base::{GraphFile, Ledger, Steps};
 use sd_io::Shelf;
 use std::alloc::Global;
 use std::thread::Threads;
@@ -24,14 +25,13 @@ pub(crate) fn answer<R: Threads + Sync, S: Shelf, G: Gate + Sync, L: Ledger + Se
     alloc: Global,
     shelf: &mut S,
     name: &str,
-    limits: Limits,
-    no_overlap: bool,
+    wanted: &WantedPoints,
     gate: &G,
     steps: &mut Steps<L>,
 ) -> Result<Answer, Stop>
-    requires limits { AreLimits limits }
+    requires limits { AreLimits wanted.now.limits }
     ensures goes { let files : Files = record { tells = S.tells shelf.old; named = S.file shelf.old } in
-        Goes (storage name.now limits no_overlap files) result (steps.new.count - steps.old.count) (S.faults shelf.old) (S.faults shelf.new) }
+        Goes (storage name.now wanted.now files) result (steps.new.count - steps.old.count) (S.faults shelf.old) (S.faults shelf.new) }
     ensures stays { (n : List ℕ) → S.file shelf.new n ≡ S.file shelf.old n }
     ensures telling { S.tells shelf.new ≡ S.tells shelf.old }
     ensures grows { S.faults shelf.old ≤ S.faults shelf.new }
@@ -40,7 +40,7 @@ pub(crate) fn answer<R: Threads + Sync, S: Shelf, G: Gate + Sync, L: Ledger + Se
 {
     let bytes = take(alloc, shelf, FileKind::Graph, name)?;
     let graph = read(alloc, bytes.as_slice(), true)?;
-    trade_off(rt, alloc, &graph, limits, no_overlap, gate, steps)
+    trade_off(rt, alloc, &graph, wanted, gate, steps)
 }
 
 // The trade-off of a graph.
@@ -48,28 +48,18 @@ fn trade_off<R: Threads + Sync, G: Gate + Sync, L: Ledger + Send>(
     rt: &R,
     alloc: Global,
     graph: &GraphFile,
-    limits: Limits,
-    no_overlap: bool,
+    wanted: &WantedPoints,
     gate: &G,
     steps: &mut Steps<L>,
 ) -> Result<Answer, Stop>
     requires rules { KeepsRules graph.now }
     requires timed { IsTimed graph.now }
-    requires limits { AreLimits limits }
+    requires limits { AreLimits wanted.now.limits }
     ensures goes { (faults : ℕ) →
-        Goes (trade_off limits no_overlap graph.now) result (steps.new.count - steps.old.count) faults faults }
+        Goes (trade_off wanted.now graph.now) result (steps.new.count - steps.old.count) faults faults }
     ensures rises { steps.old.count ≤ steps.new.count }
     ensures share { steps.new.share ≡ steps.old.share }
 {
     let gamma = balanced(alloc, graph)?;
-    points_of_graph(
-        rt,
-        alloc,
-        graph,
-        gamma.as_slice(),
-        no_overlap,
-        limits,
-        gate,
-        steps,
-    )
+    points_of_graph(rt, alloc, graph, gamma.as_slice(), wanted, gate, steps)
 }

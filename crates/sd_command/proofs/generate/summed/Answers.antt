@@ -1,23 +1,13 @@
-use Rattle.std.proofs.Common.{◌-◌, ℕ, true, List, subst, sym, arith}
+use Rattle.std.proofs.Common.{arith}
 use Rattle.std.proofs.lemmas.Result.{err_from_is_err_and}
-use Rattle.sd_base.specs.FileNet.{net_of}
-use Rattle.balance.specs.Repetition.{IsRound}
 use Rattle.sd_command.specs.Balances.{balancing}
-use Rattle.sd_command.specs.Generations.{summary_of}
-use Rattle.sd_command.specs.inside.Going.{Goes}
 use Rattle.sd_command.proofs.Goings.{step_stops, goes_on}
 use Rattle.sd_command.proofs.generate.summed.Goals as goal
 
 pub returns-in_err-gamma-clause-goes : goal.returns-in_err-gamma-clause-goes
 returns-in_err-gamma-clause-goes g c = λ faults.
     let p = err_from_is_err_and c.from_residual.result c.from_residual.ensures.1 in
-    rw (p.1, p.2) (step_stops (balancing c.args.graph.now) _ _ (omega arith) _ faults c.in_err-gamma.ensures)
-
-pub summary_of_graph-requires-clause-round : goal.summary_of_graph-requires-clause-round
-summary_of_graph-requires-clause-round g c = λ κs outlive. subst (λ (v : List ℕ). IsRound c.args.graph.now v) (sym c.as_slice.ensures) c.in_ok-gamma.ensures
+    rw (p.1, p.2) (step_stops (balancing c.args.graph) _ _ (omega arith) _ faults c.in_err-gamma.ensures)
 
 pub returns-clause-goes : goal.returns-clause-goes
-returns-clause-goes g c = λ faults.
-    goes_on (balancing c.args.graph.now) _ c.in_ok-gamma.gamma _ _ faults faults c.in_ok-gamma.ensures
-    (subst (λ (v : List ℕ). Goes (summary_of c.args.seed c.args.graph.now v (net_of c.args.graph.now v true) c.args.limits) c.summary_of_graph.result (c.summary_of_graph.new.steps.count - c.args.steps.now.count) faults faults)
-    c.as_slice.ensures (c.summary_of_graph.ensures.goes faults))
+returns-clause-goes g c = λ faults. goes_on (balancing c.args.graph) _ c.in_ok-gamma.gamma _ _ faults faults c.in_ok-gamma.ensures (c.summary_of_graph.ensures.goes faults)

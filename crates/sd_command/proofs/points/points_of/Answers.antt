@@ -28,7 +28,7 @@ returns-in_err-exploration-clause-goes g c = λ faults.
     let p = err_from_is_err_and c.from_residual-in_err-exploration.result c.from_residual-in_err-exploration.ensures.1 in
     rw (p.1, p.2) (goes_on (touching c.args.graph.now (g.F.Firing.net c.args.net.now)) _ tt _ _ faults faults c.in_ok-touch.ensures
     (goes_on (completing c.args.graph.now (g.F.Firing.net c.args.net.now)) _ tt _ _ faults faults c.in_ok-complete.ensures
-    (exploration_stops c.args.graph.now (g.F.Firing.net c.args.net.now) c.args.limits _ faults (few_from (g.F.Firing.net c.args.net.now) c.args.limits _ _ c.in_err-exploration.ensures.most) _ c.in_err-exploration.ensures.does)))
+    (exploration_stops c.args.graph.now (g.F.Firing.net c.args.net.now) c.args.wanted.now.limits _ faults (few_from (g.F.Firing.net c.args.net.now) c.args.wanted.now.limits _ _ c.in_err-exploration.ensures.most) _ c.in_err-exploration.ensures.does)))
 
 pub shown-requires-clause-explorable : goal.shown-requires-clause-explorable
 shown-requires-clause-explorable g c = touched-explorable (g.F.Firing.net c.args.net.now) c.requires.plain c.requires.connected c.in_ok-touch.ensures c.requires.few
@@ -38,11 +38,11 @@ returns-in_err-shown-clause-goes g c = λ faults.
     let p = err_from_is_err_and c.from_residual-in_err-shown.result c.from_residual-in_err-shown.ensures.1 in
     rw (p.1, p.2) (goes_on (touching c.args.graph.now (g.F.Firing.net c.args.net.now)) _ tt _ _ faults faults c.in_ok-touch.ensures
     (goes_on (completing c.args.graph.now (g.F.Firing.net c.args.net.now)) _ tt _ _ faults faults c.in_ok-complete.ensures
-    (exploration_stops c.args.graph.now (g.F.Firing.net c.args.net.now) c.args.limits _ faults (few_from (g.F.Firing.net c.args.net.now) c.args.limits _ _ c.in_ok-exploration.ensures.most) stop.OutOfMemory tt)))
+    (exploration_stops c.args.graph.now (g.F.Firing.net c.args.net.now) c.args.wanted.now.limits _ faults (few_from (g.F.Firing.net c.args.net.now) c.args.wanted.now.limits _ _ c.in_ok-exploration.ensures.most) stop.OutOfMemory tt)))
 
 pub shown-requires-clause-points : goal.shown-requires-clause-points
 shown-requires-clause-points g c = (
-  c.args.limits,
+  c.args.wanted.now.limits,
   c.requires.limits.total,
   λ p one. c.in_ok-exploration.ensures.does.reached p (subst (λ (ps : List Point). IsOneOf ps p) c.as_slice.ensures.value one),
 )
@@ -51,5 +51,5 @@ pub returns-clause-goes : goal.returns-clause-goes
 returns-clause-goes g c = λ faults.
     goes_on (touching c.args.graph.now (g.F.Firing.net c.args.net.now)) _ tt _ _ faults faults c.in_ok-touch.ensures
     (goes_on (completing c.args.graph.now (g.F.Firing.net c.args.net.now)) _ tt _ _ faults faults c.in_ok-complete.ensures
-    (points_answer c.args.graph.now (g.F.Firing.net c.args.net.now) c.args.limits _ faults _ c.in_ok-exploration.exploration.members.items (omega (arith, c.in_ok-exploration.ensures.counts))
-    (points-shown c.args.graph.now (g.F.Firing.net c.args.net.now) c.args.limits _ _ _ c.in_ok-exploration.ensures.does _ c.as_slice.ensures.value c.in_ok-shown.ensures) refl))
+    (points_answer c.args.graph.now (g.F.Firing.net c.args.net.now) c.args.wanted.now.limits _ faults _ c.in_ok-exploration.exploration.members.items (omega (arith, c.in_ok-exploration.ensures.counts))
+    (points-shown c.args.graph.now (g.F.Firing.net c.args.net.now) c.args.wanted.now.limits _ _ _ c.in_ok-exploration.ensures.does _ c.as_slice.ensures.value c.in_ok-shown.ensures) refl))

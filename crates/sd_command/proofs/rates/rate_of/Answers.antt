@@ -29,11 +29,11 @@ returns-in_err-table-clause-goes g c = λ faults.
     rw (p.1, p.2) (goes_on (joining c.args.graph.now (g.F.Firing.net c.args.net.now)) _ tt _ _ faults faults c.in_ok-join.ensures
     (goes_on (feeding c.args.graph.now (g.F.Firing.net c.args.net.now)) _ tt _ _ faults faults c.in_ok-feed.ensures
     (goes_on (completing c.args.graph.now (g.F.Firing.net c.args.net.now)) _ tt _ _ faults faults c.in_ok-complete.ensures
-    (run_stops c.args.graph.now (g.F.Firing.net c.args.net.now) _ c.args.states _ (omega arith) faults _ c.in_err-table.ensures.does))))
+    (run_stops c.args.graph.now (g.F.Firing.net c.args.net.now) c.args.distribution.now.capacities c.args.wanted.now _ (omega arith) faults _ c.in_err-table.ensures.does))))
 
 pub returns-clause-goes : goal.returns-clause-goes
 returns-clause-goes g c = λ faults.
     (goes_on (joining c.args.graph.now (g.F.Firing.net c.args.net.now)) _ tt _ _ faults faults c.in_ok-join.ensures
     (goes_on (feeding c.args.graph.now (g.F.Firing.net c.args.net.now)) _ tt _ _ faults faults c.in_ok-feed.ensures
     (goes_on (completing c.args.graph.now (g.F.Firing.net c.args.net.now)) _ tt _ _ faults faults c.in_ok-complete.ensures
-    (run_answers c.args.graph.now (g.F.Firing.net c.args.net.now) _ c.args.states _ (omega arith) faults _ (c.shown.ensures c.args.states c.in_ok-table.ensures.does)))))
+    (run_answers c.args.graph.now (g.F.Firing.net c.args.net.now) c.args.distribution.now.capacities c.args.wanted.now _ (omega arith) faults _ c.shown.ensures))))

@@ -25,16 +25,16 @@ put_for-requires-clause-channels g c =
     λ k d below. (over.steps k d below).channel
 
 pub returns-in_err-put : goal.returns-in_err-put
-returns-in_err-put g c = λ states found.
+returns-in_err-put g c =
     let p = err_from_is_err_and c.from_residual-in_err-put.result c.from_residual-in_err-put.ensures.1 in
-    let shown = rate-shown (g.F.Firing.net c.args.net.now) states c.args.table.now c.in_ok-schedule.schedule c.in_ok-cycle.cycle found c.in_ok-schedule.ensures c.in_ok-cycle.ensures in
-    rw (p.1, p.2) (rate-stops c.args.graph.now (g.F.Firing.net c.args.net.now) _ states c.in_ok-schedule.schedule c.in_ok-cycle.cycle shown c.in_err-put.field-0.0 c.in_err-put.ensures)
+    let shown = rate-shown (g.F.Firing.net c.args.net.now) c.args.wanted.now.states c.args.table.now c.in_ok-schedule.schedule c.in_ok-cycle.cycle c.requires.found c.in_ok-schedule.ensures c.in_ok-cycle.ensures in
+    rw (p.1, p.2) (rate-stops c.args.graph.now (g.F.Firing.net c.args.net.now) c.args.distribution.now.capacities c.args.wanted.now c.in_ok-schedule.schedule c.in_ok-cycle.cycle shown c.in_err-put.field-0.0 c.in_err-put.ensures)
 
 pub returns : goal.returns
-returns g c = λ states found. record {
+returns g c = record {
   schedule = c.in_ok-schedule.schedule;
   cycle = c.in_ok-cycle.cycle;
-  shown = rate-shown (g.F.Firing.net c.args.net.now) states c.args.table.now c.in_ok-schedule.schedule c.in_ok-cycle.cycle found c.in_ok-schedule.ensures c.in_ok-cycle.ensures;
+  shown = rate-shown (g.F.Firing.net c.args.net.now) c.args.wanted.now.states c.args.table.now c.in_ok-schedule.schedule c.in_ok-cycle.cycle c.requires.found c.in_ok-schedule.ensures c.in_ok-cycle.ensures;
   text = c.in_ok-text.ensures;
   put = c.in_ok-put.ensures;
 }

@@ -24,12 +24,12 @@ returns-in_err-gamma-clause-goes g c = λ faults.
 
 pub rate_of_graph-requires-clause-held : goal.rate_of_graph-requires-clause-held
 rate_of_graph-requires-clause-held g c =
-    subst (λ (ds : List (Option ℕ)). CanHold (net_of c.args.graph.now c.as_slice.result.now c.args.no_overlap).channels ds) (sym c.in_ok-distribution.ensures.named)
-    (named-held c.args.graph.now c.as_slice.result.now c.args.no_overlap c.args.buffers.now c.in_ok-distribution.ensures.whole c.requires.small)
+    subst (λ (ds : List (Option ℕ)). CanHold (net_of c.args.graph.now c.as_slice.result.now c.args.wanted.now.no_overlap).channels ds) (sym c.in_ok-distribution.ensures.named)
+    (named-held c.args.graph.now c.as_slice.result.now c.args.wanted.now.no_overlap c.args.buffers.now c.in_ok-distribution.ensures.whole c.requires.small)
 
 pub returns-clause-goes : goal.returns-clause-goes
 returns-clause-goes g c = λ faults.
     goes_on (buffering c.args.graph.now c.args.buffers.now) _ c.in_ok-distribution.distribution _ _ faults faults c.in_ok-distribution.ensures
     (goes_on (balancing c.args.graph.now) _ c.in_ok-gamma.gamma _ _ faults faults c.in_ok-gamma.ensures
-    (subst (λ (v : List ℕ). Goes (rate_of c.args.graph.now (bound (net_of c.args.graph.now v c.args.no_overlap) c.in_ok-distribution.distribution.capacities) (record { no_overlap = c.args.no_overlap; capacities = c.in_ok-distribution.distribution.capacities; certificate = c.args.certificate.now }) c.args.states) c.rate_of_graph.result (c.rate_of_graph.new.steps.count - c.args.steps.now.count) faults faults)
+    (subst (λ (v : List ℕ). Goes (rate_of c.args.graph.now (bound (net_of c.args.graph.now v c.args.wanted.now.no_overlap) c.in_ok-distribution.distribution.capacities) c.in_ok-distribution.distribution.capacities c.args.wanted.now) c.rate_of_graph.result (c.rate_of_graph.new.steps.count - c.args.steps.now.count) faults faults)
     c.as_slice.ensures (c.rate_of_graph.ensures.goes faults)))

@@ -12,9 +12,9 @@ returns-in_err-bytes-clause-goes g c =
 pub returns-in_err-graph-clause-goes : goal.returns-in_err-graph-clause-goes
 returns-in_err-graph-clause-goes g c =
     let p = err_from_is_err_and c.from_residual-in_err-graph.result c.from_residual-in_err-graph.ensures.1 in
-    rw (p.1, p.2) (reading_stops _ _ true (trade_off c.args.limits c.args.no_overlap) c.in_ok-bytes.bytes _ _ _ _ c.in_ok-bytes.ensures.takes c.as_slice.ensures _ (omega arith) c.in_err-graph.ensures.does)
+    rw (p.1, p.2) (reading_stops _ _ true (trade_off c.args.wanted.now) c.in_ok-bytes.bytes _ _ _ _ c.in_ok-bytes.ensures.takes c.as_slice.ensures _ (omega arith) c.in_err-graph.ensures.does)
 
 pub returns-clause-goes : goal.returns-clause-goes
 returns-clause-goes g c =
-    read_goes _ _ true (trade_off c.args.limits c.args.no_overlap) c.in_ok-bytes.bytes _ _ _ _ c.in_ok-bytes.ensures.takes c.as_slice.ensures c.in_ok-graph.graph _ c.in_ok-graph.ensures.does
+    read_goes _ _ true (trade_off c.args.wanted.now) c.in_ok-bytes.bytes _ _ _ _ c.in_ok-bytes.ensures.takes c.as_slice.ensures c.in_ok-graph.graph _ c.in_ok-graph.ensures.does
     (c.trade_off.ensures.goes _)
