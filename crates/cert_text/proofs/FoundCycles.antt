@@ -1,5 +1,5 @@
 -- Cycles that are found among those before them, by their texts.
-use Rattle.std.proofs.Common.{◌≡◌, ℕ, zero, suc, ◌+◌, ◌-◌, ◌<◌, ◌≤◌, ◌⊎◌, Bool, true, false, List, [], ◌∷◌, ◌++◌, length, take, Result, Ok, Err, refl, sym, ap, ◌∙◌, subst, append_assoc, arith, inl, inr, Bor, length-append, take_at}
+use Rattle.std.proofs.Common.{◌≡◌, ◌≢◌, ℕ, zero, suc, ◌+◌, ◌-◌, ◌<◌, ◌≤◌, ◌⊎◌, Bool, true, false, List, [], ◌∷◌, ◌++◌, length, take, Result, Ok, Err, refl, sym, ap, ◌∙◌, subst, append_assoc, arith, inl, inr, Bor, length-append, take_at}
 use Rattle.std.specs.Prelude.{not, map, ◌||◌, cond, if◌then◌else◌}
 use Rattle.std.specs.List.{list_any, position_or_len}
 use Rattle.std.specs.Str.{bytes_eq}
@@ -9,6 +9,11 @@ use Rattle.cert_text.specs.declared.reading.fault.Fault.{Fault}
 use Rattle.cert_text.specs.declared.reading.fault.Fault.TheVariants.{Form, Memory}
 use Rattle.cert_text.specs.CycleLines.{cycle_lines}
 use Rattle.cert_text.specs.Found.{HasTexts}
+use Rattle.cert_text.specs.MemberLines.{cycle_at, no_cycle}
+use Rattle.cert_text.specs.Orderly.{Differ}
+use Rattle.std.proofs.lemmas.Bool.{eq-eqb, cases_lt}
+use Rattle.std.proofs.Math.ListN.{get_or-append}
+use Rattle.std.proofs.Math.Seq.{get_or-append_seam}
 use Rattle.cert_text.specs.Reads.{Reads, ◌>>=◌, handing}
 use Rattle.cert_text.specs.Sections.{place_of, same_cycle, with_cycle, new_cycle_from, new_cycles_from}
 
@@ -119,3 +124,40 @@ cycles-ends count i cycles lines total past so_far =
     let k : count - i ≡ 0 = omega arith in
     let one : new_cycles_from (count - i) cycles lines ≡ Ok (cycles, lines) = rw k refl in
     sym so_far ∙ one
+
+-- ---- cycles that differ
+
+same-itself : (c d : LinkCycle) → c ≡ d → same_cycle d c ≡ true
+same-itself c d e = ap (λ (x : LinkCycle). same_cycle d x) e ∙ reflexive (cycle_lines d)
+  where
+    reflexive : (text : List ℕ) → bytes_eq text text ≡ true
+    reflexive [] = refl
+    reflexive (b ∷ bs) = rw (eq-eqb b b refl) (reflexive bs)
+
+none-same : (cycles : List LinkCycle) (c : LinkCycle) (i : ℕ) → list_any (same_cycle c) cycles ≡ false → i < length cycles → cycle_at cycles i ≢ c
+none-same [] c i none within = absurd (omega (arith, within))
+none-same (x ∷ xs) c zero none within = λ e. let yes = same-itself x c e in absurd (cc (none, ap (λ (b : Bool). b || list_any (same_cycle c) xs) yes))
+none-same (x ∷ xs) c (suc i) none within = none-same xs c i (right (same_cycle c x) none) (omega (arith, within))
+  where
+    right : (b : Bool) → (b || list_any (same_cycle c) xs) ≡ false → list_any (same_cycle c) xs ≡ false
+    right true e = absurd cc
+    right false e = e
+
+pub differ-more : (cycles all : List LinkCycle) (c : LinkCycle) → Differ cycles → list_any (same_cycle c) cycles ≡ false → all ≡ cycles ++ c ∷ [] → Differ all
+differ-more cycles all c differ none pushed = subst Differ (sym pushed) (λ i j less within.
+    let size : length (cycles ++ c ∷ []) ≡ length cycles + 1 = length-append cycles (c ∷ []) in
+    elim (cases_lt j (length cycles)) [
+      | inl lt ↦ let a = get_or-append cycles (c ∷ []) no_cycle i (omega (arith, lt, less)) in let b = get_or-append cycles (c ∷ []) no_cycle j lt in λ e. differ i j less lt (sym a ∙ (e ∙ b))
+      | inr le ↦
+          let last : j ≡ length cycles = omega (arith, le, within, size) in
+          let a = get_or-append cycles (c ∷ []) no_cycle i (omega (arith, last, less)) in
+          let b : cycle_at (cycles ++ c ∷ []) j ≡ c = rw last (get_or-append_seam cycles c [] no_cycle) in
+          λ e. none-same cycles c i none (omega (arith, last, less)) (sym a ∙ (e ∙ b))
+    ])
+
+pub fresh-cycle : (old new : List LinkCycle) (c : LinkCycle) (is_new : Bool) → not is_new ≡ false → is_new ≡ not (list_any (same_cycle c) old) → new ≡ with_cycle old c → (list_any (same_cycle c) old ≡ false) × (new ≡ old ++ c ∷ [])
+fresh-cycle old new c is_new holds is made = split (list_any (same_cycle c) old) refl (sym (ap not is) ∙ holds)
+  where
+    split : (known : Bool) → list_any (same_cycle c) old ≡ known → not (not known) ≡ false → (list_any (same_cycle c) old ≡ false) × (new ≡ old ++ c ∷ [])
+    split true e t = absurd cc
+    split false e t = (e, made ∙ rw e refl)

@@ -1,20 +1,23 @@
 -- Whole certificates.
-use Rattle.std.proofs.Common.{◌≡◌, ◌⊎◌, ℕ, List, ◌++◌, Result, Ok, Err, length, ap, ◌∙◌, sym, refl, inl, inr}
+use Rattle.std.proofs.Common.{◌≡◌, ◌⊎◌, ℕ, Bool, List, ◌++◌, Result, Ok, Err, length, ap, ◌∙◌, sym, refl, inl, inr}
 use Rattle.cert_text.specs.declared.certificates.Certificate.{Certificate}
 use Rattle.cert_text.specs.declared.certificates.Certificate.TheVariants.{Rate, Storage, Scenario}
-use Rattle.cert_text.specs.NumberLines.{version_line}
+use Rattle.cert_text.specs.declared.certificates.LinkCycle.{LinkCycle}
+use Rattle.cert_text.specs.declared.certificates.MemberLine.{MemberLine}
+use Rattle.cert_text.specs.declared.certificates.PointLine.{PointLine}
+use Rattle.cert_text.specs.NumberLines.{version_line, overlap_line, limit_line}
 use Rattle.cert_text.specs.declared.error.CertError.{CertError}
 use Rattle.cert_text.specs.declared.reading.fault.Fault.{Fault}
 use Rattle.cert_text.specs.declared.reading.fault.Fault.TheVariants.{Memory}
 use Rattle.cert_text.specs.Reads.{Reads, lines_of}
 use Rattle.cert_text.specs.Reading.{IsRead, IsReadAfter, IsReading, answer_of, error_of, reading_of, text_from}
-use Rattle.cert_text.specs.Spelling.{spelling}
+use Rattle.cert_text.specs.Spelling.{spelling, cycle_list, member_list, point_list, end_line, storage_kind, storage_lines, storage_lists}
 
 pub read-all : (text rest : List ℕ) (version : ℕ) (c : Certificate) → text ≡ version_line version ++ rest → IsReadAfter rest version c → IsRead text version c
 unfolding spelling
-read-all text rest version (Rate c) first read = record { text = first ∙ ap (λ (l : List ℕ). version_line version ++ l) read.text; spellable = read.spellable }
-read-all text rest version (Scenario c) first read = record { text = first ∙ ap (λ (l : List ℕ). version_line version ++ l) read.text; spellable = read.spellable }
-read-all text rest version (Storage c) first read = tt
+read-all text rest version (Rate c) first read = record { text = first ∙ ap (λ (l : List ℕ). version_line version ++ l) read.text; spellable = read.spellable; orderly = read.orderly }
+read-all text rest version (Scenario c) first read = record { text = first ∙ ap (λ (l : List ℕ). version_line version ++ l) read.text; spellable = read.spellable; orderly = read.orderly }
+read-all text rest version (Storage c) first read = λ two. let r = read two in record { text = first ∙ ap (λ (l : List ℕ). version_line version ++ l) r.text; spellable = r.spellable; orderly = r.orderly }
 
 pub read-ok : (text left : List ℕ) (r : ℕ × Certificate) → text_from (lines_of text) ≡ Ok (r, lines_of left) → reading_of text ≡ Ok r
 unfolding reading_of
@@ -27,3 +30,13 @@ pub read-err : (text left : List ℕ) (e : Fault) (error : CertError) → (e ≡
 unfolding reading_of
 read-err text left e error (inl memory) is = inl (ap fails (is ∙ ap (λ (x : Fault). error_of (length (lines_of text)) x (length (lines_of left))) memory))
 read-err text left e error (inr read) is = inr (ap (λ (x : Reads (ℕ × Certificate)). answer_of (length (lines_of text)) x) read ∙ ap fails (sym is))
+
+-- the lines of a trade-off, one after the other
+pub storage-whole : (version : ℕ) → version ≡ 2 → (no_overlap : Bool) (limit : ℕ) (cycles : List LinkCycle) (members : List MemberLine) (points : List PointLine) (text a b d e : List ℕ) → text ≡ overlap_line no_overlap ++ a → a ≡ limit_line limit ++ b
+    → b ≡ cycle_list 2 cycles ++ (member_list 2 cycles members ++ d) → d ≡ point_list points ++ e → e ≡ end_line
+    → storage_kind ++ text ≡ storage_lines version (record { no_overlap = no_overlap; limit = limit; cycles = cycles; members = members; points = points })
+unfolding storage_lines storage_lists
+storage-whole version two no_overlap limit cycles members points text a b d e first second third fourth fifth =
+    let ends : d ≡ point_list points ++ end_line = fourth ∙ ap (λ (l : List ℕ). point_list points ++ l) fifth in
+    let lists : b ≡ cycle_list 2 cycles ++ (member_list 2 cycles members ++ (point_list points ++ end_line)) = third ∙ ap (λ (l : List ℕ). cycle_list 2 cycles ++ (member_list 2 cycles members ++ l)) ends in
+    rw two (ap (λ (l : List ℕ). storage_kind ++ l) (first ∙ ap (λ (l : List ℕ). overlap_line no_overlap ++ l) (second ∙ ap (λ (l : List ℕ). limit_line limit ++ l) lists)))

@@ -1,5 +1,5 @@
 -- What is found while reading.
-use Rattle.std.specs.Prelude.{◌≡◌, ◌⊎◌, ℕ, List, Bool, not, Option, Some, None, Result, Ok, Err, map}
+use Rattle.std.specs.Prelude.{◌≡◌, ◌⊎◌, ℕ, List, [], ◌∷◌, ◌++◌, All, length, Bool, false, not, Option, Some, None, Result, Ok, Err, map}
 use denote.Ref.{Bor}
 use Rattle.std.specs.List.{list_any}
 use Rattle.cert_text.specs.declared.certificates.LinkCycle.{LinkCycle}
@@ -10,6 +10,10 @@ use Rattle.cert_text.specs.CycleLines.{cycle_lines}
 use Rattle.cert_text.specs.Digits.{IsNumeral}
 use Rattle.cert_text.specs.Fields.{number_value}
 use Rattle.cert_text.specs.Reads.{Reads, lines_of}
+use Rattle.cert_text.specs.Spellable.{AreShown, IsCycleText}
+use Rattle.cert_text.specs.Orderly.{Differ, used_by}
+use Rattle.cert_text.specs.Spelling.{cycle_list, member_list}
+use Rattle.cert_text.specs.declared.certificates.MemberLine.{MemberLine}
 use Rattle.cert_text.specs.Sections.{same_cycle, place_of, with_cycle}
 
 -- the number of digits, if there are some
@@ -25,7 +29,19 @@ IsNumeralSome (Some digits) = IsNumeral digits.now
 abbrev pub HasTexts : List (Bor (List ℕ)) → List LinkCycle → Type 0
 HasTexts keys cycles = map (λ (k : Bor (List ℕ)). k.now) keys ≡ map cycle_lines cycles
 
--- a cycle that was read is found among those before it
-abbrev pub FindsCycle : Result FoundCycle Fault → List LinkCycle → List LinkCycle → List ℕ → Reads LinkCycle → Type 0
-FindsCycle (Ok found) old new left read = (c : LinkCycle) × (read ≡ Ok (c, lines_of left)) × (found.number ≡ place_of old c) × (found.is_new ≡ not (list_any (same_cycle c) old)) × (new ≡ with_cycle old c)
-FindsCycle (Err e) old new left read = (e ≡ Memory) ⊎ (read ≡ Err (e, lines_of left))
+-- a cycle that was read is found among those before it, and its text is passed
+abbrev pub FindsCycle : Result FoundCycle Fault → List LinkCycle → List LinkCycle → List ℕ → List ℕ → Reads LinkCycle → Type 0
+FindsCycle (Ok found) old new text left read = (c : LinkCycle) × (read ≡ Ok (c, lines_of left)) × (found.number ≡ place_of old c) × (found.is_new ≡ not (list_any (same_cycle c) old)) × (new ≡ with_cycle old c) × (text ≡ cycle_lines c ++ left) × IsCycleText c
+FindsCycle (Err e) old new text left read = (e ≡ Memory) ⊎ (read ≡ Err (e, lines_of left))
+
+-- one that wasn't found before
+abbrev pub IsNewCycle : List LinkCycle → List LinkCycle → List ℕ → List ℕ → Type 0
+IsNewCycle old new text left = (c : LinkCycle) × (text ≡ cycle_lines c ++ left) × IsCycleText c × (list_any (same_cycle c) old ≡ false) × (new ≡ old ++ c ∷ [])
+
+-- the cycles and the members of a trade-off in version 2
+pub record IsExplored (cycles : List LinkCycle) (members : List MemberLine) (text left : List ℕ) : Type 0 where
+  pub spelled : text ≡ cycle_list 2 cycles ++ (member_list 2 cycles members ++ left)
+  pub texts : All IsCycleText cycles
+  pub differ : Differ cycles
+  pub shown : All (λ (m : MemberLine). AreShown m.shown) members
+  pub used : used_by 0 members ≡ Some (length cycles)

@@ -8,6 +8,7 @@ use Rattle.cert_text.specs.declared.reading.fault.Fault.{Fault}
 use Rattle.cert_text.specs.declared.reading.fault.Fault.TheVariants.{Form, Large, Memory}
 use Rattle.cert_text.specs.Reads.{Reads, ◌>>=◌, next_by, lines_of}
 use Rattle.cert_text.specs.LineForms.{same, version_due}
+use Rattle.cert_text.specs.Orderly.{IsOrderly}
 use Rattle.cert_text.specs.Sections.{rate_from, storage_from, scenario_from}
 use Rattle.cert_text.specs.Spellable.{IsSpellable}
 use Rattle.cert_text.specs.Spelling.{rate_kind, storage_kind, scenario_kind, lines_after, spelling}
@@ -53,18 +54,19 @@ IsCertFault text error = reading_of text ≡ Err error
 abbrev pub IsReading : List ℕ → Result (ℕ × Certificate) CertError → Type 0
 IsReading text answer = (answer ≡ Err NoMemory) ⊎ (reading_of text ≡ answer)
 
--- a certificate that has a spelling, which is the text
+-- an orderly certificate that has a spelling, which is the text
 pub record IsSpelled (bytes spelled : List ℕ) (c : Certificate) : Type 0 where
   pub text : bytes ≡ spelled
   pub spellable : IsSpellable c
+  pub orderly : IsOrderly c
 
--- a certificate of a rate or of scenarios is spelled so
+-- a certificate of a rate or of scenarios is spelled so, and in version 2 that of a trade-off
 abbrev pub IsReadAfter : List ℕ → ℕ → Certificate → Type 0
 IsReadAfter text version (Rate c) = IsSpelled text (lines_after version (Rate c)) (Rate c)
 IsReadAfter text version (Scenario c) = IsSpelled text (lines_after version (Scenario c)) (Scenario c)
-IsReadAfter text version (Storage c) = Unit {0}
+IsReadAfter text version (Storage c) = version ≡ 2 → IsSpelled text (lines_after version (Storage c)) (Storage c)
 
 abbrev pub IsRead : List ℕ → ℕ → Certificate → Type 0
 IsRead text version (Rate c) = IsSpelled text (spelling version (Rate c)) (Rate c)
 IsRead text version (Scenario c) = IsSpelled text (spelling version (Scenario c)) (Scenario c)
-IsRead text version (Storage c) = Unit {0}
+IsRead text version (Storage c) = version ≡ 2 → IsSpelled text (spelling version (Storage c)) (Storage c)

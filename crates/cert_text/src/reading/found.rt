@@ -33,7 +33,7 @@ pub(crate) fn cycle_number<'a>(
 ) -> Result<FoundCycle, Fault>
     requires { HasTexts cycles.old.texts.keys cycles.old.list.items }
     ensures texts { OnOk result (HasTexts cycles.new.texts.keys cycles.new.list.items) }
-    ensures exact { FindsCycle result cycles.old.list.items cycles.new.list.items lines.new.rest.now (cycle_from (lines_of lines.old.rest.now)) }
+    ensures exact { FindsCycle result cycles.old.list.items cycles.new.list.items lines.old.rest.now lines.new.rest.now (cycle_from (lines_of lines.old.rest.now)) }
 {
     let text = lines.rest;
     let cycle = cycle(alloc, lines)?;

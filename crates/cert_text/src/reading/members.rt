@@ -3,7 +3,12 @@ ghost use Rattle.cert_text.specs.Digits.{IsNumeral};
 ghost use Rattle.cert_text.specs.Fields.{number_value};
 ghost use Rattle.cert_text.specs.Found.{HasTexts, IsNumeralSome, values_of};
 ghost use Rattle.cert_text.specs.LineForms.{among, capacities_due, capacity_in, capacity_limited, hyphen_or_number_in, numbered_rate_due, numbers_due};
-ghost use Rattle.cert_text.specs.MemberLines.{member_line};
+ghost use Rattle.std.specs.Prelude.{List, Some};
+ghost use Rattle.std.specs.Fmt.{decimal};
+ghost use Rattle.cert_text.specs.MemberLines.{member_line, member_lines, numbered_rate_line, shown_lines};
+ghost use Rattle.cert_text.specs.Orderly.{used_with};
+ghost use Rattle.cert_text.specs.Spellable.{AreShown};
+ghost use Rattle.cert_text.specs.declared.certificates.LinkCycle.{LinkCycle};
 ghost use Rattle.cert_text.specs.NumberLines.{numbers_line};
 ghost use Rattle.cert_text.specs.Reads.{Gives, GivesKnown, GivesLine, lines_of, next_by};
 ghost use Rattle.cert_text.specs.Sections.{listed_from, member_from, numbered_from};
@@ -64,7 +69,7 @@ fn listed_shown<'a>(
 }
 
 /// Reads the lines of a member that names its cycle by its number, after members that name `used` of `all` cycles.
-#[tactic(auto, unfolding(crate::specs::Sections::member_from))]
+#[tactic(auto, unfolding(crate::specs::Sections::member_from, crate::specs::MemberLines::member_lines))]
 pub(crate) fn numbered_member(
     alloc: Global,
     lines: &mut Lines,
@@ -73,6 +78,7 @@ pub(crate) fn numbered_member(
 ) -> Result<MemberLine, Fault>
     requires { used.old ≤ all }
     ensures within { used.new ≤ all }
+    ensures text { IfOk result (λ m. ((cycles : List LinkCycle) → lines.old.rest.now ≡ member_lines 2 cycles m ++ lines.new.rest.now) × AreShown m.shown × (used_with used.old m.shown ≡ Some used.new)) }
     ensures exact { GivesKnown result used.new lines.new.rest.now (member_from (numbered_from all) used.old (lines_of lines.old.rest.now)) }
 {
     let capacities = capacities(alloc, lines)?;
@@ -83,7 +89,7 @@ pub(crate) fn numbered_member(
     })
 }
 
-#[tactic(auto, unfolding(crate::specs::Sections::numbered_from, crate::specs::Sections::blocked_from, crate::specs::MemberLines::blocked_line))]
+#[tactic(auto, using(crate::proofs::Uses::used_next), unfolding(crate::specs::Sections::numbered_from, crate::specs::Sections::blocked_from, crate::specs::MemberLines::blocked_line, crate::specs::MemberLines::shown_lines))]
 fn numbered_shown(
     alloc: Global,
     lines: &mut Lines,
@@ -92,6 +98,7 @@ fn numbered_shown(
 ) -> Result<MemberShown, Fault>
     requires { used.old ≤ all }
     ensures within { used.new ≤ all }
+    ensures text { IfOk result (λ s. ((cycles : List LinkCycle) → lines.old.rest.now ≡ shown_lines 2 cycles s ++ lines.new.rest.now) × AreShown s × (used_with used.old s ≡ Some used.new)) }
     ensures exact { GivesKnown result used.new lines.new.rest.now (numbered_from all used.old (lines_of lines.old.rest.now)) }
 {
     let line = lines.next()?;
@@ -187,8 +194,9 @@ fn limited(capacity: Option<&[u8]>) -> Result<Option<u64>, Fault>
 }
 
 /// The rate of a line and the number of its cycle, which is one of the first `used` of `all` or the next one.
-#[tactic(auto, unfolding(crate::specs::LineForms::numbered_rate_due))]
+#[tactic(auto, unfolding(crate::specs::LineForms::numbered_rate_due, crate::specs::MemberLines::numbered_rate_line))]
 fn numbered_rate_of(mut line: Line, used: usize, all: usize) -> Result<((u64, u64), u64), Fault>
+    ensures text { IfOk result (λ r. line.entry.rest.now ≡ numbered_rate_line r.0 r.1) }
     ensures among { IfOk result (λ r. (r.1 ≤ used) × (r.1 < all)) }
     ensures exact { result ≡ numbered_rate_due used all line.entry.rest.now }
 {
@@ -206,6 +214,7 @@ fn numbered_rate_of(mut line: Line, used: usize, all: usize) -> Result<((u64, u6
 /// The number of a cycle, which is one of the first `used` of `all` or the next one.
 fn number_among(digits: &[u8], used: usize, all: usize) -> Result<u64, Fault>
     requires { IsNumeral digits.now }
+    ensures text { IfOk result (λ n. digits.now ≡ decimal n) }
     ensures among { IfOk result (λ n. (n ≤ used) × (n < all)) }
     ensures exact { result ≡ among used all (number_value digits.now) }
 {

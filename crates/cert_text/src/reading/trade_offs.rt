@@ -1,5 +1,13 @@
-ghost use Rattle.std.specs.Prelude.{◌≡◌, ◌⊎◌, ◌≤◌, [], Ok, Err, IfOk, MatchResult, OnOk, length};
-ghost use Rattle.cert_text.specs.Found.{HasTexts};
+ghost use Rattle.std.specs.Prelude.{◌≡◌, ◌⊎◌, ◌≤◌, ◌++◌, [], All, List, Ok, Err, Some, IfOk, MatchResult, OnOk, length};
+ghost use Rattle.std.specs.List.{flat_map};
+ghost use Rattle.cert_text.specs.CycleLines.{cycle_lines};
+ghost use Rattle.cert_text.specs.MemberLines.{member_lines};
+ghost use Rattle.cert_text.specs.Orderly.{Differ, IsStorageOrderly, used_by};
+ghost use Rattle.cert_text.specs.Spellable.{AreShown, IsCycleText, IsStorageSpellable};
+ghost use Rattle.cert_text.specs.Spelling.{cycle_list, member_list, storage_kind, storage_lines};
+ghost use Rattle.cert_text.specs.declared.certificates.LinkCycle.{LinkCycle};
+ghost use Rattle.cert_text.specs.declared.certificates.MemberLine.{MemberLine};
+ghost use Rattle.cert_text.specs.Found.{HasTexts, IsExplored, IsNewCycle};
 ghost use Rattle.cert_text.specs.Reads.{Gives, GivesKnown, handing, lines_of};
 ghost use Rattle.cert_text.specs.Sections.{cycles_from, explored_from, listed_from, member_from, members_from, named_from, naming_from, new_cycle_from, new_cycles_from, numbered_from, storage_from};
 ghost use Rattle.cert_text.specs.declared.reading.fault.Fault.TheVariants.{Memory};
@@ -23,6 +31,7 @@ pub(crate) fn storage_certificate(
     lines: &mut Lines,
     version: u32,
 ) -> Result<StorageCertificate, Fault>
+    ensures text { IfOk result (λ c. version ≡ 2 → (storage_kind ++ lines.old.rest.now ≡ storage_lines version c) × IsStorageSpellable c × IsStorageOrderly c) }
     ensures exact { Gives result lines.new.rest.now (storage_from version (lines_of lines.old.rest.now)) }
 {
     let no_overlap = overlap(lines)?;
@@ -46,6 +55,7 @@ fn explored(
     lines: &mut Lines,
     version: u32,
 ) -> Result<(Rows<LinkCycle>, Rows<MemberLine>), Fault>
+    ensures text { IfOk result (λ x. version ≡ 2 → IsExplored x.0 x.1 lines.old.rest.now lines.new.rest.now) }
     ensures exact { Gives result lines.new.rest.now (explored_from version (lines_of lines.old.rest.now)) }
 {
     if version == 1 {
@@ -90,6 +100,7 @@ fn each_listed<'a>(
 /// Reads the cycles and then members that name them by their numbers.
 #[tactic(auto, unfolding(crate::specs::Sections::named_from))]
 fn named(alloc: Global, lines: &mut Lines) -> Result<(Rows<LinkCycle>, Rows<MemberLine>), Fault>
+    ensures text { IfOk result (λ x. IsExplored x.0 x.1 lines.old.rest.now lines.new.rest.now) }
     ensures exact { Gives result lines.new.rest.now (named_from (lines_of lines.old.rest.now)) }
 {
     let cycles = cycle_list(alloc, lines)?;
@@ -98,8 +109,9 @@ fn named(alloc: Global, lines: &mut Lines) -> Result<(Rows<LinkCycle>, Rows<Memb
 }
 
 /// Reads the list of the cycles, which differ.
-#[tactic(auto, unfolding(crate::specs::Sections::cycles_from))]
+#[tactic(auto, unfolding(crate::specs::Sections::cycles_from, crate::specs::Spelling::cycle_list))]
 fn cycle_list(alloc: Global, lines: &mut Lines) -> Result<Rows<LinkCycle>, Fault>
+    ensures text { IfOk result (λ c. (lines.old.rest.now ≡ cycle_list 2 c ++ lines.new.rest.now) × All IsCycleText c × Differ c) }
     ensures exact { Gives result lines.new.rest.now (cycles_from (lines_of lines.old.rest.now)) }
 {
     let count = cycles_count(lines)?;
@@ -107,6 +119,7 @@ fn cycle_list(alloc: Global, lines: &mut Lines) -> Result<Rows<LinkCycle>, Fault
 }
 
 fn each_cycle(alloc: Global, lines: &mut Lines, count: u64) -> Result<Rows<LinkCycle>, Fault>
+    ensures text { IfOk result (λ c. (lines.old.rest.now ≡ flat_map cycle_lines c ++ lines.new.rest.now) × (length c ≡ count) × All IsCycleText c × Differ c) }
     ensures exact { Gives result lines.new.rest.now (new_cycles_from count [] (lines_of lines.old.rest.now)) }
 {
     let mut cycles = Cycles {
@@ -125,6 +138,7 @@ fn each_cycle(alloc: Global, lines: &mut Lines, count: u64) -> Result<Rows<LinkC
 fn new_cycle<'a>(alloc: Global, lines: &mut Lines<'a>, cycles: &mut Cycles<'a>) -> Result<(), Fault>
     requires { HasTexts cycles.old.texts.keys cycles.old.list.items }
     ensures texts { OnOk result (HasTexts cycles.new.texts.keys cycles.new.list.items) }
+    ensures text { OnOk result (IsNewCycle cycles.old.list.items cycles.new.list.items lines.old.rest.now lines.new.rest.now) }
     ensures exact { MatchResult result (λ _. new_cycle_from cycles.old.list.items (lines_of lines.old.rest.now) ≡ Ok (cycles.new.list.items, lines_of lines.new.rest.now)) (λ e. (e ≡ Memory) ⊎ (new_cycle_from cycles.old.list.items (lines_of lines.old.rest.now) ≡ Err (e, lines_of lines.new.rest.now))) }
 {
     let text = lines.rest;
@@ -138,8 +152,9 @@ fn new_cycle<'a>(alloc: Global, lines: &mut Lines<'a>, cycles: &mut Cycles<'a>) 
 }
 
 /// Reads members that name all of so many cycles, each the ones before and the next one.
-#[tactic(auto, unfolding(crate::specs::Sections::naming_from, crate::specs::Sections::members_from))]
+#[tactic(auto, unfolding(crate::specs::Sections::naming_from, crate::specs::Sections::members_from, crate::specs::Spelling::member_list))]
 fn naming(alloc: Global, lines: &mut Lines, all: usize) -> Result<Rows<MemberLine>, Fault>
+    ensures text { IfOk result (λ m. ((cycles : List LinkCycle) → lines.old.rest.now ≡ member_list 2 cycles m ++ lines.new.rest.now) × All (λ (x : MemberLine). AreShown x.shown) m × (used_by 0 m ≡ Some all)) }
     ensures exact { Gives result lines.new.rest.now (naming_from all (lines_of lines.old.rest.now)) }
 {
     let count = members_count(lines)?;
@@ -160,6 +175,8 @@ fn each_numbered(
     all: usize,
 ) -> Result<Rows<MemberLine>, Fault>
     requires { used.old ≤ all }
+    ensures text { IfOk result (λ m. ((cycles : List LinkCycle) → lines.old.rest.now ≡ flat_map (member_lines 2 cycles) m ++ lines.new.rest.now) × (length m ≡ count) × All (λ (x : MemberLine). AreShown x.shown) m × (used_by used.old m ≡ Some used.new)) }
+    ensures within { used.new ≤ all }
     ensures exact { GivesKnown result used.new lines.new.rest.now (handing (member_from (numbered_from all)) count used.old (lines_of lines.old.rest.now)) }
 {
     let mut members = Vec::new(alloc);

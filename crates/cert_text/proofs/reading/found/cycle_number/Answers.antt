@@ -15,6 +15,8 @@ returns-in_ok-push-clause-exact c =
       c.in_ok-number.ensures.index ∙ place-texts c.args.cycles.now.texts.keys c.args.cycles.now.list.items c.split_at.result.0.now cycle text c.requires,
       added,
       with-new c.args.cycles.now.list.items c.push.new.self.items cycle _ refl (sym c.if-is_new.true ∙ added) c.in_ok-push.ensures.items,
+      c.in_ok-cycle.ensures.text.0,
+      c.in_ok-cycle.ensures.text.1,
     )
 
 pub returns-else-is_new-clause-exact : goal.returns-else-is_new-clause-exact
@@ -28,4 +30,6 @@ returns-else-is_new-clause-exact c =
       c.in_ok-number.ensures.index ∙ place-texts c.args.cycles.now.texts.keys c.args.cycles.now.list.items c.split_at.result.0.now cycle text c.requires,
       added,
       with-old c.args.cycles.now.list.items cycle _ refl (sym c.if-is_new.false ∙ added),
+      c.in_ok-cycle.ensures.text.0,
+      c.in_ok-cycle.ensures.text.1,
     )

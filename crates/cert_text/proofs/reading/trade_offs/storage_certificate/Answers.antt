@@ -1,0 +1,13 @@
+use Rattle.std.proofs.Common.{◌≡◌, ◌∙◌, ◌++◌, ap, sym, List, ℕ, refl}
+use Rattle.cert_text.specs.NumberLines.{overlap_line, limit_line}
+use Rattle.cert_text.specs.Spelling.{cycle_list, member_list, point_list, storage_kind, storage_lines, storage_lists}
+use Rattle.cert_text.proofs.Wholes.{storage-whole}
+use Rattle.cert_text.proofs.reading.trade_offs.storage_certificate.Goals as goal
+
+pub returns-clause-text : goal.returns-clause-text
+returns-clause-text c = λ two.
+    let explored = c.in_ok-cycles.ensures.text two in (
+      storage-whole c.args.version two _ _ _ _ _ _ _ _ _ _ c.in_ok-no_overlap.ensures.text c.in_ok-limit.ensures.text explored.spelled c.in_ok-points.ensures.text.0 c.in_ok-end.ensures.text,
+      record { cycles = explored.texts; members = explored.shown; points = c.in_ok-points.ensures.text.1 },
+      record { differ = explored.differ; used = explored.used },
+    )
