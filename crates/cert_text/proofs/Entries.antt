@@ -1,5 +1,5 @@
 -- Entries of a line that are read one after the other.
-use Rattle.std.proofs.Common.{◌≡◌, ℕ, zero, suc, ◌+◌, ◌-◌, ◌<◌, ◌≤◌, ◌^◌, Bool, true, false, List, [], ◌∷◌, ◌++◌, Option, Some, None, All, length, Result, Ok, Err, refl, sym, ap, ◌∙◌, subst, append_assoc, arith, inl, inr}
+use Rattle.std.proofs.Common.{◌≡◌, ℕ, zero, suc, ◌<◌, ◌≤◌, ◌^◌, Bool, true, false, List, [], ◌∷◌, ◌++◌, Option, Some, None, All, length, Result, Ok, Err, refl, sym, ap, ◌∙◌, subst, append_assoc, arith, inr}
 use Rattle.std.specs.Prelude.{nat_lt, if◌then◌else◌, IfOk, codes, ◌==◌}
 use Rattle.std.specs.List.{flat_map, AllByRecursion}
 use Rattle.std.specs.Fmt.{decimal}
@@ -8,7 +8,7 @@ use Rattle.std.proofs.Math.Dec.{leb}
 use Rattle.std.proofs.lemmas.List.Elements.{All-from_recursion}
 use Rattle.std.proofs.lemmas.List.{append-nil}
 use Rattle.cert_text.specs.declared.reading.fault.Fault.{Fault}
-use Rattle.cert_text.specs.declared.reading.fault.Fault.TheVariants.{Form, Large}
+use Rattle.cert_text.specs.declared.reading.fault.Fault.TheVariants.{Large}
 use Rattle.cert_text.specs.Reads.{◌>>=◌, GivesLine}
 use Rattle.cert_text.specs.Collected.{collected, one_more}
 use Rattle.cert_text.specs.Fields.{behind, number_in, ended, entries_of, each_by, limited}

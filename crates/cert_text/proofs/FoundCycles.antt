@@ -1,12 +1,12 @@
 -- Cycles that are found among those before them, by their texts.
-use Rattle.std.proofs.Common.{◌≡◌, ◌≢◌, ℕ, zero, suc, ◌+◌, ◌-◌, ◌<◌, ◌≤◌, ◌⊎◌, Bool, true, false, List, [], ◌∷◌, ◌++◌, length, take, Result, Ok, Err, refl, sym, ap, ◌∙◌, subst, append_assoc, arith, inl, inr, Bor, length-append, take_at}
-use Rattle.std.specs.Prelude.{not, map, ◌||◌, cond, if◌then◌else◌}
+use Rattle.std.proofs.Common.{◌≡◌, ◌≢◌, ℕ, zero, suc, ◌+◌, ◌-◌, ◌<◌, ◌≤◌, ◌⊎◌, Bool, true, false, List, [], ◌∷◌, ◌++◌, length, take, Ok, Err, refl, sym, ap, ◌∙◌, subst, append_assoc, arith, inl, inr, Bor, length-append, take_at}
+use Rattle.std.specs.Prelude.{not, ◌||◌, cond}
 use Rattle.std.specs.List.{list_any, position_or_len}
 use Rattle.std.specs.Str.{bytes_eq}
 use Rattle.std.proofs.lemmas.List.{append-nil}
 use Rattle.cert_text.specs.declared.certificates.LinkCycle.{LinkCycle}
 use Rattle.cert_text.specs.declared.reading.fault.Fault.{Fault}
-use Rattle.cert_text.specs.declared.reading.fault.Fault.TheVariants.{Form, Memory}
+use Rattle.cert_text.specs.declared.reading.fault.Fault.TheVariants.{Memory}
 use Rattle.cert_text.specs.CycleLines.{cycle_lines}
 use Rattle.cert_text.specs.Found.{HasTexts}
 use Rattle.cert_text.specs.MemberLines.{cycle_at, no_cycle}

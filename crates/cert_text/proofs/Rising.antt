@@ -1,12 +1,12 @@
 -- Bounded channels of a line, by rising numbers.
-use Rattle.std.proofs.Common.{◌≡◌, ℕ, zero, suc, ◌+◌, ◌<◌, ◌≤◌, ◌^◌, Bool, true, false, List, [], ◌∷◌, ◌++◌, length, Result, Ok, Err, refl, sym, ap, ◌∙◌, subst, append_assoc, arith, inl, inr}
-use Rattle.std.specs.Prelude.{nat_lt, if◌then◌else◌, ◌&&◌, codes, slice_index_or}
+use Rattle.std.proofs.Common.{◌≡◌, ℕ, zero, suc, ◌+◌, ◌<◌, ◌≤◌, ◌^◌, Bool, true, false, List, [], ◌∷◌, ◌++◌, length, Result, Ok, Err, refl, sym, ap, ◌∙◌, subst, append_assoc, arith}
+use Rattle.std.specs.Prelude.{nat_lt, if◌then◌else◌, ◌&&◌, codes}
 use Rattle.std.specs.List.{flat_map, AllByRecursion}
 use Rattle.std.specs.Fmt.{decimal}
 use Rattle.std.proofs.lemmas.Bool.{ltb-true}
 use Rattle.std.proofs.Math.Dec.{ltb}
 use Rattle.cert_text.specs.declared.reading.fault.Fault.{Fault}
-use Rattle.cert_text.specs.declared.reading.fault.Fault.TheVariants.{Form, Large}
+use Rattle.cert_text.specs.declared.reading.fault.Fault.TheVariants.{Form}
 use Rattle.cert_text.specs.Reads.{◌>>=◌}
 use Rattle.cert_text.specs.BufferLines.{buffer_text, buffers_line}
 use Rattle.cert_text.specs.Collected.{collected, one_more}

@@ -1,10 +1,10 @@
 -- What is read so many times, one after the other.
-use Rattle.std.proofs.Common.{◌≡◌, ℕ, zero, suc, ◌+◌, ◌-◌, ◌<◌, ◌≤◌, ◌⊎◌, Bool, true, false, List, [], ◌∷◌, ◌++◌, length, Result, Ok, Err, refl, sym, ap, ◌∙◌, subst, append_assoc, arith, inl, inr}
+use Rattle.std.proofs.Common.{◌≡◌, ℕ, suc, ◌+◌, ◌-◌, ◌<◌, ◌≤◌, ◌⊎◌, Bool, true, false, List, [], ◌∷◌, ◌++◌, Result, Ok, Err, refl, sym, ap, ◌∙◌, append_assoc, arith, inl, inr}
 use Rattle.std.specs.Prelude.{◌==◌, if◌then◌else◌}
 use Rattle.std.proofs.lemmas.List.{append-nil}
 use Rattle.sd_base.specs.declared.limits.TheConstants.{START}
 use Rattle.cert_text.specs.declared.reading.fault.Fault.{Fault}
-use Rattle.cert_text.specs.declared.reading.fault.Fault.TheVariants.{Form, Memory}
+use Rattle.cert_text.specs.declared.reading.fault.Fault.TheVariants.{Memory}
 use Rattle.cert_text.specs.Reads.{Reads, ◌>>=◌, in_front, next_by, times_by, lines_of, onto, Gives, GivesLine}
 use Rattle.cert_text.specs.LineForms.{numbers_due}
 use Rattle.cert_text.specs.Sections.{actors_from, at_digit, begins_with_digit}

@@ -1,5 +1,5 @@
 -- Whole certificates.
-use Rattle.std.proofs.Common.{◌≡◌, ◌⊎◌, ℕ, Bool, List, ◌++◌, Result, Ok, Err, length, ap, ◌∙◌, sym, refl, inl, inr}
+use Rattle.std.proofs.Common.{◌≡◌, ◌⊎◌, ℕ, Bool, List, ◌++◌, Result, Ok, Err, length, ap, ◌∙◌, sym, inl, inr}
 use Rattle.cert_text.specs.declared.certificates.Certificate.{Certificate}
 use Rattle.cert_text.specs.declared.certificates.Certificate.TheVariants.{Rate, Storage, Scenario}
 use Rattle.cert_text.specs.declared.certificates.LinkCycle.{LinkCycle}

@@ -1,5 +1,5 @@
 -- What is found while reading.
-use Rattle.std.specs.Prelude.{◌≡◌, ◌⊎◌, ℕ, List, [], ◌∷◌, ◌++◌, All, length, Bool, false, not, Option, Some, None, Result, Ok, Err, map}
+use Rattle.std.specs.Prelude.{◌≡◌, ◌⊎◌, ℕ, List, [], ◌∷◌, ◌++◌, All, length, false, not, Option, Some, None, Result, Ok, Err, map}
 use denote.Ref.{Bor}
 use Rattle.std.specs.List.{list_any}
 use Rattle.cert_text.specs.declared.certificates.LinkCycle.{LinkCycle}

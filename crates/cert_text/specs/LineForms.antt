@@ -1,14 +1,12 @@
 -- Each kind of line: first its form, then the limits of its numbers.
-use Rattle.std.specs.Prelude.{ℕ, ℤ, pos, negsuc, zero, suc, List, [], ◌∷◌, ◌++◌, Bool, true, false, ◌&&◌, Option, Some, None, Result, Ok, Err, codes, length, nat_lt, nat_le, ◌==◌, if◌then◌else◌}
+use Rattle.std.specs.Prelude.{ℕ, ℤ, pos, negsuc, zero, suc, List, [], ◌∷◌, Bool, true, false, ◌&&◌, Option, Some, None, Result, Ok, Err, codes, length, nat_lt, nat_le, ◌==◌, if◌then◌else◌}
 use Rattle.std.specs.Str.{bytes_eq}
-use Rattle.sd_base.specs.declared.limits.TheConstants.{START}
 use Rattle.sd_base.specs.declared.role.Role.{Role}
-use Rattle.sd_base.specs.declared.role.Role.TheVariants.{Token, Own, Space, Order}
-use Rattle.critical.specs.declared.cycle.FiringNo.{FiringNo}
+use Rattle.sd_base.specs.declared.role.Role.TheVariants.{Token, Own, Space}
 use Rattle.cert_text.specs.declared.certificates.LinkStep.{LinkStep}
 use Rattle.cert_text.specs.declared.reading.cycles.CycleHeader.{CycleHeader}
 use Rattle.cert_text.specs.declared.reading.fault.Fault.{Fault}
-use Rattle.cert_text.specs.declared.reading.fault.Fault.TheVariants.{Form, Large}
+use Rattle.cert_text.specs.declared.reading.fault.Fault.TheVariants.{Form}
 use Rattle.cert_text.specs.Reads.{◌>>=◌}
 use Rattle.cert_text.specs.Fields.{behind, number_in, limited, ended, entries_of, each_by}
 use Rattle.cert_text.specs.NumberLines.{overlap_line, version_line}

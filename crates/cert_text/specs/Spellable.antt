@@ -1,9 +1,7 @@
 -- Which certificates have a spelling.
 use Rattle.std.specs.Prelude.{◌≡◌, ℕ, ◌+◌, ◌<◌, ◌≤◌, List, All, length, slice_index_or}
 use Rattle.sd_base.specs.declared.limits.TheConstants.{START}
-use Rattle.sd_base.specs.declared.role.Role.{Role}
 use Rattle.sd_base.specs.declared.role.Role.TheVariants.{Order}
-use Rattle.periodic.specs.declared.schedule.Periodic.{Periodic}
 use Rattle.cert_text.specs.declared.certificates.Certificate.{Certificate}
 use Rattle.cert_text.specs.declared.certificates.Certificate.TheVariants.{Rate, Storage, Scenario}
 use Rattle.cert_text.specs.declared.certificates.LinkCycle.{LinkCycle}
@@ -14,7 +12,6 @@ use Rattle.cert_text.specs.declared.certificates.MemberShown.TheVariants.{Cycle,
 use Rattle.cert_text.specs.declared.certificates.PointLine.{PointLine}
 use Rattle.cert_text.specs.declared.certificates.RateCertificate.{RateCertificate}
 use Rattle.cert_text.specs.declared.certificates.StorageCertificate.{StorageCertificate}
-use Rattle.cert_text.specs.declared.certificates.ScenarioCertificate.{ScenarioCertificate}
 
 -- the channels of buffers rise
 abbrev pub Rise : List (ℕ × ℕ) → Type 0

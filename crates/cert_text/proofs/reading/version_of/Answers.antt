@@ -1,6 +1,5 @@
-use Rattle.std.proofs.Common.{◌≡◌, ◌∙◌, ap, sym, lit<, refl}
+use Rattle.std.proofs.Common.{◌∙◌, sym, lit<, refl}
 use Rattle.cert_text.specs.LineForms.{version_due}
-use Rattle.cert_text.specs.NumberLines.{version_line}
 use Rattle.cert_text.proofs.Texts.{version-small}
 use Rattle.cert_text.proofs.reading.version_of.Goals as goal
 

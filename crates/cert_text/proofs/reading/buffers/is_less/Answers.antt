@@ -1,4 +1,4 @@
-use Rattle.std.proofs.Common.{◌≡◌, refl, arith, sym}
+use Rattle.std.proofs.Common.{refl}
 use Rattle.cert_text.proofs.Numerals.{lengths-decide, digits-decide, digits-more, digits-end}
 use Rattle.cert_text.proofs.reading.buffers.is_less.Goals as goal
 

@@ -1,4 +1,4 @@
-use Rattle.std.proofs.Common.{◌≡◌, ◌<◌, ◌≤◌, length, take}
+use Rattle.std.proofs.Common.{◌≡◌, ◌≤◌, take}
 use Rattle.cert_text.specs.Fields.{number_value}
 use Rattle.cert_text.proofs.reading.digits.value_of.Given as goal
 

@@ -1,4 +1,4 @@
-use Rattle.std.proofs.Common.{◌≡◌, ◌∙◌, ap, sym, refl, Bool, arith}
+use Rattle.std.proofs.Common.{◌≡◌, ◌∙◌, ap, sym, refl}
 use Rattle.std.specs.Prelude.{not}
 use Rattle.cert_text.specs.CycleLines.{cycle_lines}
 use Rattle.cert_text.proofs.FoundCycles.{place-texts, any-texts, text-taken, with-new, with-old}

@@ -1,9 +1,7 @@
-use Rattle.std.proofs.Common.{◌≡◌, ℕ, ◌^◌, ◌<◌, ◌≤◌, ◌∙◌, List, All, length, sym, arith, lit<, inr, Result, Ok, Err}
+use Rattle.std.proofs.Common.{◌≡◌, ℕ, ◌<◌, ◌∙◌, List, length, sym, lit<, inr}
 use Rattle.std.proofs.lemmas.Result.{err_from_is_err_and}
-use Rattle.cert_text.specs.declared.reading.fault.Fault.{Fault}
-use Rattle.cert_text.specs.Collected.{collected}
 use Rattle.cert_text.specs.Fields.{limited}
-use Rattle.cert_text.specs.LineForms.{spaced_number_in, numbers_due}
+use Rattle.cert_text.specs.LineForms.{numbers_due}
 use Rattle.cert_text.specs.NumberLines.{numbers_line}
 use Rattle.cert_text.proofs.Entries.{numbers-start, numbers-none, numbers-sound, collects-more, collects-ends, goes-fails, goes-unended, gives-same, if-ok}
 use Rattle.cert_text.proofs.reading.numbers.counts_of.Goals as goal

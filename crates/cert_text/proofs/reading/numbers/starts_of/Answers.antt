@@ -1,10 +1,8 @@
-use Rattle.std.proofs.Common.{◌≡◌, ℕ, ◌^◌, ◌<◌, ◌≤◌, ◌∙◌, List, All, length, sym, arith, lit<, inr, Result, Ok, Err}
+use Rattle.std.proofs.Common.{◌≡◌, ℕ, ◌∙◌, List, sym, lit<, inr}
 use Rattle.std.proofs.lemmas.Result.{err_from_is_err_and}
 use Rattle.sd_base.specs.declared.limits.TheConstants.{START}
-use Rattle.cert_text.specs.declared.reading.fault.Fault.{Fault}
-use Rattle.cert_text.specs.Collected.{collected}
 use Rattle.cert_text.specs.Fields.{limited}
-use Rattle.cert_text.specs.LineForms.{spaced_number_in, numbers_due}
+use Rattle.cert_text.specs.LineForms.{numbers_due}
 use Rattle.cert_text.specs.NumberLines.{numbers_line}
 use Rattle.cert_text.specs.Spellable.{AreStarts}
 use Rattle.cert_text.proofs.Entries.{numbers-start, numbers-none, numbers-sound, collects-more, collects-ends, goes-fails, goes-unended, gives-same, if-ok}

@@ -1,4 +1,4 @@
-use Rattle.std.proofs.Common.{◌≡◌, ◌-◌, ◌<◌, ◌≤◌, List, [], ◌∷◌, ◌++◌, ℕ, All, length}
+use Rattle.std.proofs.Common.{◌≡◌, ◌-◌, ◌++◌, All, length}
 use Rattle.std.specs.List.{flat_map}
 use Rattle.cert_text.specs.MemberLines.{point_lines}
 use Rattle.cert_text.specs.Reads.{lines_of, times_by}

@@ -1,4 +1,4 @@
-use Rattle.std.proofs.Common.{◌≡◌, ◌∙◌, ap, sym, refl}
+use Rattle.std.proofs.Common.{refl}
 use Rattle.cert_text.specs.Sections.{ending}
 use Rattle.cert_text.specs.Spelling.{end_line}
 use Rattle.cert_text.proofs.TextLines.{empty-lines, lines-some}

@@ -1,4 +1,4 @@
-use Rattle.std.proofs.Common.{◌≡◌, ◌-◌, ◌<◌, ◌≤◌, List, [], ◌∷◌, ◌++◌, ℕ, All, length}
+use Rattle.std.proofs.Common.{◌≡◌, ◌-◌, List, ◌∷◌, ◌++◌, ℕ, length}
 use Rattle.std.specs.List.{flat_map}
 use Rattle.cert_text.specs.LineForms.{node_due}
 use Rattle.cert_text.specs.Reads.{lines_of, next_by, times_by}

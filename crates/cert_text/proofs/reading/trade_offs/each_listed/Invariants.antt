@@ -1,4 +1,4 @@
-use Rattle.std.proofs.Common.{◌≡◌, ◌-◌, []}
+use Rattle.std.proofs.Common.{◌≡◌, ◌-◌}
 use Rattle.cert_text.specs.Found.{HasTexts}
 use Rattle.cert_text.specs.Reads.{lines_of, handing}
 use Rattle.cert_text.specs.Sections.{listed_from, member_from}

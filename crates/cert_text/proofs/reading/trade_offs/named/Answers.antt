@@ -1,4 +1,4 @@
-use Rattle.std.proofs.Common.{◌≡◌, ◌∙◌, ◌++◌, ap, List, ℕ, arith}
+use Rattle.std.proofs.Common.{◌∙◌, ◌++◌, ap, List, ℕ, arith}
 use Rattle.cert_text.specs.Spelling.{cycle_list}
 use Rattle.cert_text.proofs.reading.trade_offs.named.Goals as goal
 

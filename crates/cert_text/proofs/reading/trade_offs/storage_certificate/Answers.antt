@@ -1,6 +1,3 @@
-use Rattle.std.proofs.Common.{◌≡◌, ◌∙◌, ◌++◌, ap, sym, List, ℕ, refl}
-use Rattle.cert_text.specs.NumberLines.{overlap_line, limit_line}
-use Rattle.cert_text.specs.Spelling.{cycle_list, member_list, point_list, storage_kind, storage_lines, storage_lists}
 use Rattle.cert_text.proofs.Wholes.{storage-whole}
 use Rattle.cert_text.proofs.reading.trade_offs.storage_certificate.Goals as goal
 

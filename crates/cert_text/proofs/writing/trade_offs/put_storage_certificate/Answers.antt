@@ -1,7 +1,4 @@
-use Rattle.std.proofs.Common.{◌≡◌, List, length, subst, sym, ap, ◌∙◌}
-use Rattle.cert_text.specs.declared.certificates.LinkCycle.{LinkCycle}
-use Rattle.cert_text.specs.declared.certificates.MemberLine.{MemberLine}
-use Rattle.cert_text.specs.Orderly.{NameOnes}
+use Rattle.std.proofs.Common.{length}
 use Rattle.cert_text.proofs.Uses.{names}
 use Rattle.cert_text.proofs.writing.trade_offs.put_storage_certificate.Goals as goal
 

@@ -1,4 +1,4 @@
-use Rattle.std.proofs.Common.{◌≡◌, ℕ, ◌<◌, ◌≤◌, length, arith}
+use Rattle.std.proofs.Common.{arith}
 use Rattle.cert_text.specs.Digits.{IsNumeral}
 use Rattle.cert_text.proofs.Numerals.{number-none, number-some, number-digits, split-parts}
 use Rattle.cert_text.proofs.reading.line.Line.digits.Goals as goal

@@ -1,4 +1,4 @@
-use Rattle.std.proofs.Common.{◌≡◌, ◌≢◌, ◌∙◌, sym, ap, Result, Ok, Err, rules, arith}
+use Rattle.std.proofs.Common.{◌≡◌, ◌∙◌, sym, rules}
 use Rattle.cert_text.proofs.Behind.{behind-ok, behind-short, behind-other}
 use Rattle.cert_text.proofs.reading.line.Line.word.Goals as goal
 

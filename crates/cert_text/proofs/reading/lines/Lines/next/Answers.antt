@@ -1,4 +1,4 @@
-use Rattle.std.proofs.Common.{◌∙◌, sym, ap, length, arith, refl}
+use Rattle.std.proofs.Common.{refl}
 use Rattle.cert_text.proofs.TextLines.{first-line, empty-lines}
 use Rattle.cert_text.proofs.reading.lines.Lines.next.Goals as goal
 
