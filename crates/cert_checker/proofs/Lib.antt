@@ -13,6 +13,7 @@ pub mod ShownLists
 pub mod FileNets
 pub mod TradeOffs
 pub mod Glue
+pub mod SpelledLines
 pub mod TradeOffFaults
 pub mod StorageFirsts
 pub mod TradeOffFirsts

@@ -46,7 +46,7 @@ module _ {A : Type 0} (f : A → ℕ) (xs : List A) (d : A) where
       let on_j : sum (map f (take (suc i) xs)) ≤ sum (map f (take j xs)) = subst (λ (n : ℕ). sum (map f (take (suc i) xs)) ≤ sum (map f (take n xs))) e on in
       omega (arith, step, on_j)
 
-take-all : {A : Type 0} (xs : List A) → take (length xs) xs ≡ xs
+pub take-all : {A : Type 0} (xs : List A) → take (length xs) xs ≡ xs
 take-all [] = refl
 take-all (x ∷ xs) = ap (λ (ys : List _). x ∷ ys) (take-all xs)
 

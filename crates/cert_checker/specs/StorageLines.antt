@@ -1,7 +1,7 @@
 -- The lines of a certificate of a trade-off. Line 1 has the version, 2 the kind, 3 whether firings may overlap, 4 the limit. Then
 -- come in version 2 that of the number of cycles, and the cycles; in both that of the number of members, the members, that of the
 -- number of points, and the points.
-use Rattle.std.specs.Prelude.{ℕ, ◌+◌, ◌==◌, List, map, take, sum, length, if◌then◌else◌}
+use Rattle.std.specs.Prelude.{ℕ, ◌+◌, ◌≤◌, ◌==◌, List, map, take, sum, length, if◌then◌else◌}
 use Rattle.cert_text.specs.declared.certificates.LinkCycle.{LinkCycle}
 use Rattle.cert_text.specs.declared.certificates.MemberLine.{MemberLine}
 use Rattle.cert_text.specs.declared.certificates.MemberShown.{MemberShown}
@@ -9,6 +9,8 @@ use Rattle.cert_text.specs.declared.certificates.MemberShown.TheVariants.{Cycle,
 use Rattle.cert_text.specs.declared.certificates.PointLine.{PointLine}
 use Rattle.cert_text.specs.declared.certificates.StorageCertificate.{StorageCertificate}
 use Rattle.cert_text.specs.MemberLines.{cycle_at}
+use Rattle.cert_text.specs.declared.certificates.Certificate.TheVariants.{Storage}
+use Rattle.cert_text.specs.Spelling.{spelling}
 
 -- a cycle has a line for each step after its first
 abbrev pub cycle_size : LinkCycle → ℕ
@@ -47,3 +49,7 @@ point_line version c i = points_line version c + 1 + sum (map point_size (take i
 
 abbrev pub end_line : ℕ → StorageCertificate → ℕ
 end_line version c = point_line version c (length c.points)
+
+-- a text has no more lines than bytes
+abbrev pub SpelledLinesFit : Type 0
+SpelledLinesFit = (version : ℕ) (c : StorageCertificate) → end_line version c ≤ length (spelling version (Storage c))

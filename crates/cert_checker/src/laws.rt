@@ -2,6 +2,7 @@
 ghost use Rattle.cert_checker.specs.RateCertificates.{RateIsShown};
 ghost use Rattle.cert_checker.specs.StorageCertificates.{RightPointsAreTheFront};
 ghost use Rattle.cert_checker.specs.StorageFaults.{RightLinesAreFaultless};
+ghost use Rattle.cert_checker.specs.StorageLines.{SpelledLinesFit};
 
 use critical::laws::cycles_bound_the_rate;
 use periodic::schedules_bound_the_rate;
@@ -23,3 +24,8 @@ pub fn trade_off_is_shown()
     rate_is_shown();
     cycles_bound_the_rate();
 }
+
+/// The certificate of a trade-off has no more lines in a version than its text has bytes.
+pub fn spelled_lines_fit()
+    ensures { SpelledLinesFit }
+{}

@@ -26,7 +26,7 @@ mod verdict;
 mod walks;
 
 pub use certificates::check;
-pub use laws::{rate_is_shown, trade_off_is_shown};
+pub use laws::{rate_is_shown, spelled_lines_fit, trade_off_is_shown};
 pub use rates::check_rate;
 pub use scenarios::check_scenario;
 pub use trade_offs::check_storage;
