@@ -5,3 +5,4 @@ pub mod Listed
 pub mod Orderless
 pub mod Places
 pub mod Rising
+pub mod ValidRates

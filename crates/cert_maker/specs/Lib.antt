@@ -1,5 +1,6 @@
 pub mod Links
 pub mod RateCertificates
 pub mod StorageCertificates
+pub mod ValidCertificates
 pub mod WorstCertificates
 pub mod inside

@@ -2,6 +2,7 @@
 //! can accept it.
 #![tactic(auto)]
 
+pub mod laws;
 mod links;
 mod listing;
 mod members;

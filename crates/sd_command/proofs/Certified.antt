@@ -24,6 +24,11 @@ use Rattle.automaton.specs.declared.graph.TimedGraph.{TimedGraph}
 use Rattle.scenario_rate.specs.declared.answer.Worst.{Worst}
 use Rattle.sd_command.specs.declared.wanted.WantedRate.{WantedRate}
 use Rattle.sd_command.specs.RateAnswers.{IsOfRate, IsRateAnswer, IsRateShown, IsRateTooLong}
+use Rattle.pareto_front.specs.declared.point.Point.{Point}
+use Rattle.explore.specs.declared.exploration.Member.{Member}
+use Rattle.explore.specs.Explorations.{cycles_in}
+use Rattle.sd_command.specs.declared.wanted.WantedPoints.{WantedPoints}
+use Rattle.sd_command.specs.PointAnswers.{ArePointsShown, ArePointsTooLong, IsOfPoints, IsPointsAnswer}
 use Rattle.sd_command.specs.WorstAnswers.{IsOfWorst, IsShown, IsWorstAnswer, IsWorstTooLong}
 use Rattle.sd_command.specs.Courses.{deciding}
 use Rattle.sd_command.specs.inside.Going.{Does}
@@ -69,3 +74,10 @@ pub worst-stops : (file : ScenarioFile) (graph : TimedGraph) (certificate : Opti
     → Does (deciding (λ answer. IsWorstAnswer file graph certificate answer 0) (λ refusal. IsWorstTooLong file graph certificate refusal 0)) (Err why)
 worst-stops file graph certificate worst shown (stop.Refused refusal) long = record { worst = worst; is = shown; long = long; none = refl }
 worst-stops file graph certificate worst shown stop.OutOfMemory nothing = tt
+
+-- that of points too
+pub points-stops : (graph : GraphFile) (net : Net) (wanted : WantedPoints) (members : List Member) (points : List Point) (schedules : List Periodic) → ArePointsShown net wanted.limits members points schedules → (why : Stop)
+    → Does (deciding (Certifies wanted.certificate (IsOfPoints net wanted members points schedules)) (IsTooLong wanted.certificate (IsOfPoints net wanted members points schedules))) (Err why)
+    → Does (deciding (λ answer. IsPointsAnswer graph net wanted answer (cycles_in members)) (λ refusal. ArePointsTooLong net wanted refusal (cycles_in members))) (Err why)
+points-stops graph net wanted members points schedules shown (stop.Refused refusal) long = record { members = members; points = points; schedules = schedules; shown = shown; long = long; counted = refl }
+points-stops graph net wanted members points schedules shown stop.OutOfMemory nothing = tt

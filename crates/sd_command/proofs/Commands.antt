@@ -57,7 +57,7 @@ module _ (laws : FileLaws) (scenarios : ScenarioLaws) (shelf : Files) (tells : s
       after_decides (taking shelf Graph name) _ (taking_determines shelf tells Graph name) (λ bytes taken.
       after_decides (reading_graph bytes true) _ (reading_determines laws bytes true) (λ graph given.
       after_decides (balancing graph) _ (balancing_determines laws graph (laws.keeps bytes true graph given)) (λ gamma round.
-      points_decide graph (net_of graph gamma wanted.no_overlap) laws.nets (lawful_net laws bytes graph gamma wanted.no_overlap given round) wanted.limits)))
+      points_decide graph (net_of graph gamma wanted.no_overlap) laws.nets (lawful_net laws bytes graph gamma wanted.no_overlap given round) wanted)))
 
   scenario_decides : (name : List ℕ) (certificate : Option (List ℕ)) → Decides (scenario name certificate shelf)
   scenario_decides name certificate =
@@ -68,7 +68,7 @@ module _ (laws : FileLaws) (scenarios : ScenarioLaws) (shelf : Files) (tells : s
   command_decides : (request : Request) → IsWithinLimits request → Decides (command_of request shelf)
   command_decides (requests.Repetition name) within = repetition_decides name
   command_decides (requests.Throughput name buffers no_overlap states certificate) within = throughput_decides name buffers (record { no_overlap = no_overlap; states = states; certificate = certificate }) within.0
-  command_decides (requests.Storage name limits no_overlap) within = storage_decides name (record { limits = limits; no_overlap = no_overlap })
+  command_decides (requests.Storage name limits no_overlap certificate) within = storage_decides name (record { limits = limits; no_overlap = no_overlap; certificate = certificate })
   command_decides (requests.Scenario name certificate) within = scenario_decides name certificate
   command_decides (requests.Generate seed limit actors) within = generate_decides laws seed limit actors within.1
 

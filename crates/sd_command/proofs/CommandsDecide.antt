@@ -38,6 +38,13 @@ module _ {A : Type 0} (step : Step A) (next : A → Ending → ℕ → Type 0) w
   passes_on r n late (lacking e none) = absurd (late none)
   passes_on r n late (passed a is came) = (a, is, came)
 
+  -- one that is answered has passed it too
+  pub answers_on : (answer : Answer) (n : ℕ) → After step next (Answered answer) n → (a : A) × step.passes a × next a (Answered answer) n
+  answers_on answer n (refused s is e none) = absurd (cc)
+  answers_on answer n (failed s is e none) = absurd (cc)
+  answers_on answer n (lacking e none) = absurd (cc)
+  answers_on answer n (passed a is came) = (a, is, came)
+
   -- what nothing that follows can end, nothing ends
   pub never_ends : (r : Refusal) (n : ℕ) → ((a : A) → step.passes a → next a (Ended r) n → ⊥) → After step next (Ended r) n → ⊥
   never_ends r n rest (refused s is e none) = absurd (cc)

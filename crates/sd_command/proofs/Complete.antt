@@ -35,7 +35,7 @@ pub one_request : (words : List (List ℕ)) (q r : Request) → request_of words
 one_request words q r p s = let e : ◌≡◌ {A = Result Request UsageCause} (Ok q) (Ok r) = sym p ∙ s in (cc)
 
 -- certificates that are short enough aren't too long
-short-enough : (certificate : Option (List ℕ)) (shows : Certificate → Type 0) (r : Refusal) → AreShort certificate shows → IsTooLong certificate shows r → ⊥
+pub short-enough : (certificate : Option (List ℕ)) (shows : Certificate → Type 0) (r : Refusal) → AreShort certificate shows → IsTooLong certificate shows r → ⊥
 short-enough None shows r short long = long
 short-enough (Some name) shows r short (c, is, long) = let most = short c is in omega (arith, most, long.0)
 

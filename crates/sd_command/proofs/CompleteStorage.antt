@@ -1,10 +1,11 @@
 -- A run of `storage` whose limits are enough is done.
-use Rattle.std.proofs.Common.{◌≡◌, ℕ, Bool, true, List, Some, Ok, subst}
+use Rattle.std.proofs.Common.{◌≡◌, ℕ, Bool, true, List, Option, Some, Ok, ⊎_elim, subst}
 use Rattle.sd_base.specs.declared.tables.GraphFile.{GraphFile}
 use Rattle.sd_base.specs.declared.limits.Limits.{Limits}
 use Rattle.sd_base.specs.Net.{Net}
 use Rattle.sd_base.specs.FileNet.{net_of}
 use Rattle.storage.proofs.FileChannels.{file-plain}
+use Rattle.explore.specs.Explorations.{CountsFew}
 use Rattle.explore.specs.Reachable.{IsExplorable}
 use Rattle.explore.proofs.Explorable.{touched-explorable}
 use Rattle.sd_words.proofs.Within.{asked_within}
@@ -21,17 +22,22 @@ use Rattle.sd_command.specs.Readings.{reading_graph}
 use Rattle.sd_command.specs.Balances.{balancing}
 use Rattle.sd_command.specs.Nets.{touching, completing}
 use Rattle.sd_command.specs.Requests.{asking, command_of, course_of}
-use Rattle.sd_command.specs.Endings.{StorageIsComplete, Suffice}
+use Rattle.sd_command.specs.Endings.{PointCertificatesFit, StorageIsComplete, Suffice}
+use Rattle.sd_command.specs.PointAnswers.{ArePointsTooLong, IsExplorationEnd}
+use Rattle.sd_command.specs.declared.wanted.WantedPoints.{WantedPoints}
 use Rattle.sd_command.proofs.CommandsDecide.{never_ends}
-use Rattle.sd_command.proofs.Complete.{one_request}
 use Rattle.storage.proofs.FileConnections.{file-connected, file-few}
+use Rattle.sd_command.proofs.Complete.{one_request, short-enough}
 use Rattle.sd_command.proofs.OneTradeOff.{unspent}
 use Rattle.sd_command.proofs.SharedSteps.{FileLaws, lawful_net}
 use Rattle.sd_command.proofs.Ended.{else_is_done}
 
-module _ (laws : FileLaws) (words : List (List ℕ)) (shelf : Files) (tells : shelf.tells ≡ true) (name : List ℕ) (limits : Limits) (no_overlap : Bool) (asked : request_of words ≡ Ok (Storage name limits no_overlap)) where
+module _ (laws : FileLaws) (words : List (List ℕ)) (shelf : Files) (tells : shelf.tells ≡ true) (name : List ℕ) (limits : Limits) (no_overlap : Bool) (certificate : Option (List ℕ)) (asked : request_of words ≡ Ok (Storage name limits no_overlap certificate)) where
+  abbrev wanted : WantedPoints
+  wanted = record { limits = limits; no_overlap = no_overlap; certificate = certificate }
+
   -- nothing ends it but what words and files decide
-  unended : ((bytes gamma : List ℕ) (graph : GraphFile) → shelf.named name ≡ Some bytes → files.Gives bytes true graph → IsRound graph gamma → Suffice (net_of graph gamma no_overlap) limits)
+  unended : ((bytes gamma : List ℕ) (graph : GraphFile) → shelf.named name ≡ Some bytes → files.Gives bytes true graph → IsRound graph gamma → Suffice (net_of graph gamma no_overlap) limits × PointCertificatesFit (net_of graph gamma no_overlap) wanted)
       → (r : Refusal) (n : ℕ) → course_of words shelf (Ended r) n → ⊥
   unended enough r n = never_ends (asking words) _ r n (λ q also ends.
       never_ends (taking shelf Graph name) _ r n (λ bytes taken.
@@ -41,10 +47,14 @@ module _ (laws : FileLaws) (words : List (List ℕ)) (shelf : Files) (tells : sh
       never_ends (completing graph (net_of graph gamma no_overlap)) _ r n (λ b live end.
       let net : Net = net_of graph gamma no_overlap in
       let can : IsExplorable net = touched-explorable net (file-plain graph gamma no_overlap) (file-connected graph gamma no_overlap round.balanced.connected) touched (file-few graph gamma no_overlap (laws.keeps bytes true graph given)) in
-      unspent graph net laws.nets (lawful_net laws bytes graph gamma no_overlap given round) can limits (asked_within words (Storage name limits no_overlap) asked).total
-      (enough bytes gamma graph (taken.told tells) given round) r end.1)))))
-      (subst (λ (q : Request). command_of q shelf (Ended r) n) (one_request words q (Storage name limits no_overlap) also asked) ends))
+      let fit = enough bytes gamma graph (taken.told tells) given round in
+      ⊎_elim
+      (λ (spent : CountsFew net limits 0 n × IsExplorationEnd graph net limits r).
+      unspent graph net laws.nets (lawful_net laws bytes graph gamma no_overlap given round) can limits (asked_within words (Storage name limits no_overlap certificate) asked).total fit.0 r spent.1)
+      (λ (long : ArePointsTooLong net wanted r n). short-enough certificate _ r (fit.1 long.members long.points long.schedules long.shown) long.long)
+      end)))))
+      (subst (λ (q : Request). command_of q shelf (Ended r) n) (one_request words q (Storage name limits no_overlap certificate) also asked) ends))
 
 pub storage_is_complete : FileLaws → StorageIsComplete
-storage_is_complete laws run cut name limits no_overlap good asked unrefused enough =
-    else_is_done run cut good unrefused (unended laws run.words run.outside.shelf.files good.told name limits no_overlap asked enough)
+storage_is_complete laws run cut name limits no_overlap certificate good asked unrefused enough =
+    else_is_done run cut good unrefused (unended laws run.words run.outside.shelf.files good.told name limits no_overlap certificate asked enough)

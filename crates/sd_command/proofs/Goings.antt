@@ -5,11 +5,12 @@ use Rattle.sd_base.specs.declared.limits.Limits.{Limits}
 use Rattle.sd_base.specs.Net.{Net}
 use Rattle.lasso.specs.LoopAnswers.{IsFound}
 use Rattle.explore.specs.declared.exploration.Exploration.{Exploration}
-use Rattle.explore.specs.declared.exploration.Member.{Member}
-use Rattle.explore.specs.Explorations.{CountsFew, IsExploration, cycles_in}
+use Rattle.explore.specs.Explorations.{CountsFew, IsExploration}
+use Rattle.report.specs.declared.refusal.Refusal.{Refusal}
 use Rattle.sd_command.specs.declared.answer.Answer.{Answer}
 use Rattle.sd_command.specs.declared.stop.Stop.{Stop}
 use Rattle.sd_command.specs.declared.stop.Stop.TheVariants as stop
+use Rattle.sd_command.specs.declared.wanted.WantedPoints.{WantedPoints}
 use Rattle.sd_command.specs.declared.wanted.WantedRate.{WantedRate}
 use Rattle.sd_command.specs.Courses.{Step, deciding, Ending, Answered, Refused, Ended, Failed, Lacking, After, ends_by, refused, failed, lacking, passed}
 use Rattle.graph_reader.specs.Laws.{Gives}
@@ -17,7 +18,7 @@ use Rattle.sd_command.specs.declared.file_kind.FileKind.TheVariants.{Graph}
 use Rattle.sd_command.specs.Takings.{Files, IsTaken, taking}
 use Rattle.sd_command.specs.Readings.{reading_graph}
 use Rattle.sd_command.specs.RateAnswers.{IsRateAnswer, IsRateTooLong, IsRunRefusal, execution}
-use Rattle.sd_command.specs.PointAnswers.{IsExplorationEnd, IsPointsText, exploration}
+use Rattle.sd_command.specs.PointAnswers.{ArePointsTooLong, IsExplorationEnd, IsPointsAnswer, exploration}
 use Rattle.automaton.specs.declared.graph.TimedGraph.{TimedGraph}
 use Rattle.sd_command.specs.WorstAnswers.{IsWorstAnswer, IsWorstTooLong, telling_worst}
 use Rattle.sd_command.specs.Repetitions.{printing}
@@ -55,19 +56,21 @@ module _ (graph : GraphFile) (net : Net) (ds : List (Option ℕ)) (wanted : Want
   run_answers (Err (stop.Refused refusal)) is = record { ending = Ended refusal; is = refl; came = (one, is); counted = refl }
   run_answers (Err stop.OutOfMemory) is = record { ending = Lacking; is = refl; came = omega arith; counted = refl }
 
-module _ (graph : GraphFile) (net : Net) (limits : Limits) (n faults : ℕ) where
+module _ (graph : GraphFile) (net : Net) (wanted : WantedPoints) (n faults : ℕ) where
   -- an exploration stops
-  pub exploration_stops : CountsFew net limits 0 n → (why : Stop)
-      → Does (deciding (λ (e : Exploration). IsExploration net limits e.members.items e.points.items) (IsExplorationEnd graph net limits)) (Err why)
-      → Goes (ends_by (exploration graph net limits)) (Err why) n faults faults
-  exploration_stops few (stop.Refused refusal) is = record { ending = Ended refusal; is = refl; came = (few, is); counted = refl }
+  pub exploration_stops : CountsFew net wanted.limits 0 n → (why : Stop)
+      → Does (deciding (λ (e : Exploration). IsExploration net wanted.limits e.members.items e.points.items) (IsExplorationEnd graph net wanted.limits)) (Err why)
+      → Goes (ends_by (exploration graph net wanted)) (Err why) n faults faults
+  exploration_stops few (stop.Refused refusal) is = record { ending = Ended refusal; is = refl; came = inl (few, is); counted = refl }
   exploration_stops few stop.OutOfMemory is = record { ending = Lacking; is = refl; came = few; counted = refl }
 
-  -- it answers with the text of its points
-  pub points_answer : (answer : Answer) (members : List Member) → n ≡ cycles_in members → IsPointsText graph net limits members answer.text → answer.put ≡ None
-      → Goes (ends_by (exploration graph net limits)) (Ok answer) n faults faults
-  points_answer answer members count is none =
-      record { ending = Answered answer; is = refl; came = record { members = members; text = is; put = none; counted = count }; counted = refl }
+  -- it answers with its points, or their certificate is too long
+  pub points_answer : CountsFew net wanted.limits 0 n → (result : Result Answer Stop)
+      → Does (deciding (λ (answer : Answer). IsPointsAnswer graph net wanted answer n) (λ (refusal : Refusal). ArePointsTooLong net wanted refusal n)) result
+      → Goes (ends_by (exploration graph net wanted)) result n faults faults
+  points_answer few (Ok answer) is = record { ending = Answered answer; is = refl; came = is; counted = refl }
+  points_answer few (Err (stop.Refused refusal)) is = record { ending = Ended refusal; is = refl; came = inr is; counted = refl }
+  points_answer few (Err stop.OutOfMemory) is = record { ending = Lacking; is = refl; came = few; counted = refl }
 
 -- counts from some number on are counts from 0 on
 pub few_from : (net : Net) (limits : Limits) (before after : ℕ) → CountsFew net limits before after → CountsFew net limits 0 (after - before)

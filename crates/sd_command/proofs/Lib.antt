@@ -15,6 +15,7 @@ mod WalkSteps
 mod PointSchedules
 mod OneTradeOff
 mod CompleteStorage
+mod ValidPuts
 mod Summaries
 mod CompleteGenerate
 pub mod CommandsDecide

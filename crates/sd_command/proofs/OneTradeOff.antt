@@ -11,6 +11,7 @@ use Rattle.explore.specs.Reachable.{IsExplorable}
 use Rattle.explore.proofs.Explorable.{reachable-fits}
 use Rattle.report.specs.declared.refusal.Refusal.{Refusal}
 use Rattle.report.specs.declared.refusal.Refusal.TheVariants.{NoInput}
+use Rattle.sd_command.specs.declared.wanted.WantedPoints.{WantedPoints}
 use Rattle.sd_command.specs.ActorNames.{actor_shown}
 use Rattle.sd_command.specs.Nets.{touching, completing}
 use Rattle.sd_command.specs.PointAnswers.{IsExplorationEnd, states_spent, too_many_starts, distributions_spent, exploration, points_of}
@@ -28,19 +29,19 @@ module _ (graph : GraphFile) (net : Net) where
     never = λ r a is touched. is.is.none (touched is.actor is.is.place);
   }
 
-  exploration_decides : (limits : Limits) → DecidesLast (exploration graph net limits)
-  exploration_decides limits = record {
+  exploration_decides : (wanted : WantedPoints) → DecidesLast (exploration graph net wanted)
+  exploration_decides wanted = record {
     one = λ r s n m is also. absurd is;
     no_answer = λ r answer n m is also. is;
     no_end = λ r s n m is also. is;
   }
 
   module _ (facts : NetLaws) (laws : Lawful net) where
-    pub points_decide : (limits : Limits) → Decides (points_of graph net limits)
-    points_decide limits =
+    pub points_decide : (wanted : WantedPoints) → Decides (points_of graph net wanted)
+    points_decide wanted =
         after_decides (touching graph net) _ touching_determines (λ a touched.
         after_decides (completing graph net) _ (completing_determines facts net laws graph) (λ b live.
-        last_decides (exploration graph net limits) (exploration_decides limits)))
+        last_decides (exploration graph net wanted) (exploration_decides wanted)))
 
     -- where the limits are enough, no exploration is ended by them
     pub unspent : IsExplorable net → (limits : Limits) → limits.total ≤ STORAGE → Suffice net limits → (r : Refusal) → IsExplorationEnd graph net limits r → ⊥

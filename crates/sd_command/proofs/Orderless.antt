@@ -1,20 +1,15 @@
--- The nets of files, also bounded ones, have no edges of orders.
-use Rattle.std.proofs.Common.{◌≡◌, ℕ, zero, suc, ◌+◌, ◌-◌, ◌<◌, ◌≤◌, Bool, true, false, List, [], ◌∷◌, length, Option, ⊎_elim, subst, sym, refl, arith}
+-- The nets of files have no edges of orders.
+use Rattle.std.proofs.Common.{◌≡◌, ℕ, zero, suc, ◌+◌, ◌-◌, ◌<◌, ◌≤◌, Bool, true, false, List, [], ◌∷◌, length, ⊎_elim, subst, sym, refl, arith}
 use Rattle.std.specs.Prelude.{slice_index_or, if◌then◌else◌}
 use Rattle.std.proofs.lemmas.Bool.{cases_lt}
 use Rattle.std.proofs.lemmas.List.{length-append, get_or_append_left, get_or-append_right}
-use Rattle.sd_base.specs.declared.role.Role.TheVariants.{Order}
 use Rattle.sd_base.specs.declared.tables.GraphFile.{GraphFile}
 use Rattle.sd_base.specs.declared.tables.ActorRow.{ActorRow}
 use Rattle.sd_base.specs.declared.tables.ChannelRow.{ChannelRow}
 use Rattle.sd_base.specs.Net.{Channel, Net, nowhere, channel_at, file_channels_from, file_channels}
 use Rattle.sd_base.specs.FileNet.{own_channel, gets_own, own_channels_from, net_of}
-use Rattle.storage.specs.BoundedNets.{bound}
-use Rattle.storage.proofs.SpaceChannels.{bound-front, bound-back}
 use Rattle.cert_maker.specs.Links.{HasNoOrders}
-
-abbrev IsNoOrder : Channel → Type 0
-IsNoOrder c = (a b : ℕ) → c.role ≡ Order a b → ⊥
+use Rattle.cert_maker.proofs.Orderless.{IsNoOrder}
 
 abbrev AreNoOrders : List Channel → Type 0
 AreNoOrders cs = (i : ℕ) → i < length cs → IsNoOrder (slice_index_or cs i nowhere)
@@ -42,9 +37,3 @@ net-orderless g gamma apart i below = ⊎_elim
     subst IsNoOrder (sym (get_or-append_right (file_channels g) (own_channels_from apart g.channels 0 g.actors) (length (file_channels g)) i nowhere refl later))
     (own-orderless apart g.channels 0 g.actors (i - length (file_channels g)) (omega (arith, length-append (file_channels g) (own_channels_from apart g.channels 0 g.actors)))))
     (cases_lt i (length (file_channels g)))
-
-pub bound-orderless : (net : Net) (ds : List (Option ℕ)) → HasNoOrders net → HasNoOrders (bound net ds)
-bound-orderless net ds none i below = ⊎_elim
-    (λ (own : i < length net.channels). subst IsNoOrder (sym (bound-front net ds i own)) (none i own))
-    (λ (space : length net.channels ≤ i). let at = bound-back net ds i space below in subst IsNoOrder (sym at.is) (λ a b is. cc))
-    (cases_lt i (length net.channels))

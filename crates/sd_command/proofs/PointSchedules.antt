@@ -1,5 +1,5 @@
 -- The schedule of a point's loop reaches its rate, and the distributions of a net stand over its graph.
-use Rattle.std.proofs.Common.{◌≡◌, ℕ, zero, suc, ◌*◌, ◌-◌, ◌≤◌, ◌<◌, ⊎_elim, true, List, [], ◌∷◌, ◌++◌, length, Option, Some, None, Result, Ok, Err, IfOk, All, sym, ap, subst, ◌∙◌, arith}
+use Rattle.std.proofs.Common.{◌≡◌, ℕ, zero, suc, ◌*◌, ◌-◌, ◌≤◌, ◌<◌, ⊎_elim, true, List, [], ◌∷◌, ◌++◌, length, inl, inr, Option, Some, None, Result, Ok, Err, IfOk, All, refl, sym, ap, subst, ◌∙◌, arith}
 use Rattle.std.specs.Prelude.{slice_index_or}
 use Rattle.std.specs.List.{AllZip}
 use Rattle.std.proofs.lemmas.Bool.{cases_lt, eqb-true}
@@ -21,11 +21,11 @@ use Rattle.storage.proofs.Fits.{can-hold}
 use Rattle.storage.proofs.Lawfulness.{bound-lawful}
 use Rattle.pareto_front.specs.declared.point.Point.{Point}
 use Rattle.explore.specs.Reachable.{IsExplorable}
-use Rattle.explore.specs.declared.exploration.Member.{Member}
-use Rattle.explore.specs.Explorations.{IsExploration, IsPoint}
+use Rattle.explore.specs.Explorations.{IsOneOf, IsPoint}
+use Rattle.cert_text.specs.Spellable.{AreStarts}
 use Rattle.report.specs.LinkTexts.{IsRoleIn, IsNamed}
-use Rattle.report.specs.StorageTexts.{points_lines}
-use Rattle.sd_command.specs.PointAnswers.{IsPointSchedule, IsPointsText}
+use Rattle.sd_command.specs.PointAnswers.{IsPointSchedule}
+use Rattle.sd_command.proofs.Certified.{starts-spelled}
 use Rattle.sd_command.proofs.Reached.{Lowest, lowest_of}
 
 -- ---- distributions over a graph
@@ -67,7 +67,7 @@ module _ (net : Net) (laws : Lawful net) (can : IsExplorable net) (ds : List (Op
   fits-lawful = bound-lawful net laws ds (plain-no_spaces net can.plain) fits-held (can.few ds dist)
 
 module _ (net : Net) (laws : Lawful net) (can : IsExplorable net) (limits : Limits) (small : limits.total ≤ STORAGE) (p : Point) (is : IsPoint net limits p) where
-  point-small : storage_of net.channels p.capacities.capacities ≤ STORAGE
+  pub point-small : storage_of net.channels p.capacities.capacities ≤ STORAGE
   point-small = omega (arith, is.reaches.total, is.reaches.within)
 
   pub point-held : CanHold net.channels p.capacities.capacities
@@ -92,15 +92,6 @@ module _ (net : Net) (laws : Lawful net) (can : IsExplorable net) (limits : Limi
   point-scheduled (Ok s) of_loop = point-schedule s of_loop
   point-scheduled (Err e) of_loop = of_loop
 
--- points that are shown with their schedules
-pub points-shown : (graph : GraphFile) (net : Net) (limits : Limits) (members : List Member) (points : List Point) (text : List ℕ) → IsExploration net limits members points
-    → (listed : List Point) → listed ≡ points → (schedules : List Periodic) × AllZip (IsPointSchedule net) listed schedules × (text ≡ points_lines graph listed schedules)
-    → IsPointsText graph net limits members text
-points-shown graph net limits members points text is listed same shown =
-    let here : (schedules : List Periodic) × AllZip (IsPointSchedule net) points schedules × (text ≡ points_lines graph points schedules) =
-    subst (λ (ps : List Point). (schedules : List Periodic) × AllZip (IsPointSchedule net) ps schedules × (text ≡ points_lines graph ps schedules)) same shown in
-    record { points = points; explored = is; schedules = here.0; reached = here.1; shown = here.2 }
-
 -- each schedule is one of the net's actors
 pub zip-actors : (net : Net) (ps : List Point) (ss : List Periodic) → AllZip (IsPointSchedule net) ps ss → All (λ (s : Periodic). length s.starts ≡ length net.times) ss
 zip-actors net [] [] all k d below = absurd (omega arith)
@@ -115,3 +106,14 @@ zip-more R [] [] x y all is = (is, tt)
 zip-more R [] (b ∷ ys) x y all is = absurd all
 zip-more R (a ∷ xs) [] x y all is = absurd all
 zip-more R (a ∷ xs) (b ∷ ys) x y all is = (all.0, zip-more R xs ys x y all.1 is)
+
+-- each schedule has a text
+pub zip-starts : (net : Net) → Lawful net → IsExplorable net → (limits : Limits) → limits.total ≤ STORAGE → (ps : List Point) (ss : List Periodic) → ((p : Point) → IsOneOf ps p → IsPoint net limits p)
+    → AllZip (IsPointSchedule net) ps ss → All (λ (s : Periodic). All AreStarts s.starts) ss
+zip-starts net laws can limits small [] [] reached all k d below = absurd (omega arith)
+zip-starts net laws can limits small [] (s ∷ ss) reached all k d below = absurd all
+zip-starts net laws can limits small (p ∷ ps) [] reached all k d below = absurd all
+zip-starts net laws can limits small (p ∷ ps) (s ∷ ss) reached all zero d below =
+    let is : IsPoint net limits p = reached p (inl refl) in
+    starts-spelled (bound net p.capacities.capacities) p.table s (fits-lawful net laws can p.capacities.capacities is.reaches.distribution (point-small net laws can limits small p is)) all.0.of_loop
+zip-starts net laws can limits small (p ∷ ps) (s ∷ ss) reached all (suc k) d below = zip-starts net laws can limits small ps ss (λ q one. reached q (inr one)) all.1 k d (omega arith)

@@ -14,6 +14,8 @@ use Rattle.storage.specs.BoundedNets.{bound}
 use Rattle.storage.specs.NamedBuffers.{Buffer, capacities_of}
 use Rattle.periodic.specs.declared.schedule.Periodic.{Periodic}
 use Rattle.critical.specs.declared.cycle.NeedCycle.{NeedCycle}
+use Rattle.pareto_front.specs.declared.point.Point.{Point}
+use Rattle.explore.specs.declared.exploration.Member.{Member}
 use Rattle.explore.specs.Explorations.{AreFound}
 use Rattle.explore.specs.Reachable.{IsReachable}
 use Rattle.graph_reader.specs.Laws.{Gives}
@@ -22,9 +24,11 @@ use Rattle.balance.specs.Repetition.{IsRound}
 use Rattle.report.specs.declared.refusal.Refusal.{Refusal}
 use Rattle.sd_io.specs.Outside.{Rose}
 use Rattle.sd_command.specs.declared.status.Status.TheVariants as statuses
+use Rattle.sd_command.specs.declared.wanted.WantedPoints.{WantedPoints}
 use Rattle.sd_command.specs.declared.wanted.WantedRate.{WantedRate}
 use Rattle.sd_command.specs.Statuses.{status_of}
 use Rattle.sd_command.specs.Certifyings.{AreShort}
+use Rattle.sd_command.specs.PointAnswers.{ArePointsShown, IsOfPoints}
 use Rattle.sd_command.specs.RateAnswers.{IsOfRate, IsRateShown}
 use Rattle.sd_command.specs.Courses.{Ending, Refused, Ended, Failed, Lacking}
 use Rattle.sd_command.specs.Takings.{Files}
@@ -88,13 +92,20 @@ pub record Suffice (net : Net) (limits : Limits) : Type 0 where
   pub repeats : (ds : List (Option ℕ)) → IsReachable net limits.total ds → IsLive (bound net ds) → Repeats (bound net ds) limits.states
   pub few : (dss : List (List (Option ℕ))) → AreFound net limits.total dss → length dss ≤ limits.distributions
 
--- such a run of `storage` is done, or ends for want of memory, where no refusal is due and the limits are enough
+-- where a certificate of the points of a net is asked for, each one is short enough
+abbrev pub PointCertificatesFit : Net → WantedPoints → Type 0
+PointCertificatesFit net wanted = (members : List Member) (points : List Point) (schedules : List Periodic) → ArePointsShown net wanted.limits members points schedules
+    → AreShort wanted.certificate (IsOfPoints net wanted members points schedules)
+
+-- such a run of `storage` is done, or ends for want of memory, where no refusal is due, the limits are enough, and the
+-- certificates are short enough
 abbrev pub StorageIsComplete : Type 0
-StorageIsComplete = (run : Run) (cut : Bool) (name : List ℕ) (limits : Limits) (no_overlap : Bool) → IsFaultless run
-    → request_of run.words ≡ Ok (Storage name limits no_overlap)
+StorageIsComplete = (run : Run) (cut : Bool) (name : List ℕ) (limits : Limits) (no_overlap : Bool) (certificate : Option (List ℕ)) → IsFaultless run
+    → request_of run.words ≡ Ok (Storage name limits no_overlap certificate)
     → ((refusal : Refusal) (n : ℕ) → course_of run.words run.outside.shelf.files (Refused refusal) n → ⊥)
     → ((bytes gamma : List ℕ) (graph : GraphFile) → run.outside.shelf.files.named name ≡ Some bytes → Gives bytes true graph → IsRound graph gamma
-    → Suffice (net_of graph gamma no_overlap) limits)
+    → Suffice (net_of graph gamma no_overlap) limits
+    × PointCertificatesFit (net_of graph gamma no_overlap) (record { limits = limits; no_overlap = no_overlap; certificate = certificate }))
     → Shows run cut → (run.status ≡ statuses.Done) ⊎ (run.status ≡ statuses.Memory)
 
 -- such a run of `generate` is done, or ends for want of memory, where no refusal is due and the limits are enough

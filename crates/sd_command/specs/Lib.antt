@@ -15,6 +15,7 @@ pub mod Requests
 pub mod Runs
 pub mod inside
 pub mod Endings
+pub mod PutCertificates
 pub mod ActorNames
 pub mod RateAnswers
 pub mod ScenarioSteps

@@ -1,5 +1,5 @@
 -- The trade-off between the storage and the rate of a net, with what shows it.
-use Rattle.std.specs.Prelude.{◌≡◌, ℕ, ◌*◌, ◌<◌, List, length, Option, Some, None}
+use Rattle.std.specs.Prelude.{◌≡◌, ℕ, ◌*◌, ◌<◌, ◌⊎◌, List, length, Option, Some, None}
 use Rattle.std.specs.List.{AllZip}
 use Rattle.sd_base.specs.declared.tables.GraphFile.{GraphFile}
 use Rattle.sd_base.specs.declared.limits.Limits.{Limits}
@@ -15,11 +15,17 @@ use Rattle.pareto_front.specs.declared.point.Point.{Point}
 use Rattle.explore.specs.declared.exploration.Member.{Member}
 use Rattle.explore.specs.Reachable.{IsReachable}
 use Rattle.explore.specs.Explorations.{AreFound, CountsFew, IsExploration, cycles_in}
+use Rattle.cert_text.specs.declared.certificates.Certificate.{Certificate}
+use Rattle.cert_text.specs.declared.certificates.Certificate.TheVariants as certificates
+use Rattle.cert_text.specs.declared.certificates.StorageCertificate.{StorageCertificate}
+use Rattle.cert_maker.specs.StorageCertificates.{IsStorageCertificate}
 use Rattle.report.specs.declared.refusal.Refusal.{Refusal}
 use Rattle.report.specs.declared.refusal.Refusal.TheVariants.{Above, DistributionsSpent, StatesSpent}
 use Rattle.report.specs.QuantityWords.{quantity_text}
 use Rattle.report.specs.StorageTexts.{buffers_list, points_lines}
 use Rattle.sd_command.specs.declared.answer.Answer.{Answer}
+use Rattle.sd_command.specs.declared.wanted.WantedPoints.{WantedPoints}
+use Rattle.sd_command.specs.Certifyings.{Certifies, IsTooLong}
 use Rattle.sd_command.specs.Courses.{Analysis, Ending, After, ends_by}
 use Rattle.sd_command.specs.Nets.{touching, completing}
 
@@ -38,34 +44,48 @@ pub record IsPointSchedule (net : Net) (point : Point) (schedule : Periodic) : T
   pub of_loop : IsScheduleOf (bound net point.capacities.capacities) point.table schedule
   pub reached : schedule.rounds * point.rate.den ≡ point.rate.num * schedule.period
 
--- the text of the points of an exploration, which are exactly the Pareto points of all distributions within the limit, each
--- with the first distribution that reaches it and the schedule of its loop
-pub record IsPointsText (graph : GraphFile) (net : Net) (limits : Limits) (members : List Member) (text : List ℕ) : Type 0 where
-  pub points : List Point
+-- the points of an exploration, which are exactly the Pareto points of all distributions within the limit, each with the first
+-- distribution that reaches it, and the schedule of its loop
+pub record ArePointsShown (net : Net) (limits : Limits) (members : List Member) (points : List Point) (schedules : List Periodic) : Type 0 where
   pub explored : IsExploration net limits members points
-  pub schedules : List Periodic
   pub reached : AllZip (IsPointSchedule net) points schedules
-  pub shown : text ≡ points_lines graph points schedules
 
--- an execution was counted for each member whose net is live
-pub record IsPointsAnswer (graph : GraphFile) (net : Net) (limits : Limits) (answer : Answer) (n : ℕ) : Type 0 where
+-- a certificate of members, and of points with their schedules
+abbrev pub IsOfPoints : Net → WantedPoints → List Member → List Point → List Periodic → Certificate → Type 0
+IsOfPoints net wanted members points schedules c =
+    (s : StorageCertificate) × (c ≡ certificates.Storage s) × IsStorageCertificate net wanted.no_overlap wanted.limits.total members points schedules s
+
+-- what shows the points is printed, and the certificate is made of it; an execution was counted for each member whose net is live
+pub record IsPointsAnswer (graph : GraphFile) (net : Net) (wanted : WantedPoints) (answer : Answer) (n : ℕ) : Type 0 where
   pub members : List Member
-  pub text : IsPointsText graph net limits members answer.text
-  pub put : answer.put ≡ None
+  pub points : List Point
+  pub schedules : List Periodic
+  pub shown : ArePointsShown net wanted.limits members points schedules
+  pub text : answer.text ≡ points_lines graph points schedules
+  pub put : Certifies wanted.certificate (IsOfPoints net wanted members points schedules) answer.put
   pub counted : n ≡ cycles_in members
 
--- one exploration, whose limits words and files need not decide
-abbrev pub exploration : GraphFile → Net → Limits → Analysis
-exploration graph net limits = record {
-  answered = λ answer n. IsPointsAnswer graph net limits answer n;
+-- the certificate of what shows the points is too long
+pub record ArePointsTooLong (net : Net) (wanted : WantedPoints) (refusal : Refusal) (n : ℕ) : Type 0 where
+  pub members : List Member
+  pub points : List Point
+  pub schedules : List Periodic
+  pub shown : ArePointsShown net wanted.limits members points schedules
+  pub long : IsTooLong wanted.certificate (IsOfPoints net wanted members points schedules) refusal
+  pub counted : n ≡ cycles_in members
+
+-- one exploration, whose limits words and files need not decide, nor the length of its certificate
+abbrev pub exploration : GraphFile → Net → WantedPoints → Analysis
+exploration graph net wanted = record {
+  answered = λ answer n. IsPointsAnswer graph net wanted answer n;
   refused = λ refusal n. ⊥;
-  ended = λ refusal n. CountsFew net limits 0 n × IsExplorationEnd graph net limits refusal;
-  counted = λ n. CountsFew net limits 0 n;
+  ended = λ refusal n. (CountsFew net wanted.limits 0 n × IsExplorationEnd graph net wanted.limits refusal) ⊎ ArePointsTooLong net wanted refusal n;
+  counted = λ n. CountsFew net wanted.limits 0 n;
 }
 
 -- the points of a net that has a channel at each actor and completes a round
-abbrev pub points_of : GraphFile → Net → Limits → Ending → ℕ → Type 0
-points_of graph net limits =
+abbrev pub points_of : GraphFile → Net → WantedPoints → Ending → ℕ → Type 0
+points_of graph net wanted =
     After (touching graph net) λ touched.
     After (completing graph net) λ complete.
-    ends_by (exploration graph net limits)
+    ends_by (exploration graph net wanted)

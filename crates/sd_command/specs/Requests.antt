@@ -35,7 +35,7 @@ asking words = deciding (λ request. request_of words ≡ Ok request) (λ refusa
 abbrev pub command_of : Request → Files → Ending → ℕ → Type 0
 command_of (requests.Repetition graph) = repetition graph
 command_of (requests.Throughput graph buffers no_overlap states certificate) = throughput graph buffers (record { no_overlap = no_overlap; states = states; certificate = certificate })
-command_of (requests.Storage graph limits no_overlap) = storage graph (record { limits = limits; no_overlap = no_overlap })
+command_of (requests.Storage graph limits no_overlap certificate) = storage graph (record { limits = limits; no_overlap = no_overlap; certificate = certificate })
 command_of (requests.Scenario graph certificate) = scenario graph certificate
 command_of (requests.Generate seed limit actors) = λ files. generate seed limit actors
 

@@ -14,7 +14,7 @@ use Rattle.sd_command.specs.PointAnswers.{points_of}
 abbrev pub trade_off : WantedPoints → GraphFile → Ending → ℕ → Type 0
 trade_off wanted graph =
     After (balancing graph) λ gamma.
-    points_of graph (net_of graph gamma wanted.no_overlap) wanted.limits
+    points_of graph (net_of graph gamma wanted.no_overlap) wanted
 
 abbrev pub storage : List ℕ → WantedPoints → Files → Ending → ℕ → Type 0
 storage name wanted files =

@@ -1,3 +1,4 @@
+ghost use Rattle.sd_command.specs.PutCertificates.{RatesPutAreValid};
 ghost use Rattle.sd_command.specs.Endings.{DueIsAnswered, DueIsOne, ElseIsDone, GenerateIsComplete, StorageIsComplete, ThroughputIsComplete};
 
 use balance::one_answer;
@@ -9,7 +10,7 @@ use sd_base::laws::{
 };
 use token_matrix::matrices_are_one;
 
-/// The words and files decide how a run ends, but for faults and want of memory.
+/// The words and files decide how a run ends, but for faults and want of memory; and what is put beside a rate is valid.
 pub fn know_endings()
     ensures one { DueIsOne }
     ensures due { DueIsAnswered }
@@ -17,6 +18,7 @@ pub fn know_endings()
     ensures throughput { ThroughputIsComplete }
     ensures storage { StorageIsComplete }
     ensures generate { GenerateIsComplete }
+    ensures valid { RatesPutAreValid }
 {
     know_files();
     know_scenario_files();

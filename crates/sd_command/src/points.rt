@@ -1,4 +1,4 @@
-ghost use Rattle.std.specs.Prelude.{◌≡◌, ℕ, ◌+◌, ◌-◌, ◌*◌, ◌≤◌, IfOk, List, length};
+ghost use Rattle.std.specs.Prelude.{◌≡◌, ℕ, ◌+◌, ◌-◌, ◌*◌, ◌≤◌, IfOk, All, List, length};
 ghost use Rattle.std.specs.List.{AllZip};
 ghost use Rattle.sd_base.specs.declared.limits.Limits.{Limits as SomeLimits};
 ghost use Rattle.sd_base.specs.declared.limits.TheConstants.{NET_CHANNELS, STORAGE};
@@ -13,24 +13,30 @@ ghost use Rattle.explore.specs.declared.exploration.Exploration.{Exploration as 
 ghost use Rattle.explore.specs.Reachable.{IsExplorable};
 ghost use Rattle.explore.specs.Explorations.{CountsFew, IsExploration, IsOneOf, IsPoint, cycles_in};
 ghost use Rattle.report.specs.LinkTexts.{IsNamed};
-ghost use Rattle.report.specs.StorageTexts.{points_lines};
+ghost use Rattle.cert_text.specs.declared.certificates.Certificate.{Certificate as ACertificate};
+ghost use Rattle.cert_text.specs.Spellable.{AreStarts};
+ghost use Rattle.cert_maker.specs.Links.{HasNoOrders};
 ghost use Rattle.sd_words.specs.Asked.{AreLimits};
-ghost use Rattle.sd_command.specs.PointAnswers.{IsExplorationEnd, IsPointSchedule, points_of};
+ghost use Rattle.sd_command.specs.Certifyings.{Certifies, IsTooLong};
+ghost use Rattle.sd_command.specs.PointAnswers.{ArePointsTooLong, IsExplorationEnd, IsOfPoints, IsPointSchedule, IsPointsAnswer, points_of};
 ghost use Rattle.sd_command.specs.Courses.{deciding};
 ghost use Rattle.sd_command.specs.inside.Going.{Does, Goes};
 
-use crate::answer::Answer;
+use crate::answer::{Answer, Put};
+use crate::certifying::certify;
+use crate::file_kind::FileKind;
 use crate::nets::{complete, touch};
 use crate::reading::above;
 use crate::stop::Stop;
 use crate::wanted::WantedPoints;
+use cert_maker::storage_certificate;
 use explore::{Exploration, ExploreError, explore};
 use fanout::Gate;
 use firing::{CsdfNet, Firing, SdfNet, know_laws};
 use pareto_front::Point;
 use periodic::{Periodic, from_loop};
 use report::{Refusal, buffers_text, points_text};
-use sd_base::{GraphFile, Kind, Ledger, Limits, NoMemory, Quantity, Rows, Steps};
+use sd_base::{GraphFile, Kind, Ledger, Limits, NoMemory, Quantity, Steps};
 use std::alloc::Global;
 use std::thread::Threads;
 use storage::Bounded;
@@ -50,7 +56,7 @@ pub(crate) fn points_of_graph<R: Threads + Sync, G: Gate + Sync, L: Ledger + Sen
     requires round { IsRound graph.now gamma.now }
     requires limits { AreLimits wanted.now.limits }
     ensures goes { (faults : ℕ) →
-        Goes (points_of graph.now (net_of graph.now gamma.now wanted.now.no_overlap) wanted.now.limits) result (steps.new.count - steps.old.count) faults faults }
+        Goes (points_of graph.now (net_of graph.now gamma.now wanted.now.no_overlap) wanted.now) result (steps.new.count - steps.old.count) faults faults }
     ensures rises { steps.old.count ≤ steps.new.count }
     ensures share { steps.new.share ≡ steps.old.share }
 {
@@ -80,19 +86,17 @@ pub(crate) fn points_of<R: Threads + Sync, F: Firing + Sync, G: Gate + Sync, L: 
     requires named { IsNamed graph.now (F.net net.now) }
     requires plain { IsPlain (F.net net.now) }
     requires connected { IsConnected (F.net net.now) }
+    requires unordered { HasNoOrders (F.net net.now) }
     requires few { 2 * length (F.net net.now).channels ≤ NET_CHANNELS }
     requires limits { AreLimits wanted.now.limits }
-    ensures goes { (faults : ℕ) → Goes (points_of graph.now (F.net net.now) wanted.now.limits) result (steps.new.count - steps.old.count) faults faults }
+    ensures goes { (faults : ℕ) → Goes (points_of graph.now (F.net net.now) wanted.now) result (steps.new.count - steps.old.count) faults faults }
     ensures rises { steps.old.count ≤ steps.new.count }
     ensures share { steps.new.share ≡ steps.old.share }
 {
     touch(alloc, net, graph)?;
     complete(alloc, net, graph)?;
     let exploration = explored(rt, alloc, net, graph, wanted.limits, gate, steps)?;
-    Ok(Answer {
-        text: shown(alloc, net, graph, exploration.points.as_slice())?,
-        put: None,
-    })
+    shown(alloc, net, graph, wanted, exploration)
 }
 
 /// The exploration of a net, or the refusal of one that passes a limit.
@@ -131,21 +135,62 @@ pub(crate) fn explored<R: Threads + Sync, F: Firing + Sync, G: Gate + Sync, L: L
     }
 }
 
-// The text of the points, each with the schedule of its loop.
+// The points of an exploration as an answer: each with the schedule of its loop, and with their certificate where one is asked
+// for.
 fn shown<F: Firing>(
     alloc: Global,
     net: &F,
     graph: &GraphFile,
-    points: &[Point],
-) -> Result<Rows<u8>, NoMemory>
+    wanted: &WantedPoints,
+    exploration: Exploration,
+) -> Result<Answer, Stop>
     requires named { IsNamed graph.now (F.net net.now) }
     requires explorable { IsExplorable (F.net net.now) }
-    requires points { (limits : SomeLimits) × (limits.total ≤ STORAGE) × ((p : APoint) → IsOneOf points.now p → IsPoint (F.net net.now) limits p) }
-    ensures { IfOk result (λ text. (schedules : List APeriodic) × AllZip (IsPointSchedule (F.net net.now)) points.now schedules × (text ≡ points_lines graph.now points.now schedules)) }
+    requires unordered { HasNoOrders (F.net net.now) }
+    requires total { wanted.now.limits.total ≤ STORAGE }
+    requires explored { IsExploration (F.net net.now) wanted.now.limits exploration.members.items exploration.points.items }
+    ensures { let n : ℕ = cycles_in exploration.members.items in
+        Does (deciding (λ answer. IsPointsAnswer graph.now (F.net net.now) wanted.now answer n) (λ refusal. ArePointsTooLong (F.net net.now) wanted.now refusal n)) result }
 {
     know_laws(net);
+    let points = exploration.points.as_slice();
     let schedules = schedules_of(alloc, net, points)?;
-    points_text(alloc, net, graph, points, schedules.as_slice())
+    let text = points_text(alloc, net, graph, points, schedules.as_slice())?;
+    let put = put_for(alloc, net, wanted, exploration, schedules)?;
+    Ok(Answer { text, put })
+}
+
+// The file of the certificate of an exploration with the schedules of its points, where one is asked for.
+fn put_for<F: Firing>(
+    alloc: Global,
+    net: &F,
+    wanted: &WantedPoints,
+    exploration: Exploration,
+    schedules: Vec<Periodic>,
+) -> Result<Option<Put>, Stop>
+    requires explorable { IsExplorable (F.net net.now) }
+    requires unordered { HasNoOrders (F.net net.now) }
+    requires total { wanted.now.limits.total ≤ STORAGE }
+    requires explored { IsExploration (F.net net.now) wanted.now.limits exploration.members.items exploration.points.items }
+    requires many { length schedules.items ≡ length exploration.points.items }
+    requires starts { All (λ (s : APeriodic). All AreStarts s.starts) schedules.items }
+    ensures { let shows : ACertificate → Type 0 = IsOfPoints (F.net net.now) wanted.now exploration.members.items exploration.points.items schedules.items in
+        Does (deciding (Certifies wanted.now.certificate shows) (IsTooLong wanted.now.certificate shows)) result }
+{
+    match &wanted.certificate {
+        None => Ok(None),
+        Some(name) => {
+            let made = storage_certificate(
+                alloc,
+                net,
+                wanted.no_overlap,
+                wanted.limits,
+                exploration,
+                schedules,
+            )?;
+            Ok(Some(certify(alloc, FileKind::Certificate, name.as_str(), &made)?))
+        }
+    }
 }
 
 // By point the schedule of its loop.

@@ -79,12 +79,17 @@ fn command_answer<R: Threads + Sync, S: Shelf, G: Gate + Sync, L: Ledger + Send>
             graph,
             limits,
             no_overlap,
+            certificate,
         } => trade_off::answer(
             rt,
             alloc,
             shelf,
             graph.as_str(),
-            &WantedPoints { limits, no_overlap },
+            &WantedPoints {
+                limits,
+                no_overlap,
+                certificate,
+            },
             gate,
             steps,
         ),

@@ -9,9 +9,11 @@ pub(crate) struct WantedRate {
     pub certificate: Option<Text>,
 }
 
-/// What words ask for beside the points of a graph: how far they are explored, and that no firings of an actor overlap.
+/// What words ask for beside the points of a graph: how far they are explored, that no firings of an actor overlap, and a
+/// certificate under a name.
 #[derive(Debug, Drop)]
 pub(crate) struct WantedPoints {
     pub limits: Limits,
     pub no_overlap: bool,
+    pub certificate: Option<Text>,
 }

@@ -67,6 +67,7 @@ standing algorithm.Throughput option.Buffers = Allowed form.Buffers
 standing algorithm.Throughput option.States = Allowed (form.Number LEAST_STATES STATES)
 standing algorithm.Throughput option.NoOverlap = Allowed form.Any
 standing algorithm.Storage option.Graph = Required form.Any
+standing algorithm.Storage option.Certificate = Allowed form.Any
 standing algorithm.Storage option.States = Allowed (form.Number LEAST_STATES STATES)
 standing algorithm.Storage option.Distributions = Allowed (form.Number LEAST_DISTRIBUTIONS DISTRIBUTIONS)
 standing algorithm.Storage option.Limit = Required (form.Number 0 STORAGE)
@@ -158,7 +159,7 @@ actors_of values = number_of option.Actors LEAST_ACTORS ACTORS USUAL_ACTORS valu
 unfoldable pub request_for : Algorithm → Values → Request
 request_for algorithm.Repetition values = request.Repetition (graph_of values)
 request_for algorithm.Throughput values = request.Throughput (graph_of values) (capacities_of values) (is_some (values option.NoOverlap)) (states_of values) (certificate_of values)
-request_for algorithm.Storage values = request.Storage (graph_of values) (limits_of values) (is_some (values option.NoOverlap))
+request_for algorithm.Storage values = request.Storage (graph_of values) (limits_of values) (is_some (values option.NoOverlap)) (certificate_of values)
 request_for algorithm.Scenario values = request.Scenario (graph_of values) (certificate_of values)
 request_for algorithm.Generate values = request.Generate (seed_of values) (limit_of values) (actors_of values)
 
@@ -180,7 +181,7 @@ AreMadeActors actors = (LEAST_ACTORS ≤ actors) × (actors ≤ ACTORS)
 abbrev pub IsWithinLimits : Request → Type 0
 IsWithinLimits (request.Repetition graph) = Unit {0}
 IsWithinLimits (request.Throughput graph buffers no_overlap states certificate) = All (λ (b : Buffer). b.1 ≤ CAPACITY) buffers × AreStates states
-IsWithinLimits (request.Storage graph limits no_overlap) = AreLimits limits
+IsWithinLimits (request.Storage graph limits no_overlap certificate) = AreLimits limits
 IsWithinLimits (request.Scenario graph certificate) = Unit {0}
 IsWithinLimits (request.Generate seed limit actors) = (limit ≤ STORAGE) × AreMadeActors actors
 

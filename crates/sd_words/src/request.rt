@@ -30,6 +30,8 @@ pub enum Request {
         graph: Text,
         limits: Limits,
         no_overlap: bool,
+        /// The name under which what shows the points is put.
+        certificate: Option<Text>,
     },
     /// The worst rate of the scenarios of the file, over all paths of its automaton.
     Scenario {

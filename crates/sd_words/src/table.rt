@@ -78,6 +78,7 @@ fn standing_of(algo: Algorithm, option: OptionName) -> Standing
         },
         Algorithm::Storage => match option {
             OptionName::Graph => Standing::Required(Form::Any),
+            OptionName::Certificate => Standing::Allowed(Form::Any),
             OptionName::States => Standing::Allowed(OF_STATES),
             OptionName::Distributions => Standing::Allowed(OF_DISTRIBUTIONS),
             OptionName::Limit => Standing::Required(OF_STORAGE),
@@ -288,6 +289,7 @@ pub(crate) fn request_for(
             graph,
             limits: limits_of(given),
             no_overlap,
+            certificate: certificate_of(alloc, given)?,
         }),
         Algorithm::Scenario => Ok(Request::Scenario {
             graph,

@@ -6,6 +6,7 @@ use Rattle.sd_command.proofs.Ended.{due_is_answered, else_is_done}
 use Rattle.sd_command.proofs.Complete.{throughput_is_complete}
 use Rattle.sd_command.proofs.CompleteStorage.{storage_is_complete}
 use Rattle.sd_command.proofs.CompleteGenerate.{generate_is_complete}
+use Rattle.sd_command.proofs.ValidPuts.{rates_put_are_valid}
 use Rattle.sd_command.proofs.laws.know_endings.Goals as goal
 
 -- what the calls tell
@@ -58,3 +59,6 @@ returns-clause-storage c = storage_is_complete (laws c)
 
 pub returns-clause-generate : goal.returns-clause-generate
 returns-clause-generate c = generate_is_complete (laws c)
+
+pub returns-clause-valid : goal.returns-clause-valid
+returns-clause-valid c = rates_put_are_valid (laws c)

@@ -1,12 +1,14 @@
-use Rattle.std.proofs.Common.{List, arith, refl, subst}
+use Rattle.std.proofs.Common.{◌≡◌, ℕ, ◌-◌, arith, subst}
 use Rattle.std.proofs.lemmas.Result.{err_from_is_err_and}
-use Rattle.sd_command.specs.declared.stop.Stop.TheVariants as stop
+use Rattle.report.specs.declared.refusal.Refusal.{Refusal}
+use Rattle.sd_command.specs.declared.answer.Answer.{Answer}
+use Rattle.sd_command.specs.Courses.{deciding}
 use Rattle.sd_command.specs.Nets.{touching, completing}
-use Rattle.pareto_front.specs.declared.point.Point.{Point}
-use Rattle.explore.specs.Explorations.{IsOneOf}
+use Rattle.sd_command.specs.PointAnswers.{ArePointsTooLong, IsPointsAnswer}
+use Rattle.sd_command.specs.inside.Going.{Does}
+use Rattle.explore.specs.Explorations.{cycles_in}
 use Rattle.explore.proofs.Explorable.{touched-explorable}
 use Rattle.sd_command.proofs.Goings.{step_stops, goes_on, exploration_stops, points_answer, few_from}
-use Rattle.sd_command.proofs.PointSchedules.{points-shown}
 use Rattle.sd_command.proofs.points.points_of.Goals as goal
 
 pub returns-in_err-touch-clause-goes : goal.returns-in_err-touch-clause-goes
@@ -28,28 +30,15 @@ returns-in_err-exploration-clause-goes g c = λ faults.
     let p = err_from_is_err_and c.from_residual-in_err-exploration.result c.from_residual-in_err-exploration.ensures.1 in
     rw (p.1, p.2) (goes_on (touching c.args.graph.now (g.F.Firing.net c.args.net.now)) _ tt _ _ faults faults c.in_ok-touch.ensures
     (goes_on (completing c.args.graph.now (g.F.Firing.net c.args.net.now)) _ tt _ _ faults faults c.in_ok-complete.ensures
-    (exploration_stops c.args.graph.now (g.F.Firing.net c.args.net.now) c.args.wanted.now.limits _ faults (few_from (g.F.Firing.net c.args.net.now) c.args.wanted.now.limits _ _ c.in_err-exploration.ensures.most) _ c.in_err-exploration.ensures.does)))
+    (exploration_stops c.args.graph.now (g.F.Firing.net c.args.net.now) c.args.wanted.now _ faults (few_from (g.F.Firing.net c.args.net.now) c.args.wanted.now.limits _ _ c.in_err-exploration.ensures.most) _ c.in_err-exploration.ensures.does)))
 
 pub shown-requires-clause-explorable : goal.shown-requires-clause-explorable
 shown-requires-clause-explorable g c = touched-explorable (g.F.Firing.net c.args.net.now) c.requires.plain c.requires.connected c.in_ok-touch.ensures c.requires.few
-
-pub returns-in_err-shown-clause-goes : goal.returns-in_err-shown-clause-goes
-returns-in_err-shown-clause-goes g c = λ faults.
-    let p = err_from_is_err_and c.from_residual-in_err-shown.result c.from_residual-in_err-shown.ensures.1 in
-    rw (p.1, p.2) (goes_on (touching c.args.graph.now (g.F.Firing.net c.args.net.now)) _ tt _ _ faults faults c.in_ok-touch.ensures
-    (goes_on (completing c.args.graph.now (g.F.Firing.net c.args.net.now)) _ tt _ _ faults faults c.in_ok-complete.ensures
-    (exploration_stops c.args.graph.now (g.F.Firing.net c.args.net.now) c.args.wanted.now.limits _ faults (few_from (g.F.Firing.net c.args.net.now) c.args.wanted.now.limits _ _ c.in_ok-exploration.ensures.most) stop.OutOfMemory tt)))
-
-pub shown-requires-clause-points : goal.shown-requires-clause-points
-shown-requires-clause-points g c = (
-  c.args.wanted.now.limits,
-  c.requires.limits.total,
-  λ p one. c.in_ok-exploration.ensures.does.reached p (subst (λ (ps : List Point). IsOneOf ps p) c.as_slice.ensures.value one),
-)
 
 pub returns-clause-goes : goal.returns-clause-goes
 returns-clause-goes g c = λ faults.
     goes_on (touching c.args.graph.now (g.F.Firing.net c.args.net.now)) _ tt _ _ faults faults c.in_ok-touch.ensures
     (goes_on (completing c.args.graph.now (g.F.Firing.net c.args.net.now)) _ tt _ _ faults faults c.in_ok-complete.ensures
-    (points_answer c.args.graph.now (g.F.Firing.net c.args.net.now) c.args.wanted.now.limits _ faults _ c.in_ok-exploration.exploration.members.items (omega (arith, c.in_ok-exploration.ensures.counts))
-    (points-shown c.args.graph.now (g.F.Firing.net c.args.net.now) c.args.wanted.now.limits _ _ _ c.in_ok-exploration.ensures.does _ c.as_slice.ensures.value c.in_ok-shown.ensures) refl))
+    (points_answer c.args.graph.now (g.F.Firing.net c.args.net.now) c.args.wanted.now _ faults (few_from (g.F.Firing.net c.args.net.now) c.args.wanted.now.limits _ _ c.in_ok-exploration.ensures.most) c.shown.result
+    (let count : cycles_in c.in_ok-exploration.exploration.members.items ≡ c.explored.new.steps.count - c.args.steps.now.count = omega (arith, c.in_ok-exploration.ensures.counts) in
+    subst (λ (n : ℕ). Does (deciding (λ (answer : Answer). IsPointsAnswer c.args.graph.now (g.F.Firing.net c.args.net.now) c.args.wanted.now answer n) (λ (refusal : Refusal). ArePointsTooLong (g.F.Firing.net c.args.net.now) c.args.wanted.now refusal n)) c.shown.result) count c.shown.ensures)))

@@ -7,7 +7,8 @@ use Rattle.storage.proofs.FileChannels.{file-plain, plain-no_spaces}
 use Rattle.storage.proofs.NamedCapacities.{bounded-few}
 use Rattle.report.specs.LinkTexts.{IsNamed}
 use Rattle.cert_maker.specs.Links.{HasNoOrders}
-use Rattle.sd_command.proofs.Orderless.{bound-orderless, net-orderless}
+use Rattle.cert_maker.proofs.Orderless.{bound-orderless}
+use Rattle.sd_command.proofs.Orderless.{net-orderless}
 use Rattle.sd_command.specs.RateAnswers.{rate_of}
 use Rattle.sd_command.specs.inside.Going.{Goes}
 use Rattle.sd_command.proofs.Overs.{bound-over, net-over}

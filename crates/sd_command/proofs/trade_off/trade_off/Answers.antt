@@ -19,5 +19,5 @@ points_of_graph-requires-clause-round g c = λ κs outlive. subst (λ (v : List 
 pub returns-clause-goes : goal.returns-clause-goes
 returns-clause-goes g c = λ faults.
     goes_on (balancing c.args.graph.now) _ c.in_ok-gamma.gamma _ _ faults faults c.in_ok-gamma.ensures
-    (subst (λ (v : List ℕ). Goes (points_of c.args.graph.now (net_of c.args.graph.now v c.args.wanted.now.no_overlap) c.args.wanted.now.limits) c.points_of_graph.result (c.points_of_graph.new.steps.count - c.args.steps.now.count) faults faults)
+    (subst (λ (v : List ℕ). Goes (points_of c.args.graph.now (net_of c.args.graph.now v c.args.wanted.now.no_overlap) c.args.wanted.now) c.points_of_graph.result (c.points_of_graph.new.steps.count - c.args.steps.now.count) faults faults)
     c.as_slice.ensures (c.points_of_graph.ensures.goes faults))

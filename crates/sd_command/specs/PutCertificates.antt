@@ -1,0 +1,36 @@
+-- The certificates that are put are valid.
+use Rattle.std.specs.Prelude.{◌≡◌, ℕ, Bool, true, List, Some, Ok}
+use Rattle.sd_base.specs.declared.tables.GraphFile.{GraphFile}
+use Rattle.sd_words.specs.declared.request.Request.TheVariants.{Throughput}
+use Rattle.sd_words.specs.Asked.{request_of}
+use Rattle.storage.specs.NamedBuffers.{Buffer}
+use Rattle.graph_reader.specs.Laws.{Gives}
+use Rattle.balance.specs.Repetition.{IsRound}
+use Rattle.cert_text.specs.declared.certificates.Certificate.TheVariants.{Rate}
+use Rattle.cert_text.specs.declared.certificates.RateCertificate.{RateCertificate}
+use Rattle.cert_checker.specs.declared.verdict.Reason.{Reason}
+use Rattle.cert_checker.specs.RateCertificates.{IsRateFault}
+use Rattle.sd_command.specs.declared.answer.Answer.{Answer}
+use Rattle.sd_command.specs.declared.file_kind.FileKind.TheVariants as kinds
+use Rattle.sd_command.specs.Certifyings.{text_of}
+use Rattle.sd_command.specs.Courses.{Answered}
+use Rattle.sd_command.specs.Takings.{Files}
+use Rattle.sd_command.specs.Requests.{course_of}
+
+-- an answer puts under a name the text of a certificate of a rate, no line of which is faulty for the graph of a file
+pub record PutsValidRate (files : Files) (name put : List ℕ) (answer : Answer) : Type 0 where
+  pub bytes : List ℕ
+  pub graph : GraphFile
+  pub gamma : List ℕ
+  pub certificate : RateCertificate
+  pub there : files.named name ≡ Some bytes
+  pub given : Gives bytes true graph
+  pub round : IsRound graph gamma
+  pub file : answer.put ≡ Some (record { kind = kinds.Certificate; name = put; bytes = text_of (Rate certificate) })
+  pub valid : (line : ℕ) (reason : Reason) → IsRateFault graph gamma certificate line reason → ⊥
+
+-- so does each answer of `throughput` with a certificate
+abbrev pub RatesPutAreValid : Type 0
+RatesPutAreValid =
+    (words : List (List ℕ)) (files : Files) (name put : List ℕ) (buffers : List Buffer) (no_overlap : Bool) (states : ℕ) (answer : Answer) (n : ℕ) → files.tells ≡ true
+    → request_of words ≡ Ok (Throughput name buffers no_overlap states (Some put)) → course_of words files (Answered answer) n → PutsValidRate files name put answer
