@@ -3,7 +3,7 @@ use Rattle.std.proofs.Common.{ℕ, suc, ◌*◌, ◌≤◌, Option, None, Some, 
 use Rattle.sd_base.specs.declared.limits.TheConstants.{NET_CHANNELS}
 use Rattle.sd_base.specs.Net.{Channel, Net, channel_at}
 use Rattle.sd_base.specs.Connection.{IsConnected}
-use Rattle.storage.specs.BoundedNets.{bound, spaces_from}
+use Rattle.storage.specs.BoundedNets.{spaces_from}
 use Rattle.storage.specs.Distributions.{IsDistribution, IsPlain, storage_of}
 use Rattle.storage.specs.Steps.{step_of}
 use Rattle.storage.proofs.CornerLists.{corner-distribution}

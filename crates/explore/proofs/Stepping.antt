@@ -1,20 +1,18 @@
 -- Distributions with a step more room.
-use Rattle.std.proofs.Common.{◌≡◌, ℕ, zero, suc, ◌+◌, ◌*◌, ◌≤◌, ◌<◌, Option, None, Some, List, [], ◌∷◌, ◌++◌, length, inl, inr, ⊎_elim, refl, sym, ap, ◌∙◌, subst, arith, mul-le-mul_right}
+use Rattle.std.proofs.Common.{◌≡◌, ℕ, ◌+◌, ◌≤◌, ◌<◌, Option, Some, List, [], ◌∷◌, ◌++◌, length, inl, inr, ⊎_elim, refl, sym, subst, arith}
 use Rattle.std.specs.Prelude.{slice_index, slice_index_or}
-use Rattle.std.proofs.lemmas.Bool.{cases_lt, true≢false}
+use Rattle.std.proofs.lemmas.Bool.{cases_lt}
 use Rattle.sd_base.specs.declared.limits.TheConstants.{NET_TOKENS}
-use Rattle.sd_base.specs.Net.{Channel, Net, nowhere, channel_at}
+use Rattle.sd_base.specs.Net.{Net, channel_at}
 use Rattle.sd_base.specs.Lawful.{Lawful}
-use Rattle.sd_base.specs.declared.role.Role.TheVariants.{Space}
 use Rattle.sd_base.specs.declared.numbers.Fraction.{Fraction}
 use Rattle.critical.specs.Spaces.{Has, IsSpaceAt, no_step}
-use Rattle.storage.specs.BoundedNets.{HasNoSpaces, bound, is_space_role}
+use Rattle.storage.specs.BoundedNets.{HasNoSpaces, bound}
 use Rattle.liveness.specs.RoundAnswers.{IsReached}
-use Rattle.storage.specs.Distributions.{AtMost, CanHold, IsDistribution, capacity_at, enlarged, storage_of}
+use Rattle.storage.specs.Distributions.{capacity_at, storage_of}
 use Rattle.storage.specs.ShownSpaces.{ShowsSpace}
-use Rattle.storage.specs.Steps.{IsOnGrid, step_of}
+use Rattle.storage.specs.Steps.{step_of}
 use Rattle.storage.proofs.ChannelSteps.{some-step}
-use Rattle.storage.proofs.SpaceChannels.{SpaceAt, bound-front, bound-back}
 use Rattle.storage.proofs.FileChannels.{plain-no_spaces}
 use Rattle.storage.proofs.Fits.{can-hold}
 use Rattle.storage.proofs.Enlarging.{enlarged-distribution, enlarged-grid, enlarged-storage, hold-small}

@@ -2,10 +2,11 @@ ghost use Rattle.std.specs.Prelude.{◌≡◌, ◌+◌, ◌≤◌, [], All, IfOk
 ghost use Rattle.sd_base.specs.declared.limits.TheConstants.{LEAST_STATES, STATES};
 ghost use Rattle.explore.specs.inside.Levels.{IsDone, IsEvaluation, IsFresh, IsStartable, least_loops, most_loops, onto, sum_of};
 
+use crate::exploring::Exploring;
 use crate::task::Task;
 use crate::waiting::Waiting;
 use fanout::{Gate, all};
-use firing::{Firing, Wiring};
+use firing::Firing;
 use guide::Evaluation;
 use lasso::RunError;
 use sd_base::{Ledger, NoMemory, Steps};
@@ -24,18 +25,16 @@ pub(crate) struct Answered {
 pub(crate) fn run_level<R: Threads + Sync, F: Firing + Sync, G: Gate + Sync, L: Ledger + Send>(
     rt: &R,
     alloc: Global,
-    net: &F,
-    wiring: &Wiring,
+    exploring: &Exploring<F>,
     total: u64,
-    states: u64,
     level: Vec<Waiting>,
     gate: &G,
     steps: &mut Steps<L>,
 ) -> Result<Vec<Answered>, NoMemory>
-    requires fits { All (λ w. IsStartable (F.net net.now) wiring.now w.capacities w.counts) level.items }
-    requires some { LEAST_STATES ≤ states }
-    requires few { states ≤ STATES }
-    ensures answers { IfOk result (λ v. All (λ a. IsEvaluation (F.net net.now) states a.capacities a.answer) v.items) }
+    requires fits { All (λ w. IsStartable (F.net exploring.now.net.now) exploring.now.wiring.now w.capacities w.counts) level.items }
+    requires some { LEAST_STATES ≤ exploring.now.limits.states }
+    requires few { exploring.now.limits.states ≤ STATES }
+    ensures answers { IfOk result (λ v. All (λ a. IsEvaluation (F.net exploring.now.net.now) exploring.now.limits.states a.capacities a.answer) v.items) }
     ensures order { IfOk result (λ v. onto (λ a. a.capacities) v.items [] ≡ map (λ w. w.capacities) level.items) }
     ensures least { IfOk result (λ v. steps.old.count + sum_of least_loops v.items ≤ steps.new.count) }
     ensures most { IfOk result (λ v. steps.new.count ≤ steps.old.count + sum_of most_loops v.items) }
@@ -46,26 +45,30 @@ pub(crate) fn run_level<R: Threads + Sync, F: Firing + Sync, G: Gate + Sync, L: 
     level.reverse();
     let mut answers = Vec::with_capacity(alloc, level.len())?;
     let mut tasks = Vec::with_capacity(alloc, level.len())?;
-    fill(alloc, net, wiring, states, level, steps, &mut tasks);
+    fill(alloc, exploring, level, steps, &mut tasks);
     all(rt, total, tasks.as_mut_slice(), gate);
-    drain(net, states, tasks, steps, &mut answers);
+    drain(
+        exploring.net,
+        exploring.limits.states,
+        tasks,
+        steps,
+        &mut answers,
+    );
     Ok(answers)
 }
 
 /// Makes a task of each distribution, the last one first.
 fn fill<'a, F: Firing, L: Ledger>(
     alloc: Global,
-    net: &'a F,
-    wiring: &'a Wiring,
-    states: u64,
+    exploring: &Exploring<'a, F>,
     level: Vec<Waiting>,
     steps: &mut Steps<L>,
     tasks: &mut Vec<Task<'a, F, L>>,
 )
-    requires fits { All (λ w. IsStartable (F.net net.now) wiring.now w.capacities w.counts) level.items }
+    requires fits { All (λ w. IsStartable (F.net exploring.now.net.now) exploring.now.wiring.now w.capacities w.counts) level.items }
     requires empty { tasks.old.items ≡ [] }
     requires room { vec_len level ≤ vec_capacity tasks.old }
-    ensures fresh { All (λ t. IsFresh (F.net net.now) (F.net t.net.now) t.wiring.now states t.capacities t.counts t.states t.steps) tasks.new.items }
+    ensures fresh { All (λ t. IsFresh (F.net exploring.now.net.now) (F.net t.net.now) t.wiring.now exploring.now.limits.states t.capacities t.counts t.states t.steps) tasks.new.items }
     ensures order { map (λ w. w.capacities) level.items ≡ onto (λ t. t.capacities) tasks.new.items [] }
     ensures many { vec_len tasks.new ≡ vec_len level }
     ensures counter { steps.new ≡ steps.old }
@@ -79,11 +82,11 @@ fn fill<'a, F: Firing, L: Ledger>(
         } = level.take_last();
         tasks.push_reserved(Task {
             alloc,
-            net,
-            wiring,
+            net: exploring.net,
+            wiring: exploring.wiring,
             capacities,
             counts,
-            states,
+            states: exploring.limits.states,
             steps: steps.share(),
             answer: None,
         });

@@ -5,6 +5,7 @@
 mod children;
 mod error;
 mod exploration;
+mod exploring;
 pub mod laws;
 mod level;
 mod members;

@@ -10,6 +10,7 @@ ghost use Rattle.explore.specs.inside.Levels.{WiresAll};
 
 use crate::error::ExploreError;
 use crate::exploration::{Exploration, Member};
+use crate::exploring::Exploring;
 use crate::level::run_level;
 use crate::members::take_in_all;
 use crate::pending::{next_total, take_level};
@@ -71,19 +72,14 @@ pub fn explore<R: Threads + Sync, F: Firing + Sync, G: Gate + Sync, L: Ledger + 
         });
     };
     let wiring = wiring_of(alloc, net, limits.total, &first)?;
+    let exploring = Exploring {
+        net,
+        wiring: &wiring,
+        limits,
+    };
     let mut search = begin(alloc, net, total, first)?;
     while let Some(total) = next_total(&search.waiting) {
-        take_turn(
-            rt,
-            alloc,
-            net,
-            &wiring,
-            limits,
-            total,
-            gate,
-            &mut search,
-            steps,
-        )?;
+        take_turn(rt, alloc, &exploring, total, gate, &mut search, steps)?;
     }
     let Search {
         waiting: _,
@@ -101,44 +97,33 @@ pub fn explore<R: Threads + Sync, F: Firing + Sync, G: Gate + Sync, L: Ledger + 
 fn take_turn<R: Threads + Sync, F: Firing + Sync, G: Gate + Sync, L: Ledger + Send>(
     rt: &R,
     alloc: Global,
-    net: &F,
-    wiring: &Wiring,
-    limits: Limits,
+    exploring: &Exploring<F>,
     total: u64,
     gate: &G,
     search: &mut Search,
     steps: &mut Steps<L>,
 ) -> Result<(), ExploreError>
-    requires net { IsExplorable (F.net net.now) }
-    requires wired { WiresAll (F.net net.now) wiring.now }
-    requires small { limits.total ≤ STORAGE }
-    requires some_states { LEAST_STATES ≤ limits.states }
-    requires few_states { limits.states ≤ STATES }
-    requires stands { IsStanding (F.net net.now) limits search.old }
+    requires net { IsExplorable (F.net exploring.now.net.now) }
+    requires wired { WiresAll (F.net exploring.now.net.now) exploring.now.wiring.now }
+    requires small { exploring.now.limits.total ≤ STORAGE }
+    requires some_states { LEAST_STATES ≤ exploring.now.limits.states }
+    requires few_states { exploring.now.limits.states ≤ STATES }
+    requires stands { IsStanding (F.net exploring.now.net.now) exploring.now.limits search.old }
     requires next { IsNext total search.old.waiting.keys }
-    ensures stands { OnOk result (IsStanding (F.net net.now) limits search.new) }
+    ensures stands { OnOk result (IsStanding (F.net exploring.now.net.now) exploring.now.limits search.new) }
     ensures more { OnOk result (length search.old.members.items < length search.new.members.items) }
-    ensures few { OnOk result (length search.new.members.items ≤ limits.distributions) }
+    ensures few { OnOk result (length search.new.members.items ≤ exploring.now.limits.distributions) }
     ensures count { OnOk result (steps.new.count + cycles_in search.old.members.items ≡ steps.old.count + cycles_in search.new.members.items) }
-    ensures refused { IfErr result (IsRefusal (F.net net.now) limits) }
-    ensures most { IfErr result (λ e. (before : ℕ) → steps.old.count ≡ before + cycles_in search.old.members.items → CountsFew (F.net net.now) limits before steps.new.count) }
+    ensures refused { IfErr result (IsRefusal (F.net exploring.now.net.now) exploring.now.limits) }
+    ensures most { IfErr result (λ e. (before : ℕ) → steps.old.count ≡ before + cycles_in search.old.members.items → CountsFew (F.net exploring.now.net.now) exploring.now.limits before steps.new.count) }
     ensures rises { steps.old.count ≤ steps.new.count }
     ensures share { steps.new.share ≡ steps.old.share }
 {
+    let net = exploring.net;
     know_laws(net);
     let level = take_level(alloc, total, &mut search.waiting)?;
-    let answers = run_level(
-        rt,
-        alloc,
-        net,
-        wiring,
-        total,
-        limits.states,
-        level,
-        gate,
-        steps,
-    )?;
-    take_in_all(alloc, net, limits, total, answers, search)?;
+    let answers = run_level(rt, alloc, exploring, total, level, gate, steps)?;
+    take_in_all(alloc, net, exploring.limits, total, answers, search)?;
     Ok(())
 }
 

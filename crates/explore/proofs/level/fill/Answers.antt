@@ -10,16 +10,16 @@ use Rattle.explore.proofs.level.fill.Goals as goal
 
 pub loop-task-preserved : goal.loop-task-preserved
 loop-task-preserved g c =
-    let net = g.F.Firing.net c.args.net.now in
-    let D : Waiting → Type 0 = λ w. IsStartable net c.args.wiring.now w.capacities w.counts in
-    let P : Task g.row.F.Denot g.row.L.Denot → Type 0 = λ t. IsFresh net (g.F.Firing.net t.net.now) t.wiring.now c.args.states t.capacities t.counts t.states t.steps in
+    let net = g.F.Firing.net c.args.exploring.now.net.now in
+    let D : Waiting → Type 0 = λ w. IsStartable net c.args.exploring.now.wiring.now w.capacities w.counts in
+    let P : Task g.row.F.Denot g.row.L.Denot → Type 0 = λ t. IsFresh net (g.F.Firing.net t.net.now) t.wiring.now c.args.exploring.now.limits.states t.capacities t.counts t.states t.steps in
     let both : All D (c.take_last-capacities.new.self.items ++ c.take_last-capacities.result ∷ []) = subst (All D) c.take_last-capacities.ensures.items c.loop-task.invariant.3 in
     let here : D c.take_last-capacities.result = all-last D c.take_last-capacities.new.self.items c.take_last-capacities.result both in
     let f : Task g.row.F.Denot g.row.L.Denot → Distribution = λ t. t.capacities in
     let k : Waiting → Distribution = λ w. w.capacities in
     let w = c.take_last-capacities.result in
     let rest = c.take_last-capacities.new.self.items in
-    let pushed : Task g.row.F.Denot g.row.L.Denot = record { alloc = c.args.alloc; net = c.args.net; wiring = c.args.wiring; capacities = w.capacities; counts = w.counts; states = c.args.states; steps = c.share.result; answer = None } in (
+    let pushed : Task g.row.F.Denot g.row.L.Denot = record { alloc = c.args.alloc; net = c.args.exploring.now.net; wiring = c.args.exploring.now.wiring; capacities = w.capacities; counts = w.counts; states = c.args.exploring.now.limits.states; steps = c.share.result; answer = None } in (
       omega (arith, c.take_last-capacities.ensures.len, c.loop-task.invariant.0),
       omega (arith, c.push_reserved.ensures.len, c.loop-task.invariant.1),
       c.push_reserved.ensures.capacity ∙ c.loop-task.invariant.2,

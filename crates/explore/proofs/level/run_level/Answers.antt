@@ -11,8 +11,8 @@ use Rattle.explore.proofs.level.run_level.Goals as goal
 
 pub drain-requires-clause-done : goal.drain-requires-clause-done
 drain-requires-clause-done g c =
-    let net = g.F.Firing.net c.args.net.now in
-    let states = c.args.states in
+    let net = g.F.Firing.net c.args.exploring.now.net.now in
+    let states = c.args.exploring.now.limits.states in
     let P : Task g.row.F.Denot g.row.L.Denot → Type 0 = λ t. IsFresh net (g.F.Firing.net t.net.now) t.wiring.now states t.capacities t.counts t.states t.steps in
     let Q : Task g.row.F.Denot g.row.L.Denot → Type 0 = λ t. IsDone net states t.capacities t.steps t.answer in
     let R : Task g.row.F.Denot g.row.L.Denot → Task g.row.F.Denot g.row.L.Denot → Type 0 = λ x y. HasRun (g.F.Firing.net x.net.now) x.capacities x.states x.steps y.capacities y.steps y.answer in

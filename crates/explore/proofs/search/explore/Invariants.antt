@@ -5,9 +5,9 @@ use Rattle.explore.proofs.search.explore.Given as goal
 
 abbrev pub invariant-loop-total : goal.invariant-loop-total
 invariant-loop-total g l =
-    IsStanding (g.F.Firing.net l.net) l.limits l.search
+    IsStanding (g.F.Firing.net l.net) l.exploring.limits l.search
     × (l.steps.count ≡ l.initial.steps.count + cycles_in l.search.members.items)
     × (l.steps.share ≡ l.initial.steps.share)
 
 abbrev pub decreases-loop-total : goal.decreases-loop-total
-decreases-loop-total g l = l.limits.distributions + 1 - length l.search.members.items
+decreases-loop-total g l = l.exploring.limits.distributions + 1 - length l.search.members.items

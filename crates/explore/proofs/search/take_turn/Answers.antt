@@ -9,17 +9,17 @@ use Rattle.explore.proofs.search.take_turn.Goals as goal
 
 pub run_level-requires-clause-fits : goal.run_level-requires-clause-fits
 run_level-requires-clause-fits g c = λ κs outlive.
-    level-startable (g.F.Firing.net c.args.net.now) c.know_laws.ensures c.requires.net c.args.limits c.requires.small c.requires.stands.0 c.args.total c.args.search.now c.requires.stands.1 c.requires.next c.in_ok-level.level.items c.take_level.new.waiting.keys c.in_ok-level.ensures
-    c.args.wiring.now c.requires.wired
+    level-startable (g.F.Firing.net c.args.exploring.now.net.now) c.know_laws.ensures c.requires.net c.args.exploring.now.limits c.requires.small c.requires.stands.0 c.args.total c.args.search.now c.requires.stands.1 c.requires.next c.in_ok-level.level.items c.take_level.new.waiting.keys c.in_ok-level.ensures
+    c.args.exploring.now.wiring.now c.requires.wired
 
 pub take_in_all-requires-clause-answers : goal.take_in_all-requires-clause-answers
 take_in_all-requires-clause-answers g c =
-    level-answers (g.F.Firing.net c.args.net.now) c.know_laws.ensures c.requires.net c.args.limits c.requires.small c.requires.stands.0 c.args.total c.args.search.now c.requires.stands.1 c.requires.next c.in_ok-level.level.items c.take_level.new.waiting.keys c.in_ok-level.ensures
+    level-answers (g.F.Firing.net c.args.exploring.now.net.now) c.know_laws.ensures c.requires.net c.args.exploring.now.limits c.requires.small c.requires.stands.0 c.args.total c.args.search.now c.requires.stands.1 c.requires.next c.in_ok-level.level.items c.take_level.new.waiting.keys c.in_ok-level.ensures
     c.in_ok-answers.answers.items c.in_ok-answers.ensures.answers c.in_ok-answers.ensures.order
 
 pub take_in_all-requires-clause-search : goal.take_in_all-requires-clause-search
 take_in_all-requires-clause-search g c =
-    level-search (g.F.Firing.net c.args.net.now) c.know_laws.ensures c.requires.net c.args.limits c.requires.small c.requires.stands.0 c.args.total c.args.search.now c.requires.stands.1 c.requires.next c.in_ok-level.level.items c.take_level.new.waiting.keys c.in_ok-level.ensures
+    level-search (g.F.Firing.net c.args.exploring.now.net.now) c.know_laws.ensures c.requires.net c.args.exploring.now.limits c.requires.small c.requires.stands.0 c.args.total c.args.search.now c.requires.stands.1 c.requires.next c.in_ok-level.level.items c.take_level.new.waiting.keys c.in_ok-level.ensures
     c.in_ok-answers.answers.items c.in_ok-answers.ensures.order _ refl refl refl refl
 
 pub returns-in_err-level-clause-most : goal.returns-in_err-level-clause-most
@@ -28,7 +28,7 @@ returns-in_err-level-clause-most g c =
     let s = c.args.search.now in
     let stands = c.requires.stands.1 in
     rw p.1 (λ before was.
-    counts-few (g.F.Firing.net c.args.net.now) c.args.limits c.requires.stands.0 s.members.items (capacities_of s.members.items) s.waiting.keys before c.args.steps.now.count stands.spread
+    counts-few (g.F.Firing.net c.args.exploring.now.net.now) c.args.exploring.now.limits c.requires.stands.0 s.members.items (capacities_of s.members.items) s.waiting.keys before c.args.steps.now.count stands.spread
     (omega (arith, was, cycles-few s.members.items, capacities-length s.members.items)) (omega (arith, stands.found, stands.few)))
 
 pub returns-in_err-answers-clause-most : goal.returns-in_err-answers-clause-most
@@ -38,7 +38,7 @@ returns-in_err-answers-clause-most g c =
     let stands = c.requires.stands.1 in
     let same : c.run_level.new.steps.count ≡ c.args.steps.now.count = ap (λ (t : Tally). t.count) c.in_err-answers.ensures.err in
     rw p.1 (λ before was.
-    counts-few (g.F.Firing.net c.args.net.now) c.args.limits c.requires.stands.0 s.members.items (capacities_of s.members.items) s.waiting.keys before c.run_level.new.steps.count stands.spread
+    counts-few (g.F.Firing.net c.args.exploring.now.net.now) c.args.exploring.now.limits c.requires.stands.0 s.members.items (capacities_of s.members.items) s.waiting.keys before c.run_level.new.steps.count stands.spread
     (omega (arith, was, same, cycles-few s.members.items, capacities-length s.members.items)) (omega (arith, stands.found, stands.few)))
 
 pub returns-in_err-take_in_all-clause-most : goal.returns-in_err-take_in_all-clause-most
@@ -46,10 +46,10 @@ returns-in_err-take_in_all-clause-most g c =
     let p = err_from_is_err_and c.from_residual-in_err-take_in_all.result c.from_residual-in_err-take_in_all.ensures.1 in
     let s = c.args.search.now in
     let answers = c.in_ok-answers.answers.items in
-    let stands = level-search (g.F.Firing.net c.args.net.now) c.know_laws.ensures c.requires.net c.args.limits c.requires.small c.requires.stands.0 c.args.total s c.requires.stands.1 c.requires.next c.in_ok-level.level.items c.take_level.new.waiting.keys c.in_ok-level.ensures
+    let stands = level-search (g.F.Firing.net c.args.exploring.now.net.now) c.know_laws.ensures c.requires.net c.args.exploring.now.limits c.requires.small c.requires.stands.0 c.args.total s c.requires.stands.1 c.requires.next c.in_ok-level.level.items c.take_level.new.waiting.keys c.in_ok-level.ensures
     answers c.in_ok-answers.ensures.order (record { waiting = c.take_level.new.waiting; members = s.members; front = s.front; found = s.found }) refl refl refl refl in
     let long : length (capacities_of s.members.items ++ turned answers) ≡ length s.members.items + length answers =
     (let both = length-append (capacities_of s.members.items) (turned answers) in omega (arith, both, capacities-length s.members.items, turned-length answers)) in
     rw p.1 (λ before was.
-    counts-few (g.F.Firing.net c.args.net.now) c.args.limits (c.args.total + 1) s.members.items (capacities_of s.members.items ++ turned answers) c.take_level.new.waiting.keys before c.run_level.new.steps.count stands.spread
+    counts-few (g.F.Firing.net c.args.exploring.now.net.now) c.args.exploring.now.limits (c.args.total + 1) s.members.items (capacities_of s.members.items ++ turned answers) c.take_level.new.waiting.keys before c.run_level.new.steps.count stands.spread
     (omega (arith, was, c.in_ok-answers.ensures.most, cycles-few s.members.items, sum-few answers, long)) (omega (arith, stands.found, stands.few)))
