@@ -59,19 +59,21 @@ fn content_of(alloc: Global, blocks: &[Block], line: &str) -> Result<Vec<u8>> {
     Ok(bytes)
 }
 
-// The bytes of `NAME`, or the first N of them for `NAME N`.
+// The bytes of `NAME`; for `NAME N` the first N of them, and for `NAME N..` those after these.
 fn text_of<'a>(blocks: &'a [Block], name: &str) -> Result<&'a [u8]> {
-    let (name, number) = match name.split_once(' ') {
-        Some((name, number)) => (name, Some(number.parse::<usize>()?)),
-        None => (name, None),
-    };
+    let (name, part) = name.split_once(' ').unwrap_or((name, "0.."));
     for block in blocks {
         if block.key() == ("text", name) {
-            let content = block.content.as_slice();
-            return content
-                .get(..number.unwrap_or(content.len()))
+            return part_of(block.content.as_slice(), part)?
                 .ok_or_else(|| anyhow!("the text {name} has fewer bytes"));
         }
     }
     Err(anyhow!("no text {name} above"))
+}
+
+fn part_of<'a>(bytes: &'a [u8], part: &str) -> Result<Option<&'a [u8]>> {
+    match part.strip_suffix("..") {
+        Some(number) => Ok(bytes.get(number.parse::<usize>()?..)),
+        None => Ok(bytes.get(..part.parse::<usize>()?)),
+    }
 }
