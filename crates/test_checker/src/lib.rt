@@ -3,3 +3,5 @@
 
 #[cfg(test)]
 mod rates;
+#[cfg(test)]
+mod trade_offs;

@@ -8,7 +8,7 @@ use sd_base::Fraction;
 use std::alloc::Global;
 use std::test::*;
 
-const CHAIN: &[u8] =
+pub(crate) const CHAIN: &[u8] =
     b"<sdf3 type='sdf'><applicationGraph name='chain'><sdf name='chain' type='Chain'>
 <actor name='a' type='A'><port name='out' type='out' rate='2'/></actor>
 <actor name='b' type='B'><port name='in' type='in' rate='3'/><port name='out' type='out' rate='1'/></actor>

@@ -1,0 +1,195 @@
+//! Certificates of the trade-off of a chain of three actors of times 1, 2 and 2, whose firings don't overlap, up to a storage
+//! of 10, and with some of its lines changed in turn. The cycles come first here, and are judged where members name them.
+use crate::rates::CHAIN;
+use balance::repetition;
+use cert_checker::{Claim, Reason, Verdict, check_storage, spelled_lines_fit};
+use cert_text::{Certificate, read_certificate};
+use graph_reader::read_graph;
+use std::alloc::Global;
+use std::test::*;
+
+const TEXT: &[u8] = b"sdf3-certificate 2
+storage
+no-overlap yes
+limit 10
+cycles 6
+cycle 7 1 0 1 5
+1 0 t0
+0 2 s0
+1 1 t0
+0 3 s0
+0 4 o0
+cycle 7 1 1 1 4
+2 0 t1
+1 2 s1
+0 5 s0
+1 3 t0
+cycle 6 1 0 2 4
+1 1 t0
+0 4 s0
+1 2 t0
+0 5 s0
+cycle 6 1 1 0 3
+1 1 o1
+2 0 t1
+1 2 s1
+cycle 5 1 0 1 3
+1 0 t0
+1 1 o1
+0 4 s0
+cycle 4 1 0 0 3
+0 1 o0
+1 0 t0
+0 3 s0
+members 7
+member 3 2
+blocked
+1 0 0
+member 4 2
+rate 1/7 0
+member 5 2
+rate 1/7 1
+member 5 3
+rate 1/6 2
+member 6 2
+rate 1/6 3
+member 6 3
+rate 1/5 4
+member 7 3
+rate 1/4 5
+points 4
+point 6 1/7 1
+schedule 7 1
+0 1 4
+2 5
+7
+point 8 1/6 3
+schedule 6 1
+0 2 5
+3 6
+8
+point 9 1/5 5
+schedule 5 1
+0 2 3
+3 5
+7
+point 10 1/4 6
+schedule 4 1
+0 1 2
+2 4
+6
+end
+";
+
+/// The verdict on the text in which a line, counted from 1, is another one.
+fn verdict(alloc: Global, number: usize, line: &[u8]) -> Option<Verdict> {
+    let mut changed = Vec::new(alloc);
+    let mut at: usize = 1;
+    for old in TEXT.split(|byte| *byte == b'\n') {
+        if at > 1 && changed.push(b'\n').is_err() {
+            return None;
+        }
+        let new = if at == number { line } else { old };
+        for byte in new {
+            if changed.push(*byte).is_err() {
+                return None;
+            }
+        }
+        at = at.saturating_add(1);
+    }
+    of_text(alloc, &changed)
+}
+
+fn of_text(alloc: Global, text: &[u8]) -> Option<Verdict> {
+    let graph = match read_graph(alloc, CHAIN, true) {
+        Ok(graph) => graph,
+        Err(_) => return None,
+    };
+    let gamma = match repetition(alloc, &graph) {
+        Ok(gamma) => gamma,
+        Err(_) => return None,
+    };
+    spelled_lines_fit();
+    match read_certificate(alloc, text) {
+        Ok((version, Certificate::Storage(certificate))) => {
+            if version != 2 {
+                return None;
+            }
+            match check_storage(alloc, &graph, gamma.as_slice(), &certificate, 2) {
+                Ok(verdict) => Some(verdict),
+                Err(_) => None,
+            }
+        }
+        _ => None,
+    }
+}
+
+/// Whether each change of a line gives the fault beside it.
+fn are_faults(alloc: Global, changes: &[(usize, &[u8], u64, Reason)]) -> bool {
+    for (number, new, line, reason) in changes {
+        let fault = Some(Verdict::Rejected {
+            line: *line,
+            reason: *reason,
+        });
+        if verdict(alloc, *number, new) != fault {
+            return false;
+        }
+    }
+    true
+}
+
+#[test]
+fn the_worked_trade_off_is_accepted(rt: HostRuntime) {
+    let claim = Claim::Points {
+        number: 4,
+        limit: 10,
+    };
+    assert_eq!(rt; of_text(rt.alloc(), TEXT), Some(Verdict::Accepted(claim)));
+}
+
+#[test]
+fn faults_of_the_limit_and_the_corner_are_told(rt: HostRuntime) {
+    let changes: [(usize, &[u8], u64, Reason); 6] = [
+        (3, b"no-overlap no", 39, Reason::Cycle),
+        (4, b"limit 1000000001", 4, Reason::Limit),
+        (4, b"limit 9", 48, Reason::Member),
+        (4, b"limit 4", 34, Reason::Member),
+        (35, b"member 3 1", 34, Reason::Member),
+        (35, b"member 3 -", 34, Reason::Member),
+    ];
+    assert!(rt; are_faults(rt.alloc(), &changes));
+}
+
+// 3 and 2 show the first channel by their counts, 4 and 2 by their cycle, and 5 and 2 both channels; with a step along the
+// second channel's space 4 and 2 would show that too.
+#[test]
+fn faults_of_members_are_told(rt: HostRuntime) {
+    let changes: [(usize, &[u8], u64, Reason); 10] = [
+        (6, b"cycle 7 2 0 1 5", 39, Reason::Cycle),
+        (7, b"1 0 t1", 39, Reason::Cycle),
+        (8, b"0 2 s1", 38, Reason::Closure),
+        (37, b"0 0 0", 37, Reason::Blocked),
+        (37, b"1 0", 37, Reason::Blocked),
+        (38, b"member 4 3", 35, Reason::Closure),
+        (39, b"rate 2/14 0", 39, Reason::Rate),
+        (39, b"rate 1/6 0", 39, Reason::Cycle),
+        (42, b"member 5 4", 40, Reason::Closure),
+        (44, b"member 6 1", 40, Reason::Closure),
+    ];
+    assert!(rt; are_faults(rt.alloc(), &changes));
+}
+
+#[test]
+fn faults_of_points_are_told(rt: HostRuntime) {
+    let changes: [(usize, &[u8], u64, Reason); 8] = [
+        (51, b"point 7 1/7 2", 50, Reason::Point),
+        (51, b"point 6 1/6 1", 51, Reason::Point),
+        (51, b"point 6 1/7 9", 51, Reason::Point),
+        (61, b"point 9 1/5 4", 61, Reason::Point),
+        (52, b"schedule 6 1", 52, Reason::Schedule),
+        (53, b"0 1 3", 53, Reason::Schedule),
+        (54, b"2 4", 54, Reason::Schedule),
+        (70, b"5", 70, Reason::Schedule),
+    ];
+    assert!(rt; are_faults(rt.alloc(), &changes));
+}
