@@ -8,3 +8,4 @@ pub mod Entries
 pub mod Times
 pub mod Rising
 pub mod FoundCycles
+pub mod ListedCycles

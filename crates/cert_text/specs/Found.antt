@@ -1,7 +1,7 @@
 -- What is found while reading.
 use Rattle.std.specs.Prelude.{◌≡◌, ◌⊎◌, ℕ, List, [], ◌∷◌, ◌++◌, All, length, false, not, Option, Some, None, Result, Ok, Err, map}
 use denote.Ref.{Bor}
-use Rattle.std.specs.List.{list_any}
+use Rattle.std.specs.List.{flat_map, list_any}
 use Rattle.cert_text.specs.declared.certificates.LinkCycle.{LinkCycle}
 use Rattle.cert_text.specs.declared.reading.fault.Fault.{Fault}
 use Rattle.cert_text.specs.declared.reading.fault.Fault.TheVariants.{Memory}
@@ -11,7 +11,9 @@ use Rattle.cert_text.specs.Digits.{IsNumeral}
 use Rattle.cert_text.specs.Fields.{number_value}
 use Rattle.cert_text.specs.Reads.{Reads, lines_of}
 use Rattle.cert_text.specs.Spellable.{AreShown, IsCycleText}
-use Rattle.cert_text.specs.Orderly.{Differ, used_by}
+use Rattle.cert_text.specs.MemberLines.{member_lines}
+use Rattle.cert_text.specs.Orderly.{Differ, used_by, used_with}
+use Rattle.cert_text.specs.declared.certificates.MemberShown.{MemberShown}
 use Rattle.cert_text.specs.Spelling.{cycle_list, member_list}
 use Rattle.cert_text.specs.declared.certificates.MemberLine.{MemberLine}
 use Rattle.cert_text.specs.Sections.{same_cycle, place_of, with_cycle}
@@ -38,9 +40,26 @@ FindsCycle (Err e) old new text left read = (e ≡ Memory) ⊎ (read ≡ Err (e,
 abbrev pub IsNewCycle : List LinkCycle → List LinkCycle → List ℕ → List ℕ → Type 0
 IsNewCycle old new text left = (c : LinkCycle) × (text ≡ cycle_lines c ++ left) × IsCycleText c × (list_any (same_cycle c) old ≡ false) × (new ≡ old ++ c ∷ [])
 
--- the cycles and the members of a trade-off in version 2
-pub record IsExplored (cycles : List LinkCycle) (members : List MemberLine) (text left : List ℕ) : Type 0 where
-  pub spelled : text ≡ cycle_list 2 cycles ++ (member_list 2 cycles members ++ left)
+-- the cycles that are known before a member that lists its cycle, and after it
+pub record IsListed (old new : List LinkCycle) (what : MemberShown) : Type 0 where
+  pub more : List LinkCycle
+  pub grown : new ≡ old ++ more
+  pub texts : All IsCycleText old → All IsCycleText new
+  pub differ : Differ old → Differ new
+  pub shown : AreShown what
+  pub used : used_with (length old) what ≡ Some (length new)
+
+-- members that list their cycles, and these, each once
+pub record AreListed (cycles : List LinkCycle) (members : List MemberLine) (text left : List ℕ) : Type 0 where
+  pub spelled : text ≡ flat_map (member_lines 1 cycles) members ++ left
+  pub texts : All IsCycleText cycles
+  pub differ : Differ cycles
+  pub shown : All (λ (m : MemberLine). AreShown m.shown) members
+  pub used : used_by 0 members ≡ Some (length cycles)
+
+-- the cycles and the members of a trade-off
+pub record IsExplored (version : ℕ) (cycles : List LinkCycle) (members : List MemberLine) (text left : List ℕ) : Type 0 where
+  pub spelled : text ≡ cycle_list version cycles ++ (member_list version cycles members ++ left)
   pub texts : All IsCycleText cycles
   pub differ : Differ cycles
   pub shown : All (λ (m : MemberLine). AreShown m.shown) members

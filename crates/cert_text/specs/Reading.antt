@@ -60,13 +60,9 @@ pub record IsSpelled (bytes spelled : List ℕ) (c : Certificate) : Type 0 where
   pub spellable : IsSpellable c
   pub orderly : IsOrderly c
 
--- a certificate of a rate or of scenarios is spelled so, and in version 2 that of a trade-off
+-- what is read is spelled so, after the first line and with it
 abbrev pub IsReadAfter : List ℕ → ℕ → Certificate → Type 0
-IsReadAfter text version (Rate c) = IsSpelled text (lines_after version (Rate c)) (Rate c)
-IsReadAfter text version (Scenario c) = IsSpelled text (lines_after version (Scenario c)) (Scenario c)
-IsReadAfter text version (Storage c) = version ≡ 2 → IsSpelled text (lines_after version (Storage c)) (Storage c)
+IsReadAfter text version c = IsSpelled text (lines_after version c) c
 
 abbrev pub IsRead : List ℕ → ℕ → Certificate → Type 0
-IsRead text version (Rate c) = IsSpelled text (spelling version (Rate c)) (Rate c)
-IsRead text version (Scenario c) = IsSpelled text (spelling version (Scenario c)) (Scenario c)
-IsRead text version (Storage c) = version ≡ 2 → IsSpelled text (spelling version (Storage c)) (Storage c)
+IsRead text version c = IsSpelled text (spelling version c) c

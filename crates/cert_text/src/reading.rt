@@ -36,7 +36,7 @@ use trade_offs::storage_certificate;
 /// The version and the certificate that a text spells. Cost: linear in the text.
 pub fn read_certificate(alloc: Global, bytes: &[u8]) -> Result<(u32, Certificate), CertError>
     ensures version { IfOk result (λ r. (r.0 ≡ 1) ⊎ (r.0 ≡ 2)) }
-    // What is read of a rate, of scenarios, or in version 2 of a trade-off has the text as its spelling.
+    // What is read has the text as its spelling.
     ensures text { IfOk result (λ r. IsRead bytes.now r.0 r.1) }
     ensures error { IfErr result (λ e. e ≢ TooLong) }
     // It is what is due to the text, unless memory runs out: so is the first faulty line, and what is wrong with it.
@@ -87,6 +87,7 @@ fn version_of(line: Line) -> Result<u32, Fault>
 /// Reads the lines after the first one.
 #[tactic(auto, unfolding(crate::specs::Spelling::lines_after, crate::specs::Spelling::rate_kind, crate::specs::Spelling::storage_kind, crate::specs::Spelling::scenario_kind, crate::specs::Reading::certificate_from))]
 fn certificate_after(alloc: Global, lines: &mut Lines, version: u32) -> Result<Certificate, Fault>
+    requires { (version ≡ 1) ⊎ (version ≡ 2) }
     ensures text { IfOk result (λ c. IsReadAfter lines.old.rest.now version c) }
     ensures exact { Gives result lines.new.rest.now (certificate_from version (lines_of lines.old.rest.now)) }
 {

@@ -1,7 +1,7 @@
 ghost use Rattle.std.specs.Prelude.{◌≡◌, ◌<◌, ◌≤◌, ◌+◌, ◌++◌, [], ◌∷◌, ◌==◌, if◌then◌else◌, Ok, Err, IfOk, IfErr, OnOk, MatchResult, length};
 ghost use Rattle.cert_text.specs.Digits.{IsNumeral};
 ghost use Rattle.cert_text.specs.Fields.{number_value};
-ghost use Rattle.cert_text.specs.Found.{HasTexts, IsNumeralSome, values_of};
+ghost use Rattle.cert_text.specs.Found.{HasTexts, IsListed, IsNumeralSome, values_of};
 ghost use Rattle.cert_text.specs.LineForms.{among, capacities_due, capacity_in, capacity_limited, hyphen_or_number_in, numbered_rate_due, numbers_due};
 ghost use Rattle.std.specs.Prelude.{List, Some};
 ghost use Rattle.std.specs.Fmt.{decimal};
@@ -27,7 +27,7 @@ use std::alloc::Global;
 use storage::Distribution;
 
 /// Reads the lines of a member that lists its cycle. The cycle has its number among those that are found.
-#[tactic(auto, unfolding(crate::specs::Sections::member_from))]
+#[tactic(auto, unfolding(crate::specs::Sections::member_from, crate::specs::MemberLines::member_lines))]
 pub(crate) fn listed_member<'a>(
     alloc: Global,
     lines: &mut Lines<'a>,
@@ -35,6 +35,7 @@ pub(crate) fn listed_member<'a>(
 ) -> Result<MemberLine, Fault>
     requires { HasTexts cycles.old.texts.keys cycles.old.list.items }
     ensures texts { OnOk result (HasTexts cycles.new.texts.keys cycles.new.list.items) }
+    ensures text { IfOk result (λ m. ((later : List LinkCycle) → lines.old.rest.now ≡ member_lines 1 (cycles.new.list.items ++ later) m ++ lines.new.rest.now) × IsListed cycles.old.list.items cycles.new.list.items m.shown) }
     ensures exact { GivesKnown result cycles.new.list.items lines.new.rest.now (member_from listed_from cycles.old.list.items (lines_of lines.old.rest.now)) }
 {
     let capacities = capacities(alloc, lines)?;
@@ -45,7 +46,7 @@ pub(crate) fn listed_member<'a>(
     })
 }
 
-#[tactic(auto, unfolding(crate::specs::Sections::listed_from, crate::specs::Sections::blocked_from, crate::specs::MemberLines::blocked_line))]
+#[tactic(auto, unfolding(crate::specs::Sections::listed_from, crate::specs::Sections::blocked_from, crate::specs::MemberLines::blocked_line, crate::specs::MemberLines::shown_lines))]
 fn listed_shown<'a>(
     alloc: Global,
     lines: &mut Lines<'a>,
@@ -53,6 +54,7 @@ fn listed_shown<'a>(
 ) -> Result<MemberShown, Fault>
     requires { HasTexts cycles.old.texts.keys cycles.old.list.items }
     ensures texts { OnOk result (HasTexts cycles.new.texts.keys cycles.new.list.items) }
+    ensures text { IfOk result (λ s. ((later : List LinkCycle) → lines.old.rest.now ≡ shown_lines 1 (cycles.new.list.items ++ later) s ++ lines.new.rest.now) × IsListed cycles.old.list.items cycles.new.list.items s) }
     ensures exact { GivesKnown result cycles.new.list.items lines.new.rest.now (listed_from cycles.old.list.items (lines_of lines.old.rest.now)) }
 {
     let line = lines.next()?;

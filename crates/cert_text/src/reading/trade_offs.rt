@@ -7,7 +7,7 @@ ghost use Rattle.cert_text.specs.Spellable.{AreShown, IsCycleText, IsStorageSpel
 ghost use Rattle.cert_text.specs.Spelling.{cycle_list, member_list, storage_kind, storage_lines};
 ghost use Rattle.cert_text.specs.declared.certificates.LinkCycle.{LinkCycle};
 ghost use Rattle.cert_text.specs.declared.certificates.MemberLine.{MemberLine};
-ghost use Rattle.cert_text.specs.Found.{HasTexts, IsExplored, IsNewCycle};
+ghost use Rattle.cert_text.specs.Found.{AreListed, HasTexts, IsExplored, IsNewCycle};
 ghost use Rattle.cert_text.specs.Reads.{Gives, GivesKnown, handing, lines_of};
 ghost use Rattle.cert_text.specs.Sections.{cycles_from, explored_from, listed_from, member_from, members_from, named_from, naming_from, new_cycle_from, new_cycles_from, numbered_from, storage_from};
 ghost use Rattle.cert_text.specs.declared.reading.fault.Fault.TheVariants.{Memory};
@@ -31,7 +31,8 @@ pub(crate) fn storage_certificate(
     lines: &mut Lines,
     version: u32,
 ) -> Result<StorageCertificate, Fault>
-    ensures text { IfOk result (λ c. version ≡ 2 → (storage_kind ++ lines.old.rest.now ≡ storage_lines version c) × IsStorageSpellable c × IsStorageOrderly c) }
+    requires { (version ≡ 1) ⊎ (version ≡ 2) }
+    ensures text { IfOk result (λ c. (storage_kind ++ lines.old.rest.now ≡ storage_lines version c) × IsStorageSpellable c × IsStorageOrderly c) }
     ensures exact { Gives result lines.new.rest.now (storage_from version (lines_of lines.old.rest.now)) }
 {
     let no_overlap = overlap(lines)?;
@@ -55,7 +56,8 @@ fn explored(
     lines: &mut Lines,
     version: u32,
 ) -> Result<(Rows<LinkCycle>, Rows<MemberLine>), Fault>
-    ensures text { IfOk result (λ x. version ≡ 2 → IsExplored x.0 x.1 lines.old.rest.now lines.new.rest.now) }
+    requires { (version ≡ 1) ⊎ (version ≡ 2) }
+    ensures text { IfOk result (λ x. IsExplored version x.0 x.1 lines.old.rest.now lines.new.rest.now) }
     ensures exact { Gives result lines.new.rest.now (explored_from version (lines_of lines.old.rest.now)) }
 {
     if version == 1 {
@@ -68,6 +70,7 @@ fn explored(
 /// Reads members that list their cycles.
 #[tactic(auto, unfolding(crate::specs::Sections::members_from))]
 fn listed(alloc: Global, lines: &mut Lines) -> Result<(Rows<LinkCycle>, Rows<MemberLine>), Fault>
+    ensures text { IfOk result (λ x. IsExplored 1 x.0 x.1 lines.old.rest.now lines.new.rest.now) }
     ensures exact { Gives result lines.new.rest.now (members_from listed_from [] (lines_of lines.old.rest.now)) }
 {
     let count = members_count(lines)?;
@@ -86,7 +89,10 @@ fn each_listed<'a>(
     count: u64,
     cycles: &mut Cycles<'a>,
 ) -> Result<Rows<MemberLine>, Fault>
-    requires { HasTexts cycles.old.texts.keys cycles.old.list.items }
+    requires texts { HasTexts cycles.old.texts.keys cycles.old.list.items }
+    requires none { cycles.old.list.items ≡ [] }
+    ensures many { IfOk result (λ m. length m ≡ count) }
+    ensures text { IfOk result (λ m. AreListed cycles.new.list.items m lines.old.rest.now lines.new.rest.now) }
     ensures exact { GivesKnown result cycles.new.list.items lines.new.rest.now (handing (member_from listed_from) count cycles.old.list.items (lines_of lines.old.rest.now)) }
 {
     let mut members = Vec::new(alloc);
@@ -100,7 +106,7 @@ fn each_listed<'a>(
 /// Reads the cycles and then members that name them by their numbers.
 #[tactic(auto, unfolding(crate::specs::Sections::named_from))]
 fn named(alloc: Global, lines: &mut Lines) -> Result<(Rows<LinkCycle>, Rows<MemberLine>), Fault>
-    ensures text { IfOk result (λ x. IsExplored x.0 x.1 lines.old.rest.now lines.new.rest.now) }
+    ensures text { IfOk result (λ x. IsExplored 2 x.0 x.1 lines.old.rest.now lines.new.rest.now) }
     ensures exact { Gives result lines.new.rest.now (named_from (lines_of lines.old.rest.now)) }
 {
     let cycles = cycle_list(alloc, lines)?;
