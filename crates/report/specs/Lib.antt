@@ -11,3 +11,4 @@ pub mod QuantityWords
 pub mod RefusalLines
 pub mod WorstTexts
 pub mod SummaryTexts
+pub mod ClaimTexts

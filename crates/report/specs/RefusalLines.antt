@@ -4,7 +4,7 @@ use Rattle.std.specs.Fmt.{decimal}
 use Rattle.report.specs.declared.refusal.Refusal.{Refusal}
 use Rattle.report.specs.declared.refusal.Class.{Class}
 use Rattle.report.specs.declared.refusal.Class.TheVariants as class
-use Rattle.report.specs.declared.refusal.Refusal.TheVariants.{UsageWords, UsageMissing, UsageNotFor, UsageBadValue, Text, DocumentType, CdataSection, Instruction, CharReference, Encoding, WrongKind, Missing, Unknown, Twice, BadWord, BadNumber, PhasesDiffer, SharedDiffers, NoSuccessor, UnknownChannel, SelfLoopBuffer, BelowTokens, Above, Ratio, Inconsistent, Apart, OneWay, NoInput, Deadlock, StatesSpent, DistributionsSpent, ShelfGraph, ShelfCertificate}
+use Rattle.report.specs.declared.refusal.Refusal.TheVariants.{UsageWords, UsageMissing, UsageNotFor, UsageBadValue, Text, DocumentType, CdataSection, Instruction, CharReference, Encoding, WrongKind, Missing, Unknown, Twice, BadWord, BadNumber, PhasesDiffer, SharedDiffers, NoSuccessor, UnknownChannel, SelfLoopBuffer, BelowTokens, Above, Ratio, Inconsistent, Apart, OneWay, NoInput, Deadlock, StatesSpent, DistributionsSpent, CertificateLine, CertificateNumber, Rejected, ShelfGraph, ShelfCertificate, ShelfOutput}
 
 -- the scenario that a refusal speaks of
 unfoldable pub scenario_prefix : Option (List ℕ) → List ℕ
@@ -81,6 +81,14 @@ states_reason states at = decimal states ++ (codes " states without a repeat" ++
 unfoldable pub distributions_reason : ℕ → List ℕ
 distributions_reason number = codes "more than " ++ (decimal number ++ codes " distributions")
 
+-- a line of a certificate
+unfoldable pub certificate_reason : ℕ → List ℕ
+certificate_reason line = codes "certificate line " ++ decimal line
+
+-- what is wrong in a line of a certificate
+unfoldable pub rejected_reason : ℕ → List ℕ → List ℕ
+rejected_reason line reason = codes "line " ++ (decimal line ++ (codes ": " ++ reason))
+
 -- what the line of a refusal says: its class, by whose word it begins, and the reason
 pub record Cause : Type 0 where
   pub class : Class
@@ -112,6 +120,8 @@ cause_of (NoSuccessor name) = because class.Form (successor_reason name)
 cause_of (UnknownChannel name) = because class.Form (unknown_reason (codes "channel") name)
 cause_of (SelfLoopBuffer name) = because class.Form (self_loop_reason name)
 cause_of (BelowTokens name) = because class.Form (below_tokens_reason name)
+cause_of (CertificateLine line) = because class.Form (certificate_reason line)
+cause_of CertificateNumber = because class.Limit (codes "certificate number too large")
 cause_of (Above scenario quantity number) = because class.Limit (above_reason (scenario_prefix scenario) quantity number)
 cause_of (Ratio scenario number path) = because class.Limit (ratio_reason (scenario_prefix scenario) number path)
 cause_of (Inconsistent scenario walk num den) = because class.Inconsistent (inconsistent_reason (scenario_prefix scenario) walk num den)
@@ -121,8 +131,10 @@ cause_of (NoInput scenario actor) = because class.Connection (no_input_reason (s
 cause_of (Deadlock scenario list) = because class.Deadlock (deadlock_reason (scenario_prefix scenario) list)
 cause_of (StatesSpent states at) = because class.Budget (states_reason states (at_list at))
 cause_of (DistributionsSpent number) = because class.Budget (distributions_reason number)
+cause_of (Rejected line reason) = because class.Rejected (rejected_reason line reason)
 cause_of ShelfGraph = because class.Shelf (codes "graph")
 cause_of ShelfCertificate = because class.Shelf (codes "certificate")
+cause_of ShelfOutput = because class.Shelf (codes "output")
 
 unfoldable pub class_word : Class → List ℕ
 class_word class.Usage = codes "usage"
@@ -132,6 +144,7 @@ class_word class.Inconsistent = codes "inconsistent"
 class_word class.Connection = codes "connection"
 class_word class.Deadlock = codes "deadlock"
 class_word class.Budget = codes "budget"
+class_word class.Rejected = codes "rejected"
 class_word class.Shelf = codes "shelf"
 
 -- the line of a cause

@@ -3,6 +3,7 @@
 
 mod answers;
 mod buffers;
+mod claims;
 mod cycles;
 mod fractions;
 mod lacks;
@@ -20,6 +21,7 @@ mod worst_rates;
 
 pub use answers::{rate_text, repetition_text};
 pub use buffers::buffers_text;
+pub use claims::{CertificateKind, ClaimLine, claim_text, converted_text};
 pub use lacks::lacks_text;
 pub use points::points_text;
 pub use quantities::quantity_word;

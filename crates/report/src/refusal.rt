@@ -20,6 +20,8 @@ pub enum Class {
     Deadlock,
     /// A number of states or of distributions was spent.
     Budget,
+    /// A certificate isn't valid.
+    Rejected,
     /// A file can't be taken or put.
     Shelf,
 }
@@ -38,6 +40,7 @@ impl Class {
             Class::Connection => "connection",
             Class::Deadlock => "deadlock",
             Class::Budget => "budget",
+            Class::Rejected => "rejected",
             Class::Shelf => "shelf",
         }
     }
@@ -137,6 +140,12 @@ pub enum Refusal {
     BelowTokens {
         name: Text,
     },
+    /// The text of a certificate isn't of its form, first at this line, from 1.
+    CertificateLine {
+        line: u64,
+    },
+    /// A number of a certificate passes its limit.
+    CertificateNumber,
     /// A quantity passes its greatest number.
     Above {
         scenario: Option<Text>,
@@ -187,8 +196,15 @@ pub enum Refusal {
     DistributionsSpent {
         number: u64,
     },
+    /// A certificate isn't valid: its first faulty line, from 1, and what is wrong there.
+    Rejected {
+        line: u64,
+        reason: Text,
+    },
     /// The graph file can't be taken.
     ShelfGraph,
     /// The certificate can't be taken or put.
     ShelfCertificate,
+    /// The output can't be put.
+    ShelfOutput,
 }

@@ -1,6 +1,6 @@
 ghost use Rattle.std.specs.Prelude.{◌≡◌, IfOk};
 ghost use Rattle.std.specs.String.{string_bytes};
-ghost use Rattle.report.specs.RefusalLines.{above_reason, apart_reason, at_list, bad_value_reason, below_tokens_reason, cause_line, cause_of, deadlock_reason, distributions_reason, inconsistent_reason, line_of, memory_line, missing_reason, no_input_reason, not_for_reason, one_way_reason, phases_reason, place_reason, ratio_reason, scenario_prefix, self_loop_reason, shared_reason, states_reason, successor_reason, twice_reason, unknown_reason, within_reason};
+ghost use Rattle.report.specs.RefusalLines.{above_reason, apart_reason, at_list, bad_value_reason, below_tokens_reason, cause_line, cause_of, certificate_reason, deadlock_reason, distributions_reason, inconsistent_reason, line_of, memory_line, missing_reason, no_input_reason, not_for_reason, one_way_reason, phases_reason, place_reason, ratio_reason, rejected_reason, scenario_prefix, self_loop_reason, shared_reason, states_reason, successor_reason, twice_reason, unknown_reason, within_reason};
 
 use crate::answers::bytes_of;
 use crate::{Class, Refusal};
@@ -114,6 +114,11 @@ fn cause(alloc: Global, refusal: &Refusal) -> Result<(Class, String), AllocError
             Class::Form,
             below_tokens_text(alloc, name.as_str())?,
         )),
+        Refusal::CertificateLine { line } => Ok((Class::Form, certificate_text(alloc, *line)?)),
+        Refusal::CertificateNumber => Ok((
+            Class::Limit,
+            String::from_str(alloc, "certificate number too large")?,
+        )),
         Refusal::Above {
             scenario,
             quantity,
@@ -163,8 +168,13 @@ fn cause(alloc: Global, refusal: &Refusal) -> Result<(Class, String), AllocError
             Class::Budget,
             distributions_text(alloc, *number)?,
         )),
+        Refusal::Rejected { line, reason } => Ok((
+            Class::Rejected,
+            rejected_text(alloc, *line, reason.as_str())?,
+        )),
         Refusal::ShelfGraph => Ok((Class::Shelf, String::from_str(alloc, "graph")?)),
         Refusal::ShelfCertificate => Ok((Class::Shelf, String::from_str(alloc, "certificate")?)),
+        Refusal::ShelfOutput => Ok((Class::Shelf, String::from_str(alloc, "output")?)),
     }
 }
 
@@ -361,6 +371,20 @@ fn distributions_text(alloc: Global, number: u64) -> Result<String, AllocError>
     ensures { IfOk result (λ t. string_bytes t ≡ distributions_reason number) }
 {
     format!(in alloc; "more than {number} distributions")
+}
+
+#[tactic(auto, unfolding(crate::specs::RefusalLines::certificate_reason))]
+fn certificate_text(alloc: Global, line: u64) -> Result<String, AllocError>
+    ensures { IfOk result (λ t. string_bytes t ≡ certificate_reason line) }
+{
+    format!(in alloc; "certificate line {line}")
+}
+
+#[tactic(auto, unfolding(crate::specs::RefusalLines::rejected_reason))]
+fn rejected_text(alloc: Global, line: u64, reason: &str) -> Result<String, AllocError>
+    ensures { IfOk result (λ t. string_bytes t ≡ rejected_reason line reason.now) }
+{
+    format!(in alloc; "line {line}: {reason}")
 }
 
 #[tactic(auto, unfolding(crate::specs::RefusalLines::scenario_prefix))]

@@ -1,5 +1,5 @@
 -- The words and files decide each command.
-use Rattle.std.proofs.Common.{◌≡◌, ℕ, true, false, List, Option}
+use Rattle.std.proofs.Common.{◌≡◌, ℕ, true, false, List, Option, None, Some}
 use Rattle.sd_base.specs.FileNet.{net_of}
 use Rattle.sd_words.specs.declared.request.Request.{Request}
 use Rattle.sd_words.specs.Asked.{IsWithinLimits}
@@ -9,13 +9,15 @@ use Rattle.storage.specs.NamedBuffers.{Buffer}
 use Rattle.sd_command.specs.Bufferings.{buffering}
 use Rattle.sd_words.specs.declared.request.Request.TheVariants as requests
 use Rattle.report.specs.AnswerTexts.{repetition_lines}
-use Rattle.sd_command.specs.declared.file_kind.FileKind.TheVariants.{Graph}
+use Rattle.sd_command.specs.declared.answer.Put.{Put}
+use Rattle.sd_command.specs.declared.file_kind.FileKind.TheVariants.{Graph, Certificate, Output}
 use Rattle.sd_command.specs.declared.wanted.WantedPoints.{WantedPoints}
 use Rattle.sd_command.specs.declared.wanted.WantedRate.{WantedRate}
 use Rattle.sd_command.specs.Takings.{Files, taking}
 use Rattle.sd_command.specs.Readings.{reading_graph}
 use Rattle.sd_command.specs.Balances.{balancing}
-use Rattle.sd_command.specs.Repetitions.{printing, repetition}
+use Rattle.sd_command.specs.Courses.{printing}
+use Rattle.sd_command.specs.Repetitions.{repetition}
 use Rattle.sd_command.specs.Throughputs.{throughput}
 use Rattle.sd_command.specs.TradeOffs.{storage}
 use Rattle.sd_command.specs.Requests.{asking, command_of, course_of}
@@ -24,12 +26,23 @@ use Rattle.sd_command.proofs.SharedSteps.{FileLaws, asking_determines, taking_de
 use Rattle.sd_command.proofs.OneRate.{rate_decides}
 use Rattle.sd_command.proofs.OneTradeOff.{points_decide}
 use Rattle.sd_command.proofs.Summaries.{generate_decides}
-use Rattle.sd_command.specs.ScenarioSteps.{reading_scenarios}
+use Rattle.sd_command.specs.ScenarioSteps.{reading_scenarios, timing}
 use Rattle.sd_command.specs.WorstAnswers.{scenario}
-use Rattle.sd_command.proofs.OneWorst.{ScenarioLaws, reading_file_determines, worst_decides}
+use Rattle.sd_command.proofs.OneWorst.{ScenarioLaws, reading_file_determines, timing_determines, worst_decides}
+use Rattle.cert_text.specs.declared.certificates.Certificate.{Certificate as ACertificate}
+use Rattle.cert_text.specs.declared.certificates.Certificate.TheVariants as certificates
+use Rattle.cert_text.specs.declared.certificates.ScenarioCertificate.{ScenarioCertificate}
+use Rattle.cert_checker.specs.Certificates.{IsCertificateClaim, IsCertificateFault}
+use Rattle.cert_checker.specs.ScenarioCertificates.{IsScenarioFault, IsWorstClaim}
+use Rattle.report.specs.ClaimTexts.{converted_line}
+use Rattle.sd_command.specs.CertificateReadings.{reading_certificate}
+use Rattle.sd_command.specs.Certifyings.{certifying}
+use Rattle.sd_command.specs.Checks.{check, checked, graph_checked, judging, scenario_checked}
+use Rattle.sd_command.specs.Conversions.{convert, kind_of}
+use Rattle.sd_command.proofs.CertificateSteps.{certifying_determines, judging_decides, reading_certificate_determines}
 
-pub prints : (text : List ℕ) → DecidesLast (printing text)
-prints text = record {
+pub prints : (text : List ℕ) (put : Option Put) → DecidesLast (printing text put)
+prints text put = record {
   one = λ r s n m is also. absurd is;
   no_answer = λ r answer n m is also. is;
   no_end = λ r s n m is also. is;
@@ -41,7 +54,7 @@ module _ (laws : FileLaws) (scenarios : ScenarioLaws) (shelf : Files) (tells : s
       after_decides (taking shelf Graph name) _ (taking_determines shelf tells Graph name) (λ bytes taken.
       after_decides (reading_graph bytes false) _ (reading_determines laws bytes false) (λ graph given.
       after_decides (balancing graph) _ (balancing_determines laws graph (laws.keeps bytes false graph given)) (λ gamma round.
-      last_decides (printing (repetition_lines graph gamma)) (prints (repetition_lines graph gamma)))))
+      last_decides (printing (repetition_lines graph gamma) None) (prints (repetition_lines graph gamma) None))))
 
   throughput_decides : (name : List ℕ) (buffers : List Buffer) (wanted : WantedRate) → AreSmall buffers → Decides (throughput name buffers wanted shelf)
   throughput_decides name buffers wanted small =
@@ -65,12 +78,45 @@ module _ (laws : FileLaws) (scenarios : ScenarioLaws) (shelf : Files) (tells : s
       after_decides (reading_scenarios bytes) _ (reading_file_determines laws scenarios bytes) (λ file given.
       worst_decides laws scenarios file (scenarios.keeps bytes file given) certificate))
 
+  graph_check_decides : (version : ℕ) (c : ACertificate) (bytes : List ℕ) → Decides (graph_checked version c bytes)
+  graph_check_decides version c bytes =
+      after_decides (reading_graph bytes true) _ (reading_determines laws bytes true) (λ graph given.
+      after_decides (balancing graph) _ (balancing_determines laws graph (laws.keeps bytes true graph given)) (λ gamma round.
+      last_decides (judging (IsCertificateFault graph gamma version c) (IsCertificateClaim graph gamma c)) (judging_decides _ _)))
+
+  scenario_check_decides : (c : ScenarioCertificate) (bytes : List ℕ) → Decides (scenario_checked c bytes)
+  scenario_check_decides c bytes =
+      after_decides (reading_scenarios bytes) _ (reading_file_determines laws scenarios bytes) (λ file given.
+      after_decides (timing file) _ (timing_determines laws scenarios file (scenarios.keeps bytes file given)) (λ graph timed.
+      last_decides (judging (IsScenarioFault graph c) (IsWorstClaim graph c)) (judging_decides _ _)))
+
+  checked_decides : (version : ℕ) (c : ACertificate) (bytes : List ℕ) → Decides (checked version c bytes)
+  checked_decides version (certificates.Rate c) bytes = graph_check_decides version (certificates.Rate c) bytes
+  checked_decides version (certificates.Storage c) bytes = graph_check_decides version (certificates.Storage c) bytes
+  checked_decides version (certificates.Scenario c) bytes = scenario_check_decides c bytes
+
+  check_decides : (graph certificate : List ℕ) → Decides (check graph certificate shelf)
+  check_decides graph certificate =
+      after_decides (taking shelf Graph graph) _ (taking_determines shelf tells Graph graph) (λ bytes taken.
+      after_decides (taking shelf Certificate certificate) _ (taking_determines shelf tells Certificate certificate) (λ text took.
+      after_decides (reading_certificate text) _ (reading_certificate_determines text) (λ read is.
+      checked_decides read.0 read.1 bytes)))
+
+  convert_decides : (certificate output : List ℕ) → Decides (convert certificate output shelf)
+  convert_decides certificate output =
+      after_decides (taking shelf Certificate certificate) _ (taking_determines shelf tells Certificate certificate) (λ bytes taken.
+      after_decides (reading_certificate bytes) _ (reading_certificate_determines bytes) (λ read is.
+      after_decides (certifying Output output read.1) _ (certifying_determines Output output read.1) (λ put made.
+      last_decides (printing (converted_line (kind_of read.1)) (Some put)) (prints _ _))))
+
   command_decides : (request : Request) → IsWithinLimits request → Decides (command_of request shelf)
   command_decides (requests.Repetition name) within = repetition_decides name
   command_decides (requests.Throughput name buffers no_overlap states certificate) within = throughput_decides name buffers (record { no_overlap = no_overlap; states = states; certificate = certificate }) within.0
   command_decides (requests.Storage name limits no_overlap certificate) within = storage_decides name (record { limits = limits; no_overlap = no_overlap; certificate = certificate })
   command_decides (requests.Scenario name certificate) within = scenario_decides name certificate
+  command_decides (requests.Check graph certificate) within = check_decides graph certificate
   command_decides (requests.Generate seed limit actors) within = generate_decides laws seed limit actors within.1
+  command_decides (requests.Convert certificate output) within = convert_decides certificate output
 
   pub course_decides : (words : List (List ℕ)) → Decides (course_of words shelf)
   course_decides words = after_decides (asking words) _ (asking_determines words) (λ request asked. command_decides request (asked_within words request asked))

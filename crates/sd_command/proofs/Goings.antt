@@ -1,5 +1,5 @@
 -- From what steps do to how a command goes.
-use Rattle.std.proofs.Common.{◌≡◌, ℕ, ◌-◌, Bool, List, Option, None, Result, Ok, Err, refl, sym, subst, inl, inr, arith}
+use Rattle.std.proofs.Common.{◌≡◌, ℕ, ◌-◌, Bool, List, Option, None, Result, Ok, Err, refl, sym, ap, subst, ◌∙◌, inl, inr, arith}
 use Rattle.sd_base.specs.declared.tables.GraphFile.{GraphFile}
 use Rattle.sd_base.specs.declared.limits.Limits.{Limits}
 use Rattle.sd_base.specs.Net.{Net}
@@ -8,12 +8,14 @@ use Rattle.explore.specs.declared.exploration.Exploration.{Exploration}
 use Rattle.explore.specs.Explorations.{CountsFew, IsExploration}
 use Rattle.report.specs.declared.refusal.Refusal.{Refusal}
 use Rattle.sd_command.specs.declared.answer.Answer.{Answer}
+use Rattle.sd_command.specs.declared.answer.Put.{Put}
 use Rattle.sd_command.specs.declared.stop.Stop.{Stop}
 use Rattle.sd_command.specs.declared.stop.Stop.TheVariants as stop
 use Rattle.sd_command.specs.declared.wanted.WantedPoints.{WantedPoints}
 use Rattle.sd_command.specs.declared.wanted.WantedRate.{WantedRate}
-use Rattle.sd_command.specs.Courses.{Step, deciding, Ending, Answered, Refused, Ended, Failed, Lacking, After, ends_by, refused, failed, lacking, passed}
+use Rattle.sd_command.specs.Courses.{Step, deciding, Ending, Answered, Refused, Ended, Failed, Lacking, After, ends_by, printing, refused, failed, lacking, passed}
 use Rattle.graph_reader.specs.Laws.{Gives}
+use Rattle.sd_command.specs.declared.file_kind.FileKind.{FileKind}
 use Rattle.sd_command.specs.declared.file_kind.FileKind.TheVariants.{Graph}
 use Rattle.sd_command.specs.Takings.{Files, IsTaken, taking}
 use Rattle.sd_command.specs.Readings.{reading_graph}
@@ -21,10 +23,10 @@ use Rattle.sd_command.specs.RateAnswers.{IsRateAnswer, IsRateTooLong, IsRunRefus
 use Rattle.sd_command.specs.PointAnswers.{ArePointsTooLong, IsExplorationEnd, IsPointsAnswer, exploration}
 use Rattle.automaton.specs.declared.graph.TimedGraph.{TimedGraph}
 use Rattle.sd_command.specs.WorstAnswers.{IsWorstAnswer, IsWorstTooLong, telling_worst}
-use Rattle.sd_command.specs.Repetitions.{printing}
 use Rattle.sd_base.specs.declared.tables.ScenarioFile.{ScenarioFile}
 use Rattle.scenario_reader.specs.ScenarioFiles.{GivesFile}
 use Rattle.sd_command.specs.ScenarioSteps.{reading_scenarios}
+use Rattle.sd_command.specs.Runs.{Counted}
 use Rattle.sd_command.specs.inside.Going.{Does, Takes, Goes}
 
 module _ {A : Type 0} (step : Step A) (next : A → Ending → ℕ → Type 0) (n : ℕ) (none : n ≡ 0) where
@@ -77,11 +79,35 @@ pub few_from : (net : Net) (limits : Limits) (before after : ℕ) → CountsFew 
 few_from net limits before after (dss, found, most, few) = (dss, found, omega (arith, most), few)
 
 -- a text answers
-pub print_answers : (text : List ℕ) (answer : Answer) (faults : ℕ) → answer.text ≡ text → answer.put ≡ None → Goes (ends_by (printing text)) (Ok answer) 0 faults faults
-print_answers text answer faults is none = record { ending = Answered answer; is = refl; came = (refl, is, none); counted = refl }
+pub print_answers : (text : List ℕ) (put : Option Put) (answer : Answer) (faults : ℕ) → answer.text ≡ text → answer.put ≡ put → Goes (ends_by (printing text put)) (Ok answer) 0 faults faults
+print_answers text put answer faults is puts = record { ending = Answered answer; is = refl; came = (refl, is, puts); counted = refl }
 
-pub print_lacks : (text : List ℕ) (faults : ℕ) → Goes (ends_by (printing text)) (Err stop.OutOfMemory) 0 faults faults
-print_lacks text faults = record { ending = Lacking; is = refl; came = refl; counted = refl }
+pub print_lacks : (text : List ℕ) (put : Option Put) (faults : ℕ) → Goes (ends_by (printing text put)) (Err stop.OutOfMemory) 0 faults faults
+print_lacks text put faults = record { ending = Lacking; is = refl; came = refl; counted = refl }
+
+-- the file that a step takes is there, and the command goes as what follows
+pub taken_on : {A : Type 0} (step : Step A) (next : A → Ending → ℕ → Type 0) (a : A) (result : Result Answer Stop) (n faults middle faults' : ℕ) → step.passes a × (middle ≡ faults)
+    → Goes (next a) result n middle faults' → Goes (After step next) result n faults faults'
+taken_on step next a result n faults middle faults' took goes =
+    record { ending = goes.ending; is = goes.is; came = passed a took.0 goes.came; counted = subst (λ (f : ℕ). Counted goes.ending f faults') took.1 goes.counted }
+
+-- a shelf whose files are as before
+pub same_shelf : (before after : Files) → after.tells ≡ before.tells → ((name : List ℕ) → after.named name ≡ before.named name) → after ≡ before
+same_shelf before after tells named =
+    let made : Bool → (List ℕ → Option (List ℕ)) → Files = λ t f. record { tells = t; named = f } in
+    let everywhere : after.named ≡ before.named = λ i. λ name. named name i in
+    ap (λ (t : Bool). made t after.named) tells ∙ ap (λ (f : List ℕ → Option (List ℕ)). made before.tells f) everywhere
+
+-- so another file is taken from it as before
+pub takes_after : (before after : Files) → after.tells ≡ before.tells → ((name : List ℕ) → after.named name ≡ before.named name) → (kind : FileKind) (name : List ℕ) (result : Result (List ℕ) Stop)
+    (faults faults' : ℕ) → Takes (taking after kind name) result faults faults' → Takes (taking before kind name) result faults faults'
+takes_after before after tells named kind name result faults faults' =
+    subst (λ (files : Files). Takes (taking files kind name) result faults faults') (same_shelf before after tells named)
+
+-- what a command does with bytes it does with the same bytes
+pub same_bytes : (command : List ℕ → Ending → ℕ → Type 0) (bytes shown : List ℕ) (result : Result Answer Stop) (n faults faults' : ℕ) → shown ≡ bytes
+    → Goes (command shown) result n faults faults' → Goes (command bytes) result n faults faults'
+same_bytes command bytes shown result n faults faults' same goes = subst (λ (b : List ℕ). Goes (command b) result n faults faults') same goes
 
 -- nothing more was counted
 pub same_count : (command : Ending → ℕ → Type 0) (result : Result Answer Stop) (n faults faults' : ℕ) → faults' ≡ faults

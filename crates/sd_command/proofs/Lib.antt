@@ -1,4 +1,6 @@
 mod Commands
+mod CertificateSteps
+mod CompleteCertificates
 mod OneRate
 mod Ended
 mod Complete
@@ -23,3 +25,4 @@ pub mod SharedSteps
 mod Throughs
 mod OneWorst
 mod Measured
+mod TimedFiles

@@ -19,7 +19,7 @@ use Rattle.report.specs.declared.refusal.Refusal.{Refusal}
 use Rattle.sd_command.specs.Readings.{reading_refusal}
 use Rattle.sd_command.specs.Balances.{balancing}
 use Rattle.sd_command.specs.Nets.{feeding}
-use Rattle.sd_command.specs.ScenarioSteps.{Entries, IsMade, IsUnmade, stamps, blocked, making_matrix, measuring_graph, measuring_one, AreMeasured, IsUnmeasured, measuring, linking, reading_scenarios}
+use Rattle.sd_command.specs.ScenarioSteps.{Entries, IsMade, IsUnmade, stamps, blocked, making_matrix, measuring_graph, measuring_one, AreMeasured, IsUnmeasured, measuring, linking, timing, reading_scenarios}
 use Rattle.sd_command.specs.WorstAnswers.{telling_worst, worst_of}
 use Rattle.sd_command.proofs.CommandsDecide.{Determines, Decides, DecidesLast, after_decides, last_decides}
 use Rattle.sd_command.proofs.Throughs.{through_determines, naming_determines}
@@ -110,7 +110,7 @@ module _ (facts : FileLaws) (laws : ScenarioLaws) where
       ]
     ]
 
-    pub measuring_determines : Determines (measuring file)
+    measuring_determines : Determines (measuring file)
     measuring_determines = record {
       one = one_measure;
       refusal = one_unmeasured;
@@ -133,11 +133,13 @@ module _ (facts : FileLaws) (laws : ScenarioLaws) where
           omega (arith, many, few, same);
     }
 
+    pub timing_determines : Determines (timing file)
+    timing_determines = through_determines (measuring file) (λ ms. linking file ms) measuring_determines (λ ms measured. linking_determines ms)
+
     tells : (certificate : Option (List ℕ)) (graph : TimedGraph) → DecidesLast (telling_worst file certificate graph)
     tells certificate graph = record { one = λ r s n m is also. absurd is; no_answer = λ r answer n m is also. is; no_end = λ r s n m is also. is }
 
     pub worst_decides : (certificate : Option (List ℕ)) → Decides (worst_of certificate file)
     worst_decides certificate =
-        after_decides (measuring file) _ measuring_determines (λ ms measured.
-        after_decides (linking file ms) _ (linking_determines ms) (λ graph linked.
-        last_decides (telling_worst file certificate graph) (tells certificate graph)))
+        after_decides (timing file) _ timing_determines (λ graph timed.
+        last_decides (telling_worst file certificate graph) (tells certificate graph))

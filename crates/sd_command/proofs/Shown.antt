@@ -1,5 +1,5 @@
 -- From what was put and sent to how the run ended.
-use Rattle.std.proofs.Common.{◌≡◌, ℕ, ◌+◌, List, Bool, true, false, Option, Result, Ok, Err, refl, sym, ap, subst, ◌∙◌, inl, inr}
+use Rattle.std.proofs.Common.{◌≡◌, ℕ, ◌+◌, List, Bool, true, false, Option, Result, Ok, Err, refl, sym, subst, inl, inr}
 use Rattle.report.specs.RefusalLines.{line_of, memory_line}
 use Rattle.sd_command.specs.declared.answer.Answer.{Answer}
 use Rattle.sd_command.specs.declared.status.Status.{Status}
@@ -12,6 +12,7 @@ use Rattle.sd_command.specs.Takings.{Files}
 use Rattle.sd_command.specs.Requests.{course_of}
 use Rattle.sd_command.specs.Runs.{Sending, GetsNothing, HasPut, Counted, HasTaken, HasLine, of_refusal, of_memory, Outside, Ends, done, told, out_fault, err_fault, Run, Shows}
 use Rattle.sd_command.specs.inside.Going.{IsEnd, Sends, SendsStop, Goes}
+use Rattle.sd_command.proofs.Goings.{same_shelf}
 
 module _ (o : Outside) (status : Status) where
   -- the text of an answer was sent
@@ -29,10 +30,6 @@ module _ (o : Outside) (status : Status) where
   ends_told ending line whole has (inl (is, sent)) nothing = (false, told refl line (subst (λ (s : Status). HasLine ending o.shelf line s) (sym is) has) nothing sent)
   ends_told ending line whole has (inr (is, part)) nothing = (false, err_fault refl line whole has is nothing part)
 
--- functions that agree everywhere are one
-everywhere : (f g : List ℕ → Option (List ℕ)) → ((name : List ℕ) → f name ≡ g name) → f ≡ g
-everywhere f g same = λ i. λ name. same name i
-
 -- a shelf in the middle of a run, where nothing was put yet
 module _ (words : List (List ℕ)) (files middle : Files) (faults faults' faults'' : ℕ) (named_after : List ℕ → Option (List ℕ)) (out err : Sending) (status : Status)
     (tells : middle.tells ≡ files.tells) (named : (name : List ℕ) → middle.named name ≡ files.named name) (n executions executions' : ℕ) (counted : executions' ≡ executions + n) where
@@ -44,9 +41,7 @@ module _ (words : List (List ℕ)) (files middle : Files) (faults faults' faults
   }
 
   same_files : middle ≡ files
-  same_files =
-      let made : Bool → (List ℕ → Option (List ℕ)) → Files = λ t f. record { tells = t; named = f } in
-      ap (λ (t : Bool). made t middle.named) tells ∙ ap (λ (f : List ℕ → Option (List ℕ)). made files.tells f) (everywhere middle.named files.named named)
+  same_files = same_shelf files middle tells named
 
   abbrev run : Run
   run = record { words = words; status = status; outside = outside files faults; executions = executions; executions_after = executions' }

@@ -1,7 +1,8 @@
 -- A command as a course of steps, which is the order in which it is refused.
-use Rattle.std.specs.Prelude.{◌≡◌, ℕ, ◌⊎◌}
+use Rattle.std.specs.Prelude.{◌≡◌, ℕ, ◌⊎◌, List, Option}
 use Rattle.report.specs.declared.refusal.Refusal.{Refusal}
 use Rattle.sd_command.specs.declared.answer.Answer.{Answer}
+use Rattle.sd_command.specs.declared.answer.Put.{Put}
 
 -- What a command comes to: an answer; a refusal that the words and files decide; one by a limit of an execution, which they
 -- need not decide; the refusal for a file whose taking failed; or want of memory.
@@ -51,3 +52,12 @@ ends_by analysis (Refused refusal) n = analysis.refused refusal n
 ends_by analysis (Ended refusal) n = analysis.ended refusal n
 ends_by analysis (Failed refusal) n = ⊥
 ends_by analysis Lacking n = analysis.counted n
+
+-- a text is sent, after a file is put, where there is one; nothing is executed
+abbrev pub printing : List ℕ → Option Put → Analysis
+printing text put = record {
+  answered = λ answer n. (n ≡ 0) × (answer.text ≡ text) × (answer.put ≡ put);
+  refused = λ refusal n. ⊥;
+  ended = λ refusal n. ⊥;
+  counted = λ n. n ≡ 0;
+}

@@ -8,7 +8,7 @@ use Rattle.sd_base.specs.FileNet.{net_of}
 use Rattle.sd_base.specs.SelfTimed.{events_by, starts_by}
 use Rattle.sd_base.specs.Rates.{IsLoop}
 use Rattle.sd_base.specs.Untimed.{IsLive}
-use Rattle.sd_words.specs.declared.request.Request.TheVariants.{Generate, Storage, Throughput}
+use Rattle.sd_words.specs.declared.request.Request.TheVariants.{Check, Convert, Generate, Storage, Throughput}
 use Rattle.sd_words.specs.Asked.{request_of}
 use Rattle.storage.specs.BoundedNets.{bound}
 use Rattle.storage.specs.NamedBuffers.{Buffer, capacities_of}
@@ -114,4 +114,18 @@ GenerateIsComplete = (run : Run) (cut : Bool) (seed limit actors : ℕ) → IsFa
     → request_of run.words ≡ Ok (Generate seed limit actors)
     → ((refusal : Refusal) (n : ℕ) → course_of run.words run.outside.shelf.files (Refused refusal) n → ⊥)
     → ((gamma : List ℕ) → IsRound (made_graph seed actors) gamma → Suffice (net_of (made_graph seed actors) gamma true) (usual_limits limit))
+    → Shows run cut → (run.status ≡ statuses.Done) ⊎ (run.status ≡ statuses.Memory)
+
+-- such a run of `check` is done, or ends for want of memory, where no refusal is due, also none for a fault of the certificate
+abbrev pub CheckIsComplete : Type 0
+CheckIsComplete = (run : Run) (cut : Bool) (graph certificate : List ℕ) → IsFaultless run
+    → request_of run.words ≡ Ok (Check graph certificate)
+    → ((refusal : Refusal) (n : ℕ) → course_of run.words run.outside.shelf.files (Refused refusal) n → ⊥)
+    → Shows run cut → (run.status ≡ statuses.Done) ⊎ (run.status ≡ statuses.Memory)
+
+-- such a run of `convert` is, where no refusal is due
+abbrev pub ConvertIsComplete : Type 0
+ConvertIsComplete = (run : Run) (cut : Bool) (certificate output : List ℕ) → IsFaultless run
+    → request_of run.words ≡ Ok (Convert certificate output)
+    → ((refusal : Refusal) (n : ℕ) → course_of run.words run.outside.shelf.files (Refused refusal) n → ⊥)
     → Shows run cut → (run.status ≡ statuses.Done) ⊎ (run.status ≡ statuses.Memory)

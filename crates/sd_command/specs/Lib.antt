@@ -17,6 +17,9 @@ pub mod inside
 pub mod Endings
 pub mod PutCertificates
 pub mod ActorNames
+pub mod CertificateReadings
+pub mod Conversions
+pub mod Checks
 pub mod RateAnswers
 pub mod ScenarioSteps
 pub mod WorstAnswers

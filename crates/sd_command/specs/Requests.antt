@@ -15,6 +15,8 @@ use Rattle.sd_command.specs.Throughputs.{throughput}
 use Rattle.sd_command.specs.TradeOffs.{storage}
 use Rattle.sd_command.specs.WorstAnswers.{scenario}
 use Rattle.sd_command.specs.Generations.{generate}
+use Rattle.sd_command.specs.Checks.{check}
+use Rattle.sd_command.specs.Conversions.{convert}
 
 -- the refusal of words that aren't those of a command
 abbrev pub usage_refusal : UsageCause → Refusal
@@ -37,7 +39,9 @@ command_of (requests.Repetition graph) = repetition graph
 command_of (requests.Throughput graph buffers no_overlap states certificate) = throughput graph buffers (record { no_overlap = no_overlap; states = states; certificate = certificate })
 command_of (requests.Storage graph limits no_overlap certificate) = storage graph (record { limits = limits; no_overlap = no_overlap; certificate = certificate })
 command_of (requests.Scenario graph certificate) = scenario graph certificate
+command_of (requests.Check graph certificate) = check graph certificate
 command_of (requests.Generate seed limit actors) = λ files. generate seed limit actors
+command_of (requests.Convert certificate output) = convert certificate output
 
 -- how the command of the words may end over the files of a shelf, and after how many executions
 abbrev pub course_of : List (List ℕ) → Files → Ending → ℕ → Type 0

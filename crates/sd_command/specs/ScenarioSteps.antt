@@ -112,3 +112,7 @@ pub record IsUnlinked (file : ScenarioFile) (matrices : List Entries) (refusal :
 
 abbrev pub linking : ScenarioFile → List Entries → Step TimedGraph
 linking file matrices = deciding (λ graph. IsLinked file matrices graph) (λ refusal. IsUnlinked file matrices refusal)
+
+-- the timed graph of a file, by the matrices of its scenarios
+abbrev pub timing : ScenarioFile → Step TimedGraph
+timing file = through (measuring file) λ matrices. linking file matrices

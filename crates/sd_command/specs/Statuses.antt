@@ -16,6 +16,7 @@ code_of statuses.Inconsistent = 5
 code_of statuses.Connection = 6
 code_of statuses.Deadlock = 7
 code_of statuses.Budget = 8
+code_of statuses.Rejected = 9
 code_of statuses.ShelfFault = 10
 code_of statuses.SinkFault = 11
 code_of statuses.Memory = 12
@@ -28,6 +29,7 @@ class_status classes.Inconsistent = statuses.Inconsistent
 class_status classes.Connection = statuses.Connection
 class_status classes.Deadlock = statuses.Deadlock
 class_status classes.Budget = statuses.Budget
+class_status classes.Rejected = statuses.Rejected
 class_status classes.Shelf = statuses.ShelfFault
 
 abbrev pub status_of : Refusal → Status

@@ -4,21 +4,23 @@ use Rattle.sd_base.specs.declared.limits.Quantity.{Quantity}
 use Rattle.sd_base.specs.declared.limits.Quantity.TheVariants as quantities
 use Rattle.sd_base.specs.Limits.{greatest_of}
 use Rattle.report.specs.declared.refusal.Refusal.{Refusal}
-use Rattle.report.specs.declared.refusal.Refusal.TheVariants.{Above, ShelfGraph, ShelfCertificate}
+use Rattle.report.specs.declared.refusal.Refusal.TheVariants.{Above, ShelfGraph, ShelfCertificate, ShelfOutput}
 use Rattle.report.specs.QuantityWords.{quantity_text}
 use Rattle.sd_command.specs.declared.file_kind.FileKind.{FileKind}
-use Rattle.sd_command.specs.declared.file_kind.FileKind.TheVariants.{Graph, Certificate}
+use Rattle.sd_command.specs.declared.file_kind.FileKind.TheVariants.{Graph, Certificate, Output}
 use Rattle.sd_command.specs.Courses.{Step}
 
 -- the quantity that bounds the bytes of a file
 abbrev pub bytes_of : FileKind → Quantity
 bytes_of Graph = quantities.FileBytes
 bytes_of Certificate = quantities.CertificateBytes
+bytes_of Output = quantities.CertificateBytes
 
 -- the refusal where a file can't be taken or put
 abbrev pub shelf_refusal : FileKind → Refusal
 shelf_refusal Graph = ShelfGraph
 shelf_refusal Certificate = ShelfCertificate
+shelf_refusal Output = ShelfOutput
 
 -- the files of a shelf by name, where it tells them
 pub record Files : Type 0 where

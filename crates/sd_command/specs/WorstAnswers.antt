@@ -19,7 +19,7 @@ use Rattle.sd_command.specs.declared.answer.Answer.{Answer}
 use Rattle.sd_command.specs.Certifyings.{Certifies, IsTooLong}
 use Rattle.sd_command.specs.Courses.{Analysis, Ending, After, ends_by}
 use Rattle.sd_command.specs.Takings.{Files, taking}
-use Rattle.sd_command.specs.ScenarioSteps.{Entries, reading_scenarios, measuring, linking}
+use Rattle.sd_command.specs.ScenarioSteps.{reading_scenarios, timing}
 
 -- a worst rate of a file is shown by its timed graph: by the chosen critical cycle, and by the least potentials that fit, which
 -- stand at the nodes that are reached
@@ -59,17 +59,11 @@ telling_worst file certificate graph = record {
   counted = λ n. n ≡ 0;
 }
 
--- the worst rate of a file by the matrices of its scenarios
-abbrev pub worst_by : ScenarioFile → Option (List ℕ) → List Entries → Ending → ℕ → Type 0
-worst_by file certificate matrices =
-    After (linking file matrices) λ graph.
-    ends_by (telling_worst file certificate graph)
-
 -- the worst rate of a file of scenarios
 abbrev pub worst_of : Option (List ℕ) → ScenarioFile → Ending → ℕ → Type 0
 worst_of certificate file =
-    After (measuring file) λ matrices.
-    worst_by file certificate matrices
+    After (timing file) λ graph.
+    ends_by (telling_worst file certificate graph)
 
 abbrev pub scenario : List ℕ → Option (List ℕ) → Files → Ending → ℕ → Type 0
 scenario name certificate files =

@@ -9,6 +9,7 @@ use sd_base::Quantity;
 pub(crate) enum FileKind {
     Graph,
     Certificate,
+    Output,
 }
 
 impl FileKind {
@@ -18,7 +19,7 @@ impl FileKind {
     {
         match self {
             FileKind::Graph => Quantity::FileBytes,
-            FileKind::Certificate => Quantity::CertificateBytes,
+            FileKind::Certificate | FileKind::Output => Quantity::CertificateBytes,
         }
     }
 
@@ -29,6 +30,7 @@ impl FileKind {
         match self {
             FileKind::Graph => Refusal::ShelfGraph,
             FileKind::Certificate => Refusal::ShelfCertificate,
+            FileKind::Output => Refusal::ShelfOutput,
         }
     }
 }

@@ -1,5 +1,5 @@
 ghost use Rattle.sd_command.specs.PutCertificates.{RatesPutAreValid};
-ghost use Rattle.sd_command.specs.Endings.{DueIsAnswered, DueIsOne, ElseIsDone, GenerateIsComplete, StorageIsComplete, ThroughputIsComplete};
+ghost use Rattle.sd_command.specs.Endings.{CheckIsComplete, ConvertIsComplete, DueIsAnswered, DueIsOne, ElseIsDone, GenerateIsComplete, StorageIsComplete, ThroughputIsComplete};
 
 use balance::one_answer;
 use graph_reader::know_files;
@@ -19,6 +19,8 @@ pub fn know_endings()
     ensures storage { StorageIsComplete }
     ensures generate { GenerateIsComplete }
     ensures valid { RatesPutAreValid }
+    ensures check { CheckIsComplete }
+    ensures convert { ConvertIsComplete }
 {
     know_files();
     know_scenario_files();

@@ -8,7 +8,7 @@ use crate::answer::Answer;
 use crate::asking::ask;
 use crate::stop::Stop;
 use crate::wanted::{WantedPoints, WantedRate};
-use crate::{generate, repetition, scenario, throughput, trade_off};
+use crate::{check, convert, generate, repetition, scenario, throughput, trade_off};
 use fanout::Gate;
 use sd_base::{Ledger, Steps, Text};
 use sd_io::Shelf;
@@ -96,10 +96,17 @@ fn command_answer<R: Threads + Sync, S: Shelf, G: Gate + Sync, L: Ledger + Send>
         Request::Scenario { graph, certificate } => {
             scenario::answer(alloc, shelf, graph.as_str(), &certificate)
         }
+        Request::Check { graph, certificate } => {
+            check::answer(alloc, shelf, graph.as_str(), certificate.as_str())
+        }
         Request::Generate {
             seed,
             limit,
             actors,
         } => generate::answer(rt, alloc, seed, limit, actors, gate, steps),
+        Request::Convert {
+            certificate,
+            output,
+        } => convert::answer(alloc, shelf, certificate.as_str(), output.as_str()),
     }
 }

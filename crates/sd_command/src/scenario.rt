@@ -2,29 +2,27 @@ ghost use Rattle.std.specs.Prelude.{◌≡◌, ℕ, ◌^◌, ◌<◌, ◌≤◌,
 ghost use Rattle.sd_base.specs.Scenarios.{FileKeepsRules};
 ghost use Rattle.automaton.specs.TimedGraphs.{IsTimedGraph};
 ghost use Rattle.scenario_rate.specs.Graphs.{IsSound};
-ghost use Rattle.sd_command.specs.ScenarioSteps.{AreMeasured};
 ghost use Rattle.automaton.specs.CriticalCycles.{weights};
 ghost use Rattle.cert_text.specs.declared.certificates.Certificate.{Certificate as ACertificate};
 ghost use Rattle.sd_command.specs.Certifyings.{Certifies, IsTooLong};
 ghost use Rattle.sd_command.specs.Courses.{deciding, ends_by};
 ghost use Rattle.sd_command.specs.Takings.{Files};
-ghost use Rattle.sd_command.specs.WorstAnswers.{IsOfWorst, scenario, telling_worst, worst_by, worst_of};
+ghost use Rattle.sd_command.specs.WorstAnswers.{IsOfWorst, scenario, telling_worst, worst_of};
 ghost use Rattle.sd_command.specs.inside.Going.{Does, Goes};
 
 use crate::answer::{Answer, Put};
 use crate::certifying::certify;
 use crate::file_kind::FileKind;
-use crate::scenario_steps::{link, measure, read_file};
+use crate::scenario_steps::{read_file, timed};
 use crate::stop::Stop;
 use crate::taking::take;
 use automaton::TimedGraph;
 use cert_maker::worst_certificate;
 use report::worst_text;
-use scenario_rate::{Worst, files_are_sound, files_grow, worst};
+use scenario_rate::{Worst, files_grow, worst};
 use sd_base::{ScenarioFile, Text};
 use sd_io::Shelf;
 use std::alloc::Global;
-use token_matrix::Matrix;
 
 /// The worst rate of a file of scenarios over all paths of its automaton, with what shows it.
 pub(crate) fn answer<S: Shelf>(
@@ -49,23 +47,7 @@ fn worst_of(alloc: Global, file: &ScenarioFile, certificate: &Option<Text>) -> R
     requires { FileKeepsRules file.now }
     ensures { (faults : ℕ) → Goes (worst_of certificate.now file.now) result 0 faults faults }
 {
-    let matrices = measure(alloc, file)?;
-    worst_by(alloc, file, matrices.as_slice(), certificate)
-}
-
-// The worst rate of a file by the matrices of its scenarios.
-fn worst_by(
-    alloc: Global,
-    file: &ScenarioFile,
-    matrices: &[Matrix],
-    certificate: &Option<Text>,
-) -> Result<Answer, Stop>
-    requires rules { FileKeepsRules file.now }
-    requires measured { AreMeasured file.now matrices.now }
-    ensures { (faults : ℕ) → Goes (worst_by file.now certificate.now matrices.now) result 0 faults faults }
-{
-    files_are_sound();
-    let graph = link(alloc, file, matrices)?;
+    let graph = timed(alloc, file)?;
     tell(alloc, file, &graph, certificate)
 }
 

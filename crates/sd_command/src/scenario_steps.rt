@@ -2,14 +2,15 @@ ghost use Rattle.std.specs.Prelude.{◌≡◌, ◌∷◌, ◌++◌, [], false, I
 ghost use Rattle.sd_base.specs.declared.tables.Kind.TheVariants.{Sdf};
 ghost use Rattle.sd_base.specs.FileNet.{net_of};
 ghost use Rattle.balance.specs.Repetition.{IsRound};
-ghost use Rattle.automaton.specs.TimedGraphs.{AreSized};
+ghost use Rattle.automaton.specs.TimedGraphs.{AreSized, IsTimedGraph};
+ghost use Rattle.scenario_rate.specs.Graphs.{IsSound};
 ghost use Rattle.report.specs.LinkTexts.{IsNamed};
 ghost use Rattle.sd_command.specs.Nets.{IsFed};
 ghost use Rattle.sd_base.specs.Scenarios.{FileKeepsRules, ScenarioKeepsRules, Shares, shared_count};
 ghost use Rattle.sd_base.specs.Tables.{IsTimed, KeepsRules};
 ghost use Rattle.sd_base.specs.Untimed.{IsBlockedBy};
 ghost use Rattle.sd_command.specs.Nets.{IsDeadlocked};
-ghost use Rattle.sd_command.specs.ScenarioSteps.{linking, making_matrix, measuring, measuring_graph, measuring_one, of_scenario, reading_scenarios};
+ghost use Rattle.sd_command.specs.ScenarioSteps.{linking, making_matrix, measuring, measuring_graph, measuring_one, of_scenario, reading_scenarios, timing};
 ghost use Rattle.sd_command.specs.inside.Going.{Does};
 
 use crate::balancing::balanced;
@@ -20,6 +21,7 @@ use automaton::{GraphError, TimedGraph, product};
 use escapes::escaped;
 use firing::{Firing, SdfNet};
 use report::{Refusal, lacks_text};
+use scenario_rate::files_are_sound;
 use scenario_reader::read_scenarios;
 use sd_base::{GraphFile, NoMemory, Quantity, Rows, ScenarioFile, ScenarioRow, SharedRow, Text};
 use std::alloc::Global;
@@ -36,8 +38,8 @@ pub(crate) fn read_file(alloc: Global, bytes: &[u8]) -> Result<ScenarioFile, Sto
     }
 }
 
-/// The matrices of the scenarios of a file, in order.
-pub(crate) fn measure(alloc: Global, file: &ScenarioFile) -> Result<Rows<Matrix>, Stop>
+// The matrices of the scenarios of a file, in order.
+fn measure(alloc: Global, file: &ScenarioFile) -> Result<Rows<Matrix>, Stop>
     requires { FileKeepsRules file.now }
     ensures { Does (measuring file.now) result }
 {
@@ -176,12 +178,20 @@ fn deadlock<F: Firing>(
     })
 }
 
-/// The timed graph of a file by the matrices of its scenarios.
-pub(crate) fn link(
-    alloc: Global,
-    file: &ScenarioFile,
-    matrices: &[Matrix],
-) -> Result<TimedGraph, Stop>
+/// The timed graph of a file.
+pub(crate) fn timed(alloc: Global, file: &ScenarioFile) -> Result<TimedGraph, Stop>
+    requires { FileKeepsRules file.now }
+    ensures does { Does (timing file.now) result }
+    ensures timed { IfOk result (IsTimedGraph file.now) }
+    ensures sound { IfOk result IsSound }
+{
+    files_are_sound();
+    let matrices = measure(alloc, file)?;
+    link(alloc, file, matrices.as_slice())
+}
+
+// The timed graph of a file by the matrices of its scenarios.
+fn link(alloc: Global, file: &ScenarioFile, matrices: &[Matrix]) -> Result<TimedGraph, Stop>
     requires rules { FileKeepsRules file.now }
     requires all { length matrices.now ≡ length file.now.scenarios }
     requires sized { AreSized (shared_count file.now.shared) matrices.now }

@@ -10,7 +10,7 @@ pub enum Status {
     Done,
     /// The words aren't those of a command.
     Usage,
-    /// The graph file isn't of its form.
+    /// A file isn't of its form.
     Form,
     /// A quantity passes its greatest number.
     Limit,
@@ -22,6 +22,8 @@ pub enum Status {
     Deadlock,
     /// A number of states or of distributions was spent.
     Budget,
+    /// A certificate isn't valid.
+    Rejected,
     /// A file couldn't be taken or put.
     ShelfFault,
     /// A text couldn't be sent whole.
@@ -44,6 +46,7 @@ impl Status {
             Status::Connection => 6,
             Status::Deadlock => 7,
             Status::Budget => 8,
+            Status::Rejected => 9,
             Status::ShelfFault => 10,
             Status::SinkFault => 11,
             Status::Memory => 12,
@@ -66,6 +69,7 @@ impl From<Class> for Status {
             Class::Connection => Status::Connection,
             Class::Deadlock => Status::Deadlock,
             Class::Budget => Status::Budget,
+            Class::Rejected => Status::Rejected,
             Class::Shelf => Status::ShelfFault,
         }
     }

@@ -1,5 +1,5 @@
 -- Each answer comes exactly where its rule says.
-use Rattle.std.proofs.Common.{◌≡◌, ◌≢◌, ℕ, Bool, true, false, cond, ◌⊎◌, inl, inr, List, [], ◌∷◌, ◌++◌, Option, Some, None, Result, Ok, Err, length, drop, codes, nat_eq, ltb, refl, sym, ap, ◌∙◌}
+use Rattle.std.proofs.Common.{◌≡◌, ◌≢◌, ℕ, Bool, true, false, cond, ◌⊎◌, inl, inr, List, [], ◌∷◌, ◌++◌, Option, Some, None, Result, Ok, Err, length, drop, codes, nat_eq, ltb, refl, sym, ap, subst, ◌∙◌}
 use Rattle.std.specs.List.{find, starts_with, position_or_len, before_first, after_first}
 use Rattle.std.specs.Str.{bytes_eq}
 use Rattle.std.proofs.lemmas.Slice.Eq.{bytes_eq-Decides}
@@ -16,10 +16,11 @@ use Rattle.sd_words.specs.OptionWords.{algorithm_word, algorithm_named, algorith
 use Rattle.sd_words.specs.Spelling.{Setting}
 use Rattle.sd_words.specs.OptionWords.{names_value, names_flag}
 use Rattle.sd_words.specs.Values.{is_value}
+use Rattle.sd_words.specs.declared.form.Form.TheVariants as form
 use Rattle.sd_words.specs.Forms.{fits}
 use Rattle.sd_words.specs.Reading.{◌>>=◌, Progress, is_taken, with_setting, with_value, with_name, with_text, with_option, with_word, with_words, finished, settings_of}
-use Rattle.sd_words.specs.Asked.{value_of, values_in, standing, is_good, judged, checked, all_checked, are_one, named_apart, tested, options, algorithm_in, known, algorithm_of, request_for, request_from, request_of}
-use Rattle.sd_words.specs.Rules.{IsFault, AllFit, IsFirstFault, IsNamedTwice, IsWrong, Asks, AreMisspelled, AskNothing}
+use Rattle.sd_words.specs.Asked.{value_of, values_in, standing, is_good, judged, checked, all_checked, are_one, named_apart, output_apart, puts_certificate, certificate_apart, tested, options, algorithm_in, known, algorithm_of, request_for, request_from, request_of}
+use Rattle.sd_words.specs.Rules.{IsFault, AllFit, IsFirstFault, IsNamedAs, IsNamedTwice, IsWrong, Asks, AreMisspelled, AskNothing}
 use Rattle.sd_words.proofs.TestChains.{bind-ok}
 use Rattle.sd_words.proofs.Spelled.{read-spelled, spelled-read}
 
@@ -43,19 +44,15 @@ judged-fault (Required form) (Some v) a o settings cause s is h =
     let g = good-err (fits form v) o cause h in
     let other : standing a o ≢ Foreign = λ e. cc in
     let bad : is_good (standing a o) v ≡ false = ap (λ st. is_good st v) s ∙ g.0 in
-    inr (inr (v, other, is, bad, g.1))
+    inr (inr (inl (v, other, is, bad, g.1)))
 judged-fault (Allowed form) (Some v) a o settings cause s is h =
     let g = good-err (fits form v) o cause h in
     let other : standing a o ≢ Foreign = λ e. cc in
     let bad : is_good (standing a o) v ≡ false = ap (λ st. is_good st v) s ∙ g.0 in
-    inr (inr (v, other, is, bad, g.1))
+    inr (inr (inl (v, other, is, bad, g.1)))
 judged-fault Foreign (Some v) a o settings cause s is h =
     let same : cause ≡ NotFor o a = cc in
     inr (inl (v, s, is, same))
-
-checked-fault : (a : Algorithm) (o : OptionName) (settings : List Setting) (cause : UsageCause) → checked a o (value_of o settings) ≡ Err cause → IsFault a settings o cause
-unfolding checked
-checked-fault a o settings cause h = judged-fault (standing a o) (value_of o settings) a o settings cause refl refl h
 
 bad-err : (b : Bool) (o : OptionName) → b ≡ false → cond b (Ok (tt {0})) (Err (BadValue o)) ≡ Err (BadValue o)
 bad-err true o h = absurd (cc)
@@ -67,20 +64,99 @@ judged-bad (Required form) v a o n h = bad-err (fits form v) o h
 judged-bad (Allowed form) v a o n h = bad-err (fits form v) o h
 judged-bad Foreign v a o n h = absurd (n refl)
 
-fault-checked : (a : Algorithm) (o : OptionName) (settings : List Setting) (cause : UsageCause) → IsFault a settings o cause → checked a o (value_of o settings) ≡ Err cause
-unfolding checked judged
-fault-checked a o settings cause (inl h) = rw (h.1, h.2, h.3) refl
-fault-checked a o settings cause (inr (inl h)) = rw (h.1, h.2, h.3) refl
-fault-checked a o settings cause (inr (inr h)) = rw (h.2, h.4) (judged-bad (standing a o) h.0 a o h.1 h.3)
+-- two options with one value
 
--- the options are tested in turn
+twice-named : (w v : Option (List ℕ)) → are_one w v ≡ true → (x : List ℕ) × (w ≡ Some x) × (v ≡ Some x)
+unfolding are_one
+twice-named (Some w) (Some v) h = (w, refl, ap (λ (x : List ℕ). Some x) (sym ((bytes_eq-Decides w v).0 h)))
+twice-named (Some w) None h = absurd (cc)
+twice-named None v h = absurd (cc)
+
+named-twice : (w v : Option (List ℕ)) (x : List ℕ) → w ≡ Some x → v ≡ Some x → are_one w v ≡ true
+unfolding are_one
+named-twice w v x p q = rw (p, q) ((bytes_eq-Decides x x).1 refl)
+
+apart-err : (o : OptionName) (b : Bool) (cause : UsageCause) → cond b (Err (BadValue o)) (Ok (tt {0})) ≡ Err cause → (b ≡ true) × (cause ≡ BadValue o)
+apart-err o true cause h =
+    let same : cause ≡ BadValue o = cc in
+    (refl, same)
+apart-err o false cause h = absurd (cc)
+
+same-apart : (o p : OptionName) (settings : List Setting) → IsNamedAs settings o p → named_apart o p (values_in settings) ≡ Err (BadValue o)
+unfolding named_apart
+same-apart o p settings twice =
+    ap (λ b. cond b (Err (BadValue o)) (Ok (tt {0}))) (named-twice (value_of o settings) (value_of p settings) twice.0 twice.1 twice.2)
+
+apart-same : (o p : OptionName) (settings : List Setting) (cause : UsageCause) → named_apart o p (values_in settings) ≡ Err cause → IsNamedAs settings o p × (cause ≡ BadValue o)
+unfolding named_apart
+apart-same o p settings cause h =
+    let e = apart-err o (are_one (value_of o settings) (value_of p settings)) cause h in
+    (twice-named (value_of o settings) (value_of p settings) e.0, e.1)
+
+-- only one algorithm has an output
+
+asked-output : (a : Algorithm) (w : List ℕ) → judged (standing a option.Output) a option.Output (Some w) ≡ Ok (tt {0}) → standing a option.Output ≡ Required form.Any
+unfolding standing judged
+asked-output algorithm.Repetition w h = absurd (cc)
+asked-output algorithm.Throughput w h = absurd (cc)
+asked-output algorithm.Storage w h = absurd (cc)
+asked-output algorithm.Scenario w h = absurd (cc)
+asked-output algorithm.Check w h = absurd (cc)
+asked-output algorithm.Generate w h = absurd (cc)
+asked-output algorithm.Convert w h = refl
+
+output-fault : (a : Algorithm) (o : OptionName) (settings : List Setting) (cause : UsageCause)
+    → judged (standing a o) a o (value_of o settings) ≡ Ok (tt {0}) → output_apart o (values_in settings) ≡ Err cause → IsFault a settings o cause
+unfolding output_apart
+output-fault a option.Output settings cause ok h =
+    let same = apart-same option.Output option.Certificate settings cause h in
+    let st = asked-output a same.0.0 (subst (λ v. judged (standing a option.Output) a option.Output v ≡ Ok (tt {0})) same.0.1 ok) in
+    inr (inr (inr (st, refl, same.0, same.1)))
+output-fault a option.Algo settings cause ok h = absurd (cc)
+output-fault a option.Graph settings cause ok h = absurd (cc)
+output-fault a option.Certificate settings cause ok h = absurd (cc)
+output-fault a option.Buffers settings cause ok h = absurd (cc)
+output-fault a option.States settings cause ok h = absurd (cc)
+output-fault a option.Distributions settings cause ok h = absurd (cc)
+output-fault a option.Limit settings cause ok h = absurd (cc)
+output-fault a option.Seed settings cause ok h = absurd (cc)
+output-fault a option.Actors settings cause ok h = absurd (cc)
+output-fault a option.NoOverlap settings cause ok h = absurd (cc)
+
+named-output : (a : Algorithm) (settings : List Setting) → standing a option.Output ≡ Required form.Any → IsNamedAs settings option.Output option.Certificate
+    → checked a option.Output (values_in settings) ≡ Err (BadValue option.Output)
+unfolding checked judged output_apart fits
+named-output a settings st twice =
+    let ok : judged (standing a option.Output) a option.Output (value_of option.Output settings) ≡ Ok (tt {0}) = rw (st, twice.1) refl in
+    ap (λ r. r >>= λ _. output_apart option.Output (values_in settings)) ok ∙ same-apart option.Output option.Certificate settings twice
 
 outcome : {A : Type 0} (r : Result A UsageCause) → ((x : A) × (r ≡ Ok x)) ⊎ ((cause : UsageCause) × (r ≡ Err cause))
 outcome (Ok x) = inl (x, refl)
 outcome (Err cause) = inr (cause, refl)
 
-fit-checked : (a : Algorithm) (o : OptionName) (settings : List Setting) → ((cause : UsageCause) → IsFault a settings o cause → ⊥) → checked a o (value_of o settings) ≡ Ok (tt {0})
-fit-checked a o settings fit = elim (outcome (checked a o (value_of o settings))) [
+checked-fault : (a : Algorithm) (o : OptionName) (settings : List Setting) (cause : UsageCause) → checked a o (values_in settings) ≡ Err cause → IsFault a settings o cause
+unfolding checked
+checked-fault a o settings cause h = elim (outcome (judged (standing a o) a o (value_of o settings))) [
+  | inl e ↦ output-fault a o settings cause e.1 (sym (ap (λ r. r >>= λ _. output_apart o (values_in settings)) e.1) ∙ h)
+  | inr e ↦
+      let same : Err e.0 ≡ Err cause = sym (ap (λ r. r >>= λ _. output_apart o (values_in settings)) e.1) ∙ h in
+      let is : e.0 ≡ cause = cc (same) in
+      judged-fault (standing a o) (value_of o settings) a o settings cause refl refl (e.1 ∙ ap (λ c. Err c) is)
+]
+
+fault-checked : (a : Algorithm) (o : OptionName) (settings : List Setting) (cause : UsageCause) → IsFault a settings o cause → checked a o (values_in settings) ≡ Err cause
+unfolding checked judged
+fault-checked a o settings cause (inl h) = rw (h.1, h.2, h.3) refl
+fault-checked a o settings cause (inr (inl h)) = rw (h.1, h.2, h.3) refl
+fault-checked a o settings cause (inr (inr (inl h))) =
+    rw (h.2, h.4) (ap (λ r. r >>= λ _. output_apart o (values_in settings)) (judged-bad (standing a o) h.0 a o h.1 h.3))
+fault-checked a o settings cause (inr (inr (inr h))) =
+    rw h.3 (subst (λ p. standing a p ≡ Required form.Any → checked a p (values_in settings) ≡ Err (BadValue p)) (sym h.1) (λ st. named-output a settings st h.2) h.0)
+
+-- the options are tested in turn
+
+fit-checked : (a : Algorithm) (o : OptionName) (settings : List Setting) → ((cause : UsageCause) → IsFault a settings o cause → ⊥) → checked a o (values_in settings) ≡ Ok (tt {0})
+fit-checked a o settings fit = elim (outcome (checked a o (values_in settings))) [
   | inl e ↦ e.1
   | inr e ↦ absurd (fit e.0 (checked-fault a o settings e.0 e.1))
 ]
@@ -94,14 +170,14 @@ fit-all : (a : Algorithm) (settings : List Setting) (os : List OptionName) (u : 
 unfolding all_checked
 fit-all a settings [] u h = tt
 fit-all a settings (o ∷ os) u h =
-    let one = bind-ok (checked a o (value_of o settings)) (λ _. all_checked a (values_in settings) os) u h in
+    let one = bind-ok (checked a o (values_in settings)) (λ _. all_checked a (values_in settings) os) u h in
     let fit : (cause : UsageCause) → IsFault a settings o cause → ⊥ = λ cause f. cc (one.1, fault-checked a o settings cause f) in
     (fit, fit-all a settings os u one.2)
 
 first-fault : (a : Algorithm) (settings : List Setting) (os : List OptionName) (cause : UsageCause) → all_checked a (values_in settings) os ≡ Err cause → IsFirstFault a settings os cause
 unfolding all_checked
 first-fault a settings [] cause h = absurd (cc)
-first-fault a settings (o ∷ os) cause h = elim (outcome (checked a o (value_of o settings))) [
+first-fault a settings (o ∷ os) cause h = elim (outcome (checked a o (values_in settings))) [
   | inl e ↦
       let later : all_checked a (values_in settings) os ≡ Err cause = sym (ap (λ r. r >>= λ _. all_checked a (values_in settings) os) e.1) ∙ h in
       let f = first-fault a settings os cause later in
@@ -128,7 +204,9 @@ named-word algorithm.Repetition = refl
 named-word algorithm.Throughput = refl
 named-word algorithm.Storage = refl
 named-word algorithm.Scenario = refl
+named-word algorithm.Check = refl
 named-word algorithm.Generate = refl
+named-word algorithm.Convert = refl
 
 found-first : (b : Bool) (x a : Algorithm) (w : List ℕ) (r : Option Algorithm) → bytes_eq (algorithm_word x) w ≡ b → cond b (Some x) r ≡ Some a → (w ≡ algorithm_word a) ⊎ (r ≡ Some a)
 found-first true x a w r e h =
@@ -256,64 +334,51 @@ settings-only words = only-then (with_words _ words) finished (words-only words 
 
 -- the options, and then the name of the certificate
 
-twice-named : (w v : Option (List ℕ)) → are_one w v ≡ true → (x : List ℕ) × (w ≡ Some x) × (v ≡ Some x)
-unfolding are_one
-twice-named (Some w) (Some v) h = (w, refl, ap (λ (x : List ℕ). Some x) (sym ((bytes_eq-Decides w v).0 h)))
-twice-named (Some w) None h = absurd (cc)
-twice-named None v h = absurd (cc)
+certificate-ok : (a : Algorithm) (settings : List Setting) → (IsNamedTwice a settings → ⊥) → certificate_apart a (values_in settings) ≡ Ok (tt {0})
+unfolding certificate_apart named_apart
+certificate-ok a settings apart = of (puts_certificate a) refl (are_one (value_of option.Certificate settings) (value_of option.Graph settings)) refl
+  where
+    of : (b : Bool) → puts_certificate a ≡ b → (same : Bool) → are_one (value_of option.Certificate settings) (value_of option.Graph settings) ≡ same
+        → cond b (cond same (Err (BadValue option.Certificate)) (Ok (tt {0}))) (Ok (tt {0})) ≡ Ok (tt {0})
+    of true p true q = absurd (apart (p, twice-named (value_of option.Certificate settings) (value_of option.Graph settings) q))
+    of true p false q = refl
+    of false p same q = refl
 
-named-twice : (w v : Option (List ℕ)) (x : List ℕ) → w ≡ Some x → v ≡ Some x → are_one w v ≡ true
-unfolding are_one
-named-twice w v x p q = rw (p, q) ((bytes_eq-Decides x x).1 refl)
+certificate-err : (a : Algorithm) (settings : List Setting) (cause : UsageCause) → certificate_apart a (values_in settings) ≡ Err cause
+    → IsNamedTwice a settings × (cause ≡ BadValue option.Certificate)
+unfolding certificate_apart
+certificate-err a settings cause h = of (puts_certificate a) refl h
+  where
+    of : (b : Bool) → puts_certificate a ≡ b → cond b (named_apart option.Certificate option.Graph (values_in settings)) (Ok (tt {0})) ≡ Err cause
+        → IsNamedTwice a settings × (cause ≡ BadValue option.Certificate)
+    of true p e = let same = apart-same option.Certificate option.Graph settings cause e in ((p, same.0), same.1)
+    of false p e = absurd (cc)
 
-apart-or : (b : Bool) → b ≡ true ⊎ (cond b (Err (BadValue option.Certificate)) (Ok (tt {0})) ≡ Ok (tt {0}))
-apart-or true = inl refl
-apart-or false = inr refl
+twice-certificate : (a : Algorithm) (settings : List Setting) → IsNamedTwice a settings → certificate_apart a (values_in settings) ≡ Err (BadValue option.Certificate)
+unfolding certificate_apart
+twice-certificate a settings twice =
+    ap (λ b. cond b (named_apart option.Certificate option.Graph (values_in settings)) (Ok (tt {0}))) twice.0 ∙ same-apart option.Certificate option.Graph settings twice.1
 
-apart-err : (b : Bool) (cause : UsageCause) → cond b (Err (BadValue option.Certificate)) (Ok (tt {0})) ≡ Err cause → (b ≡ true) × (cause ≡ BadValue option.Certificate)
-apart-err true cause h =
-    let same : cause ≡ BadValue option.Certificate = cc in
-    (refl, same)
-apart-err false cause h = absurd (cc)
-
-named-apart : (settings : List Setting) → (IsNamedTwice settings → ⊥) → named_apart (values_in settings) ≡ Ok (tt {0})
-unfolding named_apart
-named-apart settings apart = elim (apart-or (are_one (value_of option.Certificate settings) (value_of option.Graph settings))) [
-  | inl h ↦ absurd (apart (twice-named (value_of option.Certificate settings) (value_of option.Graph settings) h))
-  | inr h ↦ h
-]
-
-apart-named : (settings : List Setting) (cause : UsageCause) → named_apart (values_in settings) ≡ Err cause → IsNamedTwice settings × (cause ≡ BadValue option.Certificate)
-unfolding named_apart
-apart-named settings cause h =
-    let e = apart-err (are_one (value_of option.Certificate settings) (value_of option.Graph settings)) cause h in
-    (twice-named (value_of option.Certificate settings) (value_of option.Graph settings) e.0, e.1)
-
-twice-apart : (settings : List Setting) → IsNamedTwice settings → named_apart (values_in settings) ≡ Err (BadValue option.Certificate)
-unfolding named_apart
-twice-apart settings twice =
-    ap (λ b. cond b (Err (BadValue option.Certificate)) (Ok (tt {0}))) (named-twice (value_of option.Certificate settings) (value_of option.Graph settings) twice.0 twice.1 twice.2)
-
-tested-ok : (a : Algorithm) (settings : List Setting) (u : Unit {0}) → tested a (values_in settings) ≡ Ok u → AllFit a settings options × (IsNamedTwice settings → ⊥)
+tested-ok : (a : Algorithm) (settings : List Setting) (u : Unit {0}) → tested a (values_in settings) ≡ Ok u → AllFit a settings options × (IsNamedTwice a settings → ⊥)
 unfolding tested
 tested-ok a settings u h =
-    let one = bind-ok (all_checked a (values_in settings) options) (λ _. named_apart (values_in settings)) u h in
-    let apart : IsNamedTwice settings → ⊥ = λ twice. cc (one.1, twice-apart settings twice) in
+    let one = bind-ok (all_checked a (values_in settings) options) (λ _. certificate_apart a (values_in settings)) u h in
+    let apart : IsNamedTwice a settings → ⊥ = λ twice. cc (one.1, twice-certificate a settings twice) in
     (fit-all a settings options one.0 one.1, apart)
 
-ok-tested : (a : Algorithm) (settings : List Setting) → AllFit a settings options → (IsNamedTwice settings → ⊥) → tested a (values_in settings) ≡ Ok (tt {0})
+ok-tested : (a : Algorithm) (settings : List Setting) → AllFit a settings options → (IsNamedTwice a settings → ⊥) → tested a (values_in settings) ≡ Ok (tt {0})
 unfolding tested
-ok-tested a settings fit apart = ap (λ r. r >>= λ _. named_apart (values_in settings)) (all-fit a settings options fit) ∙ named-apart settings apart
+ok-tested a settings fit apart = ap (λ r. r >>= λ _. certificate_apart a (values_in settings)) (all-fit a settings options fit) ∙ certificate-ok a settings apart
 
 tested-err : (a : Algorithm) (settings : List Setting) (cause : UsageCause) → tested a (values_in settings) ≡ Err cause → IsWrong a settings cause
 unfolding tested
 tested-err a settings cause h = elim (outcome (all_checked a (values_in settings) options)) [
   | inl e ↦
-      let later : named_apart (values_in settings) ≡ Err cause = sym (ap (λ r. r >>= λ _. named_apart (values_in settings)) e.1) ∙ h in
-      let twice = apart-named settings cause later in
+      let later : certificate_apart a (values_in settings) ≡ Err cause = sym (ap (λ r. r >>= λ _. certificate_apart a (values_in settings)) e.1) ∙ h in
+      let twice = certificate-err a settings cause later in
       inr (fit-all a settings options e.0 e.1, twice.0, twice.1)
   | inr e ↦
-      let same : Err e.0 ≡ Err cause = sym (ap (λ r. r >>= λ _. named_apart (values_in settings)) e.1) ∙ h in
+      let same : Err e.0 ≡ Err cause = sym (ap (λ r. r >>= λ _. certificate_apart a (values_in settings)) e.1) ∙ h in
       let is : all_checked a (values_in settings) options ≡ Err cause = cc (e.1, same) in
       inl (first-fault a settings options cause is)
 ]
@@ -322,14 +387,14 @@ err-tested : (a : Algorithm) (settings : List Setting) (cause : UsageCause) → 
 unfolding tested
 err-tested a settings cause (inl f) =
     let fault : all_checked a (values_in settings) options ≡ Err cause = ap (all_checked a (values_in settings)) f.3 ∙ fault-first a settings f.0 f.1 f.2 cause f.4 f.5 in
-    ap (λ r. r >>= λ _. named_apart (values_in settings)) fault
+    ap (λ r. r >>= λ _. certificate_apart a (values_in settings)) fault
 err-tested a settings cause (inr h) =
-    ap (λ r. r >>= λ _. named_apart (values_in settings)) (all-fit a settings options h.0) ∙ (twice-apart settings h.1 ∙ ap (λ c. Err c) (sym h.2))
+    ap (λ r. r >>= λ _. certificate_apart a (values_in settings)) (all-fit a settings options h.0) ∙ (twice-certificate a settings h.1 ∙ ap (λ c. Err c) (sym h.2))
 
 -- the answers
 
 request-ok : (settings : List Setting) (r : Request) → request_from (values_in settings) ≡ Ok r
-    → (a : Algorithm) × (value_of option.Algo settings ≡ Some (algorithm_word a)) × AllFit a settings options × (IsNamedTwice settings → ⊥) × (r ≡ request_for a (values_in settings))
+    → (a : Algorithm) × (value_of option.Algo settings ≡ Some (algorithm_word a)) × AllFit a settings options × (IsNamedTwice a settings → ⊥) × (r ≡ request_for a (values_in settings))
 unfolding request_from
 request-ok settings r h =
     let one = bind-ok (algorithm_of (values_in settings)) (λ a. tested a (values_in settings) >>= λ _. Ok (request_for a (values_in settings))) r h in
@@ -338,7 +403,7 @@ request-ok settings r h =
     let fit = tested-ok one.0 settings two.0 two.1 in
     (one.0, algorithm-ok settings one.0 one.1, fit.0, fit.1, same)
 
-request-asked : (settings : List Setting) (a : Algorithm) → value_of option.Algo settings ≡ Some (algorithm_word a) → AllFit a settings options → (IsNamedTwice settings → ⊥) → request_from (values_in settings) ≡ Ok (request_for a (values_in settings))
+request-asked : (settings : List Setting) (a : Algorithm) → value_of option.Algo settings ≡ Some (algorithm_word a) → AllFit a settings options → (IsNamedTwice a settings → ⊥) → request_from (values_in settings) ≡ Ok (request_for a (values_in settings))
 unfolding request_from
 request-asked settings a h fit apart =
     ap (λ r. r >>= λ b. tested b (values_in settings) >>= λ _. Ok (request_for b (values_in settings))) (algorithm-named settings a h)
@@ -419,7 +484,8 @@ nothing_asked words cause (inr h) = ap (λ s. s >>= λ given. request_from (valu
 fault-other : (a : Algorithm) (settings : List Setting) (o : OptionName) → IsFault a settings o Words → ⊥
 fault-other a settings o (inl h) = cc (h.3)
 fault-other a settings o (inr (inl h)) = cc (h.3)
-fault-other a settings o (inr (inr h)) = cc (h.4)
+fault-other a settings o (inr (inr (inl h))) = cc (h.4)
+fault-other a settings o (inr (inr (inr h))) = cc (h.3)
 
 wrong-other : (a : Algorithm) (settings : List Setting) → IsWrong a settings Words → ⊥
 wrong-other a settings (inl f) = fault-other a settings f.1 f.5

@@ -132,4 +132,6 @@ request-within algorithm.Repetition values = tt
 request-within algorithm.Throughput values = (capacities-small values, states-given values)
 request-within algorithm.Storage values = limits-given values
 request-within algorithm.Scenario values = tt
+request-within algorithm.Check values = tt
 request-within algorithm.Generate values = (limit-given values, actors-given values)
+request-within algorithm.Convert values = tt

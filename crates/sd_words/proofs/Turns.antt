@@ -38,18 +38,18 @@ unfolding with_words
 with_words-end p ws i past = ap (with_words p) (drop_all i ws past)
 
 pub all_checked-at : (a : Algorithm) (values : Values) (os : List OptionName) (i : ℕ) (d : OptionName)
-    → i < length os → all_checked a values (drop i os) ≡ (checked a (get_or os i d) (values (get_or os i d)) >>= λ _. all_checked a values (drop (i + 1) os))
+    → i < length os → all_checked a values (drop i os) ≡ (checked a (get_or os i d) values >>= λ _. all_checked a values (drop (i + 1) os))
 unfolding all_checked
 all_checked-at a values os i d lt =
     let first : drop i os ≡ get_or os i d ∷ drop (i + 1) os = rw add-one (drop-cons os i d lt) in
     ap (all_checked a values) first
 
 pub all_checked-fails : (a : Algorithm) (values : Values) (os : List OptionName) (i : ℕ) (d : OptionName) (cause : UsageCause)
-    → i < length os → checked a (get_or os i d) (values (get_or os i d)) ≡ Err cause → all_checked a values (drop i os) ≡ Err cause
+    → i < length os → checked a (get_or os i d) values ≡ Err cause → all_checked a values (drop i os) ≡ Err cause
 all_checked-fails a values os i d cause lt e = all_checked-at a values os i d lt ∙ ap (λ r. r >>= λ _. all_checked a values (drop (i + 1) os)) e
 
 pub all_checked-goes : (a : Algorithm) (values : Values) (os : List OptionName) (i : ℕ) (d : OptionName)
-    → i < length os → checked a (get_or os i d) (values (get_or os i d)) ≡ Ok tt → all_checked a values (drop (i + 1) os) ≡ all_checked a values (drop i os)
+    → i < length os → checked a (get_or os i d) values ≡ Ok tt → all_checked a values (drop (i + 1) os) ≡ all_checked a values (drop i os)
 all_checked-goes a values os i d lt e = sym (all_checked-at a values os i d lt ∙ ap (λ r. r >>= λ _. all_checked a values (drop (i + 1) os)) e)
 
 pub all_checked-end : (a : Algorithm) (values : Values) (os : List OptionName) (i : ℕ) → length os ≤ i → all_checked a values (drop i os) ≡ Ok tt

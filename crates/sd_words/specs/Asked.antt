@@ -56,7 +56,7 @@ algorithm_of values = algorithm_in (values option.Algo)
 
 -- the options beside `--algo`, in the order in which they are tested
 abbrev pub options : List OptionName
-options = option.Graph ∷ option.Certificate ∷ option.Buffers ∷ option.States ∷ option.Distributions ∷ option.Limit ∷ option.Seed ∷ option.Actors ∷ option.NoOverlap ∷ []
+options = option.Graph ∷ option.Certificate ∷ option.Buffers ∷ option.States ∷ option.Distributions ∷ option.Limit ∷ option.Seed ∷ option.Actors ∷ option.Output ∷ option.NoOverlap ∷ []
 
 -- the table of the algorithms and their options
 unfoldable pub standing : Algorithm → OptionName → Standing
@@ -74,9 +74,13 @@ standing algorithm.Storage option.Limit = Required (form.Number 0 STORAGE)
 standing algorithm.Storage option.NoOverlap = Allowed form.Any
 standing algorithm.Scenario option.Graph = Required form.Any
 standing algorithm.Scenario option.Certificate = Allowed form.Any
+standing algorithm.Check option.Graph = Required form.Any
+standing algorithm.Check option.Certificate = Required form.Any
 standing algorithm.Generate option.Limit = Required (form.Number 0 STORAGE)
 standing algorithm.Generate option.Seed = Required (form.Number 0 SEED)
 standing algorithm.Generate option.Actors = Allowed (form.Number LEAST_ACTORS ACTORS)
+standing algorithm.Convert option.Certificate = Required form.Any
+standing algorithm.Convert option.Output = Required form.Any
 standing a o = Foreign
 
 -- a value is of the form that the table asks
@@ -94,31 +98,45 @@ judged (Allowed form) a o (Some value) = if fits form value then Ok tt else Err 
 judged Foreign a o None = Ok tt
 judged Foreign a o (Some value) = Err (NotFor o a)
 
--- the same, by the table
-unfoldable pub checked : Algorithm → OptionName → Option (List ℕ) → Result (Unit {0}) UsageCause
-checked a o value = judged (standing a o) a o value
-
--- the same of each of these options in turn
-unfoldable pub all_checked : Algorithm → Values → List OptionName → Result (Unit {0}) UsageCause
-all_checked a values [] = Ok tt
-all_checked a values (o ∷ os) = checked a o (values o) >>= λ _. all_checked a values os
-
 -- both are there, and the same
 unfoldable pub are_one : Option (List ℕ) → Option (List ℕ) → Bool
 are_one (Some w) (Some v) = bytes_eq w v
 are_one w v = false
 
--- a certificate that is put has another name than the graph
-unfoldable pub named_apart : Values → Result (Unit {0}) UsageCause
-named_apart values = if are_one (values option.Certificate) (values option.Graph) then Err (BadValue option.Certificate) else Ok tt
+-- an option has another value than another one
+unfoldable pub named_apart : OptionName → OptionName → Values → Result (Unit {0}) UsageCause
+named_apart o p values = if are_one (values o) (values p) then Err (BadValue o) else Ok tt
+
+-- what is put as the output has another name than the certificate that is read
+unfoldable pub output_apart : OptionName → Values → Result (Unit {0}) UsageCause
+output_apart option.Output values = named_apart option.Output option.Certificate values
+output_apart o values = Ok tt
+
+-- an option is as the table asks
+unfoldable pub checked : Algorithm → OptionName → Values → Result (Unit {0}) UsageCause
+checked a o values = judged (standing a o) a o (values o) >>= λ _. output_apart o values
+
+-- the same of each of these options in turn
+unfoldable pub all_checked : Algorithm → Values → List OptionName → Result (Unit {0}) UsageCause
+all_checked a values [] = Ok tt
+all_checked a values (o ∷ os) = checked a o values >>= λ _. all_checked a values os
+
+-- a certificate is put, where one is given
+unfoldable pub puts_certificate : Algorithm → Bool
+puts_certificate algorithm.Check = false
+puts_certificate a = true
+
+-- then it has another name than the graph
+unfoldable pub certificate_apart : Algorithm → Values → Result (Unit {0}) UsageCause
+certificate_apart a values = if puts_certificate a then named_apart option.Certificate option.Graph values else Ok tt
 
 -- the options beside `--algo` are as the algorithm asks
 unfoldable pub tested : Algorithm → Values → Result (Unit {0}) UsageCause
-tested a values = all_checked a values options >>= λ _. named_apart values
+tested a values = all_checked a values options >>= λ _. certificate_apart a values
 
--- the name of the graph file
-abbrev pub graph_of : Values → List ℕ
-graph_of values = unwrap_or (values option.Graph) []
+-- the name of a file: a required option
+abbrev pub name_in : OptionName → Values → List ℕ
+name_in o values = unwrap_or (values o) []
 
 -- the name under which a certificate is put
 abbrev pub certificate_of : Values → Option (List ℕ)
@@ -157,11 +175,13 @@ actors_of values = number_of option.Actors LEAST_ACTORS ACTORS USUAL_ACTORS valu
 
 -- the request of values that are as the algorithm asks
 unfoldable pub request_for : Algorithm → Values → Request
-request_for algorithm.Repetition values = request.Repetition (graph_of values)
-request_for algorithm.Throughput values = request.Throughput (graph_of values) (capacities_of values) (is_some (values option.NoOverlap)) (states_of values) (certificate_of values)
-request_for algorithm.Storage values = request.Storage (graph_of values) (limits_of values) (is_some (values option.NoOverlap)) (certificate_of values)
-request_for algorithm.Scenario values = request.Scenario (graph_of values) (certificate_of values)
+request_for algorithm.Repetition values = request.Repetition (name_in option.Graph values)
+request_for algorithm.Throughput values = request.Throughput (name_in option.Graph values) (capacities_of values) (is_some (values option.NoOverlap)) (states_of values) (certificate_of values)
+request_for algorithm.Storage values = request.Storage (name_in option.Graph values) (limits_of values) (is_some (values option.NoOverlap)) (certificate_of values)
+request_for algorithm.Scenario values = request.Scenario (name_in option.Graph values) (certificate_of values)
+request_for algorithm.Check values = request.Check (name_in option.Graph values) (name_in option.Certificate values)
 request_for algorithm.Generate values = request.Generate (seed_of values) (limit_of values) (actors_of values)
+request_for algorithm.Convert values = request.Convert (name_in option.Certificate values) (name_in option.Output values)
 
 -- a number of states is within its range
 abbrev pub AreStates : ℕ → Type 0
@@ -183,7 +203,9 @@ IsWithinLimits (request.Repetition graph) = Unit {0}
 IsWithinLimits (request.Throughput graph buffers no_overlap states certificate) = All (λ (b : Buffer). b.1 ≤ CAPACITY) buffers × AreStates states
 IsWithinLimits (request.Storage graph limits no_overlap certificate) = AreLimits limits
 IsWithinLimits (request.Scenario graph certificate) = Unit {0}
+IsWithinLimits (request.Check graph certificate) = Unit {0}
 IsWithinLimits (request.Generate seed limit actors) = (limit ≤ STORAGE) × AreMadeActors actors
+IsWithinLimits (request.Convert certificate output) = Unit {0}
 
 -- what values ask for
 unfoldable pub request_from : Values → Result Request UsageCause

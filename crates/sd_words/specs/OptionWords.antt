@@ -18,11 +18,12 @@ option_word option.Distributions = codes "distributions"
 option_word option.Limit = codes "limit"
 option_word option.Seed = codes "seed"
 option_word option.Actors = codes "actors"
+option_word option.Output = codes "output"
 option_word option.NoOverlap = codes "no-overlap"
 
 -- the options that have a value
 abbrev pub valued_options : List OptionName
-valued_options = option.Algo ∷ option.Graph ∷ option.Certificate ∷ option.Buffers ∷ option.States ∷ option.Distributions ∷ option.Limit ∷ option.Seed ∷ option.Actors ∷ []
+valued_options = option.Algo ∷ option.Graph ∷ option.Certificate ∷ option.Buffers ∷ option.States ∷ option.Distributions ∷ option.Limit ∷ option.Seed ∷ option.Actors ∷ option.Output ∷ []
 
 -- an option that has a value is named so
 unfoldable pub names_value : List ℕ → Bool
@@ -38,11 +39,13 @@ algorithm_word algorithm.Repetition = codes "repetition"
 algorithm_word algorithm.Throughput = codes "throughput"
 algorithm_word algorithm.Storage = codes "storage"
 algorithm_word algorithm.Scenario = codes "scenario"
+algorithm_word algorithm.Check = codes "check"
 algorithm_word algorithm.Generate = codes "generate"
+algorithm_word algorithm.Convert = codes "convert"
 
 -- the algorithms
 abbrev pub algorithms : List Algorithm
-algorithms = algorithm.Repetition ∷ algorithm.Throughput ∷ algorithm.Storage ∷ algorithm.Scenario ∷ algorithm.Generate ∷ []
+algorithms = algorithm.Repetition ∷ algorithm.Throughput ∷ algorithm.Storage ∷ algorithm.Scenario ∷ algorithm.Check ∷ algorithm.Generate ∷ algorithm.Convert ∷ []
 
 -- the algorithm of a word
 unfoldable pub algorithm_named : List ℕ → Option Algorithm

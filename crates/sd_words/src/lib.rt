@@ -24,7 +24,7 @@ use spelling::test_spelling;
 use std::alloc::Global;
 
 /// Reads the words after the program's name: they are tested for their spelling, and then `clap` reads the values.
-/// Cost: linear in the bytes of at most the first 20 words, since no list of more than 19 is well spelled.
+/// Cost: linear in the bytes of at most the first 22 words, since no list of more than 21 is well spelled.
 #[tactic(auto, unfolding(crate::specs::Asked::request_of, crate::specs::Asked::request_from))]
 pub fn parse_words(alloc: Global, words: &[Text]) -> Result<Request, WordsError>
     ensures request { MatchResult result (λ r. request_of words.now ≡ Ok r) (λ e. Fails e (request_of words.now)) }

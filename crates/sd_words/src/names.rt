@@ -16,11 +16,12 @@ pub enum OptionName {
     Limit,
     Seed,
     Actors,
+    Output,
     NoOverlap,
 }
 
 /// The options that have a value.
-pub(crate) const WITH_VALUE: [OptionName; 9] = [
+pub(crate) const WITH_VALUE: [OptionName; 10] = [
     OptionName::Algo,
     OptionName::Graph,
     OptionName::Certificate,
@@ -30,6 +31,7 @@ pub(crate) const WITH_VALUE: [OptionName; 9] = [
     OptionName::Limit,
     OptionName::Seed,
     OptionName::Actors,
+    OptionName::Output,
 ];
 
 impl OptionName {
@@ -48,6 +50,7 @@ impl OptionName {
             OptionName::Limit => "limit",
             OptionName::Seed => "seed",
             OptionName::Actors => "actors",
+            OptionName::Output => "output",
             OptionName::NoOverlap => "no-overlap",
         }
     }
@@ -76,15 +79,19 @@ pub enum Algorithm {
     Throughput,
     Storage,
     Scenario,
+    Check,
     Generate,
+    Convert,
 }
 
-const ALGORITHMS: [Algorithm; 5] = [
+const ALGORITHMS: [Algorithm; 7] = [
     Algorithm::Repetition,
     Algorithm::Throughput,
     Algorithm::Storage,
     Algorithm::Scenario,
+    Algorithm::Check,
     Algorithm::Generate,
+    Algorithm::Convert,
 ];
 
 impl Algorithm {
@@ -98,7 +105,9 @@ impl Algorithm {
             Algorithm::Throughput => "throughput",
             Algorithm::Storage => "storage",
             Algorithm::Scenario => "scenario",
+            Algorithm::Check => "check",
             Algorithm::Generate => "generate",
+            Algorithm::Convert => "convert",
         }
     }
 

@@ -39,12 +39,22 @@ pub enum Request {
         /// The name under which what shows the worst rate is put.
         certificate: Option<Text>,
     },
+    /// Whether a certificate is valid for the graph, or for the file of scenarios.
+    Check {
+        graph: Text,
+        certificate: Text,
+    },
     /// The Pareto points, up to a total of `limit`, of the graph that is made from the number `seed`, a chain of so many
     /// actors.
     Generate {
         seed: u64,
         limit: u64,
         actors: u32,
+    },
+    /// The certificate in the version that is written, put under another name.
+    Convert {
+        certificate: Text,
+        output: Text,
     },
 }
 
@@ -57,7 +67,8 @@ pub enum UsageCause {
     Missing { option: OptionName },
     /// An option is there that the algorithm doesn't have.
     NotFor { option: OptionName, algo: Algorithm },
-    /// The value of an option isn't of its form, or not in its range; or the certificate is to have the name of the graph.
+    /// The value of an option isn't of its form, or not in its range; or a file that is put is to have the name of
+    /// one that is read.
     BadValue { option: OptionName },
 }
 

@@ -121,7 +121,7 @@ impl<'a> Reader<'a> {
     }
 }
 
-/// Whether the words are well spelled. Then they have at most ten options, and are at most 19.
+/// Whether the words are well spelled. Then they have at most eleven options, and are at most 21.
 #[tactic(auto, unfolding(crate::specs::Reading::settings_of, crate::specs::Reading::finished))]
 pub(crate) fn test_spelling(alloc: Global, words: &[Text]) -> Result<(), WordsError>
     ensures { IsTested result (settings_of words.now) }

@@ -4,7 +4,7 @@ ghost use Rattle.std.specs.Prelude.{◌≡◌, IfOk, Ok, Err, if◌then◌else�
 ghost use Rattle.sd_words.specs.declared.request.UsageCause.TheVariants.{BadValue};
 ghost use Rattle.sd_words.specs.Forms.{fits};
 ghost use Rattle.std.specs.Option.{option_map};
-ghost use Rattle.sd_words.specs.Asked.{Gives, algorithm_of, all_checked, capacities_of, certificate_of, checked, graph_of, limit_of, limits_of, named_apart, number_of, options, request_for, standing, states_of, tested};
+ghost use Rattle.sd_words.specs.Asked.{Gives, algorithm_of, all_checked, capacities_of, certificate_apart, certificate_of, checked, judged, limit_of, limits_of, name_in, named_apart, number_of, options, output_apart, request_for, standing, states_of, tested};
 ghost use Rattle.sd_words.specs.Given.{values_given};
 
 use crate::buffers::buffers_of;
@@ -20,7 +20,7 @@ use sd_base::{Limits, Rows, Text};
 use std::alloc::{AllocError, Global};
 
 /// The options beside `--algo`, in the order in which they are tested.
-const BESIDE_ALGO: [OptionName; 9] = [
+const BESIDE_ALGO: [OptionName; 10] = [
     OptionName::Graph,
     OptionName::Certificate,
     OptionName::Buffers,
@@ -29,6 +29,7 @@ const BESIDE_ALGO: [OptionName; 9] = [
     OptionName::Limit,
     OptionName::Seed,
     OptionName::Actors,
+    OptionName::Output,
     OptionName::NoOverlap,
 ];
 
@@ -90,10 +91,20 @@ fn standing_of(algo: Algorithm, option: OptionName) -> Standing
             OptionName::Certificate => Standing::Allowed(Form::Any),
             _ => Standing::Foreign,
         },
+        Algorithm::Check => match option {
+            OptionName::Graph => Standing::Required(Form::Any),
+            OptionName::Certificate => Standing::Required(Form::Any),
+            _ => Standing::Foreign,
+        },
         Algorithm::Generate => match option {
             OptionName::Limit => Standing::Required(OF_STORAGE),
             OptionName::Seed => Standing::Required(OF_SEED),
             OptionName::Actors => Standing::Allowed(OF_ACTORS),
+            _ => Standing::Foreign,
+        },
+        Algorithm::Convert => match option {
+            OptionName::Certificate => Standing::Required(Form::Any),
+            OptionName::Output => Standing::Required(Form::Any),
             _ => Standing::Foreign,
         },
     }
@@ -109,14 +120,15 @@ fn check_value(alloc: Global, option: OptionName, form: Form, value: &str) -> Re
     }
 }
 
-#[tactic(auto, unfolding(crate::specs::Asked::checked, crate::specs::Asked::judged))]
-fn check(
+// Whether an option is there or isn't as the algorithm asks, and its value is good.
+#[tactic(auto, unfolding(crate::specs::Asked::judged))]
+fn judge(
     alloc: Global,
     algo: Algorithm,
     option: OptionName,
     value: Option<&str>,
 ) -> Result<(), WordsError>
-    ensures { Gives (λ done. done) result (checked algo option (option_map (λ v. v.now) value.entry)) }
+    ensures { Gives (λ done. done) result (judged (standing algo option) algo option (option_map (λ v. v.now) value.entry)) }
 {
     match (standing_of(algo, option), value) {
         (Standing::Required(_), None) => Err(WordsError::from(UsageCause::Missing { option })),
@@ -126,6 +138,43 @@ fn check(
         }
         (Standing::Allowed(_) | Standing::Foreign, None) => Ok(()),
     }
+}
+
+// Whether two options have values that differ, where both are there.
+#[tactic(auto, unfolding(crate::specs::Asked::are_one, crate::specs::Asked::named_apart))]
+fn check_names(given: &Given<'_>, option: OptionName, other: OptionName) -> Result<(), UsageCause>
+    ensures { result ≡ named_apart option other (values_given given.now) }
+{
+    match (given.value(option), given.value(other)) {
+        (Some(name), Some(taken)) if name == taken => Err(UsageCause::BadValue { option }),
+        _ => Ok(()),
+    }
+}
+
+// Whether what is put as the output has another name than the certificate that is read.
+#[tactic(auto, unfolding(crate::specs::Asked::output_apart))]
+fn check_output(given: &Given<'_>, option: OptionName) -> Result<(), UsageCause>
+    ensures { result ≡ output_apart option (values_given given.now) }
+{
+    match option {
+        OptionName::Output => check_names(given, option, OptionName::Certificate),
+        _ => Ok(()),
+    }
+}
+
+// Whether an option is as the algorithm asks.
+#[tactic(auto, unfolding(crate::specs::Asked::checked))]
+fn check(
+    alloc: Global,
+    algo: Algorithm,
+    option: OptionName,
+    given: &Given<'_>,
+) -> Result<(), WordsError>
+    ensures { Gives (λ done. done) result (checked algo option (values_given given.now)) }
+{
+    judge(alloc, algo, option, given.value(option))?;
+    check_output(given, option)?;
+    Ok(())
 }
 
 /// The algorithm that is asked for.
@@ -148,22 +197,19 @@ fn check_each(alloc: Global, algo: Algorithm, given: &Given<'_>) -> Result<(), W
     ensures { Gives (λ done. done) result (all_checked algo (values_given given.now) options) }
 {
     for option in &BESIDE_ALGO {
-        check(alloc, algo, *option, given.value(*option))?;
+        check(alloc, algo, *option, given)?;
     }
     Ok(())
 }
 
 // Whether a certificate that is put has another name than the graph.
-#[tactic(auto, unfolding(crate::specs::Asked::are_one, crate::specs::Asked::named_apart))]
-fn check_names(given: &Given<'_>) -> Result<(), UsageCause>
-    ensures { result ≡ named_apart (values_given given.now) }
+#[tactic(auto, unfolding(crate::specs::Asked::certificate_apart, crate::specs::Asked::puts_certificate))]
+fn check_certificate(algo: Algorithm, given: &Given<'_>) -> Result<(), UsageCause>
+    ensures { result ≡ certificate_apart algo (values_given given.now) }
 {
-    let option = OptionName::Certificate;
-    match (given.value(option), given.value(OptionName::Graph)) {
-        (Some(certificate), Some(graph)) if certificate == graph => {
-            Err(UsageCause::BadValue { option })
-        }
-        _ => Ok(()),
+    match algo {
+        Algorithm::Check => Ok(()),
+        _ => check_names(given, OptionName::Certificate, OptionName::Graph),
     }
 }
 
@@ -177,7 +223,7 @@ pub(crate) fn check_options(
     ensures { Gives (λ done. done) result (tested algo (values_given given.now)) }
 {
     check_each(alloc, algo, given)?;
-    check_names(given)?;
+    check_certificate(algo, given)?;
     Ok(())
 }
 
@@ -248,10 +294,11 @@ fn capacities_of(alloc: Global, given: &Given<'_>) -> Result<Rows<(Text, u64)>, 
     }
 }
 
-fn graph_of(alloc: Global, given: &Given<'_>) -> Result<Text, AllocError>
-    ensures { IfOk result (λ t. t ≡ graph_of (values_given given.now)) }
+/// The name of a file, which is a required option.
+fn name_in(alloc: Global, given: &Given<'_>, option: OptionName) -> Result<Text, AllocError>
+    ensures { IfOk result (λ t. t ≡ name_in option (values_given given.now)) }
 {
-    let name = given.value(OptionName::Graph).unwrap_or("");
+    let name = given.value(option).unwrap_or("");
     Text::of(alloc, name)
 }
 
@@ -274,7 +321,7 @@ pub(crate) fn request_for(
 ) -> Result<Request, AllocError>
     ensures { IfOk result (λ r. r ≡ request_for algo (values_given given.now)) }
 {
-    let graph = graph_of(alloc, given)?;
+    let graph = name_in(alloc, given, OptionName::Graph)?;
     let no_overlap = given.value(OptionName::NoOverlap).is_some();
     match algo {
         Algorithm::Repetition => Ok(Request::Repetition { graph }),
@@ -295,10 +342,18 @@ pub(crate) fn request_for(
             graph,
             certificate: certificate_of(alloc, given)?,
         }),
+        Algorithm::Check => Ok(Request::Check {
+            graph,
+            certificate: name_in(alloc, given, OptionName::Certificate)?,
+        }),
         Algorithm::Generate => Ok(Request::Generate {
             seed: seed_of(given),
             limit: limit_of(given),
             actors: actors_of(given),
+        }),
+        Algorithm::Convert => Ok(Request::Convert {
+            certificate: name_in(alloc, given, OptionName::Certificate)?,
+            output: name_in(alloc, given, OptionName::Output)?,
         }),
     }
 }

@@ -7,6 +7,7 @@ use Rattle.sd_command.proofs.Complete.{throughput_is_complete}
 use Rattle.sd_command.proofs.CompleteStorage.{storage_is_complete}
 use Rattle.sd_command.proofs.CompleteGenerate.{generate_is_complete}
 use Rattle.sd_command.proofs.ValidPuts.{rates_put_are_valid}
+use Rattle.sd_command.proofs.CompleteCertificates.{check_is_complete, convert_is_complete}
 use Rattle.sd_command.proofs.laws.know_endings.Goals as goal
 
 -- what the calls tell
@@ -62,3 +63,9 @@ returns-clause-generate c = generate_is_complete (laws c)
 
 pub returns-clause-valid : goal.returns-clause-valid
 returns-clause-valid c = rates_put_are_valid (laws c)
+
+pub returns-clause-check : goal.returns-clause-check
+returns-clause-check c = check_is_complete
+
+pub returns-clause-convert : goal.returns-clause-convert
+returns-clause-convert c = convert_is_complete

@@ -1,15 +1,14 @@
-use Rattle.std.proofs.Common.{◌∙◌, ℕ, List, false, ap, refl}
+use Rattle.std.proofs.Common.{◌∙◌, ℕ, List, false, None, ap, refl}
 use Rattle.std.proofs.lemmas.Result.{err_from_is_err_and}
 use Rattle.sd_base.specs.declared.tables.GraphFile.{GraphFile}
 use Rattle.report.specs.AnswerTexts.{repetition_lines}
-use Rattle.sd_command.specs.Courses.{Ending, After, ends_by}
+use Rattle.sd_command.specs.Courses.{Ending, After, ends_by, printing}
 use Rattle.sd_command.specs.Balances.{balancing}
-use Rattle.sd_command.specs.Repetitions.{printing}
 use Rattle.sd_command.proofs.Goings.{step_stops, goes_on, taking_stops, reading_stops, read_goes, print_answers}
 use Rattle.sd_command.proofs.repetition.answer.Goals as goal
 
 abbrev printed : GraphFile → List ℕ → Ending → ℕ → Type 0
-printed graph gamma = ends_by (printing (repetition_lines graph gamma))
+printed graph gamma = ends_by (printing (repetition_lines graph gamma) None)
 
 abbrev rest : GraphFile → Ending → ℕ → Type 0
 rest graph = After (balancing graph) (λ gamma. printed graph gamma)
@@ -34,4 +33,4 @@ pub returns-clause-goes : goal.returns-clause-goes
 returns-clause-goes g c =
     read_goes _ _ false rest c.in_ok-bytes.bytes _ _ _ _ c.in_ok-bytes.ensures.takes c.as_slice.ensures c.in_ok-graph.graph _ c.in_ok-graph.ensures.does
     (goes_on (balancing c.in_ok-graph.graph) (λ gamma. printed c.in_ok-graph.graph gamma) c.in_ok-gamma.gamma _ _ _ _ c.in_ok-gamma.ensures
-    (print_answers _ _ _ (c.in_ok-repetition_text.ensures ∙ ap (λ (v : List ℕ). repetition_lines c.in_ok-graph.graph v) c.as_slice-2.ensures) refl))
+    (print_answers _ _ _ _ (c.in_ok-repetition_text.ensures ∙ ap (λ (v : List ℕ). repetition_lines c.in_ok-graph.graph v) c.as_slice-2.ensures) refl))
