@@ -64,8 +64,9 @@ fn text_of<'a>(blocks: &'a [Block], name: &str) -> Result<&'a [u8]> {
     let (name, part) = name.split_once(' ').unwrap_or((name, "0.."));
     for block in blocks {
         if block.key() == ("text", name) {
-            return part_of(block.content.as_slice(), part)?
-                .ok_or_else(|| anyhow!("the text {name} has fewer bytes"));
+            return part_of(block.content.as_slice(), part)?.ok_or_else(|| anyhow!(
+                "the text {name} has fewer bytes"
+            ));
         }
     }
     Err(anyhow!("no text {name} above"))
