@@ -3,7 +3,7 @@ use Rattle.std.proofs.Common.{◌≡◌, ℕ, zero, suc, ◌≤◌, ◌<◌, ◌
 use Rattle.sd_base.specs.Net.{Net, channel_at}
 use Rattle.sd_base.specs.Connection.{IsConnected, IsWalk, ends_of}
 use Rattle.sd_base.proofs.Connections.{pair-of, walk-append}
-use Rattle.explore.specs.Reachable.{AreTouched}
+use Rattle.storage.specs.TouchedActors.{AreTouched}
 use Rattle.test_explore.specs.Neighbours.{AreJoined, NeighboursAreJoined}
 
 step : (net : Net) (a b : ℕ) → AreJoined net a b → (ks : List ℕ) × IsWalk (ends_of net) a ks b
