@@ -4,7 +4,7 @@ use Rattle.std.specs.Prelude.{slice_index, slice_index_or}
 use Rattle.std.specs.List.{range_with_len}
 use Rattle.std.specs.Bool.{MatchBool, OnTrue}
 use Rattle.std.proofs.lemmas.Bool.{cases_lt, cases_Bool}
-use Rattle.std.proofs.lemmas.List.{get_or-replicate, length-replicate, get_or_past}
+use Rattle.std.proofs.lemmas.List.{get_or-map, get_or-replicate, length-replicate, get_or_past}
 use Rattle.std.proofs.lemmas.List.FromFn.{get_or-map-range_with_len, length-map-range_with_len}
 use Rattle.sd_base.specs.Net.{Net, channel_at, total}
 use Rattle.sd_base.specs.Schedules.{time_of, Needs, Lacks, Schedule, count_of, start_of, Admissible, Earliest, HasInputs}
@@ -18,9 +18,10 @@ use Rattle.sd_base.proofs.Counts.{early_at, able-along, full-along, first-counts
 use Rattle.sd_base.proofs.Ends.{sum_to, sum_to-le}
 use Rattle.sd_base.proofs.Events.{is_event-zero}
 use Rattle.selftimed.specs.declared.actors.ActorState.{ActorState}
-use Rattle.selftimed.specs.inside.Actors.{started_in, ended_in, running_in, touched_in, lacking_in, LacksAt, Stand, Counted, StartedAll, CanOverrun}
+use Rattle.selftimed.specs.inside.Actors.{started_in, ended_in, running_in, touched_in, lacking_in, LacksAt, Stand, Counted, StartedAll, CanOverrun, HaveStarted}
 use Rattle.selftimed.specs.inside.Stands.{IsFresh, Stands, Begins}
-use Rattle.selftimed.specs.Moves.{Overruns}
+use Rattle.selftimed.specs.Moves.{AreStarters, Overruns}
+use Rattle.selftimed.proofs.Starters.{starters-at}
 use Rattle.selftimed.proofs.Starting.{started-le}
 use Rattle.selftimed.proofs.Moving.{fed-from, inputs-from, starts-sum}
 
@@ -184,3 +185,12 @@ fresh-begins net laws most old new tokens left all total_now fresh true started 
   stuck = fresh-stuck net laws most old tokens all fresh new left total_now started stand counted;
 }
 fresh-begins net laws most old new tokens left all total_now fresh false can stand counted = fresh-overruns net laws most old tokens all fresh can
+
+-- who starts then
+pub fresh-starters : (net : Net) (most : ℕ) (old new : List ActorState) (tokens left list : List ℕ) (all total_now : ℕ) (fresh : IsFresh net most old tokens all) (fits : Bool) →
+    MatchBool fits (Begins net most new left total_now) (Overruns net 0 most) → OnTrue fits (HaveStarted net old new list) → OnTrue fits (AreStarters net 0 list)
+unfolding earliest
+fresh-starters net most old new tokens left list all total_now fresh true after started =
+    let none : (a : ℕ) → a < length net.times → count_of (earliest net 0) a ≡ 0 = λ a actor. ap length (get_or-map (λ (row : List ℕ). []) net.times a [] [] actor) in
+    starters-at net 0 old new list (λ a actor. fresh.started a actor ∙ sym (none a actor)) after.stands.counts started
+fresh-starters net most old new tokens left list all total_now fresh false after started = started

@@ -1,6 +1,8 @@
 pub mod Shifts
 pub mod Agendas
 pub mod Batches
+pub mod RateTables
+pub mod Starters
 pub mod Starting
 pub mod Moving
 pub mod Beginning

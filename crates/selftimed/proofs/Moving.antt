@@ -18,9 +18,10 @@ use Rattle.sd_base.proofs.Counts.{Same, Quiet, ended_at, early_at, ended-at-is, 
 use Rattle.sd_base.proofs.Ends.{sum_to, sum_to-le, sum_to-lt}
 use Rattle.sd_base.proofs.Events.{is_event-end, event-tells}
 use Rattle.selftimed.specs.declared.actors.ActorState.{ActorState}
-use Rattle.selftimed.specs.inside.Actors.{started_in, ended_in, running_in, touched_in, lacking_in, LacksAt, IsFirstEnd, IsQuiet, EndsAll, Stand, Counted, StartedAll, CanOverrun}
+use Rattle.selftimed.specs.inside.Actors.{started_in, ended_in, running_in, touched_in, lacking_in, LacksAt, IsFirstEnd, IsQuiet, EndsAll, Stand, Counted, StartedAll, CanOverrun, HaveStarted}
 use Rattle.selftimed.specs.inside.Stands.{Stands}
-use Rattle.selftimed.specs.Moves.{IsNext, Overruns}
+use Rattle.selftimed.specs.Moves.{AreStarters, IsNext, Overruns}
+use Rattle.selftimed.proofs.Starters.{starters-at}
 use Rattle.selftimed.proofs.Starting.{sum_to-all, sum_to-same}
 
 -- ---- inputs
@@ -121,6 +122,10 @@ module _ (net : Net) (laws : Lawful net) (now most : ℕ) (old : List ActorState
 
     same : Same (earliest net (suc now)) (earliest net t)
     same = quiet-until net reg fed now t quiet later
+
+    -- what has started before then
+    pub started-before : (a : ℕ) → a < length net.times → started_in old a ≡ count_of (earliest net t) a
+    started-before a actor = stands.counts a actor ∙ same.counts a
 
     -- the event is there
     event : is_event net t ≡ true
@@ -305,3 +310,11 @@ pub next-move : (net : Net) (laws : Lawful net) (now most t : ℕ) (old mid new 
     MatchBool fits (Stands net t most new left total_now) (Overruns net t most)
 next-move net laws now most t old mid new tokens left all total_now stands first ends true started stand counted = next-stands net laws now most old tokens all stands t first mid ends new left total_now started stand counted
 next-move net laws now most t old mid new tokens left all total_now stands first ends false can stand counted = overruns net laws now most old tokens all stands t first mid ends can
+
+-- who starts then
+pub next-starters : (net : Net) (laws : Lawful net) (now most t : ℕ) (old mid new : List ActorState) (tokens left list : List ℕ) (all total_now : ℕ) (stands : Stands net now most old tokens all) → IsFirstEnd old t → EndsAll net t old mid → (fits : Bool) →
+    MatchBool fits (Stands net t most new left total_now) (Overruns net t most) → OnTrue fits (HaveStarted net mid new list) → OnTrue fits (AreStarters net t list)
+next-starters net laws now most t old mid new tokens left list all total_now stands first ends true after started =
+    let e : t + 1 ≡ suc t = omega arith in
+    starters-at net t mid new list (λ a actor. (ends.each a actor).started ∙ started-before net laws now most old tokens all stands t first a actor) (λ a actor. rw e (after.counts a actor)) started
+next-starters net laws now most t old mid new tokens left list all total_now stands first ends false after started = started

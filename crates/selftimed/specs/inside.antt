@@ -4,3 +4,4 @@ pub mod Queues
 pub mod Starts
 pub mod Stands
 pub mod Plans
+pub mod PortRates

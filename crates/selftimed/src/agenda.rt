@@ -1,4 +1,4 @@
-ghost use Rattle.std.specs.Prelude.{◌≡◌, [], ◌∷◌, ◌++◌, true, if◌then◌else◌, IfOk, OnOk};
+ghost use Rattle.std.specs.Prelude.{◌≡◌, [], ◌∷◌, ◌++◌, true, nat_lt, if◌then◌else◌, IfOk, OnOk};
 ghost use Rattle.std.specs.List.{range_with_len};
 ghost use Rattle.std.specs.BinaryHeap.{IsHeap, heap_items};
 ghost use Rattle.std.proofs.Props.{props};
@@ -17,6 +17,8 @@ pub(crate) struct Agenda {
     pub(crate) ends: BinaryHeap<(Reverse<u64>, u32)>,
     /// The touched actors.
     pub(crate) touched: Vec<u32>,
+    /// The actors of which firings started at the last event.
+    pub(crate) starters: Vec<u32>,
     ghost ordered: { IsHeap later_end (heap_items ends) } by { Prim.hlevel props },
 }
 
@@ -29,6 +31,7 @@ impl Agenda {
         let mut agenda = Agenda {
             ends: BinaryHeap::new(alloc),
             touched: Vec::new(alloc),
+            starters: Vec::new(alloc),
         };
         agenda.refill(actors)?;
         Ok(agenda)
@@ -41,6 +44,7 @@ impl Agenda {
     {
         self.ends.clear();
         self.touched.clear();
+        self.starters.clear();
         for actor in 0..actors {
             self.touched.push(actor)?;
         }
@@ -81,6 +85,7 @@ impl Agenda {
     pub(crate) fn announce(&mut self, actor: u32, state: &ActorState) -> Result<(), AllocError>
         ensures ends { OnOk result (Announces actor state.now.running (heap_items self.old.ends) (heap_items self.new.ends)) }
         ensures touched { self.new.touched ≡ self.old.touched }
+        ensures starters { self.new.starters ≡ self.old.starters }
     {
         if let Some(end) = state.running.first() {
             self.ends.push((Reverse(end), actor))?;
@@ -97,6 +102,18 @@ impl Agenda {
         if !state.touched {
             state.touched = true;
             self.touched.push(actor)?;
+        }
+        Ok(())
+    }
+
+    /// Notes an actor of which so many firings start, if any do.
+    pub(crate) fn note_starts(&mut self, actor: u32, firings: u64) -> Result<(), AllocError>
+        ensures starters { OnOk result (self.new.starters.items ≡ (if nat_lt 0 firings then self.old.starters.items ++ actor ∷ [] else self.old.starters.items)) }
+        ensures touched { self.new.touched ≡ self.old.touched }
+        ensures ends { self.new.ends ≡ self.old.ends }
+    {
+        if firings > 0 {
+            self.starters.push(actor)?;
         }
         Ok(())
     }

@@ -4,9 +4,11 @@ ghost use Rattle.firing.specs.declared.sums.Port.TheVariants.{Made};
 ghost use Rattle.firing.specs.Wiring.{IsListed, PutsTokens};
 ghost use Rattle.selftimed.specs.inside.Actors.{EndsOne, Touches};
 ghost use Rattle.selftimed.specs.inside.Agendas.{Lists};
+ghost use Rattle.selftimed.specs.inside.PortRates.{AreRates};
 
 use crate::actors::{ActorState, ended_by};
 use crate::agenda::Agenda;
+use crate::rates::Rates;
 use crate::tokens::{Tokens, put_all};
 use firing::{Firing, Port, port_phases, port_rate};
 use sd_base::NoMemory;
@@ -14,6 +16,7 @@ use sd_base::NoMemory;
 /// Ends the firings of an actor whose end has come.
 pub(crate) fn end_actor<F: Firing>(
     net: &F,
+    rates: &[Rates],
     outputs: &[u32],
     actor: u32,
     moment: u64,
@@ -21,6 +24,7 @@ pub(crate) fn end_actor<F: Firing>(
     tokens: &mut Tokens,
 )
     requires actor { actor < length (F.net net.now).times }
+    requires rates { AreRates (F.net net.now) rates.now }
     requires listed { IsListed (F.net net.now) Made actor outputs.now }
     requires tokens { length tokens.old ≡ length (F.net net.now).channels }
     requires few { state.old.ended + length state.old.running ≤ 2 ^ 32 }
@@ -32,7 +36,15 @@ pub(crate) fn end_actor<F: Firing>(
     ensures long { length tokens.new ≡ length tokens.old }
 {
     let firings = ended_by(state.running.as_slice(), moment);
-    put_all(net, outputs, tokens, actor, state.ended, firings as u64);
+    put_all(
+        net,
+        rates,
+        outputs,
+        tokens,
+        actor,
+        state.ended,
+        firings as u64,
+    );
     state.running.pop_front(firings);
     state.ended += firings as u64;
 }

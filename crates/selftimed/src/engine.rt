@@ -2,9 +2,10 @@ ghost use Rattle.std.specs.Prelude.{◌≡◌, ◌↔◌, IsTrue, ◌+◌, ◌^�
 ghost use Rattle.sd_base.specs.Schedules.{count_of};
 ghost use Rattle.sd_base.specs.SelfTimed.{earliest, shape_at, starts_by};
 ghost use Rattle.selftimed.specs.inside.Plans.{Plans};
+ghost use Rattle.selftimed.specs.inside.PortRates.{AreRates};
 ghost use Rattle.selftimed.specs.EngineShapes.{form};
 ghost use Rattle.selftimed.specs.Prints.{print_of, running_print_of};
-ghost use Rattle.selftimed.specs.Moves.{AreAlike, IsMove, IsStuck, IsSpent};
+ghost use Rattle.selftimed.specs.Moves.{AreAlike, AreStarters, IsMove, IsStuck, IsSpent};
 ghost use Rattle.firing.specs.declared.sums.Port.TheVariants.{Made, Taken};
 ghost use Rattle.firing.specs.Wiring.{AreListed, IsWiringOf};
 ghost use Rattle.selftimed.specs.declared.engine.Stage.{Stage};
@@ -15,6 +16,7 @@ use crate::actors::{ActorState, new_actors, refresh};
 use crate::agenda::Agenda;
 use crate::compare::{running_print, same_running, same_stands};
 use crate::event::Event;
+use crate::rates::{Rates, rates_of, reset_rates};
 use crate::shape::{
     Shape, phases_of, remaining_of, same_phases, same_remaining, same_tokens, tokens_of,
 };
@@ -60,16 +62,19 @@ pub struct Engine<'a, F: Firing> {
     /// How many firings may start in all.
     pub most: u64,
     wiring: &'a Wiring,
+    rates: Vec<Rates>,
     all: u64,
     actors: Vec<ActorState>,
     tokens: Tokens,
     agenda: Agenda,
     ghost few: { most ≤ 2 ^ 32 },
     ghost wired: { IsWiringOf (F.net net.now) wiring.now },
+    ghost rated: { AreRates (F.net net.now) rates.items },
     ghost inputs: { AreListed (F.net net.now) Taken wiring.now.inputs },
     ghost outputs: { AreListed (F.net net.now) Made wiring.now.outputs },
     ghost fresh: { stage ≡ Stage.Fresh → IsFresh (F.net net.now) most actors.items tokens all },
     ghost waits: { stage ≡ Stage.Fresh → Plans (F.net net.now) actors.items agenda },
+    ghost starters: { stage ≡ Stage.Running → AreStarters (F.net net.now) moment agenda.starters.items },
     ghost goes: { stage ≡ Stage.Running → Plans (F.net net.now) actors.items agenda },
     ghost stands: { stage ≡ Stage.Running → Stands (F.net net.now) moment most actors.items tokens all },
 }
@@ -93,12 +98,14 @@ impl<'a, F: Firing> Engine<'a, F> {
         let actors = new_actors(alloc, net.actors())?;
         let tokens = Tokens::new(alloc, net)?;
         let agenda = Agenda::new(alloc, net.actors())?;
+        let rates = rates_of(alloc, net)?;
         Ok(Engine {
             net,
             stage: Stage::Fresh,
             moment: 0,
             most,
             wiring,
+            rates,
             all: 0,
             actors,
             tokens,
@@ -122,6 +129,7 @@ impl<'a, F: Firing> Engine<'a, F> {
         refresh(alloc, &mut self.actors, net.actors())?;
         self.tokens.refill(net)?;
         self.agenda.refill(net.actors())?;
+        reset_rates(net, self.rates.as_mut_slice());
         self.net = net;
         self.moment = 0;
         self.most = most;
@@ -164,6 +172,7 @@ impl<'a, F: Firing> Engine<'a, F> {
         let event = Event {
             net: self.net,
             wiring: self.wiring,
+            rates: self.rates.as_slice(),
             moment: 0,
             most: self.most,
         };
@@ -201,6 +210,7 @@ impl<'a, F: Firing> Engine<'a, F> {
         let event = Event {
             net: self.net,
             wiring: self.wiring,
+            rates: self.rates.as_slice(),
             moment,
             most: self.most,
         };
@@ -246,6 +256,14 @@ impl<'a, F: Firing> Engine<'a, F> {
         ensures { result ≡ starts_by (F.net self.now.net.now) self.now.moment }
     {
         self.all
+    }
+
+    /// The actors of which firings started at the last event.
+    pub fn starters(&self) -> &[u32]
+        requires { self.now.stage ≡ Stage.Running }
+        ensures { AreStarters (F.net self.now.net.now) self.now.moment result.now }
+    {
+        self.agenda.starters.as_slice()
     }
 
     /// The print of the tokens that stand after the starts of the last event: equal shapes have equal prints.

@@ -3,14 +3,16 @@ ghost use Rattle.std.specs.Prelude.{◌≡◌, ℕ, false, ◌^◌, ◌<◌, ◌
 ghost use Rattle.std.specs.Bool.{OnTrue};
 ghost use Rattle.firing.specs.declared.sums.Port.TheVariants.{Made, Taken};
 ghost use Rattle.firing.specs.Wiring.{AreListed};
-ghost use Rattle.selftimed.specs.inside.Actors.{started_in, ended_in, touched_in, lacking_in, LacksAt, EndsAll, Stand, Counted, StartedAll, CanOverrun, IsFirstEnd};
+ghost use Rattle.selftimed.specs.inside.Actors.{started_in, ended_in, touched_in, lacking_in, LacksAt, EndsAll, Stand, Counted, StartedAll, CanOverrun, HaveStarted, IsFirstEnd};
 ghost use Rattle.selftimed.specs.inside.Plans.{Plans};
+ghost use Rattle.selftimed.specs.inside.PortRates.{AreRates};
 ghost use Rattle.selftimed.specs.inside.Stands.{IsFresh, Stands, Begins};
-ghost use Rattle.selftimed.specs.Moves.{Overruns};
+ghost use Rattle.selftimed.specs.Moves.{AreStarters, Overruns};
 
 use crate::actors::ActorState;
 use crate::agenda::Agenda;
 use crate::ends::{end_actor, touch_targets};
+use crate::rates::Rates;
 use crate::starts::Turn;
 use crate::tokens::Tokens;
 use firing::{Firing, Wiring, know_laws};
@@ -21,9 +23,11 @@ use sd_base::NoMemory;
 pub(crate) struct Event<'a, F: Firing> {
     pub(crate) net: &'a F,
     pub(crate) wiring: &'a Wiring,
+    pub(crate) rates: &'a [Rates],
     pub(crate) moment: u64,
     pub(crate) most: u64,
     ghost few: { most ≤ 2 ^ 32 },
+    ghost rated: { AreRates (F.net net.now) rates.now },
     ghost inputs: { AreListed (F.net net.now) Taken wiring.now.inputs },
     ghost outputs: { AreListed (F.net net.now) Made wiring.now.outputs },
 }
@@ -43,6 +47,7 @@ impl<F: Firing> Event<'_, F> {
         ensures fits { IfOk result (λ fits. MatchBool fits (Begins (F.net self.now.net.now) self.now.most actors.new tokens.new all.new)
             (Overruns (F.net self.now.net.now) 0 self.now.most)) }
         ensures agenda { IfOk result (λ fits. OnTrue fits (Plans (F.net self.now.net.now) actors.new agenda.new)) }
+        ensures starters { IfOk result (λ fits. OnTrue fits (AreStarters (F.net self.now.net.now) self.now.moment agenda.new.starters.items)) }
     {
         know_laws(self.net);
         let fits = self.start_all(all, actors, tokens, agenda)?;
@@ -63,6 +68,7 @@ impl<F: Firing> Event<'_, F> {
         ensures fits { IfOk result (λ fits. MatchBool fits (Stands (F.net self.now.net.now) self.now.moment self.now.most actors.new tokens.new all.new)
             (Overruns (F.net self.now.net.now) self.now.moment self.now.most)) }
         ensures agenda { IfOk result (λ fits. OnTrue fits (Plans (F.net self.now.net.now) actors.new agenda.new)) }
+        ensures starters { IfOk result (λ fits. OnTrue fits (AreStarters (F.net self.now.net.now) self.now.moment agenda.new.starters.items)) }
     {
         know_laws(self.net);
         self.end_all(actors, tokens, agenda)?;
@@ -87,6 +93,7 @@ impl<F: Firing> Event<'_, F> {
             let outputs = self.wiring.outputs_of(actor);
             end_actor(
                 self.net,
+                self.rates,
                 outputs,
                 actor,
                 self.moment,
@@ -119,20 +126,26 @@ impl<F: Firing> Event<'_, F> {
         ensures stand { IfOk result (λ fits. OnTrue fits (Stand (F.net self.now.net.now) actors.new tokens.new)) }
         ensures counted { IfOk result (λ fits. OnTrue fits (Counted actors.new all.new self.now.most)) }
         ensures agenda { IfOk result (λ fits. OnTrue fits (Plans (F.net self.now.net.now) actors.new agenda.new)) }
+        ensures starters { IfOk result (λ fits. OnTrue fits (HaveStarted (F.net self.now.net.now) actors.old actors.new agenda.new.starters.items)) }
     {
+        agenda.starters.clear();
         while let Some(actor) = agenda.touched.pop() {
             if !actors[actor as usize].touched {
                 continue;
             }
             let turn = Turn {
                 net: self.net,
+                rates: self.rates,
                 inputs: self.wiring.inputs_of(actor),
                 actor,
                 moment: self.moment,
             };
             let was_idle = actors[actor as usize].running.first().is_none();
             match turn.start_one(self.most - *all, &mut actors[actor as usize], tokens)? {
-                Some(firings) => *all += firings,
+                Some(firings) => {
+                    *all += firings;
+                    agenda.note_starts(actor, firings)?;
+                }
                 None => return Ok(false),
             }
             if was_idle {

@@ -8,6 +8,7 @@ mod ends;
 mod engine;
 mod event;
 mod queue;
+mod rates;
 mod running;
 mod shape;
 mod starts;

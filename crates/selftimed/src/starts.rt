@@ -1,11 +1,14 @@
-ghost use Rattle.std.specs.Prelude.{◌≡◌, ℕ, ◌+◌, ◌*◌, ◌^◌, ◌<◌, ◌≤◌, length, IfOk, OnOk, MatchOption};
+ghost use Rattle.std.specs.Prelude.{◌≡◌, ℕ, ◌+◌, ◌*◌, ◌^◌, ◌<◌, ◌≤◌, length, slice_index, IfOk, OnOk, MatchOption};
+ghost use Rattle.sd_base.specs.Net.{channel_at};
 ghost use Rattle.sd_base.specs.Schedules.{phases_at};
 ghost use Rattle.firing.specs.declared.sums.Port.TheVariants.{Taken};
 ghost use Rattle.firing.specs.Wiring.{IsListed};
 ghost use Rattle.selftimed.specs.inside.Actors.{StartsOne};
+ghost use Rattle.selftimed.specs.inside.PortRates.{AreRates};
 ghost use Rattle.selftimed.specs.inside.Starts.{AddsEnds, Feeds, FeedsNoMore, StartsAll, Overfills};
 
 use crate::actors::ActorState;
+use crate::rates::Rates;
 use crate::running::Running;
 use crate::tokens::{Tokens, take_all};
 use firing::{Firing, first_lack, know_laws};
@@ -22,11 +25,14 @@ pub(crate) struct Begun {
 #[derive(Drop)]
 pub(crate) struct Turn<'a, F: Firing> {
     pub(crate) net: &'a F,
+    /// The rates of each channel.
+    pub(crate) rates: &'a [Rates],
     /// The channels into the actor.
     pub(crate) inputs: &'a [u32],
     pub(crate) actor: u32,
     pub(crate) moment: u64,
     ghost is_actor: { actor < length (F.net net.now).times },
+    ghost rated: { AreRates (F.net net.now) rates.now },
     ghost listed: { IsListed (F.net net.now) Taken actor inputs.now },
     ghost soon: { moment ≤ 2 ^ 62 },
 }
@@ -103,6 +109,7 @@ impl<F: Firing> Turn<'_, F> {
         if begun.firings > 0 {
             take_all(
                 self.net,
+                self.rates,
                 self.inputs,
                 tokens,
                 self.actor,
@@ -128,7 +135,7 @@ impl<F: Firing> Turn<'_, F> {
         let mut lacking = 0;
         for channel in self.inputs {
             let count = tokens[*channel as usize];
-            let rate = self.net.taken(*channel, 0);
+            let rate = self.taken(*channel);
             if count < rate as u128 {
                 return Begun {
                     firings: 0,
@@ -141,6 +148,14 @@ impl<F: Firing> Turn<'_, F> {
             }
         }
         Begun { firings, lacking }
+    }
+
+    /// The tokens that a firing of the actor takes from a channel in its first phase.
+    fn taken(&self, channel: u32) -> u64
+        requires { channel < length (F.net self.now.net.now).channels }
+        ensures { result ≡ slice_index (channel_at (F.net self.now.net.now) channel).taken 0 }
+    {
+        self.rates[channel as usize].taken
     }
 
     /// Starts firings one by one.
@@ -174,7 +189,15 @@ impl<F: Firing> Turn<'_, F> {
             if count >= room {
                 return Ok(None);
             }
-            take_all(self.net, self.inputs, tokens, self.actor, from + count, 1);
+            take_all(
+                self.net,
+                self.rates,
+                self.inputs,
+                tokens,
+                self.actor,
+                from + count,
+                1,
+            );
             self.push_ends(running, from + count, 1)?;
             count += 1;
         }

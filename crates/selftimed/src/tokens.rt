@@ -2,10 +2,12 @@ ghost use Rattle.std.specs.Prelude.{◌≡◌, ◌↔◌, ℕ, ◌+◌, ◌-◌,
 ghost use Rattle.sd_base.specs.Net.{Channel, channel_at, total};
 ghost use Rattle.firing.specs.declared.sums.Port.TheVariants.{Made, Taken};
 ghost use Rattle.firing.specs.Wiring.{IsListed, TakesTokens, PutsTokens};
-ghost use Rattle.selftimed.specs.Prints.{print_of, weight};
+ghost use Rattle.selftimed.specs.Prints.{print_of, weight as weight_in_print};
+ghost use Rattle.selftimed.specs.inside.PortRates.{AreRates};
 
+use crate::rates::{Rates, moved_by};
 use crate::shape::same_tokens;
-use firing::{Firing, Port, span_sum};
+use firing::{Firing, Port};
 use sd_base::NoMemory;
 use std::alloc::Global;
 use std::marker::Model;
@@ -94,34 +96,33 @@ impl Tokens {
         same_tokens(self.counts.as_slice(), other.counts.as_slice())
     }
 
-    /// Takes tokens off a channel.
-    pub(crate) fn take(&mut self, channel: u32, count: u64)
+    /// Takes tokens off a channel, of which one has this weight in a print.
+    pub(crate) fn take(&mut self, channel: u32, count: u64, weight: u64)
         requires channel { channel < length self.old }
+        requires weight { weight ≡ weight_in_print channel }
         requires enough { count ≤ slice_index self.old channel }
         ensures { self.new ≡ set self.old channel (slice_index self.old channel - count) }
     {
         self.counts[channel as usize] -= count as u128;
-        self.print = self
-            .print
-            .wrapping_sub(weight_of(channel as u64).wrapping_mul(count));
+        self.print = self.print.wrapping_sub(weight.wrapping_mul(count));
     }
 
-    /// Puts tokens on a channel.
-    pub(crate) fn put(&mut self, channel: u32, count: u64)
+    /// Puts tokens on a channel, of which one has this weight in a print.
+    pub(crate) fn put(&mut self, channel: u32, count: u64, weight: u64)
         requires channel { channel < length self.old }
+        requires weight { weight ≡ weight_in_print channel }
         requires small { slice_index self.old channel + count < 2 ^ 128 }
         ensures { self.new ≡ set self.old channel (slice_index self.old channel + count) }
     {
         self.counts[channel as usize] += count as u128;
-        self.print = self
-            .print
-            .wrapping_add(weight_of(channel as u64).wrapping_mul(count));
+        self.print = self.print.wrapping_add(weight.wrapping_mul(count));
     }
 }
 
 /// Takes the tokens of `firings` firings of an actor, from number `from` on, off the channels into it.
 pub(crate) fn take_all<F: Firing>(
     net: &F,
+    rates: &[Rates],
     inputs: &[u32],
     tokens: &mut Tokens,
     actor: u32,
@@ -129,6 +130,7 @@ pub(crate) fn take_all<F: Firing>(
     firings: u64,
 )
     requires actor { actor < length (F.net net.now).times }
+    requires rates { AreRates (F.net net.now) rates.now }
     requires listed { IsListed (F.net net.now) Taken actor inputs.now }
     requires tokens { length tokens.old ≡ length (F.net net.now).channels }
     requires few { from + firings ≤ 2 ^ 32 }
@@ -139,14 +141,16 @@ pub(crate) fn take_all<F: Firing>(
     ensures long { length tokens.new ≡ length tokens.old }
 {
     for channel in inputs {
-        let all = span_sum(net, *channel, Port::Taken, from, firings);
-        tokens.take(*channel, all as u64);
+        let here = rates[*channel as usize];
+        let all = moved_by(net, here.taken, *channel, Port::Taken, from, firings);
+        tokens.take(*channel, all, here.weight);
     }
 }
 
 /// Puts the tokens of `firings` firings of an actor, from number `from` on, on the channels out of it.
 pub(crate) fn put_all<F: Firing>(
     net: &F,
+    rates: &[Rates],
     outputs: &[u32],
     tokens: &mut Tokens,
     actor: u32,
@@ -154,6 +158,7 @@ pub(crate) fn put_all<F: Firing>(
     firings: u64,
 )
     requires actor { actor < length (F.net net.now).times }
+    requires rates { AreRates (F.net net.now) rates.now }
     requires listed { IsListed (F.net net.now) Made actor outputs.now }
     requires tokens { length tokens.old ≡ length (F.net net.now).channels }
     requires few { from + firings ≤ 2 ^ 32 }
@@ -162,14 +167,15 @@ pub(crate) fn put_all<F: Firing>(
     ensures long { length tokens.new ≡ length tokens.old }
 {
     for channel in outputs {
-        let all = span_sum(net, *channel, Port::Made, from, firings);
-        tokens.put(*channel, all as u64);
+        let here = rates[*channel as usize];
+        let all = moved_by(net, here.made, *channel, Port::Made, from, firings);
+        tokens.put(*channel, all, here.weight);
     }
 }
 
 /// The weight of a channel's tokens, or of an actor's remaining times, in a print.
 pub(crate) fn weight_of(channel: u64) -> u64
-    ensures { result ≡ weight channel }
+    ensures { result ≡ weight_in_print channel }
 {
     let odd = channel.wrapping_add(1).wrapping_mul(0x9E37_79B9_7F4A_7C15);
     let square = odd.wrapping_mul(odd);

@@ -1,6 +1,6 @@
 -- Where the actors stand in an execution.
-use Rattle.std.specs.Prelude.{◌≡◌, ℕ, ◌+◌, ◌-◌, ◌^◌, ◌≤◌, ◌<◌, ◌⊎◌, Bool, true, false, List, [], length, drop, slice_index, slice_index_or}
-use Rattle.std.specs.List.{sum_by}
+use Rattle.std.specs.Prelude.{◌≡◌, ℕ, ◌+◌, ◌-◌, ◌^◌, ◌≤◌, ◌<◌, ◌⊎◌, Bool, true, false, List, [], All, length, drop, slice_index, slice_index_or, ◌==◌}
+use Rattle.std.specs.List.{list_any, sum_by}
 use Rattle.sd_base.specs.Net.{Net, channel_at, phase_entry}
 use Rattle.sd_base.specs.Schedules.{Needs}
 use Rattle.sd_base.proofs.Moment.{Able}
@@ -106,3 +106,8 @@ pub record StartedAll (net : Net) (moment : ℕ) (old new : List ActorState) : T
 pub record Counted (actors : List ActorState) (all most : ℕ) : Type 0 where
   pub total : all ≡ sum_by (λ (s : ActorState). s.started) actors
   pub within : all ≤ most
+
+-- all actors of which firings have started since are listed, and no number that isn't one of an actor
+pub record HaveStarted (net : Net) (old new : List ActorState) (list : List ℕ) : Type 0 where
+  pub actors : All (λ a. a < length net.times) list
+  pub listed : (a : ℕ) → a < length net.times → started_in old a < started_in new a → list_any (λ (x : ℕ). x == a) list ≡ true

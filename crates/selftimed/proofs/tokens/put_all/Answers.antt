@@ -6,8 +6,8 @@ use Rattle.selftimed.proofs.tokens.put_all.Goals as goal
 
 pub loop-channel-preserved : goal.loop-channel-preserved
 loop-channel-preserved g c = record {
-  so_far = rw c.put.ensures (put-step (g.F.Firing.net c.args.net.now) c.args.actor c.args.from c.args.firings c.args.outputs.now c.args.tokens.now c.loop-channel.tokens c.loop-channel.channel-index c.span_sum-all.result
-      c.requires.listed c.loop-channel-test.true c.loop-channel.invariant.long c.span_sum-all.ensures.sum c.loop-channel.invariant.so_far);
+  so_far = rw c.put.ensures (put-step (g.F.Firing.net c.args.net.now) c.args.actor c.args.from c.args.firings c.args.outputs.now c.args.tokens.now c.loop-channel.tokens c.loop-channel.channel-index c.moved_by-all.result
+      c.requires.listed c.loop-channel-test.true c.loop-channel.invariant.long c.moved_by-all.ensures.sum c.loop-channel.invariant.so_far);
   long = rw c.put.ensures (length-set c.loop-channel.tokens (slice_index c.args.outputs.now c.loop-channel.channel-index) _ ∙ c.loop-channel.invariant.long);
 }
 
@@ -22,5 +22,5 @@ put-requires-clause-channel g c = omega (arith, c.requires.listed.place c.loop-c
 pub put-requires-clause-small : goal.put-requires-clause-small
 put-requires-clause-small g c =
     let place = c.requires.listed.place c.loop-channel.channel-index c.loop-channel-test.true in
-    let same = put-same (g.F.Firing.net c.args.net.now) c.args.actor c.args.from c.args.firings c.args.outputs.now c.args.tokens.now c.loop-channel.tokens c.loop-channel.channel-index c.span_sum-all.result c.requires.listed c.loop-channel-test.true c.loop-channel.invariant.long c.loop-channel.invariant.so_far in
-    omega (arith, same, c.requires.small (slice_index c.args.outputs.now c.loop-channel.channel-index) place, c.span_sum-all.ensures.small, c.requires.few)
+    let same = put-same (g.F.Firing.net c.args.net.now) c.args.actor c.args.from c.args.firings c.args.outputs.now c.args.tokens.now c.loop-channel.tokens c.loop-channel.channel-index c.moved_by-all.result c.requires.listed c.loop-channel-test.true c.loop-channel.invariant.long c.loop-channel.invariant.so_far in
+    omega (arith, same, c.requires.small (slice_index c.args.outputs.now c.loop-channel.channel-index) place, c.moved_by-all.ensures.small, c.requires.few)

@@ -8,4 +8,4 @@ pub invariant_of-self : goal.invariant_of-self
 invariant_of-self c =
     let place : c.args.channel < length c.self.inside.counts.items = rw (← c.self.view_is) at c.requires.channel in
     let read : c.index_mut.result.now ≡ slice_index c.self.inside.counts.items c.args.channel = c.index_mut.ensures.value ∙ get_or_default c.self.inside.counts.items c.args.channel c.index_mut.result.now 0 place in
-    rw read (print-put c.self.inside.counts.items c.args.channel c.args.count c.self.inside.print c.weight_of.result _ place c.self.invariant c.weight_of.ensures refl)
+    rw read (print-put c.self.inside.counts.items c.args.channel c.args.count c.self.inside.print c.args.weight _ place c.self.invariant c.requires.weight refl)

@@ -9,4 +9,4 @@ invariant_of-self c =
     let place : c.args.channel < length c.self.inside.counts.items = rw (← c.self.view_is) at c.requires.channel in
     let enough : c.args.count ≤ slice_index c.self.inside.counts.items c.args.channel = rw (← c.self.view_is) at c.requires.enough in
     let read : c.index_mut.result.now ≡ slice_index c.self.inside.counts.items c.args.channel = c.index_mut.ensures.value ∙ get_or_default c.self.inside.counts.items c.args.channel c.index_mut.result.now 0 place in
-    rw read (print-take c.self.inside.counts.items c.args.channel c.args.count c.self.inside.print c.weight_of.result _ place enough c.self.invariant c.weight_of.ensures refl)
+    rw read (print-take c.self.inside.counts.items c.args.channel c.args.count c.self.inside.print c.args.weight _ place enough c.self.invariant c.requires.weight refl)

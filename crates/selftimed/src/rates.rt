@@ -1,0 +1,77 @@
+ghost use Rattle.std.specs.Prelude.{◌≡◌, ◌+◌, ◌*◌, ◌^◌, ◌<◌, ◌≤◌, IfOk, length, slice_index};
+ghost use Rattle.sd_base.specs.declared.limits.TheConstants.{RATE};
+ghost use Rattle.sd_base.specs.Net.{channel_at, total};
+ghost use Rattle.firing.specs.Ports.{rates_at};
+ghost use Rattle.firing.specs.declared.sums.Port.TheVariants.{Made, Taken};
+ghost use Rattle.selftimed.specs.inside.PortRates.{AreOf, AreRates};
+
+use crate::tokens::weight_of;
+use firing::{Firing, Port, know_laws, port_phases, port_rate, span_sum};
+use sd_base::NoMemory;
+use std::alloc::Global;
+
+/// What a firing in the first phase takes from a channel and puts on it, and the weight of the channel's tokens
+/// in a print. An execution has them side by side, since each firing asks for them.
+#[derive(Clone, Copy, Debug)]
+pub(crate) struct Rates {
+    pub(crate) taken: u64,
+    pub(crate) made: u64,
+    pub(crate) weight: u64,
+}
+
+/// The rates of each channel. Cost: linear in the channels.
+pub(crate) fn rates_of<F: Firing>(alloc: Global, net: &F) -> Result<Vec<Rates>, NoMemory>
+    ensures { IfOk result (λ rates. AreRates (F.net net.now) rates.items) }
+{
+    let mut rates = Vec::with_capacity(alloc, net.channels() as usize)?;
+    for channel in 0..net.channels() {
+        rates.push(channel_rates(net, channel))?;
+    }
+    Ok(rates)
+}
+
+/// Makes them the rates of a net with as many channels.
+pub(crate) fn reset_rates<F: Firing>(net: &F, rates: &mut [Rates])
+    requires { length rates.old ≡ length (F.net net.now).channels }
+    ensures { AreRates (F.net net.now) rates.new }
+{
+    for channel in 0..net.channels() {
+        rates[channel as usize] = channel_rates(net, channel);
+    }
+}
+
+/// The rates of a channel.
+fn channel_rates<F: Firing>(net: &F, channel: u32) -> Rates
+    requires { channel < length (F.net net.now).channels }
+    ensures { AreOf channel (channel_at (F.net net.now) channel) result }
+{
+    know_laws(net);
+    Rates {
+        taken: net.taken(channel, 0),
+        made: net.made(channel, 0),
+        weight: weight_of(channel as u64),
+    }
+}
+
+/// The tokens that firings of an actor, from number `from` on, take from a channel into it or put on one out of it, which has
+/// this rate in the actor's first phase. Cost: constant where the actor has one phase, else linear in the firings.
+pub(crate) fn moved_by<F: Firing>(
+    net: &F,
+    rate: u64,
+    channel: u32,
+    port: Port,
+    from: u64,
+    firings: u64,
+) -> u64
+    requires channel { channel < length (F.net net.now).channels }
+    requires rate { rate ≡ slice_index (rates_at port (channel_at (F.net net.now) channel)) 0 }
+    requires few { from + firings ≤ 2 ^ 32 }
+    ensures sum { total (rates_at port (channel_at (F.net net.now) channel)) from + result
+        ≡ total (rates_at port (channel_at (F.net net.now) channel)) (from + firings) }
+    ensures small { result ≤ firings * RATE }
+{
+    if port_phases(net, channel, port) == 1 {
+        return firings * rate;
+    }
+    span_sum(net, channel, port, from, firings) as u64
+}
