@@ -8,7 +8,7 @@ use graph_reader::read_graph;
 use std::alloc::Global;
 use std::test::*;
 
-const TEXT: &[u8] = b"sdf3-certificate 2
+const TEXT_2: &[u8] = b"sdf3-certificate 2
 storage
 no-overlap yes
 limit 10
@@ -81,11 +81,84 @@ schedule 4 1
 end
 ";
 
+/// The same in version 1, which has a cycle at each member that it shows.
+const TEXT_1: &[u8] = b"sdf3-certificate 1
+storage
+no-overlap yes
+limit 10
+members 7
+member 3 2
+blocked
+1 0 0
+member 4 2
+rate 1/7
+cycle 7 1 0 1 5
+1 0 t0
+0 2 s0
+1 1 t0
+0 3 s0
+0 4 o0
+member 5 2
+rate 1/7
+cycle 7 1 1 1 4
+2 0 t1
+1 2 s1
+0 5 s0
+1 3 t0
+member 5 3
+rate 1/6
+cycle 6 1 0 2 4
+1 1 t0
+0 4 s0
+1 2 t0
+0 5 s0
+member 6 2
+rate 1/6
+cycle 6 1 1 0 3
+1 1 o1
+2 0 t1
+1 2 s1
+member 6 3
+rate 1/5
+cycle 5 1 0 1 3
+1 0 t0
+1 1 o1
+0 4 s0
+member 7 3
+rate 1/4
+cycle 4 1 0 0 3
+0 1 o0
+1 0 t0
+0 3 s0
+points 4
+point 6 1/7 1
+schedule 7 1
+0 1 4
+2 5
+7
+point 8 1/6 3
+schedule 6 1
+0 2 5
+3 6
+8
+point 9 1/5 5
+schedule 5 1
+0 2 3
+3 5
+7
+point 10 1/4 6
+schedule 4 1
+0 1 2
+2 4
+6
+end
+";
+
 /// The verdict on the text in which a line, counted from 1, is another one.
-fn verdict(alloc: Global, number: usize, line: &[u8]) -> Option<Verdict> {
+fn verdict(alloc: Global, text: &[u8], number: usize, line: &[u8]) -> Option<Verdict> {
     let mut changed = Vec::new(alloc);
     let mut at: usize = 1;
-    for old in TEXT.split(|byte| *byte == b'\n') {
+    for old in text.split(|byte| *byte == b'\n') {
         if at > 1 && changed.push(b'\n').is_err() {
             return None;
         }
@@ -112,10 +185,7 @@ fn of_text(alloc: Global, text: &[u8]) -> Option<Verdict> {
     spelled_lines_fit();
     match read_certificate(alloc, text) {
         Ok((version, Certificate::Storage(certificate))) => {
-            if version != 2 {
-                return None;
-            }
-            match check_storage(alloc, &graph, gamma.as_slice(), &certificate, 2) {
+            match check_storage(alloc, &graph, gamma.as_slice(), &certificate, version) {
                 Ok(verdict) => Some(verdict),
                 Err(_) => None,
             }
@@ -125,13 +195,13 @@ fn of_text(alloc: Global, text: &[u8]) -> Option<Verdict> {
 }
 
 /// Whether each change of a line gives the fault beside it.
-fn are_faults(alloc: Global, changes: &[(usize, &[u8], u64, Reason)]) -> bool {
+fn are_faults(alloc: Global, text: &[u8], changes: &[(usize, &[u8], u64, Reason)]) -> bool {
     for (number, new, line, reason) in changes {
         let fault = Some(Verdict::Rejected {
             line: *line,
             reason: *reason,
         });
-        if verdict(alloc, *number, new) != fault {
+        if verdict(alloc, text, *number, new) != fault {
             return false;
         }
     }
@@ -144,7 +214,8 @@ fn the_worked_trade_off_is_accepted(rt: HostRuntime) {
         number: 4,
         limit: 10,
     };
-    assert_eq!(rt; of_text(rt.alloc(), TEXT), Some(Verdict::Accepted(claim)));
+    assert_eq!(rt; of_text(rt.alloc(), TEXT_2), Some(Verdict::Accepted(claim)));
+    assert_eq!(rt; of_text(rt.alloc(), TEXT_1), Some(Verdict::Accepted(claim)));
 }
 
 #[test]
@@ -157,7 +228,7 @@ fn faults_of_the_limit_and_the_corner_are_told(rt: HostRuntime) {
         (35, b"member 3 1", 34, Reason::Member),
         (35, b"member 3 -", 34, Reason::Member),
     ];
-    assert!(rt; are_faults(rt.alloc(), &changes));
+    assert!(rt; are_faults(rt.alloc(), TEXT_2, &changes));
 }
 
 // 3 and 2 show the first channel by their counts, 4 and 2 by their cycle, and 5 and 2 both channels; with a step along the
@@ -176,7 +247,7 @@ fn faults_of_members_are_told(rt: HostRuntime) {
         (42, b"member 5 4", 40, Reason::Closure),
         (44, b"member 6 1", 40, Reason::Closure),
     ];
-    assert!(rt; are_faults(rt.alloc(), &changes));
+    assert!(rt; are_faults(rt.alloc(), TEXT_2, &changes));
 }
 
 #[test]
@@ -191,5 +262,30 @@ fn faults_of_points_are_told(rt: HostRuntime) {
         (54, b"2 4", 54, Reason::Schedule),
         (70, b"5", 70, Reason::Schedule),
     ];
-    assert!(rt; are_faults(rt.alloc(), &changes));
+    assert!(rt; are_faults(rt.alloc(), TEXT_2, &changes));
+}
+
+// In version 1 a cycle has lines of its own behind its member's rate.
+#[test]
+fn version_1_counts_its_own_lines(rt: HostRuntime) {
+    let changes: [(usize, &[u8], u64, Reason); 17] = [
+        (3, b"no-overlap no", 11, Reason::Cycle),
+        (4, b"limit 9", 43, Reason::Member),
+        (4, b"limit 4", 5, Reason::Member),
+        (6, b"member 3 1", 5, Reason::Member),
+        (8, b"0 0 0", 8, Reason::Blocked),
+        (9, b"member 4 3", 6, Reason::Closure),
+        (10, b"rate 2/14", 10, Reason::Rate),
+        (10, b"rate 1/6", 11, Reason::Cycle),
+        (11, b"cycle 7 2 0 1 5", 11, Reason::Cycle),
+        (12, b"1 0 t1", 11, Reason::Cycle),
+        (13, b"0 2 s1", 9, Reason::Closure),
+        (24, b"member 5 4", 17, Reason::Closure),
+        (31, b"member 6 1", 17, Reason::Closure),
+        (50, b"point 7 1/7 2", 49, Reason::Point),
+        (60, b"point 9 1/5 4", 60, Reason::Point),
+        (51, b"schedule 6 1", 51, Reason::Schedule),
+        (69, b"5", 69, Reason::Schedule),
+    ];
+    assert!(rt; are_faults(rt.alloc(), TEXT_1, &changes));
 }
