@@ -1,9 +1,9 @@
 -- The starts of each next event are added to those collected so far, and those round a loop are cut out.
-use Rattle.std.proofs.Common.{◌≡◌, ℕ, suc, ◌+◌, ◌-◌, ◌*◌, ◌≤◌, ◌<◌, ◌⊎◌, List, [], ◌++◌, length, inl, inr, ⊎_elim, sym, refl, ap, ◌∙◌, arith, set, length-append}
+use Rattle.std.proofs.Common.{◌≡◌, ◌≢◌, ℕ, suc, ◌+◌, ◌-◌, ◌*◌, ◌≤◌, ◌<◌, ◌⊎◌, List, [], ◌++◌, length, inl, inr, ⊎_elim, sym, refl, ap, ◌∙◌, arith, set, length-append}
 use Rattle.std.specs.Prelude.{◌/◌, slice_index, slice_index_or, replicate}
 use Rattle.std.proofs.Math.Nat.{mul-div_cancel}
 use Rattle.std.proofs.lemmas.Bool.{cases_lt, cases_eq}
-use Rattle.std.proofs.lemmas.List.{get_or_append_left, get_or-append_right, get_or-replicate, length-replicate, get_or_past, length-set, get_or-set_same, get_or-set_other}
+use Rattle.std.proofs.lemmas.List.{append-nil, get_or_default, get_or_append_left, get_or-append_right, get_or-replicate, length-replicate, get_or_past, length-set, get_or-set_same, get_or-set_other}
 use Rattle.sd_base.specs.Net.{Net}
 use Rattle.sd_base.specs.Schedules.{HasInputs, count_of, start_of, end_of}
 use Rattle.sd_base.specs.SelfTimed.{earliest}
@@ -18,7 +18,8 @@ use Rattle.sd_base.proofs.Alike.{count-rises}
 use Rattle.sd_base.proofs.Returns.{loop-whole}
 use Rattle.selftimed.specs.declared.engine.Stage.{Stage}
 use Rattle.selftimed.specs.declared.engine.Stage.TheVariants.{Fresh, Running, Spent, OutOfMemory}
-use Rattle.selftimed.specs.Moves.{IsNext, ComesNext}
+use Rattle.selftimed.specs.Moves.{AreStarters, IsNext, ComesNext}
+use Rattle.selftimed.proofs.Agendas.{has-number}
 use Rattle.lasso.specs.inside.Collecting.{AreStarts, HasStarts, AddsStarts, AreStartsAfter}
 
 -- rows without starts
@@ -106,6 +107,18 @@ module _ (net : Net) (laws : Lawful net) (fed : HasInputs net) where
   has-fewer Spent now t old have next a actor = absurd next
   has-fewer OutOfMemory now t old have next a actor = absurd next
 
+  -- and just those before it
+  pub has-before : (stage : Stage) (now t : ℕ) (old : List (List ℕ)) → HasStarts net stage now old → ComesNext net stage now t →
+      (a : ℕ) → a < length net.times → count_of old a ≡ count_of (earliest net t) a
+  has-before Fresh now t old have next a actor =
+      let none : count_of old a ≡ 0 = rw have (empty-rows (length net.times) a) in
+      rw next (none ∙ sym (first-none a))
+  has-before Running now t old have next a actor =
+      let e : now + 1 ≡ suc now = omega arith in
+      (rw e at (have.all a actor)) ∙ (quiet-until net (regular net laws) fed now t (quiet-next now t next) next.later).counts a
+  has-before Spent now t old have next a actor = absurd next
+  has-before OutOfMemory now t old have next a actor = absurd next
+
   pub has-rows : (stage : Stage) (now t : ℕ) (old : List (List ℕ)) → HasStarts net stage now old → ComesNext net stage now t → length old ≡ length net.times
   has-rows Fresh now t old have next = rw have (length-replicate {A = List ℕ} (length net.times) [])
   has-rows Running now t old have next = have.rows
@@ -152,32 +165,64 @@ module _ (net : Net) (laws : Lawful net) (fed : HasInputs net) where
             moments = have.moments;
           }
 
--- ---- the rows of the actors one after another
+-- ---- the rows of the actors that start, one after another
 
--- of the first n actors the rows have gained their starts
-pub record AddsSoFar (net : Net) (now : ℕ) (old new : List (List ℕ)) (n : ℕ) : Type 0 where
+-- a row has gained its starts
+abbrev pub IsAdded : Net → ℕ → List (List ℕ) → List (List ℕ) → ℕ → Type 0
+IsAdded net now old new a = slice_index_or new a [] ≡ slice_index_or old a [] ++ replicate (count_of (earliest net (now + 1)) a - count_of old a) now
+
+-- each row has gained its starts, or is as it was and not among the first n that were listed
+pub record AddsSoFar (net : Net) (now : ℕ) (list : List ℕ) (old new : List (List ℕ)) (n : ℕ) : Type 0 where
   pub rows : length new ≡ length old
-  pub done : (a : ℕ) → a < n → slice_index_or new a [] ≡ slice_index_or old a [] ++ replicate (count_of (earliest net (now + 1)) a - count_of old a) now
-  pub kept : (a : ℕ) → n ≤ a → slice_index_or new a [] ≡ slice_index_or old a []
+  pub each : (a : ℕ) → a < length net.times → IsAdded net now old new a ⊎ ((slice_index_or new a [] ≡ slice_index_or old a []) × ((j : ℕ) → j < n → slice_index list j ≢ a))
 
-pub adds-none : (net : Net) (now : ℕ) (old : List (List ℕ)) → AddsSoFar net now old old 0
-adds-none net now old = record { rows = refl; done = λ a below. absurd (omega arith); kept = λ a past. refl }
+pub adds-none : (net : Net) (now : ℕ) (list : List ℕ) (old : List (List ℕ)) → AddsSoFar net now list old old 0
+adds-none net now list old = record { rows = refl; each = λ a actor. inr (refl, λ j below. absurd (omega arith)) }
 
-pub adds-step : (net : Net) (now n : ℕ) (old new : List (List ℕ)) (row : List ℕ) → AddsSoFar net now old new n → n < length old →
-    row ≡ slice_index_or new n [] ++ replicate (count_of (earliest net (now + 1)) n - count_of new n) now → AddsSoFar net now old (set new n row) (n + 1)
-adds-step net now n old new row adds place filled = record {
-  rows = length-set new n row ∙ adds.rows;
-  done = λ a below. each a below (cases_eq a n);
-  kept = λ a past. get_or-set_other new n a row [] (λ same. absurd (omega arith)) ∙ adds.kept a (omega arith);
+pub adds-step : (net : Net) (now n x : ℕ) (list : List ℕ) (old new : List (List ℕ)) (row : List ℕ) → AddsSoFar net now list old new n → slice_index list n ≡ x → x < length old → x < length net.times →
+    count_of old x ≤ count_of (earliest net (now + 1)) x → row ≡ slice_index_or new x [] ++ replicate (count_of (earliest net (now + 1)) x - count_of new x) now → AddsSoFar net now list old (set new x row) (n + 1)
+adds-step net now n x list old new row adds listed place actor fewer filled = record {
+  rows = length-set new x row ∙ adds.rows;
+  each = λ a is. each a is (cases_eq a x);
 }
   where
-    each : (a : ℕ) → a < n + 1 → (a ≡ n) ⊎ (a ≡ n → ⊥) →
-        slice_index_or (set new n row) a [] ≡ slice_index_or old a [] ++ replicate (count_of (earliest net (now + 1)) a - count_of old a) now
-    each a below (inl here) =
-        let same : slice_index_or new n [] ≡ slice_index_or old n [] = adds.kept n (omega arith) in
-        let read : slice_index_or (set new n row) n [] ≡ row = get_or-set_same new n row [] (omega (arith, adds.rows)) in
-        rw here (read ∙ (filled ∙ ap (λ (r : List ℕ). r ++ replicate (count_of (earliest net (now + 1)) n - length r) now) same))
-    each a below (inr other) = get_or-set_other new n a row [] other ∙ adds.done a (omega arith)
+    all : ℕ
+    all = count_of (earliest net (now + 1)) x
 
-pub adds-all : (net : Net) (now : ℕ) (old new : List (List ℕ)) → AddsSoFar net now old new (length net.times) → AddsStarts net now old new
-adds-all net now old new adds = record { rows = adds.rows; each = adds.done }
+    put : slice_index_or (set new x row) x [] ≡ row
+    put = get_or-set_same new x row [] (omega (arith, adds.rows))
+
+    here : IsAdded net now old new x ⊎ ((slice_index_or new x [] ≡ slice_index_or old x []) × ((j : ℕ) → j < n → slice_index list j ≢ x)) → row ≡ slice_index_or old x [] ++ replicate (all - count_of old x) now
+    here (inl added) =
+        let count : count_of new x ≡ count_of old x + (all - count_of old x) =
+        ap length added ∙ (length-append (slice_index_or old x []) (replicate (all - count_of old x) now) ∙ ap (λ (k : ℕ). count_of old x + k) (length-replicate (all - count_of old x) now)) in
+        let none : all - count_of new x ≡ 0 = omega arith in
+        filled ∙ (ap (λ (k : ℕ). slice_index_or new x [] ++ replicate k now) none ∙ (append-nil (slice_index_or new x []) ∙ added))
+    here (inr same) = filled ∙ ap (λ (r : List ℕ). r ++ replicate (all - length r) now) same.0
+
+    each : (a : ℕ) → a < length net.times → (a ≡ x) ⊎ (a ≡ x → ⊥) →
+        IsAdded net now old (set new x row) a ⊎ ((slice_index_or (set new x row) a [] ≡ slice_index_or old a []) × ((j : ℕ) → j < n + 1 → slice_index list j ≢ a))
+    each a is (inl same) = rw same (inl (put ∙ here (adds.each x actor)))
+    each a is (inr other) = ⊎_elim
+        (λ (added : IsAdded net now old new a). inl (get_or-set_other new x a row [] other ∙ added))
+        (λ (kept : (slice_index_or new a [] ≡ slice_index_or old a []) × ((j : ℕ) → j < n → slice_index list j ≢ a)). inr (
+          get_or-set_other new x a row [] other ∙ kept.0,
+          λ j below e. ⊎_elim (λ (h : j < n). kept.1 j h e) (λ (h : n ≤ j). let last : j ≡ n = omega arith in other (sym e ∙ (ap (slice_index list) last ∙ listed))) (cases_lt j n),
+        ))
+        (adds.each a is)
+
+-- rows that aren't listed have nothing to gain
+pub adds-all : (net : Net) (now n : ℕ) (list : List ℕ) (old new : List (List ℕ)) → AreStarters net now list → ((a : ℕ) → a < length net.times → count_of old a ≡ count_of (earliest net now) a) →
+    length list ≤ n → AddsSoFar net now list old new n → AddsStarts net now old new
+adds-all net now n list old new starters before whole adds = record { rows = adds.rows; each = λ a is. each a is (adds.each a is) }
+  where
+    each : (a : ℕ) → a < length net.times → IsAdded net now old new a ⊎ ((slice_index_or new a [] ≡ slice_index_or old a []) × ((j : ℕ) → j < n → slice_index list j ≢ a)) → IsAdded net now old new a
+    each a is (inl added) = added
+    each a is (inr kept) = ⊎_elim
+        (λ (more : count_of (earliest net now) a < count_of (earliest net (now + 1)) a).
+        let found = has-number list a (starters.listed a is more) in
+        absurd (kept.1 found.0 (omega (arith, found.1)) (get_or_default list found.0 0 a found.1 ∙ found.2)))
+        (λ (same : count_of (earliest net (now + 1)) a ≤ count_of (earliest net now) a).
+        let none : count_of (earliest net (now + 1)) a - count_of old a ≡ 0 = omega (arith, before a is) in
+        kept.0 ∙ (sym (append-nil (slice_index_or old a [])) ∙ ap (λ (k : ℕ). slice_index_or old a [] ++ replicate k now) (sym none)))
+        (cases_lt (count_of (earliest net now) a) (count_of (earliest net (now + 1)) a))

@@ -12,7 +12,7 @@ use Rattle.selftimed.specs.declared.engine.Stage.TheVariants.{Fresh, Running, Sp
 use Rattle.selftimed.specs.Moves.{IsNext, ComesNext}
 use Rattle.lasso.specs.inside.Collecting.{HasStarts, AddsStarts}
 use Rattle.lasso.specs.inside.Tracing.{AreEvents, IsTrace, HasTrace, IsTraceBefore, IsLastOf, IsAllowed, AreAllowed}
-use Rattle.lasso.proofs.Collected.{has-rows, has-fewer, has-next}
+use Rattle.lasso.proofs.Collected.{has-rows, has-before, has-fewer, has-next}
 
 -- the last event is the one up to which all are there
 pub last-event : (net : Net) (now : ℕ) (moments : List ℕ) → AreEvents net now moments → IsEvent net now → IsLastOf moments now
@@ -87,6 +87,9 @@ module _ (net : Net) (laws : Lawful net) (fed : HasInputs net) where
 
   pub before-fewer : (t : ℕ) (moments : List ℕ) (starts : List (List ℕ)) → IsTraceBefore net t moments starts → (a : ℕ) → a < length net.times → count_of starts a ≤ count_of (earliest net (t + 1)) a
   before-fewer t moments starts before = has-fewer net laws fed before.0 before.1 t starts (have-starts before.0 before.1 moments starts before.2) before.3
+
+  pub before-counts : (t : ℕ) (moments : List ℕ) (starts : List (List ℕ)) → IsTraceBefore net t moments starts → (a : ℕ) → a < length net.times → count_of starts a ≡ count_of (earliest net t) a
+  before-counts t moments starts before = has-before net laws fed before.0 before.1 t starts (have-starts before.0 before.1 moments starts before.2) before.3
 
   -- with the next event and its starts all is there up to it
   pub trace-next : (t : ℕ) (moments added : List ℕ) (starts filled : List (List ℕ)) → IsTraceBefore net t moments starts → added ≡ moments ++ t ∷ [] → AddsStarts net t starts filled → IsTrace net t added filled

@@ -21,20 +21,23 @@ pub(crate) fn empty_rows(alloc: Global, actors: u32) -> Result<Vec<Rows<u64>>, N
     Ok(rows)
 }
 
-/// Adds the starts of the last event to the actors' rows, which have all those before it.
+/// Adds the starts of the last event to the actors' rows, which have all those before it. Cost: linear in these starts.
 pub(crate) fn add_starts<F: Firing>(
     engine: &Engine<F>,
     starts: &mut [Rows<u64>],
 ) -> Result<(), NoMemory>
     requires running { engine.now.stage ≡ Running }
     requires rows { length starts.old ≡ length (F.net engine.now.net.now).times }
+    requires before { (a : ℕ) → a < length (F.net engine.now.net.now).times →
+        count_of starts.old a ≡ count_of (earliest (F.net engine.now.net.now) engine.now.moment) a }
     requires fewer { (a : ℕ) → a < length (F.net engine.now.net.now).times →
         count_of starts.old a ≤ count_of (earliest (F.net engine.now.net.now) (engine.now.moment + 1)) a }
     ensures { OnOk result (AddsStarts (F.net engine.now.net.now) engine.now.moment starts.old starts.new) }
 {
-    for actor in 0..engine.net.actors() {
-        let count = engine.started(actor);
-        fill(&mut starts[actor as usize], count, engine.moment())?;
+    let starters = engine.starters();
+    for actor in starters {
+        let count = engine.started(*actor);
+        fill(&mut starts[*actor as usize], count, engine.moment())?;
     }
     Ok(())
 }

@@ -1,5 +1,5 @@
 //! The search for two equal shapes, by one execution that keeps one shape (Brent 1980).
-ghost use Rattle.std.specs.Prelude.{◌≡◌, ◌↔◌, ◌*◌, ◌≤◌, [], IfErr, IfOk, IsTrue, MatchOption, length, replicate};
+ghost use Rattle.std.specs.Prelude.{◌≡◌, ◌↔◌, ◌*◌, ◌≤◌, [], IfErr, IfOk, IsTrue, OnOk, MatchOption, length, replicate};
 ghost use Rattle.sd_base.specs.declared.limits.TheConstants.{STARTS};
 ghost use Rattle.sd_base.specs.Schedules.{HasInputs};
 ghost use Rattle.sd_base.specs.SelfTimed.{IsEvent, shape_at};
@@ -116,34 +116,35 @@ fn search_allowed<F: Firing>(
                 later: engine.moment(),
             }));
         }
-        checkpoint = next_checkpoint(alloc, engine, checkpoint, round)?;
+        renew(alloc, engine, &mut checkpoint, round)?;
     }
     Ok(None)
 }
 
-/// The shape at which an engine stands if its starts are more than twice those of the checkpoint and it has stood long
-/// enough, else the checkpoint.
-fn next_checkpoint<F: Firing>(
+/// Makes the shape at which an engine stands the checkpoint, if its starts are more than twice those of the one that stands
+/// and this one has stood long enough.
+fn renew<F: Firing>(
     alloc: Global,
     engine: &Engine<F>,
-    checkpoint: Checkpoint,
+    checkpoint: &mut Checkpoint,
     round: u64,
-) -> Result<Checkpoint, NoMemory>
+) -> Result<(), NoMemory>
     requires running { engine.now.stage ≡ Running }
     requires event { IsEvent (F.net engine.now.net.now) engine.now.moment }
-    requires checkpoint { IsCheckpoint (F.net engine.now.net.now) checkpoint }
-    requires ahead { checkpoint.moment ≤ engine.now.moment }
-    requires none { NoneSince (F.net engine.now.net.now) checkpoint.moment engine.now.moment }
-    ensures checkpoint { IfOk result (IsCheckpoint (F.net engine.now.net.now)) }
-    ensures ahead { IfOk result (λ c. c.moment ≤ engine.now.moment) }
-    ensures none { IfOk result (λ c. NoneSince (F.net engine.now.net.now) c.moment engine.now.moment) }
+    requires checkpoint { IsCheckpoint (F.net engine.now.net.now) checkpoint.old }
+    requires ahead { checkpoint.old.moment ≤ engine.now.moment }
+    requires none { NoneSince (F.net engine.now.net.now) checkpoint.old.moment engine.now.moment }
+    ensures checkpoint { OnOk result (IsCheckpoint (F.net engine.now.net.now) checkpoint.new) }
+    ensures ahead { OnOk result (checkpoint.new.moment ≤ engine.now.moment) }
+    ensures none { OnOk result (NoneSince (F.net engine.now.net.now) checkpoint.new.moment engine.now.moment) }
 {
-    let stay = engine.starts().saturating_sub(checkpoint.starts);
-    if engine.starts() / 2 > checkpoint.starts && stay > least_stay(&checkpoint, round) {
-        checkpoint_of(alloc, engine)
-    } else {
-        Ok(checkpoint)
+    let starts = engine.starts();
+    if starts / 2 > checkpoint.starts
+        && starts - checkpoint.starts > least_stay(checkpoint, round)
+    {
+        *checkpoint = checkpoint_of(alloc, engine)?;
     }
+    Ok(())
 }
 
 /// For how many starts a checkpoint stays at least, where a round has `round` of them. A loop has the starts of a

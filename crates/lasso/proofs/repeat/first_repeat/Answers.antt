@@ -3,7 +3,7 @@ use Rattle.selftimed.specs.declared.engine.Stage.TheVariants.{Fresh, Running}
 use Rattle.lasso.proofs.Visiting.{next-visit, ends-many, ends-spent}
 use Rattle.lasso.proofs.Searched.{many-first}
 use Rattle.lasso.proofs.Repeated.{none-apart, differ-apart, apart-more, repeat-here, follows-later, follows-first, lead-later}
-use Rattle.lasso.proofs.Collected.{has-rows, has-fewer, has-next}
+use Rattle.lasso.proofs.Collected.{has-rows, has-before, has-fewer, has-next}
 use Rattle.lasso.proofs.repeat.first_repeat.Goals as goal
 
 pub go_on-requires-clause-inputs : goal.go_on-requires-clause-inputs
@@ -43,6 +43,12 @@ pub add_starts-requires-clause-rows : goal.add_starts-requires-clause-rows
 add_starts-requires-clause-rows g c =
     let goes = rw c.events.invariant.net at (rw c.if-not-branch-2.false at c.in_ok-go_on-2.ensures.goes) in
     rw (c.go_on-in-events.ensures.net, c.events.invariant.net) (has-rows (g.F.Firing.net c.args.lead.now.net.now) (g.met.F.Firing.lawful c.args.lead.now.net.now) c.requires.inputs c.events.lead.stage c.events.lead.moment c.go_on-in-events.new.engine.moment c.events.starts
+    c.events.invariant.collected goes.1)
+
+pub add_starts-requires-clause-before : goal.add_starts-requires-clause-before
+add_starts-requires-clause-before g c =
+    let goes = rw c.events.invariant.net at (rw c.if-not-branch-2.false at c.in_ok-go_on-2.ensures.goes) in
+    rw (c.go_on-in-events.ensures.net, c.events.invariant.net) (has-before (g.F.Firing.net c.args.lead.now.net.now) (g.met.F.Firing.lawful c.args.lead.now.net.now) c.requires.inputs c.events.lead.stage c.events.lead.moment c.go_on-in-events.new.engine.moment c.events.starts
     c.events.invariant.collected goes.1)
 
 pub add_starts-requires-clause-fewer : goal.add_starts-requires-clause-fewer

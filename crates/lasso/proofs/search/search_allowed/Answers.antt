@@ -89,9 +89,9 @@ loop-event-preserved g c =
       event = next.event;
       number = rank-after (g.F.Firing.net c.args.engine.now.net.now) (g.met.F.Firing.lawful c.args.engine.now.net.now) c.requires.inputs c.loop-event.engine.moment c.go_on-in-loop-event.new.engine.moment next ∙ ap (λ n. n + 1) c.loop-event.invariant.number;
       few = few-before (g.F.Firing.net c.args.engine.now.net.now) (g.met.F.Firing.lawful c.args.engine.now.net.now) c.requires.inputs c.loop-event.engine.moment c.go_on-in-loop-event.new.engine.moment (omega (arith, here, c.if-starts-gt-STARTS.false)) next;
-      checkpoint = rw (c.go_on-in-loop-event.ensures.net, c.loop-event.invariant.net) at c.in_ok-checkpoint-2.ensures.checkpoint;
-      ahead = c.in_ok-checkpoint-2.ensures.ahead;
-      none = rw (c.go_on-in-loop-event.ensures.net, c.loop-event.invariant.net) at c.in_ok-checkpoint-2.ensures.none;
+      checkpoint = rw (c.go_on-in-loop-event.ensures.net, c.loop-event.invariant.net) at c.in_ok-renew.ensures.checkpoint;
+      ahead = c.in_ok-renew.ensures.ahead;
+      none = rw (c.go_on-in-loop-event.ensures.net, c.loop-event.invariant.net) at c.in_ok-renew.ensures.none;
       trace = rw (c.go_on-in-loop-event.ensures.net, c.loop-event.invariant.net) at c.in_ok-add-2.ensures.few;
       allowed = allowed-next (g.F.Firing.net c.args.engine.now.net.now) c.args.states c.go_on-in-loop-event.new.engine.moment c.loop-event.trace.moments.items c.add-in-loop-event.new.self.moments.items c.loop-event.trace.starts.items c.add-in-loop-event.new.self.starts.items
           c.loop-event.invariant.allowed (rw (c.go_on-in-loop-event.ensures.net, c.loop-event.invariant.net) at c.in_ok-add-2.ensures.few) (rw (c.go_on-in-loop-event.ensures.net, c.loop-event.invariant.net) at c.in_ok-add-2.ensures.many) next.event
@@ -106,16 +106,16 @@ returns-then-stands_at-clause-traced g c =
     c.loop-event.invariant.allowed (rw (c.go_on-in-loop-event.ensures.net, c.loop-event.invariant.net) at c.in_ok-add-2.ensures.few) (rw (c.go_on-in-loop-event.ensures.net, c.loop-event.invariant.net) at c.in_ok-add-2.ensures.many) next.event
     (omega (arith, rank-after (g.F.Firing.net c.args.engine.now.net.now) (g.met.F.Firing.lawful c.args.engine.now.net.now) c.requires.inputs c.loop-event.engine.moment c.go_on-in-loop-event.new.engine.moment next, c.loop-event.invariant.number, c.loop-event-test.true))
 
-pub next_checkpoint-requires-clause-none : goal.next_checkpoint-requires-clause-none
-next_checkpoint-requires-clause-none g c =
+pub renew-requires-clause-none : goal.renew-requires-clause-none
+renew-requires-clause-none g c =
     let goes = rw c.loop-event.invariant.running at (rw c.loop-event.invariant.net at (rw c.if-not-branch-2.false at c.in_ok-go_on-2.ensures.goes)) in
     let next : IsNext (g.F.Firing.net c.args.engine.now.net.now) c.loop-event.engine.moment c.go_on-in-loop-event.new.engine.moment = goes.1 in
     let other : shape_at (g.F.Firing.net c.args.engine.now.net.now) c.go_on-in-loop-event.new.engine.moment ≢ shape_at (g.F.Firing.net c.args.engine.now.net.now) c.loop-event.checkpoint.moment =
     λ same. false≢true (c.if-stands_at.ensures.1 (rw (c.go_on-in-loop-event.ensures.net, c.loop-event.invariant.net) same)) in
     rw (c.go_on-in-loop-event.ensures.net, c.loop-event.invariant.net) (none-more (g.F.Firing.net c.args.engine.now.net.now) (g.met.F.Firing.lawful c.args.engine.now.net.now) c.requires.inputs c.loop-event.checkpoint.moment c.loop-event.engine.moment c.go_on-in-loop-event.new.engine.moment c.loop-event.invariant.none next other)
 
-pub next_checkpoint-requires-clause-event : goal.next_checkpoint-requires-clause-event
-next_checkpoint-requires-clause-event g c =
+pub renew-requires-clause-event : goal.renew-requires-clause-event
+renew-requires-clause-event g c =
     let goes = rw c.loop-event.invariant.running at (rw c.loop-event.invariant.net at (rw c.if-not-branch-2.false at c.in_ok-go_on-2.ensures.goes)) in
     let next : IsNext (g.F.Firing.net c.args.engine.now.net.now) c.loop-event.engine.moment c.go_on-in-loop-event.new.engine.moment = goes.1 in
     rw (c.go_on-in-loop-event.ensures.net, c.loop-event.invariant.net) next.event

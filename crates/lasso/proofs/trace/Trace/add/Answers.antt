@@ -1,12 +1,16 @@
 use Rattle.std.proofs.Common.{◌≡◌, length, drop, arith}
 use Rattle.std.proofs.lemmas.List.{take_at}
 use Rattle.lasso.specs.inside.Collecting.{AddsStarts}
-use Rattle.lasso.proofs.Traced.{before-fewer, trace-next}
+use Rattle.lasso.proofs.Traced.{before-counts, before-fewer, trace-next}
 use Rattle.lasso.proofs.trace.Trace.add.Goals as goal
 
 pub add_starts-requires-clause-fewer : goal.add_starts-requires-clause-fewer
 add_starts-requires-clause-fewer g c =
     rw c.as_mut_slice.ensures.value (before-fewer (g.F.Firing.net c.args.engine.now.net.now) (g.met.F.Firing.lawful c.args.engine.now.net.now) c.requires.inputs c.args.engine.now.moment c.args.self.now.moments.items c.args.self.now.starts.items c.requires.before)
+
+pub add_starts-requires-clause-before : goal.add_starts-requires-clause-before
+add_starts-requires-clause-before g c =
+    rw c.as_mut_slice.ensures.value (before-counts (g.F.Firing.net c.args.engine.now.net.now) (g.met.F.Firing.lawful c.args.engine.now.net.now) c.requires.inputs c.args.engine.now.moment c.args.self.now.moments.items c.args.self.now.starts.items c.requires.before)
 
 pub returns-in_ok-add_starts-clause-few : goal.returns-in_ok-add_starts-clause-few
 returns-in_ok-add_starts-clause-few g c few =
