@@ -23,7 +23,7 @@ use Rattle.sd_base.specs.declared.numbers.Fraction.{Fraction}
 use Rattle.cert_maker.specs.inside.Lines.{ArePlaced, HasLine, HasText}
 
 -- the steps of a chain are along channels of the net
-chain-places : (net : Net) (from : FiringNo) (steps : List CycleStep) → IsChain net from steps → All (λ (s : CycleStep). s.channel < length net.channels) steps
+pub chain-places : (net : Net) (from : FiringNo) (steps : List CycleStep) → IsChain net from steps → All (λ (s : CycleStep). s.channel < length net.channels) steps
 chain-places net from [] chain = All-nil (λ (s : CycleStep). s.channel < length net.channels)
 chain-places net from (step ∷ steps) chain = All-cons (λ (s : CycleStep). s.channel < length net.channels) step steps chain.0.place (chain-places net step.to steps chain.1)
 

@@ -1,8 +1,17 @@
+pub mod ClosedMembers
+pub mod CoveredMembers
 pub mod Explored
 pub mod Lines
 pub mod Linked
 pub mod Listed
+pub mod MemberLines
+pub mod MemberOrder
 pub mod Orderless
 pub mod Places
+pub mod PointLines
 pub mod Rising
+pub mod ShownLines
+pub mod Summits
 pub mod ValidRates
+pub mod ValidTradeOffs
+pub mod Zipped

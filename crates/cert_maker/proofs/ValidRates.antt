@@ -133,7 +133,7 @@ along : (net : Net) (from : FiringNo) (steps : List CycleStep) → IsChain net f
 along net from [] chain = tt
 along net from (step ∷ steps) chain = (record { place = chain.0.place; role = refl; to = refl }, along net step.to steps chain.1)
 
-cycle-line : (net : Net) (r : ℕ × ℕ) (n : NeedCycle) → HoldsOn net n → n.rounds * r.1 ≡ r.0 * n.time → IsCycleLine net r (link_cycle net n)
+pub cycle-line : (net : Net) (r : ℕ × ℕ) (n : NeedCycle) → HoldsOn net n → n.rounds * r.1 ≡ r.0 * n.time → IsCycleLine net r (link_cycle net n)
 cycle-line net r n holds ratio = record {
   cycle = n;
   spelled = record { time = refl; rounds = refl; first = refl; steps = along net n.first n.steps holds.chain };

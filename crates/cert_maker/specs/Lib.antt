@@ -2,5 +2,6 @@ pub mod Links
 pub mod RateCertificates
 pub mod StorageCertificates
 pub mod ValidCertificates
+pub mod ValidTradeOffs
 pub mod WorstCertificates
 pub mod inside
