@@ -9,3 +9,9 @@ pub mod Times
 pub mod Rising
 pub mod FoundCycles
 pub mod ListedCycles
+pub mod ReadNumbers
+pub mod ReadLines
+pub mod ReadEntries
+pub mod ReadSections
+pub mod ReadMembers
+pub mod ReadWholes

@@ -38,7 +38,7 @@ known-at (d ∷ old) c later h = split (same_cycle c d) refl h (λ k. known-at o
         (omega (arith, at.0), rw next at.1)
 
 -- one that isn't stands after them
-new-at : (old : List LinkCycle) (c : LinkCycle) → list_any (same_cycle c) old ≡ false → place_of old c ≡ length old
+pub new-at : (old : List LinkCycle) (c : LinkCycle) → list_any (same_cycle c) old ≡ false → place_of old c ≡ length old
 new-at [] c h = refl
 new-at (d ∷ old) c h = split (same_cycle c d) refl h (λ k. new-at old c k)
   where

@@ -8,6 +8,7 @@ pub mod ScenarioLines
 pub mod Spelling
 pub mod Spellable
 pub mod Orderly
+pub mod Limits
 pub mod Reads
 pub mod Fields
 pub mod Collected

@@ -4,6 +4,7 @@
 
 mod certificates;
 mod error;
+pub mod laws;
 mod reading;
 mod writing;
 
