@@ -3,7 +3,7 @@
 ghost use Rattle.std.specs.Prelude.{◌≡◌, ◌≤◌, ℕ, length, true, take, Some, IfOk};
 ghost use Rattle.std.specs.List.{take_while};
 ghost use Rattle.file_text.specs.inside.Machine.{run};
-ghost use Rattle.file_text.specs.inside.Runs.{is_ordinary};
+ghost use Rattle.file_text.specs.inside.Runs.{is_name_byte, is_ordinary};
 ghost use Rattle.file_text.specs.inside.Seen.{state_of};
 
 use crate::due::Due;
@@ -18,6 +18,24 @@ fn is_ordinary(b: u8) -> bool
     b >= b' ' && b < 128 && b != b'-' && b != b'<' && b != b'&' && b != b'"' && b != b'\''
 }
 
+/// Whether a byte is a character of names: a letter, a digit or one of `-`, `.`, `:` and `_`.
+fn is_name_byte(b: u8) -> bool
+    ensures { result ≡ is_name_byte b }
+{
+    (b >= b'a' && b <= b'z')
+        || (b >= b'A' && b <= b'Z')
+        || (b >= b'-' && b <= b':' && b != b'/')
+        || b == b'_'
+}
+
+/// How many bytes of a name stand in front.
+fn name_count(bytes: &[u8]) -> usize
+    ensures count { result ≡ length (take_while is_name_byte bytes.now) }
+    ensures within { result ≤ length bytes.now }
+{
+    bytes.iter().take_while(|b| is_name_byte(**b)).count()
+}
+
 /// How many ordinary bytes stand in front.
 fn ordinary_count(bytes: &[u8]) -> usize
     ensures count { result ≡ length (take_while is_ordinary bytes.now) }
@@ -27,7 +45,7 @@ fn ordinary_count(bytes: &[u8]) -> usize
 }
 
 impl Scanner {
-    /// Passes the ordinary bytes in front where they are of a comment, of a text or of a value, and says how many.
+    /// Passes the ordinary bytes in front where they are of a comment, of a text, of a value or of a name, and says how many.
     pub(crate) fn pass(&mut self, bytes: &[u8]) -> Result<usize, AllocError>
         ensures within { IfOk result (λ n. n ≤ length bytes.now) }
         ensures same { IfOk result (λ n. run true (Some (state_of self.old)) (take n bytes.now) ≡ Some (state_of self.new)) }
@@ -48,6 +66,8 @@ impl Scanner {
             Mode::Comment(comment) => Ok(self.comment_count(comment, bytes)),
             Mode::Between => Ok(self.text_count(bytes)),
             Mode::Value => self.pass_value(bytes),
+            Mode::Naming => self.pass_name(bytes),
+            Mode::Attribute => self.pass_attribute(bytes),
             _ => Ok(0),
         }
     }
@@ -88,6 +108,30 @@ impl Scanner {
     {
         let count = ordinary_count(bytes);
         self.tag.value.extend_from_slice(&bytes[..count])?;
+        Ok(count)
+    }
+
+    /// Takes the bytes of a name in front into the name of an element.
+    fn pass_name(&mut self, bytes: &[u8]) -> Result<usize, AllocError>
+        requires due { self.old.due ≡ Due.Nothing }
+        requires mode { self.old.mode ≡ Mode.Naming }
+        ensures within { IfOk result (λ n. n ≤ length bytes.now) }
+        ensures same { IfOk result (λ n. run true (Some (state_of self.old)) (take n bytes.now) ≡ Some (state_of self.new)) }
+    {
+        let count = name_count(bytes);
+        self.tag.name.extend_from_slice(&bytes[..count])?;
+        Ok(count)
+    }
+
+    /// Takes the bytes of a name in front into the name of an attribute.
+    fn pass_attribute(&mut self, bytes: &[u8]) -> Result<usize, AllocError>
+        requires due { self.old.due ≡ Due.Nothing }
+        requires mode { self.old.mode ≡ Mode.Attribute }
+        ensures within { IfOk result (λ n. n ≤ length bytes.now) }
+        ensures same { IfOk result (λ n. run true (Some (state_of self.old)) (take n bytes.now) ≡ Some (state_of self.new)) }
+    {
+        let count = name_count(bytes);
+        self.tag.attribute.extend_from_slice(&bytes[..count])?;
         Ok(count)
     }
 }
