@@ -1,8 +1,8 @@
 -- Firings of one actor that start at one moment.
-use Rattle.std.proofs.Common.{◌≡◌, ℕ, ◌+◌, ◌-◌, ◌*◌, ◌%◌, ◌≤◌, ◌<◌, List, [], ◌∷◌, ◌++◌, length, sum, ⊎_elim, subst, sym, refl, ap, ◌∙◌, arith, mul-le-mul_right, zero-add}
+use Rattle.std.proofs.Common.{◌≡◌, ℕ, ◌+◌, ◌-◌, ◌*◌, ◌%◌, ◌≤◌, ◌<◌, List, [], ◌∷◌, ◌++◌, length, replicate, sum, ⊎_elim, subst, sym, refl, ap, ◌∙◌, arith, mul-le-mul_right, zero-add}
 use Rattle.std.specs.Prelude.{slice_index, slice_index_or}
 use Rattle.std.proofs.lemmas.Bool.{cases_lt}
-use Rattle.std.proofs.lemmas.List.{get_or_append_left, get_or_push, length_push}
+use Rattle.std.proofs.lemmas.List.{get_or-append-add, get_or-replicate, get_or_append_left, length-append, length-replicate}
 use Rattle.sd_base.specs.Net.{Net, channel_at, phase_entry, total}
 use Rattle.sd_base.specs.Schedules.{time_of, phases_at}
 use Rattle.sd_base.specs.Lawful.{Lawful}
@@ -117,17 +117,12 @@ lacks-then net laws a k n i tokens left one (place, into, few) takes =
 pub adds-none : (net : Net) (a moment k : ℕ) (old : List ℕ) → AddsEnds net a moment k 0 old old
 adds-none net a moment k old = record { long = omega arith; kept = λ j h. refl; added = λ j h. absurd (omega arith) }
 
-pub adds-more : (net : Net) (a moment k n : ℕ) (old now new : List ℕ) (end : ℕ) → new ≡ now ++ end ∷ [] → end ≡ moment + time_of net a (k + n) → AddsEnds net a moment k n old now → AddsEnds net a moment k (n + 1) old new
-adds-more net a moment k n old now new end push at so_far = subst (AddsEnds net a moment k (n + 1) old) (sym push) (record {
-  long = length_push now end ∙ omega (arith, so_far.long);
-  kept = λ j h. get_or_append_left now (end ∷ []) 0 j (omega (arith, so_far.long)) ∙ so_far.kept j h;
-  added = λ j h. ⊎_elim
-      (λ (old_one : j < n). get_or_append_left now (end ∷ []) 0 (length old + j) (omega (arith, so_far.long)) ∙ so_far.added j old_one)
-      (λ (new_one : n ≤ j).
-      let same : j ≡ n = omega arith in
-      let last : slice_index (now ++ end ∷ []) (length old + j) ≡ end = get_or_push now end 0 (length old + j) (omega (arith, so_far.long)) in
-      last ∙ rw same at)
-      (cases_lt j n);
+-- firings that take as long as the first one end together
+pub adds-run : (net : Net) (a moment k n : ℕ) (old new : List ℕ) (end : ℕ) → new ≡ old ++ replicate n end → end ≡ moment + time_of net a k → ((j : ℕ) → j < n → time_of net a (k + j) ≡ time_of net a k) → AddsEnds net a moment k n old new
+adds-run net a moment k n old new end push at alike = subst (AddsEnds net a moment k n old) (sym push) (record {
+  long = length-append old (replicate n end) ∙ ap (λ (x : ℕ). length old + x) (length-replicate n end);
+  kept = λ j h. get_or_append_left old (replicate n end) 0 j h;
+  added = λ j h. get_or-append-add old (replicate n end) j 0 ∙ (get_or-replicate n j end 0 h ∙ (at ∙ ap (λ (x : ℕ). moment + x) (sym (alike j h))));
 })
 
 pub adds-then : (net : Net) (a moment k n m : ℕ) (old now new : List ℕ) → AddsEnds net a moment k n old now → AddsEnds net a moment (k + n) m now new → AddsEnds net a moment k (n + m) old new
@@ -191,8 +186,8 @@ start-over net a moment k room tokens left runs more n m so_far much feeds = (
       rw e (omega arith),
 )
 
-pub end-at : (net : Net) (a moment k n phases time : ℕ) → phases ≡ phases_at net a → time ≡ slice_index (slice_index_or net.times a []) ((k + n) % phases) → moment + time ≡ moment + time_of net a (k + n)
-end-at net a moment k n phases time many here = ap (λ (x : ℕ). moment + x) (rw (← many) here)
+pub end-at : (net : Net) (a moment k phases time : ℕ) → phases ≡ phases_at net a → time ≡ slice_index (slice_index_or net.times a []) (k % phases) → moment + time ≡ moment + time_of net a k
+end-at net a moment k phases time many here = ap (λ (x : ℕ). moment + x) (rw (← many) here)
 
 -- ---- all together
 

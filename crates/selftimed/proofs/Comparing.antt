@@ -48,23 +48,3 @@ times-agree now left then right n whole long agree = ext_get_or [] (remaining_no
 
 pub times-apart : (now : ℕ) (left : List ActorState) (then : ℕ) (right : List ActorState) (a : ℕ) → a < length left → length right ≡ length left → map (λ e. e - now) (running_in left a) ≢ map (λ e. e - then) (running_in right a) → remaining_now now left ≢ remaining_now then right
 times-apart now left then right a place long away same = away (sym (times-at now left a place) ∙ (ap (λ (xs : List (List ℕ)). slice_index_or xs a []) same ∙ times-at then right a (omega arith)))
-
--- the times from a moment to the first n ends are those from another one to others
-abbrev pub EndsAgree : ℕ → List ℕ → ℕ → List ℕ → ℕ → Type 0
-EndsAgree now ends then others n = (k : ℕ) → k < n → slice_index ends k - now ≡ slice_index others k - then
-
-end-at : (now : ℕ) (ends : List ℕ) (k : ℕ) → k < length ends → slice_index (map (λ e. e - now) ends) k ≡ slice_index ends k - now
-end-at now ends k below = get_or-map (λ (e : ℕ). e - now) ends k 0 0 below
-
-pub ends-agree : (now : ℕ) (ends : List ℕ) (then : ℕ) (others : List ℕ) (n : ℕ) → length ends ≤ n → length ends ≡ length others → EndsAgree now ends then others n → map (λ e. e - now) ends ≡ map (λ e. e - then) others
-ends-agree now ends then others n whole long agree = ext_get_or 0 (map (λ e. e - now) ends) (map (λ e. e - then) others)
-    (length-map ends (λ (e : ℕ). e - now) ∙ (long ∙ sym (length-map others (λ (e : ℕ). e - then))))
-    (λ k below.
-    let place : k < length ends = rw (length-map ends (λ (e : ℕ). e - now)) at below in
-    end-at now ends k place ∙ (agree k (omega arith) ∙ sym (end-at then others k (omega arith))))
-
-pub ends-apart : (now : ℕ) (ends : List ℕ) (then : ℕ) (others : List ℕ) (k : ℕ) → k < length ends → length ends ≡ length others → slice_index ends k - now ≢ slice_index others k - then → map (λ e. e - now) ends ≢ map (λ e. e - then) others
-ends-apart now ends then others k place long away same = away (sym (end-at now ends k place) ∙ (ap (λ (xs : List ℕ). slice_index xs k) same ∙ end-at then others k (omega arith)))
-
-pub ends-length : (now : ℕ) (ends : List ℕ) (then : ℕ) (others : List ℕ) → map (λ e. e - now) ends ≡ map (λ e. e - then) others → length ends ≡ length others
-ends-length now ends then others same = sym (length-map ends (λ (e : ℕ). e - now)) ∙ (ap length same ∙ length-map others (λ (e : ℕ). e - then))

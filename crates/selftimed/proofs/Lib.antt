@@ -1,3 +1,5 @@
+pub mod Runs
+pub mod TimesLeft
 pub mod Shifts
 pub mod Agendas
 pub mod Batches

@@ -20,7 +20,7 @@ weighed-set i (t ∷ ts) (suc k) y below =
     rw e (omega (arith, weighed-set (i + 1) ts k y (omega arith)))
 
 -- a sum of remainders
-mod-sum : (p q m : ℕ) → (p % m + q % m) % m ≡ (p + q) % m
+pub mod-sum : (p q m : ℕ) → (p % m + q % m) % m ≡ (p + q) % m
 mod-sum p q m =
     let turn : p + q % m ≡ q % m + p = omega arith in
     let back : q + p ≡ p + q = omega arith in

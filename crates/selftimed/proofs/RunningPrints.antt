@@ -1,30 +1,29 @@
 -- How the sum of ends changes, and what it says of the times left.
-use Rattle.std.proofs.Common.{◌≡◌, ℕ, suc, ◌+◌, ◌-◌, ◌*◌, ◌%◌, ◌^◌, ◌≤◌, ◌<◌, List, [], ◌∷◌, ◌++◌, length, map, take, drop, sym, refl, ap, ◌∙◌, arith}
+use Rattle.std.proofs.Common.{◌≡◌, ℕ, suc, ◌+◌, ◌-◌, ◌*◌, ◌%◌, ◌^◌, ◌≤◌, ◌<◌, List, [], ◌∷◌, ◌++◌, length, map, replicate, take, sym, refl, ap, ◌∙◌, arith}
 use Rattle.std.specs.Prelude.{slice_index, slice_index_or, sum}
-use Rattle.std.proofs.Math.Nat.{mod-add-mod, mul-add}
+use Rattle.std.proofs.Math.Nat.{mul-add}
 use Rattle.std.proofs.lemmas.Nat.{mul-mod_second}
 use Rattle.std.proofs.lemmas.List.{length-map, length-take-le, map_push}
-use Rattle.std.proofs.lemmas.List.Sums.{sum_by-cons, sum_by_push, sum_by_more, sum_by-take-drop}
+use Rattle.std.proofs.lemmas.List.Folds.{sum_by-replicate}
+use Rattle.std.proofs.lemmas.List.Sums.{sum_by-append, sum_by-cons}
 use Rattle.selftimed.specs.declared.actors.ActorState.{ActorState}
 use Rattle.selftimed.specs.inside.Actors.{idle}
 use Rattle.selftimed.specs.EngineShapes.{remaining_now}
 use Rattle.selftimed.specs.Prints.{weight, print_of, running_print_of}
-use Rattle.selftimed.proofs.Printing.{mod-less, print-push}
+use Rattle.selftimed.proofs.Printing.{mod-less, mod-sum, print-push}
 use Rattle.selftimed.proofs.Shaping.{remaining-more}
 
 -- ---- the sum of ends
 
-pub total-more : (ends : List ℕ) (k total : ℕ) → k < length ends → total ≡ sum (take k ends) % 2 ^ 64 → (total + slice_index ends k) % 2 ^ 64 ≡ sum (take (k + 1) ends) % 2 ^ 64
-total-more ends k total below is =
-    rw is (mod-add-mod (sum (take k ends)) (2 ^ 64) (slice_index ends k) ∙ ap (λ (x : ℕ). x % 2 ^ 64) (sym (sum_by_more (λ (x : ℕ). x) ends k 0 below)))
+pub total-run : (ends : List ℕ) (total end n : ℕ) → total ≡ sum ends % 2 ^ 64 → (total + (end * n) % 2 ^ 64) % 2 ^ 64 ≡ sum (ends ++ replicate n end) % 2 ^ 64
+total-run ends total end n is =
+    let more : sum (ends ++ replicate n end) ≡ sum ends + end * n = sum_by-append (λ (x : ℕ). x) ends (replicate n end) ∙ (ap (λ (x : ℕ). sum ends + x) (sum_by-replicate (λ (x : ℕ). x) n end) ∙ omega arith) in
+    rw is (mod-sum (sum ends) (end * n) (2 ^ 64) ∙ ap (λ (x : ℕ). x % 2 ^ 64) (sym more))
 
-pub total-push : (ends : List ℕ) (total end : ℕ) → total ≡ sum ends % 2 ^ 64 → (total + end) % 2 ^ 64 ≡ sum (ends ++ end ∷ []) % 2 ^ 64
-total-push ends total end is = rw is (mod-add-mod (sum ends) (2 ^ 64) end ∙ ap (λ (x : ℕ). x % 2 ^ 64) (sym (sum_by_push (λ (x : ℕ). x) ends end)))
-
-pub total-pop : (runs : List ℕ) (n total past : ℕ) → total ≡ sum runs % 2 ^ 64 → past ≡ sum (take n runs) % 2 ^ 64 → (total + (2 ^ 64 - past)) % 2 ^ 64 ≡ sum (drop n runs) % 2 ^ 64
-total-pop runs n total past is was =
-    let parts : sum (take n runs) + sum (drop n runs) ≡ sum runs = sum_by-take-drop (λ (x : ℕ). x) runs n in
-    rw (is, was) (mod-less (sum runs) (sum (drop n runs)) (sum (take n runs)) (2 ^ 64) (omega arith) (omega (arith, parts)))
+pub total-pop : (all front back : List ℕ) (total past : ℕ) → front ++ back ≡ all → total ≡ sum all % 2 ^ 64 → past ≡ sum front % 2 ^ 64 → (total + (2 ^ 64 - past)) % 2 ^ 64 ≡ sum back % 2 ^ 64
+total-pop all front back total past parts is was =
+    let sums : sum front + sum back ≡ sum all = sym (sum_by-append (λ (x : ℕ). x) front back) ∙ ap sum parts in
+    rw (is, was) (mod-less (sum all) (sum back) (sum front) (2 ^ 64) (omega arith) (omega (arith, sums)))
 
 -- ---- the times left
 

@@ -1,6 +1,8 @@
 pub mod Actors
 pub mod Agendas
+pub mod Runs
 pub mod Queues
+pub mod Kept
 pub mod Starts
 pub mod Stands
 pub mod Plans

@@ -1,4 +1,4 @@
-ghost use Rattle.std.specs.Prelude.{◌≡◌, ℕ, ◌<◌, ◌≤◌, IfOk, OnOk, length, replicate, slice_index};
+ghost use Rattle.std.specs.Prelude.{◌≡◌, IfOk, OnOk, replicate};
 ghost use Rattle.selftimed.specs.inside.Actors.{fresh_one};
 
 use crate::running::Running;
@@ -45,18 +45,4 @@ pub(crate) fn refresh(
         })?;
     }
     Ok(())
-}
-
-/// How many of the first ends have come by a moment.
-pub(crate) fn ended_by(ends: &[u64], moment: u64) -> usize
-    ensures within { result ≤ length ends.now }
-    ensures past { (k : ℕ) → k < result → slice_index ends.now k ≤ moment }
-    ensures next { result < length ends.now → moment < slice_index ends.now result }
-{
-    for (k, end) in ends.iter().enumerate() {
-        if *end > moment {
-            return k;
-        }
-    }
-    ends.len()
 }

@@ -1,9 +1,11 @@
 //! Where the actors of two executions of one net stand, compared without a shape of either.
-ghost use Rattle.std.specs.Prelude.{◌≡◌, ◌↔◌, ℕ, ◌-◌, ◌<◌, ◌≤◌, IsTrue, length, map, slice_index};
+ghost use Rattle.std.specs.Prelude.{◌≡◌, ◌↔◌, ◌-◌, ◌≤◌, IsTrue, length, map};
+ghost use Rattle.selftimed.specs.inside.Runs.{ends_of, left_of, AreRuns, NoneEnded};
 ghost use Rattle.selftimed.specs.EngineShapes.{phases_now, remaining_now, IsPast};
 ghost use Rattle.selftimed.specs.Prints.{running_print_of};
 
 use crate::actors::ActorState;
+use crate::queue::Run;
 use crate::shape::phase_of;
 use crate::tokens::weight_of;
 use firing::Firing;
@@ -46,9 +48,9 @@ pub(crate) fn same_running(now: u64, left: &[ActorState], then: u64, right: &[Ac
     for (actor, state) in left.iter().enumerate() {
         if !same_left(
             now,
-            state.running.as_slice(),
+            state.running.as_runs(),
             then,
-            right[actor].running.as_slice(),
+            right[actor].running.as_runs(),
         ) {
             return false;
         }
@@ -56,19 +58,30 @@ pub(crate) fn same_running(now: u64, left: &[ActorState], then: u64, right: &[Ac
     true
 }
 
-/// Whether the times from a moment to each end are those from another one to others.
-fn same_left(now: u64, ends: &[u64], then: u64, others: &[u64]) -> bool
-    requires left { (k : ℕ) → k < length ends.now → now ≤ slice_index ends.now k }
-    requires right { (k : ℕ) → k < length others.now → then ≤ slice_index others.now k }
-    ensures { IsTrue result ↔ (map (λ end. end - now) ends.now ≡ map (λ end. end - then) others.now) }
+/// Whether the times from a moment to each end are those from another one to others. Cost: linear in the runs.
+fn same_left(now: u64, runs: &[Run], then: u64, others: &[Run]) -> bool
+    requires runs { AreRuns runs.now }
+    requires others { AreRuns others.now }
+    requires left { NoneEnded now runs.now }
+    requires right { NoneEnded then others.now }
+    ensures { IsTrue result ↔ (map (λ end. end - now) (ends_of runs.now) ≡ map (λ end. end - then) (ends_of others.now)) }
 {
-    if ends.len() != others.len() {
+    if runs.len() != others.len() {
         return false;
     }
-    for (k, end) in ends.iter().enumerate() {
-        if *end - now != others[k] - then {
+    for (k, run) in runs.iter().enumerate() {
+        if !is_left(now, *run, then, others[k]) {
             return false;
         }
     }
     true
+}
+
+/// Whether a run is as far from its end at a moment as another one at another moment, and has as many firings.
+fn is_left(now: u64, run: Run, then: u64, other: Run) -> bool
+    requires left { now ≤ run.end }
+    requires right { then ≤ other.end }
+    ensures { IsTrue result ↔ (left_of now run ≡ left_of then other) }
+{
+    run.firings == other.firings && run.end - now == other.end - then
 }

@@ -6,7 +6,7 @@ ghost use Rattle.selftimed.specs.inside.Actors.{EndsOne, Touches};
 ghost use Rattle.selftimed.specs.inside.Agendas.{Lists};
 ghost use Rattle.selftimed.specs.inside.PortRates.{AreRates};
 
-use crate::actors::{ActorState, ended_by};
+use crate::actors::ActorState;
 use crate::agenda::Agenda;
 use crate::rates::Rates;
 use crate::tokens::{Tokens, put_all};
@@ -35,18 +35,9 @@ pub(crate) fn end_actor<F: Firing>(
     ensures lacking { state.new.lacking ≡ state.old.lacking }
     ensures long { length tokens.new ≡ length tokens.old }
 {
-    let firings = ended_by(state.running.as_slice(), moment);
-    put_all(
-        net,
-        rates,
-        outputs,
-        tokens,
-        actor,
-        state.ended,
-        firings as u64,
-    );
-    state.running.pop_front(firings);
-    state.ended += firings as u64;
+    let firings = state.running.pop_ended(moment);
+    put_all(net, rates, outputs, tokens, actor, state.ended, firings);
+    state.ended += firings;
 }
 
 /// Touches the actors into which these channels lead and that lacked tokens there, if they have enough now.

@@ -141,7 +141,8 @@ impl<'a, F: Firing> Engine<'a, F> {
     /// Goes to the next event, which is moment 0 at first, and makes its starts. Of an actor without an input
     /// endlessly many firings could start, so a net with one spends the engine at once.
     ///
-    /// Cost: a step for each firing that ends or starts, the channels of the actors that end, and the channels
+    /// Cost: a step for each run of an actor's firings that end together, and for each actor that starts firings, or
+    /// each of them where it has more than one phase; the channels of the actors that end, and the channels
     /// into those that lacked the tokens made; for each of these actors also the logarithm of the actors that
     /// run. Actors at whose channels nothing changes cost nothing.
     pub fn advance(&mut self) -> Result<Move, NoMemory>
@@ -314,7 +315,8 @@ impl<'a, F: Firing> Engine<'a, F> {
     }
 
     /// Whether the same stands after the last event of another execution of the net. Cost: mostly constant where the
-    /// tokens differ, and linear in the actors where the running firings do.
+    /// tokens differ, linear in the actors where the running firings do, and else linear in the channels, the actors
+    /// and the runs of firings that end together.
     pub fn same_as(&self, other: &Engine<'a, F>) -> bool
         requires net { other.now.net.now ≡ self.now.net.now }
         requires here { self.now.stage ≡ Stage.Running }

@@ -1,23 +1,36 @@
-ghost use Rattle.std.specs.Prelude.{◌≡◌, ℕ, ◌+◌, ◌-◌, ◌<◌, ◌≤◌, [], ◌∷◌, ◌++◌, OnErr, OnOk, drop, length, slice_get, take};
+ghost use Rattle.std.specs.Prelude.{◌≡◌, ◌↔◌, ℕ, ◌+◌, ◌-◌, ◌^◌, ◌<◌, ◌≤◌, [], ◌∷◌, ◌++◌, IsTrue, OnErr, OnOk, drop, length, replicate, set, slice_get, take};
+ghost use Rattle.std.specs.Option.{option_map};
+ghost use Rattle.selftimed.specs.declared.queue.Run.{Run};
+ghost use Rattle.selftimed.specs.inside.Runs.{run_at, ends_of, AreRuns, EndsLastAt, grown, more_of};
 
 use smallvec::SmallVec;
 use std::alloc::{AllocError, Global};
 use std::marker::Model;
 
-/// A queue of moments. Contracts see the list of them. A few moments need no allocation.
+/// Firings that end together.
+#[derive(Clone, Copy, Debug, Default)]
+pub(crate) struct Run {
+    /// The moment at which they end.
+    pub(crate) end: u64,
+    /// How many they are.
+    pub(crate) firings: u64,
+}
+
+/// A queue of runs. Contracts see the list of them. A few runs need no allocation.
 #[derive(Debug, Drop)]
 pub(crate) struct Queue {
-    moments: SmallVec<u64, 4>,
-    /// The moments before this place are past.
+    runs: SmallVec<Run, 4>,
+    /// The runs before this place are past.
     head: usize,
-    /// The moment at this place, kept here since each start and each end asks for it.
+    /// The end of the run at this place, kept here since each start and each end asks for it.
     first: Option<u64>,
 }
 
 impl Model for Queue {
-    ghost use Rattle.std.specs.Prelude.{List, ℕ};
+    ghost use Rattle.std.specs.Prelude.{List};
+    ghost use Rattle.selftimed.specs.declared.queue.Run.{Run};
 
-    ghost Value = { List ℕ };
+    ghost Value = { List Run };
 
     ghost use Rattle.selftimed.specs.inside.Queues.{still_to_come, IsQueue};
 
@@ -31,45 +44,72 @@ impl Queue {
         ensures { result ≡ [] }
     {
         Queue {
-            moments: SmallVec::new(alloc),
+            runs: SmallVec::new(alloc),
             head: 0,
             first: None,
         }
     }
 
-    /// The first moment, if there is one.
+    /// The end of the first run, if there is one.
     pub(crate) fn first(&self) -> Option<u64>
-        ensures { result ≡ slice_get self.now 0 }
+        ensures { result ≡ option_map (λ (r : Run). r.end) (slice_get self.now 0) }
     {
         self.first
     }
 
-    pub(crate) fn as_slice(&self) -> &[u64]
+    pub(crate) fn as_slice(&self) -> &[Run]
         ensures { result.now ≡ self.now }
     {
-        &self.moments.as_slice()[self.head..]
+        &self.runs.as_slice()[self.head..]
     }
 
-    pub(crate) fn push(&mut self, moment: u64) -> Result<(), AllocError>
-        ensures ok { OnOk result (self.new ≡ self.old ++ moment ∷ []) }
+    /// Adds firings that end together after all others: to the last run, where it has the same end.
+    pub(crate) fn add(&mut self, end: u64, firings: u64) -> Result<(), AllocError>
+        requires some { 0 < firings }
+        requires few { length (ends_of self.old) + firings < 2 ^ 64 }
+        requires runs { AreRuns self.old }
+        ensures ok { OnOk result (ends_of self.new ≡ ends_of self.old ++ replicate firings end) }
+        ensures runs { AreRuns self.new }
         ensures err { OnErr result (self.new ≡ self.old) }
     {
-        self.moments.push(moment)?;
+        if ends_last_at(self.as_slice(), end) {
+            self.grow_last(firings);
+            return Ok(());
+        }
+        self.push(Run { end, firings })?;
+        Ok(())
+    }
+
+    fn push(&mut self, run: Run) -> Result<(), AllocError>
+        ensures ok { OnOk result (self.new ≡ self.old ++ run ∷ []) }
+        ensures err { OnErr result (self.new ≡ self.old) }
+    {
+        self.runs.push(run)?;
         if self.first.is_none() {
-            self.first = Some(moment);
+            self.first = Some(run.end);
         }
         Ok(())
     }
 
-    /// Takes off the first moments.
+    /// Adds firings to the last run.
+    fn grow_last(&mut self, firings: u64)
+        requires some { 0 < length self.old }
+        requires few { (run_at self.old (length self.old - 1)).firings + firings < 2 ^ 64 }
+        ensures { self.new ≡ grown self.old firings }
+    {
+        let last = self.runs.len() - 1;
+        grow(self.runs.as_mut_slice(), last, firings);
+    }
+
+    /// Takes off the first runs.
     pub(crate) fn pop_front(&mut self, count: usize)
         requires { count ≤ length self.old }
         ensures { self.new ≡ drop count self.old }
     {
-        let all = self.moments.len();
+        let all = self.runs.len();
         // mostly the only one, for which there is nothing to move
         if all == 1 && count == 1 {
-            self.moments.pop();
+            self.runs.pop();
             self.head = 0;
             self.first = None;
             return;
@@ -77,20 +117,49 @@ impl Queue {
         self.head += count;
         let left = all - self.head;
         if left < self.head {
-            shift_down(self.moments.as_mut_slice(), self.head);
-            self.moments.truncate(left);
+            shift_down(self.runs.as_mut_slice(), self.head);
+            self.runs.truncate(left);
             self.head = 0;
         }
-        self.first = self.moments.as_slice().get(self.head).copied();
+        self.first = end_at(self.runs.as_slice(), self.head);
     }
 }
 
-/// Moves what stands from a place on to the front.
-fn shift_down(moments: &mut [u64], from: usize)
-    requires { from ≤ length moments.old }
-    ensures { take (length moments.old - from) moments.new ≡ drop from moments.old }
+/// Whether there are runs, and the last one ends at a moment.
+fn ends_last_at(runs: &[Run], moment: u64) -> bool
+    ensures { IsTrue result ↔ EndsLastAt runs.now moment }
 {
-    for place in from..moments.len() {
-        moments[place - from] = moments[place];
+    match runs.len() {
+        0 => false,
+        count => runs[count - 1].end == moment,
+    }
+}
+
+/// The end of the run at a place, if there is one.
+fn end_at(runs: &[Run], place: usize) -> Option<u64>
+    ensures { result ≡ option_map (λ (r : Run). r.end) (slice_get runs.now place) }
+{
+    if place >= runs.len() {
+        return None;
+    }
+    Some(runs[place].end)
+}
+
+/// Adds firings to the run at a place.
+fn grow(runs: &mut [Run], place: usize, firings: u64)
+    requires place { place < length runs.old }
+    requires few { (run_at runs.old place).firings + firings < 2 ^ 64 }
+    ensures { runs.new ≡ set runs.old place (more_of (run_at runs.old place) firings) }
+{
+    runs[place].firings += firings;
+}
+
+/// Moves what stands from a place on to the front.
+fn shift_down(runs: &mut [Run], from: usize)
+    requires { from ≤ length runs.old }
+    ensures { take (length runs.old - from) runs.new ≡ drop from runs.old }
+{
+    for place in from..runs.len() {
+        runs[place - from] = runs[place];
     }
 }

@@ -1,26 +1,32 @@
-ghost use Rattle.std.specs.Prelude.{◌≡◌, ℕ, ◌-◌, ◌%◌, ◌^◌, ◌<◌, ◌≤◌, [], ◌∷◌, ◌++◌, OnErr, OnOk, drop, length, map, slice_get, slice_index, sum};
+ghost use Rattle.std.specs.Prelude.{◌≡◌, ℕ, ◌+◌, ◌-◌, ◌%◌, ◌^◌, ◌<◌, ◌≤◌, [], ◌++◌, All, OnErr, OnOk, drop, length, map, replicate, slice_get, slice_index, sum, take};
+ghost use Rattle.selftimed.specs.inside.Runs.{run_at, ends_of, AreRuns};
 
-use crate::queue::Queue;
+use crate::queue::{Queue, Run};
 use std::alloc::{AllocError, Global};
 use std::marker::Model;
 
 /// The firings of an actor that run, as the moments at which they end, ascending, with the sum of these
-/// moments, by which most unequal lists of them are told apart at once. Contracts see the list.
+/// moments, by which most unequal lists of them are told apart at once. Contracts see the list; the firings beside
+/// each other that end together are kept as one run.
 #[derive(Debug, Drop)]
 pub(crate) struct Running {
-    ends: Queue,
+    runs: Queue,
+    /// How many firings they are.
+    firings: u64,
     /// The sum of the ends, in 64 bits.
     total: u64,
 }
 
 impl Model for Running {
-    ghost use Rattle.std.specs.Prelude.{◌≡◌, ◌%◌, ◌^◌, List, ℕ, sum};
+    ghost use Rattle.std.specs.Prelude.{List, ℕ};
 
     ghost Value = { List ℕ };
 
-    ghost view = { λ r. r.ends };
+    ghost use Rattle.selftimed.specs.inside.Kept.{kept_ends, IsKept};
 
-    ghost invariant = { λ r. r.total ≡ sum r.ends % 2 ^ 64 };
+    ghost view = { kept_ends };
+
+    ghost invariant = { IsKept };
 }
 
 impl Running {
@@ -28,7 +34,8 @@ impl Running {
         ensures { result ≡ [] }
     {
         Running {
-            ends: Queue::new(alloc),
+            runs: Queue::new(alloc),
+            firings: 0,
             total: 0,
         }
     }
@@ -37,32 +44,43 @@ impl Running {
     pub(crate) fn first(&self) -> Option<u64>
         ensures { result ≡ slice_get self.now 0 }
     {
-        self.ends.first()
+        self.runs.first()
     }
 
-    pub(crate) fn as_slice(&self) -> &[u64]
-        ensures { result.now ≡ self.now }
+    /// The runs of firings that end together.
+    pub(crate) fn as_runs(&self) -> &[Run]
+        ensures ends { ends_of result.now ≡ self.now }
+        ensures runs { AreRuns result.now }
     {
-        self.ends.as_slice()
+        self.runs.as_slice()
     }
 
-    pub(crate) fn push(&mut self, end: u64) -> Result<(), AllocError>
-        ensures ok { OnOk result (self.new ≡ self.old ++ end ∷ []) }
+    /// Adds firings that end together.
+    pub(crate) fn push(&mut self, end: u64, firings: u64) -> Result<(), AllocError>
+        requires some { 0 < firings }
+        requires few { length self.old + firings < 2 ^ 64 }
+        ensures ok { OnOk result (self.new ≡ self.old ++ replicate firings end) }
         ensures err { OnErr result (self.new ≡ self.old) }
     {
-        self.ends.push(end)?;
-        self.total = self.total.wrapping_add(end);
+        self.runs.add(end, firings)?;
+        self.firings += firings;
+        self.total = self.total.wrapping_add(end.wrapping_mul(firings));
         Ok(())
     }
 
-    /// Takes off the first firings.
-    pub(crate) fn pop_front(&mut self, firings: usize)
-        requires { firings ≤ length self.old }
-        ensures { self.new ≡ drop firings self.old }
+    /// Takes off the firings before the first one that ends after a moment, and tells how many there are. Cost: linear in
+    /// the runs that they make.
+    pub(crate) fn pop_ended(&mut self, moment: u64) -> u64
+        ensures within { result ≤ length self.old }
+        ensures rest { self.new ≡ drop result self.old }
+        ensures past { (k : ℕ) → k < result → slice_index self.old k ≤ moment }
+        ensures next { result < length self.old → moment < slice_index self.old result }
     {
-        let past = total_of(&self.ends.as_slice()[..firings]);
-        self.ends.pop_front(firings);
-        self.total = self.total.wrapping_sub(past);
+        let ended = ended_by(self.runs.as_slice(), moment);
+        self.runs.pop_front(ended.runs);
+        self.firings -= ended.firings;
+        self.total = self.total.wrapping_sub(ended.total);
+        ended.firings
     }
 
     /// The sum of the times from a moment to the ends, in 64 bits. Cost: constant.
@@ -70,18 +88,44 @@ impl Running {
         requires { (k : ℕ) → k < length self.now → moment ≤ slice_index self.now k }
         ensures { result ≡ sum (map (λ end. end - moment) self.now) % 2 ^ 64 }
     {
-        let firings = self.ends.as_slice().len() as u64;
-        self.total.wrapping_sub(moment.wrapping_mul(firings))
+        self.total.wrapping_sub(moment.wrapping_mul(self.firings))
     }
 }
 
-/// The sum of some ends, in 64 bits.
-fn total_of(ends: &[u64]) -> u64
-    ensures { result ≡ sum ends.now % 2 ^ 64 }
+/// The first of some runs.
+#[derive(Clone, Copy, Debug)]
+struct Ended {
+    runs: usize,
+    firings: u64,
+    /// The sum of the firings' ends, in 64 bits.
+    total: u64,
+}
+
+/// The runs before the first one that ends after a moment.
+fn ended_by(runs: &[Run], moment: u64) -> Ended
+    requires { length (ends_of runs.now) < 2 ^ 64 }
+    ensures within { result.runs ≤ length runs.now }
+    ensures past { All (λ (end : ℕ). end ≤ moment) (ends_of (take result.runs runs.now)) }
+    ensures next { result.runs < length runs.now → moment < (run_at runs.now result.runs).end }
+    ensures firings { result.firings ≡ length (ends_of (take result.runs runs.now)) }
+    ensures total { result.total ≡ sum (ends_of (take result.runs runs.now)) % 2 ^ 64 }
 {
+    let mut firings = 0u64;
     let mut total = 0u64;
-    for end in ends {
-        total = total.wrapping_add(*end);
+    for (k, run) in runs.iter().enumerate() {
+        if run.end > moment {
+            return Ended {
+                runs: k,
+                firings,
+                total,
+            };
+        }
+        firings += run.firings;
+        total = total.wrapping_add(run.end.wrapping_mul(run.firings));
     }
-    total
+    Ended {
+        runs: runs.len(),
+        firings,
+        total,
+    }
 }

@@ -1,8 +1,10 @@
-ghost use Rattle.std.specs.Prelude.{◌≡◌, ◌↔◌, ℕ, ◌-◌, ◌%◌, ◌<◌, ◌≤◌, IfOk, IsTrue, length, map, slice_index};
+ghost use Rattle.std.specs.Prelude.{◌≡◌, ◌↔◌, ◌-◌, ◌%◌, ◌<◌, ◌++◌, IfOk, IsTrue, OnOk, length, map, replicate, take};
+ghost use Rattle.selftimed.specs.inside.Runs.{ends_of, NoneEnded};
 ghost use Rattle.sd_base.specs.Schedules.{phases_at};
 ghost use Rattle.selftimed.specs.EngineShapes.{phases_now, remaining_now, IsPast};
 
 use crate::actors::ActorState;
+use crate::queue::Run;
 use firing::{Firing, know_laws};
 use sd_base::{NoMemory, Rows};
 use std::alloc::Global;
@@ -63,21 +65,31 @@ pub(crate) fn remaining_of(
 {
     let mut rows = Rows::new(alloc);
     for state in actors {
-        rows.push(times_of(alloc, moment, state.running.as_slice())?)?;
+        rows.push(times_of(alloc, moment, state.running.as_runs())?)?;
     }
     Ok(rows)
 }
 
 /// The times from a moment to each end.
-fn times_of(alloc: Global, moment: u64, ends: &[u64]) -> Result<Rows<u64>, NoMemory>
-    requires { (k : ℕ) → k < length ends.now → moment ≤ slice_index ends.now k }
-    ensures { IfOk result (λ row. row ≡ map (λ end. end - moment) ends.now) }
+fn times_of(alloc: Global, moment: u64, runs: &[Run]) -> Result<Rows<u64>, NoMemory>
+    requires { NoneEnded moment runs.now }
+    ensures { IfOk result (λ row. row ≡ map (λ end. end - moment) (ends_of runs.now)) }
 {
     let mut row = Rows::new(alloc);
-    for end in ends {
-        row.push(*end - moment)?;
+    for run in runs {
+        push_times(&mut row, run.end - moment, run.firings)?;
     }
     Ok(row)
+}
+
+/// Adds so many equal times.
+fn push_times(row: &mut Rows<u64>, time: u64, firings: u64) -> Result<(), NoMemory>
+    ensures { OnOk result (row.new ≡ row.old ++ replicate firings time) }
+{
+    for _firing in 0..firings {
+        row.push(time)?;
+    }
+    Ok(())
 }
 
 /// Whether two lists of tokens are equal.
@@ -120,11 +132,7 @@ pub(crate) fn same_remaining(moment: u64, actors: &[ActorState], remaining: &[Ro
         return false;
     }
     for (actor, state) in actors.iter().enumerate() {
-        if !same_times(
-            moment,
-            state.running.as_slice(),
-            remaining[actor].as_slice(),
-        ) {
+        if !same_times(moment, state.running.as_runs(), remaining[actor].as_slice()) {
             return false;
         }
     }
@@ -132,15 +140,30 @@ pub(crate) fn same_remaining(moment: u64, actors: &[ActorState], remaining: &[Ro
 }
 
 /// Whether these are the times from a moment to each end.
-fn same_times(moment: u64, ends: &[u64], times: &[u64]) -> bool
-    requires { (k : ℕ) → k < length ends.now → moment ≤ slice_index ends.now k }
-    ensures { IsTrue result ↔ (map (λ end. end - moment) ends.now ≡ times.now) }
+fn same_times(moment: u64, runs: &[Run], times: &[u64]) -> bool
+    requires { NoneEnded moment runs.now }
+    ensures { IsTrue result ↔ (map (λ end. end - moment) (ends_of runs.now) ≡ times.now) }
 {
-    if ends.len() != times.len() {
+    let mut place = 0;
+    for run in runs {
+        if !begin_with(&times[place..], run.end - moment, run.firings) {
+            return false;
+        }
+        place += run.firings as usize;
+    }
+    place == times.len()
+}
+
+/// Whether the first of some times are so many equal ones.
+fn begin_with(times: &[u64], time: u64, firings: u64) -> bool
+    ensures { IsTrue result ↔ (take firings times.now ≡ replicate firings time) }
+{
+    if firings > times.len() as u64 {
         return false;
     }
-    for (k, end) in ends.iter().enumerate() {
-        if *end - moment != times[k] {
+    let first = &times[..firings as usize];
+    for other in first {
+        if *other != time {
             return false;
         }
     }

@@ -1,6 +1,6 @@
 ghost use Rattle.std.specs.Prelude.{◌≡◌, ℕ, ◌+◌, ◌*◌, ◌^◌, ◌<◌, ◌≤◌, length, slice_index, IfOk, OnOk, MatchOption};
 ghost use Rattle.sd_base.specs.Net.{channel_at};
-ghost use Rattle.sd_base.specs.Schedules.{phases_at};
+ghost use Rattle.sd_base.specs.Schedules.{phases_at, time_of};
 ghost use Rattle.firing.specs.declared.sums.Port.TheVariants.{Taken};
 ghost use Rattle.firing.specs.Wiring.{IsListed};
 ghost use Rattle.selftimed.specs.inside.Actors.{StartsOne};
@@ -48,6 +48,7 @@ impl<F: Firing> Turn<'_, F> {
     ) -> Result<Option<u64>, NoMemory>
         requires tokens { length tokens.old ≡ length (F.net self.now.net.now).channels }
         requires few { state.old.started + room ≤ 2 ^ 32 }
+        requires runs { length state.old.running ≤ state.old.started }
         ensures long { length tokens.new ≡ length tokens.old }
         ensures starts { IfOk result (λ o. MatchOption o (Overfills (F.net self.now.net.now) tokens.old self.now.actor state.old.started room)
             (λ n. (n ≤ room) × StartsOne (F.net self.now.net.now) self.now.actor self.now.moment n tokens.old tokens.new state.old state.new)) }
@@ -65,8 +66,8 @@ impl<F: Firing> Turn<'_, F> {
     }
 
     /// Starts firings from number `from` on, until a channel into the actor lacks tokens. None: more than `room` firings can
-    /// start; the tokens and the running firings are then anything. Cost: that of the channels into the actor, and a step
-    /// for each firing.
+    /// start; the tokens and the running firings are then anything. Cost: that of the channels into the actor, for
+    /// each firing where it has more than one phase.
     fn start_from(
         &self,
         from: u64,
@@ -76,6 +77,7 @@ impl<F: Firing> Turn<'_, F> {
     ) -> Result<Option<Begun>, NoMemory>
         requires tokens { length tokens.old ≡ length (F.net self.now.net.now).channels }
         requires few { from + room ≤ 2 ^ 32 }
+        requires runs { length running.old ≤ from }
         ensures long { length tokens.new ≡ length tokens.old }
         ensures starts { IfOk result (λ o. MatchOption o (Overfills (F.net self.now.net.now) tokens.old self.now.actor from room)
             (λ b. (b.firings ≤ room) × StartsAll (F.net self.now.net.now) self.now.actor self.now.moment from b.firings b.lacking tokens.old tokens.new running.old running.new)) }
@@ -98,6 +100,7 @@ impl<F: Firing> Turn<'_, F> {
         requires single { phases_at (F.net self.now.net.now) self.now.actor ≡ 1 }
         requires tokens { length tokens.old ≡ length (F.net self.now.net.now).channels }
         requires few { from + room ≤ 2 ^ 32 }
+        requires runs { length running.old ≤ from }
         ensures long { length tokens.new ≡ length tokens.old }
         ensures starts { IfOk result (λ o. MatchOption o (Overfills (F.net self.now.net.now) tokens.old self.now.actor from room)
             (λ b. (b.firings ≤ room) × StartsAll (F.net self.now.net.now) self.now.actor self.now.moment from b.firings b.lacking tokens.old tokens.new running.old running.new)) }
@@ -168,6 +171,7 @@ impl<F: Firing> Turn<'_, F> {
     ) -> Result<Option<Begun>, NoMemory>
         requires tokens { length tokens.old ≡ length (F.net self.now.net.now).channels }
         requires few { from + room ≤ 2 ^ 32 }
+        requires runs { length running.old ≤ from }
         ensures long { length tokens.new ≡ length tokens.old }
         ensures starts { IfOk result (λ o. MatchOption o (Overfills (F.net self.now.net.now) tokens.old self.now.actor from room)
             (λ b. (b.firings ≤ room) × StartsAll (F.net self.now.net.now) self.now.actor self.now.moment from b.firings b.lacking tokens.old tokens.new running.old running.new)) }
@@ -203,17 +207,17 @@ impl<F: Firing> Turn<'_, F> {
         }
     }
 
-    /// Adds the ends of firings that start, from number `from` on.
+    /// Adds the ends of firings that start, from number `from` on, all of which take as long.
     fn push_ends(&self, running: &mut Running, from: u64, firings: u64) -> Result<(), NoMemory>
+        requires some { 0 < firings }
         requires few { from + firings ≤ 2 ^ 32 }
+        requires runs { length running.old ≤ from }
+        requires alike { (k : ℕ) → k < firings → time_of (F.net self.now.net.now) self.now.actor (from + k) ≡ time_of (F.net self.now.net.now) self.now.actor from }
         ensures { OnOk result (AddsEnds (F.net self.now.net.now) self.now.actor self.now.moment from firings running.old running.new) }
     {
         know_laws(self.net);
-        let phases = self.net.phases(self.actor) as u64;
-        for k in 0..firings {
-            let phase = ((from + k) % phases) as u32;
-            running.push(self.moment + self.net.time(self.actor, phase))?;
-        }
+        let phase = (from % self.net.phases(self.actor) as u64) as u32;
+        running.push(self.moment + self.net.time(self.actor, phase), firings)?;
         Ok(())
     }
 }

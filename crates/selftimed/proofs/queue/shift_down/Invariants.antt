@@ -2,4 +2,4 @@ use Rattle.selftimed.proofs.Shifts.{Shifted}
 use Rattle.selftimed.proofs.queue.shift_down.Given as goal
 
 abbrev pub invariant-loop-place : goal.invariant-loop-place
-invariant-loop-place l = Shifted l.initial.moments l.moments l.from l.place
+invariant-loop-place l = Shifted l.initial.runs l.runs l.from l.place

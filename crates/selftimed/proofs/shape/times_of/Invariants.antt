@@ -1,5 +1,6 @@
-use Rattle.std.proofs.Common.{◌≡◌, ◌-◌, map, take}
+use Rattle.std.proofs.Common.{◌≡◌, take}
+use Rattle.selftimed.proofs.TimesLeft.{times_left}
 use Rattle.selftimed.proofs.shape.times_of.Given as goal
 
-abbrev pub invariant-loop-end : goal.invariant-loop-end
-invariant-loop-end l = l.row ≡ map (λ end. end - l.moment) (take l.end-index l.ends)
+abbrev pub invariant-loop-run : goal.invariant-loop-run
+invariant-loop-run l = l.row ≡ times_left l.moment (take l.run-index l.runs)

@@ -18,6 +18,14 @@ start_one-requires-clause-few g c =
     let place : c.in-Some.actor < length c.loop-actor.actors = omega (arith, actor (g.F.Firing.net c.args.self.now.net.now) c.args.self.now.moment c.args.actors.now c.loop-actor.actors c.loop-actor.tokens c.loop-actor.all c.args.self.now.most c.in-Some.actor (heap_items c.loop-actor.agenda.ends) c.pop.new.self.items c.args.self.now.few inv, c.loop-actor.invariant.so_far.stand.long) in
     rw (get_or_default c.loop-actor.actors c.in-Some.actor c.index-actors-actor-in-Some-2.result idle place) (room-fits (g.F.Firing.net c.args.self.now.net.now) c.args.self.now.moment c.args.actors.now c.loop-actor.actors c.loop-actor.tokens c.loop-actor.all c.args.self.now.most c.in-Some.actor (heap_items c.loop-actor.agenda.ends) c.pop.new.self.items c.args.self.now.few inv)
 
+pub start_one-requires-clause-runs : goal.start_one-requires-clause-runs
+start_one-requires-clause-runs g c =
+    let inv : StartsSoFar (g.F.Firing.net c.args.self.now.net.now) c.args.self.now.moment c.args.actors.now c.loop-actor.actors c.loop-actor.tokens c.loop-actor.all c.args.self.now.most (heap_items c.loop-actor.agenda.ends) (c.pop.new.self.items ++ c.in-Some.actor ∷ []) =
+    subst (StartsSoFar (g.F.Firing.net c.args.self.now.net.now) c.args.self.now.moment c.args.actors.now c.loop-actor.actors c.loop-actor.tokens c.loop-actor.all c.args.self.now.most (heap_items c.loop-actor.agenda.ends)) c.in-Some.ensures.items c.loop-actor.invariant.so_far in
+    let inside : c.in-Some.actor < length (g.F.Firing.net c.args.self.now.net.now).times = actor (g.F.Firing.net c.args.self.now.net.now) c.args.self.now.moment c.args.actors.now c.loop-actor.actors c.loop-actor.tokens c.loop-actor.all c.args.self.now.most c.in-Some.actor (heap_items c.loop-actor.agenda.ends) c.pop.new.self.items c.args.self.now.few inv in
+    let place : c.in-Some.actor < length c.loop-actor.actors = omega (arith, c.loop-actor.invariant.so_far.stand.long) in
+    rw (get_or_default c.loop-actor.actors c.in-Some.actor c.index-actors-actor-in-Some-2.result idle place) (omega (arith, c.loop-actor.invariant.so_far.stand.counts c.in-Some.actor inside))
+
 pub returns-in-None-clause-started : goal.returns-in-None-clause-started
 returns-in-None-clause-started g c =
     let inv : StartsSoFar (g.F.Firing.net c.args.self.now.net.now) c.args.self.now.moment c.args.actors.now c.loop-actor.actors c.loop-actor.tokens c.loop-actor.all c.args.self.now.most (heap_items c.loop-actor.agenda.ends) (c.pop.new.self.items ++ c.in-Some.actor ∷ []) =
