@@ -1,5 +1,5 @@
 -- Some point has no more storage and no less rate than each member.
-use Rattle.std.proofs.Common.{◌≡◌, ℕ, ◌*◌, ◌≤◌, ◌<◌, Bool, Some, List, length, map, ⊎_elim, refl, sym, ap, subst, mul-le-mul, arith}
+use Rattle.std.proofs.Common.{◌≡◌, ℕ, ◌*◌, ◌≤◌, ◌<◌, Bool, List, length, map, ⊎_elim, refl, sym, ap, subst, mul-le-mul, arith}
 use Rattle.std.specs.Prelude.{slice_index_or}
 use Rattle.std.specs.List.{AllZip}
 use Rattle.std.proofs.lemmas.Bool.{cases_lt}

@@ -1,7 +1,7 @@
 -- The certificate of a rate is valid.
-use Rattle.std.proofs.Common.{◌≡◌, ◌≢◌, ℕ, zero, suc, ◌+◌, ◌*◌, ◌/◌, ◌≤◌, ◌<◌, Bool, true, false, cond, Option, None, Some, List, [], ◌∷◌, All, length, map, get_or, slice_get, eqb, refl, sym, ap, subst, ◌∙◌, mul-le-mul, arith}
+use Rattle.std.proofs.Common.{◌≡◌, ℕ, zero, suc, ◌+◌, ◌*◌, ◌/◌, ◌≤◌, ◌<◌, Bool, true, false, cond, Option, None, Some, List, [], ◌∷◌, length, map, slice_get, refl, sym, ap, subst, ◌∙◌, mul-le-mul, arith}
 use Rattle.std.specs.Prelude.{◌==◌, slice_index_or}
-use Rattle.std.specs.Int.{IsGcd, ◌∣◌}
+use Rattle.std.specs.Int.{IsGcd}
 use Rattle.std.specs.List.{find, range_with_len}
 use Rattle.std.specs.Option.{option_map}
 use Rattle.std.proofs.Math.Nat.{mul-div_cancel_left, dvd-zero}
@@ -9,8 +9,7 @@ use Rattle.std.proofs.lemmas.Bool.{eqb-true}
 use Rattle.std.proofs.lemmas.Bool.Decides.{nat_tests}
 use Rattle.std.proofs.lemmas.Nat.Gcd.{le_from_IsGcd}
 use Rattle.sd_base.specs.declared.tables.ChannelRow.{ChannelRow}
-use Rattle.sd_base.specs.declared.tables.GraphFile.{GraphFile}
-use Rattle.sd_base.specs.Net.{Net, channel_at}
+use Rattle.sd_base.specs.Net.{Net}
 use Rattle.sd_base.specs.FileNet.{net_of}
 use Rattle.sd_base.specs.Lawful.{Lawful}
 use Rattle.periodic.specs.declared.schedule.Periodic.{Periodic}
@@ -26,11 +25,11 @@ use Rattle.cert_text.specs.declared.certificates.LinkCycle.{LinkCycle}
 use Rattle.cert_text.specs.declared.certificates.RateCertificate.{RateCertificate}
 use Rattle.cert_checker.specs.declared.verdict.Reason.{Reason}
 use Rattle.cert_checker.specs.LinkCycles.{AreAlong, IsCycleLine}
-use Rattle.cert_checker.specs.NumberedBuffers.{AreBuffers, IsBuffer, capacities_in, capacity_in}
+use Rattle.cert_checker.specs.NumberedBuffers.{AreBuffers, capacities_in, capacity_in}
 use Rattle.cert_checker.specs.RateCertificates.{IsJoined, IsLineFault, joined, rate, schedule, starts, cycle, IsRateFault, buffers, of_line, net_by}
 use Rattle.cert_checker.specs.Schedules.{IsRateLine, IsScheduleLine}
 use Rattle.cert_maker.specs.Links.{link_cycle, link_step}
-use Rattle.cert_maker.specs.RateCertificates.{IsLowest, IsRateCertificate, buffers_from}
+use Rattle.cert_maker.specs.RateCertificates.{IsLowest, buffers_from}
 use Rattle.cert_maker.specs.ValidCertificates.{AreGiven, RatesAreValid}
 
 -- ---- buffers

@@ -18,6 +18,7 @@ mod PointSchedules
 mod OneTradeOff
 mod CompleteStorage
 mod ValidPuts
+mod ValidTradeOffPuts
 mod Summaries
 mod CompleteGenerate
 pub mod CommandsDecide

@@ -1,15 +1,18 @@
 -- The certificates that are put are valid.
 use Rattle.std.specs.Prelude.{◌≡◌, ℕ, Bool, true, List, Some, Ok}
 use Rattle.sd_base.specs.declared.tables.GraphFile.{GraphFile}
-use Rattle.sd_words.specs.declared.request.Request.TheVariants.{Throughput}
+use Rattle.sd_base.specs.declared.limits.Limits.{Limits}
+use Rattle.sd_words.specs.declared.request.Request.TheVariants.{Storage, Throughput}
 use Rattle.sd_words.specs.Asked.{request_of}
 use Rattle.storage.specs.NamedBuffers.{Buffer}
 use Rattle.graph_reader.specs.Laws.{Gives}
 use Rattle.balance.specs.Repetition.{IsRound}
-use Rattle.cert_text.specs.declared.certificates.Certificate.TheVariants.{Rate}
+use Rattle.cert_text.specs.declared.certificates.Certificate.TheVariants as certificates
 use Rattle.cert_text.specs.declared.certificates.RateCertificate.{RateCertificate}
+use Rattle.cert_text.specs.declared.certificates.StorageCertificate.{StorageCertificate}
 use Rattle.cert_checker.specs.declared.verdict.Reason.{Reason}
 use Rattle.cert_checker.specs.RateCertificates.{IsRateFault}
+use Rattle.cert_checker.specs.StorageFaults.{IsStorageFault}
 use Rattle.sd_command.specs.declared.answer.Answer.{Answer}
 use Rattle.sd_command.specs.declared.file_kind.FileKind.TheVariants as kinds
 use Rattle.sd_command.specs.Certifyings.{text_of}
@@ -26,7 +29,7 @@ pub record PutsValidRate (files : Files) (name put : List ℕ) (answer : Answer)
   pub there : files.named name ≡ Some bytes
   pub given : Gives bytes true graph
   pub round : IsRound graph gamma
-  pub file : answer.put ≡ Some (record { kind = kinds.Certificate; name = put; bytes = text_of (Rate certificate) })
+  pub file : answer.put ≡ Some (record { kind = kinds.Certificate; name = put; bytes = text_of (certificates.Rate certificate) })
   pub valid : (line : ℕ) (reason : Reason) → IsRateFault graph gamma certificate line reason → ⊥
 
 -- so does each answer of `throughput` with a certificate
@@ -34,3 +37,26 @@ abbrev pub RatesPutAreValid : Type 0
 RatesPutAreValid =
     (words : List (List ℕ)) (files : Files) (name put : List ℕ) (buffers : List Buffer) (no_overlap : Bool) (states : ℕ) (answer : Answer) (n : ℕ) → files.tells ≡ true
     → request_of words ≡ Ok (Throughput name buffers no_overlap states (Some put)) → course_of words files (Answered answer) n → PutsValidRate files name put answer
+
+-- an answer puts under a name the text of a certificate of a trade-off, no line of which is faulty for the graph of a file
+pub record PutsValidTradeOff (files : Files) (name put : List ℕ) (answer : Answer) : Type 0 where
+  pub bytes : List ℕ
+  pub graph : GraphFile
+  pub gamma : List ℕ
+  pub certificate : StorageCertificate
+  pub there : files.named name ≡ Some bytes
+  pub given : Gives bytes true graph
+  pub round : IsRound graph gamma
+  pub file : answer.put ≡ Some (record { kind = kinds.Certificate; name = put; bytes = text_of (certificates.Storage certificate) })
+  pub valid : (line : ℕ) (reason : Reason) → IsStorageFault graph gamma 2 certificate line reason → ⊥
+
+-- so does each answer of `storage` with a certificate
+abbrev pub TradeOffsPutAreValid : Type 0
+TradeOffsPutAreValid =
+    (words : List (List ℕ)) (files : Files) (name put : List ℕ) (limits : Limits) (no_overlap : Bool) (answer : Answer) (n : ℕ) → files.tells ≡ true
+    → request_of words ≡ Ok (Storage name limits no_overlap (Some put)) → course_of words files (Answered answer) n → PutsValidTradeOff files name put answer
+
+-- what is put beside a rate and beside a trade-off is valid
+pub record PutsAreValid : Type 0 where
+  pub rates : RatesPutAreValid
+  pub trade_offs : TradeOffsPutAreValid

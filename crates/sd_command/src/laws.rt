@@ -1,7 +1,8 @@
-ghost use Rattle.sd_command.specs.PutCertificates.{RatesPutAreValid};
+ghost use Rattle.sd_command.specs.PutCertificates.{PutsAreValid};
 ghost use Rattle.sd_command.specs.Endings.{CheckIsComplete, ConvertIsComplete, DueIsAnswered, DueIsOne, ElseIsDone, GenerateIsComplete, StorageIsComplete, ThroughputIsComplete};
 
 use balance::one_answer;
+use cert_maker::laws::storage_certificates_are_valid;
 use graph_reader::know_files;
 use lasso::one_ending;
 use scenario_reader::know_scenario_files;
@@ -10,7 +11,8 @@ use sd_base::laws::{
 };
 use token_matrix::matrices_are_one;
 
-/// The words and files decide how a run ends, but for faults and want of memory; and what is put beside a rate is valid.
+/// The words and files decide how a run ends, but for faults and want of memory; and what is put beside a rate or a
+/// trade-off is valid.
 pub fn know_endings()
     ensures one { DueIsOne }
     ensures due { DueIsAnswered }
@@ -18,7 +20,7 @@ pub fn know_endings()
     ensures throughput { ThroughputIsComplete }
     ensures storage { StorageIsComplete }
     ensures generate { GenerateIsComplete }
-    ensures valid { RatesPutAreValid }
+    ensures valid { PutsAreValid }
     ensures check { CheckIsComplete }
     ensures convert { ConvertIsComplete }
 {
@@ -29,5 +31,6 @@ pub fn know_endings()
     file_nets_are_lawful();
     ending_counts_are_one();
     blocking_counts_bound_each_schedule();
+    storage_certificates_are_valid();
     one_ending();
 }

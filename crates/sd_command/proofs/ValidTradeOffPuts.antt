@@ -1,0 +1,81 @@
+-- What `storage` puts is a valid certificate.
+use Rattle.std.proofs.Common.{◌≡◌, ℕ, Bool, true, List, [], ◌∷◌, Option, Some, Ok, ap, subst, ◌∙◌}
+use Rattle.std.specs.List.{AllZip}
+use Rattle.sd_base.specs.declared.limits.Limits.{Limits}
+use Rattle.sd_base.specs.Net.{Net}
+use Rattle.sd_base.specs.FileNet.{net_of}
+use Rattle.sd_words.specs.declared.request.Request.{Request}
+use Rattle.sd_words.specs.declared.request.Request.TheVariants.{Storage}
+use Rattle.sd_words.specs.Asked.{request_of}
+use Rattle.sd_words.proofs.Within.{asked_within}
+use Rattle.periodic.specs.declared.schedule.Periodic.{Periodic}
+use Rattle.storage.proofs.FileChannels.{file-plain}
+use Rattle.storage.proofs.FileConnections.{file-connected, file-few}
+use Rattle.pareto_front.specs.declared.point.Point.{Point}
+use Rattle.cert_text.specs.declared.certificates.Certificate.{Certificate}
+use Rattle.cert_maker.specs.ValidTradeOffs.{IsReachedBy, TradeOffsAreValid}
+use Rattle.sd_command.specs.declared.answer.Answer.{Answer}
+use Rattle.sd_command.specs.declared.file_kind.FileKind.TheVariants as kinds
+use Rattle.sd_command.specs.declared.file_kind.FileKind.TheVariants.{Graph}
+use Rattle.sd_command.specs.declared.wanted.WantedPoints.{WantedPoints}
+use Rattle.sd_command.specs.Balances.{balancing}
+use Rattle.sd_command.specs.Certifyings.{text_of}
+use Rattle.sd_command.specs.Courses.{Answered}
+use Rattle.sd_command.specs.Nets.{completing, touching}
+use Rattle.sd_command.specs.PointAnswers.{IsPointSchedule, IsPointsAnswer}
+use Rattle.sd_command.specs.PutCertificates.{PutsValidTradeOff, TradeOffsPutAreValid}
+use Rattle.sd_command.specs.Readings.{reading_graph}
+use Rattle.sd_command.specs.Requests.{asking, command_of, course_of}
+use Rattle.sd_command.specs.Takings.{Files, taking}
+use Rattle.sd_command.specs.TradeOffs.{storage}
+use Rattle.sd_command.proofs.CommandsDecide.{answers_on}
+use Rattle.sd_command.proofs.Complete.{one_request}
+use Rattle.sd_command.proofs.SharedSteps.{FileLaws, lawful_net}
+
+-- the schedules of loops reach their points
+all-reached : (net : Net) (ps : List Point) (ss : List Periodic) → AllZip (IsPointSchedule net) ps ss → AllZip (IsReachedBy net) ps ss
+all-reached net [] [] all = tt
+all-reached net [] (s ∷ ss) all = absurd all
+all-reached net (p ∷ ps) [] all = absurd all
+all-reached net (p ∷ ps) (s ∷ ss) all = (record { holds = all.0.of_loop.holds; ratio = all.0.reached }, all-reached net ps ss all.1)
+
+module _ (laws : FileLaws) (valid : TradeOffsAreValid) (words : List (List ℕ)) (files : Files) (tells : files.tells ≡ true) (name put : List ℕ) (limits : Limits) (no_overlap : Bool)
+    (asked : request_of words ≡ Ok (Storage name limits no_overlap (Some put))) (answer : Answer) (n : ℕ) where
+  abbrev wanted : WantedPoints
+  wanted = record { limits = limits; no_overlap = no_overlap; certificate = Some put }
+
+  pub puts-valid : course_of words files (Answered answer) n → PutsValidTradeOff files name put answer
+  puts-valid due =
+      let ask = answers_on (asking words) _ answer n due in
+      let came : storage name wanted files (Answered answer) n =
+      subst (λ (q : Request). command_of q files (Answered answer) n) (one_request words ask.0 (Storage name limits no_overlap (Some put)) ask.1 asked) ask.2 in
+      let take = answers_on (taking files Graph name) _ answer n came in
+      let read = answers_on (reading_graph take.0 true) _ answer n take.2 in
+      let balance = answers_on (balancing read.0) _ answer n read.2 in
+      let net : Net = net_of read.0 balance.0 no_overlap in
+      let touch = answers_on (touching read.0 net) _ answer n balance.2 in
+      let complete = answers_on (completing read.0 net) _ answer n touch.2 in
+      let told : IsPointsAnswer read.0 net wanted answer n = complete.2 in
+      let made = told.put.1 in
+      let is : told.put.0 ≡ _ = made.1 in
+      record {
+        bytes = take.0;
+        graph = read.0;
+        gamma = balance.0;
+        certificate = made.0;
+        there = take.1.told tells;
+        given = read.1;
+        round = balance.1;
+        file = told.put.2.2 ∙ ap Some (told.put.2.1.1 ∙ ap (λ (c : Certificate). record { kind = kinds.Certificate; name = put; bytes = text_of c }) is);
+        valid = valid read.0 balance.0 no_overlap limits told.members told.points told.schedules made.0
+            (record {
+              laws = lawful_net laws take.0 read.0 balance.0 no_overlap read.1 balance.1;
+              plain = file-plain read.0 balance.0 no_overlap;
+              connected = file-connected read.0 balance.0 no_overlap balance.1.balanced.connected;
+              few = file-few read.0 balance.0 no_overlap (laws.keeps take.0 true read.0 read.1);
+            })
+            touch.1 (asked_within words (Storage name limits no_overlap (Some put)) asked).total told.shown.explored (all-reached net told.points told.schedules told.shown.reached) made.2 2;
+      }
+
+pub trade_offs_put_are_valid : FileLaws → TradeOffsAreValid → TradeOffsPutAreValid
+trade_offs_put_are_valid laws valid words files name put limits no_overlap answer n tells asked due = puts-valid laws valid words files tells name put limits no_overlap asked answer n due
