@@ -22,7 +22,7 @@ feeds-one net tokens a k enough i place into =
     rw total-more (omega arith)
 
 -- a list of one number has it at each firing
-one-entry : (xs : List ℕ) (k : ℕ) → length xs ≡ 1 → phase_entry xs k ≡ slice_index xs 0
+pub one-entry : (xs : List ℕ) (k : ℕ) → length xs ≡ 1 → phase_entry xs k ≡ slice_index xs 0
 one-entry [] k one = absurd (omega arith)
 one-entry (x ∷ []) k one = one_time (x ∷ []) k 0 (omega arith)
 one-entry (x ∷ y ∷ xs) k one = absurd (omega arith)

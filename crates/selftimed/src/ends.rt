@@ -8,9 +8,9 @@ ghost use Rattle.selftimed.specs.inside.PortRates.{AreRates};
 
 use crate::actors::ActorState;
 use crate::agenda::Agenda;
-use crate::rates::Rates;
+use crate::rates::{Rates, taken_at};
 use crate::tokens::{Tokens, put_all};
-use firing::{Firing, Port, port_phases, port_rate};
+use firing::Firing;
 use sd_base::NoMemory;
 
 /// Ends the firings of an actor whose end has come.
@@ -43,12 +43,14 @@ pub(crate) fn end_actor<F: Firing>(
 /// Touches the actors into which these channels lead and that lacked tokens there, if they have enough now.
 pub(crate) fn touch_targets<F: Firing>(
     net: &F,
+    rates: &[Rates],
     channels: &[u32],
     tokens: &[u128],
     actors: &mut [ActorState],
     agenda: &mut Agenda,
 ) -> Result<(), NoMemory>
     requires long { length actors.old ≡ length (F.net net.now).times }
+    requires rates { AreRates (F.net net.now) rates.now }
     requires tokens { length tokens.now ≡ length (F.net net.now).channels }
     requires there { (j : ℕ) → j < length channels.now → slice_index channels.now j < length (F.net net.now).channels }
     requires lists { Lists (F.net net.now) actors.old agenda.old.touched.items }
@@ -57,17 +59,33 @@ pub(crate) fn touch_targets<F: Firing>(
     ensures ends { agenda.new.ends ≡ agenda.old.ends }
 {
     for channel in channels {
-        let target = net.target(*channel);
-        if has_enough(net, tokens, *channel, &actors[target as usize]) {
+        let target = target_of(net, rates, *channel);
+        if has_enough(net, rates, tokens, *channel, &actors[target as usize]) {
             agenda.touch(target, &mut actors[target as usize])?;
         }
     }
     Ok(())
 }
 
+/// The actor into which a channel leads.
+fn target_of<F: Firing>(_net: &F, rates: &[Rates], channel: u32) -> u32
+    requires channel { channel < length (F.net _net.now).channels }
+    requires rates { AreRates (F.net _net.now) rates.now }
+    ensures { result ≡ (channel_at (F.net _net.now) channel).target }
+{
+    rates[channel as usize].target
+}
+
 /// Whether an actor lacked tokens on a channel that has enough for its next firing now.
-fn has_enough<F: Firing>(net: &F, tokens: &[u128], channel: u32, state: &ActorState) -> bool
+fn has_enough<F: Firing>(
+    net: &F,
+    rates: &[Rates],
+    tokens: &[u128],
+    channel: u32,
+    state: &ActorState,
+) -> bool
     requires channel { channel < length (F.net net.now).channels }
+    requires rates { AreRates (F.net net.now) rates.now }
     requires tokens { length tokens.now ≡ length (F.net net.now).channels }
     ensures { IsTrue result ↔ ((state.now.lacking ≡ channel)
         × (phase_entry (channel_at (F.net net.now) channel).taken state.now.started ≤ slice_index tokens.now channel)) }
@@ -75,7 +93,7 @@ fn has_enough<F: Firing>(net: &F, tokens: &[u128], channel: u32, state: &ActorSt
     if state.lacking != channel {
         return false;
     }
-    let phases = port_phases(net, channel, Port::Taken) as u64;
-    let needed = port_rate(net, channel, Port::Taken, (state.started % phases) as u32);
+    let here = rates[channel as usize];
+    let needed = taken_at(net, here.taken, channel, state.started);
     needed as u128 <= tokens[channel as usize]
 }

@@ -101,7 +101,14 @@ impl<F: Firing> Event<'_, F> {
                 tokens,
             );
             agenda.announce(actor, &actors[actor as usize])?;
-            touch_targets(self.net, outputs, tokens.as_slice(), actors, agenda)?;
+            touch_targets(
+                self.net,
+                self.rates,
+                outputs,
+                tokens.as_slice(),
+                actors,
+                agenda,
+            )?;
         }
         Ok(())
     }

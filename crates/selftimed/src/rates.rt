@@ -1,6 +1,6 @@
 ghost use Rattle.std.specs.Prelude.{◌≡◌, ◌+◌, ◌*◌, ◌^◌, ◌<◌, ◌≤◌, IfOk, length, slice_index};
 ghost use Rattle.sd_base.specs.declared.limits.TheConstants.{RATE};
-ghost use Rattle.sd_base.specs.Net.{channel_at, total};
+ghost use Rattle.sd_base.specs.Net.{channel_at, phase_entry, total};
 ghost use Rattle.firing.specs.Ports.{rates_at};
 ghost use Rattle.firing.specs.declared.sums.Port.TheVariants.{Made, Taken};
 ghost use Rattle.selftimed.specs.inside.PortRates.{AreOf, AreRates};
@@ -10,10 +10,11 @@ use firing::{Firing, Port, know_laws, port_phases, port_rate, span_sum};
 use sd_base::NoMemory;
 use std::alloc::Global;
 
-/// What a firing in the first phase takes from a channel and puts on it, and the weight of the channel's tokens
-/// in a print. An execution has them side by side, since each firing asks for them.
+/// What each firing asks of a channel: who takes from it, what a firing in the first phase takes and puts, and the
+/// weight of the channel's tokens in a print. An execution has them side by side.
 #[derive(Clone, Copy, Debug)]
 pub(crate) struct Rates {
+    pub(crate) target: u32,
     pub(crate) taken: u64,
     pub(crate) made: u64,
     pub(crate) weight: u64,
@@ -47,6 +48,7 @@ fn channel_rates<F: Firing>(net: &F, channel: u32) -> Rates
 {
     know_laws(net);
     Rates {
+        target: net.target(channel),
         taken: net.taken(channel, 0),
         made: net.made(channel, 0),
         weight: weight_of(channel as u64),
@@ -74,4 +76,17 @@ pub(crate) fn moved_by<F: Firing>(
         return firings * rate;
     }
     span_sum(net, channel, port, from, firings) as u64
+}
+
+/// The tokens that a firing of the target takes from a channel, which has this rate in the target's first phase.
+pub(crate) fn taken_at<F: Firing>(net: &F, rate: u64, channel: u32, firing: u64) -> u64
+    requires channel { channel < length (F.net net.now).channels }
+    requires rate { rate ≡ slice_index (channel_at (F.net net.now) channel).taken 0 }
+    ensures { result ≡ phase_entry (channel_at (F.net net.now) channel).taken firing }
+{
+    let phases = port_phases(net, channel, Port::Taken) as u64;
+    if phases == 1 {
+        return rate;
+    }
+    port_rate(net, channel, Port::Taken, (firing % phases) as u32)
 }

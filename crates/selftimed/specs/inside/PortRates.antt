@@ -6,10 +6,11 @@ use Rattle.selftimed.specs.Prints.{weight}
 
 -- what stands for a channel past the last one
 abbrev pub no_rates : Rates
-no_rates = record { taken = 0; made = 0; weight = 0 }
+no_rates = record { target = 0; taken = 0; made = 0; weight = 0 }
 
--- the rates of a channel in the first phases of its actors, and what its tokens count in a print
+-- the target of a channel, its rates in the first phases of its actors, and what its tokens count in a print
 pub record AreOf (i : ℕ) (c : Channel) (r : Rates) : Type 0 where
+  pub target : r.target ≡ c.target
   pub taken : r.taken ≡ slice_index c.taken 0
   pub made : r.made ≡ slice_index c.made 0
   pub weight : r.weight ≡ weight i

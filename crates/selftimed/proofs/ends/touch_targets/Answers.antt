@@ -12,28 +12,28 @@ use Rattle.selftimed.proofs.ends.touch_targets.Goals.{then-has_enough+in_ok-touc
 pub loop-channel-preserved : goal.loop-channel-preserved
 loop-channel-preserved g c =
     let i : ℕ = slice_index c.args.channels.now c.loop-channel.channel-index in
-    let actor : c.target-target.result < length (g.F.Firing.net c.args.net.now).times =
-    omega (arith, c.target-target.ensures, (g.met.F.Firing.lawful c.args.net.now).targets (slice_index c.args.channels.now c.loop-channel.channel-index) (c.requires.there c.loop-channel.channel-index c.loop-channel-test.true)) in
-    let place : c.target-target.result < length c.loop-channel.actors = omega (arith, c.loop-channel.auto.actors, c.requires.long) in
+    let actor : c.target_of-target.result < length (g.F.Firing.net c.args.net.now).times =
+    omega (arith, c.target_of-target.ensures, (g.met.F.Firing.lawful c.args.net.now).targets (slice_index c.args.channels.now c.loop-channel.channel-index) (c.requires.there c.loop-channel.channel-index c.loop-channel-test.true)) in
+    let place : c.target_of-target.result < length c.loop-channel.actors = omega (arith, c.loop-channel.auto.actors, c.requires.long) in
     elim c.if-has_enough.branch [
       | then-has_enough+in_ok-touch w ↦ rw (w.actors-is, w.agenda-is) (
         rw w.in_ok-touch.ensures.state (touches-more (g.F.Firing.net c.args.net.now) c.args.tokens.now c.args.channels.now c.args.actors.now c.loop-channel.actors c.loop-channel.agenda.touched.items w.touch.new.self.touched.items
-            c.loop-channel.channel-index c.target-target.result c.loop-channel-test.true c.target-target.ensures actor place (slice_index_or c.loop-channel.actors c.target-target.result w.index-actors-target-then-has_enough.result)
-            (get_or_default c.loop-channel.actors c.target-target.result w.index-actors-target-then-has_enough.result idle place) c.loop-channel.invariant.0 w.in_ok-touch.ensures.touched),
+            c.loop-channel.channel-index c.target_of-target.result c.loop-channel-test.true c.target_of-target.ensures actor place (slice_index_or c.loop-channel.actors c.target_of-target.result w.index-actors-target-then-has_enough.result)
+            (get_or_default c.loop-channel.actors c.target_of-target.result w.index-actors-target-then-has_enough.result idle place) c.loop-channel.invariant.0 w.in_ok-touch.ensures.touched),
         w.touch.ensures.ends ∙ c.loop-channel.invariant.1,
       )
       | else-has_enough w ↦
           let law = rw w.if-has_enough.false at c.has_enough.ensures in
-          let short : (slice_index_or c.loop-channel.actors c.target-target.result c.index-actors-target.result).lacking ≡ i →
-          slice_index c.args.tokens.now i < phase_entry (channel_at (g.F.Firing.net c.args.net.now) i).taken (slice_index_or c.loop-channel.actors c.target-target.result c.index-actors-target.result).started =
-          λ here. ⊎_elim (λ (h : slice_index c.args.tokens.now i < phase_entry (channel_at (g.F.Firing.net c.args.net.now) i).taken (slice_index_or c.loop-channel.actors c.target-target.result c.index-actors-target.result).started). h)
-          (λ (enough : phase_entry (channel_at (g.F.Firing.net c.args.net.now) i).taken (slice_index_or c.loop-channel.actors c.target-target.result c.index-actors-target.result).started ≤ slice_index c.args.tokens.now i). absurd (false≢true (law.1 (here, enough))))
-          (cases_lt (slice_index c.args.tokens.now i) (phase_entry (channel_at (g.F.Firing.net c.args.net.now) i).taken (slice_index_or c.loop-channel.actors c.target-target.result c.index-actors-target.result).started)) in
-          let still : lacking_in c.loop-channel.actors c.target-target.result ≡ i → slice_index c.args.tokens.now i < phase_entry (channel_at (g.F.Firing.net c.args.net.now) i).taken (started_in c.loop-channel.actors c.target-target.result) =
+          let short : (slice_index_or c.loop-channel.actors c.target_of-target.result c.index-actors-target.result).lacking ≡ i →
+          slice_index c.args.tokens.now i < phase_entry (channel_at (g.F.Firing.net c.args.net.now) i).taken (slice_index_or c.loop-channel.actors c.target_of-target.result c.index-actors-target.result).started =
+          λ here. ⊎_elim (λ (h : slice_index c.args.tokens.now i < phase_entry (channel_at (g.F.Firing.net c.args.net.now) i).taken (slice_index_or c.loop-channel.actors c.target_of-target.result c.index-actors-target.result).started). h)
+          (λ (enough : phase_entry (channel_at (g.F.Firing.net c.args.net.now) i).taken (slice_index_or c.loop-channel.actors c.target_of-target.result c.index-actors-target.result).started ≤ slice_index c.args.tokens.now i). absurd (false≢true (law.1 (here, enough))))
+          (cases_lt (slice_index c.args.tokens.now i) (phase_entry (channel_at (g.F.Firing.net c.args.net.now) i).taken (slice_index_or c.loop-channel.actors c.target_of-target.result c.index-actors-target.result).started)) in
+          let still : lacking_in c.loop-channel.actors c.target_of-target.result ≡ i → slice_index c.args.tokens.now i < phase_entry (channel_at (g.F.Firing.net c.args.net.now) i).taken (started_in c.loop-channel.actors c.target_of-target.result) =
           subst (λ (s : ActorState). s.lacking ≡ i → slice_index c.args.tokens.now i < phase_entry (channel_at (g.F.Firing.net c.args.net.now) i).taken s.started)
-          (sym (get_or_default c.loop-channel.actors c.target-target.result idle c.index-actors-target.result place)) short in
+          (sym (get_or_default c.loop-channel.actors c.target_of-target.result idle c.index-actors-target.result place)) short in
           rw (w.actors-is, w.agenda-is) (
-            touches-skip (g.F.Firing.net c.args.net.now) c.args.tokens.now c.args.channels.now c.args.actors.now c.loop-channel.actors c.loop-channel.agenda.touched.items c.loop-channel.channel-index c.target-target.result c.target-target.ensures still c.loop-channel.invariant.0,
+            touches-skip (g.F.Firing.net c.args.net.now) c.args.tokens.now c.args.channels.now c.args.actors.now c.loop-channel.actors c.loop-channel.agenda.touched.items c.loop-channel.channel-index c.target_of-target.result c.target_of-target.ensures still c.loop-channel.invariant.0,
             c.loop-channel.invariant.1,
           )
     ]
