@@ -1,5 +1,5 @@
 -- The members of an exploration are a closed list.
-use Rattle.std.proofs.Common.{◌≡◌, ℕ, ◌*◌, ◌≤◌, ◌<◌, Bool, Option, List, length, ⊎_elim, refl, sym, ap, subst, ◌∙◌, mul-le-mul, arith}
+use Rattle.std.proofs.Common.{◌≡◌, ℕ, ◌*◌, ◌≤◌, ◌<◌, Bool, Option, List, length, ⊎_elim, refl, sym, ap, subst, ◌∙◌, arith}
 use Rattle.std.specs.Prelude.{slice_index}
 use Rattle.std.specs.List.{AllZip}
 use Rattle.std.proofs.lemmas.Bool.{cases_lt}
@@ -27,17 +27,15 @@ use Rattle.cert_checker.proofs.ShownLists.{HasBound, shown-bound}
 use Rattle.cert_maker.specs.StorageCertificates.{IsMemberLine, IsShownBy, IsStorageCertificate}
 use Rattle.cert_maker.proofs.MemberLines.{line-of}
 use Rattle.cert_maker.proofs.MemberOrder.{member-fits, member-grid, none}
-use Rattle.cert_maker.proofs.ShownLines.{line-shows, listed-rate, shown-right}
+use Rattle.cert_maker.proofs.ShownLines.{line-shows, listed-rate, shown-right, some-rate}
 use Rattle.cert_maker.proofs.Zipped.{PlaceOf, zip-at, zip-chosen, zip-one}
 
 -- a bound of 0 allows no other rate
 zero-bound : (p d n q : ℕ) → n < 1 → 1 ≤ d → p * d ≤ n * q → p ≡ 0
 zero-bound p d n q none some le =
-    let zero_here : n ≡ 0 = omega (arith, none) in
-    let nothing : n * q ≡ 0 * q = ap (λ (x : ℕ). x * q) zero_here in
     ⊎_elim
     (λ (h : p < 1). omega (arith, h))
-    (λ (runs : 1 ≤ p). absurd (let more : 1 * 1 ≤ p * d = mul-le-mul runs some in omega (arith, le, nothing, more)))
+    (λ (runs : 1 ≤ p). let more = some-rate p q n d runs some le in absurd (omega (arith, none, more)))
     (cases_lt p 1)
 
 -- the entry is the member with channels that it shows, which bound its rate

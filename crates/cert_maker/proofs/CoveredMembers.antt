@@ -1,8 +1,7 @@
 -- Some point has no more storage and no less rate than each member.
-use Rattle.std.proofs.Common.{◌≡◌, ℕ, ◌*◌, ◌≤◌, ◌<◌, Bool, List, length, map, ⊎_elim, refl, sym, ap, subst, mul-le-mul, arith}
+use Rattle.std.proofs.Common.{◌≡◌, ℕ, ◌*◌, ◌≤◌, ◌<◌, Bool, List, length, map, refl, sym, ap, subst, arith}
 use Rattle.std.specs.Prelude.{slice_index_or}
 use Rattle.std.specs.List.{AllZip}
-use Rattle.std.proofs.lemmas.Bool.{cases_lt}
 use Rattle.std.proofs.lemmas.List.{length-map}
 use Rattle.sd_base.specs.declared.limits.Limits.{Limits}
 use Rattle.sd_base.specs.declared.limits.TheConstants.{STORAGE}
@@ -23,14 +22,9 @@ use Rattle.cert_checker.specs.StorageCertificates.{IsFileNet}
 use Rattle.cert_maker.specs.StorageCertificates.{IsStorageCertificate}
 use Rattle.cert_maker.proofs.ClosedMembers.{IsEntryOf, closed-members, entries}
 use Rattle.cert_maker.proofs.MemberOrder.{member-fits}
+use Rattle.cert_maker.proofs.ShownLines.{some-rate}
 use Rattle.cert_maker.proofs.Summits.{IsSummit, NoWorse, beats-under, climb}
 use Rattle.cert_maker.proofs.Zipped.{zip-at}
-
-positive-on : (p q x y : ℕ) → 1 ≤ p → 1 ≤ y → p * y ≤ x * q → 1 ≤ x
-positive-on p q x y some there le = ⊎_elim
-    (λ (nothing : x < 1). absurd (let zero_here : x ≡ 0 = omega (arith, nothing) in let gone : x * q ≡ 0 * q = ap (λ (z : ℕ). z * q) zero_here in let more : 1 * 1 ≤ p * y = mul-le-mul some there in omega (arith, gone, more, le)))
-    (λ (h : 1 ≤ x). h)
-    (cases_lt x 1)
 
 -- the storage and the rate of a member
 abbrev pub member-pair : Net → Member → Pair
@@ -52,7 +46,6 @@ module _ (cycles_bound : CyclesBoundTheRate) (net : Net) (file : IsFileNet net) 
     -- each reached pair has a member that is no worse
     below-reached : (o : Pair) → IsReached net limits.total o → (m : Member) × IsOneOf ms m × (1 ≤ m.rate.num) × NoWorse (member-pair net m) o
     below-reached o reached =
-        let ds = reached.0 in
         let cover = covered net file.laws limits.total es (closed-members cycles_bound net file limits small ms ps is no_overlap schedules c put es are) o.storage o.num o.den reached.0 reached.1 in
         let n = zip-at (IsEntryOf net limits.total) ms es cover.place no_entry are cover.below in
         let few : storage_of net.channels (entry_at es cover.place).capacities ≤ storage_of net.channels reached.0 = storage-le net.channels (entry_at es cover.place).capacities reached.0 cover.most in
@@ -62,7 +55,7 @@ module _ (cycles_bound : CyclesBoundTheRate) (net : Net) (file : IsFileNet net) 
         let total = reached.1.total in (
           n.item,
           n.one,
-          positive-on o.num o.den n.item.rate.num n.item.rate.den reached.1.runs (is.evaluated n.item n.one).rate.positive rate,
+          some-rate o.num o.den n.item.rate.num n.item.rate.den reached.1.runs (is.evaluated n.item n.one).rate.positive rate,
           record { storage = omega (arith, few, same, total); rate = rate },
         )
 

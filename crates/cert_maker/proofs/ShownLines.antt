@@ -34,9 +34,10 @@ shows-bounded net none ds states rate (shown.Cycle cycle) c is shows =
     space-bounded net none ds (slice_index_or cycle.steps shows.0 no_step).channel c (chain-places (bound net ds) cycle.first cycle.steps is.2.holds.chain shows.0 no_step shows.1) shows.2
 shows-bounded net none ds states rate (shown.Blocked counts) c is shows = record { place = shows.place; room = shows.room; has = shows.has }
 
-rate-some : (h d n w : ℕ) → 1 ≤ h → 1 ≤ d → h * d ≡ n * w → 1 ≤ n
-rate-some h d zero w turns some same = absurd (let more : 1 * 1 ≤ h * d = mul-le-mul turns some in omega (arith, same, more))
-rate-some h d (suc n) w turns some same = omega arith
+-- a rate that bounds one above 0 is above 0
+pub some-rate : (p q x y : ℕ) → 1 ≤ p → 1 ≤ y → p * y ≤ x * q → 1 ≤ x
+some-rate p q zero y some there le = absurd (let more : 1 * 1 ≤ p * y = mul-le-mul some there in omega (arith, le, more))
+some-rate p q (suc x) y some there le = omega arith
 
 module _ (net : Net) (ds : List (Option ℕ)) (states : ℕ) (rate : Fraction) (cycles : List LinkCycle) where
   cycle-there : (i : ℕ) (links : LinkCycle) → slice_get cycles i ≡ Some links → links ≡ cycle_at cycles i
@@ -45,7 +46,8 @@ module _ (net : Net) (ds : List (Option ℕ)) (states : ℕ) (rate : Fraction) (
   -- it is right
   pub shown-right : (s : Shown) (line : MemberShown) → Rate (bound net ds) rate.num rate.den → ShowsRate net ds states rate s → IsShownBy (bound net ds) cycles rate s line → IsShownRight (bound net ds) cycles line
   shown-right (shown.Cycle cycle) (Cycle r i) of_rate is by =
-      let runs : 1 ≤ rate.num = rate-some cycle.rounds rate.den rate.num cycle.time is.2.holds.some_round of_rate.positive is.3 in
+      let same = is.3 in
+      let runs : 1 ≤ rate.num = some-rate cycle.rounds cycle.time rate.num rate.den is.2.holds.some_round of_rate.positive (omega (arith, same)) in
       let at : IsCycleLine (bound net ds) (rate.num, rate.den) (cycle_at cycles i) = subst (IsCycleLine (bound net ds) (rate.num, rate.den)) (cycle-there i (link_cycle (bound net ds) cycle) by.1) (cycle-line (bound net ds) (rate.num, rate.den) cycle is.2.holds is.3) in
       subst (λ (x : ℕ × ℕ). IsRateLine x × IsCycleLine (bound net ds) x (cycle_at cycles i)) (sym by.0) (record { some = runs; positive = of_rate.positive; lowest = of_rate.lowest }, at)
   shown-right (shown.Cycle cycle) (Blocked listed) of_rate is by = absurd by
