@@ -15,3 +15,8 @@ pub mod ReadEntries
 pub mod ReadSections
 pub mod ReadMembers
 pub mod ReadWholes
+pub mod SoundLines
+pub mod SoundEntries
+pub mod SoundSections
+pub mod SoundMembers
+pub mod SoundWholes

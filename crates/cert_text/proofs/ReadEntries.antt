@@ -1,6 +1,6 @@
 -- The entries of a line are read from their spellings.
-use Rattle.std.proofs.Common.{◌≡◌, ℕ, zero, suc, ◌+◌, ◌^◌, ◌<◌, ◌≤◌, Bool, true, false, List, [], ◌∷◌, ◌++◌, Option, Some, None, All, length, Result, Ok, Err, refl, sym, ap, ◌∙◌, subst, arith, append_assoc, length-append}
-use Rattle.std.specs.Prelude.{not, ◌==◌, ◌&&◌, if◌then◌else◌, codes, nat_lt, nat_le}
+use Rattle.std.proofs.Common.{◌≡◌, ℕ, zero, suc, ◌+◌, ◌^◌, ◌<◌, ◌≤◌, Bool, true, false, List, [], ◌∷◌, ◌++◌, Option, Some, None, All, length, Result, Ok, refl, sym, ap, ◌∙◌, subst, arith, append_assoc, length-append}
+use Rattle.std.specs.Prelude.{not, ◌==◌, ◌&&◌, codes}
 use Rattle.std.specs.List.{flat_map, AllByRecursion}
 use Rattle.std.specs.Fmt.{decimal}
 use Rattle.std.specs.Str.{bytes_eq}
@@ -9,8 +9,8 @@ use Rattle.std.proofs.lemmas.List.Elements.{recursion_from_All}
 use Rattle.std.proofs.lemmas.Slice.Eq.{bytes_eq-Decides}
 use Rattle.cert_text.specs.declared.reading.fault.Fault.{Fault}
 use Rattle.cert_text.specs.BufferLines.{buffer_text, buffers_line}
-use Rattle.cert_text.specs.Fields.{behind, number_in, is_other, limited, ended, entries_of, each_by}
-use Rattle.cert_text.specs.Limits.{IsLong, IsBufferWithin, IsCapacityWithin}
+use Rattle.cert_text.specs.Fields.{behind, number_in, is_other, limited, entries_of, each_by}
+use Rattle.cert_text.specs.Limits.{IsBufferWithin, IsCapacityWithin}
 use Rattle.cert_text.specs.LineForms.{spaced_number_in, numbers_due, buffer_in, buffer_limited, rises, some_buffers_due, buffers_due, hyphen_or_number_in, capacity_in, capacity_limited, capacities_due, same}
 use Rattle.cert_text.specs.MemberLines.{capacity_text, member_line}
 use Rattle.cert_text.specs.NumberLines.{spaced, numbers_line}

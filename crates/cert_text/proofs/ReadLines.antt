@@ -1,24 +1,23 @@
 -- Each line is one, and is read from its spelling.
-use Rattle.std.proofs.Common.{◌≡◌, ℕ, zero, suc, ◌+◌, ◌^◌, ◌<◌, ◌≤◌, Bool, true, false, List, [], ◌∷◌, ◌++◌, ℤ, pos, negsuc, Result, Ok, Err, refl, sym, ap, ◌∙◌, subst, arith, inl, inr, ◌⊎◌}
-use Rattle.std.specs.Prelude.{not, ◌==◌, ◌&&◌, if◌then◌else◌, codes, nat_lt, nat_le}
+use Rattle.std.proofs.Common.{◌≡◌, ℕ, suc, ◌^◌, ◌<◌, ◌≤◌, Bool, true, false, List, [], ◌∷◌, ◌++◌, ℤ, pos, negsuc, Result, Ok, refl, ◌∙◌, arith, inl, inr, ◌⊎◌}
+use Rattle.std.specs.Prelude.{not, ◌==◌, ◌&&◌, if◌then◌else◌, codes}
 use Rattle.std.specs.Fmt.{decimal, signed_decimal}
 use Rattle.std.proofs.lemmas.Bool.{le-leb, lt-ltb, eqb-true}
 use Rattle.sd_base.specs.declared.role.Role.{Role}
 use Rattle.sd_base.specs.declared.role.Role.TheVariants.{Token, Own, Space, Order}
 use Rattle.critical.specs.declared.cycle.FiringNo.{FiringNo}
 use Rattle.cert_text.specs.declared.certificates.LinkStep.{LinkStep}
-use Rattle.cert_text.specs.declared.certificates.LinkCycle.{LinkCycle}
 use Rattle.cert_text.specs.declared.reading.fault.Fault.{Fault}
 use Rattle.cert_text.specs.CycleLines.{step_line, link_text, cycle_header}
-use Rattle.cert_text.specs.Fields.{behind, number_in, is_digit, limited, ended}
-use Rattle.cert_text.specs.Limits.{IsShort, IsLong, IsPotential, IsRateWithin, IsScheduleWithin, IsFiringWithin, IsLinkWithin, IsStepWithin, IsCycleWithin, IsNodeWithin, IsPotentialWithin}
+use Rattle.cert_text.specs.Fields.{behind, is_digit}
+use Rattle.cert_text.specs.Limits.{IsShort, IsLong, IsPotential, IsRateWithin, IsFiringWithin, IsLinkWithin, IsStepWithin, IsNodeWithin, IsPotentialWithin}
 use Rattle.cert_text.specs.LineForms.{worded_due, version_due, overlap_due, rate_due, schedule_line_due, last_short_due, link_due, step_due, header_due, numbered_rate_due, point_line_due, node_due, nodes_line_due, last_lowered_due, last_raised_due, last_potential_due, potential_due}
 use Rattle.cert_text.specs.MemberLines.{numbered_rate_line, point_line, blocked_line}
-use Rattle.cert_text.specs.NumberLines.{rate_line, limit_line, overlap_line, version_line}
-use Rattle.cert_text.specs.Reads.{Reads, lines_of, onto, next_by}
+use Rattle.cert_text.specs.NumberLines.{rate_line, overlap_line, version_line}
+use Rattle.cert_text.specs.Reads.{lines_of, onto, next_by}
 use Rattle.cert_text.specs.ScenarioLines.{node_line, nodes_header, potential_line}
 use Rattle.cert_text.specs.ScheduleLines.{schedule_header}
-use Rattle.cert_text.specs.Spelling.{end_line, rate_kind, storage_kind, scenario_kind}
+use Rattle.cert_text.specs.Spelling.{end_line}
 use Rattle.cert_text.proofs.ReadNumbers.{behind-front, number-front, long-front, digits-of, not-hyphen, all_digits}
 use Rattle.cert_text.proofs.Texts.{version-small}
 

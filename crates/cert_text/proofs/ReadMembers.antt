@@ -1,8 +1,8 @@
 -- The cycles and the members of a trade-off are read from their spellings.
-use Rattle.std.proofs.Common.{◌≡◌, ◌≢◌, ◌⊎◌, ℕ, zero, suc, ◌+◌, ◌-◌, ◌^◌, ◌<◌, ◌≤◌, Bool, true, false, List, [], ◌∷◌, ◌++◌, Option, Some, None, All, length, take, drop, get_or, Result, Ok, Err, refl, sym, ap, ◌∙◌, subst, arith, inl, inr, append_assoc, append-nil, length-append, length-take-le, get_or-take, take_all, decimal}
-use Rattle.std.specs.Prelude.{not, ◌==◌, ◌&&◌, ◌||◌, if◌then◌else◌, codes, nat_lt}
-use Rattle.std.specs.List.{flat_map, list_any, position_or_len, AllByRecursion}
-use Rattle.std.proofs.lemmas.Bool.{cases_lt, eqb-true, eqb-false, ltb-true, le-ltb, lt-ltb}
+use Rattle.std.proofs.Common.{◌≡◌, ◌⊎◌, ℕ, zero, suc, ◌+◌, ◌<◌, ◌≤◌, Bool, true, false, List, [], ◌∷◌, ◌++◌, Option, Some, None, All, length, take, Ok, refl, sym, ap, ◌∙◌, subst, arith, inl, inr, append_assoc, append-nil, length-append, length-take-le, get_or-take, take_all, decimal}
+use Rattle.std.specs.Prelude.{◌==◌, ◌||◌, if◌then◌else◌, codes, nat_lt}
+use Rattle.std.specs.List.{flat_map, list_any, AllByRecursion}
+use Rattle.std.proofs.lemmas.Bool.{eqb-true, eqb-false, ltb-true, le-ltb}
 use Rattle.std.proofs.lemmas.List.{take_more}
 use Rattle.std.proofs.lemmas.List.Elements.{recursion_from_All}
 use Rattle.std.proofs.lemmas.List.Sums.{position_or_len_is}
@@ -13,19 +13,18 @@ use Rattle.cert_text.specs.declared.certificates.LinkCycle.{LinkCycle}
 use Rattle.cert_text.specs.declared.certificates.MemberLine.{MemberLine}
 use Rattle.cert_text.specs.declared.certificates.MemberShown.{MemberShown}
 use Rattle.cert_text.specs.declared.certificates.MemberShown.TheVariants.{Cycle, Blocked}
-use Rattle.cert_text.specs.declared.certificates.PointLine.{PointLine}
 use Rattle.cert_text.specs.declared.certificates.StorageCertificate.{StorageCertificate}
 use Rattle.cert_text.specs.CycleLines.{cycle_lines}
-use Rattle.cert_text.specs.Limits.{IsLong, IsRateWithin, IsCycleWithin, IsCapacityWithin, IsShownWithin, IsMemberWithin, IsStorageWithin}
-use Rattle.cert_text.specs.LineForms.{worded_due, overlap_due, rate_due, numbers_due, numbered_rate_due, capacities_due, same}
+use Rattle.cert_text.specs.Limits.{IsLong, IsShownWithin, IsMemberWithin, IsStorageWithin}
+use Rattle.cert_text.specs.LineForms.{worded_due, overlap_due, numbers_due, capacities_due, same}
 use Rattle.cert_text.specs.MemberLines.{blocked_line, cycle_at, no_cycle, member_line, member_lines, numbered_rate_line, shown_lines}
 use Rattle.cert_text.specs.NumberLines.{cycles_line, limit_line, members_line, numbers_line, overlap_line, rate_line}
 use Rattle.cert_text.specs.Orderly.{Differ, IsStorageOrderly, used_by, used_with}
-use Rattle.cert_text.specs.Reads.{Reads, ◌>>=◌, in_front, lines_of, next_by, handing}
-use Rattle.cert_text.specs.Sections.{cycle_from, same_cycle, place_of, with_cycle, new_cycle_from, new_cycles_from, cycles_from, blocked_from, listed_from, numbered_from, member_from, members_from, naming_from, named_from, explored_from, points_from, storage_from}
+use Rattle.cert_text.specs.Reads.{Reads, lines_of, handing}
+use Rattle.cert_text.specs.Sections.{cycle_from, same_cycle, place_of, with_cycle, new_cycle_from, new_cycles_from, cycles_from, blocked_from, listed_from, numbered_from, member_from, members_from, naming_from, named_from, explored_from, storage_from}
 use Rattle.cert_text.specs.Spellable.{AreShown, IsStorageSpellable}
 use Rattle.cert_text.specs.Spelling.{cycle_list, member_list, point_list, end_line, storage_lists}
-use Rattle.cert_text.proofs.ReadLines.{Closes, next-line, worded-closes, worded-read, overlap-closes, overlap-read, rate-closes, rate-read, numbered-closes, numbered-read, blocked-closes}
+use Rattle.cert_text.proofs.ReadLines.{next-line, worded-closes, worded-read, overlap-closes, overlap-read, rate-closes, rate-read, numbered-closes, numbered-read, blocked-closes}
 use Rattle.cert_text.proofs.ReadEntries.{numbers-read, numbers-close, capacities-read, capacities-close, same-text}
 use Rattle.cert_text.proofs.ReadSections.{IsGoodCycle, IsGoodPoint, cycle-back, points-back, end-begins, finish-back}
 use Rattle.cert_text.proofs.ListedCycles.{new-at}
@@ -96,7 +95,7 @@ pub record IsGoodMember (m : MemberLine) : Type 0 where
   pub within : IsMemberWithin m
   pub shown : AreShown m.shown
 
-some-is : (a b : ℕ) → Some a ≡ Some b → a ≡ b
+pub some-is : (a b : ℕ) → Some a ≡ Some b → a ≡ b
 some-is a b e = grind (arith, e)
 
 -- members that are read with something known, which goes by how many cycles are named

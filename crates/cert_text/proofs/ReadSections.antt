@@ -1,6 +1,6 @@
 -- What stands on several lines is read from its spelling.
-use Rattle.std.proofs.Common.{◌≡◌, ℕ, zero, suc, ◌+◌, ◌-◌, ◌^◌, ◌<◌, ◌≤◌, Bool, true, false, List, [], ◌∷◌, ◌++◌, ℤ, All, length, Result, Ok, Err, refl, sym, ap, ◌∙◌, subst, arith, append_assoc, append-nil, decimal}
-use Rattle.std.specs.Prelude.{not, ◌==◌, ◌&&◌, if◌then◌else◌, codes}
+use Rattle.std.proofs.Common.{◌≡◌, ℕ, ◌-◌, ◌<◌, ◌≤◌, true, false, List, [], ◌∷◌, ◌++◌, ℤ, All, length, Ok, refl, sym, ap, ◌∙◌, subst, arith, append_assoc, append-nil, decimal}
+use Rattle.std.specs.Prelude.{codes}
 use Rattle.std.specs.List.{flat_map, AllByRecursion}
 use Rattle.std.proofs.lemmas.List.Elements.{recursion_from_All}
 use Rattle.sd_base.specs.declared.limits.TheConstants.{START}
@@ -16,14 +16,14 @@ use Rattle.cert_text.specs.LineForms.{worded_due, overlap_due, rate_due, buffers
 use Rattle.cert_text.specs.MemberLines.{point_line, point_lines}
 use Rattle.cert_text.specs.NumberLines.{numbers_line, rate_line, overlap_line, points_line, potentials_line}
 use Rattle.cert_text.specs.BufferLines.{buffers_line}
-use Rattle.cert_text.specs.Reads.{Reads, ◌>>=◌, lines_of, next_by, times_by}
+use Rattle.cert_text.specs.Reads.{Reads, lines_of, next_by, times_by}
 use Rattle.cert_text.specs.ScenarioLines.{node_line, nodes_header, nodes_lines, potential_line}
 use Rattle.cert_text.specs.ScheduleLines.{schedule_header, schedule_lines}
 use Rattle.cert_text.specs.Sections.{at_digit, begins_with_digit, actors_from, schedule_from, cycle_from, rate_from, finish, ending, point_from, points_from, entered_from, nodes_from, potentials_from, scenario_from}
 use Rattle.cert_text.specs.Spellable.{AreStarts, HasText, IsCycleText, IsRateSpellable}
 use Rattle.cert_text.specs.Spelling.{end_line, point_list, potential_list}
 use Rattle.cert_text.proofs.ReadNumbers.{digits-of, digit-yes}
-use Rattle.cert_text.proofs.ReadLines.{Closes, next-line, worded-closes, worded-read, overlap-closes, overlap-read, rate-closes, rate-read, point-closes, point-read, schedule-closes, schedule-read, header-closes, header-read, step-closes, step-read, node-closes, node-read, nodes-closes, nodes-read, potential-closes, potential-read}
+use Rattle.cert_text.proofs.ReadLines.{next-line, worded-closes, worded-read, overlap-closes, overlap-read, rate-closes, rate-read, point-closes, point-read, schedule-closes, schedule-read, header-closes, header-read, step-closes, step-read, node-closes, node-read, nodes-closes, nodes-read, potential-closes, potential-read}
 use Rattle.cert_text.proofs.ReadEntries.{numbers-read, numbers-close, buffers-read, buffers-close}
 use Rattle.cert_text.proofs.Times.{begins}
 
@@ -83,7 +83,7 @@ schedule-back s rest within starts other =
 
 -- ---- cycles
 
-abbrev IsGoodStep : LinkStep → Type 0
+abbrev pub IsGoodStep : LinkStep → Type 0
 IsGoodStep s = IsStepWithin s × HasText s
 
 pub record IsGoodCycle (c : LinkCycle) : Type 0 where

@@ -1,5 +1,5 @@
 -- Each certificate is read from its spelling, so that a spelling is of one alone.
-use Rattle.std.proofs.Common.{◌≡◌, ◌⊎◌, ℕ, List, [], ◌∷◌, ◌++◌, length, Result, Ok, Err, refl, sym, ap, ◌∙◌, inl, inr}
+use Rattle.std.proofs.Common.{◌≡◌, ◌⊎◌, ℕ, List, [], ◌∷◌, Result, Ok, refl, sym, ap, ◌∙◌}
 use Rattle.std.specs.Prelude.{codes}
 use Rattle.cert_text.specs.declared.certificates.Certificate.{Certificate}
 use Rattle.cert_text.specs.declared.certificates.Certificate.TheVariants.{Rate, Storage, Scenario}
@@ -12,7 +12,7 @@ use Rattle.cert_text.specs.Reading.{IsCertText, certificate_from, text_from, rea
 use Rattle.cert_text.specs.Reads.{lines_of}
 use Rattle.cert_text.specs.Spellable.{IsSpellable}
 use Rattle.cert_text.specs.Spelling.{rate_kind, storage_kind, scenario_kind, rate_lines, storage_lines, scenario_lines, lines_after, spelling}
-use Rattle.cert_text.proofs.ReadLines.{Closes, closes-end, closes-word, next-line, version-closes, version-read}
+use Rattle.cert_text.proofs.ReadLines.{closes-end, closes-word, next-line, version-closes, version-read}
 use Rattle.cert_text.proofs.ReadSections.{rate-back, scenario-back}
 use Rattle.cert_text.proofs.ReadMembers.{storage-back}
 

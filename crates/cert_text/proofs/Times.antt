@@ -64,7 +64,7 @@ begins (b ∷ bs) = by_test (b == 10)
 abbrev fine : {A : Type 0} → A → List (List ℕ) → Reads A
 fine x left = Ok (x, left)
 
-in-front-ok : {A : Type 0} (r : Result A Fault) (x : A) (ls left : List (List ℕ)) → in_front r ls ≡ fine x left → (r ≡ Ok x) × (ls ≡ left)
+pub in-front-ok : {A : Type 0} (r : Result A Fault) (x : A) (ls left : List (List ℕ)) → in_front r ls ≡ fine x left → (r ≡ Ok x) × (ls ≡ left)
 in-front-ok {A} (Ok y) x ls left e =
     let both = pair_is (y, ls) (x, left) e in
     (ap (λ (q : A × List (List ℕ)). let z : Result A Fault = Ok q.0 in z) both, ap (λ (q : A × List (List ℕ)). q.1) both)

@@ -1,5 +1,5 @@
 -- Which certificates have numbers that their lines can hold. That starts aren't too late is a part of having a spelling.
-use Rattle.std.specs.Prelude.{◌≡◌, ◌⊎◌, ℕ, ℤ, pos, negsuc, ◌-◌, ◌<◌, ◌≤◌, List, Option, Some, None, All, length}
+use Rattle.std.specs.Prelude.{◌≡◌, ◌⊎◌, ℕ, ℤ, pos, negsuc, ◌-◌, ◌≤◌, Option, Some, None, All, length}
 use Rattle.sd_base.specs.declared.role.Role.{Role}
 use Rattle.sd_base.specs.declared.role.Role.TheVariants.{Token, Own, Space, Order}
 use Rattle.critical.specs.declared.cycle.FiringNo.{FiringNo}

@@ -14,7 +14,9 @@ ghost use Rattle.std.specs.Prelude.{◌≡◌, ◌⊎◌, ◌<◌, ◌≤◌, �
 ghost use Rattle.std.specs.String.{string_bytes};
 ghost use Rattle.sd_base.specs.declared.limits.TheConstants.{CERTIFICATE_BYTES};
 ghost use Rattle.cert_text.specs.declared.error.CertError.TheVariants.{TooLong, NoMemory};
+ghost use Rattle.cert_text.specs.Limits.{IsWithinLimits};
 ghost use Rattle.cert_text.specs.Orderly.{IsOrderly};
+ghost use Rattle.cert_text.specs.Reading.{IsCertText};
 ghost use Rattle.cert_text.specs.Spellable.{IsSpellable};
 ghost use Rattle.cert_text.specs.Spelling.{lines_after, spelling};
 
@@ -39,6 +41,8 @@ pub fn write_certificate(
     requires spellable { IsSpellable certificate.now }
     requires orderly { IsOrderly certificate.now }
     ensures text { IfOk result (λ t. t ≡ spelling version certificate.now) }
+    // It is read again, and as this certificate alone.
+    ensures read { IfOk result (λ t. IsWithinLimits certificate.now → IsCertText t version certificate.now) }
     ensures short { OnOk result (length (spelling version certificate.now) ≤ CERTIFICATE_BYTES) }
     ensures long { IfErr result (λ e. (e ≡ NoMemory) ⊎ ((e ≡ TooLong) × (CERTIFICATE_BYTES < length (spelling version certificate.now)))) }
 {
