@@ -4,9 +4,12 @@ pub mod Explored
 pub mod Lines
 pub mod Linked
 pub mod Listed
+pub mod ListedPotentials
+pub mod ListedWalks
 pub mod MemberLines
 pub mod MemberOrder
 pub mod Orderless
+pub mod PlacedNodes
 pub mod Places
 pub mod PointLines
 pub mod Rising
@@ -14,4 +17,5 @@ pub mod ShownLines
 pub mod Summits
 pub mod ValidRates
 pub mod ValidTradeOffs
+pub mod ValidWorstRates
 pub mod Zipped

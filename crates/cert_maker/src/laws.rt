@@ -1,6 +1,7 @@
 //! Laws of certificates, each on a function that does nothing.
 ghost use Rattle.cert_maker.specs.ValidCertificates.{RatesAreValid};
 ghost use Rattle.cert_maker.specs.ValidTradeOffs.{TradeOffsAreValid};
+ghost use Rattle.cert_maker.specs.ValidWorstRates.{WorstRatesAreValid};
 
 use critical::laws::cycles_bound_the_rate;
 
@@ -15,3 +16,8 @@ pub fn storage_certificates_are_valid()
 {
     cycles_bound_the_rate();
 }
+
+/// The certificate of a critical cycle and potentials that show a worst rate is valid.
+pub fn worst_certificates_are_valid()
+    ensures { WorstRatesAreValid }
+{}
