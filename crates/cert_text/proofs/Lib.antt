@@ -20,3 +20,4 @@ pub mod SoundEntries
 pub mod SoundSections
 pub mod SoundMembers
 pub mod SoundWholes
+pub mod Within

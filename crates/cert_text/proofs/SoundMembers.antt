@@ -356,7 +356,7 @@ used-one used more (Cycle rate cycle) e = split (nat_lt cycle used) (cycle == us
 used-one used more (Blocked counts) e = let is = some-is used more e in omega (arith, is)
 
 -- each member names one more cycle at most
-used-most : (ms : List MemberLine) (used next : ℕ) → used_by used ms ≡ Some next → next ≤ used + length ms
+pub used-most : (ms : List MemberLine) (used next : ℕ) → used_by used ms ≡ Some next → next ≤ used + length ms
 unfolding used_by
 used-most [] used next e = let is = some-is used next e in omega (arith, is)
 used-most (m ∷ ms) used next e = split (used_with used m.shown) refl e (λ more h. used-most ms more next h)

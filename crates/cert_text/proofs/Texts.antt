@@ -103,3 +103,17 @@ nodes-end time edges first rest whole mid new is many entered =
 pub version-small : (n : ℕ) → n < 10 → version_line n ≡ codes "sdf3-certificate " ++ ((48 + n) ∷ 10 ∷ [])
 unfolding version_line
 version-small n small = ap (λ (l : List ℕ). codes "sdf3-certificate " ++ (l ++ 10 ∷ [])) (decimal_digit n small)
+
+-- what holds of each element so far
+pub all-end : {X : Type 0} (P : X → Type 0) (xs : List X) (i : ℕ) → length xs ≤ i → All P (take i xs) → All P xs
+all-end P xs i past all = subst (All P) (take_all i xs past) all
+
+pub all-more : {X : Type 0} (P : X → Type 0) (xs : List X) (i : ℕ) (d : X) → i < length xs → All P (take i xs) → P (get_or xs i d) → All P (take (i + 1) xs)
+all-more P xs i d within all one = all-pushed P (take i xs) (take (i + 1) xs) (get_or xs i d) all one (take_more xs i d within)
+
+-- with the element that was taken
+pub flat-item : {X : Type 0} (f : X → List ℕ) (start text new : List ℕ) (xs : List X) (i : ℕ) (x : X) → i < length xs → x ≡ get_or xs i x → text ≡ start ++ flat_map f (take i xs) → new ≡ text ++ f x → new ≡ start ++ flat_map f (take (i + 1) xs)
+flat-item f start text new xs i x within is kept more = flat_next f start text new xs i x within kept (more ∙ ap (λ y. text ++ f y) is)
+
+pub all-item : {X : Type 0} (P : X → Type 0) (xs : List X) (i : ℕ) (x : X) → i < length xs → x ≡ get_or xs i x → All P (take i xs) → P x → All P (take (i + 1) xs)
+all-item P xs i x within is all one = all-more P xs i x within all (subst P is one)

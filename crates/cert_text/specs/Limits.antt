@@ -1,5 +1,5 @@
 -- Which certificates have numbers that their lines can hold. That starts aren't too late is a part of having a spelling.
-use Rattle.std.specs.Prelude.{◌≡◌, ◌⊎◌, ℕ, ℤ, pos, negsuc, ◌-◌, ◌≤◌, Option, Some, None, All, length}
+use Rattle.std.specs.Prelude.{◌≡◌, ◌⊎◌, ℕ, ℤ, pos, negsuc, ◌-◌, ◌≤◌, Option, Some, None, List, All, length}
 use Rattle.sd_base.specs.declared.role.Role.{Role}
 use Rattle.sd_base.specs.declared.role.Role.TheVariants.{Token, Own, Space, Order}
 use Rattle.critical.specs.declared.cycle.FiringNo.{FiringNo}
@@ -15,6 +15,7 @@ use Rattle.cert_text.specs.declared.certificates.PointLine.{PointLine}
 use Rattle.cert_text.specs.declared.certificates.RateCertificate.{RateCertificate}
 use Rattle.cert_text.specs.declared.certificates.StorageCertificate.{StorageCertificate}
 use Rattle.cert_text.specs.declared.certificates.ScenarioCertificate.{ScenarioCertificate}
+use Rattle.cert_text.specs.MemberLines.{cycle_at}
 use Rattle.cert_text.specs.Orderly.{IsOrderly}
 use Rattle.cert_text.specs.Spellable.{IsSpellable}
 
@@ -126,6 +127,14 @@ abbrev pub IsWithinLimits : Certificate → Type 0
 IsWithinLimits (Rate c) = IsRateCertificateWithin c
 IsWithinLimits (Storage c) = IsStorageWithin c
 IsWithinLimits (Scenario c) = IsScenarioWithin c
+
+-- the cycle that a member names
+abbrev pub NamesWithin : List LinkCycle → MemberShown → Type 0
+NamesWithin cycles (Cycle rate cycle) = IsCycleWithin (cycle_at cycles cycle)
+NamesWithin cycles (Blocked counts) = Unit {0}
+
+abbrev pub NameWithin : List LinkCycle → List MemberLine → Type 0
+NameWithin cycles members = All (λ (m : MemberLine). NamesWithin cycles m.shown) members
 
 -- a certificate that has a spelling in a version, of numbers within their limits
 pub record IsReadable (version : ℕ) (c : Certificate) : Type 0 where

@@ -42,7 +42,8 @@ pub fn write_certificate(
     requires orderly { IsOrderly certificate.now }
     ensures text { IfOk result (λ t. t ≡ spelling version certificate.now) }
     // It is read again, and as this certificate alone.
-    ensures read { IfOk result (λ t. IsWithinLimits certificate.now → IsCertText t version certificate.now) }
+    ensures read { IfOk result (λ t. IsCertText t version certificate.now) }
+    ensures limits { OnOk result (IsWithinLimits certificate.now) }
     ensures short { OnOk result (length (spelling version certificate.now) ≤ CERTIFICATE_BYTES) }
     ensures long { IfErr result (λ e. (e ≡ NoMemory) ⊎ ((e ≡ TooLong) × (CERTIFICATE_BYTES < length (spelling version certificate.now)))) }
 {
@@ -56,7 +57,8 @@ pub fn write_certificate(
 #[tactic(auto, unfolding(crate::specs::Spelling::spelling))]
 fn text_of(alloc: Global, certificate: &Certificate, version: u32) -> Result<Rows<u8>, AllocError>
     requires { IsOrderly certificate.now }
-    ensures { IfOk result (λ t. t ≡ spelling version certificate.now) }
+    ensures text { IfOk result (λ t. t ≡ spelling version certificate.now) }
+    ensures within { OnOk result ((version ≡ 1) ⊎ (version ≡ 2) → IsWithinLimits certificate.now) }
 {
     let mut text = String::new(alloc);
     put_version(&mut text, version)?;
@@ -67,7 +69,8 @@ fn text_of(alloc: Global, certificate: &Certificate, version: u32) -> Result<Row
 #[tactic(auto, unfolding(crate::specs::Spelling::lines_after))]
 fn put_lines(text: &mut String, certificate: &Certificate, version: u32) -> Result<(), AllocError>
     requires { IsOrderly certificate.now }
-    ensures { OnOk result (string_bytes text.new ≡ string_bytes text.old ++ lines_after version certificate.now) }
+    ensures text { OnOk result (string_bytes text.new ≡ string_bytes text.old ++ lines_after version certificate.now) }
+    ensures within { OnOk result ((version ≡ 1) ⊎ (version ≡ 2) → IsWithinLimits certificate.now) }
 {
     match certificate {
         Certificate::Rate(rate) => put_rate_certificate(text, rate),

@@ -1,4 +1,5 @@
-ghost use Rattle.std.specs.Prelude.{◌≡◌, ◌++◌, OnOk};
+ghost use Rattle.std.specs.Prelude.{◌≡◌, ◌++◌, OnOk, All};
+ghost use Rattle.cert_text.specs.Limits.{IsCycleWithin, IsFiringWithin, IsLinkWithin, IsLong, IsStepWithin};
 ghost use Rattle.std.specs.String.{string_bytes};
 ghost use Rattle.std.specs.List.{flat_map};
 ghost use Rattle.cert_text.specs.CycleLines.{cycle_header, cycle_lines, link_text, step_line};
@@ -11,7 +12,8 @@ use std::alloc::AllocError;
 /// Puts the lines of a cycle.
 #[tactic(auto, unfolding(crate::specs::CycleLines::cycle_lines))]
 pub(crate) fn put_cycle(text: &mut String, cycle: &LinkCycle) -> Result<(), AllocError>
-    ensures { OnOk result (string_bytes text.new ≡ string_bytes text.old ++ cycle_lines cycle.now) }
+    ensures text { OnOk result (string_bytes text.new ≡ string_bytes text.old ++ cycle_lines cycle.now) }
+    ensures within { OnOk result (IsCycleWithin cycle.now) }
 {
     let steps = cycle.steps.as_slice();
     put_header(text, cycle.time, cycle.rounds, cycle.first, steps.len())?;
@@ -19,7 +21,8 @@ pub(crate) fn put_cycle(text: &mut String, cycle: &LinkCycle) -> Result<(), Allo
 }
 
 fn put_steps(text: &mut String, steps: &[LinkStep]) -> Result<(), AllocError>
-    ensures { OnOk result (string_bytes text.new ≡ string_bytes text.old ++ flat_map step_line steps.now) }
+    ensures text { OnOk result (string_bytes text.new ≡ string_bytes text.old ++ flat_map step_line steps.now) }
+    ensures within { OnOk result (All IsStepWithin steps.now) }
 {
     for step in steps {
         put_step(text, *step)?;
@@ -35,7 +38,8 @@ fn put_header(
     first: FiringNo,
     steps: usize,
 ) -> Result<(), AllocError>
-    ensures { OnOk result (string_bytes text.new ≡ string_bytes text.old ++ cycle_header time rounds first steps) }
+    ensures text { OnOk result (string_bytes text.new ≡ string_bytes text.old ++ cycle_header time rounds first steps) }
+    ensures within { IsLong time × IsLong rounds × IsFiringWithin first × IsLong steps }
 {
     let actor = first.actor;
     let number = first.number;
@@ -44,7 +48,8 @@ fn put_header(
 
 #[tactic(auto, unfolding(crate::specs::CycleLines::step_line))]
 fn put_step(text: &mut String, step: LinkStep) -> Result<(), AllocError>
-    ensures { OnOk result (string_bytes text.new ≡ string_bytes text.old ++ step_line step) }
+    ensures text { OnOk result (string_bytes text.new ≡ string_bytes text.old ++ step_line step) }
+    ensures within { IsStepWithin step }
 {
     let actor = step.to.actor;
     let number = step.to.number;
@@ -55,7 +60,8 @@ fn put_step(text: &mut String, step: LinkStep) -> Result<(), AllocError>
 
 #[tactic(auto, unfolding(crate::specs::CycleLines::link_text))]
 fn put_link(text: &mut String, link: Role) -> Result<(), AllocError>
-    ensures { OnOk result (string_bytes text.new ≡ string_bytes text.old ++ link_text link) }
+    ensures text { OnOk result (string_bytes text.new ≡ string_bytes text.old ++ link_text link) }
+    ensures within { IsLinkWithin link }
 {
     match link {
         Role::Token(channel) => write!(text, "t{channel}"),

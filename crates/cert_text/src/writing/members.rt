@@ -1,4 +1,5 @@
-ghost use Rattle.std.specs.Prelude.{◌≡◌, ◌<◌, ◌++◌, Option, OnOk, length};
+ghost use Rattle.std.specs.Prelude.{◌≡◌, ◌<◌, ◌++◌, Option, OnOk, length, All};
+ghost use Rattle.cert_text.specs.Limits.{IsCapacityWithin, IsMemberWithin, IsRateWithin, IsShownWithin, NamesWithin};
 ghost use Rattle.std.specs.String.{string_bytes};
 ghost use Rattle.std.specs.List.{flat_map};
 ghost use Rattle.cert_text.specs.MemberLines.{capacity_text, member_line, member_lines, numbered_rate_line, shown_lines};
@@ -18,7 +19,9 @@ pub(crate) fn put_member(
     version: u32,
 ) -> Result<(), AllocError>
     requires { NamesOneOf (length cycles.now) member.now.shown }
-    ensures { OnOk result (string_bytes text.new ≡ string_bytes text.old ++ member_lines version cycles.now member.now) }
+    ensures text { OnOk result (string_bytes text.new ≡ string_bytes text.old ++ member_lines version cycles.now member.now) }
+    ensures within { OnOk result (IsMemberWithin member.now) }
+    ensures named { OnOk result (version ≡ 1 → NamesWithin cycles.now member.now.shown) }
 {
     put_capacities(text, member.capacities.capacities.as_slice())?;
     put_shown(text, &member.shown, cycles, version)
@@ -26,7 +29,8 @@ pub(crate) fn put_member(
 
 #[tactic(auto, unfolding(crate::specs::MemberLines::member_line))]
 fn put_capacities(text: &mut String, capacities: &[Option<u64>]) -> Result<(), AllocError>
-    ensures { OnOk result (string_bytes text.new ≡ string_bytes text.old ++ member_line capacities.now) }
+    ensures text { OnOk result (string_bytes text.new ≡ string_bytes text.old ++ member_line capacities.now) }
+    ensures within { OnOk result (All IsCapacityWithin capacities.now) }
 {
     text.push_str("member")?;
     put_each(text, capacities)?;
@@ -34,7 +38,8 @@ fn put_capacities(text: &mut String, capacities: &[Option<u64>]) -> Result<(), A
 }
 
 fn put_each(text: &mut String, capacities: &[Option<u64>]) -> Result<(), AllocError>
-    ensures { OnOk result (string_bytes text.new ≡ string_bytes text.old ++ flat_map capacity_text capacities.now) }
+    ensures text { OnOk result (string_bytes text.new ≡ string_bytes text.old ++ flat_map capacity_text capacities.now) }
+    ensures within { OnOk result (All IsCapacityWithin capacities.now) }
 {
     for capacity in capacities {
         put_capacity(text, *capacity)?;
@@ -44,7 +49,8 @@ fn put_each(text: &mut String, capacities: &[Option<u64>]) -> Result<(), AllocEr
 
 #[tactic(auto, unfolding(crate::specs::MemberLines::capacity_text))]
 fn put_capacity(text: &mut String, capacity: Option<u64>) -> Result<(), AllocError>
-    ensures { OnOk result (string_bytes text.new ≡ string_bytes text.old ++ capacity_text capacity) }
+    ensures text { OnOk result (string_bytes text.new ≡ string_bytes text.old ++ capacity_text capacity) }
+    ensures within { IsCapacityWithin capacity }
 {
     match capacity {
         Some(capacity) => put_spaced(text, u128::from(capacity)),
@@ -60,7 +66,9 @@ fn put_shown(
     version: u32,
 ) -> Result<(), AllocError>
     requires { NamesOneOf (length cycles.now) shown.now }
-    ensures { OnOk result (string_bytes text.new ≡ string_bytes text.old ++ shown_lines version cycles.now shown.now) }
+    ensures text { OnOk result (string_bytes text.new ≡ string_bytes text.old ++ shown_lines version cycles.now shown.now) }
+    ensures within { OnOk result (IsShownWithin shown.now) }
+    ensures named { OnOk result (version ≡ 1 → NamesWithin cycles.now shown.now) }
 {
     match shown {
         MemberShown::Cycle { rate, cycle } => {
@@ -80,7 +88,8 @@ fn put_shown(
 
 #[tactic(auto, unfolding(crate::specs::MemberLines::numbered_rate_line))]
 fn put_numbered_rate(text: &mut String, rate: (u64, u64), cycle: u64) -> Result<(), AllocError>
-    ensures { OnOk result (string_bytes text.new ≡ string_bytes text.old ++ numbered_rate_line rate cycle) }
+    ensures text { OnOk result (string_bytes text.new ≡ string_bytes text.old ++ numbered_rate_line rate cycle) }
+    ensures within { IsRateWithin rate }
 {
     let (num, den) = rate;
     write!(text, "rate {num}/{den} {cycle}\n")

@@ -1,4 +1,5 @@
-ghost use Rattle.std.specs.Prelude.{◌≡◌, ◌++◌, OnOk};
+ghost use Rattle.std.specs.Prelude.{◌≡◌, ◌++◌, OnOk, All};
+ghost use Rattle.cert_text.specs.Limits.{IsLong, IsRateWithin};
 ghost use Rattle.std.specs.String.{string_bytes};
 ghost use Rattle.std.specs.List.{flat_map};
 ghost use Rattle.cert_text.specs.NumberLines.{cycles_line, limit_line, members_line, numbers_line, overlap_line, points_line, potentials_line, rate_line, spaced, version_line};
@@ -25,7 +26,8 @@ pub(crate) fn put_overlap(text: &mut String, no_overlap: bool) -> Result<(), All
 
 #[tactic(auto, unfolding(crate::specs::NumberLines::rate_line))]
 pub(crate) fn put_rate(text: &mut String, rate: (u64, u64)) -> Result<(), AllocError>
-    ensures { OnOk result (string_bytes text.new ≡ string_bytes text.old ++ rate_line rate) }
+    ensures text { OnOk result (string_bytes text.new ≡ string_bytes text.old ++ rate_line rate) }
+    ensures within { IsRateWithin rate }
 {
     let (num, den) = rate;
     write!(text, "rate {num}/{den}\n")
@@ -33,35 +35,40 @@ pub(crate) fn put_rate(text: &mut String, rate: (u64, u64)) -> Result<(), AllocE
 
 #[tactic(auto, unfolding(crate::specs::NumberLines::limit_line))]
 pub(crate) fn put_limit(text: &mut String, limit: u64) -> Result<(), AllocError>
-    ensures { OnOk result (string_bytes text.new ≡ string_bytes text.old ++ limit_line limit) }
+    ensures text { OnOk result (string_bytes text.new ≡ string_bytes text.old ++ limit_line limit) }
+    ensures within { IsLong limit }
 {
     write!(text, "limit {limit}\n")
 }
 
 #[tactic(auto, unfolding(crate::specs::NumberLines::cycles_line))]
 pub(crate) fn put_cycles_line(text: &mut String, number: usize) -> Result<(), AllocError>
-    ensures { OnOk result (string_bytes text.new ≡ string_bytes text.old ++ cycles_line number) }
+    ensures text { OnOk result (string_bytes text.new ≡ string_bytes text.old ++ cycles_line number) }
+    ensures within { IsLong number }
 {
     write!(text, "cycles {number}\n")
 }
 
 #[tactic(auto, unfolding(crate::specs::NumberLines::members_line))]
 pub(crate) fn put_members_line(text: &mut String, number: usize) -> Result<(), AllocError>
-    ensures { OnOk result (string_bytes text.new ≡ string_bytes text.old ++ members_line number) }
+    ensures text { OnOk result (string_bytes text.new ≡ string_bytes text.old ++ members_line number) }
+    ensures within { IsLong number }
 {
     write!(text, "members {number}\n")
 }
 
 #[tactic(auto, unfolding(crate::specs::NumberLines::points_line))]
 pub(crate) fn put_points_line(text: &mut String, number: usize) -> Result<(), AllocError>
-    ensures { OnOk result (string_bytes text.new ≡ string_bytes text.old ++ points_line number) }
+    ensures text { OnOk result (string_bytes text.new ≡ string_bytes text.old ++ points_line number) }
+    ensures within { IsLong number }
 {
     write!(text, "points {number}\n")
 }
 
 #[tactic(auto, unfolding(crate::specs::NumberLines::potentials_line))]
 pub(crate) fn put_potentials_line(text: &mut String, number: usize) -> Result<(), AllocError>
-    ensures { OnOk result (string_bytes text.new ≡ string_bytes text.old ++ potentials_line number) }
+    ensures text { OnOk result (string_bytes text.new ≡ string_bytes text.old ++ potentials_line number) }
+    ensures within { IsLong number }
 {
     write!(text, "potentials {number}\n")
 }
@@ -93,7 +100,8 @@ fn put_more_starts(text: &mut String, starts: &[u128]) -> Result<(), AllocError>
 /// Puts the firings of each actor.
 #[tactic(auto, unfolding(crate::specs::NumberLines::numbers_line))]
 pub(crate) fn put_counts(text: &mut String, counts: &[u64]) -> Result<(), AllocError>
-    ensures { OnOk result (string_bytes text.new ≡ string_bytes text.old ++ numbers_line counts.now) }
+    ensures text { OnOk result (string_bytes text.new ≡ string_bytes text.old ++ numbers_line counts.now) }
+    ensures within { OnOk result (All IsLong counts.now) }
 {
     match counts {
         [] => text.push_str("\n"),
@@ -106,7 +114,8 @@ pub(crate) fn put_counts(text: &mut String, counts: &[u64]) -> Result<(), AllocE
 }
 
 fn put_more_counts(text: &mut String, counts: &[u64]) -> Result<(), AllocError>
-    ensures { OnOk result (string_bytes text.new ≡ string_bytes text.old ++ flat_map spaced counts.now) }
+    ensures text { OnOk result (string_bytes text.new ≡ string_bytes text.old ++ flat_map spaced counts.now) }
+    ensures within { OnOk result (All IsLong counts.now) }
 {
     for count in counts {
         put_spaced(text, u128::from(*count))?;

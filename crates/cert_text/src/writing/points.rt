@@ -1,4 +1,5 @@
 ghost use Rattle.std.specs.Prelude.{◌≡◌, ◌++◌, OnOk};
+ghost use Rattle.cert_text.specs.Limits.{IsLong, IsPointWithin, IsRateWithin};
 ghost use Rattle.std.specs.String.{string_bytes};
 ghost use Rattle.cert_text.specs.MemberLines.{point_line, point_lines};
 
@@ -9,7 +10,8 @@ use std::alloc::AllocError;
 /// Puts the lines of a point.
 #[tactic(auto, unfolding(crate::specs::MemberLines::point_lines))]
 pub(crate) fn put_point(text: &mut String, point: &PointLine) -> Result<(), AllocError>
-    ensures { OnOk result (string_bytes text.new ≡ string_bytes text.old ++ point_lines point.now) }
+    ensures text { OnOk result (string_bytes text.new ≡ string_bytes text.old ++ point_lines point.now) }
+    ensures within { OnOk result (IsPointWithin point.now) }
 {
     put_header(text, point.total, point.rate, point.member)?;
     put_schedule(text, &point.schedule)
@@ -22,7 +24,8 @@ fn put_header(
     rate: (u64, u64),
     member: u64,
 ) -> Result<(), AllocError>
-    ensures { OnOk result (string_bytes text.new ≡ string_bytes text.old ++ point_line total rate member) }
+    ensures text { OnOk result (string_bytes text.new ≡ string_bytes text.old ++ point_line total rate member) }
+    ensures within { IsLong total × IsRateWithin rate × IsLong member }
 {
     let (num, den) = rate;
     write!(text, "point {total} {num}/{den} {member}\n")

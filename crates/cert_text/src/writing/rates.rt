@@ -1,4 +1,5 @@
 ghost use Rattle.std.specs.Prelude.{◌≡◌, ◌++◌, OnOk};
+ghost use Rattle.cert_text.specs.Limits.{IsRateCertificateWithin};
 ghost use Rattle.std.specs.String.{string_bytes};
 ghost use Rattle.cert_text.specs.Spelling.{rate_lines};
 
@@ -15,7 +16,8 @@ pub(crate) fn put_rate_certificate(
     text: &mut String,
     certificate: &RateCertificate,
 ) -> Result<(), AllocError>
-    ensures { OnOk result (string_bytes text.new ≡ string_bytes text.old ++ rate_lines certificate.now) }
+    ensures text { OnOk result (string_bytes text.new ≡ string_bytes text.old ++ rate_lines certificate.now) }
+    ensures within { OnOk result (IsRateCertificateWithin certificate.now) }
 {
     text.push_str("throughput\n")?;
     put_overlap(text, certificate.no_overlap)?;

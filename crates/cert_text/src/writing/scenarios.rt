@@ -1,4 +1,5 @@
-ghost use Rattle.std.specs.Prelude.{◌≡◌, ◌++◌, OnOk};
+ghost use Rattle.std.specs.Prelude.{◌≡◌, ◌++◌, OnOk, All, length, ◌-◌};
+ghost use Rattle.cert_text.specs.Limits.{IsLong, IsNodeWithin, IsPotentialWithin, IsScenarioWithin};
 ghost use Rattle.std.specs.String.{string_bytes};
 ghost use Rattle.std.specs.List.{flat_map};
 ghost use Rattle.cert_text.specs.ScenarioLines.{node_line, nodes_header, nodes_lines, potential_line};
@@ -14,7 +15,8 @@ pub(crate) fn put_scenario_certificate(
     text: &mut String,
     certificate: &ScenarioCertificate,
 ) -> Result<(), AllocError>
-    ensures { OnOk result (string_bytes text.new ≡ string_bytes text.old ++ scenario_lines certificate.now) }
+    ensures text { OnOk result (string_bytes text.new ≡ string_bytes text.old ++ scenario_lines certificate.now) }
+    ensures within { OnOk result (IsScenarioWithin certificate.now) }
 {
     text.push_str("scenario\n")?;
     put_rate(text, certificate.rate)?;
@@ -25,7 +27,8 @@ pub(crate) fn put_scenario_certificate(
 
 #[tactic(auto, unfolding(crate::specs::ScenarioLines::nodes_lines))]
 fn put_nodes(text: &mut String, time: u64, nodes: &[(u32, u32)]) -> Result<(), AllocError>
-    ensures { OnOk result (string_bytes text.new ≡ string_bytes text.old ++ nodes_lines time nodes.now) }
+    ensures text { OnOk result (string_bytes text.new ≡ string_bytes text.old ++ nodes_lines time nodes.now) }
+    ensures within { OnOk result (IsLong time × IsLong (length nodes.now - 1) × All IsNodeWithin nodes.now) }
 {
     match nodes {
         [] => Ok(()),
@@ -43,14 +46,16 @@ fn put_header(
     edges: usize,
     first: (u32, u32),
 ) -> Result<(), AllocError>
-    ensures { OnOk result (string_bytes text.new ≡ string_bytes text.old ++ nodes_header time edges first) }
+    ensures text { OnOk result (string_bytes text.new ≡ string_bytes text.old ++ nodes_header time edges first) }
+    ensures within { IsLong time × IsLong edges × IsNodeWithin first }
 {
     let (state, token) = first;
     write!(text, "cycle {time} {edges} {state} {token}\n")
 }
 
 fn put_entered(text: &mut String, nodes: &[(u32, u32)]) -> Result<(), AllocError>
-    ensures { OnOk result (string_bytes text.new ≡ string_bytes text.old ++ flat_map node_line nodes.now) }
+    ensures text { OnOk result (string_bytes text.new ≡ string_bytes text.old ++ flat_map node_line nodes.now) }
+    ensures within { OnOk result (All IsNodeWithin nodes.now) }
 {
     for node in nodes {
         put_node(text, *node)?;
@@ -60,7 +65,8 @@ fn put_entered(text: &mut String, nodes: &[(u32, u32)]) -> Result<(), AllocError
 
 #[tactic(auto, unfolding(crate::specs::ScenarioLines::node_line))]
 fn put_node(text: &mut String, node: (u32, u32)) -> Result<(), AllocError>
-    ensures { OnOk result (string_bytes text.new ≡ string_bytes text.old ++ node_line node) }
+    ensures text { OnOk result (string_bytes text.new ≡ string_bytes text.old ++ node_line node) }
+    ensures within { IsNodeWithin node }
 {
     let (state, token) = node;
     write!(text, "{state} {token}\n")
@@ -68,14 +74,16 @@ fn put_node(text: &mut String, node: (u32, u32)) -> Result<(), AllocError>
 
 #[tactic(auto, unfolding(crate::specs::Spelling::potential_list))]
 fn put_potentials(text: &mut String, potentials: &[(u32, u32, i128)]) -> Result<(), AllocError>
-    ensures { OnOk result (string_bytes text.new ≡ string_bytes text.old ++ potential_list potentials.now) }
+    ensures text { OnOk result (string_bytes text.new ≡ string_bytes text.old ++ potential_list potentials.now) }
+    ensures within { OnOk result (IsLong (length potentials.now) × All IsPotentialWithin potentials.now) }
 {
     put_potentials_line(text, potentials.len())?;
     put_each(text, potentials)
 }
 
 fn put_each(text: &mut String, potentials: &[(u32, u32, i128)]) -> Result<(), AllocError>
-    ensures { OnOk result (string_bytes text.new ≡ string_bytes text.old ++ flat_map potential_line potentials.now) }
+    ensures text { OnOk result (string_bytes text.new ≡ string_bytes text.old ++ flat_map potential_line potentials.now) }
+    ensures within { OnOk result (All IsPotentialWithin potentials.now) }
 {
     for potential in potentials {
         put_potential(text, *potential)?;
@@ -85,7 +93,8 @@ fn put_each(text: &mut String, potentials: &[(u32, u32, i128)]) -> Result<(), Al
 
 #[tactic(auto, unfolding(crate::specs::ScenarioLines::potential_line))]
 fn put_potential(text: &mut String, line: (u32, u32, i128)) -> Result<(), AllocError>
-    ensures { OnOk result (string_bytes text.new ≡ string_bytes text.old ++ potential_line line) }
+    ensures text { OnOk result (string_bytes text.new ≡ string_bytes text.old ++ potential_line line) }
+    ensures within { IsPotentialWithin line }
 {
     let (state, token, potential) = line;
     write!(text, "{state} {token} {potential}\n")

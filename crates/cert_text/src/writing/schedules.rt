@@ -1,4 +1,5 @@
 ghost use Rattle.std.specs.Prelude.{◌≡◌, ◌++◌, OnOk};
+ghost use Rattle.cert_text.specs.Limits.{IsLong, IsScheduleWithin};
 ghost use Rattle.std.specs.String.{string_bytes};
 ghost use Rattle.std.specs.List.{flat_map};
 ghost use Rattle.cert_text.specs.NumberLines.{numbers_line};
@@ -12,7 +13,8 @@ use std::alloc::AllocError;
 /// Puts the lines of a schedule.
 #[tactic(auto, unfolding(crate::specs::ScheduleLines::schedule_lines))]
 pub(crate) fn put_schedule(text: &mut String, schedule: &Periodic) -> Result<(), AllocError>
-    ensures { OnOk result (string_bytes text.new ≡ string_bytes text.old ++ schedule_lines schedule.now) }
+    ensures text { OnOk result (string_bytes text.new ≡ string_bytes text.old ++ schedule_lines schedule.now) }
+    ensures within { OnOk result (IsScheduleWithin schedule.now) }
 {
     put_header(text, schedule.period, schedule.rounds)?;
     put_actors(text, schedule.starts.as_slice())
@@ -29,7 +31,8 @@ fn put_actors(text: &mut String, starts: &[Rows<u128>]) -> Result<(), AllocError
 
 #[tactic(auto, unfolding(crate::specs::ScheduleLines::schedule_header))]
 fn put_header(text: &mut String, period: u64, rounds: u64) -> Result<(), AllocError>
-    ensures { OnOk result (string_bytes text.new ≡ string_bytes text.old ++ schedule_header period rounds) }
+    ensures text { OnOk result (string_bytes text.new ≡ string_bytes text.old ++ schedule_header period rounds) }
+    ensures within { IsLong period × IsLong rounds }
 {
     write!(text, "schedule {period} {rounds}\n")
 }

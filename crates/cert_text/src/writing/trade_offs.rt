@@ -1,4 +1,5 @@
-ghost use Rattle.std.specs.Prelude.{◌≡◌, ◌++◌, All, OnOk, length};
+ghost use Rattle.std.specs.Prelude.{◌≡◌, ◌++◌, All, OnOk, length, ◌⊎◌};
+ghost use Rattle.cert_text.specs.Limits.{IsCycleWithin, IsLong, IsMemberWithin, IsPointWithin, IsStorageWithin, NameWithin};
 ghost use Rattle.std.specs.String.{string_bytes};
 ghost use Rattle.std.specs.List.{flat_map};
 ghost use Rattle.cert_text.specs.CycleLines.{cycle_lines};
@@ -23,7 +24,8 @@ pub(crate) fn put_storage_certificate(
     version: u32,
 ) -> Result<(), AllocError>
     requires { IsStorageOrderly certificate.now }
-    ensures { OnOk result (string_bytes text.new ≡ string_bytes text.old ++ storage_lines version certificate.now) }
+    ensures text { OnOk result (string_bytes text.new ≡ string_bytes text.old ++ storage_lines version certificate.now) }
+    ensures within { OnOk result ((version ≡ 1) ⊎ (version ≡ 2) → IsStorageWithin certificate.now) }
 {
     let cycles = certificate.cycles.as_slice();
     let members = certificate.members.as_slice();
@@ -43,7 +45,11 @@ fn put_lists(
     version: u32,
 ) -> Result<(), AllocError>
     requires { NameOnes (length cycles.now) members.now }
-    ensures { OnOk result (string_bytes text.new ≡ string_bytes text.old ++ storage_lists version cycles.now members.now points.now) }
+    ensures text { OnOk result (string_bytes text.new ≡ string_bytes text.old ++ storage_lists version cycles.now members.now points.now) }
+    ensures cycles { OnOk result (version ≡ 2 → IsLong (length cycles.now) × All IsCycleWithin cycles.now) }
+    ensures named { OnOk result (version ≡ 1 → NameWithin cycles.now members.now) }
+    ensures members { OnOk result (IsLong (length members.now) × All IsMemberWithin members.now) }
+    ensures points { OnOk result (IsLong (length points.now) × All IsPointWithin points.now) }
 {
     put_cycles(text, cycles, version)?;
     put_members(text, members, cycles, version)?;
@@ -53,7 +59,8 @@ fn put_lists(
 
 #[tactic(auto, unfolding(crate::specs::Spelling::cycle_list))]
 fn put_cycles(text: &mut String, cycles: &[LinkCycle], version: u32) -> Result<(), AllocError>
-    ensures { OnOk result (string_bytes text.new ≡ string_bytes text.old ++ cycle_list version cycles.now) }
+    ensures text { OnOk result (string_bytes text.new ≡ string_bytes text.old ++ cycle_list version cycles.now) }
+    ensures within { OnOk result (version ≡ 2 → IsLong (length cycles.now) × All IsCycleWithin cycles.now) }
 {
     if version == 1 {
         return Ok(());
@@ -63,7 +70,8 @@ fn put_cycles(text: &mut String, cycles: &[LinkCycle], version: u32) -> Result<(
 }
 
 fn put_each_cycle(text: &mut String, cycles: &[LinkCycle]) -> Result<(), AllocError>
-    ensures { OnOk result (string_bytes text.new ≡ string_bytes text.old ++ flat_map cycle_lines cycles.now) }
+    ensures text { OnOk result (string_bytes text.new ≡ string_bytes text.old ++ flat_map cycle_lines cycles.now) }
+    ensures within { OnOk result (All IsCycleWithin cycles.now) }
 {
     for cycle in cycles {
         put_cycle(text, cycle)?;
@@ -79,7 +87,9 @@ fn put_members(
     version: u32,
 ) -> Result<(), AllocError>
     requires { NameOnes (length cycles.now) members.now }
-    ensures { OnOk result (string_bytes text.new ≡ string_bytes text.old ++ member_list version cycles.now members.now) }
+    ensures text { OnOk result (string_bytes text.new ≡ string_bytes text.old ++ member_list version cycles.now members.now) }
+    ensures within { OnOk result (IsLong (length members.now) × All IsMemberWithin members.now) }
+    ensures named { OnOk result (version ≡ 1 → NameWithin cycles.now members.now) }
 {
     put_members_line(text, members.len())?;
     put_each_member(text, members, cycles, version)
@@ -92,7 +102,9 @@ fn put_each_member(
     version: u32,
 ) -> Result<(), AllocError>
     requires { NameOnes (length cycles.now) members.now }
-    ensures { OnOk result (string_bytes text.new ≡ string_bytes text.old ++ flat_map (member_lines version cycles.now) members.now) }
+    ensures text { OnOk result (string_bytes text.new ≡ string_bytes text.old ++ flat_map (member_lines version cycles.now) members.now) }
+    ensures within { OnOk result (All IsMemberWithin members.now) }
+    ensures named { OnOk result (version ≡ 1 → NameWithin cycles.now members.now) }
 {
     for member in members {
         put_member(text, member, cycles, version)?;
@@ -102,14 +114,16 @@ fn put_each_member(
 
 #[tactic(auto, unfolding(crate::specs::Spelling::point_list))]
 fn put_points(text: &mut String, points: &[PointLine]) -> Result<(), AllocError>
-    ensures { OnOk result (string_bytes text.new ≡ string_bytes text.old ++ point_list points.now) }
+    ensures text { OnOk result (string_bytes text.new ≡ string_bytes text.old ++ point_list points.now) }
+    ensures within { OnOk result (IsLong (length points.now) × All IsPointWithin points.now) }
 {
     put_points_line(text, points.len())?;
     put_each_point(text, points)
 }
 
 fn put_each_point(text: &mut String, points: &[PointLine]) -> Result<(), AllocError>
-    ensures { OnOk result (string_bytes text.new ≡ string_bytes text.old ++ flat_map point_lines points.now) }
+    ensures text { OnOk result (string_bytes text.new ≡ string_bytes text.old ++ flat_map point_lines points.now) }
+    ensures within { OnOk result (All IsPointWithin points.now) }
 {
     for point in points {
         put_point(text, point)?;

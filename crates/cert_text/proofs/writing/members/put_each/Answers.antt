@@ -1,6 +1,16 @@
 use Rattle.cert_text.specs.MemberLines.{capacity_text}
-use Rattle.cert_text.proofs.Texts.{flat_end}
+use Rattle.cert_text.proofs.Texts.{all-end, all-more, flat_end, flat_next}
 use Rattle.cert_text.proofs.writing.members.put_each.Goals as goal
+use Rattle.cert_text.specs.Limits.{IsCapacityWithin}
 
-pub returns : goal.returns
-returns c = flat_end capacity_text _ _ c.args.capacities.now c.loop-capacity.capacity-index c.loop-capacity-test.false c.loop-capacity.invariant
+pub returns-clause-text : goal.returns-clause-text
+returns-clause-text c = flat_end capacity_text _ _ c.args.capacities.now c.loop-capacity.capacity-index c.loop-capacity-test.false c.loop-capacity.invariant.text
+
+pub returns-clause-within : goal.returns-clause-within
+returns-clause-within c = all-end IsCapacityWithin c.args.capacities.now c.loop-capacity.capacity-index c.loop-capacity-test.false c.loop-capacity.invariant.within
+
+pub loop-capacity-preserved : goal.loop-capacity-preserved
+loop-capacity-preserved c = record {
+  text = flat_next capacity_text _ _ _ c.args.capacities.now c.loop-capacity.capacity-index _ c.loop-capacity-test.true c.loop-capacity.invariant.text c.in_ok-put_capacity.ensures.text;
+  within = all-more IsCapacityWithin c.args.capacities.now c.loop-capacity.capacity-index _ c.loop-capacity-test.true c.loop-capacity.invariant.within c.put_capacity.ensures.within;
+}

@@ -1,6 +1,10 @@
 use Rattle.cert_text.specs.NumberLines.{spaced}
-use Rattle.cert_text.proofs.Texts.{flat_end}
+use Rattle.cert_text.proofs.Texts.{all-end, flat_end}
 use Rattle.cert_text.proofs.writing.numbers.put_more_counts.Goals as goal
+use Rattle.cert_text.specs.Limits.{IsLong}
 
-pub returns : goal.returns
-returns c = flat_end spaced _ _ c.args.counts.now c.loop-count.count-index c.loop-count-test.false c.loop-count.invariant
+pub returns-clause-text : goal.returns-clause-text
+returns-clause-text c = flat_end spaced _ _ c.args.counts.now c.loop-count.count-index c.loop-count-test.false c.loop-count.invariant.text
+
+pub returns-clause-within : goal.returns-clause-within
+returns-clause-within c = all-end IsLong c.args.counts.now c.loop-count.count-index c.loop-count-test.false c.loop-count.invariant.within
