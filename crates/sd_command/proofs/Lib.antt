@@ -19,6 +19,7 @@ mod OneTradeOff
 mod CompleteStorage
 mod ValidPuts
 mod ValidTradeOffPuts
+mod ValidWorstPuts
 mod Summaries
 mod CompleteGenerate
 pub mod CommandsDecide

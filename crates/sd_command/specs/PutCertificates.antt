@@ -1,22 +1,28 @@
 -- The certificates that are put are valid.
 use Rattle.std.specs.Prelude.{◌≡◌, ℕ, Bool, true, List, Some, Ok}
 use Rattle.sd_base.specs.declared.tables.GraphFile.{GraphFile}
+use Rattle.sd_base.specs.declared.tables.ScenarioFile.{ScenarioFile}
 use Rattle.sd_base.specs.declared.limits.Limits.{Limits}
-use Rattle.sd_words.specs.declared.request.Request.TheVariants.{Storage, Throughput}
+use Rattle.sd_words.specs.declared.request.Request.TheVariants.{Scenario, Storage, Throughput}
 use Rattle.sd_words.specs.Asked.{request_of}
 use Rattle.storage.specs.NamedBuffers.{Buffer}
 use Rattle.graph_reader.specs.Laws.{Gives}
+use Rattle.scenario_reader.specs.ScenarioFiles.{GivesFile}
 use Rattle.balance.specs.Repetition.{IsRound}
+use Rattle.automaton.specs.declared.graph.TimedGraph.{TimedGraph}
 use Rattle.cert_text.specs.declared.certificates.Certificate.TheVariants as certificates
 use Rattle.cert_text.specs.declared.certificates.RateCertificate.{RateCertificate}
+use Rattle.cert_text.specs.declared.certificates.ScenarioCertificate.{ScenarioCertificate}
 use Rattle.cert_text.specs.declared.certificates.StorageCertificate.{StorageCertificate}
 use Rattle.cert_checker.specs.declared.verdict.Reason.{Reason}
 use Rattle.cert_checker.specs.RateCertificates.{IsRateFault}
+use Rattle.cert_checker.specs.ScenarioCertificates.{IsScenarioFault}
 use Rattle.cert_checker.specs.StorageFaults.{IsStorageFault}
 use Rattle.sd_command.specs.declared.answer.Answer.{Answer}
 use Rattle.sd_command.specs.declared.file_kind.FileKind.TheVariants as kinds
 use Rattle.sd_command.specs.Certifyings.{text_of}
 use Rattle.sd_command.specs.Courses.{Answered}
+use Rattle.sd_command.specs.ScenarioSteps.{timing}
 use Rattle.sd_command.specs.Takings.{Files}
 use Rattle.sd_command.specs.Requests.{course_of}
 
@@ -56,7 +62,27 @@ TradeOffsPutAreValid =
     (words : List (List ℕ)) (files : Files) (name put : List ℕ) (limits : Limits) (no_overlap : Bool) (answer : Answer) (n : ℕ) → files.tells ≡ true
     → request_of words ≡ Ok (Storage name limits no_overlap (Some put)) → course_of words files (Answered answer) n → PutsValidTradeOff files name put answer
 
--- what is put beside a rate and beside a trade-off is valid
+-- an answer puts under a name the text of a certificate of a worst rate, no line of which is faulty for the timed graph of a file
+-- of scenarios
+pub record PutsValidWorst (files : Files) (name put : List ℕ) (answer : Answer) : Type 0 where
+  pub bytes : List ℕ
+  pub scenarios : ScenarioFile
+  pub graph : TimedGraph
+  pub certificate : ScenarioCertificate
+  pub there : files.named name ≡ Some bytes
+  pub given : GivesFile bytes scenarios
+  pub timed : (timing scenarios).passes graph
+  pub file : answer.put ≡ Some (record { kind = kinds.Certificate; name = put; bytes = text_of (certificates.Scenario certificate) })
+  pub valid : (line : ℕ) (reason : Reason) → IsScenarioFault graph certificate line reason → ⊥
+
+-- so does each answer of `scenario` with a certificate
+abbrev pub WorstRatesPutAreValid : Type 0
+WorstRatesPutAreValid =
+    (words : List (List ℕ)) (files : Files) (name put : List ℕ) (answer : Answer) (n : ℕ) → files.tells ≡ true
+    → request_of words ≡ Ok (Scenario name (Some put)) → course_of words files (Answered answer) n → PutsValidWorst files name put answer
+
+-- what is put beside a rate, a trade-off or a worst rate is valid
 pub record PutsAreValid : Type 0 where
   pub rates : RatesPutAreValid
   pub trade_offs : TradeOffsPutAreValid
+  pub worst_rates : WorstRatesPutAreValid

@@ -11,8 +11,8 @@ use sd_base::laws::{
 };
 use token_matrix::matrices_are_one;
 
-/// The words and files decide how a run ends, but for faults and want of memory; and what is put beside a rate or a
-/// trade-off is valid.
+/// The words and files decide how a run ends, but for faults and want of memory; and what is put beside a rate, a
+/// trade-off or a worst rate is valid.
 pub fn know_endings()
     ensures one { DueIsOne }
     ensures due { DueIsAnswered }

@@ -8,6 +8,7 @@ use Rattle.sd_command.proofs.CompleteStorage.{storage_is_complete}
 use Rattle.sd_command.proofs.CompleteGenerate.{generate_is_complete}
 use Rattle.sd_command.proofs.ValidPuts.{rates_put_are_valid}
 use Rattle.sd_command.proofs.ValidTradeOffPuts.{trade_offs_put_are_valid}
+use Rattle.sd_command.proofs.ValidWorstPuts.{worst_rates_put_are_valid}
 use Rattle.sd_command.proofs.CompleteCertificates.{check_is_complete, convert_is_complete}
 use Rattle.sd_command.proofs.laws.know_endings.Goals as goal
 
@@ -63,7 +64,11 @@ pub returns-clause-generate : goal.returns-clause-generate
 returns-clause-generate c = generate_is_complete (laws c)
 
 pub returns-clause-valid : goal.returns-clause-valid
-returns-clause-valid c = record { rates = rates_put_are_valid (laws c); trade_offs = trade_offs_put_are_valid (laws c) c.storage_certificates_are_valid.ensures }
+returns-clause-valid c = record {
+  rates = rates_put_are_valid (laws c);
+  trade_offs = trade_offs_put_are_valid (laws c) c.storage_certificates_are_valid.ensures;
+  worst_rates = worst_rates_put_are_valid;
+}
 
 pub returns-clause-check : goal.returns-clause-check
 returns-clause-check c = check_is_complete
