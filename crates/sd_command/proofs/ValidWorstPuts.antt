@@ -4,7 +4,6 @@ use Rattle.sd_words.specs.declared.request.Request.{Request}
 use Rattle.sd_words.specs.declared.request.Request.TheVariants.{Scenario}
 use Rattle.cert_text.specs.declared.certificates.Certificate.{Certificate}
 use Rattle.cert_maker.proofs.ValidWorstRates.{worst-rates-valid}
-use Rattle.sd_command.specs.declared.answer.Answer.{Answer}
 use Rattle.sd_command.specs.declared.file_kind.FileKind.TheVariants as kinds
 use Rattle.sd_command.specs.declared.file_kind.FileKind.TheVariants.{Graph}
 use Rattle.sd_command.specs.Certifyings.{text_of}
@@ -12,7 +11,7 @@ use Rattle.sd_command.specs.Courses.{Answered}
 use Rattle.sd_command.specs.PutCertificates.{WorstRatesPutAreValid}
 use Rattle.sd_command.specs.Requests.{asking, command_of}
 use Rattle.sd_command.specs.ScenarioSteps.{reading_scenarios, timing}
-use Rattle.sd_command.specs.Takings.{Files, taking}
+use Rattle.sd_command.specs.Takings.{taking}
 use Rattle.sd_command.specs.WorstAnswers.{IsWorstAnswer, scenario}
 use Rattle.sd_command.proofs.CommandsDecide.{answers_on}
 use Rattle.sd_command.proofs.Complete.{one_request}
