@@ -20,6 +20,7 @@ mod CompleteStorage
 mod ValidPuts
 mod ValidTradeOffPuts
 mod ValidWorstPuts
+mod AcceptedPuts
 mod Summaries
 mod CompleteGenerate
 pub mod CommandsDecide

@@ -1,5 +1,5 @@
 -- What `throughput` puts is a valid certificate.
-use Rattle.std.proofs.Common.{◌≡◌, ℕ, suc, ◌+◌, ◌*◌, ◌/◌, ◌≤◌, ◌<◌, Bool, true, false, cond, Option, None, Some, List, [], ◌∷◌, ◌++◌, All, Ok, map, refl, sym, ap, subst, ◌∙◌, arith}
+use Rattle.std.proofs.Common.{◌≡◌, ℕ, suc, ◌+◌, ◌*◌, ◌/◌, ◌≤◌, ◌<◌, Bool, true, false, cond, Option, None, Some, length, List, [], ◌∷◌, ◌++◌, All, Ok, map, refl, sym, ap, subst, ◌∙◌, arith}
 use Rattle.std.specs.List.{find}
 use Rattle.std.specs.Option.{option_map}
 use Rattle.std.specs.Str.{bytes_eq}
@@ -9,6 +9,8 @@ use Rattle.sd_base.specs.declared.tables.ChannelRow.{ChannelRow}
 use Rattle.sd_base.specs.declared.tables.GraphFile.{GraphFile}
 use Rattle.sd_base.specs.Net.{Channel, Net, file_channel, file_channels_from}
 use Rattle.sd_base.specs.FileNet.{net_of, own_channels_from}
+use Rattle.sd_base.specs.declared.limits.Quantity.TheVariants as quantities
+use Rattle.sd_base.specs.Limits.{greatest_of}
 use Rattle.sd_words.specs.declared.request.Request.{Request}
 use Rattle.sd_words.specs.declared.request.Request.TheVariants.{Throughput}
 use Rattle.sd_words.specs.Asked.{request_of}
@@ -18,6 +20,7 @@ use Rattle.storage.specs.Distributions.{CanHold}
 use Rattle.storage.specs.NamedBuffers.{Buffer, capacities_of, capacity_named}
 use Rattle.storage.proofs.NamedCapacities.{named-held}
 use Rattle.cert_text.specs.declared.certificates.Certificate.{Certificate}
+use Rattle.cert_text.specs.Reading.{IsCertText}
 use Rattle.cert_maker.specs.ValidCertificates.{AreGiven}
 use Rattle.cert_maker.proofs.ValidRates.{rates-valid}
 use Rattle.sd_command.specs.declared.answer.Answer.{Answer}
@@ -107,9 +110,12 @@ module _ (laws : FileLaws) (words : List (List ℕ)) (files : Files) (tells : fi
         gamma = balance.0;
         certificate = made.0;
         there = take.1.told tells;
+        fits = take.1.fits;
         given = read.1;
         round = balance.1;
         file = told.put.2.2 ∙ ap Some (told.put.2.1.1 ∙ ap (λ (c : Certificate). record { kind = kinds.Certificate; name = put; bytes = text_of c }) is);
+        short = subst (λ (c : Certificate). length (text_of c) ≤ greatest_of quantities.CertificateBytes) is told.put.2.1.0;
+        read = subst (λ (c : Certificate). IsCertText (text_of c) 2 c) is told.put.2.1.2;
         valid = rates-valid read.0 balance.0 no_overlap buffer.0.capacities told.schedule told.cycle made.0
             (bounded_net laws take.0 read.0 balance.0 no_overlap buffers buffer.0 read.1 balance.1 small buffer.1)
             (record { strong = join.1; inputs = fed-inputs net feed.1 })

@@ -1,9 +1,11 @@
 -- What `storage` puts is a valid certificate.
-use Rattle.std.proofs.Common.{◌≡◌, ℕ, Bool, true, List, [], ◌∷◌, Option, Some, Ok, ap, subst, ◌∙◌}
+use Rattle.std.proofs.Common.{◌≡◌, ◌≤◌, ℕ, Bool, true, List, [], ◌∷◌, Option, Some, length, Ok, ap, subst, ◌∙◌}
 use Rattle.std.specs.List.{AllZip}
 use Rattle.sd_base.specs.declared.limits.Limits.{Limits}
 use Rattle.sd_base.specs.Net.{Net}
 use Rattle.sd_base.specs.FileNet.{net_of}
+use Rattle.sd_base.specs.declared.limits.Quantity.TheVariants as quantities
+use Rattle.sd_base.specs.Limits.{greatest_of}
 use Rattle.sd_words.specs.declared.request.Request.{Request}
 use Rattle.sd_words.specs.declared.request.Request.TheVariants.{Storage}
 use Rattle.sd_words.specs.Asked.{request_of}
@@ -13,6 +15,7 @@ use Rattle.storage.proofs.FileChannels.{file-plain}
 use Rattle.storage.proofs.FileConnections.{file-connected, file-few}
 use Rattle.pareto_front.specs.declared.point.Point.{Point}
 use Rattle.cert_text.specs.declared.certificates.Certificate.{Certificate}
+use Rattle.cert_text.specs.Reading.{IsCertText}
 use Rattle.cert_maker.specs.ValidTradeOffs.{IsReachedBy, TradeOffsAreValid}
 use Rattle.sd_command.specs.declared.answer.Answer.{Answer}
 use Rattle.sd_command.specs.declared.file_kind.FileKind.TheVariants as kinds
@@ -64,9 +67,12 @@ module _ (laws : FileLaws) (valid : TradeOffsAreValid) (words : List (List ℕ))
         gamma = balance.0;
         certificate = made.0;
         there = take.1.told tells;
+        fits = take.1.fits;
         given = read.1;
         round = balance.1;
         file = told.put.2.2 ∙ ap Some (told.put.2.1.1 ∙ ap (λ (c : Certificate). record { kind = kinds.Certificate; name = put; bytes = text_of c }) is);
+        short = subst (λ (c : Certificate). length (text_of c) ≤ greatest_of quantities.CertificateBytes) is told.put.2.1.0;
+        read = subst (λ (c : Certificate). IsCertText (text_of c) 2 c) is told.put.2.1.2;
         valid = valid read.0 balance.0 no_overlap limits told.members told.points told.schedules made.0
             (record {
               laws = lawful_net laws take.0 read.0 balance.0 no_overlap read.1 balance.1;

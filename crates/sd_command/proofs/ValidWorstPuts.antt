@@ -1,8 +1,11 @@
 -- What `scenario` puts is a valid certificate.
-use Rattle.std.proofs.Common.{◌≡◌, Some, ap, subst, ◌∙◌}
+use Rattle.std.proofs.Common.{◌≡◌, ◌≤◌, Some, length, ap, subst, ◌∙◌}
+use Rattle.sd_base.specs.declared.limits.Quantity.TheVariants as quantities
+use Rattle.sd_base.specs.Limits.{greatest_of}
 use Rattle.sd_words.specs.declared.request.Request.{Request}
 use Rattle.sd_words.specs.declared.request.Request.TheVariants.{Scenario}
 use Rattle.cert_text.specs.declared.certificates.Certificate.{Certificate}
+use Rattle.cert_text.specs.Reading.{IsCertText}
 use Rattle.cert_maker.proofs.ValidWorstRates.{worst-rates-valid}
 use Rattle.sd_command.specs.declared.file_kind.FileKind.TheVariants as kinds
 use Rattle.sd_command.specs.declared.file_kind.FileKind.TheVariants.{Graph}
@@ -34,8 +37,11 @@ worst_rates_put_are_valid words files name put answer n tells asked due =
       graph = link.0;
       certificate = made.0;
       there = take.1.told tells;
+      fits = take.1.fits;
       given = read.1;
       timed = link.1;
       file = told.put.2.2 ∙ ap Some (told.put.2.1.1 ∙ ap (λ (c : Certificate). record { kind = kinds.Certificate; name = put; bytes = text_of c }) is);
+      short = subst (λ (c : Certificate). length (text_of c) ≤ greatest_of quantities.CertificateBytes) is told.put.2.1.0;
+      read = subst (λ (c : Certificate). IsCertText (text_of c) 2 c) is told.put.2.1.2;
       valid = worst-rates-valid read.0 link.0 told.worst made.0 shown.timed shown.rate shown.critical shown.fit shown.reached made.2;
     }

@@ -3,6 +3,7 @@ use Rattle.std.specs.Prelude.{◌≡◌, ℕ, ◌<◌, ◌≤◌, List, length, 
 use Rattle.sd_base.specs.declared.limits.Quantity.TheVariants as quantities
 use Rattle.sd_base.specs.Limits.{greatest_of}
 use Rattle.cert_text.specs.declared.certificates.Certificate.{Certificate}
+use Rattle.cert_text.specs.Reading.{IsCertText}
 use Rattle.cert_text.specs.Spelling.{spelling}
 use Rattle.report.specs.declared.refusal.Refusal.{Refusal}
 use Rattle.report.specs.declared.refusal.Refusal.TheVariants.{Above}
@@ -16,10 +17,10 @@ use Rattle.sd_command.specs.Courses.{Step, deciding}
 abbrev pub text_of : Certificate → List ℕ
 text_of c = spelling 2 c
 
--- a file of a kind that is a certificate, under a name, unless its text is too long
+-- a file of a kind that is a certificate, under a name, unless its text is too long; the certificate is read again from it
 abbrev pub certifying : FileKind → List ℕ → Certificate → Step Put
 certifying kind name c = deciding
-    (λ put. (length (text_of c) ≤ greatest_of quantities.CertificateBytes) × (put ≡ record { kind = kind; name = name; bytes = text_of c }))
+    (λ put. (length (text_of c) ≤ greatest_of quantities.CertificateBytes) × (put ≡ record { kind = kind; name = name; bytes = text_of c }) × IsCertText (text_of c) 2 c)
     (λ refusal. (greatest_of quantities.CertificateBytes < length (text_of c))
     × (refusal ≡ Above None (quantity_text quantities.CertificateBytes) (greatest_of quantities.CertificateBytes)))
 

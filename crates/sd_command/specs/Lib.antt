@@ -16,6 +16,7 @@ pub mod Runs
 pub mod inside
 pub mod Endings
 pub mod PutCertificates
+pub mod AcceptedCertificates
 pub mod ActorNames
 pub mod CertificateReadings
 pub mod Conversions

@@ -1,8 +1,10 @@
 -- The certificates that are put are valid.
-use Rattle.std.specs.Prelude.{◌≡◌, ℕ, Bool, true, List, Some, Ok}
+use Rattle.std.specs.Prelude.{◌≡◌, ℕ, ◌≤◌, Bool, true, List, length, Some, Ok}
 use Rattle.sd_base.specs.declared.tables.GraphFile.{GraphFile}
 use Rattle.sd_base.specs.declared.tables.ScenarioFile.{ScenarioFile}
 use Rattle.sd_base.specs.declared.limits.Limits.{Limits}
+use Rattle.sd_base.specs.declared.limits.Quantity.TheVariants as quantities
+use Rattle.sd_base.specs.Limits.{greatest_of}
 use Rattle.sd_words.specs.declared.request.Request.TheVariants.{Scenario, Storage, Throughput}
 use Rattle.sd_words.specs.Asked.{request_of}
 use Rattle.storage.specs.NamedBuffers.{Buffer}
@@ -14,6 +16,7 @@ use Rattle.cert_text.specs.declared.certificates.Certificate.TheVariants as cert
 use Rattle.cert_text.specs.declared.certificates.RateCertificate.{RateCertificate}
 use Rattle.cert_text.specs.declared.certificates.ScenarioCertificate.{ScenarioCertificate}
 use Rattle.cert_text.specs.declared.certificates.StorageCertificate.{StorageCertificate}
+use Rattle.cert_text.specs.Reading.{IsCertText}
 use Rattle.cert_checker.specs.declared.verdict.Reason.{Reason}
 use Rattle.cert_checker.specs.RateCertificates.{IsRateFault}
 use Rattle.cert_checker.specs.ScenarioCertificates.{IsScenarioFault}
@@ -26,16 +29,20 @@ use Rattle.sd_command.specs.ScenarioSteps.{timing}
 use Rattle.sd_command.specs.Takings.{Files}
 use Rattle.sd_command.specs.Requests.{course_of}
 
--- an answer puts under a name the text of a certificate of a rate, no line of which is faulty for the graph of a file
+-- an answer puts under a name the text of a certificate of a rate, which is read again from it, and no line of which is faulty for
+-- the graph of a file
 pub record PutsValidRate (files : Files) (name put : List ℕ) (answer : Answer) : Type 0 where
   pub bytes : List ℕ
   pub graph : GraphFile
   pub gamma : List ℕ
   pub certificate : RateCertificate
   pub there : files.named name ≡ Some bytes
+  pub fits : length bytes ≤ greatest_of quantities.FileBytes
   pub given : Gives bytes true graph
   pub round : IsRound graph gamma
   pub file : answer.put ≡ Some (record { kind = kinds.Certificate; name = put; bytes = text_of (certificates.Rate certificate) })
+  pub short : length (text_of (certificates.Rate certificate)) ≤ greatest_of quantities.CertificateBytes
+  pub read : IsCertText (text_of (certificates.Rate certificate)) 2 (certificates.Rate certificate)
   pub valid : (line : ℕ) (reason : Reason) → IsRateFault graph gamma certificate line reason → ⊥
 
 -- so does each answer of `throughput` with a certificate
@@ -44,16 +51,20 @@ RatesPutAreValid =
     (words : List (List ℕ)) (files : Files) (name put : List ℕ) (buffers : List Buffer) (no_overlap : Bool) (states : ℕ) (answer : Answer) (n : ℕ) → files.tells ≡ true
     → request_of words ≡ Ok (Throughput name buffers no_overlap states (Some put)) → course_of words files (Answered answer) n → PutsValidRate files name put answer
 
--- an answer puts under a name the text of a certificate of a trade-off, no line of which is faulty for the graph of a file
+-- an answer puts under a name the text of a certificate of a trade-off, which is read again from it, and no line of which is faulty
+-- for the graph of a file
 pub record PutsValidTradeOff (files : Files) (name put : List ℕ) (answer : Answer) : Type 0 where
   pub bytes : List ℕ
   pub graph : GraphFile
   pub gamma : List ℕ
   pub certificate : StorageCertificate
   pub there : files.named name ≡ Some bytes
+  pub fits : length bytes ≤ greatest_of quantities.FileBytes
   pub given : Gives bytes true graph
   pub round : IsRound graph gamma
   pub file : answer.put ≡ Some (record { kind = kinds.Certificate; name = put; bytes = text_of (certificates.Storage certificate) })
+  pub short : length (text_of (certificates.Storage certificate)) ≤ greatest_of quantities.CertificateBytes
+  pub read : IsCertText (text_of (certificates.Storage certificate)) 2 (certificates.Storage certificate)
   pub valid : (line : ℕ) (reason : Reason) → IsStorageFault graph gamma 2 certificate line reason → ⊥
 
 -- so does each answer of `storage` with a certificate
@@ -62,17 +73,20 @@ TradeOffsPutAreValid =
     (words : List (List ℕ)) (files : Files) (name put : List ℕ) (limits : Limits) (no_overlap : Bool) (answer : Answer) (n : ℕ) → files.tells ≡ true
     → request_of words ≡ Ok (Storage name limits no_overlap (Some put)) → course_of words files (Answered answer) n → PutsValidTradeOff files name put answer
 
--- an answer puts under a name the text of a certificate of a worst rate, no line of which is faulty for the timed graph of a file
--- of scenarios
+-- an answer puts under a name the text of a certificate of a worst rate, which is read again from it, and no line of which is
+-- faulty for the timed graph of a file of scenarios
 pub record PutsValidWorst (files : Files) (name put : List ℕ) (answer : Answer) : Type 0 where
   pub bytes : List ℕ
   pub scenarios : ScenarioFile
   pub graph : TimedGraph
   pub certificate : ScenarioCertificate
   pub there : files.named name ≡ Some bytes
+  pub fits : length bytes ≤ greatest_of quantities.FileBytes
   pub given : GivesFile bytes scenarios
   pub timed : (timing scenarios).passes graph
   pub file : answer.put ≡ Some (record { kind = kinds.Certificate; name = put; bytes = text_of (certificates.Scenario certificate) })
+  pub short : length (text_of (certificates.Scenario certificate)) ≤ greatest_of quantities.CertificateBytes
+  pub read : IsCertText (text_of (certificates.Scenario certificate)) 2 (certificates.Scenario certificate)
   pub valid : (line : ℕ) (reason : Reason) → IsScenarioFault graph certificate line reason → ⊥
 
 -- so does each answer of `scenario` with a certificate

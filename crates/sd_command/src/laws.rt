@@ -1,3 +1,4 @@
+ghost use Rattle.sd_command.specs.AcceptedCertificates.{PutsAreAccepted};
 ghost use Rattle.sd_command.specs.PutCertificates.{PutsAreValid};
 ghost use Rattle.sd_command.specs.Endings.{CheckIsComplete, ConvertIsComplete, DueIsAnswered, DueIsOne, ElseIsDone, GenerateIsComplete, StorageIsComplete, ThroughputIsComplete};
 
@@ -12,7 +13,7 @@ use sd_base::laws::{
 use token_matrix::matrices_are_one;
 
 /// The words and files decide how a run ends, but for faults and want of memory; and what is put beside a rate, a
-/// trade-off or a worst rate is valid.
+/// trade-off or a worst rate is valid, and accepted by `check`.
 pub fn know_endings()
     ensures one { DueIsOne }
     ensures due { DueIsAnswered }
@@ -21,6 +22,7 @@ pub fn know_endings()
     ensures storage { StorageIsComplete }
     ensures generate { GenerateIsComplete }
     ensures valid { PutsAreValid }
+    ensures accepted { PutsAreAccepted }
     ensures check { CheckIsComplete }
     ensures convert { ConvertIsComplete }
 {

@@ -9,6 +9,7 @@ use Rattle.sd_command.proofs.CompleteGenerate.{generate_is_complete}
 use Rattle.sd_command.proofs.ValidPuts.{rates_put_are_valid}
 use Rattle.sd_command.proofs.ValidTradeOffPuts.{trade_offs_put_are_valid}
 use Rattle.sd_command.proofs.ValidWorstPuts.{worst_rates_put_are_valid}
+use Rattle.sd_command.proofs.AcceptedPuts.{puts_are_accepted}
 use Rattle.sd_command.proofs.CompleteCertificates.{check_is_complete, convert_is_complete}
 use Rattle.sd_command.proofs.laws.know_endings.Goals as goal
 
@@ -69,6 +70,9 @@ returns-clause-valid c = record {
   trade_offs = trade_offs_put_are_valid (laws c) c.storage_certificates_are_valid.ensures;
   worst_rates = worst_rates_put_are_valid;
 }
+
+pub returns-clause-accepted : goal.returns-clause-accepted
+returns-clause-accepted c = puts_are_accepted (laws c) (scenarios c) c.storage_certificates_are_valid.ensures
 
 pub returns-clause-check : goal.returns-clause-check
 returns-clause-check c = check_is_complete
