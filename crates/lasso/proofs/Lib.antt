@@ -13,3 +13,4 @@ pub mod Traced
 pub mod RowsSettle
 pub mod Entered
 pub mod Between
+pub mod Printed

@@ -5,6 +5,7 @@ mod collect;
 mod entry;
 mod error;
 mod laws;
+mod prints;
 mod repeat;
 mod run;
 mod search;

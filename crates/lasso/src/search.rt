@@ -1,15 +1,18 @@
 //! The search for two equal shapes, by one execution that keeps one shape (Brent 1980).
-ghost use Rattle.std.specs.Prelude.{◌≡◌, ◌↔◌, ◌*◌, ◌≤◌, [], IfErr, IfOk, IsTrue, OnOk, MatchOption, length, replicate};
+ghost use Rattle.std.specs.Prelude.{◌≡◌, ◌↔◌, ◌+◌, ◌*◌, ◌≤◌, ◌<◌, [], IfErr, IfOk, IsTrue, OnOk, MatchOption, length, replicate};
 ghost use Rattle.sd_base.specs.declared.limits.TheConstants.{STARTS};
 ghost use Rattle.sd_base.specs.Schedules.{HasInputs};
 ghost use Rattle.sd_base.specs.SelfTimed.{IsEvent, shape_at};
 ghost use Rattle.sd_base.specs.Untimed.{IsLive};
 ghost use Rattle.selftimed.specs.declared.engine.Stage.TheVariants.{Fresh, Running};
 ghost use Rattle.lasso.specs.LoopAnswers.{IsRunRefusal};
+ghost use Rattle.lasso.specs.declared.error.RunError.TheVariants.{StatesSpent, TooManyStarts};
+ghost use Rattle.lasso.specs.inside.Printing.{ArePrints};
 ghost use Rattle.lasso.specs.inside.Tracing.{AreAllowed};
 ghost use Rattle.lasso.specs.inside.Searching.{IsPair, IsCheckpoint, IsLast, NoneSince, NoneSoon};
 
 use crate::error::RunError;
+use crate::prints::all_differ;
 use crate::steps::go_on;
 use crate::trace::Trace;
 use firing::Firing;
@@ -17,6 +20,7 @@ use sd_base::NoMemory;
 use sd_base::limits::STARTS;
 use selftimed::{Engine, Shape};
 use std::alloc::Global;
+use std::mem::replace;
 
 /// How many starts the search makes at most. If a shape comes again within `STARTS` starts, the last
 /// checkpoint stands within twice as many, and comes again within as many more.
@@ -41,8 +45,9 @@ pub(crate) struct Checkpoint {
 
 /// Finds a shape and the first one after it that is equal, and leaves the events and starts on the way in a trace. The first shape is the first checkpoint. A
 /// later shape becomes the checkpoint when the starts up to it are more than twice those up to the one before,
-/// and that one has stood for some time (`least_stay`); and so does the last shape that is allowed: if a shape up to
-/// there comes again, then it does.
+/// and that one has stood for some time (`least_stay`). Where none comes again, different prints of the tokens show that all
+/// shapes differ; if two prints are equal, the last shape that is allowed becomes the checkpoint: if a shape up to there comes
+/// again, then it does.
 pub(crate) fn find_pair<F: Firing>(
     alloc: Global,
     engine: &mut Engine<F>,
@@ -55,6 +60,7 @@ pub(crate) fn find_pair<F: Firing>(
     requires most { engine.old.most ≡ 4 * STARTS }
     requires some { 1 ≤ states }
     requires no_events { trace.old.moments.items ≡ [] }
+    requires no_prints { trace.old.prints.items ≡ [] }
     requires no_starts { trace.old.starts.items ≡ replicate (length (F.net engine.old.net.now).times) [] }
     ensures net { engine.new.net ≡ engine.old.net }
     ensures found { IfOk result (IsPair (F.net engine.old.net.now)) }
@@ -64,14 +70,26 @@ pub(crate) fn find_pair<F: Firing>(
     if let Some(pair) = search_allowed(alloc, engine, trace, states)? {
         return Ok(pair);
     }
+    let prints = replace(&mut trace.prints, Vec::new(alloc));
+    if all_differ(prints) {
+        return Err(refusal_at(engine.starts()));
+    }
     let last = checkpoint_of(alloc, engine)?;
     if let Some(pair) = search_on(engine, &last)? {
         return Ok(pair);
     }
-    if last.starts <= STARTS {
-        Err(RunError::StatesSpent)
+    Err(refusal_at(last.starts))
+}
+
+/// Why the search ends with the last shape that is allowed, where none comes twice.
+fn refusal_at(starts: u64) -> RunError
+    ensures spent { starts ≤ STARTS → result ≡ StatesSpent }
+    ensures many { STARTS < starts → result ≡ TooManyStarts }
+{
+    if starts <= STARTS {
+        RunError::StatesSpent
     } else {
-        Err(RunError::TooManyStarts)
+        RunError::TooManyStarts
     }
 }
 
@@ -89,10 +107,12 @@ fn search_allowed<F: Firing>(
     requires most { engine.old.most ≡ 4 * STARTS }
     requires some { 1 ≤ states }
     requires no_events { trace.old.moments.items ≡ [] }
+    requires no_prints { trace.old.prints.items ≡ [] }
     requires no_starts { trace.old.starts.items ≡ replicate (length (F.net engine.old.net.now).times) [] }
     ensures net { engine.new.net ≡ engine.old.net }
     ensures most { engine.new.most ≡ engine.old.most }
     ensures traced { IfOk result (λ o. AreAllowed (F.net engine.old.net.now) states trace.new.moments.items trace.new.starts.items) }
+    ensures prints { IfOk result (λ o. MatchOption o (ArePrints (F.net engine.old.net.now) (engine.new.moment + 1) trace.new.moments.items trace.new.prints.items) (λ pair. Unit {0})) }
     ensures found { IfOk result (λ o. MatchOption o ((engine.new.stage ≡ Running) × IsLast (F.net engine.old.net.now) states engine.new.moment) (IsPair (F.net engine.old.net.now))) }
     ensures refused { IfErr result (IsRunRefusal (F.net engine.old.net.now) states) }
 {
