@@ -2,6 +2,7 @@ pub mod Runs
 pub mod TimesLeft
 pub mod Shifts
 pub mod Agendas
+pub mod Calendars
 pub mod Batches
 pub mod RateTables
 pub mod Starters

@@ -1,35 +1,31 @@
 ghost use Rattle.std.specs.Prelude.{◌≡◌, [], ◌∷◌, ◌++◌, true, nat_lt, if◌then◌else◌, IfOk, OnOk};
 ghost use Rattle.std.specs.List.{range_with_len};
-ghost use Rattle.std.specs.BinaryHeap.{IsHeap, heap_items};
-ghost use Rattle.std.proofs.Props.{props};
-ghost use Rattle.selftimed.specs.inside.Agendas.{later_end, Announces, IsSoonest, TakesDue};
+ghost use Rattle.selftimed.specs.inside.Agendas.{Announces, IsSoonest, TakesDue};
 
 use crate::actors::ActorState;
+use crate::calendar::Calendar;
 use sd_base::NoMemory;
 use std::alloc::{AllocError, Global};
-use std::cmp::Reverse;
-use std::collections::BinaryHeap;
 
 /// What an execution looks at next: the ends to come, and the touched actors.
 #[derive(Drop)]
 pub(crate) struct Agenda {
-    /// Of each actor that runs its first end. The soonest is on top.
-    pub(crate) ends: BinaryHeap<(Reverse<u64>, u32)>,
+    /// Of each actor that runs its first end.
+    pub(crate) ends: Calendar,
     /// The touched actors.
     pub(crate) touched: Vec<u32>,
     /// The actors of which firings started at the last event.
     pub(crate) starters: Vec<u32>,
-    ghost ordered: { IsHeap later_end (heap_items ends) } by { Prim.hlevel props },
 }
 
 impl Agenda {
     /// No actor runs, and all are touched.
     pub(crate) fn new(alloc: Global, actors: u32) -> Result<Agenda, NoMemory>
-        ensures ends { IfOk result (λ a. heap_items a.ends ≡ []) }
+        ensures ends { IfOk result (λ a. a.ends ≡ []) }
         ensures touched { IfOk result (λ a. a.touched.items ≡ range_with_len 0 actors) }
     {
         let mut agenda = Agenda {
-            ends: BinaryHeap::new(alloc),
+            ends: Calendar::new(alloc),
             touched: Vec::new(alloc),
             starters: Vec::new(alloc),
         };
@@ -39,10 +35,10 @@ impl Agenda {
 
     /// Makes it that of so many actors, of which none runs, and all are touched. It allocates nothing where there were as many.
     pub(crate) fn refill(&mut self, actors: u32) -> Result<(), NoMemory>
-        ensures ends { OnOk result (heap_items self.new.ends ≡ []) }
+        ensures ends { OnOk result (self.new.ends ≡ []) }
         ensures touched { OnOk result (self.new.touched.items ≡ range_with_len 0 actors) }
     {
-        self.ends.clear();
+        self.ends.clear(actors);
         self.touched.clear();
         self.starters.clear();
         for actor in 0..actors {
@@ -52,48 +48,38 @@ impl Agenda {
     }
 
     /// The soonest end.
+    #[inline(always)]
     pub(crate) fn soonest(&self) -> Option<u64>
-        ensures { IsSoonest (heap_items self.now.ends) result }
+        ensures { IsSoonest self.now.ends result }
     {
-        match self.ends.peek() {
-            Some((Reverse(end), _actor)) => Some(*end),
-            None => None,
-        }
+        self.ends.soonest()
     }
 
     /// Takes off an end that has come by a moment, and tells its actor.
     /// Cost: logarithmic in the actors that run.
+    #[inline(always)]
     pub(crate) fn pop_due(&mut self, moment: u64) -> Option<u32>
-        ensures taken { TakesDue moment (heap_items self.old.ends) (heap_items self.new.ends) result }
+        ensures taken { TakesDue moment self.old.ends self.new.ends result }
         ensures touched { self.new.touched ≡ self.old.touched }
     {
-        match self.soonest() {
-            Some(end) => {
-                if moment < end {
-                    return None;
-                }
-            }
-            None => return None,
-        }
-        match self.ends.pop() {
-            Some((_end, actor)) => Some(actor),
-            None => None,
-        }
+        self.ends.pop_due(moment)
     }
 
     /// Notes the first end of an actor, if it runs. Cost: logarithmic in the actors that run.
+    #[inline(always)]
     pub(crate) fn announce(&mut self, actor: u32, state: &ActorState) -> Result<(), AllocError>
-        ensures ends { OnOk result (Announces actor state.now.running (heap_items self.old.ends) (heap_items self.new.ends)) }
+        ensures ends { OnOk result (Announces actor state.now.running self.old.ends self.new.ends) }
         ensures touched { self.new.touched ≡ self.old.touched }
         ensures starters { self.new.starters ≡ self.old.starters }
     {
         if let Some(end) = state.running.first() {
-            self.ends.push((Reverse(end), actor))?;
+            self.ends.push(end, actor)?;
         }
         Ok(())
     }
 
     /// Touches an actor.
+    #[inline(always)]
     pub(crate) fn touch(&mut self, actor: u32, state: &mut ActorState) -> Result<(), AllocError>
         ensures state { OnOk result (state.new ≡ record state.old { touched = true }) }
         ensures touched { OnOk result (self.new.touched.items ≡ (if state.old.touched then self.old.touched.items else self.old.touched.items ++ actor ∷ [])) }
@@ -107,6 +93,7 @@ impl Agenda {
     }
 
     /// Notes an actor of which so many firings start, if any do.
+    #[inline(always)]
     pub(crate) fn note_starts(&mut self, actor: u32, firings: u64) -> Result<(), AllocError>
         ensures starters { OnOk result (self.new.starters.items ≡ (if nat_lt 0 firings then self.old.starters.items ++ actor ∷ [] else self.old.starters.items)) }
         ensures touched { self.new.touched ≡ self.old.touched }

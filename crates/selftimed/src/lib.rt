@@ -3,6 +3,7 @@
 
 mod actors;
 mod agenda;
+mod calendar;
 mod compare;
 mod ends;
 mod engine;

@@ -1,6 +1,6 @@
 use Rattle.std.proofs.Common.{◌+◌, ◌∙◌, ap}
 use Rattle.std.proofs.lemmas.List.{length_push}
-use Rattle.selftimed.proofs.RateTables.{rates-none, rates-push}
+use Rattle.selftimed.proofs.RateTables.{rates-push}
 use Rattle.selftimed.proofs.rates.rates_of.Goals as goal
 
 pub loop-channel-preserved : goal.loop-channel-preserved

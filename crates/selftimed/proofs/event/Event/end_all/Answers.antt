@@ -1,6 +1,5 @@
 use Rattle.std.proofs.Common.{◌<◌, length, set, subst, arith}
 use Rattle.std.specs.Prelude.{slice_index_or}
-use Rattle.std.specs.BinaryHeap.{heap_items}
 use Rattle.std.proofs.lemmas.List.{get_or_default, get_or-set_same, length-set}
 use Rattle.firing.specs.declared.sums.Port.TheVariants.{Made}
 use Rattle.firing.specs.Wiring.{IsListed}
@@ -12,7 +11,7 @@ use Rattle.selftimed.proofs.FiringsEnd.{due-actor, ends-late, ends-none, ends-st
 use Rattle.selftimed.proofs.event.Event.end_all.Goals as goal
 
 pub loop-actor-init : goal.loop-actor-init
-loop-actor-init g c = ends-none (g.F.Firing.net c.args.self.now.net.now) c.args.self.now.moment c.args.actors.now c.args.tokens.now (heap_items c.args.agenda.now.ends) c.args.agenda.now.touched.items c.requires.stand c.requires.agenda
+loop-actor-init g c = ends-none (g.F.Firing.net c.args.self.now.net.now) c.args.self.now.moment c.args.actors.now c.args.tokens.now c.args.agenda.now.ends c.args.agenda.now.touched.items c.requires.stand c.requires.agenda
 
 pub outputs_of-outputs-requires : goal.outputs_of-outputs-requires
 outputs_of-outputs-requires g c = omega (arith, due-actor c.loop-actor.invariant c.in-Some.ensures.taken.2, c.args.self.now.outputs.actors)
@@ -49,9 +48,9 @@ pub loop-actor-smaller : goal.loop-actor-smaller
 loop-actor-smaller g c =
     let place : c.in-Some.actor < length c.loop-actor.actors = omega (arith, due-actor c.loop-actor.invariant c.in-Some.ensures.taken.2, c.loop-actor.invariant.stand.long) in
     let here = get_or-set_same c.loop-actor.actors c.in-Some.actor c.end_actor.new.state c.index-actors-actor-in-Some.result place in
-    let announced : Announces c.in-Some.actor c.end_actor.new.state.running (heap_items c.pop_due.new.self.ends) (heap_items c.announce.new.self.ends) =
-    subst (λ (x : ActorState). Announces c.in-Some.actor x.running (heap_items c.pop_due.new.self.ends) (heap_items c.announce.new.self.ends)) here c.in_ok-announce.ensures.ends in
-    rw c.touch_targets.ensures.ends (fewer-due c.args.self.now.moment c.in-Some.ensures.taken.0 c.in-Some.actor c.end_actor.new.state.running (heap_items c.loop-actor.agenda.ends) (heap_items c.pop_due.new.self.ends) (heap_items c.announce.new.self.ends)
+    let announced : Announces c.in-Some.actor c.end_actor.new.state.running c.pop_due.new.self.ends c.announce.new.self.ends =
+    subst (λ (x : ActorState). Announces c.in-Some.actor x.running c.pop_due.new.self.ends c.announce.new.self.ends) here c.in_ok-announce.ensures.ends in
+    rw c.touch_targets.ensures.ends (fewer-due c.args.self.now.moment c.in-Some.ensures.taken.0 c.in-Some.actor c.end_actor.new.state.running c.loop-actor.agenda.ends c.pop_due.new.self.ends c.announce.new.self.ends
     c.in-Some.ensures.taken.1 c.in-Some.ensures.taken.2 announced
     (ends-late c.args.self.now.moment (slice_index_or c.loop-actor.actors c.in-Some.actor c.index-actors-actor.result) c.end_actor.new.state c.end_actor.ensures.ended))
 
@@ -60,11 +59,11 @@ loop-actor-preserved g c =
     let actor : c.in-Some.actor < length (g.F.Firing.net c.args.self.now.net.now).times = due-actor c.loop-actor.invariant c.in-Some.ensures.taken.2 in
     let place : c.in-Some.actor < length c.loop-actor.actors = omega (arith, c.loop-actor.invariant.stand.long) in
     let here = get_or-set_same c.loop-actor.actors c.in-Some.actor c.end_actor.new.state c.index-actors-actor-in-Some.result place in
-    let announced : Announces c.in-Some.actor c.end_actor.new.state.running (heap_items c.pop_due.new.self.ends) (heap_items c.announce.new.self.ends) =
-    subst (λ (x : ActorState). Announces c.in-Some.actor x.running (heap_items c.pop_due.new.self.ends) (heap_items c.announce.new.self.ends)) here c.in_ok-announce.ensures.ends in
+    let announced : Announces c.in-Some.actor c.end_actor.new.state.running c.pop_due.new.self.ends c.announce.new.self.ends =
+    subst (λ (x : ActorState). Announces c.in-Some.actor x.running c.pop_due.new.self.ends c.announce.new.self.ends) here c.in_ok-announce.ensures.ends in
     rw c.touch_targets.ensures.ends (ends-step (g.F.Firing.net c.args.self.now.net.now) c.args.self.now.moment c.args.actors.now c.loop-actor.actors c.loop-actor.tokens c.end_actor.new.tokens c.in-Some.ensures.taken.0 c.in-Some.actor
     (slice_index_or c.loop-actor.actors c.in-Some.actor c.index-actors-actor.result) c.end_actor.new.state c.touch_targets.new.actors
-    (heap_items c.loop-actor.agenda.ends) (heap_items c.pop_due.new.self.ends) (heap_items c.announce.new.self.ends) c.loop-actor.agenda.touched.items c.touch_targets.new.agenda.touched.items
+    c.loop-actor.agenda.ends c.pop_due.new.self.ends c.announce.new.self.ends c.loop-actor.agenda.touched.items c.touch_targets.new.agenda.touched.items
     (get_or_default c.loop-actor.actors c.in-Some.actor c.index-actors-actor.result idle place) actor c.loop-actor.invariant c.in-Some.ensures.taken.2 announced c.in_ok-touch_targets.ensures.lists
     c.end_actor.ensures.ended c.end_actor.ensures.touched c.end_actor.ensures.lacking
     (kept-touches (g.F.Firing.net c.args.self.now.net.now) c.as_slice.result.now c.outputs_of-outputs.result.now (set c.loop-actor.actors c.in-Some.actor c.end_actor.new.state) c.touch_targets.new.actors c.in_ok-touch_targets.ensures.touched)
@@ -74,4 +73,4 @@ loop-actor-preserved g c =
 
 pub returns-clause-ended : goal.returns-clause-ended
 returns-clause-ended g c =
-    ends-all (g.F.Firing.net c.args.self.now.net.now) c.args.self.now.moment c.args.actors.now c.loop-actor.actors c.loop-actor.tokens (heap_items c.loop-actor.agenda.ends) c.loop-actor.agenda.touched.items c.loop-actor.invariant c.in_default.ensures.taken.1
+    ends-all (g.F.Firing.net c.args.self.now.net.now) c.args.self.now.moment c.args.actors.now c.loop-actor.actors c.loop-actor.tokens c.loop-actor.agenda.ends c.loop-actor.agenda.touched.items c.loop-actor.invariant c.in_default.ensures.taken.1

@@ -1,12 +1,11 @@
 use Rattle.std.proofs.Common.{length}
-use Rattle.std.specs.BinaryHeap.{heap_items}
 use Rattle.selftimed.specs.inside.Actors.{HaveStarted}
 use Rattle.selftimed.proofs.Starting.{StartsSoFar}
 use Rattle.selftimed.proofs.event.Event.start_all.Given as goal
 
 abbrev pub invariant-loop-actor : goal.invariant-loop-actor
 invariant-loop-actor g l = record {
-  so_far : StartsSoFar (g.F.Firing.net l.self.net.now) l.self.moment l.initial.actors l.actors l.tokens l.all l.self.most (heap_items l.agenda.ends) l.agenda.touched.items;
+  so_far : StartsSoFar (g.F.Firing.net l.self.net.now) l.self.moment l.initial.actors l.actors l.tokens l.all l.self.most l.agenda.ends l.agenda.touched.items;
   starters : HaveStarted (g.F.Firing.net l.self.net.now) l.initial.actors l.actors l.agenda.starters.items;
 }
 

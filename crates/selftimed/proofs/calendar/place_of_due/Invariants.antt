@@ -1,0 +1,6 @@
+use Rattle.std.proofs.Common.{◌<◌, All, take}
+use Rattle.selftimed.specs.inside.Agendas.{Entry}
+use Rattle.selftimed.proofs.calendar.place_of_due.Given as goal
+
+abbrev pub invariant-loop-place : goal.invariant-loop-place
+invariant-loop-place l = All (λ (e : Entry). l.moment < e.0.0) (take l.place l.ends)
