@@ -1,4 +1,5 @@
 pub mod Runs
+pub mod FirstRun
 pub mod TimesLeft
 pub mod Shifts
 pub mod Agendas

@@ -1,7 +1,6 @@
 -- The ends of runs.
 use Rattle.std.proofs.Common.{◌≡◌, ◌≢◌, ℕ, zero, suc, ◌+◌, ◌-◌, ◌≤◌, ◌<◌, List, [], ◌∷◌, ◌++◌, Some, length, replicate, set, take, drop, ⊎_elim, sym, refl, ap, ◌∙◌, append_assoc, add-zero, arith}
 use Rattle.std.specs.Prelude.{slice_get, slice_index, All}
-use Rattle.std.specs.Option.{option_map}
 use Rattle.std.proofs.Math.Seq.{take-length}
 use Rattle.std.proofs.lemmas.Bool.{cases_eq, cases_lt}
 use Rattle.std.proofs.lemmas.List.{take-append-drop, take_more, take_more_set, drop_at, drop-set-add, get_or-drop, get_or-replicate, get_or-set_same, get_or-set_other, get_or_append_left, get_or_push, length-append, length-drop, length-replicate, length-set, length_push, nil_from_length, flat_map_more, replicate-append-replicate}
@@ -142,13 +141,9 @@ last-few runs some =
 
 -- ---- the first firing, and those that are taken off
 
-slice_get-front : (n end : ℕ) (more : List ℕ) → 0 < n → slice_get (replicate n end ++ more) 0 ≡ Some end
+pub slice_get-front : (n end : ℕ) (more : List ℕ) → 0 < n → slice_get (replicate n end ++ more) 0 ≡ Some end
 slice_get-front zero end more some = absurd (omega arith)
 slice_get-front (suc n) end more some = refl
-
-pub ends-front : (runs : List Run) → AreRuns runs → option_map (λ (r : Run). r.end) (slice_get runs 0) ≡ slice_get (ends_of runs) 0
-ends-front [] are = refl
-ends-front (r ∷ rs) are = sym (slice_get-front r.firings r.end (ends_of rs) (are.some 0 (omega arith)))
 
 module _ (runs : List Run) (n firings : ℕ) (is : firings ≡ length (ends_of (take n runs))) where
   pub popped-within : firings ≤ length (ends_of runs)

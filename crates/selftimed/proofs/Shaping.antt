@@ -7,11 +7,8 @@ use Rattle.std.proofs.lemmas.List.FromFn.{get_or-map-range_with_len, length-map-
 use Rattle.sd_base.specs.Net.{Net}
 use Rattle.sd_base.specs.Schedules.{phases_at}
 use Rattle.selftimed.specs.declared.actors.ActorState.{ActorState}
-use Rattle.selftimed.specs.declared.queue.Run.{Run}
 use Rattle.selftimed.specs.inside.Actors.{idle, started_in, running_in}
-use Rattle.selftimed.specs.inside.Runs.{ends_of, AreRuns, NoneEnded}
 use Rattle.selftimed.specs.EngineShapes.{phases_now, remaining_now, IsPast}
-use Rattle.selftimed.proofs.Runs.{none-ended}
 
 -- ---- phases
 
@@ -46,10 +43,6 @@ pub past-at : (moment : ℕ) (actors : List ActorState) (a : ℕ) (one : ActorSt
 past-at moment actors a one ends past place read is k below =
     let same : ends ≡ running_in actors a = is ∙ ap (λ (s : ActorState). s.running) (sym read) in
     rw same (past a k place (rw same at below))
-
--- no run of an actor's firings ended before a moment
-pub none-ended-at : (moment : ℕ) (actors : List ActorState) (a : ℕ) (one : ActorState) (runs : List Run) → IsPast moment actors → a < length actors → slice_index_or actors a idle ≡ one → AreRuns runs → ends_of runs ≡ one.running → NoneEnded moment runs
-none-ended-at moment actors a one runs past place read are is = none-ended moment runs are (past-at moment actors a one (ends_of runs) past place read is)
 
 pub remaining-more : (moment : ℕ) (actors : List ActorState) (a : ℕ) (one : ActorState) (ends row : List ℕ) (rows new : List (List ℕ)) → a < length actors → slice_index_or actors a idle ≡ one → ends ≡ one.running → row ≡ map (λ e. e - moment) ends →
     rows ≡ remaining_now moment (take a actors) → new ≡ rows ++ row ∷ [] → new ≡ remaining_now moment (take (a + 1) actors)

@@ -1,10 +1,11 @@
 -- The times left of runs, and that runs are told by their ends.
 use Rattle.std.proofs.Common.{◌≡◌, ℕ, zero, suc, ◌+◌, ◌-◌, ◌≤◌, ◌<◌, ◌⊎◌, List, [], ◌∷◌, ◌++◌, length, map, replicate, take, drop, inl, inr, ⊎_elim, subst, sym, refl, ap, ◌∙◌, append_assoc, arith}
+use Rattle.std.specs.Prelude.{slice_index}
 use Rattle.std.proofs.Math.Seq.{take-add, take-length}
-use Rattle.std.proofs.lemmas.List.{drop_at, ext_get_or, get_or-map, length-drop, length-map, length-replicate, length-take, length-take-le, map-append, take_at}
+use Rattle.std.proofs.lemmas.List.{append_cancel_left, drop_at, ext_get_or, get_or-map, length-drop, length-map, length-replicate, length-take, length-take-le, map-append, take_at, take-append-drop}
 use Rattle.selftimed.specs.declared.queue.Run.{Run}
 use Rattle.selftimed.specs.inside.Runs.{no_run, run_at, ends_of, AreRuns, left_of, NoneEnded}
-use Rattle.selftimed.proofs.Runs.{ends-more, ends-parts}
+use Rattle.selftimed.proofs.Runs.{ends-more, ends-parts, none-ended}
 
 -- ---- the times left of some runs, by firing
 
@@ -45,6 +46,30 @@ module _ (moment : ℕ) (runs : List Run) (times : List ℕ) (k place : ℕ) (be
         left-more moment runs k below ∙ (ap (λ (xs : List ℕ). xs ++ replicate (run_at runs k).firings ((run_at runs k).end - moment)) so_far
         ∙ (ap (λ (xs : List ℕ). take place times ++ xs) (sym begin) ∙ sym (take-add place (run_at runs k).firings times)))
 
+-- ---- a first run and the later ones
+
+pub left-first : (moment : ℕ) (first : Run) (later : List Run) → times_left moment (first ∷ later) ≡ replicate first.firings (first.end - moment) ++ times_left moment later
+left-first moment first later =
+    map-append (λ (e : ℕ). e - moment) (replicate first.firings first.end) (ends_of later) ∙ ap (λ (xs : List ℕ). xs ++ times_left moment later) (map-replicate (λ (e : ℕ). e - moment) first.firings first.end)
+
+pub none-tail : (moment : ℕ) (first : Run) (later : List Run) → NoneEnded moment (first ∷ later) → NoneEnded moment later
+none-tail moment first later past k below = past (suc k) (omega arith)
+
+pub left-none : (moment : ℕ) (runs : List Run) (ends : List ℕ) → AreRuns runs → ends_of runs ≡ ends → ((k : ℕ) → k < length ends → moment ≤ slice_index ends k) → NoneEnded moment runs
+left-none moment runs ends are is past = none-ended moment runs are (rw is past)
+
+module _ (moment : ℕ) (first : Run) (later : List Run) (times : List ℕ) where
+  pub first-begin : times_left moment (first ∷ later) ≡ times → take first.firings times ≡ replicate first.firings (first.end - moment)
+  first-begin same =
+      rw (← same, left-first moment first later) (take_at (replicate first.firings (first.end - moment)) (times_left moment later) first.firings (length-replicate first.firings (first.end - moment)))
+
+  pub first-rest : times_left moment (first ∷ later) ≡ times → times_left moment later ≡ drop first.firings times
+  first-rest same =
+      rw (← same, left-first moment first later) (sym (drop_at (replicate first.firings (first.end - moment)) (times_left moment later) first.firings (length-replicate first.firings (first.end - moment))))
+
+  pub first-whole : take first.firings times ≡ replicate first.firings (first.end - moment) → times_left moment later ≡ drop first.firings times → times_left moment (first ∷ later) ≡ times
+  first-whole begin rest = left-first moment first later ∙ (ap (λ (xs : List ℕ). xs ++ times_left moment later) (sym begin) ∙ (ap (λ (xs : List ℕ). take first.firings times ++ xs) rest ∙ take-append-drop first.firings times))
+
 -- all times from a place on
 pub rest-whole : (times : List ℕ) (place : ℕ) → take (length times - place) (drop place times) ≡ drop place times
 rest-whole times place = ap (λ (n : ℕ). take n (drop place times)) (sym (length-drop place times)) ∙ take-length (drop place times)
@@ -72,7 +97,7 @@ first-end x (r ∷ rs) are (rest, is) = (omega arith, front r.firings (are.some 
     front zero some more same = absurd (omega arith)
     front (suc n) some more same = cc
 
-tail-runs : (r : Run) (rs : List Run) → AreRuns (r ∷ rs) → AreRuns rs
+pub tail-runs : (r : Run) (rs : List Run) → AreRuns (r ∷ rs) → AreRuns rs
 tail-runs r rs are = record {
   some = λ k h. are.some (suc k) (omega arith);
   apart = λ k h. let e : suc k + 1 ≡ suc (k + 1) = omega arith in rw e at (are.apart (suc k) (omega arith));
@@ -152,6 +177,11 @@ left-agree now runs then others n whole long agree =
     left-at now runs k place ∙ (agree k (omega arith) ∙ sym (left-at then others k (omega arith)))))
     ∙ sym (ends-left then others))
 
+pub left-heads : (now : ℕ) (first : Run) (later : List Run) (then : ℕ) (other : Run) (others : List Run) → left_of now first ≡ left_of then other → times_left now later ≡ times_left then others → times_left now (first ∷ later) ≡ times_left then (other ∷ others)
+left-heads now first later then other others heads tails =
+    left-first now first later ∙ (ap (λ (r : Run). replicate r.firings r.end ++ times_left now later) heads
+    ∙ (ap (λ (xs : List ℕ). replicate other.firings (other.end - then) ++ xs) tails ∙ sym (left-first then other others)))
+
 module _ (now : ℕ) (runs : List Run) (then : ℕ) (others : List Run) (are : AreRuns runs) (be : AreRuns others) (past : NoneEnded now runs) (over : NoneEnded then others) (same : times_left now runs ≡ times_left then others) where
   left-tell : map (left_of now) runs ≡ map (left_of then) others
   left-tell = ends-tell (map (left_of now) runs) (map (left_of then) others) (runs-left now runs are past) (runs-left then others be over) (sym (ends-left now runs) ∙ (same ∙ ends-left then others))
@@ -161,3 +191,13 @@ module _ (now : ℕ) (runs : List Run) (then : ℕ) (others : List Run) (are : A
 
   pub left-same : (k : ℕ) → k < length runs → left_of now (run_at runs k) ≡ left_of then (run_at others k)
   left-same k below = sym (left-at now runs k below) ∙ (ap (λ (rs : List Run). run_at rs k) left-tell ∙ left-at then others k (omega (arith, left-long)))
+
+module _ (now : ℕ) (first : Run) (later : List Run) (then : ℕ) (other : Run) (others : List Run) (are : AreRuns (first ∷ later)) (be : AreRuns (other ∷ others)) (past : NoneEnded now (first ∷ later)) (over : NoneEnded then (other ∷ others)) (same : times_left now (first ∷ later) ≡ times_left then (other ∷ others)) where
+  pub heads-same : left_of now first ≡ left_of then other
+  heads-same = left-same now (first ∷ later) then (other ∷ others) are be past over same 0 (omega arith)
+
+  pub tails-same : times_left now later ≡ times_left then others
+  tails-same =
+      let front : replicate first.firings (first.end - now) ≡ replicate other.firings (other.end - then) = ap (λ (r : Run). replicate r.firings r.end) heads-same in
+      append_cancel_left (replicate other.firings (other.end - then)) (times_left now later) (times_left then others)
+      (ap (λ (xs : List ℕ). xs ++ times_left now later) (sym front) ∙ (sym (left-first now first later) ∙ (same ∙ left-first then other others)))

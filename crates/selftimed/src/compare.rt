@@ -1,11 +1,12 @@
 //! Where the actors of two executions of one net stand, compared without a shape of either.
-ghost use Rattle.std.specs.Prelude.{◌≡◌, ◌↔◌, ◌-◌, ◌≤◌, IsTrue, length, map};
+ghost use Rattle.std.specs.Prelude.{◌≡◌, ◌↔◌, ℕ, ◌-◌, ◌<◌, ◌≤◌, IsTrue, length, map, slice_index};
 ghost use Rattle.selftimed.specs.inside.Runs.{ends_of, left_of, AreRuns, NoneEnded};
 ghost use Rattle.selftimed.specs.EngineShapes.{phases_now, remaining_now, IsPast};
 ghost use Rattle.selftimed.specs.Prints.{running_print_of};
 
 use crate::actors::ActorState;
 use crate::queue::Run;
+use crate::running::Running;
 use crate::shape::phase_of;
 use crate::tokens::weight_of;
 use firing::Firing;
@@ -46,16 +47,30 @@ pub(crate) fn same_running(now: u64, left: &[ActorState], then: u64, right: &[Ac
     ensures { IsTrue result ↔ (remaining_now now left.now ≡ remaining_now then right.now) }
 {
     for (actor, state) in left.iter().enumerate() {
-        if !same_left(
-            now,
-            state.running.as_runs(),
-            then,
-            right[actor].running.as_runs(),
-        ) {
+        if !same_times_left(now, &state.running, then, &right[actor].running) {
             return false;
         }
     }
     true
+}
+
+/// Whether the times from a moment to the ends of running firings are those from another one to the ends of others.
+/// Cost: linear in the runs.
+fn same_times_left(now: u64, running: &Running, then: u64, others: &Running) -> bool
+    requires left { (k : ℕ) → k < length running.now → now ≤ slice_index running.now k }
+    requires right { (k : ℕ) → k < length others.now → then ≤ slice_index others.now k }
+    ensures { IsTrue result ↔ (map (λ end. end - now) running.now ≡ map (λ end. end - then) others.now) }
+{
+    let Some(here) = running.as_runs() else {
+        return others.first().is_none();
+    };
+    let Some(there) = others.as_runs() else {
+        return false;
+    };
+    if !is_left(now, here.first, then, there.first) {
+        return false;
+    }
+    same_left(now, here.later, then, there.later)
 }
 
 /// Whether the times from a moment to each end are those from another one to others. Cost: linear in the runs.

@@ -1,7 +1,6 @@
-ghost use Rattle.std.specs.Prelude.{◌≡◌, ◌↔◌, ℕ, ◌+◌, ◌-◌, ◌^◌, ◌<◌, ◌≤◌, [], ◌∷◌, ◌++◌, IsTrue, OnErr, OnOk, drop, length, replicate, set, slice_get, take};
-ghost use Rattle.std.specs.Option.{option_map};
+ghost use Rattle.std.specs.Prelude.{◌≡◌, ◌↔◌, ℕ, ◌+◌, ◌-◌, ◌^◌, ◌<◌, ◌≤◌, [], ◌∷◌, ◌++◌, IsTrue, OnErr, OnOk, drop, length, replicate, set, take};
 ghost use Rattle.selftimed.specs.declared.queue.Run.{Run};
-ghost use Rattle.selftimed.specs.inside.Runs.{run_at, ends_of, AreRuns, EndsLastAt, grown, more_of};
+ghost use Rattle.selftimed.specs.inside.Runs.{no_run, run_at, ends_of, AreRuns, EndsLastAt, grown, more_of};
 
 use smallvec::SmallVec;
 use std::alloc::{AllocError, Global};
@@ -19,11 +18,9 @@ pub(crate) struct Run {
 /// A queue of runs. Contracts see the list of them. A few runs need no allocation.
 #[derive(Debug, Drop)]
 pub(crate) struct Queue {
-    runs: SmallVec<Run, 4>,
+    runs: SmallVec<Run, 2>,
     /// The runs before this place are past.
     head: usize,
-    /// The end of the run at this place, kept here since each start and each end asks for it.
-    first: Option<u64>,
 }
 
 impl Model for Queue {
@@ -46,15 +43,7 @@ impl Queue {
         Queue {
             runs: SmallVec::new(alloc),
             head: 0,
-            first: None,
         }
-    }
-
-    /// The end of the first run, if there is one.
-    pub(crate) fn first(&self) -> Option<u64>
-        ensures { result ≡ option_map (λ (r : Run). r.end) (slice_get self.now 0) }
-    {
-        self.first
     }
 
     pub(crate) fn as_slice(&self) -> &[Run]
@@ -85,9 +74,6 @@ impl Queue {
         ensures err { OnErr result (self.new ≡ self.old) }
     {
         self.runs.push(run)?;
-        if self.first.is_none() {
-            self.first = Some(run.end);
-        }
         Ok(())
     }
 
@@ -101,19 +87,29 @@ impl Queue {
         grow(self.runs.as_mut_slice(), last, firings);
     }
 
+    /// Takes off the first runs and the one after them, which it gives: one without firings, if there is none. Cost: in
+    /// all linear in the runs that were added.
+    pub(crate) fn pop_past(&mut self, count: usize) -> Run
+        requires { count ≤ length self.old }
+        ensures next { count < length self.old → result ∷ self.new ≡ drop count self.old }
+        ensures none { length self.old ≤ count → (result ≡ no_run) × (self.new ≡ []) }
+    {
+        let left = self.as_slice();
+        if count >= left.len() {
+            self.pop_front(count);
+            return Run { end: 0, firings: 0 };
+        }
+        let next = left[count];
+        self.pop_front(count + 1);
+        next
+    }
+
     /// Takes off the first runs.
-    pub(crate) fn pop_front(&mut self, count: usize)
+    fn pop_front(&mut self, count: usize)
         requires { count ≤ length self.old }
         ensures { self.new ≡ drop count self.old }
     {
         let all = self.runs.len();
-        // mostly the only one, for which there is nothing to move
-        if all == 1 && count == 1 {
-            self.runs.pop();
-            self.head = 0;
-            self.first = None;
-            return;
-        }
         self.head += count;
         let left = all - self.head;
         if left < self.head {
@@ -121,7 +117,6 @@ impl Queue {
             self.runs.truncate(left);
             self.head = 0;
         }
-        self.first = end_at(self.runs.as_slice(), self.head);
     }
 }
 
@@ -133,16 +128,6 @@ fn ends_last_at(runs: &[Run], moment: u64) -> bool
         0 => false,
         count => runs[count - 1].end == moment,
     }
-}
-
-/// The end of the run at a place, if there is one.
-fn end_at(runs: &[Run], place: usize) -> Option<u64>
-    ensures { result ≡ option_map (λ (r : Run). r.end) (slice_get runs.now place) }
-{
-    if place >= runs.len() {
-        return None;
-    }
-    Some(runs[place].end)
 }
 
 /// Adds firings to the run at a place.

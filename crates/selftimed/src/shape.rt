@@ -1,10 +1,11 @@
-ghost use Rattle.std.specs.Prelude.{◌≡◌, ◌↔◌, ◌-◌, ◌%◌, ◌<◌, ◌++◌, IfOk, IsTrue, OnOk, length, map, replicate, take};
+ghost use Rattle.std.specs.Prelude.{◌≡◌, ◌↔◌, ℕ, ◌-◌, ◌%◌, ◌<◌, ◌≤◌, ◌++◌, IfOk, IsTrue, OnOk, length, map, replicate, slice_index, take};
 ghost use Rattle.selftimed.specs.inside.Runs.{ends_of, NoneEnded};
 ghost use Rattle.sd_base.specs.Schedules.{phases_at};
 ghost use Rattle.selftimed.specs.EngineShapes.{phases_now, remaining_now, IsPast};
 
 use crate::actors::ActorState;
 use crate::queue::Run;
+use crate::running::Running;
 use firing::{Firing, know_laws};
 use sd_base::{NoMemory, Rows};
 use std::alloc::Global;
@@ -65,21 +66,34 @@ pub(crate) fn remaining_of(
 {
     let mut rows = Rows::new(alloc);
     for state in actors {
-        rows.push(times_of(alloc, moment, state.running.as_runs())?)?;
+        rows.push(times_of(alloc, moment, &state.running)?)?;
     }
     Ok(rows)
 }
 
 /// The times from a moment to each end.
-fn times_of(alloc: Global, moment: u64, runs: &[Run]) -> Result<Rows<u64>, NoMemory>
-    requires { NoneEnded moment runs.now }
-    ensures { IfOk result (λ row. row ≡ map (λ end. end - moment) (ends_of runs.now)) }
+fn times_of(alloc: Global, moment: u64, running: &Running) -> Result<Rows<u64>, NoMemory>
+    requires { (k : ℕ) → k < length running.now → moment ≤ slice_index running.now k }
+    ensures { IfOk result (λ row. row ≡ map (λ end. end - moment) running.now) }
 {
     let mut row = Rows::new(alloc);
-    for run in runs {
-        push_times(&mut row, run.end - moment, run.firings)?;
-    }
+    let Some(runs) = running.as_runs() else {
+        return Ok(row);
+    };
+    push_times(&mut row, runs.first.end - moment, runs.first.firings)?;
+    push_left(&mut row, moment, runs.later)?;
     Ok(row)
+}
+
+/// Adds the times from a moment to each end.
+fn push_left(row: &mut Rows<u64>, moment: u64, runs: &[Run]) -> Result<(), NoMemory>
+    requires { NoneEnded moment runs.now }
+    ensures { OnOk result (row.new ≡ row.old ++ map (λ end. end - moment) (ends_of runs.now)) }
+{
+    for run in runs {
+        push_times(row, run.end - moment, run.firings)?;
+    }
+    Ok(())
 }
 
 /// Adds so many equal times.
@@ -132,11 +146,25 @@ pub(crate) fn same_remaining(moment: u64, actors: &[ActorState], remaining: &[Ro
         return false;
     }
     for (actor, state) in actors.iter().enumerate() {
-        if !same_times(moment, state.running.as_runs(), remaining[actor].as_slice()) {
+        if !same_running_times(moment, &state.running, remaining[actor].as_slice()) {
             return false;
         }
     }
     true
+}
+
+/// Whether these are the times from a moment to the ends of running firings.
+fn same_running_times(moment: u64, running: &Running, times: &[u64]) -> bool
+    requires { (k : ℕ) → k < length running.now → moment ≤ slice_index running.now k }
+    ensures { IsTrue result ↔ (map (λ end. end - moment) running.now ≡ times.now) }
+{
+    let Some(runs) = running.as_runs() else {
+        return times.is_empty();
+    };
+    if !begin_with(times, runs.first.end - moment, runs.first.firings) {
+        return false;
+    }
+    same_times(moment, runs.later, &times[runs.first.firings as usize..])
 }
 
 /// Whether these are the times from a moment to each end.

@@ -1,6 +1,5 @@
 -- What is left of a queue.
-use Rattle.std.specs.Prelude.{◌≡◌, ◌≤◌, List, length, drop, slice_get}
-use Rattle.std.specs.Option.{option_map}
+use Rattle.std.specs.Prelude.{◌≤◌, List, length, drop}
 use Rattle.selftimed.specs.declared.queue.Run.{Run}
 use Rattle.selftimed.specs.declared.queue.Queue.TheInside.{Inside}
 
@@ -8,7 +7,6 @@ use Rattle.selftimed.specs.declared.queue.Queue.TheInside.{Inside}
 abbrev pub still_to_come : Inside → List Run
 still_to_come q = drop q.head q.runs.items
 
--- the queue begins within its list, and keeps the end of the run with which it begins
-pub record IsQueue (q : Inside) : Type 0 where
-  pub within : q.head ≤ length q.runs.items
-  pub first : q.first ≡ option_map (λ (r : Run). r.end) (slice_get q.runs.items q.head)
+-- the queue begins within its list
+abbrev pub IsQueue : Inside → Type 0
+IsQueue q = q.head ≤ length q.runs.items

@@ -4,37 +4,37 @@ use Rattle.std.proofs.lemmas.Bool.{false≢true}
 use Rattle.std.proofs.lemmas.List.{get_or_default}
 use Rattle.selftimed.specs.declared.actors.ActorState.{ActorState}
 use Rattle.selftimed.specs.inside.Actors.{idle, running_in}
-use Rattle.selftimed.specs.inside.Runs.{ends_of}
-use Rattle.selftimed.proofs.Shaping.{none-ended-at}
+use Rattle.selftimed.proofs.Shaping.{past-at}
 use Rattle.selftimed.proofs.Comparing.{below_next, times-agree, times-apart}
 use Rattle.selftimed.proofs.compare.same_running.Goals as goal
 
-pub same_left-requires-clause-left : goal.same_left-requires-clause-left
-same_left-requires-clause-left c =
-    none-ended-at c.args.now c.args.left.now c.loop-actor.actor c.index-left-actor.result c.as_runs.result.now c.requires.left c.loop-actor-test.true (get_or_default c.args.left.now c.loop-actor.actor idle c.index-left-actor.result c.loop-actor-test.true ∙ sym c.index-left-actor.is) c.as_runs.ensures.runs c.as_runs.ensures.ends
+pub same_times_left-requires-clause-left : goal.same_times_left-requires-clause-left
+same_times_left-requires-clause-left c =
+    past-at c.args.now c.args.left.now c.loop-actor.actor c.index-left-actor.result c.index-left-actor.result.running c.requires.left c.loop-actor-test.true (get_or_default c.args.left.now c.loop-actor.actor idle c.index-left-actor.result c.loop-actor-test.true ∙ sym c.index-left-actor.is) refl
 
-pub same_left-requires-clause-right : goal.same_left-requires-clause-right
-same_left-requires-clause-right c =
+pub same_times_left-requires-clause-right : goal.same_times_left-requires-clause-right
+same_times_left-requires-clause-right c =
     let there : c.loop-actor.actor < length c.args.right.now = omega (arith, c.loop-actor-test.true, c.requires.long) in
-    none-ended-at c.args.then c.args.right.now c.loop-actor.actor (slice_index_or c.args.right.now c.loop-actor.actor c.index-right-actor.result) c.as_runs-in-loop-actor.result.now c.requires.right there (get_or_default c.args.right.now c.loop-actor.actor idle c.index-right-actor.result there) c.as_runs-in-loop-actor.ensures.runs c.as_runs-in-loop-actor.ensures.ends
+    let one : ActorState = slice_index_or c.args.right.now c.loop-actor.actor c.index-right-actor.result in
+    past-at c.args.then c.args.right.now c.loop-actor.actor one one.running c.requires.right there (get_or_default c.args.right.now c.loop-actor.actor idle c.index-right-actor.result there) refl
 
-pub returns-then-not-same_left : goal.returns-then-not-same_left
-returns-then-not-same_left c =
+pub returns-then-not-same_times_left : goal.returns-then-not-same_times_left
+returns-then-not-same_times_left c =
     let there : c.loop-actor.actor < length c.args.right.now = omega (arith, c.loop-actor-test.true, c.requires.long) in
-    let left : running_in c.args.left.now c.loop-actor.actor ≡ ends_of c.as_runs.result.now = ap (λ (s : ActorState). s.running) (get_or_default c.args.left.now c.loop-actor.actor idle c.index-left-actor.result c.loop-actor-test.true ∙ sym c.index-left-actor.is) ∙ sym c.as_runs.ensures.ends in
-    let right : running_in c.args.right.now c.loop-actor.actor ≡ ends_of c.as_runs-in-loop-actor.result.now = ap (λ (s : ActorState). s.running) (get_or_default c.args.right.now c.loop-actor.actor idle c.index-right-actor.result there) ∙ sym c.as_runs-in-loop-actor.ensures.ends in (
+    let left : running_in c.args.left.now c.loop-actor.actor ≡ c.index-left-actor.result.running = ap (λ (s : ActorState). s.running) (get_or_default c.args.left.now c.loop-actor.actor idle c.index-left-actor.result c.loop-actor-test.true ∙ sym c.index-left-actor.is) in
+    let right : running_in c.args.right.now c.loop-actor.actor ≡ (slice_index_or c.args.right.now c.loop-actor.actor c.index-right-actor.result).running = ap (λ (s : ActorState). s.running) (get_or_default c.args.right.now c.loop-actor.actor idle c.index-right-actor.result there) in (
       λ not. absurd (false≢true not),
       λ same. absurd (times-apart c.args.now c.args.left.now c.args.then c.args.right.now c.loop-actor.actor c.loop-actor-test.true c.requires.long
-          (λ e. false≢true (c.if-not-same_left.ensures.1 (rw (← left, ← right) e))) same),
+          (λ e. false≢true (c.if-not-same_times_left.ensures.1 (rw (← left, ← right) e))) same),
     )
 
 pub loop-actor-preserved : goal.loop-actor-preserved
 loop-actor-preserved c =
     let there : c.loop-actor.actor < length c.args.right.now = omega (arith, c.loop-actor-test.true, c.requires.long) in
-    let left : running_in c.args.left.now c.loop-actor.actor ≡ ends_of c.as_runs.result.now = ap (λ (s : ActorState). s.running) (get_or_default c.args.left.now c.loop-actor.actor idle c.index-left-actor.result c.loop-actor-test.true ∙ sym c.index-left-actor.is) ∙ sym c.as_runs.ensures.ends in
-    let right : running_in c.args.right.now c.loop-actor.actor ≡ ends_of c.as_runs-in-loop-actor.result.now = ap (λ (s : ActorState). s.running) (get_or_default c.args.right.now c.loop-actor.actor idle c.index-right-actor.result there) ∙ sym c.as_runs-in-loop-actor.ensures.ends in
+    let left : running_in c.args.left.now c.loop-actor.actor ≡ c.index-left-actor.result.running = ap (λ (s : ActorState). s.running) (get_or_default c.args.left.now c.loop-actor.actor idle c.index-left-actor.result c.loop-actor-test.true ∙ sym c.index-left-actor.is) in
+    let right : running_in c.args.right.now c.loop-actor.actor ≡ (slice_index_or c.args.right.now c.loop-actor.actor c.index-right-actor.result).running = ap (λ (s : ActorState). s.running) (get_or_default c.args.right.now c.loop-actor.actor idle c.index-right-actor.result there) in
     below_next (λ a. map (λ e. e - c.args.now) (running_in c.args.left.now a) ≡ map (λ e. e - c.args.then) (running_in c.args.right.now a)) c.loop-actor.actor c.loop-actor.invariant
-    (rw (left, right) (c.if-not-same_left.ensures.0 refl))
+    (rw (left, right) (c.if-not-same_times_left.ensures.0 refl))
 
 pub returns : goal.returns
 returns c = (

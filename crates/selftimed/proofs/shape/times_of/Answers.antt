@@ -1,9 +1,16 @@
-use Rattle.std.proofs.Common.{◌∙◌, ◌-◌, ◌++◌, List, ℕ, replicate, ap, sym}
-use Rattle.selftimed.proofs.TimesLeft.{left-more}
-use Rattle.selftimed.specs.inside.Runs.{run_at}
+use Rattle.std.proofs.Common.{◌-◌, ◌∷◌, ◌++◌, List, ℕ, map, replicate, sym, ap, ◌∙◌}
+use Rattle.selftimed.proofs.TimesLeft.{left-first, left-none, none-tail, times_left}
 use Rattle.selftimed.proofs.shape.times_of.Goals as goal
 
-pub loop-run-preserved : goal.loop-run-preserved
-loop-run-preserved c =
-    c.in_ok-push_times.ensures ∙ (ap (λ (xs : List ℕ). xs ++ replicate (run_at c.args.runs.now c.loop-run.run-index).firings ((run_at c.args.runs.now c.loop-run.run-index).end - c.args.moment)) c.loop-run.invariant
-    ∙ sym (left-more c.args.moment c.args.runs.now c.loop-run.run-index c.loop-run-test.true))
+pub push_left-requires : goal.push_left-requires
+push_left-requires c =
+    let runs = c.in-Some.runs in
+    none-tail c.args.moment runs.first runs.later.now (left-none c.args.moment (runs.first ∷ runs.later.now) c.args.running.now c.in-Some.ensures.1 c.in-Some.ensures.0 c.requires)
+
+pub returns : goal.returns
+returns c =
+    let runs = c.in-Some.runs in
+    let times : List ℕ = replicate runs.first.firings (runs.first.end - c.args.moment) in
+    let later : List ℕ = times_left c.args.moment runs.later.now in
+    c.in_ok-push_left.ensures ∙ (ap (λ (xs : List ℕ). xs ++ later) (c.in_ok-push_times.ensures ∙ ap (λ (xs : List ℕ). xs ++ times) c.new-row.ensures)
+    ∙ (sym (left-first c.args.moment runs.first runs.later.now) ∙ ap (map (λ e. e - c.args.moment)) c.in-Some.ensures.0))

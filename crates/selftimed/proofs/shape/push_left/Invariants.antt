@@ -1,0 +1,6 @@
+use Rattle.std.proofs.Common.{◌≡◌, ◌++◌, take}
+use Rattle.selftimed.proofs.TimesLeft.{times_left}
+use Rattle.selftimed.proofs.shape.push_left.Given as goal
+
+abbrev pub invariant-loop-run : goal.invariant-loop-run
+invariant-loop-run l = l.row ≡ l.initial.row ++ times_left l.moment (take l.run-index l.runs)

@@ -1,6 +1,0 @@
-use Rattle.std.proofs.Common.{◌≡◌, take}
-use Rattle.selftimed.proofs.TimesLeft.{times_left}
-use Rattle.selftimed.proofs.shape.times_of.Given as goal
-
-abbrev pub invariant-loop-run : goal.invariant-loop-run
-invariant-loop-run l = l.row ≡ times_left l.moment (take l.run-index l.runs)
