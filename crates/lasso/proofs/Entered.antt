@@ -1,5 +1,5 @@
 -- The entry of a loop: the first event from which on all firings are as they are a period later.
-use Rattle.std.proofs.Common.{◌≡◌, ◌≢◌, ℕ, suc, ◌+◌, ◌-◌, ◌≤◌, ◌<◌, ◌⊎◌, List, [], length, inl, inr, ⊎_elim, subst, sym, refl, ap, arith}
+use Rattle.std.proofs.Common.{◌≡◌, ◌≢◌, ℕ, suc, ◌+◌, ◌-◌, ◌≤◌, ◌<◌, ◌⊎◌, List, [], length, inl, inr, ⊎_elim, subst, sym, refl, ap, ◌∙◌, arith}
 use Rattle.std.specs.Prelude.{slice_index, slice_index_or}
 use Rattle.std.proofs.lemmas.Bool.{cases_lt}
 use Rattle.sd_base.specs.Net.{Net}
@@ -66,6 +66,64 @@ module _ (net : Net) (laws : Lawful net) (fed : HasInputs net) where
             (λ (h : count_of (earliest net (suc y)) a ≤ n). h)
             (cases_lt n (count_of (earliest net (suc y)) a))
 
+  -- ---- by actor so many firings of a row between two moments
+
+  module _ (r t : ℕ) (later : r < t) (v : ℕ → ℕ) (starts : List (List ℕ)) (have : AreStarts net t starts) where
+    to-like : (a j m : ℕ) → a < length net.times → j < count_of starts a → m ≡ v a → IsRowLike (slice_index_or starts a []) m (t - r) j → IsLike (earliest net (suc t)) (t - r) v a j
+    to-like a j m actor there is like = record {
+      after = omega (arith, like.after);
+      apart =
+          let place : j - m ≡ j - v a = omega arith in
+          let apart : start_of starts a (j - m) + (t - r) ≡ start_of starts a j = like.apart in
+          let mine : start_of starts a (j - v a) + (t - r) ≡ start_of starts a j = rw place at apart in
+          omega (arith, row-start t starts have a j actor there, row-start t starts have a (j - v a) actor (omega arith));
+    }
+
+    from-like : (a j m : ℕ) → a < length net.times → j < count_of starts a → m ≡ v a → IsLike (earliest net (suc t)) (t - r) v a j → IsRowLike (slice_index_or starts a []) m (t - r) j
+    from-like a j m actor there is like = record {
+      after = omega (arith, like.after);
+      apart =
+          let place : j - v a ≡ j - m = omega arith in
+          let apart : start_of starts a (j - v a) + (t - r) ≡ start_of starts a j =
+          omega (arith, like.apart, row-start t starts have a j actor there, row-start t starts have a (j - v a) actor (omega arith)) in
+          rw place at apart;
+    }
+
+    to-over : (a j m x : ℕ) → a < length net.times → j < count_of starts a → m ≡ v a → IsRowOver net a (slice_index_or starts a []) m (t - r) x j → IsOver net (earliest net (suc t)) (t - r) v x a j
+    to-over a j m x actor there is over = record {
+      later = omega (arith, over.later, row-start t starts have a j actor there);
+      earlier = λ after.
+          let place : j - m ≡ j - v a = omega arith in
+          let ends : start_of starts a (j - m) + time_of net a (j - m) ≤ x = over.earlier (omega arith) in
+          let mine : start_of starts a (j - v a) + time_of net a (j - v a) ≤ x = rw place at ends in
+          omega (arith, row-start t starts have a (j - v a) actor (omega arith));
+    }
+
+    from-over : (a j m x : ℕ) → a < length net.times → j < count_of starts a → m ≡ v a → IsOver net (earliest net (suc t)) (t - r) v x a j → IsRowOver net a (slice_index_or starts a []) m (t - r) x j
+    from-over a j m x actor there is over = record {
+      later = omega (arith, over.later, row-start t starts have a j actor there);
+      earlier = λ after.
+          let place : j - v a ≡ j - m = omega arith in
+          let ends : start_of starts a (j - v a) + time_of net a (j - v a) ≤ x =
+          omega (arith, over.earlier (omega arith), row-start t starts have a (j - v a) actor (omega arith)) in
+          rw place at ends;
+    }
+
+    -- all rows are settled by a moment
+    pub rows-settled : (x : ℕ) → ((a m : ℕ) → a < length net.times → m ≡ v a → IsRowSettled net a (slice_index_or starts a []) m (t - r) x) → IsSettled net (earliest net (suc t)) (t - r) v x
+    rows-settled x rows a j there = ⊎_elim
+        (λ (actor : a < length net.times).
+        let place : j < count_of starts a = omega (arith, row-count t starts have a actor) in
+        by actor place (rows a (v a) actor refl j place))
+        (λ (past : length net.times ≤ a). absurd (omega (arith, past_none net (regular net laws) fed (suc t) a past)))
+        (cases_lt a (length net.times))
+      where
+        by : a < length net.times → j < count_of starts a →
+            IsRowLike (slice_index_or starts a []) (v a) (t - r) j ⊎ IsRowOver net a (slice_index_or starts a []) (v a) (t - r) x j →
+            IsLike (earliest net (suc t)) (t - r) v a j ⊎ IsOver net (earliest net (suc t)) (t - r) v x a j
+        by actor place (inl like) = inl (to-like a j (v a) actor place refl like)
+        by actor place (inr over) = inr (to-over a j (v a) x actor place refl over)
+
   -- ---- equal shapes at the ends of a pair
 
   module _ (r t : ℕ) (later : r < t) (same : shape_at net r ≡ shape_at net t) (starts : List (List ℕ)) (have : AreStarts net t starts) where
@@ -75,69 +133,17 @@ module _ (net : Net) (laws : Lawful net) (fed : HasInputs net) where
         let mine : m ≡ count_of starts a - count_of (earliest net (suc r)) a = rw e at is in
         omega (arith, row-count t starts have a actor, more-counts net laws fed r t later same a)
 
-    to-like : (a j m : ℕ) → a < length net.times → j < count_of starts a → m ≡ more net laws fed r t later same a → IsRowLike (slice_index_or starts a []) m (t - r) j → IsLike (earliest net (suc t)) (t - r) (more net laws fed r t later same) a j
-    to-like a j m actor there is like = record {
-      after = omega (arith, like.after);
-      apart =
-          let place : j - m ≡ j - more net laws fed r t later same a = omega arith in
-          let apart : start_of starts a (j - m) + (t - r) ≡ start_of starts a j = like.apart in
-          let mine : start_of starts a (j - more net laws fed r t later same a) + (t - r) ≡ start_of starts a j = rw place at apart in
-          omega (arith, row-start t starts have a j actor there, row-start t starts have a (j - more net laws fed r t later same a) actor (omega arith));
-    }
-
-    from-like : (a j m : ℕ) → a < length net.times → j < count_of starts a → m ≡ more net laws fed r t later same a → IsLike (earliest net (suc t)) (t - r) (more net laws fed r t later same) a j → IsRowLike (slice_index_or starts a []) m (t - r) j
-    from-like a j m actor there is like = record {
-      after = omega (arith, like.after);
-      apart =
-          let place : j - more net laws fed r t later same a ≡ j - m = omega arith in
-          let apart : start_of starts a (j - more net laws fed r t later same a) + (t - r) ≡ start_of starts a j =
-          omega (arith, like.apart, row-start t starts have a j actor there, row-start t starts have a (j - more net laws fed r t later same a) actor (omega arith)) in
-          rw place at apart;
-    }
-
-    to-over : (a j m x : ℕ) → a < length net.times → j < count_of starts a → m ≡ more net laws fed r t later same a → IsRowOver net a (slice_index_or starts a []) m (t - r) x j → IsOver net (earliest net (suc t)) (t - r) (more net laws fed r t later same) x a j
-    to-over a j m x actor there is over = record {
-      later = omega (arith, over.later, row-start t starts have a j actor there);
-      earlier = λ after.
-          let place : j - m ≡ j - more net laws fed r t later same a = omega arith in
-          let ends : start_of starts a (j - m) + time_of net a (j - m) ≤ x = over.earlier (omega arith) in
-          let mine : start_of starts a (j - more net laws fed r t later same a) + time_of net a (j - more net laws fed r t later same a) ≤ x = rw place at ends in
-          omega (arith, row-start t starts have a (j - more net laws fed r t later same a) actor (omega arith));
-    }
-
-    from-over : (a j m x : ℕ) → a < length net.times → j < count_of starts a → m ≡ more net laws fed r t later same a → IsOver net (earliest net (suc t)) (t - r) (more net laws fed r t later same) x a j → IsRowOver net a (slice_index_or starts a []) m (t - r) x j
-    from-over a j m x actor there is over = record {
-      later = omega (arith, over.later, row-start t starts have a j actor there);
-      earlier = λ after.
-          let place : j - more net laws fed r t later same a ≡ j - m = omega arith in
-          let ends : start_of starts a (j - more net laws fed r t later same a) + time_of net a (j - more net laws fed r t later same a) ≤ x =
-          omega (arith, over.earlier (omega arith), row-start t starts have a (j - more net laws fed r t later same a) actor (omega arith)) in
-          rw place at ends;
-    }
-
     -- all rows are settled by a moment
     pub rows-settle : (x : ℕ) → ((a m : ℕ) → a < length net.times → m ≡ count_of starts a - count_of (earliest net (r + 1)) a → IsRowSettled net a (slice_index_or starts a []) m (t - r) x) →
         IsSettled net (earliest net (suc t)) (t - r) (more net laws fed r t later same) x
-    rows-settle x rows a j there = ⊎_elim
-        (λ (actor : a < length net.times).
-        let m : ℕ = count_of starts a - count_of (earliest net (r + 1)) a in
-        let place : j < count_of starts a = omega (arith, row-count t starts have a actor) in
-        by actor place (more-is a (count_of starts a - count_of (earliest net (r + 1)) a) refl actor) (rows a (count_of starts a - count_of (earliest net (r + 1)) a) actor refl j place))
-        (λ (past : length net.times ≤ a). absurd (omega (arith, past_none net (regular net laws) fed (suc t) a past)))
-        (cases_lt a (length net.times))
-      where
-        by : a < length net.times → j < count_of starts a → count_of starts a - count_of (earliest net (r + 1)) a ≡ more net laws fed r t later same a →
-            IsRowLike (slice_index_or starts a []) (count_of starts a - count_of (earliest net (r + 1)) a) (t - r) j ⊎ IsRowOver net a (slice_index_or starts a []) (count_of starts a - count_of (earliest net (r + 1)) a) (t - r) x j →
-            IsLike (earliest net (suc t)) (t - r) (more net laws fed r t later same) a j ⊎ IsOver net (earliest net (suc t)) (t - r) (more net laws fed r t later same) x a j
-        by actor place is (inl like) = inl (to-like a j (count_of starts a - count_of (earliest net (r + 1)) a) actor place is like)
-        by actor place is (inr over) = inr (to-over a j (count_of starts a - count_of (earliest net (r + 1)) a) x actor place is over)
+    rows-settle x rows = rows-settled r t later (more net laws fed r t later same) starts have x (λ a m actor is. rows a m actor (is ∙ sym (more-is a (count_of starts a - count_of (earliest net (r + 1)) a) refl actor)))
 
     -- where the shapes are equal a row's firings that aren't like are over
     pub same-over : (x a m j : ℕ) → x ≤ r → shape_at net x ≡ shape_at net (x + (t - r)) → a < length net.times → m ≡ count_of starts a - count_of (earliest net (r + 1)) a → j < count_of starts a →
         (IsRowLike (slice_index_or starts a []) m (t - r) j → ⊥) → IsRowOver net a (slice_index_or starts a []) m (t - r) x j
     same-over x a m j before equal actor is there unlike =
         let number : m ≡ more net laws fed r t later same a = more-is a m is actor in
-        from-over a j m x actor there number (same-settled net laws fed r t later same x before equal a j (omega (arith, row-count t starts have a actor)) (λ like. unlike (from-like a j m actor there number like)))
+        from-over r t later (more net laws fed r t later same) starts have a j m x actor there number (same-settled net laws fed r t later same x before equal a j (omega (arith, row-count t starts have a actor)) (λ like. unlike (from-like r t later (more net laws fed r t later same) starts have a j m actor there number like)))
 
   -- ---- the events
 

@@ -14,3 +14,5 @@ pub mod RowsSettle
 pub mod Entered
 pub mod Between
 pub mod Printed
+pub mod RowsAgain
+pub mod Marked

@@ -19,7 +19,7 @@ first-settled net a row more period n moment rise like some over least = record 
 }
 
 -- what is over by a moment is over by a later one
-settled-later : (net : Net) (a : ℕ) (row : List ℕ) (more period x y : ℕ) → x ≤ y → IsRowSettled net a row more period x → IsRowSettled net a row more period y
+pub settled-later : (net : Net) (a : ℕ) (row : List ℕ) (more period x y : ℕ) → x ≤ y → IsRowSettled net a row more period x → IsRowSettled net a row more period y
 settled-later net a row more period x y le settled j there = ⊎_elim
     (λ like. inl like)
     (λ over. inr (record { later = omega (arith, over.later); earlier = λ after. omega (arith, over.earlier after) }))

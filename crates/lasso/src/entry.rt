@@ -50,7 +50,13 @@ pub(crate) fn count_by(moments: &[u64], last: u64) -> usize
 }
 
 /// From when on each firing of an actor is a period after the one `more` before it, and none runs that isn't.
-fn settled_from<F: Firing>(net: &F, actor: u32, row: &[u64], more: usize, period: u64) -> u128
+pub(crate) fn settled_from<F: Firing>(
+    net: &F,
+    actor: u32,
+    row: &[u64],
+    more: usize,
+    period: u64,
+) -> u128
     requires actor { actor < length (F.net net.now).times }
     requires rise { EndsRise (F.net net.now) actor row.now }
     ensures { IsFirstSettled (F.net net.now) actor row.now more period result }
@@ -79,14 +85,14 @@ fn unlike_of(row: &[u64], more: usize, period: u64) -> usize
 }
 
 /// Whether a moment is a period after another one.
-fn is_after(earlier: u64, later: u64, period: u64) -> bool
+pub(crate) fn is_after(earlier: u64, later: u64, period: u64) -> bool
     ensures { IsTrue result ↔ (earlier + period ≡ later) }
 {
     earlier <= later && later - earlier == period
 }
 
 /// When a firing of an actor ends.
-fn end_of<F: Firing>(net: &F, actor: u32, row: &[u64], firing: usize) -> u128
+pub(crate) fn end_of<F: Firing>(net: &F, actor: u32, row: &[u64], firing: usize) -> u128
     requires actor { actor < length (F.net net.now).times }
     requires firing { firing < length row.now }
     ensures { result ≡ slice_index row.now firing + time_of (F.net net.now) actor firing }

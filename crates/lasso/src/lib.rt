@@ -1,10 +1,12 @@
 //! The loop of self-timed execution, and with it the rate of a net.
 #![tactic(auto)]
 
+mod again;
 mod collect;
 mod entry;
 mod error;
 mod laws;
+mod marks;
 mod prints;
 mod repeat;
 mod run;

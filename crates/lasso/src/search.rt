@@ -1,4 +1,4 @@
-//! The search for two equal shapes, by one execution that keeps one shape (Brent 1980).
+//! The search for two equal shapes, by one execution that marks some events, and keeps one shape (Brent 1980).
 ghost use Rattle.std.specs.Prelude.{◌≡◌, ◌↔◌, ◌+◌, ◌*◌, ◌≤◌, ◌<◌, [], IfErr, IfOk, IsTrue, OnOk, MatchOption, length, replicate};
 ghost use Rattle.sd_base.specs.declared.limits.TheConstants.{STARTS};
 ghost use Rattle.sd_base.specs.Schedules.{HasInputs};
@@ -12,6 +12,7 @@ ghost use Rattle.lasso.specs.inside.Tracing.{AreAllowed};
 ghost use Rattle.lasso.specs.inside.Searching.{IsPair, IsCheckpoint, IsLast, NoneSince, NoneSoon};
 
 use crate::error::RunError;
+use crate::marks::Marks;
 use crate::prints::all_differ;
 use crate::steps::go_on;
 use crate::trace::Trace;
@@ -43,11 +44,12 @@ pub(crate) struct Checkpoint {
     pub(crate) starts: u64,
 }
 
-/// Finds a shape and the first one after it that is equal, and leaves the events and starts on the way in a trace. The first shape is the first checkpoint. A
-/// later shape becomes the checkpoint when the starts up to it are more than twice those up to the one before,
-/// and that one has stood for some time (`least_stay`). Where none comes again, different prints of the tokens show that all
-/// shapes differ; if two prints are equal, the last shape that is allowed becomes the checkpoint: if a shape up to there comes
-/// again, then it does.
+/// Finds a shape and the first one after it that is equal, and leaves the events and starts on the way in a trace. Each later
+/// shape is looked for among those at the marks, and compared with that of a checkpoint, which finds what the marks miss. The
+/// first shape is the first checkpoint. A later one becomes the checkpoint when the starts up to it are more than twice those up
+/// to the one before, and that one has stood for some time (`least_stay`). Where none comes again, different prints of the
+/// tokens show that all shapes differ; if two prints are equal, the last shape that is allowed becomes the checkpoint: if a
+/// shape up to there comes again, then it does.
 pub(crate) fn find_pair<F: Firing>(
     alloc: Global,
     engine: &mut Engine<F>,
@@ -93,8 +95,8 @@ fn refusal_at(starts: u64) -> RunError
     }
 }
 
-/// Compares each of the first `states` shapes with the checkpoint, up to the first one with more than
-/// `STARTS` starts, and adds their events to a trace. None: no checkpoint came again.
+/// Compares each of the first `states` shapes with those at the marks and the checkpoint, up to the first one with more than
+/// `STARTS` starts, and adds their events to a trace. None: no marked shape and no checkpoint was found again.
 fn search_allowed<F: Firing>(
     alloc: Global,
     engine: &mut Engine<F>,
@@ -121,6 +123,8 @@ fn search_allowed<F: Firing>(
     }
     trace.add(engine)?;
     let mut checkpoint = checkpoint_of(alloc, engine)?;
+    let mut marks = Marks::new(alloc);
+    marks.mark(engine)?;
     let round = starts_of_round(engine.net);
     for _event in 1..states {
         if engine.starts() > STARTS {
@@ -135,6 +139,9 @@ fn search_allowed<F: Firing>(
                 earlier: checkpoint.moment,
                 later: engine.moment(),
             }));
+        }
+        if let Some(pair) = marks.meet(engine, trace, round)? {
+            return Ok(Some(pair));
         }
         renew(alloc, engine, &mut checkpoint, round)?;
     }

@@ -67,6 +67,13 @@ pub record IsFirstTwice (moments : List ℕ) (from until period moment : ℕ) : 
   pub soon : moment ≤ until
   pub stop : 1 ≤ place → from ≤ slice_index moments (place - 1) → slice_index moments (place - 1) + period ≡ slice_index moments (twin - 1) → ⊥
 
+-- in a row of starts so many come after a moment, and by it each firing that isn't like the one so many before it is over
+pub record Recurs (net : Net) (a : ℕ) (row : List ℕ) (moment period more : ℕ) : Type 0 where
+  pub before : ℕ
+  pub by : AreBy row moment before
+  pub number : length row ≡ before + more
+  pub settled : IsRowSettled net a row more period moment
+
 -- some moments ascend, one of them is the earlier moment of a pair, and the last of them the later one
 pub record ReachFrom (moments : List ℕ) (earlier later : ℕ) : Type 0 where
   pub rise : (i j : ℕ) → i < j → j < length moments → slice_index moments i < slice_index moments j

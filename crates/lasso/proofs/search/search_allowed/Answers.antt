@@ -7,6 +7,7 @@ use Rattle.lasso.proofs.Searched.{none-yet, none-more, first-since, few-before, 
 use Rattle.selftimed.specs.declared.engine.Stage.TheVariants.{Fresh, Running}
 use Rattle.lasso.specs.inside.Tracing.{IsTraceBefore}
 use Rattle.lasso.proofs.Traced.{none-allowed, allowed-next}
+use Rattle.lasso.proofs.Marked.{marks-on}
 use Rattle.lasso.proofs.Printed.{first-prints, prints-on}
 use Rattle.lasso.proofs.search.search_allowed.Goals as goal
 
@@ -29,6 +30,7 @@ loop-event-init g c =
       ahead = omega (arith, c.in_ok-checkpoint.ensures.moment);
       none = rw c.in_ok-checkpoint.ensures.moment (none-yet (g.F.Firing.net c.args.engine.now.net.now) c.go_on.new.engine.moment);
       prints = rw c.go_on.ensures.net at c.in_ok-add.ensures.prints;
+      marks = rw c.go_on.ensures.net at c.in_ok-mark.ensures;
       trace = rw c.go_on.ensures.net at c.in_ok-add.ensures.few;
       allowed = allowed-next (g.F.Firing.net c.args.engine.now.net.now) c.args.states c.go_on.new.engine.moment c.args.trace.now.moments.items c.add.new.self.moments.items c.args.trace.now.starts.items c.add.new.self.starts.items
           (none-allowed (g.F.Firing.net c.args.engine.now.net.now) c.args.states c.args.trace.now.moments.items c.args.trace.now.starts.items c.requires.no_events)
@@ -106,6 +108,7 @@ loop-event-preserved g c =
       ahead = c.in_ok-renew.ensures.ahead;
       none = rw (c.go_on-in-loop-event.ensures.net, c.loop-event.invariant.net) at c.in_ok-renew.ensures.none;
       prints = rw (c.go_on-in-loop-event.ensures.net, c.loop-event.invariant.net) at c.in_ok-add-2.ensures.prints;
+      marks = rw (c.go_on-in-loop-event.ensures.net, c.loop-event.invariant.net) at (rw c.in_default.is at c.in_ok-pair.ensures);
       trace = rw (c.go_on-in-loop-event.ensures.net, c.loop-event.invariant.net) at c.in_ok-add-2.ensures.few;
       allowed = allowed-next (g.F.Firing.net c.args.engine.now.net.now) c.args.states c.go_on-in-loop-event.new.engine.moment c.loop-event.trace.moments.items c.add-in-loop-event.new.self.moments.items c.loop-event.trace.starts.items c.add-in-loop-event.new.self.starts.items
           c.loop-event.invariant.allowed (rw (c.go_on-in-loop-event.ensures.net, c.loop-event.invariant.net) at c.in_ok-add-2.ensures.few) (rw (c.go_on-in-loop-event.ensures.net, c.loop-event.invariant.net) at c.in_ok-add-2.ensures.many) next.event
@@ -119,6 +122,29 @@ returns-then-stands_at-clause-traced g c =
     allowed-next (g.F.Firing.net c.args.engine.now.net.now) c.args.states c.go_on-in-loop-event.new.engine.moment c.loop-event.trace.moments.items c.add-in-loop-event.new.self.moments.items c.loop-event.trace.starts.items c.add-in-loop-event.new.self.starts.items
     c.loop-event.invariant.allowed (rw (c.go_on-in-loop-event.ensures.net, c.loop-event.invariant.net) at c.in_ok-add-2.ensures.few) (rw (c.go_on-in-loop-event.ensures.net, c.loop-event.invariant.net) at c.in_ok-add-2.ensures.many) next.event
     (omega (arith, rank-after (g.F.Firing.net c.args.engine.now.net.now) (g.met.F.Firing.lawful c.args.engine.now.net.now) c.requires.inputs c.loop-event.engine.moment c.go_on-in-loop-event.new.engine.moment next, c.loop-event.invariant.number, c.loop-event-test.true))
+
+pub returns-in-Some-clause-traced : goal.returns-in-Some-clause-traced
+returns-in-Some-clause-traced g c =
+    let goes = rw c.loop-event.invariant.running at (rw c.loop-event.invariant.net at (rw c.if-not-branch-2.false at c.in_ok-go_on-2.ensures.goes)) in
+    let next : IsNext (g.F.Firing.net c.args.engine.now.net.now) c.loop-event.engine.moment c.go_on-in-loop-event.new.engine.moment = goes.1 in
+    allowed-next (g.F.Firing.net c.args.engine.now.net.now) c.args.states c.go_on-in-loop-event.new.engine.moment c.loop-event.trace.moments.items c.add-in-loop-event.new.self.moments.items c.loop-event.trace.starts.items c.add-in-loop-event.new.self.starts.items
+    c.loop-event.invariant.allowed (rw (c.go_on-in-loop-event.ensures.net, c.loop-event.invariant.net) at c.in_ok-add-2.ensures.few) (rw (c.go_on-in-loop-event.ensures.net, c.loop-event.invariant.net) at c.in_ok-add-2.ensures.many) next.event
+    (omega (arith, rank-after (g.F.Firing.net c.args.engine.now.net.now) (g.met.F.Firing.lawful c.args.engine.now.net.now) c.requires.inputs c.loop-event.engine.moment c.go_on-in-loop-event.new.engine.moment next, c.loop-event.invariant.number, c.loop-event-test.true))
+
+pub meet-requires-clause-inputs : goal.meet-requires-clause-inputs
+meet-requires-clause-inputs g c = rw (c.go_on-in-loop-event.ensures.net, c.loop-event.invariant.net) c.requires.inputs
+
+pub meet-requires-clause-event : goal.meet-requires-clause-event
+meet-requires-clause-event g c =
+    let goes = rw c.loop-event.invariant.running at (rw c.loop-event.invariant.net at (rw c.if-not-branch-2.false at c.in_ok-go_on-2.ensures.goes)) in
+    let next : IsNext (g.F.Firing.net c.args.engine.now.net.now) c.loop-event.engine.moment c.go_on-in-loop-event.new.engine.moment = goes.1 in
+    rw (c.go_on-in-loop-event.ensures.net, c.loop-event.invariant.net) next.event
+
+pub meet-requires-clause-marks : goal.meet-requires-clause-marks
+meet-requires-clause-marks g c =
+    let goes = rw c.loop-event.invariant.running at (rw c.loop-event.invariant.net at (rw c.if-not-branch-2.false at c.in_ok-go_on-2.ensures.goes)) in
+    let next : IsNext (g.F.Firing.net c.args.engine.now.net.now) c.loop-event.engine.moment c.go_on-in-loop-event.new.engine.moment = goes.1 in
+    rw (c.go_on-in-loop-event.ensures.net, c.loop-event.invariant.net) (marks-on (g.F.Firing.net c.args.engine.now.net.now) c.loop-event.engine.moment c.go_on-in-loop-event.new.engine.moment c.loop-event.marks next c.loop-event.invariant.marks)
 
 pub renew-requires-clause-none : goal.renew-requires-clause-none
 renew-requires-clause-none g c =

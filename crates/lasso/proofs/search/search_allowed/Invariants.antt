@@ -3,6 +3,7 @@ use Rattle.sd_base.specs.SelfTimed.{IsEvent, events_by, starts_by}
 use Rattle.selftimed.specs.declared.engine.Stage.TheVariants.{Running}
 use Rattle.lasso.specs.inside.Searching.{IsCheckpoint, NoneSince, FewBefore}
 use Rattle.sd_base.specs.declared.limits.TheConstants.{STARTS}
+use Rattle.lasso.specs.inside.Marking.{AreMarks}
 use Rattle.lasso.specs.inside.Printing.{ArePrints}
 use Rattle.lasso.specs.inside.Tracing.{IsTrace, AreAllowed}
 use Rattle.lasso.proofs.search.search_allowed.Given as goal
@@ -20,5 +21,6 @@ invariant-loop-event g l = record {
   trace : starts_by (g.F.Firing.net l.fn.engine.net.now) l.engine.moment ≤ STARTS → IsTrace (g.F.Firing.net l.fn.engine.net.now) l.engine.moment l.trace.moments.items l.trace.starts.items;
   allowed : AreAllowed (g.F.Firing.net l.fn.engine.net.now) l.states l.trace.moments.items l.trace.starts.items;
   prints : ArePrints (g.F.Firing.net l.fn.engine.net.now) (l.engine.moment + 1) l.trace.moments.items l.trace.prints.items;
+  marks : AreMarks (g.F.Firing.net l.fn.engine.net.now) (l.engine.moment + 1) l.marks;
   none : NoneSince (g.F.Firing.net l.fn.engine.net.now) l.checkpoint.moment l.engine.moment;
 }
