@@ -20,7 +20,7 @@ use std::alloc::Global;
 /// How many marks stand at most.
 const MARKS: usize = 32;
 
-/// After how many events above the limit, for each one that is expected up to it, the limit rises.
+/// How many times the expected distance of marks may pass without a print up to the limit, before the limit rises.
 const PATIENCE: u64 = 4;
 
 /// An event of which later ones may have the shape: the print of its tokens, its moment, and the starts up to and with it.
@@ -33,7 +33,8 @@ pub(crate) struct Mark {
 
 /// The marks of an execution stand at events whose print is at most a limit: at the distinguished points of Rivest (van
 /// Oorschot and Wiener 1999). The limit is halved when there would be too many, so that they lie spread over the
-/// execution; and it is doubled when long no print is up to it, since a loop may have none.
+/// execution; and it is doubled when long no print is up to it, since a loop may have none. So many events above the limit may
+/// follow each other as `patience` says, and `passed` have done so.
 #[derive(Drop)]
 pub(crate) struct Marks {
     pub(crate) limit: u64,
