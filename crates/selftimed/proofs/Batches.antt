@@ -1,6 +1,6 @@
 -- Firings of one actor that start at one moment.
-use Rattle.std.proofs.Common.{◌≡◌, ℕ, ◌+◌, ◌-◌, ◌*◌, ◌%◌, ◌≤◌, ◌<◌, List, [], ◌∷◌, ◌++◌, length, replicate, sum, ⊎_elim, subst, sym, refl, ap, ◌∙◌, arith, mul-le-mul_right, zero-add}
-use Rattle.std.specs.Prelude.{slice_index, slice_index_or}
+use Rattle.std.proofs.Common.{◌≡◌, ℕ, ◌+◌, ◌-◌, ◌*◌, ◌%◌, ◌≤◌, ◌<◌, List, [], ◌∷◌, ◌++◌, Option, Some, length, replicate, sum, ⊎_elim, subst, sym, refl, ap, ◌∙◌, arith, mul-le-mul_right, zero-add}
+use Rattle.std.specs.Prelude.{slice_index, slice_index_or, IfSome}
 use Rattle.std.proofs.lemmas.Bool.{cases_lt}
 use Rattle.std.proofs.lemmas.List.{get_or-append-add, get_or-replicate, get_or_append_left, length-append, length-replicate}
 use Rattle.sd_base.specs.Net.{Net, channel_at, phase_entry, total}
@@ -9,9 +9,10 @@ use Rattle.sd_base.specs.Lawful.{Lawful}
 use Rattle.sd_base.proofs.Sums.{total-more}
 use Rattle.sd_base.proofs.Admissibles.{one_time}
 use Rattle.firing.specs.declared.sums.Port.TheVariants.{Taken}
-use Rattle.firing.specs.Wiring.{IsListed, SufficesBefore, LacksNow, IsFirstLack, TakesTokens}
-use Rattle.firing.proofs.Listings.{place_of}
+use Rattle.firing.specs.Wiring.{SufficesBefore, LacksNow, IsFirstLack, TakesTokens}
 use Rattle.firing.proofs.TokenMoves.{span-one}
+use Rattle.selftimed.specs.inside.Ports.{MayOwn, IsOwn, IsOther, IsListedBut}
+use Rattle.selftimed.proofs.OwnChannels.{own-or-other, of-own, if-own, other-place, own-takes}
 use Rattle.selftimed.specs.inside.Starts.{AddsEnds, Feeds, FeedsNoMore, StartsAll, Overfills}
 
 -- ---- how many start together
@@ -33,15 +34,18 @@ one-sum (x ∷ []) one = zero-add x
 one-sum (x ∷ y ∷ xs) one = absurd (omega arith)
 
 -- as many as the channels that were looked at feed, of an actor of one phase
-pub record BatchSoFar (net : Net) (a : ℕ) (xs tokens : List ℕ) (most best lacking done : ℕ) : Type 0 where
+pub record BatchSoFar (net : Net) (a : ℕ) (own : Option ℕ) (xs tokens : List ℕ) (most best lacking done : ℕ) : Type 0 where
   pub within : best ≤ most
+  pub mine : IfSome own (λ (i : ℕ). best ≤ slice_index tokens i)
   pub fed : (j : ℕ) → j < done → best * slice_index (channel_at net (slice_index xs j)).taken 0 ≤ slice_index tokens (slice_index xs j)
   pub lacks : best < most → FeedsNoMore net tokens a best lacking
 
-pub batch-none : (net : Net) (a : ℕ) (xs tokens : List ℕ) (most : ℕ) → BatchSoFar net a xs tokens most most 0 0
-batch-none net a xs tokens most = record { within = omega arith; fed = λ j h. absurd (omega arith); lacks = λ less. absurd (omega arith) }
+-- those that the own channel feeds
+pub batch-none : (net : Net) (a : ℕ) (own : Option ℕ) (xs tokens : List ℕ) (most best lacking : ℕ) → best ≤ most → IfSome own (λ (i : ℕ). best ≤ slice_index tokens i) → (best < most → FeedsNoMore net tokens a best lacking) →
+    BatchSoFar net a own xs tokens most best lacking 0
+batch-none net a own xs tokens most best lacking within mine lacks = record { within = within; mine = mine; fed = λ j h. absurd (omega arith); lacks = lacks }
 
-module _ (net : Net) (laws : Lawful net) (a : ℕ) (xs tokens : List ℕ) (listed : IsListed net Taken a xs) (one : phases_at net a ≡ 1) where
+module _ (net : Net) (laws : Lawful net) (a : ℕ) (own : Option ℕ) (xs tokens : List ℕ) (listed : IsListedBut net Taken a own xs) (one : phases_at net a ≡ 1) where
   taken-one : (j : ℕ) → j < length xs → length (channel_at net (slice_index xs j)).taken ≡ 1
   taken-one j below = laws.taken_phases (slice_index xs j) (listed.place j below) ∙ (ap (phases_at net) (listed.there j below) ∙ one)
 
@@ -54,9 +58,10 @@ module _ (net : Net) (laws : Lawful net) (a : ℕ) (xs tokens : List ℕ) (liste
 
   pub batch-lower : (most best lacking done feeds : ℕ) → done < length xs → feeds * slice_index (channel_at net (slice_index xs done)).taken 0 ≤ slice_index tokens (slice_index xs done) →
       slice_index tokens (slice_index xs done) < (feeds + 1) * slice_index (channel_at net (slice_index xs done)).taken 0 → slice_index tokens (slice_index xs done) < best * slice_index (channel_at net (slice_index xs done)).taken 0 →
-      BatchSoFar net a xs tokens most best lacking done → BatchSoFar net a xs tokens most feeds (slice_index xs done) (done + 1)
+      BatchSoFar net a own xs tokens most best lacking done → BatchSoFar net a own xs tokens most feeds (slice_index xs done) (done + 1)
   batch-lower most best lacking done feeds below fits next fewer so_far = record {
     within = omega (arith, so_far.within, less);
+    mine = if-own (λ (i : ℕ). best ≤ slice_index tokens i) (λ (i : ℕ). feeds ≤ slice_index tokens i) own (λ i is enough. omega (arith, less)) so_far.mine;
     fed = λ j h. ⊎_elim
         (λ (old : j < done).
         let le : feeds * slice_index (channel_at net (slice_index xs j)).taken 0 ≤ best * slice_index (channel_at net (slice_index xs j)).taken 0 = mul-le-mul_right (slice_index (channel_at net (slice_index xs j)).taken 0) (omega (arith, less)) in
@@ -77,9 +82,10 @@ module _ (net : Net) (laws : Lawful net) (a : ℕ) (xs tokens : List ℕ) (liste
           (cases_lt feeds best)
 
   pub batch-keep : (most best lacking done : ℕ) → best * slice_index (channel_at net (slice_index xs done)).taken 0 ≤ slice_index tokens (slice_index xs done) →
-      BatchSoFar net a xs tokens most best lacking done → BatchSoFar net a xs tokens most best lacking (done + 1)
+      BatchSoFar net a own xs tokens most best lacking done → BatchSoFar net a own xs tokens most best lacking (done + 1)
   batch-keep most best lacking done fits so_far = record {
     within = so_far.within;
+    mine = so_far.mine;
     fed = λ j h. ⊎_elim
         (λ (old : j < done). so_far.fed j old)
         (λ (new : done ≤ j). let same : j ≡ done = omega arith in rw same fits)
@@ -87,15 +93,21 @@ module _ (net : Net) (laws : Lawful net) (a : ℕ) (xs tokens : List ℕ) (liste
     lacks = so_far.lacks;
   }
 
-  pub batch-feeds : (most best lacking done : ℕ) → length xs ≤ done → BatchSoFar net a xs tokens most best lacking done → (k : ℕ) → Feeds net tokens a k best
-  batch-feeds most best lacking done past so_far k i place into =
-      let found = place_of net Taken a xs listed i place into in
+  pub batch-feeds : (most best lacking done : ℕ) → MayOwn net a own → length xs ≤ done → BatchSoFar net a own xs tokens most best lacking done → (k : ℕ) → Feeds net tokens a k best
+  batch-feeds most best lacking done may past so_far k i place into = ⊎_elim
+      (λ (is : own ≡ Some i).
+      let took : total (channel_at net i).taken (k + best) ≡ total (channel_at net i).taken k + best = own-takes net laws a i k best (of-own (IsOwn net a) own i is may) in
+      let enough : best ≤ slice_index tokens i = of-own (λ (o : ℕ). best ≤ slice_index tokens o) own i is so_far.mine in
+      omega arith)
+      (λ (other : IsOther own i).
+      let found = other-place net Taken a own xs listed i place into other in
       let j : ℕ = found.0 in
       let len : length (channel_at net i).taken ≡ 1 = laws.taken_phases i place ∙ (ap (phases_at net) into ∙ one) in
       let span : total (channel_at net i).taken k + best * slice_index (channel_at net i).taken 0 ≡ total (channel_at net i).taken (k + best) = span-one (channel_at net i).taken k best 1 (slice_index (channel_at net i).taken 0) (sym len) refl refl in
       let fed : best * slice_index (channel_at net (slice_index xs j)).taken 0 ≤ slice_index tokens (slice_index xs j) = so_far.fed j (omega (arith, found.1)) in
       let here : best * slice_index (channel_at net i).taken 0 ≤ slice_index tokens i = subst (λ (c : ℕ). best * slice_index (channel_at net c).taken 0 ≤ slice_index tokens c) found.2 fed in
-      omega arith
+      omega arith)
+      (own-or-other own i)
 
 -- none is always fed
 pub feeds-none : (net : Net) (tokens : List ℕ) (a k : ℕ) → Feeds net tokens a k 0

@@ -1,5 +1,5 @@
 -- Ends of firings, actor by actor.
-use Rattle.std.proofs.Common.{◌≡◌, ◌≢◌, ℕ, ◌+◌, ◌-◌, ◌*◌, ◌≤◌, ◌<◌, ◌^◌, ◌⊎◌, true, false, List, [], ◌∷◌, ◌++◌, length, drop, set, inl, inr, ⊎_elim, subst, sym, refl, ap, ◌∙◌, arith}
+use Rattle.std.proofs.Common.{◌≡◌, ◌≢◌, ℕ, ◌+◌, ◌-◌, ◌*◌, ◌≤◌, ◌<◌, ◌^◌, ◌⊎◌, true, false, List, [], ◌∷◌, ◌++◌, Option, Some, length, drop, set, inl, inr, ⊎_elim, subst, sym, refl, ap, ◌∙◌, arith}
 use Rattle.std.specs.Prelude.{slice_index, slice_index_or, if◌then◌else◌, All, IsPermutation}
 use Rattle.std.proofs.lemmas.Bool.{cases_lt, cases_eq, cases_Bool, false≢true}
 use Rattle.std.proofs.lemmas.List.{length-set, get_or-set_same, get_or-set_other, length-drop, get_or-drop, drop-drop}
@@ -8,12 +8,13 @@ use Rattle.std.proofs.lemmas.List.Sorted.{All-permutation}
 use Rattle.sd_base.specs.Net.{Net, channel_at, phase_entry}
 use Rattle.sd_base.specs.Lawful.{Lawful}
 use Rattle.firing.specs.declared.sums.Port.TheVariants.{Made}
-use Rattle.firing.specs.Wiring.{IsListed, PutsTokens, IsLevel}
-use Rattle.firing.proofs.Listings.{place_of}
+use Rattle.firing.specs.Wiring.{PutsTokens, IsLevel}
 use Rattle.firing.proofs.TokenMoves.{MoreBy, level-puts, level-small, level-needs}
 use Rattle.selftimed.specs.declared.actors.ActorState.{ActorState}
-use Rattle.selftimed.specs.inside.Actors.{idle, started_in, ended_in, running_in, touched_in, lacking_in, EndsOne, Touches, EndsAll, Stand}
+use Rattle.selftimed.specs.inside.Actors.{idle, started_in, ended_in, running_in, touched_in, lacking_in, EndsOne, Kept, TouchesItself, Touches, EndsAll, Stand}
 use Rattle.selftimed.specs.inside.Agendas.{Entry, entry, Announces, IsFirst, Lists, IsAgenda}
+use Rattle.selftimed.specs.inside.Ports.{IsOwn, MayOwn, IsOther, IsListedBut}
+use Rattle.selftimed.proofs.OwnChannels.{own-or-other, of-own, not-own, other-place}
 use Rattle.selftimed.proofs.Agendas.{HasFirsts, has-firsts, entries-found, has-number, number-found, runs-place, besides, announced-kept, announced-there, announced-all}
 
 at : List ActorState → ℕ → ActorState
@@ -65,8 +66,8 @@ touches-skip net tokens channels old now touched done t into short so_far = reco
 }
 
 -- one more actor is touched
-module _ (net : Net) (tokens channels : List ℕ) (old now : List ActorState) (touched more : List ℕ) (done t : ℕ) (below : done < length channels) (into : t ≡ (channel_at net (slice_index channels done)).target) (actor : t < length net.times) (place : t < length now) (base : ActorState)
-    (was : base ≡ slice_index_or now t idle) (so_far : TouchesSoFar net tokens channels old now touched done) (listed : more ≡ (if base.touched then touched else touched ++ t ∷ [])) where
+module _ (net : Net) (now : List ActorState) (touched more : List ℕ) (t : ℕ) (actor : t < length net.times) (place : t < length now) (base : ActorState)
+    (was : base ≡ slice_index_or now t idle) (lists : Lists net now touched) (listed : more ≡ (if base.touched then touched else touched ++ t ∷ [])) where
   read : (b : ℕ) → b ≢ t → slice_index_or (set now t (record base { touched = true })) b idle ≡ slice_index_or now b idle
   read b away = get_or-set_other now t b (record base { touched = true }) idle away
 
@@ -83,55 +84,90 @@ module _ (net : Net) (tokens channels : List ℕ) (old now : List ActorState) (t
   kept-on : (b : ℕ) → b ≢ t → touched_in (set now t (record base { touched = true })) b ≡ touched_in now b
   kept-on b away = ap (λ (s : ActorState). s.touched) (read b away)
 
-  lists-more : Lists net (set now t (record base { touched = true })) more
+  pub lists-more : Lists net (set now t (record base { touched = true })) more
   lists-more = ⊎_elim
       (λ (on : base.touched ≡ true).
       let same : more ≡ touched = rw on at listed in
       rw same (record {
-        within = so_far.lists.within;
+        within = lists.within;
         listed = λ b is. ⊎_elim
-            (λ (e : b ≡ t). rw e (so_far.lists.listed t (sym (ap (λ (s : ActorState). s.touched) was) ∙ on)))
-            (λ (away : b ≢ t). so_far.lists.listed b (sym (kept-on b away) ∙ is))
+            (λ (e : b ≡ t). rw e (lists.listed t (sym (ap (λ (s : ActorState). s.touched) was) ∙ on)))
+            (λ (away : b ≢ t). lists.listed b (sym (kept-on b away) ∙ is))
             (cases_eq b t);
       }))
       (λ (off : base.touched ≡ false).
       let longer : more ≡ touched ++ t ∷ [] = rw off at listed in
       rw longer (record {
-        within = All-push (λ (x : ℕ). x < length net.times) touched t so_far.lists.within actor;
+        within = All-push (λ (x : ℕ). x < length net.times) touched t lists.within actor;
         listed = λ b is. ⊎_elim
             (λ (e : b ≡ t). rw e (number-found (touched ++ t ∷ []) t (Contains-push touched t)))
-            (λ (away : b ≢ t). number-found (touched ++ t ∷ []) b (Contains-append_left touched (t ∷ []) b (has-number touched b (so_far.lists.listed b (sym (kept-on b away) ∙ is)))))
+            (λ (away : b ≢ t). number-found (touched ++ t ∷ []) b (Contains-append_left touched (t ∷ []) b (has-number touched b (lists.listed b (sym (kept-on b away) ∙ is)))))
             (cases_eq b t);
       }))
       (cases_Bool base.touched)
 
-  pub touches-more : TouchesSoFar net tokens channels old (set now t (record base { touched = true })) more (done + 1)
-  touches-more = record {
-    long = length-set now t (record base { touched = true }) ∙ so_far.long;
-    started = λ b. keeps (λ (s : ActorState). s.started) refl b ∙ so_far.started b;
-    ended = λ b. keeps (λ (s : ActorState). s.ended) refl b ∙ so_far.ended b;
-    running = λ b. keeps (λ (s : ActorState). s.running) refl b ∙ so_far.running b;
+  pub kept-more : Kept now (set now t (record base { touched = true }))
+  kept-more = record {
+    long = length-set now t (record base { touched = true });
+    started = keeps (λ (s : ActorState). s.started) refl;
+    ended = keeps (λ (s : ActorState). s.ended) refl;
+    running = keeps (λ (s : ActorState). s.running) refl;
     kept = λ b off. ⊎_elim
         (λ (e : b ≡ t).
         let yes : touched_in (set now t (record base { touched = true })) b ≡ true = rw e (ap (λ (s : ActorState). s.touched) here) in
         absurd (false≢true (sym off ∙ yes)))
-        (λ (away : b ≢ t). so_far.kept b (sym (kept-on b away) ∙ off))
+        (λ (away : b ≢ t). sym (kept-on b away) ∙ off)
         (cases_eq b t);
-    lacking = λ b. keeps (λ (s : ActorState). s.lacking) refl b ∙ so_far.lacking b;
+    lacking = keeps (λ (s : ActorState). s.lacking) refl;
+  }
+
+  pub touched-now : touched_in (set now t (record base { touched = true })) t ≡ true
+  touched-now = ap (λ (s : ActorState). s.touched) here
+
+  pub touches-more : (tokens channels : List ℕ) (old : List ActorState) (done : ℕ) → t ≡ (channel_at net (slice_index channels done)).target →
+      TouchesSoFar net tokens channels old now touched done → TouchesSoFar net tokens channels old (set now t (record base { touched = true })) more (done + 1)
+  touches-more tokens channels old done into so_far = record {
+    long = kept-more.long ∙ so_far.long;
+    started = λ b. kept-more.started b ∙ so_far.started b;
+    ended = λ b. kept-more.ended b ∙ so_far.ended b;
+    running = λ b. kept-more.running b ∙ so_far.running b;
+    kept = λ b off. so_far.kept b (kept-more.kept b off);
+    lacking = λ b. kept-more.lacking b ∙ so_far.lacking b;
     there = λ j h off. ⊎_elim
-        (λ (before : j < done). ⊎_elim
-        (λ (e : (channel_at net (slice_index channels j)).target ≡ t). absurd (false≢true (sym off ∙ rw e (ap (λ (s : ActorState). s.touched) here))))
-        (λ (away : (channel_at net (slice_index channels j)).target ≢ t).
-        rw (keeps (λ (s : ActorState). s.lacking) refl (channel_at net (slice_index channels j)).target, keeps (λ (s : ActorState). s.started) refl (channel_at net (slice_index channels j)).target)
-        (so_far.there j before (sym (kept-on (channel_at net (slice_index channels j)).target away) ∙ off)))
-        (cases_eq (channel_at net (slice_index channels j)).target t))
+        (λ (before : j < done).
+        rw (kept-more.lacking (channel_at net (slice_index channels j)).target, kept-more.started (channel_at net (slice_index channels j)).target)
+        (so_far.there j before (kept-more.kept (channel_at net (slice_index channels j)).target off)))
         (λ (now_one : done ≤ j).
         let same : j ≡ done = omega arith in
         let target : (channel_at net (slice_index channels j)).target ≡ t = rw same (sym into) in
-        absurd (false≢true (sym off ∙ rw target (ap (λ (s : ActorState). s.touched) here))))
+        absurd (false≢true (sym off ∙ rw target touched-now)))
         (cases_lt j done);
     lists = lists-more;
   }
+
+-- an actor that is as touched as before
+pub lists-kept : (net : Net) (now : List ActorState) (touched : List ℕ) (a : ℕ) (s : ActorState) → a < length now → s.touched ≡ touched_in now a → Lists net now touched → Lists net (set now a s) touched
+lists-kept net now touched a s place still lists = record {
+  within = lists.within;
+  listed = λ b on. lists.listed b (sym (same b) ∙ on);
+}
+  where
+    same : (b : ℕ) → touched_in (set now a s) b ≡ touched_in now b
+    same b = ⊎_elim
+        (λ (e : b ≡ a). rw e (ap (λ (x : ActorState). x.touched) (get_or-set_same now a s idle place) ∙ still))
+        (λ (away : b ≢ a). ap (λ (x : ActorState). x.touched) (get_or-set_other now a b s idle away))
+        (cases_eq b a)
+
+-- an actor that doesn't lack tokens on its own channel isn't touched
+pub itself-skip : (own : Option ℕ) (a : ℕ) (now : List ActorState) → IsOther own (lacking_in now a) → TouchesItself own a now now
+itself-skip own a now other = record {
+  kept = record { long = refl; started = λ b. refl; ended = λ b. refl; running = λ b. refl; kept = λ b off. off; lacking = λ b. refl };
+  other = λ off. other;
+}
+
+-- it is touched
+pub itself-more : (own : Option ℕ) (a : ℕ) (now new : List ActorState) → Kept now new → touched_in new a ≡ true → TouchesItself own a now new
+itself-more own a now new kept on = record { kept = kept; other = λ off. absurd (false≢true (sym off ∙ on)) }
 
 -- ---- ends of all actors
 
@@ -215,14 +251,15 @@ ends-none net moment first tokens ends touched stand agenda = record {
   lists = agenda.lists;
 }
 
--- the same but for what is touched besides
-pub record Kept (old new : List ActorState) : Type 0 where
-  pub long : length new ≡ length old
-  pub started : (b : ℕ) → started_in new b ≡ started_in old b
-  pub ended : (b : ℕ) → ended_in new b ≡ ended_in old b
-  pub running : (b : ℕ) → running_in new b ≡ running_in old b
-  pub kept : (b : ℕ) → touched_in new b ≡ false → touched_in old b ≡ false
-  pub lacking : (b : ℕ) → lacking_in new b ≡ lacking_in old b
+pub kept-then : (old mid new : List ActorState) → Kept old mid → Kept mid new → Kept old new
+kept-then old mid new first second = record {
+  long = second.long ∙ first.long;
+  started = λ b. second.started b ∙ first.started b;
+  ended = λ b. second.ended b ∙ first.ended b;
+  running = λ b. second.running b ∙ first.running b;
+  kept = λ b off. first.kept b (second.kept b off);
+  lacking = λ b. second.lacking b ∙ first.lacking b;
+}
 
 pub kept-touches : (net : Net) (tokens channels : List ℕ) (old new : List ActorState) → Touches net tokens channels old new → Kept old new
 kept-touches net tokens channels old new t = record { long = t.long; started = t.started; ended = t.ended; running = t.running; kept = t.kept; lacking = t.lacking }
@@ -425,15 +462,22 @@ stand-small net actors tokens laws stand i there =
     let small : slice_index tokens i ≤ 2000000000 + 2 ^ 32 * 1000000 = level-small net (started_in actors) (ended_in actors) tokens (2 ^ 32) i laws stand.level there few in
     omega arith
 
--- an actor that lacked tokens on a channel out of another one is touched, or lacks them still
-pub touched-fed : (net : Net) (a : ℕ) (tokens channels : List ℕ) (mid new : List ActorState) → IsListed net Made a channels → Touches net tokens channels mid new →
+-- an actor that lacked tokens on a channel out of another one, or on its own one, is touched, or lacks them still
+pub touched-fed : (net : Net) (a : ℕ) (own : Option ℕ) (tokens channels : List ℕ) (old mid new : List ActorState) → MayOwn net a own → IsListedBut net Made a own channels → TouchesItself own a old mid → Touches net tokens channels mid new →
     (i : ℕ) → i < length net.channels → (channel_at net i).source ≡ a → touched_in new (channel_at net i).target ≡ false → lacking_in new (channel_at net i).target ≡ i →
     slice_index tokens i < phase_entry (channel_at net i).taken (started_in new (channel_at net i).target)
-touched-fed net a tokens channels mid new listed touches i there from off lacks =
-    let found = place_of net Made a channels listed i there from in
+touched-fed net a own tokens channels old mid new may listed itself touches i there from off lacks = ⊎_elim
+    (λ (is : own ≡ Some i).
+    let mine : (channel_at net i).target ≡ a = (of-own (IsOwn net a) own i is may).target in
+    let other : IsOther own (lacking_in mid a) = itself.other (touches.kept a (rw mine at off)) in
+    let same : lacking_in mid a ≡ i = sym (touches.lacking a) ∙ rw mine at lacks in
+    absurd (not-own own i is (subst (IsOther own) same other)))
+    (λ (other : IsOther own i).
+    let found = other-place net Made a own channels listed i there from other in
     let short : touched_in new (channel_at net i).target ≡ false → lacking_in new (channel_at net i).target ≡ i → slice_index tokens i < phase_entry (channel_at net i).taken (started_in new (channel_at net i).target) =
     subst (λ (c : ℕ). touched_in new (channel_at net c).target ≡ false → lacking_in new (channel_at net c).target ≡ c → slice_index tokens c < phase_entry (channel_at net c).taken (started_in new (channel_at net c).target)) found.2 (touches.there found.0 found.1) in
-    short off lacks
+    short off lacks)
+    (own-or-other own i)
 
 -- the same over the state as it was read
 pub ends-step : (net : Net) (moment : ℕ) (first now : List ActorState) (tokens left : List ℕ) (t a : ℕ) (base s : ActorState) (new : List ActorState) (ends mid more : List Entry) (touched longer : List ℕ) → base ≡ slice_index_or now a idle → a < length net.times →

@@ -18,3 +18,5 @@ pub mod Comparing
 pub mod ExecutionStands
 pub mod FiringsEnd
 pub mod RunningPrints
+pub mod PortRows
+pub mod OwnChannels

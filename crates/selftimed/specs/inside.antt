@@ -7,3 +7,4 @@ pub mod Starts
 pub mod Stands
 pub mod Plans
 pub mod PortRates
+pub mod Ports

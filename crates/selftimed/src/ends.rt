@@ -1,10 +1,11 @@
 ghost use Rattle.std.specs.Prelude.{◌≡◌, ◌↔◌, ℕ, ◌+◌, ◌-◌, ◌^◌, ◌<◌, ◌≤◌, IsTrue, OnOk, length, slice_index};
 ghost use Rattle.sd_base.specs.Net.{channel_at, phase_entry};
 ghost use Rattle.firing.specs.declared.sums.Port.TheVariants.{Made};
-ghost use Rattle.firing.specs.Wiring.{IsListed, PutsTokens};
-ghost use Rattle.selftimed.specs.inside.Actors.{EndsOne, Touches};
+ghost use Rattle.firing.specs.Wiring.{PutsTokens};
+ghost use Rattle.selftimed.specs.inside.Actors.{EndsOne, Touches, TouchesItself};
 ghost use Rattle.selftimed.specs.inside.Agendas.{Lists};
 ghost use Rattle.selftimed.specs.inside.PortRates.{AreRates};
+ghost use Rattle.selftimed.specs.inside.Ports.{IsListedBut, MayOwn};
 
 use crate::actors::ActorState;
 use crate::agenda::Agenda;
@@ -17,6 +18,7 @@ use sd_base::NoMemory;
 pub(crate) fn end_actor<F: Firing>(
     net: &F,
     rates: &[Rates],
+    own: Option<u32>,
     outputs: &[u32],
     actor: u32,
     moment: u64,
@@ -25,7 +27,8 @@ pub(crate) fn end_actor<F: Firing>(
 )
     requires actor { actor < length (F.net net.now).times }
     requires rates { AreRates (F.net net.now) rates.now }
-    requires listed { IsListed (F.net net.now) Made actor outputs.now }
+    requires own { MayOwn (F.net net.now) actor own }
+    requires listed { IsListedBut (F.net net.now) Made actor own outputs.now }
     requires tokens { length tokens.old ≡ length (F.net net.now).channels }
     requires few { state.old.ended + length state.old.running ≤ 2 ^ 32 }
     requires small { (i : ℕ) → i < length (F.net net.now).channels → slice_index tokens.old i ≤ 2 ^ 100 }
@@ -36,8 +39,40 @@ pub(crate) fn end_actor<F: Firing>(
     ensures long { length tokens.new ≡ length tokens.old }
 {
     let firings = state.running.pop_ended(moment);
-    put_all(net, rates, outputs, tokens, actor, state.ended, firings);
+    put_all(
+        net,
+        rates,
+        own,
+        outputs,
+        tokens,
+        actor,
+        state.ended,
+        firings,
+    );
     state.ended += firings;
+}
+
+/// Touches an actor of which firings ended, if it lacked tokens on its own channel: there are some now.
+pub(crate) fn touch_itself<F: Firing>(
+    _net: &F,
+    own: Option<u32>,
+    actor: u32,
+    actors: &mut [ActorState],
+    agenda: &mut Agenda,
+) -> Result<(), NoMemory>
+    requires actor { actor < length (F.net _net.now).times }
+    requires long { length actors.old ≡ length (F.net _net.now).times }
+    requires lists { Lists (F.net _net.now) actors.old agenda.old.touched.items }
+    ensures touched { OnOk result (TouchesItself own actor actors.old actors.new) }
+    ensures lists { OnOk result (Lists (F.net _net.now) actors.new agenda.new.touched.items) }
+    ensures ends { agenda.new.ends ≡ agenda.old.ends }
+{
+    if let Some(channel) = own {
+        if actors[actor as usize].lacking == channel {
+            agenda.touch(actor, &mut actors[actor as usize])?;
+        }
+    }
+    Ok(())
 }
 
 /// Touches the actors into which these channels lead and that lacked tokens there, if they have enough now.

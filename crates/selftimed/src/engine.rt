@@ -1,13 +1,14 @@
 ghost use Rattle.std.specs.Prelude.{◌≡◌, ◌↔◌, IsTrue, ◌+◌, ◌^◌, ◌<◌, ◌≤◌, length, IfOk, IfErr, OnErr, OnOk};
+ghost use Rattle.std.proofs.Props.{props};
 ghost use Rattle.sd_base.specs.Schedules.{count_of};
 ghost use Rattle.sd_base.specs.SelfTimed.{earliest, shape_at, starts_by};
 ghost use Rattle.selftimed.specs.inside.Plans.{Plans};
 ghost use Rattle.selftimed.specs.inside.PortRates.{AreRates};
+ghost use Rattle.selftimed.specs.inside.Ports.{ArePorts};
 ghost use Rattle.selftimed.specs.EngineShapes.{form};
 ghost use Rattle.selftimed.specs.Prints.{print_of, running_print_of};
 ghost use Rattle.selftimed.specs.Moves.{AreAlike, AreStarters, IsMove, IsStuck, IsSpent};
-ghost use Rattle.firing.specs.declared.sums.Port.TheVariants.{Made, Taken};
-ghost use Rattle.firing.specs.Wiring.{AreListed, IsWiringOf};
+ghost use Rattle.firing.specs.Wiring.{IsWiringOf};
 ghost use Rattle.selftimed.specs.declared.engine.Stage.{Stage};
 ghost use Rattle.selftimed.specs.declared.engine.Move.{Move};
 ghost use Rattle.selftimed.specs.inside.Stands.{IsFresh, Stands};
@@ -16,6 +17,7 @@ use crate::actors::{ActorState, new_actors, refresh};
 use crate::agenda::Agenda;
 use crate::compare::{running_print, same_running, same_stands};
 use crate::event::Event;
+use crate::ports::Ports;
 use crate::rates::{Rates, rates_of, reset_rates};
 use crate::shape::{
     Shape, phases_of, remaining_of, same_phases, same_remaining, same_tokens, tokens_of,
@@ -62,6 +64,7 @@ pub struct Engine<'a, F: Firing> {
     /// How many firings may start in all.
     pub most: u64,
     wiring: &'a Wiring,
+    ports: Ports,
     rates: Vec<Rates>,
     all: u64,
     actors: Vec<ActorState>,
@@ -70,8 +73,8 @@ pub struct Engine<'a, F: Firing> {
     ghost few: { most ≤ 2 ^ 32 },
     ghost wired: { IsWiringOf (F.net net.now) wiring.now },
     ghost rated: { AreRates (F.net net.now) rates.items },
-    ghost inputs: { AreListed (F.net net.now) Taken wiring.now.inputs },
-    ghost outputs: { AreListed (F.net net.now) Made wiring.now.outputs },
+    ghost ported: { stage ≡ Stage.Fresh → ArePorts (F.net net.now) ports } by { Prim.hlevel props },
+    ghost still_ported: { stage ≡ Stage.Running → ArePorts (F.net net.now) ports } by { Prim.hlevel props },
     ghost fresh: { stage ≡ Stage.Fresh → IsFresh (F.net net.now) most actors.items tokens all },
     ghost waits: { stage ≡ Stage.Fresh → Plans (F.net net.now) actors.items agenda },
     ghost starters: { stage ≡ Stage.Running → AreStarters (F.net net.now) moment agenda.starters.items },
@@ -98,6 +101,7 @@ impl<'a, F: Firing> Engine<'a, F> {
         let actors = new_actors(alloc, net.actors())?;
         let tokens = Tokens::new(alloc, net)?;
         let agenda = Agenda::new(alloc, net.actors())?;
+        let ports = Ports::new(alloc, net, wiring)?;
         let rates = rates_of(alloc, net)?;
         Ok(Engine {
             net,
@@ -105,6 +109,7 @@ impl<'a, F: Firing> Engine<'a, F> {
             moment: 0,
             most,
             wiring,
+            ports,
             rates,
             all: 0,
             actors,
@@ -129,6 +134,7 @@ impl<'a, F: Firing> Engine<'a, F> {
         refresh(alloc, &mut self.actors, net.actors())?;
         self.tokens.refill(net)?;
         self.agenda.refill(net.actors())?;
+        self.ports.refill(net, self.wiring)?;
         reset_rates(net, self.rates.as_mut_slice());
         self.net = net;
         self.moment = 0;
@@ -172,7 +178,7 @@ impl<'a, F: Firing> Engine<'a, F> {
         self.stage = Stage::OutOfMemory;
         let event = Event {
             net: self.net,
-            wiring: self.wiring,
+            ports: &self.ports,
             rates: self.rates.as_slice(),
             moment: 0,
             most: self.most,
@@ -210,7 +216,7 @@ impl<'a, F: Firing> Engine<'a, F> {
         self.stage = Stage::OutOfMemory;
         let event = Event {
             net: self.net,
-            wiring: self.wiring,
+            ports: &self.ports,
             rates: self.rates.as_slice(),
             moment,
             most: self.most,

@@ -1,35 +1,35 @@
 //! An event of an execution: the firings that end at its moment, and those that start then.
 ghost use Rattle.std.specs.Prelude.{◌≡◌, ℕ, false, ◌^◌, ◌<◌, ◌≤◌, length, IfOk, OnOk, MatchBool};
+ghost use Rattle.std.proofs.Props.{props};
 ghost use Rattle.std.specs.Bool.{OnTrue};
-ghost use Rattle.firing.specs.declared.sums.Port.TheVariants.{Made, Taken};
-ghost use Rattle.firing.specs.Wiring.{AreListed};
 ghost use Rattle.selftimed.specs.inside.Actors.{started_in, ended_in, touched_in, lacking_in, LacksAt, EndsAll, Stand, Counted, StartedAll, CanOverrun, HaveStarted, IsFirstEnd};
 ghost use Rattle.selftimed.specs.inside.Plans.{Plans};
 ghost use Rattle.selftimed.specs.inside.PortRates.{AreRates};
+ghost use Rattle.selftimed.specs.inside.Ports.{ArePorts};
 ghost use Rattle.selftimed.specs.inside.Stands.{IsFresh, Stands, Begins};
 ghost use Rattle.selftimed.specs.Moves.{AreStarters, Overruns};
 
 use crate::actors::ActorState;
 use crate::agenda::Agenda;
-use crate::ends::{end_actor, touch_targets};
+use crate::ends::{end_actor, touch_itself, touch_targets};
+use crate::ports::Ports;
 use crate::rates::Rates;
 use crate::starts::Turn;
 use crate::tokens::Tokens;
-use firing::{Firing, Wiring, know_laws};
+use firing::{Firing, know_laws};
 use sd_base::NoMemory;
 
 /// An event of a net's execution, which may make `most` starts in all.
 #[derive(Drop)]
 pub(crate) struct Event<'a, F: Firing> {
     pub(crate) net: &'a F,
-    pub(crate) wiring: &'a Wiring,
+    pub(crate) ports: &'a Ports,
     pub(crate) rates: &'a [Rates],
     pub(crate) moment: u64,
     pub(crate) most: u64,
     ghost few: { most ≤ 2 ^ 32 },
     ghost rated: { AreRates (F.net net.now) rates.now },
-    ghost inputs: { AreListed (F.net net.now) Taken wiring.now.inputs },
-    ghost outputs: { AreListed (F.net net.now) Made wiring.now.outputs },
+    ghost ported: { ArePorts (F.net net.now) ports.now } by { Prim.hlevel props },
 }
 
 impl<F: Firing> Event<'_, F> {
@@ -90,10 +90,12 @@ impl<F: Firing> Event<'_, F> {
         ensures agenda { OnOk result (Plans (F.net self.now.net.now) actors.new agenda.new) }
     {
         while let Some(actor) = agenda.pop_due(self.moment) {
-            let outputs = self.wiring.outputs_of(actor);
+            let own = self.ports.own[actor as usize];
+            let outputs = self.ports.outputs.of(actor);
             end_actor(
                 self.net,
                 self.rates,
+                own,
                 outputs,
                 actor,
                 self.moment,
@@ -101,6 +103,7 @@ impl<F: Firing> Event<'_, F> {
                 tokens,
             );
             agenda.announce(actor, &actors[actor as usize])?;
+            touch_itself(self.net, own, actor, actors, agenda)?;
             touch_targets(
                 self.net,
                 self.rates,
@@ -143,7 +146,8 @@ impl<F: Firing> Event<'_, F> {
             let turn = Turn {
                 net: self.net,
                 rates: self.rates,
-                inputs: self.wiring.inputs_of(actor),
+                own: self.ports.own[actor as usize],
+                inputs: self.ports.inputs.of(actor),
                 actor,
                 moment: self.moment,
             };

@@ -8,6 +8,7 @@ mod compare;
 mod ends;
 mod engine;
 mod event;
+mod ports;
 mod queue;
 mod rates;
 mod running;

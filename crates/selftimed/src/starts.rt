@@ -1,10 +1,11 @@
-ghost use Rattle.std.specs.Prelude.{◌≡◌, ℕ, ◌+◌, ◌*◌, ◌^◌, ◌<◌, ◌≤◌, length, slice_index, IfOk, OnOk, MatchOption};
+ghost use Rattle.std.specs.Prelude.{◌≡◌, ℕ, ◌+◌, ◌*◌, ◌^◌, ◌<◌, ◌≤◌, None, length, slice_index, IfOk, IfSome, OnOk, MatchOption};
+ghost use Rattle.std.proofs.Props.{props};
 ghost use Rattle.sd_base.specs.Net.{channel_at};
 ghost use Rattle.sd_base.specs.Schedules.{phases_at, time_of};
 ghost use Rattle.firing.specs.declared.sums.Port.TheVariants.{Taken};
-ghost use Rattle.firing.specs.Wiring.{IsListed};
 ghost use Rattle.selftimed.specs.inside.Actors.{StartsOne};
 ghost use Rattle.selftimed.specs.inside.PortRates.{AreRates};
+ghost use Rattle.selftimed.specs.inside.Ports.{IsListedBut, MayOwn};
 ghost use Rattle.selftimed.specs.inside.Starts.{AddsEnds, Feeds, FeedsNoMore, StartsAll, Overfills};
 
 use crate::actors::ActorState;
@@ -27,13 +28,16 @@ pub(crate) struct Turn<'a, F: Firing> {
     pub(crate) net: &'a F,
     /// The rates of each channel.
     pub(crate) rates: &'a [Rates],
-    /// The channels into the actor.
+    /// The actor's own channel.
+    pub(crate) own: Option<u32>,
+    /// The other channels into the actor.
     pub(crate) inputs: &'a [u32],
     pub(crate) actor: u32,
     pub(crate) moment: u64,
     ghost is_actor: { actor < length (F.net net.now).times },
     ghost rated: { AreRates (F.net net.now) rates.now },
-    ghost listed: { IsListed (F.net net.now) Taken actor inputs.now },
+    ghost owned: { MayOwn (F.net net.now) actor own } by { Prim.hlevel props },
+    ghost listed: { IsListedBut (F.net net.now) Taken actor own inputs.now } by { Prim.hlevel props },
     ghost soon: { moment ≤ 2 ^ 62 },
 }
 
@@ -113,6 +117,7 @@ impl<F: Firing> Turn<'_, F> {
             take_all(
                 self.net,
                 self.rates,
+                self.own,
                 self.inputs,
                 tokens,
                 self.actor,
@@ -134,8 +139,12 @@ impl<F: Firing> Turn<'_, F> {
         ensures lacks { result.firings < most → FeedsNoMore (F.net self.now.net.now) tokens.now self.now.actor result.firings result.lacking }
     {
         know_laws(self.net);
-        let mut firings = most;
-        let mut lacking = 0;
+        let first = self.fed_by_own(tokens, most);
+        if first.firings == 0 {
+            return first;
+        }
+        let mut firings = first.firings;
+        let mut lacking = first.lacking;
         for channel in self.inputs {
             let count = tokens[*channel as usize];
             let rate = self.taken(*channel);
@@ -153,6 +162,28 @@ impl<F: Firing> Turn<'_, F> {
         Begun { firings, lacking }
     }
 
+    /// The same by the actor's own channel alone.
+    fn fed_by_own(&self, tokens: &[u128], most: u64) -> Begun
+        requires tokens { length tokens.now ≡ length (F.net self.now.net.now).channels }
+        ensures within { result.firings ≤ most }
+        ensures feeds { IfSome self.now.own (λ own. result.firings ≤ slice_index tokens.now own) }
+        ensures lacks { result.firings < most → FeedsNoMore (F.net self.now.net.now) tokens.now self.now.actor result.firings result.lacking }
+    {
+        if let Some(own) = self.own {
+            let count = tokens[own as usize];
+            if count < most as u128 {
+                return Begun {
+                    firings: count as u64,
+                    lacking: own,
+                };
+            }
+        }
+        Begun {
+            firings: most,
+            lacking: 0,
+        }
+    }
+
     /// The tokens that a firing of the actor takes from a channel in its first phase.
     fn taken(&self, channel: u32) -> u64
         requires { channel < length (F.net self.now.net.now).channels }
@@ -161,7 +192,7 @@ impl<F: Firing> Turn<'_, F> {
         self.rates[channel as usize].taken
     }
 
-    /// Starts firings one by one.
+    /// The same of an actor without an own channel, firing by firing.
     fn start_in_turn(
         &self,
         from: u64,
@@ -169,6 +200,7 @@ impl<F: Firing> Turn<'_, F> {
         tokens: &mut Tokens,
         running: &mut Running,
     ) -> Result<Option<Begun>, NoMemory>
+        requires others { self.now.own ≡ None }
         requires tokens { length tokens.old ≡ length (F.net self.now.net.now).channels }
         requires few { from + room ≤ 2 ^ 32 }
         requires runs { length running.old ≤ from }
@@ -196,6 +228,7 @@ impl<F: Firing> Turn<'_, F> {
             take_all(
                 self.net,
                 self.rates,
+                self.own,
                 self.inputs,
                 tokens,
                 self.actor,

@@ -1,9 +1,10 @@
-ghost use Rattle.std.specs.Prelude.{◌≡◌, ◌↔◌, ℕ, ◌+◌, ◌-◌, ◌^◌, ◌<◌, ◌≤◌, [], ◌∷◌, ◌++◌, length, map, set, slice_index, IfOk, IsTrue, OnOk};
+ghost use Rattle.std.specs.Prelude.{◌≡◌, ◌↔◌, ℕ, ◌+◌, ◌-◌, ◌^◌, ◌<◌, ◌≤◌, [], ◌∷◌, ◌++◌, length, map, set, slice_index, IfOk, IfSome, IsTrue, MatchOption, OnOk};
 ghost use Rattle.sd_base.specs.Net.{Channel, channel_at, total};
 ghost use Rattle.firing.specs.declared.sums.Port.TheVariants.{Made, Taken};
-ghost use Rattle.firing.specs.Wiring.{IsListed, TakesTokens, PutsTokens};
+ghost use Rattle.firing.specs.Wiring.{TakesTokens, PutsTokens};
 ghost use Rattle.selftimed.specs.Prints.{print_of, weight as weight_in_print};
 ghost use Rattle.selftimed.specs.inside.PortRates.{AreRates};
+ghost use Rattle.selftimed.specs.inside.Ports.{IsListedBut, MayOwn};
 
 use crate::rates::{Rates, moved_by};
 use crate::shape::same_tokens;
@@ -119,10 +120,11 @@ impl Tokens {
     }
 }
 
-/// Takes the tokens of `firings` firings of an actor, from number `from` on, off the channels into it.
+/// Takes the tokens of `firings` firings of an actor, from number `from` on, off its own channel and the others into it.
 pub(crate) fn take_all<F: Firing>(
     net: &F,
     rates: &[Rates],
+    own: Option<u32>,
     inputs: &[u32],
     tokens: &mut Tokens,
     actor: u32,
@@ -131,7 +133,8 @@ pub(crate) fn take_all<F: Firing>(
 )
     requires actor { actor < length (F.net net.now).times }
     requires rates { AreRates (F.net net.now) rates.now }
-    requires listed { IsListed (F.net net.now) Taken actor inputs.now }
+    requires own { MayOwn (F.net net.now) actor own }
+    requires listed { IsListedBut (F.net net.now) Taken actor own inputs.now }
     requires tokens { length tokens.old ≡ length (F.net net.now).channels }
     requires few { from + firings ≤ 2 ^ 32 }
     requires enough { (i : ℕ) → i < length (F.net net.now).channels → (channel_at (F.net net.now) i).target ≡ actor →
@@ -145,12 +148,33 @@ pub(crate) fn take_all<F: Firing>(
         let all = moved_by(net, here.taken, *channel, Port::Taken, from, firings);
         tokens.take(*channel, all, here.weight);
     }
+    take_own(net, rates, own, tokens, firings);
 }
 
-/// Puts the tokens of `firings` firings of an actor, from number `from` on, on the channels out of it.
+/// Takes so many tokens off an own channel.
+fn take_own<F: Firing>(
+    _net: &F,
+    rates: &[Rates],
+    own: Option<u32>,
+    tokens: &mut Tokens,
+    firings: u64,
+)
+    requires rates { AreRates (F.net _net.now) rates.now }
+    requires own { IfSome own (λ i. i < length (F.net _net.now).channels) }
+    requires tokens { length tokens.old ≡ length (F.net _net.now).channels }
+    requires enough { IfSome own (λ i. firings ≤ slice_index tokens.old i) }
+    ensures { MatchOption own (tokens.new ≡ tokens.old) (λ i. tokens.new ≡ set tokens.old i (slice_index tokens.old i - firings)) }
+{
+    if let Some(channel) = own {
+        tokens.take(channel, firings, rates[channel as usize].weight);
+    }
+}
+
+/// Puts the tokens of `firings` firings of an actor, from number `from` on, on its own channel and the others out of it.
 pub(crate) fn put_all<F: Firing>(
     net: &F,
     rates: &[Rates],
+    own: Option<u32>,
     outputs: &[u32],
     tokens: &mut Tokens,
     actor: u32,
@@ -159,7 +183,8 @@ pub(crate) fn put_all<F: Firing>(
 )
     requires actor { actor < length (F.net net.now).times }
     requires rates { AreRates (F.net net.now) rates.now }
-    requires listed { IsListed (F.net net.now) Made actor outputs.now }
+    requires own { MayOwn (F.net net.now) actor own }
+    requires listed { IsListedBut (F.net net.now) Made actor own outputs.now }
     requires tokens { length tokens.old ≡ length (F.net net.now).channels }
     requires few { from + firings ≤ 2 ^ 32 }
     requires small { (i : ℕ) → i < length (F.net net.now).channels → slice_index tokens.old i ≤ 2 ^ 100 }
@@ -170,6 +195,26 @@ pub(crate) fn put_all<F: Firing>(
         let here = rates[*channel as usize];
         let all = moved_by(net, here.made, *channel, Port::Made, from, firings);
         tokens.put(*channel, all, here.weight);
+    }
+    put_own(net, rates, own, tokens, firings);
+}
+
+/// Puts so many tokens on an own channel.
+fn put_own<F: Firing>(
+    _net: &F,
+    rates: &[Rates],
+    own: Option<u32>,
+    tokens: &mut Tokens,
+    firings: u64,
+)
+    requires rates { AreRates (F.net _net.now) rates.now }
+    requires own { IfSome own (λ i. i < length (F.net _net.now).channels) }
+    requires tokens { length tokens.old ≡ length (F.net _net.now).channels }
+    requires small { IfSome own (λ i. slice_index tokens.old i + firings < 2 ^ 128) }
+    ensures { MatchOption own (tokens.new ≡ tokens.old) (λ i. tokens.new ≡ set tokens.old i (slice_index tokens.old i + firings)) }
+{
+    if let Some(channel) = own {
+        tokens.put(channel, firings, rates[channel as usize].weight);
     }
 }
 

@@ -1,10 +1,11 @@
 -- Where the actors stand in an execution.
-use Rattle.std.specs.Prelude.{◌≡◌, ℕ, ◌+◌, ◌-◌, ◌^◌, ◌≤◌, ◌<◌, ◌⊎◌, Bool, true, false, List, [], All, length, drop, slice_index, slice_index_or, ◌==◌}
+use Rattle.std.specs.Prelude.{◌≡◌, ℕ, ◌+◌, ◌-◌, ◌^◌, ◌≤◌, ◌<◌, ◌⊎◌, Bool, true, false, List, [], Option, All, length, drop, slice_index, slice_index_or, ◌==◌}
 use Rattle.std.specs.List.{list_any, sum_by}
 use Rattle.sd_base.specs.Net.{Net, channel_at, phase_entry}
 use Rattle.sd_base.specs.Schedules.{Needs}
 use Rattle.sd_base.proofs.Moment.{Able}
 use Rattle.sd_base.proofs.Ends.{sum_to}
+use Rattle.selftimed.specs.inside.Ports.{IsOther}
 use Rattle.selftimed.specs.inside.Starts.{AddsEnds, StartsAll}
 use Rattle.firing.specs.Wiring.{IsLevel}
 use Rattle.selftimed.specs.declared.actors.ActorState.{ActorState}
@@ -53,6 +54,20 @@ pub record EndsOne (moment : ℕ) (old new : ActorState) : Type 0 where
   pub rest : new.running ≡ drop (new.ended - old.ended) old.running
   pub past : (k : ℕ) → k < new.ended - old.ended → slice_index old.running k ≤ moment
   pub next : new.ended - old.ended < length old.running → moment < slice_index old.running (new.ended - old.ended)
+
+-- the same but for what is touched besides
+pub record Kept (old new : List ActorState) : Type 0 where
+  pub long : length new ≡ length old
+  pub started : (b : ℕ) → started_in new b ≡ started_in old b
+  pub ended : (b : ℕ) → ended_in new b ≡ ended_in old b
+  pub running : (b : ℕ) → running_in new b ≡ running_in old b
+  pub kept : (b : ℕ) → touched_in new b ≡ false → touched_in old b ≡ false
+  pub lacking : (b : ℕ) → lacking_in new b ≡ lacking_in old b
+
+-- an actor that lacked tokens on its own channel is touched, and nothing else is changed
+pub record TouchesItself (own : Option ℕ) (a : ℕ) (old new : List ActorState) : Type 0 where
+  pub kept : Kept old new
+  pub other : touched_in new a ≡ false → IsOther own (lacking_in new a)
 
 -- the targets of those of these channels that they lacked are touched, but for those that still lack tokens there, and nothing
 -- else is changed

@@ -17,9 +17,9 @@ loop-channel-preserved g c =
     let place : c.target_of-target.result < length c.loop-channel.actors = omega (arith, c.loop-channel.auto.actors, c.requires.long) in
     elim c.if-has_enough.branch [
       | then-has_enough+in_ok-touch w ↦ rw (w.actors-is, w.agenda-is) (
-        rw w.in_ok-touch.ensures.state (touches-more (g.F.Firing.net c.args.net.now) c.args.tokens.now c.args.channels.now c.args.actors.now c.loop-channel.actors c.loop-channel.agenda.touched.items w.touch.new.self.touched.items
-            c.loop-channel.channel-index c.target_of-target.result c.loop-channel-test.true c.target_of-target.ensures actor place (slice_index_or c.loop-channel.actors c.target_of-target.result w.index-actors-target-then-has_enough.result)
-            (get_or_default c.loop-channel.actors c.target_of-target.result w.index-actors-target-then-has_enough.result idle place) c.loop-channel.invariant.0 w.in_ok-touch.ensures.touched),
+        rw w.in_ok-touch.ensures.state (touches-more (g.F.Firing.net c.args.net.now) c.loop-channel.actors c.loop-channel.agenda.touched.items w.touch.new.self.touched.items c.target_of-target.result actor place (slice_index_or c.loop-channel.actors c.target_of-target.result w.index-actors-target-then-has_enough.result)
+            (get_or_default c.loop-channel.actors c.target_of-target.result w.index-actors-target-then-has_enough.result idle place) c.loop-channel.invariant.0.lists w.in_ok-touch.ensures.touched
+            c.args.tokens.now c.args.channels.now c.args.actors.now c.loop-channel.channel-index c.target_of-target.ensures c.loop-channel.invariant.0),
         w.touch.ensures.ends ∙ c.loop-channel.invariant.1,
       )
       | else-has_enough w ↦

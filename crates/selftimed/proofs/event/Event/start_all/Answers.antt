@@ -6,9 +6,22 @@ use Rattle.selftimed.specs.inside.Actors.{idle, running_in, touched_in, StartsOn
 use Rattle.selftimed.specs.inside.Agendas.{Announces}
 use Rattle.selftimed.specs.inside.Starts.{Overfills}
 use Rattle.selftimed.proofs.Agendas.{busy-from}
+use Rattle.selftimed.proofs.PortRows.{may-read, into-read}
 use Rattle.selftimed.proofs.Starters.{started-more}
 use Rattle.selftimed.proofs.Starting.{StartsSoFar, actor, room-fits, starts-more, starts-over}
 use Rattle.selftimed.proofs.event.Event.start_all.Goals as goal
+
+pub invariant_of-turn : goal.invariant_of-turn
+invariant_of-turn g c =
+    let inv : StartsSoFar (g.F.Firing.net c.args.self.now.net.now) c.args.self.now.moment c.args.actors.now c.loop-actor.actors c.loop-actor.tokens c.loop-actor.all c.args.self.now.most (heap_items c.loop-actor.agenda.ends) (c.pop.new.self.items ++ c.in-Some.actor ∷ []) =
+    subst (StartsSoFar (g.F.Firing.net c.args.self.now.net.now) c.args.self.now.moment c.args.actors.now c.loop-actor.actors c.loop-actor.tokens c.loop-actor.all c.args.self.now.most (heap_items c.loop-actor.agenda.ends)) c.in-Some.ensures.items c.loop-actor.invariant.so_far in
+    let inside : c.in-Some.actor < length (g.F.Firing.net c.args.self.now.net.now).times = actor (g.F.Firing.net c.args.self.now.net.now) c.args.self.now.moment c.args.actors.now c.loop-actor.actors c.loop-actor.tokens c.loop-actor.all c.args.self.now.most c.in-Some.actor (heap_items c.loop-actor.agenda.ends) c.pop.new.self.items c.args.self.now.few inv in record {
+      is_actor = inside;
+      rated = c.args.self.now.rated;
+      owned = may-read (g.F.Firing.net c.args.self.now.net.now) c.args.self.now.ports.now c.args.self.now.ported c.in-Some.actor inside c.index.result.now c.index.ensures;
+      listed = into-read (g.F.Firing.net c.args.self.now.net.now) c.args.self.now.ports.now c.args.self.now.ported c.in-Some.actor inside c.index.result.now c.of.result.now c.index.ensures c.of.ensures;
+      soon = c.requires.soon;
+    }
 
 pub start_one-requires-clause-few : goal.start_one-requires-clause-few
 start_one-requires-clause-few g c =

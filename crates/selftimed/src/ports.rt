@@ -1,0 +1,160 @@
+//! The channels of each actor: its own channel, and the others into it and out of it.
+ghost use Rattle.std.specs.Prelude.{◌≡◌, ◌↔◌, ℕ, ◌+◌, ◌<◌, ◌++◌, List, IfOk, IfSome, IsTrue, OnOk, length, slice_index, slice_range, true};
+ghost use Rattle.sd_base.specs.Net.{channel_at};
+ghost use Rattle.sd_base.specs.Schedules.{phases_at};
+ghost use Rattle.firing.specs.declared.sums.Port.TheVariants.{Made, Taken};
+ghost use Rattle.firing.specs.inside.Cuts.{AreCuts};
+ghost use Rattle.firing.specs.Wiring.{AreListed, IsListed};
+ghost use Rattle.selftimed.specs.inside.Ports.{AreOthers, AreNone, ArePorts, IsOther, IsOwn, IsRising, Adds};
+
+use firing::{Firing, Wiring, know_laws};
+use sd_base::NoMemory;
+use std::alloc::Global;
+
+/// By actor its own channel, and the others into it and out of it. An actor of one phase may have an own channel: one
+/// from the actor to itself, from which a firing takes one token and on which it puts one.
+#[derive(Debug, Drop)]
+pub(crate) struct Ports {
+    /// By actor its own channel.
+    pub(crate) own: Vec<Option<u32>>,
+    /// By actor the other channels into it.
+    pub(crate) inputs: ChannelRows,
+    /// By actor the other channels out of it.
+    pub(crate) outputs: ChannelRows,
+}
+
+impl Ports {
+    /// The channels of each actor of a net. Cost: linear in the actors and channels.
+    pub(crate) fn new<F: Firing>(alloc: Global, net: &F, wiring: &Wiring) -> Result<Ports, NoMemory>
+        requires inputs { AreListed (F.net net.now) Taken wiring.now.inputs }
+        requires outputs { AreListed (F.net net.now) Made wiring.now.outputs }
+        ensures { IfOk result (ArePorts (F.net net.now)) }
+    {
+        let mut ports = Ports {
+            own: Vec::with_capacity(alloc, net.actors() as usize)?,
+            inputs: ChannelRows::with_capacity(alloc, net.actors(), net.channels())?,
+            outputs: ChannelRows::with_capacity(alloc, net.actors(), net.channels())?,
+        };
+        ports.refill(net, wiring)?;
+        Ok(ports)
+    }
+
+    /// Makes them those of another net. It allocates nothing where there were as many actors and channels.
+    pub(crate) fn refill<F: Firing>(&mut self, net: &F, wiring: &Wiring) -> Result<(), NoMemory>
+        requires inputs { AreListed (F.net net.now) Taken wiring.now.inputs }
+        requires outputs { AreListed (F.net net.now) Made wiring.now.outputs }
+        ensures { OnOk result (ArePorts (F.net net.now) self.new) }
+    {
+        self.own.clear();
+        self.inputs.clear()?;
+        self.outputs.clear()?;
+        for actor in 0..net.actors() {
+            let inputs = wiring.inputs_of(actor);
+            let own = own_channel(net, inputs, actor);
+            self.own.push(own)?;
+            self.inputs.push(inputs, own)?;
+            self.outputs.push(wiring.outputs_of(actor), own)?;
+        }
+        Ok(())
+    }
+}
+
+/// The first own channel among the channels into an actor.
+fn own_channel<F: Firing>(net: &F, inputs: &[u32], actor: u32) -> Option<u32>
+    requires actor { actor < length (F.net net.now).times }
+    requires listed { IsListed (F.net net.now) Taken actor inputs.now }
+    ensures { IfSome result (IsOwn (F.net net.now) actor) }
+{
+    if net.phases(actor) != 1 {
+        return None;
+    }
+    for channel in inputs {
+        if is_own(net, *channel, actor) {
+            return Some(*channel);
+        }
+    }
+    None
+}
+
+/// Whether a channel into an actor of one phase is an own channel.
+fn is_own<F: Firing>(net: &F, channel: u32, actor: u32) -> bool
+    requires channel { channel < length (F.net net.now).channels }
+    requires into { (channel_at (F.net net.now) channel).target ≡ actor }
+    requires single { phases_at (F.net net.now) actor ≡ 1 }
+    ensures { result ≡ true → IsOwn (F.net net.now) actor channel }
+{
+    know_laws(net);
+    net.source(channel) == actor && net.taken(channel, 0) == 1 && net.made(channel, 0) == 1
+}
+
+/// By actor a list of channels. All lie in one array, so that those of an actor are a slice of it.
+#[derive(Debug, Drop)]
+pub(crate) struct ChannelRows {
+    /// By actor where its channels begin in `channels`; behind the last actor, where they end.
+    starts: Vec<usize>,
+    channels: Vec<u32>,
+}
+
+impl ChannelRows {
+    /// No rows, with room for those of so many actors and channels.
+    fn with_capacity(alloc: Global, actors: u32, channels: u32) -> Result<ChannelRows, NoMemory> {
+        Ok(ChannelRows {
+            starts: Vec::with_capacity(alloc, actors as usize + 1)?,
+            channels: Vec::with_capacity(alloc, channels as usize)?,
+        })
+    }
+
+    /// Makes them none.
+    fn clear(&mut self) -> Result<(), NoMemory>
+        ensures { OnOk result (AreNone self.new) }
+    {
+        self.channels.clear();
+        self.starts.clear();
+        self.starts.push(0)?;
+        Ok(())
+    }
+
+    /// Adds the channels of the next actor, but for its own one.
+    fn push(&mut self, row: &[u32], own: Option<u32>) -> Result<(), NoMemory>
+        requires { IsRising row.now }
+        ensures { OnOk result ((others : List ℕ) × AreOthers own row.now (length row.now) others × Adds others self.old self.new) }
+    {
+        push_others(row, own, &mut self.channels)?;
+        self.starts.push(self.channels.len())?;
+        Ok(())
+    }
+
+    /// The channels of an actor.
+    pub(crate) fn of(&self, actor: u32) -> &[u32]
+        requires cuts { AreCuts self.now.starts.items (length self.now.channels.items) }
+        requires actor { actor + 1 < length self.now.starts.items }
+        ensures { result.now ≡ slice_range self.now.channels.items (slice_index self.now.starts.items actor) (slice_index self.now.starts.items (actor + 1)) }
+    {
+        let start = self.starts[actor as usize];
+        let end = self.starts[actor as usize + 1];
+        &self.channels.as_slice()[start..end]
+    }
+}
+
+/// Adds the channels of a row but for the own one.
+fn push_others(row: &[u32], own: Option<u32>, channels: &mut Vec<u32>) -> Result<(), NoMemory>
+    requires { IsRising row.now }
+    ensures { OnOk result ((others : List ℕ) × AreOthers own row.now (length row.now) others × (channels.new.items ≡ channels.old.items ++ others)) }
+{
+    for channel in row {
+        if is_other(own, *channel) {
+            channels.push(*channel)?;
+        }
+    }
+    Ok(())
+}
+
+/// Whether a channel isn't the own one.
+fn is_other(own: Option<u32>, channel: u32) -> bool
+    ensures { IsTrue result ↔ IsOther own channel }
+{
+    match own {
+        Some(own) => channel != own,
+        None => true,
+    }
+}
