@@ -71,34 +71,6 @@ changed-next xs old now lost gained n x rising below place balance changed = rec
 pub same-yet : (xs old now : List ℕ) (lost gained : ℕ → ℕ) (n : ℕ) → IsRising xs → n < length xs → Changed xs old now lost gained n → slice_index now (slice_index xs n) ≡ slice_index old (slice_index xs n)
 same-yet xs old now lost gained n rising below changed = changed.rest (slice_index xs n) (λ m less. apart xs rising m n less below)
 
-module _ (net : Net) (port : Port) (a : ℕ) (own : Option ℕ) (xs : List ℕ) (listed : IsListedBut net port a own xs) where
-  -- the own channel isn't listed
-  own-apart : (i : ℕ) → own ≡ Some i → (j : ℕ) → j < length xs → slice_index xs j ≢ i
-  own-apart i is j below same = not-own own i is (subst (IsOther own) same (listed.others j below))
-
-  away-apart : (i : ℕ) → actor_at port (channel_at net i) ≢ a → (j : ℕ) → j < length xs → slice_index xs j ≢ i
-  away-apart i away j below same = away (subst (λ (c : ℕ). actor_at port (channel_at net c) ≡ a) same (listed.there j below))
-
-  module _ (old now : List ℕ) (lost gained : ℕ → ℕ) (n : ℕ) (past : length xs ≤ n) (within : n ≤ length xs) (changed : Changed xs old now lost gained n) where
-    pub own-yet : (i : ℕ) → own ≡ Some i → slice_index now i ≡ slice_index old i
-    own-yet i is = changed.rest i (λ j h. own-apart i is j (omega arith))
-
-    -- the others are moved, and then the own one
-    module _ (new : List ℕ) (others : (i : ℕ) → IsOther own i → slice_index new i ≡ slice_index now i) (mine : IfSome own (λ (i : ℕ). slice_index new i + lost i ≡ slice_index now i + gained i)) (at : IfSome own (λ (i : ℕ). actor_at port (channel_at net i) ≡ a)) where
-      pub moved-here : (i : ℕ) → i < length net.channels → actor_at port (channel_at net i) ≡ a → slice_index new i + lost i ≡ slice_index old i + gained i
-      moved-here i place here = ⊎_elim
-          (λ (is : own ≡ Some i). of-own (λ (o : ℕ). slice_index new o + lost o ≡ slice_index now o + gained o) own i is mine ∙ ap (λ (x : ℕ). x + gained i) (own-yet i is))
-          (λ (other : IsOther own i).
-          let found = other-place net port a own xs listed i place here other in
-          rw (others i other) (subst (λ (c : ℕ). slice_index now c + lost c ≡ slice_index old c + gained c) found.2 (changed.done found.0 (omega (arith, found.1)))))
-          (own-or-other own i)
-
-      pub moved-away : (i : ℕ) → i < length net.channels → actor_at port (channel_at net i) ≢ a → slice_index new i ≡ slice_index old i
-      moved-away i place away = ⊎_elim
-          (λ (is : own ≡ Some i). absurd (away (of-own (λ (o : ℕ). actor_at port (channel_at net o) ≡ a) own i is at)))
-          (λ (other : IsOther own i). others i other ∙ changed.rest i (λ j h. away-apart i away j (omega arith)))
-          (own-or-other own i)
-
 -- a change of the own channel alone
 pub own-others : (f : ℕ → ℕ) (own : Option ℕ) (now new : List ℕ) → MatchOption own (new ≡ now) (λ (i : ℕ). new ≡ set now i (f i)) → (i : ℕ) → IsOther own i → slice_index new i ≡ slice_index now i
 own-others f None now new same i other = ap (λ (ys : List ℕ). slice_index ys i) same
@@ -111,6 +83,43 @@ own-mine f (Some o) now new write place = ap (λ (ys : List ℕ). slice_index ys
 pub own-long : (f : ℕ → ℕ) (own : Option ℕ) (now new : List ℕ) → MatchOption own (new ≡ now) (λ (i : ℕ). new ≡ set now i (f i)) → length new ≡ length now
 own-long f None now new same = ap length same
 own-long f (Some o) now new write = ap length write ∙ length-set now o (f o)
+
+own-at : (net : Net) (port : Port) (a i : ℕ) → IsOwn net a i → actor_at port (channel_at net i) ≡ a
+own-at net Made a i own = own.source
+own-at net Taken a i own = own.target
+
+module _ (net : Net) (port : Port) (a : ℕ) (own : Option ℕ) (may : MayOwn net a own) (xs : List ℕ) (listed : IsListedBut net port a own xs) where
+  -- the own channel isn't listed
+  own-apart : (i : ℕ) → own ≡ Some i → (j : ℕ) → j < length xs → slice_index xs j ≢ i
+  own-apart i is j below same = not-own own i is (subst (IsOther own) same (listed.others j below))
+
+  away-apart : (i : ℕ) → actor_at port (channel_at net i) ≢ a → (j : ℕ) → j < length xs → slice_index xs j ≢ i
+  away-apart i away j below same = away (subst (λ (c : ℕ). actor_at port (channel_at net c) ≡ a) same (listed.there j below))
+
+  module _ (old now : List ℕ) (lost gained : ℕ → ℕ) (n : ℕ) (past : length xs ≤ n) (within : n ≤ length xs) (changed : Changed xs old now lost gained n) where
+    pub own-yet : (i : ℕ) → own ≡ Some i → slice_index now i ≡ slice_index old i
+    own-yet i is = changed.rest i (λ j h. own-apart i is j (omega arith))
+
+    -- the others are moved, and then the own one
+    module _ (long : length now ≡ length net.channels) (f : ℕ → ℕ) (new : List ℕ) (write : MatchOption own (new ≡ now) (λ (i : ℕ). new ≡ set now i (f i))) (balance : (i : ℕ) → own ≡ Some i → f i + lost i ≡ slice_index now i + gained i) where
+      place : IfSome own (λ (i : ℕ). i < length now)
+      place = if-own (IsOwn net a) (λ (i : ℕ). i < length now) own (λ i is mine. rw long mine.place) may
+
+      pub moved-here : (i : ℕ) → i < length net.channels → actor_at port (channel_at net i) ≡ a → slice_index new i + lost i ≡ slice_index old i + gained i
+      moved-here i inside here = ⊎_elim
+          (λ (is : own ≡ Some i).
+          let wrote : slice_index new i ≡ f i = of-own (λ (o : ℕ). slice_index new o ≡ f o) own i is (own-mine f own now new write place) in
+          omega (arith, balance i is, own-yet i is))
+          (λ (other : IsOther own i).
+          let found = other-place net port a own xs listed i inside here other in
+          rw (own-others f own now new write i other) (subst (λ (c : ℕ). slice_index now c + lost c ≡ slice_index old c + gained c) found.2 (changed.done found.0 (omega (arith, found.1)))))
+          (own-or-other own i)
+
+      pub moved-away : (i : ℕ) → i < length net.channels → actor_at port (channel_at net i) ≢ a → slice_index new i ≡ slice_index old i
+      moved-away i inside away = ⊎_elim
+          (λ (is : own ≡ Some i). absurd (away (own-at net port a i (of-own (IsOwn net a) own i is may))))
+          (λ (other : IsOther own i). own-others f own now new write i other ∙ changed.rest i (λ j h. away-apart i away j (omega arith)))
+          (own-or-other own i)
 
 -- ---- taken, and put
 
@@ -152,37 +161,20 @@ module _ (net : Net) (laws : Lawful net) (a : ℕ) (own : Option ℕ) (may : May
   module _ (done : ℕ) (past : length xs ≤ done) (within : done ≤ length xs) (so_far : OthersTaken net k n xs old now done) where
     pub own-enough : IfSome own (λ (i : ℕ). n ≤ slice_index now i)
     own-enough = if-own (IsOwn net a) (λ (i : ℕ). n ≤ slice_index now i) own (λ i is mine.
-        let same : slice_index now i ≡ slice_index old i = own-yet net Taken a own xs listed old now (λ c. total (channel_at net c).taken (k + n)) (λ c. total (channel_at net c).taken k) done past within so_far i is in
+        let same : slice_index now i ≡ slice_index old i = own-yet net Taken a own may xs listed old now (λ c. total (channel_at net c).taken (k + n)) (λ c. total (channel_at net c).taken k) done past within so_far i is in
         let room : total (channel_at net i).taken (k + n) ≤ slice_index old i + total (channel_at net i).taken k = enough i mine.place mine.target in
         omega (arith, own-takes net laws a i k n mine)) may
 
     pub takes-whole : (new : List ℕ) → MatchOption own (new ≡ now) (λ (i : ℕ). new ≡ set now i (slice_index now i - n)) → TakesTokens net a k n old new
     takes-whole new write = record {
-      taken = moved-here net Taken a own xs listed old now lost gained done past within so_far new others mine at;
-      others = moved-away net Taken a own xs listed old now lost gained done past within so_far new others mine at;
+      taken = moved-here net Taken a own may xs listed old now (λ i. total (channel_at net i).taken (k + n)) (λ i. total (channel_at net i).taken k) done past within so_far long (λ i. slice_index now i - n) new write balance;
+      others = moved-away net Taken a own may xs listed old now (λ i. total (channel_at net i).taken (k + n)) (λ i. total (channel_at net i).taken k) done past within so_far long (λ i. slice_index now i - n) new write balance;
     }
       where
-        lost : ℕ → ℕ
-        lost i = total (channel_at net i).taken (k + n)
-
-        gained : ℕ → ℕ
-        gained i = total (channel_at net i).taken k
-
-        others : (i : ℕ) → IsOther own i → slice_index new i ≡ slice_index now i
-        others = own-others (λ (i : ℕ). slice_index now i - n) own now new write
-
-        place : IfSome own (λ (i : ℕ). i < length now)
-        place = if-own (IsOwn net a) (λ (i : ℕ). i < length now) own (λ i is mine. rw long mine.place) may
-
-        at : IfSome own (λ (i : ℕ). (channel_at net i).target ≡ a)
-        at = if-own (IsOwn net a) (λ (i : ℕ). (channel_at net i).target ≡ a) own (λ i is mine. mine.target) may
-
-        mine : IfSome own (λ (i : ℕ). slice_index new i + lost i ≡ slice_index now i + gained i)
-        mine = if-own (λ (i : ℕ). slice_index new i ≡ slice_index now i - n) (λ (i : ℕ). slice_index new i + lost i ≡ slice_index now i + gained i) own
-            (λ i is wrote.
+        balance : (i : ℕ) → own ≡ Some i → slice_index now i - n + total (channel_at net i).taken (k + n) ≡ slice_index now i + total (channel_at net i).taken k
+        balance i is =
             let fits : n ≤ slice_index now i = of-own (λ (o : ℕ). n ≤ slice_index now o) own i is own-enough in
-            omega (arith, own-takes net laws a i k n (of-own (IsOwn net a) own i is may)))
-            (own-mine (λ (i : ℕ). slice_index now i - n) own now new write place)
+            omega (arith, own-takes net laws a i k n (of-own (IsOwn net a) own i is may))
 
 module _ (net : Net) (laws : Lawful net) (a : ℕ) (own : Option ℕ) (may : MayOwn net a own) (k n : ℕ) (xs old now : List ℕ) (listed : IsListedBut net Made a own xs) (long : length now ≡ length net.channels) where
   module _ (at all : ℕ) (below : at < length xs) (so_far : OthersPut net k n xs old now at) where
@@ -197,31 +189,14 @@ module _ (net : Net) (laws : Lawful net) (a : ℕ) (own : Option ℕ) (may : May
   module _ (done : ℕ) (past : length xs ≤ done) (within : done ≤ length xs) (so_far : OthersPut net k n xs old now done) where
     pub own-small : (most : ℕ) → ((i : ℕ) → i < length net.channels → slice_index old i ≤ most) → IfSome own (λ (i : ℕ). slice_index now i ≤ most)
     own-small most small = if-own (IsOwn net a) (λ (i : ℕ). slice_index now i ≤ most) own (λ i is mine.
-        let same : slice_index now i ≡ slice_index old i = own-yet net Made a own xs listed old now (λ c. total (channel_at net c).made k) (λ c. total (channel_at net c).made (k + n)) done past within so_far i is in
+        let same : slice_index now i ≡ slice_index old i = own-yet net Made a own may xs listed old now (λ c. total (channel_at net c).made k) (λ c. total (channel_at net c).made (k + n)) done past within so_far i is in
         omega (arith, small i mine.place)) may
 
     pub puts-whole : (new : List ℕ) → MatchOption own (new ≡ now) (λ (i : ℕ). new ≡ set now i (slice_index now i + n)) → PutsTokens net a k n old new
     puts-whole new write = record {
-      made = moved-here net Made a own xs listed old now lost gained done past within so_far new others mine at;
-      others = moved-away net Made a own xs listed old now lost gained done past within so_far new others mine at;
+      made = moved-here net Made a own may xs listed old now (λ i. total (channel_at net i).made k) (λ i. total (channel_at net i).made (k + n)) done past within so_far long (λ i. slice_index now i + n) new write balance;
+      others = moved-away net Made a own may xs listed old now (λ i. total (channel_at net i).made k) (λ i. total (channel_at net i).made (k + n)) done past within so_far long (λ i. slice_index now i + n) new write balance;
     }
       where
-        lost : ℕ → ℕ
-        lost i = total (channel_at net i).made k
-
-        gained : ℕ → ℕ
-        gained i = total (channel_at net i).made (k + n)
-
-        others : (i : ℕ) → IsOther own i → slice_index new i ≡ slice_index now i
-        others = own-others (λ (i : ℕ). slice_index now i + n) own now new write
-
-        place : IfSome own (λ (i : ℕ). i < length now)
-        place = if-own (IsOwn net a) (λ (i : ℕ). i < length now) own (λ i is mine. rw long mine.place) may
-
-        at : IfSome own (λ (i : ℕ). (channel_at net i).source ≡ a)
-        at = if-own (IsOwn net a) (λ (i : ℕ). (channel_at net i).source ≡ a) own (λ i is mine. mine.source) may
-
-        mine : IfSome own (λ (i : ℕ). slice_index new i + lost i ≡ slice_index now i + gained i)
-        mine = if-own (λ (i : ℕ). slice_index new i ≡ slice_index now i + n) (λ (i : ℕ). slice_index new i + lost i ≡ slice_index now i + gained i) own
-            (λ i is wrote. omega (arith, own-makes net laws a i k n (of-own (IsOwn net a) own i is may)))
-            (own-mine (λ (i : ℕ). slice_index now i + n) own now new write place)
+        balance : (i : ℕ) → own ≡ Some i → slice_index now i + n + total (channel_at net i).made k ≡ slice_index now i + total (channel_at net i).made (k + n)
+        balance i is = omega (arith, own-makes net laws a i k n (of-own (IsOwn net a) own i is may))

@@ -15,6 +15,7 @@ use firing::Firing;
 use sd_base::NoMemory;
 
 /// Ends the firings of an actor whose end has come.
+#[inline(always)]
 pub(crate) fn end_actor<F: Firing>(
     net: &F,
     rates: &[Rates],
@@ -53,6 +54,7 @@ pub(crate) fn end_actor<F: Firing>(
 }
 
 /// Touches an actor of which firings ended, if it lacked tokens on its own channel: there are some now.
+#[inline(always)]
 pub(crate) fn touch_itself<F: Firing>(
     _net: &F,
     own: Option<u32>,
@@ -76,6 +78,7 @@ pub(crate) fn touch_itself<F: Firing>(
 }
 
 /// Touches the actors into which these channels lead and that lacked tokens there, if they have enough now.
+#[inline(always)]
 pub(crate) fn touch_targets<F: Firing>(
     net: &F,
     rates: &[Rates],

@@ -77,6 +77,7 @@ impl<F: Firing> Event<'_, F> {
     }
 
     /// Ends the firings whose end has come, and touches the actors that lacked the tokens made and have enough now.
+    #[inline(always)]
     fn end_all(
         &self,
         actors: &mut [ActorState],
@@ -118,6 +119,7 @@ impl<F: Firing> Event<'_, F> {
 
     /// Starts the firings of the touched actors. False: more than `most` firings could have started in all; the actors and
     /// the tokens are then anything.
+    #[inline(always)]
     fn start_all(
         &self,
         all: &mut u64,

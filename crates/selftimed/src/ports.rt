@@ -125,6 +125,7 @@ impl ChannelRows {
     }
 
     /// The channels of an actor.
+    #[inline(always)]
     pub(crate) fn of(&self, actor: u32) -> &[u32]
         requires cuts { AreCuts self.now.starts.items (length self.now.channels.items) }
         requires actor { actor + 1 < length self.now.starts.items }

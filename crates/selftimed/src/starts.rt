@@ -44,6 +44,7 @@ pub(crate) struct Turn<'a, F: Firing> {
 impl<F: Firing> Turn<'_, F> {
     /// Starts the firings that can start, and tells how many there are. None: more than `room` can start; the state and the
     /// tokens are then anything.
+    #[inline(always)]
     pub(crate) fn start_one(
         &self,
         room: u64,
@@ -72,6 +73,7 @@ impl<F: Firing> Turn<'_, F> {
     /// Starts firings from number `from` on, until a channel into the actor lacks tokens. None: more than `room` firings can
     /// start; the tokens and the running firings are then anything. Cost: that of the channels into the actor, for
     /// each firing where it has more than one phase.
+    #[inline(always)]
     fn start_from(
         &self,
         from: u64,
@@ -94,6 +96,7 @@ impl<F: Firing> Turn<'_, F> {
     }
 
     /// The same of an actor of one phase, by one look at its channels.
+    #[inline(always)]
     fn start_together(
         &self,
         from: u64,
@@ -130,6 +133,7 @@ impl<F: Firing> Turn<'_, F> {
     }
 
     /// How many firings of an actor of one phase the tokens feed, at most `most`, and a channel that feeds no more.
+    #[inline(always)]
     fn fed_together(&self, tokens: &[u128], most: u64) -> Begun
         requires single { phases_at (F.net self.now.net.now) self.now.actor ≡ 1 }
         requires tokens { length tokens.now ≡ length (F.net self.now.net.now).channels }
@@ -163,6 +167,7 @@ impl<F: Firing> Turn<'_, F> {
     }
 
     /// The same by the actor's own channel alone.
+    #[inline(always)]
     fn fed_by_own(&self, tokens: &[u128], most: u64) -> Begun
         requires tokens { length tokens.now ≡ length (F.net self.now.net.now).channels }
         ensures within { result.firings ≤ most }
@@ -241,6 +246,7 @@ impl<F: Firing> Turn<'_, F> {
     }
 
     /// Adds the ends of firings that start, from number `from` on, all of which take as long.
+    #[inline(always)]
     fn push_ends(&self, running: &mut Running, from: u64, firings: u64) -> Result<(), NoMemory>
         requires some { 0 < firings }
         requires few { from + firings ≤ 2 ^ 32 }

@@ -152,6 +152,7 @@ pub(crate) fn take_all<F: Firing>(
 }
 
 /// Takes so many tokens off an own channel.
+#[inline(always)]
 fn take_own<F: Firing>(
     _net: &F,
     rates: &[Rates],
@@ -200,6 +201,7 @@ pub(crate) fn put_all<F: Firing>(
 }
 
 /// Puts so many tokens on an own channel.
+#[inline(always)]
 fn put_own<F: Firing>(
     _net: &F,
     rates: &[Rates],

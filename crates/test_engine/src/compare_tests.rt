@@ -2,13 +2,16 @@ ghost use Rattle.std.specs.Prelude.{◌≤◌, ◌^◌, ◌<◌};
 
 use crate::engine_tests::half_blocked;
 use crate::{PlainRun, run_until};
-use firing::{Firing, Wiring};
+use firing::{Firing, SdfNet, Wiring};
 use liveness::{Round, one_round};
 use selftimed::{Engine, Move, Shape, Stage};
 use std::alloc::Global;
 use std::process::Abort;
 use std::test::Fail;
-use test_nets::{blocked_pair, drawn_net, multi_rate_ring, ring_of_two, three_at_once};
+use test_nets::{
+    TableError, blocked_pair, channel, drawn_net, multi_rate_ring, ring_of_two, table_net,
+    three_at_once,
+};
 
 /// Steps an engine up to a moment, and compares each event with the plain run. Tells whether the execution goes on.
 pub(crate) fn compare<F: Firing>(
@@ -87,6 +90,39 @@ fn the_engine_runs_as_the_plain_program(rt: HostRuntime) -> Result<(), Fail> {
     assert!(rt; compare(&rt, alloc, &multi_rate_ring(alloc)?, 60)?);
     assert!(rt; !compare(&rt, alloc, &blocked_pair(alloc)?, 60)?);
     assert!(rt; !compare(&rt, alloc, &half_blocked(alloc)?, 60)?);
+    Ok(())
+}
+
+/// A first actor with three channels to itself, of rates 1, 2 and 1, and a second one with one of rates 1.
+fn three_self_loops(alloc: Global, tokens: [u64; 3]) -> Result<SdfNet, TableError> {
+    let lines = [
+        channel(0, 1, 1, 0, tokens[0]),
+        channel(0, 2, 2, 0, tokens[1]),
+        channel(0, 2, 1, 1, 0),
+        channel(0, 1, 1, 0, tokens[2]),
+        channel(1, 1, 1, 1, 2),
+        channel(1, 1, 2, 0, 7),
+    ];
+    table_net(alloc, &[3, 2], &lines, false)
+}
+
+/// The first actor can fire exactly where each of its channels to itself has the tokens for a firing.
+#[test]
+fn channels_of_an_actor_to_itself_run_as_the_plain_program(rt: HostRuntime) -> Result<(), Fail> {
+    let alloc = rt.alloc();
+    let cases = [
+        ([1, 2, 1], true),
+        ([2, 6, 3], true),
+        ([3, 4, 1], true),
+        ([3, 3, 2], true),
+        ([0, 2, 1], false),
+        ([1, 1, 1], false),
+        ([1, 2, 0], false),
+    ];
+    for (tokens, fires) in cases {
+        let goes_on = compare(&rt, alloc, &three_self_loops(alloc, tokens)?, 60)?;
+        assert_eq!(rt; goes_on, fires, "tokens {tokens:?}");
+    }
     Ok(())
 }
 
