@@ -1,10 +1,10 @@
 ghost use Rattle.std.specs.Prelude.{◌≡◌, ◌↔◌, IsTrue, ◌+◌, ◌^◌, ◌<◌, ◌≤◌, length, IfOk, IfErr, OnErr, OnOk};
-ghost use Rattle.std.proofs.Props.{props};
 ghost use Rattle.sd_base.specs.Schedules.{count_of};
 ghost use Rattle.sd_base.specs.SelfTimed.{earliest, shape_at, starts_by};
 ghost use Rattle.selftimed.specs.inside.Plans.{Plans};
 ghost use Rattle.selftimed.specs.inside.PortRates.{AreRates};
-ghost use Rattle.selftimed.specs.inside.Ports.{ArePorts};
+ghost use Rattle.selftimed.specs.inside.Ports.{StillPorts};
+ghost use Rattle.std.proofs.Props.{props};
 ghost use Rattle.selftimed.specs.EngineShapes.{form};
 ghost use Rattle.selftimed.specs.Prints.{print_of, running_print_of};
 ghost use Rattle.selftimed.specs.Moves.{AreAlike, AreStarters, IsMove, IsStuck, IsSpent};
@@ -73,8 +73,7 @@ pub struct Engine<'a, F: Firing> {
     ghost few: { most ≤ 2 ^ 32 },
     ghost wired: { IsWiringOf (F.net net.now) wiring.now },
     ghost rated: { AreRates (F.net net.now) rates.items },
-    ghost ported: { stage ≡ Stage.Fresh → ArePorts (F.net net.now) ports } by { Prim.hlevel props },
-    ghost still_ported: { stage ≡ Stage.Running → ArePorts (F.net net.now) ports } by { Prim.hlevel props },
+    ghost ported: { StillPorts stage (F.net net.now) ports } by { Prim.hlevel props },
     ghost fresh: { stage ≡ Stage.Fresh → IsFresh (F.net net.now) most actors.items tokens all },
     ghost waits: { stage ≡ Stage.Fresh → Plans (F.net net.now) actors.items agenda },
     ghost starters: { stage ≡ Stage.Running → AreStarters (F.net net.now) moment agenda.starters.items },

@@ -7,6 +7,8 @@ use Rattle.firing.specs.declared.sums.Port.{Port}
 use Rattle.firing.specs.declared.sums.Port.TheVariants.{Made, Taken}
 use Rattle.firing.specs.inside.Cuts.{AreCuts}
 use Rattle.firing.specs.Wiring.{actor_at}
+use Rattle.selftimed.specs.declared.engine.Stage.{Stage}
+use Rattle.selftimed.specs.declared.engine.Stage.TheVariants.{OutOfMemory}
 use Rattle.selftimed.specs.declared.ports.ChannelRows.{ChannelRows}
 use Rattle.selftimed.specs.declared.ports.Ports.{Ports}
 
@@ -80,3 +82,7 @@ pub record ArePortsBelow (net : Net) (p : Ports) (n : ℕ) : Type 0 where
 -- those of each actor
 abbrev pub ArePorts : Net → Ports → Type 0
 ArePorts net p = ArePortsBelow net p (length net.times)
+
+-- they are those of each actor, unless memory ran out in a step
+pub record StillPorts (stage : Stage) (net : Net) (p : Ports) : Type 0 where
+  pub here : stage ≢ OutOfMemory → ArePorts net p

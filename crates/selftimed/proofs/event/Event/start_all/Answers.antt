@@ -13,9 +13,9 @@ use Rattle.selftimed.proofs.event.Event.start_all.Goals as goal
 
 pub invariant_of-turn : goal.invariant_of-turn
 invariant_of-turn g c =
-    let inv : StartsSoFar (g.F.Firing.net c.args.self.now.net.now) c.args.self.now.moment c.args.actors.now c.loop-actor.actors c.loop-actor.tokens c.loop-actor.all c.args.self.now.most (heap_items c.loop-actor.agenda.ends) (c.pop.new.self.items ++ c.in-Some.actor ∷ []) =
-    subst (StartsSoFar (g.F.Firing.net c.args.self.now.net.now) c.args.self.now.moment c.args.actors.now c.loop-actor.actors c.loop-actor.tokens c.loop-actor.all c.args.self.now.most (heap_items c.loop-actor.agenda.ends)) c.in-Some.ensures.items c.loop-actor.invariant.so_far in
-    let inside : c.in-Some.actor < length (g.F.Firing.net c.args.self.now.net.now).times = actor (g.F.Firing.net c.args.self.now.net.now) c.args.self.now.moment c.args.actors.now c.loop-actor.actors c.loop-actor.tokens c.loop-actor.all c.args.self.now.most c.in-Some.actor (heap_items c.loop-actor.agenda.ends) c.pop.new.self.items c.args.self.now.few inv in record {
+    let inv : StartsSoFar (g.F.Firing.net c.args.self.now.net.now) c.args.self.now.moment c.args.actors.now c.loop-actor.actors c.loop-actor.tokens c.loop-actor.all c.args.self.now.most c.loop-actor.agenda.ends (c.pop.new.self.items ++ c.in-Some.actor ∷ []) =
+    subst (StartsSoFar (g.F.Firing.net c.args.self.now.net.now) c.args.self.now.moment c.args.actors.now c.loop-actor.actors c.loop-actor.tokens c.loop-actor.all c.args.self.now.most c.loop-actor.agenda.ends) c.in-Some.ensures.items c.loop-actor.invariant.so_far in
+    let inside : c.in-Some.actor < length (g.F.Firing.net c.args.self.now.net.now).times = actor (g.F.Firing.net c.args.self.now.net.now) c.args.self.now.moment c.args.actors.now c.loop-actor.actors c.loop-actor.tokens c.loop-actor.all c.args.self.now.most c.in-Some.actor c.loop-actor.agenda.ends c.pop.new.self.items c.args.self.now.few inv in record {
       is_actor = inside;
       rated = c.args.self.now.rated;
       owned = may-read (g.F.Firing.net c.args.self.now.net.now) c.args.self.now.ports.now c.args.self.now.ported c.in-Some.actor inside c.index.result.now c.index.ensures;
