@@ -1,6 +1,8 @@
 -- Rows of channels, made actor by actor.
-use Rattle.std.proofs.Common.{◌≡◌, ℕ, ◌+◌, ◌-◌, ◌≤◌, ◌<◌, List, [], ◌∷◌, ◌++◌, Option, None, length, take, drop, ⊎_elim, subst, sym, refl, ap, ◌∙◌, arith, eq-eqb}
+use Rattle.std.proofs.Common.{◌≡◌, ◌≢◌, ℕ, ◌+◌, ◌-◌, ◌≤◌, ◌<◌, List, [], ◌∷◌, ◌++◌, Option, None, length, take, drop, ⊎_elim, subst, sym, refl, ap, ◌∙◌, arith, eq-eqb}
 use Rattle.std.specs.Prelude.{slice_index, slice_index_or, slice_range, ◌==◌}
+use Rattle.std.proofs.Props.{props}
+use Rattle.std.proofs.Math.Logic.{∥∥₁_elim}
 use Rattle.std.proofs.lemmas.Bool.{cases_lt}
 use Rattle.std.proofs.lemmas.List.{get_or_default, get_or_append_left, get_or_push, length_push, length-append, length-drop, take-append-le, drop-append-le, drop_at, take_all}
 use Rattle.std.proofs.lemmas.List.Folds.{list_any_at}
@@ -10,9 +12,11 @@ use Rattle.firing.specs.declared.sums.Port.TheVariants.{Made, Taken}
 use Rattle.firing.specs.inside.Cuts.{AreCuts}
 use Rattle.firing.specs.Wiring.{actor_at, IsListed}
 use Rattle.firing.proofs.Listings.{place_of}
+use Rattle.selftimed.specs.declared.engine.Stage.{Stage}
+use Rattle.selftimed.specs.declared.engine.Stage.TheVariants.{Fresh, Running, OutOfMemory}
 use Rattle.selftimed.specs.declared.ports.ChannelRows.{ChannelRows}
 use Rattle.selftimed.specs.declared.ports.Ports.{Ports}
-use Rattle.selftimed.specs.inside.Ports.{IsOther, MayOwn, IsRising, IsListedBut, AreOthers, AreNone, Adds, row_at, own_at, AreRows, ArePortsBelow, ArePorts}
+use Rattle.selftimed.specs.inside.Ports.{IsOther, MayOwn, IsRising, IsListedBut, AreOthers, AreNone, Adds, row_at, own_at, AreRows, ArePortsBelow, ArePorts, StillPorts}
 
 -- ---- the channels of a row but for the own one
 
@@ -210,3 +214,12 @@ module _ (net : Net) (p : Ports) (are : ArePorts net p) (a : ℕ) (actor : a < l
 
   pub out-place : a + 1 < length p.outputs.starts.items
   out-place = omega (arith, are.outputs.long)
+
+still-here : (stage : Stage) (net : Net) (p : Ports) → StillPorts stage net p → stage ≢ OutOfMemory → ArePorts net p
+still-here stage net p still stays = ∥∥₁_elim (still.here stays) (hlevel props) (λ are. are)
+
+pub fresh-ports : (stage : Stage) (net : Net) (p : Ports) → StillPorts stage net p → stage ≡ Fresh → ArePorts net p
+fresh-ports stage net p still fresh = still-here stage net p still (λ lost. absurd (let clash : Fresh ≡ OutOfMemory = sym fresh ∙ lost in cc))
+
+pub running-ports : (stage : Stage) (net : Net) (p : Ports) → StillPorts stage net p → stage ≡ Running → ArePorts net p
+running-ports stage net p still running = still-here stage net p still (λ lost. absurd (let clash : Running ≡ OutOfMemory = sym running ∙ lost in cc))

@@ -85,4 +85,4 @@ ArePorts net p = ArePortsBelow net p (length net.times)
 
 -- they are those of each actor, unless memory ran out in a step
 pub record StillPorts (stage : Stage) (net : Net) (p : Ports) : Type 0 where
-  pub here : stage ≢ OutOfMemory → ArePorts net p
+  pub here : stage ≢ OutOfMemory → ∥ ArePorts net p ∥₁

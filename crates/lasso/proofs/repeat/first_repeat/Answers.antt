@@ -60,6 +60,12 @@ add_starts-requires-clause-fewer g c =
 pub meets-requires-clause-inputs : goal.meets-requires-clause-inputs
 meets-requires-clause-inputs g c = rw (c.go_on-in-events.ensures.net, c.events.invariant.net) c.requires.inputs
 
+pub meets-requires-clause-event : goal.meets-requires-clause-event
+meets-requires-clause-event g c =
+    let goes = rw c.events.invariant.net at (rw c.if-not-branch-2.false at c.in_ok-go_on-2.ensures.goes) in
+    let event = next-visit (g.F.Firing.net c.args.lead.now.net.now) (g.met.F.Firing.lawful c.args.lead.now.net.now) c.requires.inputs c.events._event c.events.lead.stage c.events.lead.moment c.go_on-in-events.new.engine.moment c.events.invariant.stands goes.1 in
+    rw (c.go_on-in-events.ensures.net, c.events.invariant.net) event.0
+
 pub meets-requires-clause-follows : goal.meets-requires-clause-follows
 meets-requires-clause-follows g c =
     let goes = rw c.events.invariant.net at (rw c.if-not-branch-2.false at c.in_ok-go_on-2.ensures.goes) in

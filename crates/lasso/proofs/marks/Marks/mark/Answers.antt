@@ -1,4 +1,6 @@
-use Rattle.std.proofs.Common.{◌+◌}
+use Rattle.std.proofs.Common.{◌+◌, arith}
+use Rattle.std.proofs.lemmas.List.Elements.{All-push}
+use Rattle.lasso.specs.inside.Marking.{IsMark}
 use Rattle.lasso.proofs.Marked.{drop-marks, lower-marks}
 use Rattle.lasso.proofs.marks.Marks.mark.Goals as goal
 
@@ -9,3 +11,13 @@ room-init g c =
 pub room-preserved : goal.room-preserved
 room-preserved g c =
     rw c.lower.ensures.marks (lower-marks (g.F.Firing.net c.args.engine.now.net.now) c.room.self.limit c.lower.new.self.limit (c.args.engine.now.moment + 1) c.room.self.marks.items c.room.invariant)
+
+pub returns-in_ok-push : goal.returns-in_ok-push
+returns-in_ok-push g c =
+    rw c.in_ok-push.ensures.items (All-push (IsMark (g.F.Firing.net c.args.engine.now.net.now) c.room.self.limit (c.args.engine.now.moment + 1)) c.room.self.marks.items _ c.room.invariant (record {
+      event = rw c.moment.ensures c.requires.event;
+      print = rw c.moment.ensures c.print-print.ensures;
+      low = c.if-print-self.true;
+      before = omega (arith, c.moment.ensures);
+      none = λ u is after until. absurd (omega (arith, c.moment.ensures));
+    }))

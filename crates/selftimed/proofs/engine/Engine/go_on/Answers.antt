@@ -1,6 +1,10 @@
 use Rattle.selftimed.proofs.Agendas.{quiet-from, first-from}
 use Rattle.selftimed.proofs.Advancing.{moved-stuck, moved-spent, moved-step}
+use Rattle.selftimed.proofs.PortRows.{running-ports}
 use Rattle.selftimed.proofs.engine.Engine.go_on.Goals as goal
+
+pub invariant_of-event-clause-ported : goal.invariant_of-event-clause-ported
+invariant_of-event-clause-ported g c = running-ports c.args.self.now.stage (g.F.Firing.net c.args.self.now.net.now) c.args.self.now.ports c.args.self.now.ported c.requires
 
 pub returns-in_default-clause-moved : goal.returns-in_default-clause-moved
 returns-in_default-clause-moved g c = moved-stuck (g.F.Firing.net c.args.self.now.net.now) (g.met.F.Firing.lawful c.args.self.now.net.now) c.args.self.now.moment c.args.self.now.most c.args.self.now.actors.items c.args.self.now.tokens c.args.self.now.all
