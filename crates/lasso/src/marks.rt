@@ -23,10 +23,12 @@ const MARKS: usize = 32;
 /// How many times the expected distance of marks may pass without a print up to the limit, before the limit rises.
 const PATIENCE: u64 = 4;
 
-/// An event of which later ones may have the shape: the print of its tokens, its moment, and the starts up to and with it.
+/// An event of which later ones may have the shape: the prints of its tokens and of its running firings, its moment, and the
+/// starts up to and with it.
 #[derive(Clone, Copy, Debug)]
 pub(crate) struct Mark {
     pub(crate) print: u64,
+    pub(crate) running_print: u64,
     pub(crate) moment: u64,
     pub(crate) starts: u64,
 }
@@ -58,7 +60,7 @@ impl Marks {
 
     /// Looks for a mark of the shape at which an engine stands, and makes this event a mark if none is found and its print is
     /// up to the limit. A round has `round` starts. Cost: constant where the print is above the limit; else a step for each
-    /// mark, and what `comes_again` costs for one with this print.
+    /// mark and each actor, and what `comes_again` costs for a mark with both prints.
     pub(crate) fn meet<F: Firing>(
         &mut self,
         engine: &Engine<F>,
@@ -116,6 +118,7 @@ impl Marks {
                 later: engine.moment(),
             };
             if mark.print == print
+                && mark.running_print == engine.running_print()
                 && let Some(rounds) = rounds_of(starts.saturating_sub(mark.starts), round)
                 && comes_again(engine.net, trace, pair, rounds)
             {
@@ -141,6 +144,7 @@ impl Marks {
         if print <= self.limit {
             self.marks.push(Mark {
                 print,
+                running_print: engine.running_print(),
                 moment: engine.moment(),
                 starts: engine.starts(),
             })?;
