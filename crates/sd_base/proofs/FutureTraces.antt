@@ -1,5 +1,5 @@
 -- Connection and equal shapes on small nets.
-use Rattle.std.proofs.Common.{◌≡◌, ℕ, zero, suc, List, [], ◌∷◌, inl, inr, refl, subst, sym, ap, ◌∙◌, arith}
+use Rattle.std.proofs.Common.{◌≡◌, ℕ, zero, suc, List, [], ◌∷◌, inl, inr, refl, subst, sym, ap, arith}
 use Rattle.std.proofs.lemmas.Option.{same_Some, none-some}
 use Rattle.sd_base.specs.declared.role.Role.TheVariants.{Token}
 use Rattle.sd_base.specs.Net.{Channel, Net, total}

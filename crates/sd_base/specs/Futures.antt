@@ -1,7 +1,7 @@
 -- What follows when the shape of self-timed execution comes again.
-use Rattle.std.specs.Prelude.{◌≡◌, ℕ, ◌+◌, ◌*◌, ◌≤◌, ◌<◌, ◌⊎◌, ◌↔◌, List, [], ◌∷◌, length, slice_index}
+use Rattle.std.specs.Prelude.{◌≡◌, ℕ, ◌+◌, ◌*◌, ◌≤◌, ◌<◌, ◌↔◌, List, slice_index}
 use Rattle.std.specs.Int.{IsGcd}
-use Rattle.sd_base.specs.Net.{Net, channel_at}
+use Rattle.sd_base.specs.Net.{Net}
 use Rattle.sd_base.specs.Schedules.{HasInputs, count_of, start_of, end_of}
 use Rattle.sd_base.specs.SelfTimed.{earliest, IsEvent, shape_at}
 use Rattle.sd_base.specs.Lawful.{Lawful}

@@ -12,3 +12,4 @@ pub mod FileNet
 pub mod Scenarios
 pub mod Counter
 pub mod Limits
+pub mod inside

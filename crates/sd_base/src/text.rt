@@ -2,57 +2,79 @@ ghost use Rattle.std.specs.Prelude.{◌≡◌, ◌↔◌, IfOk, IsTrue, length};
 ghost use Rattle.std.specs.String.{string_bytes};
 ghost use Rattle.std.specs.Str.{IsUtf8};
 
+use arrayvec::ArrayString;
 use std::alloc::{AllocError, Global};
 use std::marker::Model;
 
-/// A text in a table, as a name; contracts see its UTF-8 bytes.
+/// So many bytes stand in a text itself.
+const SHORT: usize = 16;
+
+/// A text in a table, as a name; contracts see its UTF-8 bytes. A short one takes no memory besides.
 #[derive(Debug, Drop)]
 pub struct Text {
-    text: String,
+    form: Form,
+}
+
+/// Where the bytes of a text stand.
+#[derive(Debug, Drop)]
+enum Form {
+    Short(ArrayString<SHORT>),
+    Long(String),
 }
 
 impl Model for Text {
     ghost use Rattle.std.specs.Prelude.{List, ℕ};
-    ghost use Rattle.std.specs.String.{string_bytes};
+    ghost use Rattle.sd_base.specs.inside.Texts.{bytes_of};
 
     ghost Value = { List ℕ };
 
-    ghost view = { λ t. string_bytes t.text };
+    ghost view = { λ t. bytes_of t.form };
 }
 
 impl Text {
+    /// Takes a text as it is, without memory.
     pub fn new(text: String) -> Text
         ensures { result ≡ string_bytes text }
     {
-        Text { text }
+        Text {
+            form: Form::Long(text),
+        }
     }
 
     /// A text of the same bytes. Cost: linear in them.
     pub fn of(alloc: Global, text: &str) -> Result<Text, AllocError>
         ensures { IfOk result (λ t. t ≡ text.now) }
     {
-        Ok(Text {
-            text: String::from_str(alloc, text)?,
-        })
+        let form = if text.len() <= SHORT {
+            let mut short = ArrayString::new();
+            short.push_str(text);
+            Form::Short(short)
+        } else {
+            Form::Long(String::from_str(alloc, text)?)
+        };
+        Ok(Text { form })
     }
 
     pub fn as_str(&self) -> &str
         ensures { result.now ≡ self.now }
     {
-        self.text.as_str()
+        match &self.form {
+            Form::Short(text) => text.as_str(),
+            Form::Long(text) => text.as_str(),
+        }
     }
 
     /// The same text again. Cost: linear in its bytes.
     pub fn copy(&self, alloc: Global) -> Result<Text, AllocError>
         ensures { IfOk result (λ t. t ≡ self.now) }
     {
-        Text::of(alloc, self.text.as_str())
+        Text::of(alloc, self.as_str())
     }
 
     /// Whether both are the same bytes.
     pub fn is_same(&self, other: &Text) -> bool
         ensures { IsTrue result ↔ (self.now ≡ other.now) }
     {
-        self.text.as_str() == other.text.as_str()
+        self.as_str() == other.as_str()
     }
 }
