@@ -66,7 +66,7 @@ fn steps_forward<F: Firing>(
         (λ i. (met_at met.now (i + 1)).channel) from (length met.now - 1 - from)) }
 {
     let passes = met[met.len() - 1].passes;
-    let mut steps = Vec::new(alloc);
+    let mut steps = Vec::with_capacity(alloc, met.len().saturating_sub(from))?;
     for i in (from..met.len() - 1).rev() {
         steps.push(CycleStep {
             channel: met[i + 1].channel,

@@ -13,7 +13,7 @@ pub(crate) fn offsets(alloc: Global, table: &LoopTable) -> Result<Vec<usize>, No
     requires { IsShort table.now }
     ensures { IfOk result (λ v. AreOffsets table.now.starts v.items) }
 {
-    let mut offsets = Vec::new(alloc);
+    let mut offsets = Vec::with_capacity(alloc, table.starts.len().saturating_add(1))?;
     let mut sum = 0;
     for row in table.starts.as_slice() {
         offsets.push(sum)?;
@@ -35,10 +35,7 @@ pub(crate) fn places_of(table: &LoopTable, offsets: &[usize]) -> usize
 pub(crate) fn no_marks(alloc: Global, count: usize) -> Result<Vec<Option<usize>>, NoMemory>
     ensures { IfOk result (λ v. v.items ≡ replicate count None) }
 {
-    let mut marks = Vec::new(alloc);
-    for _place in 0..count {
-        marks.push(None)?;
-    }
+    let marks = vec![in alloc; None; count]?;
     Ok(marks)
 }
 

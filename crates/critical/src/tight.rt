@@ -1,8 +1,8 @@
 //! Tight needs: needs that end just when the firing that has them starts.
-ghost use Rattle.std.specs.Prelude.{◌≡◌, ◌↔◌, ◌+◌, ◌*◌, ◌<◌, ◌≤◌, IfSome, IsTrue, MatchOption, length};
+ghost use Rattle.std.specs.Prelude.{◌≡◌, ◌↔◌, ◌+◌, ◌*◌, ◌^◌, ◌<◌, ◌≤◌, IfSome, IsTrue, MatchOption, length};
 ghost use Rattle.sd_base.specs.declared.limits.TheConstants.{STARTS};
 ghost use Rattle.sd_base.specs.Net.{channel_at};
-ghost use Rattle.sd_base.specs.Schedules.{count_of, time_of, LastNeed, HasInputs};
+ghost use Rattle.sd_base.specs.Schedules.{count_of, time_of, IsNeed, LastNeed, HasInputs};
 ghost use Rattle.sd_base.specs.SelfTimed.{starts_by};
 ghost use Rattle.sd_base.specs.Rates.{IsLoopTable};
 ghost use Rattle.critical.specs.CriticalCycles.{InSecondPass, HasTightNeed};
@@ -12,7 +12,7 @@ ghost use Rattle.critical.specs.inside.Trails.{IsShort, IsShortLoop, IsSecond, I
 
 use crate::cycle::{FiringNo, time_at};
 use crate::pass::{listed, pass_of, passes_on};
-use firing::{Firing, LoopTable, know_laws, need};
+use firing::{Firing, LoopTable, Port, know_laws, need, port_phases};
 
 /// A firing that another one needs on a channel, as the firing of the second pass that lies `passes` passes later.
 #[derive(Clone, Copy)]
@@ -57,7 +57,7 @@ fn tight_on<F: Firing>(
     ensures need { MatchOption result (IsSlackOn (F.net net.now) table.now later channel) (IsTightNeed (F.net net.now) table.now later) }
     ensures channel { IfSome result (λ n. n.channel ≡ channel) }
 {
-    let firings = need(net, channel, later.number);
+    let firings = need_of(net, channel, later.number);
     if firings == 0 {
         return None;
     }
@@ -67,6 +67,37 @@ fn tight_on<F: Firing>(
     } else {
         None
     }
+}
+
+/// What `need` answers. Cost: one division of narrow numbers where both ends of the channel have one phase, else that of
+/// `need`.
+fn need_of<F: Firing>(net: &F, channel: u32, firing: u64) -> u64
+    requires channel { channel < length (F.net net.now).channels }
+    requires few { firing ≤ 2 ^ 40 }
+    ensures { IsNeed (channel_at (F.net net.now) channel) firing result }
+{
+    if port_phases(net, channel, Port::Made) == 1 && port_phases(net, channel, Port::Taken) == 1 {
+        single_need(net, channel, firing)
+    } else {
+        need(net, channel, firing)
+    }
+}
+
+/// The same where both ends of the channel have one phase.
+fn single_need<F: Firing>(net: &F, channel: u32, firing: u64) -> u64
+    requires channel { channel < length (F.net net.now).channels }
+    requires few { firing ≤ 2 ^ 40 }
+    requires made { length (channel_at (F.net net.now) channel).made ≡ 1 }
+    requires taken { length (channel_at (F.net net.now) channel).taken ≡ 1 }
+    ensures { IsNeed (channel_at (F.net net.now) channel) firing result }
+{
+    know_laws(net);
+    let taken = (firing + 1) * net.taken(channel, 0);
+    let tokens = net.tokens(channel);
+    if taken <= tokens {
+        return 0;
+    }
+    (taken - tokens).div_ceil(net.made(channel, 0))
 }
 
 /// The last need of a firing of the second pass on a channel, read in the second pass.
