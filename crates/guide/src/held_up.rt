@@ -1,6 +1,6 @@
 //! The channels that counts show which block a bounded net.
 ghost use Rattle.std.specs.Prelude.{◌≡◌, ◌↔◌, ◌+◌, ◌-◌, ◌*◌, ◌≤◌, ◌<◌, ℕ, None, IfOk, IsTrue, MatchOption, length, slice_index};
-ghost use Rattle.sd_base.specs.Net.{channel_at};
+ghost use Rattle.sd_base.specs.Net.{channel_at, total};
 ghost use Rattle.sd_base.specs.Schedules.{Needs};
 ghost use Rattle.sd_base.specs.Untimed.{CanFire, NamesLacks};
 ghost use Rattle.critical.specs.Spaces.{Has, IsRising};
@@ -103,5 +103,18 @@ fn lacks_space<F: Firing>(net: &F, counts: &[u64], channel: u32, room: u64) -> b
     let made = counts[net.source(channel) as usize];
     let taken = counts[net.target(channel) as usize];
     let free = u128::from(room.saturating_sub(net.tokens(channel)));
-    free + moved_by(net, channel, Port::Taken, taken) < made_sum(net, channel, u128::from(made) + 1)
+    free + moved_by(net, channel, Port::Taken, taken) < made_with_next(net, channel, made)
+}
+
+/// The tokens that the first firings of the source make on a channel, so many of them and one more. Cost: that of
+/// `moved_by`.
+fn made_with_next<F: Firing>(net: &F, channel: u32, firings: u64) -> u128
+    requires { channel < length (F.net net.now).channels }
+    ensures { result ≡ total (channel_at (F.net net.now) channel).made (firings + 1) }
+{
+    if firings < u64::MAX {
+        moved_by(net, channel, Port::Made, firings + 1)
+    } else {
+        made_sum(net, channel, u128::from(firings) + 1)
+    }
 }
