@@ -1,21 +1,26 @@
-//! Whether the prints of an execution tell all its shapes apart.
-ghost use Rattle.std.specs.Prelude.{◌≡◌, ◌≢◌, ℕ, ◌+◌, ◌<◌, IsTrue, length, slice_index};
-ghost use Rattle.lasso.specs.inside.Printing.{AllDiffer};
+//! Whether the print of an event is a new one.
+ghost use Rattle.std.specs.Prelude.{◌≡◌, IsTrue};
+ghost use Rattle.sd_base.specs.SelfTimed.{shape_at};
+ghost use Rattle.selftimed.specs.declared.engine.Stage.TheVariants.{Running};
+ghost use Rattle.lasso.specs.inside.Printing.{IsNew, upper_print};
 
-/// Whether some prints are all different. Cost: that of sorting them.
-pub(crate) fn all_differ(mut prints: Vec<u64>) -> bool
-    ensures { IsTrue result → AllDiffer prints.items }
+use firing::Firing;
+use selftimed::Engine;
+
+/// The upper half of the print of the tokens that stand after the last event: equal shapes have equal ones.
+pub(crate) fn upper_half<F: Firing>(engine: &Engine<F>) -> u32
+    requires running { engine.now.stage ≡ Running }
+    ensures { result ≡ upper_print (shape_at (F.net engine.now.net.now) engine.now.moment) }
 {
-    prints.sort_unstable();
-    neighbours_differ(prints.as_slice())
+    (engine.print() >> 32) as u32
 }
 
-/// Whether no two neighbours are equal.
-fn neighbours_differ(prints: &[u64]) -> bool
-    ensures { IsTrue result → (i : ℕ) → i + 1 < length prints.now → slice_index prints.now i ≢ slice_index prints.now (i + 1) }
+/// Whether a print is none of some. Cost: linear in these.
+pub(crate) fn is_new(print: u32, prints: &[u32]) -> bool
+    ensures { IsTrue result → IsNew print prints.now }
 {
-    for place in 1..prints.len() {
-        if prints[place - 1] == prints[place] {
+    for place in 0..prints.len() {
+        if prints[place] == print {
             return false;
         }
     }

@@ -28,8 +28,8 @@ use std::alloc::Global;
 /// shape that came before, at most three times as long as one up to the first repeat, and half as long again as this one where
 /// the loop is entered soon and is a round long. The entry is then found among the starts.
 /// Where it has more than `STARTS` of them, two more side by side, up to the first repeat and up to the entry. Where a
-/// refusal comes, an execution up to the last shape that is allowed if the prints of all shapes differ, and else up to twice
-/// its moment, of at most `STARTS` starts more.
+/// refusal comes, an execution up to the last shape that is allowed if the print of its tokens is a new one, and else up to
+/// twice its moment, of at most `STARTS` starts more.
 /// Memory: three shapes, and at most `STARTS` starts and as many events, with a print each.
 pub fn run_loop<F: Firing, L: Ledger>(
     alloc: Global,

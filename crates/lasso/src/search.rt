@@ -13,7 +13,7 @@ ghost use Rattle.lasso.specs.inside.Searching.{IsPair, IsCheckpoint, IsLast, Non
 
 use crate::error::RunError;
 use crate::marks::Marks;
-use crate::prints::all_differ;
+use crate::prints::{is_new, upper_half};
 use crate::steps::go_on;
 use crate::trace::Trace;
 use firing::Firing;
@@ -21,7 +21,6 @@ use sd_base::NoMemory;
 use sd_base::limits::STARTS;
 use selftimed::{Engine, Shape};
 use std::alloc::Global;
-use std::mem::replace;
 
 /// How many starts the search makes at most. If a shape comes again within `STARTS` starts, the last
 /// checkpoint stands within twice as many, and comes again within as many more.
@@ -47,9 +46,9 @@ pub(crate) struct Checkpoint {
 /// Finds a shape and the first one after it that is equal, and leaves the events and starts on the way in a trace. Each later
 /// shape is looked for among those at the marks, and compared with that of a checkpoint, which finds what the marks miss. The
 /// first shape is the first checkpoint. A later one becomes the checkpoint when the starts up to it are more than twice those up
-/// to the one before, and that one has stood for some time (`least_stay`). Where none comes again, different prints of the
-/// tokens show that all shapes differ; if two prints are equal, the last shape that is allowed becomes the checkpoint: if a
-/// shape up to there comes again, then it does.
+/// to the one before, and that one has stood for some time (`least_stay`). Where none is found again, the last shape that is
+/// allowed tells: if a shape up to there came again, then this one came before. So a new print of its tokens shows that all
+/// shapes differ; else it becomes the checkpoint, which comes again if a shape up to there does.
 pub(crate) fn find_pair<F: Firing>(
     alloc: Global,
     engine: &mut Engine<F>,
@@ -62,18 +61,17 @@ pub(crate) fn find_pair<F: Firing>(
     requires most { engine.old.most ≡ 4 * STARTS }
     requires some { 1 ≤ states }
     requires no_events { trace.old.moments.items ≡ [] }
-    requires no_prints { trace.old.prints.items ≡ [] }
     requires no_starts { trace.old.starts.items ≡ replicate (length (F.net engine.old.net.now).times) [] }
     ensures net { engine.new.net ≡ engine.old.net }
     ensures found { IfOk result (IsPair (F.net engine.old.net.now)) }
     ensures traced { IfOk result (λ pair. AreAllowed (F.net engine.old.net.now) states trace.new.moments.items trace.new.starts.items) }
     ensures refused { IfErr result (IsRunRefusal (F.net engine.old.net.now) states) }
 {
-    if let Some(pair) = search_allowed(alloc, engine, trace, states)? {
+    let mut prints = Vec::new(alloc);
+    if let Some(pair) = search_allowed(alloc, engine, trace, &mut prints, states)? {
         return Ok(pair);
     }
-    let prints = replace(&mut trace.prints, Vec::new(alloc));
-    if all_differ(prints) {
+    if is_new(upper_half(engine), prints.as_slice()) {
         return Err(refusal_at(engine.starts()));
     }
     let last = checkpoint_of(alloc, engine)?;
@@ -96,11 +94,13 @@ fn refusal_at(starts: u64) -> RunError
 }
 
 /// Compares each of the first `states` shapes with those at the marks and the checkpoint, up to the first one with more than
-/// `STARTS` starts, and adds their events to a trace. None: no marked shape and no checkpoint was found again.
+/// `STARTS` starts, and adds their events to a trace and the prints of all but the last one to others. None: no marked shape
+/// and no checkpoint was found again.
 fn search_allowed<F: Firing>(
     alloc: Global,
     engine: &mut Engine<F>,
     trace: &mut Trace,
+    prints: &mut Vec<u32>,
     states: u64,
 ) -> Result<Option<Pair>, RunError>
     requires live { IsLive (F.net engine.old.net.now) }
@@ -109,12 +109,12 @@ fn search_allowed<F: Firing>(
     requires most { engine.old.most ≡ 4 * STARTS }
     requires some { 1 ≤ states }
     requires no_events { trace.old.moments.items ≡ [] }
-    requires no_prints { trace.old.prints.items ≡ [] }
+    requires no_prints { prints.old.items ≡ [] }
     requires no_starts { trace.old.starts.items ≡ replicate (length (F.net engine.old.net.now).times) [] }
     ensures net { engine.new.net ≡ engine.old.net }
     ensures most { engine.new.most ≡ engine.old.most }
     ensures traced { IfOk result (λ o. AreAllowed (F.net engine.old.net.now) states trace.new.moments.items trace.new.starts.items) }
-    ensures prints { IfOk result (λ o. MatchOption o (ArePrints (F.net engine.old.net.now) (engine.new.moment + 1) trace.new.moments.items trace.new.prints.items) (λ pair. Unit {0})) }
+    ensures prints { IfOk result (λ o. MatchOption o (ArePrints (F.net engine.old.net.now) engine.new.moment prints.new.items) (λ pair. Unit {0})) }
     ensures found { IfOk result (λ o. MatchOption o ((engine.new.stage ≡ Running) × IsLast (F.net engine.old.net.now) states engine.new.moment) (IsPair (F.net engine.old.net.now))) }
     ensures refused { IfErr result (IsRunRefusal (F.net engine.old.net.now) states) }
 {
@@ -130,6 +130,7 @@ fn search_allowed<F: Firing>(
         if engine.starts() > STARTS {
             return Ok(None);
         }
+        prints.push(upper_half(engine))?;
         if !go_on(engine)? {
             return Err(RunError::TooManyStarts);
         }

@@ -4,7 +4,6 @@ ghost use Rattle.sd_base.specs.declared.limits.TheConstants.{STARTS as MOST_STAR
 ghost use Rattle.sd_base.specs.Schedules.{HasInputs};
 ghost use Rattle.sd_base.specs.SelfTimed.{starts_by};
 ghost use Rattle.selftimed.specs.declared.engine.Stage.TheVariants.{Running};
-ghost use Rattle.lasso.specs.inside.Printing.{ArePrints};
 ghost use Rattle.lasso.specs.inside.Tracing.{IsLastOf, IsTrace, IsTraceBefore};
 
 use crate::collect::{add_starts, empty_rows};
@@ -14,24 +13,20 @@ use sd_base::{NoMemory, Rows};
 use selftimed::Engine;
 use std::alloc::Global;
 
-/// The events of an execution up to one of them, ascending, with the prints of their tokens, and by actor the starts up to
-/// and with it.
+/// The events of an execution up to one of them, ascending, and by actor the starts up to and with it.
 #[derive(Drop)]
 pub(crate) struct Trace {
     pub(crate) moments: Vec<u64>,
-    pub(crate) prints: Vec<u64>,
     pub(crate) starts: Vec<Rows<u64>>,
 }
 
 impl Trace {
     pub(crate) fn new(alloc: Global, actors: u32) -> Result<Trace, NoMemory>
         ensures moments { IfOk result (λ trace. trace.moments.items ≡ []) }
-        ensures prints { IfOk result (λ trace. trace.prints.items ≡ []) }
         ensures starts { IfOk result (λ trace. trace.starts.items ≡ replicate actors []) }
     {
         Ok(Trace {
             moments: Vec::new(alloc),
-            prints: Vec::new(alloc),
             starts: empty_rows(alloc, actors)?,
         })
     }
@@ -42,8 +37,6 @@ impl Trace {
         requires inputs { HasInputs (F.net engine.now.net.now) }
         requires running { engine.now.stage ≡ Running }
         requires before { IsTraceBefore (F.net engine.now.net.now) engine.now.moment self.old.moments.items self.old.starts.items }
-        requires prints { ArePrints (F.net engine.now.net.now) engine.now.moment self.old.moments.items self.old.prints.items }
-        ensures prints { OnOk result (ArePrints (F.net engine.now.net.now) (engine.now.moment + 1) self.new.moments.items self.new.prints.items) }
         ensures few { OnOk result (starts_by (F.net engine.now.net.now) engine.now.moment ≤ MOST_STARTS →
             IsTrace (F.net engine.now.net.now) engine.now.moment self.new.moments.items self.new.starts.items) }
         ensures many { OnOk result (MOST_STARTS < starts_by (F.net engine.now.net.now) engine.now.moment →
@@ -51,7 +44,6 @@ impl Trace {
     {
         if engine.starts() <= STARTS {
             self.moments.push(engine.moment())?;
-            self.prints.push(engine.print())?;
             add_starts(engine, self.starts.as_mut_slice())?;
         }
         Ok(())

@@ -8,7 +8,7 @@ use Rattle.selftimed.specs.declared.engine.Stage.TheVariants.{Fresh, Running}
 use Rattle.lasso.specs.inside.Tracing.{IsTraceBefore}
 use Rattle.lasso.proofs.Traced.{none-allowed, allowed-next}
 use Rattle.lasso.proofs.Marked.{marks-on}
-use Rattle.lasso.proofs.Printed.{first-prints, prints-on}
+use Rattle.lasso.proofs.Printed.{first-prints, more-prints}
 use Rattle.lasso.proofs.search.search_allowed.Goals as goal
 
 pub returns-then-not-branch-clause-refused : goal.returns-then-not-branch-clause-refused
@@ -29,7 +29,7 @@ loop-event-init g c =
       checkpoint = rw c.go_on.ensures.net at c.in_ok-checkpoint.ensures.checkpoint;
       ahead = omega (arith, c.in_ok-checkpoint.ensures.moment);
       none = rw c.in_ok-checkpoint.ensures.moment (none-yet (g.F.Firing.net c.args.engine.now.net.now) c.go_on.new.engine.moment);
-      prints = rw c.go_on.ensures.net at c.in_ok-add.ensures.prints;
+      prints = first-prints (g.F.Firing.net c.args.engine.now.net.now) c.go_on.new.engine.moment c.args.prints.now.items goes.1;
       marks = rw c.go_on.ensures.net at c.in_ok-mark.ensures;
       trace = rw c.go_on.ensures.net at c.in_ok-add.ensures.few;
       allowed = allowed-next (g.F.Firing.net c.args.engine.now.net.now) c.args.states c.go_on.new.engine.moment c.args.trace.now.moments.items c.add.new.self.moments.items c.args.trace.now.starts.items c.add.new.self.starts.items
@@ -46,17 +46,6 @@ add-requires-clause-before g c =
     let goes = rw c.requires.fresh at (rw c.if-not-branch.false at c.in_ok-go_on.ensures.goes) in
     let before : IsTraceBefore (g.F.Firing.net c.args.engine.now.net.now) c.go_on.new.engine.moment c.args.trace.now.moments.items c.args.trace.now.starts.items = (Fresh, 0, (c.requires.no_events, c.requires.no_starts), goes.1) in
     rw c.go_on.ensures.net before
-
-pub add-requires-clause-prints : goal.add-requires-clause-prints
-add-requires-clause-prints g c =
-    let goes = rw c.requires.fresh at (rw c.if-not-branch.false at c.in_ok-go_on.ensures.goes) in
-    rw c.go_on.ensures.net (first-prints (g.F.Firing.net c.args.engine.now.net.now) c.go_on.new.engine.moment c.args.trace.now.moments.items c.args.trace.now.prints.items goes.1 c.requires.no_events c.requires.no_prints)
-
-pub add-requires-in-loop-event-clause-prints : goal.add-requires-in-loop-event-clause-prints
-add-requires-in-loop-event-clause-prints g c =
-    let goes = rw c.loop-event.invariant.running at (rw c.loop-event.invariant.net at (rw c.if-not-branch-2.false at c.in_ok-go_on-2.ensures.goes)) in
-    let next : IsNext (g.F.Firing.net c.args.engine.now.net.now) c.loop-event.engine.moment c.go_on-in-loop-event.new.engine.moment = goes.1 in
-    rw (c.go_on-in-loop-event.ensures.net, c.loop-event.invariant.net) (prints-on (g.F.Firing.net c.args.engine.now.net.now) c.loop-event.engine.moment c.go_on-in-loop-event.new.engine.moment c.loop-event.trace.moments.items c.loop-event.trace.prints.items next c.loop-event.invariant.prints)
 
 pub add-requires-in-loop-event-clause-inputs : goal.add-requires-in-loop-event-clause-inputs
 add-requires-in-loop-event-clause-inputs g c = rw (c.go_on-in-loop-event.ensures.net, c.loop-event.invariant.net) c.requires.inputs
@@ -107,7 +96,8 @@ loop-event-preserved g c =
       checkpoint = rw (c.go_on-in-loop-event.ensures.net, c.loop-event.invariant.net) at c.in_ok-renew.ensures.checkpoint;
       ahead = c.in_ok-renew.ensures.ahead;
       none = rw (c.go_on-in-loop-event.ensures.net, c.loop-event.invariant.net) at c.in_ok-renew.ensures.none;
-      prints = rw (c.go_on-in-loop-event.ensures.net, c.loop-event.invariant.net) at c.in_ok-add-2.ensures.prints;
+      prints = rw c.in_ok-push.ensures.items (more-prints (g.F.Firing.net c.args.engine.now.net.now) c.loop-event.engine.moment c.go_on-in-loop-event.new.engine.moment c.upper_half.result c.loop-event.prints.items
+          (rw c.loop-event.invariant.net at c.upper_half.ensures) next c.loop-event.invariant.prints);
       marks = rw (c.go_on-in-loop-event.ensures.net, c.loop-event.invariant.net) at (rw c.in_default.is at c.in_ok-pair.ensures);
       trace = rw (c.go_on-in-loop-event.ensures.net, c.loop-event.invariant.net) at c.in_ok-add-2.ensures.few;
       allowed = allowed-next (g.F.Firing.net c.args.engine.now.net.now) c.args.states c.go_on-in-loop-event.new.engine.moment c.loop-event.trace.moments.items c.add-in-loop-event.new.self.moments.items c.loop-event.trace.starts.items c.add-in-loop-event.new.self.starts.items

@@ -20,7 +20,7 @@ invariant-loop-event g l = record {
   ahead : l.checkpoint.moment ≤ l.engine.moment;
   trace : starts_by (g.F.Firing.net l.fn.engine.net.now) l.engine.moment ≤ STARTS → IsTrace (g.F.Firing.net l.fn.engine.net.now) l.engine.moment l.trace.moments.items l.trace.starts.items;
   allowed : AreAllowed (g.F.Firing.net l.fn.engine.net.now) l.states l.trace.moments.items l.trace.starts.items;
-  prints : ArePrints (g.F.Firing.net l.fn.engine.net.now) (l.engine.moment + 1) l.trace.moments.items l.trace.prints.items;
+  prints : ArePrints (g.F.Firing.net l.fn.engine.net.now) l.engine.moment l.prints.items;
   marks : AreMarks (g.F.Firing.net l.fn.engine.net.now) (l.engine.moment + 1) l.marks;
   none : NoneSince (g.F.Firing.net l.fn.engine.net.now) l.checkpoint.moment l.engine.moment;
 }

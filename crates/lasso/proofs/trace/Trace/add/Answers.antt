@@ -2,7 +2,6 @@ use Rattle.std.proofs.Common.{◌≡◌, length, drop, arith}
 use Rattle.std.proofs.lemmas.List.{take_at}
 use Rattle.lasso.specs.inside.Collecting.{AddsStarts}
 use Rattle.lasso.proofs.Traced.{before-counts, before-fewer, trace-next}
-use Rattle.lasso.proofs.Printed.{more-prints}
 use Rattle.lasso.proofs.trace.Trace.add.Goals as goal
 
 pub add_starts-requires-clause-fewer : goal.add_starts-requires-clause-fewer
@@ -20,7 +19,3 @@ returns-in_ok-add_starts-clause-few g c few =
     let back = take_at c.add_starts.new.starts (drop (length c.add_starts.new.starts) c.args.self.now.starts.items) c.args.self.now.starts.len size in
     rw back (trace-next (g.F.Firing.net c.args.engine.now.net.now) (g.met.F.Firing.lawful c.args.engine.now.net.now) c.requires.inputs c.args.engine.now.moment c.args.self.now.moments.items c.push.new.self.items c.args.self.now.starts.items c.add_starts.new.starts
     c.requires.before (rw c.moment.ensures at c.in_ok-push.ensures.items) adds)
-
-pub returns-in_ok-add_starts-clause-prints : goal.returns-in_ok-add_starts-clause-prints
-returns-in_ok-add_starts-clause-prints g c =
-    rw (c.in_ok-push.ensures.items, c.in_ok-push-2.ensures.items, c.moment.ensures) (more-prints (g.F.Firing.net c.args.engine.now.net.now) c.args.engine.now.moment c.print.result c.args.self.now.moments.items c.args.self.now.prints.items c.print.ensures c.requires.prints)
