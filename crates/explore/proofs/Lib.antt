@@ -3,6 +3,7 @@ pub mod Tasks
 pub mod Elements
 pub mod WaitingOrder
 pub mod Inserts
+pub mod Growing
 pub mod Stepping
 pub mod Spreading
 pub mod TakenOff

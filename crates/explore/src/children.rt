@@ -3,23 +3,25 @@ ghost use Rattle.sd_base.specs.declared.limits.TheConstants.{NET_TOKENS};
 ghost use Rattle.critical.specs.Spaces.{Has};
 ghost use Rattle.liveness.specs.RoundAnswers.{IsReached};
 ghost use Rattle.storage.specs.BoundedNets.{bound};
-ghost use Rattle.storage.specs.Distributions.{storage_of};
+ghost use Rattle.storage.specs.Distributions.{capacity_at, enlarged, storage_of};
 ghost use Rattle.explore.specs.Reachable.{stepped};
-ghost use Rattle.explore.specs.inside.Searches.{AreChildren, IsCandidate, IsChildAdded};
+ghost use Rattle.explore.specs.inside.Searches.{AreChildren, AreSteps, IsCandidate, IsChildAdded};
 
 use crate::waiting::Waiting;
 use firing::{Firing, know_laws};
 use guide::laws::counts_are_reached_with_more_room;
 use sd_base::{NoMemory, Rows};
 use std::alloc::Global;
-use storage::{Distribution, step};
+use storage::Distribution;
 
 /// The distributions within a limit that have a step more room than one on one of the channels, each with the counts, which
-/// are reached there too. Cost: linear in the channels times those given.
+/// are reached there too. Cost: linear in the channels times those that it has.
 pub(crate) fn children_of<F: Firing>(
     alloc: Global,
     net: &F,
+    channel_steps: &[u64],
     limit: u64,
+    total: u64,
     capacities: &Distribution,
     counts: &[u64],
     enlarge: &[u32],
@@ -28,6 +30,8 @@ pub(crate) fn children_of<F: Firing>(
     requires fits { IsCandidate (F.net net.now) limit capacities.now.capacities }
     requires reached { IsReached (bound (F.net net.now) capacities.now.capacities) counts.now }
     requires small { limit ≤ NET_TOKENS }
+    requires steps { AreSteps (F.net net.now) channel_steps.now }
+    requires total { total ≡ storage_of (F.net net.now).channels capacities.now.capacities }
     ensures { IfOk result (λ v. AreChildren (F.net net.now) limit capacities.now.capacities enlarge.now v.items) }
 {
     let mut children = Vec::with_capacity(alloc, enlarge.len())?;
@@ -35,7 +39,9 @@ pub(crate) fn children_of<F: Firing>(
         add_child(
             alloc,
             net,
+            channel_steps,
             limit,
+            total,
             capacities,
             counts,
             *channel,
@@ -49,7 +55,9 @@ pub(crate) fn children_of<F: Firing>(
 fn add_child<F: Firing>(
     alloc: Global,
     net: &F,
+    channel_steps: &[u64],
     limit: u64,
+    total: u64,
     capacities: &Distribution,
     counts: &[u64],
     channel: u32,
@@ -59,9 +67,20 @@ fn add_child<F: Firing>(
     requires fits { IsCandidate (F.net net.now) limit capacities.now.capacities }
     requires reached { IsReached (bound (F.net net.now) capacities.now.capacities) counts.now }
     requires small { limit ≤ NET_TOKENS }
+    requires steps { AreSteps (F.net net.now) channel_steps.now }
+    requires total { total ≡ storage_of (F.net net.now).channels capacities.now.capacities }
     ensures { OnOk result (IsChildAdded (F.net net.now) limit capacities.now.capacities channel children.old.items children.new.items) }
 {
-    match child(alloc, net, limit, capacities, counts, channel)? {
+    match child(
+        alloc,
+        net,
+        channel_steps,
+        limit,
+        total,
+        capacities,
+        counts,
+        channel,
+    )? {
         Some(child) => {
             children.push(child)?;
             Ok(())
@@ -74,7 +93,9 @@ fn add_child<F: Firing>(
 fn child<F: Firing>(
     alloc: Global,
     net: &F,
+    channel_steps: &[u64],
     limit: u64,
+    total: u64,
     capacities: &Distribution,
     counts: &[u64],
     channel: u32,
@@ -83,6 +104,8 @@ fn child<F: Firing>(
     requires fits { IsCandidate (F.net net.now) limit capacities.now.capacities }
     requires reached { IsReached (bound (F.net net.now) capacities.now.capacities) counts.now }
     requires small { limit ≤ NET_TOKENS }
+    requires steps { AreSteps (F.net net.now) channel_steps.now }
+    requires total { total ≡ storage_of (F.net net.now).channels capacities.now.capacities }
     ensures child { IfOk result (λ found. MatchOption found (limit < storage_of (F.net net.now).channels (stepped (F.net net.now) capacities.now.capacities channel))
         (λ w. w.capacities.capacities ≡ stepped (F.net net.now) capacities.now.capacities channel)) }
     ensures reached { IfOk result (λ found. MatchOption found (0 ≤ limit) (λ w. IsReached (bound (F.net net.now) w.capacities.capacities) w.counts)) }
@@ -90,13 +113,40 @@ fn child<F: Firing>(
 {
     know_laws(net);
     counts_are_reached_with_more_room();
-    let enlarged = capacities.enlarge(alloc, channel, step(net, channel))?;
-    match enlarged.total_within(net, limit) {
-        Some(total) => Ok(Some(Waiting {
-            total,
-            capacities: enlarged,
-            counts: Rows::from_vec(Vec::from_slice(alloc, counts)?),
-        })),
-        None => Ok(None),
+    let by = channel_steps[channel as usize];
+    let more = more_storage(net, capacities, channel, by);
+    if more > u128::from(limit - total) {
+        return Ok(None);
+    }
+    Ok(Some(Waiting {
+        total: total + more as u64,
+        capacities: capacities.enlarge(alloc, channel, by)?,
+        counts: Rows::from_vec(Vec::from_slice(alloc, counts)?),
+    }))
+}
+
+/// How much more storage a distribution needs with so much more room on a channel.
+fn more_storage<F: Firing>(net: &F, capacities: &Distribution, channel: u32, by: u64) -> u128
+    requires channel { channel < length (F.net net.now).channels }
+    requires many { length capacities.now.capacities ≤ length (F.net net.now).channels }
+    ensures { storage_of (F.net net.now).channels (enlarged capacities.now.capacities channel by)
+        ≡ storage_of (F.net net.now).channels capacities.now.capacities + result }
+{
+    match capacity_of(capacities, channel) {
+        Some(_room) => u128::from(by) * u128::from(net.size(channel)),
+        None => 0,
+    }
+}
+
+/// The capacity of a channel, if it is bounded.
+fn capacity_of(capacities: &Distribution, channel: u32) -> Option<u64>
+    ensures { result ≡ capacity_at capacities.now.capacities channel }
+{
+    let entries = capacities.capacities.as_slice();
+    let place = channel as usize;
+    if place < entries.len() {
+        entries[place]
+    } else {
+        None
     }
 }

@@ -15,7 +15,7 @@ ghost use Rattle.explore.specs.declared.level.Answered.{Answered as AnAnswered};
 ghost use Rattle.explore.specs.Explorations.{IsOneOf, IsRefusal, capacities_of, cycles_in};
 ghost use Rattle.explore.specs.Reachable.{IsExplorable, IsReachable};
 ghost use Rattle.explore.specs.inside.Levels.{least_loops, most_loops, sum_of};
-ghost use Rattle.explore.specs.inside.Searches.{AreKnown, IsAnswerOf, IsCandidate, IsMemberAdded, IsSearch, member_of, offers_at, turned};
+ghost use Rattle.explore.specs.inside.Searches.{AreKnown, AreSteps, IsAnswerOf, IsCandidate, IsMemberAdded, IsSearch, member_of, offers_at, turned};
 
 use crate::children::children_of;
 use crate::error::ExploreError;
@@ -36,6 +36,7 @@ use storage::Distribution;
 pub(crate) fn take_in_all<F: Firing>(
     alloc: Global,
     net: &F,
+    channel_steps: &[u64],
     limits: Limits,
     total: u64,
     answers: Vec<Answered>,
@@ -43,6 +44,7 @@ pub(crate) fn take_in_all<F: Firing>(
 ) -> Result<(), ExploreError>
     requires net { IsExplorable (F.net net.now) }
     requires small { limits.total ≤ STORAGE }
+    requires steps { AreSteps (F.net net.now) channel_steps.now }
     requires answers { (a : AnAnswered) → IsOneOf answers.items a → IsAnswerOf (F.net net.now) limits total a }
     requires search { IsSearch (F.net net.now) limits (total + 1) (capacities_of search.old.members.items ++ turned answers.items) search.old }
     ensures search { OnOk result (IsSearch (F.net net.now) limits (total + 1) (capacities_of search.new.members.items) search.new) }
@@ -53,7 +55,7 @@ pub(crate) fn take_in_all<F: Firing>(
 {
     let mut answers = answers;
     while let Some(answered) = answers.pop() {
-        take_answer(alloc, net, limits, total, answered, search)?;
+        take_answer(alloc, net, channel_steps, limits, total, answered, search)?;
     }
     Ok(())
 }
@@ -62,6 +64,7 @@ pub(crate) fn take_in_all<F: Firing>(
 fn take_answer<F: Firing>(
     alloc: Global,
     net: &F,
+    channel_steps: &[u64],
     limits: Limits,
     total: u64,
     answered: Answered,
@@ -69,6 +72,7 @@ fn take_answer<F: Firing>(
 ) -> Result<(), ExploreError>
     requires net { IsExplorable (F.net net.now) }
     requires small { limits.total ≤ STORAGE }
+    requires steps { AreSteps (F.net net.now) channel_steps.now }
     requires few { search.old.found ≤ limits.distributions }
     requires answer { IsAnswerOf (F.net net.now) limits total answered }
     requires fits { IsCandidate (F.net net.now) limits.total answered.capacities.capacities }
@@ -81,7 +85,16 @@ fn take_answer<F: Firing>(
     let Answered { capacities, answer } = answered;
     match answer {
         Ok(evaluation) => {
-            take_in(alloc, net, limits, total, capacities, evaluation, search)?;
+            take_in(
+                alloc,
+                net,
+                channel_steps,
+                limits,
+                total,
+                capacities,
+                evaluation,
+                search,
+            )?;
             Ok(())
         }
         Err(error) => Err(refusal(error, capacities)),
@@ -103,6 +116,7 @@ fn refusal(error: RunError, at: Distribution) -> ExploreError
 fn take_in<F: Firing>(
     alloc: Global,
     net: &F,
+    channel_steps: &[u64],
     limits: Limits,
     total: u64,
     capacities: Distribution,
@@ -111,6 +125,7 @@ fn take_in<F: Firing>(
 ) -> Result<(), ExploreError>
     requires net { IsExplorable (F.net net.now) }
     requires small { limits.total ≤ STORAGE }
+    requires steps { AreSteps (F.net net.now) channel_steps.now }
     requires few { search.old.found ≤ limits.distributions }
     requires evaluated { IsEvaluated (F.net net.now) capacities.capacities limits.states evaluation }
     requires total { storage_of (F.net net.now).channels capacities.capacities ≡ total }
@@ -126,7 +141,9 @@ fn take_in<F: Firing>(
     let children = children_of(
         alloc,
         net,
+        channel_steps,
         limits.total,
+        total,
         &capacities,
         counts.as_slice(),
         evaluation.enlarge.as_slice(),

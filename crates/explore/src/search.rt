@@ -5,7 +5,7 @@ ghost use Rattle.storage.specs.Distributions.{storage_of};
 ghost use Rattle.storage.specs.Steps.{IsCorner};
 ghost use Rattle.explore.specs.Explorations.{CountsFew, IsExploration, IsRefusal, cycles_in};
 ghost use Rattle.explore.specs.Reachable.{IsExplorable};
-ghost use Rattle.explore.specs.inside.Searches.{IsCandidate, IsNext, IsSearch, IsStanding};
+ghost use Rattle.explore.specs.inside.Searches.{AreSteps, IsCandidate, IsNext, IsSearch, IsStanding};
 ghost use Rattle.explore.specs.inside.Levels.{WiresAll};
 
 use crate::error::ExploreError;
@@ -20,11 +20,11 @@ use firing::{Firing, Wiring, know_laws};
 use guide::laws::distributions_share_a_wiring;
 use liveness::no_counts;
 use pareto_front::Front;
-use sd_base::{Ledger, Limits, NoMemory, Steps};
+use sd_base::{Ledger, Limits, NoMemory, Rows, Steps};
 use std::alloc::Global;
 use std::collections::BTreeSet;
 use std::thread::Threads;
-use storage::{Bounded, Distribution, corner};
+use storage::{Bounded, Distribution, corner, step};
 
 /// Where an exploration stands: the distributions that wait, the members so far, the points among them, and how many
 /// distributions were found.
@@ -72,9 +72,11 @@ pub fn explore<R: Threads + Sync, F: Firing + Sync, G: Gate + Sync, L: Ledger + 
         });
     };
     let wiring = wiring_of(alloc, net, limits.total, &first)?;
+    let channel_steps = steps_of(alloc, net)?;
     let exploring = Exploring {
         net,
         wiring: &wiring,
+        channel_steps: &channel_steps,
         limits,
     };
     let mut search = begin(alloc, net, total, first)?;
@@ -105,6 +107,7 @@ fn take_turn<R: Threads + Sync, F: Firing + Sync, G: Gate + Sync, L: Ledger + Se
 ) -> Result<(), ExploreError>
     requires net { IsExplorable (F.net exploring.now.net.now) }
     requires wired { WiresAll (F.net exploring.now.net.now) exploring.now.wiring.now }
+    requires steps { AreSteps (F.net exploring.now.net.now) exploring.now.channel_steps.now }
     requires small { exploring.now.limits.total ≤ STORAGE }
     requires some_states { LEAST_STATES ≤ exploring.now.limits.states }
     requires few_states { exploring.now.limits.states ≤ STATES }
@@ -123,7 +126,15 @@ fn take_turn<R: Threads + Sync, F: Firing + Sync, G: Gate + Sync, L: Ledger + Se
     know_laws(net);
     let level = take_level(alloc, total, &mut search.waiting)?;
     let answers = run_level(rt, alloc, exploring, total, level, gate, steps)?;
-    take_in_all(alloc, net, exploring.limits, total, answers, search)?;
+    take_in_all(
+        alloc,
+        net,
+        exploring.channel_steps.as_slice(),
+        exploring.limits,
+        total,
+        answers,
+        search,
+    )?;
     Ok(())
 }
 
@@ -143,6 +154,17 @@ fn wiring_of<F: Firing>(
     distributions_share_a_wiring();
     let bounded = Bounded::new(alloc, net, capacities)?;
     Wiring::new(alloc, &bounded)
+}
+
+/// By channel its step. Cost: that of `step` for each channel.
+fn steps_of<F: Firing>(alloc: Global, net: &F) -> Result<Rows<u64>, NoMemory>
+    ensures { IfOk result (AreSteps (F.net net.now)) }
+{
+    let mut steps = Vec::with_capacity(alloc, net.channels() as usize)?;
+    for channel in 0..net.channels() {
+        steps.push(step(net, channel))?;
+    }
+    Ok(Rows::from_vec(steps))
 }
 
 /// The corner waits.

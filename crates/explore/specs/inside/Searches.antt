@@ -10,7 +10,7 @@ use Rattle.critical.specs.Spaces.{Has}
 use Rattle.storage.specs.BoundedNets.{bound}
 use Rattle.liveness.specs.RoundAnswers.{IsReached}
 use Rattle.storage.specs.Distributions.{IsDistribution, storage_of}
-use Rattle.storage.specs.Steps.{IsCorner, IsOnGrid}
+use Rattle.storage.specs.Steps.{IsCorner, IsOnGrid, step_of}
 use Rattle.storage.specs.ClosedLists.{Entry}
 use Rattle.pareto_front.specs.declared.point.Point.{Point}
 use Rattle.pareto_front.specs.Offers.{Offer}
@@ -39,6 +39,10 @@ pub record IsCandidate (net : Net) (limit : ℕ) (ds : List (Option ℕ)) : Type
   pub grid : IsOnGrid net.channels ds
   pub within : storage_of net.channels ds ≤ limit
   pub reachable : IsReachable net limit ds
+
+-- by channel the step in which its capacity is worth changing
+abbrev pub AreSteps : Net → List ℕ → Type 0
+AreSteps net steps = steps ≡ map step_of net.channels
 
 -- one that waits, with its storage, which is at least the floor, and counts that are reached there
 pub record Waits (net : Net) (limit floor : ℕ) (w : Waiting) : Type 0 where
