@@ -59,6 +59,10 @@ pass-marks net t p old new here above same le have = rw same all
         let is : IsMark net old.limit t (slice_index_or old.marks.items k d) = have k d below in
         raised net old.limit new.limit (t + 1) (slice_index_or old.marks.items k d) le (past net old.limit t p (slice_index_or old.marks.items k d) here (λ equal. omega (arith, is.low)) is)
 
+-- marks of other prints
+pub other-marks : (net : Net) (limit t p : ℕ) (xs : List Mark) → p ≡ print_of (shape_at net t).tokens → All (λ m. m.print ≢ p) xs → All (IsMark net limit t) xs → All (IsMark net limit (t + 1)) xs
+other-marks net limit t p xs here other have k d below = past net limit t p (slice_index_or xs k d) here (other k d below) (have k d below)
+
 -- without the marks of its print
 pub drop-marks : (net : Net) (limit t p : ℕ) (xs : List Mark) → p ≡ print_of (shape_at net t).tokens → All (IsMark net limit t) xs → All (IsMark net limit (t + 1)) (filter (λ m. not (m.print == p)) xs)
 drop-marks net limit t p xs here have k d below =

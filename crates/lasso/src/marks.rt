@@ -1,5 +1,5 @@
 //! Events that are marked, so that a shape is noticed soon after it came again.
-ghost use Rattle.std.specs.Prelude.{◌≡◌, ◌+◌, ◌/◌, ◌≤◌, ◌==◌, [], IfOk, IfSome, MatchOption, OnOk, nat_le, not, filter};
+ghost use Rattle.std.specs.Prelude.{◌≡◌, ◌≢◌, ◌+◌, ◌/◌, ◌≤◌, ◌==◌, [], All, IfOk, IfSome, IsFalse, MatchOption, OnOk, nat_le, not, filter};
 ghost use Rattle.sd_base.specs.declared.limits.TheConstants.{STARTS as MOST_STARTS};
 ghost use Rattle.sd_base.specs.Schedules.{HasInputs};
 ghost use Rattle.sd_base.specs.SelfTimed.{IsEvent, starts_by};
@@ -60,7 +60,7 @@ impl Marks {
 
     /// Looks for a mark of the shape at which an engine stands, and makes this event a mark if none is found and its print is
     /// up to the limit. A round has `round` starts. Cost: constant where the print is above the limit; else a step for each
-    /// mark and each actor, and what `comes_again` costs for a mark with both prints.
+    /// mark, and where one has its print, a step for each actor and what `comes_again` costs.
     pub(crate) fn meet<F: Firing>(
         &mut self,
         engine: &Engine<F>,
@@ -75,17 +75,54 @@ impl Marks {
         requires marks { AreMarks (F.net engine.now.net.now) engine.now.moment self.old }
         ensures { IfOk result (λ o. MatchOption o (AreMarks (F.net engine.now.net.now) (engine.now.moment + 1) self.new) (IsPair (F.net engine.now.net.now))) }
     {
-        if self.limit < engine.print() {
+        let print = engine.print();
+        if self.limit < print {
             self.pass_by();
             return Ok(None);
         }
+        if self.has(print) {
+            return self.meet_print(engine, trace, round);
+        }
+        self.mark(engine)?;
+        Ok(None)
+    }
+
+    /// Looks for a mark of the shape at which an engine stands, and makes this event a mark in place of those of its print if
+    /// none is found.
+    fn meet_print<F: Firing>(
+        &mut self,
+        engine: &Engine<F>,
+        trace: &Trace,
+        round: u64,
+    ) -> Result<Option<Pair>, NoMemory>
+        requires inputs { HasInputs (F.net engine.now.net.now) }
+        requires running { engine.now.stage ≡ Running }
+        requires event { IsEvent (F.net engine.now.net.now) engine.now.moment }
+        requires traced { starts_by (F.net engine.now.net.now) engine.now.moment ≤ MOST_STARTS →
+            IsTrace (F.net engine.now.net.now) engine.now.moment trace.now.moments.items trace.now.starts.items }
+        requires marks { AreMarks (F.net engine.now.net.now) engine.now.moment self.old }
+        ensures { IfOk result (λ o. MatchOption o (AreMarks (F.net engine.now.net.now) (engine.now.moment + 1) self.new) (IsPair (F.net engine.now.net.now))) }
+    {
         if engine.starts() <= STARTS
             && let Some(pair) = self.pair_with(engine, trace, round)
         {
             return Ok(Some(pair));
         }
+        self.drop_print(engine.print());
         self.mark(engine)?;
         Ok(None)
+    }
+
+    /// Whether a mark has a print.
+    fn has(&self, print: u64) -> bool
+        ensures { IsFalse result → All (λ m. m.print ≢ print) self.now.marks.items }
+    {
+        for place in 0..self.marks.len() {
+            if self.marks[place].print == print {
+                return true;
+            }
+        }
+        false
     }
 
     /// Counts an event whose print is above the limit.
@@ -128,16 +165,15 @@ impl Marks {
         None
     }
 
-    /// Makes an event a mark, in place of one with its print, unless its print is above the limit once there is room.
+    /// Makes an event a mark, whose print no mark has, unless its print is above the limit once there is room.
     pub(crate) fn mark<F: Firing>(&mut self, engine: &Engine<F>) -> Result<(), NoMemory>
         requires running { engine.now.stage ≡ Running }
         requires event { IsEvent (F.net engine.now.net.now) engine.now.moment }
-        requires marks { AreMarks (F.net engine.now.net.now) engine.now.moment self.old }
+        requires marks { AreMarks (F.net engine.now.net.now) (engine.now.moment + 1) self.old }
         ensures { OnOk result (AreMarks (F.net engine.now.net.now) (engine.now.moment + 1) self.new) }
     {
         let print = engine.print();
         self.passed = 0;
-        self.drop_print(print);
         'room: while self.marks.len() >= MARKS && 0 < self.limit {
             self.lower();
         }
