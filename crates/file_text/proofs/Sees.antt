@@ -1,12 +1,13 @@
 -- The reader's own values, seen as the machine's.
-use Rattle.std.proofs.Common.{◌≡◌, ℕ, zero, suc, ◌+◌, ◌-◌, ◌<◌, ◌≤◌, refl, sym, ◌∙◌, ap, true, false, ◌==◌, List, [], ◌∷◌, ◌++◌, length, drop, slice_get, Option, Some, None, arith}
+use Rattle.std.proofs.Common.{◌≡◌, ℕ, zero, suc, ◌+◌, ◌-◌, ◌<◌, ◌≤◌, refl, sym, ◌∙◌, ap, true, false, ◌==◌, List, [], ◌∷◌, ◌++◌, length, drop, slice_get, slice_index_or, slice_set, Option, Some, None, arith}
 use Rattle.std.proofs.lemmas.Bool.{eqb-false, lt-ltb, le-ltb}
 use Rattle.file_text.specs.declared.tree.Element.{Element}
 use Rattle.file_text.specs.declared.scanner.Frame.{Frame}
 use Rattle.file_text.specs.declared.class.Class.{Class}
 use Rattle.file_text.specs.declared.class.Class.TheVariants.{White, Less, Greater}
 use Rattle.file_text.specs.declared.due.Due.TheVariants.{Nothing}
-use Rattle.file_text.specs.inside.Machine.{Around, prolog, within, epilog, Opened, open_of, in_name, in_closing, at_between, goes, leaves, too_deep, between_step, character_step, open_step, close_step, closing_step, spelled_at}
+use Rattle.file_text.specs.Node.{Node}
+use Rattle.file_text.specs.inside.Machine.{Around, prolog, within, epilog, Opened, open_of, ended, grown, in_name, in_closing, at_between, goes, leaves, too_deep, between_step, character_step, open_step, close_step, closing_step, spelled_at}
 use Rattle.file_text.specs.inside.Seen.{opened_of, stack_on, around_in, is_closed, name_in}
 use Rattle.file_text.proofs.ReadSoFar.{IsInside}
 
@@ -23,6 +24,15 @@ pub open_of-around : (os : List Opened) (root : Option Element) → open_of (aro
 open_of-around [] None = refl
 open_of-around [] (Some e) = refl
 open_of-around (o ∷ os) root = refl
+
+-- an element that ends in the innermost one
+pub grows : (os : List Opened) (fs : List Frame) (n : ℕ) (root : Option Element) (f g : Frame) (e : Node) → n + 1 ≡ length fs
+    → opened_of g ≡ grown (opened_of (slice_index_or fs n f)) e → around_in (stack_on os (slice_set fs n g)) root ≡ ended (stack_on os fs) e
+grows os [] n root f g e last like = absurd (omega arith)
+grows os (h ∷ []) zero root f g e last like = ap (λ o. within o os) like
+grows os (h ∷ []) (suc n) root f g e last like = absurd (omega arith)
+grows os (h ∷ (i ∷ fs)) zero root f g e last like = absurd (omega arith)
+grows os (h ∷ (i ∷ fs)) (suc n) root f g e last like = grows (opened_of h ∷ os) (i ∷ fs) n root f g e (omega arith) like
 
 -- an element is open
 inside_in : (os : List Opened) (root : Option Element) → 0 < length os → IsInside (around_in os root)

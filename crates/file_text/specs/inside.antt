@@ -4,3 +4,4 @@ pub mod AttributeNames
 pub mod Seen
 pub mod Utf8
 pub mod Runs
+pub mod AttributeLists

@@ -1,14 +1,15 @@
-ghost use Rattle.std.specs.Prelude.{◌≡◌, ◌==◌, ◌<◌, ◌≤◌, ℕ, true, if◌then◌else◌, List, [], ◌∷◌, ◌++◌, length, IfOk};
+ghost use Rattle.std.specs.Prelude.{◌≡◌, ◌==◌, ◌<◌, ◌≤◌, ℕ, true, if◌then◌else◌, List, [], ◌∷◌, ◌++◌, length, IfOk, OnOk};
 ghost use Rattle.std.specs.String.{string_bytes};
 ghost use Rattle.std.specs.Str.{bytes_eq};
 ghost use Rattle.std.specs.BTreeSet.{contains_text};
 ghost use Rattle.file_text.specs.inside.AttributeNames.{has_name, AreNamesOf, AreNamesWith};
 
-use crate::Attribute;
-use sd_base::{Rows, Text};
+use crate::{Attribute, AttributeList};
+use sd_base::Text;
 use std::alloc::{AllocError, Global};
 use std::collections::BTreeSet;
 use std::marker::Model;
+use std::mem;
 
 /// Among so many attributes a name is looked for one by one.
 const FEW: usize = 8;
@@ -17,7 +18,7 @@ const FEW: usize = 8;
 /// looked for at the cost of the logarithm of their count.
 #[derive(Drop)]
 pub(crate) struct Attributes {
-    rows: Rows<Attribute>,
+    rows: AttributeList,
     names: BTreeSet<String>,
 }
 
@@ -40,7 +41,7 @@ impl Attributes {
         ensures { result ≡ [] }
     {
         Attributes {
-            rows: Rows::new(alloc),
+            rows: AttributeList::new(),
             names: BTreeSet::new(alloc),
         }
     }
@@ -48,54 +49,67 @@ impl Attributes {
     pub(crate) fn is_empty(&self) -> bool
         ensures { result ≡ (length self.now == 0) }
     {
-        self.rows.is_empty()
+        self.rows.as_slice().is_empty()
     }
 
     pub(crate) fn has(&self, name: &str) -> bool
         ensures { result ≡ has_name name.now self.now }
     {
-        if self.rows.len() <= FEW {
+        if self.rows.as_slice().len() <= FEW {
             stands_among(self.rows.as_slice(), name)
         } else {
             self.names.contains(name)
         }
     }
 
-    /// The attributes and one more.
-    pub(crate) fn with(
-        self,
-        alloc: Global,
-        name: String,
-        value: String,
-    ) -> Result<Attributes, AllocError>
-        ensures { IfOk result (λ r. r ≡ self ++ record { name = string_bytes name; value = string_bytes value } ∷ []) }
+    /// Adds one more attribute.
+    #[inline(always)]
+    pub(crate) fn add(&mut self, alloc: Global, name: &str, value: &str) -> Result<(), AllocError>
+        ensures { OnOk result (self.new ≡ self.old ++ record { name = name.now; value = value.now } ∷ []) }
     {
-        let Attributes { rows, names } = self;
-        let names = names_with(alloc, names, rows.as_slice(), name.as_str())?;
-        let mut rows = with_room(alloc, rows)?;
-        rows.push(Attribute {
-            name: Text::new(name),
-            value: Text::new(value),
-        })?;
+        if self.rows.as_slice().len() >= FEW {
+            return self.add_to_many(alloc, name, value);
+        }
+        self.rows.push(
+            alloc,
+            Attribute {
+                name: Text::of(alloc, name)?,
+                value: Text::of(alloc, value)?,
+            },
+        )
+    }
+
+    /// The same where there will be more than a few.
+    fn add_to_many(&mut self, alloc: Global, name: &str, value: &str) -> Result<(), AllocError>
+        ensures { OnOk result (self.new ≡ self.old ++ record { name = name.now; value = value.now } ∷ []) }
+    {
+        let attributes = mem::replace(self, Attributes::new(alloc));
+        *self = attributes.with(alloc, name, value)?;
+        Ok(())
+    }
+
+    /// The attributes and one more.
+    fn with(self, alloc: Global, name: &str, value: &str) -> Result<Attributes, AllocError>
+        ensures { IfOk result (λ r. r ≡ self ++ record { name = name.now; value = value.now } ∷ []) }
+    {
+        let Attributes { mut rows, names } = self;
+        let names = names_with(alloc, names, rows.as_slice(), name)?;
+        rows.push(
+            alloc,
+            Attribute {
+                name: Text::of(alloc, name)?,
+                value: Text::of(alloc, value)?,
+            },
+        )?;
         Ok(Attributes { rows, names })
     }
 
-    pub(crate) fn into_rows(self) -> Rows<Attribute>
+    pub(crate) fn into_list(self) -> AttributeList
         ensures { result ≡ self }
     {
         let Attributes { rows, names: _ } = self;
         rows
     }
-}
-
-/// The same attributes, with room for one where there are none, which is all that most tags need.
-fn with_room(alloc: Global, rows: Rows<Attribute>) -> Result<Rows<Attribute>, AllocError>
-    ensures { IfOk result (λ same. same ≡ rows) }
-{
-    if rows.is_empty() {
-        return Ok(Rows::from_vec(Vec::with_capacity(alloc, 1)?));
-    }
-    Ok(rows)
 }
 
 fn stands_among(attributes: &[Attribute], name: &str) -> bool

@@ -25,6 +25,7 @@ pub(crate) enum Class {
     Other,
 }
 
+#[inline(never)]
 pub(crate) fn class_at(b: u8) -> Class
     ensures { result ≡ class_of b }
 {

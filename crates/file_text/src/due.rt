@@ -11,6 +11,7 @@ pub(crate) enum Due {
 
 impl Due {
     /// What is due after a further byte, or `None` where it breaks UTF-8.
+    #[inline(always)]
     pub(crate) fn after(self, b: u8) -> Option<Due>
         ensures { result ≡ due_after self b }
     {
@@ -32,6 +33,7 @@ impl Due {
         }
     }
 
+    #[inline(always)]
     fn after_first(b: u8) -> Option<Due>
         ensures { result ≡ due_after_first b }
     {

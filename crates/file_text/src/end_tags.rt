@@ -1,7 +1,8 @@
-ghost use Rattle.std.specs.Prelude.{◌≡◌, ◌+◌, ◌^◌, ◌<◌, [], Some, IfOk, OnSome, drop, slice_get};
-ghost use Rattle.file_text.specs.inside.Machine.{Takes, goes, within, at_between, ended, grown, node_of, closing_step, match_step, leave_step};
+ghost use Rattle.std.specs.Prelude.{◌≡◌, ◌+◌, ◌^◌, ◌<◌, [], Option, Some, IfOk, OnOk, OnSome, drop, length, slice_get};
+ghost use Rattle.file_text.specs.inside.Machine.{Takes, goes, at_between, ended, node_of, closing_step, match_step, leave_step};
+ghost use Rattle.file_text.specs.declared.tree.Element.{Element as Ended};
 ghost use Rattle.file_text.specs.Node.{tree_of};
-ghost use Rattle.file_text.specs.inside.Seen.{around_of, name_in, opened_of, stack_on, state_of};
+ghost use Rattle.file_text.specs.inside.Seen.{around_in, around_of, name_in, opened_of, stack_on, state_of};
 
 use crate::Element;
 use crate::class::Class;
@@ -12,6 +13,7 @@ use std::alloc::AllocError;
 
 /// The ends of elements.
 impl Scanner {
+    #[inline(always)]
     pub(crate) fn closing(
         &mut self,
         matched: usize,
@@ -64,23 +66,16 @@ impl Scanner {
     }
 
     /// Puts an element that has ended into the one around it.
+    #[inline(always)]
     pub(crate) fn put(&mut self, frame: Frame) -> Result<Taken, AllocError>
         ensures { IfOk result (λ answer. Takes (Some self.old.due) (goes (ended (stack_on [] self.old.frames.items) (node_of (opened_of frame))) at_between) answer (state_of self.new)) }
     {
         let element = frame.into_element();
-        match self.frames.pop() {
-            Some(parent) => self.put_in(parent, element),
-            None => {
-                self.root = Some(element);
-                Ok(self.goes(Mode::Between))
-            }
+        if self.frames.is_empty() {
+            self.root = Some(element);
+        } else {
+            grow(&mut self.frames, element)?;
         }
-    }
-
-    fn put_in(&mut self, parent: Frame, element: Element) -> Result<Taken, AllocError>
-        ensures { IfOk result (λ answer. Takes (Some self.old.due) (goes (within (grown (opened_of parent) (tree_of element)) (stack_on [] self.old.frames.items)) at_between) answer (state_of self.new)) }
-    {
-        self.frames.push(parent.with(element)?)?;
         Ok(self.goes(Mode::Between))
     }
 }
@@ -101,23 +96,19 @@ impl Frame {
             children,
         }
     }
+}
 
-    /// The open element and one more in it.
-    fn with(self, element: Element) -> Result<Frame, AllocError>
-        ensures { IfOk result (λ r. opened_of r ≡ grown (opened_of self) (tree_of element)) }
-    {
-        let Frame {
-            name,
-            attributes,
-            mut children,
-        } = self;
-        children.push(element)?;
-        Ok(Frame {
-            name,
-            attributes,
-            children,
-        })
-    }
+/// Puts an element into the innermost of those that are open.
+#[inline(always)]
+fn grow(frames: &mut Vec<Frame>, element: Element) -> Result<(), AllocError>
+    requires { 0 < length frames.old.items }
+    ensures { OnOk result ((root : Option Ended) → around_in (stack_on [] frames.new.items) root ≡ ended (stack_on [] frames.old.items) (tree_of element)) }
+{
+    let Some(parent) = frames.last_mut() else {
+        unreachable!();
+    };
+    parent.children.push(element)?;
+    Ok(())
 }
 
 fn byte_at(name: &[u8], place: usize) -> Option<u8>

@@ -8,6 +8,7 @@ mod due;
 mod end_tags;
 mod error;
 mod laws;
+mod list;
 mod mode;
 mod read;
 mod reference;
@@ -23,5 +24,6 @@ mod tree;
 
 pub use error::{Construct, TextError};
 pub use laws::answers_are_one;
+pub use list::AttributeList;
 pub use read::read_tree;
 pub use tree::{Attribute, Element, Tree};

@@ -1,6 +1,6 @@
 //! Runs of ordinary bytes, each of which is passed in one step.
 
-ghost use Rattle.std.specs.Prelude.{◌≡◌, ◌≤◌, ℕ, length, true, take, Some, IfOk};
+ghost use Rattle.std.specs.Prelude.{◌≡◌, ◌≤◌, ◌++◌, ℕ, length, true, take, Some, IfOk, OnOk};
 ghost use Rattle.std.specs.List.{take_while};
 ghost use Rattle.file_text.specs.inside.Machine.{run};
 ghost use Rattle.file_text.specs.inside.Runs.{is_name_byte, is_ordinary};
@@ -28,6 +28,17 @@ fn is_name_byte(b: u8) -> bool
         || b == b'_'
 }
 
+/// Adds bytes, of which there are often none.
+#[inline(always)]
+fn take_in(taken: &mut Vec<u8>, bytes: &[u8]) -> Result<(), AllocError>
+    ensures { OnOk result (taken.new.items ≡ taken.old.items ++ bytes.now) }
+{
+    if bytes.is_empty() {
+        return Ok(());
+    }
+    taken.extend_from_slice(bytes)
+}
+
 /// How many bytes of a name stand in front.
 fn name_count(bytes: &[u8]) -> usize
     ensures count { result ≡ length (take_while is_name_byte bytes.now) }
@@ -46,6 +57,7 @@ fn ordinary_count(bytes: &[u8]) -> usize
 
 impl Scanner {
     /// Passes the ordinary bytes in front where they are of a comment, of a text, of a value or of a name, and says how many.
+    #[inline(always)]
     pub(crate) fn pass(&mut self, bytes: &[u8]) -> Result<usize, AllocError>
         ensures within { IfOk result (λ n. n ≤ length bytes.now) }
         ensures same { IfOk result (λ n. run true (Some (state_of self.old)) (take n bytes.now) ≡ Some (state_of self.new)) }
@@ -57,6 +69,7 @@ impl Scanner {
     }
 
     /// The same between two characters.
+    #[inline(always)]
     fn pass_characters(&mut self, bytes: &[u8]) -> Result<usize, AllocError>
         requires { self.old.due ≡ Due.Nothing }
         ensures within { IfOk result (λ n. n ≤ length bytes.now) }
@@ -107,7 +120,7 @@ impl Scanner {
         ensures same { IfOk result (λ n. run true (Some (state_of self.old)) (take n bytes.now) ≡ Some (state_of self.new)) }
     {
         let count = ordinary_count(bytes);
-        self.tag.value.extend_from_slice(&bytes[..count])?;
+        take_in(&mut self.tag.value, &bytes[..count])?;
         Ok(count)
     }
 
@@ -119,7 +132,7 @@ impl Scanner {
         ensures same { IfOk result (λ n. run true (Some (state_of self.old)) (take n bytes.now) ≡ Some (state_of self.new)) }
     {
         let count = name_count(bytes);
-        self.tag.name.extend_from_slice(&bytes[..count])?;
+        take_in(&mut self.tag.name, &bytes[..count])?;
         Ok(count)
     }
 
@@ -131,7 +144,7 @@ impl Scanner {
         ensures same { IfOk result (λ n. run true (Some (state_of self.old)) (take n bytes.now) ≡ Some (state_of self.new)) }
     {
         let count = name_count(bytes);
-        self.tag.attribute.extend_from_slice(&bytes[..count])?;
+        take_in(&mut self.tag.attribute, &bytes[..count])?;
         Ok(count)
     }
 }

@@ -1,4 +1,4 @@
-ghost use Rattle.std.specs.Prelude.{◌≡◌, IfOk, IsTrue, IsFalse, None, option_map};
+ghost use Rattle.std.specs.Prelude.{◌≡◌, IfOk, IsTrue, IsFalse, None, Some, option_map};
 ghost use Rattle.file_text.specs.Node.{tree_of};
 ghost use Rattle.file_text.specs.inside.Machine.{class_of, table, Takes, IsTidy, start, tree_at};
 ghost use Rattle.file_text.specs.inside.Utf8.{due_after};
@@ -9,15 +9,15 @@ use crate::class::class_at;
 use crate::due::Due;
 use crate::mode::Mode;
 use crate::taken::Taken;
-use crate::{Attribute, Element};
-use sd_base::{Rows, Text};
+use crate::{AttributeList, Element};
+use sd_base::Text;
 use std::alloc::{AllocError, Global};
 
 /// An element whose end tag is still to come.
 #[derive(Drop)]
 pub(crate) struct Frame {
     pub(crate) name: Text,
-    pub(crate) attributes: Rows<Attribute>,
+    pub(crate) attributes: AttributeList,
     pub(crate) children: Vec<Element>,
 }
 
@@ -70,29 +70,29 @@ impl Scanner {
     }
 
     /// Takes one more byte.
+    #[inline(always)]
     #[tactic(auto, unfolding(crate::specs::inside::Machine::table))]
     pub(crate) fn take(&mut self, alloc: Global, b: u8) -> Result<Taken, AllocError>
         requires { IsTidy self.old.due (around_of self.old) (shape_of self.old) }
         ensures { IfOk result (λ answer. Takes (due_after self.old.due b) (table (around_of self.old) (shape_of self.old) (class_of b) b) answer (state_of self.new)) }
     {
-        let Some(due) = self.due.after(b) else {
+        if !self.note(b) {
             return Ok(Taken::Leaves);
-        };
-        self.due = due;
+        }
         let class = class_at(b);
         match self.mode {
             Mode::Start => Ok(self.at_start(class, b)),
             Mode::Mark(mark) => Ok(self.in_mark(mark, class, b)),
-            Mode::First => self.at_first(alloc, class, b),
+            Mode::First => self.at_first(class, b),
             Mode::Declaring(read) => Ok(self.in_declaring(alloc, read, class, b)),
             Mode::Between => Ok(self.between(class)),
-            Mode::Markup => self.markup(alloc, class, b),
+            Mode::Markup => self.markup(class, b),
             Mode::Comment(comment) => Ok(self.in_comment(comment, class)),
             Mode::Naming => self.naming(alloc, class, b),
             Mode::Gap => self.gap(alloc, class, b),
             Mode::Attribute => self.in_attribute(class, b),
             Mode::Named => Ok(self.named(class)),
-            Mode::Equals => Ok(self.equals(alloc, class, b)),
+            Mode::Equals => Ok(self.equals(class, b)),
             Mode::Value => self.in_value(alloc, class, b),
             Mode::ValueReference(read) => self.in_value_reference(read, b),
             Mode::Valued => self.valued(alloc, class),
@@ -101,6 +101,23 @@ impl Scanner {
             Mode::TextReference(read) => Ok(self.in_text_reference(read, b)),
             Mode::Closing(matched) => self.closing(matched, class, b),
         }
+    }
+
+    /// Notes what is due after one more byte, unless it breaks UTF-8.
+    #[inline(always)]
+    fn note(&mut self, b: u8) -> bool
+        ensures broken { IsFalse result → due_after self.old.due b ≡ None }
+        ensures due { IsTrue result → due_after self.old.due b ≡ Some self.new.due }
+        ensures same { IsTrue result → self.new ≡ record self.old { due = self.new.due } }
+    {
+        if b < 128 && matches!(self.due, Due::Nothing) {
+            return true;
+        }
+        let Some(due) = self.due.after(b) else {
+            return false;
+        };
+        self.due = due;
+        true
     }
 
     /// The outermost element, where the text may end here.
@@ -130,6 +147,7 @@ impl Scanner {
     }
 
     /// The text goes on.
+    #[inline(always)]
     pub(crate) fn goes(&mut self, mode: Mode) -> Taken
         ensures answer { result ≡ Taken.Goes }
         ensures after { self.new ≡ record self.old { mode = mode } }

@@ -33,18 +33,13 @@ impl Scanner {
         }
     }
 
-    pub(crate) fn at_first(
-        &mut self,
-        alloc: Global,
-        class: Class,
-        b: u8,
-    ) -> Result<Taken, AllocError>
+    pub(crate) fn at_first(&mut self, class: Class, b: u8) -> Result<Taken, AllocError>
         ensures { IfOk result (λ answer. Takes (Some self.old.due) (first_step (around_of self.old) class b) answer (state_of self.new)) }
     {
         match class {
             Class::Question => Ok(self.goes(Mode::Declaring(Declaring::Question))),
             Class::Bang => Ok(self.goes(Mode::Comment(Comment::Bang))),
-            Class::Letter | Class::Wide => self.begin_tag(alloc, b),
+            Class::Letter | Class::Wide => self.begin_tag(b),
             _ => Ok(Taken::Leaves),
         }
     }

@@ -18,11 +18,11 @@ use std::alloc::{AllocError, Global};
 use std::mem;
 
 /// The text of whole characters.
-fn text_of(bytes: Vec<u8>) -> String
-    requires { IsDue bytes.items Nothing }
-    ensures { string_bytes result ≡ bytes.items }
+fn text_of(bytes: &[u8]) -> &str
+    requires { IsDue bytes.now Nothing }
+    ensures { result.now ≡ bytes.now }
 {
-    String::from_utf8(bytes).unwrap()
+    str::from_utf8(bytes).unwrap()
 }
 
 /// The name of an encoding is UTF-8, in any ASCII case.
@@ -43,8 +43,7 @@ impl Tag {
         requires { IsDue self.now.attribute.items Nothing }
         ensures { result ≡ has_name self.now.attribute.items self.now.attributes }
     {
-        self.attributes
-            .has(str::from_utf8(self.attribute.as_slice()).unwrap())
+        !self.attributes.is_empty() && self.attributes.has(text_of(self.attribute.as_slice()))
     }
 
     /// Whether the attribute declares an encoding other than UTF-8.
@@ -57,6 +56,7 @@ impl Tag {
 
 /// Tags and the declaration.
 impl Scanner {
+    #[inline(always)]
     pub(crate) fn naming(&mut self, alloc: Global, class: Class, b: u8) -> Result<Taken, AllocError>
         requires { class ≢ Wide → IsDue self.old.tag.name.items Nothing }
         ensures { IfOk result (λ answer. Takes (Some self.old.due) (name_step (around_of self.old) self.old.tag.name.items class b) answer (state_of self.new)) }
@@ -77,13 +77,17 @@ impl Scanner {
         }
     }
 
+    #[inline(always)]
     pub(crate) fn begin_attributes(&mut self, alloc: Global, held: Held)
         ensures { self.new ≡ record self.old { tag = record self.old.tag { held = held; attributes = [] } } }
     {
         self.tag.held = held;
-        self.tag.attributes = Attributes::new(alloc);
+        if !self.tag.attributes.is_empty() {
+            self.tag.attributes = Attributes::new(alloc);
+        }
     }
 
+    #[inline(always)]
     pub(crate) fn gap(&mut self, alloc: Global, class: Class, b: u8) -> Result<Taken, AllocError>
         requires { IsWholeHolder (holder_of self.old.tag) }
         ensures { IfOk result (λ answer. Takes (Some self.old.due) (gap_step (around_of self.old) (holder_of self.old.tag) self.old.tag.attributes class b) answer (state_of self.new)) }
@@ -91,7 +95,7 @@ impl Scanner {
         match class {
             Class::White => Ok(self.goes(Mode::Gap)),
             Class::Letter | Class::Wide => {
-                self.tag.attribute = Vec::new(alloc);
+                self.tag.attribute.clear();
                 self.tag.attribute.push(b)?;
                 Ok(self.goes(Mode::Attribute))
             }
@@ -99,6 +103,7 @@ impl Scanner {
         }
     }
 
+    #[inline(always)]
     pub(crate) fn valued(&mut self, alloc: Global, class: Class) -> Result<Taken, AllocError>
         requires { IsWholeHolder (holder_of self.old.tag) }
         ensures { IfOk result (λ answer. Takes (Some self.old.due) (valued_step (around_of self.old) (holder_of self.old.tag) self.old.tag.attributes class) answer (state_of self.new)) }
@@ -110,6 +115,7 @@ impl Scanner {
     }
 
     /// The end of a tag or a declaration behind its attributes.
+    #[inline(always)]
     fn end_tag(&mut self, alloc: Global, class: Class) -> Result<Taken, AllocError>
         requires { IsWholeHolder (holder_of self.old.tag) }
         ensures { IfOk result (λ answer. Takes (Some self.old.due) (end_step (around_of self.old) (holder_of self.old.tag) self.old.tag.attributes class) answer (state_of self.new)) }
@@ -124,37 +130,39 @@ impl Scanner {
         }
     }
 
+    #[inline(always)]
     fn enter(&mut self, alloc: Global) -> Result<Taken, AllocError>
         requires { IsDue self.old.tag.name.items Nothing }
         ensures { IfOk result (λ answer. Takes (Some self.old.due) (goes (entered (around_of self.old) self.old.tag.name.items self.old.tag.attributes) at_between) answer (state_of self.new)) }
     {
-        let frame = self.frame(alloc);
+        let frame = self.frame(alloc)?;
         self.frames.push(frame)?;
         Ok(self.goes(Mode::Between))
     }
 
     /// The element of the tag that ends.
-    fn frame(&mut self, alloc: Global) -> Frame
+    #[inline(always)]
+    fn frame(&mut self, alloc: Global) -> Result<Frame, AllocError>
         requires { IsDue self.old.tag.name.items Nothing }
-        ensures frame { opened_of result ≡ record { name = self.old.tag.name.items; attributes = self.old.tag.attributes; children = [] } }
+        ensures frame { IfOk result (λ frame. opened_of frame ≡ record { name = self.old.tag.name.items; attributes = self.old.tag.attributes; children = [] }) }
         ensures same { self.new ≡ record self.old { tag = self.new.tag } }
     {
-        let name = mem::replace(&mut self.tag.name, Vec::new(alloc));
         let attributes = mem::replace(&mut self.tag.attributes, Attributes::new(alloc));
-        Frame {
-            name: Text::new(text_of(name)),
-            attributes: attributes.into_rows(),
+        Ok(Frame {
+            name: Text::of(alloc, text_of(self.tag.name.as_slice()))?,
+            attributes: attributes.into_list(),
             children: Vec::new(alloc),
-        }
+        })
     }
 
+    #[inline(always)]
     pub(crate) fn slash(&mut self, alloc: Global, class: Class) -> Result<Taken, AllocError>
         requires { IsDue self.old.tag.name.items Nothing }
         ensures { IfOk result (λ answer. Takes (Some self.old.due) (slash_step (around_of self.old) self.old.tag.name.items self.old.tag.attributes class) answer (state_of self.new)) }
     {
         match class {
             Class::Greater => {
-                let frame = self.frame(alloc);
+                let frame = self.frame(alloc)?;
                 self.put(frame)
             }
             _ => Ok(Taken::Leaves),
@@ -170,6 +178,7 @@ impl Scanner {
         }
     }
 
+    #[inline(always)]
     pub(crate) fn in_attribute(&mut self, class: Class, b: u8) -> Result<Taken, AllocError>
         requires { class ≢ Wide → IsDue self.old.tag.attribute.items Nothing }
         ensures { IfOk result (λ answer. Takes (Some self.old.due) (attribute_step (around_of self.old) (holder_of self.old.tag) self.old.tag.attributes self.old.tag.attribute.items class b) answer (state_of self.new)) }
@@ -186,6 +195,7 @@ impl Scanner {
     }
 
     /// The name of an attribute ends.
+    #[inline(always)]
     fn end_name(&mut self, mode: Mode) -> Taken
         requires { IsDue self.old.tag.attribute.items Nothing }
         ensures known { IsTrue (has_name self.old.tag.attribute.items self.old.tag.attributes) → result ≡ Taken.Leaves }
@@ -208,20 +218,22 @@ impl Scanner {
         }
     }
 
-    pub(crate) fn equals(&mut self, alloc: Global, class: Class, b: u8) -> Taken
+    #[inline(always)]
+    pub(crate) fn equals(&mut self, class: Class, b: u8) -> Taken
         ensures { Takes (Some self.old.due) (equals_step (around_of self.old) (holder_of self.old.tag) self.old.tag.attributes self.old.tag.attribute.items class b) result (state_of self.new) }
     {
         match class {
             Class::White => self.goes(Mode::Equals),
             Class::Quote => {
                 self.tag.quote = b;
-                self.tag.value = Vec::new(alloc);
+                self.tag.value.clear();
                 self.goes(Mode::Value)
             }
             _ => Taken::Leaves,
         }
     }
 
+    #[inline(always)]
     pub(crate) fn in_value(
         &mut self,
         alloc: Global,
@@ -243,6 +255,7 @@ impl Scanner {
         }
     }
 
+    #[inline(always)]
     fn end_value(&mut self, alloc: Global) -> Result<Taken, AllocError>
         requires name { IsDue self.old.tag.attribute.items Nothing }
         requires value { IsDue self.old.tag.value.items Nothing }
@@ -251,10 +264,9 @@ impl Scanner {
         if matches!(self.tag.held, Held::Declaration) && self.tag.declares_other() {
             return Ok(Taken::OtherEncoding);
         }
-        let attributes = mem::replace(&mut self.tag.attributes, Attributes::new(alloc));
-        let name = mem::replace(&mut self.tag.attribute, Vec::new(alloc));
-        let value = mem::replace(&mut self.tag.value, Vec::new(alloc));
-        self.tag.attributes = attributes.with(alloc, text_of(name), text_of(value))?;
+        let name = text_of(self.tag.attribute.as_slice());
+        let value = text_of(self.tag.value.as_slice());
+        self.tag.attributes.add(alloc, name, value)?;
         Ok(self.goes(Mode::Valued))
     }
 

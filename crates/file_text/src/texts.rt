@@ -8,13 +8,14 @@ use crate::reference::{Reference, Referred};
 use crate::scanner::Scanner;
 use crate::taken::Taken;
 use sd_base::limits::DEPTH;
-use std::alloc::{AllocError, Global};
+use std::alloc::AllocError;
 
 /// The greatest count of elements that are open at one place.
 const MOST_OPEN: usize = DEPTH as usize;
 
 /// What stands between tags.
 impl Scanner {
+    #[inline(always)]
     pub(crate) fn between(&mut self, class: Class) -> Taken
         ensures { Takes (Some self.old.due) (between_step (around_of self.old) class) result (state_of self.new) }
     {
@@ -41,18 +42,20 @@ impl Scanner {
         }
     }
 
-    pub(crate) fn markup(&mut self, alloc: Global, class: Class, b: u8) -> Result<Taken, AllocError>
+    #[inline(always)]
+    pub(crate) fn markup(&mut self, class: Class, b: u8) -> Result<Taken, AllocError>
         ensures { IfOk result (λ answer. Takes (Some self.old.due) (markup_step (around_of self.old) class b) answer (state_of self.new)) }
     {
         match class {
             Class::Bang => Ok(self.goes(Mode::Comment(Comment::Bang))),
             Class::Slash if !self.frames.is_empty() => Ok(self.goes(Mode::Closing(0))),
-            Class::Letter | Class::Wide => self.open(alloc, b),
+            Class::Letter | Class::Wide => self.open(b),
             _ => Ok(Taken::Leaves),
         }
     }
 
-    fn open(&mut self, alloc: Global, b: u8) -> Result<Taken, AllocError>
+    #[inline(always)]
+    fn open(&mut self, b: u8) -> Result<Taken, AllocError>
         ensures { IfOk result (λ answer. Takes (Some self.old.due) (open_step (around_of self.old) b) answer (state_of self.new)) }
     {
         if self.is_closed() {
@@ -60,7 +63,7 @@ impl Scanner {
         } else if self.frames.len() >= MOST_OPEN {
             Ok(Taken::TooDeep)
         } else {
-            self.begin_tag(alloc, b)
+            self.begin_tag(b)
         }
     }
 
@@ -71,10 +74,11 @@ impl Scanner {
         self.frames.is_empty() && self.root.is_some()
     }
 
-    pub(crate) fn begin_tag(&mut self, alloc: Global, b: u8) -> Result<Taken, AllocError>
+    #[inline(always)]
+    pub(crate) fn begin_tag(&mut self, b: u8) -> Result<Taken, AllocError>
         ensures { IfOk result (λ answer. Takes (Some self.old.due) (goes (around_of self.old) (in_name (b ∷ []))) answer (state_of self.new)) }
     {
-        self.tag.name = Vec::new(alloc);
+        self.tag.name.clear();
         self.tag.name.push(b)?;
         Ok(self.goes(Mode::Naming))
     }

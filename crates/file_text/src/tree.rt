@@ -1,4 +1,5 @@
-use sd_base::{Rows, Text};
+use crate::AttributeList;
+use sd_base::Text;
 
 /// What a text spells: its one outermost element.
 #[derive(Debug, Drop)]
@@ -11,7 +12,7 @@ pub struct Tree {
 #[derive(Debug, Drop)]
 pub struct Element {
     pub name: Text,
-    pub attributes: Rows<Attribute>,
+    pub attributes: AttributeList,
     pub children: Vec<Element>,
 }
 

@@ -1,7 +1,0 @@
-use Rattle.file_text.proofs.Utf8Laws.{IsUtf8-due_along, ok_since}
-use Rattle.file_text.proofs.scanner.Tag.has_attribute.Goals as goal
-
-pub unwrap-requires : goal.unwrap-requires
-unwrap-requires c =
-    ok_since c.from_utf8.result _ _ c.from_utf8.ensures.cases
-    (λ e fault. fault.0 (rw c.as_slice.ensures.value (IsUtf8-due_along c.args.self.now.attribute.items c.requires)))
