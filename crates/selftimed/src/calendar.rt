@@ -9,7 +9,7 @@ use std::collections::BinaryHeap;
 use std::marker::Model;
 
 /// The ends to come of so many actors are looked through one by one.
-const FEW: u32 = 8;
+const FEW: u32 = 16;
 
 /// The ends to come, each with the actor whose firing it ends. Contracts see a list of them, in no order. Where they can be but
 /// few they stand as they came and are looked through, which costs less than an order of them does; else they are a
