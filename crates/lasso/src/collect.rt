@@ -10,13 +10,18 @@ use sd_base::{NoMemory, Rows};
 use selftimed::Engine;
 use std::alloc::Global;
 
-/// An empty row by actor.
-pub(crate) fn empty_rows(alloc: Global, actors: u32) -> Result<Vec<Rows<u64>>, NoMemory>
-    ensures { IfOk result (λ rows. rows.items ≡ replicate actors []) }
+/// For how many starts an actor's row has room at first, at most.
+const ROOM: u64 = 512;
+
+/// An empty row by actor, with room for the starts of two rounds if these are few.
+pub(crate) fn empty_rows<F: Firing>(alloc: Global, net: &F) -> Result<Vec<Rows<u64>>, NoMemory>
+    ensures { IfOk result (λ rows. rows.items ≡ replicate (length (F.net net.now).times) []) }
 {
     let mut rows = Vec::new(alloc);
-    for _actor in 0..actors {
-        rows.push(Rows::new(alloc))?;
+    for actor in 0..net.actors() {
+        let room = net.round(actor).saturating_mul(2).min(ROOM);
+        let row = Vec::with_capacity(alloc, room as usize)?;
+        rows.push(Rows::from_vec(row))?;
     }
     Ok(rows)
 }

@@ -91,7 +91,7 @@ fn find_loop<F: Firing>(
     ensures refused { IfErr result (IsRunRefusal (F.net net.now) states) }
 {
     let mut lead = Engine::new(alloc, net, wiring, SEARCH_STARTS)?;
-    let mut trace = Trace::new(alloc, net.actors())?;
+    let mut trace = Trace::new(alloc, net)?;
     let pair = find_pair(alloc, &mut lead, &mut trace, states)?;
     let period = pair.later - pair.earlier;
     if trace.ends_at(pair.later) {
@@ -101,7 +101,7 @@ fn find_loop<F: Firing>(
     }
     lead.restart(alloc, net, STARTS)?;
     let mut trail = Engine::new(alloc, net, wiring, STARTS)?;
-    let mut starts = empty_rows(alloc, net.actors())?;
+    let mut starts = empty_rows(alloc, net)?;
     let end = first_repeat(&mut lead, &mut trail, starts.as_mut_slice(), period, states)?;
     let entry = trail.moment();
     let table = loop_table(alloc, net, entry, end - entry, starts.as_slice())?;

@@ -15,7 +15,7 @@ use crate::error::RunError;
 use crate::marks::Marks;
 use crate::prints::{is_new, upper_half};
 use crate::steps::go_on;
-use crate::trace::Trace;
+use crate::trace::{ROOM, Trace};
 use firing::Firing;
 use sd_base::NoMemory;
 use sd_base::limits::STARTS;
@@ -67,7 +67,7 @@ pub(crate) fn find_pair<F: Firing>(
     ensures traced { IfOk result (λ pair. AreAllowed (F.net engine.old.net.now) states trace.new.moments.items trace.new.starts.items) }
     ensures refused { IfErr result (IsRunRefusal (F.net engine.old.net.now) states) }
 {
-    let mut prints = Vec::new(alloc);
+    let mut prints = Vec::with_capacity(alloc, ROOM)?;
     if let Some(pair) = search_allowed(alloc, engine, trace, &mut prints, states)? {
         return Ok(pair);
     }
@@ -170,8 +170,24 @@ fn renew<F: Firing>(
     if starts / 2 > checkpoint.starts
         && starts - checkpoint.starts > least_stay(checkpoint, round)
     {
-        *checkpoint = checkpoint_of(alloc, engine)?;
+        put_checkpoint(alloc, engine, checkpoint)?;
     }
+    Ok(())
+}
+
+/// Makes the shape at which an engine stands the checkpoint.
+#[inline(never)]
+fn put_checkpoint<F: Firing>(
+    alloc: Global,
+    engine: &Engine<F>,
+    checkpoint: &mut Checkpoint,
+) -> Result<(), NoMemory>
+    requires running { engine.now.stage ≡ Running }
+    requires event { IsEvent (F.net engine.now.net.now) engine.now.moment }
+    ensures moment { OnOk result (checkpoint.new.moment ≡ engine.now.moment) }
+    ensures checkpoint { OnOk result (IsCheckpoint (F.net engine.now.net.now) checkpoint.new) }
+{
+    *checkpoint = checkpoint_of(alloc, engine)?;
     Ok(())
 }
 

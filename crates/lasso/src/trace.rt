@@ -1,5 +1,5 @@
 //! What an execution leaves behind: the moments of its events, and its starts.
-ghost use Rattle.std.specs.Prelude.{◌≡◌, ◌↔◌, ◌+◌, ◌≤◌, ◌<◌, [], IfOk, IsTrue, OnOk, replicate};
+ghost use Rattle.std.specs.Prelude.{◌≡◌, ◌↔◌, ◌+◌, ◌≤◌, ◌<◌, [], IfOk, IsTrue, OnOk, length, replicate};
 ghost use Rattle.sd_base.specs.declared.limits.TheConstants.{STARTS as MOST_STARTS};
 ghost use Rattle.sd_base.specs.Schedules.{HasInputs};
 ghost use Rattle.sd_base.specs.SelfTimed.{starts_by};
@@ -13,6 +13,9 @@ use sd_base::{NoMemory, Rows};
 use selftimed::Engine;
 use std::alloc::Global;
 
+/// For how many events there is room at first.
+pub(crate) const ROOM: usize = 512;
+
 /// The events of an execution up to one of them, ascending, and by actor the starts up to and with it.
 #[derive(Drop)]
 pub(crate) struct Trace {
@@ -21,18 +24,19 @@ pub(crate) struct Trace {
 }
 
 impl Trace {
-    pub(crate) fn new(alloc: Global, actors: u32) -> Result<Trace, NoMemory>
+    /// A trace without events, with room for some.
+    pub(crate) fn new<F: Firing>(alloc: Global, net: &F) -> Result<Trace, NoMemory>
         ensures moments { IfOk result (λ trace. trace.moments.items ≡ []) }
-        ensures starts { IfOk result (λ trace. trace.starts.items ≡ replicate actors []) }
+        ensures starts { IfOk result (λ trace. trace.starts.items ≡ replicate (length (F.net net.now).times) []) }
     {
-        Ok(Trace {
-            moments: Vec::new(alloc),
-            starts: empty_rows(alloc, actors)?,
-        })
+        let moments = Vec::with_capacity(alloc, ROOM)?;
+        let starts = empty_rows(alloc, net)?;
+        Ok(Trace { moments, starts })
     }
 
     /// Adds the event at which an engine stands, the next one after those that are there, unless more than `STARTS` firings
     /// have started by then.
+    #[inline(always)]
     pub(crate) fn add<F: Firing>(&mut self, engine: &Engine<F>) -> Result<(), NoMemory>
         requires inputs { HasInputs (F.net engine.now.net.now) }
         requires running { engine.now.stage ≡ Running }
