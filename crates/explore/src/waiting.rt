@@ -2,7 +2,7 @@ ghost use Rattle.std.specs.Prelude.{◌≡◌};
 ghost use Rattle.std.specs.Cmp.{partial_equiv_from_equiv, po, eq_by_cmp_equiv};
 ghost use Rattle.std.specs.Ordering.{eq_by_cmp, as_partial_cmp};
 ghost use Rattle.std.proofs.Common.{refl};
-ghost use Rattle.explore.specs.inside.WaitingOrder.{capacities_cmp, waiting_cmp, waiting_total};
+ghost use Rattle.explore.specs.inside.WaitingOrder.{waiting_cmp, waiting_total};
 
 use sd_base::Rows;
 use std::cmp::Ordering;
@@ -61,30 +61,11 @@ fn compare(first: &Waiting, second: &Waiting) -> Ordering
     ensures { result ≡ waiting_cmp (λ w. w.total) (λ w. w.capacities.capacities) first.now second.now }
 {
     match first.total.cmp(&second.total) {
-        Ordering::Equal => order(
-            first.capacities.capacities.as_slice(),
-            second.capacities.capacities.as_slice(),
-        ),
-        apart => apart,
-    }
-}
-
-/// The lexicographic order of capacities. The lists are short, so it takes one after the other.
-fn order(first: &[Option<u64>], second: &[Option<u64>]) -> Ordering
-    ensures { result ≡ capacities_cmp first.now second.now }
-{
-    let [entry, rest @ ..] = first else {
-        return if second.is_empty() {
-            Ordering::Equal
-        } else {
-            Ordering::Less
-        };
-    };
-    let [other, others @ ..] = second else {
-        return Ordering::Greater;
-    };
-    match entry.cmp(other) {
-        Ordering::Equal => order(rest, others),
+        Ordering::Equal => first
+            .capacities
+            .capacities
+            .as_slice()
+            .cmp(second.capacities.capacities.as_slice()),
         apart => apart,
     }
 }
