@@ -35,7 +35,10 @@ pub(crate) fn places_of(table: &LoopTable, offsets: &[usize]) -> usize
 pub(crate) fn no_marks(alloc: Global, count: usize) -> Result<Vec<Option<usize>>, NoMemory>
     ensures { IfOk result (λ v. v.items ≡ replicate count None) }
 {
-    let marks = vec![in alloc; None; count]?;
+    let mut marks = Vec::with_capacity(alloc, count)?;
+    for _place in 0..count {
+        marks.push(None)?;
+    }
     Ok(marks)
 }
 

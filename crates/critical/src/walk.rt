@@ -12,6 +12,9 @@ use firing::{Firing, LoopTable, Wiring};
 use sd_base::NoMemory;
 use std::alloc::Global;
 
+/// For so many firings met there is room from the start, or for those of a pass where these are fewer.
+const FEW: usize = 256;
+
 /// A firing met on the way back, as the firing of the second pass that lies `passes` passes later.
 #[derive(Clone, Copy)]
 pub(crate) struct Met {
@@ -45,7 +48,7 @@ pub(crate) fn walk_back<F: Firing>(
     let offsets = offsets(alloc, table)?;
     let places = places_of(table, offsets.as_slice());
     let mut marks = no_marks(alloc, places)?;
-    let mut met = Vec::new(alloc);
+    let mut met = Vec::with_capacity(alloc, places.min(FEW))?;
     let mut here = first_met(table);
     for place in 0..places + 1 {
         let before = mark(

@@ -6,7 +6,7 @@ use Rattle.critical.proofs.walk.walk_back.Goals as goal
 
 pub loop-place-init : goal.loop-place-init
 loop-place-init g c =
-    rw c.new-met.ensures.items (record {
+    rw c.in_ok-met.ensures.items (record {
       long = omega arith;
       first = c.first_met-here.ensures.first;
       way = way-first (g.F.Firing.net c.args.net.now) c.args.table.now c.requires.table c.first_met-here.result c.first_met-here.ensures.second c.first_met-here.ensures.passes c.first_met-here.ensures.time;
