@@ -23,6 +23,9 @@ const MARKS: usize = 32;
 /// How many times the expected distance of marks may pass without a print up to the limit, before the limit rises.
 const PATIENCE: u64 = 4;
 
+/// How many times the starts so far the walks through them may come to, and there is still another one.
+const WALKS: u64 = 8;
+
 /// An event of which later ones may have the shape: the prints of its tokens and of its running firings, its moment, and the
 /// starts up to and with it.
 #[derive(Clone, Copy, Debug)]
@@ -36,13 +39,14 @@ pub(crate) struct Mark {
 /// The marks of an execution stand at events whose print is at most a limit: at the distinguished points of Rivest (van
 /// Oorschot and Wiener 1999). The limit is halved when there would be too many, so that they lie spread over the
 /// execution; and it is doubled when long no print is up to it, since a loop may have none. So many events above the limit may
-/// follow each other as `patience` says, and `passed` have done so.
+/// follow each other as `patience` says, and `passed` have done so. The walks that failed came to `walked` starts at most.
 #[derive(Drop)]
 pub(crate) struct Marks {
     pub(crate) limit: u64,
     pub(crate) marks: Vec<Mark>,
     patience: u64,
     passed: u64,
+    walked: u64,
 }
 
 impl Marks {
@@ -55,6 +59,7 @@ impl Marks {
             marks: Vec::new(alloc),
             patience: PATIENCE,
             passed: 0,
+            walked: 0,
         }
     }
 
@@ -103,14 +108,52 @@ impl Marks {
         requires marks { AreMarks (F.net engine.now.net.now) engine.now.moment self.old }
         ensures { IfOk result (λ o. MatchOption o (AreMarks (F.net engine.now.net.now) (engine.now.moment + 1) self.new) (IsPair (F.net engine.now.net.now))) }
     {
-        if engine.starts() <= STARTS
-            && let Some(pair) = self.pair_with(engine, trace, round)
-        {
+        if let Some(pair) = self.look(engine, trace, round) {
             return Ok(Some(pair));
         }
         self.drop_print(engine.print());
         self.mark(engine)?;
         Ok(None)
+    }
+
+    /// The event and a mark of its shape, if one is found. Where walks through the starts that are there failed often, there is
+    /// none until more are there: so all of them together cost a few times the starts.
+    fn look<F: Firing>(&mut self, engine: &Engine<F>, trace: &Trace, round: u64) -> Option<Pair>
+        requires inputs { HasInputs (F.net engine.now.net.now) }
+        requires running { engine.now.stage ≡ Running }
+        requires event { IsEvent (F.net engine.now.net.now) engine.now.moment }
+        requires traced { starts_by (F.net engine.now.net.now) engine.now.moment ≤ MOST_STARTS →
+            IsTrace (F.net engine.now.net.now) engine.now.moment trace.now.moments.items trace.now.starts.items }
+        requires marks { AreMarks (F.net engine.now.net.now) engine.now.moment self.old }
+        ensures marks { self.new.marks ≡ self.old.marks }
+        ensures limit { self.new.limit ≡ self.old.limit }
+        ensures found { IfSome result (IsPair (F.net engine.now.net.now)) }
+    {
+        let starts = engine.starts();
+        if starts > STARTS || self.walked / WALKS > starts || !self.is_alike(engine, round) {
+            return None;
+        }
+        let found = self.pair_with(engine, trace, round);
+        self.walked = self.walked.saturating_add(starts);
+        found
+    }
+
+    /// Whether a mark whole rounds before an event has both prints.
+    fn is_alike<F: Firing>(&self, engine: &Engine<F>, round: u64) -> bool
+        requires running { engine.now.stage ≡ Running }
+    {
+        let print = engine.print();
+        let running_print = engine.running_print();
+        let starts = engine.starts();
+        for mark in &self.marks {
+            if mark.print == print
+                && mark.running_print == running_print
+                && rounds_of(starts.saturating_sub(mark.starts), round).is_some()
+            {
+                return true;
+            }
+        }
+        false
     }
 
     /// Whether a mark has a print.
