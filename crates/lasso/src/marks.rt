@@ -111,7 +111,8 @@ impl Marks {
         if let Some(pair) = self.look(engine, trace, round) {
             return Ok(Some(pair));
         }
-        self.drop_print(engine.print());
+        let print = engine.print();
+        self.drop_print(print);
         self.mark(engine)?;
         Ok(None)
     }
