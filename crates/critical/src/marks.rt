@@ -37,7 +37,7 @@ pub(crate) fn no_marks(alloc: Global, count: usize) -> Result<Vec<Option<usize>>
 {
     let mut marks = Vec::with_capacity(alloc, count)?;
     for _place in 0..count {
-        marks.push(None)?;
+        marks.push_reserved(None);
     }
     Ok(marks)
 }

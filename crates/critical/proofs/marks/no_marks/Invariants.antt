@@ -1,5 +1,5 @@
-use Rattle.std.proofs.Common.{◌≡◌, None, replicate}
+use Rattle.std.proofs.Common.{◌≡◌, ◌≤◌, None, replicate, vec_capacity, vec_len}
 use Rattle.critical.proofs.marks.no_marks.Given as goal
 
 abbrev pub invariant-loop-place : goal.invariant-loop-place
-invariant-loop-place l = l.marks.items ≡ replicate l._place None
+invariant-loop-place l = (l.marks.items ≡ replicate l._place None) × (vec_len l.marks ≡ l._place) × (l.count ≤ vec_capacity l.marks)
