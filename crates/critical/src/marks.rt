@@ -32,7 +32,7 @@ pub(crate) fn places_of(table: &LoopTable, offsets: &[usize]) -> usize
 }
 
 /// So many places without a mark.
-pub(crate) fn no_marks(alloc: Global, count: usize) -> Result<Vec<Option<usize>>, NoMemory>
+pub(crate) fn no_marks(alloc: Global, count: usize) -> Result<Vec<Option<u32>>, NoMemory>
     ensures { IfOk result (λ v. v.items ≡ replicate count None) }
 {
     let mut marks = Vec::with_capacity(alloc, count)?;
@@ -54,7 +54,7 @@ pub(crate) fn class_of(table: &LoopTable, offsets: &[usize], firing: FiringNo) -
 }
 
 /// The mark at a place; where there is none, puts the one given there.
-pub(crate) fn mark(marks: &mut [Option<usize>], class: usize, place: usize) -> Option<usize>
+pub(crate) fn mark(marks: &mut [Option<u32>], class: usize, place: u32) -> Option<u32>
     requires { class < length marks.old }
     ensures before { result ≡ slice_index_or marks.old class None }
     ensures after { MatchOption result (marks.new ≡ slice_set marks.old class (Some place)) (λ _. marks.new ≡ marks.old) }

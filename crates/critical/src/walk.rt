@@ -54,11 +54,14 @@ pub(crate) fn walk_back<F: Firing>(
         let before = mark(
             &mut marks,
             class_of(table, offsets.as_slice(), here.firing),
-            place,
+            place as u32,
         );
         met.push(here)?;
         if let Some(from) = before {
-            return Ok(Way { met, from });
+            return Ok(Way {
+                met,
+                from: from as usize,
+            });
         }
         here = next_met(net, table, wiring, here);
     }
