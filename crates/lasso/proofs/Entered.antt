@@ -1,5 +1,5 @@
 -- The entry of a loop: the first event from which on all firings are as they are a period later.
-use Rattle.std.proofs.Common.{◌≡◌, ◌≢◌, ℕ, suc, ◌+◌, ◌-◌, ◌≤◌, ◌<◌, ◌⊎◌, List, [], length, inl, inr, ⊎_elim, subst, sym, refl, ap, ◌∙◌, arith}
+use Rattle.std.proofs.Common.{◌≡◌, ◌≢◌, ℕ, zero, suc, ◌+◌, ◌-◌, ◌≤◌, ◌<◌, ◌⊎◌, List, [], length, inl, inr, ⊎_elim, subst, sym, refl, ap, ◌∙◌, arith}
 use Rattle.std.specs.Prelude.{slice_index, slice_index_or}
 use Rattle.std.proofs.lemmas.Bool.{cases_lt}
 use Rattle.sd_base.specs.Net.{Net}
@@ -14,7 +14,7 @@ use Rattle.lasso.specs.declared.search.Pair.{Pair}
 use Rattle.lasso.specs.inside.Searching.{IsPair}
 use Rattle.lasso.specs.inside.Collecting.{AreStarts}
 use Rattle.lasso.specs.inside.Tracing.{AreEvents}
-use Rattle.lasso.specs.inside.Entering.{IsLike, IsOver, IsSettled, IsRowLike, IsRowOver, IsRowSettled, EndsRise, AreBy, IsFirstTwice, ReachFrom}
+use Rattle.lasso.specs.inside.Entering.{IsLike, IsOver, IsSettled, IsRowLike, IsRowOver, IsRowSettled, Ascend, EndsRise, AreBy, IsFirstTwice, ReachFrom}
 use Rattle.lasso.proofs.Recurring.{apart-event, apart-same, apart-least, again-event, again-back}
 use Rattle.lasso.proofs.Traced.{last-event}
 use Rattle.lasso.proofs.Settling.{started-by, start-kept, more, more-counts, settled-same, same-settled}
@@ -31,6 +31,20 @@ module _ (net : Net) (laws : Lawful net) (fed : HasInputs net) where
 
     pub row-start : (a k : ℕ) → a < length net.times → k < count_of starts a → start_of starts a k ≡ start_of (earliest net (suc t)) a k
     row-start a k actor there = rw after-one at have.moments a k actor there
+
+    starts-along : (a k d : ℕ) → a < length net.times → d + k < count_of starts a → start_of starts a k ≤ start_of starts a (d + k)
+    starts-along a k zero actor there = let e : 0 + k ≡ k = omega arith in rw e (omega arith)
+    starts-along a k (suc d) actor there =
+        let e : suc d + k ≡ (d + k) + 1 = omega arith in
+        let up : start_of (earliest net (suc t)) a (d + k) ≤ start_of (earliest net (suc t)) a ((d + k) + 1) =
+        (early_at net (regular net laws) fed (suc t)).admissible.rising a (d + k) (omega (arith, row-count a actor)) in
+        rw e (omega (arith, starts-along a k d actor (omega arith), up, row-start a (d + k) actor (omega arith), row-start a ((d + k) + 1) actor (omega arith)))
+
+    pub starts-ascend : (a : ℕ) → a < length net.times → Ascend (slice_index_or starts a [])
+    starts-ascend a actor j k le there =
+        let e : (k - j) + j ≡ k = omega arith in
+        let up : start_of starts a j ≤ start_of starts a ((k - j) + j) = starts-along a j (k - j) actor (omega arith) in
+        rw e at up
 
     pub ends-rise : (a : ℕ) → a < length net.times → EndsRise net a (slice_index_or starts a [])
     ends-rise a actor j k le there =

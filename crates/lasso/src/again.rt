@@ -2,7 +2,7 @@
 ghost use Rattle.std.specs.Prelude.{◌≡◌, ◌*◌, ◌-◌, ◌<◌, IsTrue, length, slice_index};
 ghost use Rattle.sd_base.specs.Schedules.{HasInputs};
 ghost use Rattle.sd_base.specs.SelfTimed.{shape_at};
-ghost use Rattle.lasso.specs.inside.Entering.{EndsRise, Recurs};
+ghost use Rattle.lasso.specs.inside.Entering.{Ascend, EndsRise, Recurs};
 ghost use Rattle.lasso.specs.inside.Tracing.{IsTrace};
 
 use crate::entry::{count_by, end_of, is_after, settled_from};
@@ -49,6 +49,7 @@ fn all_recur<F: Firing>(net: &F, trace: &Trace, pair: Pair, rounds: u64) -> bool
 /// after its like is over.
 fn recurs<F: Firing>(net: &F, actor: u32, row: &[u64], pair: Pair, rounds: u64) -> bool
     requires actor { actor < length (F.net net.now).times }
+    requires ascend { Ascend row.now }
     requires rise { EndsRise (F.net net.now) actor row.now }
     requires order { pair.earlier < pair.later }
     ensures { IsTrue result → Recurs (F.net net.now) actor row.now pair.earlier (pair.later - pair.earlier) (rounds * slice_index (F.net net.now).round actor) }

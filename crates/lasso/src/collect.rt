@@ -40,9 +40,10 @@ pub(crate) fn add_starts<F: Firing>(
     ensures { OnOk result (AddsStarts (F.net engine.now.net.now) engine.now.moment starts.old starts.new) }
 {
     let starters = engine.starters();
+    let moment = engine.moment();
     for actor in starters {
         let count = engine.started(*actor);
-        fill(&mut starts[*actor as usize], count, engine.moment())?;
+        fill(&mut starts[*actor as usize], count, moment)?;
     }
     Ok(())
 }

@@ -3,7 +3,7 @@ ghost use Rattle.std.specs.Prelude.{◌≡◌, ◌↔◌, ◌+◌, ◌-◌, ◌�
 ghost use Rattle.sd_base.specs.Schedules.{HasInputs, time_of};
 ghost use Rattle.sd_base.specs.Rates.{IsLoop};
 ghost use Rattle.lasso.specs.inside.Searching.{IsPair};
-ghost use Rattle.lasso.specs.inside.Entering.{AreBy, AreLikeAfter, EndsRise, IsFirstSettled, IsFirstTwice, ReachFrom};
+ghost use Rattle.lasso.specs.inside.Entering.{AreBy, AreLikeAfter, Ascend, EndsRise, IsFirstSettled, IsFirstTwice, ReachFrom};
 ghost use Rattle.lasso.specs.inside.Tracing.{IsTrace};
 
 use crate::search::Pair;
@@ -38,13 +38,20 @@ pub(crate) fn entry_of<F: Firing>(net: &F, trace: &Trace, pair: Pair) -> u64
     first_twice(trace.moments.as_slice(), from, pair)
 }
 
-/// How many of some ascending moments there are up to and with one. Cost: linear in those after it.
+/// How many of some ascending moments there are up to and with one. Cost: logarithmic in them.
 pub(crate) fn count_by(moments: &[u64], last: u64) -> usize
+    requires ascend { Ascend moments.now }
     ensures { AreBy moments.now last result }
 {
-    let mut count = moments.len();
-    'later: while 0 < count && last < moments[count - 1] {
-        count -= 1;
+    let mut count = 0;
+    let mut end = moments.len();
+    'halves: while count < end {
+        let middle = count + (end - count) / 2;
+        if moments[middle] <= last {
+            count = middle + 1;
+        } else {
+            end = middle;
+        }
     }
     count
 }

@@ -41,12 +41,14 @@ pub(crate) struct Checkpoint {
     pub(crate) running_print: u64,
     pub(crate) moment: u64,
     pub(crate) starts: u64,
+    /// Up to how many starts it stays.
+    pub(crate) stays_to: u64,
 }
 
 /// Finds a shape and the first one after it that is equal, and leaves the events and starts on the way in a trace. Each later
 /// shape is looked for among those at the marks, and compared with that of a checkpoint, which finds what the marks miss. The
 /// first shape is the first checkpoint. A later one becomes the checkpoint when the starts up to it are more than twice those up
-/// to the one before, and that one has stood for some time (`least_stay`). Where none is found again, the last shape that is
+/// to the one before, and that one has stood for some time (`end_of_stay`). Where none is found again, the last shape that is
 /// allowed tells: if a shape up to there came again, then this one came before. So a new print of its tokens shows that all
 /// shapes differ; else it becomes the checkpoint, which comes again if a shape up to there does.
 pub(crate) fn find_pair<F: Firing>(
@@ -74,7 +76,7 @@ pub(crate) fn find_pair<F: Firing>(
     if is_new(upper_half(engine), prints.as_slice()) {
         return Err(refusal_at(engine.starts()));
     }
-    let last = checkpoint_of(alloc, engine)?;
+    let last = checkpoint_of(alloc, engine, starts_of_round(engine.net))?;
     if let Some(pair) = search_on(engine, &last)? {
         return Ok(pair);
     }
@@ -122,10 +124,10 @@ fn search_allowed<F: Firing>(
         return Err(RunError::TooManyStarts);
     }
     trace.add(engine)?;
-    let mut checkpoint = checkpoint_of(alloc, engine)?;
+    let round = starts_of_round(engine.net);
+    let mut checkpoint = checkpoint_of(alloc, engine, round)?;
     let mut marks = Marks::new(alloc);
     marks.mark(engine)?;
-    let round = starts_of_round(engine.net);
     for _event in 1..states {
         if engine.starts() > STARTS {
             return Ok(None);
@@ -149,8 +151,8 @@ fn search_allowed<F: Firing>(
     Ok(None)
 }
 
-/// Makes the shape at which an engine stands the checkpoint, if its starts are more than twice those of the one that stands
-/// and this one has stood long enough.
+/// Makes the shape at which an engine stands the checkpoint, if the one that stands has stayed long enough.
+#[inline(always)]
 fn renew<F: Firing>(
     alloc: Global,
     engine: &Engine<F>,
@@ -166,11 +168,8 @@ fn renew<F: Firing>(
     ensures ahead { OnOk result (checkpoint.new.moment ≤ engine.now.moment) }
     ensures none { OnOk result (NoneSince (F.net engine.now.net.now) checkpoint.new.moment engine.now.moment) }
 {
-    let starts = engine.starts();
-    if starts / 2 > checkpoint.starts
-        && starts - checkpoint.starts > least_stay(checkpoint, round)
-    {
-        put_checkpoint(alloc, engine, checkpoint)?;
+    if engine.starts() > checkpoint.stays_to {
+        put_checkpoint(alloc, engine, checkpoint, round)?;
     }
     Ok(())
 }
@@ -181,26 +180,29 @@ fn put_checkpoint<F: Firing>(
     alloc: Global,
     engine: &Engine<F>,
     checkpoint: &mut Checkpoint,
+    round: u64,
 ) -> Result<(), NoMemory>
     requires running { engine.now.stage ≡ Running }
     requires event { IsEvent (F.net engine.now.net.now) engine.now.moment }
     ensures moment { OnOk result (checkpoint.new.moment ≡ engine.now.moment) }
     ensures checkpoint { OnOk result (IsCheckpoint (F.net engine.now.net.now) checkpoint.new) }
 {
-    *checkpoint = checkpoint_of(alloc, engine)?;
+    *checkpoint = checkpoint_of(alloc, engine, round)?;
     Ok(())
 }
 
-/// For how many starts a checkpoint stays at least, where a round has `round` of them. A loop has the starts of a
-/// round or more, so a checkpoint that stays for fewer is of no use. The first one stays for half a round: a loop that is
-/// entered soon, and is a round long, comes again at the second one.
-fn least_stay(checkpoint: &Checkpoint, round: u64) -> u64 {
+/// Up to how many starts a checkpoint stays, where a round has `round` of them: up to twice its own, and for one and a half
+/// rounds. A loop has the starts of a round or more, so a checkpoint that stays for fewer is of no use. The first one
+/// stays for half a round: a loop that is entered soon, and is a round long, comes again at the second one.
+fn end_of_stay(moment: u64, starts: u64, round: u64) -> u64 {
     let half = round / 2;
-    if checkpoint.moment == 0 {
+    let stay = if moment == 0 {
         half
     } else {
         round.saturating_add(half)
-    }
+    };
+    let twice = starts.saturating_mul(2).saturating_add(1);
+    starts.saturating_add(stay).max(twice)
 }
 
 /// How many firings a round has.
@@ -212,8 +214,12 @@ fn starts_of_round<F: Firing>(net: &F) -> u64 {
     starts
 }
 
-/// The shape at which an engine stands.
-fn checkpoint_of<F: Firing>(alloc: Global, engine: &Engine<F>) -> Result<Checkpoint, NoMemory>
+/// The shape at which an engine stands, where a round has `round` starts.
+fn checkpoint_of<F: Firing>(
+    alloc: Global,
+    engine: &Engine<F>,
+    round: u64,
+) -> Result<Checkpoint, NoMemory>
     requires running { engine.now.stage ≡ Running }
     requires event { IsEvent (F.net engine.now.net.now) engine.now.moment }
     ensures moment { IfOk result (λ c. c.moment ≡ engine.now.moment) }
@@ -225,11 +231,13 @@ fn checkpoint_of<F: Firing>(alloc: Global, engine: &Engine<F>) -> Result<Checkpo
         running_print: engine.running_print(),
         moment: engine.moment(),
         starts: engine.starts(),
+        stays_to: end_of_stay(engine.moment(), engine.starts(), round),
     })
 }
 
 /// Whether an engine stands at the shape of a checkpoint. Cost: where it doesn't, mostly constant if the tokens
 /// differ, and linear in the actors if the running firings do.
+#[inline(always)]
 fn stands_at<F: Firing>(engine: &Engine<F>, checkpoint: &Checkpoint) -> bool
     requires running { engine.now.stage ≡ Running }
     requires checkpoint { IsCheckpoint (F.net engine.now.net.now) checkpoint.now }
@@ -238,6 +246,16 @@ fn stands_at<F: Firing>(engine: &Engine<F>, checkpoint: &Checkpoint) -> bool
     if engine.print() != checkpoint.print {
         return false;
     }
+    runs_alike(engine, checkpoint)
+}
+
+/// Whether an engine stands at the shape of a checkpoint, told by its running firings first.
+#[inline(never)]
+fn runs_alike<F: Firing>(engine: &Engine<F>, checkpoint: &Checkpoint) -> bool
+    requires running { engine.now.stage ≡ Running }
+    requires checkpoint { IsCheckpoint (F.net engine.now.net.now) checkpoint.now }
+    ensures { IsTrue result ↔ (shape_at (F.net engine.now.net.now) engine.now.moment ≡ shape_at (F.net engine.now.net.now) checkpoint.now.moment) }
+{
     if engine.running_print() != checkpoint.running_print {
         return false;
     }

@@ -1,8 +1,9 @@
-ghost use Rattle.std.specs.Prelude.{◌≡◌, ℕ, ◌+◌, ◌^◌, ◌≤◌, ◌<◌, IfOk, length, slice_index};
+ghost use Rattle.std.specs.Prelude.{◌≡◌, ℕ, ◌+◌, ◌^◌, ◌≤◌, ◌<◌, [], IfOk, length, slice_index, slice_index_or};
 ghost use Rattle.sd_base.specs.Schedules.{HasInputs, count_of};
 ghost use Rattle.sd_base.specs.Rates.{IsLoop, IsLoopTable};
 ghost use Rattle.sd_base.specs.Connection.{IsConnected};
 ghost use Rattle.lasso.specs.inside.Collecting.{AreStarts, AreCounts, AreBetween};
+ghost use Rattle.lasso.specs.inside.Entering.{Ascend};
 
 use crate::entry::count_by;
 use firing::{Firing, LoopTable, know_laws};
@@ -42,6 +43,7 @@ pub(crate) fn loop_table<F: Firing>(
 
 /// By actor how many of its starts there are up to and with a moment.
 fn counts_by(alloc: Global, starts: &[Rows<u64>], moment: u64) -> Result<Rows<u64>, NoMemory>
+    requires ascend { (a : ℕ) → a < length starts.now → Ascend (slice_index_or starts.now a []) }
     ensures { IfOk result (AreCounts starts.now moment) }
 {
     let mut counts = Rows::new(alloc);

@@ -35,6 +35,10 @@ pub record AreLikeAfter (row : List ℕ) (more period n : ℕ) : Type 0 where
   pub like : (j : ℕ) → n ≤ j → j < length row → IsRowLike row more period j
   pub unlike : 1 ≤ n → IsRowLike row more period (n - 1) → ⊥
 
+-- some moments don't fall
+abbrev pub Ascend : List ℕ → Type 0
+Ascend moments = (j k : ℕ) → j ≤ k → k < length moments → slice_index moments j ≤ slice_index moments k
+
 -- the ends of a row's firings don't fall
 abbrev pub EndsRise : Net → ℕ → List ℕ → Type 0
 EndsRise net a row = (j k : ℕ) → j ≤ k → k < length row → slice_index row j + time_of net a j ≤ slice_index row k + time_of net a k

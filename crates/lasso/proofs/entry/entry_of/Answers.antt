@@ -5,9 +5,16 @@ use Rattle.sd_base.specs.Schedules.{count_of}
 use Rattle.sd_base.specs.SelfTimed.{earliest, shape_at}
 use Rattle.lasso.specs.inside.Entering.{IsFirstSettled, IsFirstTwice}
 use Rattle.lasso.proofs.RowsSettle.{next-settled, next-first}
-use Rattle.lasso.proofs.Entered.{ends-rise, count-by, reach-from, rows-settle, same-over, entry-loops}
+use Rattle.lasso.proofs.Entered.{starts-ascend, ends-rise, count-by, reach-from, rows-settle, same-over, entry-loops}
 use Rattle.lasso.proofs.entry.entry_of.Goals as goal
 use Rattle.lasso.proofs.entry.entry_of.Goals.{then-from-settled, else-from-settled}
+
+pub count_by-before-requires : goal.count_by-before-requires
+count_by-before-requires g c =
+    let actor : c.loop-actor.actor < length (g.F.Firing.net c.args.net.now).times = omega (arith, c.loop-actor-test.true, c.actors-actor-end.ensures) in
+    let place : c.loop-actor.actor < length c.args.trace.now.starts.items = omega (arith, c.requires.traced.collected.rows) in
+    let row : c.as_slice-row.result.now ≡ slice_index_or c.args.trace.now.starts.items c.loop-actor.actor [] = c.as_slice-row.ensures ∙ (c.index.ensures ∙ get_or_default c.args.trace.now.starts.items c.loop-actor.actor c.index.result.now [] place) in
+    rw row (record { ascend = starts-ascend (g.F.Firing.net c.args.net.now) (g.met.F.Firing.lawful c.args.net.now) c.requires.inputs c.args.pair.later c.args.trace.now.starts.items c.requires.traced.collected c.loop-actor.actor actor })
 
 pub settled_from-settled-requires-clause-rise : goal.settled_from-settled-requires-clause-rise
 settled_from-settled-requires-clause-rise g c =

@@ -3,7 +3,20 @@ use Rattle.std.specs.Prelude.{◌/◌, slice_index_or}
 use Rattle.std.proofs.lemmas.List.{get_or_default}
 use Rattle.lasso.specs.inside.Collecting.{AreBetween}
 use Rattle.lasso.proofs.Between.{between-table}
+use Rattle.lasso.proofs.Entered.{starts-ascend}
 use Rattle.lasso.proofs.table.loop_table.Goals as goal
+
+pub counts_by-requires : goal.counts_by-requires
+counts_by-requires g c = record {
+  ascend = λ a there.
+      starts-ascend (g.F.Firing.net c.args.net.now) (g.met.F.Firing.lawful c.args.net.now) c.requires.inputs c.requires.starts.0 c.args.starts.now c.requires.starts.2 a (omega (arith, c.requires.starts.2.rows));
+}
+
+pub counts_by-requires-2 : goal.counts_by-requires-2
+counts_by-requires-2 g c = record {
+  ascend = λ a there.
+      starts-ascend (g.F.Firing.net c.args.net.now) (g.met.F.Firing.lawful c.args.net.now) c.requires.inputs c.requires.starts.0 c.args.starts.now c.requires.starts.2 a (omega (arith, c.requires.starts.2.rows));
+}
 
 pub returns-clause-table : goal.returns-clause-table
 returns-clause-table g c =
