@@ -19,6 +19,15 @@ pub(crate) fn comes_again<F: Firing>(net: &F, trace: &Trace, pair: Pair, rounds:
     requires traced { IsTrace (F.net net.now) pair.later trace.now.moments.items trace.now.starts.items }
     ensures { IsTrue result → shape_at (F.net net.now) pair.later ≡ shape_at (F.net net.now) pair.earlier }
 {
+    all_end_alike(net, trace, pair, rounds) && all_recur(net, trace, pair, rounds)
+}
+
+/// Whether all actors' last starts are as they are where the shape comes again. A quick test, since unlike shapes are mostly
+/// unlike in this. Cost: linear in the actors.
+pub(crate) fn all_end_alike<F: Firing>(net: &F, trace: &Trace, pair: Pair, rounds: u64) -> bool
+    requires order { pair.earlier < pair.later }
+    requires traced { IsTrace (F.net net.now) pair.later trace.now.moments.items trace.now.starts.items }
+{
     know_laws(net);
     for actor in 0..net.actors() {
         let row = trace.starts[actor as usize].as_slice();
@@ -26,7 +35,7 @@ pub(crate) fn comes_again<F: Firing>(net: &F, trace: &Trace, pair: Pair, rounds:
             return false;
         }
     }
-    all_recur(net, trace, pair, rounds)
+    true
 }
 
 /// Whether all actors' rows show that the shape comes again.
@@ -63,8 +72,7 @@ fn recurs<F: Firing>(net: &F, actor: u32, row: &[u64], pair: Pair, rounds: u64) 
         && settled_from(net, actor, row, more, period) <= u128::from(pair.earlier)
 }
 
-/// Whether the last start of an actor is a period after the one so many rounds before it, or both firings are over. A quick
-/// test, since unlike shapes are mostly unlike in this.
+/// Whether the last start of an actor is a period after the one so many rounds before it, or both firings are over.
 fn ends_alike<F: Firing>(net: &F, actor: u32, row: &[u64], pair: Pair, rounds: u64) -> bool
     requires actor { actor < length (F.net net.now).times }
     requires order { pair.earlier < pair.later }

@@ -8,7 +8,7 @@ ghost use Rattle.lasso.specs.inside.Marking.{AreMarks};
 ghost use Rattle.lasso.specs.inside.Searching.{IsPair};
 ghost use Rattle.lasso.specs.inside.Tracing.{IsTrace};
 
-use crate::again::comes_again;
+use crate::again::{all_end_alike, comes_again};
 use crate::search::Pair;
 use crate::trace::Trace;
 use firing::Firing;
@@ -26,12 +26,10 @@ const PATIENCE: u64 = 4;
 /// How many times the starts so far the walks through them may come to, and there is still another one.
 const WALKS: u64 = 8;
 
-/// An event of which later ones may have the shape: the prints of its tokens and of its running firings, its moment, and the
-/// starts up to and with it.
+/// An event of which later ones may have the shape: the print of its tokens, its moment, and the starts up to and with it.
 #[derive(Clone, Copy, Debug)]
 pub(crate) struct Mark {
     pub(crate) print: u64,
-    pub(crate) running_print: u64,
     pub(crate) moment: u64,
     pub(crate) starts: u64,
 }
@@ -131,7 +129,7 @@ impl Marks {
         ensures found { IfSome result (IsPair (F.net engine.now.net.now)) }
     {
         let starts = engine.starts();
-        if starts > STARTS || self.walked / WALKS > starts || !self.is_alike(engine, round) {
+        if starts > STARTS || self.walked / WALKS > starts || !self.is_alike(engine, trace, round) {
             return None;
         }
         let found = self.pair_with(engine, trace, round);
@@ -139,17 +137,22 @@ impl Marks {
         found
     }
 
-    /// Whether a mark whole rounds before an event has both prints.
-    fn is_alike<F: Firing>(&self, engine: &Engine<F>, round: u64) -> bool
+    /// Whether a mark whole rounds before an event has its print, and the last starts are alike.
+    fn is_alike<F: Firing>(&self, engine: &Engine<F>, trace: &Trace, round: u64) -> bool
         requires running { engine.now.stage ≡ Running }
+        requires traced { IsTrace (F.net engine.now.net.now) engine.now.moment trace.now.moments.items trace.now.starts.items }
+        requires marks { AreMarks (F.net engine.now.net.now) engine.now.moment self.now }
     {
         let print = engine.print();
-        let running_print = engine.running_print();
         let starts = engine.starts();
         for mark in &self.marks {
+            let pair = Pair {
+                earlier: mark.moment,
+                later: engine.moment(),
+            };
             if mark.print == print
-                && mark.running_print == running_print
-                && rounds_of(starts.saturating_sub(mark.starts), round).is_some()
+                && let Some(rounds) = rounds_of(starts.saturating_sub(mark.starts), round)
+                && all_end_alike(engine.net, trace, pair, rounds)
             {
                 return true;
             }
@@ -199,7 +202,6 @@ impl Marks {
                 later: engine.moment(),
             };
             if mark.print == print
-                && mark.running_print == engine.running_print()
                 && let Some(rounds) = rounds_of(starts.saturating_sub(mark.starts), round)
                 && comes_again(engine.net, trace, pair, rounds)
             {
@@ -224,7 +226,6 @@ impl Marks {
         if print <= self.limit {
             self.marks.push(Mark {
                 print,
-                running_print: engine.running_print(),
                 moment: engine.moment(),
                 starts: engine.starts(),
             })?;
