@@ -4,6 +4,7 @@ import re
 import shutil
 import subprocess
 import sys
+import tempfile
 import time
 
 ROOT = os.path.dirname(os.path.dirname(os.path.abspath(__file__)))
@@ -51,7 +52,13 @@ def instructions(words):
 
 
 def memory(words):
-    """The most memory of a run at one moment, in megabytes."""
+    """The most memory of a run at one moment, in megabytes. Where GNU time isn't there, at least what this script itself takes,
+    since a process counts what it was before it became the program."""
+    watch = shutil.which("time")
+    if watch is not None:
+        with tempfile.NamedTemporaryFile("r", encoding="utf-8") as out:
+            subprocess.run([watch, "-f", "%M", "-o", out.name, *words], capture_output=True)
+            return int(out.read().split()[-1]) / 1e3
     child = subprocess.Popen(words, stdout=subprocess.DEVNULL, stderr=subprocess.DEVNULL)
     _, _, usage = os.wait4(child.pid, 0)
     child.returncode = 0
