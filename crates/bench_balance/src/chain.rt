@@ -26,13 +26,21 @@ fn actor_rows(alloc: Global, actors: u32) -> Result<Rows<ActorRow>, AllocError>
 {
     let mut rows = Rows::new(alloc);
     for _actor in 0..actors {
-        rows.push(ActorRow {
-            name: Text::new(String::new(alloc)),
-            phases: 1,
-            times: Rows::new(alloc),
-        })?;
+        rows.push(actor_row(alloc))?;
     }
     Ok(rows)
+}
+
+/// An actor of one phase.
+fn actor_row(alloc: Global) -> ActorRow
+    ensures phases { result.phases ≡ 1 }
+    ensures rules { ActorKeepsRules Sdf result }
+{
+    ActorRow {
+        name: Text::new(String::new(alloc)),
+        phases: 1,
+        times: Rows::new(alloc),
+    }
 }
 
 fn channel_rows(alloc: Global, actors: u32, channels: u32) -> Result<Rows<ChannelRow>, AllocError>

@@ -1,7 +1,6 @@
 use super::*;
 use crate::table::table_of;
-use file_text::{Attribute, Element};
-use sd_base::{Rows, Text};
+use file_text::{Element, read_tree};
 use std::alloc::AllocError;
 use std::process::Abort;
 use std::test::Fail;
@@ -11,28 +10,19 @@ use std::test::Fail;
 /// The start of each graph: its root, and the section of actors and channels.
 const HEAD: &str = "sdf3 type=sdf\n.applicationGraph name=g\n..sdf name=g\n";
 
-fn text(alloc: Global, text: &str) -> Result<Text, AllocError> {
-    Ok(Text::new(String::from_str(alloc, text)?))
-}
-
 /// An element from its name and `name=value` for each attribute.
-fn element(alloc: Global, line: &str) -> Result<Element, AllocError> {
+fn element(alloc: Global, line: &str) -> Result<Element, Fail> {
     let mut words = line.split(' ');
-    let name = text(alloc, words.next().unwrap_or(""))?;
-    let mut attributes = Rows::new(alloc);
+    let mut tag = String::from_str(alloc, "<")?;
+    tag.push_str(words.next().unwrap_or(""))?;
     for word in words {
         if let Some((name, value)) = word.split_once('=') {
-            attributes.push(Attribute {
-                name: text(alloc, name)?,
-                value: text(alloc, value)?,
-            })?;
+            tag.push_str(format!(in alloc; " {name}='{value}'")?.as_str())?;
         }
     }
-    Ok(Element {
-        name,
-        attributes,
-        children: Vec::new(alloc),
-    })
+    tag.push_str("/>")?;
+    let tree = read_tree(alloc, tag.as_bytes()).ok().ok_or("a tag")?;
+    Ok(tree.root)
 }
 
 /// Puts each open element from this depth on into the one around it.
