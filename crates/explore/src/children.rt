@@ -3,7 +3,7 @@ ghost use Rattle.sd_base.specs.declared.limits.TheConstants.{NET_TOKENS};
 ghost use Rattle.critical.specs.Spaces.{Has};
 ghost use Rattle.liveness.specs.RoundAnswers.{IsReached};
 ghost use Rattle.storage.specs.BoundedNets.{bound};
-ghost use Rattle.storage.specs.Distributions.{capacity_at, enlarged, storage_of};
+ghost use Rattle.storage.specs.Distributions.{enlarged, storage_of};
 ghost use Rattle.explore.specs.Reachable.{stepped};
 ghost use Rattle.explore.specs.inside.Searches.{AreChildren, AreSteps, IsCandidate, IsChildAdded};
 
@@ -132,21 +132,8 @@ fn more_storage<F: Firing>(net: &F, capacities: &Distribution, channel: u32, by:
     ensures { storage_of (F.net net.now).channels (enlarged capacities.now.capacities channel by)
         ≡ storage_of (F.net net.now).channels capacities.now.capacities + result }
 {
-    match capacity_of(capacities, channel) {
+    match capacities.capacity_of(channel) {
         Some(_room) => u128::from(by) * u128::from(net.size(channel)),
         None => 0,
-    }
-}
-
-/// The capacity of a channel, if it is bounded.
-fn capacity_of(capacities: &Distribution, channel: u32) -> Option<u64>
-    ensures { result ≡ capacity_at capacities.now.capacities channel }
-{
-    let entries = capacities.capacities.as_slice();
-    let place = channel as usize;
-    if place < entries.len() {
-        entries[place]
-    } else {
-        None
     }
 }

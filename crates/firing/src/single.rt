@@ -27,7 +27,7 @@ fn times_of<F: Firing>(alloc: Global, net: &F) -> Result<Vec<u64>, NoMemory>
     requires { (a : ℕ) → a < length (F.net net.now).times → phases_at (F.net net.now) a ≡ 1 }
     ensures { IfOk result (λ v. map (λ t. t ∷ []) v.items ≡ (F.net net.now).times) }
 {
-    let mut times = Vec::new(alloc);
+    let mut times = Vec::with_capacity(alloc, net.actors() as usize)?;
     for actor in 0..net.actors() {
         times.push(net.time(actor, 0))?;
     }
@@ -39,7 +39,7 @@ fn channels_of<F: Firing>(alloc: Global, net: &F) -> Result<Vec<SdfChannel>, NoM
     requires { (a : ℕ) → a < length (F.net net.now).times → phases_at (F.net net.now) a ≡ 1 }
     ensures { IfOk result (λ v. map plain_channel v.items ≡ (F.net net.now).channels) }
 {
-    let mut channels = Vec::new(alloc);
+    let mut channels = Vec::with_capacity(alloc, net.channels() as usize)?;
     for channel in 0..net.channels() {
         channels.push(channel_of(net, channel))?;
     }
@@ -69,7 +69,7 @@ fn rounds_of<F: Firing>(alloc: Global, net: &F) -> Result<Vec<u64>, NoMemory>
     ensures { IfOk result (λ v. v.items ≡ (F.net net.now).round) }
 {
     know_laws(net);
-    let mut rounds = Vec::new(alloc);
+    let mut rounds = Vec::with_capacity(alloc, net.actors() as usize)?;
     for actor in 0..net.actors() {
         rounds.push(net.round(actor))?;
     }

@@ -112,7 +112,7 @@ pub fn span_sum<F: Firing>(net: &F, channel: u32, port: Port, from: u64, firings
 pub fn initial_tokens<F: Firing>(alloc: Global, net: &F) -> Result<Vec<u128>, NoMemory>
     ensures { IfOk result (λ v. v.items ≡ map (λ (c : Channel). c.tokens) (F.net net.now).channels) }
 {
-    let mut tokens = Vec::new(alloc);
+    let mut tokens = Vec::with_capacity(alloc, net.channels() as usize)?;
     for channel in 0..net.channels() {
         tokens.push(net.tokens(channel) as u128)?;
     }

@@ -4,7 +4,6 @@ ghost use Rattle.sd_base.specs.Net.{channel_at, total};
 ghost use Rattle.sd_base.specs.Schedules.{Needs};
 ghost use Rattle.sd_base.specs.Untimed.{CanFire, NamesLacks};
 ghost use Rattle.critical.specs.Spaces.{Has, IsRising};
-ghost use Rattle.storage.specs.Distributions.{capacity_at};
 ghost use Rattle.storage.specs.ShownSpaces.{ShowsSpace};
 ghost use Rattle.storage.specs.BoundedNets.{bound, space_of};
 
@@ -52,7 +51,7 @@ fn shows_space<F: Firing>(
     ensures { IsTrue result ↔ ShowsSpace (F.net net.now) capacities.now.capacities (slice_index counts.now) channel }
 {
     know_laws(net);
-    match capacity_of(capacities, channel) {
+    match capacities.capacity_of(channel) {
         Some(room) => {
             lacks_space_alone(net, capacities, counts, lacks, net.source(channel))
                 && lacks_space(net, counts, channel, room)
@@ -77,19 +76,6 @@ fn lacks_space_alone<F: Firing>(
     match lacks[actor as usize] {
         Some(first) => first >= net.channels(),
         None => false,
-    }
-}
-
-/// The capacity of a channel, if it is bounded.
-fn capacity_of(capacities: &Distribution, channel: u32) -> Option<u64>
-    ensures { result ≡ capacity_at capacities.now.capacities channel }
-{
-    let entries = capacities.capacities.as_slice();
-    let place = channel as usize;
-    if place < entries.len() {
-        entries[place]
-    } else {
-        None
     }
 }
 

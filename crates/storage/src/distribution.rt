@@ -26,6 +26,19 @@ impl Distribution {
         })
     }
 
+    /// The capacity of a channel in tokens, if it is bounded.
+    pub fn capacity_of(&self, channel: u32) -> Option<u64>
+        ensures { result ≡ capacity_at self.now.capacities channel }
+    {
+        let entries = self.capacities.as_slice();
+        let place = channel as usize;
+        if place < entries.len() {
+            entries[place]
+        } else {
+            None
+        }
+    }
+
     /// The distribution with so much more room on one channel, if that is bounded. Cost: linear in the channels.
     pub fn enlarge(&self, alloc: Global, channel: u32, by: u64) -> Result<Distribution, NoMemory>
         requires { (k : ℕ) → capacity_at self.now.capacities channel ≡ Some k → k + by < 2 ^ 64 }
