@@ -1,80 +1,16 @@
--- One firing of a run.
-use Rattle.std.proofs.Common.{◌≡◌, ◌≢◌, ℕ, ◌+◌, ◌*◌, ◌≤◌, ◌<◌, ◌^◌, Option, List, [], ◌∷◌, ◌++◌, length, map, set, replicate, sum, ⊎_elim, subst, sym, ap, ◌∙◌, arith}
+-- A whole run.
+use Rattle.std.proofs.Common.{◌≡◌, ℕ, ◌+◌, ◌≤◌, ◌<◌, Option, List, [], length, map, replicate, ⊎_elim, subst, sym, ◌∙◌, arith}
 use Rattle.std.specs.Prelude.{slice_index}
-use Rattle.std.proofs.lemmas.Bool.{cases_lt, cases_eq}
-use Rattle.std.proofs.lemmas.List.{length-set, length-map, length-replicate, get_or-map, get_or-replicate, get_or_past}
-use Rattle.std.proofs.lemmas.List.Sums.{get_or-le-sum_by}
-use Rattle.sd_base.specs.Net.{Channel, Net, nowhere, channel_at, phase_entry, total}
-use Rattle.sd_base.specs.Untimed.{none_fired, one_more, CanFire, Fires, counts_after, IsRoundOrder, IsLive, Closed, Blocks, IsEnd}
+use Rattle.std.proofs.lemmas.Bool.{cases_lt}
+use Rattle.std.proofs.lemmas.List.{length-map, length-replicate, get_or-map, get_or-replicate, get_or_past}
+use Rattle.sd_base.specs.Net.{Channel, Net, nowhere, channel_at, total}
+use Rattle.sd_base.specs.Untimed.{IsRoundOrder, IsLive, Closed, Blocks, IsEnd}
 use Rattle.sd_base.specs.Lawful.{Lawful}
-use Rattle.sd_base.proofs.Sums.{total-zero, total-more}
-use Rattle.sd_base.proofs.Parts.{wired, balanced}
-use Rattle.sd_base.proofs.Blocking.{run-within, bump-same, bump-other, end-splits, live-unblocked}
-use Rattle.sd_base.proofs.Ends.{left_of, left-more, fires-push, after-push}
-use Rattle.firing.specs.Wiring.{SufficesBefore, IsFirstLack, TakesTokens, PutsTokens, IsLevel}
-use Rattle.firing.proofs.TokenMoves.{MoreBy, more-set, takes-le, level-takes, level-puts, level-needs, level-feeds, level-small}
+use Rattle.sd_base.proofs.Sums.{total-zero}
+use Rattle.sd_base.proofs.Parts.{wired}
+use Rattle.sd_base.proofs.Blocking.{end-splits, live-unblocked}
 use Rattle.sd_base.specs.Untimed.{NamesLacks, IsBlockedBy}
-use Rattle.liveness.specs.inside.UntimedRuns.{IsNoted, IsRun, IsStopped}
-
--- an actor that lacks tokens is stopped
-pub stopped-lacks : (net : Net) (counts tokens : List ℕ) (a i : ℕ) → IsLevel net (slice_index counts) (slice_index counts) tokens → IsFirstLack net tokens a (slice_index counts a) i → IsStopped net (slice_index counts) a
-stopped-lacks net counts tokens a i level lack less =
-    (i, lack.lacks.place, lack.lacks.into, level-needs net (slice_index counts) (slice_index counts) tokens a i level lack.lacks)
-
-module _ (net : Net) (laws : Lawful net) (counts tokens order : List ℕ) (a : ℕ) (run : IsRun net counts tokens order) (actor : a < length net.times) (less : slice_index counts a < slice_index net.round a)
-    (enough : SufficesBefore net tokens a (slice_index counts a) (length net.channels)) where
-  pub fire-enough : (i : ℕ) → i < length net.channels → (channel_at net i).target ≡ a →
-      total (channel_at net i).taken (slice_index counts a + 1) ≤ slice_index tokens i + total (channel_at net i).taken (slice_index counts a)
-  fire-enough i place into =
-      let more : total (channel_at net i).taken (slice_index counts a + 1) ≡ total (channel_at net i).taken (slice_index counts a) + phase_entry (channel_at net i).taken (slice_index counts a) = total-more (channel_at net i).taken (slice_index counts a) in
-      let here : phase_entry (channel_at net i).taken (slice_index counts a) ≤ slice_index tokens i = enough i place into in
-      omega arith
-
-  count-small : (b : ℕ) → b < length net.times → slice_index counts b ≤ 100000
-  count-small b place =
-      let within : counts_after none_fired order b ≤ slice_index net.round b = run-within net order none_fired run.fires (λ x is. omega arith) b place in
-      let part : slice_index net.round b ≤ sum net.round = get_or-le-sum_by (λ (x : ℕ). x) net.round b 0 (rw (← (balanced net laws).actors) at place) in
-      omega (arith, run.reached b place, laws.small_round)
-
-  pub fire-few : slice_index counts a + 1 < 2 ^ 64
-  fire-few = omega (arith, count-small a actor)
-
-  module _ (mid new : List ℕ) (takes : TakesTokens net a (slice_index counts a) 1 tokens mid) where
-    pub fire-small : (i : ℕ) → i < length net.channels → slice_index mid i ≤ 2 ^ 100
-    fire-small i place =
-        let le : slice_index mid i ≤ slice_index tokens i = takes-le net a (slice_index counts a) 1 tokens mid takes i place in
-        let few : slice_index tokens i ≤ 2000000000 + 100000 * 1000000 = level-small net (slice_index counts) (slice_index counts) tokens 100000 i laws run.level place (count-small (channel_at net i).source (laws.sources i place)) in
-        omega arith
-
-    can : CanFire net (counts_after none_fired order) a
-    can i place into =
-        let feeds : total (channel_at net i).taken (slice_index counts a + 1) ≤ (channel_at net i).tokens + total (channel_at net i).made (slice_index counts (channel_at net i).source) =
-        level-feeds net (slice_index counts) (slice_index counts) tokens a i run.level place into (enough i place into) in
-        rw (run.reached a actor, run.reached (channel_at net i).source (laws.sources i place)) feeds
-
-    pub fire-run : PutsTokens net a (slice_index counts a) 1 mid new → length mid ≡ length tokens → length new ≡ length mid → (more : List ℕ) → more ≡ order ++ a ∷ [] →
-        IsRun net (set counts a (slice_index counts a + 1)) new more
-    fire-run puts long longer more push =
-        let place : a < length counts = rw run.actors actor in
-        let by : MoreBy a 1 (slice_index counts) (slice_index (set counts a (slice_index counts a + 1))) = more-set counts a 1 place in
-        record {
-          actors = length-set counts a (slice_index counts a + 1) ∙ run.actors;
-          fires = subst (Fires net none_fired) (sym push) (fires-push net order none_fired a run.fires actor (rw (run.reached a actor) less) can);
-          reached = λ b is. rw push (after-push order none_fired a b ∙ ⊎_elim
-              (λ (same : b ≡ a). subst (λ (x : ℕ). one_more (counts_after none_fired order) a x ≡ slice_index (set counts a (slice_index counts a + 1)) x) (sym same) (bump-same (counts_after none_fired order) a ∙ (ap (λ (x : ℕ). x + 1) (run.reached a actor) ∙ sym by.here)))
-              (λ (away : b ≢ a). bump-other (counts_after none_fired order) a b away ∙ (run.reached b is ∙ sym (by.others b away)))
-              (cases_eq b a));
-          level = level-puts net a 1 (slice_index (set counts a (slice_index counts a + 1))) (slice_index counts) (slice_index (set counts a (slice_index counts a + 1))) mid new
-              (level-takes net a 1 (slice_index counts) (slice_index (set counts a (slice_index counts a + 1))) (slice_index counts) tokens mid run.level takes long by) puts longer by;
-        }
-
-  pub fire-less : left_of net (slice_index (set counts a (slice_index counts a + 1))) < left_of net (slice_index counts)
-  fire-less =
-      let place : a < length counts = rw run.actors actor in
-      let by : MoreBy a 1 (slice_index counts) (slice_index (set counts a (slice_index counts a + 1))) = more-set counts a 1 place in
-      left-more net (slice_index counts) (slice_index (set counts a (slice_index counts a + 1))) a actor less by.here by.others
-
--- ---- a whole run
+use Rattle.liveness.specs.inside.UntimedRuns.{IsNoted, IsRun}
 
 -- the order that was noted is that of the run
 pub noted-run : (net : Net) (counts tokens order : List ℕ) → IsNoted (λ fired. order ≡ fired) net counts tokens → IsRun net counts tokens order

@@ -1,3 +1,4 @@
+pub mod InRow
 pub mod Firings
 pub mod Naming
 pub mod Looking

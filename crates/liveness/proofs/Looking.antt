@@ -62,26 +62,36 @@ pub stack-few : (b : Bool) (stack more : List ℕ) (t : ℕ) → more ≡ (if b 
 stack-few true stack more t same = rw same (omega arith)
 stack-few false stack more t longer = rw longer (omega (arith, Rattle.std.proofs.lemmas.List.length_push stack t))
 
--- the targets of the first n channels are flagged, and no flag is taken off
-pub record TargetsSoFar (net : Net) (channels : List ℕ) (old now : List Bool) (n : ℕ) : Type 0 where
+-- the targets of the first n channels other than t are flagged, and no flag is taken off
+pub record TargetsSoFar (net : Net) (t : ℕ) (channels : List ℕ) (old now : List Bool) (n : ℕ) : Type 0 where
   pub kept : (a : ℕ) → flag_of old a ≡ true → flag_of now a ≡ true
-  pub there : (j : ℕ) → j < n → flag_of now (channel_at net (slice_index channels j)).target ≡ true
+  pub there : (j : ℕ) → j < n → (channel_at net (slice_index channels j)).target ≢ t → flag_of now (channel_at net (slice_index channels j)).target ≡ true
 
-pub targets-none : (net : Net) (channels : List ℕ) (old : List Bool) → TargetsSoFar net channels old old 0
-targets-none net channels old = record { kept = λ a is. is; there = λ j h. absurd (omega arith) }
+pub targets-none : (net : Net) (t : ℕ) (channels : List ℕ) (old : List Bool) → TargetsSoFar net t channels old old 0
+targets-none net t channels old = record { kept = λ a is. is; there = λ j h. absurd (omega arith) }
 
-pub targets-more : (net : Net) (channels : List ℕ) (old now : List Bool) (n t : ℕ) → t < length now → t ≡ (channel_at net (slice_index channels n)).target → TargetsSoFar net channels old now n →
-    TargetsSoFar net channels old (set now t true) (n + 1)
-targets-more net channels old now n t place into so_far = record {
-  kept = λ a is. flags-kept now t a place (so_far.kept a is);
-  there = λ j h. ⊎_elim
-      (λ (before : j < n). flags-kept now t (channel_at net (slice_index channels j)).target place (so_far.there j before))
-      (λ (here : n ≤ j). let same : j ≡ n = omega arith in rw (same, ← into) (flag-here now t true place))
+pub targets-more : (net : Net) (t : ℕ) (channels : List ℕ) (old now : List Bool) (n b : ℕ) → b < length now → b ≡ (channel_at net (slice_index channels n)).target → TargetsSoFar net t channels old now n →
+    TargetsSoFar net t channels old (set now b true) (n + 1)
+targets-more net t channels old now n b place into so_far = record {
+  kept = λ a is. flags-kept now b a place (so_far.kept a is);
+  there = λ j h apart. ⊎_elim
+      (λ (before : j < n). flags-kept now b (channel_at net (slice_index channels j)).target place (so_far.there j before apart))
+      (λ (here : n ≤ j). let same : j ≡ n = omega arith in rw (same, ← into) (flag-here now b true place))
       (cases_lt j n);
 }
 
-pub targets-all : (net : Net) (channels : List ℕ) (old now : List Bool) (n : ℕ) → length channels ≤ n → TargetsSoFar net channels old now n → FlagsTargets net channels old now
-targets-all net channels old now n past so_far = record { kept = so_far.kept; there = λ j h. so_far.there j (omega arith) }
+pub targets-skip : (net : Net) (t : ℕ) (channels : List ℕ) (old now : List Bool) (n : ℕ) → (channel_at net (slice_index channels n)).target ≡ t → TargetsSoFar net t channels old now n →
+    TargetsSoFar net t channels old now (n + 1)
+targets-skip net t channels old now n into so_far = record {
+  kept = so_far.kept;
+  there = λ j h apart. ⊎_elim
+      (λ (before : j < n). so_far.there j before apart)
+      (λ (here : n ≤ j). let same : n ≡ j = omega arith in absurd (apart (subst (λ (k : ℕ). (channel_at net (slice_index channels k)).target ≡ t) same into)))
+      (cases_lt j n);
+}
+
+pub targets-all : (net : Net) (t : ℕ) (channels : List ℕ) (old now : List Bool) (n : ℕ) → length channels ≤ n → TargetsSoFar net t channels old now n → FlagsTargets net t channels old now
+targets-all net t channels old now n past so_far = record { kept = so_far.kept; there = λ j h. so_far.there j (omega arith) }
 
 -- ---- an actor is looked at
 
@@ -160,7 +170,7 @@ module _ (net : Net) (counts : List ℕ) (flagged : List Bool) (rest : List ℕ)
 
   -- it fired, and is stopped; the actors into which its channels lead are flagged
   pub looks-fired : (new : List ℕ) (outputs : List ℕ) (now : List Bool) (stack : List ℕ) → IsListed net Made t outputs → IsStopped net (slice_index new) t → ((b : ℕ) → b ≢ t → slice_index new b ≡ slice_index counts b) →
-      AreFlags net now stack → FlagsTargets net outputs (set flagged t false) now → LeavesFlags net new now stack
+      AreFlags net now stack → FlagsTargets net t outputs (set flagged t false) now → LeavesFlags net new now stack
   looks-fired new outputs now stack listed stopped others flags targets = record {
     flags = flags;
     stopped = λ a actor off. ⊎_elim
@@ -182,7 +192,8 @@ module _ (net : Net) (counts : List ℕ) (flagged : List Bool) (rest : List ℕ)
           ⊎_elim
           (λ (from : (channel_at net lack.0).source ≡ t).
           let at = place_of net Made t outputs listed lack.0 lack.1 from in
-          let on : flag_of now (channel_at net (slice_index outputs at.0)).target ≡ true = targets.there at.0 at.1 in
+          let apart : (channel_at net (slice_index outputs at.0)).target ≢ t = rw (at.2, lack.2) away in
+          let on : flag_of now (channel_at net (slice_index outputs at.0)).target ≡ true = targets.there at.0 at.1 apart in
           let mine : flag_of now a ≡ true = rw (at.2, lack.2) at on in
           absurd (false≢true (sym off ∙ mine)))
           (λ (other : (channel_at net lack.0).source ≢ t).

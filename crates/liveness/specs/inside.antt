@@ -1,2 +1,3 @@
+pub mod InRow
 pub mod UntimedRuns
 pub mod Looks

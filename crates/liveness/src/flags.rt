@@ -59,21 +59,25 @@ impl Flags {
         Ok(())
     }
 
-    /// Flags the actors into which these channels lead.
+    /// Flags the actors other than this one into which these channels lead.
     pub(crate) fn flag_targets<F: Firing>(
         &mut self,
         net: &F,
+        actor: u32,
         channels: &[u32],
     ) -> Result<(), NoMemory>
         requires there { (j : ℕ) → j < length channels.now → slice_index channels.now j < length (F.net net.now).channels }
         requires flags { AreFlags (F.net net.now) self.old.flagged.items self.old.stack.items }
         ensures flags { OnOk result (AreFlags (F.net net.now) self.new.flagged.items self.new.stack.items) }
-        ensures targets { OnOk result (FlagsTargets (F.net net.now) channels.now self.old.flagged.items self.new.flagged.items) }
+        ensures targets { OnOk result (FlagsTargets (F.net net.now) actor channels.now self.old.flagged.items self.new.flagged.items) }
         ensures few { OnOk result (length self.new.stack.items ≤ length self.old.stack.items + length channels.now) }
     {
         know_laws(net);
         for channel in channels {
-            self.flag(net.target(*channel))?;
+            let target = net.target(*channel);
+            if target != actor {
+                self.flag(target)?;
+            }
         }
         Ok(())
     }

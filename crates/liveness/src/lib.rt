@@ -5,6 +5,7 @@ mod ending;
 mod flags;
 mod note;
 mod round;
+mod row;
 mod run;
 
 pub use ending::{Ending, moved_by, no_counts, one_round_from, whole_counts};

@@ -1,0 +1,25 @@
+use Rattle.std.proofs.Common.{◌≡◌, ◌≤◌, ◌<◌, ⊎_elim, arith}
+use Rattle.std.specs.Prelude.{slice_index}
+use Rattle.std.proofs.lemmas.Bool.{cases_lt}
+use Rattle.sd_base.specs.Net.{channel_at}
+use Rattle.liveness.proofs.InRow.{feeds-fewer, row-all}
+use Rattle.liveness.proofs.row.fed_in_row.Goals as goal
+
+pub loop-channel-preserved : goal.loop-channel-preserved
+loop-channel-preserved g c = record {
+  few = omega (arith, c.fed_by-fed.ensures.few, c.loop-channel.invariant.few);
+  some = omega (arith, c.if-fed-eq0.false);
+  fed = λ j h. ⊎_elim
+      (λ (before : j < c.loop-channel.channel-index).
+      feeds-fewer (channel_at (g.F.Firing.net c.args.net.now) (slice_index c.args.inputs.now j)) (slice_index c.args.tokens.now (slice_index c.args.inputs.now j)) c.args.count c.fed_by-fed.result c.loop-channel.firings
+      c.fed_by-fed.ensures.few (c.loop-channel.invariant.fed j before))
+      (λ (here : c.loop-channel.channel-index ≤ j).
+      let same : j ≡ c.loop-channel.channel-index = omega arith in
+      rw same (c.fed_by-fed.ensures.fed c.args.count))
+      (cases_lt j c.loop-channel.channel-index);
+}
+
+pub returns-clause-fed : goal.returns-clause-fed
+returns-clause-fed g c =
+    row-all (g.F.Firing.net c.args.net.now) c.args.inputs.now c.args.tokens.now c.args.actor c.args.count c.loop-channel.firings c.loop-channel.channel-index c.requires.listed
+    (omega (arith, c.loop-channel-test.false)) c.loop-channel.invariant.fed
