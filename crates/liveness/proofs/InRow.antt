@@ -1,23 +1,24 @@
 -- Firings of one actor that follow each other.
 use Rattle.std.proofs.Common.{◌≡◌, ◌≢◌, ℕ, zero, suc, ◌+◌, ◌-◌, ◌*◌, ◌≤◌, ◌<◌, ◌^◌, List, [], ◌∷◌, ◌++◌, length, set, replicate, sum, ⊎_elim, subst, sym, refl, ap, ◌∙◌, arith, mul-le-mul_left}
 use Rattle.std.specs.Prelude.{slice_index}
-use Rattle.std.proofs.lemmas.Bool.{cases_eq}
+use Rattle.std.proofs.lemmas.Bool.{cases_lt, cases_eq}
 use Rattle.std.proofs.lemmas.List.{length-set, append-nil, append_assoc, replicate_more}
 use Rattle.std.proofs.lemmas.List.Sums.{get_or-le-sum_by}
 use Rattle.std.proofs.Math.Nat.{mul-le-mul_right}
 use Rattle.sd_base.specs.Net.{Channel, Net, channel_at, phase_entry, total}
 use Rattle.sd_base.specs.Untimed.{none_fired, one_more, CanFire, Fires, counts_after}
 use Rattle.sd_base.specs.Lawful.{Lawful}
-use Rattle.sd_base.proofs.Sums.{total-le, total-more}
+use Rattle.sd_base.specs.Schedules.{phases_at}
+use Rattle.sd_base.proofs.Sums.{total-zero, total-le, total-more, total-turn}
 use Rattle.sd_base.proofs.Parts.{balanced}
 use Rattle.sd_base.proofs.Blocking.{run-within, bump-same, bump-other}
 use Rattle.sd_base.proofs.Ends.{left_of, sum_to-lt, fires-push, after-push}
 use Rattle.firing.specs.declared.sums.Port.TheVariants.{Taken}
-use Rattle.firing.specs.Wiring.{IsListed, TakesTokens, PutsTokens, IsLevel}
+use Rattle.firing.specs.Wiring.{IsListed, IsFirstLack, TakesTokens, PutsTokens, IsLevel}
 use Rattle.firing.proofs.Listings.{place_of}
 use Rattle.firing.proofs.TokenMoves.{MoreBy, more-set, span-one, level-takes, level-puts, level-needs, level-small}
 use Rattle.liveness.specs.inside.UntimedRuns.{IsRun, IsStopped}
-use Rattle.liveness.specs.inside.InRow.{more_of, Feeds, FeedsRow, GivesBack, LacksSome}
+use Rattle.liveness.specs.inside.InRow.{more_of, EndsRow, Feeds, FeedsRow, GivesBack}
 
 more-here : (v : ℕ → ℕ) (a k : ℕ) → more_of v a k a ≡ v a + k
 more-here v a k = rw (Rattle.std.proofs.Common.eq-eqb a a refl) refl
@@ -26,9 +27,6 @@ more-other : (v : ℕ → ℕ) (a k b : ℕ) → b ≢ a → more_of v a k b ≡
 more-other v a k b apart = rw (Rattle.std.proofs.Common.ne_eqb b a apart) refl
 
 -- ---- what one channel feeds
-
-pub feeds-none : (c : Channel) (tokens from : ℕ) → Feeds c tokens from 0
-feeds-none c tokens from = record { own = λ same k h. absurd (omega arith); other = λ apart k h. absurd (omega arith) }
 
 pub feeds-fewer : (c : Channel) (tokens from m n : ℕ) → m ≤ n → Feeds c tokens from n → Feeds c tokens from m
 feeds-fewer c tokens from m n le feeds = record { own = λ same k h. feeds.own same k (omega arith); other = λ apart k h. feeds.other apart k (omega arith) }
@@ -71,6 +69,19 @@ feeds-own c tokens from n rate single here gives enough = record {
   other = λ apart. absurd (apart gives.loops);
 }
 
+-- the rate isn't 0
+pub rate-some : (xs : List ℕ) (rate : ℕ) → length xs ≡ 1 → rate ≡ slice_index xs 0 → 1 ≤ sum xs → 0 < rate
+rate-some xs rate single here some =
+    let turn : total xs 1 ≡ sum xs = ap (total xs) (sym single) ∙ total-turn xs in
+    let one : total xs 0 + 1 * rate ≡ total xs 1 = span-one xs 0 1 1 rate (sym single) refl here in
+    omega (arith, total-zero xs, turn, one, some)
+
+-- tokens for fewer than n + 1 firings
+pub ends-short : (c : Channel) (tokens from n rate : ℕ) → length c.taken ≡ 1 → rate ≡ slice_index c.taken 0 → tokens < (n + 1) * rate → tokens + total c.taken from < total c.taken (from + (n + 1))
+ends-short c tokens from n rate single here few =
+    let takes : total c.taken from + (n + 1) * rate ≡ total c.taken (from + (n + 1)) = span-one c.taken from (n + 1) 1 rate (sym single) refl here in
+    omega (arith, takes, few)
+
 -- the channels before a place of the list feed them, and so do all
 pub row-all : (net : Net) (xs tokens : List ℕ) (a from n done : ℕ) → IsListed net Taken a xs → length xs ≤ done →
     ((j : ℕ) → j < done → Feeds (channel_at net (slice_index xs j)) (slice_index tokens (slice_index xs j)) from n) → FeedsRow net tokens a from n
@@ -103,11 +114,6 @@ module _ (net : Net) (laws : Lawful net) (counts tokens order : List ℕ) (run :
 
 module _ (net : Net) (laws : Lawful net) (counts tokens order : List ℕ) (a n : ℕ) (run : IsRun net counts tokens order) (actor : a < length net.times) (within : slice_index counts a + n ≤ slice_index net.round a)
     (feeds : FeedsRow net tokens a (slice_index counts a) n) where
-  pub row-few : slice_index counts a + n < 2 ^ 64
-  row-few =
-      let part : slice_index net.round a ≤ sum net.round = get_or-le-sum_by (λ (x : ℕ). x) net.round a 0 (rw (← (balanced net laws).actors) at actor) in
-      omega (arith, within, laws.small_round)
-
   can-next : (k : ℕ) → k < n → CanFire net (more_of (slice_index counts) a k) a
   can-next k h i place into = ⊎_elim
       (λ (loops : (channel_at net i).source ≡ (channel_at net i).target).
@@ -205,8 +211,67 @@ module _ (net : Net) (laws : Lawful net) (counts tokens order : List ℕ) (a n :
       each : (b : ℕ) → b < length net.times → slice_index net.round b - slice_index (set counts a (slice_index counts a + n)) b ≤ slice_index net.round b - slice_index counts b
       each b h = ⊎_elim (λ (same : b ≡ a). rw (same, by.here) (omega arith)) (λ (apart : b ≢ a). omega (arith, by.others b apart)) (cases_eq b a)
 
--- an actor that lacks tokens is stopped
-pub stopped-row : (net : Net) (counts tokens : List ℕ) (a : ℕ) → IsLevel net (slice_index counts) (slice_index counts) tokens → (slice_index counts a < slice_index net.round a → LacksSome net tokens a (slice_index counts a)) → IsStopped net (slice_index counts) a
-stopped-row net counts tokens a level lack less =
-    let some : LacksSome net tokens a (slice_index counts a) = lack less in
-    (some.0, some.1.place, some.1.into, level-needs net (slice_index counts) (slice_index counts) tokens a some.0 level some.1)
+-- an actor that has fired a whole row is stopped
+pub stopped-row : (net : Net) (counts tokens : List ℕ) (w : ℕ → ℕ) (a n : ℕ) → IsLevel net (slice_index counts) (slice_index counts) tokens → MoreBy a n (slice_index counts) w →
+    (w a < slice_index net.round a → EndsRow net tokens a (slice_index counts a) n) → IsStopped net w a
+stopped-row net counts tokens w a n level by ends less =
+    let end : EndsRow net tokens a (slice_index counts a) n = ends less in
+    let was : slice_index tokens end.channel + total (channel_at net end.channel).taken (slice_index counts a) ≡ (channel_at net end.channel).tokens + total (channel_at net end.channel).made (slice_index counts (channel_at net end.channel).source) = rw end.into at (level.each end.channel end.place) in
+    let same : w (channel_at net end.channel).source ≡ slice_index counts (channel_at net end.channel).source = ⊎_elim
+    (λ (own : (channel_at net end.channel).source ≡ a). ⊎_elim
+    (λ (some : 0 < n). absurd (end.apart some own))
+    (λ (none : n ≤ 0). rw own (rw by.here (omega arith)))
+    (cases_lt 0 n))
+    (λ (other : (channel_at net end.channel).source ≢ a). by.others (channel_at net end.channel).source other)
+    (cases_eq (channel_at net end.channel).source a) in
+    let next : slice_index counts a + n + 1 ≡ slice_index counts a + (n + 1) = omega arith in
+    (end.channel, end.place, end.into, rw (same, by.here, next) (omega (arith, was, end.short)))
+
+-- the same where it lacks tokens for its next firing
+pub stopped-lack : (net : Net) (counts tokens : List ℕ) (a i : ℕ) → IsLevel net (slice_index counts) (slice_index counts) tokens → IsFirstLack net tokens a (slice_index counts a) i → IsStopped net (slice_index counts) a
+stopped-lack net counts tokens a i level lack less =
+    (i, lack.lacks.place, lack.lacks.into, level-needs net (slice_index counts) (slice_index counts) tokens a i level lack.lacks)
+
+-- ---- channels of an actor of one phase
+
+module _ (net : Net) (laws : Lawful net) (i : ℕ) (place : i < length net.channels) where
+  pub taken-single : (a : ℕ) → (channel_at net i).target ≡ a → phases_at net a ≡ 1 → length (channel_at net i).taken ≡ 1
+  taken-single a into single = laws.taken_phases i place ∙ (ap (phases_at net) into ∙ single)
+
+  pub made-single : (a : ℕ) → (channel_at net i).source ≡ a → phases_at net a ≡ 1 → length (channel_at net i).made ≡ 1
+  made-single a from single = laws.made_phases i place ∙ (ap (phases_at net) from ∙ single)
+
+  -- what a row puts and takes
+  pub made-row : (a from n all rate : ℕ) → (channel_at net i).source ≡ a → phases_at net a ≡ 1 → rate ≡ slice_index (channel_at net i).made 0 → all ≡ n * rate → total (channel_at net i).made from + all ≡ total (channel_at net i).made (from + n)
+  made-row a from n all rate out single here sum = rw sum (span-one (channel_at net i).made from n 1 rate (sym (made-single a out single)) refl here)
+
+  pub taken-row : (a from n all rate : ℕ) → (channel_at net i).target ≡ a → phases_at net a ≡ 1 → rate ≡ slice_index (channel_at net i).taken 0 → all ≡ n * rate → total (channel_at net i).taken from + all ≡ total (channel_at net i).taken (from + n)
+  taken-row a from n all rate into single here sum = rw sum (span-one (channel_at net i).taken from n 1 rate (sym (taken-single a into single)) refl here)
+
+  -- on a self-loop each firing puts what it takes
+  pub gives-back : (rate : ℕ) → (channel_at net i).source ≡ (channel_at net i).target → length (channel_at net i).taken ≡ 1 → rate ≡ slice_index (channel_at net i).taken 0 → GivesBack (channel_at net i) rate
+  gives-back rate loops single here = record { loops = loops; single = one; back = back }
+    where
+      phases : phases_at net (channel_at net i).target ≡ 1
+      phases = sym (laws.taken_phases i place) ∙ single
+
+      one : length (channel_at net i).made ≡ 1
+      one = made-single (channel_at net i).target loops phases
+
+      back : rate ≤ slice_index (channel_at net i).made 0
+      back =
+          let some : 1 ≤ slice_index net.round (channel_at net i).target = (balanced net laws).fires (channel_at net i).target (laws.targets i place) in
+          let kept : total (channel_at net i).made (slice_index net.round (channel_at net i).target) ≡ total (channel_at net i).taken (slice_index net.round (channel_at net i).target) = rw loops at ((balanced net laws).kept i place) in
+          let makes : total (channel_at net i).made 0 + slice_index net.round (channel_at net i).target * slice_index (channel_at net i).made 0 ≡ total (channel_at net i).made (0 + slice_index net.round (channel_at net i).target) =
+          span-one (channel_at net i).made 0 (slice_index net.round (channel_at net i).target) 1 (slice_index (channel_at net i).made 0) (sym one) refl refl in
+          let takes : total (channel_at net i).taken 0 + slice_index net.round (channel_at net i).target * rate ≡ total (channel_at net i).taken (0 + slice_index net.round (channel_at net i).target) =
+          span-one (channel_at net i).taken 0 (slice_index net.round (channel_at net i).target) 1 rate (sym single) refl here in
+          let none : 0 + slice_index net.round (channel_at net i).target ≡ slice_index net.round (channel_at net i).target = omega arith in
+          let level : slice_index net.round (channel_at net i).target * slice_index (channel_at net i).made 0 ≡ slice_index net.round (channel_at net i).target * rate =
+          omega (arith, total-zero (channel_at net i).made, total-zero (channel_at net i).taken, kept, rw none at makes, rw none at takes) in
+          ⊎_elim
+          (λ (less : slice_index (channel_at net i).made 0 < rate). absurd (
+          let more : slice_index net.round (channel_at net i).target * (slice_index (channel_at net i).made 0 + 1) ≤ slice_index net.round (channel_at net i).target * rate = mul-le-mul_left (slice_index net.round (channel_at net i).target) (omega arith) in
+          omega (arith, some, level, more)))
+          (λ (enough : rate ≤ slice_index (channel_at net i).made 0). enough)
+          (cases_lt (slice_index (channel_at net i).made 0) rate)

@@ -1,5 +1,5 @@
 pub mod InRow
-pub mod Firings
+pub mod WholeRuns
 pub mod Naming
 pub mod Looking
 pub mod Reaching

@@ -1,44 +1,70 @@
-//! How many firings of one actor can follow each other, with none of another actor between.
-ghost use Rattle.std.specs.Prelude.{◌≡◌, ℕ, ◌+◌, ◌^◌, ◌<◌, ◌≤◌, IsTrue, length, slice_index};
-ghost use Rattle.sd_base.specs.Net.{channel_at, phase_entry};
+//! A row of firings: those of an actor of one phase that follow each other, with none of another actor between.
+ghost use Rattle.std.specs.Prelude.{◌≡◌, ◌≢◌, ℕ, List, ◌+◌, ◌*◌, ◌++◌, ◌^◌, ◌<◌, ◌≤◌, IfOk, OnOk, MatchBool, length, replicate, slice_index};
+ghost use Rattle.sd_base.specs.declared.limits.TheConstants.{RATE};
+ghost use Rattle.sd_base.specs.Net.{channel_at, total};
 ghost use Rattle.sd_base.specs.Schedules.{phases_at};
-ghost use Rattle.firing.specs.declared.sums.Port.TheVariants.{Taken};
-ghost use Rattle.firing.specs.Wiring.{IsListed};
-ghost use Rattle.liveness.specs.inside.InRow.{Feeds, FeedsRow, GivesBack, LacksSome};
+ghost use Rattle.sd_base.proofs.Ends.{left_of};
+ghost use Rattle.firing.specs.declared.sums.Port.TheVariants.{Made, Taken};
+ghost use Rattle.firing.specs.Wiring.{AreListed, IsListed, PutsTokens, TakesTokens};
+ghost use Rattle.liveness.specs.inside.InRow.{EndsRow, Feeds, FeedsRow};
+ghost use Rattle.liveness.specs.inside.UntimedRuns.{IsNoted, IsStopped};
 
-use firing::{Firing, first_lack, know_laws};
+use crate::note::Note;
+use firing::{Firing, Wiring, know_laws};
+use sd_base::NoMemory;
 
-/// How many firings of an actor can follow each other within its round from number `count` on: at least one where it can
-/// fire, and where it has one phase as many as the channels from other actors feed. Cost: linear in the channels into it.
-pub(crate) fn firings_in_row<F: Firing>(
+/// Fires an actor of one phase as often as it can within its round, and tells whether it fired. Cost: linear in its
+/// channels, and where notes are taken in the firings.
+pub(crate) fn fire_row<F: Firing, N: Note>(
     net: &F,
-    inputs: &[u32],
-    tokens: &[u128],
+    wiring: &Wiring,
     actor: u32,
-    count: u64,
-) -> u64
+    counts: &mut [u64],
+    tokens: &mut [u128],
+    note: &mut N,
+) -> Result<bool, NoMemory>
     requires actor { actor < length (F.net net.now).times }
-    requires listed { IsListed (F.net net.now) Taken actor inputs.now }
-    requires tokens { length tokens.now ≡ length (F.net net.now).channels }
-    requires small { (i : ℕ) → i < length (F.net net.now).channels → slice_index tokens.now i < 2 ^ 64 }
-    ensures within { 0 < result → count + result ≤ slice_index (F.net net.now).round actor }
-    ensures fed { FeedsRow (F.net net.now) tokens.now actor count result }
-    ensures lacks { result ≡ 0 → count < slice_index (F.net net.now).round actor → LacksSome (F.net net.now) tokens.now actor count }
+    requires single { phases_at (F.net net.now) actor ≡ 1 }
+    requires inputs { AreListed (F.net net.now) Taken wiring.now.inputs }
+    requires outputs { AreListed (F.net net.now) Made wiring.now.outputs }
+    requires run { IsNoted (N.holds note.old) (F.net net.now) counts.old tokens.old }
+    ensures run { OnOk result (IsNoted (N.holds note.new) (F.net net.now) counts.new tokens.new) }
+    ensures stopped { IfOk result (λ b. IsStopped (F.net net.now) (slice_index counts.new) actor) }
+    ensures others { IfOk result (λ b. (a : ℕ) → a ≢ actor → slice_index counts.new a ≡ slice_index counts.old a) }
+    ensures fired { IfOk result (λ b. MatchBool b
+        (left_of (F.net net.now) (slice_index counts.new) < left_of (F.net net.now) (slice_index counts.old))
+        (counts.new ≡ counts.old)) }
 {
+    know_laws(net);
+    let count = counts[actor as usize];
     let round = net.round(actor);
     if count >= round {
-        return 0;
+        return Ok(false);
     }
-    if net.phases(actor) == 1 {
-        return fed_in_row(net, inputs, tokens, actor, count, round - count);
+    let inputs = wiring.inputs_of(actor);
+    let firings = fed_in_row(net, inputs, tokens, actor, count, round - count);
+    if firings == 0 {
+        return Ok(false);
     }
-    match first_lack(net, inputs, tokens, actor, count) {
-        Some(_lacking) => 0,
-        None => 1,
-    }
+    note_row(note, actor, firings)?;
+    put_row(net, wiring.outputs_of(actor), tokens, actor, count, firings);
+    take_row(net, inputs, tokens, actor, count, firings);
+    counts[actor as usize] = count + firings;
+    Ok(true)
 }
 
-/// How many of so many firings of an actor of one phase can follow each other.
+/// Takes note of so many firings of an actor.
+fn note_row<N: Note>(note: &mut N, actor: u32, firings: u64) -> Result<(), NoMemory>
+    ensures { OnOk result ((order : List ℕ) → N.holds note.old order → N.holds note.new (order ++ replicate firings actor)) }
+{
+    for _firing in 0..firings {
+        note.fired(actor)?;
+    }
+    Ok(())
+}
+
+/// How many of so many firings of an actor of one phase, from number `count` on, can follow each other. Where these are
+/// fewer, a channel from another actor lacks tokens for the next one.
 fn fed_in_row<F: Firing>(
     net: &F,
     inputs: &[u32],
@@ -48,14 +74,14 @@ fn fed_in_row<F: Firing>(
     most: u64,
 ) -> u64
     requires actor { actor < length (F.net net.now).times }
+    requires single { phases_at (F.net net.now) actor ≡ 1 }
     requires listed { IsListed (F.net net.now) Taken actor inputs.now }
     requires tokens { length tokens.now ≡ length (F.net net.now).channels }
     requires small { (i : ℕ) → i < length (F.net net.now).channels → slice_index tokens.now i < 2 ^ 64 }
-    requires single { phases_at (F.net net.now) actor ≡ 1 }
     requires some { 0 < most }
     ensures few { result ≤ most }
     ensures fed { FeedsRow (F.net net.now) tokens.now actor count result }
-    ensures lacks { result ≡ 0 → LacksSome (F.net net.now) tokens.now actor count }
+    ensures ends { result < most → EndsRow (F.net net.now) tokens.now actor count result }
 {
     know_laws(net);
     let mut firings = most;
@@ -70,7 +96,7 @@ fn fed_in_row<F: Firing>(
 }
 
 /// How many of so many firings of its target a channel with these tokens feeds, where the target has one phase and no
-/// other actor fires between. A self-loop gives each firing what the one before it put there.
+/// other actor fires between. On a self-loop each firing puts what the next one takes.
 fn fed_by<F: Firing>(net: &F, channel: u32, tokens: u128, most: u64) -> u64
     requires channel { channel < length (F.net net.now).channels }
     requires single { length (channel_at (F.net net.now) channel).taken ≡ 1 }
@@ -78,7 +104,8 @@ fn fed_by<F: Firing>(net: &F, channel: u32, tokens: u128, most: u64) -> u64
     requires some { 0 < most }
     ensures few { result ≤ most }
     ensures fed { (from : ℕ) → Feeds (channel_at (F.net net.now) channel) tokens from result }
-    ensures lacks { result ≡ 0 → (from : ℕ) → tokens < phase_entry (channel_at (F.net net.now) channel).taken from }
+    ensures ends { result < most → (from : ℕ) → tokens + total (channel_at (F.net net.now) channel).taken from < total (channel_at (F.net net.now) channel).taken (from + (result + 1)) }
+    ensures apart { 0 < result → result < most → (channel_at (F.net net.now) channel).source ≢ (channel_at (F.net net.now) channel).target }
 {
     know_laws(net);
     let rate = net.taken(channel, 0);
@@ -86,21 +113,65 @@ fn fed_by<F: Firing>(net: &F, channel: u32, tokens: u128, most: u64) -> u64
     if tokens < rate {
         return 0;
     }
-    if gives_back(net, channel, rate) {
+    if net.source(channel) == net.target(channel) {
         return most;
     }
     most.min(tokens / rate)
 }
 
-/// Whether a channel is a self-loop on which each firing puts at least so many tokens, where its target has one phase.
-fn gives_back<F: Firing>(net: &F, channel: u32, rate: u64) -> bool
-    requires channel { channel < length (F.net net.now).channels }
-    requires single { length (channel_at (F.net net.now) channel).taken ≡ 1 }
-    ensures { IsTrue result → GivesBack (channel_at (F.net net.now) channel) rate }
+/// Puts the tokens of `firings` firings of an actor of one phase, from number `from` on, on the channels out of it.
+fn put_row<F: Firing>(
+    net: &F,
+    outputs: &[u32],
+    tokens: &mut [u128],
+    actor: u32,
+    from: u64,
+    firings: u64,
+)
+    requires actor { actor < length (F.net net.now).times }
+    requires single { phases_at (F.net net.now) actor ≡ 1 }
+    requires listed { IsListed (F.net net.now) Made actor outputs.now }
+    requires tokens { length tokens.old ≡ length (F.net net.now).channels }
+    requires small { (i : ℕ) → i < length (F.net net.now).channels → slice_index tokens.old i ≤ 2 ^ 100 }
+    ensures { PutsTokens (F.net net.now) actor from firings tokens.old tokens.new }
 {
     know_laws(net);
-    if net.source(channel) != net.target(channel) {
-        return false;
+    for channel in outputs {
+        let all = tokens_of(firings, net.made(*channel, 0));
+        tokens[*channel as usize] += all;
     }
-    net.made(channel, 0) >= rate
+}
+
+/// Takes the tokens of `firings` firings of an actor of one phase, from number `from` on, off the channels into it.
+fn take_row<F: Firing>(
+    net: &F,
+    inputs: &[u32],
+    tokens: &mut [u128],
+    actor: u32,
+    from: u64,
+    firings: u64,
+)
+    requires actor { actor < length (F.net net.now).times }
+    requires single { phases_at (F.net net.now) actor ≡ 1 }
+    requires listed { IsListed (F.net net.now) Taken actor inputs.now }
+    requires tokens { length tokens.old ≡ length (F.net net.now).channels }
+    requires enough { (i : ℕ) → i < length (F.net net.now).channels → (channel_at (F.net net.now) i).target ≡ actor →
+        total (channel_at (F.net net.now) i).taken (from + firings)
+        ≤ slice_index tokens.old i + total (channel_at (F.net net.now) i).taken from }
+    ensures { TakesTokens (F.net net.now) actor from firings tokens.old tokens.new }
+{
+    know_laws(net);
+    for channel in inputs {
+        let all = tokens_of(firings, net.taken(*channel, 0));
+        tokens[*channel as usize] -= all;
+    }
+}
+
+/// The tokens of so many firings at a rate.
+fn tokens_of(firings: u64, rate: u64) -> u128
+    requires { rate ≤ RATE }
+    ensures sum { result ≡ firings * rate }
+    ensures small { result ≤ firings * RATE }
+{
+    u128::from(firings) * u128::from(rate)
 }

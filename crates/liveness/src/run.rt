@@ -1,4 +1,4 @@
-ghost use Rattle.std.specs.Prelude.{◌≡◌, ◌≢◌, ℕ, List, ◌++◌, ◌<◌, IfOk, OnOk, MatchBool, length, replicate, slice_index};
+ghost use Rattle.std.specs.Prelude.{◌≡◌, ◌≢◌, ℕ, ◌<◌, IfOk, OnOk, MatchBool, length, slice_index};
 ghost use Rattle.sd_base.specs.Untimed.{Closed};
 ghost use Rattle.sd_base.proofs.Ends.{left_of};
 ghost use Rattle.firing.specs.declared.sums.Port.TheVariants.{Made, Taken};
@@ -7,8 +7,8 @@ ghost use Rattle.liveness.specs.inside.UntimedRuns.{IsNoted, IsStopped};
 
 use crate::flags::Flags;
 use crate::note::Note;
-use crate::row::firings_in_row;
-use firing::{Firing, Wiring, know_laws, put_tokens, take_tokens};
+use crate::row::fire_row;
+use firing::{Firing, Wiring, first_lack, know_laws, put_tokens, take_tokens};
 use sd_base::NoMemory;
 use std::alloc::Global;
 
@@ -57,6 +57,9 @@ fn fire_while_able<F: Firing, N: Note>(
         (left_of (F.net net.now) (slice_index counts.new) < left_of (F.net net.now) (slice_index counts.old))
         (counts.new ≡ counts.old)) }
 {
+    if net.phases(actor) == 1 {
+        return fire_row(net, wiring, actor, counts, tokens, note);
+    }
     let mut fired = false;
     'firings: while fire_if_able(net, wiring, actor, counts, tokens, note)? {
         fired = true;
@@ -64,7 +67,7 @@ fn fire_while_able<F: Firing, N: Note>(
     Ok(fired)
 }
 
-/// Fires an actor if it can within its round, as often in a row as it is sure to, and tells whether it fired.
+/// Fires an actor once if it can within its round, and tells whether it did.
 fn fire_if_able<F: Firing, N: Note>(
     net: &F,
     wiring: &Wiring,
@@ -85,24 +88,16 @@ fn fire_if_able<F: Firing, N: Note>(
 {
     know_laws(net);
     let count = counts[actor as usize];
-    let inputs = wiring.inputs_of(actor);
-    let firings = firings_in_row(net, inputs, tokens, actor, count);
-    if firings == 0 {
+    if count >= net.round(actor) {
         return Ok(false);
     }
-    note_row(note, actor, firings)?;
-    put_tokens(net, wiring.outputs_of(actor), tokens, actor, count, firings);
-    take_tokens(net, inputs, tokens, actor, count, firings);
-    counts[actor as usize] = count + firings;
-    Ok(true)
-}
-
-/// Takes note of so many firings of an actor.
-fn note_row<N: Note>(note: &mut N, actor: u32, firings: u64) -> Result<(), NoMemory>
-    ensures { OnOk result ((order : List ℕ) → N.holds note.old order → N.holds note.new (order ++ replicate firings actor)) }
-{
-    for _firing in 0..firings {
-        note.fired(actor)?;
+    let inputs = wiring.inputs_of(actor);
+    if let Some(_lacking) = first_lack(net, inputs, tokens, actor, count) {
+        return Ok(false);
     }
-    Ok(())
+    note.fired(actor)?;
+    put_tokens(net, wiring.outputs_of(actor), tokens, actor, count, 1);
+    take_tokens(net, inputs, tokens, actor, count, 1);
+    counts[actor as usize] = count + 1;
+    Ok(true)
 }

@@ -1,7 +1,6 @@
 -- Firings of one actor that follow each other, with none of another actor between.
 use Rattle.std.specs.Prelude.{◌≡◌, ◌≢◌, ℕ, ◌+◌, ◌≤◌, ◌<◌, List, length, slice_index, if◌then◌else◌, ◌==◌}
 use Rattle.sd_base.specs.Net.{Channel, Net, channel_at, total}
-use Rattle.firing.specs.Wiring.{LacksNow}
 
 -- k more firings of a
 abbrev pub more_of : (ℕ → ℕ) → ℕ → ℕ → ℕ → ℕ
@@ -23,6 +22,10 @@ pub record GivesBack (c : Channel) (rate : ℕ) : Type 0 where
 abbrev pub FeedsRow : Net → List ℕ → ℕ → ℕ → ℕ → Type 0
 FeedsRow net tokens a from n = (i : ℕ) → i < length net.channels → (channel_at net i).target ≡ a → Feeds (channel_at net i) (slice_index tokens i) from n
 
--- some channel into a lacks tokens for firing k
-abbrev pub LacksSome : Net → List ℕ → ℕ → ℕ → Type 0
-LacksSome net tokens a k = (i : ℕ) × LacksNow net tokens a k i
+-- some channel into a lacks tokens for one more firing than n that follow each other; it isn't a self-loop, unless n is 0
+pub record EndsRow (net : Net) (tokens : List ℕ) (a from n : ℕ) : Type 0 where
+  pub channel : ℕ
+  pub place : channel < length net.channels
+  pub into : (channel_at net channel).target ≡ a
+  pub apart : 0 < n → (channel_at net channel).source ≢ a
+  pub short : slice_index tokens channel + total (channel_at net channel).taken from < total (channel_at net channel).taken (from + (n + 1))

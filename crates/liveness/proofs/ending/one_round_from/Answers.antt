@@ -1,7 +1,7 @@
 use Rattle.std.proofs.Common.{◌≡◌, ◌++◌, length, drop, take, arith}
 use Rattle.std.proofs.lemmas.Bool.{false≢true}
 use Rattle.std.proofs.lemmas.List.{take_at}
-use Rattle.liveness.proofs.Firings.{blocked-answer}
+use Rattle.liveness.proofs.WholeRuns.{blocked-answer}
 use Rattle.liveness.proofs.ending.one_round_from.Goals as goal
 
 pub returns : goal.returns

@@ -1,7 +1,7 @@
 use Rattle.std.proofs.Common.{◌≡◌, ◌++◌, length, [], drop, take, refl, arith}
 use Rattle.std.proofs.lemmas.Bool.{false≢true}
 use Rattle.std.proofs.lemmas.List.{take_at}
-use Rattle.liveness.proofs.Firings.{noted-run, run-start, run-round, blocked-answer, blocked-not_live}
+use Rattle.liveness.proofs.WholeRuns.{noted-run, run-start, run-round, blocked-answer, blocked-not_live}
 use Rattle.liveness.proofs.round.one_round_on.Goals as goal
 
 pub run_out-requires-clause-run : goal.run_out-requires-clause-run

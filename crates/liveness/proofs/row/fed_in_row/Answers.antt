@@ -1,7 +1,8 @@
-use Rattle.std.proofs.Common.{◌≡◌, ◌≤◌, ◌<◌, ⊎_elim, arith}
+use Rattle.std.proofs.Common.{◌≡◌, ◌≤◌, ◌<◌, ◌∙◌, sym, ⊎_elim, subst, arith}
 use Rattle.std.specs.Prelude.{slice_index}
 use Rattle.std.proofs.lemmas.Bool.{cases_lt}
 use Rattle.sd_base.specs.Net.{channel_at}
+use Rattle.liveness.specs.inside.InRow.{EndsRow}
 use Rattle.liveness.proofs.InRow.{feeds-fewer, row-all}
 use Rattle.liveness.proofs.row.fed_in_row.Goals as goal
 
@@ -17,6 +18,18 @@ loop-channel-preserved g c = record {
       let same : j ≡ c.loop-channel.channel-index = omega arith in
       rw same (c.fed_by-fed.ensures.fed c.args.count))
       (cases_lt j c.loop-channel.channel-index);
+  ends = λ less. ⊎_elim
+      (λ (fewer : c.fed_by-fed.result < c.loop-channel.firings). record {
+        channel = slice_index c.args.inputs.now c.loop-channel.channel-index;
+        place = c.requires.listed.place c.loop-channel.channel-index c.loop-channel-test.true;
+        into = c.requires.listed.there c.loop-channel.channel-index c.loop-channel-test.true;
+        apart = λ some from. c.fed_by-fed.ensures.apart some fewer (from ∙ sym (c.requires.listed.there c.loop-channel.channel-index c.loop-channel-test.true));
+        short = c.fed_by-fed.ensures.ends fewer c.args.count;
+      })
+      (λ (all : c.loop-channel.firings ≤ c.fed_by-fed.result).
+      let same : c.loop-channel.firings ≡ c.fed_by-fed.result = omega (arith, c.fed_by-fed.ensures.few) in
+      subst (EndsRow (g.F.Firing.net c.args.net.now) c.args.tokens.now c.args.actor c.args.count) same (c.loop-channel.invariant.ends (omega (arith, same, less))))
+      (cases_lt c.fed_by-fed.result c.loop-channel.firings);
 }
 
 pub returns-clause-fed : goal.returns-clause-fed
