@@ -1,4 +1,4 @@
-pub mod InRow
+pub mod Streaks
 pub mod WholeRuns
 pub mod Naming
 pub mod Looking

@@ -1,3 +1,3 @@
-pub mod InRow
+pub mod Streaks
 pub mod UntimedRuns
 pub mod Looks

@@ -7,7 +7,7 @@ ghost use Rattle.liveness.specs.inside.UntimedRuns.{IsNoted, IsStopped};
 
 use crate::flags::Flags;
 use crate::note::Note;
-use crate::row::fire_row;
+use crate::streak::fire_streak;
 use firing::{Firing, Wiring, first_lack, know_laws, put_tokens, take_tokens};
 use sd_base::NoMemory;
 use std::alloc::Global;
@@ -58,7 +58,7 @@ fn fire_while_able<F: Firing, N: Note>(
         (counts.new ≡ counts.old)) }
 {
     if net.phases(actor) == 1 {
-        return fire_row(net, wiring, actor, counts, tokens, note);
+        return fire_streak(net, wiring, actor, counts, tokens, note);
     }
     let mut fired = false;
     'firings: while fire_if_able(net, wiring, actor, counts, tokens, note)? {

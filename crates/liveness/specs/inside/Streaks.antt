@@ -19,11 +19,11 @@ pub record GivesBack (c : Channel) (rate : ℕ) : Type 0 where
   pub back : rate ≤ slice_index c.made 0
 
 -- each channel into a has them
-abbrev pub FeedsRow : Net → List ℕ → ℕ → ℕ → ℕ → Type 0
-FeedsRow net tokens a from n = (i : ℕ) → i < length net.channels → (channel_at net i).target ≡ a → Feeds (channel_at net i) (slice_index tokens i) from n
+abbrev pub FeedsStreak : Net → List ℕ → ℕ → ℕ → ℕ → Type 0
+FeedsStreak net tokens a from n = (i : ℕ) → i < length net.channels → (channel_at net i).target ≡ a → Feeds (channel_at net i) (slice_index tokens i) from n
 
 -- some channel into a lacks tokens for one more firing than n that follow each other; it isn't a self-loop, unless n is 0
-pub record EndsRow (net : Net) (tokens : List ℕ) (a from n : ℕ) : Type 0 where
+pub record EndsStreak (net : Net) (tokens : List ℕ) (a from n : ℕ) : Type 0 where
   pub channel : ℕ
   pub place : channel < length net.channels
   pub into : (channel_at net channel).target ≡ a

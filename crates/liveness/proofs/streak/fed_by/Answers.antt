@@ -1,8 +1,8 @@
 use Rattle.std.proofs.Common.{◌*◌, ◌/◌, ◌%◌, ◌≤◌, ◌<◌, ◌≡◌, sym, ◌∙◌, arith, div-add-mod', mod-lt}
 use Rattle.std.proofs.Math.Nat.{mul-le-mul_right}
 use Rattle.sd_base.specs.Net.{channel_at}
-use Rattle.liveness.proofs.InRow.{ends-short, rate-some, feeds-own, feeds-share, gives-back}
-use Rattle.liveness.proofs.row.fed_by.Goals as goal
+use Rattle.liveness.proofs.Streaks.{ends-short, rate-some, feeds-own, feeds-share, gives-back}
+use Rattle.liveness.proofs.streak.fed_by.Goals as goal
 
 pub returns-then-tokens-rate-clause-ends : goal.returns-then-tokens-rate-clause-ends
 returns-then-tokens-rate-clause-ends g c less from =

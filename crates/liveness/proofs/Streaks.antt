@@ -18,7 +18,7 @@ use Rattle.firing.specs.Wiring.{IsListed, IsFirstLack, TakesTokens, PutsTokens, 
 use Rattle.firing.proofs.Listings.{place_of}
 use Rattle.firing.proofs.TokenMoves.{MoreBy, more-set, span-one, level-takes, level-puts, level-needs, level-small}
 use Rattle.liveness.specs.inside.UntimedRuns.{IsRun, IsStopped}
-use Rattle.liveness.specs.inside.InRow.{more_of, EndsRow, Feeds, FeedsRow, GivesBack}
+use Rattle.liveness.specs.inside.Streaks.{more_of, EndsStreak, Feeds, FeedsStreak, GivesBack}
 
 more-here : (v : ℕ → ℕ) (a k : ℕ) → more_of v a k a ≡ v a + k
 more-here v a k = rw (Rattle.std.proofs.Common.eq-eqb a a refl) refl
@@ -83,18 +83,18 @@ ends-short c tokens from n rate single here few =
     omega (arith, takes, few)
 
 -- the channels before a place of the list feed them, and so do all
-pub row-all : (net : Net) (xs tokens : List ℕ) (a from n done : ℕ) → IsListed net Taken a xs → length xs ≤ done →
-    ((j : ℕ) → j < done → Feeds (channel_at net (slice_index xs j)) (slice_index tokens (slice_index xs j)) from n) → FeedsRow net tokens a from n
-row-all net xs tokens a from n done listed past so_far i place into =
+pub streak-all : (net : Net) (xs tokens : List ℕ) (a from n done : ℕ) → IsListed net Taken a xs → length xs ≤ done →
+    ((j : ℕ) → j < done → Feeds (channel_at net (slice_index xs j)) (slice_index tokens (slice_index xs j)) from n) → FeedsStreak net tokens a from n
+streak-all net xs tokens a from n done listed past so_far i place into =
     let found = place_of net Taken a xs listed i place into in
     let same : slice_index xs found.0 ≡ i = found.2 in
     let before : found.0 < done = omega (arith, found.1) in
     subst (λ (x : ℕ). Feeds (channel_at net x) (slice_index tokens x) from n) same (so_far found.0 before)
 
-pub row-more : (order : List ℕ) (a k : ℕ) → (order ++ replicate k a) ++ a ∷ [] ≡ order ++ replicate (k + 1) a
-row-more order a k = append_assoc order (replicate k a) (a ∷ []) ∙ ap (λ (xs : List ℕ). order ++ xs) (replicate_more k a)
+pub streak-more : (order : List ℕ) (a k : ℕ) → (order ++ replicate k a) ++ a ∷ [] ≡ order ++ replicate (k + 1) a
+streak-more order a k = append_assoc order (replicate k a) (a ∷ []) ∙ ap (λ (xs : List ℕ). order ++ xs) (replicate_more k a)
 
--- ---- a row of firings
+-- ---- a streak of firings
 
 module _ (net : Net) (laws : Lawful net) (counts tokens order : List ℕ) (run : IsRun net counts tokens order) where
   count-small : (b : ℕ) → b < length net.times → slice_index counts b ≤ 100000
@@ -113,7 +113,7 @@ module _ (net : Net) (laws : Lawful net) (counts tokens order : List ℕ) (run :
   tokens-small i place = omega (arith, tokens-few i place)
 
 module _ (net : Net) (laws : Lawful net) (counts tokens order : List ℕ) (a n : ℕ) (run : IsRun net counts tokens order) (actor : a < length net.times) (within : slice_index counts a + n ≤ slice_index net.round a)
-    (feeds : FeedsRow net tokens a (slice_index counts a) n) where
+    (feeds : FeedsStreak net tokens a (slice_index counts a) n) where
   can-next : (k : ℕ) → k < n → CanFire net (more_of (slice_index counts) a k) a
   can-next k h i place into = ⊎_elim
       (λ (loops : (channel_at net i).source ≡ (channel_at net i).target).
@@ -158,7 +158,7 @@ module _ (net : Net) (laws : Lawful net) (counts tokens order : List ℕ) (a n :
       let so_far : Follows m = follows m (omega arith) in
       let counts_now : (b : ℕ) → b < length net.times → counts_after none_fired (order ++ replicate m a) b ≡ more_of (slice_index counts) a m b = so_far.1 in
       let one : m + 1 ≡ suc m = omega arith in
-      let longer : order ++ replicate (suc m) a ≡ (order ++ replicate m a) ++ a ∷ [] = sym (row-more order a m ∙ ap (λ (k : ℕ). order ++ replicate k a) one) in
+      let longer : order ++ replicate (suc m) a ≡ (order ++ replicate m a) ++ a ∷ [] = sym (streak-more order a m ∙ ap (λ (k : ℕ). order ++ replicate k a) one) in
       let here : counts_after none_fired (order ++ replicate m a) a ≡ slice_index counts a + m = counts_now a actor ∙ more-here (slice_index counts) a m in
       let less : counts_after none_fired (order ++ replicate m a) a < slice_index net.round a = omega (arith, here, within) in
       let can : CanFire net (counts_after none_fired (order ++ replicate m a)) a = λ i place into. rw (counts_now a actor, counts_now (channel_at net i).source (laws.sources i place)) (can-next m (omega arith) i place into) in
@@ -177,9 +177,9 @@ module _ (net : Net) (laws : Lawful net) (counts tokens order : List ℕ) (a n :
       (cases_eq b a)
 
   module _ (mid : List ℕ) (puts : PutsTokens net a (slice_index counts a) n tokens mid) where
-    pub row-enough : 0 < n → (i : ℕ) → i < length net.channels → (channel_at net i).target ≡ a →
+    pub streak-enough : 0 < n → (i : ℕ) → i < length net.channels → (channel_at net i).target ≡ a →
         total (channel_at net i).taken (slice_index counts a + n) ≤ slice_index mid i + total (channel_at net i).taken (slice_index counts a)
-    row-enough some i place into = ⊎_elim
+    streak-enough some i place into = ⊎_elim
         (λ (loops : (channel_at net i).source ≡ (channel_at net i).target).
         let last : n - 1 + 1 ≡ n = omega arith in
         let fed : total (channel_at net i).taken (slice_index counts a + n) + total (channel_at net i).made (slice_index counts a) ≤ slice_index tokens i + total (channel_at net i).taken (slice_index counts a) + total (channel_at net i).made (slice_index counts a + (n - 1)) =
@@ -194,9 +194,9 @@ module _ (net : Net) (laws : Lawful net) (counts tokens order : List ℕ) (a n :
         omega (arith, fed, same))
         (cases_eq (channel_at net i).source (channel_at net i).target)
 
-    pub row-run : (new : List ℕ) → TakesTokens net a (slice_index counts a) n mid new → length mid ≡ length tokens → length new ≡ length mid →
+    pub streak-run : (new : List ℕ) → TakesTokens net a (slice_index counts a) n mid new → length mid ≡ length tokens → length new ≡ length mid →
         IsRun net (set counts a (slice_index counts a + n)) new (order ++ replicate n a)
-    row-run new takes long longer = record {
+    streak-run new takes long longer = record {
       actors = length-set counts a (slice_index counts a + n) ∙ run.actors;
       fires = (follows n (omega arith)).0;
       reached = λ b is. (follows n (omega arith)).1 b is ∙ more-counts b;
@@ -204,18 +204,18 @@ module _ (net : Net) (laws : Lawful net) (counts tokens order : List ℕ) (a n :
           (level-puts net a n (slice_index counts) (slice_index counts) (slice_index (set counts a (slice_index counts a + n))) tokens mid run.level puts long by) takes longer by;
     }
 
-  pub row-less : 0 < n → left_of net (slice_index (set counts a (slice_index counts a + n))) < left_of net (slice_index counts)
+  pub streak-less : 0 < n → left_of net (slice_index (set counts a (slice_index counts a + n))) < left_of net (slice_index counts)
   unfolding left_of
-  row-less some = sum_to-lt (λ (b : ℕ). slice_index net.round b - slice_index (set counts a (slice_index counts a + n)) b) (λ (b : ℕ). slice_index net.round b - slice_index counts b) (length net.times) a each actor (omega (arith, by.here, within))
+  streak-less some = sum_to-lt (λ (b : ℕ). slice_index net.round b - slice_index (set counts a (slice_index counts a + n)) b) (λ (b : ℕ). slice_index net.round b - slice_index counts b) (length net.times) a each actor (omega (arith, by.here, within))
     where
       each : (b : ℕ) → b < length net.times → slice_index net.round b - slice_index (set counts a (slice_index counts a + n)) b ≤ slice_index net.round b - slice_index counts b
       each b h = ⊎_elim (λ (same : b ≡ a). rw (same, by.here) (omega arith)) (λ (apart : b ≢ a). omega (arith, by.others b apart)) (cases_eq b a)
 
--- an actor that has fired a whole row is stopped
-pub stopped-row : (net : Net) (counts tokens : List ℕ) (w : ℕ → ℕ) (a n : ℕ) → IsLevel net (slice_index counts) (slice_index counts) tokens → MoreBy a n (slice_index counts) w →
-    (w a < slice_index net.round a → EndsRow net tokens a (slice_index counts a) n) → IsStopped net w a
-stopped-row net counts tokens w a n level by ends less =
-    let end : EndsRow net tokens a (slice_index counts a) n = ends less in
+-- an actor that has fired a whole streak is stopped
+pub stopped-streak : (net : Net) (counts tokens : List ℕ) (w : ℕ → ℕ) (a n : ℕ) → IsLevel net (slice_index counts) (slice_index counts) tokens → MoreBy a n (slice_index counts) w →
+    (w a < slice_index net.round a → EndsStreak net tokens a (slice_index counts a) n) → IsStopped net w a
+stopped-streak net counts tokens w a n level by ends less =
+    let end : EndsStreak net tokens a (slice_index counts a) n = ends less in
     let was : slice_index tokens end.channel + total (channel_at net end.channel).taken (slice_index counts a) ≡ (channel_at net end.channel).tokens + total (channel_at net end.channel).made (slice_index counts (channel_at net end.channel).source) = rw end.into at (level.each end.channel end.place) in
     let same : w (channel_at net end.channel).source ≡ slice_index counts (channel_at net end.channel).source = ⊎_elim
     (λ (own : (channel_at net end.channel).source ≡ a). ⊎_elim
@@ -241,12 +241,12 @@ module _ (net : Net) (laws : Lawful net) (i : ℕ) (place : i < length net.chann
   pub made-single : (a : ℕ) → (channel_at net i).source ≡ a → phases_at net a ≡ 1 → length (channel_at net i).made ≡ 1
   made-single a from single = laws.made_phases i place ∙ (ap (phases_at net) from ∙ single)
 
-  -- what a row puts and takes
-  pub made-row : (a from n all rate : ℕ) → (channel_at net i).source ≡ a → phases_at net a ≡ 1 → rate ≡ slice_index (channel_at net i).made 0 → all ≡ n * rate → total (channel_at net i).made from + all ≡ total (channel_at net i).made (from + n)
-  made-row a from n all rate out single here sum = rw sum (span-one (channel_at net i).made from n 1 rate (sym (made-single a out single)) refl here)
+  -- what a streak puts and takes
+  pub made-streak : (a from n all rate : ℕ) → (channel_at net i).source ≡ a → phases_at net a ≡ 1 → rate ≡ slice_index (channel_at net i).made 0 → all ≡ n * rate → total (channel_at net i).made from + all ≡ total (channel_at net i).made (from + n)
+  made-streak a from n all rate out single here sum = rw sum (span-one (channel_at net i).made from n 1 rate (sym (made-single a out single)) refl here)
 
-  pub taken-row : (a from n all rate : ℕ) → (channel_at net i).target ≡ a → phases_at net a ≡ 1 → rate ≡ slice_index (channel_at net i).taken 0 → all ≡ n * rate → total (channel_at net i).taken from + all ≡ total (channel_at net i).taken (from + n)
-  taken-row a from n all rate into single here sum = rw sum (span-one (channel_at net i).taken from n 1 rate (sym (taken-single a into single)) refl here)
+  pub taken-streak : (a from n all rate : ℕ) → (channel_at net i).target ≡ a → phases_at net a ≡ 1 → rate ≡ slice_index (channel_at net i).taken 0 → all ≡ n * rate → total (channel_at net i).taken from + all ≡ total (channel_at net i).taken (from + n)
+  taken-streak a from n all rate into single here sum = rw sum (span-one (channel_at net i).taken from n 1 rate (sym (taken-single a into single)) refl here)
 
   -- on a self-loop each firing puts what it takes
   pub gives-back : (rate : ℕ) → (channel_at net i).source ≡ (channel_at net i).target → length (channel_at net i).taken ≡ 1 → rate ≡ slice_index (channel_at net i).taken 0 → GivesBack (channel_at net i) rate

@@ -1,13 +1,13 @@
 use Rattle.std.proofs.Common.{ℕ, ◌≤◌, ◌<◌}
 use Rattle.std.specs.Prelude.{slice_index}
 use Rattle.sd_base.specs.Net.{channel_at}
-use Rattle.liveness.specs.inside.InRow.{EndsRow, Feeds}
-use Rattle.liveness.proofs.row.fed_in_row.Given as goal
+use Rattle.liveness.specs.inside.Streaks.{EndsStreak, Feeds}
+use Rattle.liveness.proofs.streak.fed_in_streak.Given as goal
 
 abbrev pub invariant-loop-channel : goal.invariant-loop-channel
 invariant-loop-channel g l = record {
   few : l.firings ≤ l.most;
   some : 0 < l.firings;
   fed : (j : ℕ) → j < l.channel-index → Feeds (channel_at (g.F.Firing.net l.net) (slice_index l.inputs j)) (slice_index l.tokens (slice_index l.inputs j)) l.count l.firings;
-  ends : l.firings < l.most → EndsRow (g.F.Firing.net l.net) l.tokens l.actor l.count l.firings;
+  ends : l.firings < l.most → EndsStreak (g.F.Firing.net l.net) l.tokens l.actor l.count l.firings;
 }

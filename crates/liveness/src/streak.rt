@@ -1,4 +1,4 @@
-//! A row of firings: those of an actor of one phase that follow each other, with none of another actor between.
+//! A streak of firings: those of an actor of one phase that follow each other, with none of another actor between.
 ghost use Rattle.std.specs.Prelude.{◌≡◌, ◌≢◌, ℕ, List, ◌+◌, ◌*◌, ◌++◌, ◌^◌, ◌<◌, ◌≤◌, IfOk, OnOk, MatchBool, length, replicate, slice_index};
 ghost use Rattle.sd_base.specs.declared.limits.TheConstants.{RATE};
 ghost use Rattle.sd_base.specs.Net.{channel_at, total};
@@ -6,7 +6,7 @@ ghost use Rattle.sd_base.specs.Schedules.{phases_at};
 ghost use Rattle.sd_base.proofs.Ends.{left_of};
 ghost use Rattle.firing.specs.declared.sums.Port.TheVariants.{Made, Taken};
 ghost use Rattle.firing.specs.Wiring.{AreListed, IsListed, PutsTokens, TakesTokens};
-ghost use Rattle.liveness.specs.inside.InRow.{EndsRow, Feeds, FeedsRow};
+ghost use Rattle.liveness.specs.inside.Streaks.{EndsStreak, Feeds, FeedsStreak};
 ghost use Rattle.liveness.specs.inside.UntimedRuns.{IsNoted, IsStopped};
 
 use crate::note::Note;
@@ -15,7 +15,7 @@ use sd_base::NoMemory;
 
 /// Fires an actor of one phase as often as it can within its round, and tells whether it fired. Cost: linear in its
 /// channels, and where notes are taken in the firings.
-pub(crate) fn fire_row<F: Firing, N: Note>(
+pub(crate) fn fire_streak<F: Firing, N: Note>(
     net: &F,
     wiring: &Wiring,
     actor: u32,
@@ -42,19 +42,19 @@ pub(crate) fn fire_row<F: Firing, N: Note>(
         return Ok(false);
     }
     let inputs = wiring.inputs_of(actor);
-    let firings = fed_in_row(net, inputs, tokens, actor, count, round - count);
+    let firings = fed_in_streak(net, inputs, tokens, actor, count, round - count);
     if firings == 0 {
         return Ok(false);
     }
-    note_row(note, actor, firings)?;
-    put_row(net, wiring.outputs_of(actor), tokens, actor, count, firings);
-    take_row(net, inputs, tokens, actor, count, firings);
+    note_streak(note, actor, firings)?;
+    put_streak(net, wiring.outputs_of(actor), tokens, actor, count, firings);
+    take_streak(net, inputs, tokens, actor, count, firings);
     counts[actor as usize] = count + firings;
     Ok(true)
 }
 
 /// Takes note of so many firings of an actor.
-fn note_row<N: Note>(note: &mut N, actor: u32, firings: u64) -> Result<(), NoMemory>
+fn note_streak<N: Note>(note: &mut N, actor: u32, firings: u64) -> Result<(), NoMemory>
     ensures { OnOk result ((order : List ℕ) → N.holds note.old order → N.holds note.new (order ++ replicate firings actor)) }
 {
     for _firing in 0..firings {
@@ -65,7 +65,7 @@ fn note_row<N: Note>(note: &mut N, actor: u32, firings: u64) -> Result<(), NoMem
 
 /// How many of so many firings of an actor of one phase, from number `count` on, can follow each other. Where these are
 /// fewer, a channel from another actor lacks tokens for the next one.
-fn fed_in_row<F: Firing>(
+fn fed_in_streak<F: Firing>(
     net: &F,
     inputs: &[u32],
     tokens: &[u128],
@@ -80,8 +80,8 @@ fn fed_in_row<F: Firing>(
     requires small { (i : ℕ) → i < length (F.net net.now).channels → slice_index tokens.now i < 2 ^ 64 }
     requires some { 0 < most }
     ensures few { result ≤ most }
-    ensures fed { FeedsRow (F.net net.now) tokens.now actor count result }
-    ensures ends { result < most → EndsRow (F.net net.now) tokens.now actor count result }
+    ensures fed { FeedsStreak (F.net net.now) tokens.now actor count result }
+    ensures ends { result < most → EndsStreak (F.net net.now) tokens.now actor count result }
 {
     know_laws(net);
     let mut firings = most;
@@ -120,7 +120,7 @@ fn fed_by<F: Firing>(net: &F, channel: u32, tokens: u128, most: u64) -> u64
 }
 
 /// Puts the tokens of `firings` firings of an actor of one phase, from number `from` on, on the channels out of it.
-fn put_row<F: Firing>(
+fn put_streak<F: Firing>(
     net: &F,
     outputs: &[u32],
     tokens: &mut [u128],
@@ -137,13 +137,13 @@ fn put_row<F: Firing>(
 {
     know_laws(net);
     for channel in outputs {
-        let all = tokens_of(firings, net.made(*channel, 0));
+        let all = streak_tokens(firings, net.made(*channel, 0));
         tokens[*channel as usize] += all;
     }
 }
 
 /// Takes the tokens of `firings` firings of an actor of one phase, from number `from` on, off the channels into it.
-fn take_row<F: Firing>(
+fn take_streak<F: Firing>(
     net: &F,
     inputs: &[u32],
     tokens: &mut [u128],
@@ -162,13 +162,13 @@ fn take_row<F: Firing>(
 {
     know_laws(net);
     for channel in inputs {
-        let all = tokens_of(firings, net.taken(*channel, 0));
+        let all = streak_tokens(firings, net.taken(*channel, 0));
         tokens[*channel as usize] -= all;
     }
 }
 
 /// The tokens of so many firings at a rate.
-fn tokens_of(firings: u64, rate: u64) -> u128
+fn streak_tokens(firings: u64, rate: u64) -> u128
     requires { rate ≤ RATE }
     ensures sum { result ≡ firings * rate }
     ensures small { result ≤ firings * RATE }

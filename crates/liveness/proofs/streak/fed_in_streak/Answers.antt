@@ -2,9 +2,9 @@ use Rattle.std.proofs.Common.{◌≡◌, ◌≤◌, ◌<◌, ◌∙◌, sym, ⊎
 use Rattle.std.specs.Prelude.{slice_index}
 use Rattle.std.proofs.lemmas.Bool.{cases_lt}
 use Rattle.sd_base.specs.Net.{channel_at}
-use Rattle.liveness.specs.inside.InRow.{EndsRow}
-use Rattle.liveness.proofs.InRow.{feeds-fewer, row-all}
-use Rattle.liveness.proofs.row.fed_in_row.Goals as goal
+use Rattle.liveness.specs.inside.Streaks.{EndsStreak}
+use Rattle.liveness.proofs.Streaks.{feeds-fewer, streak-all}
+use Rattle.liveness.proofs.streak.fed_in_streak.Goals as goal
 
 pub loop-channel-preserved : goal.loop-channel-preserved
 loop-channel-preserved g c = record {
@@ -28,11 +28,11 @@ loop-channel-preserved g c = record {
       })
       (λ (all : c.loop-channel.firings ≤ c.fed_by-fed.result).
       let same : c.loop-channel.firings ≡ c.fed_by-fed.result = omega (arith, c.fed_by-fed.ensures.few) in
-      subst (EndsRow (g.F.Firing.net c.args.net.now) c.args.tokens.now c.args.actor c.args.count) same (c.loop-channel.invariant.ends (omega (arith, same, less))))
+      subst (EndsStreak (g.F.Firing.net c.args.net.now) c.args.tokens.now c.args.actor c.args.count) same (c.loop-channel.invariant.ends (omega (arith, same, less))))
       (cases_lt c.fed_by-fed.result c.loop-channel.firings);
 }
 
 pub returns-clause-fed : goal.returns-clause-fed
 returns-clause-fed g c =
-    row-all (g.F.Firing.net c.args.net.now) c.args.inputs.now c.args.tokens.now c.args.actor c.args.count c.loop-channel.firings c.loop-channel.channel-index c.requires.listed
+    streak-all (g.F.Firing.net c.args.net.now) c.args.inputs.now c.args.tokens.now c.args.actor c.args.count c.loop-channel.firings c.loop-channel.channel-index c.requires.listed
     (omega (arith, c.loop-channel-test.false)) c.loop-channel.invariant.fed
