@@ -43,14 +43,9 @@ fn put_starts(text: &mut String, name: &str, starts: &[u128]) -> Result<(), Allo
     Ok(())
 }
 
-/// Puts a number with a space before it at the end of a text. One that fits in 64 bits, as nearly all starts do, is put
-/// as such, which takes a third less.
 #[tactic(auto, unfolding(crate::specs::ScheduleTexts::spaced))]
 fn put_spaced(text: &mut String, number: u128) -> Result<(), AllocError>
     ensures { OnOk result (string_bytes text.new ≡ string_bytes text.old ++ spaced number) }
 {
-    match u64::try_from(number) {
-        Ok(narrow) => write!(text, " {narrow}"),
-        Err(_wide) => write!(text, " {number}"),
-    }
+    write!(text, " {number}")
 }
