@@ -1,5 +1,6 @@
 -- An exploration begins at the corner.
 use Rattle.std.proofs.Common.{◌≡◌, ℕ, ◌≤◌, ◌<◌, Option, List, [], ◌∷◌, length, inl, inr, ⊎_elim, refl, sym, ap, ◌∙◌, subst, arith}
+use Rattle.std.specs.BTreeSet.{insert_key}
 use Rattle.sd_base.specs.declared.limits.Limits.{Limits}
 use Rattle.sd_base.specs.Net.{Net}
 use Rattle.liveness.specs.RoundAnswers.{IsReached}
@@ -12,7 +13,11 @@ use Rattle.explore.specs.declared.search.Search.{Search}
 use Rattle.explore.specs.declared.waiting.Waiting.{Waiting}
 use Rattle.explore.specs.Reachable.{IsExplorable, corner}
 use Rattle.explore.specs.Explorations.{IsOneOf}
-use Rattle.explore.specs.inside.Searches.{AreKnown, IsCandidate, IsSearch, IsSpread, Waits}
+use Rattle.explore.specs.inside.Searches.{AreKnown, IsCandidate, IsSearch, IsSpread, Waits, waiting_order}
+
+-- what is let wait where nothing does waits alone
+pub waits-alone : (new old : List Waiting) (w : Waiting) → new ≡ insert_key waiting_order old w → old ≡ [] → new ≡ w ∷ []
+waits-alone new old w inserted none = inserted ∙ ap (λ (ws : List Waiting). insert_key waiting_order ws w) none
 
 module _ (net : Net) (can : IsExplorable net) (limits : Limits) (ds : List (Option ℕ)) (is : IsCorner net.channels ds) where
   pub known-none : AreKnown net limits.states [] []

@@ -2,6 +2,7 @@ pub mod Ends
 pub mod Tasks
 pub mod Elements
 pub mod WaitingOrder
+pub mod Heads
 pub mod Inserts
 pub mod Growing
 pub mod Stepping

@@ -1,13 +1,20 @@
 -- Taking the first ones off those that wait, and letting others wait.
-use Rattle.std.proofs.Common.{◌≡◌, ℕ, ◌+◌, ◌⊎◌, List, [], ◌∷◌, ◌++◌, length, append_assoc, inl, inr, ⊎_elim, sym, ap, ◌∙◌, subst, arith}
+use Rattle.std.proofs.Common.{◌≡◌, ℕ, ◌+◌, ◌⊎◌, Some, List, [], ◌∷◌, ◌++◌, length, append_assoc, inl, inr, ⊎_elim, refl, sym, ap, ◌∙◌, subst, arith}
+use Rattle.std.specs.Prelude.{slice_get}
+use Rattle.std.specs.List.Sorted.{IsStrictlySortedBy}
 use Rattle.std.specs.BTreeSet.{insert_key}
 use Rattle.explore.specs.declared.error.ExploreError.{ExploreError}
 use Rattle.explore.specs.declared.error.ExploreError.TheVariants.{StatesSpent, TooManyStarts, DistributionsSpent, NoMemory}
 use Rattle.explore.specs.declared.waiting.Waiting.{Waiting}
 use Rattle.explore.specs.Explorations.{IsOneOf}
-use Rattle.explore.specs.inside.Searches.{EndsWaiting, HaveWaited, IsTakenOff, StandsIn, StopsAt, waiting_order}
+use Rattle.explore.specs.inside.Searches.{EndsWaiting, HaveWaited, IsNext, IsTakenOff, StandsIn, StopsAt, waiting_order}
 use Rattle.explore.proofs.Elements.{one-left, one-right, one-split}
 use Rattle.explore.proofs.Inserts.{insert-new, insert-old, insert-only}
+
+-- the first of those that wait is the next one
+pub next-first : (ws : List Waiting) (w : Waiting) → slice_get ws 0 ≡ Some w → IsStrictlySortedBy waiting_order ws → IsNext w.total ws
+next-first [] w is sorted = cc
+next-first (v ∷ ws) w is sorted = record { first = v; rest = ws; are = refl; least = cc; sorted = sorted }
 
 -- one more of the level
 
@@ -29,6 +36,9 @@ abbrev pub AreSame : List Waiting → List Waiting → List Waiting → List Wai
 AreSame children old left now =
     ((w : Waiting) → IsOneOf children w ⊎ IsOneOf old w → IsOneOf left w ⊎ StandsIn now w)
     × ((w : Waiting) → IsOneOf left w ⊎ IsOneOf now w → IsOneOf children w ⊎ IsOneOf old w)
+
+pub all-same : (children old : List Waiting) → AreSame children old children old
+all-same children old = (λ w one. ⊎_elim (λ (h : IsOneOf children w). inl h) (λ (h : IsOneOf old w). inr (w, h, refl)) one, λ w one. one)
 
 pub same-more : (children old left rest now new : List Waiting) (w : Waiting) → AreSame children old left now → left ≡ rest ++ w ∷ [] → new ≡ insert_key waiting_order now w → AreSame children old rest new
 same-more children old left rest now new w same popped inserted = (

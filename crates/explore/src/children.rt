@@ -7,6 +7,7 @@ ghost use Rattle.storage.specs.Distributions.{enlarged, storage_of};
 ghost use Rattle.explore.specs.Reachable.{stepped};
 ghost use Rattle.explore.specs.inside.Searches.{AreChildren, AreSteps, IsCandidate, IsChildAdded};
 
+use crate::head::head;
 use crate::waiting::Waiting;
 use firing::{Firing, know_laws};
 use guide::laws::counts_are_reached_with_more_room;
@@ -118,9 +119,11 @@ fn child<F: Firing>(
     if more > u128::from(limit - total) {
         return Ok(None);
     }
+    let capacities = capacities.enlarge(alloc, channel, by)?;
     Ok(Some(Waiting {
         total: total + more as u64,
-        capacities: capacities.enlarge(alloc, channel, by)?,
+        head: head(capacities.capacities.as_slice()),
+        capacities,
         counts: Rows::from_vec(Vec::from_slice(alloc, counts)?),
     }))
 }

@@ -77,6 +77,7 @@ fn fill<'a, F: Firing, L: Ledger>(
     for _task in 0..level.len() {
         let Waiting {
             total: _,
+            head: _,
             capacities,
             counts,
         } = level.take_last();

@@ -6,6 +6,7 @@ mod children;
 mod error;
 mod exploration;
 mod exploring;
+mod head;
 pub mod laws;
 mod level;
 mod members;

@@ -11,6 +11,7 @@ ghost use Rattle.explore.specs.inside.Levels.{WiresAll};
 use crate::error::ExploreError;
 use crate::exploration::{Exploration, Member};
 use crate::exploring::Exploring;
+use crate::head::head;
 use crate::level::run_level;
 use crate::members::take_in_all;
 use crate::pending::{next_total, take_level};
@@ -184,6 +185,7 @@ fn begin<F: Firing>(
     let mut waiting = BTreeSet::new(alloc);
     waiting.insert(Waiting {
         total,
+        head: head(capacities.capacities.as_slice()),
         capacities,
         counts,
     })?;

@@ -2,7 +2,7 @@ ghost use Rattle.std.specs.Prelude.{◌≡◌};
 ghost use Rattle.std.specs.Cmp.{partial_equiv_from_equiv, po, eq_by_cmp_equiv};
 ghost use Rattle.std.specs.Ordering.{eq_by_cmp, as_partial_cmp};
 ghost use Rattle.std.proofs.Common.{refl};
-ghost use Rattle.explore.specs.inside.WaitingOrder.{waiting_cmp, waiting_total};
+ghost use Rattle.explore.specs.inside.WaitingOrder.{capacities_cmp, head_of, waiting_cmp, waiting_total};
 
 use sd_base::Rows;
 use std::cmp::Ordering;
@@ -10,12 +10,15 @@ use storage::Distribution;
 
 /// A distribution that was found and isn't evaluated yet, with its storage, and counts by actor that some order of firings
 /// of its net reaches: those at which the member that led to it is blocked, or those of a whole round where that is live.
-/// They are evaluated by rising storage, and lexicographically where that is equal.
+/// They are evaluated by rising storage, and lexicographically where that is equal; the head of the capacities tells most
+/// of those apart.
 #[derive(Debug, Drop)]
 pub(crate) struct Waiting {
     pub(crate) total: u64,
+    pub(crate) head: u64,
     pub(crate) capacities: Distribution,
     pub(crate) counts: Rows<u64>,
+    ghost headed: { head ≡ head_of capacities.capacities },
 }
 
 impl PartialEq for Waiting {
@@ -61,6 +64,16 @@ fn compare(first: &Waiting, second: &Waiting) -> Ordering
     ensures { result ≡ waiting_cmp (λ w. w.total) (λ w. w.capacities.capacities) first.now second.now }
 {
     match first.total.cmp(&second.total) {
+        Ordering::Equal => compare_capacities(first, second),
+        apart => apart,
+    }
+}
+
+/// The lexicographic order of two distributions that wait.
+fn compare_capacities(first: &Waiting, second: &Waiting) -> Ordering
+    ensures { result ≡ capacities_cmp first.now.capacities.capacities second.now.capacities.capacities }
+{
+    match first.head.cmp(&second.head) {
         Ordering::Equal => first
             .capacities
             .capacities

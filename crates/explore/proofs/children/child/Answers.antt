@@ -27,7 +27,7 @@ pub returns-clause-reached : goal.returns-clause-reached
 returns-clause-reached g c =
     let net = g.F.Firing.net c.args.net.now in
     let ds = c.args.capacities.now.capacities in
-    let es = c.in_ok-enlarge.field-0.capacities in
-    let most : AtMost ds es = subst (AtMost ds) (sym c.in_ok-enlarge.ensures) (enlarged-most ds c.args.channel (slice_index c.args.channel_steps.now c.args.channel)) in
+    let es = c.in_ok-capacities.capacities.capacities in
+    let most : AtMost ds es = subst (AtMost ds) (sym c.in_ok-capacities.ensures) (enlarged-most ds c.args.channel (slice_index c.args.channel_steps.now c.args.channel)) in
     let same : c.from_vec.result ≡ c.args.counts.now = c.from_vec.ensures ∙ c.in_ok-from_slice.ensures.items in
     subst (IsReached (bound net es)) (sym same) (c.counts_are_reached_with_more_room.ensures.reached net ds es c.args.counts.now most c.requires.reached)

@@ -1,8 +1,11 @@
-use Rattle.std.proofs.Common.{◌≡◌, [], List, subst, arith, rules}
+use Rattle.std.proofs.Common.{◌≡◌, [], List, refl, subst, arith, rules}
 use Rattle.std.proofs.lemmas.Result.{err_from_is_err_and}
 use Rattle.explore.specs.declared.waiting.Waiting.{Waiting}
-use Rattle.explore.proofs.TakenOff.{AreSame, ends-waiting, same-more, same-waited}
+use Rattle.explore.proofs.TakenOff.{AreSame, all-same, ends-waiting, same-more, same-waited}
 use Rattle.explore.proofs.pending.wait_all.Goals as goal
+
+pub loop-child-init : goal.loop-child-init
+loop-child-init c = (all-same c.args.children.items c.args.waiting.now.keys, refl, c.requires)
 
 pub loop-child-preserved : goal.loop-child-preserved
 loop-child-preserved c = (
