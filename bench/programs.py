@@ -12,6 +12,16 @@ CRATES = os.path.join(ROOT, "crates")
 RUNS = 5
 
 
+def tune():
+    """Sets what the C library is told where the program is run by `sdf3analysis`, for all programs that are run from here."""
+    with open(os.path.join(ROOT, "tools", "tunables"), encoding="utf-8") as file:
+        own = os.environ.get("GLIBC_TUNABLES")
+        os.environ["GLIBC_TUNABLES"] = ":".join([file.read().strip(), *([own] if own else [])])
+
+
+tune()
+
+
 def sources():
     yield os.path.join(ROOT, "crates.txt")
     for folder, inner, names in os.walk(CRATES):
