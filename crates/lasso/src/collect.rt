@@ -10,8 +10,22 @@ use sd_base::{NoMemory, Rows};
 use selftimed::Engine;
 use std::alloc::Global;
 
-/// For how many starts an actor's row has room at first, at most.
-const ROOM: u64 = 512;
+/// For how many starts, or events, there is room at first, at most.
+const ROOM: u64 = 8_192;
+
+/// How many firings a round has.
+pub(crate) fn starts_of_round<F: Firing>(net: &F) -> u64 {
+    let mut starts = 0u64;
+    for actor in 0..net.actors() {
+        starts = starts.saturating_add(net.round(actor));
+    }
+    starts
+}
+
+/// Room for twice so many starts, or for as many events, if these are few.
+pub(crate) fn room_for(starts: u64) -> usize {
+    starts.saturating_mul(2).min(ROOM) as usize
+}
 
 /// An empty row by actor, with room for the starts of two rounds if these are few.
 pub(crate) fn empty_rows<F: Firing>(alloc: Global, net: &F) -> Result<Vec<Rows<u64>>, NoMemory>
@@ -19,8 +33,7 @@ pub(crate) fn empty_rows<F: Firing>(alloc: Global, net: &F) -> Result<Vec<Rows<u
 {
     let mut rows = Vec::new(alloc);
     for actor in 0..net.actors() {
-        let room = net.round(actor).saturating_mul(2).min(ROOM);
-        let row = Vec::with_capacity(alloc, room as usize)?;
+        let row = Vec::with_capacity(alloc, room_for(net.round(actor)))?;
         rows.push(Rows::from_vec(row))?;
     }
     Ok(rows)

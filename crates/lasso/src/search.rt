@@ -11,11 +11,12 @@ ghost use Rattle.lasso.specs.inside.Printing.{ArePrints};
 ghost use Rattle.lasso.specs.inside.Tracing.{AreAllowed};
 ghost use Rattle.lasso.specs.inside.Searching.{IsPair, IsCheckpoint, IsLast, NoneSince, NoneSoon};
 
+use crate::collect::{room_for, starts_of_round};
 use crate::error::RunError;
 use crate::marks::Marks;
 use crate::prints::{is_new, upper_half};
 use crate::steps::go_on;
-use crate::trace::{ROOM, Trace};
+use crate::trace::Trace;
 use firing::Firing;
 use sd_base::NoMemory;
 use sd_base::limits::STARTS;
@@ -69,7 +70,7 @@ pub(crate) fn find_pair<F: Firing>(
     ensures traced { IfOk result (λ pair. AreAllowed (F.net engine.old.net.now) states trace.new.moments.items trace.new.starts.items) }
     ensures refused { IfErr result (IsRunRefusal (F.net engine.old.net.now) states) }
 {
-    let mut prints = Vec::with_capacity(alloc, ROOM)?;
+    let mut prints = Vec::with_capacity(alloc, room_for(starts_of_round(engine.net)))?;
     if let Some(pair) = search_allowed(alloc, engine, trace, &mut prints, states)? {
         return Ok(pair);
     }
@@ -203,15 +204,6 @@ fn end_of_stay(moment: u64, starts: u64, round: u64) -> u64 {
     };
     let twice = starts.saturating_mul(2).saturating_add(1);
     starts.saturating_add(stay).max(twice)
-}
-
-/// How many firings a round has.
-fn starts_of_round<F: Firing>(net: &F) -> u64 {
-    let mut starts = 0u64;
-    for actor in 0..net.actors() {
-        starts = starts.saturating_add(net.round(actor));
-    }
-    starts
 }
 
 /// The shape at which an engine stands, where a round has `round` starts.

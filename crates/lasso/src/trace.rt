@@ -6,15 +6,12 @@ ghost use Rattle.sd_base.specs.SelfTimed.{starts_by};
 ghost use Rattle.selftimed.specs.declared.engine.Stage.TheVariants.{Running};
 ghost use Rattle.lasso.specs.inside.Tracing.{IsLastOf, IsTrace, IsTraceBefore};
 
-use crate::collect::{add_starts, empty_rows};
+use crate::collect::{add_starts, empty_rows, room_for, starts_of_round};
 use firing::Firing;
 use sd_base::limits::STARTS;
 use sd_base::{NoMemory, Rows};
 use selftimed::Engine;
 use std::alloc::Global;
-
-/// For how many events there is room at first.
-pub(crate) const ROOM: usize = 512;
 
 /// The events of an execution up to one of them, ascending, and by actor the starts up to and with it.
 #[derive(Drop)]
@@ -24,12 +21,12 @@ pub(crate) struct Trace {
 }
 
 impl Trace {
-    /// A trace without events, with room for some.
+    /// A trace without events, with room for those of two rounds if these are few.
     pub(crate) fn new<F: Firing>(alloc: Global, net: &F) -> Result<Trace, NoMemory>
         ensures moments { IfOk result (λ trace. trace.moments.items ≡ []) }
         ensures starts { IfOk result (λ trace. trace.starts.items ≡ replicate (length (F.net net.now).times) []) }
     {
-        let moments = Vec::with_capacity(alloc, ROOM)?;
+        let moments = Vec::with_capacity(alloc, room_for(starts_of_round(net)))?;
         let starts = empty_rows(alloc, net)?;
         Ok(Trace { moments, starts })
     }

@@ -3,6 +3,7 @@ ghost use Rattle.std.specs.String.{string_bytes};
 ghost use Rattle.report.specs.ScheduleTexts.{schedule_header, schedule_lines, spaced, starts_line};
 
 use escapes::put_escaped;
+use itoa::Buffer;
 use periodic::Periodic;
 use sd_base::GraphFile;
 use std::alloc::AllocError;
@@ -35,17 +36,20 @@ fn put_header(text: &mut String, period: u64, rounds: u64) -> Result<(), AllocEr
 fn put_starts(text: &mut String, name: &str, starts: &[u128]) -> Result<(), AllocError>
     ensures { OnOk result (string_bytes text.new ≡ string_bytes text.old ++ starts_line name.now starts.now) }
 {
+    let mut digits = Buffer::new();
     put_escaped(text, name)?;
     for start in starts {
-        put_spaced(text, *start)?;
+        put_spaced(text, &mut digits, *start)?;
     }
     text.push_str("\n")?;
     Ok(())
 }
 
+/// Puts a number behind a space at the end of a text. Its digits are written where others were before.
 #[tactic(auto, unfolding(crate::specs::ScheduleTexts::spaced))]
-fn put_spaced(text: &mut String, number: u128) -> Result<(), AllocError>
+fn put_spaced(text: &mut String, digits: &mut Buffer, number: u128) -> Result<(), AllocError>
     ensures { OnOk result (string_bytes text.new ≡ string_bytes text.old ++ spaced number) }
 {
-    write!(text, " {number}")
+    text.push_str(" ")?;
+    text.push_str(digits.format(number))
 }

@@ -1,5 +1,5 @@
 -- Firings of one actor that start at one moment.
-use Rattle.std.proofs.Common.{◌≡◌, ℕ, ◌+◌, ◌-◌, ◌*◌, ◌%◌, ◌≤◌, ◌<◌, List, [], ◌∷◌, ◌++◌, Option, Some, length, replicate, sum, ⊎_elim, subst, sym, refl, ap, ◌∙◌, arith, mul-le-mul_right, zero-add}
+use Rattle.std.proofs.Common.{◌≡◌, ℕ, ◌+◌, ◌-◌, ◌*◌, ◌%◌, ◌^◌, ◌≤◌, ◌<◌, List, [], ◌∷◌, ◌++◌, Option, Some, length, replicate, sum, ⊎_elim, subst, sym, refl, ap, ◌∙◌, arith, mul-le-mul_right, zero-add}
 use Rattle.std.specs.Prelude.{slice_index, slice_index_or, IfSome}
 use Rattle.std.proofs.lemmas.Bool.{cases_lt}
 use Rattle.std.proofs.lemmas.List.{get_or-append-add, get_or-replicate, get_or_append_left, length-append, length-replicate}
@@ -57,7 +57,7 @@ module _ (net : Net) (laws : Lawful net) (a : ℕ) (own : Option ℕ) (xs tokens
   batch-empty most done below few = (listed.place done below, listed.there done below, omega arith)
 
   pub batch-lower : (most best lacking done feeds : ℕ) → done < length xs → feeds * slice_index (channel_at net (slice_index xs done)).taken 0 ≤ slice_index tokens (slice_index xs done) →
-      slice_index tokens (slice_index xs done) < (feeds + 1) * slice_index (channel_at net (slice_index xs done)).taken 0 → slice_index tokens (slice_index xs done) < best * slice_index (channel_at net (slice_index xs done)).taken 0 →
+      slice_index tokens (slice_index xs done) < (feeds + 1) * slice_index (channel_at net (slice_index xs done)).taken 0 → slice_index tokens (slice_index xs done) < (best + 1) * slice_index (channel_at net (slice_index xs done)).taken 0 →
       BatchSoFar net a own xs tokens most best lacking done → BatchSoFar net a own xs tokens most feeds (slice_index xs done) (done + 1)
   batch-lower most best lacking done feeds below fits next fewer so_far = record {
     within = omega (arith, so_far.within, less);
@@ -73,25 +73,37 @@ module _ (net : Net) (laws : Lawful net) (a : ℕ) (own : Option ℕ) (xs tokens
     lacks = λ low. (listed.place done below, listed.there done below, next);
   }
     where
-      less : feeds < best
+      less : feeds < best + 1
       less = ⊎_elim
-          (λ (h : feeds < best). h)
-          (λ (h : best ≤ feeds).
-          let le : best * slice_index (channel_at net (slice_index xs done)).taken 0 ≤ feeds * slice_index (channel_at net (slice_index xs done)).taken 0 = mul-le-mul_right (slice_index (channel_at net (slice_index xs done)).taken 0) h in
+          (λ (h : feeds < best + 1). h)
+          (λ (h : best + 1 ≤ feeds).
+          let le : (best + 1) * slice_index (channel_at net (slice_index xs done)).taken 0 ≤ feeds * slice_index (channel_at net (slice_index xs done)).taken 0 = mul-le-mul_right (slice_index (channel_at net (slice_index xs done)).taken 0) h in
           absurd (omega arith))
-          (cases_lt feeds best)
+          (cases_lt feeds (best + 1))
 
-  pub batch-keep : (most best lacking done : ℕ) → best * slice_index (channel_at net (slice_index xs done)).taken 0 ≤ slice_index tokens (slice_index xs done) →
+  -- a firing more of a batch takes what fits into a number
+  pub batch-fits : (most best done : ℕ) → most ≤ 2 ^ 33 → best ≤ most → done < length xs → (best + 1) * slice_index (channel_at net (slice_index xs done)).taken 0 < 2 ^ 64
+  batch-fits most best done few within below =
+      let small : slice_index (channel_at net (slice_index xs done)).taken 0 ≤ 1000000 = laws.small_taken (slice_index xs done) 0 (listed.place done below) in
+      let le : (best + 1) * slice_index (channel_at net (slice_index xs done)).taken 0 ≤ (2 ^ 33 + 1) * slice_index (channel_at net (slice_index xs done)).taken 0 = mul-le-mul_right (slice_index (channel_at net (slice_index xs done)).taken 0) (omega arith) in
+      omega (arith, le, small)
+
+  pub batch-keep : (most best lacking done : ℕ) → (best + 1) * slice_index (channel_at net (slice_index xs done)).taken 0 ≤ slice_index tokens (slice_index xs done) →
       BatchSoFar net a own xs tokens most best lacking done → BatchSoFar net a own xs tokens most best lacking (done + 1)
   batch-keep most best lacking done fits so_far = record {
     within = so_far.within;
     mine = so_far.mine;
     fed = λ j h. ⊎_elim
         (λ (old : j < done). so_far.fed j old)
-        (λ (new : done ≤ j). let same : j ≡ done = omega arith in rw same fits)
+        (λ (new : done ≤ j). let same : j ≡ done = omega arith in rw same enough)
         (cases_lt j done);
     lacks = so_far.lacks;
   }
+    where
+      enough : best * slice_index (channel_at net (slice_index xs done)).taken 0 ≤ slice_index tokens (slice_index xs done)
+      enough =
+          let le : best * slice_index (channel_at net (slice_index xs done)).taken 0 ≤ (best + 1) * slice_index (channel_at net (slice_index xs done)).taken 0 = mul-le-mul_right (slice_index (channel_at net (slice_index xs done)).taken 0) (omega arith) in
+          omega (arith, le, fits)
 
   pub batch-feeds : (most best lacking done : ℕ) → MayOwn net a own → length xs ≤ done → BatchSoFar net a own xs tokens most best lacking done → (k : ℕ) → Feeds net tokens a k best
   batch-feeds most best lacking done may past so_far k i place into = ⊎_elim

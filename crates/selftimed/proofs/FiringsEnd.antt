@@ -455,7 +455,7 @@ ends-late moment old new one some =
     omega (arith, ap (slice_index old.running) e)
 
 -- tokens are few enough to add to
-pub stand-small : (net : Net) (actors : List ActorState) (tokens : List ℕ) → Lawful net → Stand net actors tokens → (i : ℕ) → i < length net.channels → slice_index tokens i ≤ 2 ^ 100
+pub stand-small : (net : Net) (actors : List ActorState) (tokens : List ℕ) → Lawful net → Stand net actors tokens → (i : ℕ) → i < length net.channels → slice_index tokens i ≤ 2 ^ 60
 stand-small net actors tokens laws stand i there =
     let source : (channel_at net i).source < length net.times = laws.sources i there in
     let few : ended_in actors (channel_at net i).source ≤ 2 ^ 32 = omega (arith, stand.counts (channel_at net i).source source, stand.few (channel_at net i).source source) in

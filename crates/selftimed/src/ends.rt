@@ -32,7 +32,7 @@ pub(crate) fn end_actor<F: Firing>(
     requires listed { IsListedBut (F.net net.now) Made actor own outputs.now }
     requires tokens { length tokens.old ≡ length (F.net net.now).channels }
     requires few { state.old.ended + length state.old.running ≤ 2 ^ 32 }
-    requires small { (i : ℕ) → i < length (F.net net.now).channels → slice_index tokens.old i ≤ 2 ^ 100 }
+    requires small { (i : ℕ) → i < length (F.net net.now).channels → slice_index tokens.old i ≤ 2 ^ 60 }
     ensures ended { EndsOne moment state.old state.new }
     ensures puts { PutsTokens (F.net net.now) actor state.old.ended (state.new.ended - state.old.ended) tokens.old tokens.new }
     ensures touched { state.new.touched ≡ state.old.touched }
@@ -83,7 +83,7 @@ pub(crate) fn touch_targets<F: Firing>(
     net: &F,
     rates: &[Rates],
     channels: &[u32],
-    tokens: &[u128],
+    tokens: &[u64],
     actors: &mut [ActorState],
     agenda: &mut Agenda,
 ) -> Result<(), NoMemory>
@@ -118,7 +118,7 @@ fn target_of<F: Firing>(_net: &F, rates: &[Rates], channel: u32) -> u32
 fn has_enough<F: Firing>(
     net: &F,
     rates: &[Rates],
-    tokens: &[u128],
+    tokens: &[u64],
     channel: u32,
     state: &ActorState,
 ) -> bool
@@ -133,5 +133,5 @@ fn has_enough<F: Firing>(
     }
     let here = rates[channel as usize];
     let needed = taken_at(net, here.taken, channel, state.started);
-    needed as u128 <= tokens[channel as usize]
+    needed <= tokens[channel as usize]
 }

@@ -20,12 +20,12 @@ pub struct Shape {
 }
 
 /// A copy of tokens.
-pub(crate) fn tokens_of(alloc: Global, tokens: &[u128]) -> Result<Rows<u128>, NoMemory>
+pub(crate) fn tokens_of(alloc: Global, tokens: &[u64]) -> Result<Rows<u128>, NoMemory>
     ensures { IfOk result (λ rows. rows ≡ tokens.now) }
 {
     let mut rows = Rows::new(alloc);
     for count in tokens {
-        rows.push(*count)?;
+        rows.push(u128::from(*count))?;
     }
     Ok(rows)
 }
@@ -106,15 +106,15 @@ fn push_times(row: &mut Rows<u64>, time: u64, firings: u64) -> Result<(), NoMemo
     Ok(())
 }
 
-/// Whether two lists of tokens are equal.
-pub(crate) fn same_tokens(left: &[u128], right: &[u128]) -> bool
+/// Whether these are the tokens of a shape.
+pub(crate) fn same_tokens(left: &[u64], right: &[u128]) -> bool
     ensures { IsTrue result ↔ (left.now ≡ right.now) }
 {
     if left.len() != right.len() {
         return false;
     }
     for (k, count) in left.iter().enumerate() {
-        if *count != right[k] {
+        if u128::from(*count) != right[k] {
             return false;
         }
     }

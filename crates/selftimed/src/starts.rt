@@ -1,18 +1,19 @@
-ghost use Rattle.std.specs.Prelude.{◌≡◌, ℕ, ◌+◌, ◌*◌, ◌^◌, ◌<◌, ◌≤◌, None, length, slice_index, IfOk, IfSome, OnOk, MatchOption};
+ghost use Rattle.std.specs.Prelude.{◌≡◌, ℕ, ◌+◌, ◌*◌, ◌%◌, ◌^◌, ◌<◌, ◌≤◌, None, length, slice_index, IfOk, IfSome, OnOk, MatchOption};
 ghost use Rattle.std.proofs.Props.{props};
 ghost use Rattle.sd_base.specs.Net.{channel_at};
 ghost use Rattle.sd_base.specs.Schedules.{phases_at, time_of};
 ghost use Rattle.firing.specs.declared.sums.Port.TheVariants.{Taken};
+ghost use Rattle.firing.specs.Wiring.{SufficesBefore, IsFirstLack};
 ghost use Rattle.selftimed.specs.inside.Actors.{StartsOne};
 ghost use Rattle.selftimed.specs.inside.PortRates.{AreRates};
 ghost use Rattle.selftimed.specs.inside.Ports.{IsListedBut, MayOwn};
 ghost use Rattle.selftimed.specs.inside.Starts.{AddsEnds, Feeds, FeedsNoMore, StartsAll, Overfills};
 
 use crate::actors::ActorState;
-use crate::rates::Rates;
+use crate::rates::{Rates, taken_at};
 use crate::running::Running;
 use crate::tokens::{Tokens, take_all};
-use firing::{Firing, first_lack, know_laws};
+use firing::{Firing, know_laws};
 use sd_base::NoMemory;
 
 /// Firings of an actor that start together, and a channel that lacks tokens for the next one.
@@ -132,9 +133,10 @@ impl<F: Firing> Turn<'_, F> {
         Ok(Some(begun))
     }
 
-    /// How many firings of an actor of one phase the tokens feed, at most `most`, and a channel that feeds no more.
+    /// How many firings of an actor of one phase the tokens feed, at most `most`, and a channel that feeds no more: not its own
+    /// one where others do so too, since that has a token again as soon as a firing ends.
     #[inline(always)]
-    fn fed_together(&self, tokens: &[u128], most: u64) -> Begun
+    fn fed_together(&self, tokens: &[u64], most: u64) -> Begun
         requires single { phases_at (F.net self.now.net.now) self.now.actor ≡ 1 }
         requires tokens { length tokens.now ≡ length (F.net self.now.net.now).channels }
         requires few { most ≤ 2 ^ 33 }
@@ -152,14 +154,14 @@ impl<F: Firing> Turn<'_, F> {
         for channel in self.inputs {
             let count = tokens[*channel as usize];
             let rate = self.taken(*channel);
-            if count < rate as u128 {
+            if count < rate {
                 return Begun {
                     firings: 0,
                     lacking: *channel,
                 };
             }
-            if count < firings as u128 * rate as u128 {
-                firings = times_in(count, rate, firings);
+            if count < (firings + 1) * rate {
+                firings = times_in(count, rate, firings + 1);
                 lacking = *channel;
             }
         }
@@ -168,7 +170,7 @@ impl<F: Firing> Turn<'_, F> {
 
     /// The same by the actor's own channel alone.
     #[inline(always)]
-    fn fed_by_own(&self, tokens: &[u128], most: u64) -> Begun
+    fn fed_by_own(&self, tokens: &[u64], most: u64) -> Begun
         requires tokens { length tokens.now ≡ length (F.net self.now.net.now).channels }
         ensures within { result.firings ≤ most }
         ensures feeds { IfSome self.now.own (λ own. result.firings ≤ slice_index tokens.now own) }
@@ -176,9 +178,9 @@ impl<F: Firing> Turn<'_, F> {
     {
         if let Some(own) = self.own {
             let count = tokens[own as usize];
-            if count < most as u128 {
+            if count < most {
                 return Begun {
-                    firings: count as u64,
+                    firings: count,
                     lacking: own,
                 };
             }
@@ -215,13 +217,7 @@ impl<F: Firing> Turn<'_, F> {
     {
         let mut count = 0u64;
         'firings: loop {
-            if let Some(lacking) = first_lack(
-                self.net,
-                self.inputs,
-                tokens.as_slice(),
-                self.actor,
-                from + count,
-            ) {
+            if let Some(lacking) = self.first_lack(tokens.as_slice(), from + count) {
                 return Ok(Some(Begun {
                     firings: count,
                     lacking,
@@ -245,6 +241,22 @@ impl<F: Firing> Turn<'_, F> {
         }
     }
 
+    /// The first channel into an actor without an own one that has fewer tokens than a firing of it takes.
+    fn first_lack(&self, tokens: &[u64], firing: u64) -> Option<u32>
+        requires others { self.now.own ≡ None }
+        requires tokens { length tokens.now ≡ length (F.net self.now.net.now).channels }
+        ensures { MatchOption result (SufficesBefore (F.net self.now.net.now) tokens.now self.now.actor firing (length (F.net self.now.net.now).channels))
+            (IsFirstLack (F.net self.now.net.now) tokens.now self.now.actor firing) }
+    {
+        for channel in self.inputs {
+            let rate = self.taken(*channel);
+            if tokens[*channel as usize] < taken_at(self.net, rate, *channel, firing) {
+                return Some(*channel);
+            }
+        }
+        None
+    }
+
     /// Adds the ends of firings that start, from number `from` on, all of which take as long.
     #[inline(always)]
     fn push_ends(&self, running: &mut Running, from: u64, firings: u64) -> Result<(), NoMemory>
@@ -255,14 +267,26 @@ impl<F: Firing> Turn<'_, F> {
         ensures { OnOk result (AddsEnds (F.net self.now.net.now) self.now.actor self.now.moment from firings running.old running.new) }
     {
         know_laws(self.net);
-        let phase = (from % self.net.phases(self.actor) as u64) as u32;
+        let phase = phase_at(self.net.phases(self.actor), from);
         running.push(self.moment + self.net.time(self.actor, phase), firings)?;
         Ok(())
     }
 }
 
+/// The phase of a firing of an actor with so many phases.
+fn phase_at(phases: u32, firing: u64) -> u32
+    requires { 0 < phases }
+    ensures { result ≡ firing % phases }
+{
+    // mostly there is one, which is known sooner than by a division
+    if phases == 1 {
+        return 0;
+    }
+    (firing % u64::from(phases)) as u32
+}
+
 /// How many times a rate fits into a count that has it, if fewer than `most` times.
-fn times_in(count: u128, rate: u64, most: u64) -> u64
+fn times_in(count: u64, rate: u64, most: u64) -> u64
     requires some { 0 < rate }
     requires enough { rate ≤ count }
     requires few { count < most * rate }
@@ -270,11 +294,8 @@ fn times_in(count: u128, rate: u64, most: u64) -> u64
     ensures next { count < (result + 1) * rate }
 {
     // mostly once, which is known sooner than by a division
-    if count < 2 * rate as u128 {
+    if count - rate < rate {
         return 1;
     }
-    if count <= u64::MAX as u128 {
-        return count as u64 / rate;
-    }
-    (count / rate as u128) as u64
+    count / rate
 }

@@ -7,7 +7,6 @@ ghost use Rattle.selftimed.specs.inside.PortRates.{AreRates};
 ghost use Rattle.selftimed.specs.inside.Ports.{IsListedBut, MayOwn};
 
 use crate::rates::{Rates, moved_by};
-use crate::shape::same_tokens;
 use firing::{Firing, Port};
 use sd_base::NoMemory;
 use std::alloc::Global;
@@ -17,7 +16,7 @@ use std::marker::Model;
 /// once. Contracts see the list of tokens.
 #[derive(Drop)]
 pub(crate) struct Tokens {
-    counts: Vec<u128>,
+    counts: Vec<u64>,
     print: u64,
 }
 
@@ -67,14 +66,14 @@ impl Tokens {
         ensures { OnOk result (self.new ≡ self.old ++ count ∷ []) }
     {
         let channel = self.counts.as_slice().len() as u64;
-        self.counts.push(count as u128)?;
+        self.counts.push(count)?;
         self.print = self
             .print
             .wrapping_add(weight_of(channel).wrapping_mul(count));
         Ok(())
     }
 
-    pub(crate) fn as_slice(&self) -> &[u128]
+    pub(crate) fn as_slice(&self) -> &[u64]
         ensures { result.now ≡ self.now }
     {
         self.counts.as_slice()
@@ -94,7 +93,7 @@ impl Tokens {
         if self.print != other.print {
             return false;
         }
-        same_tokens(self.counts.as_slice(), other.counts.as_slice())
+        self.counts.as_slice() == other.counts.as_slice()
     }
 
     /// Takes tokens off a channel, of which one has this weight in a print.
@@ -104,7 +103,7 @@ impl Tokens {
         requires enough { count ≤ slice_index self.old channel }
         ensures { self.new ≡ set self.old channel (slice_index self.old channel - count) }
     {
-        self.counts[channel as usize] -= count as u128;
+        self.counts[channel as usize] -= count;
         self.print = self.print.wrapping_sub(weight.wrapping_mul(count));
     }
 
@@ -112,10 +111,10 @@ impl Tokens {
     pub(crate) fn put(&mut self, channel: u32, count: u64, weight: u64)
         requires channel { channel < length self.old }
         requires weight { weight ≡ weight_in_print channel }
-        requires small { slice_index self.old channel + count < 2 ^ 128 }
+        requires small { slice_index self.old channel + count < 2 ^ 64 }
         ensures { self.new ≡ set self.old channel (slice_index self.old channel + count) }
     {
-        self.counts[channel as usize] += count as u128;
+        self.counts[channel as usize] += count;
         self.print = self.print.wrapping_add(weight.wrapping_mul(count));
     }
 }
@@ -188,7 +187,7 @@ pub(crate) fn put_all<F: Firing>(
     requires listed { IsListedBut (F.net net.now) Made actor own outputs.now }
     requires tokens { length tokens.old ≡ length (F.net net.now).channels }
     requires few { from + firings ≤ 2 ^ 32 }
-    requires small { (i : ℕ) → i < length (F.net net.now).channels → slice_index tokens.old i ≤ 2 ^ 100 }
+    requires small { (i : ℕ) → i < length (F.net net.now).channels → slice_index tokens.old i ≤ 2 ^ 60 }
     ensures puts { PutsTokens (F.net net.now) actor from firings tokens.old tokens.new }
     ensures long { length tokens.new ≡ length tokens.old }
 {
@@ -212,7 +211,7 @@ fn put_own<F: Firing>(
     requires rates { AreRates (F.net _net.now) rates.now }
     requires own { IfSome own (λ i. i < length (F.net _net.now).channels) }
     requires tokens { length tokens.old ≡ length (F.net _net.now).channels }
-    requires small { IfSome own (λ i. slice_index tokens.old i + firings < 2 ^ 128) }
+    requires small { IfSome own (λ i. slice_index tokens.old i + firings < 2 ^ 64) }
     ensures { MatchOption own (tokens.new ≡ tokens.old) (λ i. tokens.new ≡ set tokens.old i (slice_index tokens.old i + firings)) }
 {
     if let Some(channel) = own {

@@ -27,9 +27,9 @@ put_own-requires-clause-own g c = if-own (IsOwn (g.F.Firing.net c.args.net.now) 
 
 pub put_own-requires-clause-small : goal.put_own-requires-clause-small
 put_own-requires-clause-small g c =
-    if-own (λ i. slice_index c.loop-channel.tokens i ≤ 2 ^ 100) (λ i. slice_index c.loop-channel.tokens i + c.args.firings < 2 ^ 128) c.args.own (λ i is low. omega (arith, c.requires.few))
+    if-own (λ i. slice_index c.loop-channel.tokens i ≤ 2 ^ 60) (λ i. slice_index c.loop-channel.tokens i + c.args.firings < 2 ^ 64) c.args.own (λ i is low. omega (arith, c.requires.few))
     (own-small (g.F.Firing.net c.args.net.now) (g.met.F.Firing.lawful c.args.net.now) c.args.actor c.args.own c.requires.own c.args.from c.args.firings c.args.outputs.now c.args.tokens.now c.loop-channel.tokens
-    c.requires.listed c.loop-channel.invariant.long c.loop-channel.channel-index c.loop-channel-test.false c.loop-channel.auto.channel-index-end c.loop-channel.invariant.so_far (2 ^ 100) c.requires.small)
+    c.requires.listed c.loop-channel.invariant.long c.loop-channel.channel-index c.loop-channel-test.false c.loop-channel.auto.channel-index-end c.loop-channel.invariant.so_far (2 ^ 60) c.requires.small)
 
 pub returns-clause-puts : goal.returns-clause-puts
 returns-clause-puts g c =

@@ -1,4 +1,5 @@
-use Rattle.selftimed.proofs.Batches.{batch-none, batch-lower, batch-keep, batch-feeds}
+use Rattle.std.proofs.Common.{arith}
+use Rattle.selftimed.proofs.Batches.{batch-none, batch-lower, batch-keep, batch-feeds, batch-fits}
 use Rattle.selftimed.proofs.starts.Turn.fed_together.Goals as goal
 use Rattle.selftimed.proofs.starts.Turn.fed_together.Goals.{then-count-firings, else-count-firings}
 
@@ -14,6 +15,14 @@ loop-channel-preserved g c = elim c.if-count-firings.branch [
   | else-count-firings w ↦ rw (w.firings-is, w.lacking-is) (batch-keep (g.F.Firing.net c.args.self.now.net.now) c.know_laws.ensures c.args.self.now.actor c.args.self.now.own c.args.self.now.inputs.now c.args.tokens.now c.args.self.now.listed c.requires.single
       c.args.most c.loop-channel.firings c.loop-channel.lacking c.loop-channel.channel-index (rw c.taken-rate.ensures at w.if-count-firings.false) c.loop-channel.invariant)
 ]
+
+pub overflow_mul-firings : goal.overflow_mul-firings
+overflow_mul-firings g c =
+    omega (
+      arith,
+      rw (← c.taken-rate.ensures) at (batch-fits (g.F.Firing.net c.args.self.now.net.now) c.know_laws.ensures c.args.self.now.actor c.args.self.now.own c.args.self.now.inputs.now c.args.tokens.now c.args.self.now.listed c.requires.single
+          c.args.most c.loop-channel.firings c.loop-channel.channel-index c.requires.few c.loop-channel.invariant.within c.loop-channel-test.true),
+    )
 
 pub returns-clause-feeds : goal.returns-clause-feeds
 returns-clause-feeds g c =

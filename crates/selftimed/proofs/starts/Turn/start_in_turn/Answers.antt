@@ -1,6 +1,4 @@
 use Rattle.std.proofs.Common.{◌+◌, refl, ◌∙◌, arith}
-use Rattle.firing.specs.declared.sums.Port.TheVariants.{Taken}
-use Rattle.selftimed.proofs.OwnChannels.{listed-whole}
 use Rattle.selftimed.proofs.Batches.{start-none, start-more, start-over, feeds-one}
 use Rattle.selftimed.proofs.starts.Turn.start_in_turn.Goals as goal
 
@@ -9,9 +7,6 @@ firings-init g c = record {
   so_far = start-none (g.F.Firing.net c.args.self.now.net.now) c.args.self.now.actor c.args.self.now.moment c.args.from c.args.room c.args.tokens.now c.args.running.now;
   long = refl;
 }
-
-pub first_lack-requires-clause-listed : goal.first_lack-requires-clause-listed
-first_lack-requires-clause-listed g c = listed-whole (g.F.Firing.net c.args.self.now.net.now) Taken c.args.self.now.actor c.args.self.now.own c.args.self.now.inputs.now c.requires.others c.args.self.now.listed
 
 pub returns-then-count-room : goal.returns-then-count-room
 returns-then-count-room g c = record {
