@@ -16,3 +16,8 @@ pub mod Between
 pub mod Printed
 pub mod RowsAgain
 pub mod Marked
+pub mod Fed
+pub mod Due
+pub mod RowLoops
+pub mod Totals
+pub mod FirstDue

@@ -15,11 +15,11 @@ use Rattle.sd_base.proofs.Alike.{count-rises}
 use Rattle.selftimed.specs.Moves.{IsNext}
 use Rattle.selftimed.proofs.Moving.{starts-sum}
 
-rank-next : (net : Net) (t : ℕ) → is_event net (suc t) ≡ true → events_by net (suc t) ≡ events_by net t + 1
+pub rank-next : (net : Net) (t : ℕ) → is_event net (suc t) ≡ true → events_by net (suc t) ≡ events_by net t + 1
 unfolding events_by
 rank-next net t event = ap (λ b. events_by net t + (if b then 1 else 0)) event
 
-rank-still : (net : Net) (t : ℕ) → is_event net (suc t) ≡ false → events_by net (suc t) ≡ events_by net t
+pub rank-still : (net : Net) (t : ℕ) → is_event net (suc t) ≡ false → events_by net (suc t) ≡ events_by net t
 unfolding events_by
 rank-still net t event = let e : events_by net t + (if is_event net (suc t) then 1 else 0) ≡ events_by net t + 0 = ap (λ b. events_by net t + (if b then 1 else 0)) event in omega arith
 

@@ -5,3 +5,5 @@ pub mod Entering
 pub mod Tracing
 pub mod Printing
 pub mod Marking
+pub mod Needing
+pub mod Showing

@@ -9,6 +9,7 @@ use crate::entry::{count_by, end_of, is_after, settled_from};
 use crate::search::Pair;
 use crate::trace::Trace;
 use firing::{Firing, know_laws};
+use sd_base::Rows;
 
 /// Whether the shape at the later moment is that at the earlier one, so many rounds before: whether these rounds have started
 /// in between, and by the earlier moment all is over that isn't as it is a period later. The trace ends with the later
@@ -19,18 +20,23 @@ pub(crate) fn comes_again<F: Firing>(net: &F, trace: &Trace, pair: Pair, rounds:
     requires traced { IsTrace (F.net net.now) pair.later trace.now.moments.items trace.now.starts.items }
     ensures { IsTrue result → shape_at (F.net net.now) pair.later ≡ shape_at (F.net net.now) pair.earlier }
 {
-    all_end_alike(net, trace, pair, rounds) && all_recur(net, trace, pair, rounds)
+    all_end_alike(net, trace.starts.as_slice(), pair, rounds) && all_recur(net, trace, pair, rounds)
 }
 
 /// Whether all actors' last starts are as they are where the shape comes again. A quick test, since unlike shapes are mostly
 /// unlike in this. Cost: linear in the actors.
-pub(crate) fn all_end_alike<F: Firing>(net: &F, trace: &Trace, pair: Pair, rounds: u64) -> bool
+pub(crate) fn all_end_alike<F: Firing>(
+    net: &F,
+    starts: &[Rows<u64>],
+    pair: Pair,
+    rounds: u64,
+) -> bool
     requires order { pair.earlier < pair.later }
-    requires traced { IsTrace (F.net net.now) pair.later trace.now.moments.items trace.now.starts.items }
+    requires rows { length starts.now ≡ length (F.net net.now).times }
 {
     know_laws(net);
     for actor in 0..net.actors() {
-        let row = trace.starts[actor as usize].as_slice();
+        let row = starts[actor as usize].as_slice();
         if !ends_alike(net, actor, row, pair, rounds) {
             return false;
         }

@@ -2,13 +2,17 @@
 #![tactic(auto)]
 
 mod again;
+mod by_needs;
 mod collect;
 mod entry;
 mod error;
+mod feeds;
 mod laws;
 mod marks;
+mod needs;
 mod prints;
 mod repeat;
+mod rows;
 mod run;
 mod search;
 mod steps;

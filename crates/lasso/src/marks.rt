@@ -152,7 +152,7 @@ impl Marks {
             };
             if mark.print == print
                 && let Some(rounds) = rounds_of(starts.saturating_sub(mark.starts), round)
-                && all_end_alike(engine.net, trace, pair, rounds)
+                && all_end_alike(engine.net, trace.starts.as_slice(), pair, rounds)
             {
                 return true;
             }

@@ -6,6 +6,7 @@ ghost use Rattle.sd_base.specs.Connection.{IsConnected};
 ghost use Rattle.firing.specs.Wiring.{IsWiringOf};
 ghost use Rattle.lasso.specs.LoopAnswers.{IsFound, IsRunRefusal};
 
+use crate::by_needs::loop_by_needs;
 use crate::collect::empty_rows;
 use crate::entry::entry_of;
 use crate::error::RunError;
@@ -13,18 +14,21 @@ use crate::repeat::first_repeat;
 use crate::search::{SEARCH_STARTS, find_pair};
 use crate::table::loop_table;
 use crate::trace::Trace;
-use firing::{Firing, LoopTable, Wiring};
+use firing::{Firing, LoopTable, Wiring, is_single_phase};
 use sd_base::limits::STARTS;
 use sd_base::{Ledger, Steps};
 use selftimed::Engine;
 use std::alloc::Global;
 
-/// The loop of self-timed execution (Ghamarian et al. 2006), found without keeping its shapes: by marks at a few events (van
-/// Oorschot and Wiener 1999), and one shape for the rest (Brent 1980). At most `states` shapes are looked at, and at most
-/// `STARTS` firings started. `steps` counts the call.
+/// The loop of self-timed execution (Ghamarian et al. 2006), found without keeping its shapes: by the needs of firings alone
+/// where each actor has one phase and the loop one round, else by marks at a few events (van Oorschot and Wiener 1999), and one
+/// shape for the rest (Brent 1980). At most `states` shapes are looked at, and at most `STARTS` firings started. `steps` counts
+/// the call.
 ///
-/// Cost: an execution up to the first mark on the loop that comes again, mostly a little longer than one up to the first
-/// repeat. Where the marks miss the loop, as they do if each print of its tokens comes several times a round, an execution to a
+/// Cost by needs: for each start up to a little more than the first repeat, the channels into its actor; where that finds no
+/// loop, for each of some three rounds.
+/// Cost by events: an execution up to the first mark on the loop that comes again, mostly a little longer than one up to the
+/// first repeat. Where the marks miss the loop, as they do if each print of its tokens comes several times a round, an execution to a
 /// shape that came before, at most three times as long as one up to the first repeat, and half as long again as this one where
 /// the loop is entered soon and is a round long. The entry is then found among the starts.
 /// Where it has more than `STARTS` of them, two more side by side, up to the first repeat and up to the entry. Where a
@@ -75,8 +79,31 @@ pub fn run_loop_on<F: Firing, L: Ledger>(
     find_loop(alloc, net, wiring, states)
 }
 
-/// The loop, uncounted.
+/// The loop, uncounted: by needs where this shows it, else by events.
 fn find_loop<F: Firing>(
+    alloc: Global,
+    net: &F,
+    wiring: &Wiring,
+    states: u64,
+) -> Result<LoopTable, RunError>
+    requires wired { IsWiringOf (F.net net.now) wiring.now }
+    requires live { IsLive (F.net net.now) }
+    requires connected { IsConnected (F.net net.now) }
+    requires inputs { HasInputs (F.net net.now) }
+    requires some { LEAST_STATES ≤ states }
+    ensures found { IfOk result (IsFound (F.net net.now) states) }
+    ensures refused { IfErr result (IsRunRefusal (F.net net.now) states) }
+{
+    if is_single_phase(net)
+        && let Some(table) = loop_by_needs(alloc, net, wiring, states)?
+    {
+        return Ok(table);
+    }
+    loop_by_events(alloc, net, wiring, states)
+}
+
+/// The loop, by the shapes at the events of the execution.
+fn loop_by_events<F: Firing>(
     alloc: Global,
     net: &F,
     wiring: &Wiring,

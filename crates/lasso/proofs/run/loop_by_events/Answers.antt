@@ -5,7 +5,7 @@ use Rattle.lasso.specs.inside.Collecting.{AreStarts}
 use Rattle.lasso.specs.inside.Searching.{IsPair, IsRepeat}
 use Rattle.lasso.specs.inside.Tracing.{IsAllowed}
 use Rattle.lasso.proofs.Ranks.{rank-rises, starts-rise}
-use Rattle.lasso.proofs.run.find_loop.Goals as goal
+use Rattle.lasso.proofs.run.loop_by_events.Goals as goal
 
 pub find_pair-requires-clause-inputs : goal.find_pair-requires-clause-inputs
 find_pair-requires-clause-inputs g c = rw c.in_ok-lead.ensures.net c.requires.inputs

@@ -1,0 +1,187 @@
+//! The loop of a net of which each actor has one phase, by rows of starts without events.
+ghost use Rattle.std.specs.Prelude.{◌≡◌, ℕ, ◌+◌, ◌-◌, ◌^◌, ◌≤◌, ◌<◌, IfOk, IfSome, length, map, sum};
+ghost use Rattle.sd_base.specs.declared.limits.TheConstants.{ACTORS, LEAST_STATES, STARTS as MOST_STARTS};
+ghost use Rattle.sd_base.specs.Schedules.{HasInputs, phases_at};
+ghost use Rattle.sd_base.specs.Connection.{IsConnected};
+ghost use Rattle.firing.specs.Wiring.{IsWiringOf};
+ghost use Rattle.lasso.specs.LoopAnswers.{IsFound};
+ghost use Rattle.lasso.specs.inside.Needing.{AreDue, AreNext};
+ghost use Rattle.lasso.specs.inside.Showing.{IsLoopIn};
+
+use crate::again::all_end_alike;
+use crate::collect::{empty_rows, starts_of_round};
+use crate::feeds::{NextFiring, first_firings};
+use crate::needs::{are_whole, extend_all};
+use crate::rows::entry_by_rows;
+use crate::search::Pair;
+use crate::table::loop_table;
+use firing::{Firing, LoopTable, Wiring, know_laws};
+use sd_base::limits::STARTS;
+use sd_base::{NoMemory, Rows};
+use std::alloc::Global;
+
+/// Up to how many rounds of starts are looked through.
+const ROUNDS: u64 = 3;
+
+/// How often the starts are looked at, at most.
+const LOOKS: u32 = 1_024;
+
+/// How often they are about in a round, once there are those of one.
+const LOOKS_A_ROUND: u64 = 32;
+
+/// Up to this moment, in time units, the starts are looked for.
+const LATEST: u64 = 1 << 60;
+
+/// The loop of a net of which each actor has one phase, if it is one round long, is entered within some two rounds, and has fewer
+/// starts up to its repeat than `states`, so that it has no more shapes. The starts of an actor are found several in a row, by
+/// what each firing needs, with nothing done at the moments between. Cost: linear in the starts of some three rounds at most,
+/// each times the channels into its actor, and mostly of little more than one.
+pub(crate) fn loop_by_needs<F: Firing>(
+    alloc: Global,
+    net: &F,
+    wiring: &Wiring,
+    states: u64,
+) -> Result<Option<LoopTable>, NoMemory>
+    requires wired { IsWiringOf (F.net net.now) wiring.now }
+    requires single { (a : ℕ) → a < length (F.net net.now).times → phases_at (F.net net.now) a ≡ 1 }
+    requires connected { IsConnected (F.net net.now) }
+    requires inputs { HasInputs (F.net net.now) }
+    requires some { LEAST_STATES ≤ states }
+    ensures { IfOk result (λ o. IfSome o (IsFound (F.net net.now) states)) }
+{
+    let round = starts_of_round(net);
+    let most = STARTS.min(states - 1);
+    if round > most {
+        return Ok(None);
+    }
+    let mut firings = first_firings(alloc, net, wiring)?;
+    let mut starts = empty_rows(alloc, net)?;
+    let mut flags = no_flags(alloc, net)?;
+    let mut until = 0;
+    let mut step = 1;
+    let mut before = 0;
+    for _look in 0..LOOKS {
+        extend_all(
+            net,
+            wiring,
+            firings.as_mut_slice(),
+            starts.as_mut_slice(),
+            flags.as_mut_slice(),
+            until,
+            ROUNDS + 1,
+        )?;
+        let total = starts_in(net, starts.as_slice());
+        if total > u128::from(most) {
+            return Ok(None);
+        }
+        let total = total as u64;
+        if total > round
+            && let Some(table) = loop_at(
+                alloc,
+                net,
+                firings.as_slice(),
+                starts.as_slice(),
+                until,
+            )?
+        {
+            return Ok(Some(table));
+        }
+        if total / ROUNDS > round || until > LATEST {
+            return Ok(None);
+        }
+        step = pace(until, round, total, step, total.saturating_sub(before));
+        before = total;
+        until += step;
+    }
+    Ok(None)
+}
+
+/// By actor no flag.
+fn no_flags<F: Firing>(alloc: Global, net: &F) -> Result<Vec<bool>, NoMemory>
+    ensures { IfOk result (λ flags. length flags.items ≡ length (F.net net.now).times) }
+{
+    let mut flags = Vec::with_capacity(alloc, net.actors() as usize)?;
+    for _actor in 0..net.actors() {
+        flags.push(false)?;
+    }
+    Ok(flags)
+}
+
+/// How many starts there are.
+fn starts_in<F: Firing>(net: &F, starts: &[Rows<u64>]) -> u128
+    requires { length starts.now ≡ length (F.net net.now).times }
+    ensures { result ≡ sum (map length starts.now) }
+{
+    know_laws(net);
+    let mut total = 0u128;
+    for row in starts {
+        total += row.len() as u128;
+    }
+    total
+}
+
+/// How far to go on, where a round has `round` starts, there are `total`, and the last `step` time units had `gained`: to those
+/// of a round, or further by a part of one, but at most as far again as already.
+fn pace(until: u64, round: u64, total: u64, step: u64, gained: u64) -> u64
+    requires { gained < 2 ^ 64 - 1 }
+    ensures { result ≤ until + 1 }
+{
+    let part = round / LOOKS_A_ROUND + 1;
+    let wanted = round.saturating_sub(total).saturating_add(part);
+    let time = step.saturating_mul(wanted) / (gained + 1);
+    time.min(until).max(until / LOOKS_A_ROUND + 1)
+}
+
+/// The loop, if the starts up to a moment are all that there are, and show that the shape at this moment stood a round before.
+fn loop_at<F: Firing>(
+    alloc: Global,
+    net: &F,
+    firings: &[NextFiring],
+    starts: &[Rows<u64>],
+    until: u64,
+) -> Result<Option<LoopTable>, NoMemory>
+    requires single { (a : ℕ) → a < length (F.net net.now).times → phases_at (F.net net.now) a ≡ 1 }
+    requires connected { IsConnected (F.net net.now) }
+    requires inputs { HasInputs (F.net net.now) }
+    requires due { AreDue (F.net net.now) until starts.now }
+    requires next { AreNext (F.net net.now) starts.now firings.now }
+    requires soon { until ≤ 2 ^ 62 }
+    ensures { IfOk result (λ o. IfSome o (IsLoopIn (F.net net.now) starts.now)) }
+{
+    let period = last_round(net, starts);
+    if period == 0 || period > until {
+        return Ok(None);
+    }
+    let pair = Pair {
+        earlier: until - period,
+        later: until,
+    };
+    if all_end_alike(net, starts, pair, 1)
+        && are_whole(net, firings, starts, until)
+        && let Some(entry) = entry_by_rows(net, starts, pair)
+    {
+        let table = loop_table(alloc, net, entry, period, starts)?;
+        return Ok(Some(table));
+    }
+    Ok(None)
+}
+
+/// How long the last round took of the first actor that has the most firings in a round, or 0.
+fn last_round<F: Firing>(net: &F, starts: &[Rows<u64>]) -> u64
+    requires { length starts.now ≡ length (F.net net.now).times }
+{
+    know_laws(net);
+    let mut lead = 0;
+    for actor in 0..net.actors() {
+        if net.round(lead) < net.round(actor) {
+            lead = actor;
+        }
+    }
+    let row = starts[lead as usize].as_slice();
+    let round = net.round(lead) as usize;
+    if round < row.len() {
+        row[row.len() - 1].saturating_sub(row[row.len() - 1 - round])
+    } else {
+        0
+    }
+}
