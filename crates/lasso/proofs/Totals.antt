@@ -1,10 +1,10 @@
 -- How many events there are, by how many firings have started.
-use Rattle.std.proofs.Common.{◌≡◌, ℕ, zero, suc, ◌+◌, ◌≤◌, ◌<◌, true, false, List, length, inl, inr, ⊎_elim, ap, ◌∙◌, arith}
+use Rattle.std.proofs.Common.{◌≡◌, ℕ, zero, suc, ◌+◌, ◌≤◌, ◌<◌, true, false, List, length, inl, inr, ⊎_elim, arith}
 use Rattle.std.specs.Prelude.{map, sum}
 use Rattle.std.proofs.lemmas.Bool.{cases_lt, cases_Bool}
 use Rattle.sd_base.specs.Net.{Net}
 use Rattle.sd_base.specs.Schedules.{HasInputs, count_of, end_of}
-use Rattle.sd_base.specs.SelfTimed.{earliest, ended_by, IsEvent, is_event, events_by, starts_by}
+use Rattle.sd_base.specs.SelfTimed.{earliest, IsEvent, is_event, events_by, starts_by}
 use Rattle.sd_base.specs.Lawful.{Lawful}
 use Rattle.sd_base.proofs.Parts.{regular}
 use Rattle.sd_base.proofs.Admissibles.{no_actor}
