@@ -1,6 +1,6 @@
 //! The loop of a net of which each actor has one phase, by rows of starts without events.
 ghost use Rattle.std.specs.Prelude.{◌≡◌, ℕ, ◌+◌, ◌-◌, ◌^◌, ◌≤◌, ◌<◌, IfOk, IfSome, length, map, sum};
-ghost use Rattle.sd_base.specs.declared.limits.TheConstants.{ACTORS, LEAST_STATES, STARTS as MOST_STARTS};
+ghost use Rattle.sd_base.specs.declared.limits.TheConstants.{LEAST_STATES};
 ghost use Rattle.sd_base.specs.Schedules.{HasInputs, phases_at};
 ghost use Rattle.sd_base.specs.Connection.{IsConnected};
 ghost use Rattle.firing.specs.Wiring.{IsWiringOf};

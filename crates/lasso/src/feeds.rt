@@ -1,11 +1,10 @@
 //! What the next firing of each actor needs, kept as rows of starts grow.
-ghost use Rattle.std.specs.Prelude.{◌≡◌, ℕ, ◌+◌, ◌*◌, ◌^◌, ◌≤◌, ◌<◌, Some, List, [], IfOk, IfSome, MatchOption, length, replicate, slice_get};
+ghost use Rattle.std.specs.Prelude.{◌≡◌, ℕ, ◌+◌, ◌^◌, ◌≤◌, ◌<◌, [], IfOk, IfSome, length, replicate};
 ghost use Rattle.sd_base.specs.declared.limits.TheConstants.{NET_TOKENS, RATE};
 ghost use Rattle.sd_base.specs.Net.{channel_at};
 ghost use Rattle.sd_base.specs.Schedules.{phases_at};
 ghost use Rattle.firing.specs.declared.sums.Port.TheVariants.{Taken};
 ghost use Rattle.firing.specs.Wiring.{IsListed, IsWiringOf};
-ghost use Rattle.lasso.specs.declared.feeds.NextFiring.{NextFiring as Next};
 ghost use Rattle.lasso.specs.inside.Needing.{Advances, AreNext, Feeds, IsNextOf, Paces};
 
 use firing::{Firing, Wiring, know_laws, know_wiring};

@@ -1,6 +1,5 @@
 //! Starts of self-timed execution by needs: a firing starts when the last of the firings that it needs ends.
-ghost use Rattle.std.specs.Prelude.{◌≡◌, ◌≢◌, ℕ, ◌+◌, ◌^◌, ◌≤◌, ◌<◌, [], IfOk, IfSome, IsTrue, MatchOption, OnOk, length, slice_index, slice_index_or};
-ghost use Rattle.sd_base.specs.Net.{channel_at};
+ghost use Rattle.std.specs.Prelude.{◌≡◌, ◌≢◌, ℕ, ◌^◌, ◌≤◌, ◌<◌, [], IsTrue, MatchOption, OnOk, length, slice_index, slice_index_or};
 ghost use Rattle.sd_base.specs.Schedules.{HasInputs, count_of};
 ghost use Rattle.firing.specs.Wiring.{IsWiringOf};
 ghost use Rattle.lasso.specs.inside.Collecting.{AreStarts};
@@ -116,8 +115,8 @@ pub(crate) fn extend_all<F: Firing>(
     Ok(())
 }
 
-/// Adds such starts of each actor that is flagged, in turn, and says whether there is one. An actor stays flagged, or becomes
-/// so, where one of those that it needs has new ones.
+/// Adds such starts of each actor that is flagged, in turn, and says whether there is one. It takes the actors' flags off, and
+/// flags those that take tokens of one with new starts.
 #[inline(always)]
 fn sweep<F: Firing>(
     net: &F,

@@ -1,5 +1,5 @@
 //! What rows of starts show of a loop, without the events of the execution.
-ghost use Rattle.std.specs.Prelude.{◌≡◌, ◌↔◌, ℕ, ◌+◌, ◌-◌, ◌^◌, ◌≤◌, ◌<◌, [], IfSome, IsTrue, length, slice_index, slice_index_or};
+ghost use Rattle.std.specs.Prelude.{◌≡◌, ◌↔◌, ℕ, ◌+◌, ◌-◌, ◌^◌, ◌≤◌, ◌<◌, IfSome, IsTrue, length, slice_index};
 ghost use Rattle.sd_base.specs.Schedules.{HasInputs, phases_at, time_of};
 ghost use Rattle.sd_base.specs.SelfTimed.{IsEvent};
 ghost use Rattle.sd_base.specs.Rates.{IsLoop};
