@@ -5,9 +5,9 @@ ghost use Rattle.critical.specs.declared.cycle.CycleStep.{CycleStep};
 ghost use Rattle.cert_checker.specs.LinkCycles.{AreAlong, IsCycleLine, IsCycleOf};
 
 use cert_text::{LinkCycle, LinkStep};
-use critical::{CycleStep, NeedCycle};
+use critical::{CycleStep, CycleSteps, NeedCycle};
 use firing::{Firing, know_laws};
-use sd_base::{NoMemory, Role, Rows};
+use sd_base::{NoMemory, Role};
 use std::alloc::Global;
 
 /// Whether links are a need cycle on a net, of as many rounds for its time as a rate has. Cost: the steps times the
@@ -48,10 +48,10 @@ fn steps_along<F: Firing>(
     alloc: Global,
     net: &F,
     links: &[LinkStep],
-) -> Result<Option<Rows<CycleStep>>, NoMemory>
+) -> Result<Option<CycleSteps>, NoMemory>
     ensures { IfOk result (λ o. MatchOption o ((steps : List CycleStep) → ¬ AreAlong (F.net net.now) links.now steps) (AreAlong (F.net net.now) links.now)) }
 {
-    let mut steps = Rows::new(alloc);
+    let mut steps = CycleSteps::new(alloc);
     for link in links {
         match channel_of(net, link.link) {
             Some(channel) => steps.push(CycleStep {

@@ -20,11 +20,12 @@ pub(crate) fn linked<F: Firing>(
     ensures same { IfOk result (λ c. c ≡ link_cycle (F.net net.now) cycle.now) }
     ensures text { IfOk result IsCycleText }
 {
+    let listed = cycle.steps.to_rows(alloc)?;
     Ok(LinkCycle {
         time: cycle.time,
         rounds: cycle.rounds,
         first: cycle.first,
-        steps: Rows::from_vec(steps(alloc, net, cycle.steps.as_slice())?),
+        steps: Rows::from_vec(steps(alloc, net, listed.as_slice())?),
     })
 }
 

@@ -1,5 +1,5 @@
 -- Walking along the steps of a chain.
-use Rattle.std.proofs.Common.{◌≡◌, ℕ, ◌+◌, ◌*◌, ◌≤◌, ◌<◌, List, [], ◌∷◌, length, drop, subst, sym, refl, ap, ◌∙◌, arith, add-one, drop-cons}
+use Rattle.std.proofs.Common.{◌≡◌, ℕ, ◌+◌, ◌*◌, ◌≤◌, ◌<◌, List, [], ◌∷◌, ◌++◌, length, drop, subst, sym, refl, ap, ◌∙◌, arith, add-one, drop-cons}
 use Rattle.std.specs.Prelude.{slice_index_or}
 use Rattle.critical.specs.declared.cycle.FiringNo.{FiringNo}
 use Rattle.critical.specs.declared.cycle.CycleStep.{CycleStep}
@@ -44,3 +44,25 @@ module _ (net : Net) (from : FiringNo) (steps : List CycleStep) (i : ℕ) (at : 
       let same_last : last_of at (drop i steps) ≡ at = ap (last_of at) done in
       let same_time : time_along net at (drop i steps) ≡ 0 = ap (time_along net at) done in
       (walk.back (subst (λ (rest : List CycleStep). IsChain net at rest) (sym done) tt), sym (walk.last ∙ same_last), omega (arith, walk.all))
+
+module _ (net : Net) where
+  -- a chain that goes on along further steps
+  pub chain-front : (from : FiringNo) (xs ys : List CycleStep) → IsChain net from (xs ++ ys) → IsChain net from xs
+  chain-front from [] ys chain = tt
+  chain-front from (x ∷ xs) ys chain = (chain.0, chain-front x.to xs ys chain.1)
+
+  pub chain-back : (from : FiringNo) (xs ys : List CycleStep) → IsChain net from (xs ++ ys) → IsChain net (last_of from xs) ys
+  chain-back from [] ys chain = chain
+  chain-back from (x ∷ xs) ys chain = chain-back x.to xs ys chain.1
+
+  pub chain-both : (from : FiringNo) (xs ys : List CycleStep) → IsChain net from xs → IsChain net (last_of from xs) ys → IsChain net from (xs ++ ys)
+  chain-both from [] ys front back = back
+  chain-both from (x ∷ xs) ys front back = (front.0, chain-both x.to xs ys front.1 back)
+
+  pub last-both : (from : FiringNo) (xs ys : List CycleStep) → last_of from (xs ++ ys) ≡ last_of (last_of from xs) ys
+  last-both from [] ys = refl
+  last-both from (x ∷ xs) ys = last-both x.to xs ys
+
+  pub time-both : (from : FiringNo) (xs ys : List CycleStep) → time_along net from (xs ++ ys) ≡ time_along net from xs + time_along net (last_of from xs) ys
+  time-both from [] ys = omega arith
+  time-both from (x ∷ xs) ys = omega (arith, time-both x.to xs ys)

@@ -9,6 +9,8 @@ pub mod Passes
 pub mod Shortness
 mod Slopes
 pub mod Storage
+mod Stretches
+mod StretchSpaces
 pub mod TightCycles
 pub mod TightNeeds
 pub mod TightTests

@@ -1,5 +1,6 @@
 pub mod Cycles
 pub mod Bounds
+pub mod Stretches
 pub mod Spaces
 pub mod CriticalCycles
 pub mod LaterCycles

@@ -4,9 +4,10 @@ ghost use Rattle.critical.specs.CriticalCycles.{IsCriticalCycleOf};
 ghost use Rattle.critical.specs.inside.Trails.{IsShortLoop, IsSecond, ComesAgain, IsLeastRounds, met_at, raised_number, lowered_firing, steps_of};
 
 use crate::cycle::{CycleStep, FiringNo, NeedCycle};
+use crate::steps::CycleSteps;
 use crate::walk::Met;
 use firing::{Firing, LoopTable};
-use sd_base::{NoMemory, Rows};
+use sd_base::NoMemory;
 use std::alloc::Global;
 
 /// The cycle of the firings met from the place `from` on, in the order of time.
@@ -57,7 +58,7 @@ fn steps_forward<F: Firing>(
     met: &[Met],
     from: usize,
     rounds: u64,
-) -> Result<Rows<CycleStep>, NoMemory>
+) -> Result<CycleSteps, NoMemory>
     requires table { IsShortLoop (F.net net.now) table.now }
     requires again { ComesAgain (F.net net.now) table.now met.now from }
     requires least { IsLeastRounds (F.net net.now) table.now met.now from (met_at met.now (length met.now - 1)).passes rounds }
@@ -66,14 +67,14 @@ fn steps_forward<F: Firing>(
         (λ i. (met_at met.now (i + 1)).channel) from (length met.now - 1 - from)) }
 {
     let passes = met[met.len() - 1].passes;
-    let mut steps = Vec::with_capacity(alloc, met.len().saturating_sub(from))?;
+    let mut steps = CycleSteps::new(alloc);
     for i in (from..met.len() - 1).rev() {
         steps.push(CycleStep {
             channel: met[i + 1].channel,
             to: lowered(net, table, met[i], passes, rounds),
         })?;
     }
-    Ok(Rows::from_vec(steps))
+    Ok(steps)
 }
 
 /// The number of a firing met, with all firings met so many passes later.

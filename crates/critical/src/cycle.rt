@@ -1,11 +1,14 @@
-ghost use Rattle.std.specs.Prelude.{◌≡◌, ◌+◌, ◌*◌, ◌^◌, ◌<◌, ◌≤◌, ◌↔◌, IsTrue, MatchOption, length, slice_index};
+ghost use Rattle.std.specs.Prelude.{◌≡◌, ◌+◌, ◌*◌, ◌^◌, ◌<◌, ◌≤◌, ◌↔◌, IsTrue, MatchOption, flat_map, length, slice_index};
 ghost use Rattle.sd_base.specs.declared.limits.TheConstants.{TIME};
 ghost use Rattle.sd_base.specs.Net.{channel_at, total};
 ghost use Rattle.sd_base.specs.Schedules.{time_of, LastNeed};
 ghost use Rattle.critical.specs.Cycles.{IsStep, IsChain, last_of, time_along, HoldsOn};
+ghost use Rattle.critical.specs.Stretches.{steps_in};
 
+use crate::steps::CycleSteps;
+use crate::stretch::Stretch;
 use firing::{Firing, know_laws, made_sum, taken_sum};
-use sd_base::{Fraction, Rows};
+use sd_base::Fraction;
 
 /// A firing: an actor and the number of its firing, both from 0.
 #[derive(Clone, Copy, Debug, PartialEq, Eq)]
@@ -29,7 +32,7 @@ pub struct NeedCycle {
     pub time: u64,
     pub rounds: u64,
     pub first: FiringNo,
-    pub steps: Rows<CycleStep>,
+    pub steps: CycleSteps,
 }
 
 impl NeedCycle {
@@ -50,7 +53,7 @@ impl NeedCycle {
         if self.rounds == 0 || self.steps.is_empty() {
             return false;
         }
-        match end_of_chain(net, self.first, self.steps.as_slice()) {
+        match end_of_chain(net, self.first, self.steps.stretches()) {
             Some(end) => end.time == self.time as u128 && self.closes_at(net, end.last),
             None => false,
         }
@@ -75,16 +78,34 @@ struct ChainEnd {
 }
 
 /// The end of a chain, and None where the steps are no chain from there on.
-fn end_of_chain<F: Firing>(net: &F, from: FiringNo, steps: &[CycleStep]) -> Option<ChainEnd>
-    ensures { MatchOption result (¬ IsChain (F.net net.now) from steps.now) (λ e. IsChain (F.net net.now) from steps.now
-        × (e.last ≡ last_of from steps.now) × (e.time ≡ time_along (F.net net.now) from steps.now)) }
+fn end_of_chain<F: Firing>(net: &F, from: FiringNo, stretches: &[Stretch]) -> Option<ChainEnd>
+    ensures { MatchOption result (¬ IsChain (F.net net.now) from (flat_map steps_in stretches.now)) (λ e. IsChain (F.net net.now) from (flat_map steps_in stretches.now)
+        × (e.last ≡ last_of from (flat_map steps_in stretches.now)) × (e.time ≡ time_along (F.net net.now) from (flat_map steps_in stretches.now))) }
 {
     let mut end = ChainEnd {
         last: from,
         time: 0,
     };
-    for step in steps {
-        if !is_step(net, end.last, *step) {
+    for stretch in stretches {
+        match end_of_stretch(net, end, *stretch) {
+            Some(farther) => end = farther,
+            None => return None,
+        }
+    }
+    Some(end)
+}
+
+/// The end of a chain that goes on along a stretch, and None where that is no chain from there on.
+fn end_of_stretch<F: Firing>(net: &F, from: ChainEnd, stretch: Stretch) -> Option<ChainEnd>
+    requires { from.time ≤ 2 ^ 126 }
+    ensures { MatchOption result (¬ IsChain (F.net net.now) from.last (steps_in stretch)) (λ e. IsChain (F.net net.now) from.last (steps_in stretch)
+        × (e.last ≡ last_of from.last (steps_in stretch)) × (e.time ≡ from.time + time_along (F.net net.now) from.last (steps_in stretch))
+        × (e.time ≤ from.time + 2 ^ 62)) }
+{
+    let mut end = from;
+    for behind in 0..stretch.count {
+        let step = stretch.step(behind);
+        if !is_step(net, end.last, step) {
             return None;
         }
         end = ChainEnd {

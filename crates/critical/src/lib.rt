@@ -9,9 +9,12 @@ pub mod laws;
 mod marks;
 mod pass;
 mod spaces;
+mod steps;
+mod stretch;
 mod tight;
 mod walk;
 
 pub use cycle::{CycleStep, FiringNo, NeedCycle};
 pub use find::{cycle_of, cycle_of_on};
+pub use steps::CycleSteps;
 pub use tight::is_tight_on;

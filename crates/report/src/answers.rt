@@ -68,7 +68,7 @@ pub fn rate_text<F: Firing>(
     let mut text = String::new(alloc);
     put_rate(&mut text, schedule.rounds, schedule.period)?;
     put_schedule(&mut text, graph, schedule)?;
-    put_cycle(&mut text, net, graph, cycle)?;
+    put_cycle(alloc, &mut text, net, graph, cycle)?;
     Ok(bytes_of(text))
 }
 

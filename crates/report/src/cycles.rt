@@ -6,23 +6,25 @@ ghost use Rattle.report.specs.CycleTexts.{cycle_header, cycle_lines, firing_text
 use crate::links::{put_actor, put_link};
 use critical::{FiringNo, NeedCycle};
 use firing::Firing;
-use sd_base::{GraphFile, Role};
-use std::alloc::AllocError;
+use sd_base::{GraphFile, NoMemory, Role};
+use std::alloc::{AllocError, Global};
 
 /// Puts the lines of a need cycle at the end of a text: `cycle W h` with its time, its rounds and its first
 /// firing, then for each step its firing and its link.
 pub(crate) fn put_cycle<F: Firing>(
+    alloc: Global,
     text: &mut String,
     net: &F,
     graph: &GraphFile,
     cycle: &NeedCycle,
-) -> Result<(), AllocError>
+) -> Result<(), NoMemory>
     requires net { IsNamed graph.now (F.net net.now) }
     requires cycle { IsCycleIn graph.now (F.net net.now) cycle.now }
     ensures { OnOk result (string_bytes text.new ≡ string_bytes text.old ++ cycle_lines graph.now (F.net net.now) cycle.now) }
 {
     put_header(text, graph, cycle)?;
-    for step in cycle.steps.as_slice() {
+    let steps = cycle.steps.to_rows(alloc)?;
+    for step in steps.as_slice() {
         put_step(text, graph, step.to, net.role(step.channel))?;
     }
     Ok(())

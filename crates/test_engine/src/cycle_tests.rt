@@ -1,7 +1,7 @@
 use crate::space_net::TwoSpaces;
-use critical::{CycleStep, FiringNo, NeedCycle};
+use critical::{CycleStep, CycleSteps, FiringNo, NeedCycle};
 use firing::SdfNet;
-use sd_base::{NoMemory, Rows};
+use sd_base::NoMemory;
 use std::alloc::Global;
 use std::test::Fail;
 use test_nets::ring_of_two;
@@ -19,6 +19,15 @@ pub(crate) fn y(number: u64) -> FiringNo {
 /// A step along a channel to a firing.
 pub(crate) fn along(channel: u32, to: FiringNo) -> CycleStep {
     CycleStep { channel, to }
+}
+
+/// Steps one after another.
+pub(crate) fn in_order(alloc: Global, steps: &[CycleStep]) -> Result<CycleSteps, NoMemory> {
+    let mut listed = CycleSteps::new(alloc);
+    for step in steps {
+        listed.push(*step)?;
+    }
+    Ok(listed)
 }
 
 /// The channels of the ring of two: from x to y, and from y to x.
@@ -42,7 +51,7 @@ fn cycle(
         time,
         rounds,
         first,
-        steps: Rows::from_vec(steps.to_vec(alloc)?),
+        steps: in_order(alloc, steps)?,
     })
 }
 

@@ -2,11 +2,11 @@ ghost use Rattle.std.specs.Prelude.{ℕ, ◌≤◌, ◌^◌};
 ghost use Rattle.sd_base.specs.Schedules.{start_of};
 
 use crate::checks::{found_loop, is_live};
-use crate::cycle_tests::{along, x, y};
+use crate::cycle_tests::{along, in_order, x, y};
 use critical::{NeedCycle, cycle_of};
 use firing::{Firing, LoopTable, SdfNet};
 use periodic::{Periodic, from_loop};
-use sd_base::{Fraction, Rows};
+use sd_base::Fraction;
 use std::alloc::Global;
 use std::process::Abort;
 use std::test::Fail;
@@ -61,7 +61,8 @@ fn three_at_once_have_a_cycle_of_one_step(rt: HostRuntime) -> Result<(), Fail> {
     assert_eq!(rt; starts[0].as_slice(), [0, 0, 0].as_slice());
     let cycle = &answer.cycle;
     assert_eq!(rt; (cycle.time, cycle.rounds, cycle.first), (7, 3, x(0)));
-    assert_eq!(rt; cycle.steps.as_slice(), [along(0, x(3))].as_slice());
+    let steps = cycle.steps.to_rows(rt.alloc())?;
+    assert_eq!(rt; steps.as_slice(), [along(0, x(3))].as_slice());
     check_answer(&rt, &net, &mut answer);
     Ok(())
 }
@@ -79,8 +80,11 @@ fn the_slower_actor_of_a_multi_rate_ring_is_critical(rt: HostRuntime) -> Result<
     assert_eq!(rt; starts[1].as_slice(), [30, 35].as_slice());
     let cycle = &answer.cycle;
     assert_eq!(rt; (cycle.time, cycle.rounds, cycle.first), (10, 1, y(1)));
-    let steps = [along(3, y(2)), along(3, y(3))];
-    assert_eq!(rt; cycle.steps.as_slice(), steps.as_slice());
+    let steps = cycle.steps.to_rows(rt.alloc())?;
+    assert_eq!(rt;
+        steps.as_slice(),
+        [along(3, y(2)), along(3, y(3))].as_slice()
+    );
     check_answer(&rt, &net, &mut answer);
     Ok(())
 }
@@ -105,10 +109,11 @@ fn comes_round_within(alloc: Global, cycle: &NeedCycle, rounds: u64) -> Result<b
     requires { 1 ≤ rounds }
 {
     let mut firings = [cycle.first].to_vec(alloc)?;
-    for step in cycle.steps.as_slice() {
+    let steps = cycle.steps.to_rows(alloc)?;
+    for step in steps.as_slice() {
         firings.push(step.to)?;
     }
-    let last = cycle.steps.len();
+    let last = steps.len();
     for j in 0..firings.len() {
         for i in 0..j {
             let passes_apart = firings[i].number.abs_diff(firings[j].number) % rounds == 0;
@@ -133,14 +138,17 @@ fn a_critical_cycle_comes_round_once(rt: HostRuntime) -> Result<(), Fail> {
     assert_eq!(rt; (table.entry, table.period, table.rounds), (5, 10, 2));
     let cycle = &answer.cycle;
     assert_eq!(rt; (cycle.time, cycle.rounds, cycle.first), (10, 2, x(0)));
-    let steps = [along(0, x(1)), along(0, x(2))];
-    assert_eq!(rt; cycle.steps.as_slice(), steps.as_slice());
+    let steps = cycle.steps.to_rows(alloc)?;
+    assert_eq!(rt;
+        steps.as_slice(),
+        [along(0, x(1)), along(0, x(2))].as_slice()
+    );
     assert!(rt; !comes_round_within(alloc, cycle, 2)?);
     let longer = NeedCycle {
         time: 15,
         rounds: 3,
         first: x(0),
-        steps: Rows::from_vec([along(1, y(0)), along(2, x(2)), along(0, x(3))].to_vec(alloc)?),
+        steps: in_order(alloc, &[along(1, y(0)), along(2, x(2)), along(0, x(3))])?,
     };
     assert!(rt; longer.holds(&net));
     assert_eq!(rt; longer.bound(), Fraction::new(1, 5));

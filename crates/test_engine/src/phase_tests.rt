@@ -111,7 +111,8 @@ fn a_loop_of_phases_has_its_schedule_and_cycle(rt: HostRuntime) -> Result<(), Fa
     assert_eq!(rt; starts[0].as_slice(), [0, 1].as_slice());
     assert_eq!(rt; starts[1].as_slice(), [1, 5, 5].as_slice());
     let cycle = &answer.cycle;
-    assert_eq!(rt; (cycle.time, cycle.rounds, cycle.steps.len()), (7, 1, 3));
+    let steps = cycle.steps.to_rows(rt.alloc())?;
+    assert_eq!(rt; (cycle.time, cycle.rounds, steps.len()), (7, 1, 3));
     check_answer(&rt, &net, &mut answer);
     Ok(())
 }

@@ -8,5 +8,5 @@ use Rattle.cert_maker.proofs.links.linked.Goals as goal
 
 pub returns-clause-text : goal.returns-clause-text
 returns-clause-text g c =
-    subst (λ (steps : List LinkStep). All HasText steps) (sym (c.from_vec.ensures ∙ c.in_ok-steps.ensures ∙ ap (map (link_step (g.F.Firing.net c.args.net.now))) c.as_slice.ensures))
+    subst (λ (steps : List LinkStep). All HasText steps) (sym (c.from_vec.ensures ∙ c.in_ok-steps.ensures ∙ ap (map (link_step (g.F.Firing.net c.args.net.now))) (c.as_slice.ensures ∙ c.in_ok-listed.ensures)))
     (linked-text (g.F.Firing.net c.args.net.now) c.args.cycle.now.steps c.requires.channels c.requires.unordered)

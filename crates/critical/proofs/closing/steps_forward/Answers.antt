@@ -19,8 +19,8 @@ pub loop-i-preserved : goal.loop-i-preserved
 loop-i-preserved g c =
     let at = λ (i : ℕ). lowered_firing (g.F.Firing.net c.args.net.now) c.args.table.now (met_at c.args.met.now (length c.args.met.now - 1)).passes c.args.rounds (met_at c.args.met.now i) in
     let channel = λ (i : ℕ). (met_at c.args.met.now (i + 1)).channel in
-    let pushed = rw c.lowered.ensures at c.in_ok-push.ensures.items in
+    let pushed = rw c.lowered.ensures at c.in_ok-push.ensures.ok in
     record {
       late = omega (arith, c.loop-i-test.true);
-      steps = steps-next at channel c.args.from c.loop-i.i c.loop-i.steps.items c.push.new.self.items (steps_of at channel c.args.from (length c.args.met.now - 1 - c.args.from)) c.loop-i-test.true c.loop-i.invariant.steps pushed;
+      steps = steps-next at channel c.args.from c.loop-i.i c.loop-i.steps c.push.new.self (steps_of at channel c.args.from (length c.args.met.now - 1 - c.args.from)) c.loop-i-test.true c.loop-i.invariant.steps pushed;
     }

@@ -1,8 +1,16 @@
-use Rattle.std.proofs.Common.{refl, arith}
-use Rattle.critical.proofs.Chains.{follows-next, step-split}
+use Rattle.std.proofs.Common.{subst, sym, arith}
+use Rattle.critical.specs.declared.cycle.FiringNo.{FiringNo}
+use Rattle.critical.specs.Cycles.{IsChain}
+use Rattle.critical.specs.Stretches.{steps_in}
+use Rattle.critical.proofs.Stretches.{chain-stops, goes-on_more}
 use Rattle.critical.proofs.cycle.end_of_chain.Goals as goal
 
-pub loop-step-preserved : goal.loop-step-preserved
-loop-step-preserved g c =
-    follows-next (g.F.Firing.net c.args.net.now) c.args.from c.args.steps.now c.loop-step.step-index c.loop-step.end.last c.loop-step.end.time c.loop-step.invariant _
-    (step-split c.args.steps.now c.loop-step.step-index _ (omega arith)) (c.if-not-is_step.ensures.0 refl) c.time_at.result c.time_at.ensures.time c.time_at.ensures.short
+pub returns-in-None : goal.returns-in-None
+returns-in-None g c =
+    chain-stops (g.F.Firing.net c.args.net.now) c.args.from c.args.stretches.now c.loop-stretch.stretch-index c.stretch-item.result (omega (arith, c.loop-stretch-test.true)) (sym c.stretch-item.is)
+    (subst (λ (at : FiringNo). ¬ IsChain (g.F.Firing.net c.args.net.now) at (steps_in c.stretch-item.result)) c.loop-stretch.invariant.last c.in-None.ensures)
+
+pub loop-stretch-preserved : goal.loop-stretch-preserved
+loop-stretch-preserved g c =
+    goes-on_more (g.F.Firing.net c.args.net.now) c.args.from c.args.stretches.now c.loop-stretch.stretch-index c.stretch-item.result c.loop-stretch.end.last c.in-Some.farther.last c.loop-stretch.end.time c.in-Some.farther.time
+    (omega (arith, c.loop-stretch-test.true)) (sym c.stretch-item.is) c.loop-stretch.invariant c.in-Some.ensures.0 c.in-Some.ensures.1 c.in-Some.ensures.2 c.in-Some.ensures.3
