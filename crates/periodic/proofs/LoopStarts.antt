@@ -14,25 +14,8 @@ use Rattle.sd_base.proofs.Counts.{early_at}
 use Rattle.firing.specs.declared.table.LoopTable.{LoopTable}
 use Rattle.periodic.specs.LoopSchedules.{IsLoopSchedule, OneLoopSchedule}
 use Rattle.periodic.specs.inside.Passes.{turns_back, back_start, back_at, HasPasses, IsMoved, AreMovedBack}
-use Rattle.periodic.proofs.MovedBack.{InPass, in-pass, turns-within}
+use Rattle.periodic.proofs.MovedBack.{InPass, in-pass, one-turn, turns-within}
 use Rattle.sd_base.proofs.LoopPasses as passes
-
--- ---- the one firing of a pass at a place
-
-fewer : (before turn k t p : ℕ) → before ≤ t * turn + k → p * turn + k < before + turn → p ≤ t
-fewer before turn k t p from below = ⊎_elim
-    (λ (more : t < p). absurd (
-    let le : (t + 1) * turn ≤ p * turn = mul-le-mul_right turn (omega arith) in
-    omega arith))
-    (λ (h : p ≤ t). h)
-    (cases_lt t p)
-
-one-turn : (before turn k p : ℕ) → k < turn → before ≤ p * turn + k → p * turn + k < before + turn → turns_back before turn k ≡ p
-one-turn before turn k p below from under =
-    let at : InPass before turn k = in-pass before turn k below in
-    let up : turns_back before turn k ≤ p = fewer before turn k p (turns_back before turn k) from at.below in
-    let down : p ≤ turns_back before turn k = fewer before turn k (turns_back before turn k) p at.from under in
-    omega arith
 
 back-read : (period before : ℕ) (pass : List ℕ) (up k p : ℕ) → turns_back before (length pass) k ≡ p → p * period ≤ up →
     back_start period before pass up k + p * period ≡ slice_index pass (p * length pass + k - before) + up

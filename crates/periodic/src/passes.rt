@@ -1,8 +1,8 @@
-ghost use Rattle.std.specs.Prelude.{◌≡◌, ℕ, ◌+◌, ◌-◌, ◌*◌, ◌<◌, ◌≤◌, ◌^◌, [], IfOk, IsTrue, length, map, slice_index, slice_index_or};
+ghost use Rattle.std.specs.Prelude.{◌≡◌, ℕ, ◌+◌, ◌-◌, ◌*◌, ◌<◌, ◌≤◌, ◌^◌, [], ◌++◌, IfOk, IsTrue, length, map, slice_index, slice_index_or, vec_capacity, vec_len};
 ghost use Rattle.sd_base.specs.declared.limits.TheConstants.{STARTS, START};
 ghost use Rattle.std.specs.List.{range_with_len};
 ghost use Rattle.sd_base.specs.Schedules.{count_of};
-ghost use Rattle.periodic.specs.inside.Passes.{turns_back, back_start, back_at, IsLeast, IsLeastStart, HasTurns, HasPasses, AreMovedBack};
+ghost use Rattle.periodic.specs.inside.Passes.{turns_back, back_start, back_at, AreParts, IsLeast, IsLeastStart, HasTurns, HasPasses, AreMovedBack};
 
 use firing::LoopTable;
 use sd_base::{NoMemory, Rows};
@@ -19,29 +19,33 @@ struct Pass<'a> {
     ghost few: { before ≤ STARTS },
 }
 
-impl Pass<'_> {
-    /// How many whole turns lie before the firing that has a place in its turn.
-    fn turns(&self, place: usize) -> u64
-        requires { place < length self.now.starts.now }
-        ensures turns { result ≡ turns_back self.now.before (length self.now.starts.now) place }
+impl<'a> Pass<'a> {
+    /// How many whole turns lie before the turn that begins in the pass.
+    fn turns(&self) -> u64
+        ensures turns { result ≡ turns_back self.now.before (length self.now.starts.now) 0 }
         ensures few { result ≤ STARTS }
     {
         let turn = self.starts.len() as u64;
-        (self.before + (turn - 1 - place as u64)) / turn
+        (self.before + (turn - 1)) / turn
     }
 
-    /// The start of the firing at a place, earlier by a period for each turn before it, and later by `up`.
-    fn start(&self, up: u128, place: usize) -> u128
-        requires place { place < length self.now.starts.now }
+    /// The firings of that turn, which have the first places, and those before it, which have the last ones.
+    /// Each is to start earlier by a period for each whole turn before it, and later by `up`.
+    fn parts(&self, up: u128) -> (Part<'a>, Part<'a>)
         requires up { turns_back self.now.before (length self.now.starts.now) 0 * self.now.period ≤ up }
         requires small { up ≤ STARTS * 2 ^ 64 }
-        ensures start { result ≡ back_start self.now.period self.now.before self.now.starts.now up place }
-        ensures small { result ≤ START }
+        ensures { AreParts self.now.period self.now.before self.now.starts.now up result.0.starts.now result.0.up result.1.starts.now result.1.up }
     {
-        let turns = self.turns(place);
-        let number = turns * self.starts.len() as u64 + place as u64;
-        let start = self.starts[(number - self.before) as usize];
-        start as u128 + up - turns as u128 * self.period as u128
+        let turns = self.turns();
+        let begun = turns * self.starts.len() as u64;
+        let (early, late) = self.starts.split_at((begun - self.before) as usize);
+        let up = up - turns as u128 * self.period as u128;
+        let late = Part { starts: late, up };
+        let early = Part {
+            starts: early,
+            up: up + self.period as u128,
+        };
+        (late, early)
     }
 
     /// The least of these starts.
@@ -50,11 +54,12 @@ impl Pass<'_> {
         requires small { up ≤ STARTS * 2 ^ 64 }
         ensures { IsLeast (back_start self.now.period self.now.before self.now.starts.now up) (length self.now.starts.now) result }
     {
-        let mut least = self.start(up, 0);
-        for place in 1..self.starts.len() {
-            least = least.min(self.start(up, place));
+        let (late, early) = self.parts(up);
+        if early.starts.is_empty() {
+            late.least()
+        } else {
+            late.least().min(early.least())
         }
-        least
     }
 
     /// These starts by place, each less by `down`.
@@ -66,11 +71,48 @@ impl Pass<'_> {
             ≡ map (λ k. back_start self.now.period self.now.before self.now.starts.now up k - down) (range_with_len 0 (length self.now.starts.now))) }
         ensures small { IfOk result (λ row. (k : ℕ) → slice_index row k ≤ START) }
     {
-        let mut row = Rows::new(alloc);
-        for place in 0..self.starts.len() {
-            row.push(self.start(up, place) - down)?;
+        let (late, early) = self.parts(up);
+        let mut row = Vec::with_capacity(alloc, self.starts.len())?;
+        late.push_to(&mut row, down);
+        early.push_to(&mut row, down);
+        Ok(Rows::from_vec(row))
+    }
+}
+
+/// Firings of an actor in one turn, in order.
+#[derive(Clone, Copy)]
+struct Part<'a> {
+    starts: &'a [u64],
+    /// How much later each of them is to start.
+    up: u128,
+    ghost small: { up ≤ (STARTS + 1) * 2 ^ 64 },
+}
+
+impl Part<'_> {
+    /// The least of these later starts.
+    fn least(&self) -> u128
+        requires { 0 < length self.now.starts.now }
+        ensures { IsLeast (λ k. slice_index self.now.starts.now k + self.now.up) (length self.now.starts.now) result }
+    {
+        let mut least = self.starts[0];
+        for place in 1..self.starts.len() {
+            least = least.min(self.starts[place]);
         }
-        Ok(row)
+        least as u128 + self.up
+    }
+
+    /// Puts these later starts, each less by `down`, at the end of a row that has room for them.
+    fn push_to(&self, row: &mut Vec<u128>, down: u128)
+        requires room { vec_len row.old + length self.now.starts.now ≤ vec_capacity row.old }
+        requires down { (k : ℕ) → k < length self.now.starts.now → down ≤ slice_index self.now.starts.now k + self.now.up }
+        ensures row { row.new.items ≡ row.old.items ++ map (λ start. start + self.now.up - down) self.now.starts.now }
+        ensures len { vec_len row.new ≡ vec_len row.old + length self.now.starts.now }
+        ensures capacity { vec_capacity row.new ≡ vec_capacity row.old }
+        ensures small { ((k : ℕ) → slice_index row.old.items k ≤ START) → (k : ℕ) → slice_index row.new.items k ≤ START }
+    {
+        for start in self.starts {
+            row.push_reserved(*start as u128 + self.up - down);
+        }
     }
 }
 
@@ -83,11 +125,11 @@ pub(crate) fn moved_starts(alloc: Global, table: &LoopTable) -> Result<Rows<Rows
     let most = most_turns(table);
     let up = most as u128 * table.period as u128;
     let down = least_start(table, most);
-    let mut rows = Rows::new(alloc);
+    let mut rows = Vec::with_capacity(alloc, table.starts.len())?;
     for actor in 0..table.starts.len() {
-        rows.push(pass_of(table, actor).row(alloc, up, down)?)?;
+        rows.push_reserved(pass_of(table, actor).row(alloc, up, down)?);
     }
-    Ok(rows)
+    Ok(Rows::from_vec(rows))
 }
 
 /// The firings of an actor.
@@ -113,7 +155,7 @@ fn most_turns(table: &LoopTable) -> u64
 {
     let mut most = 0;
     for actor in 0..table.starts.len() {
-        most = most.max(pass_of(table, actor).turns(0));
+        most = most.max(pass_of(table, actor).turns());
     }
     most
 }

@@ -18,6 +18,13 @@ back_start period before pass up k =
 abbrev pub back_at : LoopTable → ℕ → ℕ → ℕ → ℕ
 back_at table up a k = back_start table.period (slice_index table.before a) (slice_index_or table.starts a []) up k
 
+-- by place the moved starts of a pass are those of `late`, each later by `late_up`, and then those of `early`, later by `early_up`
+pub record AreParts (period before : ℕ) (pass : List ℕ) (up : ℕ) (late : List ℕ) (late_up : ℕ) (early : List ℕ) (early_up : ℕ) : Type 0 where
+  pub whole : length late + length early ≡ length pass
+  pub some_late : 0 < length late
+  pub first : (k : ℕ) → k < length late → slice_index late k + late_up ≡ back_start period before pass up k
+  pub last : (k : ℕ) → k < length early → slice_index early k + early_up ≡ back_start period before pass up (length late + k)
+
 -- x is the least of the numbers that f gives below n
 pub record IsLeast (f : ℕ → ℕ) (n x : ℕ) : Type 0 where
   pub below : (k : ℕ) → k < n → x ≤ f k
