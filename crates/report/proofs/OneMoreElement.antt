@@ -12,7 +12,6 @@ use Rattle.periodic.specs.declared.schedule.Periodic.{Periodic}
 use Rattle.pareto_front.specs.declared.point.Point.{Point}
 use Rattle.critical.specs.declared.cycle.CycleStep.{CycleStep}
 use Rattle.critical.specs.declared.cycle.NeedCycle.{NeedCycle}
-use Rattle.escapes.specs.EscapedNames.{escaped_name}
 use Rattle.report.specs.ListTexts.{lines_of}
 use Rattle.report.specs.LinkTexts.{actor_lines}
 use Rattle.report.specs.ScheduleTexts.{schedule_header, spaced, starts_line, schedule_lines}
@@ -101,14 +100,6 @@ steps_end g text whole ss i past kept =
 -- two pieces one after the other
 joined : (start first second text : List ℕ) → text ≡ (start ++ first) ++ second → text ≡ start ++ (first ++ second)
 joined start first second text is = is ∙ append_assoc start first second
-
-pub starts_end : (name starts start named text new : List ℕ) (i : ℕ) → named ≡ start ++ escaped_name name → length starts ≤ i → text ≡ named ++ flat_map spaced (take i starts)
-    → new ≡ text ++ 10 ∷ [] → new ≡ start ++ starts_line name starts
-unfolding starts_line
-starts_end name starts start named text new i shown past kept is =
-    let whole : text ≡ named ++ flat_map spaced starts = flat_end spaced named text starts i past kept in
-    joined start (escaped_name name) (flat_map spaced starts ++ 10 ∷ []) new
-    (is ∙ (ap (λ (l : List ℕ). l ++ 10 ∷ []) (whole ∙ ap (λ (l : List ℕ). l ++ flat_map spaced starts) shown) ∙ append_assoc (start ++ escaped_name name) (flat_map spaced starts) (10 ∷ [])))
 
 pub schedule_end : (g : GraphFile) (schedule : Periodic) (start headed text : List ℕ) (i : ℕ) → length g.actors ≤ i → headed ≡ start ++ schedule_header schedule.period schedule.rounds
     → text ++ actor_lines starts_line (drop i g.actors) (drop i schedule.starts) ≡ headed ++ actor_lines starts_line g.actors schedule.starts → text ≡ start ++ schedule_lines g schedule

@@ -16,7 +16,8 @@ use storage::Distribution;
 
 /// The text of the Pareto points of a net: a line `points N` with their number, then for each point a line `point TOTAL
 /// RATE` with its storage and its rate in lowest terms, a line `buffers LIST` with its distribution, and the lines of a
-/// schedule. Cost: linear in the channels of each point and the text.
+/// schedule. Who makes the lines of points side by side puts `points_header` before those that `point_text` makes of
+/// each. Cost: linear in the channels of each point and the text.
 pub fn points_text<F: Firing>(
     alloc: Global,
     net: &F,
@@ -37,11 +38,34 @@ pub fn points_text<F: Firing>(
     Ok(bytes_of(text))
 }
 
+/// The first line of `points_text`, with the number of points.
+pub fn points_header(alloc: Global, points: usize) -> Result<Rows<u8>, NoMemory>
+    ensures { IfOk result (λ t. t ≡ points_header points) }
+{
+    Ok(bytes_of(header(alloc, points)?))
+}
+
 #[tactic(auto, unfolding(crate::specs::StorageTexts::points_header))]
 fn header(alloc: Global, points: usize) -> Result<String, NoMemory>
     ensures { IfOk result (λ t. string_bytes t ≡ points_header points) }
 {
     Ok(format!(in alloc; "points {points}\n")?)
+}
+
+/// The lines of one Pareto point, as `points_text` has them. Cost: linear in its channels and the text.
+pub fn point_text(
+    alloc: Global,
+    graph: &GraphFile,
+    point: &Point,
+    schedule: &Periodic,
+) -> Result<Rows<u8>, NoMemory>
+    requires channels { length point.now.capacities.capacities ≤ length graph.now.channels }
+    requires actors { length schedule.now.starts ≡ length graph.now.actors }
+    ensures { IfOk result (λ t. t ≡ point_text graph.now point.now schedule.now) }
+{
+    let mut text = String::new(alloc);
+    put_point(&mut text, graph, point, schedule)?;
+    Ok(bytes_of(text))
 }
 
 /// Puts a point, its distribution and a schedule at the end of a text.

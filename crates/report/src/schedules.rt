@@ -1,9 +1,9 @@
 ghost use Rattle.std.specs.Prelude.{◌≡◌, ◌++◌, OnOk, length};
 ghost use Rattle.std.specs.String.{string_bytes};
-ghost use Rattle.report.specs.ScheduleTexts.{schedule_header, schedule_lines, spaced, starts_line};
+ghost use Rattle.report.specs.ScheduleTexts.{schedule_header, schedule_lines, starts_line};
 
+use crate::numbers::{ROOM, put_spaced};
 use escapes::put_escaped;
-use itoa::Buffer;
 use periodic::Periodic;
 use sd_base::GraphFile;
 use std::alloc::AllocError;
@@ -19,9 +19,10 @@ pub(crate) fn put_schedule(
     ensures { OnOk result (string_bytes text.new ≡ string_bytes text.old ++ schedule_lines graph.now schedule.now) }
 {
     let actors = graph.actors.as_slice();
+    let mut room = [0; ROOM];
     put_header(text, schedule.period, schedule.rounds)?;
     for (i, starts) in schedule.starts.as_slice().iter().enumerate() {
-        put_starts(text, actors[i].name.as_str(), starts.as_slice())?;
+        put_starts(text, actors[i].name.as_str(), starts.as_slice(), &mut room)?;
     }
     Ok(())
 }
@@ -33,23 +34,16 @@ fn put_header(text: &mut String, period: u64, rounds: u64) -> Result<(), AllocEr
     write!(text, "schedule {period} {rounds}\n")
 }
 
-fn put_starts(text: &mut String, name: &str, starts: &[u128]) -> Result<(), AllocError>
+#[tactic(auto, unfolding(crate::specs::ScheduleTexts::starts_line))]
+fn put_starts(
+    text: &mut String,
+    name: &str,
+    starts: &[u128],
+    room: &mut [u8; ROOM],
+) -> Result<(), AllocError>
     ensures { OnOk result (string_bytes text.new ≡ string_bytes text.old ++ starts_line name.now starts.now) }
 {
-    let mut digits = Buffer::new();
     put_escaped(text, name)?;
-    for start in starts {
-        put_spaced(text, &mut digits, *start)?;
-    }
-    text.push_str("\n")?;
-    Ok(())
-}
-
-/// Puts a number behind a space at the end of a text. Its digits are written where others were before.
-#[tactic(auto, unfolding(crate::specs::ScheduleTexts::spaced))]
-fn put_spaced(text: &mut String, digits: &mut Buffer, number: u128) -> Result<(), AllocError>
-    ensures { OnOk result (string_bytes text.new ≡ string_bytes text.old ++ spaced number) }
-{
-    text.push_str(" ")?;
-    text.push_str(digits.format(number))
+    put_spaced(text, starts, room)?;
+    text.push_str("\n")
 }

@@ -15,6 +15,7 @@ mod Certified
 mod WorstSizes
 mod WalkSteps
 mod PointSchedules
+mod PointTasks
 mod OneTradeOff
 mod CompleteStorage
 mod ValidPuts

@@ -87,25 +87,16 @@ module _ (net : Net) (laws : Lawful net) (can : IsExplorable net) (limits : Limi
             omega arith;
       }
 
-  -- the same of the schedule that a call gives
-  pub point-scheduled : (r : Result Periodic NoMemory) → IfOk r (IsScheduleOf (bound net p.capacities.capacities) p.table) → IfOk r (IsPointSchedule net p)
-  point-scheduled (Ok s) of_loop = point-schedule s of_loop
-  point-scheduled (Err e) of_loop = of_loop
-
--- each schedule is one of the net's actors
-pub zip-actors : (net : Net) (ps : List Point) (ss : List Periodic) → AllZip (IsPointSchedule net) ps ss → All (λ (s : Periodic). length s.starts ≡ length net.times) ss
-zip-actors net [] [] all k d below = absurd (omega arith)
-zip-actors net [] (s ∷ ss) all k d below = absurd all
-zip-actors net (p ∷ ps) [] all k d below = absurd all
-zip-actors net (p ∷ ps) (s ∷ ss) all zero d below = all.0.of_loop.loop.listed.actors
-zip-actors net (p ∷ ps) (s ∷ ss) all (suc k) d below = zip-actors net ps ss all.1 k d (omega arith)
-
 -- one more point with its schedule
 pub zip-more : {A B : Type 0} (R : A → B → Type 0) (xs : List A) (ys : List B) (x : A) (y : B) → AllZip R xs ys → R x y → AllZip R (xs ++ x ∷ []) (ys ++ y ∷ [])
 zip-more R [] [] x y all is = (is, tt)
 zip-more R [] (b ∷ ys) x y all is = absurd all
 zip-more R (a ∷ xs) [] x y all is = absurd all
 zip-more R (a ∷ xs) (b ∷ ys) x y all is = (all.0, zip-more R xs ys x y all.1 is)
+
+-- the same of a list that one was pushed to
+pub zip-pushed : {A B : Type 0} (R : A → B → Type 0) (xs : List A) (ys zs : List B) (x : A) (y : B) → zs ≡ ys ++ y ∷ [] → AllZip R xs ys → R x y → AllZip R (xs ++ x ∷ []) zs
+zip-pushed {B} R xs ys zs x y pushed all is = subst (λ (l : List B). AllZip R (xs ++ x ∷ []) l) (sym pushed) (zip-more R xs ys x y all is)
 
 -- each schedule has a text
 pub zip-starts : (net : Net) → Lawful net → IsExplorable net → (limits : Limits) → limits.total ≤ STORAGE → (ps : List Point) (ss : List Periodic) → ((p : Point) → IsOneOf ps p → IsPoint net limits p)

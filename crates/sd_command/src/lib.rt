@@ -24,6 +24,7 @@ mod repetition;
 mod requests;
 mod scenario;
 mod scenario_steps;
+mod shown_points;
 mod status;
 mod stop;
 mod taking;

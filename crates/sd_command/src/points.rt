@@ -27,19 +27,18 @@ use crate::certifying::certify;
 use crate::file_kind::FileKind;
 use crate::nets::{complete, touch};
 use crate::reading::above;
+use crate::shown_points::shown_points;
 use crate::stop::Stop;
 use crate::wanted::WantedPoints;
 use cert_maker::storage_certificate;
 use explore::{Exploration, ExploreError, explore};
 use fanout::Gate;
 use firing::{CsdfNet, Firing, SdfNet, know_laws};
-use pareto_front::Point;
-use periodic::{Periodic, from_loop};
-use report::{Refusal, buffers_text, points_text};
-use sd_base::{GraphFile, Kind, Ledger, Limits, NoMemory, Quantity, Steps};
+use periodic::Periodic;
+use report::{Refusal, buffers_text};
+use sd_base::{GraphFile, Kind, Ledger, Limits, Quantity, Steps};
 use std::alloc::Global;
 use std::thread::Threads;
-use storage::Bounded;
 
 /// The points of the net of a graph with its repetition vector. Each kind of graphs has a net of its own.
 pub(crate) fn points_of_graph<R: Threads + Sync, G: Gate + Sync, L: Ledger + Send>(
@@ -96,7 +95,7 @@ pub(crate) fn points_of<R: Threads + Sync, F: Firing + Sync, G: Gate + Sync, L: 
     touch(alloc, net, graph)?;
     complete(alloc, net, graph)?;
     let exploration = explored(rt, alloc, net, graph, wanted.limits, gate, steps)?;
-    shown(alloc, net, graph, wanted, exploration)
+    shown(rt, alloc, net, graph, wanted, exploration)
 }
 
 /// The exploration of a net, or the refusal of one that passes a limit.
@@ -137,7 +136,8 @@ pub(crate) fn explored<R: Threads + Sync, F: Firing + Sync, G: Gate + Sync, L: L
 
 // The points of an exploration as an answer: each with the schedule of its loop, and with their certificate where one is asked
 // for.
-fn shown<F: Firing>(
+fn shown<R: Threads + Sync, F: Firing + Sync>(
+    rt: &R,
     alloc: Global,
     net: &F,
     graph: &GraphFile,
@@ -153,11 +153,12 @@ fn shown<F: Firing>(
         Does (deciding (λ answer. IsPointsAnswer graph.now (F.net net.now) wanted.now answer n) (λ refusal. ArePointsTooLong (F.net net.now) wanted.now refusal n)) result }
 {
     know_laws(net);
-    let points = exploration.points.as_slice();
-    let schedules = schedules_of(alloc, net, points)?;
-    let text = points_text(alloc, net, graph, points, schedules.as_slice())?;
-    let put = put_for(alloc, net, wanted, exploration, schedules)?;
-    Ok(Answer { text, put })
+    let shown = shown_points(rt, alloc, net, graph, exploration.points.as_slice())?;
+    let put = put_for(alloc, net, wanted, exploration, shown.schedules)?;
+    Ok(Answer {
+        text: shown.text,
+        put,
+    })
 }
 
 // The file of the certificate of an exploration with the schedules of its points, where one is asked for.
@@ -191,32 +192,4 @@ fn put_for<F: Firing>(
             Ok(Some(certify(alloc, FileKind::Certificate, name.as_str(), &made)?))
         }
     }
-}
-
-// By point the schedule of its loop.
-fn schedules_of<F: Firing>(
-    alloc: Global,
-    net: &F,
-    points: &[Point],
-) -> Result<Vec<Periodic>, NoMemory>
-    requires explorable { IsExplorable (F.net net.now) }
-    requires points { (limits : SomeLimits) × (limits.total ≤ STORAGE) × ((p : APoint) → IsOneOf points.now p → IsPoint (F.net net.now) limits p) }
-    ensures { IfOk result (λ schedules. AllZip (IsPointSchedule (F.net net.now)) points.now schedules.items) }
-{
-    let mut schedules = Vec::new(alloc);
-    for point in points {
-        schedules.push(schedule_of(alloc, net, point)?)?;
-    }
-    Ok(schedules)
-}
-
-// The schedule of the loop of a point.
-fn schedule_of<F: Firing>(alloc: Global, net: &F, point: &Point) -> Result<Periodic, NoMemory>
-    requires explorable { IsExplorable (F.net net.now) }
-    requires point { (limits : SomeLimits) × (limits.total ≤ STORAGE) × IsPoint (F.net net.now) limits point.now }
-    ensures { IfOk result (IsPointSchedule (F.net net.now) point.now) }
-{
-    know_laws(net);
-    let bounded = Bounded::new(alloc, net, &point.capacities)?;
-    from_loop(alloc, &bounded, &point.table)
 }

@@ -1,4 +1,4 @@
-use Rattle.std.proofs.Common.{◌∙◌, rules}
+use Rattle.std.proofs.Common.{◌∙◌}
 use Rattle.report.proofs.WorstPieces.{worst-end}
 use Rattle.report.proofs.worst_rates.worst_text.Goals as goal
 

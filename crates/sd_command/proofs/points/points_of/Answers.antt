@@ -33,7 +33,7 @@ returns-in_err-exploration-clause-goes g c = λ faults.
     (exploration_stops c.args.graph.now (g.F.Firing.net c.args.net.now) c.args.wanted.now _ faults (few_from (g.F.Firing.net c.args.net.now) c.args.wanted.now.limits _ _ c.in_err-exploration.ensures.most) _ c.in_err-exploration.ensures.does)))
 
 pub shown-requires-clause-explorable : goal.shown-requires-clause-explorable
-shown-requires-clause-explorable g c = touched-explorable (g.F.Firing.net c.args.net.now) c.requires.plain c.requires.connected c.in_ok-touch.ensures c.requires.few
+shown-requires-clause-explorable g c = λ κs outlive. touched-explorable (g.F.Firing.net c.args.net.now) c.requires.plain c.requires.connected c.in_ok-touch.ensures c.requires.few
 
 pub returns-clause-goes : goal.returns-clause-goes
 returns-clause-goes g c = λ faults.
