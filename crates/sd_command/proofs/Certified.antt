@@ -1,12 +1,12 @@
 -- From a certificate that is made to the file that an answer puts.
-use Rattle.std.proofs.Common.{◌≡◌, ℕ, suc, ◌*◌, ◌<◌, ◌≤◌, List, [], All, length, Option, Some, None, Result, Ok, Err, refl, sym, subst, get_or, mul-le-mul, arith}
-use Rattle.std.specs.Prelude.{slice_index, slice_index_or}
+use Rattle.std.proofs.Common.{◌≡◌, ℕ, ◌*◌, ◌<◌, ◌≤◌, List, [], All, length, Option, Some, None, Err, refl, sym, subst, get_or, mul-le-mul, arith}
+use Rattle.std.specs.Prelude.{slice_index}
 use Rattle.std.proofs.lemmas.List.Elements.{All-from_get_or}
 use Rattle.sd_base.specs.declared.limits.TheConstants.{START}
 use Rattle.sd_base.specs.Net.{Net}
 use Rattle.sd_base.specs.Lawful.{Lawful}
 use Rattle.sd_base.proofs.Parts.{balanced}
-use Rattle.sd_base.specs.Schedules.{count_of, start_of}
+use Rattle.sd_base.specs.Schedules.{count_of}
 use Rattle.firing.specs.declared.table.LoopTable.{LoopTable}
 use Rattle.periodic.specs.declared.schedule.Periodic.{Periodic}
 use Rattle.periodic.specs.LoopSchedules.{IsScheduleOf}

@@ -1,5 +1,5 @@
 -- Reading a certificate, and the refusal of its first fault.
-use Rattle.std.specs.Prelude.{◌≡◌, ◌≢◌, ℕ, List, Ok, Err}
+use Rattle.std.specs.Prelude.{◌≡◌, ℕ, List, Ok, Err}
 use Rattle.cert_text.specs.declared.certificates.Certificate.{Certificate}
 use Rattle.cert_text.specs.declared.error.CertError.{CertError}
 use Rattle.cert_text.specs.declared.error.CertError.TheVariants as errors
