@@ -4,25 +4,31 @@
     tools/build.py [CRATE]
 
 Exit status 0 where the program stands at crates/CRATE/out/CRATE (sdf3analysis where none is named), else 1.
+
+While a crate is built, it holds a lock on those below it. So each worker has a copy of the sources, where `rt lib` takes the
+libraries that the other copies have built. What the copies have proved is kept for the next build.
 """
 import os
+import shutil
 import subprocess
 import sys
+import tempfile
 import time
 from concurrent.futures import FIRST_COMPLETED, ThreadPoolExecutor, wait
 
 ROOT = os.path.dirname(os.path.dirname(os.path.abspath(__file__)))
-# On one core some 45 minutes, and never less than the longest chain of crates.
-MINUTES_OF_ONE_CORE = 45
-MINUTES_OF_THE_CHAIN = 18
+SOURCES = ("src", "specs", "proofs")
+# By estimate: processor minutes from nothing, and the minutes of the longest chain of crates, each proved by one process.
+MINUTES_OF_ONE_CORE = 90
+MINUTES_OF_THE_CHAIN = 25
 
 
 def say(line):
     print(f"sdf3analysis: {line}", file=sys.stderr, flush=True)
 
 
-def needs(program):
-    """The crates of this repository that a program stands on, and for each those that it names itself."""
+def crates_below(program):
+    """The crates of this repository that a program stands on, with itself, and for each those that it names itself."""
     listed = {}
     with open(os.path.join(ROOT, "crates.txt"), encoding="utf-8") as lines:
         for line in lines:
@@ -38,42 +44,111 @@ def needs(program):
     return found
 
 
-def make(name, program):
-    """Proves a library, or builds the program; a run without words ends with the program's own status."""
-    command = ["rt", "run" if name == program else "lib"]
-    done = subprocess.run(command, cwd=os.path.join(ROOT, "crates", name), stdin=subprocess.DEVNULL, capture_output=True,
+def lines_of(name):
+    """How many lines a crate has, by which the work of its proof goes."""
+    total = 0
+    for part in SOURCES:
+        for at, _, files in os.walk(os.path.join(ROOT, "crates", name, part)):
+            for file in files:
+                with open(os.path.join(at, file), "rb") as it:
+                    total += it.read().count(b"\n")
+    return total
+
+
+def lines_behind(crates):
+    """For each crate the lines of the longest chain of crates that begins at it, of which each stands on the one before."""
+    found = {}
+
+    def behind(name):
+        if name not in found:
+            found[name] = lines_of(name) + max((behind(above) for above in crates if name in crates[above]), default=0)
+        return found[name]
+
+    for name in crates:
+        behind(name)
+    return found
+
+
+def copy_sources(folder, crates):
+    """Makes a copy of what the proofs of these crates read."""
+    for name in ("crates.txt", "HANDLES"):
+        shutil.copy2(os.path.join(ROOT, name), folder)
+    for name in crates:
+        for part in SOURCES:
+            there = os.path.join(ROOT, "crates", name, part)
+            if os.path.isdir(there):
+                shutil.copytree(there, os.path.join(folder, "crates", name, part))
+
+
+def run(folder, name, words):
+    """Runs a command of the toolchain in a crate's folder, and answers whether it ended well, and what it said."""
+    done = subprocess.run(words, cwd=os.path.join(folder, "crates", name), stdin=subprocess.DEVNULL, capture_output=True,
                           text=True, check=False)
-    if name == program:
-        return os.path.exists(os.path.join(ROOT, "crates", name, "out", name)), done.stdout + done.stderr
     return done.returncode == 0, done.stdout + done.stderr
 
 
-def build(program):
-    crates = needs(program)
-    built = os.path.join(ROOT, "crates", program, "out", program)
-    if os.path.exists(built):
-        os.remove(built)
-    cores = os.cpu_count() or 1
-    most = max(MINUTES_OF_THE_CHAIN, MINUTES_OF_ONE_CORE // cores)
-    say(f"proving and building {len(crates)} crates on {cores} cores; from nothing this takes about {most} minutes")
-    begun, done, running, told = time.monotonic(), set(), {}, 0
-    with ThreadPoolExecutor(cores) as pool:
-        while len(done) < len(crates):
-            for name, below in crates.items():
-                if name not in done and name not in running.values() and done.issuperset(below):
-                    running[pool.submit(make, name, program)] = name
+def prove_libraries(crates, program, copies):
+    """Proves and builds all libraries, a worker a copy, those first that most stands on."""
+    begun, behind = time.monotonic(), lines_behind(crates)
+    done, running, idle = set(), {}, list(copies)
+    libraries = sorted((name for name in crates if name != program), key=lambda name: -behind[name])
+    with ThreadPoolExecutor(len(copies)) as pool:
+        while len(done) < len(libraries):
+            busy = {name for name, _ in running.values()}
+            ready = [name for name in libraries if name not in done | busy and done.issuperset(crates[name])]
+            for number, name in enumerate(ready[:len(idle)]):
+                jobs = max(1, len(copies) // (len(running) + len(ready) - number))
+                copy = idle.pop()
+                running[pool.submit(run, copy, name, ["rt", "lib", "--jobs", str(jobs)])] = name, copy
             ended, _ = wait(running, return_when=FIRST_COMPLETED)
             for future in ended:
-                name = running.pop(future)
+                name, copy = running.pop(future)
+                idle.append(copy)
                 good, text = future.result()
                 if not good:
                     print(text, file=sys.stderr)
                     say(f"{name} isn't proved")
-                    return 1
+                    return False
                 done.add(name)
-                told += 1
-                say(f"{told} of {len(crates)}: {name}, after {time.monotonic() - begun:.0f} s")
-    return 0
+                say(f"{len(done)} of {len(crates)}: {name}, after {time.monotonic() - begun:.0f} s")
+    return True
+
+
+def keep_work(crates, copies):
+    """Moves what the copies have proved to where the next build looks for it."""
+    for name in crates:
+        to = os.path.join(ROOT, "crates", name, "out")
+        os.makedirs(to, exist_ok=True)
+        for copy in copies:
+            for part in ("incremental", "rlib"):
+                made = os.path.join(copy, "crates", name, "out", part)
+                if os.path.isdir(made) and not os.path.exists(os.path.join(to, part)):
+                    shutil.move(made, os.path.join(to, part))
+
+
+def build(program):
+    crates = crates_below(program)
+    home = os.path.join(ROOT, "crates", program, "out")
+    built = os.path.join(home, program)
+    if os.path.exists(built):
+        os.remove(built)
+    os.makedirs(home, exist_ok=True)
+    cores = os.cpu_count() or 1
+    most = max(MINUTES_OF_THE_CHAIN, MINUTES_OF_ONE_CORE // cores)
+    say(f"proving and building {len(crates)} crates on {cores} cores; from nothing this takes about {most} minutes")
+    with tempfile.TemporaryDirectory(prefix="copies-", dir=home) as room:
+        copies = [os.path.join(room, str(number)) for number in range(cores)]
+        for copy in copies:
+            os.makedirs(copy)
+            copy_sources(copy, crates)
+        good = prove_libraries(crates, program, copies)
+        # a run without words ends with the program's own status
+        text = run(ROOT, program, ["rt", "run"])[1] if good else ""
+        keep_work(crates, copies)
+    if good and not os.path.exists(built):
+        print(text, file=sys.stderr)
+        say(f"{program} isn't proved")
+    return 0 if os.path.exists(built) else 1
 
 
 if __name__ == "__main__":

@@ -6,8 +6,6 @@ mod graph;
 mod laws;
 mod leading;
 mod making;
-#[cfg(test)]
-mod tests;
 
 pub use graph::{Edge, TimedGraph};
 pub use laws::worst_is_shown;

@@ -70,6 +70,3 @@ fn within_limits(
 pub fn one_answer()
     ensures { HasOneAnswer }
 {}
-
-#[cfg(test)]
-mod tests;

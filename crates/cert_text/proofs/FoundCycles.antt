@@ -1,14 +1,21 @@
 -- Cycles that are found among those before them, by their texts.
-use Rattle.std.proofs.Common.{◌≡◌, ◌≢◌, ℕ, zero, suc, ◌+◌, ◌-◌, ◌<◌, ◌≤◌, ◌⊎◌, Bool, true, false, List, [], ◌∷◌, ◌++◌, length, take, Ok, Err, refl, sym, ap, ◌∙◌, subst, append_assoc, arith, inl, inr, Bor, length-append, take_at}
-use Rattle.std.specs.Prelude.{not, ◌||◌, cond}
+use Rattle.std.proofs.Common.{◌≡◌, ◌≢◌, ℕ, zero, suc, ◌+◌, ◌-◌, ◌<◌, ◌≤◌, ◌⊎◌, Bool, true, false, List, [], ◌∷◌, ◌++◌, length, take, Ok, Err, Some, None, refl, sym, ap, ◌∙◌, subst, append_assoc, arith, inl, inr, Bor, Ordering, length-append, take_at}
+use Rattle.std.specs.Prelude.{not, ◌||◌, cond, if◌then◌else◌}
+use Rattle.std.specs.BTreeMap.{BTreeMap, get, is_at}
+use Rattle.std.specs.Cmp.Lexicographic.{slice_cmp}
 use Rattle.std.specs.List.{list_any, position_or_len}
+use Rattle.std.specs.Ordering.{nat_cmp}
 use Rattle.std.specs.Str.{bytes_eq}
 use Rattle.std.proofs.lemmas.List.{append-nil}
+use Rattle.std.proofs.lemmas.List.Folds.{list_any-append}
+use Rattle.std.proofs.lemmas.Map.Text.{is_eq-slice_cmp}
+use Rattle.std.proofs.lemmas.Slice.Eq.{bytes_eq-Decides}
 use Rattle.cert_text.specs.declared.certificates.LinkCycle.{LinkCycle}
 use Rattle.cert_text.specs.declared.reading.fault.Fault.{Fault}
 use Rattle.cert_text.specs.declared.reading.fault.Fault.TheVariants.{Memory}
 use Rattle.cert_text.specs.CycleLines.{cycle_lines}
-use Rattle.cert_text.specs.Found.{HasTexts}
+use Rattle.cert_text.specs.Found.{HasTexts, has_text, number_of}
+use Rattle.cert_text.specs.LineForms.{same}
 use Rattle.cert_text.specs.MemberLines.{cycle_at, no_cycle}
 use Rattle.cert_text.specs.Orderly.{Differ}
 use Rattle.std.proofs.lemmas.Bool.{eq-eqb, cases_lt}
@@ -17,32 +24,95 @@ use Rattle.std.proofs.Math.Seq.{get_or-append_seam}
 use Rattle.cert_text.specs.Reads.{Reads, ◌>>=◌, handing}
 use Rattle.cert_text.specs.Sections.{place_of, same_cycle, with_cycle, new_cycle_from, new_cycles_from}
 
-abbrev is_text : List ℕ → Bor (List ℕ) → Bool
-is_text text key = bytes_eq text key.now
+-- ---- the map of the texts
 
-head-same : (x y : List ℕ) (xs ys : List (List ℕ)) → x ∷ xs ≡ y ∷ ys → x ≡ y
-head-same x y xs ys e = cc
+same-itself : (c d : LinkCycle) → c ≡ d → same_cycle d c ≡ true
+same-itself c d e = ap (λ (x : LinkCycle). same_cycle d x) e ∙ reflexive (cycle_lines d)
+  where
+    reflexive : (text : List ℕ) → bytes_eq text text ≡ true
+    reflexive [] = refl
+    reflexive (b ∷ bs) = rw (eq-eqb b b refl) (reflexive bs)
 
-tail-same : (x y : List ℕ) (xs ys : List (List ℕ)) → x ∷ xs ≡ y ∷ ys → xs ≡ ys
-tail-same x y xs ys e = cc
+abbrev pub by_text : Bor (List ℕ) → Bor (List ℕ) → Ordering
+by_text a b = slice_cmp nat_cmp a.now b.now
 
-pub place-texts : (keys : List (Bor (List ℕ))) (cycles : List LinkCycle) (text : List ℕ) (c : LinkCycle) → text ≡ cycle_lines c → HasTexts keys cycles → position_or_len (is_text text) keys ≡ place_of cycles c
-place-texts [] [] text c is same = refl
-place-texts [] (l ∷ ls) text c is same = absurd cc
-place-texts (k ∷ ks) [] text c is same = absurd cc
-place-texts (k ∷ ks) (l ∷ ls) text c is same =
-    let first = head-same _ _ _ _ same in
-    let rest = place-texts ks ls text c is (tail-same _ _ _ _ same) in
-    rw (first, is, ← is) (ap (λ (n : ℕ). cond (not (bytes_eq text (cycle_lines l))) (1 + n) 0) rest)
+-- where a text has a number, it is that of its cycle
+pub found-number : (cycles : List LinkCycle) (text : List ℕ) (c : LinkCycle) (n : ℕ) → text ≡ cycle_lines c → Some n ≡ number_of cycles text → (n ≡ place_of cycles c) × (list_any (same_cycle c) cycles ≡ true)
+found-number cycles text c n is found = known (list_any (same_cycle c) cycles) refl (found ∙ ap (λ (t : List ℕ). number_of cycles t) is)
+  where
+    known : (b : Bool) → list_any (same_cycle c) cycles ≡ b → Some n ≡ (if b then Some (place_of cycles c) else None) → (n ≡ place_of cycles c) × (list_any (same_cycle c) cycles ≡ true)
+    known true e f = (cc, e)
+    known false e f = absurd cc
 
-pub any-texts : (keys : List (Bor (List ℕ))) (cycles : List LinkCycle) (text : List ℕ) (c : LinkCycle) → text ≡ cycle_lines c → HasTexts keys cycles → list_any (is_text text) keys ≡ list_any (same_cycle c) cycles
-any-texts [] [] text c is same = refl
-any-texts [] (l ∷ ls) text c is same = absurd cc
-any-texts (k ∷ ks) [] text c is same = absurd cc
-any-texts (k ∷ ks) (l ∷ ls) text c is same =
-    let first = head-same _ _ _ _ same in
-    let rest = any-texts ks ls text c is (tail-same _ _ _ _ same) in
-    ap (λ (x : List ℕ). bytes_eq text x || list_any (is_text text) ks) first ∙ (ap (λ (t : List ℕ). bytes_eq t (cycle_lines l) || list_any (is_text text) ks) is ∙ ap (λ (b : Bool). bytes_eq (cycle_lines c) (cycle_lines l) || b) rest)
+pub found-none : (cycles : List LinkCycle) (text : List ℕ) (c : LinkCycle) → text ≡ cycle_lines c → None ≡ number_of cycles text → list_any (same_cycle c) cycles ≡ false
+found-none cycles text c is found = known (list_any (same_cycle c) cycles) refl (found ∙ ap (λ (t : List ℕ). number_of cycles t) is)
+  where
+    known : (b : Bool) → list_any (same_cycle c) cycles ≡ b → None ≡ (if b then Some (place_of cycles c) else None) → list_any (same_cycle c) cycles ≡ false
+    known true e f = absurd cc
+    known false e f = e
+
+-- none of the elements passes, so a new one stands behind all
+pub place-none : {X : Type 0} (p : X → Bool) (xs : List X) → list_any p xs ≡ false → position_or_len p xs ≡ length xs
+place-none p [] none = refl
+place-none p (x ∷ xs) none = first (λ f. place-none p xs f) (p x) refl none
+  where
+    first : (list_any p xs ≡ false → position_or_len p xs ≡ length xs) → (b : Bool) → p x ≡ b → (b || list_any p xs) ≡ false → position_or_len p (x ∷ xs) ≡ length (x ∷ xs)
+    first rest true e f = absurd cc
+    first rest false e f = rw e (omega (arith, rest f))
+
+place-pushed : {X : Type 0} (p : X → Bool) (xs : List X) (y : X) → list_any p xs ≡ true → position_or_len p (xs ++ y ∷ []) ≡ position_or_len p xs
+place-pushed p [] y some = absurd cc
+place-pushed p (x ∷ xs) y some = first (λ f. place-pushed p xs y f) (p x) refl some
+  where
+    first : (list_any p xs ≡ true → position_or_len p (xs ++ y ∷ []) ≡ position_or_len p xs) → (b : Bool) → p x ≡ b → (b || list_any p xs) ≡ true → position_or_len p ((x ∷ xs) ++ y ∷ []) ≡ position_or_len p (x ∷ xs)
+    first rest true e f = rw e refl
+    first rest false e f = rw e (ap (λ (n : ℕ). 1 + n) (rest f))
+
+place-last : {X : Type 0} (p : X → Bool) (xs : List X) (y : X) → list_any p xs ≡ false → p y ≡ true → position_or_len p (xs ++ y ∷ []) ≡ length xs
+place-last p [] y none here = rw here refl
+place-last p (x ∷ xs) y none here = first (λ f. place-last p xs y f here) (p x) refl none
+  where
+    first : (list_any p xs ≡ false → position_or_len p (xs ++ y ∷ []) ≡ length xs) → (b : Bool) → p x ≡ b → (b || list_any p xs) ≡ false → position_or_len p ((x ∷ xs) ++ y ∷ []) ≡ length (x ∷ xs)
+    first rest true e f = absurd cc
+    first rest false e f = rw e (omega (arith, rest f))
+
+-- the numbers once a cycle stands behind the others
+number-other : (cycles : List LinkCycle) (c : LinkCycle) (text : List ℕ) → same text (cycle_lines c) ≡ false → number_of (cycles ++ c ∷ []) text ≡ number_of cycles text
+number-other cycles c text other = known (list_any (has_text text) cycles) refl
+  where
+    any : list_any (has_text text) (cycles ++ c ∷ []) ≡ (list_any (has_text text) cycles || (same text (cycle_lines c) || false))
+    any = list_any-append (has_text text) cycles (c ∷ [])
+
+    known : (b : Bool) → list_any (has_text text) cycles ≡ b → number_of (cycles ++ c ∷ []) text ≡ number_of cycles text
+    known true e = rw (any, e, place-pushed (has_text text) cycles c e) refl
+    known false e = rw (any, e, other) refl
+
+number-last : (cycles : List LinkCycle) (c : LinkCycle) (text : List ℕ) → list_any (has_text text) cycles ≡ false → same text (cycle_lines c) ≡ true → number_of (cycles ++ c ∷ []) text ≡ Some (length cycles)
+number-last cycles c text none here =
+    let any : list_any (has_text text) (cycles ++ c ∷ []) ≡ true = rw (list_any-append (has_text text) cycles (c ∷ []), none, here) refl in
+    rw (any, place-last (has_text text) cycles c none here) refl
+
+pub texts-more : (numbers more : BTreeMap (Bor (List ℕ)) ℕ) (old new : List LinkCycle) (c : LinkCycle) (text : Bor (List ℕ)) (n : ℕ) → text.now ≡ cycle_lines c → list_any (same_cycle c) old ≡ false → n ≡ length old
+    → ((q : Bor (List ℕ)) → get by_text more q ≡ cond (is_at (by_text text) q) (Some n) (get by_text numbers q)) → HasTexts numbers old → new ≡ old ++ c ∷ [] → HasTexts more new
+texts-more numbers more old new c text n is none count updates known pushed q = split (bytes_eq text.now q.now) refl
+  where
+    at-key : is_at (by_text text) q ≡ bytes_eq text.now q.now
+    at-key = is_eq-slice_cmp text.now q.now
+
+    split : (b : Bool) → bytes_eq text.now q.now ≡ b → get by_text more q ≡ number_of new q.now
+    split true e =
+        let alike : text.now ≡ q.now = (bytes_eq-Decides text.now q.now).0 e in
+        let lines : q.now ≡ cycle_lines c = sym alike ∙ is in
+        let last : number_of (old ++ c ∷ []) (cycle_lines c) ≡ Some (length old) = number-last old c (cycle_lines c) none (same-itself c c refl) in
+        updates q ∙ (ap (λ (b : Bool). cond b (Some n) (get by_text numbers q)) (at-key ∙ e) ∙ (ap (λ (k : ℕ). Some k) count ∙ (sym last ∙ (ap (λ (t : List ℕ). number_of (old ++ c ∷ []) t) (sym lines) ∙ ap (λ (l : List LinkCycle). number_of l q.now) (sym pushed)))))
+    split false e =
+        let apart : text.now ≢ q.now = λ (alike : text.now ≡ q.now). absurd (cc (e, (bytes_eq-Decides text.now q.now).1 alike)) in
+        let other : same q.now (cycle_lines c) ≡ false = differs (same q.now (cycle_lines c)) refl (λ alike. apart (is ∙ sym alike)) in
+        updates q ∙ (ap (λ (b : Bool). cond b (Some n) (get by_text numbers q)) (at-key ∙ e) ∙ (known q ∙ (sym (number-other old c q.now other) ∙ ap (λ (l : List LinkCycle). number_of l q.now) (sym pushed))))
+      where
+        differs : (b : Bool) → same q.now (cycle_lines c) ≡ b → q.now ≢ cycle_lines c → b ≡ false
+        differs true f apart = absurd (apart ((bytes_eq-Decides q.now (cycle_lines c)).0 f))
+        differs false f apart = refl
 
 pub text-taken : (old new lines taken : List ℕ) (n : ℕ) → old ≡ lines ++ new → n ≡ length old - length new → taken ≡ take n old → taken ≡ lines
 text-taken old new lines taken n is size front =
@@ -50,13 +120,11 @@ text-taken old new lines taken n is size front =
     let same : length lines ≡ n = omega (arith, all, size) in
     front ∙ (ap (λ (l : List ℕ). take n l) is ∙ take_at lines new n same)
 
-pub with-new : (old new : List LinkCycle) (c : LinkCycle) (known : Bool) → list_any (same_cycle c) old ≡ known → true ≡ not known → new ≡ old ++ c ∷ [] → new ≡ with_cycle old c
-with-new old new c true is fresh pushed = absurd cc
-with-new old new c false is fresh pushed = rw is pushed
+pub with-new : (old new : List LinkCycle) (c : LinkCycle) → list_any (same_cycle c) old ≡ false → new ≡ old ++ c ∷ [] → new ≡ with_cycle old c
+with-new old new c none pushed = rw none pushed
 
-pub with-old : (old : List LinkCycle) (c : LinkCycle) (known : Bool) → list_any (same_cycle c) old ≡ known → false ≡ not known → old ≡ with_cycle old c
-with-old old c true is stale = rw is refl
-with-old old c false is stale = absurd cc
+pub with-old : (old : List LinkCycle) (c : LinkCycle) → list_any (same_cycle c) old ≡ true → old ≡ with_cycle old c
+with-old old c some = rw some refl
 
 -- ---- what is read with something known
 
@@ -126,13 +194,6 @@ cycles-ends count i cycles lines total past so_far =
     sym so_far ∙ one
 
 -- ---- cycles that differ
-
-same-itself : (c d : LinkCycle) → c ≡ d → same_cycle d c ≡ true
-same-itself c d e = ap (λ (x : LinkCycle). same_cycle d x) e ∙ reflexive (cycle_lines d)
-  where
-    reflexive : (text : List ℕ) → bytes_eq text text ≡ true
-    reflexive [] = refl
-    reflexive (b ∷ bs) = rw (eq-eqb b b refl) (reflexive bs)
 
 none-same : (cycles : List LinkCycle) (c : LinkCycle) (i : ℕ) → list_any (same_cycle c) cycles ≡ false → i < length cycles → cycle_at cycles i ≢ c
 none-same [] c i none within = absurd (omega (arith, within))

@@ -1,7 +1,10 @@
 -- What is found while reading.
-use Rattle.std.specs.Prelude.{◌≡◌, ◌⊎◌, ℕ, List, [], ◌∷◌, ◌++◌, All, length, false, not, Option, Some, None, Result, Ok, Err, map}
+use Rattle.std.specs.Prelude.{◌≡◌, ◌⊎◌, ℕ, List, [], ◌∷◌, ◌++◌, All, length, Bool, false, not, if◌then◌else◌, Option, Some, None, Result, Ok, Err}
 use denote.Ref.{Bor}
-use Rattle.std.specs.List.{flat_map, list_any}
+use Rattle.std.specs.BTreeMap.{BTreeMap, get}
+use Rattle.std.specs.Cmp.Lexicographic.{slice_cmp}
+use Rattle.std.specs.Ordering.{nat_cmp}
+use Rattle.std.specs.List.{flat_map, list_any, position_or_len}
 use Rattle.cert_text.specs.declared.certificates.LinkCycle.{LinkCycle}
 use Rattle.cert_text.specs.declared.reading.fault.Fault.{Fault}
 use Rattle.cert_text.specs.declared.reading.fault.Fault.TheVariants.{Memory}
@@ -11,6 +14,7 @@ use Rattle.cert_text.specs.Digits.{IsNumeral}
 use Rattle.cert_text.specs.Fields.{number_value}
 use Rattle.cert_text.specs.Reads.{Reads, lines_of}
 use Rattle.cert_text.specs.Spellable.{AreShown, IsCycleText}
+use Rattle.cert_text.specs.LineForms.{same}
 use Rattle.cert_text.specs.MemberLines.{member_lines}
 use Rattle.cert_text.specs.Orderly.{Differ, used_by, used_with}
 use Rattle.cert_text.specs.declared.certificates.MemberShown.{MemberShown}
@@ -27,9 +31,16 @@ abbrev pub IsNumeralSome : Option (Bor (List ℕ)) → Type 0
 IsNumeralSome None = Unit {0}
 IsNumeralSome (Some digits) = IsNumeral digits.now
 
--- the keys are the texts of the cycles
-abbrev pub HasTexts : List (Bor (List ℕ)) → List LinkCycle → Type 0
-HasTexts keys cycles = map (λ (k : Bor (List ℕ)). k.now) keys ≡ map cycle_lines cycles
+-- the number of the first cycle of this text, if there is one
+abbrev pub has_text : List ℕ → LinkCycle → Bool
+has_text text cycle = same text (cycle_lines cycle)
+
+abbrev pub number_of : List LinkCycle → List ℕ → Option ℕ
+number_of cycles text = if list_any (has_text text) cycles then Some (position_or_len (has_text text) cycles) else None
+
+-- each text has its cycle's number
+abbrev pub HasTexts : BTreeMap (Bor (List ℕ)) ℕ → List LinkCycle → Type 0
+HasTexts numbers cycles = (text : Bor (List ℕ)) → get (λ (a b : Bor (List ℕ)). slice_cmp nat_cmp a.now b.now) numbers text ≡ number_of cycles text.now
 
 -- a cycle that was read is found among those before it, and its text is passed
 abbrev pub FindsCycle : Result FoundCycle Fault → List LinkCycle → List LinkCycle → List ℕ → List ℕ → Reads LinkCycle → Type 0

@@ -15,6 +15,3 @@ pub use certificates::{
 pub use error::CertError;
 pub use reading::read_certificate;
 pub use writing::write_certificate;
-
-#[cfg(test)]
-mod tests;

@@ -1,8 +1,8 @@
 mod Agreements
-mod Chains
+pub mod Chains
 mod Closed
 mod CriticalCycles
-mod LaterCycles
+pub mod LaterCycles
 mod Lowering
 mod Marking
 pub mod Passes

@@ -3,8 +3,6 @@
 
 mod names;
 mod spelled;
-#[cfg(test)]
-mod tests;
 
 pub use names::{escaped, put_escaped};
 pub use spelled::unescaped;

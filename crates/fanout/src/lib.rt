@@ -8,6 +8,3 @@ mod parts;
 pub use gate::{Gate, OpenGate};
 pub use job::Job;
 pub use parts::all;
-
-#[cfg(test)]
-mod tests;

@@ -1,6 +1,7 @@
 ghost use Rattle.std.specs.Thread.{IsSend, IsSync};
-ghost use Rattle.std.specs.Prelude.{◌≡◌, ◌+◌, ◌<◌, ◌≤◌, All, length};
-ghost use Rattle.fanout.specs.JobRuns.{EachRan};
+ghost use Rattle.std.specs.Prelude.{◌≡◌};
+ghost use Rattle.fanout.specs.JobRuns.{AreReadyOnceEntered, EachRan};
+ghost use Rattle.fanout.specs.Parts.{IsPart};
 
 use crate::gate::Gate;
 use crate::job::Job;
@@ -19,10 +20,10 @@ struct Place {
 }
 
 /// Runs all jobs, by halves of the list side by side until a part is one job or there are 32 parts; the jobs of a part
-/// run one after another. The gate is entered with each job before its run. Takes no memory of its own, and recurses
-/// at most five calls deep.
+/// run one after another. The gate is entered with each job before its run: a job may run only once its own number has
+/// entered. Takes no memory of its own, and recurses at most five calls deep.
 pub fn all<R: Threads + Sync, J: Job, G: Gate + Sync>(rt: &R, level: u64, jobs: &mut [J], gate: &G)
-    requires { All J.ready jobs.old }
+    requires { AreReadyOnceEntered J.ready (G.entered gate.now level) jobs.old }
     ensures { EachRan J.ran jobs.old jobs.new }
 {
     let place = Place {
@@ -36,7 +37,7 @@ pub fn all<R: Threads + Sync, J: Job, G: Gate + Sync>(rt: &R, level: u64, jobs: 
 /// Runs a part of the jobs, by halves while it may be halved.
 #[cycle(halves)]
 fn part<R: Threads + Sync, J: Job, G: Gate + Sync>(rt: &R, gate: &G, place: Place, jobs: &mut [J])
-    requires { All J.ready jobs.old }
+    requires { IsPart J.ready (G.entered gate.now place.level) place.first jobs.old }
     ensures { EachRan J.ran jobs.old jobs.new }
 {
     if place.halvings == 0 || jobs.len() < 2 {
@@ -53,7 +54,7 @@ fn part<R: Threads + Sync, J: Job, G: Gate + Sync>(rt: &R, gate: &G, place: Plac
     let back = Place {
         level: place.level,
         halvings,
-        first: place.first.saturating_add(half),
+        first: place.first + half,
     };
     let (first, second) = jobs.split_at_mut(half);
     both_parts(rt, gate, front, back, first, second);
@@ -70,19 +71,19 @@ fn both_parts<R: Threads + Sync, J: Job, G: Gate + Sync>(
     back: &mut [J],
 )
     requires halvings { place.halvings ≡ next.halvings }
-    requires front { All J.ready front.old }
-    requires back { All J.ready back.old }
+    requires front { IsPart J.ready (G.entered gate.now place.level) place.first front.old }
+    requires back { IsPart J.ready (G.entered gate.now next.level) next.first back.old }
     ensures front { EachRan J.ran front.old front.new }
     ensures back { EachRan J.ran back.old back.new }
 {
     join_mut(
         rt,
         &mut ||
-            requires { IsSync R.row × IsSync G.row × IsSend J.row × All J.ready front.now }
+            requires { IsSync R.row × IsSync G.row × IsSend J.row × IsPart J.ready (G.entered gate.now place.level) place.first front.now }
             ensures { EachRan J.ran front.entry.now front.exit.now }
         { part(rt, gate, place, front) },
         &mut ||
-            requires { IsSync R.row × IsSync G.row × IsSend J.row × All J.ready back.now }
+            requires { IsSync R.row × IsSync G.row × IsSend J.row × IsPart J.ready (G.entered gate.now next.level) next.first back.now }
             ensures { EachRan J.ran back.entry.now back.exit.now }
         { part(rt, gate, next, back) },
     );
@@ -90,11 +91,11 @@ fn both_parts<R: Threads + Sync, J: Job, G: Gate + Sync>(
 
 /// Runs the jobs one after another.
 fn in_turn<J: Job, G: Gate>(gate: &G, place: Place, jobs: &mut [J])
-    requires { All J.ready jobs.old }
+    requires { IsPart J.ready (G.entered gate.now place.level) place.first jobs.old }
     ensures { EachRan J.ran jobs.old jobs.new }
 {
     for k in 0..jobs.len() {
-        gate.enter(place.level, place.first.saturating_add(k));
+        gate.enter(place.level, place.first + k);
         jobs[k].run();
     }
 }

@@ -12,6 +12,7 @@ pub mod KeepsEnds
 pub mod Tidy
 pub mod TidyRuns
 pub mod Exact
+pub mod GoodValues
 pub mod Encodings
 pub mod Known
 pub mod Sees

@@ -17,8 +17,6 @@ mod scanner;
 mod starts;
 mod tags;
 mod taken;
-#[cfg(test)]
-mod tests;
 mod texts;
 mod tree;
 

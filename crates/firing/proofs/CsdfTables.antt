@@ -21,12 +21,12 @@ few_phases g rules a below =
 pub made_are : (g : GraphFile) → KeepsRules g → All (λ (c : ChannelRow). AreRates c.made) g.channels
 made_are g rules k d below =
     let row = rules.channels k d below in
-    record { few = rw row.made.listed (few_phases g rules (slice_index_or g.channels k d).source row.source); small = row.made.limited }
+    record { few = omega (arith, row.made.listed, few_phases g rules (slice_index_or g.channels k d).source row.source); small = row.made.limited }
 
 pub taken_are : (g : GraphFile) → KeepsRules g → All (λ (c : ChannelRow). AreRates c.taken) g.channels
 taken_are g rules k d below =
     let row = rules.channels k d below in
-    record { few = rw row.taken.listed (few_phases g rules (slice_index_or g.channels k d).target row.target); small = row.taken.limited }
+    record { few = omega (arith, row.taken.listed, few_phases g rules (slice_index_or g.channels k d).target row.target); small = row.taken.limited }
 
 ones_are : (n : ℕ) → n ≤ 4096 → AreRates (replicate n 1)
 ones_are n few = record {

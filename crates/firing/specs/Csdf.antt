@@ -1,12 +1,12 @@
 -- The plain net of a cyclo-static net's tables.
 use Rattle.std.specs.Prelude.{ℕ, ◌≤◌, List, length, map, All}
-use Rattle.sd_base.specs.declared.limits.TheConstants.{PHASES, RATE}
+use Rattle.sd_base.specs.declared.limits.TheConstants.{RATE, ROUND}
 use Rattle.sd_base.specs.Net.{Channel, Net}
 use Rattle.firing.specs.declared.csdf.CsdfChannel.{CsdfChannel}
 
--- rates by phase, within their limits
+-- rates by phase, at most one for each firing of a round, within their limit
 pub record AreRates (rates : List ℕ) : Type 0 where
-  pub few : length rates ≤ PHASES
+  pub few : length rates ≤ ROUND
   pub small : All (λ r. r ≤ RATE) rates
 
 -- a channel with its rates by phase

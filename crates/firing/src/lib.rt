@@ -16,6 +16,7 @@ mod wiring;
 pub use csdf::CsdfNet;
 pub use groups::Groups;
 pub use net::{Firing, know_laws};
+pub use phases::{PhaseRates, ones};
 pub use sdf::SdfNet;
 pub use single::{is_single_phase, single_phase_copy};
 pub use sums::{Port, made_sum, need, port_phases, port_rate, taken_sum};

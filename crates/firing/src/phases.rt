@@ -11,7 +11,7 @@ use std::marker::Model;
 
 /// Rates by phase, with their sums: number k of `sums` is that of the first k rates.
 #[derive(Debug, Drop)]
-pub(crate) struct PhaseRates {
+pub struct PhaseRates {
     rates: Vec<u64>,
     sums: Vec<u64>,
     ghost summed: { AreSums rates.items sums.items },
@@ -27,7 +27,7 @@ impl Model for PhaseRates {
 
 impl PhaseRates {
     /// A list of its own with these rates.
-    pub(crate) fn of(alloc: Global, rates: &[u64]) -> Result<PhaseRates, NoMemory>
+    pub fn of(alloc: Global, rates: &[u64]) -> Result<PhaseRates, NoMemory>
         requires { AreRates rates.now }
         ensures { IfOk result (λ r. r ≡ rates.now) }
     {
@@ -37,7 +37,7 @@ impl PhaseRates {
     }
 
     /// The rate of a phase.
-    pub(crate) fn at(&self, phase: u32) -> u64
+    pub fn at(&self, phase: u32) -> u64
         requires { phase < length self.now }
         ensures { result ≡ slice_index self.now phase }
     {
@@ -45,7 +45,7 @@ impl PhaseRates {
     }
 
     /// The sum of the rates of the phases below `phases`.
-    pub(crate) fn before(&self, phases: u32) -> u64
+    pub fn before(&self, phases: u32) -> u64
         requires { phases ≤ length self.now }
         ensures { result ≡ total self.now phases }
     {
@@ -69,7 +69,7 @@ fn sums_of(alloc: Global, rates: &[u64]) -> Result<Vec<u64>, NoMemory>
 }
 
 /// The rate 1 for each phase.
-pub(crate) fn ones(alloc: Global, phases: u32) -> Result<Vec<u64>, NoMemory>
+pub fn ones(alloc: Global, phases: u32) -> Result<Vec<u64>, NoMemory>
     ensures { IfOk result (λ v. v.items ≡ replicate phases 1) }
 {
     let mut rates = Vec::new(alloc);

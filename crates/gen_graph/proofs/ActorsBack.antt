@@ -24,7 +24,7 @@ use Rattle.graph_reader.specs.Spelled.{Pairwise, EachTwo, ArePhased, IsPort, IsA
 use Rattle.gen_graph.specs.declared.direction.Direction.{Direction}
 use Rattle.gen_graph.specs.declared.direction.Direction.TheVariants.{Out, In}
 use Rattle.gen_graph.specs.GraphTrees.{port_name, direction_word, port_node, ports_on, ports_from, actor_node, actor_nodes, no_actor, numbers_text}
-use Rattle.gen_graph.specs.Writable.{IsWritableName}
+use Rattle.graph_reader.specs.WritableNames.{IsWritableName}
 use Rattle.gen_graph.proofs.TreeTexts.{AreSmall, each_both, each_weaker}
 use Rattle.gen_graph.proofs.NumbersBack.{spelled_back}
 use Rattle.gen_graph.proofs.Listed.{same_bytes, other_bytes, IsCalled, kept, children_are, pair_both, pair_perhaps, each_perhaps, two_both, two_perhaps}

@@ -16,7 +16,7 @@ use Rattle.graph_reader.specs.Spelled.{Pairwise, EachTwo, IsEnd, IsChannel, AreA
 use Rattle.gen_graph.specs.declared.direction.Direction.{Direction}
 use Rattle.gen_graph.specs.declared.direction.Direction.TheVariants.{Out, In}
 use Rattle.gen_graph.specs.GraphTrees.{port_name, no_actor, channel_node, channel_nodes}
-use Rattle.gen_graph.specs.Writable.{IsWritableName}
+use Rattle.graph_reader.specs.WritableNames.{IsWritableName}
 use Rattle.gen_graph.proofs.TreeTexts.{each_both}
 use Rattle.gen_graph.proofs.NumbersBack.{number_back}
 use Rattle.gen_graph.proofs.Listed.{same_bytes, other_bytes, each_perhaps, find_skip, find_here}

@@ -13,7 +13,8 @@ use Rattle.file_text.specs.Grammar.{Each, is_character}
 use Rattle.gen_graph.specs.declared.made.Drawn.{Drawn}
 use Rattle.gen_graph.specs.MadeGraphs.{modulus, IsDrawn, drawn_after, drawn_for, next, number_below, made_actor, made_actors, common_multiple, made_channel, made_channels, chain_of, made_graph}
 use Rattle.gen_graph.specs.GraphTrees.{no_actor}
-use Rattle.gen_graph.specs.Writable.{IsWritableName, IsWritable}
+use Rattle.graph_reader.specs.WritableNames.{IsWritableName}
+use Rattle.gen_graph.specs.Writable.{IsWritable}
 use Rattle.gen_graph.proofs.ElementTexts.{IsGoodValue, good_word}
 use Rattle.gen_graph.proofs.TreeTexts.{both_good, number_good}
 
@@ -236,9 +237,11 @@ made_writable seed n few =
     let many = draws_count x n in
     let count = actors_count 0 ds in
     record {
-      actor_names = actor_names 0 ds (omega arith);
-      channel_names = chain_names ds (omega arith);
-      actors_differ = actors_apart ds (omega arith);
-      channels_differ = chain_apart ds (omega arith);
+      names = record {
+        actors = actor_names 0 ds (omega arith);
+        channels = chain_names ds (omega arith);
+        actors_differ = actors_apart ds (omega arith);
+        channels_differ = chain_apart ds (omega arith);
+      };
       phases = λ a lt none untouched. (actor_at 0 ds a no_actor (omega arith)).1;
     }

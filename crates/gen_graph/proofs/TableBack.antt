@@ -23,7 +23,8 @@ use Rattle.graph_reader.specs.Spelled.{Pairwise, EachTwo, ArePhased, HasNumbers,
 use Rattle.graph_reader.specs.Laws.{Gives}
 use Rattle.graph_reader.proofs.Again
 use Rattle.gen_graph.specs.GraphTrees.{actor_node, actor_nodes, no_actor, channel_node, channel_nodes, times_node, times_of, times_nodes, size_node, kind_word, properties_word, section_node, properties_node, application_node, graph_tree, written}
-use Rattle.gen_graph.specs.Writable.{IsWritable, IsWritableName}
+use Rattle.graph_reader.specs.WritableNames.{IsWritableName}
+use Rattle.gen_graph.specs.Writable.{IsWritable}
 use Rattle.gen_graph.proofs.TreeTexts.{AreSmall, each_both, each_from_All, phases_count, spelled_text}
 use Rattle.gen_graph.proofs.Listed.{IsCalled, children_are, first_kept, second_kept, two_from_pairs}
 use Rattle.gen_graph.proofs.ActorsBack.{AreRates, IsRated, actors_back, actors_long, actors_read, channels_read, few_ports, two_names_read}
@@ -160,16 +161,16 @@ module _ (k : Kind) (rows : List ActorRow) (cs : List ChannelRow) (keeps : Keeps
   join = each_from_All (ChannelKeepsRules (phases_of g)) cs keeps.channels
 
   actor_names : Each (λ (r : ActorRow). IsWritableName r.name) rows
-  actor_names = each_from_All (λ (r : ActorRow). IsWritableName r.name) rows is.actor_names
+  actor_names = each_from_All (λ (r : ActorRow). IsWritableName r.name) rows is.names.actors
 
   channel_names : Each (λ (c : ChannelRow). IsWritableName c.name) cs
-  channel_names = each_from_All (λ (c : ChannelRow). IsWritableName c.name) cs is.channel_names
+  channel_names = each_from_All (λ (c : ChannelRow). IsWritableName c.name) cs is.names.channels
 
   two_actors : EachTwo (λ (r s : ActorRow). r.name ≢ s.name) rows
-  two_actors = two_from_pairs (λ (r s : ActorRow). r.name ≢ s.name) rows is.actors_differ
+  two_actors = two_from_pairs (λ (r s : ActorRow). r.name ≢ s.name) rows is.names.actors_differ
 
   two_channels : EachTwo (λ (c d : ChannelRow). c.name ≢ d.name) cs
-  two_channels = two_from_pairs (λ (c d : ChannelRow). c.name ≢ d.name) cs is.channels_differ
+  two_channels = two_from_pairs (λ (c d : ChannelRow). c.name ≢ d.name) cs is.names.channels_differ
 
   abbrev whole : List Actor
   whole = actors_read cs 0 rows

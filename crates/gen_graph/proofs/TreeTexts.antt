@@ -21,7 +21,8 @@ use Rattle.gen_graph.specs.declared.direction.Direction.{Direction}
 use Rattle.gen_graph.specs.declared.direction.Direction.TheVariants.{Out, In}
 use Rattle.gen_graph.specs.NodeTexts.{element_text}
 use Rattle.gen_graph.specs.GraphTrees.{attribute, element, leaf, numbers_text, port_name, direction_word, port_node, ports_on, ports_from, actor_node, actor_nodes, no_actor, channel_node, channel_nodes, processor_node, times_node, times_of, times_nodes, size_node, kind_word, properties_word, section_node, properties_node, application_node, graph_tree, written}
-use Rattle.gen_graph.specs.Writable.{IsWritable, IsWritableName}
+use Rattle.graph_reader.specs.WritableNames.{IsWritableName}
+use Rattle.gen_graph.specs.Writable.{IsWritable}
 use Rattle.gen_graph.proofs.Values.{ascii_utf8}
 use Rattle.gen_graph.proofs.ElementTexts.{word, IsGoodName, IsGoodValue, IsGoodAttribute, good_word, differ, IsFine, good_nodes, depth_nodes, fine_both, line_of, element_utf8}
 
@@ -282,8 +283,8 @@ phases_count (row ∷ rows) = ap suc (phases_count rows)
 
 pub shown_tree : (g : GraphFile) → KeepsRules g → IsWritable g → IsFine 6 (graph_tree g)
 shown_tree g keeps is =
-    tree_fine g keeps.few_channels (actors_shown g.kind g.actors keeps.actors is.actor_names)
-    (channels_shown (length g.actors) (phases_of g) (phases_count g.actors) g.channels keeps.channels is.channel_names)
+    tree_fine g keeps.few_channels (actors_shown g.kind g.actors keeps.actors is.names.actors)
+    (channels_shown (length g.actors) (phases_of g) (phases_count g.actors) g.channels keeps.channels is.names.channels)
 
 -- ---- the whole text
 

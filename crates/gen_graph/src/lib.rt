@@ -5,8 +5,6 @@ mod direction;
 mod made;
 mod nodes;
 mod rows;
-#[cfg(test)]
-mod tests;
 mod written;
 
 pub use made::make;

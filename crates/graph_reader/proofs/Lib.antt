@@ -9,5 +9,7 @@ pub mod NumberLists
 pub mod ItemLists
 pub mod PhaseLists
 pub mod FilesDecide
+pub mod Values
+pub mod ReadNames
 pub mod ReaderSteps
 pub mod BrokenRules

@@ -8,6 +8,7 @@ use Rattle.graph_reader.specs.declared.error.ReadError.{ReadError}
 use Rattle.graph_reader.specs.declared.error.ReadError.TheVariants.{NoMemory}
 use Rattle.graph_reader.specs.FirstFaults.{IsFirstFault}
 use Rattle.graph_reader.specs.Sections.{table_of}
+use Rattle.graph_reader.specs.WritableNames.{HasWritableNames}
 
 -- the bytes spell a tree, and a walk through it gives this
 abbrev pub GivesBy : {T : Type 0} → (Node → Result T ReadError) → List ℕ → T → Type 0
@@ -38,3 +39,7 @@ ReadKeepsRules = (bytes : List ℕ) (need_times : Bool) (t : GraphFile) → Give
 -- and has its times where they are needed
 abbrev pub ReadIsTimed : Type 0
 ReadIsTimed = (bytes : List ℕ) (t : GraphFile) → Gives bytes true t → IsTimed t
+
+-- and names that can be written
+abbrev pub ReadIsWritable : Type 0
+ReadIsWritable = (bytes : List ℕ) (need_times : Bool) (t : GraphFile) → Gives bytes need_times t → HasWritableNames t

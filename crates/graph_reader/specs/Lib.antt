@@ -1,6 +1,7 @@
 pub mod Field
 pub mod Refusal
 pub mod Sections
+pub mod WritableNames
 pub mod Laws
 pub mod Spelled
 pub mod Register

@@ -53,6 +53,3 @@ pub fn read_graph(alloc: Global, bytes: &[u8], need_times: bool) -> Result<Graph
 pub fn walk_is_exact()
     ensures { (need_times : Bool) (e : Node) (t : GraphFile) → (table_of need_times e ≡ Ok t) ↔ IsTable need_times e t }
 {}
-
-#[cfg(test)]
-mod tests;

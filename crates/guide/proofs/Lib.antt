@@ -3,3 +3,5 @@ pub mod Evaluating
 pub mod Blocked
 pub mod Listing
 pub mod MoreRoom
+mod LoopTables
+mod Elsewhere

@@ -1,16 +1,21 @@
 //! Laws of what holds a distribution back, each on a function that does nothing.
-ghost use Rattle.std.specs.Prelude.{ℕ, Option, List, ◌<◌, length};
+ghost use Rattle.std.specs.Prelude.{◌≡◌, ℕ, Option, List, ◌*◌, ◌≤◌, ◌<◌, length};
 ghost use Rattle.firing.specs.declared.table.LoopTable.{LoopTable};
 ghost use Rattle.critical.specs.declared.cycle.NeedCycle.{NeedCycle};
 ghost use Rattle.critical.specs.Spaces.{Has, IsSpaceAt};
 ghost use Rattle.critical.specs.CriticalCycles.{IsCriticalCycleOf};
 ghost use Rattle.sd_base.specs.Net.{Net};
-ghost use Rattle.sd_base.specs.Untimed.{IsLive};
+ghost use Rattle.sd_base.specs.Lawful.{Lawful};
+ghost use Rattle.sd_base.specs.Connection.{IsConnected};
+ghost use Rattle.sd_base.specs.Rates.{IsLoop, Rate};
+ghost use Rattle.sd_base.specs.Schedules.{HasInputs};
+ghost use Rattle.sd_base.specs.Untimed.{Blocks, IsLive};
 ghost use Rattle.firing.specs.Wiring.{IsWiringOf};
 ghost use Rattle.firing.specs.declared.wiring.Wiring.{Wiring as Wires};
 ghost use Rattle.liveness.specs.RoundAnswers.{IsReached};
 ghost use Rattle.storage.specs.BoundedNets.{bound};
-ghost use Rattle.storage.specs.Distributions.{AtMost, IsDistribution};
+ghost use Rattle.storage.specs.Distributions.{AtMost, IsDistribution, capacity_at};
+ghost use Rattle.storage.specs.ShownSpaces.{ShowsSpace};
 ghost use Rattle.guide.specs.declared.rating.Evaluation.{Evaluation};
 ghost use Rattle.guide.specs.Evaluations.{IsEvaluated};
 ghost use Rattle.guide.specs.Guides.{IsDependency, IsInGuide};
@@ -34,4 +39,15 @@ pub fn counts_are_reached_with_more_room()
 pub fn distributions_share_a_wiring()
     ensures { (net : Net) (ds es : List (Option ℕ)) (wiring : Wires) → IsDistribution net.channels ds → IsDistribution net.channels es →
         IsWiringOf (bound net ds) wiring → IsWiringOf (bound net es) wiring }
+{}
+
+/// Room elsewhere than in its guide gains a distribution nothing, however long its loop is and whether it is evaluated or not:
+/// another one with the same capacities on the storage dependencies of its loop has no greater rate, and one with the same
+/// capacities on the channels that counts at which it is blocked show has rate 0 (Stuijk, Geilen and Basten 2008).
+pub fn room_elsewhere_gains_nothing()
+    ensures dependencies { (net : Net) (ds es : List (Option ℕ)) (entry period p q x y : ℕ) → Lawful (bound net ds) → HasInputs (bound net ds) → IsConnected net →
+        IsLoop (bound net ds) entry period → ((c : ℕ) → IsDependency (bound net ds) entry period c → capacity_at es c ≡ capacity_at ds c) →
+        Rate (bound net ds) p q → Rate (bound net es) x y → x * q ≤ p * y }
+    ensures blocked { (net : Net) (ds es : List (Option ℕ)) (v : ℕ → ℕ) (x y : ℕ) → Lawful (bound net es) → Blocks (bound net ds) v →
+        ((c : ℕ) → ShowsSpace net ds v c → capacity_at es c ≡ capacity_at ds c) → Rate (bound net es) x y → x ≡ 0 }
 {}

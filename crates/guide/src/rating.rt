@@ -63,6 +63,7 @@ pub fn evaluate<F: Firing, L: Ledger>(
     ensures refused { IfErr result (IsRefused (F.net net.now) capacities.now.capacities states) }
     ensures count { IfOk result (λ e. steps.new.count ≡ steps.old.count + loops_run e.outcome) }
     ensures most { steps.new.count ≤ steps.old.count + 1 }
+    ensures rises { steps.old.count ≤ steps.new.count }
     ensures share { steps.new.share ≡ steps.old.share }
 {
     let bounded = Bounded::new(alloc, net, capacities)?;
@@ -102,6 +103,7 @@ pub fn evaluate_from<F: Firing, L: Ledger>(
     ensures refused { IfErr result (IsRefused (F.net net.now) capacities.now.capacities states) }
     ensures count { IfOk result (λ e. steps.new.count ≡ steps.old.count + loops_run e.outcome) }
     ensures most { steps.new.count ≤ steps.old.count + 1 }
+    ensures rises { steps.old.count ≤ steps.new.count }
     ensures share { steps.new.share ≡ steps.old.share }
 {
     let bounded = Bounded::new(alloc, net, capacities)?;
@@ -131,6 +133,7 @@ fn evaluate_on<F: Firing, B: Firing, L: Ledger>(
     ensures refused { IfErr result (IsRefused (F.net net.now) capacities.now.capacities states) }
     ensures count { IfOk result (λ e. steps.new.count ≡ steps.old.count + loops_run e.outcome) }
     ensures most { steps.new.count ≤ steps.old.count + 1 }
+    ensures rises { steps.old.count ≤ steps.new.count }
     ensures share { steps.new.share ≡ steps.old.share }
 {
     match one_round_from(alloc, bounded, wiring, counts)? {
@@ -181,6 +184,7 @@ fn evaluate_whole<B: Firing, L: Ledger>(
     ensures refused { IfErr result (IsRunRefusal (B.net bounded.now) states) }
     ensures count { IfOk result (λ e. steps.new.count ≡ steps.old.count + loops_run e.outcome) }
     ensures most { steps.new.count ≤ steps.old.count + 1 }
+    ensures rises { steps.old.count ≤ steps.new.count }
     ensures share { steps.new.share ≡ steps.old.share }
 {
     if !is_single_phase(bounded) {
@@ -208,6 +212,7 @@ fn evaluate_live<B: Firing, L: Ledger>(
     ensures refused { IfErr result (IsRunRefusal (B.net bounded.now) states) }
     ensures count { IfOk result (λ e. steps.new.count ≡ steps.old.count + loops_run e.outcome) }
     ensures most { steps.new.count ≤ steps.old.count + 1 }
+    ensures rises { steps.old.count ≤ steps.new.count }
     ensures share { steps.new.share ≡ steps.old.share }
 {
     know_laws(bounded);

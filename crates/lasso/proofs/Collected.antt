@@ -3,7 +3,7 @@ use Rattle.std.proofs.Common.{◌≡◌, ◌≢◌, ℕ, suc, ◌+◌, ◌-◌, 
 use Rattle.std.specs.Prelude.{◌/◌, slice_index, slice_index_or, replicate}
 use Rattle.std.proofs.Math.Nat.{mul-div_cancel}
 use Rattle.std.proofs.lemmas.Bool.{cases_lt, cases_eq}
-use Rattle.std.proofs.lemmas.List.{append-nil, get_or_default, get_or_append_left, get_or-append_right, get_or-replicate, length-replicate, get_or_past, length-set, get_or-set_same, get_or-set_other}
+use Rattle.std.proofs.lemmas.List.{append-nil, ext_get_or, get_or_default, get_or_append_left, get_or-append_right, get_or-replicate, length-replicate, get_or_past, length-set, get_or-set_same, get_or-set_other}
 use Rattle.sd_base.specs.Net.{Net}
 use Rattle.sd_base.specs.Schedules.{HasInputs, count_of, start_of, end_of}
 use Rattle.sd_base.specs.SelfTimed.{earliest}
@@ -226,3 +226,15 @@ adds-all net now n list old new starters before whole adds = record { rows = add
         let none : count_of (earliest net (now + 1)) a - count_of old a ≡ 0 = omega (arith, before a is) in
         kept.0 ∙ (sym (append-nil (slice_index_or old a [])) ∙ ap (λ (k : ℕ). slice_index_or old a [] ++ replicate k now) (sym none)))
         (cases_lt (count_of (earliest net now) a) (count_of (earliest net (now + 1)) a))
+
+-- rows of all starts up to and with a moment are the earliest schedule
+pub starts-are : (net : Net) → Lawful net → HasInputs net → (now : ℕ) (rows : List (List ℕ)) → AreStarts net now rows → rows ≡ earliest net (now + 1)
+starts-are net laws fed now rows are = ext_get_or [] rows (earliest net (now + 1)) (are.rows ∙ sym long) each
+  where
+    long : length (earliest net (now + 1)) ≡ length net.times
+    long = (early_at net (regular net laws) fed (now + 1)).admissible.actors
+
+    each : (a : ℕ) → a < length rows → slice_index_or rows a [] ≡ slice_index_or (earliest net (now + 1)) a []
+    each a below =
+        let actor : a < length net.times = omega (arith, are.rows) in
+        ext_get_or 0 (slice_index_or rows a []) (slice_index_or (earliest net (now + 1)) a []) (are.all a actor) (λ k there. are.moments a k actor there)

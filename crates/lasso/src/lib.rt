@@ -2,6 +2,7 @@
 #![tactic(auto)]
 
 mod again;
+mod beginning;
 mod by_needs;
 mod collect;
 mod entry;
@@ -19,6 +20,7 @@ mod steps;
 mod table;
 mod trace;
 
+pub use beginning::starts_until;
 pub use error::RunError;
 pub use laws::{one_ending, starts_are_counted_to_the_first_repeat};
 pub use run::{run_loop, run_loop_on};

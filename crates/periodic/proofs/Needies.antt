@@ -143,6 +143,16 @@ near-in_row net laws rounds starts turns i k q n source target from to place lis
     let near : n / count_of starts (channel_at net i).source ≤ q = last-near net laws rounds starts turns i k q n place listed_from listed_to below moved in
     rw row_from (omega arith)
 
+-- where phases make some tokens, there are some phases
+pub some-phases : (xs : List ℕ) (phases wanted : ℕ) → 1 ≤ wanted → wanted ≤ total xs phases → 0 < phases
+some-phases xs phases wanted some enough = ⊎_elim
+    (λ (less : 0 < phases). less)
+    (λ (none : phases ≤ 0).
+    let same : phases ≡ 0 = omega arith in
+    let nothing : total xs phases ≡ 0 = rw same (total-zero xs) in
+    absurd (omega arith))
+    (cases_lt 0 phases)
+
 -- ---- one test
 
 first-one : (c : Channel) (turn k p q : ℕ) → FirstNeedy c turn k p → FirstNeedy c turn k q → p ≤ q

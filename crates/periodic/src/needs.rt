@@ -31,8 +31,8 @@ pub(crate) fn first_needy<F: Firing>(
     (tokens - first) / taken_sum(net, channel, turn) + 1
 }
 
-/// The last firing of the source of a channel that a firing of its target needs. Cost: linear in the
-/// phases of the source and the target.
+/// The last firing of the source of a channel that a firing of its target needs. Cost: that of
+/// `Firing::made_before` times the logarithm of the source's phases.
 pub(crate) fn last_need<F: Firing>(net: &F, channel: u32, firing: u128) -> u128
     requires channel { channel < length (F.net net.now).channels }
     requires few { firing < 2 ^ 96 }
@@ -48,7 +48,7 @@ pub(crate) fn last_need<F: Firing>(net: &F, channel: u32, firing: u128) -> u128
     turns * phases as u128 + rest as u128
 }
 
-/// The last of the phases of the source before which so many tokens aren't made yet.
+/// The last of the phases of the source before which so many tokens aren't made yet, found by halves.
 fn last_short<F: Firing>(net: &F, channel: u32, phases: u32, wanted: u128) -> u32
     requires channel { channel < length (F.net net.now).channels }
     requires phases { phases ≡ length (channel_at (F.net net.now) channel).made }
@@ -58,13 +58,15 @@ fn last_short<F: Firing>(net: &F, channel: u32, phases: u32, wanted: u128) -> u3
     ensures short { total (channel_at (F.net net.now) channel).made result < wanted }
     ensures enough { wanted ≤ total (channel_at (F.net net.now) channel).made (result + 1) }
 {
-    know_laws(net);
-    let mut sum = 0u128;
-    for phase in 0..phases {
-        sum += net.made(channel, phase) as u128;
-        if sum >= wanted {
-            return phase;
+    let mut short: u32 = 0;
+    let mut enough = phases;
+    while enough - short > 1 {
+        let middle = short + (enough - short) / 2;
+        if (net.made_before(channel, middle) as u128) < wanted {
+            short = middle;
+        } else {
+            enough = middle;
         }
     }
-    unreachable!()
+    short
 }

@@ -1,4 +1,4 @@
-ghost use Rattle.std.specs.Prelude.{◌≡◌, ℕ, ◌+◌, ◌-◌, ◌*◌, ◌<◌, ◌≤◌, ◌^◌, [], ◌++◌, IfOk, IsTrue, length, map, slice_index, slice_index_or, vec_capacity, vec_len};
+ghost use Rattle.std.specs.Prelude.{◌≡◌, ℕ, ◌+◌, ◌-◌, ◌*◌, ◌<◌, ◌≤◌, ◌^◌, [], ◌++◌, IfOk, length, map, slice_index, slice_index_or, vec_capacity, vec_len};
 ghost use Rattle.sd_base.specs.declared.limits.TheConstants.{STARTS, START};
 ghost use Rattle.std.specs.List.{range_with_len};
 ghost use Rattle.sd_base.specs.Schedules.{count_of};
@@ -173,86 +173,4 @@ fn least_start(table: &LoopTable, most: u64) -> u128
         least = least.min(pass_of(table, actor).least(up));
     }
     least
-}
-
-#[cfg(test)]
-mod tests {
-    use super::*;
-    use sd_base::limits::STARTS;
-    use std::test::Fail;
-
-    #[derive(Clone, Copy)]
-    struct Case<'a> {
-        period: u64,
-        before: &'a [u64],
-        starts: &'a [&'a [u64]],
-        wanted: &'a [&'a [u128]],
-    }
-
-    fn table(alloc: Global, case: &Case) -> Result<LoopTable, NoMemory> {
-        let mut starts = Rows::new(alloc);
-        for row in case.starts {
-            starts.push(Rows::from_vec(row.to_vec(alloc)?))?;
-        }
-        Ok(LoopTable {
-            entry: 0,
-            period: case.period,
-            rounds: 1,
-            before: Rows::from_vec(case.before.to_vec(alloc)?),
-            starts,
-        })
-    }
-
-    fn has_passes(table: &LoopTable) -> bool
-        ensures { IsTrue result → HasPasses table.now }
-    {
-        let rows = table.starts.as_slice();
-        let before = table.before.as_slice();
-        if rows.is_empty() || before.len() != rows.len() {
-            return false;
-        }
-        for actor in 0..rows.len() {
-            if rows[actor].is_empty() || before[actor] > STARTS {
-                return false;
-            }
-        }
-        true
-    }
-
-    #[test]
-    fn passes_go_back_to_the_first_turn(rt: HostRuntime) -> Result<(), Fail> {
-        let cases = [
-            // x of time 2 and y of time 3 in a ring with one token: x starts at 0, y at 2, x at 5 again.
-            Case {
-                period: 5,
-                before: &[1, 0],
-                starts: &[&[5], &[2]],
-                wanted: &[&[0], &[2]],
-            },
-            // x starts at 0, 4, 8, 12, 16, 24, 34 and y at 4, 9, 14, 19, 24, 29, 34; the loop is entered at 24.
-            Case {
-                period: 10,
-                before: &[6, 5],
-                starts: &[&[34], &[29, 34]],
-                wanted: &[&[0], &[30, 35]],
-            },
-            // Three firings of one actor of time 7 at once.
-            Case {
-                period: 7,
-                before: &[3],
-                starts: &[&[7, 7, 7]],
-                wanted: &[&[0, 0, 0]],
-            },
-        ];
-        for case in &cases {
-            let table = table(rt.alloc(), case)?;
-            assert!(rt; has_passes(&table));
-            let rows = moved_starts(rt.alloc(), &table)?;
-            assert_eq!(rt; rows.len(), case.wanted.len());
-            for (row, wanted) in rows.as_slice().iter().zip(case.wanted) {
-                assert_eq!(rt; row.as_slice(), *wanted);
-            }
-        }
-        Ok(())
-    }
 }

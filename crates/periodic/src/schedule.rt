@@ -24,7 +24,8 @@ pub struct Periodic {
 
 impl Periodic {
     /// Whether the schedule can run on the net for ever. On each channel and for each listed firing it looks
-    /// at one need alone. Cost: linear in the starts times the channels times the phases.
+    /// at one need alone. Cost: linear in the starts times the channels times the logarithm of the phases, where
+    /// the net keeps the sums of its rates.
     pub fn holds<F: Firing>(&self, net: &F) -> bool
         requires small { (a k : ℕ) → start_of self.now.starts a k ≤ START }
         ensures { IsTrue result ↔ Holds (F.net net.now) self.now.period self.now.rounds self.now.starts }
@@ -41,7 +42,7 @@ impl Periodic {
     /// Whether the starts of one actor are those of `rounds` rounds, none falls, and each of its needs is met in
     /// every period, but for needs of an actor that hasn't so many starts listed. So a fault is told at the line
     /// where it stands. Cost: linear in the channels, and in the starts of the actor times the channels into it
-    /// times the phases.
+    /// times the logarithm of the phases, where the net keeps the sums of its rates.
     pub fn line_holds<F: Firing>(&self, net: &F, actor: u32) -> bool
         requires turns { 1 ≤ self.now.rounds }
         requires actors { length self.now.starts ≡ length (F.net net.now).times }

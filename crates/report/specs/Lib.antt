@@ -12,3 +12,5 @@ pub mod RefusalLines
 pub mod WorstTexts
 pub mod SummaryTexts
 pub mod ClaimTexts
+pub mod ExpansionTexts
+pub mod CompletionTexts

@@ -1,7 +1,7 @@
 -- The printed words of quantities.
 use Rattle.std.specs.Prelude.{ℕ, List, codes}
 use Rattle.sd_base.specs.declared.limits.Quantity.{Quantity}
-use Rattle.sd_base.specs.declared.limits.Quantity.TheVariants.{FileBytes, CertificateBytes, Depth, NameBytes, Actors, Channels, Ports, Phases, Rate, Tokens, Size, Time, Ratio, Round, Starts, Scenarios, AutomatonStates, Nodes, Stamps, Edges, CertificateNumber}
+use Rattle.sd_base.specs.declared.limits.Quantity.TheVariants.{FileBytes, CertificateBytes, Depth, NameBytes, Actors, Channels, Ports, Phases, Rate, Tokens, Size, Time, Ratio, Round, Starts, Scenarios, AutomatonStates, Nodes, Stamps, Edges, OrderPairs, CertificateNumber}
 
 unfoldable pub quantity_text : Quantity → List ℕ
 quantity_text FileBytes = codes "file bytes"
@@ -24,4 +24,5 @@ quantity_text AutomatonStates = codes "automaton states"
 quantity_text Nodes = codes "nodes"
 quantity_text Stamps = codes "stamps"
 quantity_text Edges = codes "edges"
+quantity_text OrderPairs = codes "order pairs"
 quantity_text CertificateNumber = codes "certificate number"

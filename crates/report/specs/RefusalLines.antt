@@ -4,7 +4,7 @@ use Rattle.std.specs.Fmt.{decimal}
 use Rattle.report.specs.declared.refusal.Refusal.{Refusal}
 use Rattle.report.specs.declared.refusal.Class.{Class}
 use Rattle.report.specs.declared.refusal.Class.TheVariants as class
-use Rattle.report.specs.declared.refusal.Refusal.TheVariants.{UsageWords, UsageMissing, UsageNotFor, UsageBadValue, Text, DocumentType, CdataSection, Instruction, CharReference, Encoding, WrongKind, Missing, Unknown, Twice, BadWord, BadNumber, PhasesDiffer, SharedDiffers, NoSuccessor, UnknownChannel, SelfLoopBuffer, BelowTokens, Above, Ratio, Inconsistent, Apart, OneWay, NoInput, Deadlock, StatesSpent, DistributionsSpent, CertificateLine, CertificateNumber, Rejected, ShelfGraph, ShelfCertificate, ShelfOutput}
+use Rattle.report.specs.declared.refusal.Refusal.TheVariants.{UsageWords, UsageMissing, UsageNotFor, UsageBadValue, Text, DocumentType, CdataSection, Instruction, CharReference, Encoding, WrongKind, Missing, Unknown, Twice, BadWord, BadNumber, PhasesDiffer, SharedDiffers, NoSuccessor, UnknownChannel, SelfLoopBuffer, BelowTokens, UnknownActor, TwoProcessors, OrderCount, Above, Ratio, Inconsistent, Apart, OneWay, NoInput, Deadlock, StatesSpent, DistributionsSpent, CertificateLine, CertificateNumber, Rejected, ShelfGraph, ShelfCertificate, ShelfOutput}
 
 -- the scenario that a refusal speaks of
 unfoldable pub scenario_prefix : Option (List ℕ) → List ℕ
@@ -51,6 +51,12 @@ self_loop_reason name = codes "buffer of self-loop " ++ name
 
 unfoldable pub below_tokens_reason : List ℕ → List ℕ
 below_tokens_reason name = codes "buffer of " ++ (name ++ codes " below its tokens")
+
+unfoldable pub processors_reason : List ℕ → List ℕ
+processors_reason name = codes "actor " ++ (name ++ codes " on two processors")
+
+unfoldable pub count_reason : List ℕ → ℕ → ℕ → List ℕ
+count_reason name found gamma = codes "order of " ++ (name ++ (codes " has " ++ (decimal found ++ (codes " of " ++ decimal gamma))))
 
 unfoldable pub missing_reason : List ℕ → List ℕ
 missing_reason option = codes "missing --" ++ option
@@ -120,6 +126,9 @@ cause_of (NoSuccessor name) = because class.Form (successor_reason name)
 cause_of (UnknownChannel name) = because class.Form (unknown_reason (codes "channel") name)
 cause_of (SelfLoopBuffer name) = because class.Form (self_loop_reason name)
 cause_of (BelowTokens name) = because class.Form (below_tokens_reason name)
+cause_of (UnknownActor name) = because class.Form (unknown_reason (codes "actor") name)
+cause_of (TwoProcessors name) = because class.Form (processors_reason name)
+cause_of (OrderCount name found gamma) = because class.Form (count_reason name found gamma)
 cause_of (CertificateLine line) = because class.Form (certificate_reason line)
 cause_of CertificateNumber = because class.Limit (codes "certificate number too large")
 cause_of (Above scenario quantity number) = because class.Limit (above_reason (scenario_prefix scenario) quantity number)

@@ -4,7 +4,9 @@
 mod answers;
 mod buffers;
 mod claims;
+mod completions;
 mod cycles;
+mod expansions;
 mod fractions;
 mod lacks;
 mod links;
@@ -15,14 +17,14 @@ mod refusal;
 mod refusals;
 mod schedules;
 mod summaries;
-#[cfg(test)]
-mod tests;
 mod walks;
 mod worst_rates;
 
 pub use answers::{rate_text, repetition_text};
 pub use buffers::buffers_text;
 pub use claims::{CertificateKind, ClaimLine, claim_text, converted_text};
+pub use completions::complete_text;
+pub use expansions::expand_text;
 pub use lacks::lacks_text;
 pub use points::{point_text, points_header, points_text};
 pub use quantities::quantity_word;

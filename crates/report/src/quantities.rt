@@ -29,6 +29,7 @@ pub fn quantity_word(quantity: Quantity) -> &'static str
         Quantity::Nodes => "nodes",
         Quantity::Stamps => "stamps",
         Quantity::Edges => "edges",
+        Quantity::OrderPairs => "order pairs",
         Quantity::CertificateNumber => "certificate number",
     }
 }

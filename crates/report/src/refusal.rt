@@ -140,6 +140,20 @@ pub enum Refusal {
     BelowTokens {
         name: Text,
     },
+    /// Words put a name into an order that no actor has.
+    UnknownActor {
+        name: Text,
+    },
+    /// Words put an actor into the orders of two processors.
+    TwoProcessors {
+        name: Text,
+    },
+    /// An actor stands `found` times in its order, and fires `gamma` times in a round.
+    OrderCount {
+        name: Text,
+        found: u64,
+        gamma: u64,
+    },
     /// The text of a certificate isn't of its form, first at this line, from 1.
     CertificateLine {
         line: u64,

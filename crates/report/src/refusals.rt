@@ -1,6 +1,6 @@
 ghost use Rattle.std.specs.Prelude.{◌≡◌, IfOk};
 ghost use Rattle.std.specs.String.{string_bytes};
-ghost use Rattle.report.specs.RefusalLines.{above_reason, apart_reason, at_list, bad_value_reason, below_tokens_reason, cause_line, cause_of, certificate_reason, deadlock_reason, distributions_reason, inconsistent_reason, line_of, memory_line, missing_reason, no_input_reason, not_for_reason, one_way_reason, phases_reason, place_reason, ratio_reason, rejected_reason, scenario_prefix, self_loop_reason, shared_reason, states_reason, successor_reason, twice_reason, unknown_reason, within_reason};
+ghost use Rattle.report.specs.RefusalLines.{above_reason, apart_reason, at_list, bad_value_reason, below_tokens_reason, cause_line, cause_of, certificate_reason, count_reason, deadlock_reason, distributions_reason, inconsistent_reason, line_of, memory_line, missing_reason, no_input_reason, not_for_reason, one_way_reason, phases_reason, place_reason, processors_reason, ratio_reason, rejected_reason, scenario_prefix, self_loop_reason, shared_reason, states_reason, successor_reason, twice_reason, unknown_reason, within_reason};
 
 use crate::answers::bytes_of;
 use crate::{Class, Refusal};
@@ -113,6 +113,18 @@ fn cause(alloc: Global, refusal: &Refusal) -> Result<(Class, String), AllocError
         Refusal::BelowTokens { name } => Ok((
             Class::Form,
             below_tokens_text(alloc, name.as_str())?,
+        )),
+        Refusal::UnknownActor { name } => Ok((
+            Class::Form,
+            unknown_text(alloc, "actor", name.as_str())?,
+        )),
+        Refusal::TwoProcessors { name } => Ok((
+            Class::Form,
+            processors_text(alloc, name.as_str())?,
+        )),
+        Refusal::OrderCount { name, found, gamma } => Ok((
+            Class::Form,
+            count_text(alloc, name.as_str(), *found, *gamma)?,
         )),
         Refusal::CertificateLine { line } => Ok((Class::Form, certificate_text(alloc, *line)?)),
         Refusal::CertificateNumber => Ok((
@@ -260,6 +272,20 @@ fn below_tokens_text(alloc: Global, name: &str) -> Result<String, AllocError>
     ensures { IfOk result (λ t. string_bytes t ≡ below_tokens_reason name.now) }
 {
     format!(in alloc; "buffer of {name} below its tokens")
+}
+
+#[tactic(auto, unfolding(crate::specs::RefusalLines::processors_reason))]
+fn processors_text(alloc: Global, name: &str) -> Result<String, AllocError>
+    ensures { IfOk result (λ t. string_bytes t ≡ processors_reason name.now) }
+{
+    format!(in alloc; "actor {name} on two processors")
+}
+
+#[tactic(auto, unfolding(crate::specs::RefusalLines::count_reason))]
+fn count_text(alloc: Global, name: &str, found: u64, gamma: u64) -> Result<String, AllocError>
+    ensures { IfOk result (λ t. string_bytes t ≡ count_reason name.now found gamma) }
+{
+    format!(in alloc; "order of {name} has {found} of {gamma}")
 }
 
 #[tactic(auto, unfolding(crate::specs::RefusalLines::above_reason))]

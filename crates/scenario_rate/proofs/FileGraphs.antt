@@ -1,18 +1,15 @@
 -- The timed graph of a file is within its limits.
 use Rattle.std.proofs.Common.{◌≡◌, ℕ, zero, suc, ◌+◌, ◌*◌, ◌<◌, ◌≤◌, List, [], ◌∷◌, length, refl, ap, ◌∙◌, subst, arith}
-use Rattle.std.specs.Prelude.{slice_get, slice_index_or, Option, Some, None}
+use Rattle.std.specs.Prelude.{slice_get, Some}
 use Rattle.std.proofs.Math.Nat.{mul-le-mul_right, suc-mul}
 use Rattle.std.proofs.lemmas.Option.{slice_get_within}
 use Rattle.sd_base.specs.declared.tables.ScenarioFile.{ScenarioFile}
-use Rattle.sd_base.specs.declared.tables.ScenarioRow.{ScenarioRow}
-use Rattle.sd_base.specs.declared.tables.StateRow.{StateRow}
 use Rattle.sd_base.specs.Scenarios.{shared_count}
-use Rattle.token_matrix.specs.Matrices.{IsMatrix}
 use Rattle.automaton.specs.declared.graph.Edge.{Edge}
 use Rattle.automaton.specs.declared.graph.TimedGraph.{TimedGraph}
-use Rattle.automaton.specs.TimedGraphs.{IsTimedGraph, edges_from}
+use Rattle.automaton.specs.TimedGraphs.{IsTimedGraph}
 use Rattle.automaton.proofs.Members.{Has, get-has, from-from, FromStates}
-use Rattle.scenario_rate.specs.Graphs.{AreInside, IsSound}
+use Rattle.scenario_rate.specs.Graphs.{IsSound}
 
 -- a place in rows of n
 below : (q i n states : ℕ) → q < states → i < n → q * n + i < states * n

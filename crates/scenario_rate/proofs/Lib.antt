@@ -10,7 +10,8 @@ pub mod Finishing
 pub mod Never
 pub mod Growing
 pub mod FileGraphs
-pub mod Sweeping
+pub mod Listing
+pub mod Spreading
 pub mod Choosing
 pub mod Shortening
 pub mod Choice

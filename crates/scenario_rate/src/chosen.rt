@@ -1,17 +1,21 @@
 //! The critical cycle that is chosen: of tight edges, through the least node that such a cycle has, of the fewest
 //! edges, and of these the one with the least list of nodes.
-ghost use Rattle.std.specs.Prelude.{◌≡◌, ◌≤◌, ◌<◌, ◌↔◌, ℕ, IsTrue, IfOk, MatchOption, Some, length};
+ghost use Rattle.std.specs.Prelude.{◌≡◌, ◌≤◌, ◌<◌, ◌↔◌, ℕ, List, IsTrue, IfOk, MatchOption, Some, length};
 ghost use Rattle.sd_base.specs.declared.limits.TheConstants.{NODES};
 ghost use Rattle.scenario_rate.specs.Graphs.{AreInside};
+ghost use Rattle.scenario_rate.specs.declared.by_node.End.TheVariants.{From};
+ghost use Rattle.scenario_rate.specs.inside.ByNode.{AreByNode};
 ghost use Rattle.scenario_rate.specs.inside.Choosing.{AreKnown, AreFew, HasCycle, IsChosenOf, NoneBack, IsFewest, fewer_of, NoneNext, IsNext, IsNearer, steps_at, IsOnWay, IsLeastWay};
 
+use crate::by_node::{End, edges_at, edges_by_node};
 use crate::distances::distances;
 use automaton::Edge;
-use sd_base::NoMemory;
+use sd_base::{NoMemory, Rows};
 use std::alloc::Global;
 
 /// The chosen cycle of the edges of a list, node by node from 0 on: distances to the node, until one is on a cycle.
-/// Cost: for each node up to that one, some times the edges of the list.
+/// Cost: for each node up to that one, linear in the nodes, and in the edges of the list into those from which they
+/// lead to it.
 pub fn chosen_cycle(
     alloc: Global,
     edges: &[Edge],
@@ -24,31 +28,34 @@ pub fn chosen_cycle(
     requires some { HasCycle edges.now tight.now nodes }
     ensures { IfOk result (λ cycle. IsChosenOf edges.now tight.now cycle.items) }
 {
+    let into = edges_by_node(alloc, edges, tight, nodes, End::To)?;
+    let into = into.as_slice();
+    let out_of = edges_by_node(alloc, edges, tight, nodes, End::From)?;
+    let out_of = out_of.as_slice();
     for root in 0..nodes {
-        let steps = distances(alloc, edges, tight, nodes, root)?;
-        if let Some(fewest) = fewest_back(edges, tight, steps.as_slice(), root) {
-            let cycle = least_way(alloc, edges, tight, steps.as_slice(), root, fewest)?;
+        let steps = distances(alloc, edges, into, root)?;
+        let steps = steps.as_slice();
+        if let Some(fewest) = fewest_back(edges, edges_at(out_of, root), steps) {
+            let cycle = least_way(alloc, edges, out_of, steps, root, fewest)?;
             return Ok(cycle);
         }
     }
     unreachable!()
 }
 
-/// The fewest edges from a node back to itself, by the steps that each node is away from it.
-fn fewest_back(edges: &[Edge], tight: &[u32], steps: &[Option<u32>], root: u32) -> Option<u32>
+/// The fewest edges from a node back to itself, over the edges out of it, by the steps that each node is away from it.
+fn fewest_back(edges: &[Edge], out: &[u32], steps: &[Option<u32>]) -> Option<u32>
     requires inside { AreInside edges.now (length steps.now) }
     requires nodes { length steps.now ≤ NODES }
-    requires known { AreKnown edges.now tight.now }
+    requires known { AreKnown edges.now out.now }
     requires few { AreFew NODES steps.now }
-    ensures { MatchOption result (NoneBack edges.now tight.now steps.now root (length tight.now))
-        (IsFewest edges.now tight.now steps.now root (length tight.now)) }
+    ensures { MatchOption result (NoneBack edges.now out.now steps.now (length out.now))
+        (IsFewest edges.now out.now steps.now (length out.now)) }
 {
     let mut fewest = None;
-    for number in tight {
+    for number in out {
         let edge = edges[*number as usize];
-        if edge.from == root {
-            fewest = fewer(fewest, steps[edge.to as usize]);
-        }
+        fewest = fewer(fewest, steps[edge.to as usize]);
     }
     fewest
 }
@@ -71,60 +78,56 @@ fn fewer(fewest: Option<u32>, others: Option<u32>) -> Option<u32>
 fn least_way(
     alloc: Global,
     edges: &[Edge],
-    tight: &[u32],
+    out_of: &[Rows<u32>],
     steps: &[Option<u32>],
     node: u32,
     left: u32,
 ) -> Result<Vec<u32>, NoMemory>
     requires inside { AreInside edges.now (length steps.now) }
-    requires known { AreKnown edges.now tight.now }
-    requires way { (root : ℕ) × IsOnWay edges.now tight.now steps.now (length steps.now) root node left }
-    ensures { IfOk result (λ way. (root : ℕ) → IsOnWay edges.now tight.now steps.now (length steps.now) root node left
-        → IsLeastWay edges.now tight.now root node left way.items) }
+    requires long { length out_of.now ≡ length steps.now }
+    requires node { node < length steps.now }
+    requires way { (list : List ℕ) × (root : ℕ) × AreByNode From edges.now list (length steps.now) out_of.now
+        × IsOnWay edges.now list steps.now (length steps.now) root node left }
+    ensures { IfOk result (λ way. (list : List ℕ) → (root : ℕ) → AreByNode From edges.now list (length steps.now) out_of.now
+        → IsOnWay edges.now list steps.now (length steps.now) root node left → IsLeastWay edges.now list root node left way.items) }
 {
     if left == 0 {
         return Ok(Vec::new(alloc));
     }
-    match next_edge(edges, tight, steps, node, left - 1) {
+    match next_edge(edges, edges_at(out_of, node), steps, left - 1) {
         None => unreachable!(),
         Some(number) => {
             let to = edges[number as usize].to;
-            let mut way = least_way(alloc, edges, tight, steps, to, left - 1)?;
+            let mut way = least_way(alloc, edges, out_of, steps, to, left - 1)?;
             way.insert(0, number)?;
             Ok(way)
         },
     }
 }
 
-/// Of the edges out of a node to one that is so many steps away the first one with the least end.
-fn next_edge(
-    edges: &[Edge],
-    tight: &[u32],
-    steps: &[Option<u32>],
-    node: u32,
-    left: u32,
-) -> Option<u32>
+/// Of the edges of a list to a node that is so many steps away the first one with the least end.
+fn next_edge(edges: &[Edge], out: &[u32], steps: &[Option<u32>], left: u32) -> Option<u32>
     requires inside { AreInside edges.now (length steps.now) }
-    requires known { AreKnown edges.now tight.now }
-    ensures { MatchOption result (NoneNext edges.now tight.now steps.now node left (length tight.now))
-        (IsNext edges.now tight.now steps.now node left (length tight.now)) }
+    requires known { AreKnown edges.now out.now }
+    ensures { MatchOption result (NoneNext edges.now out.now steps.now left (length out.now))
+        (IsNext edges.now out.now steps.now left (length out.now)) }
 {
     let mut best = None;
-    for number in tight {
+    for number in out {
         let edge = edges[*number as usize];
-        if leads_on(edge, steps, node, left) {
+        if leads_on(edge, steps, left) {
             best = nearer(edges, best, *number);
         }
     }
     best
 }
 
-/// Whether an edge leads from a node to one that is so many steps away.
-fn leads_on(edge: Edge, steps: &[Option<u32>], node: u32, left: u32) -> bool
+/// Whether an edge leads to a node that is so many steps away.
+fn leads_on(edge: Edge, steps: &[Option<u32>], left: u32) -> bool
     requires { edge.to < length steps.now }
-    ensures { IsTrue result ↔ (edge.from ≡ node) × (steps_at steps.now edge.to ≡ Some left) }
+    ensures { IsTrue result ↔ (steps_at steps.now edge.to ≡ Some left) }
 {
-    edge.from == node && steps[edge.to as usize] == Some(left)
+    steps[edge.to as usize] == Some(left)
 }
 
 /// The edge that ends at the lesser node, the first one where both end at one.

@@ -1,55 +1,72 @@
 //! How many edges of a list lead at the least from each node to one.
-ghost use Rattle.std.specs.Prelude.{◌≡◌, ◌<◌, ◌≤◌, false, IfOk, MatchBool, length};
+ghost use Rattle.std.specs.Prelude.{◌≡◌, ◌<◌, ◌≤◌, ℕ, List, IfOk, OnOk, MatchBool, None, length, replicate};
 ghost use Rattle.sd_base.specs.declared.limits.TheConstants.{NODES};
 ghost use Rattle.scenario_rate.specs.Graphs.{AreInside};
-ghost use Rattle.scenario_rate.specs.inside.Choosing.{AreKnown, IsDistance, IsSwept, IsBrought, IsFarther, IsWithinOf};
+ghost use Rattle.scenario_rate.specs.declared.by_node.End.TheVariants.{To};
+ghost use Rattle.scenario_rate.specs.inside.ByNode.{AreByNode};
+ghost use Rattle.scenario_rate.specs.inside.Choosing.{AreKnown, IsDistance, IsBrought, IsFarther, IsWithinOf};
+ghost use Rattle.scenario_rate.specs.inside.Spreading.{AreBrought};
 
+use crate::by_node::edges_at;
 use automaton::Edge;
-use sd_base::NoMemory;
+use sd_base::{NoMemory, Rows};
 use std::alloc::Global;
+use std::collections::VecDeque;
 
-/// By node the fewest edges of the list that lead from it to a root; none where none do. Cost: linear in the edges
-/// of the list, for each sweep over them that brings a node nearer.
+/// By node the fewest edges that lead from it to a root, where the edges into each node are listed; none where none do.
+/// A search in breadth: nodes wait in a queue in the order in which they are reached (Moore 1959). Cost: linear in the
+/// nodes, and in the edges into those from which edges lead to the root.
 pub fn distances(
     alloc: Global,
     edges: &[Edge],
-    tight: &[u32],
-    nodes: u32,
+    into: &[Rows<u32>],
     root: u32,
 ) -> Result<Vec<Option<u32>>, NoMemory>
-    requires inside { AreInside edges.now nodes }
-    requires nodes { nodes ≤ NODES }
-    requires known { AreKnown edges.now tight.now }
-    requires root { root < nodes }
-    ensures { IfOk result (λ steps. IsDistance edges.now tight.now nodes root steps.items) }
+    requires inside { AreInside edges.now (length into.now) }
+    requires nodes { length into.now ≤ NODES }
+    requires listed { (list : List ℕ) × AreByNode To edges.now list (length into.now) into.now }
+    requires root { root < length into.now }
+    ensures { IfOk result (λ steps. (list : List ℕ) → AreByNode To edges.now list (length into.now) into.now
+        → IsDistance edges.now list (length into.now) root steps.items) }
 {
-    let mut steps = vec![in alloc; None; nodes as usize]?;
+    let mut steps = no_steps(alloc, into.len())?;
     steps[root as usize] = Some(0);
-    for _ in 0..nodes {
-        if !sweep(edges, tight, steps.as_mut_slice()) {
-            return Ok(steps);
-        }
+    let mut queue = VecDeque::new(alloc);
+    queue.push_back(root)?;
+    'nodes: while let Some(node) = queue.pop_front() {
+        let list = edges_at(into, node);
+        bring_all(edges, list, steps.as_mut_slice(), &mut queue)?;
     }
     Ok(steps)
 }
 
-/// Brings nodes nearer over each edge, and tells whether one was. The last edges come first, since they lead on from
-/// later states.
-fn sweep(edges: &[Edge], tight: &[u32], steps: &mut [Option<u32>]) -> bool
+/// By node no steps.
+fn no_steps(alloc: Global, nodes: usize) -> Result<Vec<Option<u32>>, NoMemory>
+    ensures { IfOk result (λ steps. steps.items ≡ replicate nodes None) }
+{
+    let steps = vec![in alloc; None; nodes]?;
+    Ok(steps)
+}
+
+/// Brings nodes nearer over the edges of a list, and puts those that were into the queue.
+fn bring_all(
+    edges: &[Edge],
+    list: &[u32],
+    steps: &mut [Option<u32>],
+    queue: &mut VecDeque<u32>,
+) -> Result<(), NoMemory>
     requires inside { AreInside edges.now (length steps.old) }
     requires few { length steps.old ≤ NODES }
-    requires known { AreKnown edges.now tight.now }
-    ensures swept { IsSwept edges.now tight.now 0 steps.old steps.new }
-    ensures still { result ≡ false → steps.new ≡ steps.old }
+    requires known { AreKnown edges.now list.now }
+    ensures { OnOk result (AreBrought edges.now list.now (length list.now) steps.old steps.new queue.old.items queue.new.items) }
 {
-    let mut nearer = false;
-    for done in 0..tight.len() {
-        let number = tight[tight.len() - 1 - done];
-        if bring(edges[number as usize], steps) {
-            nearer = true;
+    for number in list {
+        let edge = edges[*number as usize];
+        if bring(edge, steps) {
+            queue.push_back(edge.from)?;
         }
     }
-    nearer
+    Ok(())
 }
 
 /// Brings the start of an edge nearer, if its end is near enough, and tells whether it did.

@@ -2,6 +2,7 @@
 #![tactic(auto)]
 
 mod answer;
+mod by_node;
 mod chosen;
 mod distances;
 mod laws;

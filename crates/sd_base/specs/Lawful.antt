@@ -20,6 +20,18 @@ is_token_role (Own a) = false
 is_token_role (Space c) = false
 is_token_role (Order a b) = false
 
+abbrev pub is_space_role : Role → Bool
+is_space_role (Token c) = false
+is_space_role (Own a) = false
+is_space_role (Space c) = true
+is_space_role (Order a b) = false
+
+abbrev pub is_order_role : Role → Bool
+is_order_role (Token c) = false
+is_order_role (Own a) = false
+is_order_role (Space c) = false
+is_order_role (Order a b) = true
+
 abbrev pub is_own_role : ℕ → Role → Bool
 is_own_role a (Token c) = false
 is_own_role a (Own b) = b == a

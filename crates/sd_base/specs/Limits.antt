@@ -1,8 +1,8 @@
 -- The greatest numbers of quantities.
 use Rattle.std.specs.Prelude.{ℕ}
 use Rattle.sd_base.specs.declared.limits.Quantity.{Quantity}
-use Rattle.sd_base.specs.declared.limits.Quantity.TheVariants.{FileBytes, CertificateBytes, Depth, NameBytes, Actors, Channels, Ports, Phases, Rate, Tokens, Size, Time, Ratio, Round, Starts, Scenarios, AutomatonStates, Nodes, Stamps, Edges, CertificateNumber}
-use Rattle.sd_base.specs.declared.limits.TheConstants.{FILE_BYTES, CERTIFICATE_BYTES, DEPTH, NAME_BYTES, ACTORS, CHANNELS, PORTS, PHASES, RATE, TOKENS, SIZE, TIME, RATIO, ROUND, STARTS, SCENARIOS, AUTOMATON_STATES, NODES, STAMPS, EDGES, CERTIFICATE_NUMBER}
+use Rattle.sd_base.specs.declared.limits.Quantity.TheVariants.{FileBytes, CertificateBytes, Depth, NameBytes, Actors, Channels, Ports, Phases, Rate, Tokens, Size, Time, Ratio, Round, Starts, Scenarios, AutomatonStates, Nodes, Stamps, Edges, OrderPairs, CertificateNumber}
+use Rattle.sd_base.specs.declared.limits.TheConstants.{FILE_BYTES, CERTIFICATE_BYTES, DEPTH, NAME_BYTES, ACTORS, CHANNELS, PORTS, PHASES, RATE, TOKENS, SIZE, TIME, RATIO, ROUND, STARTS, SCENARIOS, AUTOMATON_STATES, NODES, STAMPS, EDGES, ORDER_PAIRS, CERTIFICATE_NUMBER}
 
 -- the greatest number of a quantity
 unfoldable pub greatest_of : Quantity → ℕ
@@ -26,4 +26,5 @@ greatest_of AutomatonStates = AUTOMATON_STATES
 greatest_of Nodes = NODES
 greatest_of Stamps = STAMPS
 greatest_of Edges = EDGES
+greatest_of OrderPairs = ORDER_PAIRS
 greatest_of CertificateNumber = CERTIFICATE_NUMBER

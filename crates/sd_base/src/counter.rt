@@ -1,8 +1,6 @@
 ghost use Rattle.std.specs.Prelude.{◌≡◌, ◌+◌, true, false};
 
 mod number;
-#[cfg(test)]
-mod tests;
 
 use number::Number;
 use std::marker::Model;

@@ -46,6 +46,8 @@ pub enum Quantity {
     Stamps,
     /// Edges of a timed graph.
     Edges,
+    /// Pairs of actors that follow each other in orders.
+    OrderPairs,
     /// A number of a certificate.
     CertificateNumber,
 }
@@ -90,6 +92,8 @@ pub const STAMPS: u64 = 4_000_000;
 
 pub const EDGES: u64 = 65_536;
 
+pub const ORDER_PAIRS: u64 = 128;
+
 pub const CERTIFICATE_NUMBER: u64 = u64::MAX;
 
 /// Channels of a net: those of a graph with the spaces, own channels and order channels that are added to them.
@@ -115,6 +119,11 @@ pub const LEAST_DISTRIBUTIONS: u64 = 1;
 pub const DISTRIBUTIONS: u64 = 1_000_000;
 
 pub const USUAL_DISTRIBUTIONS: u64 = 10_000;
+
+/// The least and the greatest number of rounds that are to be completed.
+pub const LEAST_ROUNDS: u64 = 1;
+
+pub const ROUNDS: u64 = 1_000_000;
 
 /// The memory of all channels together up to which storage distributions are explored.
 pub const STORAGE: u64 = 1_000_000_000;
@@ -160,6 +169,7 @@ impl Quantity {
             Quantity::Nodes => NODES,
             Quantity::Stamps => STAMPS,
             Quantity::Edges => EDGES,
+            Quantity::OrderPairs => ORDER_PAIRS,
             Quantity::CertificateNumber => CERTIFICATE_NUMBER,
         }
     }

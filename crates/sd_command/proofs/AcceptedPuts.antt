@@ -18,17 +18,16 @@ use Rattle.sd_command.specs.declared.answer.Answer.{Answer}
 use Rattle.sd_command.specs.declared.file_kind.FileKind.TheVariants as files
 use Rattle.sd_command.specs.AcceptedCertificates.{Accepts, Asks, PutsAreAccepted}
 use Rattle.sd_command.specs.Balances.{balancing}
-use Rattle.sd_command.specs.CertificateReadings.{reading_certificate}
+use Rattle.sd_command.specs.CertificateReadings.{opening_certificate}
 use Rattle.sd_command.specs.Certifyings.{text_of}
 use Rattle.sd_command.specs.Checks.{checked, judging}
-use Rattle.sd_command.specs.Courses.{Step, Ending, Answered, Refused, Ended, Failed, Lacking, After, ends_by, refused, failed, lacking, passed}
-use Rattle.sd_command.specs.Endings.{IsCutOff}
+use Rattle.sd_command.specs.Courses.{Step, Ending, Answered, Refused, Ended, Failed, Lacking, After, ends_by, refused, failed, lacking, passed, IsCutOff}
 use Rattle.sd_command.specs.PutCertificates.{PutsValidRate, PutsValidTradeOff, PutsValidWorst}
 use Rattle.sd_command.specs.Readings.{reading_graph}
 use Rattle.sd_command.specs.Requests.{asking, command_of, course_of}
 use Rattle.sd_command.specs.ScenarioSteps.{reading_scenarios, timing}
 use Rattle.sd_command.specs.Takings.{Files, taking}
-use Rattle.sd_command.proofs.CertificateSteps.{reading_certificate_determines}
+use Rattle.sd_command.proofs.CertificateSteps.{opening_certificate_determines}
 use Rattle.sd_command.proofs.CommandsDecide.{Determines}
 use Rattle.sd_command.proofs.OneWorst.{ScenarioLaws, reading_file_determines, timing_determines}
 use Rattle.sd_command.proofs.SharedSteps.{FileLaws, asking_determines, balancing_determines, reading_determines, taking_determines}
@@ -60,8 +59,7 @@ module _ (shelf : Files) (name put : List ℕ) (answer : Answer) (words : List (
   course-accepts rest =
       goes-on (asking words) (λ request. command_of request later) faulty holds (asking_determines words) (Check name put) asks.asked
       (goes-on (taking later files.Graph name) _ faulty holds (taking_determines later asks.tells files.Graph name) bytes (record { fits = fits; told = λ told. asks.same ∙ there })
-      (goes-on (taking later files.Certificate put) _ faulty holds (taking_determines later asks.tells files.Certificate put) (text_of c) (record { fits = short; told = λ told. asks.there _ file })
-      (goes-on (reading_certificate (text_of c)) _ faulty holds (reading_certificate_determines (text_of c)) (2, c) read rest)))
+      (goes-on (opening_certificate later put) _ faulty holds (opening_certificate_determines later asks.tells put) (2, c) (text_of c, record { fits = short; told = λ told. asks.there _ file }, read) rest))
 
 module _ (laws : FileLaws) where
   -- the verdict on a certificate for a graph

@@ -1,5 +1,5 @@
 -- The words and files decide the steps on certificates, and the verdict.
-use Rattle.std.proofs.Common.{◌≡◌, ℕ, ◌≤◌, ◌<◌, ◌⊎◌, inl, inr, List, length, Result, Ok, Err, refl, sym, ap, ap₂, subst, ◌∙◌, arith}
+use Rattle.std.proofs.Common.{◌≡◌, ℕ, ◌≤◌, ◌<◌, ◌⊎◌, inl, inr, true, List, length, Result, Ok, Err, refl, sym, ap, ap₂, subst, ◌∙◌, arith}
 use Rattle.std.specs.Prelude.{◌==◌, if◌then◌else◌}
 use Rattle.cert_text.specs.declared.certificates.Certificate.{Certificate}
 use Rattle.cert_text.specs.declared.error.CertError.{CertError}
@@ -13,22 +13,24 @@ use Rattle.cert_checker.specs.declared.verdict.Claim.{Claim}
 use Rattle.cert_checker.specs.declared.verdict.Reason.{Reason}
 use Rattle.cert_checker.specs.declared.verdict.Reason.TheVariants as reasons
 use Rattle.cert_checker.specs.declared.verdict.Verdict.{Verdict}
-use Rattle.cert_checker.specs.declared.verdict.Verdict.TheVariants as verdicts
 use Rattle.cert_checker.specs.Verdicts.{IsFirst, IsVerdict, rank_of}
 use Rattle.report.specs.declared.refusal.Refusal.{Refusal}
 use Rattle.report.specs.declared.refusal.Refusal.TheVariants.{Rejected}
 use Rattle.sd_command.specs.declared.answer.Answer.{Answer}
-use Rattle.sd_command.specs.declared.answer.Put.{Put}
 use Rattle.sd_command.specs.declared.file_kind.FileKind.{FileKind}
+use Rattle.sd_command.specs.declared.file_kind.FileKind.TheVariants as kinds
+use Rattle.sd_command.specs.Takings.{Files, taking}
 use Rattle.sd_command.specs.declared.stop.Stop.{Stop}
 use Rattle.sd_command.specs.declared.stop.Stop.TheVariants as stop
-use Rattle.sd_command.specs.CertificateReadings.{certificate_refusal, reading_certificate}
+use Rattle.sd_command.specs.CertificateReadings.{certificate_refusal, opening_certificate, reading_certificate}
 use Rattle.sd_command.specs.Certifyings.{certifying}
-use Rattle.sd_command.specs.Checks.{IsAccepted, IsRejected, judging, reason_word}
+use Rattle.sd_command.specs.Checks.{IsRejected, judging, reason_word}
 use Rattle.sd_command.specs.Courses.{Answered, Refused, Lacking, ends_by}
 use Rattle.sd_command.specs.inside.Going.{Goes}
 use Rattle.sd_command.specs.inside.Verdicts.{Tells}
 use Rattle.sd_command.proofs.CommandsDecide.{Determines, DecidesLast}
+use Rattle.sd_command.proofs.SharedSteps.{taking_determines}
+use Rattle.sd_command.proofs.Throughs.{through_determines}
 
 -- what a reading gives
 abbrev Reading : Type 0
@@ -49,6 +51,10 @@ reading_certificate_determines bytes = record {
   refusal = λ r s is also. is.told ∙ ap (λ (e : CertError). certificate_refusal e) (one_error (reading_of bytes) is.error also.error is.first also.first) ∙ sym also.told;
   never = λ r a is read. no_error (reading_of bytes) is.error a is.first read;
 }
+
+pub opening_certificate_determines : (shelf : Files) → shelf.tells ≡ true → (name : List ℕ) → Determines (opening_certificate shelf name)
+opening_certificate_determines shelf tells name =
+    through_determines (taking shelf kinds.Certificate name) (λ bytes. reading_certificate bytes) (taking_determines shelf tells kinds.Certificate name) (λ bytes taken. reading_certificate_determines bytes)
 
 pub certifying_determines : (kind : FileKind) (name : List ℕ) (c : Certificate) → Determines (certifying kind name c)
 certifying_determines kind name c = record {

@@ -2,8 +2,7 @@
 use Rattle.std.proofs.Common.{◌≡◌, ℕ, ◌⊎◌, inl, inr, sym, ap, subst, ◌∙◌}
 use Rattle.report.specs.declared.refusal.Refusal.{Refusal}
 use Rattle.sd_command.specs.declared.answer.Answer.{Answer}
-use Rattle.sd_command.specs.Courses.{Step, Ending, Answered, Refused, Ended, Failed, Lacking, After, Analysis, ends_by, refused, failed, lacking, passed}
-use Rattle.sd_command.specs.Endings.{IsCutOff}
+use Rattle.sd_command.specs.Courses.{Step, Ending, Answered, Refused, Ended, Failed, Lacking, After, Analysis, ends_by, refused, failed, lacking, passed, IsCutOff}
 
 -- a step passes on one value, or has one refusal
 pub record Determines {A : Type 0} (step : Step A) : Type 0 where
@@ -14,6 +13,14 @@ pub record Determines {A : Type 0} (step : Step A) : Type 0 where
 -- a command that has a refusal ends by it, unless it is cut off
 abbrev pub Decides : (Ending → ℕ → Type 0) → Type 0
 Decides command = (r : Refusal) (n m : ℕ) (ending : Ending) → command (Refused r) n → command ending m → IsCutOff ending ⊎ ((ending ≡ Refused r) × (m ≡ n))
+
+-- an ending that no step comes to: an answer, an end by a limit, or a refusal after executions
+abbrev pub IsPast : Ending → ℕ → Type 0
+IsPast (Answered answer) n = Unit {0}
+IsPast (Refused refusal) n = n ≡ 0 → ⊥
+IsPast (Ended refusal) n = Unit {0}
+IsPast (Failed refusal) n = ⊥
+IsPast Lacking n = ⊥
 
 module _ {A : Type 0} (step : Step A) (next : A → Ending → ℕ → Type 0) where
   -- a step that determines, and then what decides
@@ -31,26 +38,16 @@ module _ {A : Type 0} (step : Step A) (next : A → Ending → ℕ → Type 0) w
   after_decides d rest r n m ending (passed a is came) (passed b also came') =
       rest a is r n m ending came (subst (λ (x : A). next x ending m) (d.one b a also is) came')
 
-  -- a command that is refused after executions has passed the step
-  pub passes_on : (r : Refusal) (n : ℕ) → (n ≡ 0 → ⊥) → After step next (Refused r) n → (a : A) × step.passes a × next a (Refused r) n
-  passes_on r n late (refused s is e none) = absurd (late none)
-  passes_on r n late (failed s is e none) = absurd (late none)
-  passes_on r n late (lacking e none) = absurd (late none)
-  passes_on r n late (passed a is came) = (a, is, came)
-
-  -- one that is answered has passed it too
-  pub answers_on : (answer : Answer) (n : ℕ) → After step next (Answered answer) n → (a : A) × step.passes a × next a (Answered answer) n
-  answers_on answer n (refused s is e none) = absurd (cc)
-  answers_on answer n (failed s is e none) = absurd (cc)
-  answers_on answer n (lacking e none) = absurd (cc)
-  answers_on answer n (passed a is came) = (a, is, came)
+  -- a command that ends past its first steps has passed this one
+  pub goes_past : (ending : Ending) (n : ℕ) → IsPast ending n → After step next ending n → (a : A) × step.passes a × next a ending n
+  goes_past ending n past (refused r is e none) = absurd (subst (λ (x : Ending). IsPast x n) e past none)
+  goes_past ending n past (failed r is e none) = absurd (subst (λ (x : Ending). IsPast x n) e past)
+  goes_past ending n past (lacking e none) = absurd (subst (λ (x : Ending). IsPast x n) e past)
+  goes_past ending n past (passed a is came) = (a, is, came)
 
   -- what nothing that follows can end, nothing ends
   pub never_ends : (r : Refusal) (n : ℕ) → ((a : A) → step.passes a → next a (Ended r) n → ⊥) → After step next (Ended r) n → ⊥
-  never_ends r n rest (refused s is e none) = absurd (cc)
-  never_ends r n rest (failed s is e none) = absurd (cc)
-  never_ends r n rest (lacking e none) = absurd (cc)
-  never_ends r n rest (passed a is came) = rest a is came
+  never_ends r n rest ended = let past = goes_past (Ended r) n tt ended in rest past.0 past.1 past.2
 
 -- what the last part of a command decides
 pub record DecidesLast (a : Analysis) : Type 0 where

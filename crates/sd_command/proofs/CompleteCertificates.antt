@@ -1,24 +1,23 @@
 -- Runs of `check` and of `convert` are done where nothing refuses them.
-use Rattle.std.proofs.Common.{◌≡◌, ℕ, true, List, Ok, subst}
+use Rattle.std.proofs.Common.{◌≡◌, ℕ, true, List, Ok}
 use Rattle.cert_text.specs.declared.certificates.Certificate.{Certificate}
 use Rattle.cert_text.specs.declared.certificates.Certificate.TheVariants as certificates
-use Rattle.sd_words.specs.declared.request.Request.{Request}
 use Rattle.sd_words.specs.declared.request.Request.TheVariants.{Check, Convert}
 use Rattle.sd_words.specs.Asked.{request_of}
 use Rattle.report.specs.declared.refusal.Refusal.{Refusal}
 use Rattle.sd_command.specs.declared.file_kind.FileKind.TheVariants as files
 use Rattle.sd_command.specs.Balances.{balancing}
-use Rattle.sd_command.specs.CertificateReadings.{reading_certificate}
+use Rattle.sd_command.specs.CertificateReadings.{opening_certificate}
 use Rattle.sd_command.specs.Certifyings.{certifying}
 use Rattle.sd_command.specs.Checks.{checked}
 use Rattle.sd_command.specs.Courses.{Ended}
 use Rattle.sd_command.specs.Endings.{CheckIsComplete, ConvertIsComplete}
 use Rattle.sd_command.specs.Readings.{reading_graph}
-use Rattle.sd_command.specs.Requests.{asking, command_of, course_of}
+use Rattle.sd_command.specs.Requests.{course_of}
 use Rattle.sd_command.specs.ScenarioSteps.{reading_scenarios, timing}
 use Rattle.sd_command.specs.Takings.{Files, taking}
 use Rattle.sd_command.proofs.CommandsDecide.{never_ends}
-use Rattle.sd_command.proofs.Complete.{one_request}
+use Rattle.sd_command.proofs.Requested.{of_request}
 use Rattle.sd_command.proofs.Ended.{else_is_done}
 
 -- nothing ends a check but what words and files decide
@@ -35,19 +34,17 @@ unended_check version (certificates.Scenario c) bytes r n =
 
 module _ (words : List (List ℕ)) (shelf : Files) (r : Refusal) (n : ℕ) where
   check_never_ends : (graph certificate : List ℕ) → request_of words ≡ Ok (Check graph certificate) → course_of words shelf (Ended r) n → ⊥
-  check_never_ends graph certificate asked = never_ends (asking words) _ r n (λ q also ends.
+  check_never_ends graph certificate asked ended =
       never_ends (taking shelf files.Graph graph) _ r n (λ bytes taken.
-      never_ends (taking shelf files.Certificate certificate) _ r n (λ text took.
-      never_ends (reading_certificate text) _ r n (λ read is.
-      unended_check read.0 read.1 bytes r n)))
-      (subst (λ (q : Request). command_of q shelf (Ended r) n) (one_request words q (Check graph certificate) also asked) ends))
+      never_ends (opening_certificate shelf certificate) _ r n (λ read opened.
+      unended_check read.0 read.1 bytes r n))
+      (of_request words shelf (Check graph certificate) asked (Ended r) n tt ended)
 
   convert_never_ends : (certificate output : List ℕ) → request_of words ≡ Ok (Convert certificate output) → course_of words shelf (Ended r) n → ⊥
-  convert_never_ends certificate output asked = never_ends (asking words) _ r n (λ q also ends.
-      never_ends (taking shelf files.Certificate certificate) _ r n (λ bytes taken.
-      never_ends (reading_certificate bytes) _ r n (λ read is.
-      never_ends (certifying files.Output output read.1) _ r n (λ put made end. end)))
-      (subst (λ (q : Request). command_of q shelf (Ended r) n) (one_request words q (Convert certificate output) also asked) ends))
+  convert_never_ends certificate output asked ended =
+      never_ends (opening_certificate shelf certificate) _ r n (λ read opened.
+      never_ends (certifying files.Output output read.1) _ r n (λ put made end. end))
+      (of_request words shelf (Convert certificate output) asked (Ended r) n tt ended)
 
 pub check_is_complete : CheckIsComplete
 check_is_complete run cut graph certificate good asked unrefused =

@@ -1,5 +1,5 @@
 -- A run of `generate` whose limits are enough is done.
-use Rattle.std.proofs.Common.{◌≡◌, ℕ, true, List, Ok, subst}
+use Rattle.std.proofs.Common.{◌≡◌, ℕ, true, List, Ok}
 use Rattle.sd_base.specs.declared.tables.GraphFile.{GraphFile}
 use Rattle.sd_base.specs.Net.{Net}
 use Rattle.sd_base.specs.FileNet.{net_of}
@@ -9,7 +9,6 @@ use Rattle.explore.proofs.Explorable.{touched-explorable}
 use Rattle.gen_graph.specs.MadeGraphs.{made_graph}
 use Rattle.gen_graph.proofs.MadeTables.{made_keeps, made_timed}
 use Rattle.sd_words.proofs.Within.{asked_within}
-use Rattle.sd_words.specs.declared.request.Request.{Request}
 use Rattle.sd_words.specs.declared.request.Request.TheVariants.{Generate}
 use Rattle.sd_words.specs.Asked.{request_of}
 use Rattle.balance.specs.Repetition.{IsRound}
@@ -19,10 +18,10 @@ use Rattle.sd_command.specs.Takings.{Files}
 use Rattle.sd_command.specs.Balances.{balancing}
 use Rattle.sd_command.specs.Nets.{touching, completing}
 use Rattle.sd_command.specs.Generations.{usual_limits}
-use Rattle.sd_command.specs.Requests.{asking, command_of, course_of}
+use Rattle.sd_command.specs.Requests.{course_of}
 use Rattle.sd_command.specs.Endings.{GenerateIsComplete, Suffice}
 use Rattle.sd_command.proofs.CommandsDecide.{never_ends}
-use Rattle.sd_command.proofs.Complete.{one_request}
+use Rattle.sd_command.proofs.Requested.{of_request}
 use Rattle.storage.proofs.FileConnections.{file-connected, file-few}
 use Rattle.sd_command.proofs.OneTradeOff.{unspent}
 use Rattle.sd_command.proofs.SharedSteps.{FileLaws}
@@ -32,18 +31,17 @@ module _ (laws : FileLaws) (words : List (List ℕ)) (shelf : Files) (seed limit
   -- nothing ends it but what words and files decide
   unended : ((gamma : List ℕ) → IsRound (made_graph seed actors) gamma → Suffice (net_of (made_graph seed actors) gamma true) (usual_limits limit))
       → (r : Refusal) (n : ℕ) → course_of words shelf (Ended r) n → ⊥
-  unended enough r n =
+  unended enough r n ended =
       let graph : GraphFile = made_graph seed actors in
       let within = asked_within words (Generate seed limit actors) asked in
       let keeps = made_keeps seed actors within.1.0 within.1.1 in
-      never_ends (asking words) _ r n (λ q also ends.
       never_ends (balancing graph) _ r n (λ gamma round.
       never_ends (touching graph (net_of graph gamma true)) _ r n (λ a touched.
       never_ends (completing graph (net_of graph gamma true)) _ r n (λ b live end.
       let net : Net = net_of graph gamma true in
       let can : IsExplorable net = touched-explorable net (file-plain graph gamma true) (file-connected graph gamma true round.balanced.connected) touched (file-few graph gamma true keeps) in
       unspent graph net laws.nets (laws.lawful graph gamma true keeps (made_timed seed actors) round.least round.fits) can (usual_limits limit) within.0 (enough gamma round) r end.1)))
-      (subst (λ (q : Request). command_of q shelf (Ended r) n) (one_request words q (Generate seed limit actors) also asked) ends))
+      (of_request words shelf (Generate seed limit actors) asked (Ended r) n tt ended)
 
 pub generate_is_complete : FileLaws → GenerateIsComplete
 generate_is_complete laws run cut seed limit actors good asked unrefused enough =

@@ -1,5 +1,5 @@
 -- A run of `storage` whose limits are enough is done.
-use Rattle.std.proofs.Common.{◌≡◌, ℕ, Bool, true, List, Option, Some, Ok, ⊎_elim, subst}
+use Rattle.std.proofs.Common.{◌≡◌, ℕ, Bool, true, List, Option, Some, Ok, ⊎_elim}
 use Rattle.sd_base.specs.declared.tables.GraphFile.{GraphFile}
 use Rattle.sd_base.specs.declared.limits.Limits.{Limits}
 use Rattle.sd_base.specs.Net.{Net}
@@ -9,25 +9,24 @@ use Rattle.explore.specs.Explorations.{CountsFew}
 use Rattle.explore.specs.Reachable.{IsExplorable}
 use Rattle.explore.proofs.Explorable.{touched-explorable}
 use Rattle.sd_words.proofs.Within.{asked_within}
-use Rattle.sd_words.specs.declared.request.Request.{Request}
 use Rattle.sd_words.specs.declared.request.Request.TheVariants.{Storage}
 use Rattle.sd_words.specs.Asked.{request_of}
 use Rattle.graph_reader.specs.Laws as files
 use Rattle.balance.specs.Repetition.{IsRound}
 use Rattle.report.specs.declared.refusal.Refusal.{Refusal}
-use Rattle.sd_command.specs.declared.file_kind.FileKind.TheVariants.{Graph}
 use Rattle.sd_command.specs.Courses.{Ended}
-use Rattle.sd_command.specs.Takings.{Files, taking}
-use Rattle.sd_command.specs.Readings.{reading_graph}
+use Rattle.sd_command.specs.Takings.{Files}
+use Rattle.sd_command.specs.Readings.{opening_graph}
 use Rattle.sd_command.specs.Balances.{balancing}
 use Rattle.sd_command.specs.Nets.{touching, completing}
-use Rattle.sd_command.specs.Requests.{asking, command_of, course_of}
+use Rattle.sd_command.specs.Requests.{course_of}
 use Rattle.sd_command.specs.Endings.{PointCertificatesFit, StorageIsComplete, Suffice}
 use Rattle.sd_command.specs.PointAnswers.{ArePointsTooLong, IsExplorationEnd}
 use Rattle.sd_command.specs.declared.wanted.WantedPoints.{WantedPoints}
 use Rattle.sd_command.proofs.CommandsDecide.{never_ends}
 use Rattle.storage.proofs.FileConnections.{file-connected, file-few}
-use Rattle.sd_command.proofs.Complete.{one_request, short-enough}
+use Rattle.sd_command.proofs.Complete.{short-enough}
+use Rattle.sd_command.proofs.Requested.{of_request}
 use Rattle.sd_command.proofs.OneTradeOff.{unspent}
 use Rattle.sd_command.proofs.SharedSteps.{FileLaws, lawful_net}
 use Rattle.sd_command.proofs.Ended.{else_is_done}
@@ -39,21 +38,20 @@ module _ (laws : FileLaws) (words : List (List ℕ)) (shelf : Files) (tells : sh
   -- nothing ends it but what words and files decide
   unended : ((bytes gamma : List ℕ) (graph : GraphFile) → shelf.named name ≡ Some bytes → files.Gives bytes true graph → IsRound graph gamma → Suffice (net_of graph gamma no_overlap) limits × PointCertificatesFit (net_of graph gamma no_overlap) wanted)
       → (r : Refusal) (n : ℕ) → course_of words shelf (Ended r) n → ⊥
-  unended enough r n = never_ends (asking words) _ r n (λ q also ends.
-      never_ends (taking shelf Graph name) _ r n (λ bytes taken.
-      never_ends (reading_graph bytes true) _ r n (λ graph given.
+  unended enough r n ended =
+      never_ends (opening_graph shelf name true) _ r n (λ graph opened.
       never_ends (balancing graph) _ r n (λ gamma round.
       never_ends (touching graph (net_of graph gamma no_overlap)) _ r n (λ a touched.
       never_ends (completing graph (net_of graph gamma no_overlap)) _ r n (λ b live end.
       let net : Net = net_of graph gamma no_overlap in
-      let can : IsExplorable net = touched-explorable net (file-plain graph gamma no_overlap) (file-connected graph gamma no_overlap round.balanced.connected) touched (file-few graph gamma no_overlap (laws.keeps bytes true graph given)) in
-      let fit = enough bytes gamma graph (taken.told tells) given round in
+      let can : IsExplorable net = touched-explorable net (file-plain graph gamma no_overlap) (file-connected graph gamma no_overlap round.balanced.connected) touched (file-few graph gamma no_overlap (laws.keeps opened.0 true graph opened.2)) in
+      let fit = enough opened.0 gamma graph (opened.1.told tells) opened.2 round in
       ⊎_elim
       (λ (spent : CountsFew net limits 0 n × IsExplorationEnd graph net limits r).
-      unspent graph net laws.nets (lawful_net laws bytes graph gamma no_overlap given round) can limits (asked_within words (Storage name limits no_overlap certificate) asked).total fit.0 r spent.1)
+      unspent graph net laws.nets (lawful_net laws opened.0 graph gamma no_overlap opened.2 round) can limits (asked_within words (Storage name limits no_overlap certificate) asked).total fit.0 r spent.1)
       (λ (long : ArePointsTooLong net wanted r n). short-enough certificate _ r (fit.1 long.members long.points long.schedules long.shown) long.long)
-      end)))))
-      (subst (λ (q : Request). command_of q shelf (Ended r) n) (one_request words q (Storage name limits no_overlap certificate) also asked) ends))
+      end))))
+      (of_request words shelf (Storage name limits no_overlap certificate) asked (Ended r) n tt ended)
 
 pub storage_is_complete : FileLaws → StorageIsComplete
 storage_is_complete laws run cut name limits no_overlap certificate good asked unrefused enough =

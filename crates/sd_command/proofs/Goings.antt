@@ -1,5 +1,5 @@
 -- From what steps do to how a command goes.
-use Rattle.std.proofs.Common.{◌≡◌, ℕ, ◌-◌, Bool, List, Option, None, Result, Ok, Err, refl, sym, ap, subst, ◌∙◌, inl, inr, arith}
+use Rattle.std.proofs.Common.{◌≡◌, ℕ, ◌-◌, Bool, List, Option, Result, Ok, Err, refl, ap, subst, ◌∙◌, inl, inr, arith}
 use Rattle.sd_base.specs.declared.tables.GraphFile.{GraphFile}
 use Rattle.sd_base.specs.declared.limits.Limits.{Limits}
 use Rattle.sd_base.specs.Net.{Net}
@@ -13,19 +13,17 @@ use Rattle.sd_command.specs.declared.stop.Stop.{Stop}
 use Rattle.sd_command.specs.declared.stop.Stop.TheVariants as stop
 use Rattle.sd_command.specs.declared.wanted.WantedPoints.{WantedPoints}
 use Rattle.sd_command.specs.declared.wanted.WantedRate.{WantedRate}
+use Rattle.sd_command.specs.declared.wanted.WantedRounds.{WantedRounds}
+use Rattle.completion.specs.declared.least_time.Completion.{Completion}
+use Rattle.completion.specs.Completions.{HasLoopWithin, IsCompletionOf}
+use Rattle.sd_command.specs.LeastTimes.{IsTimeAnswer, completion}
 use Rattle.sd_command.specs.Courses.{Step, deciding, Ending, Answered, Refused, Ended, Failed, Lacking, After, ends_by, printing, refused, failed, lacking, passed}
-use Rattle.graph_reader.specs.Laws.{Gives}
-use Rattle.sd_command.specs.declared.file_kind.FileKind.{FileKind}
-use Rattle.sd_command.specs.declared.file_kind.FileKind.TheVariants.{Graph}
-use Rattle.sd_command.specs.Takings.{Files, IsTaken, taking}
-use Rattle.sd_command.specs.Readings.{reading_graph}
+use Rattle.sd_command.specs.Takings.{Files}
 use Rattle.sd_command.specs.RateAnswers.{IsRateAnswer, IsRateTooLong, IsRunRefusal, execution}
 use Rattle.sd_command.specs.PointAnswers.{ArePointsTooLong, IsExplorationEnd, IsPointsAnswer, exploration}
 use Rattle.automaton.specs.declared.graph.TimedGraph.{TimedGraph}
 use Rattle.sd_command.specs.WorstAnswers.{IsWorstAnswer, IsWorstTooLong, telling_worst}
 use Rattle.sd_base.specs.declared.tables.ScenarioFile.{ScenarioFile}
-use Rattle.scenario_reader.specs.ScenarioFiles.{GivesFile}
-use Rattle.sd_command.specs.ScenarioSteps.{reading_scenarios}
 use Rattle.sd_command.specs.Runs.{Counted}
 use Rattle.sd_command.specs.inside.Going.{Does, Takes, Goes}
 
@@ -57,6 +55,19 @@ module _ (graph : GraphFile) (net : Net) (ds : List (Option ℕ)) (wanted : Want
   run_answers (Ok answer) is = record { ending = Answered answer; is = refl; came = (one, is); counted = refl }
   run_answers (Err (stop.Refused refusal)) is = record { ending = Ended refusal; is = refl; came = (one, is); counted = refl }
   run_answers (Err stop.OutOfMemory) is = record { ending = Lacking; is = refl; came = omega arith; counted = refl }
+
+module _ (graph : GraphFile) (net : Net) (wanted : WantedRounds) (n : ℕ) (one : n ≡ 1) (faults : ℕ) where
+  -- an execution for rounds stops, answers with their least time, or lacks memory
+  pub time_stops : (why : Stop) → Does (deciding (λ (c : Completion). IsCompletionOf net wanted.rounds c × HasLoopWithin net wanted.states) (IsRunRefusal net wanted.states)) (Err why)
+      → Goes (ends_by (completion graph net wanted)) (Err why) n faults faults
+  time_stops (stop.Refused refusal) is = record { ending = Refused refusal; is = refl; came = (one, is); counted = refl }
+  time_stops stop.OutOfMemory is = record { ending = Lacking; is = refl; came = omega arith; counted = refl }
+
+  pub time_answers : (answer : Answer) → IsTimeAnswer graph net wanted answer → Goes (ends_by (completion graph net wanted)) (Ok answer) n faults faults
+  time_answers answer is = record { ending = Answered answer; is = refl; came = (one, is); counted = refl }
+
+  pub time_lacks : Goes (ends_by (completion graph net wanted)) (Err stop.OutOfMemory) n faults faults
+  time_lacks = record { ending = Lacking; is = refl; came = omega arith; counted = refl }
 
 module _ (graph : GraphFile) (net : Net) (wanted : WantedPoints) (n faults : ℕ) where
   -- an exploration stops
@@ -98,61 +109,16 @@ same_shelf before after tells named =
     let everywhere : after.named ≡ before.named = λ i. λ name. named name i in
     ap (λ (t : Bool). made t after.named) tells ∙ ap (λ (f : List ℕ → Option (List ℕ)). made before.tells f) everywhere
 
--- so another file is taken from it as before
-pub takes_after : (before after : Files) → after.tells ≡ before.tells → ((name : List ℕ) → after.named name ≡ before.named name) → (kind : FileKind) (name : List ℕ) (result : Result (List ℕ) Stop)
-    (faults faults' : ℕ) → Takes (taking after kind name) result faults faults' → Takes (taking before kind name) result faults faults'
-takes_after before after tells named kind name result faults faults' =
-    subst (λ (files : Files). Takes (taking files kind name) result faults faults') (same_shelf before after tells named)
+-- so a step on such files takes what it takes on those of before
+pub takes_after : {A : Type 0} (before after : Files) → after.tells ≡ before.tells → ((name : List ℕ) → after.named name ≡ before.named name) → (step : Files → Step A) (result : Result A Stop)
+    (faults faults' : ℕ) → Takes (step after) result faults faults' → Takes (step before) result faults faults'
+takes_after before after tells named step result faults faults' =
+    subst (λ (files : Files). Takes (step files) result faults faults') (same_shelf before after tells named)
 
 -- what a command does with bytes it does with the same bytes
 pub same_bytes : (command : List ℕ → Ending → ℕ → Type 0) (bytes shown : List ℕ) (result : Result Answer Stop) (n faults faults' : ℕ) → shown ≡ bytes
     → Goes (command shown) result n faults faults' → Goes (command bytes) result n faults faults'
 same_bytes command bytes shown result n faults faults' same goes = subst (λ (b : List ℕ). Goes (command b) result n faults faults') same goes
-
--- nothing more was counted
-pub same_count : (command : Ending → ℕ → Type 0) (result : Result Answer Stop) (n faults faults' : ℕ) → faults' ≡ faults
-    → Goes command result n faults faults → Goes command result n faults faults'
-same_count command result n faults faults' same goes = subst (λ (f : ℕ). Goes command result n faults f) (sym same) goes
-
--- Commands that begin by taking and reading a graph file.
-module _ (files : Files) (name : List ℕ) (times : Bool) (rest : GraphFile → Ending → ℕ → Type 0) where
-  abbrev of_bytes : List ℕ → Ending → ℕ → Type 0
-  of_bytes bytes = After (reading_graph bytes times) (λ graph. rest graph)
-
-  abbrev pub of_file : Ending → ℕ → Type 0
-  of_file = After (taking files Graph name) (λ bytes. of_bytes bytes)
-
-  module _ (bytes shown : List ℕ) (n faults faults' : ℕ) (took : IsTaken files Graph name bytes × (faults' ≡ faults)) (same : shown ≡ bytes) where
-    from_bytes : (result : Result Answer Stop) → Goes (of_bytes shown) result n faults faults → Goes of_file result n faults faults'
-    from_bytes result goes =
-        same_count of_file result n faults faults' took.1
-        (goes_on (taking files Graph name) (λ b. of_bytes b) bytes result n faults faults took.0 (subst (λ (b : List ℕ). Goes (of_bytes b) result n faults faults) same goes))
-
-    pub reading_stops : (why : Stop) → n ≡ 0 → Does (reading_graph shown times) (Err why) → Goes of_file (Err why) n faults faults'
-    reading_stops why none is = from_bytes (Err why) (step_stops (reading_graph shown times) (λ graph. rest graph) n none why faults is)
-
-    pub read_goes : (graph : GraphFile) (result : Result Answer Stop) → Gives shown times graph → Goes (rest graph) result n faults faults → Goes of_file result n faults faults'
-    read_goes graph result read goes = from_bytes result (goes_on (reading_graph shown times) (λ g. rest g) graph result n faults faults read goes)
-
--- The command that begins by taking and reading a file of scenarios.
-module _ (files : Files) (name : List ℕ) (rest : ScenarioFile → Ending → ℕ → Type 0) where
-  abbrev of_file_bytes : List ℕ → Ending → ℕ → Type 0
-  of_file_bytes bytes = After (reading_scenarios bytes) (λ file. rest file)
-
-  abbrev pub of_scenario_file : Ending → ℕ → Type 0
-  of_scenario_file = After (taking files Graph name) (λ bytes. of_file_bytes bytes)
-
-  module _ (bytes shown : List ℕ) (n faults faults' : ℕ) (took : IsTaken files Graph name bytes × (faults' ≡ faults)) (same : shown ≡ bytes) where
-    from_file_bytes : (result : Result Answer Stop) → Goes (of_file_bytes shown) result n faults faults → Goes of_scenario_file result n faults faults'
-    from_file_bytes result goes =
-        same_count of_scenario_file result n faults faults' took.1
-        (goes_on (taking files Graph name) (λ b. of_file_bytes b) bytes result n faults faults took.0 (subst (λ (b : List ℕ). Goes (of_file_bytes b) result n faults faults) same goes))
-
-    pub file_stops : (why : Stop) → n ≡ 0 → Does (reading_scenarios shown) (Err why) → Goes of_scenario_file (Err why) n faults faults'
-    file_stops why none is = from_file_bytes (Err why) (step_stops (reading_scenarios shown) (λ file. rest file) n none why faults is)
-
-    pub file_goes : (file : ScenarioFile) (result : Result Answer Stop) → GivesFile shown file → Goes (rest file) result n faults faults → Goes of_scenario_file result n faults faults'
-    file_goes file result read goes = from_file_bytes result (goes_on (reading_scenarios shown) (λ f. rest f) file result n faults faults read goes)
 
 -- the answer of a file of scenarios, by its timed graph: it is told, or its certificate is too long
 pub worst_told : (file : ScenarioFile) (certificate : Option (List ℕ)) (graph : TimedGraph) (result : Result Answer Stop) (faults : ℕ)

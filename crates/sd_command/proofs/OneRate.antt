@@ -20,13 +20,17 @@ use Rattle.lasso.specs.LoopAnswers.{IsFound, IsStatesSpent, IsTooManyStarts}
 use Rattle.report.specs.declared.refusal.Refusal.{Refusal}
 use Rattle.report.specs.declared.refusal.Refusal.TheVariants.{OneWay, NoInput, Deadlock}
 use Rattle.sd_command.specs.declared.wanted.WantedRate.{WantedRate}
+use Rattle.sd_command.specs.declared.wanted.WantedRounds.{WantedRounds}
+use Rattle.sd_command.specs.LeastTimes.{completion}
 use Rattle.sd_command.specs.ActorNames.{actor_shown}
 use Rattle.report.specs.LackTexts.{lacks_list}
-use Rattle.sd_command.specs.Nets.{IsFed, joining, feeding, completing}
-use Rattle.sd_command.specs.RateAnswers.{IsRunRefusal, states_spent, too_many_starts, execution, rate_of}
+use Rattle.sd_command.specs.Courses.{Analysis, through}
+use Rattle.sd_command.specs.Nets.{IsFed, joining, feeding, completing, on_live, testing}
+use Rattle.sd_command.specs.RateAnswers.{IsRunRefusal, states_spent, too_many_starts, execution}
 use Rattle.sd_command.specs.Endings.{Repeats}
 use Rattle.sd_command.proofs.Joins.{fed-inputs}
 use Rattle.sd_command.proofs.CommandsDecide.{Determines, Decides, DecidesLast, after_decides, last_decides}
+use Rattle.sd_command.proofs.Throughs.{through_determines}
 
 -- what is known of nets: ending counts are one, no counts block a live net, and an execution has one ending
 pub record NetLaws : Type 0 where
@@ -144,12 +148,28 @@ module _ (facts : NetLaws) (net : Net) (laws : Lawful net) where
       no_end = λ r s n m is also. no-run wanted.states fed r also.1.shown.table is.1 also.1.shown.found;
     }
 
-    pub rate_decides : (ds : List (Option ℕ)) (wanted : WantedRate) → Decides (rate_of graph net ds wanted)
-    rate_decides ds wanted =
-        after_decides (joining graph net) _ joining_determines (λ a joined.
-        after_decides (feeding graph net) _ feeding_determines (λ b fed.
-        after_decides (completing graph net) _ completing_determines (λ c live.
-        last_decides (execution graph net ds wanted) (execution_decides ds wanted fed))))
+    pub testing_determines : Determines (testing graph net)
+    testing_determines =
+        through_determines (joining graph net) (λ a. through (feeding graph net) (λ b. completing graph net)) joining_determines (λ a joined.
+        through_determines (feeding graph net) (λ b. completing graph net) feeding_determines (λ b fed.
+        completing_determines))
+
+    -- an analysis that decides where the net has inputs
+    pub live_decides : (analysis : Analysis) → (IsFed net → DecidesLast analysis) → Decides (on_live graph net analysis)
+    live_decides analysis rest = after_decides (testing graph net) _ testing_determines (λ a tested. last_decides analysis (rest tested.2.1))
+
+    pub rate_decides : (ds : List (Option ℕ)) (wanted : WantedRate) → Decides (on_live graph net (execution graph net ds wanted))
+    rate_decides ds wanted = live_decides (execution graph net ds wanted) (execution_decides ds wanted)
+
+    rounds_decide : (wanted : WantedRounds) → IsFed net → DecidesLast (completion graph net wanted)
+    rounds_decide wanted fed = record {
+      one = λ r s n m is also. (one-run wanted.states fed r s is.1 also.1, also.0 ∙ sym is.0);
+      no_answer = λ r answer n m is also. no-run wanted.states fed r also.1.found.0 is.1 also.1.found.1;
+      no_end = λ r s n m is also. also;
+    }
+
+    pub time_decides : (wanted : WantedRounds) → Decides (on_live graph net (completion graph net wanted))
+    time_decides wanted = live_decides (completion graph net wanted) (rounds_decide wanted)
 
   -- where a shape is repeated in time, no execution is refused
   pub unrefused : (states : ℕ) → IsFed net → Repeats net states → (r : Refusal) → IsRunRefusal net states r → ⊥

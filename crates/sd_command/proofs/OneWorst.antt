@@ -1,5 +1,5 @@
 -- The words and files decide the command `scenario`.
-use Rattle.std.proofs.Common.{◌≡◌, ℕ, zero, suc, ◌<◌, inl, inr, false, List, [], ◌∷◌, length, Option, Some, refl, sym, ap, ap₂, subst, ◌∙◌, arith}
+use Rattle.std.proofs.Common.{◌≡◌, ℕ, zero, suc, ◌<◌, inl, inr, true, false, List, [], ◌∷◌, length, Option, Some, refl, sym, ap, ap₂, subst, ◌∙◌, arith}
 use Rattle.std.proofs.lemmas.Bool.{cases_lt}
 use Rattle.std.specs.Prelude.{slice_get, slice_index_or}
 use Rattle.sd_base.specs.declared.tables.GraphFile.{GraphFile}
@@ -19,12 +19,14 @@ use Rattle.report.specs.declared.refusal.Refusal.{Refusal}
 use Rattle.sd_command.specs.Readings.{reading_refusal}
 use Rattle.sd_command.specs.Balances.{balancing}
 use Rattle.sd_command.specs.Nets.{feeding}
-use Rattle.sd_command.specs.ScenarioSteps.{Entries, IsMade, IsUnmade, stamps, blocked, making_matrix, measuring_graph, measuring_one, AreMeasured, IsUnmeasured, measuring, linking, timing, reading_scenarios}
+use Rattle.sd_command.specs.ScenarioSteps.{Entries, IsMade, IsUnmade, stamps, blocked, making_matrix, measuring_graph, measuring_one, AreMeasured, IsUnmeasured, measuring, linking, timing, opening_scenarios, reading_scenarios}
+use Rattle.sd_command.specs.declared.file_kind.FileKind.TheVariants.{Graph}
+use Rattle.sd_command.specs.Takings.{Files, taking}
 use Rattle.sd_command.specs.WorstAnswers.{telling_worst, worst_of}
 use Rattle.sd_command.proofs.CommandsDecide.{Determines, Decides, DecidesLast, after_decides, last_decides}
 use Rattle.sd_command.proofs.Throughs.{through_determines, naming_determines}
 use Rattle.sd_command.proofs.OneRate.{feeding_determines, completing_determines}
-use Rattle.sd_command.proofs.SharedSteps.{FileLaws, balancing_determines}
+use Rattle.sd_command.proofs.SharedSteps.{FileLaws, balancing_determines, taking_determines}
 use Rattle.escapes.specs.EscapedNames.{escaped_name}
 use Rattle.sd_command.specs.Courses.{through}
 
@@ -54,6 +56,10 @@ module _ (facts : FileLaws) (laws : ScenarioLaws) where
     refusal = λ r s is also. is.told ∙ ap (λ (e : ReadError). reading_refusal e) (laws.fault bytes is.error also.error is.some also.some is.first also.first) ∙ sym also.told;
     never = λ r f is given. laws.either bytes f is.error is.some given is.first;
   }
+
+  pub opening_file_determines : (shelf : Files) → shelf.tells ≡ true → (name : List ℕ) → Determines (opening_scenarios shelf name)
+  opening_file_determines shelf tells name =
+      through_determines (taking shelf Graph name) (λ bytes. reading_scenarios bytes) (taking_determines shelf tells Graph name) (λ bytes taken. reading_file_determines bytes)
 
   making_determines : (shared : List SharedRow) (graph : GraphFile) (gamma : List ℕ) → Lawful (net_of graph gamma false) → Determines (making_matrix shared graph gamma)
   making_determines shared graph gamma lawful =

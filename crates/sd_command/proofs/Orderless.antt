@@ -1,12 +1,12 @@
 -- The nets of files have no edges of orders.
-use Rattle.std.proofs.Common.{◌≡◌, ℕ, zero, suc, ◌+◌, ◌-◌, ◌<◌, ◌≤◌, Bool, true, false, List, [], ◌∷◌, length, ⊎_elim, subst, sym, refl, arith}
+use Rattle.std.proofs.Common.{ℕ, zero, suc, ◌+◌, ◌-◌, ◌<◌, ◌≤◌, Bool, true, false, List, [], ◌∷◌, length, ⊎_elim, subst, sym, refl, arith}
 use Rattle.std.specs.Prelude.{slice_index_or, if◌then◌else◌}
 use Rattle.std.proofs.lemmas.Bool.{cases_lt}
 use Rattle.std.proofs.lemmas.List.{length-append, get_or_append_left, get_or-append_right}
 use Rattle.sd_base.specs.declared.tables.GraphFile.{GraphFile}
 use Rattle.sd_base.specs.declared.tables.ActorRow.{ActorRow}
 use Rattle.sd_base.specs.declared.tables.ChannelRow.{ChannelRow}
-use Rattle.sd_base.specs.Net.{Channel, Net, nowhere, channel_at, file_channels_from, file_channels}
+use Rattle.sd_base.specs.Net.{Channel, nowhere, file_channels_from, file_channels}
 use Rattle.sd_base.specs.FileNet.{own_channel, gets_own, own_channels_from, net_of}
 use Rattle.cert_maker.specs.Links.{HasNoOrders}
 use Rattle.cert_maker.proofs.Orderless.{IsNoOrder}

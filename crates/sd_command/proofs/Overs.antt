@@ -12,10 +12,10 @@ use Rattle.sd_base.specs.Net.{Channel, Net, channel_at, nowhere, file_channels, 
 use Rattle.sd_base.specs.FileNet.{net_of, own_channels_from, own_channel, gets_own}
 use Rattle.sd_base.specs.Lawful.{Lawful}
 use Rattle.sd_base.proofs.FileNets.{file-length, file-at, nothing}
-use Rattle.liveness.specs.declared.round.Round.{Round}
-use Rattle.liveness.specs.declared.round.Round.TheVariants.{Blocked}
+use Rattle.liveness.specs.declared.ending.Ending.{Ending}
+use Rattle.liveness.specs.declared.ending.Ending.TheVariants.{Blocked}
 use Rattle.sd_base.specs.Untimed.{IsBlockedBy, IsFirstLacking}
-use Rattle.liveness.specs.RoundAnswers.{IsAnswer}
+use Rattle.liveness.specs.RoundAnswers.{IsEnding}
 use Rattle.critical.specs.declared.cycle.NeedCycle.{NeedCycle}
 use Rattle.critical.specs.declared.cycle.CycleStep.{CycleStep}
 use Rattle.critical.specs.declared.cycle.FiringNo.{FiringNo}
@@ -84,10 +84,10 @@ net-over g gamma no_overlap = record { actors = length-map g.actors (λ (a : Act
         (cases_lt i (length g.channels))
 
 -- what a blocked round names, as other lists of the same numbers
-pub blocked-shown : (net : Net) (round : Round) (counts shown : List ℕ) (lacks named : List (Option ℕ)) → round ≡ Blocked counts lacks → shown ≡ counts → named ≡ lacks
-    → IsAnswer net round → IsBlockedBy net shown named
-blocked-shown net round counts shown lacks named is p q answer =
-    subst (λ (v : List ℕ). IsBlockedBy net v named) (sym p) (subst (λ (l : List (Option ℕ)). IsBlockedBy net counts l) (sym q) (subst (λ (r : Round). IsAnswer net r) is answer))
+pub blocked-shown : (net : Net) (ending : Ending) (counts shown : List ℕ) (lacks named : List (Option ℕ)) → ending ≡ Blocked counts lacks → shown ≡ counts → named ≡ lacks
+    → IsEnding net ending → IsBlockedBy net shown named
+blocked-shown net ending counts shown lacks named is p q answer =
+    subst (λ (v : List ℕ). IsBlockedBy net v named) (sym p) (subst (λ (l : List (Option ℕ)). IsBlockedBy net counts l) (sym q) (subst (λ (e : Ending). IsEnding net e) is answer))
 
 -- a blocked net names a channel for each actor that lacks
 pub blocked-lacks : (net : Net) (counts : List ℕ) (lacks : List (Option ℕ)) → IsBlockedBy net counts lacks → HasLacks net counts lacks

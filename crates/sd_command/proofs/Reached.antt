@@ -61,6 +61,7 @@ rate-shown net states table schedule cycle found of_loop critical =
       table = table;
       found = found;
       of_loop = of_loop;
+      critical = critical;
       holds = critical.holds;
       reached =
           let a : schedule.rounds * low.den ≡ (g * low.num) * low.den = ap (λ (n : ℕ). n * low.den) (of_loop.rounds ∙ turns) in

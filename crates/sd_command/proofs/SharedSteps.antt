@@ -33,13 +33,15 @@ use Rattle.sd_base.specs.Limits.{greatest_of}
 use Rattle.report.specs.QuantityWords.{quantity_text}
 use Rattle.sd_base.specs.declared.limits.Quantity.TheVariants as quantities
 use Rattle.sd_command.specs.declared.file_kind.FileKind.{FileKind}
+use Rattle.sd_command.specs.declared.file_kind.FileKind.TheVariants as kinds
 use Rattle.sd_command.specs.ActorNames.{actor_shown}
 use Rattle.sd_command.specs.Takings.{Files, IsTaken, IsUntaken, missing, too_long, taking, bytes_of}
-use Rattle.sd_command.specs.Readings.{reading_graph, reading_refusal}
+use Rattle.sd_command.specs.Readings.{opening_graph, reading_graph, reading_refusal}
 use Rattle.sd_command.specs.Balances.{IsBalanceRefusal, apart, ratio, inconsistent, above, balancing}
 use Rattle.sd_command.specs.Requests.{asking, usage_refusal}
 use Rattle.sd_command.proofs.CommandsDecide.{Determines}
 use Rattle.sd_command.proofs.OneRate.{NetLaws}
+use Rattle.sd_command.proofs.Throughs.{through_determines}
 
 -- what is known of files, of balances, and of the nets of files
 pub record FileLaws : Type 0 where
@@ -208,6 +210,10 @@ module _ (laws : FileLaws) where
     refusal = λ r s is also. is.told ∙ ap (λ (e : ReadError). reading_refusal e) (laws.fault bytes times is.error also.error is.some also.some is.first also.first) ∙ sym also.told;
     never = λ r g is given. laws.either bytes times g is.error is.some given is.first;
   }
+
+  pub opening_determines : (shelf : Files) → shelf.tells ≡ true → (name : List ℕ) (times : Bool) → Determines (opening_graph shelf name times)
+  opening_determines shelf tells name times =
+      through_determines (taking shelf kinds.Graph name) (λ bytes. reading_graph bytes times) (taking_determines shelf tells kinds.Graph name) (λ bytes taken. reading_determines bytes times)
 
   pub balancing_determines : (g : GraphFile) → KeepsRules g → Determines (balancing g)
   balancing_determines g keeps = record {

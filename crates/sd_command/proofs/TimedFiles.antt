@@ -1,5 +1,5 @@
 -- The timed graph of a file whose scenarios are measured.
-use Rattle.std.proofs.Common.{ℕ, ◌*◌, ◌≤◌, List, length, IfOk, Result, Ok, Err}
+use Rattle.std.proofs.Common.{◌*◌, ◌≤◌, List, length, IfOk, Result, Ok, Err}
 use Rattle.sd_base.specs.declared.limits.TheConstants.{EDGES, NODES}
 use Rattle.sd_base.specs.declared.tables.ScenarioFile.{ScenarioFile}
 use Rattle.sd_base.specs.Scenarios.{FileKeepsRules}

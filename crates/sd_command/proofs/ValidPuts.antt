@@ -1,5 +1,5 @@
 -- What `throughput` puts is a valid certificate.
-use Rattle.std.proofs.Common.{◌≡◌, ℕ, suc, ◌+◌, ◌*◌, ◌/◌, ◌≤◌, ◌<◌, Bool, true, false, cond, Option, None, Some, length, List, [], ◌∷◌, ◌++◌, All, Ok, map, refl, sym, ap, subst, ◌∙◌, arith}
+use Rattle.std.proofs.Common.{◌≡◌, ℕ, suc, ◌+◌, ◌*◌, ◌/◌, ◌≤◌, ◌<◌, Bool, true, false, cond, Option, None, Some, length, List, [], ◌∷◌, ◌++◌, All, Ok, refl, sym, ap, subst, ◌∙◌, arith}
 use Rattle.std.specs.List.{find}
 use Rattle.std.specs.Option.{option_map}
 use Rattle.std.specs.Str.{bytes_eq}
@@ -11,7 +11,6 @@ use Rattle.sd_base.specs.Net.{Channel, Net, file_channel, file_channels_from}
 use Rattle.sd_base.specs.FileNet.{net_of, own_channels_from}
 use Rattle.sd_base.specs.declared.limits.Quantity.TheVariants as quantities
 use Rattle.sd_base.specs.Limits.{greatest_of}
-use Rattle.sd_words.specs.declared.request.Request.{Request}
 use Rattle.sd_words.specs.declared.request.Request.TheVariants.{Throughput}
 use Rattle.sd_words.specs.Asked.{request_of}
 use Rattle.sd_words.proofs.Within.{asked_within}
@@ -24,25 +23,21 @@ use Rattle.cert_text.specs.Reading.{IsCertText}
 use Rattle.cert_maker.specs.ValidCertificates.{AreGiven}
 use Rattle.cert_maker.proofs.ValidRates.{rates-valid}
 use Rattle.sd_command.specs.declared.answer.Answer.{Answer}
-use Rattle.sd_command.specs.declared.answer.Put.{Put}
 use Rattle.sd_command.specs.declared.file_kind.FileKind.TheVariants as kinds
-use Rattle.sd_command.specs.Balances.{balancing}
-use Rattle.sd_command.specs.Bufferings.{GivesCapacities, buffering}
 use Rattle.sd_command.specs.Certifyings.{text_of}
 use Rattle.sd_command.specs.Courses.{Answered}
-use Rattle.sd_command.specs.Nets.{completing, feeding, joining}
+use Rattle.sd_command.specs.Nets.{testing}
 use Rattle.sd_command.specs.PutCertificates.{PutsValidRate, RatesPutAreValid}
-use Rattle.sd_command.specs.RateAnswers.{IsRateAnswer, IsRateShown}
-use Rattle.sd_command.specs.Readings.{reading_graph}
-use Rattle.sd_command.specs.Requests.{asking, command_of, course_of}
-use Rattle.sd_command.specs.Takings.{Files, taking}
-use Rattle.sd_command.specs.Throughputs.{throughput}
-use Rattle.sd_command.specs.declared.file_kind.FileKind.TheVariants.{Graph}
+use Rattle.sd_command.specs.RateAnswers.{IsRateAnswer}
+use Rattle.sd_command.specs.Requests.{course_of}
+use Rattle.sd_command.specs.Takings.{Files}
+use Rattle.sd_command.specs.Throughputs.{rate_on}
 use Rattle.sd_command.specs.declared.wanted.WantedRate.{WantedRate}
-use Rattle.sd_command.proofs.CommandsDecide.{answers_on}
-use Rattle.sd_command.proofs.Complete.{one_request}
+use Rattle.sd_command.proofs.BoundedPaths.{lawful_on, on_the_net}
+use Rattle.sd_command.proofs.CommandsDecide.{goes_past}
 use Rattle.sd_command.proofs.Joins.{fed-inputs}
-use Rattle.sd_command.proofs.SharedSteps.{FileLaws, bounded_net}
+use Rattle.sd_command.proofs.Requested.{of_request}
+use Rattle.sd_command.proofs.SharedSteps.{FileLaws}
 
 -- ---- capacities by names
 
@@ -89,37 +84,32 @@ module _ (laws : FileLaws) (words : List (List ℕ)) (files : Files) (tells : fi
 
   pub puts-valid : course_of words files (Answered answer) n → PutsValidRate files name put answer
   puts-valid due =
-      let ask = answers_on (asking words) _ answer n due in
-      let came : throughput name buffers wanted files (Answered answer) n =
-      subst (λ (q : Request). command_of q files (Answered answer) n) (one_request words ask.0 (Throughput name buffers no_overlap states (Some put)) ask.1 asked) ask.2 in
-      let take = answers_on (taking files Graph name) _ answer n came in
-      let read = answers_on (reading_graph take.0 true) _ answer n take.2 in
-      let buffer = answers_on (buffering read.0 buffers) _ answer n read.2 in
-      let balance = answers_on (balancing read.0) _ answer n buffer.2 in
-      let net : Net = bound (net_of read.0 balance.0 no_overlap) buffer.0.capacities in
-      let join = answers_on (joining read.0 net) _ answer n balance.2 in
-      let feed = answers_on (feeding read.0 net) _ answer n join.2 in
-      let complete = answers_on (completing read.0 net) _ answer n feed.2 in
-      let told : IsRateAnswer read.0 net buffer.0.capacities wanted answer = complete.2.1 in
+      let came = of_request words files (Throughput name buffers no_overlap states (Some put)) asked (Answered answer) n tt due in
+      let on = on_the_net files name buffers no_overlap (rate_on wanted) (Answered answer) n tt came in
+      let gamma : List ℕ = on.gamma in
+      let ds : List (Option ℕ) = on.distribution.capacities in
+      let net : Net = bound (net_of on.graph gamma no_overlap) ds in
+      let live = goes_past (testing on.graph net) _ (Answered answer) n tt on.came in
+      let told : IsRateAnswer on.graph net ds wanted answer = live.2.1 in
       let small = (asked_within words (Throughput name buffers no_overlap states (Some put)) asked).0 in
       let made = told.put.1 in
       let is : told.put.0 ≡ _ = made.1 in
       record {
-        bytes = take.0;
-        graph = read.0;
-        gamma = balance.0;
+        bytes = on.file.bytes;
+        graph = on.graph;
+        gamma = gamma;
         certificate = made.0;
-        there = take.1.told tells;
-        fits = take.1.fits;
-        given = read.1;
-        round = balance.1;
+        there = on.file.taken.told tells;
+        fits = on.file.taken.fits;
+        given = on.file.given;
+        round = on.file.round;
         file = told.put.2.2 ∙ ap Some (told.put.2.1.1 ∙ ap (λ (c : Certificate). record { kind = kinds.Certificate; name = put; bytes = text_of c }) is);
         short = subst (λ (c : Certificate). length (text_of c) ≤ greatest_of quantities.CertificateBytes) is told.put.2.1.0;
         read = subst (λ (c : Certificate). IsCertText (text_of c) 2 c) is told.put.2.1.2;
-        valid = rates-valid read.0 balance.0 no_overlap buffer.0.capacities told.schedule told.cycle made.0
-            (bounded_net laws take.0 read.0 balance.0 no_overlap buffers buffer.0 read.1 balance.1 small buffer.1)
-            (record { strong = join.1; inputs = fed-inputs net feed.1 })
-            (given-capacities read.0 balance.0 no_overlap buffers buffer.0.capacities small buffer.1.named (named-held read.0 balance.0 no_overlap buffers buffer.1.whole small))
+        valid = rates-valid on.graph gamma no_overlap ds told.schedule told.cycle made.0
+            (lawful_on laws files name buffers no_overlap on.graph gamma on.distribution small on.file)
+            (record { strong = live.1.1; inputs = fed-inputs net live.1.2.1 })
+            (given-capacities on.graph gamma no_overlap buffers ds small on.file.capacities.named (named-held on.graph gamma no_overlap buffers on.file.capacities.whole small))
             told.shown.of_loop.holds told.shown.holds
             (one-ratio told.shown.den told.shown.num told.cycle.rounds told.cycle.time told.schedule.rounds told.schedule.period told.shown.rate.positive told.shown.reached told.shown.bounded)
             made.2;

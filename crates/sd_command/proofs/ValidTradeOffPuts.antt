@@ -1,12 +1,12 @@
 -- What `storage` puts is a valid certificate.
-use Rattle.std.proofs.Common.{◌≡◌, ◌≤◌, ℕ, Bool, true, List, [], ◌∷◌, Option, Some, length, Ok, ap, subst, ◌∙◌}
+use Rattle.std.proofs.Common.{◌≡◌, ◌≤◌, ℕ, Bool, true, List, [], ◌∷◌, Some, length, Ok, ap, subst, ◌∙◌}
 use Rattle.std.specs.List.{AllZip}
 use Rattle.sd_base.specs.declared.limits.Limits.{Limits}
+use Rattle.sd_base.specs.declared.tables.GraphFile.{GraphFile}
 use Rattle.sd_base.specs.Net.{Net}
 use Rattle.sd_base.specs.FileNet.{net_of}
 use Rattle.sd_base.specs.declared.limits.Quantity.TheVariants as quantities
 use Rattle.sd_base.specs.Limits.{greatest_of}
-use Rattle.sd_words.specs.declared.request.Request.{Request}
 use Rattle.sd_words.specs.declared.request.Request.TheVariants.{Storage}
 use Rattle.sd_words.specs.Asked.{request_of}
 use Rattle.sd_words.proofs.Within.{asked_within}
@@ -19,7 +19,6 @@ use Rattle.cert_text.specs.Reading.{IsCertText}
 use Rattle.cert_maker.specs.ValidTradeOffs.{IsReachedBy, TradeOffsAreValid}
 use Rattle.sd_command.specs.declared.answer.Answer.{Answer}
 use Rattle.sd_command.specs.declared.file_kind.FileKind.TheVariants as kinds
-use Rattle.sd_command.specs.declared.file_kind.FileKind.TheVariants.{Graph}
 use Rattle.sd_command.specs.declared.wanted.WantedPoints.{WantedPoints}
 use Rattle.sd_command.specs.Balances.{balancing}
 use Rattle.sd_command.specs.Certifyings.{text_of}
@@ -27,12 +26,11 @@ use Rattle.sd_command.specs.Courses.{Answered}
 use Rattle.sd_command.specs.Nets.{completing, touching}
 use Rattle.sd_command.specs.PointAnswers.{IsPointSchedule, IsPointsAnswer}
 use Rattle.sd_command.specs.PutCertificates.{PutsValidTradeOff, TradeOffsPutAreValid}
-use Rattle.sd_command.specs.Readings.{reading_graph}
-use Rattle.sd_command.specs.Requests.{asking, command_of, course_of}
-use Rattle.sd_command.specs.Takings.{Files, taking}
-use Rattle.sd_command.specs.TradeOffs.{storage}
-use Rattle.sd_command.proofs.CommandsDecide.{answers_on}
-use Rattle.sd_command.proofs.Complete.{one_request}
+use Rattle.sd_command.specs.Readings.{opening_graph}
+use Rattle.sd_command.specs.Requests.{course_of}
+use Rattle.sd_command.specs.Takings.{Files}
+use Rattle.sd_command.proofs.CommandsDecide.{goes_past}
+use Rattle.sd_command.proofs.Requested.{of_request}
 use Rattle.sd_command.proofs.SharedSteps.{FileLaws, lawful_net}
 
 -- the schedules of loops reach their points
@@ -49,36 +47,34 @@ module _ (laws : FileLaws) (valid : TradeOffsAreValid) (words : List (List ℕ))
 
   pub puts-valid : course_of words files (Answered answer) n → PutsValidTradeOff files name put answer
   puts-valid due =
-      let ask = answers_on (asking words) _ answer n due in
-      let came : storage name wanted files (Answered answer) n =
-      subst (λ (q : Request). command_of q files (Answered answer) n) (one_request words ask.0 (Storage name limits no_overlap (Some put)) ask.1 asked) ask.2 in
-      let take = answers_on (taking files Graph name) _ answer n came in
-      let read = answers_on (reading_graph take.0 true) _ answer n take.2 in
-      let balance = answers_on (balancing read.0) _ answer n read.2 in
-      let net : Net = net_of read.0 balance.0 no_overlap in
-      let touch = answers_on (touching read.0 net) _ answer n balance.2 in
-      let complete = answers_on (completing read.0 net) _ answer n touch.2 in
-      let told : IsPointsAnswer read.0 net wanted answer n = complete.2 in
+      let came = of_request words files (Storage name limits no_overlap (Some put)) asked (Answered answer) n tt due in
+      let opened = goes_past (opening_graph files name true) _ (Answered answer) n tt came in
+      let graph : GraphFile = opened.0 in
+      let balance = goes_past (balancing graph) _ (Answered answer) n tt opened.2 in
+      let net : Net = net_of graph balance.0 no_overlap in
+      let touch = goes_past (touching graph net) _ (Answered answer) n tt balance.2 in
+      let complete = goes_past (completing graph net) _ (Answered answer) n tt touch.2 in
+      let told : IsPointsAnswer graph net wanted answer n = complete.2 in
       let made = told.put.1 in
       let is : told.put.0 ≡ _ = made.1 in
       record {
-        bytes = take.0;
-        graph = read.0;
+        bytes = opened.1.0;
+        graph = graph;
         gamma = balance.0;
         certificate = made.0;
-        there = take.1.told tells;
-        fits = take.1.fits;
-        given = read.1;
+        there = opened.1.1.told tells;
+        fits = opened.1.1.fits;
+        given = opened.1.2;
         round = balance.1;
         file = told.put.2.2 ∙ ap Some (told.put.2.1.1 ∙ ap (λ (c : Certificate). record { kind = kinds.Certificate; name = put; bytes = text_of c }) is);
         short = subst (λ (c : Certificate). length (text_of c) ≤ greatest_of quantities.CertificateBytes) is told.put.2.1.0;
         read = subst (λ (c : Certificate). IsCertText (text_of c) 2 c) is told.put.2.1.2;
-        valid = valid read.0 balance.0 no_overlap limits told.members told.points told.schedules made.0
+        valid = valid graph balance.0 no_overlap limits told.members told.points told.schedules made.0
             (record {
-              laws = lawful_net laws take.0 read.0 balance.0 no_overlap read.1 balance.1;
-              plain = file-plain read.0 balance.0 no_overlap;
-              connected = file-connected read.0 balance.0 no_overlap balance.1.balanced.connected;
-              few = file-few read.0 balance.0 no_overlap (laws.keeps take.0 true read.0 read.1);
+              laws = lawful_net laws opened.1.0 graph balance.0 no_overlap opened.1.2 balance.1;
+              plain = file-plain graph balance.0 no_overlap;
+              connected = file-connected graph balance.0 no_overlap balance.1.balanced.connected;
+              few = file-few graph balance.0 no_overlap (laws.keeps opened.1.0 true graph opened.1.2);
             })
             touch.1 (asked_within words (Storage name limits no_overlap (Some put)) asked).total told.shown.explored (all-reached net told.points told.schedules told.shown.reached) made.2 2;
       }

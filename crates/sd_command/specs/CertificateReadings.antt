@@ -1,4 +1,4 @@
--- Reading a certificate, and the refusal of its first fault.
+-- Taking and reading a certificate, and the refusal of its first fault.
 use Rattle.std.specs.Prelude.{◌≡◌, ℕ, List, Ok, Err}
 use Rattle.cert_text.specs.declared.certificates.Certificate.{Certificate}
 use Rattle.cert_text.specs.declared.error.CertError.{CertError}
@@ -6,7 +6,9 @@ use Rattle.cert_text.specs.declared.error.CertError.TheVariants as errors
 use Rattle.cert_text.specs.Reading.{reading_of}
 use Rattle.report.specs.declared.refusal.Refusal.{Refusal}
 use Rattle.report.specs.declared.refusal.Refusal.TheVariants.{CertificateLine, CertificateNumber, UsageWords}
-use Rattle.sd_command.specs.Courses.{Step, deciding}
+use Rattle.sd_command.specs.declared.file_kind.FileKind.TheVariants as kinds
+use Rattle.sd_command.specs.Courses.{Step, deciding, through}
+use Rattle.sd_command.specs.Takings.{Files, taking}
 
 -- a certificate with the version in which it is written
 pub record Written : Type 0 where
@@ -29,3 +31,7 @@ pub record IsCertificateRefusal (bytes : List ℕ) (refusal : Refusal) : Type 0 
 -- reading the certificate that the bytes spell, in either version
 abbrev pub reading_certificate : List ℕ → Step (ℕ × Certificate)
 reading_certificate bytes = deciding (λ read. reading_of bytes ≡ Ok read) (λ refusal. IsCertificateRefusal bytes refusal)
+
+-- taking the certificate of a name, and reading it
+abbrev pub opening_certificate : Files → List ℕ → Step (ℕ × Certificate)
+opening_certificate files name = through (taking files kinds.Certificate name) λ bytes. reading_certificate bytes

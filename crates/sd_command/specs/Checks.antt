@@ -18,7 +18,7 @@ use Rattle.report.specs.ClaimTexts.{claim_line}
 use Rattle.sd_command.specs.declared.answer.Answer.{Answer}
 use Rattle.sd_command.specs.declared.file_kind.FileKind.TheVariants as files
 use Rattle.sd_command.specs.Balances.{balancing}
-use Rattle.sd_command.specs.CertificateReadings.{reading_certificate}
+use Rattle.sd_command.specs.CertificateReadings.{opening_certificate}
 use Rattle.sd_command.specs.Courses.{Analysis, Ending, After, ends_by}
 use Rattle.sd_command.specs.Readings.{reading_graph}
 use Rattle.sd_command.specs.ScenarioSteps.{reading_scenarios, timing}
@@ -93,6 +93,5 @@ checked version (certificates.Scenario c) bytes = scenario_checked c bytes
 abbrev pub check : List ℕ → List ℕ → Files → Ending → ℕ → Type 0
 check graph certificate shelf =
     After (taking shelf files.Graph graph) λ bytes.
-    After (taking shelf files.Certificate certificate) λ text.
-    After (reading_certificate text) λ read.
+    After (opening_certificate shelf certificate) λ read.
     checked read.0 read.1 bytes

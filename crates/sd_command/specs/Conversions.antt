@@ -7,9 +7,9 @@ use Rattle.report.specs.declared.claims.CertificateKind.TheVariants as kinds
 use Rattle.report.specs.ClaimTexts.{converted_line}
 use Rattle.sd_command.specs.declared.file_kind.FileKind.TheVariants as files
 use Rattle.sd_command.specs.Certifyings.{certifying}
-use Rattle.sd_command.specs.CertificateReadings.{reading_certificate}
+use Rattle.sd_command.specs.CertificateReadings.{opening_certificate}
 use Rattle.sd_command.specs.Courses.{Ending, After, ends_by, printing}
-use Rattle.sd_command.specs.Takings.{Files, taking}
+use Rattle.sd_command.specs.Takings.{Files}
 
 -- what a certificate shows
 abbrev pub kind_of : Certificate → CertificateKind
@@ -26,6 +26,5 @@ converted output c =
 -- the certificate isn't asked to be valid
 abbrev pub convert : List ℕ → List ℕ → Files → Ending → ℕ → Type 0
 convert name output shelf =
-    After (taking shelf files.Certificate name) λ bytes.
-    After (reading_certificate bytes) λ read.
+    After (opening_certificate shelf name) λ read.
     converted output read.1

@@ -13,6 +13,12 @@ pub data Ending : Type 0 where
   Failed : Refusal → Ending
   Lacking : Ending
 
+-- memory lacked, or taking a file failed
+abbrev pub IsCutOff : Ending → Type 0
+IsCutOff (Failed refusal) = Unit {0}
+IsCutOff Lacking = Unit {0}
+IsCutOff _ = ⊥
+
 -- A step passes a value on, or refuses the command; where it takes a file, that may fail. It executes nothing.
 pub record Step (A : Type 0) : Type 1 where
   pub passes : A → Type 0

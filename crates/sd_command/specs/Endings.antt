@@ -1,6 +1,7 @@
 -- Laws of how a run ends: the words and files decide it.
 use Rattle.std.specs.Prelude.{◌≡◌, ℕ, ◌+◌, ◌≤◌, ◌⊎◌, Bool, true, List, length, Option, Some, Ok}
 use Rattle.sd_base.specs.declared.tables.GraphFile.{GraphFile}
+use Rattle.sd_base.specs.declared.tables.ScenarioFile.{ScenarioFile}
 use Rattle.sd_base.specs.declared.limits.Limits.{Limits}
 use Rattle.sd_base.specs.declared.limits.TheConstants.{STARTS}
 use Rattle.sd_base.specs.Net.{Net}
@@ -8,10 +9,12 @@ use Rattle.sd_base.specs.FileNet.{net_of}
 use Rattle.sd_base.specs.SelfTimed.{events_by, starts_by}
 use Rattle.sd_base.specs.Rates.{IsLoop}
 use Rattle.sd_base.specs.Untimed.{IsLive}
-use Rattle.sd_words.specs.declared.request.Request.TheVariants.{Check, Convert, Generate, Storage, Throughput}
+use Rattle.sd_words.specs.declared.request.Request.TheVariants.{Check, Complete, Convert, Expand, Generate, Ordered, Repetition, Scenario, Storage, Throughput}
 use Rattle.sd_words.specs.Asked.{request_of}
 use Rattle.storage.specs.BoundedNets.{bound}
 use Rattle.storage.specs.NamedBuffers.{Buffer, capacities_of}
+use Rattle.ordered.specs.NamedOrders.{lists_of}
+use Rattle.ordered.specs.OrderedNets.{ordered}
 use Rattle.periodic.specs.declared.schedule.Periodic.{Periodic}
 use Rattle.critical.specs.declared.cycle.NeedCycle.{NeedCycle}
 use Rattle.pareto_front.specs.declared.point.Point.{Point}
@@ -19,6 +22,9 @@ use Rattle.explore.specs.declared.exploration.Member.{Member}
 use Rattle.explore.specs.Explorations.{AreFound}
 use Rattle.explore.specs.Reachable.{IsReachable}
 use Rattle.graph_reader.specs.Laws.{Gives}
+use Rattle.scenario_reader.specs.ScenarioFiles.{GivesFile}
+use Rattle.automaton.specs.declared.graph.TimedGraph.{TimedGraph}
+use Rattle.scenario_rate.specs.declared.answer.Worst.{Worst}
 use Rattle.gen_graph.specs.MadeGraphs.{made_graph}
 use Rattle.balance.specs.Repetition.{IsRound}
 use Rattle.report.specs.declared.refusal.Refusal.{Refusal}
@@ -28,19 +34,16 @@ use Rattle.sd_command.specs.declared.wanted.WantedPoints.{WantedPoints}
 use Rattle.sd_command.specs.declared.wanted.WantedRate.{WantedRate}
 use Rattle.sd_command.specs.Statuses.{status_of}
 use Rattle.sd_command.specs.Certifyings.{AreShort}
+use Rattle.sd_command.specs.Orderings.{NamedOrders}
 use Rattle.sd_command.specs.PointAnswers.{ArePointsShown, IsOfPoints}
 use Rattle.sd_command.specs.RateAnswers.{IsOfRate, IsRateShown}
-use Rattle.sd_command.specs.Courses.{Ending, Refused, Ended, Failed, Lacking}
+use Rattle.sd_command.specs.ScenarioSteps.{timing}
+use Rattle.sd_command.specs.WorstAnswers.{IsOfWorst, IsShown}
+use Rattle.sd_command.specs.Courses.{Ending, Refused, Ended, IsCutOff}
 use Rattle.sd_command.specs.Takings.{Files}
 use Rattle.sd_command.specs.Generations.{usual_limits}
 use Rattle.sd_command.specs.Requests.{course_of}
 use Rattle.sd_command.specs.Runs.{Run, Shows}
-
--- memory lacked, or taking a file failed
-abbrev pub IsCutOff : Ending → Type 0
-IsCutOff (Failed refusal) = Unit {0}
-IsCutOff Lacking = Unit {0}
-IsCutOff _ = ⊥
 
 -- Where a refusal is due, which is after a number of executions, the command can end in no other way, unless it is cut off.
 abbrev pub DueIsOne : Type 0
@@ -86,6 +89,33 @@ ThroughputIsComplete = (run : Run) (cut : Bool) (name : List ℕ) (buffers : Lis
     Repeats net states × RateCertificatesFit net ds (record { no_overlap = no_overlap; states = states; certificate = certificate })))
     → Shows run cut → (run.status ≡ statuses.Done) ⊎ (run.status ≡ statuses.Memory)
 
+-- such a run of `ordered` is, where no refusal is due before anything is executed, and the net whose actors keep the orders
+-- repeats a shape
+abbrev pub OrderedIsComplete : Type 0
+OrderedIsComplete = (run : Run) (cut : Bool) (name : List ℕ) (lists : NamedOrders) (buffers : List Buffer) (no_overlap : Bool) (states : ℕ) → IsFaultless run
+    → request_of run.words ≡ Ok (Ordered name lists buffers no_overlap states)
+    → ((refusal : Refusal) → course_of run.words run.outside.shelf.files (Refused refusal) 0 → ⊥)
+    → ((bytes gamma : List ℕ) (graph : GraphFile) → run.outside.shelf.files.named name ≡ Some bytes → Gives bytes true graph → IsRound graph gamma
+    → Repeats (ordered (bound (net_of graph gamma no_overlap) (capacities_of graph.channels buffers)) (lists_of graph.actors lists)) states)
+    → Shows run cut → (run.status ≡ statuses.Done) ⊎ (run.status ≡ statuses.Memory)
+
+-- such a run of `complete` is, where no refusal is due before anything is executed, and the net of the graph with the capacities
+-- repeats a shape
+abbrev pub CompleteIsComplete : Type 0
+CompleteIsComplete = (run : Run) (cut : Bool) (name : List ℕ) (rounds : ℕ) (buffers : List Buffer) (no_overlap : Bool) (states : ℕ) → IsFaultless run
+    → request_of run.words ≡ Ok (Complete name rounds buffers no_overlap states)
+    → ((refusal : Refusal) → course_of run.words run.outside.shelf.files (Refused refusal) 0 → ⊥)
+    → ((bytes gamma : List ℕ) (graph : GraphFile) → run.outside.shelf.files.named name ≡ Some bytes → Gives bytes true graph → IsRound graph gamma
+    → Repeats (bound (net_of graph gamma no_overlap) (capacities_of graph.channels buffers)) states)
+    → Shows run cut → (run.status ≡ statuses.Done) ⊎ (run.status ≡ statuses.Memory)
+
+-- such a run of `expand` is, where no refusal is due
+abbrev pub ExpandIsComplete : Type 0
+ExpandIsComplete = (run : Run) (cut : Bool) (name output : List ℕ) (buffers : List Buffer) (no_overlap : Bool) → IsFaultless run
+    → request_of run.words ≡ Ok (Expand name output buffers no_overlap)
+    → ((refusal : Refusal) (n : ℕ) → course_of run.words run.outside.shelf.files (Refused refusal) n → ⊥)
+    → Shows run cut → (run.status ≡ statuses.Done) ⊎ (run.status ≡ statuses.Memory)
+
 -- the limits are enough for an exploration: each distribution that it may come to, if its bounded net completes a round,
 -- repeats a shape in time, and there are no more of them than it may find
 pub record Suffice (net : Net) (limits : Limits) : Type 0 where
@@ -114,6 +144,26 @@ GenerateIsComplete = (run : Run) (cut : Bool) (seed limit actors : ℕ) → IsFa
     → request_of run.words ≡ Ok (Generate seed limit actors)
     → ((refusal : Refusal) (n : ℕ) → course_of run.words run.outside.shelf.files (Refused refusal) n → ⊥)
     → ((gamma : List ℕ) → IsRound (made_graph seed actors) gamma → Suffice (net_of (made_graph seed actors) gamma true) (usual_limits limit))
+    → Shows run cut → (run.status ≡ statuses.Done) ⊎ (run.status ≡ statuses.Memory)
+
+-- where a certificate of the worst rate of a file is asked for, each one is short enough
+abbrev pub WorstCertificatesFit : ScenarioFile → Option (List ℕ) → Type 0
+WorstCertificatesFit file certificate =
+    (graph : TimedGraph) (worst : Worst) → (timing file).passes graph → IsShown file graph worst → AreShort certificate (IsOfWorst graph worst)
+
+-- such a run of `scenario` is done, or ends for want of memory, where no refusal is due, and the certificates are short enough
+abbrev pub ScenarioIsComplete : Type 0
+ScenarioIsComplete = (run : Run) (cut : Bool) (name : List ℕ) (certificate : Option (List ℕ)) → IsFaultless run
+    → request_of run.words ≡ Ok (Scenario name certificate)
+    → ((refusal : Refusal) (n : ℕ) → course_of run.words run.outside.shelf.files (Refused refusal) n → ⊥)
+    → ((bytes : List ℕ) (file : ScenarioFile) → run.outside.shelf.files.named name ≡ Some bytes → GivesFile bytes file → WorstCertificatesFit file certificate)
+    → Shows run cut → (run.status ≡ statuses.Done) ⊎ (run.status ≡ statuses.Memory)
+
+-- such a run of `repetition` is, where no refusal is due
+abbrev pub RepetitionIsComplete : Type 0
+RepetitionIsComplete = (run : Run) (cut : Bool) (name : List ℕ) → IsFaultless run
+    → request_of run.words ≡ Ok (Repetition name)
+    → ((refusal : Refusal) (n : ℕ) → course_of run.words run.outside.shelf.files (Refused refusal) n → ⊥)
     → Shows run cut → (run.status ≡ statuses.Done) ⊎ (run.status ≡ statuses.Memory)
 
 -- such a run of `check` is done, or ends for want of memory, where no refusal is due, also none for a fault of the certificate

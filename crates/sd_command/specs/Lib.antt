@@ -7,7 +7,12 @@ pub mod Balances
 pub mod Bufferings
 pub mod Nets
 pub mod Repetitions
+pub mod BoundedCourses
 pub mod Throughputs
+pub mod Orderings
+pub mod InOrders
+pub mod LeastTimes
+pub mod Expandings
 pub mod PointAnswers
 pub mod TradeOffs
 pub mod Generations
@@ -17,6 +22,7 @@ pub mod inside
 pub mod Endings
 pub mod PutCertificates
 pub mod AcceptedCertificates
+pub mod KeptOrders
 pub mod ActorNames
 pub mod CertificateReadings
 pub mod Conversions

@@ -1,4 +1,4 @@
--- What a net is tested for before it is executed.
+-- What a net is tested for before it is executed, and an analysis after that.
 use Rattle.std.specs.Prelude.{◌≡◌, ℕ, ◌<◌, List, length, Option, None}
 use Rattle.sd_base.specs.declared.tables.GraphFile.{GraphFile}
 use Rattle.sd_base.specs.Net.{Net}
@@ -12,7 +12,7 @@ use Rattle.report.specs.declared.refusal.Refusal.{Refusal}
 use Rattle.report.specs.declared.refusal.Refusal.TheVariants.{Deadlock, NoInput, OneWay}
 use Rattle.report.specs.LackTexts.{lacks_list}
 use Rattle.sd_command.specs.ActorNames.{actor_shown}
-use Rattle.sd_command.specs.Courses.{Step, deciding}
+use Rattle.sd_command.specs.Courses.{Analysis, Ending, After, Step, deciding, ends_by, through}
 
 -- no path leads from one actor to another
 pub record IsOneWay (graph : GraphFile) (net : Net) (refusal : Refusal) : Type 0 where
@@ -63,3 +63,14 @@ pub record IsDeadlocked (graph : GraphFile) (net : Net) (refusal : Refusal) : Ty
 
 abbrev pub completing : GraphFile → Net → Step (Unit {0})
 completing graph net = deciding (λ done. IsLive net) (λ refusal. IsDeadlocked graph net refusal)
+
+-- all tests of a net that is executed, one after another
+abbrev pub testing : GraphFile → Net → Step (Unit {0})
+testing graph net =
+    through (joining graph net) λ joined.
+    through (feeding graph net) λ fed.
+    completing graph net
+
+-- an analysis of a net that passes them
+abbrev pub on_live : GraphFile → Net → Analysis → Ending → ℕ → Type 0
+on_live graph net analysis = After (testing graph net) λ live. ends_by analysis

@@ -10,6 +10,7 @@ use Rattle.periodic.specs.declared.schedule.Periodic.{Periodic}
 use Rattle.periodic.specs.LoopSchedules.{IsScheduleOf}
 use Rattle.critical.specs.declared.cycle.NeedCycle.{NeedCycle}
 use Rattle.critical.specs.Cycles.{HoldsOn}
+use Rattle.critical.specs.CriticalCycles.{IsCriticalCycleOf}
 use Rattle.cert_text.specs.declared.certificates.Certificate.{Certificate}
 use Rattle.cert_text.specs.declared.certificates.Certificate.TheVariants as certificates
 use Rattle.cert_text.specs.declared.certificates.RateCertificate.{RateCertificate}
@@ -22,8 +23,7 @@ use Rattle.report.specs.QuantityWords.{quantity_text}
 use Rattle.sd_command.specs.declared.answer.Answer.{Answer}
 use Rattle.sd_command.specs.declared.wanted.WantedRate.{WantedRate}
 use Rattle.sd_command.specs.Certifyings.{Certifies, IsTooLong}
-use Rattle.sd_command.specs.Courses.{Analysis, Ending, After, ends_by}
-use Rattle.sd_command.specs.Nets.{joining, feeding, completing}
+use Rattle.sd_command.specs.Courses.{Analysis}
 
 -- an execution passes the number of shapes or of starts
 pub data IsRunRefusal (net : Net) (states : ℕ) (refusal : Refusal) : Type 0 where
@@ -32,7 +32,7 @@ pub data IsRunRefusal (net : Net) (states : ℕ) (refusal : Refusal) : Type 0 wh
       → refusal ≡ Above None (quantity_text quantities.Starts) (greatest_of quantities.Starts) → IsRunRefusal net states refusal
 
 -- a schedule and a need cycle show the rate of a net: the schedule is that of the loop of self-timed execution, holds on the
--- net and reaches the rate; the need cycle holds on the net and bounds the rate
+-- net and reaches the rate; the need cycle is a critical one of the loop, holds on the net and bounds the rate
 pub record IsRateShown (net : Net) (states : ℕ) (schedule : Periodic) (cycle : NeedCycle) : Type 0 where
   pub num : ℕ
   pub den : ℕ
@@ -40,6 +40,7 @@ pub record IsRateShown (net : Net) (states : ℕ) (schedule : Periodic) (cycle :
   pub table : LoopTable
   pub found : IsFound net states table
   pub of_loop : IsScheduleOf net table schedule
+  pub critical : IsCriticalCycleOf net table cycle
   pub holds : HoldsOn net cycle
   pub reached : schedule.rounds * den ≡ num * schedule.period
   pub bounded : cycle.rounds * den ≡ num * cycle.time
@@ -71,11 +72,3 @@ execution graph net ds wanted = record {
   ended = λ refusal n. (n ≡ 1) × IsRateTooLong net ds wanted refusal;
   counted = λ n. n ≤ 1;
 }
-
--- the rate of a net with these capacities, that is joined and fed and completes a round
-abbrev pub rate_of : GraphFile → Net → List (Option ℕ) → WantedRate → Ending → ℕ → Type 0
-rate_of graph net ds wanted =
-    After (joining graph net) λ joined.
-    After (feeding graph net) λ fed.
-    After (completing graph net) λ complete.
-    ends_by (execution graph net ds wanted)

@@ -1,15 +1,13 @@
 -- The command `repetition`.
 use Rattle.std.specs.Prelude.{ℕ, false, List, None}
 use Rattle.report.specs.AnswerTexts.{repetition_lines}
-use Rattle.sd_command.specs.declared.file_kind.FileKind.TheVariants.{Graph}
 use Rattle.sd_command.specs.Courses.{Ending, After, ends_by, printing}
-use Rattle.sd_command.specs.Takings.{Files, taking}
-use Rattle.sd_command.specs.Readings.{reading_graph}
+use Rattle.sd_command.specs.Takings.{Files}
+use Rattle.sd_command.specs.Readings.{opening_graph}
 use Rattle.sd_command.specs.Balances.{balancing}
 
 abbrev pub repetition : List ℕ → Files → Ending → ℕ → Type 0
 repetition name files =
-    After (taking files Graph name) λ bytes.
-    After (reading_graph bytes false) λ graph.
+    After (opening_graph files name false) λ graph.
     After (balancing graph) λ gamma.
     ends_by (printing (repetition_lines graph gamma) None)

@@ -1,5 +1,5 @@
 -- What the words ask for, and the command of each request.
-use Rattle.std.specs.Prelude.{◌≡◌, ℕ, List, Ok, Err}
+use Rattle.std.specs.Prelude.{◌≡◌, ℕ, List, None, Ok, Err}
 use Rattle.sd_words.specs.declared.request.Request.{Request}
 use Rattle.sd_words.specs.declared.request.Request.TheVariants as requests
 use Rattle.sd_words.specs.declared.request.UsageCause.{UsageCause}
@@ -12,6 +12,9 @@ use Rattle.sd_command.specs.Courses.{Step, deciding, Ending, After}
 use Rattle.sd_command.specs.Takings.{Files}
 use Rattle.sd_command.specs.Repetitions.{repetition}
 use Rattle.sd_command.specs.Throughputs.{throughput}
+use Rattle.sd_command.specs.InOrders.{ordered}
+use Rattle.sd_command.specs.LeastTimes.{complete}
+use Rattle.sd_command.specs.Expandings.{expand}
 use Rattle.sd_command.specs.TradeOffs.{storage}
 use Rattle.sd_command.specs.WorstAnswers.{scenario}
 use Rattle.sd_command.specs.Generations.{generate}
@@ -42,6 +45,9 @@ command_of (requests.Scenario graph certificate) = scenario graph certificate
 command_of (requests.Check graph certificate) = check graph certificate
 command_of (requests.Generate seed limit actors) = λ files. generate seed limit actors
 command_of (requests.Convert certificate output) = convert certificate output
+command_of (requests.Expand graph output buffers no_overlap) = expand graph output buffers no_overlap
+command_of (requests.Ordered graph order buffers no_overlap states) = ordered graph order buffers (record { no_overlap = no_overlap; states = states; certificate = None })
+command_of (requests.Complete graph rounds buffers no_overlap states) = complete graph buffers (record { no_overlap = no_overlap; states = states; rounds = rounds })
 
 -- how the command of the words may end over the files of a shelf, and after how many executions
 abbrev pub course_of : List (List ℕ) → Files → Ending → ℕ → Type 0

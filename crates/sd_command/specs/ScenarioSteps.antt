@@ -20,7 +20,9 @@ use Rattle.escapes.specs.EscapedNames.{escaped_name}
 use Rattle.report.specs.declared.refusal.Refusal.{Refusal}
 use Rattle.report.specs.declared.refusal.Refusal.TheVariants.{Above, Ratio, Inconsistent, Apart, NoInput, Deadlock}
 use Rattle.report.specs.QuantityWords.{quantity_text}
+use Rattle.sd_command.specs.declared.file_kind.FileKind.TheVariants as kinds
 use Rattle.sd_command.specs.Courses.{Step, deciding, through}
+use Rattle.sd_command.specs.Takings.{Files, taking}
 use Rattle.sd_command.specs.Readings.{reading_refusal}
 use Rattle.sd_command.specs.Balances.{balancing}
 use Rattle.sd_command.specs.Nets.{IsDeadlocked, feeding}
@@ -35,6 +37,10 @@ pub record IsFileRefusal (bytes : List ℕ) (refusal : Refusal) : Type 0 where
 -- reading the file of scenarios that the bytes spell
 abbrev pub reading_scenarios : List ℕ → Step ScenarioFile
 reading_scenarios bytes = deciding (λ file. GivesFile bytes file) (λ refusal. IsFileRefusal bytes refusal)
+
+-- taking the file of scenarios of a name, and reading it
+abbrev pub opening_scenarios : Files → List ℕ → Step ScenarioFile
+opening_scenarios files name = through (taking files kinds.Graph name) λ bytes. reading_scenarios bytes
 
 -- a refusal of a graph, as that of the scenario of this printed name
 abbrev pub of_scenario : List ℕ → Refusal → Refusal

@@ -2,11 +2,10 @@
 use Rattle.std.specs.Prelude.{ℕ, true, List}
 use Rattle.sd_base.specs.declared.tables.GraphFile.{GraphFile}
 use Rattle.sd_base.specs.FileNet.{net_of}
-use Rattle.sd_command.specs.declared.file_kind.FileKind.TheVariants.{Graph}
 use Rattle.sd_command.specs.declared.wanted.WantedPoints.{WantedPoints}
 use Rattle.sd_command.specs.Courses.{Ending, After}
-use Rattle.sd_command.specs.Takings.{Files, taking}
-use Rattle.sd_command.specs.Readings.{reading_graph}
+use Rattle.sd_command.specs.Takings.{Files}
+use Rattle.sd_command.specs.Readings.{opening_graph}
 use Rattle.sd_command.specs.Balances.{balancing}
 use Rattle.sd_command.specs.PointAnswers.{points_of}
 
@@ -18,6 +17,5 @@ trade_off wanted graph =
 
 abbrev pub storage : List ℕ → WantedPoints → Files → Ending → ℕ → Type 0
 storage name wanted files =
-    After (taking files Graph name) λ bytes.
-    After (reading_graph bytes true) λ graph.
+    After (opening_graph files name true) λ graph.
     trade_off wanted graph

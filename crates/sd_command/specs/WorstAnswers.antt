@@ -14,12 +14,11 @@ use Rattle.cert_text.specs.declared.certificates.ScenarioCertificate.{ScenarioCe
 use Rattle.cert_maker.specs.WorstCertificates.{IsWorstCertificate}
 use Rattle.report.specs.declared.refusal.Refusal.{Refusal}
 use Rattle.report.specs.WorstTexts.{worst_lines}
-use Rattle.sd_command.specs.declared.file_kind.FileKind.TheVariants.{Graph}
 use Rattle.sd_command.specs.declared.answer.Answer.{Answer}
 use Rattle.sd_command.specs.Certifyings.{Certifies, IsTooLong}
 use Rattle.sd_command.specs.Courses.{Analysis, Ending, After, ends_by}
-use Rattle.sd_command.specs.Takings.{Files, taking}
-use Rattle.sd_command.specs.ScenarioSteps.{reading_scenarios, timing}
+use Rattle.sd_command.specs.Takings.{Files}
+use Rattle.sd_command.specs.ScenarioSteps.{opening_scenarios, timing}
 
 -- a worst rate of a file is shown by its timed graph: by the chosen critical cycle, and by the least potentials that fit, which
 -- stand at the nodes that are reached
@@ -67,6 +66,5 @@ worst_of certificate file =
 
 abbrev pub scenario : List ℕ → Option (List ℕ) → Files → Ending → ℕ → Type 0
 scenario name certificate files =
-    After (taking files Graph name) λ bytes.
-    After (reading_scenarios bytes) λ file.
+    After (opening_scenarios files name) λ file.
     worst_of certificate file

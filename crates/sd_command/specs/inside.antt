@@ -1,3 +1,4 @@
 pub mod Going
 pub mod PointTasks
 pub mod Verdicts
+pub mod Wants

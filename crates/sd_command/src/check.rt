@@ -8,9 +8,9 @@ ghost use Rattle.sd_command.specs.inside.Going.{Goes};
 
 use crate::answer::Answer;
 use crate::balancing::balanced;
-use crate::certificate_reading::read_text;
 use crate::file_kind::FileKind;
 use crate::judging::judged;
+use crate::opening::open_certificate;
 use crate::reading::read;
 use crate::scenario_steps::{read_file, timed};
 use crate::stop::Stop;
@@ -34,8 +34,7 @@ pub(crate) fn answer<S: Shelf>(
     ensures grows { S.faults shelf.old ≤ S.faults shelf.new }
 {
     let bytes = take(alloc, shelf, FileKind::Graph, graph)?;
-    let text = take(alloc, shelf, FileKind::Certificate, certificate)?;
-    let read = read_text(alloc, text.as_slice())?;
+    let read = open_certificate(alloc, shelf, certificate)?;
     checked(alloc, bytes.as_slice(), read.0, &read.1)
 }
 

@@ -6,11 +6,10 @@ ghost use Rattle.sd_command.specs.Takings.{Files};
 ghost use Rattle.sd_command.specs.inside.Going.{Goes};
 
 use crate::answer::Answer;
-use crate::certificate_reading::read_text;
 use crate::certifying::certify;
 use crate::file_kind::FileKind;
+use crate::opening::open_certificate;
 use crate::stop::Stop;
-use crate::taking::take;
 use cert_text::Certificate;
 use report::{CertificateKind, converted_text};
 use sd_io::Shelf;
@@ -29,8 +28,7 @@ pub(crate) fn answer<S: Shelf>(
     ensures telling { S.tells shelf.new ≡ S.tells shelf.old }
     ensures grows { S.faults shelf.old ≤ S.faults shelf.new }
 {
-    let bytes = take(alloc, shelf, FileKind::Certificate, certificate)?;
-    let read = read_text(alloc, bytes.as_slice())?;
+    let read = open_certificate(alloc, shelf, certificate)?;
     converted(alloc, output, &read.1)
 }
 

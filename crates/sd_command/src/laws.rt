@@ -1,11 +1,15 @@
 ghost use Rattle.sd_command.specs.AcceptedCertificates.{PutsAreAccepted};
+ghost use Rattle.sd_command.specs.KeptOrders.{OrdersAreKept};
 ghost use Rattle.sd_command.specs.PutCertificates.{PutsAreValid};
-ghost use Rattle.sd_command.specs.Endings.{CheckIsComplete, ConvertIsComplete, DueIsAnswered, DueIsOne, ElseIsDone, GenerateIsComplete, StorageIsComplete, ThroughputIsComplete};
+ghost use Rattle.sd_command.specs.Endings.{CheckIsComplete, CompleteIsComplete, ConvertIsComplete, DueIsAnswered, DueIsOne, ElseIsDone, ExpandIsComplete, GenerateIsComplete, OrderedIsComplete, RepetitionIsComplete, ScenarioIsComplete, StorageIsComplete, ThroughputIsComplete};
 
 use balance::one_answer;
 use cert_maker::laws::storage_certificates_are_valid;
 use graph_reader::know_files;
 use lasso::one_ending;
+use ordered::laws::{
+    named_orders_fit, ordered_nets_are_lawful, ordered_nets_have_the_greatest_rate,
+};
 use scenario_reader::know_scenario_files;
 use sd_base::laws::{
     blocking_counts_bound_each_schedule, ending_counts_are_one, file_nets_are_lawful,
@@ -13,18 +17,24 @@ use sd_base::laws::{
 use token_matrix::matrices_are_one;
 
 /// The words and files decide how a run ends, but for faults and want of memory; and what is put beside a rate, a
-/// trade-off or a worst rate is valid, and accepted by `check`.
+/// trade-off or a worst rate is valid, and accepted by `check`. The rate by orders is the greatest of the schedules that keep them.
 pub fn know_endings()
     ensures one { DueIsOne }
     ensures due { DueIsAnswered }
     ensures done { ElseIsDone }
+    ensures repetition { RepetitionIsComplete }
     ensures throughput { ThroughputIsComplete }
     ensures storage { StorageIsComplete }
+    ensures scenario { ScenarioIsComplete }
     ensures generate { GenerateIsComplete }
     ensures valid { PutsAreValid }
     ensures accepted { PutsAreAccepted }
     ensures check { CheckIsComplete }
     ensures convert { ConvertIsComplete }
+    ensures expand { ExpandIsComplete }
+    ensures ordered { OrderedIsComplete }
+    ensures orders { OrdersAreKept }
+    ensures complete { CompleteIsComplete }
 {
     know_files();
     know_scenario_files();
@@ -35,4 +45,7 @@ pub fn know_endings()
     blocking_counts_bound_each_schedule();
     storage_certificates_are_valid();
     one_ending();
+    ordered_nets_are_lawful();
+    ordered_nets_have_the_greatest_rate();
+    named_orders_fit();
 }

@@ -1,18 +1,33 @@
 ghost use Rattle.std.specs.Prelude.{◌≡◌, ◌↔◌, IfOk, IsTrue, MatchOption};
 ghost use Rattle.report.specs.LinkTexts.{IsNamed};
-ghost use Rattle.sd_base.specs.Connection.{ends_of};
+ghost use Rattle.sd_base.specs.Connection.{IsStronglyConnected, ends_of};
+ghost use Rattle.sd_base.specs.Untimed.{IsLive};
 ghost use Rattle.storage.specs.TouchedActors.{AreTouched, IsTouched};
-ghost use Rattle.sd_command.specs.Nets.{IsFirstUntouched, completing, feeding, joining, touching};
+ghost use Rattle.sd_command.specs.Nets.{IsFed, IsFirstUntouched, completing, feeding, joining, testing, touching};
 ghost use Rattle.sd_command.specs.inside.Going.{Does};
 
 use crate::names::name_of;
 use crate::stop::Stop;
 use balance::{ConnectError, no_input, strongly_connected};
-use firing::{Firing, know_laws};
-use liveness::{Round, one_round};
+use firing::{Firing, Wiring, know_laws};
+use liveness::{Ending, no_counts, one_round_from};
 use report::{Refusal, lacks_text};
 use sd_base::{GraphFile, NoMemory};
 use std::alloc::Global;
+
+/// Tests a net that is to be executed: paths lead from each actor to each, a channel into each, and a round can be completed.
+/// `graph` has the names of the net's actors and channels.
+pub(crate) fn test<F: Firing>(alloc: Global, net: &F, graph: &GraphFile) -> Result<(), Stop>
+    requires { IsNamed graph.now (F.net net.now) }
+    ensures does { Does (testing graph.now (F.net net.now)) result }
+    ensures joined { IfOk result (λ _. IsStronglyConnected (F.net net.now)) }
+    ensures fed { IfOk result (λ _. IsFed (F.net net.now)) }
+    ensures live { IfOk result (λ _. IsLive (F.net net.now)) }
+{
+    join(alloc, net, graph)?;
+    feed(alloc, net, graph)?;
+    complete(alloc, net, graph)
+}
 
 /// Tests that paths lead from each actor to each. `graph` has the names of the net's actors and channels.
 pub(crate) fn join<F: Firing>(alloc: Global, net: &F, graph: &GraphFile) -> Result<(), Stop>
@@ -101,9 +116,11 @@ pub(crate) fn complete<F: Firing>(alloc: Global, net: &F, graph: &GraphFile) -> 
     requires { IsNamed graph.now (F.net net.now) }
     ensures { Does (completing graph.now (F.net net.now)) result }
 {
-    match one_round(alloc, net)? {
-        Round::Live { .. } => Ok(()),
-        Round::Blocked { counts, lacks } => Err(Stop::Refused(Refusal::Deadlock {
+    let wiring = Wiring::new(alloc, net)?;
+    let counts = no_counts(alloc, net)?;
+    match one_round_from(alloc, net, &wiring, counts.as_slice())? {
+        Ending::Whole => Ok(()),
+        Ending::Blocked { counts, lacks } => Err(Stop::Refused(Refusal::Deadlock {
             scenario: None,
             list: lacks_text(alloc, net, graph, counts.as_slice(), lacks.as_slice())?,
         })),

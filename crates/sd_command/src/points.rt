@@ -1,6 +1,4 @@
-ghost use Rattle.std.specs.Prelude.{◌≡◌, ℕ, ◌+◌, ◌-◌, ◌*◌, ◌≤◌, IfOk, All, List, length};
-ghost use Rattle.std.specs.List.{AllZip};
-ghost use Rattle.sd_base.specs.declared.limits.Limits.{Limits as SomeLimits};
+ghost use Rattle.std.specs.Prelude.{◌≡◌, ℕ, ◌+◌, ◌-◌, ◌*◌, ◌≤◌, IfOk, All, length};
 ghost use Rattle.sd_base.specs.declared.limits.TheConstants.{NET_CHANNELS, STORAGE};
 ghost use Rattle.sd_base.specs.Tables.{IsTimed, KeepsRules};
 ghost use Rattle.sd_base.specs.Connection.{IsConnected};
@@ -8,17 +6,16 @@ ghost use Rattle.sd_base.specs.FileNet.{net_of};
 ghost use Rattle.balance.specs.Repetition.{IsRound};
 ghost use Rattle.periodic.specs.declared.schedule.Periodic.{Periodic as APeriodic};
 ghost use Rattle.storage.specs.Distributions.{IsPlain};
-ghost use Rattle.pareto_front.specs.declared.point.Point.{Point as APoint};
 ghost use Rattle.explore.specs.declared.exploration.Exploration.{Exploration as AnExploration};
 ghost use Rattle.explore.specs.Reachable.{IsExplorable};
-ghost use Rattle.explore.specs.Explorations.{CountsFew, IsExploration, IsOneOf, IsPoint, cycles_in};
+ghost use Rattle.explore.specs.Explorations.{CountsFew, IsExploration, cycles_in};
 ghost use Rattle.report.specs.LinkTexts.{IsNamed};
 ghost use Rattle.cert_text.specs.declared.certificates.Certificate.{Certificate as ACertificate};
 ghost use Rattle.cert_text.specs.Spellable.{AreStarts};
 ghost use Rattle.cert_maker.specs.Links.{HasNoOrders};
 ghost use Rattle.sd_words.specs.Asked.{AreLimits};
 ghost use Rattle.sd_command.specs.Certifyings.{Certifies, IsTooLong};
-ghost use Rattle.sd_command.specs.PointAnswers.{ArePointsTooLong, IsExplorationEnd, IsOfPoints, IsPointSchedule, IsPointsAnswer, points_of};
+ghost use Rattle.sd_command.specs.PointAnswers.{ArePointsTooLong, IsExplorationEnd, IsOfPoints, IsPointsAnswer, points_of};
 ghost use Rattle.sd_command.specs.Courses.{deciding};
 ghost use Rattle.sd_command.specs.inside.Going.{Does, Goes};
 

@@ -1,6 +1,5 @@
 ghost use Rattle.std.specs.Prelude.{◌≡◌, ◌≢◌, IfOk, IsTrue, None};
 ghost use Rattle.sd_base.specs.Tables.{IsTimed, KeepsRules};
-ghost use Rattle.file_text.specs.declared.error.TextError.TheVariants as text;
 ghost use Rattle.graph_reader.specs.declared.error.ReadError.TheVariants as reading;
 ghost use Rattle.graph_reader.specs.Field.{word_of};
 ghost use Rattle.sd_base.specs.Limits.{greatest_of};

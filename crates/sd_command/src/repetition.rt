@@ -5,10 +5,8 @@ ghost use Rattle.sd_command.specs.inside.Going.{Goes};
 
 use crate::answer::Answer;
 use crate::balancing::balanced;
-use crate::file_kind::FileKind;
-use crate::reading::read;
+use crate::opening::open_graph;
 use crate::stop::Stop;
-use crate::taking::take;
 use report::repetition_text;
 use sd_io::Shelf;
 use std::alloc::Global;
@@ -21,8 +19,7 @@ pub(crate) fn answer<S: Shelf>(alloc: Global, shelf: &mut S, name: &str) -> Resu
     ensures telling { S.tells shelf.new ≡ S.tells shelf.old }
     ensures grows { S.faults shelf.old ≤ S.faults shelf.new }
 {
-    let bytes = take(alloc, shelf, FileKind::Graph, name)?;
-    let graph = read(alloc, bytes.as_slice(), false)?;
+    let graph = open_graph(alloc, shelf, name, false)?;
     let gamma = balanced(alloc, &graph)?;
     Ok(Answer {
         text: repetition_text(alloc, &graph, gamma.as_slice())?,

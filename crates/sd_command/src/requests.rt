@@ -7,8 +7,8 @@ ghost use Rattle.sd_command.specs.inside.Going.{Goes};
 use crate::answer::Answer;
 use crate::asking::ask;
 use crate::stop::Stop;
-use crate::wanted::{WantedPoints, WantedRate};
-use crate::{check, convert, generate, repetition, scenario, throughput, trade_off};
+use crate::wanted::{Wanted, WantedPoints, WantedRate, WantedRounds};
+use crate::{bounded_course, check, convert, generate, repetition, scenario, trade_off};
 use fanout::Gate;
 use sd_base::{Ledger, Steps, Text};
 use sd_io::Shelf;
@@ -63,16 +63,16 @@ fn command_answer<R: Threads + Sync, S: Shelf, G: Gate + Sync, L: Ledger + Send>
             no_overlap,
             states,
             certificate,
-        } => throughput::answer(
+        } => bounded_course::answer(
             alloc,
             shelf,
             graph.as_str(),
             buffers.as_slice(),
-            &WantedRate {
+            &Wanted::Rate(WantedRate {
                 no_overlap,
                 states,
                 certificate,
-            },
+            }),
             steps,
         ),
         Request::Storage {
@@ -108,5 +108,57 @@ fn command_answer<R: Threads + Sync, S: Shelf, G: Gate + Sync, L: Ledger + Send>
             certificate,
             output,
         } => convert::answer(alloc, shelf, certificate.as_str(), output.as_str()),
+        Request::Expand {
+            graph,
+            output,
+            buffers,
+            no_overlap,
+        } => bounded_course::answer(
+            alloc,
+            shelf,
+            graph.as_str(),
+            buffers.as_slice(),
+            &Wanted::Expansion { output, no_overlap },
+            steps,
+        ),
+        Request::Ordered {
+            graph,
+            order,
+            buffers,
+            no_overlap,
+            states,
+        } => bounded_course::answer(
+            alloc,
+            shelf,
+            graph.as_str(),
+            buffers.as_slice(),
+            &Wanted::Ordered {
+                lists: order,
+                rate: WantedRate {
+                    no_overlap,
+                    states,
+                    certificate: None,
+                },
+            },
+            steps,
+        ),
+        Request::Complete {
+            graph,
+            rounds,
+            buffers,
+            no_overlap,
+            states,
+        } => bounded_course::answer(
+            alloc,
+            shelf,
+            graph.as_str(),
+            buffers.as_slice(),
+            &Wanted::Rounds(WantedRounds {
+                no_overlap,
+                states,
+                rounds,
+            }),
+            steps,
+        ),
     }
 }

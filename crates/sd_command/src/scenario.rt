@@ -13,9 +13,9 @@ ghost use Rattle.sd_command.specs.inside.Going.{Does, Goes};
 use crate::answer::{Answer, Put};
 use crate::certifying::certify;
 use crate::file_kind::FileKind;
-use crate::scenario_steps::{read_file, timed};
+use crate::opening::open_scenarios;
+use crate::scenario_steps::timed;
 use crate::stop::Stop;
-use crate::taking::take;
 use automaton::TimedGraph;
 use cert_maker::worst_certificate;
 use report::worst_text;
@@ -37,8 +37,7 @@ pub(crate) fn answer<S: Shelf>(
     ensures telling { S.tells shelf.new ≡ S.tells shelf.old }
     ensures grows { S.faults shelf.old ≤ S.faults shelf.new }
 {
-    let bytes = take(alloc, shelf, FileKind::Graph, name)?;
-    let file = read_file(alloc, bytes.as_slice())?;
+    let file = open_scenarios(alloc, shelf, name)?;
     worst_of(alloc, &file, certificate)
 }
 

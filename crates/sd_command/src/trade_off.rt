@@ -7,11 +7,9 @@ ghost use Rattle.sd_command.specs.inside.Going.{Goes};
 
 use crate::answer::Answer;
 use crate::balancing::balanced;
-use crate::file_kind::FileKind;
+use crate::opening::open_graph;
 use crate::points::points_of_graph;
-use crate::reading::read;
 use crate::stop::Stop;
-use crate::taking::take;
 use crate::wanted::WantedPoints;
 use fanout::Gate;
 use sd_base::{GraphFile, Ledger, Steps};
@@ -38,8 +36,7 @@ pub(crate) fn answer<R: Threads + Sync, S: Shelf, G: Gate + Sync, L: Ledger + Se
     ensures rises { steps.old.count ≤ steps.new.count }
     ensures share { steps.new.share ≡ steps.old.share }
 {
-    let bytes = take(alloc, shelf, FileKind::Graph, name)?;
-    let graph = read(alloc, bytes.as_slice(), true)?;
+    let graph = open_graph(alloc, shelf, name, true)?;
     trade_off(rt, alloc, &graph, wanted, gate, steps)
 }
 

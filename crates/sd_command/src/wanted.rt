@@ -1,4 +1,38 @@
-use sd_base::{Limits, Text};
+ghost use Rattle.std.specs.Prelude.{◌≡◌};
+ghost use Rattle.sd_command.specs.inside.Wants.{no_overlap_of};
+
+use sd_base::{Limits, Rows, Text};
+
+/// What words ask of the net of a graph whose named channels have a capacity.
+#[derive(Debug, Drop)]
+pub(crate) enum Wanted {
+    Rate(WantedRate),
+    /// The rate by orders: by processor the names of the actors whose firings it runs one after another.
+    Ordered {
+        lists: Rows<Rows<Text>>,
+        rate: WantedRate,
+    },
+    Rounds(WantedRounds),
+    /// The expansion, under the name of the output.
+    Expansion {
+        output: Text,
+        no_overlap: bool,
+    },
+}
+
+impl Wanted {
+    /// Whether no firings of an actor may overlap.
+    pub(crate) fn no_overlap(&self) -> bool
+        ensures { result ≡ no_overlap_of self.now }
+    {
+        match self {
+            Wanted::Rate(rate) => rate.no_overlap,
+            Wanted::Ordered { rate, .. } => rate.no_overlap,
+            Wanted::Rounds(rounds) => rounds.no_overlap,
+            Wanted::Expansion { no_overlap, .. } => *no_overlap,
+        }
+    }
+}
 
 /// What words ask for beside the rate of a graph: that no firings of an actor overlap, among how many shapes one has to come
 /// again, and a certificate under a name.
@@ -7,6 +41,15 @@ pub(crate) struct WantedRate {
     pub no_overlap: bool,
     pub states: u64,
     pub certificate: Option<Text>,
+}
+
+/// What words ask for beside the least time for rounds of a graph: that no firings of an actor overlap, among how many shapes
+/// one has to come again, and how many rounds.
+#[derive(Debug, Drop)]
+pub(crate) struct WantedRounds {
+    pub no_overlap: bool,
+    pub states: u64,
+    pub rounds: u64,
 }
 
 /// What words ask for beside the points of a graph: how far they are explored, that no firings of an actor overlap, and a

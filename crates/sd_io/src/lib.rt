@@ -3,7 +3,8 @@
 
 mod memory_shelf;
 mod memory_sink;
-mod real;
+mod real_shelf;
+mod real_sink;
 mod sending;
 mod shelf;
 mod sink;
@@ -11,10 +12,8 @@ mod streams;
 
 pub use memory_shelf::{MemoryShelf, names_differ};
 pub use memory_sink::MemorySink;
-pub use real::{RealShelf, RealSink};
+pub use real_shelf::RealShelf;
+pub use real_sink::RealSink;
 pub use sending::send_all;
 pub use shelf::{PutError, Shelf, TakeError, know_shelf};
 pub use sink::{Failed, Sink, know_sink};
-
-#[cfg(test)]
-mod tests;

@@ -1,4 +1,4 @@
-ghost use Rattle.std.specs.Prelude.{◌<◌, ◌≤◌, length, take, IfOk, IfSome, OnOk, MatchResult};
+ghost use Rattle.std.specs.Prelude.{◌≡◌, ◌<◌, ◌≤◌, length, take, Err, IfErr, IfOk, IfSome, OnOk, MatchResult};
 ghost use Rattle.std.specs.Io.KnownBytes.{Appends, Keeps};
 ghost use Rattle.sd_io.specs.Streams.{IsWithin};
 
@@ -10,7 +10,7 @@ use std::io::{Read, Write};
 
 /// The bytes that a reader has left, if they are at most `limit`; `None` where they are more. One byte past the
 /// limit is read, and no more.
-pub(crate) fn read_within<R: Read + Drop>(
+fn read_within<R: Read + Drop>(
     alloc: Global,
     reader: R,
     limit: usize,
@@ -25,6 +25,23 @@ pub(crate) fn read_within<R: Read + Drop>(
         Ok(None)
     } else {
         Ok(Some(Rows::from_vec(bytes)))
+    }
+}
+
+/// What `read_within` gives, if the reader was opened, and else the error of opening it.
+pub(crate) fn read_opened<R: Read + Drop>(
+    alloc: Global,
+    opened: io::Result<R>,
+    limit: usize,
+) -> io::Result<Option<Rows<u8>>>
+    requires { limit < usize.MAX }
+    ensures fits { IfOk result (λ given. IfSome given (λ bytes. length bytes ≤ limit)) }
+    ensures within { IfOk opened (λ reader. IfOk result (IsWithin (R.remaining reader) limit)) }
+    ensures error { IfErr opened (λ error. result ≡ Err error) }
+{
+    match opened {
+        Ok(reader) => read_within(alloc, reader, limit),
+        Err(error) => Err(error),
     }
 }
 

@@ -19,7 +19,7 @@ use Rattle.sd_words.specs.Values.{is_value}
 use Rattle.sd_words.specs.declared.form.Form.TheVariants as form
 use Rattle.sd_words.specs.Forms.{fits}
 use Rattle.sd_words.specs.Reading.{◌>>=◌, Progress, is_taken, with_setting, with_value, with_name, with_text, with_option, with_word, with_words, finished, settings_of}
-use Rattle.sd_words.specs.Asked.{value_of, values_in, standing, is_good, judged, checked, all_checked, are_one, named_apart, output_apart, puts_certificate, certificate_apart, tested, options, algorithm_in, known, algorithm_of, request_for, request_from, request_of}
+use Rattle.sd_words.specs.Asked.{value_of, values_in, standing, is_good, judged, checked, all_checked, are_one, named_apart, output_apart, input_of, puts_certificate, certificate_apart, tested, options, algorithm_in, known, algorithm_of, request_for, request_from, request_of}
 use Rattle.sd_words.specs.Rules.{IsFault, AllFit, IsFirstFault, IsNamedAs, IsNamedTwice, IsWrong, Asks, AreMisspelled, AskNothing}
 use Rattle.sd_words.proofs.TestChains.{bind-ok}
 use Rattle.sd_words.proofs.Spelled.{read-spelled, spelled-read}
@@ -93,7 +93,7 @@ apart-same o p settings cause h =
     let e = apart-err o (are_one (value_of o settings) (value_of p settings)) cause h in
     (twice-named (value_of o settings) (value_of p settings) e.0, e.1)
 
--- only one algorithm has an output
+-- each algorithm that has an output requires it
 
 asked-output : (a : Algorithm) (w : List ℕ) → judged (standing a option.Output) a option.Output (Some w) ≡ Ok (tt {0}) → standing a option.Output ≡ Required form.Any
 unfolding standing judged
@@ -104,12 +104,15 @@ asked-output algorithm.Scenario w h = absurd (cc)
 asked-output algorithm.Check w h = absurd (cc)
 asked-output algorithm.Generate w h = absurd (cc)
 asked-output algorithm.Convert w h = refl
+asked-output algorithm.Ordered w h = absurd (cc)
+asked-output algorithm.Expand w h = refl
+asked-output algorithm.Complete w h = absurd (cc)
 
 output-fault : (a : Algorithm) (o : OptionName) (settings : List Setting) (cause : UsageCause)
-    → judged (standing a o) a o (value_of o settings) ≡ Ok (tt {0}) → output_apart o (values_in settings) ≡ Err cause → IsFault a settings o cause
+    → judged (standing a o) a o (value_of o settings) ≡ Ok (tt {0}) → output_apart a o (values_in settings) ≡ Err cause → IsFault a settings o cause
 unfolding output_apart
 output-fault a option.Output settings cause ok h =
-    let same = apart-same option.Output option.Certificate settings cause h in
+    let same = apart-same option.Output (input_of a) settings cause h in
     let st = asked-output a same.0.0 (subst (λ v. judged (standing a option.Output) a option.Output v ≡ Ok (tt {0})) same.0.1 ok) in
     inr (inr (inr (st, refl, same.0, same.1)))
 output-fault a option.Algo settings cause ok h = absurd (cc)
@@ -121,14 +124,16 @@ output-fault a option.Distributions settings cause ok h = absurd (cc)
 output-fault a option.Limit settings cause ok h = absurd (cc)
 output-fault a option.Seed settings cause ok h = absurd (cc)
 output-fault a option.Actors settings cause ok h = absurd (cc)
+output-fault a option.Order settings cause ok h = absurd (cc)
+output-fault a option.Rounds settings cause ok h = absurd (cc)
 output-fault a option.NoOverlap settings cause ok h = absurd (cc)
 
-named-output : (a : Algorithm) (settings : List Setting) → standing a option.Output ≡ Required form.Any → IsNamedAs settings option.Output option.Certificate
+named-output : (a : Algorithm) (settings : List Setting) → standing a option.Output ≡ Required form.Any → IsNamedAs settings option.Output (input_of a)
     → checked a option.Output (values_in settings) ≡ Err (BadValue option.Output)
 unfolding checked judged output_apart fits
 named-output a settings st twice =
     let ok : judged (standing a option.Output) a option.Output (value_of option.Output settings) ≡ Ok (tt {0}) = rw (st, twice.1) refl in
-    ap (λ r. r >>= λ _. output_apart option.Output (values_in settings)) ok ∙ same-apart option.Output option.Certificate settings twice
+    ap (λ r. r >>= λ _. output_apart a option.Output (values_in settings)) ok ∙ same-apart option.Output (input_of a) settings twice
 
 outcome : {A : Type 0} (r : Result A UsageCause) → ((x : A) × (r ≡ Ok x)) ⊎ ((cause : UsageCause) × (r ≡ Err cause))
 outcome (Ok x) = inl (x, refl)
@@ -137,9 +142,9 @@ outcome (Err cause) = inr (cause, refl)
 checked-fault : (a : Algorithm) (o : OptionName) (settings : List Setting) (cause : UsageCause) → checked a o (values_in settings) ≡ Err cause → IsFault a settings o cause
 unfolding checked
 checked-fault a o settings cause h = elim (outcome (judged (standing a o) a o (value_of o settings))) [
-  | inl e ↦ output-fault a o settings cause e.1 (sym (ap (λ r. r >>= λ _. output_apart o (values_in settings)) e.1) ∙ h)
+  | inl e ↦ output-fault a o settings cause e.1 (sym (ap (λ r. r >>= λ _. output_apart a o (values_in settings)) e.1) ∙ h)
   | inr e ↦
-      let same : Err e.0 ≡ Err cause = sym (ap (λ r. r >>= λ _. output_apart o (values_in settings)) e.1) ∙ h in
+      let same : Err e.0 ≡ Err cause = sym (ap (λ r. r >>= λ _. output_apart a o (values_in settings)) e.1) ∙ h in
       let is : e.0 ≡ cause = cc (same) in
       judged-fault (standing a o) (value_of o settings) a o settings cause refl refl (e.1 ∙ ap (λ c. Err c) is)
 ]
@@ -149,7 +154,7 @@ unfolding checked judged
 fault-checked a o settings cause (inl h) = rw (h.1, h.2, h.3) refl
 fault-checked a o settings cause (inr (inl h)) = rw (h.1, h.2, h.3) refl
 fault-checked a o settings cause (inr (inr (inl h))) =
-    rw (h.2, h.4) (ap (λ r. r >>= λ _. output_apart o (values_in settings)) (judged-bad (standing a o) h.0 a o h.1 h.3))
+    rw (h.2, h.4) (ap (λ r. r >>= λ _. output_apart a o (values_in settings)) (judged-bad (standing a o) h.0 a o h.1 h.3))
 fault-checked a o settings cause (inr (inr (inr h))) =
     rw h.3 (subst (λ p. standing a p ≡ Required form.Any → checked a p (values_in settings) ≡ Err (BadValue p)) (sym h.1) (λ st. named-output a settings st h.2) h.0)
 
@@ -207,6 +212,9 @@ named-word algorithm.Scenario = refl
 named-word algorithm.Check = refl
 named-word algorithm.Generate = refl
 named-word algorithm.Convert = refl
+named-word algorithm.Ordered = refl
+named-word algorithm.Expand = refl
+named-word algorithm.Complete = refl
 
 found-first : (b : Bool) (x a : Algorithm) (w : List ℕ) (r : Option Algorithm) → bytes_eq (algorithm_word x) w ≡ b → cond b (Some x) r ≡ Some a → (w ≡ algorithm_word a) ⊎ (r ≡ Some a)
 found-first true x a w r e h =

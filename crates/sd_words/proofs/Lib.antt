@@ -1,4 +1,5 @@
 mod BufferParts
+mod OrderParts
 pub mod Turns
 pub mod Seen
 pub mod Apart

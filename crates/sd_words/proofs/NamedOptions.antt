@@ -29,7 +29,7 @@ valued_among (o ∷ os) name v h = elim (either-true (bytes_eq (option_word o) n
 -- a name of an option that has a value
 pub names_value-is : (name : List ℕ) → names_value name ≡ true → (o : OptionName) × (o ≢ option.NoOverlap) × (name ≡ option_word o)
 unfolding names_value
-names_value-is name h = valued_among valued_options name ((λ e. cc), ((λ e. cc), ((λ e. cc), ((λ e. cc), ((λ e. cc), ((λ e. cc), ((λ e. cc), ((λ e. cc), ((λ e. cc), ((λ e. cc), tt)))))))))) h
+names_value-is name h = valued_among valued_options name ((λ e. cc), ((λ e. cc), ((λ e. cc), ((λ e. cc), ((λ e. cc), ((λ e. cc), ((λ e. cc), ((λ e. cc), ((λ e. cc), ((λ e. cc), ((λ e. cc), ((λ e. cc), tt)))))))))))) h
 
 pub names_value-of : (o : OptionName) → o ≢ option.NoOverlap → names_value (option_word o) ≡ true
 unfolding names_value option_word
@@ -43,6 +43,8 @@ names_value-of option.Limit n = refl
 names_value-of option.Seed n = refl
 names_value-of option.Actors n = refl
 names_value-of option.Output n = refl
+names_value-of option.Order n = refl
+names_value-of option.Rounds n = refl
 names_value-of option.NoOverlap n = absurd (n refl)
 
 pub names_flag-other : (o : OptionName) → o ≢ option.NoOverlap → names_flag (option_word o) ≡ false
@@ -57,6 +59,8 @@ names_flag-other option.Limit n = refl
 names_flag-other option.Seed n = refl
 names_flag-other option.Actors n = refl
 names_flag-other option.Output n = refl
+names_flag-other option.Order n = refl
+names_flag-other option.Rounds n = refl
 names_flag-other option.NoOverlap n = absurd (n refl)
 
 pub names_flag-of : names_flag (option_word option.NoOverlap) ≡ true
@@ -80,6 +84,8 @@ words_whole option.Limit = refl
 words_whole option.Seed = refl
 words_whole option.Actors = refl
 words_whole option.Output = refl
+words_whole option.Order = refl
+words_whole option.Rounds = refl
 words_whole option.NoOverlap = refl
 
 -- what follows `--`

@@ -74,6 +74,8 @@ by-long opt.Limit n = refl
 by-long opt.Seed n = refl
 by-long opt.Actors n = refl
 by-long opt.Output n = refl
+by-long opt.Order n = refl
+by-long opt.Rounds n = refl
 by-long opt.NoOverlap n = absurd (n refl)
 
 flag-by-long : arg_by_long rules flag_word ≡ Some flag_rule
@@ -92,6 +94,8 @@ by-id opt.Limit n = refl
 by-id opt.Seed n = refl
 by-id opt.Actors n = refl
 by-id opt.Output n = refl
+by-id opt.Order n = refl
+by-id opt.Rounds n = refl
 by-id opt.NoOverlap n = absurd (n refl)
 
 all-words : (words : List (List ℕ)) → argument_words command_of_options words ≡ words
@@ -120,6 +124,8 @@ long-alone opt.Limit = refl
 long-alone opt.Seed = refl
 long-alone opt.Actors = refl
 long-alone opt.Output = refl
+long-alone opt.Order = refl
+long-alone opt.Rounds = refl
 long-alone opt.NoOverlap = refl
 
 no-end : (o : OptionName) → bytes_eq (codes "--" ++ option_word o) (45 ∷ 45 ∷ []) ≡ false
@@ -134,6 +140,8 @@ no-end opt.Limit = refl
 no-end opt.Seed = refl
 no-end opt.Actors = refl
 no-end opt.Output = refl
+no-end opt.Order = refl
+no-end opt.Rounds = refl
 no-end opt.NoOverlap = refl
 
 rest-joined : (n v : List ℕ) → long_of_rest (n ++ 61 ∷ v) ≡ Some (name_and_value (n ++ 61 ∷ v))
@@ -518,6 +526,8 @@ found f words settings e is = λ i o. each o i
     each opt.Seed = text opt.Seed (λ k. cc)
     each opt.Actors = text opt.Actors (λ k. cc)
     each opt.Output = text opt.Output (λ k. cc)
+    each opt.Order = text opt.Order (λ k. cc)
+    each opt.Rounds = text opt.Rounds (λ k. cc)
     each opt.NoOverlap =
         ap flag_value (first_value-rows f flag_word ∙ ap (first_of flag_word) rows)
         ∙ flag-found settings words (added settings) (read-spelled words settings e).split (no-flag (is_taken flag_word settings))

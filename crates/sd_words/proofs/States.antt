@@ -6,14 +6,14 @@ use Rattle.std.specs.Str.{bytes_eq}
 use Rattle.std.proofs.lemmas.List.Elements.{All-nil, All-push}
 use Rattle.std.proofs.lemmas.Bool.{leb-true}
 use Rattle.std.specs.Prelude.{◌==◌, nat_le, nat_lt, unwrap_or, option_and_then}
-use Rattle.sd_base.specs.declared.limits.TheConstants.{ACTORS, CAPACITY, DISTRIBUTIONS, LEAST_DISTRIBUTIONS, LEAST_STATES, STATES, STORAGE, USUAL_DISTRIBUTIONS, USUAL_STATES}
+use Rattle.sd_base.specs.declared.limits.TheConstants.{ACTORS, CAPACITY, DISTRIBUTIONS, LEAST_DISTRIBUTIONS, LEAST_ROUNDS, LEAST_STATES, ROUNDS, STATES, STORAGE, USUAL_DISTRIBUTIONS, USUAL_STATES}
 use Rattle.sd_words.specs.declared.making.TheConstants.{LEAST_ACTORS, USUAL_ACTORS}
 use Rattle.sd_words.specs.declared.names.OptionName.{OptionName}
 use Rattle.sd_words.specs.declared.names.OptionName.TheVariants as option
 use Rattle.sd_words.specs.declared.names.Algorithm.{Algorithm}
 use Rattle.sd_words.specs.declared.names.Algorithm.TheVariants as algorithm
 use Rattle.sd_words.specs.Values.{is_decimal, number as value, number_within}
-use Rattle.sd_words.specs.Asked.{AreLimits, AreMadeActors, AreStates, actors_of, limit_of, IsWithinLimits, Values, capacities_of, limits_of, number_of, request_for, states_of}
+use Rattle.sd_words.specs.Asked.{AreLimits, AreMadeActors, AreRounds, AreStates, actors_of, limit_of, IsWithinLimits, Values, capacities_of, limits_of, number_of, request_for, rounds_of, states_of}
 use Rattle.sd_words.specs.Buffers.{Buffer, buffer_of, buffers_of, named_number, with_buffer, with_parts}
 use Rattle.escapes.specs.SpelledNames.{unescaped}
 
@@ -38,6 +38,9 @@ module _ (least greatest usual : ℕ) (above : least ≤ usual) (below : usual �
 
 states-given : (values : Values) → AreStates (states_of values)
 states-given values = number-given LEAST_STATES STATES USUAL_STATES (lit≤ tt) (lit≤ tt) option.States values
+
+rounds-given : (values : Values) → AreRounds (rounds_of values)
+rounds-given values = number-given LEAST_ROUNDS ROUNDS LEAST_ROUNDS (lit≤ tt) (lit≤ tt) option.Rounds values
 
 limit-given : (values : Values) → limit_of values ≤ STORAGE
 limit-given values = (number-given 0 STORAGE 0 (lit≤ tt) (lit≤ tt) option.Limit values).1
@@ -135,3 +138,6 @@ request-within algorithm.Scenario values = tt
 request-within algorithm.Check values = tt
 request-within algorithm.Generate values = (limit-given values, actors-given values)
 request-within algorithm.Convert values = tt
+request-within algorithm.Ordered values = (capacities-small values, states-given values)
+request-within algorithm.Expand values = capacities-small values
+request-within algorithm.Complete values = (capacities-small values, states-given values, rounds-given values)

@@ -1,7 +1,7 @@
 -- What settings ask for, or the first cause why they ask for nothing.
 use Rattle.std.specs.Prelude.{All, ◌≡◌, ◌≤◌, ℕ, Bool, true, false, List, [], ◌∷◌, Option, Some, None, Result, Ok, Err, MatchResult, is_some, unwrap_or, option_and_then, if◌then◌else◌}
 use Rattle.std.specs.Str.{bytes_eq}
-use Rattle.sd_base.specs.declared.limits.TheConstants.{ACTORS, CAPACITY, DISTRIBUTIONS, LEAST_DISTRIBUTIONS, LEAST_STATES, STATES, STORAGE, USUAL_DISTRIBUTIONS, USUAL_STATES}
+use Rattle.sd_base.specs.declared.limits.TheConstants.{ACTORS, CAPACITY, DISTRIBUTIONS, LEAST_DISTRIBUTIONS, LEAST_ROUNDS, LEAST_STATES, ROUNDS, STATES, STORAGE, USUAL_DISTRIBUTIONS, USUAL_STATES}
 use Rattle.sd_base.specs.declared.limits.Limits.{Limits}
 use Rattle.sd_words.specs.declared.making.TheConstants.{LEAST_ACTORS, SEED, USUAL_ACTORS}
 use Rattle.sd_words.specs.declared.names.OptionName.{OptionName}
@@ -21,6 +21,7 @@ use Rattle.sd_words.specs.OptionWords.{option_word, algorithm_named}
 use Rattle.sd_words.specs.Values.{number_within}
 use Rattle.sd_words.specs.Forms.{fits}
 use Rattle.sd_words.specs.Buffers.{Buffer, buffers_of}
+use Rattle.sd_words.specs.OrderLists.{orders_of}
 use Rattle.sd_words.specs.Spelling.{Setting}
 use Rattle.sd_words.specs.Reading.{◌>>=◌, settings_of}
 
@@ -56,7 +57,7 @@ algorithm_of values = algorithm_in (values option.Algo)
 
 -- the options beside `--algo`, in the order in which they are tested
 abbrev pub options : List OptionName
-options = option.Graph ∷ option.Certificate ∷ option.Buffers ∷ option.States ∷ option.Distributions ∷ option.Limit ∷ option.Seed ∷ option.Actors ∷ option.Output ∷ option.NoOverlap ∷ []
+options = option.Graph ∷ option.Certificate ∷ option.Buffers ∷ option.States ∷ option.Distributions ∷ option.Limit ∷ option.Seed ∷ option.Actors ∷ option.Output ∷ option.Order ∷ option.Rounds ∷ option.NoOverlap ∷ []
 
 -- the table of the algorithms and their options
 unfoldable pub standing : Algorithm → OptionName → Standing
@@ -81,6 +82,20 @@ standing algorithm.Generate option.Seed = Required (form.Number 0 SEED)
 standing algorithm.Generate option.Actors = Allowed (form.Number LEAST_ACTORS ACTORS)
 standing algorithm.Convert option.Certificate = Required form.Any
 standing algorithm.Convert option.Output = Required form.Any
+standing algorithm.Ordered option.Graph = Required form.Any
+standing algorithm.Ordered option.Buffers = Allowed form.Buffers
+standing algorithm.Ordered option.States = Allowed (form.Number LEAST_STATES STATES)
+standing algorithm.Ordered option.Order = Required form.Orders
+standing algorithm.Ordered option.NoOverlap = Allowed form.Any
+standing algorithm.Expand option.Graph = Required form.Any
+standing algorithm.Expand option.Buffers = Allowed form.Buffers
+standing algorithm.Expand option.Output = Required form.Any
+standing algorithm.Expand option.NoOverlap = Allowed form.Any
+standing algorithm.Complete option.Graph = Required form.Any
+standing algorithm.Complete option.Buffers = Allowed form.Buffers
+standing algorithm.Complete option.States = Allowed (form.Number LEAST_STATES STATES)
+standing algorithm.Complete option.Rounds = Required (form.Number LEAST_ROUNDS ROUNDS)
+standing algorithm.Complete option.NoOverlap = Allowed form.Any
 standing a o = Foreign
 
 -- a value is of the form that the table asks
@@ -107,14 +122,19 @@ are_one w v = false
 unfoldable pub named_apart : OptionName → OptionName → Values → Result (Unit {0}) UsageCause
 named_apart o p values = if are_one (values o) (values p) then Err (BadValue o) else Ok tt
 
--- what is put as the output has another name than the certificate that is read
-unfoldable pub output_apart : OptionName → Values → Result (Unit {0}) UsageCause
-output_apart option.Output values = named_apart option.Output option.Certificate values
-output_apart o values = Ok tt
+-- the option that names the file of which an output is made
+unfoldable pub input_of : Algorithm → OptionName
+input_of algorithm.Expand = option.Graph
+input_of a = option.Certificate
+
+-- what is put as the output has another name than the file of which it is made
+unfoldable pub output_apart : Algorithm → OptionName → Values → Result (Unit {0}) UsageCause
+output_apart a option.Output values = named_apart option.Output (input_of a) values
+output_apart a o values = Ok tt
 
 -- an option is as the table asks
 unfoldable pub checked : Algorithm → OptionName → Values → Result (Unit {0}) UsageCause
-checked a o values = judged (standing a o) a o (values o) >>= λ _. output_apart o values
+checked a o values = judged (standing a o) a o (values o) >>= λ _. output_apart a o values
 
 -- the same of each of these options in turn
 unfoldable pub all_checked : Algorithm → Values → List OptionName → Result (Unit {0}) UsageCause
@@ -153,6 +173,10 @@ states_of values = number_of option.States LEAST_STATES STATES USUAL_STATES valu
 unfoldable pub capacities_of : Values → List Buffer
 capacities_of values = unwrap_or (option_and_then buffers_of (values option.Buffers)) []
 
+-- the actors by processor: a required option
+unfoldable pub orders_in : Values → List (List (List ℕ))
+orders_in values = unwrap_or (option_and_then orders_of (values option.Order)) []
+
 -- the greatest storage: a required option, so that no other number stands for it
 abbrev pub limit_of : Values → ℕ
 limit_of values = number_of option.Limit 0 STORAGE 0 values
@@ -169,6 +193,10 @@ limits_of values = record {
 abbrev pub seed_of : Values → ℕ
 seed_of values = number_of option.Seed 0 SEED 0 values
 
+-- the rounds that are to be completed: a required option
+abbrev pub rounds_of : Values → ℕ
+rounds_of values = number_of option.Rounds LEAST_ROUNDS ROUNDS LEAST_ROUNDS values
+
 -- the actors of a graph that is made
 abbrev pub actors_of : Values → ℕ
 actors_of values = number_of option.Actors LEAST_ACTORS ACTORS USUAL_ACTORS values
@@ -182,6 +210,9 @@ request_for algorithm.Scenario values = request.Scenario (name_in option.Graph v
 request_for algorithm.Check values = request.Check (name_in option.Graph values) (name_in option.Certificate values)
 request_for algorithm.Generate values = request.Generate (seed_of values) (limit_of values) (actors_of values)
 request_for algorithm.Convert values = request.Convert (name_in option.Certificate values) (name_in option.Output values)
+request_for algorithm.Ordered values = request.Ordered (name_in option.Graph values) (orders_in values) (capacities_of values) (is_some (values option.NoOverlap)) (states_of values)
+request_for algorithm.Expand values = request.Expand (name_in option.Graph values) (name_in option.Output values) (capacities_of values) (is_some (values option.NoOverlap))
+request_for algorithm.Complete values = request.Complete (name_in option.Graph values) (rounds_of values) (capacities_of values) (is_some (values option.NoOverlap)) (states_of values)
 
 -- a number of states is within its range
 abbrev pub AreStates : ℕ → Type 0
@@ -197,6 +228,10 @@ pub record AreLimits (limits : Limits) : Type 0 where
 abbrev pub AreMadeActors : ℕ → Type 0
 AreMadeActors actors = (LEAST_ACTORS ≤ actors) × (actors ≤ ACTORS)
 
+-- a number of rounds is within its range
+abbrev pub AreRounds : ℕ → Type 0
+AreRounds rounds = (LEAST_ROUNDS ≤ rounds) × (rounds ≤ ROUNDS)
+
 -- the numbers of a request are within their ranges
 abbrev pub IsWithinLimits : Request → Type 0
 IsWithinLimits (request.Repetition graph) = Unit {0}
@@ -206,6 +241,9 @@ IsWithinLimits (request.Scenario graph certificate) = Unit {0}
 IsWithinLimits (request.Check graph certificate) = Unit {0}
 IsWithinLimits (request.Generate seed limit actors) = (limit ≤ STORAGE) × AreMadeActors actors
 IsWithinLimits (request.Convert certificate output) = Unit {0}
+IsWithinLimits (request.Ordered graph order buffers no_overlap states) = All (λ (b : Buffer). b.1 ≤ CAPACITY) buffers × AreStates states
+IsWithinLimits (request.Expand graph output buffers no_overlap) = All (λ (b : Buffer). b.1 ≤ CAPACITY) buffers
+IsWithinLimits (request.Complete graph rounds buffers no_overlap states) = All (λ (b : Buffer). b.1 ≤ CAPACITY) buffers × AreStates states × AreRounds rounds
 
 -- what values ask for
 unfoldable pub request_from : Values → Result Request UsageCause

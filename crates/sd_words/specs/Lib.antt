@@ -1,5 +1,6 @@
 pub mod Values
 pub mod Buffers
+pub mod OrderLists
 pub mod Forms
 pub mod Spelling
 pub mod Reading

@@ -19,11 +19,13 @@ option_word option.Limit = codes "limit"
 option_word option.Seed = codes "seed"
 option_word option.Actors = codes "actors"
 option_word option.Output = codes "output"
+option_word option.Order = codes "order"
+option_word option.Rounds = codes "rounds"
 option_word option.NoOverlap = codes "no-overlap"
 
 -- the options that have a value
 abbrev pub valued_options : List OptionName
-valued_options = option.Algo ∷ option.Graph ∷ option.Certificate ∷ option.Buffers ∷ option.States ∷ option.Distributions ∷ option.Limit ∷ option.Seed ∷ option.Actors ∷ option.Output ∷ []
+valued_options = option.Algo ∷ option.Graph ∷ option.Certificate ∷ option.Buffers ∷ option.States ∷ option.Distributions ∷ option.Limit ∷ option.Seed ∷ option.Actors ∷ option.Output ∷ option.Order ∷ option.Rounds ∷ []
 
 -- an option that has a value is named so
 unfoldable pub names_value : List ℕ → Bool
@@ -42,10 +44,13 @@ algorithm_word algorithm.Scenario = codes "scenario"
 algorithm_word algorithm.Check = codes "check"
 algorithm_word algorithm.Generate = codes "generate"
 algorithm_word algorithm.Convert = codes "convert"
+algorithm_word algorithm.Expand = codes "expand"
+algorithm_word algorithm.Ordered = codes "ordered"
+algorithm_word algorithm.Complete = codes "complete"
 
 -- the algorithms
 abbrev pub algorithms : List Algorithm
-algorithms = algorithm.Repetition ∷ algorithm.Throughput ∷ algorithm.Storage ∷ algorithm.Scenario ∷ algorithm.Check ∷ algorithm.Generate ∷ algorithm.Convert ∷ []
+algorithms = algorithm.Repetition ∷ algorithm.Throughput ∷ algorithm.Storage ∷ algorithm.Scenario ∷ algorithm.Check ∷ algorithm.Generate ∷ algorithm.Convert ∷ algorithm.Expand ∷ algorithm.Ordered ∷ algorithm.Complete ∷ []
 
 -- the algorithm of a word
 unfoldable pub algorithm_named : List ℕ → Option Algorithm

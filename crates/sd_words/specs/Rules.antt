@@ -11,20 +11,20 @@ use Rattle.sd_words.specs.declared.form.Form.TheVariants as form
 use Rattle.sd_words.specs.declared.table.Standing.TheVariants.{Required, Foreign}
 use Rattle.sd_words.specs.OptionWords.{algorithm_word}
 use Rattle.sd_words.specs.Spelling.{Setting, IsSpelling}
-use Rattle.sd_words.specs.Asked.{value_of, values_in, standing, is_good, options, puts_certificate, request_for}
+use Rattle.sd_words.specs.Asked.{value_of, values_in, standing, input_of, is_good, options, puts_certificate, request_for}
 
 -- a file that is to be put has the name of one that is read
 abbrev pub IsNamedAs : List Setting → OptionName → OptionName → Type 0
 IsNamedAs settings o p = (w : List ℕ) × (value_of o settings ≡ Some w) × (value_of p settings ≡ Some w)
 
 -- what is wrong with an option: it is required and isn't there; or it is there and the algorithm doesn't have it; or the
--- algorithm has it and its value isn't good; or it is the output, and has the name of the certificate
+-- algorithm has it and its value isn't good; or it is the output, and has the name of the file of which it is made
 abbrev pub IsFault : Algorithm → List Setting → OptionName → UsageCause → Type 0
 IsFault a settings o cause =
     ((form : Form) × (standing a o ≡ Required form) × (value_of o settings ≡ None) × (cause ≡ Missing o))
     ⊎ (((v : List ℕ) × (standing a o ≡ Foreign) × (value_of o settings ≡ Some v) × (cause ≡ NotFor o a))
     ⊎ (((v : List ℕ) × (standing a o ≢ Foreign) × (value_of o settings ≡ Some v) × (is_good (standing a o) v ≡ false) × (cause ≡ BadValue o))
-    ⊎ ((standing a o ≡ Required form.Any) × (o ≡ option.Output) × IsNamedAs settings option.Output option.Certificate × (cause ≡ BadValue o))))
+    ⊎ ((standing a o ≡ Required form.Any) × (o ≡ option.Output) × IsNamedAs settings option.Output (input_of a) × (cause ≡ BadValue o))))
 
 -- nothing is wrong with any of these options
 abbrev pub AllFit : Algorithm → List Setting → List OptionName → Type 0

@@ -7,6 +7,7 @@ ghost use Rattle.sd_words.specs.Values.{is_decimal, is_value, number, number_wit
 ghost use Rattle.sd_words.specs.Forms.{fits};
 
 use crate::buffers::buffers_of;
+use crate::orders::orders_of;
 use std::alloc::{AllocError, Global};
 
 /// A number from here on is above each limit, so it stays here, however many digits follow.
@@ -21,6 +22,8 @@ pub(crate) enum Form {
     Number { least: u64, greatest: u64 },
     /// Names of channels with their capacities.
     Buffers,
+    /// Names of actors, by processor.
+    Orders,
 }
 
 /// Whether a word may be the value of an option: it isn't empty and doesn't begin with a hyphen.
@@ -82,5 +85,6 @@ pub(crate) fn fits(alloc: Global, form: Form, value: &str) -> Result<bool, Alloc
         Form::Any => Ok(true),
         Form::Number { least, greatest } => Ok(number_within(value, least, greatest).is_some()),
         Form::Buffers => Ok(buffers_of(alloc, value)?.is_some()),
+        Form::Orders => Ok(orders_of(alloc, value)?.is_some()),
     }
 }

@@ -10,6 +10,7 @@ mod given;
 mod laws;
 mod making;
 mod names;
+mod orders;
 mod request;
 mod spelling;
 mod table;
@@ -51,6 +52,3 @@ fn want_of_memory(kind: ErrorKind) -> WordsError
         _ => unreachable!(),
     }
 }
-
-#[cfg(test)]
-mod tests;

@@ -17,11 +17,13 @@ pub enum OptionName {
     Seed,
     Actors,
     Output,
+    Order,
+    Rounds,
     NoOverlap,
 }
 
 /// The options that have a value.
-pub(crate) const WITH_VALUE: [OptionName; 10] = [
+pub(crate) const WITH_VALUE: [OptionName; 12] = [
     OptionName::Algo,
     OptionName::Graph,
     OptionName::Certificate,
@@ -32,6 +34,8 @@ pub(crate) const WITH_VALUE: [OptionName; 10] = [
     OptionName::Seed,
     OptionName::Actors,
     OptionName::Output,
+    OptionName::Order,
+    OptionName::Rounds,
 ];
 
 impl OptionName {
@@ -51,6 +55,8 @@ impl OptionName {
             OptionName::Seed => "seed",
             OptionName::Actors => "actors",
             OptionName::Output => "output",
+            OptionName::Order => "order",
+            OptionName::Rounds => "rounds",
             OptionName::NoOverlap => "no-overlap",
         }
     }
@@ -82,9 +88,12 @@ pub enum Algorithm {
     Check,
     Generate,
     Convert,
+    Expand,
+    Ordered,
+    Complete,
 }
 
-const ALGORITHMS: [Algorithm; 7] = [
+const ALGORITHMS: [Algorithm; 10] = [
     Algorithm::Repetition,
     Algorithm::Throughput,
     Algorithm::Storage,
@@ -92,6 +101,9 @@ const ALGORITHMS: [Algorithm; 7] = [
     Algorithm::Check,
     Algorithm::Generate,
     Algorithm::Convert,
+    Algorithm::Expand,
+    Algorithm::Ordered,
+    Algorithm::Complete,
 ];
 
 impl Algorithm {
@@ -108,6 +120,9 @@ impl Algorithm {
             Algorithm::Check => "check",
             Algorithm::Generate => "generate",
             Algorithm::Convert => "convert",
+            Algorithm::Expand => "expand",
+            Algorithm::Ordered => "ordered",
+            Algorithm::Complete => "complete",
         }
     }
 

@@ -56,6 +56,32 @@ pub enum Request {
         certificate: Text,
         output: Text,
     },
+    /// The single-rate expansion of the graph, put under another name: with `no_overlap` the firings of each actor come
+    /// one after another.
+    Expand {
+        graph: Text,
+        output: Text,
+        /// Channels by name that have a capacity, in tokens; no two are of one name.
+        buffers: Rows<(Text, u64)>,
+        no_overlap: bool,
+    },
+    /// The throughput of the graph whose actors keep orders: by processor the names of the actors whose firings it runs one
+    /// after another, each as often as in a round. The rest is as for `Throughput`.
+    Ordered {
+        graph: Text,
+        order: Rows<Rows<Text>>,
+        buffers: Rows<(Text, u64)>,
+        no_overlap: bool,
+        states: u64,
+    },
+    /// The least time for so many rounds of the graph, with the other parts as for the throughput.
+    Complete {
+        graph: Text,
+        rounds: u64,
+        buffers: Rows<(Text, u64)>,
+        no_overlap: bool,
+        states: u64,
+    },
 }
 
 /// Why the words ask for nothing: the first cause in the order in which they are tested.

@@ -4,23 +4,24 @@ ghost use Rattle.std.specs.Prelude.{◌≡◌, IfOk, Ok, Err, if◌then◌else�
 ghost use Rattle.sd_words.specs.declared.request.UsageCause.TheVariants.{BadValue};
 ghost use Rattle.sd_words.specs.Forms.{fits};
 ghost use Rattle.std.specs.Option.{option_map};
-ghost use Rattle.sd_words.specs.Asked.{Gives, algorithm_of, all_checked, capacities_of, certificate_apart, certificate_of, checked, judged, limit_of, limits_of, name_in, named_apart, number_of, options, output_apart, request_for, standing, states_of, tested};
+ghost use Rattle.sd_words.specs.Asked.{Gives, algorithm_of, all_checked, capacities_of, certificate_apart, certificate_of, checked, input_of, judged, limit_of, limits_of, name_in, named_apart, number_of, options, orders_in, output_apart, request_for, rounds_of, standing, states_of, tested};
 ghost use Rattle.sd_words.specs.Given.{values_given};
 
 use crate::buffers::buffers_of;
 use crate::form::{Form, fits, number_within};
 use crate::given::Given;
 use crate::making::{OF_ACTORS, OF_SEED, actors_of, seed_of};
+use crate::orders::orders_of;
 use crate::{Algorithm, OptionName, Request, UsageCause, WordsError};
 use sd_base::limits::{
-    DISTRIBUTIONS, LEAST_DISTRIBUTIONS, LEAST_STATES, STATES, STORAGE, USUAL_DISTRIBUTIONS,
-    USUAL_STATES,
+    DISTRIBUTIONS, LEAST_DISTRIBUTIONS, LEAST_ROUNDS, LEAST_STATES, ROUNDS, STATES, STORAGE,
+    USUAL_DISTRIBUTIONS, USUAL_STATES,
 };
 use sd_base::{Limits, Rows, Text};
 use std::alloc::{AllocError, Global};
 
 /// The options beside `--algo`, in the order in which they are tested.
-const BESIDE_ALGO: [OptionName; 10] = [
+const BESIDE_ALGO: [OptionName; 12] = [
     OptionName::Graph,
     OptionName::Certificate,
     OptionName::Buffers,
@@ -30,6 +31,8 @@ const BESIDE_ALGO: [OptionName; 10] = [
     OptionName::Seed,
     OptionName::Actors,
     OptionName::Output,
+    OptionName::Order,
+    OptionName::Rounds,
     OptionName::NoOverlap,
 ];
 
@@ -43,6 +46,12 @@ const OF_STATES: Form = Form::Number {
 const OF_DISTRIBUTIONS: Form = Form::Number {
     least: LEAST_DISTRIBUTIONS,
     greatest: DISTRIBUTIONS,
+};
+
+/// A number of rounds.
+const OF_ROUNDS: Form = Form::Number {
+    least: LEAST_ROUNDS,
+    greatest: ROUNDS,
 };
 
 /// The storage of a distribution.
@@ -107,6 +116,29 @@ fn standing_of(algo: Algorithm, option: OptionName) -> Standing
             OptionName::Output => Standing::Required(Form::Any),
             _ => Standing::Foreign,
         },
+        Algorithm::Expand => match option {
+            OptionName::Graph => Standing::Required(Form::Any),
+            OptionName::Buffers => Standing::Allowed(Form::Buffers),
+            OptionName::Output => Standing::Required(Form::Any),
+            OptionName::NoOverlap => Standing::Allowed(Form::Any),
+            _ => Standing::Foreign,
+        },
+        Algorithm::Ordered => match option {
+            OptionName::Graph => Standing::Required(Form::Any),
+            OptionName::Buffers => Standing::Allowed(Form::Buffers),
+            OptionName::States => Standing::Allowed(OF_STATES),
+            OptionName::Order => Standing::Required(Form::Orders),
+            OptionName::NoOverlap => Standing::Allowed(Form::Any),
+            _ => Standing::Foreign,
+        },
+        Algorithm::Complete => match option {
+            OptionName::Graph => Standing::Required(Form::Any),
+            OptionName::Buffers => Standing::Allowed(Form::Buffers),
+            OptionName::States => Standing::Allowed(OF_STATES),
+            OptionName::Rounds => Standing::Required(OF_ROUNDS),
+            OptionName::NoOverlap => Standing::Allowed(Form::Any),
+            _ => Standing::Foreign,
+        },
     }
 }
 
@@ -151,13 +183,24 @@ fn check_names(given: &Given<'_>, option: OptionName, other: OptionName) -> Resu
     }
 }
 
-// Whether what is put as the output has another name than the certificate that is read.
+// The option that names the file of which an output is made.
+#[tactic(auto, unfolding(crate::specs::Asked::input_of))]
+fn input_of(algo: Algorithm) -> OptionName
+    ensures { result ≡ input_of algo }
+{
+    match algo {
+        Algorithm::Expand => OptionName::Graph,
+        _ => OptionName::Certificate,
+    }
+}
+
+// Whether what is put as the output has another name than the file of which it is made.
 #[tactic(auto, unfolding(crate::specs::Asked::output_apart))]
-fn check_output(given: &Given<'_>, option: OptionName) -> Result<(), UsageCause>
-    ensures { result ≡ output_apart option (values_given given.now) }
+fn check_output(algo: Algorithm, given: &Given<'_>, option: OptionName) -> Result<(), UsageCause>
+    ensures { result ≡ output_apart algo option (values_given given.now) }
 {
     match option {
-        OptionName::Output => check_names(given, option, OptionName::Certificate),
+        OptionName::Output => check_names(given, option, input_of(algo)),
         _ => Ok(()),
     }
 }
@@ -173,7 +216,7 @@ fn check(
     ensures { Gives (λ done. done) result (checked algo option (values_given given.now)) }
 {
     judge(alloc, algo, option, given.value(option))?;
-    check_output(given, option)?;
+    check_output(algo, given, option)?;
     Ok(())
 }
 
@@ -256,6 +299,19 @@ fn states_of(given: &Given<'_>) -> u64
     )
 }
 
+/// The rounds that are to be completed, which is a required option.
+fn rounds_of(given: &Given<'_>) -> u64
+    ensures { result ≡ rounds_of (values_given given.now) }
+{
+    number_of(
+        given,
+        OptionName::Rounds,
+        LEAST_ROUNDS,
+        ROUNDS,
+        LEAST_ROUNDS,
+    )
+}
+
 /// The greatest storage, which is a required option.
 fn limit_of(given: &Given<'_>) -> u64
     ensures { result ≡ limit_of (values_given given.now) }
@@ -290,6 +346,20 @@ fn capacities_of(alloc: Global, given: &Given<'_>) -> Result<Rows<(Text, u64)>, 
     };
     match buffers_of(alloc, value)? {
         Some(buffers) => Ok(buffers),
+        None => Ok(Rows::from_vec(Vec::new(alloc))),
+    }
+}
+
+/// The actors by processor, which are a required option.
+#[tactic(auto, unfolding(crate::specs::Asked::orders_in))]
+fn orders_in(alloc: Global, given: &Given<'_>) -> Result<Rows<Rows<Text>>, AllocError>
+    ensures { IfOk result (λ orders. orders ≡ orders_in (values_given given.now)) }
+{
+    let Some(value) = given.value(OptionName::Order) else {
+        return Ok(Rows::from_vec(Vec::new(alloc)));
+    };
+    match orders_of(alloc, value)? {
+        Some(orders) => Ok(orders),
         None => Ok(Rows::from_vec(Vec::new(alloc))),
     }
 }
@@ -354,6 +424,26 @@ pub(crate) fn request_for(
         Algorithm::Convert => Ok(Request::Convert {
             certificate: name_in(alloc, given, OptionName::Certificate)?,
             output: name_in(alloc, given, OptionName::Output)?,
+        }),
+        Algorithm::Expand => Ok(Request::Expand {
+            graph,
+            output: name_in(alloc, given, OptionName::Output)?,
+            buffers: capacities_of(alloc, given)?,
+            no_overlap,
+        }),
+        Algorithm::Ordered => Ok(Request::Ordered {
+            graph,
+            order: orders_in(alloc, given)?,
+            buffers: capacities_of(alloc, given)?,
+            no_overlap,
+            states: states_of(given),
+        }),
+        Algorithm::Complete => Ok(Request::Complete {
+            graph,
+            rounds: rounds_of(given),
+            buffers: capacities_of(alloc, given)?,
+            no_overlap,
+            states: states_of(given),
         }),
     }
 }

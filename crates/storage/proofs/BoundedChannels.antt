@@ -3,7 +3,8 @@ use Rattle.std.proofs.Common.{◌≡◌, ℕ, ◌+◌, ◌≤◌, ◌<◌, Optio
 use Rattle.std.proofs.lemmas.Bool.{cases_lt, true≢false}
 use Rattle.sd_base.specs.declared.role.Role.TheVariants.{Space}
 use Rattle.sd_base.specs.Net.{Channel, Net, channel_at}
-use Rattle.storage.specs.BoundedNets.{HasNoSpaces, bound, is_space_role}
+use Rattle.storage.specs.BoundedNets.{HasNoSpaces, bound}
+use Rattle.sd_base.specs.Lawful.{is_space_role}
 use Rattle.storage.specs.Distributions.{capacity_at}
 use Rattle.storage.proofs.SpaceChannels.{SpaceAt, bound-back, bound-front}
 

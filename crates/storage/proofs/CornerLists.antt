@@ -4,9 +4,8 @@ use Rattle.std.specs.Prelude.{slice_index_or, MatchOption, ◌≢◌}
 use Rattle.std.proofs.lemmas.List.{take_more, get_or-take, length-take-le}
 use Rattle.sd_base.specs.declared.role.Role.TheVariants.{Token, Own, Space, Order}
 use Rattle.sd_base.specs.Net.{Channel, Net, nowhere, channel_at}
-use Rattle.sd_base.specs.Lawful.{is_token_role, is_file_channel, Lawful}
+use Rattle.sd_base.specs.Lawful.{is_token_role, is_file_channel, Lawful, is_space_role}
 use Rattle.storage.specs.Distributions.{IsDistribution}
-use Rattle.storage.specs.BoundedNets.{is_space_role}
 use Rattle.storage.specs.Steps.{IsOnGrid, IsCornerAt, IsCorner}
 
 -- the entry of a channel of the file

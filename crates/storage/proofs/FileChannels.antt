@@ -10,9 +10,9 @@ use Rattle.sd_base.specs.declared.tables.ActorRow.{ActorRow}
 use Rattle.sd_base.specs.declared.tables.ChannelRow.{ChannelRow}
 use Rattle.sd_base.specs.Net.{Channel, Net, nowhere, channel_at, file_channels_from, file_channels}
 use Rattle.sd_base.specs.FileNet.{own_channel, gets_own, own_channels_from, net_of}
-use Rattle.sd_base.specs.Lawful.{is_token_role}
+use Rattle.sd_base.specs.Lawful.{is_token_role, is_space_role}
 use Rattle.storage.specs.Distributions.{IsPlain}
-use Rattle.storage.specs.BoundedNets.{is_space_role, HasNoSpaces}
+use Rattle.storage.specs.BoundedNets.{HasNoSpaces}
 
 abbrev IsPlainAt : Channel → Type 0
 IsPlainAt c = (is_token_role c.role ≡ true) ⊎ ((is_space_role c.role ≡ false) × (c.source ≡ c.target))

@@ -2,6 +2,7 @@ pub mod NamedFaults
 pub mod NamedCapacities
 pub mod Pairs
 pub mod SpaceChannels
+pub mod SmallSpaces
 pub mod Lawfulness
 pub mod Easings
 pub mod ChannelSteps

@@ -1,12 +1,12 @@
 -- Where channels begin or end at all actors, each has an input in a bounded net.
-use Rattle.std.proofs.Common.{◌≡◌, ℕ, ◌<◌, ◌⊎◌, Option, List, length, ⊎_elim, sym, ap, ◌∙◌, arith}
+use Rattle.std.proofs.Common.{◌≡◌, ℕ, ◌<◌, ◌⊎◌, inl, inr, Option, List, length, ⊎_elim, sym, ap, ◌∙◌, arith}
 use Rattle.std.proofs.lemmas.Bool.{cases_eq}
 use Rattle.sd_base.specs.Net.{Channel, Net, channel_at}
 use Rattle.sd_base.specs.Schedules.{HasInputs}
 use Rattle.storage.specs.BoundedNets.{bound}
 use Rattle.storage.specs.Distributions.{IsDistribution}
-use Rattle.storage.specs.TouchedActors.{AreTouched}
-use Rattle.storage.proofs.SpaceChannels.{bound-front, bound-long, bound-space}
+use Rattle.storage.specs.TouchedActors.{AreTouched, IsTouched}
+use Rattle.storage.proofs.SpaceChannels.{bound-front, bound-long, bound-space, each-bound}
 use Rattle.storage.proofs.SpacesJoinEnds.{capacity-there}
 
 pub touched-inputs : (net : Net) → AreTouched net → (ds : List (Option ℕ)) → IsDistribution net.channels ds → HasInputs (bound net ds)
@@ -27,3 +27,11 @@ touched-inputs net touched ds dist a actor = at (touched a actor)
 
     at : (i : ℕ) × (i < length net.channels) × (((channel_at net i).source ≡ a) ⊎ ((channel_at net i).target ≡ a)) → (j : ℕ) × (j < length (bound net ds).channels) × ((channel_at (bound net ds) j).target ≡ a)
     at (i, place, ends) = ⊎_elim (λ (h : (channel_at net i).source ≡ a). back i place h) (λ (h : (channel_at net i).target ≡ a). into i place h) ends
+
+-- and the target of a channel of a bounded net is an actor at which one of the net begins or ends
+pub inputs-touch : (net : Net) (ds : List (Option ℕ)) (a i : ℕ) → i < length (bound net ds).channels → (channel_at (bound net ds) i).target ≡ a → IsTouched net a
+inputs-touch net ds a i below into =
+    each-bound net ds (λ (c : Channel). c.target ≡ a → IsTouched net a)
+    (λ k place ends. (k, place, inr ends))
+    (λ k room place has begins. (k, place, inl begins))
+    i below into

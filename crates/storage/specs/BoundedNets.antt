@@ -1,8 +1,8 @@
 -- The net bounded by a distribution.
-use Rattle.std.specs.Prelude.{◌≡◌, ℕ, suc, ◌-◌, ◌<◌, Bool, true, false, Option, None, Some, List, [], ◌∷◌, ◌++◌, length}
-use Rattle.sd_base.specs.declared.role.Role.{Role}
-use Rattle.sd_base.specs.declared.role.Role.TheVariants.{Token, Own, Space, Order}
+use Rattle.std.specs.Prelude.{◌≡◌, ℕ, suc, ◌-◌, ◌<◌, false, Option, None, Some, List, [], ◌∷◌, ◌++◌, length}
+use Rattle.sd_base.specs.declared.role.Role.TheVariants.{Space}
 use Rattle.sd_base.specs.Net.{Channel, Net, channel_at}
+use Rattle.sd_base.specs.Lawful.{is_space_role}
 
 -- the free space of channel i of the file at capacity k: a firing of the source takes it at its start, and one of the target
 -- frees it at its end
@@ -19,12 +19,6 @@ spaces_from i (c ∷ cs) (Some k ∷ ds) = space_of i c k ∷ spaces_from (suc i
 -- the net with a space channel for each capacity
 abbrev pub bound : Net → List (Option ℕ) → Net
 bound net ds = record { times = net.times; channels = net.channels ++ spaces_from 0 net.channels ds; round = net.round }
-
-abbrev pub is_space_role : Role → Bool
-is_space_role (Token c) = false
-is_space_role (Own a) = false
-is_space_role (Space c) = true
-is_space_role (Order x y) = false
 
 -- no channel of the net is a free space
 abbrev pub HasNoSpaces : Net → Type 0

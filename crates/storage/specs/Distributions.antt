@@ -2,8 +2,7 @@
 use Rattle.std.specs.Prelude.{◌≡◌, ◌≢◌, ℕ, zero, suc, ◌+◌, ◌*◌, ◌≤◌, ◌<◌, ◌⊎◌, false, true, Option, None, Some, List, [], ◌∷◌, length, slice_index_or}
 use Rattle.sd_base.specs.declared.limits.TheConstants.{NET_TOKENS}
 use Rattle.sd_base.specs.Net.{Channel, Net, channel_at}
-use Rattle.sd_base.specs.Lawful.{is_token_role}
-use Rattle.storage.specs.BoundedNets.{is_space_role}
+use Rattle.sd_base.specs.Lawful.{is_token_role, is_space_role}
 
 -- the capacity of a channel, if it has one
 abbrev pub capacity_at : List (Option ℕ) → ℕ → Option ℕ

@@ -1,6 +1,6 @@
 //! Laws of storage, each on a function that does nothing.
-ghost use Rattle.std.specs.Prelude.{◌≡◌, ◌↔◌, ℕ, ◌*◌, ◌≤◌, All, Bool, None, Option, List, length};
-ghost use Rattle.sd_base.specs.Net.{Net};
+ghost use Rattle.std.specs.Prelude.{◌≡◌, ◌↔◌, ℕ, ◌*◌, ◌≤◌, ◌<◌, All, Bool, None, Option, List, length};
+ghost use Rattle.sd_base.specs.Net.{Net, channel_at};
 ghost use Rattle.sd_base.specs.Lawful.{Lawful};
 ghost use Rattle.sd_base.specs.Rates.{Rate};
 ghost use Rattle.sd_base.specs.Untimed.{Blocks, IsLive};
@@ -11,14 +11,14 @@ ghost use Rattle.storage.specs.ShownSpaces.{ShowsSpace};
 ghost use Rattle.storage.specs.ParetoPoints.{IsFront, Pair, Reaches};
 ghost use Rattle.storage.specs.ClosedLists.{Entry, IsClosed, IsCovered, IsFrontOver};
 ghost use Rattle.sd_base.specs.Connection.{IsConnected, IsStronglyConnected};
-ghost use Rattle.sd_base.specs.declared.limits.TheConstants.{CAPACITY, NET_CHANNELS};
+ghost use Rattle.sd_base.specs.declared.limits.TheConstants.{CAPACITY, NET_CHANNELS, TOKENS};
 ghost use Rattle.sd_base.specs.declared.tables.GraphFile.{GraphFile};
 ghost use Rattle.sd_base.specs.Tables.{KeepsRules};
 ghost use Rattle.sd_base.specs.FileNet.{net_of};
 ghost use Rattle.storage.specs.NamedBuffers.{Buffer, capacities_of, first_fault};
 ghost use Rattle.sd_base.specs.Schedules.{HasInputs};
 ghost use Rattle.storage.specs.RoomElsewhere.{CyclesBoundRoomierNets, CyclesHoldWithMoreRoom};
-ghost use Rattle.storage.specs.TouchedActors.{AreTouched};
+ghost use Rattle.storage.specs.TouchedActors.{AreTouched, IsTouched};
 
 use critical::laws::cycles_bound_the_rate;
 
@@ -65,12 +65,16 @@ pub fn closed_lists_give_the_front()
         IsFront net limit pairs }
 {}
 
-/// Buffers without a fault give the net of their graph capacities that it can hold, and not too many channels.
+/// Buffers without a fault give the net of their graph capacities that it can hold, and not too many channels; and no
+/// channel of it has more tokens than one of a table may have.
 pub fn named_buffers_fit()
     ensures held { (graph : GraphFile) (gamma : List ℕ) (no_overlap : Bool) (buffers : List Buffer) → first_fault graph.channels buffers ≡ None →
         All (λ (b : Buffer). b.1 ≤ CAPACITY) buffers → CanHold (net_of graph gamma no_overlap).channels (capacities_of graph.channels buffers) }
     ensures few { (graph : GraphFile) (gamma : List ℕ) (no_overlap : Bool) (ds : List (Option ℕ)) → KeepsRules graph → length ds ≤ length graph.channels →
         length (bound (net_of graph gamma no_overlap) ds).channels ≤ NET_CHANNELS }
+    ensures small { (graph : GraphFile) (gamma : List ℕ) (no_overlap : Bool) (buffers : List Buffer) → KeepsRules graph →
+        All (λ (b : Buffer). b.1 ≤ CAPACITY) buffers → (i : ℕ) → i < length (bound (net_of graph gamma no_overlap) (capacities_of graph.channels buffers)).channels →
+        (channel_at (bound (net_of graph gamma no_overlap) (capacities_of graph.channels buffers)) i).tokens ≤ TOKENS }
 {}
 
 /// A need cycle of a bounded net is one of each with no less room, if the channels whose free space is on the cycle have
@@ -82,7 +86,9 @@ pub fn need_cycles_hold_with_more_room()
     cycles_bound_the_rate();
 }
 
-/// Where some channel begins or ends at each actor, each actor has an input in the net of each distribution.
+/// Where some channel begins or ends at each actor, each actor has an input in the net of each distribution; and an actor
+/// that has an input in a bounded net is one at which some channel begins or ends, so that no other has one in any of them.
 pub fn touched_nets_have_inputs()
-    ensures { (net : Net) (ds : List (Option ℕ)) → AreTouched net → IsDistribution net.channels ds → HasInputs (bound net ds) }
+    ensures inputs { (net : Net) (ds : List (Option ℕ)) → AreTouched net → IsDistribution net.channels ds → HasInputs (bound net ds) }
+    ensures touched { (net : Net) (ds : List (Option ℕ)) (a i : ℕ) → i < length (bound net ds).channels → (channel_at (bound net ds) i).target ≡ a → IsTouched net a }
 {}

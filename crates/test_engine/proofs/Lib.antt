@@ -1,4 +1,1 @@
-pub mod Cases
-pub mod TwoSpaces
-pub mod TwoPhases
 pub mod ChannelWalks

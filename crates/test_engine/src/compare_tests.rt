@@ -1,7 +1,7 @@
 ghost use Rattle.std.specs.Prelude.{◌≤◌, ◌^◌, ◌<◌};
 
 use crate::engine_tests::half_blocked;
-use crate::{PlainRun, run_until};
+use crate::run::{PlainRun, run_until};
 use firing::{Firing, SdfNet, Wiring};
 use liveness::{Round, one_round};
 use selftimed::{Engine, Move, Shape, Stage};

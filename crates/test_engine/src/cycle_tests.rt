@@ -1,4 +1,3 @@
-use crate::space_net::TwoSpaces;
 use critical::{CycleStep, CycleSteps, FiringNo, NeedCycle};
 use firing::SdfNet;
 use sd_base::NoMemory;
@@ -7,22 +6,22 @@ use std::test::Fail;
 use test_nets::ring_of_two;
 
 /// Firing `number` of x, which is actor 0.
-pub(crate) fn x(number: u64) -> FiringNo {
+fn x(number: u64) -> FiringNo {
     FiringNo { actor: 0, number }
 }
 
 /// Firing `number` of y, which is actor 1.
-pub(crate) fn y(number: u64) -> FiringNo {
+fn y(number: u64) -> FiringNo {
     FiringNo { actor: 1, number }
 }
 
 /// A step along a channel to a firing.
-pub(crate) fn along(channel: u32, to: FiringNo) -> CycleStep {
+fn along(channel: u32, to: FiringNo) -> CycleStep {
     CycleStep { channel, to }
 }
 
 /// Steps one after another.
-pub(crate) fn in_order(alloc: Global, steps: &[CycleStep]) -> Result<CycleSteps, NoMemory> {
+fn in_order(alloc: Global, steps: &[CycleStep]) -> Result<CycleSteps, NoMemory> {
     let mut listed = CycleSteps::new(alloc);
     for step in steps {
         listed.push(*step)?;
@@ -124,36 +123,5 @@ fn bounds_are_rounds_by_time_in_lowest_terms(rt: HostRuntime) -> Result<(), Fail
         let bound = cycle.bound();
         assert_eq!(rt; (bound.num(), bound.den()), (num, den));
     }
-    Ok(())
-}
-
-#[test]
-fn tokens_of_a_file_are_no_storage(rt: HostRuntime) -> Result<(), Fail> {
-    let net = ring_of_two(rt.alloc())?;
-    let cycle = cycle(rt.alloc(), x(0), &once_round(), 5, 1)?;
-    assert!(rt; cycle.holds(&net));
-    assert!(rt; cycle.storage_channels(rt.alloc(), &net)?.is_empty());
-    Ok(())
-}
-
-/// The cycle goes along the space of channel 1, that of channel 0, that of channel 1 again, and channel 0 itself.
-#[test]
-fn spaces_on_a_cycle_are_its_storage(rt: HostRuntime) -> Result<(), Fail> {
-    let alloc = rt.alloc();
-    let net = TwoSpaces::new();
-    let steps = [
-        along(3, x(1)),
-        along(2, x(2)),
-        along(3, x(3)),
-        along(0, x(4)),
-    ];
-    let both = cycle(alloc, x(0), &steps, 4, 4)?;
-    assert!(rt; both.holds(&net));
-    let storage = both.storage_channels(alloc, &net)?;
-    assert_eq!(rt; storage.as_slice(), [0, 1].as_slice());
-    let one = cycle(alloc, x(0), &[along(0, x(1)), along(3, x(2))], 2, 2)?;
-    assert!(rt; one.holds(&net));
-    let storage = one.storage_channels(alloc, &net)?;
-    assert_eq!(rt; storage.as_slice(), [1].as_slice());
     Ok(())
 }

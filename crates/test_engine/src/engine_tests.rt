@@ -1,34 +1,42 @@
-ghost use Rattle.std.specs.Prelude.{◌≡◌, ◌^◌, ◌≤◌, ◌<◌};
+ghost use Rattle.std.specs.Prelude.{◌^◌, ◌≤◌};
 
 use firing::{Firing, SdfNet, Wiring};
 use liveness::{Round, one_round};
-use selftimed::{Engine, Move, Shape, Stage};
+use selftimed::{Engine, Move, Stage};
 use std::alloc::Global;
 use std::process::Abort;
 use std::test::Fail;
 use test_nets::{blocked_pair, channel, multi_rate_ring, ring_of_two, table_net, three_at_once};
 
-/// What stands at an event after its starts: by actor how many firings have started, by channel the tokens, and by
-/// actor the times that its running firings have left.
+/// What stands at an event after its starts: by actor how many firings have started, by channel the tokens, by actor the
+/// times that its running firings have left, and by actor the phase of its next firing, if any isn't the first one.
 #[derive(Clone, Copy, Debug)]
-struct Event<'a> {
-    moment: u64,
-    started: &'a [u64],
-    tokens: &'a [u128],
-    left: &'a [&'a [u64]],
+pub(crate) struct Event<'a> {
+    pub(crate) moment: u64,
+    pub(crate) started: &'a [u64],
+    pub(crate) tokens: &'a [u128],
+    pub(crate) left: &'a [&'a [u64]],
+    pub(crate) phases: &'a [u32],
 }
 
+/// An event of a net whose actors have one phase.
 fn at<'a>(moment: u64, started: &'a [u64], tokens: &'a [u128], left: &'a [&'a [u64]]) -> Event<'a> {
     Event {
         moment,
         started,
         tokens,
         left,
+        phases: &[],
     }
 }
 
 /// Steps an engine through events.
-fn follow(rt: &impl Abort, alloc: Global, net: &SdfNet, events: &[Event]) -> Result<(), Fail> {
+pub(crate) fn follow<F: Firing>(
+    rt: &impl Abort,
+    alloc: Global,
+    net: &F,
+    events: &[Event],
+) -> Result<(), Fail> {
     let wiring = Wiring::new(alloc, net)?;
     let mut engine = Engine::new(alloc, net, &wiring, 1000)?;
     for event in events {
@@ -41,7 +49,7 @@ fn follow(rt: &impl Abort, alloc: Global, net: &SdfNet, events: &[Event]) -> Res
     Ok(())
 }
 
-fn check_starts(rt: &impl Abort, engine: &Engine<'_, SdfNet>, event: &Event) {
+fn check_starts<F: Firing>(rt: &impl Abort, engine: &Engine<'_, F>, event: &Event) {
     assert_eq!(rt; event.started.len(), engine.net.actors() as usize);
     for (actor, started) in event.started.iter().enumerate() {
         assert_eq!(rt;
@@ -53,10 +61,10 @@ fn check_starts(rt: &impl Abort, engine: &Engine<'_, SdfNet>, event: &Event) {
     }
 }
 
-fn check_shape(
+fn check_shape<F: Firing>(
     rt: &impl Abort,
     alloc: Global,
-    engine: &Engine<'_, SdfNet>,
+    engine: &Engine<'_, F>,
     event: &Event,
 ) -> Result<(), Fail> {
     assert_eq!(rt; engine.stage, Stage::Running);
@@ -67,7 +75,7 @@ fn check_shape(
         "at {}",
         event.moment
     );
-    assert!(rt; shape.phases.as_slice().iter().all(|phase| *phase == 0));
+    check_phases(rt, shape.phases.as_slice(), event.phases);
     let left = shape.remaining.as_slice();
     assert_eq!(rt; left.len(), event.left.len());
     for (actor, times) in event.left.iter().enumerate() {
@@ -82,28 +90,31 @@ fn check_shape(
     Ok(())
 }
 
-/// Actor x starts at 0 with the one token, ends at 2 and lets y start, which ends at 5 and lets x start.
+fn check_phases(rt: &impl Abort, phases: &[u32], wanted: &[u32]) {
+    if wanted.is_empty() {
+        assert!(rt; phases.iter().all(|phase| *phase == 0));
+    } else {
+        assert_eq!(rt; phases, wanted);
+    }
+}
+
+// By hand. In the ring x starts at 0 with the one token, ends at 2 and lets y start, which ends at 5 and lets x start. Three
+// tokens let three firings start at 0; they end at 7, and three more start.
 #[test]
-fn ring_of_two_fires_in_turn(rt: HostRuntime) -> Result<(), Fail> {
-    let net = ring_of_two(rt.alloc())?;
-    let events = [
+fn small_nets_fire_in_turn(rt: HostRuntime) -> Result<(), Fail> {
+    let alloc = rt.alloc();
+    let ring = [
         at(0, &[1, 0], &[0, 0], &[&[2], &[]]),
         at(2, &[1, 1], &[0, 0], &[&[], &[3]]),
         at(5, &[2, 1], &[0, 0], &[&[2], &[]]),
         at(7, &[2, 2], &[0, 0], &[&[], &[3]]),
     ];
-    follow(&rt, rt.alloc(), &net, &events)
-}
-
-/// Three tokens let three firings start at 0; they end at 7, and three more start.
-#[test]
-fn three_firings_overlap(rt: HostRuntime) -> Result<(), Fail> {
-    let net = three_at_once(rt.alloc())?;
-    let events = [
+    follow(&rt, alloc, &ring_of_two(alloc)?, &ring)?;
+    let three = [
         at(0, &[3], &[0], &[&[7, 7, 7]]),
         at(7, &[6], &[0], &[&[7, 7, 7]]),
     ];
-    follow(&rt, rt.alloc(), &net, &events)
+    follow(&rt, alloc, &three_at_once(alloc)?, &three)
 }
 
 /// The tokens are those of p, q, sx and sy. Up to 16 actor x starts at each of its ends, with 8 tokens on q for four
@@ -128,48 +139,6 @@ fn multi_rate_ring_enters_its_loop_at_24(rt: HostRuntime) -> Result<(), Fail> {
         at(34, &[7, 7], &[5, 0, 0, 0], &[&[4], &[5]]),
     ];
     follow(&rt, rt.alloc(), &net, &events)
-}
-
-/// Steps an engine until what stands has stood before, and tells at which two moments.
-fn first_repeat(rt: &impl Abort, alloc: Global, net: &SdfNet) -> Result<Option<(u64, u64)>, Fail> {
-    let wiring = Wiring::new(alloc, net)?;
-    let mut engine = Engine::new(alloc, net, &wiring, 1000)?;
-    let mut shapes = Vec::new(alloc);
-    for _event in 0..100 {
-        let step = engine.advance()?;
-        assert_eq!(rt; step, Move::Stepped);
-        assert_eq!(rt; engine.stage, Stage::Running);
-        if let Some(entry) = moment_of(&engine, shapes.as_slice()) {
-            return Ok(Some((entry, engine.moment())));
-        }
-        shapes.push((engine.moment(), engine.shape(alloc)?))?;
-    }
-    Ok(None)
-}
-
-/// The first of these moments whose shape is what stands now.
-fn moment_of(engine: &Engine<'_, SdfNet>, shapes: &[(u64, Shape)]) -> Option<u64>
-    requires { engine.now.stage ≡ Stage.Running }
-{
-    for (moment, shape) in shapes {
-        if engine.same_shape(shape) {
-            return Some(*moment);
-        }
-    }
-    None
-}
-
-/// As in the traces above: the loops begin at 0, 0 and 24, and their periods are 5, 7 and 10.
-#[test]
-fn shapes_repeat_where_the_loop_closes(rt: HostRuntime) -> Result<(), Fail> {
-    let alloc = rt.alloc();
-    let repeat = first_repeat(&rt, alloc, &ring_of_two(alloc)?)?;
-    assert_eq!(rt; repeat, Some((0, 5)));
-    let repeat = first_repeat(&rt, alloc, &three_at_once(alloc)?)?;
-    assert_eq!(rt; repeat, Some((0, 7)));
-    let repeat = first_repeat(&rt, alloc, &multi_rate_ring(alloc)?)?;
-    assert_eq!(rt; repeat, Some((24, 34)));
-    Ok(())
 }
 
 /// Three actors with rounds of 1, 2 and 1 firings. The second fires once with the token that is there; then the first

@@ -11,7 +11,7 @@ use selftimed::{Engine, Move, Shape, Stage};
 use std::alloc::Global;
 use std::process::Abort;
 use std::test::Fail;
-use test_nets::{channel, multi_rate_ring, ring_of_two, table_net};
+use test_nets::{multi_rate_ring, ring_of_two};
 
 /// An event: its moment, what stands then, and by actor how many firings have started.
 #[derive(Drop)]
@@ -120,19 +120,4 @@ fn compare_to_20(rt: &impl Abort, alloc: Global, net: &SdfNet) -> Result<(), Fai
 fn loops_are_those_of_the_body_that_keeps_all_shapes(rt: HostRuntime) -> Result<(), Fail> {
     compare_to_20(&rt, rt.alloc(), &ring_of_two(rt.alloc())?)?;
     compare_to_20(&rt, rt.alloc(), &multi_rate_ring(rt.alloc())?)
-}
-
-/// The multi-rate ring with 8,000 tokens on `q` enters its loop late.
-#[test]
-fn a_loop_is_entered_after_thousands_of_shapes(rt: HostRuntime) -> Result<(), Fail> {
-    let lines = [
-        channel(0, 2, 1, 1, 0),
-        channel(1, 1, 2, 0, 8_000),
-        channel(0, 1, 1, 0, 1),
-        channel(1, 1, 1, 1, 1),
-    ];
-    let net = table_net(rt.alloc(), &[4, 5], &lines, false)?;
-    let table = run_net(&rt, rt.alloc(), &net, 200_000)??;
-    assert_eq!(rt; (table.entry, table.period, table.rounds), (26_664, 10, 1));
-    Ok(())
 }

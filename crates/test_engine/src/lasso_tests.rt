@@ -1,39 +1,43 @@
 use crate::checks::run_net;
-use lasso::RunError;
+use firing::SdfNet;
+use std::alloc::Global;
+use std::process::Abort;
 use std::test::Fail;
-use test_nets::{Line, channel, multi_rate_ring, ring_of_two, table_net, three_at_once};
+use test_nets::{channel, multi_rate_ring, ring_of_two, table_net, three_at_once};
 
-#[test]
-fn ring_of_two_comes_again_at_its_third_shape(rt: HostRuntime) -> Result<(), Fail> {
-    let net = ring_of_two(rt.alloc())?;
-    let table = run_net(&rt, rt.alloc(), &net, 3)??;
-    assert_eq!(rt; (table.entry, table.period, table.rounds), (0, 5, 1));
-    assert_eq!(rt; table.before.as_slice(), [1, 0].as_slice());
-    assert_eq!(rt; table.starts.len(), 2);
-    assert_eq!(rt; table.starts.as_slice()[0].as_slice(), [5].as_slice());
-    assert_eq!(rt; table.starts.as_slice()[1].as_slice(), [2].as_slice());
+// What throughput shows of a loop, and how it is refused, stands among the cases of the top call.
+
+/// Asserts the moment at which the loop of a net is entered, its period and its rounds.
+fn check(
+    rt: &impl Abort,
+    alloc: Global,
+    net: &SdfNet,
+    wanted: (u64, u64, u64),
+) -> Result<(), Fail> {
+    let table = run_net(rt, alloc, net, 200_000)??;
+    assert_eq!(rt; (table.entry, table.period, table.rounds), wanted);
     Ok(())
 }
 
+// As in the traces of engines. The multi-rate ring with 8,000 tokens on `q` enters its loop late.
 #[test]
-fn two_shapes_of_a_ring_of_two_differ(rt: HostRuntime) -> Result<(), Fail> {
-    let net = ring_of_two(rt.alloc())?;
-    let answer = run_net(&rt, rt.alloc(), &net, 2)?;
-    assert!(rt; matches!(answer, Err(RunError::StatesSpent)));
-    Ok(())
-}
-
-#[test]
-fn three_firings_overlap(rt: HostRuntime) -> Result<(), Fail> {
-    let net = three_at_once(rt.alloc())?;
-    let table = run_net(&rt, rt.alloc(), &net, 20_000)??;
-    assert_eq!(rt; (table.entry, table.period, table.rounds), (0, 7, 3));
-    Ok(())
+fn loops_are_entered_where_shapes_come_again(rt: HostRuntime) -> Result<(), Fail> {
+    let alloc = rt.alloc();
+    check(&rt, alloc, &ring_of_two(alloc)?, (0, 5, 1))?;
+    check(&rt, alloc, &three_at_once(alloc)?, (0, 7, 3))?;
+    let lines = [
+        channel(0, 2, 1, 1, 0),
+        channel(1, 1, 2, 0, 8_000),
+        channel(0, 1, 1, 0, 1),
+        channel(1, 1, 1, 1, 1),
+    ];
+    let late = table_net(alloc, &[4, 5], &lines, false)?;
+    check(&rt, alloc, &late, (26_664, 10, 1))
 }
 
 // By hand: y fires without a pause from 4 on; x fires at 0, 4, 8, 12 and 16, and then waits for each second end of y.
 #[test]
-fn a_loop_is_entered_late(rt: HostRuntime) -> Result<(), Fail> {
+fn a_table_has_the_firings_of_its_loop(rt: HostRuntime) -> Result<(), Fail> {
     let net = multi_rate_ring(rt.alloc())?;
     let table = run_net(&rt, rt.alloc(), &net, 20_000)??;
     assert_eq!(rt; (table.entry, table.period, table.rounds), (24, 10, 1));
@@ -41,36 +45,5 @@ fn a_loop_is_entered_late(rt: HostRuntime) -> Result<(), Fail> {
     assert_eq!(rt; table.starts.len(), 2);
     assert_eq!(rt; table.starts.as_slice()[0].as_slice(), [34].as_slice());
     assert_eq!(rt; table.starts.as_slice()[1].as_slice(), [29, 34].as_slice());
-    Ok(())
-}
-
-#[test]
-fn a_million_rounds_at_once(rt: HostRuntime) -> Result<(), Fail> {
-    let net = table_net(
-        rt.alloc(),
-        &[1],
-        &[channel(0, 1, 1, 0, 1_000_000); 10],
-        false,
-    )?;
-    let table = run_net(&rt, rt.alloc(), &net, 20_000)??;
-    assert_eq!(rt;
-        (table.entry, table.period, table.rounds),
-        (0, 1, 1_000_000)
-    );
-    Ok(())
-}
-
-// By hand: two million start at 0, and a million more at each of 2 and 3. The next event has two million starts.
-#[test]
-fn too_many_start_in_a_ring(rt: HostRuntime) -> Result<(), Fail> {
-    let lines: [Line; 2] = [
-        channel(0, 1, 1, 1, 1_000_000),
-        channel(1, 1, 1, 0, 1_000_000),
-    ];
-    let net = table_net(rt.alloc(), &[2, 3], &lines, false)?;
-    let answer = run_net(&rt, rt.alloc(), &net, 20_000)?;
-    assert!(rt; matches!(answer, Err(RunError::TooManyStarts)));
-    let shorter = run_net(&rt, rt.alloc(), &net, 3)?;
-    assert!(rt; matches!(shorter, Err(RunError::StatesSpent)));
     Ok(())
 }

@@ -1,12 +1,7 @@
-//! The earliest schedule of a net, moment by moment, straight from its definition. It is there to compare faster
-//! programs with, and isn't proved to be anything but safe.
-//! Its tests also run loops, schedules and need cycles on small nets.
+//! Tests of engines, rounds, loops, schedules and need cycles on small nets. Engines are compared with the earliest schedule of
+//! a net, moment by moment, straight from its definition; that slow program isn't proved to be anything but safe. The crate has
+//! no calls of its own.
 #![tactic(auto)]
-
-mod run;
-mod sums;
-
-pub use run::{PlainRun, run_until};
 
 #[cfg(test)]
 mod checks;
@@ -27,6 +22,8 @@ mod phase_net;
 #[cfg(test)]
 mod phase_tests;
 #[cfg(test)]
+mod run;
+#[cfg(test)]
 mod schedule_tests;
 #[cfg(test)]
-mod space_net;
+mod sums;

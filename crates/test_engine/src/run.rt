@@ -21,14 +21,18 @@ struct Span {
 /// The firings that start in an execution from moment 0 on, each as soon as all firings that it needs have ended.
 /// Those of one actor stand in their order.
 #[derive(Debug, Drop)]
-pub struct PlainRun {
+pub(crate) struct PlainRun {
     spans: Vec<Span>,
     ghost few: { length spans.items ≤ MOST },
 }
 
 /// The firings that start by a moment. None: they are more than a million. Cost: for each moment and start a look at
 /// each channel, with sums over all firings before.
-pub fn run_until<F: Firing>(alloc: Global, net: &F, last: u64) -> Result<Option<PlainRun>, NoMemory>
+pub(crate) fn run_until<F: Firing>(
+    alloc: Global,
+    net: &F,
+    last: u64,
+) -> Result<Option<PlainRun>, NoMemory>
     requires { last < 2 ^ 62 }
 {
     let mut run = PlainRun {
@@ -100,7 +104,7 @@ impl PlainRun {
     }
 
     /// How many firings of an actor start by a moment.
-    pub fn started_by(&self, actor: u32, now: u64) -> usize
+    pub(crate) fn started_by(&self, actor: u32, now: u64) -> usize
         ensures { result ≤ MOST }
     {
         self.spans
@@ -111,7 +115,7 @@ impl PlainRun {
     }
 
     /// How many firings of an actor end by a moment.
-    pub fn ended_by(&self, actor: u32, now: u64) -> usize
+    pub(crate) fn ended_by(&self, actor: u32, now: u64) -> usize
         ensures { result ≤ MOST }
     {
         self.spans
@@ -122,7 +126,7 @@ impl PlainRun {
     }
 
     /// Moment 0, if a firing starts there.
-    pub fn first_event(&self) -> Option<u64> {
+    pub(crate) fn first_event(&self) -> Option<u64> {
         if self.spans.as_slice().iter().any(|span| span.start == 0) {
             Some(0)
         } else {
@@ -131,7 +135,7 @@ impl PlainRun {
     }
 
     /// The first moment after `now` at which a firing ends that has started by then.
-    pub fn next_end(&self, now: u64) -> Option<u64> {
+    pub(crate) fn next_end(&self, now: u64) -> Option<u64> {
         let mut first = None;
         for span in self.spans.as_slice() {
             if span.start <= now && now < span.end {
@@ -142,7 +146,12 @@ impl PlainRun {
     }
 
     /// What stands at a moment after its starts.
-    pub fn shape_at<F: Firing>(&self, alloc: Global, net: &F, now: u64) -> Result<Shape, NoMemory> {
+    pub(crate) fn shape_at<F: Firing>(
+        &self,
+        alloc: Global,
+        net: &F,
+        now: u64,
+    ) -> Result<Shape, NoMemory> {
         Ok(Shape {
             tokens: self.tokens_at(alloc, net, now)?,
             phases: self.phases_at(alloc, net, now)?,

@@ -1,8 +1,7 @@
 ghost use Rattle.std.specs.Prelude.{◌≡◌, ◌⊎◌, ◌+◌, ◌*◌, ◌≤◌, ◌<◌, ℕ, suc, true, false, length};
 ghost use Rattle.sd_base.specs.declared.limits.TheConstants.{NET_CHANNELS};
 ghost use Rattle.sd_base.specs.Net.{channel_at};
-ghost use Rattle.sd_base.specs.Lawful.{is_token_role};
-ghost use Rattle.storage.specs.BoundedNets.{is_space_role};
+ghost use Rattle.sd_base.specs.Lawful.{is_token_role, is_space_role};
 ghost use Rattle.storage.specs.Distributions.{IsPlain};
 ghost use Rattle.explore.specs.Reachable.{IsExplorable};
 ghost use Rattle.test_explore.specs.Neighbours.{AreJoined, JoinsAt, NeighboursAreJoined};

@@ -34,7 +34,7 @@ fn main(rt: HostRuntime) -> Result<()> {
 fn show_take(
     alloc: Global,
     shelf: &mut RealShelf<'_>,
-    out: &mut RealSink<'_>,
+    out: &mut RealSink,
     name: &str,
     limit: usize,
 ) -> Result<()> {
@@ -53,7 +53,7 @@ fn show_take(
 fn show_put(
     alloc: Global,
     shelf: &mut RealShelf<'_>,
-    out: &mut RealSink<'_>,
+    out: &mut RealSink,
     name: &str,
     bytes: &[u8],
 ) -> Result<()> {

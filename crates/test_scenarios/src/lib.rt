@@ -9,7 +9,11 @@ mod graphs;
 #[cfg(test)]
 mod matrix_tests;
 #[cfg(test)]
+mod product_tests;
+#[cfg(test)]
 mod shared;
+#[cfg(test)]
+mod square_tests;
 #[cfg(test)]
 mod timed;
 #[cfg(test)]

@@ -1,7 +1,8 @@
 ghost use Rattle.std.specs.Prelude.{◌≡◌, ◌≢◌, ◌+◌, ◌^◌, ◌<◌, ◌≤◌, ℕ, true, Some, length};
 ghost use Rattle.sd_base.specs.declared.limits.TheConstants.{NET_TOKENS};
 ghost use Rattle.sd_base.specs.Net.{channel_at};
-ghost use Rattle.storage.specs.BoundedNets.{HasNoSpaces, is_space_role};
+ghost use Rattle.storage.specs.BoundedNets.{HasNoSpaces};
+ghost use Rattle.sd_base.specs.Lawful.{is_space_role};
 ghost use Rattle.storage.specs.Distributions.{CanHold, capacity_at};
 
 use firing::Firing;

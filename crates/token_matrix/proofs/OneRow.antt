@@ -1,11 +1,9 @@
 -- The row of several tokens: the latest of their rows.
-use Rattle.std.proofs.Common.{◌≡◌, ℕ, zero, suc, ◌+◌, ◌≤◌, ◌<◌, ◌↔◌, List, [], ◌∷◌, length, Option, Some, None, refl, sym, ap, subst, ◌∙◌, inl, inr, ⊎_elim, arith}
+use Rattle.std.proofs.Common.{◌≡◌, ℕ, zero, suc, ◌+◌, ◌≤◌, ◌<◌, ◌↔◌, List, [], ◌∷◌, length, Option, Some, None, refl, sym, ap, subst, ◌∙◌, inl, inr, arith}
 use Rattle.std.specs.Prelude.{slice_index_or}
-use Rattle.std.proofs.lemmas.Bool.{cases_lt, cases_eq}
-use Rattle.std.proofs.lemmas.List.{get_or_past}
 use Rattle.sd_base.specs.Net.{Net, channel_at, total}
 use Rattle.sd_base.specs.Schedules.{time_of}
-use Rattle.token_matrix.specs.inside.LaterRows.{shifted, IsUnit}
+use Rattle.token_matrix.specs.inside.LaterRows.{shifted}
 use Rattle.token_matrix.specs.Stamps.{IsTakenBy, IsPutBy}
 use Rattle.token_matrix.specs.inside.RoundRows.{Table, row_at, HasEntry, IsRowOf}
 use Rattle.token_matrix.proofs.Putters.{one_putter}
@@ -24,20 +22,6 @@ shifted-from t [] p e at = absurd (cc)
 shifted-from t (None ∷ row) zero e at = absurd (cc)
 shifted-from t (Some x ∷ row) zero e at = (x, refl, (let h : x + t ≡ e = cc in sym h))
 shifted-from t (x ∷ row) (suc p) e at = shifted-from t row p e at
-
--- a row of no entries but one of 0
-pub unit_is : (size column : ℕ) (row : List (Option ℕ)) → length row ≡ size → slice_index_or row column None ≡ Some 0 → ((p : ℕ) → p < size → (p ≡ column → ⊥) → slice_index_or row p None ≡ None) → IsUnit size column row
-unit_is size column row long here others = record {
-  long = long;
-  here = here;
-  alone = λ p e at. ⊎_elim
-      (λ (same : p ≡ column). (same, (let v : Some e ≡ Some 0 = sym at ∙ ap (λ (n : ℕ). slice_index_or row n None) same ∙ here in let z : e ≡ 0 = cc in z)))
-      (λ (apart : p ≡ column → ⊥). absurd (⊎_elim
-      (λ (within : p < size). let none : None ≡ Some e = sym (others p within apart) ∙ at in cc)
-      (λ (past : size ≤ p). let none : None ≡ Some e = sym (get_or_past row p None (omega arith)) ∙ at in cc)
-      (cases_lt p size)))
-      (cases_eq p column);
-}
 
 -- ---- the row of tokens
 

@@ -1,3 +1,4 @@
+pub mod Words
 pub mod LaterRows
 pub mod Batches
 pub mod Lines

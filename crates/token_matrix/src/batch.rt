@@ -1,14 +1,16 @@
 //! Tokens that have one row.
 ghost use Rattle.std.specs.Prelude.{◌≡◌, ◌≤◌, ◌++◌, OnOk, replicate};
 
-use crate::entries::copied;
+use crate::entries::{Entry, spelled};
 use sd_base::{NoMemory, Rows};
 use std::alloc::Global;
+use std::rc::Rc;
 
-/// Tokens that one firing has put, or one that was there before the round: one row for all.
+/// Tokens that one firing has put on a channel, or one that was there before the round: one row for all, which the
+/// firing's tokens on other channels share.
 #[derive(Debug, Drop)]
 pub(crate) struct Batch {
-    pub(crate) row: Rows<Option<u64>>,
+    pub(crate) row: Rc<Rows<Entry>>,
     pub(crate) tokens: u64,
     ghost some: { 1 ≤ tokens },
 }
@@ -20,10 +22,10 @@ impl Batch {
         alloc: Global,
         rows: &mut Rows<Rows<Option<u64>>>,
     ) -> Result<(), NoMemory>
-        ensures { OnOk result (rows.new ≡ rows.old ++ replicate self.now.tokens self.now.row) }
+        ensures { OnOk result (rows.new ≡ rows.old ++ replicate self.now.tokens self.now.row.value) }
     {
         for _ in 0..self.tokens {
-            rows.push(copied(alloc, self.row.as_slice())?)?;
+            rows.push(spelled(alloc, self.row.as_ref().as_slice())?)?;
         }
         Ok(())
     }

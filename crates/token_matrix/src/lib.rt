@@ -8,8 +8,6 @@ mod line;
 mod making;
 mod matrix;
 mod round;
-#[cfg(test)]
-mod tests;
 
 pub use laws::matrices_are_one;
 pub use making::{MatrixError, matrix_of};

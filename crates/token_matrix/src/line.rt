@@ -3,11 +3,12 @@ ghost use Rattle.std.specs.Prelude.{◌≡◌, ◌≤◌, ◌<◌, ◌-◌, ◌+
 ghost use Rattle.token_matrix.specs.inside.LaterRows.{AreWide, IsRaised};
 
 use crate::batch::Batch;
-use crate::entries::raise;
+use crate::entries::{Entry, raise};
 use sd_base::{NoMemory, Rows};
 use std::alloc::Global;
 use std::collections::VecDeque;
 use std::marker::Model;
+use std::rc::Rc;
 
 /// The tokens on a channel, batch by batch; contracts see the row of each token in order. It keeps the rows of those
 /// alone that are still there.
@@ -36,8 +37,8 @@ impl Line {
     }
 
     /// Puts tokens that have one row.
-    pub(crate) fn put(&mut self, row: Rows<Option<u64>>, tokens: u64) -> Result<(), NoMemory>
-        ensures { OnOk result (self.new ≡ self.old ++ replicate tokens row) }
+    pub(crate) fn put(&mut self, row: Rc<Rows<Entry>>, tokens: u64) -> Result<(), NoMemory>
+        ensures { OnOk result (self.new ≡ self.old ++ replicate tokens row.value) }
     {
         if tokens > 0 {
             self.batches.push_back(Batch { row, tokens })?;
@@ -47,7 +48,7 @@ impl Line {
 
     /// Takes tokens, and raises a row to theirs. Cost: linear in the batches of which tokens are taken, times the
     /// width of the rows.
-    pub(crate) fn take(&mut self, tokens: u64, row: &mut [Option<u64>]) -> Result<(), NoMemory>
+    pub(crate) fn take(&mut self, tokens: u64, row: &mut [Entry]) -> Result<(), NoMemory>
         requires enough { tokens ≤ length self.old }
         requires wide { AreWide (length row.old) self.old }
         ensures left { OnOk result (self.new ≡ drop tokens self.old) }
@@ -61,7 +62,7 @@ impl Line {
     }
 
     /// Takes tokens of the first batch, at most so many, and tells how many are still to be taken.
-    fn take_some(&mut self, tokens: u64, row: &mut [Option<u64>]) -> Result<u64, NoMemory>
+    fn take_some(&mut self, tokens: u64, row: &mut [Entry]) -> Result<u64, NoMemory>
         requires some { 1 ≤ tokens }
         requires enough { tokens ≤ length self.old }
         requires wide { AreWide (length row.old) self.old }
@@ -72,7 +73,7 @@ impl Line {
         match self.batches.pop_front() {
             None => unreachable!(),
             Some(batch) => {
-                raise(row, batch.row.as_slice());
+                raise(row, batch.row.as_ref().as_slice());
                 if batch.tokens <= tokens {
                     return Ok(tokens - batch.tokens);
                 }
@@ -85,7 +86,7 @@ impl Line {
     /// Puts a batch back at the front without the tokens that were taken of it.
     fn put_back(&mut self, batch: Batch, taken: u64) -> Result<(), NoMemory>
         requires { taken < batch.tokens }
-        ensures { OnOk result (self.new ≡ replicate (batch.tokens - taken) batch.row ++ self.old) }
+        ensures { OnOk result (self.new ≡ replicate (batch.tokens - taken) batch.row.value ++ self.old) }
     {
         let Batch { row, tokens } = batch;
         let tokens = tokens - taken;

@@ -23,6 +23,7 @@ use liveness::{Round, one_round};
 use sd_base::limits::STAMPS;
 use sd_base::{GraphFile, NoMemory, Rows, SharedRow, Text};
 use std::alloc::Global;
+use std::rc::Rc;
 use thiserror::Error;
 
 /// Why there is no matrix.
@@ -52,8 +53,8 @@ impl From<NoMemory> for MatrixError {
 
 /// The matrix of a scenario's graph with its repetition vector, over the tokens that scenarios share: a round is
 /// carried out once on rows, one for each batch of tokens that is there (Geilen and Stuijk, 2010). Cost: the firings
-/// of a round, times the channels of the actors fired, times the shared tokens; memory of the rows of the tokens that
-/// are there at one time.
+/// of a round, times the channels of the actors fired, times the shared tokens; memory of a row, a word for each shared
+/// token, for each firing of which tokens are there at one time, and of two words for each of its channels.
 pub fn matrix_of(
     alloc: Global,
     graph: &GraphFile,
@@ -189,7 +190,7 @@ fn first_line(alloc: Global, size: usize, first: usize, tokens: usize) -> Result
 {
     let mut line = Line::new(alloc);
     for place in 0..tokens {
-        line.put(unit_row(alloc, size, first + place)?, 1)?;
+        line.put(Rc::new(alloc, unit_row(alloc, size, first + place)?)?, 1)?;
     }
     Ok(line)
 }

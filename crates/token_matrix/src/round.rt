@@ -5,11 +5,12 @@ ghost use Rattle.firing.specs.Wiring.{IsListed};
 ghost use Rattle.token_matrix.specs.inside.Lines.{HasOnePhase, AreReady, AreTaken, IsLatest, ArePut};
 ghost use Rattle.token_matrix.specs.inside.RoundRows.{IsStart, IsDue, StandsAfter};
 
-use crate::entries::{copied, free_row, put_row};
+use crate::entries::{Entry, delay, free_row};
 use crate::line::Line;
 use firing::{Firing, Wiring, know_laws};
-use sd_base::NoMemory;
+use sd_base::{NoMemory, Rows};
 use std::alloc::Global;
+use std::rc::Rc;
 
 /// Fires a whole round in an order. Cost: linear in the firings times the channels of the actors fired times the
 /// shared tokens.
@@ -46,16 +47,10 @@ fn fire<F: Firing>(
 {
     know_laws(net);
     let actor = order[place];
-    let row = take_row(alloc, net, wiring.inputs_of(actor), actor, size, lines)?;
-    let put = put_row(alloc, row.as_slice(), net.time(actor, 0))?;
-    put_tokens(
-        alloc,
-        net,
-        wiring.outputs_of(actor),
-        actor,
-        put.as_slice(),
-        lines,
-    )
+    let mut row = take_row(alloc, net, wiring.inputs_of(actor), actor, size, lines)?;
+    delay(row.as_mut_slice(), net.time(actor, 0));
+    let row = Rc::new(alloc, Rows::from_vec(row))?;
+    put_tokens(net, wiring.outputs_of(actor), actor, &row, lines)
 }
 
 /// Takes the tokens of a firing, and gives the latest of their rows.
@@ -66,7 +61,7 @@ fn take_row<F: Firing>(
     actor: u32,
     size: usize,
     lines: &mut [Line],
-) -> Result<Vec<Option<u64>>, NoMemory>
+) -> Result<Vec<Entry>, NoMemory>
     requires actor { actor < length (F.net net.now).times }
     requires phases { HasOnePhase (F.net net.now) }
     requires listed { IsListed (F.net net.now) Taken actor inputs.now }
@@ -85,23 +80,22 @@ fn take_row<F: Firing>(
 
 /// Puts the tokens of a firing, all with one row.
 fn put_tokens<F: Firing>(
-    alloc: Global,
     net: &F,
     outputs: &[u32],
     actor: u32,
-    row: &[Option<u64>],
+    row: &Rc<Rows<Entry>>,
     lines: &mut [Line],
 ) -> Result<(), NoMemory>
     requires actor { actor < length (F.net net.now).times }
     requires phases { HasOnePhase (F.net net.now) }
     requires listed { IsListed (F.net net.now) Made actor outputs.now }
     requires long { length lines.old ≡ length (F.net net.now).channels }
-    ensures { OnOk result (ArePut (F.net net.now) actor row.now lines.old lines.new) }
+    ensures { OnOk result (ArePut (F.net net.now) actor row.now.value lines.old lines.new) }
 {
     know_laws(net);
     for channel in outputs {
         let tokens = net.made(*channel, 0);
-        lines[*channel as usize].put(copied(alloc, row)?, tokens)?;
+        lines[*channel as usize].put(row.clone()?, tokens)?;
     }
     Ok(())
 }

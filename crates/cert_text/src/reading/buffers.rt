@@ -41,7 +41,7 @@ fn some_buffers_of(alloc: Global, mut line: Line) -> Result<Rows<(u32, u64)>, Fa
     ensures exact { GivesLine result (some_buffers_due line.entry.rest.now) }
 {
     line.word(b"buffers")?;
-    let mut buffers = Collected::new(alloc);
+    let mut buffers = Collected::with_room(alloc, line.spaces())?;
     let mut rise = true;
     let first = buffer(&mut line)?;
     buffers.push(limited(first.0, first.1))?;

@@ -1,4 +1,4 @@
-ghost use Rattle.std.specs.Prelude.{◌≡◌, [], IfErr, Ok, OnOk};
+ghost use Rattle.std.specs.Prelude.{◌≡◌, [], IfErr, IfOk, Ok, OnOk};
 ghost use Rattle.cert_text.specs.declared.reading.fault.Fault.TheVariants.{Large, Memory};
 ghost use Rattle.cert_text.specs.Collected.{collected, one_more};
 
@@ -14,13 +14,15 @@ pub(crate) struct Collected<T> {
 }
 
 impl<T: Drop> Collected<T> {
-    pub(crate) fn new(alloc: Global) -> Collected<T>
-        ensures { collected result.items.items result.is_large ≡ Ok [] }
+    /// None yet, with room for so many. Lines are many and short, so that room which grows would be most of what they take.
+    pub(crate) fn with_room(alloc: Global, room: usize) -> Result<Collected<T>, Fault>
+        ensures none { IfOk result (λ c. collected c.items.items c.is_large ≡ Ok []) }
+        ensures memory { IfErr result (λ e. e ≡ Memory) }
     {
-        Collected {
-            items: Vec::new(alloc),
+        Ok(Collected {
+            items: Vec::with_capacity(alloc, room)?,
             is_large: false,
-        }
+        })
     }
 
     /// Takes the next value, or notes that it passes its limit.

@@ -7,14 +7,15 @@ use crate::certificates::LinkCycle;
 use crate::reading::cycles::cycle;
 use crate::reading::fault::Fault;
 use crate::reading::lines::Lines;
-use indexmap::IndexSet;
 use std::alloc::Global;
+use std::collections::BTreeMap;
 
-/// The cycles that were read, each once, in the order in which they were found. Two cycles are the same where their texts are,
-/// so a cycle costs its text, however many there are.
+/// The cycles that were read, each once, in the order in which they were found, and the number of each by its text. Two cycles
+/// are the same where their texts are. The texts are kept in order, so that no file makes a search for one dear: it costs the
+/// text times the logarithm of their number.
 #[derive(Drop)]
 pub(crate) struct Cycles<'a> {
-    pub(crate) texts: IndexSet<&'a [u8]>,
+    pub(crate) numbers: BTreeMap<&'a [u8], usize>,
     pub(crate) list: Vec<LinkCycle>,
 }
 
@@ -31,16 +32,25 @@ pub(crate) fn cycle_number<'a>(
     lines: &mut Lines<'a>,
     cycles: &mut Cycles<'a>,
 ) -> Result<FoundCycle, Fault>
-    requires { HasTexts cycles.old.texts.keys cycles.old.list.items }
-    ensures texts { OnOk result (HasTexts cycles.new.texts.keys cycles.new.list.items) }
+    requires { HasTexts cycles.old.numbers cycles.old.list.items }
+    ensures texts { OnOk result (HasTexts cycles.new.numbers cycles.new.list.items) }
     ensures exact { FindsCycle result cycles.old.list.items cycles.new.list.items lines.old.rest.now lines.new.rest.now (cycle_from (lines_of lines.old.rest.now)) }
 {
     let text = lines.rest;
     let cycle = cycle(alloc, lines)?;
     let (text, _) = text.split_at(text.len() - lines.rest.len());
-    let (number, is_new) = cycles.texts.insert_full(text)?;
-    if is_new {
-        cycles.list.push(cycle)?;
+    if let Some(number) = cycles.numbers.get(text) {
+        let number = *number;
+        return Ok(FoundCycle {
+            number,
+            is_new: false,
+        });
     }
-    Ok(FoundCycle { number, is_new })
+    let number = cycles.list.len();
+    cycles.numbers.insert(text, number)?;
+    cycles.list.push(cycle)?;
+    Ok(FoundCycle {
+        number,
+        is_new: true,
+    })
 }

@@ -1,4 +1,4 @@
-ghost use Rattle.std.specs.Prelude.{◌≡◌, ◌++◌, ◌∷◌, [], ◌<◌, ◌≤◌, ◌^◌, IfOk, IfErr, OnOk, MatchResult, IsTrue, length};
+ghost use Rattle.std.specs.Prelude.{◌≡◌, ◌++◌, ◌∷◌, [], ◌<◌, ◌≤◌, ◌^◌, ◌/◌, ◌==◌, IfOk, IfErr, OnOk, MatchResult, IsTrue, count_by, length, min};
 ghost use Rattle.std.specs.Fmt.{decimal};
 ghost use Rattle.cert_text.specs.declared.reading.fault.Fault.TheVariants.{Large};
 ghost use Rattle.cert_text.specs.Digits.{IsNumeral};
@@ -52,6 +52,14 @@ impl<'a> Line<'a> {
     {
         self.word(b" ")?;
         self.digits()
+    }
+
+    /// How many spaces are left, up to one for each two bytes, since a number stands behind each in a line of its form.
+    pub(crate) fn spaces(&self) -> usize
+        ensures { result ≡ min (count_by (λ b. b == 32) self.now.rest.now) (length self.now.rest.now / 2) }
+    {
+        let spaces = self.rest.iter().filter(|byte| **byte == b' ').count();
+        spaces.min(self.rest.len() / 2)
     }
 
     /// Whether just this is left.

@@ -33,8 +33,8 @@ pub(crate) fn listed_member<'a>(
     lines: &mut Lines<'a>,
     cycles: &mut Cycles<'a>,
 ) -> Result<MemberLine, Fault>
-    requires { HasTexts cycles.old.texts.keys cycles.old.list.items }
-    ensures texts { OnOk result (HasTexts cycles.new.texts.keys cycles.new.list.items) }
+    requires { HasTexts cycles.old.numbers cycles.old.list.items }
+    ensures texts { OnOk result (HasTexts cycles.new.numbers cycles.new.list.items) }
     ensures text { IfOk result (λ m. ((later : List LinkCycle) → lines.old.rest.now ≡ member_lines 1 (cycles.new.list.items ++ later) m ++ lines.new.rest.now) × IsListed cycles.old.list.items cycles.new.list.items m.shown) }
     ensures exact { GivesKnown result cycles.new.list.items lines.new.rest.now (member_from listed_from cycles.old.list.items (lines_of lines.old.rest.now)) }
 {
@@ -52,8 +52,8 @@ fn listed_shown<'a>(
     lines: &mut Lines<'a>,
     cycles: &mut Cycles<'a>,
 ) -> Result<MemberShown, Fault>
-    requires { HasTexts cycles.old.texts.keys cycles.old.list.items }
-    ensures texts { OnOk result (HasTexts cycles.new.texts.keys cycles.new.list.items) }
+    requires { HasTexts cycles.old.numbers cycles.old.list.items }
+    ensures texts { OnOk result (HasTexts cycles.new.numbers cycles.new.list.items) }
     ensures text { IfOk result (λ s. ((later : List LinkCycle) → lines.old.rest.now ≡ shown_lines 1 (cycles.new.list.items ++ later) s ++ lines.new.rest.now) × IsListed cycles.old.list.items cycles.new.list.items s) }
     ensures exact { GivesKnown result cycles.new.list.items lines.new.rest.now (listed_from cycles.old.list.items (lines_of lines.old.rest.now)) }
 {
@@ -147,7 +147,7 @@ fn capacities_of(alloc: Global, mut line: Line) -> Result<Rows<Option<u64>>, Fau
     ensures exact { GivesLine result (capacities_due line.entry.rest.now) }
 {
     line.word(b"member")?;
-    let mut capacities = Collected::new(alloc);
+    let mut capacities = Collected::with_room(alloc, line.spaces())?;
     while line.rest.len() > 1 {
         let next = capacity(&mut line)?;
         capacities.push(limited(next))?;

@@ -126,8 +126,8 @@ pub(crate) fn starts_of(alloc: Global, mut line: Line) -> Result<Rows<u128>, Fau
     ensures text { IfOk result (λ starts. (line.entry.rest.now ≡ numbers_line starts) × AreStarts starts) }
     ensures exact { GivesLine result (numbers_due START line.entry.rest.now) }
 {
-    let mut starts = Collected::new(alloc);
     let first = line.digits()?;
+    let mut starts = Collected::with_room(alloc, line.spaces() + 1)?;
     starts.push(within(first, START))?;
     while line.rest.len() > 1 {
         let next = line.spaced()?;
@@ -142,8 +142,8 @@ pub(crate) fn counts_of(alloc: Global, mut line: Line) -> Result<Rows<u64>, Faul
     ensures text { IfOk result (λ counts. (line.entry.rest.now ≡ numbers_line counts) × (0 < length counts)) }
     ensures exact { GivesLine result (numbers_due 18446744073709551615 line.entry.rest.now) }
 {
-    let mut counts = Collected::new(alloc);
     let first = line.digits()?;
+    let mut counts = Collected::with_room(alloc, line.spaces() + 1)?;
     counts.push(long(first))?;
     while line.rest.len() > 1 {
         let next = line.spaced()?;

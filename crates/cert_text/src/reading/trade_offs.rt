@@ -20,9 +20,9 @@ use crate::reading::members::{listed_member, numbered_member};
 use crate::reading::numbers::{cycles_count, limit, members_count, overlap};
 use crate::reading::points::points;
 use crate::reading::rates::end;
-use indexmap::IndexSet;
 use sd_base::Rows;
 use std::alloc::Global;
+use std::collections::BTreeMap;
 
 /// Reads the lines of a certificate of a trade-off after the line of its kind.
 #[tactic(auto, unfolding(crate::specs::Sections::storage_from, crate::specs::Sections::finish))]
@@ -75,11 +75,11 @@ fn listed(alloc: Global, lines: &mut Lines) -> Result<(Rows<LinkCycle>, Rows<Mem
 {
     let count = members_count(lines)?;
     let mut cycles = Cycles {
-        texts: IndexSet::new(alloc),
+        numbers: BTreeMap::new(alloc),
         list: Vec::new(alloc),
     };
     let members = each_listed(alloc, lines, count, &mut cycles)?;
-    let Cycles { texts: _, list } = cycles;
+    let Cycles { numbers: _, list } = cycles;
     Ok((Rows::from_vec(list), members))
 }
 
@@ -89,7 +89,7 @@ fn each_listed<'a>(
     count: u64,
     cycles: &mut Cycles<'a>,
 ) -> Result<Rows<MemberLine>, Fault>
-    requires texts { HasTexts cycles.old.texts.keys cycles.old.list.items }
+    requires texts { HasTexts cycles.old.numbers cycles.old.list.items }
     requires none { cycles.old.list.items ≡ [] }
     ensures many { IfOk result (λ m. length m ≡ count) }
     ensures text { IfOk result (λ m. AreListed cycles.new.list.items m lines.old.rest.now lines.new.rest.now) }
@@ -129,21 +129,21 @@ fn each_cycle(alloc: Global, lines: &mut Lines, count: u64) -> Result<Rows<LinkC
     ensures exact { Gives result lines.new.rest.now (new_cycles_from count [] (lines_of lines.old.rest.now)) }
 {
     let mut cycles = Cycles {
-        texts: IndexSet::new(alloc),
+        numbers: BTreeMap::new(alloc),
         list: Vec::new(alloc),
     };
     for place in 0..count {
         new_cycle(alloc, lines, &mut cycles)?;
     }
-    let Cycles { texts: _, list } = cycles;
+    let Cycles { numbers: _, list } = cycles;
     Ok(Rows::from_vec(list))
 }
 
 /// Reads the lines of a cycle that wasn't read before; else its first line is at fault.
 #[tactic(auto, unfolding(crate::specs::Sections::new_cycle_from))]
 fn new_cycle<'a>(alloc: Global, lines: &mut Lines<'a>, cycles: &mut Cycles<'a>) -> Result<(), Fault>
-    requires { HasTexts cycles.old.texts.keys cycles.old.list.items }
-    ensures texts { OnOk result (HasTexts cycles.new.texts.keys cycles.new.list.items) }
+    requires { HasTexts cycles.old.numbers cycles.old.list.items }
+    ensures texts { OnOk result (HasTexts cycles.new.numbers cycles.new.list.items) }
     ensures text { OnOk result (IsNewCycle cycles.old.list.items cycles.new.list.items lines.old.rest.now lines.new.rest.now) }
     ensures exact { MatchResult result (λ _. new_cycle_from cycles.old.list.items (lines_of lines.old.rest.now) ≡ Ok (cycles.new.list.items, lines_of lines.new.rest.now)) (λ e. (e ≡ Memory) ⊎ (new_cycle_from cycles.old.list.items (lines_of lines.old.rest.now) ≡ Err (e, lines_of lines.new.rest.now))) }
 {

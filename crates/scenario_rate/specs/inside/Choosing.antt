@@ -72,14 +72,6 @@ abbrev pub IsBrought : Edge → List (Option ℕ) → List (Option ℕ) → Bool
 IsBrought e old new true = (s : ℕ) × (steps_at old e.to ≡ Some s) × (s < length old) × IsFarther (steps_at old e.from) (s + 1) × (new ≡ slice_set old e.from (Some (s + 1)))
 IsBrought e old new false = (new ≡ old) × ((s : ℕ) → steps_at old e.to ≡ Some s → s < length old → IsWithin old e.from (s + 1))
 
--- the edges of the places from `from` on have each brought their starts nearer
-pub record IsSwept (es : List Edge) (ts : List ℕ) (from : ℕ) (old new : List (Option ℕ)) : Type 0 where
-  pub long : length new ≡ length old
-  pub kept : (v d : ℕ) → steps_at old v ≡ Some d → IsWithin new v d
-  pub over : (i k d : ℕ) (e : Edge) → from ≤ i → slice_get ts i ≡ Some k → slice_get es k ≡ Some e → steps_at old e.to ≡ Some d → d < length old → IsWithin new e.from (d + 1)
-  pub walked : (root : ℕ) → AreWalked es ts root old → AreWalked es ts root new
-  pub few : AreFew (length old) old → AreFew (length old) new
-
 -- the fewer of some steps and one more than others
 abbrev pub fewer_of : Option ℕ → Option ℕ → Option ℕ
 fewer_of r None = r
@@ -93,35 +85,33 @@ IsNearer es (Some old) k result =
     ((end_in (slice_get es k) < end_in (slice_get es old)) × (result ≡ Some k))
     ⊎ ((end_in (slice_get es old) ≤ end_in (slice_get es k)) × (result ≡ Some old))
 
--- no edge leads from the root to a node with steps
-abbrev pub NoneBack : List Edge → List ℕ → List (Option ℕ) → ℕ → ℕ → Type 0
-NoneBack es ts steps root n = (i k d : ℕ) (e : Edge) → i < n → slice_get ts i ≡ Some k → slice_get es k ≡ Some e → e.from ≡ root → steps_at steps e.to ≡ Some d → ⊥
+-- no edge of the first n of a list leads to a node with steps
+abbrev pub NoneBack : List Edge → List ℕ → List (Option ℕ) → ℕ → Type 0
+NoneBack es ts steps n = (i k d : ℕ) (e : Edge) → i < n → slice_get ts i ≡ Some k → slice_get es k ≡ Some e → steps_at steps e.to ≡ Some d → ⊥
 
--- r is the fewest edges from the root back, over the first n edges of the list
-pub record IsFewest (es : List Edge) (ts : List ℕ) (steps : List (Option ℕ)) (root n r : ℕ) : Type 0 where
-  pub least : (i k d : ℕ) (e : Edge) → i < n → slice_get ts i ≡ Some k → slice_get es k ≡ Some e → e.from ≡ root → steps_at steps e.to ≡ Some d → r ≤ d + 1
+-- r is one more than the fewest steps to which an edge of the first n of a list leads
+pub record IsFewest (es : List Edge) (ts : List ℕ) (steps : List (Option ℕ)) (n r : ℕ) : Type 0 where
+  pub least : (i k d : ℕ) (e : Edge) → i < n → slice_get ts i ≡ Some k → slice_get es k ≡ Some e → steps_at steps e.to ≡ Some d → r ≤ d + 1
   pub place : ℕ
   pub number : ℕ
   pub steps_there : ℕ
   pub edge : Edge
   pub at : slice_get ts place ≡ Some number
   pub is : slice_get es number ≡ Some edge
-  pub from : edge.from ≡ root
   pub to : steps_at steps edge.to ≡ Some steps_there
   pub count : r ≡ steps_there + 1
 
--- k is an edge out of a node to a node that is so many steps away, the least one of the first n edges of the list
-pub record IsNext (es : List Edge) (ts : List ℕ) (steps : List (Option ℕ)) (node left n number : ℕ) : Type 0 where
+-- k is an edge to a node that is so many steps away, with the least end of the first n edges of a list
+pub record IsNext (es : List Edge) (ts : List ℕ) (steps : List (Option ℕ)) (left n number : ℕ) : Type 0 where
   pub among : IsAmong ts number
   pub edge : Edge
   pub is : slice_get es number ≡ Some edge
-  pub from : edge.from ≡ node
   pub to : steps_at steps edge.to ≡ Some left
-  pub least : (i k : ℕ) (e : Edge) → i < n → slice_get ts i ≡ Some k → slice_get es k ≡ Some e → e.from ≡ node → steps_at steps e.to ≡ Some left → edge.to ≤ e.to
+  pub least : (i k : ℕ) (e : Edge) → i < n → slice_get ts i ≡ Some k → slice_get es k ≡ Some e → steps_at steps e.to ≡ Some left → edge.to ≤ e.to
 
--- no edge leads from a node to one that is so many steps away
-abbrev pub NoneNext : List Edge → List ℕ → List (Option ℕ) → ℕ → ℕ → ℕ → Type 0
-NoneNext es ts steps node left n = (i k : ℕ) (e : Edge) → i < n → slice_get ts i ≡ Some k → slice_get es k ≡ Some e → e.from ≡ node → steps_at steps e.to ≡ Some left → ⊥
+-- no edge of the first n of a list leads to a node that is so many steps away
+abbrev pub NoneNext : List Edge → List ℕ → List (Option ℕ) → ℕ → ℕ → Type 0
+NoneNext es ts steps left n = (i k : ℕ) (e : Edge) → i < n → slice_get ts i ≡ Some k → slice_get es k ≡ Some e → steps_at steps e.to ≡ Some left → ⊥
 
 -- walks of so many edges lead from a node to the root, and none of fewer that has some
 pub record IsOnWay (es : List Edge) (ts : List ℕ) (steps : List (Option ℕ)) (nodes root node left : ℕ) : Type 0 where

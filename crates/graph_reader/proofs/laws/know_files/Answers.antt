@@ -1,4 +1,5 @@
 use Rattle.graph_reader.proofs.FilesDecide.{one_table, one_fault, no_fault, keeps, timed}
+use Rattle.graph_reader.proofs.ReadNames.{writable}
 use Rattle.graph_reader.proofs.laws.know_files.Goals as goal
 
 pub returns-clause-table : goal.returns-clause-table
@@ -15,3 +16,6 @@ returns-clause-keeps c = keeps
 
 pub returns-clause-timed : goal.returns-clause-timed
 returns-clause-timed c = timed
+
+pub returns-clause-writable : goal.returns-clause-writable
+returns-clause-writable c = writable (λ need_times e t gives. (c.walk_is_exact.ensures need_times e t).0 gives)

@@ -1,4 +1,4 @@
-use Rattle.std.proofs.Common.{◌≡◌, ℕ, true, List, refl, subst, sym}
+use Rattle.std.proofs.Common.{ℕ, true, List, refl, subst}
 use Rattle.std.proofs.lemmas.Result.{err_from_is_err_and}
 use Rattle.cert_checker.specs.Certificates.{IsCertificateClaim, IsCertificateFault}
 use Rattle.cert_checker.specs.Verdicts.{IsVerdict}

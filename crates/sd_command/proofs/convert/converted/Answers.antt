@@ -4,7 +4,7 @@ use Rattle.report.specs.declared.claims.CertificateKind.{CertificateKind}
 use Rattle.report.specs.ClaimTexts.{converted_line}
 use Rattle.sd_command.specs.declared.file_kind.FileKind.TheVariants.{Output}
 use Rattle.sd_command.specs.Certifyings.{certifying}
-use Rattle.sd_command.proofs.Goings.{step_stops, goes_on, print_answers, print_lacks}
+use Rattle.sd_command.proofs.Goings.{step_stops, goes_on, print_answers}
 use Rattle.sd_command.proofs.convert.converted.Goals as goal
 
 pub returns-in_err-put : goal.returns-in_err-put

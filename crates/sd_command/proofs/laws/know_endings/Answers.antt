@@ -11,10 +11,14 @@ use Rattle.sd_command.proofs.ValidTradeOffPuts.{trade_offs_put_are_valid}
 use Rattle.sd_command.proofs.ValidWorstPuts.{worst_rates_put_are_valid}
 use Rattle.sd_command.proofs.AcceptedPuts.{puts_are_accepted}
 use Rattle.sd_command.proofs.CompleteCertificates.{check_is_complete, convert_is_complete}
+use Rattle.sd_command.proofs.CompleteNets.{complete_is_complete, expand_is_complete}
+use Rattle.sd_command.proofs.CompleteOrdered.{ordered_is_complete, orders_are_kept}
+use Rattle.sd_command.proofs.OneOrder.{OrderLaws}
+use Rattle.sd_command.proofs.CompleteOthers.{repetition_is_complete, scenario_is_complete}
 use Rattle.sd_command.proofs.laws.know_endings.Goals as goal
 
 -- what the calls tell
-laws : goal.After-one_ending → FileLaws
+laws : goal.After-named_orders_fit → FileLaws
 laws c = record {
   one = c.one_answer.ensures;
   table = c.know_files.ensures.table;
@@ -34,7 +38,7 @@ laws c = record {
   };
 }
 
-scenarios : goal.After-one_ending → ScenarioLaws
+scenarios : goal.After-named_orders_fit → ScenarioLaws
 scenarios c = record {
   file = c.know_scenario_files.ensures.file;
   fault = c.know_scenario_files.ensures.fault;
@@ -43,8 +47,17 @@ scenarios c = record {
   one_matrix = c.matrices_are_one.ensures;
 }
 
-one : goal.After-one_ending → DueIsOne
-one c words files refusal n m ending tells = course_decides (laws c) (scenarios c) files tells words refusal n m ending
+orders : goal.After-named_orders_fit → OrderLaws
+orders c = record {
+  lawful = c.ordered_nets_are_lawful.ensures.lawful;
+  few = c.ordered_nets_are_lawful.ensures.few;
+  rate = c.ordered_nets_have_the_greatest_rate.ensures;
+  orders = c.named_orders_fit.ensures.orders;
+  pairs = c.named_orders_fit.ensures.pairs;
+}
+
+one : goal.After-named_orders_fit → DueIsOne
+one c words files refusal n m ending tells = course_decides (laws c) (scenarios c) (orders c) files tells words refusal n m ending
 
 pub returns-clause-one : goal.returns-clause-one
 returns-clause-one c = one c
@@ -76,6 +89,24 @@ returns-clause-accepted c = puts_are_accepted (laws c) (scenarios c) c.storage_c
 
 pub returns-clause-check : goal.returns-clause-check
 returns-clause-check c = check_is_complete
+
+pub returns-clause-repetition : goal.returns-clause-repetition
+returns-clause-repetition c = repetition_is_complete
+
+pub returns-clause-scenario : goal.returns-clause-scenario
+returns-clause-scenario c = scenario_is_complete
+
+pub returns-clause-expand : goal.returns-clause-expand
+returns-clause-expand c = expand_is_complete
+
+pub returns-clause-ordered : goal.returns-clause-ordered
+returns-clause-ordered c = ordered_is_complete (laws c) (orders c)
+
+pub returns-clause-orders : goal.returns-clause-orders
+returns-clause-orders c = orders_are_kept (laws c) (orders c)
+
+pub returns-clause-complete : goal.returns-clause-complete
+returns-clause-complete c = complete_is_complete (laws c)
 
 pub returns-clause-convert : goal.returns-clause-convert
 returns-clause-convert c = convert_is_complete

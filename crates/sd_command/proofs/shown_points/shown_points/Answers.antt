@@ -19,8 +19,8 @@ use Rattle.sd_command.proofs.shown_points.shown_points.Goals as goal
 pub all-requires-after_bounds : goal.all-requires-after_bounds
 all-requires-after_bounds g c κs within =
     let T : Type 0 = PointTask g.row.F.Denot in
-    subst (λ (ts : List T). (k : ℕ) (d : T) → k < length ts → IsShowable (slice_index_or ts k d).graph.now (g.F.Firing.net (slice_index_or ts k d).net.now) (slice_index_or ts k d).point.now) (sym c.as_mut_slice.ensures.value)
-    (tasks-ready (λ (t : T). t.graph.now) (λ (t : T). g.F.Firing.net t.net.now) (λ (t : T). t.point.now) (λ (t : T). t.shown) c.args.graph.now (g.F.Firing.net c.args.net.now) c.args.points.now c.in_ok-tasks.tasks.items c.requires c.in_ok-tasks.ensures)
+    subst (λ (ts : List T). (k : ℕ) (d : T) → k < length ts → Unit {0} → IsShowable (slice_index_or ts k d).graph.now (g.F.Firing.net (slice_index_or ts k d).net.now) (slice_index_or ts k d).point.now) (sym c.as_mut_slice.ensures.value)
+    (λ k d below entered. tasks-ready (λ (t : T). t.graph.now) (λ (t : T). g.F.Firing.net t.net.now) (λ (t : T). t.point.now) (λ (t : T). t.shown) c.args.graph.now (g.F.Firing.net c.args.net.now) c.args.points.now c.in_ok-tasks.tasks.items c.requires c.in_ok-tasks.ensures k d below)
 
 pub loop-task-init : goal.loop-task-init
 loop-task-init g c =

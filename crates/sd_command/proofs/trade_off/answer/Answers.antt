@@ -1,20 +1,12 @@
-use Rattle.std.proofs.Common.{true, arith}
+use Rattle.std.proofs.Common.{arith}
 use Rattle.std.proofs.lemmas.Result.{err_from_is_err_and}
-use Rattle.sd_command.specs.TradeOffs.{trade_off}
-use Rattle.sd_command.proofs.Goings.{taking_stops, reading_stops, read_goes}
+use Rattle.sd_command.proofs.Goings.{taking_stops, taken_on}
 use Rattle.sd_command.proofs.trade_off.answer.Goals as goal
-
-pub returns-in_err-bytes-clause-goes : goal.returns-in_err-bytes-clause-goes
-returns-in_err-bytes-clause-goes g c =
-    let p = err_from_is_err_and c.from_residual.result c.from_residual.ensures.1 in
-    rw (p.1, p.2) (taking_stops _ _ _ (omega arith) _ _ _ c.in_err-bytes.ensures.takes)
 
 pub returns-in_err-graph-clause-goes : goal.returns-in_err-graph-clause-goes
 returns-in_err-graph-clause-goes g c =
-    let p = err_from_is_err_and c.from_residual-in_err-graph.result c.from_residual-in_err-graph.ensures.1 in
-    rw (p.1, p.2) (reading_stops _ _ true (trade_off c.args.wanted.now) c.in_ok-bytes.bytes _ _ _ _ c.in_ok-bytes.ensures.takes c.as_slice.ensures _ (omega arith) c.in_err-graph.ensures.does)
+    let p = err_from_is_err_and c.from_residual.result c.from_residual.ensures.1 in
+    rw (p.1, p.2) (taking_stops _ _ _ (omega arith) _ _ _ c.in_err-graph.ensures.takes)
 
 pub returns-clause-goes : goal.returns-clause-goes
-returns-clause-goes g c =
-    read_goes _ _ true (trade_off c.args.wanted.now) c.in_ok-bytes.bytes _ _ _ _ c.in_ok-bytes.ensures.takes c.as_slice.ensures c.in_ok-graph.graph _ c.in_ok-graph.ensures.does
-    (c.trade_off.ensures.goes _)
+returns-clause-goes g c = taken_on _ _ c.in_ok-graph.graph _ _ _ _ _ c.in_ok-graph.ensures.takes (c.trade_off.ensures.goes _)

@@ -1,7 +1,6 @@
 use Rattle.std.proofs.Common.{◌≡◌, ℕ, ◌<◌, ◌⊎◌, true, false}
 use Rattle.sd_base.specs.Net.{channel_at}
-use Rattle.sd_base.specs.Lawful.{is_token_role}
-use Rattle.storage.specs.BoundedNets.{is_space_role}
+use Rattle.sd_base.specs.Lawful.{is_token_role, is_space_role}
 use Rattle.test_explore.proofs.checks.is_plain.Given as goal
 
 abbrev pub invariant-loop-channel : goal.invariant-loop-channel

@@ -1,6 +1,6 @@
 use Rattle.std.proofs.Common.{◌≡◌, ◌<◌, ℕ, false}
 use Rattle.sd_base.specs.Net.{channel_at}
-use Rattle.storage.specs.BoundedNets.{is_space_role}
+use Rattle.sd_base.specs.Lawful.{is_space_role}
 use Rattle.test_storage.proofs.checks.has_no_spaces.Given as goal
 
 abbrev pub invariant-loop-channel : goal.invariant-loop-channel

@@ -1,5 +1,6 @@
-use Rattle.std.proofs.Common.{◌≡◌, ◌+◌, ℕ, List, [], Option, Result, Ok, Err, take, ap, sym, subst, ◌∙◌, arith}
+use Rattle.std.proofs.Common.{◌≡◌, ◌+◌, ◌++◌, ℕ, List, [], Option, Result, Ok, Err, length, take, drop, ap, sym, subst, ◌∙◌, arith}
 use Rattle.std.specs.Prelude.{slice_index, slice_index_or}
+use Rattle.std.proofs.lemmas.List.{take_at}
 use Rattle.sd_base.specs.Untimed.{none_fired, counts_after}
 use Rattle.firing.specs.declared.sums.Port.TheVariants.{Made, Taken}
 use Rattle.firing.specs.Wiring.{IsListed}
@@ -35,10 +36,10 @@ time-requires-clause-actor g c = (fires_at (g.F.Firing.net c.args.net.now) none_
 pub time-requires-clause-phase : goal.time-requires-clause-phase
 time-requires-clause-phase g c = omega (arith, c.requires.1.phases (slice_index c.args.order.now c.args.place) (fires_at (g.F.Firing.net c.args.net.now) none_fired c.args.order.now c.args.place c.requires.1.round.fires c.requires.1.within).actor)
 
-pub put_row-requires-clause-within : goal.put_row-requires-clause-within
-put_row-requires-clause-within g c =
+pub delay-requires-clause-within : goal.delay-requires-clause-within
+delay-requires-clause-within g c =
     let f = fires_at (g.F.Firing.net c.args.net.now) none_fired c.args.order.now c.args.place c.requires.1.round.fires c.requires.1.within in
-    subst (AreWithin _) (sym c.as_slice.ensures.value)
+    subst (AreWithin _) (sym c.as_mut_slice.ensures.value)
     (row_within (g.F.Firing.net c.args.net.now) c.know_laws.ensures c.requires.1.phases c.requires.0 c.args.size (counts_after none_fired (take c.args.place c.args.order.now)) c.args.lines.now (slice_index c.args.order.now c.args.place)
     c.requires.1.stands f.actor f.can c.in_ok-row.row.items c.in_ok-row.ensures.latest c.requires.1.fed
     (after_within (g.F.Firing.net c.args.net.now) none_fired c.args.order.now c.args.place c.requires.1.round.fires (λ b there. omega arith)))
@@ -57,17 +58,19 @@ put_tokens-requires-clause-listed g c =
 pub returns : goal.returns
 returns g c = on c.put_tokens.result c.put_tokens.ensures
   where
-    later : c.in_ok-put.put ≡ shifted (slice_index (slice_index_or (g.F.Firing.net c.args.net.now).times (slice_index c.args.order.now c.args.place) []) 0) c.in_ok-row.row.items
-    later = c.in_ok-put.ensures ∙ ap (λ (r : List (Option ℕ)). shifted c.time.result r) c.as_slice.ensures.value ∙ ap (λ (t : ℕ). shifted t c.in_ok-row.row.items) c.time.ensures
+    back : take c.in_ok-row.row.len (c.delay.new.row ++ drop (length c.delay.new.row) c.in_ok-row.row.items) ≡ c.delay.new.row
+    back = take_at c.delay.new.row (drop (length c.delay.new.row) c.in_ok-row.row.items) c.in_ok-row.row.len (omega (arith, c.delay.auto.row, c.as_mut_slice.ensures.len))
 
-    on : (r : Result (Unit {0}) NoMemory) → OnOk r (ArePut (g.F.Firing.net c.args.net.now) (slice_index c.args.order.now c.args.place) c.as_slice-2.result.now c.take_row.new.lines c.put_tokens.new.lines)
+    later : c.in_ok-row-2.row.value ≡ shifted (slice_index (slice_index_or (g.F.Firing.net c.args.net.now).times (slice_index c.args.order.now c.args.place) []) 0) c.in_ok-row.row.items
+    later = c.in_ok-row-2.ensures.ok ∙ c.from_vec.ensures ∙ back ∙ c.delay.ensures ∙ ap (λ (r : List (Option ℕ)). shifted c.time.result r) c.as_mut_slice.ensures.value ∙ ap (λ (t : ℕ). shifted t c.in_ok-row.row.items) c.time.ensures
+
+    on : (r : Result (Unit {0}) NoMemory) → OnOk r (ArePut (g.F.Firing.net c.args.net.now) (slice_index c.args.order.now c.args.place) c.in_ok-row-2.row.value c.take_row.new.lines c.put_tokens.new.lines)
         → OnOk r ((first : ℕ → ℕ) → Stands (g.F.Firing.net c.args.net.now) first c.args.size (counts_after none_fired (take c.args.place c.args.order.now)) c.args.lines.now
         → Stands (g.F.Firing.net c.args.net.now) first c.args.size (counts_after none_fired (take (c.args.place + 1) c.args.order.now)) c.put_tokens.new.lines)
     on (Ok o) put = λ first stands.
         let f = fires_at (g.F.Firing.net c.args.net.now) none_fired c.args.order.now c.args.place c.requires.1.round.fires c.requires.1.within in
         subst (λ (v : ℕ → ℕ). Stands (g.F.Firing.net c.args.net.now) first c.args.size v c.put_tokens.new.lines) (sym (after_more none_fired c.args.order.now c.args.place c.requires.1.within))
         (stands_more (g.F.Firing.net c.args.net.now) c.know_laws.ensures c.requires.1.phases first c.args.size (counts_after none_fired (take c.args.place c.args.order.now)) c.args.lines.now (slice_index c.args.order.now c.args.place)
-        stands f.actor f.can c.in_ok-row.row.items c.in_ok-row.ensures.latest c.requires.1.fed c.in_ok-put.put later c.take_row.new.lines c.put_tokens.new.lines c.in_ok-row.ensures.taken
-        (subst (λ (r : List (Option ℕ)). ArePut (g.F.Firing.net c.args.net.now) (slice_index c.args.order.now c.args.place) r c.take_row.new.lines c.put_tokens.new.lines) c.as_slice-2.ensures put)
+        stands f.actor f.can c.in_ok-row.row.items c.in_ok-row.ensures.latest c.requires.1.fed c.in_ok-row-2.row.value later c.take_row.new.lines c.put_tokens.new.lines c.in_ok-row.ensures.taken put
         (omega (arith, c.put_tokens.auto.lines, c.take_row.auto.lines)))
     on (Err e) put = tt

@@ -19,7 +19,7 @@ returns-in_err-first-clause-exact c =
 
 pub loop-line-init : goal.loop-line-init
 loop-line-init c = record {
-  rising = rising-start _ _ _ _ _ _ _ _ _ c.in_ok-word.ensures.exact c.in_ok-first.ensures.exact c.new-buffers.ensures c.in_ok-push.ensures.exact c.limited.ensures.exact;
+  rising = rising-start _ _ _ _ _ _ _ _ _ c.in_ok-word.ensures.exact c.in_ok-first.ensures.exact c.in_ok-buffers.ensures.none c.in_ok-push.ensures.exact c.limited.ensures.exact;
   numeral = c.in_ok-first.ensures.numeral.0;
 }
 

@@ -11,7 +11,7 @@ returns-in_err-word-clause-exact c =
     rw (p.1, p.2) (inr (capacities-none c.args.line.rest.now _ c.in_err-word.ensures.exact))
 
 pub loop-line-init : goal.loop-line-init
-loop-line-init c = capacities-start _ _ _ _ c.in_ok-word.ensures.exact c.new-capacities.ensures
+loop-line-init c = capacities-start _ _ _ _ c.in_ok-word.ensures.exact c.in_ok-capacities.ensures.none
 
 pub returns-in_err-next-clause-exact : goal.returns-in_err-next-clause-exact
 returns-in_err-next-clause-exact c =

@@ -12,7 +12,7 @@ returns-in_err-first-clause-exact c =
     rw (p.1, p.2) (inr (numbers-none 18446744073709551615 c.args.line.rest.now _ c.in_err-first.ensures.exact))
 
 pub loop-line-init : goal.loop-line-init
-loop-line-init c = numbers-start 18446744073709551615 _ _ _ _ _ _ _ _ c.in_ok-first.ensures.exact c.new-counts.ensures c.in_ok-push.ensures.exact c.long.ensures.exact
+loop-line-init c = numbers-start 18446744073709551615 _ _ _ _ _ _ _ _ c.in_ok-first.ensures.exact c.in_ok-counts.ensures.none c.in_ok-push.ensures.exact c.long.ensures.exact
 
 pub returns-in_err-next-clause-exact : goal.returns-in_err-next-clause-exact
 returns-in_err-next-clause-exact c =

@@ -14,7 +14,7 @@ returns-in_err-first-clause-exact c =
     rw (p.1, p.2) (inr (numbers-none START c.args.line.rest.now _ c.in_err-first.ensures.exact))
 
 pub loop-line-init : goal.loop-line-init
-loop-line-init c = numbers-start START _ _ _ _ _ _ _ _ c.in_ok-first.ensures.exact c.new-starts.ensures c.in_ok-push.ensures.exact c.within.ensures.exact
+loop-line-init c = numbers-start START _ _ _ _ _ _ _ _ c.in_ok-first.ensures.exact c.in_ok-starts.ensures.none c.in_ok-push.ensures.exact c.within.ensures.exact
 
 pub returns-in_err-next-clause-exact : goal.returns-in_err-next-clause-exact
 returns-in_err-next-clause-exact c =

@@ -10,7 +10,7 @@ use Rattle.cert_text.proofs.reading.trade_offs.each_cycle.Given as goal
 
 abbrev pub invariant-loop-place : goal.invariant-loop-place
 invariant-loop-place l = record {
-  texts : HasTexts l.cycles.texts.keys l.cycles.list.items;
+  texts : HasTexts l.cycles.numbers l.cycles.list.items;
   text : l.fn.lines.rest.now ≡ flat_map cycle_lines l.cycles.list.items ++ l.lines.rest.now;
   many : length l.cycles.list.items ≡ l.place;
   each : All IsCycleText l.cycles.list.items;

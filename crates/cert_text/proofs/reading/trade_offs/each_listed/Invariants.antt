@@ -13,7 +13,7 @@ use Rattle.cert_text.proofs.reading.trade_offs.each_listed.Given as goal
 
 abbrev pub invariant-loop-place : goal.invariant-loop-place
 invariant-loop-place l = record {
-  texts : HasTexts l.cycles.texts.keys l.cycles.list.items;
+  texts : HasTexts l.cycles.numbers l.cycles.list.items;
   text : (later : List LinkCycle) → l.fn.lines.rest.now ≡ flat_map (member_lines 1 (l.cycles.list.items ++ later)) l.members.items ++ l.lines.rest.now;
   many : length l.members.items ≡ l.place;
   each : All (λ (x : MemberLine). AreShown x.shown) l.members.items;

@@ -7,7 +7,7 @@ use Rattle.token_matrix.proofs.line.Line.take_some.Goals as goal
 pub returns-then-batch-tokens-clause-raised : goal.returns-then-batch-tokens-clause-raised
 returns-then-batch-tokens-clause-raised c =
     whole_raised c.in-Some.batch c.pop_front.new.self.items c.args.self.now (sym c.self.view_is ∙ ap rows_of c.in-Some.ensures.items) c.args.tokens c.args.row.now c.raise.new.row
-    c.in-Some.batch.some c.if-batch-tokens.true c.requires.wide (c.raise.ensures ∙ ap (later_row c.args.row.now) c.as_slice.ensures)
+    c.in-Some.batch.some c.if-batch-tokens.true c.requires.wide (c.raise.ensures ∙ ap (later_row c.args.row.now) (c.as_slice.ensures ∙ c.as_ref.ensures))
 
 pub returns-clause-left : goal.returns-clause-left
 returns-clause-left c =
@@ -16,4 +16,4 @@ returns-clause-left c =
 pub returns-clause-raised : goal.returns-clause-raised
 returns-clause-raised c =
     part_raised c.in-Some.batch c.pop_front.new.self.items c.args.self.now (sym c.self.view_is ∙ ap rows_of c.in-Some.ensures.items) c.args.tokens c.args.row.now c.raise.new.row
-    c.requires.some c.if-batch-tokens.false c.requires.wide (c.raise.ensures ∙ ap (later_row c.args.row.now) c.as_slice.ensures)
+    c.requires.some c.if-batch-tokens.false c.requires.wide (c.raise.ensures ∙ ap (later_row c.args.row.now) (c.as_slice.ensures ∙ c.as_ref.ensures))

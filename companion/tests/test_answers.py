@@ -1,0 +1,110 @@
+"""What the companions print of the examples."""
+import json
+import os
+import signal
+import subprocess
+import sys
+
+import pytest
+
+from companion.tests.conftest import LAUNCHER
+
+FRONTS = {
+    "two_filters": (1, {}),
+    "h263_encoder": (2, {299: "1/1846402", 300: "1/1232530"}),
+    "h263_decoder": (69, {4753: "1/2508452", 4754: "1/1354202", 4821: "1/1328184"}),
+    "rate_converter": (6, {32: "1/847", 37: "1/490"}),
+    "modem": (4, {21: "1/40", 22: "1/32", 23: "1/30", 24: "1/24"}),
+    "satellite_receiver": (5, {38: "1/594", 39: "1/408", 41: "1/348", 43: "1/288", 45: "1/264"}),
+    "mp3_decoder": (2, {14: "1/17", 16: "1/16"}),
+}
+"""How many points the documents tell of an example, and rates by storage of those that they name."""
+CHAIN = ["6 1/7 alpha=4,beta=2", "8 1/6 alpha=5,beta=3", "9 1/5 alpha=6,beta=3", "10 1/4 alpha=7,beta=3"]
+
+
+def test_tradeoff_ends_by_itself(run, example):
+    status, text, said = run("tradeoff", example("chain"), "--no-overlap")
+    assert (status, text.splitlines()) == (0, CHAIN)
+    assert said == "companion tradeoff: complete up to storage 10: 4 points; no memory buys more, since b can't be faster\n"
+
+
+def test_tradeoff_up_to_a_rate(run, example):
+    status, text, said = run("tradeoff", example("chain"), "--no-overlap", "--rate", "16/s@100Hz", "--csv")
+    assert (status, text) == (0, 'storage,rate,buffers\n6,1/7,"alpha=4,beta=2"\n8,1/6,"alpha=5,beta=3"\n')
+    assert said.startswith("companion tradeoff: complete up to storage 8: 2 points; the wanted rate is reached")
+    status, text, said = run("tradeoff", example("chain"), "--no-overlap", "--rate", "1/3")
+    assert (status, text, said) == (1, "", "companion tradeoff: no memory reaches 1/3: b can't be faster than 1/4\n")
+
+
+@pytest.mark.parametrize("name", FRONTS)
+def test_tradeoff_of_the_examples(run, example, name):
+    status, text, _ = run("tradeoff", example(name), "--no-overlap", "--json")
+    found = json.loads(text)
+    count, named = FRONTS[name]
+    assert (status, len(found["points"])) == (0, count)
+    assert named.items() <= {point["storage"]: point["rate"] for point in found["points"]}.items()
+    assert found["points"][-1]["rate"] == found["fastest"]["rate"]
+    assert found["complete_to"] >= found["points"][-1]["storage"]
+
+
+def test_tradeoff_without_an_end_keeps_what_it_found(run, example):
+    status, text, said = run("tradeoff", example("chain"), "--distributions", "20")
+    assert (status, text.splitlines()[0]) == (8, "6 1/7 alpha=4,beta=2")
+    assert "sdf3analysis: budget: more than 20 distributions" in said
+    status, text, said = run("tradeoff", example("chain"), "--no-overlap", "--seconds", "0")
+    assert (status, text) == (8, "")
+    assert "limit of time" in said
+
+
+def test_an_interrupt_keeps_what_was_found(analyser, example):
+    words = [sys.executable, LAUNCHER, "tradeoff", example("chain"), "--csv"]
+    with subprocess.Popen(words, stdout=subprocess.PIPE, stderr=subprocess.PIPE, text=True, env={**os.environ, "SDF3ANALYSIS": analyser.program}) as run:
+        shown = [run.stdout.readline(), run.stdout.readline()]
+        run.send_signal(signal.SIGINT)
+        _, said = run.communicate(timeout=60)
+    assert shown == ["storage,rate,buffers\n", '6,1/7,"alpha=4,beta=2"\n']
+    assert run.returncode == 0
+    assert said.startswith("companion tradeoff: complete up to storage") and said.endswith("points; interrupted\n")
+
+
+def test_tradeoff_takes_no_buffers(run, example):
+    assert run("tradeoff", example("chain"), "--buffers", "alpha=4") == (2, "", "sdf3analysis: usage: --buffers is not for storage\n")
+
+
+def test_fastest(run, example):
+    assert run("fastest", example("chain")) == (0, "fastest unbounded\n", "")
+    assert run("fastest", example("chain"), "--no-overlap") == (0, "fastest 1/4\npart b\nrounds 2\ncycle 2 1 b 0\nb 1 b/self\n", "")
+    status, text, _ = run("fastest", example("chain"), "--no-overlap", "--buffers", "alpha=4,beta=2")
+    assert (status, text.splitlines()[:2]) == (0, ["fastest 1/7", "part a b c"])
+    assert run("fastest", example("chain"), "--buffers", "gamma=4") == (3, "", "companion fastest: unknown channel gamma\n")
+
+
+def test_what_if(run, example):
+    status, text, _ = run("whatif", example("chain"), "--no-overlap", "--buffers", "alpha=4,beta=2")
+    assert status == 0
+    assert text.splitlines() == ["now 1/7",
+                                 "             now then rate gain",
+                                 "b            2   1    1/5 +40.0 %",
+                                 "a            1   1/2  2/13 +7.7 %",
+                                 "c            2   1    1/7 +0.0 %",
+                                 "alpha/buffer 4   5    1/7 +0.0 %",
+                                 "beta/buffer  2   3    1/7 +0.0 %"]
+    assert run("whatif", example("chain"))[0] == 3
+    assert run("whatif", example("ring"), "--factor", "0")[0] == 2
+
+
+def test_referee(run, analyser, example, tmp_path):
+    kept = tmp_path / "certificate"
+    status, text, _ = run("referee", example("ring"), "--claim", "1/5", "--certificate", kept)
+    assert (status, text) == (0, "confirmed 1/5\naccepted throughput 1/5\n")
+    assert analyser.run("check", example("ring"), "--certificate", str(kept)) == "accepted throughput 1/5\n"
+    assert run("referee", example("ring"), "--claim", "~0.20")[0] == 0
+    assert run("referee", example("ring"), "--claim", "~0.21")[0] == 1
+    status, text, _ = run("referee", example("ring"), "--claim", "1/4")
+    assert (status, text.splitlines()) == (1, ["refuted 1/4", "rate 1/5", "accepted throughput 1/5",
+                                               "the claim is too fast: by this need cycle no schedule runs a round in less than 5 time units",
+                                               "cycle 5 1 x 0", "y 0 xy", "x 1 yx"])
+    status, text, _ = run("referee", example("ring"), "--claim", "1/6")
+    assert (status, text.splitlines()[3:]) == (1, ["the claim is too slow: this schedule is faster", "schedule 5 1", "x 0", "y 2"])
+    assert run("referee", example("chain"), "--claim", "1/5") == (6, "", "sdf3analysis: connection: no way from b to a\n")
+    assert run("referee", example("ring"))[0] == 2

@@ -1,0 +1,34 @@
+"""The second checker and the analyser's `check` say the same of each worked certificate."""
+import pytest
+
+from companion import verify
+from companion.tests.worked_cases import cases
+
+GRAPH, CERTIFICATE = 3, 5
+WORDS = ["--algo", "check", "--graph", None, "--certificate", None]
+
+
+def judged():
+    """The cases in which `check` has both files and comes to a verdict on the certificate, each with its line."""
+    for case, shown in cases():
+        same = len(case.words) == len(WORDS) and all(want in (None, word) for want, word in zip(WORDS, case.words))
+        if same and not case.fails and case.files.keys() >= {case.words[GRAPH], case.words[CERTIFICATE]}:
+            line = next(line for line in shown if line.startswith(("out|", "err|"))).partition("|")[2].removeprefix("sdf3analysis: ")
+            if line.startswith(("accepted", "rejected", "form: certificate", "form: wrong kind", "limit: certificate")):
+                yield pytest.param(case, line, id=case.name)
+
+
+@pytest.mark.parametrize("case, line", judged())
+def test_the_verdict_is_that_of_check(case, line, tmp_path):
+    names = [case.words[GRAPH], case.words[CERTIFICATE]]
+    for name in names:
+        (tmp_path / name).write_text(str(case.files[name]), encoding="latin-1", newline="")
+    try:
+        said = verify.verdict(*(str(tmp_path / name) for name in names))
+    except verify.Refused as refused:
+        said = refused.args[1]
+    assert said == line
+
+
+def test_there_are_many():
+    assert len(list(judged())) >= 250

@@ -1,0 +1,72 @@
+"""The worked cases of the analyser, as `docs/CASES.md` has their form: words and files, and the lines that the run shows."""
+import os
+import re
+
+FOLDER = os.path.join(os.path.dirname(os.path.abspath(__file__)), "..", "..", "crates", "test_cases")
+ESCAPE = re.compile(r"\\(?:\\|e|x([0-9a-f]{2})|\{([0-9]+) ((?:[^\\}]|\\[^{])*)\})", re.S)
+
+
+def plain(text):
+    """A text with its escapes replaced."""
+    def one(found):
+        if found[1]:
+            return chr(int(found[1], 16))
+        if found[2]:
+            return "".join(plain(found[3].replace("#", str(number))) for number in range(int(found[2])))
+        return "" if found[0] == "\\e" else "\\"
+    return ESCAPE.sub(one, text)
+
+
+class Content:
+    """What a file or a shared text holds, line by line."""
+
+    def __init__(self, texts):
+        self.texts, self.parts = texts, []
+
+    def add(self, line):
+        if line[0] in "|>":
+            self.parts.append(plain(line[1:]) + ("\n" if line[0] == "|" else ""))
+            return
+        name, *cut = line[1:].split(" ")
+        text = str(self.texts[name])
+        if cut and cut[0].endswith(".."):
+            text = text[int(cut[0][:-2]):]
+        elif cut:
+            text = text[:int(cut[0])]
+        self.parts.append(text)
+
+    def __str__(self):
+        return "".join(self.parts)
+
+
+class Case:
+    def __init__(self, name):
+        self.name, self.words, self.files, self.fails = name, [], {}, False
+
+
+def cases():
+    """Each case with the lines that it has to print."""
+    found, texts, content = [], {}, None
+    with open(os.path.join(FOLDER, "stdin"), encoding="latin-1", newline="") as lines:
+        for line in lines.read().split("\n"):
+            key, _, rest = line.partition(" ")
+            if line[:1] in ("|", ">", "@"):
+                content.add(line)
+            elif key == "case":
+                found.append(Case(rest))
+            elif key == "words":
+                found[-1].words = [plain(word) for word in rest.split(" ")]
+            elif key == "file":
+                content = found[-1].files[plain(rest)] = Content(texts)
+            elif key == "text":
+                content = texts[rest] = Content(texts)
+            elif key in ("shelf-fails", "out-fails", "err-fails", "out-room", "err-room", "most"):
+                found[-1].fails = True
+    shown, said = {}, None
+    with open(os.path.join(FOLDER, "stdout"), encoding="latin-1", newline="") as lines:
+        for line in lines.read().split("\n"):
+            if line.startswith("case "):
+                said = shown[line[5:]] = []
+            elif said is not None:
+                said.append(line)
+    return [(case, shown[case.name]) for case in found]

@@ -1,0 +1,14 @@
+pub mod Along
+pub mod Starts
+pub mod Within
+pub mod Chained
+pub mod Timing
+pub mod Laps
+pub mod LapsBack
+pub mod Needing
+pub mod Fits
+pub mod Counted
+pub mod WalkSteps
+pub mod Ending
+pub mod Finished
+pub mod Completed

@@ -1,0 +1,243 @@
+-- How a walk goes on.
+use Rattle.std.proofs.Common.{◌≡◌, ℕ, ◌+◌, ◌-◌, ◌*◌, ◌^◌, ◌≤◌, ◌<◌, List, [], ◌∷◌, length, subst, sym, refl, ap, ◌∙◌, arith, mod-lt, set}
+use Rattle.sd_base.specs.declared.limits.TheConstants.{ROUNDS, TIME}
+use Rattle.std.proofs.lemmas.List.{length-set}
+use Rattle.critical.specs.declared.cycle.FiringNo.{FiringNo}
+use Rattle.critical.specs.declared.cycle.CycleStep.{CycleStep}
+use Rattle.completion.specs.declared.counts.Part.{Part}
+use Rattle.completion.specs.declared.timetable.Start.{Start}
+use Rattle.completion.specs.declared.timetable.Timetable.{Timetable}
+use Rattle.completion.specs.declared.walk.Walk.{Walk}
+use Rattle.sd_base.specs.Net.{Net}
+use Rattle.sd_base.proofs.Parts.{timed}
+use Rattle.critical.specs.Cycles.{IsStep, IsChain, last_of}
+use Rattle.completion.specs.Ways.{InRounds, firing_time, no_part, one_in, part_at, sum_along, time_in}
+use Rattle.completion.specs.inside.Timetables.{IsLastOf, IsStart, IsTimetable, StartsAt, end_at, firing_of, moment_of, pass_of}
+use Rattle.completion.specs.inside.Walks.{FitsTimes, IsLap, IsTightNeed, IsWalk, IsWayTo, sum_before}
+use Rattle.completion.proofs.Along.{along-last, part-le}
+use Rattle.completion.proofs.Starts.{start-order}
+use Rattle.completion.proofs.Within.{head-within}
+use Rattle.completion.proofs.Chained.{chain-count}
+use Rattle.completion.proofs.Timing.{few-counts}
+use Rattle.completion.proofs.LapsBack.{IsWayWithLaps, way-with_laps}
+use Rattle.completion.proofs.Needing.{few-firings, starts}
+use Rattle.completion.proofs.Counted.{counted-more, more}
+
+module _ (net : Net) (times : Timetable) (is : IsTimetable net times) where
+  pub short-time : (x : FiringNo) → x.actor < length net.times → firing_time net x ≤ TIME
+  short-time x actor = is.laws.short_times x.actor _ actor (mod-lt x.number (is.laws.some_phase x.actor actor))
+
+  pub some-time : (x : FiringNo) → x.actor < length net.times → 1 ≤ firing_time net x
+  some-time x actor = (timed net is.laws).some x.actor x.number actor
+
+  -- a firing of an actor that starts sooner has the lesser number
+  pub numbers-order : (here kept : Start) → IsStart net times here → IsStart net times kept → here.moment < kept.moment → kept.actor ≡ here.actor → here.number < kept.number
+  numbers-order here kept start start_kept less same =
+      start-order net is.laws is.inputs here.actor here.number kept.number here.moment kept.moment (starts net times is here start)
+      (subst (λ (b : ℕ). StartsAt net b kept.number kept.moment) same (starts net times is kept start_kept)) less
+
+  -- a lap of no firing
+  pub fresh-lap : (here : Start) (lap : List Part) → length lap ≡ length net.times → ((a : ℕ) → a < length net.times → part_at lap a ≡ no_part) → IsLap net here here lap
+  fresh-lap here lap actors none = record {
+    steps = [];
+    chain = tt;
+    ends = refl;
+    time = omega arith;
+    actors = actors;
+    firings = λ a actor. ap (λ (p : Part). p.firings) (none a actor);
+    times = λ a actor. ap (λ (p : Part). p.time) (none a actor);
+  }
+
+  -- ---- bounds along a way
+
+  module _ (n : ℕ) (few : n ≤ ROUNDS) (last : Start) (is_last : IsLastOf net times n last) where
+    pub last-within : InRounds net n last.actor last.number
+    last-within = (is_last.start.actor, omega (arith, is_last.number))
+
+    -- an actor has few firings on a chain that leads there
+    pub chain-few : (here : Start) (steps : List CycleStep) → IsStart net times here → IsChain net (firing_of here) steps → last_of (firing_of here) steps ≡ firing_of last → (a : ℕ) → a < length net.times →
+        sum_along (one_in a) (firing_of here) steps ≤ 8000000000000
+    chain-few here steps start chain ends a actor =
+        let at_last : StartsAt net last.actor last.number last.moment = starts net times is last is_last.start in
+        let count = chain-count net is.laws is.inputs a (firing_of here) steps chain here.moment last.moment (starts net times is here start) (subst (λ (x : FiringNo). StartsAt net x.actor x.number last.moment) (sym ends) at_last) in
+        omega (arith, count, few-counts net times is n last.actor a last.number last.moment is_last.start.actor actor few at_last last-within.1)
+
+    -- the first firing of it is one of the rounds
+    pub chain-head : (here : Start) (steps : List CycleStep) → IsChain net (firing_of here) steps → last_of (firing_of here) steps ≡ firing_of last → InRounds net n here.actor here.number
+    chain-head here steps chain ends = head-within net is.laws n (firing_of here) steps chain (subst (λ (x : FiringNo). InRounds net n x.actor x.number) (sym ends) last-within)
+
+    pub chain-soon : (here : Start) (steps : List CycleStep) → here.moment + sum_along (firing_time net) (firing_of here) steps ≡ end_at net last → (a : ℕ) → sum_along (time_in net a) (firing_of here) steps ≤ end_at net last
+    chain-soon here steps time a = omega (arith, part-le net a (firing_of here) steps)
+
+    pub way-within : (here : Start) (parts : List Part) → IsWayTo net last here parts → InRounds net n here.actor here.number
+    way-within here parts way = chain-head here way.steps way.chain way.ends
+
+    -- no firing of it starts later than the last
+    pub way-since : (here : Start) (parts : List Part) → IsWayTo net last here parts → here.moment ≤ last.moment
+    way-since here parts way =
+        let split : sum_along (firing_time net) (firing_of here) way.steps ≡ sum_before (firing_time net) (firing_of here) way.steps + firing_time net (last_of (firing_of here) way.steps) = along-last (firing_time net) (firing_of here) way.steps in
+        let same : firing_time net (last_of (firing_of here) way.steps) ≡ firing_time net (firing_of last) = ap (firing_time net) way.ends in
+        omega (arith, way.time)
+
+    pub way-few : (here : Start) (parts : List Part) → IsStart net times here → IsWayTo net last here parts → (a : ℕ) → a < length net.times → (part_at parts a).firings ≤ 8000000000000
+    way-few here parts start way a actor = rw (way.counted.firings a actor) (chain-few here way.steps start way.chain way.ends a actor)
+
+    pub way-soon : (here : Start) (parts : List Part) → IsWayTo net last here parts → (a : ℕ) → a < length net.times → (part_at parts a).time ≤ end_at net last
+    way-soon here parts way a actor = rw (way.counted.time a actor) (chain-soon here way.steps way.time a)
+
+  -- a way of one firing
+  pub way-first : (last : Start) (parts : List Part) → last.actor < length parts → length parts ≡ length net.times → ((a : ℕ) → a < length net.times → part_at parts a ≡ no_part) →
+      IsWayTo net last last (set parts last.actor (more net parts (firing_of last)))
+  way-first last parts place actors none = record {
+    steps = [];
+    chain = tt;
+    ends = refl;
+    time = refl;
+    counted = record {
+      actors = length-set parts last.actor (more net parts (firing_of last)) ∙ actors;
+      firings = λ a actor.
+          let nothing : (part_at parts a).firings ≡ 0 = ap (λ (p : Part). p.firings) (none a actor) in
+          omega (arith, (counted-more net parts (firing_of last) place a).0);
+      time = λ a actor.
+          let nothing : (part_at parts a).time ≡ 0 = ap (λ (p : Part). p.time) (none a actor) in
+          omega (arith, (counted-more net parts (firing_of last) place a).1);
+    };
+  }
+
+  -- ---- a step back
+
+  module _ (here needed : Start) (need : IsTightNeed net here needed) where
+    step : CycleStep
+    step = record { channel = need.channel; to = firing_of here }
+
+    steps-on : IsStep net (firing_of needed) (record { channel = need.channel; to = firing_of here })
+    steps-on = record { place = need.place; source = need.source; target = need.target; last = need.last }
+
+    pub way-more : (last : Start) (parts : List Part) → needed.actor < length net.times → IsWayTo net last here parts → IsWayTo net last needed (set parts needed.actor (more net parts (firing_of needed)))
+    way-more last parts actor way =
+        let place : needed.actor < length parts = omega (arith, way.counted.actors) in
+        record {
+          steps = record { channel = need.channel; to = firing_of here } ∷ way.steps;
+          chain = (steps-on, way.chain);
+          ends = way.ends;
+          time = omega (arith, way.time, need.just);
+          counted = record {
+            actors = length-set parts needed.actor (more net parts (firing_of needed)) ∙ way.counted.actors;
+            firings = λ a is_actor. omega (arith, (counted-more net parts (firing_of needed) place a).0, way.counted.firings a is_actor);
+            time = λ a is_actor. omega (arith, (counted-more net parts (firing_of needed) place a).1, way.counted.time a is_actor);
+          };
+        }
+
+    pub lap-more : (kept : Start) (lap : List Part) → needed.actor < length net.times → IsLap net here kept lap → IsLap net needed kept (set lap needed.actor (more net lap (firing_of needed)))
+    lap-more kept lap actor turn =
+        let place : needed.actor < length lap = omega (arith, turn.actors) in
+        record {
+          steps = record { channel = need.channel; to = firing_of here } ∷ turn.steps;
+          chain = (steps-on, turn.chain);
+          ends = turn.ends;
+          time = omega (arith, turn.time, need.just);
+          actors = length-set lap needed.actor (more net lap (firing_of needed)) ∙ turn.actors;
+          firings = λ a is_actor. omega (arith, (counted-more net lap (firing_of needed) place a).0, turn.firings a is_actor);
+          times = λ a is_actor. omega (arith, (counted-more net lap (firing_of needed) place a).1, turn.times a is_actor);
+        }
+
+  -- the firings of a lap are no more than there are up to the last of the rounds
+  pub lap-few : (walk : Walk) → IsWalk net times walk → (a : ℕ) → a < length net.times → (part_at walk.lap.items a).firings ≤ 8000000000000
+  lap-few walk w a actor =
+      let turn = w.lap in
+      let at_kept : StartsAt net walk.kept.actor walk.kept.number walk.kept.moment = starts net times is walk.kept w.kept in
+      let count = chain-count net is.laws is.inputs a (firing_of walk.here) turn.steps turn.chain walk.here.moment walk.kept.moment (starts net times is walk.here w.here) (subst (λ (x : FiringNo). StartsAt net x.actor x.number walk.kept.moment) (sym turn.ends) at_kept) in
+      let split : sum_along (one_in a) (firing_of walk.here) turn.steps ≡ sum_before (one_in a) (firing_of walk.here) turn.steps + one_in a (last_of (firing_of walk.here) turn.steps) = along-last (one_in a) (firing_of walk.here) turn.steps in
+      let rise = Rattle.sd_base.proofs.Alike.count-rises net (Rattle.sd_base.proofs.Parts.regular net is.laws) is.inputs (walk.kept.moment + 1) (walk.last.moment + 1) (omega (arith, w.since)) a in
+      let most = few-counts net times is w.rounds walk.last.actor a walk.last.number walk.last.moment w.last.start.actor actor w.few (starts net times is walk.last w.last.start) (omega (arith, w.last.number)) in
+      omega (arith, turn.firings a actor, count, rise, most)
+
+  pub lap-soon : (walk : Walk) → IsWalk net times walk → (a : ℕ) → a < length net.times → (part_at walk.lap.items a).time ≤ walk.last.moment
+  lap-soon walk w a actor =
+      let turn = w.lap in
+      let part : sum_along (time_in net a) (firing_of walk.here) turn.steps ≤ sum_along (firing_time net) (firing_of walk.here) turn.steps = part-le net a (firing_of walk.here) turn.steps in
+      omega (arith, turn.times a actor, before-le a (firing_of walk.here) turn.steps, turn.time, w.since)
+    where
+      before-le : (a : ℕ) (from : FiringNo) (steps : List CycleStep) → sum_before (time_in net a) from steps ≤ sum_before (firing_time net) from steps
+      before-le a from [] = omega arith
+      before-le a from (s ∷ rest) = omega (arith, Rattle.completion.proofs.Along.one-part-le net a from, before-le a s.to rest)
+
+  -- the firing here is kept
+  pub kept-walk : (last here : Start) (parts : List Part) (n : ℕ) → n ≤ ROUNDS → IsLastOf net times n last → last.moment ≤ 2 ^ 105 → IsStart net times here → IsWayTo net last here parts →
+      (new : Walk) → new.last ≡ last → new.here ≡ here → new.parts.items ≡ parts → new.kept ≡ here → length new.lap.items ≡ length net.times → ((a : ℕ) → a < length net.times → part_at new.lap.items a ≡ no_part) → IsWalk net times new
+  kept-walk last here parts n few is_last soon start way new same_last same_here same_parts same_kept actors none = record {
+    rounds = n;
+    few = few;
+    last = subst (IsLastOf net times n) (sym same_last) is_last;
+    soon = subst (λ (x : Start). x.moment ≤ 2 ^ 105) (sym same_last) soon;
+    here = subst (IsStart net times) (sym same_here) start;
+    kept = subst (IsStart net times) (sym same_kept) start;
+    since = subst (λ (x : Start). x.moment ≤ new.last.moment) (sym same_kept) (subst (λ (x : Start). here.moment ≤ x.moment) (sym same_last) (way-since n few last is_last here parts way));
+    way = subst (λ (x : Start). IsWayTo net x new.here new.parts.items) (sym same_last) (subst (λ (x : Start). IsWayTo net last x new.parts.items) (sym same_here) (subst (IsWayTo net last here) (sym same_parts) way));
+    lap = subst (λ (x : Start). IsLap net x new.kept new.lap.items) (sym same_here) (subst (λ (x : Start). IsLap net here x new.lap.items) (sym same_kept) (fresh-lap here new.lap.items actors none));
+  }
+
+  pub jump-number : (walk : Walk) → IsWalk net times walk → walk.here.number ≤ 1099511627776
+  jump-number walk w =
+      let within = way-within w.rounds w.few walk.last w.last walk.here walk.parts.items w.way in
+      omega (arith, within.1, few-firings net is.laws w.rounds walk.here.actor w.few)
+
+  -- ---- a jump
+
+  module _ (walk : Walk) (w : IsWalk net times walk) (laps : ℕ) (fits : FitsTimes times walk.here walk.kept laps) where
+    -- the firing so many laps before the one here, and the way from it
+    abbrev earlier : Start
+    earlier = record { actor = walk.here.actor; number = walk.here.number - laps * (fits.passes * pass_of times walk.here.actor); moment = moment_of times walk.here.actor (walk.here.number - laps * (fits.passes * pass_of times walk.here.actor)) }
+
+    longer : IsWayWithLaps net walk.last earlier walk.here laps w.lap.steps w.way.steps
+    longer = way-with_laps net times is walk.last walk.here walk.kept earlier laps walk.parts.items walk.lap.items w.here w.kept w.way w.lap fits refl refl (record { actor = w.here.actor; moment = refl })
+
+    pub jump-few : (a : ℕ) → a < length net.times → (part_at walk.parts.items a).firings + laps * (part_at walk.lap.items a).firings ≤ 8000000000000
+    jump-few a actor =
+        let few = chain-few w.rounds w.few walk.last w.last earlier longer.steps (record { actor = w.here.actor; moment = refl }) longer.chain longer.ends a actor in
+        let lap : laps * (part_at walk.lap.items a).firings ≡ laps * sum_before (one_in a) (firing_of walk.here) w.lap.steps = ap (λ (x : ℕ). laps * x) (w.lap.firings a actor) in
+        omega (arith, few, longer.counts a, w.way.counted.firings a actor)
+
+    pub jump-soon : (a : ℕ) → a < length net.times → (part_at walk.parts.items a).time + laps * (part_at walk.lap.items a).time < 2 ^ 106
+    jump-soon a actor =
+        let soon = chain-soon w.rounds w.few walk.last w.last earlier longer.steps longer.time a in
+        let lap : laps * (part_at walk.lap.items a).time ≡ laps * sum_before (time_in net a) (firing_of walk.here) w.lap.steps = ap (λ (x : ℕ). laps * x) (w.lap.times a actor) in
+        let short : firing_time net (firing_of walk.last) ≤ TIME = short-time (firing_of walk.last) w.last.start.actor in
+        omega (arith, soon, longer.times a, w.way.counted.time a actor, w.soon)
+
+    module _ (new : Start) (actor : new.actor ≡ walk.here.actor) (number : new.number ≡ walk.here.number - laps * (walk.kept.number - walk.here.number)) (moment : new.moment ≡ moment_of times walk.here.actor (walk.here.number - laps * (walk.kept.number - walk.here.number))) where
+      number-is : new.number ≡ walk.here.number - laps * (fits.passes * pass_of times walk.here.actor)
+      number-is =
+          let apart : walk.kept.number - walk.here.number ≡ fits.passes * pass_of times walk.here.actor = omega (arith, fits.apart) in
+          number ∙ ap (λ (x : ℕ). walk.here.number - laps * x) apart
+
+      pub jump-start : IsStart net times new
+      jump-start = record {
+        actor = subst (λ (a : ℕ). a < length net.times) (sym actor) w.here.actor;
+        moment = moment ∙ (ap (λ (a : ℕ). moment_of times a (walk.here.number - laps * (walk.kept.number - walk.here.number))) (sym actor) ∙ ap (moment_of times new.actor) (sym number));
+      }
+
+      with_laps : IsWayWithLaps net walk.last new walk.here laps w.lap.steps w.way.steps
+      with_laps = way-with_laps net times is walk.last walk.here walk.kept new laps walk.parts.items walk.lap.items w.here w.kept w.way w.lap fits actor number-is jump-start
+
+      pub jump-way : (parts : List Part) → length parts ≡ length walk.parts.items → ((a : ℕ) → a < length walk.parts.items → (part_at parts a).firings ≡ (part_at walk.parts.items a).firings + laps * (part_at walk.lap.items a).firings) →
+          ((a : ℕ) → a < length walk.parts.items → (part_at parts a).time ≡ (part_at walk.parts.items a).time + laps * (part_at walk.lap.items a).time) → IsWayTo net walk.last new parts
+      jump-way parts long firings time = record {
+        steps = with_laps.steps;
+        chain = with_laps.chain;
+        ends = with_laps.ends;
+        time = with_laps.time;
+        counted = record {
+          actors = long ∙ w.way.counted.actors;
+          firings = λ a is_actor.
+              let lap : laps * (part_at walk.lap.items a).firings ≡ laps * sum_before (one_in a) (firing_of walk.here) w.lap.steps = ap (λ (x : ℕ). laps * x) (w.lap.firings a is_actor) in
+              omega (arith, firings a (omega (arith, w.way.counted.actors)), with_laps.counts a, w.way.counted.firings a is_actor);
+          time = λ a is_actor.
+              let lap : laps * (part_at walk.lap.items a).time ≡ laps * sum_before (time_in net a) (firing_of walk.here) w.lap.steps = ap (λ (x : ℕ). laps * x) (w.lap.times a is_actor) in
+              omega (arith, time a (omega (arith, w.way.counted.actors)), with_laps.times a, w.way.counted.time a is_actor);
+        };
+      }
+
+      pub jump-moment : new.moment ≤ walk.here.moment
+      jump-moment =
+          omega (arith, with_laps.time, with_laps.all, w.way.time)

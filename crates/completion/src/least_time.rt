@@ -1,0 +1,71 @@
+ghost use Rattle.std.specs.Prelude.{◌≡◌, ◌+◌, ◌≤◌, IfErr, IfOk};
+ghost use Rattle.sd_base.specs.declared.limits.TheConstants.{LEAST_ROUNDS, LEAST_STATES, ROUNDS, STATES};
+ghost use Rattle.sd_base.specs.Schedules.{HasInputs};
+ghost use Rattle.sd_base.specs.Untimed.{IsLive};
+ghost use Rattle.sd_base.specs.Connection.{IsConnected};
+ghost use Rattle.lasso.specs.LoopAnswers.{IsRunRefusal};
+ghost use Rattle.completion.specs.Completions.{IsCompletionOf, HasLoopWithin};
+
+use crate::counts::{Part, firings_in};
+use crate::ends::last_to_end;
+use crate::timetable::{Timetable, end};
+use crate::walk::parts_of_way;
+use firing::{Firing, Wiring};
+use lasso::{RunError, run_loop, starts_until};
+use sd_base::{Ledger, Rows, Steps};
+use std::alloc::Global;
+
+/// The least time in which any schedule completes some rounds, and what a way of needs of just that time is made of:
+/// each of its firings waits for the one before.
+#[derive(Debug, Drop)]
+pub struct Completion {
+    /// In time units.
+    pub time: u128,
+    /// How many firings the way has.
+    pub firings: u64,
+    /// By actor how many of them are its firings, and their time.
+    pub parts: Rows<Part>,
+}
+
+/// The least time in which any admissible schedule completes `rounds` rounds, each firing of theirs ended. Self-timed
+/// execution completes them first, and what starts after the entry of its loop starts whole periods after the first
+/// pass (Ghamarian et al. 2006). A way of needs of just that time is followed backwards from the firing that ends
+/// last, of several that of the least actor, by the first tight need in the order of the net's channels; where the
+/// way comes again to a firing whole passes before, the lap between is counted as often as it fits after the entry,
+/// and isn't gone again. At most `states` shapes are looked at; `steps` counts the call as one execution.
+///
+/// Cost: that of `run_loop`, a second execution up to the entry, and for each firing that is looked at the channels
+/// into its actor. However many rounds there are, no more firings are looked at than start up to the entry and in
+/// some four passes. Memory: that of `run_loop`, the starts up to the entry, and two parts for each actor.
+pub fn complete<F: Firing, L: Ledger>(
+    alloc: Global,
+    net: &F,
+    rounds: u64,
+    states: u64,
+    steps: &mut Steps<L>,
+) -> Result<Completion, RunError>
+    requires live { IsLive (F.net net.now) }
+    requires connected { IsConnected (F.net net.now) }
+    requires inputs { HasInputs (F.net net.now) }
+    requires some { LEAST_STATES ≤ states }
+    requires few { states ≤ STATES }
+    requires some_round { LEAST_ROUNDS ≤ rounds }
+    requires few_rounds { rounds ≤ ROUNDS }
+    ensures completed { IfOk result (IsCompletionOf (F.net net.now) rounds) }
+    ensures looped { IfOk result (λ _. HasLoopWithin (F.net net.now) states) }
+    ensures refused { IfErr result (IsRunRefusal (F.net net.now) states) }
+    ensures ticked { steps.new.count ≡ steps.old.count + 1 }
+    ensures kept { steps.new.share ≡ steps.old.share }
+{
+    let table = run_loop(alloc, net, states, steps)?;
+    let wiring = Wiring::new(alloc, net)?;
+    let early = starts_until(alloc, net, &wiring, table.entry)?;
+    let times = Timetable { early, table };
+    let last = last_to_end(net, &times, rounds);
+    let parts = parts_of_way(alloc, net, &wiring, &times, rounds, last)?;
+    Ok(Completion {
+        time: end(net, last),
+        firings: firings_in(parts.as_slice()),
+        parts: Rows::from_vec(parts),
+    })
+}

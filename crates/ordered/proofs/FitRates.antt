@@ -1,0 +1,58 @@
+-- The rates of new channels are within their limits.
+use Rattle.std.proofs.Common.{◌≡◌, ℕ, zero, suc, ◌+◌, ◌≤◌, ◌<◌, List, [], ◌∷◌, length, ⊎_elim, sym, ap, ◌∙◌, arith}
+use Rattle.std.specs.Prelude.{slice_index, slice_index_or, sum, All, replicate}
+use Rattle.std.proofs.lemmas.List.{length-replicate, get_or-replicate, get_or_past}
+use Rattle.std.proofs.lemmas.List.Sums.{get_or-le-sum_by}
+use Rattle.std.proofs.lemmas.Bool.{cases_lt}
+use Rattle.sd_base.specs.declared.limits.TheConstants.{RATE, ROUND}
+use Rattle.sd_base.specs.Net.{Net}
+use Rattle.sd_base.specs.FileNet.{own_channel}
+use Rattle.sd_base.specs.Lawful.{Lawful}
+use Rattle.firing.specs.Csdf.{AreRates}
+use Rattle.ordered.specs.Orders.{entry_at, AreOrders}
+use Rattle.ordered.specs.OrderedNets.{phases_in, order_channel, ordered}
+use Rattle.ordered.specs.inside.Steps.{FitRates, pairs_from}
+use Rattle.ordered.proofs.Sides.{PairAt, pair-at}
+use Rattle.ordered.proofs.GoodChannels.{Good, step-good, entry-actor, entry-named, named-phases, phases-here}
+
+-- each number of a list is at most their sum
+pub entry-le-sum : (xs : List ℕ) (i : ℕ) → slice_index xs i ≤ sum xs
+entry-le-sum xs i = ⊎_elim
+    (λ (h : i < length xs). get_or-le-sum_by (λ (x : ℕ). x) xs i 0 h)
+    (λ (h : length xs ≤ i). rw (get_or_past xs i 0 h) (omega arith))
+    (cases_lt i (length xs))
+
+pub round-few : (net : Net) → Lawful net → (a : ℕ) → slice_index net.round a ≤ ROUND
+round-few net laws a = omega (arith, entry-le-sum net.round a, laws.small_round)
+
+pub ones-fit : (n : ℕ) → n ≤ ROUND → AreRates (replicate n 1)
+ones-fit n few = record {
+  few = omega (arith, length-replicate {A = ℕ} n 1);
+  small = λ k d below. rw (get_or-replicate {A = ℕ} n k 1 d (omega (arith, length-replicate {A = ℕ} n 1))) (omega arith);
+}
+
+listed-fit : (xs : List ℕ) (n : ℕ) → length xs ≡ n → n ≤ ROUND → ((p : ℕ) → slice_index xs p ≤ RATE) → AreRates xs
+listed-fit xs n long few small = record { few = omega (arith, long); small = λ k d below. rw (Rattle.std.proofs.lemmas.List.get_or_default xs k d 0 below) (small k) }
+
+module _ (net : Net) (laws : Lawful net) (orders : List (List ℕ)) (are : AreOrders net orders) where
+  pub rates-fit : (l : ℕ) → l < length orders → FitRates (slice_index_or orders l [])
+  rates-fit l listed p below =
+      let some : 1 ≤ length (slice_index_or orders l []) = omega arith in
+      let good : Good (ordered net orders) (order_channel (slice_index_or orders l []) (entry_at (slice_index_or orders l []) p) (entry_at (slice_index_or orders l []) (suc p))) = step-good net laws orders are l listed some p below in
+      let one = phases-here net laws orders are (entry_at (slice_index_or orders l []) p) (entry-actor net laws orders are l listed some p) in
+      let other = phases-here net laws orders are (entry_at (slice_index_or orders l []) (suc p)) (entry-actor net laws orders are l listed some (suc p)) in
+      let named = named-phases net laws orders are (entry_at (slice_index_or orders l []) p) (entry-named net laws orders are l listed some p) in
+      let also = named-phases net laws orders are (entry_at (slice_index_or orders l []) (suc p)) (entry-named net laws orders are l listed some (suc p)) in (
+        listed-fit (order_channel (slice_index_or orders l []) (entry_at (slice_index_or orders l []) p) (entry_at (slice_index_or orders l []) (suc p))).made (slice_index net.round (entry_at (slice_index_or orders l []) p)) (good.made_phases ∙ (one ∙ named)) (round-few net laws (entry_at (slice_index_or orders l []) p)) good.small_made,
+        listed-fit (order_channel (slice_index_or orders l []) (entry_at (slice_index_or orders l []) p) (entry_at (slice_index_or orders l []) (suc p))).taken (slice_index net.round (entry_at (slice_index_or orders l []) (suc p))) (good.taken_phases ∙ (other ∙ also)) (round-few net laws (entry_at (slice_index_or orders l []) (suc p))) good.small_taken,
+      )
+
+-- so are those of the channel of a listed pair
+pub pair-fits : (order : List ℕ) → FitRates order → (pairs : List (ℕ × ℕ)) (i : ℕ) → pairs ≡ pairs_from order 0 (length order) → i < length pairs →
+    (1 ≤ length order) × AreRates (order_channel order (slice_index_or pairs i (0, 0)).0 (slice_index_or pairs i (0, 0)).1).made × AreRates (order_channel order (slice_index_or pairs i (0, 0)).0 (slice_index_or pairs i (0, 0)).1).taken
+pair-fits order fits pairs i so below =
+    let at : PairAt order 0 (length order) (slice_index_or (pairs_from order 0 (length order)) i (0, 0)) = pair-at order 0 (length order) i (0, 0) (rw so at below) in
+    let small : at.place < length order = omega (arith, at.below) in
+    let is : slice_index_or pairs i (0, 0) ≡ (entry_at order at.place, entry_at order (suc at.place)) = ap (λ (ps : List (ℕ × ℕ)). slice_index_or ps i (0, 0)) so ∙ at.is in
+    let fit = fits at.place small in
+    (omega (arith, small), rw is fit.0, rw is fit.1)

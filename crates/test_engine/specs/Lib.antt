@@ -1,2 +1,0 @@
-pub mod TwoSpaces
-pub mod TwoPhases

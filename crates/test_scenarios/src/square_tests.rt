@@ -1,0 +1,42 @@
+use sd_base::Rows;
+use std::alloc::{AllocError, Global};
+use std::test::Fail;
+use token_matrix::{Matrix, matrices_are_one};
+
+/// Rows of these entries, as many to a row.
+fn rows_of(alloc: Global, rows: &[&[Option<u64>]]) -> Result<Rows<Rows<Option<u64>>>, AllocError> {
+    let mut list = Rows::new(alloc);
+    for row in rows {
+        list.push(Rows::from_vec(Vec::from_slice(alloc, *row)?))?;
+    }
+    Ok(list)
+}
+
+#[test]
+fn a_square_has_its_entries(rt: HostRuntime) -> Result<(), Fail> {
+    let rows = rows_of(rt.alloc(), &[&[Some(3), None], &[Some(7), Some(5)]])?;
+    match Matrix::new(rows) {
+        None => assert!(rt; false, "two rows of two entries"),
+        Some(matrix) => {
+            assert_eq!(rt; matrix.size(), 2);
+            assert_eq!(rt; matrix.rows().len(), 2);
+            if matrix.size() == 2 {
+                assert_eq!(rt; matrix.entry(0, 0), Some(3));
+                assert_eq!(rt; matrix.entry(0, 1), None);
+                assert_eq!(rt; matrix.entry(1, 0), Some(7));
+                assert_eq!(rt; matrix.entry(1, 1), Some(5));
+            }
+        },
+    }
+    matrices_are_one();
+    Ok(())
+}
+
+#[test]
+fn other_rows_make_no_matrix(rt: HostRuntime) -> Result<(), Fail> {
+    let wide = rows_of(rt.alloc(), &[&[Some(1), None]])?;
+    assert!(rt; Matrix::new(wide).is_none(), "one row of two entries");
+    let uneven = rows_of(rt.alloc(), &[&[Some(1), None], &[Some(2)]])?;
+    assert!(rt; Matrix::new(uneven).is_none(), "a second row of one entry");
+    Ok(())
+}
