@@ -20,3 +20,4 @@ mod UpperSides
 mod Walking
 mod Trails
 pub mod CycleTraces
+mod Unspacing

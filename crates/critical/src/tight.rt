@@ -44,7 +44,7 @@ pub(crate) fn tight_need<F: Firing>(
 }
 
 /// The last need of a firing of the second pass on a channel, where it is tight.
-fn tight_on<F: Firing>(
+pub(crate) fn tight_on<F: Firing>(
     net: &F,
     table: &LoopTable,
     channel: u32,

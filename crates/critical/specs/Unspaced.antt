@@ -1,0 +1,11 @@
+-- Need cycles on no free space.
+use Rattle.std.specs.Prelude.{ℕ, ◌<◌, length}
+use Rattle.critical.specs.declared.cycle.NeedCycle.{NeedCycle}
+use Rattle.sd_base.specs.Net.{Net}
+use Rattle.critical.specs.Cycles.{HoldsOn}
+use Rattle.critical.specs.Spaces.{IsSpaceAt}
+
+-- a need cycle that goes along no free space
+pub record IsUnspaced (net : Net) (cycle : NeedCycle) : Type 0 where
+  pub holds : HoldsOn net cycle
+  pub none : (i c : ℕ) → i < length cycle.steps → ¬ IsSpaceAt net cycle.steps i c
