@@ -1,7 +1,7 @@
 -- A graph with its repetition vector and the capacities that words give.
-use Rattle.std.proofs.Common.{◌≡◌, ◌<◌, ◌≤◌, ℕ, Bool, List, length, Option, subst, sym, ap, ◌∙◌, arith}
+use Rattle.std.proofs.Common.{◌≡◌, ◌<◌, ◌≤◌, ℕ, Bool, List, length, All, Option, subst, sym, ap, ◌∙◌, arith}
 use Rattle.std.proofs.lemmas.List.{length-map}
-use Rattle.sd_base.specs.declared.limits.TheConstants.{NET_CHANNELS, TOKENS}
+use Rattle.sd_base.specs.declared.limits.TheConstants.{CAPACITY, NET_CHANNELS, TOKENS}
 use Rattle.sd_base.specs.declared.tables.ActorRow.{ActorRow}
 use Rattle.sd_base.specs.declared.tables.GraphFile.{GraphFile}
 use Rattle.sd_base.specs.FileNet.{net_of}
@@ -25,7 +25,10 @@ use Rattle.sd_command.specs.Bufferings.{GivesCapacities}
 use Rattle.sd_command.specs.inside.Wants.{IsBounded}
 use Rattle.sd_command.proofs.Orderless.{net-orderless}
 use Rattle.sd_command.proofs.Overs.{bound-over, net-over}
-use Rattle.sd_command.proofs.SharedSteps.{AreSmall}
+
+-- the capacities are those that words may name
+abbrev pub AreSmall : List Buffer → Type 0
+AreSmall bs = All (λ (b : Buffer). b.1 ≤ CAPACITY) bs
 
 pub is-bounded : (graph : GraphFile) (gamma : List ℕ) (no_overlap : Bool) (buffers : List Buffer) (d : Distribution) → KeepsRules graph → IsTimed graph → IsRound graph gamma → AreSmall buffers → GivesCapacities graph buffers d
     → IsBounded graph gamma no_overlap d.capacities

@@ -1,22 +1,10 @@
-mod Commands
 mod CertificateSteps
-mod CompleteCertificates
-mod CompleteOthers
-mod OneRate
-mod Ended
-mod Requested
-mod OrderedOver
-mod OneOrder
-mod Expanding
-mod BoundedPaths
+pub mod OrderedOver
 mod Wanting
-mod CompleteNets
-mod CompleteOrdered
-mod Bounds
-mod Complete
+pub mod Bounds
 mod Shown
 mod Goings
-mod Joins
+pub mod Joins
 mod Reached
 mod Refusals
 mod Overs
@@ -24,19 +12,9 @@ mod Orderless
 mod Certified
 mod WorstSizes
 mod WalkSteps
-mod PointSchedules
+pub mod PointSchedules
 mod PointTasks
-mod OneTradeOff
-mod CompleteStorage
-mod ValidPuts
-mod ValidTradeOffPuts
-mod ValidWorstPuts
-mod AcceptedPuts
 mod Summaries
-mod CompleteGenerate
-pub mod CommandsDecide
-pub mod SharedSteps
 mod Throughs
-mod OneWorst
 mod Measured
 mod TimedFiles

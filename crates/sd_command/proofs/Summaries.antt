@@ -1,36 +1,26 @@
--- How the command `generate` goes, and that it is decided.
+-- How the command `generate` goes.
 use Rattle.std.proofs.Common.{◌≡◌, ◌≢◌, ℕ, true, List, None, Ok, Err, refl, sym, subst}
 use Rattle.sd_base.specs.declared.tables.Kind.TheVariants.{Sdf}
 use Rattle.sd_base.specs.declared.tables.GraphFile.{GraphFile}
 use Rattle.sd_base.specs.declared.limits.Limits.{Limits}
 use Rattle.sd_base.specs.Net.{Net}
-use Rattle.sd_base.specs.Lawful.{Lawful}
-use Rattle.sd_base.specs.FileNet.{net_of}
 use Rattle.graph_reader.specs.declared.error.ReadError.{ReadError}
 use Rattle.graph_reader.specs.declared.error.ReadError.TheVariants as reading
 use Rattle.graph_reader.specs.FirstFaults.{IsFirstFault}
 use Rattle.graph_reader.specs.Laws.{Gives, HasOneTable, ReadHasNoFault}
 use Rattle.gen_graph.specs.MadeGraphs.{made_graph}
-use Rattle.gen_graph.proofs.MadeTables.{made_keeps, made_timed}
 use Rattle.pareto_front.specs.declared.point.Point.{Point}
 use Rattle.explore.specs.declared.exploration.Exploration.{Exploration}
 use Rattle.explore.specs.declared.exploration.Member.{Member}
 use Rattle.explore.specs.Explorations.{CountsFew, IsExploration, cycles_in}
 use Rattle.report.specs.SummaryTexts.{summary_lines}
-use Rattle.sd_words.specs.Asked.{AreMadeActors}
 use Rattle.sd_command.specs.declared.answer.Answer.{Answer}
 use Rattle.sd_command.specs.declared.stop.Stop.{Stop}
 use Rattle.sd_command.specs.declared.stop.Stop.TheVariants as stop
 use Rattle.sd_command.specs.Courses.{deciding, Answered, Ended, Lacking, ends_by}
-use Rattle.sd_command.specs.Balances.{balancing}
-use Rattle.sd_command.specs.Nets.{touching, completing}
 use Rattle.sd_command.specs.PointAnswers.{IsExplorationEnd}
-use Rattle.sd_command.specs.Generations.{generate, summary, summary_of, usual_limits}
+use Rattle.sd_command.specs.Generations.{summary}
 use Rattle.sd_command.specs.inside.Going.{Does, Goes}
-use Rattle.sd_command.proofs.CommandsDecide.{Decides, DecidesLast, after_decides, last_decides}
-use Rattle.sd_command.proofs.OneRate.{NetLaws, completing_determines}
-use Rattle.sd_command.proofs.OneTradeOff.{touching_determines}
-use Rattle.sd_command.proofs.SharedSteps.{FileLaws, balancing_determines}
 
 module _ (seed : ℕ) (graph : GraphFile) (gamma : List ℕ) (net : Net) (limits : Limits) where
   module _ (n faults : ℕ) where
@@ -50,19 +40,6 @@ module _ (seed : ℕ) (graph : GraphFile) (gamma : List ℕ) (net : Net) (limits
       came = record { members = members; text = record { points = points; explored = explored; shown = shown }; put = none; counted = count };
       counted = refl;
     }
-
-  summary_last : DecidesLast (summary seed graph gamma net limits)
-  summary_last = record {
-    one = λ r s n m is also. absurd is;
-    no_answer = λ r answer n m is also. is;
-    no_end = λ r s n m is also. is;
-  }
-
-  summary_decides : NetLaws → Lawful net → Decides (summary_of seed graph gamma net limits)
-  summary_decides facts laws =
-      after_decides (touching graph net) _ (touching_determines graph net) (λ a touched.
-      after_decides (completing graph net) _ (completing_determines facts net laws graph) (λ b live.
-      last_decides (summary seed graph gamma net limits) summary_last))
 
 -- ---- the graph that is made
 
@@ -95,10 +72,3 @@ module _ (bytes shown : List ℕ) (same : shown ≡ bytes) (made : GraphFile) (g
 pub made_kind : (seed actors : ℕ) → (made_graph seed actors).kind ≡ Sdf
 unfolding made_graph
 made_kind seed actors = refl
-
-pub generate_decides : FileLaws → (seed limit actors : ℕ) → AreMadeActors actors → Decides (generate seed limit actors)
-generate_decides laws seed limit actors within =
-    let made = made_graph seed actors in
-    let keeps = made_keeps seed actors within.0 within.1 in
-    after_decides (balancing made) _ (balancing_determines laws made keeps) (λ gamma round.
-    summary_decides seed made gamma (net_of made gamma true) (usual_limits limit) laws.nets (laws.lawful made gamma true keeps (made_timed seed actors) round.least round.fits))

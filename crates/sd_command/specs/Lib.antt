@@ -19,10 +19,6 @@ pub mod Generations
 pub mod Requests
 pub mod Runs
 pub mod inside
-pub mod Endings
-pub mod PutCertificates
-pub mod AcceptedCertificates
-pub mod KeptOrders
 pub mod ActorNames
 pub mod CertificateReadings
 pub mod Conversions

@@ -17,7 +17,6 @@ mod file_kind;
 mod generate;
 mod in_order;
 mod judging;
-mod laws;
 mod least_time;
 mod names;
 mod nets;
@@ -38,5 +37,4 @@ mod trade_off;
 mod wanted;
 
 pub use command::analyse;
-pub use laws::know_endings;
 pub use status::Status;

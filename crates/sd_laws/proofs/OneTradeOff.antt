@@ -15,9 +15,9 @@ use Rattle.sd_command.specs.declared.wanted.WantedPoints.{WantedPoints}
 use Rattle.sd_command.specs.ActorNames.{actor_shown}
 use Rattle.sd_command.specs.Nets.{touching, completing}
 use Rattle.sd_command.specs.PointAnswers.{IsExplorationEnd, states_spent, too_many_starts, distributions_spent, exploration, points_of}
-use Rattle.sd_command.specs.Endings.{Suffice}
-use Rattle.sd_command.proofs.CommandsDecide.{Determines, Decides, DecidesLast, after_decides, last_decides}
-use Rattle.sd_command.proofs.OneRate.{NetLaws, completing_determines, one-least}
+use Rattle.sd_laws.specs.Endings.{Suffice}
+use Rattle.sd_laws.proofs.CommandsDecide.{Determines, Decides, DecidesLast, after_decides, last_decides}
+use Rattle.sd_laws.proofs.OneRate.{NetLaws, completing_determines, one-least}
 use Rattle.sd_command.proofs.PointSchedules.{fits-lawful}
 
 module _ (graph : GraphFile) (net : Net) where

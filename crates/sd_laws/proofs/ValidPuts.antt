@@ -27,17 +27,17 @@ use Rattle.sd_command.specs.declared.file_kind.FileKind.TheVariants as kinds
 use Rattle.sd_command.specs.Certifyings.{text_of}
 use Rattle.sd_command.specs.Courses.{Answered}
 use Rattle.sd_command.specs.Nets.{testing}
-use Rattle.sd_command.specs.PutCertificates.{PutsValidRate, RatesPutAreValid}
+use Rattle.sd_laws.specs.PutCertificates.{PutsValidRate, RatesPutAreValid}
 use Rattle.sd_command.specs.RateAnswers.{IsRateAnswer}
 use Rattle.sd_command.specs.Requests.{course_of}
 use Rattle.sd_command.specs.Takings.{Files}
 use Rattle.sd_command.specs.Throughputs.{rate_on}
 use Rattle.sd_command.specs.declared.wanted.WantedRate.{WantedRate}
-use Rattle.sd_command.proofs.BoundedPaths.{lawful_on, on_the_net}
-use Rattle.sd_command.proofs.CommandsDecide.{goes_past}
+use Rattle.sd_laws.proofs.BoundedPaths.{lawful_on, on_the_net}
+use Rattle.sd_laws.proofs.CommandsDecide.{goes_past}
 use Rattle.sd_command.proofs.Joins.{fed-inputs}
-use Rattle.sd_command.proofs.Requested.{of_request}
-use Rattle.sd_command.proofs.SharedSteps.{FileLaws}
+use Rattle.sd_laws.proofs.Requested.{of_request}
+use Rattle.sd_laws.proofs.SharedSteps.{FileLaws}
 
 -- ---- capacities by names
 

@@ -8,7 +8,7 @@ use Rattle.sd_command.specs.Statuses.{status_of}
 use Rattle.sd_command.specs.Courses.{Ending, Answered, Refused, Ended, Failed, Lacking, IsCutOff}
 use Rattle.sd_command.specs.Requests.{course_of}
 use Rattle.sd_command.specs.Runs.{Shelving, HasTaken, HasLine, of_refusal, of_putting, of_memory, IsRefusedBy, Ends, done, told, out_fault, err_fault, Run}
-use Rattle.sd_command.specs.Endings.{IsFaultless, DueIsOne, DueIsAnswered, ElseIsDone}
+use Rattle.sd_laws.specs.Endings.{IsFaultless, DueIsOne, DueIsAnswered, ElseIsDone}
 
 -- a run without faults ends with the refusal of its command, is done with its answer, or lacks memory
 abbrev Settles : Ending → Status → Type 0

@@ -10,11 +10,11 @@ use Rattle.cert_maker.proofs.ValidWorstRates.{worst-rates-valid}
 use Rattle.sd_command.specs.declared.file_kind.FileKind.TheVariants as kinds
 use Rattle.sd_command.specs.Certifyings.{text_of}
 use Rattle.sd_command.specs.Courses.{Answered}
-use Rattle.sd_command.specs.PutCertificates.{WorstRatesPutAreValid}
+use Rattle.sd_laws.specs.PutCertificates.{WorstRatesPutAreValid}
 use Rattle.sd_command.specs.ScenarioSteps.{opening_scenarios, timing}
 use Rattle.sd_command.specs.WorstAnswers.{IsWorstAnswer}
-use Rattle.sd_command.proofs.CommandsDecide.{goes_past}
-use Rattle.sd_command.proofs.Requested.{of_request}
+use Rattle.sd_laws.proofs.CommandsDecide.{goes_past}
+use Rattle.sd_laws.proofs.Requested.{of_request}
 
 pub worst_rates_put_are_valid : WorstRatesPutAreValid
 worst_rates_put_are_valid words files name put answer n tells asked due =

@@ -1,14 +1,43 @@
 -- The words and files decide a command where they decide each of its steps.
-use Rattle.std.proofs.Common.{◌≡◌, ℕ, ◌⊎◌, inl, inr, sym, ap, subst, ◌∙◌}
+use Rattle.std.proofs.Common.{◌≡◌, ℕ, ◌⊎◌, inl, inr, List, sym, ap, subst, ◌∙◌}
 use Rattle.report.specs.declared.refusal.Refusal.{Refusal}
 use Rattle.sd_command.specs.declared.answer.Answer.{Answer}
-use Rattle.sd_command.specs.Courses.{Step, Ending, Answered, Refused, Ended, Failed, Lacking, After, Analysis, ends_by, refused, failed, lacking, passed, IsCutOff}
+use Rattle.sd_command.specs.ScenarioSteps.{naming, of_scenario}
+use Rattle.sd_command.specs.Courses.{Step, through, Ending, Answered, Refused, Ended, Failed, Lacking, After, Analysis, ends_by, refused, failed, lacking, passed, IsCutOff}
 
 -- a step passes on one value, or has one refusal
 pub record Determines {A : Type 0} (step : Step A) : Type 0 where
   pub one : (a b : A) → step.passes a → step.passes b → a ≡ b
   pub refusal : (r s : Refusal) → step.refuses r → step.refuses s → r ≡ s
   pub never : (r : Refusal) (a : A) → step.refuses r → step.passes a → ⊥
+
+-- Two steps in turn of which each determines.
+module _ {A B : Type 0} (step : Step A) (next : A → Step B) where
+  module _ (d : Determines step) (rest : (a : A) → step.passes a → Determines (next a)) where
+    one : (b c : B) → (through step next).passes b → (through step next).passes c → b ≡ c
+    one b c (a, is, p) (z, also, q) = (rest a is).one b c p (subst (λ x. (next x).passes c) (d.one z a also is) q)
+
+    refusal : (r s : Refusal) → (through step next).refuses r → (through step next).refuses s → r ≡ s
+    refusal r s (inl x) (inl y) = d.refusal r s x y
+    refusal r s (inl x) (inr (a, is, y)) = absurd (d.never r a x is)
+    refusal r s (inr (a, is, x)) (inl y) = absurd (d.never s a y is)
+    refusal r s (inr (a, is, x)) (inr (z, also, y)) = (rest a is).refusal r s x (subst (λ w. (next w).refuses s) (d.one z a also is) y)
+
+    never : (r : Refusal) (b : B) → (through step next).refuses r → (through step next).passes b → ⊥
+    never r b (inl x) (a, is, p) = d.never r a x is
+    never r b (inr (a, is, x)) (z, also, p) = (rest a is).never r b x (subst (λ w. (next w).passes b) (d.one z a also is) p)
+
+    pub through_determines : Determines (through step next)
+    through_determines = record { one = one; refusal = refusal; never = never }
+
+-- a step that names its scenario
+module _ {A : Type 0} (name : List ℕ) (step : Step A) where
+  pub naming_determines : Determines step → Determines (naming name step)
+  naming_determines d = record {
+    one = d.one;
+    refusal = λ r s (x, is, e) (y, also, f). e ∙ ap (of_scenario name) (d.refusal x y is also) ∙ sym f;
+    never = λ r a (x, is, e) p. d.never x a is p;
+  }
 
 -- a command that has a refusal ends by it, unless it is cut off
 abbrev pub Decides : (Ending → ℕ → Type 0) → Type 0

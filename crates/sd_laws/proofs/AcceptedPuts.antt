@@ -16,24 +16,24 @@ use Rattle.cert_checker.specs.ScenarioCertificates.{IsScenarioFault, IsWorstClai
 use Rattle.cert_maker.specs.ValidTradeOffs.{TradeOffsAreValid}
 use Rattle.sd_command.specs.declared.answer.Answer.{Answer}
 use Rattle.sd_command.specs.declared.file_kind.FileKind.TheVariants as files
-use Rattle.sd_command.specs.AcceptedCertificates.{Accepts, Asks, PutsAreAccepted}
+use Rattle.sd_laws.specs.AcceptedCertificates.{Accepts, Asks, PutsAreAccepted}
 use Rattle.sd_command.specs.Balances.{balancing}
 use Rattle.sd_command.specs.CertificateReadings.{opening_certificate}
 use Rattle.sd_command.specs.Certifyings.{text_of}
 use Rattle.sd_command.specs.Checks.{checked, judging}
 use Rattle.sd_command.specs.Courses.{Step, Ending, Answered, Refused, Ended, Failed, Lacking, After, ends_by, refused, failed, lacking, passed, IsCutOff}
-use Rattle.sd_command.specs.PutCertificates.{PutsValidRate, PutsValidTradeOff, PutsValidWorst}
+use Rattle.sd_laws.specs.PutCertificates.{PutsValidRate, PutsValidTradeOff, PutsValidWorst}
 use Rattle.sd_command.specs.Readings.{reading_graph}
 use Rattle.sd_command.specs.Requests.{asking, command_of, course_of}
 use Rattle.sd_command.specs.ScenarioSteps.{reading_scenarios, timing}
 use Rattle.sd_command.specs.Takings.{Files, taking}
-use Rattle.sd_command.proofs.CertificateSteps.{opening_certificate_determines}
-use Rattle.sd_command.proofs.CommandsDecide.{Determines}
-use Rattle.sd_command.proofs.OneWorst.{ScenarioLaws, reading_file_determines, timing_determines}
-use Rattle.sd_command.proofs.SharedSteps.{FileLaws, asking_determines, balancing_determines, reading_determines, taking_determines}
-use Rattle.sd_command.proofs.ValidPuts.{rates_put_are_valid}
-use Rattle.sd_command.proofs.ValidTradeOffPuts.{trade_offs_put_are_valid}
-use Rattle.sd_command.proofs.ValidWorstPuts.{worst_rates_put_are_valid}
+use Rattle.sd_laws.proofs.CertificatesDecide.{opening_certificate_determines}
+use Rattle.sd_laws.proofs.CommandsDecide.{Determines}
+use Rattle.sd_laws.proofs.OneWorst.{ScenarioLaws, reading_file_determines, timing_determines}
+use Rattle.sd_laws.proofs.SharedSteps.{FileLaws, asking_determines, balancing_determines, reading_determines, taking_determines}
+use Rattle.sd_laws.proofs.ValidPuts.{rates_put_are_valid}
+use Rattle.sd_laws.proofs.ValidTradeOffPuts.{trade_offs_put_are_valid}
+use Rattle.sd_laws.proofs.ValidWorstPuts.{worst_rates_put_are_valid}
 
 -- where a step determines and passes on a value, what follows with that value accepts or the course is cut off
 goes-on : {A : Type 0} (step : Step A) (next : A → Ending → ℕ → Type 0) (faulty : ℕ → Reason → Type 0) (holds : Claim → Type 0) → Determines step → (a : A) → step.passes a → Accepts (next a) faulty holds → Accepts (After step next) faulty holds

@@ -1,21 +1,21 @@
-use Rattle.sd_command.specs.Endings.{DueIsOne}
-use Rattle.sd_command.proofs.SharedSteps.{FileLaws}
-use Rattle.sd_command.proofs.Commands.{course_decides}
-use Rattle.sd_command.proofs.OneWorst.{ScenarioLaws}
-use Rattle.sd_command.proofs.Ended.{due_is_answered, else_is_done}
-use Rattle.sd_command.proofs.Complete.{throughput_is_complete}
-use Rattle.sd_command.proofs.CompleteStorage.{storage_is_complete}
-use Rattle.sd_command.proofs.CompleteGenerate.{generate_is_complete}
-use Rattle.sd_command.proofs.ValidPuts.{rates_put_are_valid}
-use Rattle.sd_command.proofs.ValidTradeOffPuts.{trade_offs_put_are_valid}
-use Rattle.sd_command.proofs.ValidWorstPuts.{worst_rates_put_are_valid}
-use Rattle.sd_command.proofs.AcceptedPuts.{puts_are_accepted}
-use Rattle.sd_command.proofs.CompleteCertificates.{check_is_complete, convert_is_complete}
-use Rattle.sd_command.proofs.CompleteNets.{complete_is_complete, expand_is_complete}
-use Rattle.sd_command.proofs.CompleteOrdered.{ordered_is_complete, orders_are_kept}
-use Rattle.sd_command.proofs.OneOrder.{OrderLaws}
-use Rattle.sd_command.proofs.CompleteOthers.{repetition_is_complete, scenario_is_complete}
-use Rattle.sd_command.proofs.laws.know_endings.Goals as goal
+use Rattle.sd_laws.specs.Endings.{DueIsOne}
+use Rattle.sd_laws.proofs.SharedSteps.{FileLaws}
+use Rattle.sd_laws.proofs.Commands.{course_decides}
+use Rattle.sd_laws.proofs.OneWorst.{ScenarioLaws}
+use Rattle.sd_laws.proofs.Ended.{due_is_answered, else_is_done}
+use Rattle.sd_laws.proofs.Complete.{throughput_is_complete}
+use Rattle.sd_laws.proofs.CompleteStorage.{storage_is_complete}
+use Rattle.sd_laws.proofs.CompleteGenerate.{generate_is_complete}
+use Rattle.sd_laws.proofs.ValidPuts.{rates_put_are_valid}
+use Rattle.sd_laws.proofs.ValidTradeOffPuts.{trade_offs_put_are_valid}
+use Rattle.sd_laws.proofs.ValidWorstPuts.{worst_rates_put_are_valid}
+use Rattle.sd_laws.proofs.AcceptedPuts.{puts_are_accepted}
+use Rattle.sd_laws.proofs.CompleteCertificates.{check_is_complete, convert_is_complete}
+use Rattle.sd_laws.proofs.CompleteNets.{complete_is_complete, expand_is_complete}
+use Rattle.sd_laws.proofs.CompleteOrdered.{ordered_is_complete, orders_are_kept}
+use Rattle.sd_laws.proofs.OneOrder.{OrderLaws}
+use Rattle.sd_laws.proofs.CompleteOthers.{repetition_is_complete, scenario_is_complete}
+use Rattle.sd_laws.proofs.laws.know_endings.Goals as goal
 
 -- what the calls tell
 laws : goal.After-named_orders_fit → FileLaws

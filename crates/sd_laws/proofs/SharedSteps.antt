@@ -39,9 +39,9 @@ use Rattle.sd_command.specs.Takings.{Files, IsTaken, IsUntaken, missing, too_lon
 use Rattle.sd_command.specs.Readings.{opening_graph, reading_graph, reading_refusal}
 use Rattle.sd_command.specs.Balances.{IsBalanceRefusal, apart, ratio, inconsistent, above, balancing}
 use Rattle.sd_command.specs.Requests.{asking, usage_refusal}
-use Rattle.sd_command.proofs.CommandsDecide.{Determines}
-use Rattle.sd_command.proofs.OneRate.{NetLaws}
-use Rattle.sd_command.proofs.Throughs.{through_determines}
+use Rattle.sd_command.proofs.Bounds.{AreSmall}
+use Rattle.sd_laws.proofs.CommandsDecide.{Determines, through_determines}
+use Rattle.sd_laws.proofs.OneRate.{NetLaws}
 
 -- what is known of files, of balances, and of the nets of files
 pub record FileLaws : Type 0 where
@@ -110,10 +110,6 @@ buffering_determines g bs = record {
       a.told ∙ ap told_of (one_fault (first_fault g.channels bs) a.fault b.fault a.first b.first) ∙ sym b.told;
   never = λ r d is gives. let a = faulty g bs r is in no_fault (first_fault g.channels bs) a.fault a.first gives.whole;
 }
-
--- the capacities are those that words may name
-abbrev pub AreSmall : List Buffer → Type 0
-AreSmall bs = All (λ (b : Buffer). b.1 ≤ CAPACITY) bs
 
 -- what a balance comes to
 abbrev Solved : Type 0

@@ -7,15 +7,15 @@ use Rattle.scenario_reader.specs.ScenarioFiles.{GivesFile}
 use Rattle.report.specs.declared.refusal.Refusal.{Refusal}
 use Rattle.sd_command.specs.Balances.{balancing}
 use Rattle.sd_command.specs.Courses.{Ended}
-use Rattle.sd_command.specs.Endings.{RepetitionIsComplete, ScenarioIsComplete, WorstCertificatesFit}
+use Rattle.sd_laws.specs.Endings.{RepetitionIsComplete, ScenarioIsComplete, WorstCertificatesFit}
 use Rattle.sd_command.specs.Readings.{opening_graph}
 use Rattle.sd_command.specs.Requests.{course_of}
 use Rattle.sd_command.specs.ScenarioSteps.{opening_scenarios, timing}
 use Rattle.sd_command.specs.Takings.{Files}
-use Rattle.sd_command.proofs.CommandsDecide.{never_ends}
-use Rattle.sd_command.proofs.Complete.{short-enough}
-use Rattle.sd_command.proofs.Ended.{else_is_done}
-use Rattle.sd_command.proofs.Requested.{of_request}
+use Rattle.sd_laws.proofs.CommandsDecide.{never_ends}
+use Rattle.sd_laws.proofs.Complete.{short-enough}
+use Rattle.sd_laws.proofs.Ended.{else_is_done}
+use Rattle.sd_laws.proofs.Requested.{of_request}
 
 module _ (words : List (List ℕ)) (shelf : Files) (name : List ℕ) (r : Refusal) (n : ℕ) where
   repetition_never_ends : request_of words ≡ Ok (Repetition name) → course_of words shelf (Ended r) n → ⊥

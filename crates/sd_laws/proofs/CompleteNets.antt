@@ -14,18 +14,18 @@ use Rattle.report.specs.declared.refusal.Refusal.{Refusal}
 use Rattle.std.specs.Prelude.{Some}
 use Rattle.sd_command.specs.declared.wanted.WantedRounds.{WantedRounds}
 use Rattle.sd_command.specs.Courses.{Ending, Ended, Refused}
-use Rattle.sd_command.specs.Endings.{CompleteIsComplete, ExpandIsComplete, Repeats}
+use Rattle.sd_laws.specs.Endings.{CompleteIsComplete, ExpandIsComplete, Repeats}
 use Rattle.sd_command.specs.Expandings.{expanding, expansion_on}
 use Rattle.sd_command.specs.LeastTimes.{time_on}
 use Rattle.sd_command.specs.Nets.{testing}
 use Rattle.sd_command.specs.Requests.{course_of}
 use Rattle.sd_command.specs.Takings.{Files}
-use Rattle.sd_command.proofs.BoundedPaths.{IsOnNet, lawful_on, on_the_net}
-use Rattle.sd_command.proofs.CommandsDecide.{IsPast, goes_past}
-use Rattle.sd_command.proofs.Ended.{else_is_done}
-use Rattle.sd_command.proofs.OneRate.{unrefused}
-use Rattle.sd_command.proofs.Requested.{of_request}
-use Rattle.sd_command.proofs.SharedSteps.{FileLaws}
+use Rattle.sd_laws.proofs.BoundedPaths.{IsOnNet, lawful_on, on_the_net}
+use Rattle.sd_laws.proofs.CommandsDecide.{IsPast, goes_past}
+use Rattle.sd_laws.proofs.Ended.{else_is_done}
+use Rattle.sd_laws.proofs.OneRate.{unrefused}
+use Rattle.sd_laws.proofs.Requested.{of_request}
+use Rattle.sd_laws.proofs.SharedSteps.{FileLaws}
 
 module _ (words : List (List ℕ)) (shelf : Files) (tells : shelf.tells ≡ true) (name : List ℕ) (rounds : ℕ) (buffers : List Buffer) (no_overlap : Bool) (states : ℕ)
     (asked : request_of words ≡ Ok (Complete name rounds buffers no_overlap states)) where

@@ -27,10 +27,9 @@ use Rattle.report.specs.LackTexts.{lacks_list}
 use Rattle.sd_command.specs.Courses.{Analysis, through}
 use Rattle.sd_command.specs.Nets.{IsFed, joining, feeding, completing, on_live, testing}
 use Rattle.sd_command.specs.RateAnswers.{IsRunRefusal, states_spent, too_many_starts, execution}
-use Rattle.sd_command.specs.Endings.{Repeats}
+use Rattle.sd_laws.specs.Endings.{Repeats}
 use Rattle.sd_command.proofs.Joins.{fed-inputs}
-use Rattle.sd_command.proofs.CommandsDecide.{Determines, Decides, DecidesLast, after_decides, last_decides}
-use Rattle.sd_command.proofs.Throughs.{through_determines}
+use Rattle.sd_laws.proofs.CommandsDecide.{Determines, Decides, DecidesLast, after_decides, last_decides, through_determines}
 
 -- what is known of nets: ending counts are one, no counts block a live net, and an execution has one ending
 pub record NetLaws : Type 0 where

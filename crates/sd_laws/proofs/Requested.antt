@@ -6,7 +6,7 @@ use Rattle.sd_words.specs.Asked.{request_of}
 use Rattle.sd_command.specs.Courses.{Ending}
 use Rattle.sd_command.specs.Requests.{asking, command_of, course_of}
 use Rattle.sd_command.specs.Takings.{Files}
-use Rattle.sd_command.proofs.CommandsDecide.{IsPast, goes_past}
+use Rattle.sd_laws.proofs.CommandsDecide.{IsPast, goes_past}
 
 one_request : (words : List (List ℕ)) (q r : Request) → request_of words ≡ Ok q → request_of words ≡ Ok r → q ≡ r
 one_request words q r p s = let e : ◌≡◌ {A = Result Request UsageCause} (Ok q) (Ok r) = sym p ∙ s in (cc)

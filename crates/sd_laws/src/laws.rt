@@ -1,7 +1,7 @@
-ghost use Rattle.sd_command.specs.AcceptedCertificates.{PutsAreAccepted};
-ghost use Rattle.sd_command.specs.KeptOrders.{OrdersAreKept};
-ghost use Rattle.sd_command.specs.PutCertificates.{PutsAreValid};
-ghost use Rattle.sd_command.specs.Endings.{CheckIsComplete, CompleteIsComplete, ConvertIsComplete, DueIsAnswered, DueIsOne, ElseIsDone, ExpandIsComplete, GenerateIsComplete, OrderedIsComplete, RepetitionIsComplete, ScenarioIsComplete, StorageIsComplete, ThroughputIsComplete};
+ghost use Rattle.sd_laws.specs.AcceptedCertificates.{PutsAreAccepted};
+ghost use Rattle.sd_laws.specs.KeptOrders.{OrdersAreKept};
+ghost use Rattle.sd_laws.specs.PutCertificates.{PutsAreValid};
+ghost use Rattle.sd_laws.specs.Endings.{CheckIsComplete, CompleteIsComplete, ConvertIsComplete, DueIsAnswered, DueIsOne, ElseIsDone, ExpandIsComplete, GenerateIsComplete, OrderedIsComplete, RepetitionIsComplete, ScenarioIsComplete, StorageIsComplete, ThroughputIsComplete};
 
 use balance::one_answer;
 use cert_maker::laws::storage_certificates_are_valid;

@@ -28,17 +28,18 @@ use Rattle.ordered.specs.OrderedNets.{ordered as ordered_net}
 use Rattle.report.specs.ExpansionTexts.{expanded_line}
 use Rattle.sd_command.specs.TradeOffs.{storage}
 use Rattle.sd_command.specs.Requests.{asking, command_of, course_of}
-use Rattle.sd_command.proofs.CommandsDecide.{Decides, DecidesLast, after_decides, last_decides}
-use Rattle.sd_command.proofs.SharedSteps.{FileLaws, asking_determines, taking_determines, opening_determines, reading_determines, balancing_determines, AreSmall, lawful_net}
-use Rattle.sd_command.proofs.BoundedPaths.{lawful_on, lawful_ordered_on, on_file_decides}
-use Rattle.sd_command.proofs.Expanding.{expanding_determines}
-use Rattle.sd_command.proofs.OneOrder.{OrderLaws, ordering_determines}
-use Rattle.sd_command.proofs.OneRate.{rate_decides, time_decides}
-use Rattle.sd_command.proofs.OneTradeOff.{points_decide}
-use Rattle.sd_command.proofs.Summaries.{generate_decides}
+use Rattle.sd_laws.proofs.CommandsDecide.{Decides, DecidesLast, after_decides, last_decides}
+use Rattle.sd_command.proofs.Bounds.{AreSmall}
+use Rattle.sd_laws.proofs.SharedSteps.{FileLaws, asking_determines, taking_determines, opening_determines, reading_determines, balancing_determines, lawful_net}
+use Rattle.sd_laws.proofs.BoundedPaths.{lawful_on, lawful_ordered_on, on_file_decides}
+use Rattle.sd_laws.proofs.Expanding.{expanding_determines}
+use Rattle.sd_laws.proofs.OneOrder.{OrderLaws, ordering_determines}
+use Rattle.sd_laws.proofs.OneRate.{rate_decides, time_decides}
+use Rattle.sd_laws.proofs.OneTradeOff.{points_decide}
+use Rattle.sd_laws.proofs.SummariesDecide.{generate_decides}
 use Rattle.sd_command.specs.ScenarioSteps.{opening_scenarios, reading_scenarios, timing}
 use Rattle.sd_command.specs.WorstAnswers.{scenario}
-use Rattle.sd_command.proofs.OneWorst.{ScenarioLaws, opening_file_determines, reading_file_determines, timing_determines, worst_decides}
+use Rattle.sd_laws.proofs.OneWorst.{ScenarioLaws, opening_file_determines, reading_file_determines, timing_determines, worst_decides}
 use Rattle.cert_text.specs.declared.certificates.Certificate.{Certificate as ACertificate}
 use Rattle.cert_text.specs.declared.certificates.Certificate.TheVariants as certificates
 use Rattle.cert_text.specs.declared.certificates.ScenarioCertificate.{ScenarioCertificate}
@@ -49,7 +50,7 @@ use Rattle.sd_command.specs.CertificateReadings.{opening_certificate}
 use Rattle.sd_command.specs.Certifyings.{certifying}
 use Rattle.sd_command.specs.Checks.{check, checked, graph_checked, judging, scenario_checked}
 use Rattle.sd_command.specs.Conversions.{convert, kind_of}
-use Rattle.sd_command.proofs.CertificateSteps.{certifying_determines, judging_decides, opening_certificate_determines}
+use Rattle.sd_laws.proofs.CertificatesDecide.{certifying_determines, judging_decides, opening_certificate_determines}
 
 pub prints : (text : List ℕ) (put : Option Put) → DecidesLast (printing text put)
 prints text put = record {

@@ -16,16 +16,16 @@ use Rattle.sd_command.specs.Takings.{Files}
 use Rattle.sd_command.specs.Nets.{testing}
 use Rattle.sd_command.specs.Throughputs.{rate_on}
 use Rattle.sd_command.specs.Requests.{course_of}
-use Rattle.sd_command.specs.Endings.{RateCertificatesFit, Repeats, ThroughputIsComplete}
+use Rattle.sd_laws.specs.Endings.{RateCertificatesFit, Repeats, ThroughputIsComplete}
 use Rattle.cert_text.specs.declared.certificates.Certificate.{Certificate}
 use Rattle.sd_command.specs.Certifyings.{AreShort, IsTooLong}
 use Rattle.sd_command.specs.declared.wanted.WantedRate.{WantedRate}
-use Rattle.sd_command.proofs.BoundedPaths.{IsOnNet, lawful_on, on_the_net}
-use Rattle.sd_command.proofs.CommandsDecide.{IsPast, goes_past}
-use Rattle.sd_command.proofs.OneRate.{unrefused}
-use Rattle.sd_command.proofs.Requested.{of_request}
-use Rattle.sd_command.proofs.SharedSteps.{FileLaws}
-use Rattle.sd_command.proofs.Ended.{else_is_done}
+use Rattle.sd_laws.proofs.BoundedPaths.{IsOnNet, lawful_on, on_the_net}
+use Rattle.sd_laws.proofs.CommandsDecide.{IsPast, goes_past}
+use Rattle.sd_laws.proofs.OneRate.{unrefused}
+use Rattle.sd_laws.proofs.Requested.{of_request}
+use Rattle.sd_laws.proofs.SharedSteps.{FileLaws}
+use Rattle.sd_laws.proofs.Ended.{else_is_done}
 
 -- certificates that are short enough aren't too long
 pub short-enough : (certificate : Option (List ℕ)) (shows : Certificate → Type 0) (r : Refusal) → AreShort certificate shows → IsTooLong certificate shows r → ⊥

@@ -20,9 +20,10 @@ use Rattle.sd_command.specs.Courses.{Ending}
 use Rattle.sd_command.specs.Orderings.{GivesOrders, NamedOrders}
 use Rattle.sd_command.specs.Readings.{opening_graph}
 use Rattle.sd_command.specs.Takings.{Files, IsTaken}
-use Rattle.sd_command.proofs.CommandsDecide.{Decides, IsPast, after_decides, goes_past}
-use Rattle.sd_command.proofs.OneOrder.{OrderLaws, lawful-ordered}
-use Rattle.sd_command.proofs.SharedSteps.{AreSmall, FileLaws, balancing_determines, bounded_net, buffering_determines, opening_determines}
+use Rattle.sd_laws.proofs.CommandsDecide.{Decides, IsPast, after_decides, goes_past}
+use Rattle.sd_laws.proofs.OneOrder.{OrderLaws, lawful-ordered}
+use Rattle.sd_command.proofs.Bounds.{AreSmall}
+use Rattle.sd_laws.proofs.SharedSteps.{FileLaws, balancing_determines, bounded_net, buffering_determines, opening_determines}
 
 -- a graph was read from the file, with these capacities and this repetition vector
 pub record IsBoundedFile (files : Files) (name : List ℕ) (buffers : List Buffer) (graph : GraphFile) (gamma : List ℕ) (distribution : Distribution) : Type 0 where

@@ -11,14 +11,14 @@ use Rattle.sd_command.specs.CertificateReadings.{opening_certificate}
 use Rattle.sd_command.specs.Certifyings.{certifying}
 use Rattle.sd_command.specs.Checks.{checked}
 use Rattle.sd_command.specs.Courses.{Ended}
-use Rattle.sd_command.specs.Endings.{CheckIsComplete, ConvertIsComplete}
+use Rattle.sd_laws.specs.Endings.{CheckIsComplete, ConvertIsComplete}
 use Rattle.sd_command.specs.Readings.{reading_graph}
 use Rattle.sd_command.specs.Requests.{course_of}
 use Rattle.sd_command.specs.ScenarioSteps.{reading_scenarios, timing}
 use Rattle.sd_command.specs.Takings.{Files, taking}
-use Rattle.sd_command.proofs.CommandsDecide.{never_ends}
-use Rattle.sd_command.proofs.Requested.{of_request}
-use Rattle.sd_command.proofs.Ended.{else_is_done}
+use Rattle.sd_laws.proofs.CommandsDecide.{never_ends}
+use Rattle.sd_laws.proofs.Requested.{of_request}
+use Rattle.sd_laws.proofs.Ended.{else_is_done}
 
 -- nothing ends a check but what words and files decide
 unended_check : (version : ℕ) (c : Certificate) (bytes : List ℕ) (r : Refusal) (n : ℕ) → checked version c bytes (Ended r) n → ⊥

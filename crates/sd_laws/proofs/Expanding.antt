@@ -9,7 +9,7 @@ use Rattle.report.specs.declared.refusal.Refusal.{Refusal}
 use Rattle.report.specs.declared.refusal.Refusal.TheVariants.{Above}
 use Rattle.report.specs.QuantityWords.{quantity_text}
 use Rattle.sd_command.specs.Expandings.{expanding}
-use Rattle.sd_command.proofs.CommandsDecide.{Determines}
+use Rattle.sd_laws.proofs.CommandsDecide.{Determines}
 
 told_of : Quantity → Refusal
 told_of what = Above None (quantity_text what) (greatest_of what)

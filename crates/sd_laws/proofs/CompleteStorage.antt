@@ -20,16 +20,16 @@ use Rattle.sd_command.specs.Readings.{opening_graph}
 use Rattle.sd_command.specs.Balances.{balancing}
 use Rattle.sd_command.specs.Nets.{touching, completing}
 use Rattle.sd_command.specs.Requests.{course_of}
-use Rattle.sd_command.specs.Endings.{PointCertificatesFit, StorageIsComplete, Suffice}
+use Rattle.sd_laws.specs.Endings.{PointCertificatesFit, StorageIsComplete, Suffice}
 use Rattle.sd_command.specs.PointAnswers.{ArePointsTooLong, IsExplorationEnd}
 use Rattle.sd_command.specs.declared.wanted.WantedPoints.{WantedPoints}
-use Rattle.sd_command.proofs.CommandsDecide.{never_ends}
+use Rattle.sd_laws.proofs.CommandsDecide.{never_ends}
 use Rattle.storage.proofs.FileConnections.{file-connected, file-few}
-use Rattle.sd_command.proofs.Complete.{short-enough}
-use Rattle.sd_command.proofs.Requested.{of_request}
-use Rattle.sd_command.proofs.OneTradeOff.{unspent}
-use Rattle.sd_command.proofs.SharedSteps.{FileLaws, lawful_net}
-use Rattle.sd_command.proofs.Ended.{else_is_done}
+use Rattle.sd_laws.proofs.Complete.{short-enough}
+use Rattle.sd_laws.proofs.Requested.{of_request}
+use Rattle.sd_laws.proofs.OneTradeOff.{unspent}
+use Rattle.sd_laws.proofs.SharedSteps.{FileLaws, lawful_net}
+use Rattle.sd_laws.proofs.Ended.{else_is_done}
 
 module _ (laws : FileLaws) (words : List (List ℕ)) (shelf : Files) (tells : shelf.tells ≡ true) (name : List ℕ) (limits : Limits) (no_overlap : Bool) (certificate : Option (List ℕ)) (asked : request_of words ≡ Ok (Storage name limits no_overlap certificate)) where
   abbrev wanted : WantedPoints

@@ -19,13 +19,13 @@ use Rattle.sd_command.specs.Balances.{balancing}
 use Rattle.sd_command.specs.Nets.{touching, completing}
 use Rattle.sd_command.specs.Generations.{usual_limits}
 use Rattle.sd_command.specs.Requests.{course_of}
-use Rattle.sd_command.specs.Endings.{GenerateIsComplete, Suffice}
-use Rattle.sd_command.proofs.CommandsDecide.{never_ends}
-use Rattle.sd_command.proofs.Requested.{of_request}
+use Rattle.sd_laws.specs.Endings.{GenerateIsComplete, Suffice}
+use Rattle.sd_laws.proofs.CommandsDecide.{never_ends}
+use Rattle.sd_laws.proofs.Requested.{of_request}
 use Rattle.storage.proofs.FileConnections.{file-connected, file-few}
-use Rattle.sd_command.proofs.OneTradeOff.{unspent}
-use Rattle.sd_command.proofs.SharedSteps.{FileLaws}
-use Rattle.sd_command.proofs.Ended.{else_is_done}
+use Rattle.sd_laws.proofs.OneTradeOff.{unspent}
+use Rattle.sd_laws.proofs.SharedSteps.{FileLaws}
+use Rattle.sd_laws.proofs.Ended.{else_is_done}
 
 module _ (laws : FileLaws) (words : List (List ℕ)) (shelf : Files) (seed limit actors : ℕ) (asked : request_of words ≡ Ok (Generate seed limit actors)) where
   -- nothing ends it but what words and files decide

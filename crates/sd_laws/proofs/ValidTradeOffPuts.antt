@@ -25,13 +25,13 @@ use Rattle.sd_command.specs.Certifyings.{text_of}
 use Rattle.sd_command.specs.Courses.{Answered}
 use Rattle.sd_command.specs.Nets.{completing, touching}
 use Rattle.sd_command.specs.PointAnswers.{IsPointSchedule, IsPointsAnswer}
-use Rattle.sd_command.specs.PutCertificates.{PutsValidTradeOff, TradeOffsPutAreValid}
+use Rattle.sd_laws.specs.PutCertificates.{PutsValidTradeOff, TradeOffsPutAreValid}
 use Rattle.sd_command.specs.Readings.{opening_graph}
 use Rattle.sd_command.specs.Requests.{course_of}
 use Rattle.sd_command.specs.Takings.{Files}
-use Rattle.sd_command.proofs.CommandsDecide.{goes_past}
-use Rattle.sd_command.proofs.Requested.{of_request}
-use Rattle.sd_command.proofs.SharedSteps.{FileLaws, lawful_net}
+use Rattle.sd_laws.proofs.CommandsDecide.{goes_past}
+use Rattle.sd_laws.proofs.Requested.{of_request}
+use Rattle.sd_laws.proofs.SharedSteps.{FileLaws, lawful_net}
 
 -- the schedules of loops reach their points
 all-reached : (net : Net) (ps : List Point) (ss : List Periodic) → AllZip (IsPointSchedule net) ps ss → AllZip (IsReachedBy net) ps ss

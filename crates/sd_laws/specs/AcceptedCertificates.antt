@@ -13,7 +13,7 @@ use Rattle.sd_command.specs.declared.answer.Answer.{Answer}
 use Rattle.sd_command.specs.declared.answer.Put.{Put}
 use Rattle.sd_command.specs.Checks.{IsAccepted}
 use Rattle.sd_command.specs.Courses.{Answered, Ending, IsCutOff}
-use Rattle.sd_command.specs.PutCertificates.{PutsValidRate, PutsValidTradeOff, PutsValidWorst}
+use Rattle.sd_laws.specs.PutCertificates.{PutsValidRate, PutsValidTradeOff, PutsValidWorst}
 use Rattle.sd_command.specs.Requests.{course_of}
 use Rattle.sd_command.specs.Takings.{Files}
 

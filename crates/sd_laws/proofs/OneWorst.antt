@@ -23,10 +23,9 @@ use Rattle.sd_command.specs.ScenarioSteps.{Entries, IsMade, IsUnmade, stamps, bl
 use Rattle.sd_command.specs.declared.file_kind.FileKind.TheVariants.{Graph}
 use Rattle.sd_command.specs.Takings.{Files, taking}
 use Rattle.sd_command.specs.WorstAnswers.{telling_worst, worst_of}
-use Rattle.sd_command.proofs.CommandsDecide.{Determines, Decides, DecidesLast, after_decides, last_decides}
-use Rattle.sd_command.proofs.Throughs.{through_determines, naming_determines}
-use Rattle.sd_command.proofs.OneRate.{feeding_determines, completing_determines}
-use Rattle.sd_command.proofs.SharedSteps.{FileLaws, balancing_determines, taking_determines}
+use Rattle.sd_laws.proofs.CommandsDecide.{Determines, Decides, DecidesLast, after_decides, last_decides, through_determines, naming_determines}
+use Rattle.sd_laws.proofs.OneRate.{feeding_determines, completing_determines}
+use Rattle.sd_laws.proofs.SharedSteps.{FileLaws, balancing_determines, taking_determines}
 use Rattle.escapes.specs.EscapedNames.{escaped_name}
 use Rattle.sd_command.specs.Courses.{through}
 

@@ -1,0 +1,4 @@
+pub mod Endings
+pub mod AcceptedCertificates
+pub mod KeptOrders
+pub mod PutCertificates
