@@ -62,51 +62,33 @@ def ring():
     picture.save("ring.svg")
 
 
-def listed_crates():
-    listed = {}
+def listed_layers():
+    """The layers of crates.txt but those for tests and benchmarks: a title each, and by crate the crates that it stands on."""
+    layers = []
     with open(os.path.join(ROOT, "crates.txt"), encoding="utf-8") as lines:
         for line in lines:
-            name, colon, libraries = line.split("#")[0].partition(":")
-            if colon:
-                listed[name.split()[0]] = libraries.split()
-    return {name: {library for library in libraries if library in listed} for name, libraries in listed.items()}
-
-
-def below(crates, name):
-    found = set()
-    for library in crates[name]:
-        found |= {library} | below(crates, library)
-    return found
+            name, colon, libraries = line.partition(":")
+            if line.startswith("# ") and colon and " " not in name[2:]:
+                layers.append((name[2:], {}))
+            elif colon and not line.startswith("#"):
+                layers[-1][1][name.split()[0]] = libraries.split()
+    layers = [(title, crates) for title, crates in layers if title not in ("Tests", "Benchmarks")]
+    listed = {name for _, crates in layers for name in crates}
+    return [(title, {name: set(on) & listed for name, on in crates.items()}) for title, crates in layers]
 
 
 def crates():
-    """The crates as a graph: each over those that it stands on, without the lines that follow from others."""
-    listed = listed_crates()
-    depth = {}
-
-    def depth_of(name):
-        if name not in depth:
-            depth[name] = 1 + max((depth_of(library) for library in listed[name]), default=-1)
-        return depth[name]
-
-    for name in listed:
-        depth_of(name)
-    layers = [[name for name in listed if depth[name] == level] for level in range(max(depth.values()) + 1)]
-    widest, step = max(len(layer) for layer in layers), 118
-    picture = Picture(widest * step + 20, len(layers) * 72 + 10)
-    place = {}
-    for level, layer in enumerate(layers):
-        for i, name in enumerate(layer):
-            x = 10 + (widest - len(layer)) * step / 2 + i * step
-            place[name] = (x, (len(layers) - 1 - level) * 72 + 10)
-    for name, libraries in listed.items():
-        implied = set().union(*(below(listed, library) for library in libraries)) if libraries else set()
-        for library in sorted(libraries - implied):
-            (x, y), (to_x, to_y) = place[name], place[library]
-            picture.line(x + 52, y + 30, to_x + 52, to_y)
-    for name, (x, y) in place.items():
-        tests = name.startswith(("test_", "bench_"))
-        picture.box(x, y, 104, 30, name, "#f4f1e6" if tests else "#eef3fa")
+    """The crates by layer: each stands on crates of its own layer, to its left, and on those of the layers below."""
+    layers = listed_layers()
+    step, margin, tall = 122, 104, 46
+    width = margin + step * max(len(layer) for _, layer in layers) + 6
+    picture = Picture(width, tall * len(layers) + 4)
+    for i, (title, layer) in enumerate(reversed(layers)):
+        if i % 2 == 0:
+            picture.parts.append(f"<rect x='0' y='{i * tall}' width='{width}' height='{tall}' fill='#f4f6f8'/>")
+        picture.text(10, i * tall + tall / 2 + 4.5, title, "start", "#567")
+        for k, name in enumerate(layer):
+            picture.box(margin + k * step, i * tall + 8, 114, 30, name)
     picture.save("crates.svg")
 
 
