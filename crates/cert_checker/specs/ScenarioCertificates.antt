@@ -21,6 +21,10 @@ pub data IsScenarioFault (graph : TimedGraph) (c : ScenarioCertificate) (line : 
   potential : (i : ℕ) → i < length c.potentials → (FitsAt graph c.rate c.potentials i → ⊥) →
       line ≡ 5 + length c.nodes + i → reason ≡ reasons.Potential → IsScenarioFault graph c line reason
 
+-- the faults in a version: a certificate of a worst-case rate has the same lines in each
+abbrev pub IsWorstFault : TimedGraph → ℕ → ScenarioCertificate → ℕ → Reason → Type 0
+IsWorstFault graph version c = IsScenarioFault graph c
+
 -- the claim is the worst rate of each file whose timed graph this is
 abbrev pub IsWorstClaim : TimedGraph → ScenarioCertificate → Claim → Type 0
 IsWorstClaim graph c (claims.Worst x) = (x.num ≡ c.rate.0) × (x.den ≡ c.rate.1) × ((file : ScenarioFile) → IsTimedGraph file graph → IsWorst file x.num x.den)

@@ -2,7 +2,7 @@
 ghost use Rattle.std.specs.Prelude.{◌≡◌, ◌<◌, IfOk, length};
 ghost use Rattle.scenario_rate.specs.Graphs.{IsSound};
 ghost use Rattle.cert_checker.specs.Verdicts.{IsVerdict};
-ghost use Rattle.cert_checker.specs.ScenarioCertificates.{IsScenarioFault, IsWorstClaim};
+ghost use Rattle.cert_checker.specs.ScenarioCertificates.{IsWorstClaim, IsWorstFault};
 
 use crate::potentials::{first_unfit, lists_nodes};
 use crate::reaching::reached;
@@ -14,16 +14,17 @@ use cert_text::ScenarioCertificate;
 use sd_base::{Fraction, NoMemory};
 use std::alloc::Global;
 
-/// Whether the certificate of a worst-case rate is valid for the timed graph of a file: the cycle is a walk of reachable
-/// nodes that has the rate, and the potentials of all reachable nodes fit it. Versions differ in no line number. Cost: the
-/// nodes of the cycle, and those of the graph, times the edges.
+/// Whether the certificate of a worst-case rate, listed in a version, is valid for the timed graph of a file: the cycle is a
+/// walk of reachable nodes that has the rate, and the potentials of all reachable nodes fit it. Versions differ in no line
+/// number. Cost: the nodes of the cycle, and those of the graph, times the edges.
 pub fn check_scenario(
     alloc: Global,
     graph: &TimedGraph,
     certificate: &ScenarioCertificate,
+    version: u32,
 ) -> Result<Verdict, NoMemory>
     requires sound { IsSound graph.now }
-    ensures { IfOk result (IsVerdict (IsScenarioFault graph.now certificate.now) (IsWorstClaim graph.now certificate.now)) }
+    ensures { IfOk result (IsVerdict (IsWorstFault graph.now version certificate.now) (IsWorstClaim graph.now certificate.now)) }
 {
     worst_is_shown();
     let marks = reached(alloc, graph)?;

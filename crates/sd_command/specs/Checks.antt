@@ -9,7 +9,7 @@ use Rattle.cert_checker.specs.declared.verdict.Reason.{Reason}
 use Rattle.cert_checker.specs.declared.verdict.Reason.TheVariants as reasons
 use Rattle.cert_checker.specs.Verdicts.{IsFirst}
 use Rattle.cert_checker.specs.Certificates.{IsCertificateClaim, IsCertificateFault}
-use Rattle.cert_checker.specs.ScenarioCertificates.{IsScenarioFault, IsWorstClaim}
+use Rattle.cert_checker.specs.ScenarioCertificates.{IsWorstClaim, IsWorstFault}
 use Rattle.report.specs.declared.refusal.Refusal.{Refusal}
 use Rattle.report.specs.declared.refusal.Refusal.TheVariants.{Rejected}
 use Rattle.report.specs.declared.claims.ClaimLine.{ClaimLine}
@@ -78,16 +78,16 @@ graph_checked version c bytes =
     ends_by (judging (IsCertificateFault graph gamma version c) (IsCertificateClaim graph gamma c))
 
 -- the verdict on the certificate of a worst rate, over the file of scenarios that the bytes spell
-abbrev pub scenario_checked : ScenarioCertificate → List ℕ → Ending → ℕ → Type 0
-scenario_checked c bytes =
+abbrev pub scenario_checked : ℕ → ScenarioCertificate → List ℕ → Ending → ℕ → Type 0
+scenario_checked version c bytes =
     After (reading_scenarios bytes) λ file.
     After (timing file) λ graph.
-    ends_by (judging (IsScenarioFault graph c) (IsWorstClaim graph c))
+    ends_by (judging (IsWorstFault graph version c) (IsWorstClaim graph c))
 
 abbrev pub checked : ℕ → Certificate → List ℕ → Ending → ℕ → Type 0
 checked version (certificates.Rate c) bytes = graph_checked version (certificates.Rate c) bytes
 checked version (certificates.Storage c) bytes = graph_checked version (certificates.Storage c) bytes
-checked version (certificates.Scenario c) bytes = scenario_checked c bytes
+checked version (certificates.Scenario c) bytes = scenario_checked version c bytes
 
 -- the graph is taken before the certificate, and read after it, since the certificate says of which kind it is
 abbrev pub check : List ℕ → List ℕ → Files → Ending → ℕ → Type 0

@@ -54,7 +54,7 @@ fn checked(
         Certificate::Rate(_) | Certificate::Storage(_) => {
             graph_checked(alloc, bytes, version, certificate)
         }
-        Certificate::Scenario(scenario) => scenario_checked(alloc, bytes, scenario),
+        Certificate::Scenario(scenario) => scenario_checked(alloc, bytes, version, scenario),
     }
 }
 
@@ -81,12 +81,13 @@ fn graph_checked(
 fn scenario_checked(
     alloc: Global,
     bytes: &[u8],
+    version: u32,
     certificate: &ScenarioCertificate,
 ) -> Result<Answer, Stop>
-    ensures { (faults : ℕ) → Goes (scenario_checked certificate.now bytes.now) result 0 faults faults }
+    ensures { (faults : ℕ) → Goes (scenario_checked version certificate.now bytes.now) result 0 faults faults }
 {
     let file = read_file(alloc, bytes)?;
     let graph = timed(alloc, &file)?;
-    let verdict = check_scenario(alloc, &graph, certificate)?;
+    let verdict = check_scenario(alloc, &graph, certificate, version)?;
     judged(alloc, verdict)
 }

@@ -44,7 +44,7 @@ use Rattle.cert_text.specs.declared.certificates.Certificate.{Certificate as ACe
 use Rattle.cert_text.specs.declared.certificates.Certificate.TheVariants as certificates
 use Rattle.cert_text.specs.declared.certificates.ScenarioCertificate.{ScenarioCertificate}
 use Rattle.cert_checker.specs.Certificates.{IsCertificateClaim, IsCertificateFault}
-use Rattle.cert_checker.specs.ScenarioCertificates.{IsScenarioFault, IsWorstClaim}
+use Rattle.cert_checker.specs.ScenarioCertificates.{IsWorstClaim, IsWorstFault}
 use Rattle.report.specs.ClaimTexts.{converted_line}
 use Rattle.sd_command.specs.CertificateReadings.{opening_certificate}
 use Rattle.sd_command.specs.Certifyings.{certifying}
@@ -88,16 +88,16 @@ module _ (laws : FileLaws) (scenarios : ScenarioLaws) (orders : OrderLaws) (shel
       after_decides (balancing graph) _ (balancing_determines laws graph (laws.keeps bytes true graph given)) (λ gamma round.
       last_decides (judging (IsCertificateFault graph gamma version c) (IsCertificateClaim graph gamma c)) (judging_decides _ _)))
 
-  scenario_check_decides : (c : ScenarioCertificate) (bytes : List ℕ) → Decides (scenario_checked c bytes)
-  scenario_check_decides c bytes =
+  scenario_check_decides : (version : ℕ) (c : ScenarioCertificate) (bytes : List ℕ) → Decides (scenario_checked version c bytes)
+  scenario_check_decides version c bytes =
       after_decides (reading_scenarios bytes) _ (reading_file_determines laws scenarios bytes) (λ file given.
       after_decides (timing file) _ (timing_determines laws scenarios file (scenarios.keeps bytes file given)) (λ graph timed.
-      last_decides (judging (IsScenarioFault graph c) (IsWorstClaim graph c)) (judging_decides _ _)))
+      last_decides (judging (IsWorstFault graph version c) (IsWorstClaim graph c)) (judging_decides _ _)))
 
   checked_decides : (version : ℕ) (c : ACertificate) (bytes : List ℕ) → Decides (checked version c bytes)
   checked_decides version (certificates.Rate c) bytes = graph_check_decides version (certificates.Rate c) bytes
   checked_decides version (certificates.Storage c) bytes = graph_check_decides version (certificates.Storage c) bytes
-  checked_decides version (certificates.Scenario c) bytes = scenario_check_decides c bytes
+  checked_decides version (certificates.Scenario c) bytes = scenario_check_decides version c bytes
 
   check_decides : (graph certificate : List ℕ) → Decides (check graph certificate shelf)
   check_decides graph certificate =

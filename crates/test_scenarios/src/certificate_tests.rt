@@ -24,7 +24,7 @@ fn verdict(
         potentials: Rows::from_vec(Vec::from_slice(alloc, potentials)?),
     };
     assert!(rt; is_sound(&graph));
-    check_scenario(alloc, &graph, &certificate)
+    check_scenario(alloc, &graph, &certificate, 2)
 }
 
 #[test]

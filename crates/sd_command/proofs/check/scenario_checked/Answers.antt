@@ -1,6 +1,6 @@
 use Rattle.std.proofs.Common.{refl}
 use Rattle.std.proofs.lemmas.Result.{err_from_is_err_and}
-use Rattle.cert_checker.specs.ScenarioCertificates.{IsScenarioFault, IsWorstClaim}
+use Rattle.cert_checker.specs.ScenarioCertificates.{IsWorstClaim, IsWorstFault}
 use Rattle.sd_command.specs.ScenarioSteps.{reading_scenarios, timing}
 use Rattle.sd_command.proofs.CertificateSteps.{verdict_goes}
 use Rattle.sd_command.proofs.Goings.{step_stops, goes_on}
@@ -21,5 +21,5 @@ pub returns : goal.returns
 returns c = λ faults.
     goes_on (reading_scenarios c.args.bytes.now) _ c.in_ok-file.file _ 0 faults faults c.in_ok-file.ensures.does
     (goes_on (timing c.in_ok-file.file) _ c.in_ok-graph.graph _ 0 faults faults c.in_ok-graph.ensures.does
-    (verdict_goes (IsScenarioFault c.in_ok-graph.graph c.args.certificate.now) (IsWorstClaim c.in_ok-graph.graph c.args.certificate.now)
+    (verdict_goes (IsWorstFault c.in_ok-graph.graph c.args.version c.args.certificate.now) (IsWorstClaim c.in_ok-graph.graph c.args.certificate.now)
     c.in_ok-verdict.verdict c.judged.result faults c.in_ok-verdict.ensures c.judged.ensures))
