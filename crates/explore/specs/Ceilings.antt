@@ -1,4 +1,4 @@
--- Rates that no distribution passes.
+-- Rates that bound those of all distributions.
 use Rattle.std.specs.Prelude.{ℕ, ◌*◌, ◌≤◌, Option, List}
 use Rattle.sd_base.specs.declared.numbers.Fraction.{Fraction}
 use Rattle.sd_base.specs.Net.{Net}

@@ -9,12 +9,12 @@ use Rattle.explore.specs.declared.extent.Extent.{Extent}
 use Rattle.explore.specs.declared.extent.Extent.TheVariants.{Limit, Fastest}
 use Rattle.explore.specs.Explorations.{IsExploration, IsOneOf, IsPoint, pair_of}
 
--- the limits with another storage
+-- the limits with another total
 abbrev pub up_to : ℕ → Limits → Limits
 up_to storage limits = record { total = storage; states = limits.states; distributions = limits.distributions }
 
--- an exploration up to some storage within the limit, whose points are the front of all distributions within the limit all
--- the same, each with its least one
+-- an exploration up to some storage within the limit, whose points are nevertheless the front of all distributions within the
+-- limit, each with its least one
 pub record IsEnough (net : Net) (limits : Limits) (members : List Member) (points : List Point) : Type 0 where
   pub storage : ℕ
   pub within : storage ≤ limits.total

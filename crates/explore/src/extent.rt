@@ -3,6 +3,7 @@
 pub enum Extent {
     /// Up to the limit.
     Limit,
-    /// Until a storage reaches the greatest rate that any storage can buy, if that is seen, and at most up to the limit.
+    /// Up to the storage that reaches the greatest rate of all distributions, if it is seen to do so, and at most up to the
+    /// limit.
     Fastest,
 }

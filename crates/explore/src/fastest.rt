@@ -1,4 +1,4 @@
-//! How a rate that no storage can raise is recognised.
+//! How it is seen that no distribution has a greater rate than a point.
 ghost use Rattle.std.specs.Prelude.{◌≡◌, ◌*◌, ◌≤◌, ℕ, true, IfOk};
 ghost use Rattle.sd_base.specs.declared.limits.TheConstants.{STORAGE};
 ghost use Rattle.pareto_front.specs.declared.point.Point.{Point as APoint};
@@ -16,8 +16,8 @@ use sd_base::{Fraction, NoMemory};
 use std::alloc::Global;
 use storage::Bounded;
 
-/// Whether the last point is one of this storage and has the greatest rate of all distributions, as a need cycle on no free
-/// space shows. Where it has that rate, such a cycle is mostly found, but none need be.
+/// Whether the last point needs this storage and has the greatest rate of all distributions, as a need cycle on no free space
+/// shows. That one is found where the last point has that rate isn't promised.
 pub(crate) fn reaches_fastest<F: Firing>(
     alloc: Global,
     net: &F,

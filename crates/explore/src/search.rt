@@ -72,8 +72,9 @@ pub fn explore<R: Threads + Sync, F: Firing + Sync, G: Gate + Sync, L: Ledger + 
     explore_as_far(rt, alloc, net, limits, Extent::Limit, gate, steps)
 }
 
-/// The same as far as is wanted. To the fastest point, a level that reaches the greatest rate of all is mostly the last one.
-/// Cost: then also for each level with a new greatest rate a search through its first distribution's pass round the loop.
+/// The same as far as is wanted. With `Extent::Fastest` the points are those of the whole limit too, but the members end with
+/// the level that reaches the greatest rate of all distributions, where a need cycle on no free space is found that bounds
+/// it. Cost: then also a search through the loop of a point for each level with a new greatest rate.
 pub fn explore_as_far<R: Threads + Sync, F: Firing + Sync, G: Gate + Sync, L: Ledger + Send>(
     rt: &R,
     alloc: Global,
