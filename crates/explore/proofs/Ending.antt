@@ -44,10 +44,10 @@ offer-there net (x ∷ ms) m is some = at (zero-test x.rate.num) (λ later. offe
     at (inl test) rest = rw test.0 (⊎_elim (λ (same : x ≡ m). absurd (let none : m.rate.num ≡ 0 = subst (λ (y : Member). y.rate.num ≡ 0) same test.1 in omega arith)) rest is)
     at (inr test) rest = rw test.0 (⊎_elim (λ (same : x ≡ m). inl (ap (offer_for net) same)) (λ (later : IsOneOf ms m). inr (rest later)) is)
 
-abbrev IsOfferOf : Net → List Member → Offer → Type 0
+abbrev pub IsOfferOf : Net → List Member → Offer → Type 0
 IsOfferOf net ms o = (m : Member) × IsOneOf ms m × (offer_for net m ≡ o) × (1 ≤ m.rate.num)
 
-offer-from : (net : Net) (ms : List Member) (o : Offer) → IsOffer (offers_of net ms) o → IsOfferOf net ms o
+pub offer-from : (net : Net) (ms : List Member) (o : Offer) → IsOffer (offers_of net ms) o → IsOfferOf net ms o
 offer-from net [] o is = absurd is
 offer-from net (x ∷ ms) o is = at (zero-test x.rate.num) (λ later. offer-from net ms o later)
   where
@@ -71,7 +71,7 @@ noted-of net states (x ∷ ms) [] m are is = absurd are
 noted-of net states (x ∷ ms) (f ∷ es) m are (inl same) = (f, inl refl, subst (λ (y : Member). IsNoted net states y f) same are.0)
 noted-of net states (x ∷ ms) (f ∷ es) m are (inr later) = let found = noted-of net states ms es m are.1 later in (found.0, inr found.1, found.2)
 
-to-offer : (os : List Offer) (o : Offer) → IsOneOf os o → IsOffer os o
+pub to-offer : (os : List Offer) (o : Offer) → IsOneOf os o → IsOffer os o
 to-offer [] o is = is
 to-offer (p ∷ os) o (inl same) = inl same
 to-offer (p ∷ os) o (inr later) = inr (to-offer os o later)

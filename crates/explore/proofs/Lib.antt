@@ -17,3 +17,7 @@ pub mod Turning
 pub mod Beginning
 pub mod Explorable
 pub mod Reaching
+pub mod Ceilings
+pub mod Enough
+pub mod Topping
+pub mod Halting

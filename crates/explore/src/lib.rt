@@ -6,6 +6,8 @@ mod children;
 mod error;
 mod exploration;
 mod exploring;
+mod extent;
+mod fastest;
 mod head;
 pub mod laws;
 mod level;
@@ -17,4 +19,5 @@ mod waiting;
 
 pub use error::ExploreError;
 pub use exploration::{Exploration, Member, Shown};
-pub use search::explore;
+pub use extent::Extent;
+pub use search::{explore, explore_as_far};

@@ -1,16 +1,21 @@
-ghost use Rattle.std.specs.Prelude.{◌≡◌, ◌+◌, ◌≤◌, ◌<◌, ℕ, [], IfErr, IfOk, OnOk, length};
+ghost use Rattle.std.specs.Prelude.{◌≡◌, ◌+◌, ◌≤◌, ◌<◌, ℕ, true, [], IfErr, IfOk, OnOk, length};
 ghost use Rattle.sd_base.specs.declared.limits.TheConstants.{DISTRIBUTIONS, LEAST_DISTRIBUTIONS, LEAST_STATES, STATES, STORAGE};
 ghost use Rattle.sd_base.specs.declared.limits.Limits.{Limits as SomeLimits};
 ghost use Rattle.storage.specs.Distributions.{storage_of};
 ghost use Rattle.storage.specs.Steps.{IsCorner};
-ghost use Rattle.explore.specs.Explorations.{CountsFew, IsExploration, IsRefusal, cycles_in};
+ghost use Rattle.explore.specs.Explorations.{CountsFew, IsExploration, IsOneOf, IsRefusal, cycles_in};
+ghost use Rattle.explore.specs.Extents.{Explores};
 ghost use Rattle.explore.specs.Reachable.{IsExplorable};
-ghost use Rattle.explore.specs.inside.Searches.{AreSteps, IsCandidate, IsNext, IsSearch, IsStanding};
+ghost use Rattle.pareto_front.specs.declared.point.Point.{Point as APoint};
+ghost use Rattle.explore.specs.declared.extent.Extent.TheVariants.{Fastest};
+ghost use Rattle.explore.specs.inside.Searches.{AreSteps, HasTable, IsCandidate, IsFarEnough, IsNext, IsPast, IsSearch, IsStanding, IsTopAmong};
 ghost use Rattle.explore.specs.inside.Levels.{WiresAll};
 
 use crate::error::ExploreError;
 use crate::exploration::{Exploration, Member};
 use crate::exploring::Exploring;
+use crate::extent::Extent;
+use crate::fastest::reaches_fastest;
 use crate::head::head;
 use crate::level::run_level;
 use crate::members::take_in_all;
@@ -20,7 +25,7 @@ use fanout::Gate;
 use firing::{Firing, Wiring, know_laws};
 use guide::laws::distributions_share_a_wiring;
 use liveness::no_counts;
-use pareto_front::Front;
+use pareto_front::{Front, Point};
 use sd_base::{Ledger, Limits, NoMemory, Rows, Steps};
 use std::alloc::Global;
 use std::collections::BTreeSet;
@@ -64,6 +69,34 @@ pub fn explore<R: Threads + Sync, F: Firing + Sync, G: Gate + Sync, L: Ledger + 
     ensures rises { steps.old.count ≤ steps.new.count }
     ensures share { steps.new.share ≡ steps.old.share }
 {
+    explore_as_far(rt, alloc, net, limits, Extent::Limit, gate, steps)
+}
+
+/// The same as far as is wanted. With `Extent::Fastest` the points are those of the whole limit too, but the members end with
+/// the level that reaches the greatest rate of all distributions, where a need cycle on no free space is found that bounds
+/// it. Cost: then also a search through the loop of a point for each level with a new greatest rate.
+pub fn explore_as_far<R: Threads + Sync, F: Firing + Sync, G: Gate + Sync, L: Ledger + Send>(
+    rt: &R,
+    alloc: Global,
+    net: &F,
+    limits: Limits,
+    extent: Extent,
+    gate: &G,
+    steps: &mut Steps<L>,
+) -> Result<Exploration, ExploreError>
+    requires net { IsExplorable (F.net net.now) }
+    requires total { limits.total ≤ STORAGE }
+    requires some_states { LEAST_STATES ≤ limits.states }
+    requires few_states { limits.states ≤ STATES }
+    requires some { LEAST_DISTRIBUTIONS ≤ limits.distributions }
+    requires few { limits.distributions ≤ DISTRIBUTIONS }
+    ensures explored { IfOk result (λ e. Explores extent (F.net net.now) limits e.members.items e.points.items) }
+    ensures refused { IfErr result (IsRefusal (F.net net.now) limits) }
+    ensures count { IfOk result (λ e. steps.new.count ≡ steps.old.count + cycles_in e.members.items) }
+    ensures most { CountsFew (F.net net.now) limits steps.old.count steps.new.count }
+    ensures rises { steps.old.count ≤ steps.new.count }
+    ensures share { steps.new.share ≡ steps.old.share }
+{
     know_laws(net);
     let first = corner(alloc, net)?;
     let Some(total) = first.total_within(net, limits.total) else {
@@ -81,9 +114,7 @@ pub fn explore<R: Threads + Sync, F: Firing + Sync, G: Gate + Sync, L: Ledger + 
         limits,
     };
     let mut search = begin(alloc, net, total, first)?;
-    while let Some(total) = next_total(&search.waiting) {
-        take_turn(rt, alloc, &exploring, total, gate, &mut search, steps)?;
-    }
+    take_turns(rt, alloc, &exploring, extent, gate, &mut search, steps)?;
     let Search {
         waiting: _,
         members,
@@ -94,6 +125,72 @@ pub fn explore<R: Threads + Sync, F: Firing + Sync, G: Gate + Sync, L: Ledger + 
         members,
         points: front.into_points(),
     })
+}
+
+/// Takes level after level in, until none waits or no further one is wanted.
+fn take_turns<R: Threads + Sync, F: Firing + Sync, G: Gate + Sync, L: Ledger + Send>(
+    rt: &R,
+    alloc: Global,
+    exploring: &Exploring<F>,
+    extent: Extent,
+    gate: &G,
+    search: &mut Search,
+    steps: &mut Steps<L>,
+) -> Result<(), ExploreError>
+    requires net { IsExplorable (F.net exploring.now.net.now) }
+    requires wired { WiresAll (F.net exploring.now.net.now) exploring.now.wiring.now }
+    requires steps { AreSteps (F.net exploring.now.net.now) exploring.now.channel_steps.now }
+    requires small { exploring.now.limits.total ≤ STORAGE }
+    requires some_states { LEAST_STATES ≤ exploring.now.limits.states }
+    requires few_states { exploring.now.limits.states ≤ STATES }
+    requires stands { IsStanding (F.net exploring.now.net.now) exploring.now.limits search.old }
+    requires none { cycles_in search.old.members.items ≡ 0 }
+    ensures stands { OnOk result (IsStanding (F.net exploring.now.net.now) exploring.now.limits search.new) }
+    ensures far { OnOk result (IsFarEnough extent (F.net exploring.now.net.now) exploring.now.limits search.new) }
+    ensures count { OnOk result (steps.new.count ≡ steps.old.count + cycles_in search.new.members.items) }
+    ensures refused { IfErr result (IsRefusal (F.net exploring.now.net.now) exploring.now.limits) }
+    ensures most { IfErr result (λ e. CountsFew (F.net exploring.now.net.now) exploring.now.limits steps.old.count steps.new.count) }
+    ensures rises { steps.old.count ≤ steps.new.count }
+    ensures share { steps.new.share ≡ steps.old.share }
+{
+    while let Some(total) = next_total(&search.waiting) {
+        take_turn(rt, alloc, exploring, total, gate, search, steps)?;
+        let last = is_last(alloc, exploring, extent, total, search.front.points())?;
+        if last {
+            return Ok(());
+        }
+    }
+    Ok(())
+}
+
+/// Whether no level after that of a storage is wanted.
+fn is_last<F: Firing>(
+    alloc: Global,
+    exploring: &Exploring<F>,
+    extent: Extent,
+    total: u64,
+    points: &[Point],
+) -> Result<bool, NoMemory>
+    requires net { IsExplorable (F.net exploring.now.net.now) }
+    requires wired { WiresAll (F.net exploring.now.net.now) exploring.now.wiring.now }
+    requires small { exploring.now.limits.total ≤ STORAGE }
+    requires points { (p : APoint) → IsOneOf points.now p → IsCandidate (F.net exploring.now.net.now) exploring.now.limits.total p.capacities.capacities }
+    requires tables { (states : ℕ) × ((p : APoint) → IsOneOf points.now p → HasTable (F.net exploring.now.net.now) states p) }
+    ensures { IfOk result (λ last. last ≡ true → (extent ≡ Fastest) × IsTopAmong (F.net exploring.now.net.now) points.now) }
+{
+    match extent {
+        Extent::Limit => Ok(false),
+        Extent::Fastest => {
+            reaches_fastest(
+                alloc,
+                exploring.net,
+                exploring.wiring,
+                exploring.limits.total,
+                total,
+                points,
+            )
+        }
+    }
 }
 
 /// Takes the next level off those that wait, and its distributions in as members.
@@ -114,7 +211,7 @@ fn take_turn<R: Threads + Sync, F: Firing + Sync, G: Gate + Sync, L: Ledger + Se
     requires few_states { exploring.now.limits.states ≤ STATES }
     requires stands { IsStanding (F.net exploring.now.net.now) exploring.now.limits search.old }
     requires next { IsNext total search.old.waiting.keys }
-    ensures stands { OnOk result (IsStanding (F.net exploring.now.net.now) exploring.now.limits search.new) }
+    ensures past { OnOk result (IsPast (F.net exploring.now.net.now) exploring.now.limits total search.new) }
     ensures more { OnOk result (length search.old.members.items < length search.new.members.items) }
     ensures few { OnOk result (length search.new.members.items ≤ exploring.now.limits.distributions) }
     ensures count { OnOk result (steps.new.count + cycles_in search.old.members.items ≡ steps.old.count + cycles_in search.new.members.items) }

@@ -76,7 +76,7 @@ worst-stops file graph certificate worst shown (stop.Refused refusal) long = rec
 worst-stops file graph certificate worst shown stop.OutOfMemory nothing = tt
 
 -- that of points too
-pub points-stops : (graph : GraphFile) (net : Net) (wanted : WantedPoints) (members : List Member) (points : List Point) (schedules : List Periodic) → ArePointsShown net wanted.limits members points schedules → (why : Stop)
+pub points-stops : (graph : GraphFile) (net : Net) (wanted : WantedPoints) (members : List Member) (points : List Point) (schedules : List Periodic) → ArePointsShown net wanted members points schedules → (why : Stop)
     → Does (deciding (Certifies wanted.certificate (IsOfPoints net wanted members points schedules)) (IsTooLong wanted.certificate (IsOfPoints net wanted members points schedules))) (Err why)
     → Does (deciding (λ answer. IsPointsAnswer graph net wanted answer (cycles_in members)) (λ refusal. ArePointsTooLong net wanted refusal (cycles_in members))) (Err why)
 points-stops graph net wanted members points schedules shown (stop.Refused refusal) long = record { members = members; points = points; schedules = schedules; shown = shown; long = long; counted = refl }

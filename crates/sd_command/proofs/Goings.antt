@@ -5,7 +5,7 @@ use Rattle.sd_base.specs.declared.limits.Limits.{Limits}
 use Rattle.sd_base.specs.Net.{Net}
 use Rattle.lasso.specs.LoopAnswers.{IsFound}
 use Rattle.explore.specs.declared.exploration.Exploration.{Exploration}
-use Rattle.explore.specs.Explorations.{CountsFew, IsExploration}
+use Rattle.explore.specs.Explorations.{CountsFew}
 use Rattle.report.specs.declared.refusal.Refusal.{Refusal}
 use Rattle.sd_command.specs.declared.answer.Answer.{Answer}
 use Rattle.sd_command.specs.declared.answer.Put.{Put}
@@ -71,11 +71,11 @@ module _ (graph : GraphFile) (net : Net) (wanted : WantedRounds) (n : ℕ) (one 
 
 module _ (graph : GraphFile) (net : Net) (wanted : WantedPoints) (n faults : ℕ) where
   -- an exploration stops
-  pub exploration_stops : CountsFew net wanted.limits 0 n → (why : Stop)
-      → Does (deciding (λ (e : Exploration). IsExploration net wanted.limits e.members.items e.points.items) (IsExplorationEnd graph net wanted.limits)) (Err why)
+  pub exploration_stops : (shows : Exploration → Type 0) → CountsFew net wanted.limits 0 n → (why : Stop)
+      → Does (deciding shows (IsExplorationEnd graph net wanted.limits)) (Err why)
       → Goes (ends_by (exploration graph net wanted)) (Err why) n faults faults
-  exploration_stops few (stop.Refused refusal) is = record { ending = Ended refusal; is = refl; came = inl (few, is); counted = refl }
-  exploration_stops few stop.OutOfMemory is = record { ending = Lacking; is = refl; came = few; counted = refl }
+  exploration_stops shows few (stop.Refused refusal) is = record { ending = Ended refusal; is = refl; came = inl (few, is); counted = refl }
+  exploration_stops shows few stop.OutOfMemory is = record { ending = Lacking; is = refl; came = few; counted = refl }
 
   -- it answers with its points, or their certificate is too long
   pub points_answer : CountsFew net wanted.limits 0 n → (result : Result Answer Stop)

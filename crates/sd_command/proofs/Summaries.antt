@@ -12,7 +12,9 @@ use Rattle.gen_graph.specs.MadeGraphs.{made_graph}
 use Rattle.pareto_front.specs.declared.point.Point.{Point}
 use Rattle.explore.specs.declared.exploration.Exploration.{Exploration}
 use Rattle.explore.specs.declared.exploration.Member.{Member}
-use Rattle.explore.specs.Explorations.{CountsFew, IsExploration, cycles_in}
+use Rattle.explore.specs.declared.extent.Extent.TheVariants.{Fastest}
+use Rattle.explore.specs.Explorations.{CountsFew, cycles_in}
+use Rattle.explore.specs.Extents.{Explores}
 use Rattle.report.specs.SummaryTexts.{summary_lines}
 use Rattle.sd_command.specs.declared.answer.Answer.{Answer}
 use Rattle.sd_command.specs.declared.stop.Stop.{Stop}
@@ -26,13 +28,13 @@ module _ (seed : ℕ) (graph : GraphFile) (gamma : List ℕ) (net : Net) (limits
   module _ (n faults : ℕ) where
     -- an exploration stops
     pub summary_stops : CountsFew net limits 0 n → (why : Stop)
-        → Does (deciding (λ (e : Exploration). IsExploration net limits e.members.items e.points.items) (IsExplorationEnd graph net limits)) (Err why)
+        → Does (deciding (λ (e : Exploration). Explores Fastest net limits e.members.items e.points.items) (IsExplorationEnd graph net limits)) (Err why)
         → Goes (ends_by (summary seed graph gamma net limits)) (Err why) n faults faults
     summary_stops few (stop.Refused refusal) is = record { ending = Ended refusal; is = refl; came = (few, is); counted = refl }
     summary_stops few stop.OutOfMemory is = record { ending = Lacking; is = refl; came = few; counted = refl }
 
     -- it answers with the summary of its points
-    pub summary_answers : (answer : Answer) (members : List Member) (points : List Point) → n ≡ cycles_in members → IsExploration net limits members points
+    pub summary_answers : (answer : Answer) (members : List Member) (points : List Point) → n ≡ cycles_in members → Explores Fastest net limits members points
         → answer.text ≡ summary_lines seed graph gamma points → answer.put ≡ None → Goes (ends_by (summary seed graph gamma net limits)) (Ok answer) n faults faults
     summary_answers answer members points count explored shown none = record {
       ending = Answered answer;

@@ -7,7 +7,9 @@ use Rattle.sd_base.specs.Net.{Net}
 use Rattle.sd_base.specs.FileNet.{net_of}
 use Rattle.pareto_front.specs.declared.point.Point.{Point}
 use Rattle.explore.specs.declared.exploration.Member.{Member}
-use Rattle.explore.specs.Explorations.{CountsFew, IsExploration, cycles_in}
+use Rattle.explore.specs.declared.extent.Extent.TheVariants.{Fastest}
+use Rattle.explore.specs.Explorations.{CountsFew, cycles_in}
+use Rattle.explore.specs.Extents.{Explores}
 use Rattle.gen_graph.specs.MadeGraphs.{made_graph}
 use Rattle.report.specs.SummaryTexts.{summary_lines}
 use Rattle.sd_command.specs.declared.answer.Answer.{Answer}
@@ -23,7 +25,7 @@ usual_limits total = record { total = total; states = USUAL_STATES; distribution
 -- the text lists the points of an exploration, which are exactly the Pareto points of all distributions within the limit
 pub record IsSummary (seed : ℕ) (graph : GraphFile) (gamma : List ℕ) (net : Net) (limits : Limits) (members : List Member) (text : List ℕ) : Type 0 where
   pub points : List Point
-  pub explored : IsExploration net limits members points
+  pub explored : Explores Fastest net limits members points
   pub shown : text ≡ summary_lines seed graph gamma points
 
 -- an execution was counted for each member whose net is live

@@ -14,7 +14,10 @@ use Rattle.storage.specs.BoundedNets.{bound}
 use Rattle.pareto_front.specs.declared.point.Point.{Point}
 use Rattle.explore.specs.declared.exploration.Member.{Member}
 use Rattle.explore.specs.Reachable.{IsReachable}
-use Rattle.explore.specs.Explorations.{AreFound, CountsFew, IsExploration, cycles_in}
+use Rattle.explore.specs.declared.extent.Extent.{Extent}
+use Rattle.explore.specs.declared.extent.Extent.TheVariants.{Limit, Fastest}
+use Rattle.explore.specs.Explorations.{AreFound, CountsFew, cycles_in}
+use Rattle.explore.specs.Extents.{Explores}
 use Rattle.cert_text.specs.declared.certificates.Certificate.{Certificate}
 use Rattle.cert_text.specs.declared.certificates.Certificate.TheVariants as certificates
 use Rattle.cert_text.specs.declared.certificates.StorageCertificate.{StorageCertificate}
@@ -44,10 +47,16 @@ pub record IsPointSchedule (net : Net) (point : Point) (schedule : Periodic) : T
   pub of_loop : IsScheduleOf (bound net point.capacities.capacities) point.table schedule
   pub reached : schedule.rounds * point.rate.den ≡ point.rate.num * schedule.period
 
+-- how far a net is explored: up to the limit where a certificate has to list all members, else until a point has a rate that
+-- none passes
+abbrev pub extent_for : Option (List ℕ) → Extent
+extent_for None = Fastest
+extent_for (Some name) = Limit
+
 -- the points of an exploration, which are exactly the Pareto points of all distributions within the limit, each with the first
 -- distribution that reaches it, and the schedule of its loop
-pub record ArePointsShown (net : Net) (limits : Limits) (members : List Member) (points : List Point) (schedules : List Periodic) : Type 0 where
-  pub explored : IsExploration net limits members points
+pub record ArePointsShown (net : Net) (wanted : WantedPoints) (members : List Member) (points : List Point) (schedules : List Periodic) : Type 0 where
+  pub explored : Explores (extent_for wanted.certificate) net wanted.limits members points
   pub reached : AllZip (IsPointSchedule net) points schedules
 
 -- a certificate of members, and of points with their schedules
@@ -60,7 +69,7 @@ pub record IsPointsAnswer (graph : GraphFile) (net : Net) (wanted : WantedPoints
   pub members : List Member
   pub points : List Point
   pub schedules : List Periodic
-  pub shown : ArePointsShown net wanted.limits members points schedules
+  pub shown : ArePointsShown net wanted members points schedules
   pub text : answer.text ≡ points_lines graph points schedules
   pub put : Certifies wanted.certificate (IsOfPoints net wanted members points schedules) answer.put
   pub counted : n ≡ cycles_in members
@@ -70,7 +79,7 @@ pub record ArePointsTooLong (net : Net) (wanted : WantedPoints) (refusal : Refus
   pub members : List Member
   pub points : List Point
   pub schedules : List Periodic
-  pub shown : ArePointsShown net wanted.limits members points schedules
+  pub shown : ArePointsShown net wanted members points schedules
   pub long : IsTooLong wanted.certificate (IsOfPoints net wanted members points schedules) refusal
   pub counted : n ≡ cycles_in members
 

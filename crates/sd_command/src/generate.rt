@@ -18,6 +18,7 @@ use crate::balancing::balanced;
 use crate::nets::{complete, touch};
 use crate::points::explored;
 use crate::stop::Stop;
+use explore::Extent;
 use fanout::Gate;
 use firing::{Firing, SdfNet};
 use gen_graph::{make, write_graph};
@@ -166,7 +167,16 @@ fn summary_of<R: Threads + Sync, F: Firing + Sync, G: Gate + Sync, L: Ledger + S
 {
     touch(alloc, net, &made.graph)?;
     complete(alloc, net, &made.graph)?;
-    let exploration = explored(rt, alloc, net, &made.graph, limits, gate, steps)?;
+    let exploration = explored(
+        rt,
+        alloc,
+        net,
+        &made.graph,
+        limits,
+        Extent::Fastest,
+        gate,
+        steps,
+    )?;
     Ok(Answer {
         text: summary_text(
             alloc,

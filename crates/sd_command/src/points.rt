@@ -8,14 +8,15 @@ ghost use Rattle.periodic.specs.declared.schedule.Periodic.{Periodic as APeriodi
 ghost use Rattle.storage.specs.Distributions.{IsPlain};
 ghost use Rattle.explore.specs.declared.exploration.Exploration.{Exploration as AnExploration};
 ghost use Rattle.explore.specs.Reachable.{IsExplorable};
-ghost use Rattle.explore.specs.Explorations.{CountsFew, IsExploration, cycles_in};
+ghost use Rattle.explore.specs.Explorations.{CountsFew, cycles_in};
+ghost use Rattle.explore.specs.Extents.{Explores};
 ghost use Rattle.report.specs.LinkTexts.{IsNamed};
 ghost use Rattle.cert_text.specs.declared.certificates.Certificate.{Certificate as ACertificate};
 ghost use Rattle.cert_text.specs.Spellable.{AreStarts};
 ghost use Rattle.cert_maker.specs.Links.{HasNoOrders};
 ghost use Rattle.sd_words.specs.Asked.{AreLimits};
 ghost use Rattle.sd_command.specs.Certifyings.{Certifies, IsTooLong};
-ghost use Rattle.sd_command.specs.PointAnswers.{ArePointsTooLong, IsExplorationEnd, IsOfPoints, IsPointsAnswer, points_of};
+ghost use Rattle.sd_command.specs.PointAnswers.{ArePointsTooLong, IsExplorationEnd, IsOfPoints, IsPointsAnswer, extent_for, points_of};
 ghost use Rattle.sd_command.specs.Courses.{deciding};
 ghost use Rattle.sd_command.specs.inside.Going.{Does, Goes};
 
@@ -28,12 +29,12 @@ use crate::shown_points::shown_points;
 use crate::stop::Stop;
 use crate::wanted::WantedPoints;
 use cert_maker::storage_certificate;
-use explore::{Exploration, ExploreError, explore};
+use explore::{Exploration, ExploreError, Extent, explore_as_far};
 use fanout::Gate;
 use firing::{CsdfNet, Firing, SdfNet, know_laws};
 use periodic::Periodic;
 use report::{Refusal, buffers_text};
-use sd_base::{GraphFile, Kind, Ledger, Limits, Quantity, Steps};
+use sd_base::{GraphFile, Kind, Ledger, Limits, Quantity, Steps, Text};
 use std::alloc::Global;
 use std::thread::Threads;
 
@@ -91,8 +92,27 @@ pub(crate) fn points_of<R: Threads + Sync, F: Firing + Sync, G: Gate + Sync, L: 
 {
     touch(alloc, net, graph)?;
     complete(alloc, net, graph)?;
-    let exploration = explored(rt, alloc, net, graph, wanted.limits, gate, steps)?;
+    let exploration = explored(
+        rt,
+        alloc,
+        net,
+        graph,
+        wanted.limits,
+        extent_for(&wanted.certificate),
+        gate,
+        steps,
+    )?;
     shown(rt, alloc, net, graph, wanted, exploration)
+}
+
+// How far a net is explored: a certificate lists all members up to the limit.
+fn extent_for(certificate: &Option<Text>) -> Extent
+    ensures { result ≡ extent_for certificate.now }
+{
+    match certificate {
+        None => Extent::Fastest,
+        Some(_) => Extent::Limit,
+    }
 }
 
 /// The exploration of a net, or the refusal of one that passes a limit.
@@ -102,20 +122,21 @@ pub(crate) fn explored<R: Threads + Sync, F: Firing + Sync, G: Gate + Sync, L: L
     net: &F,
     graph: &GraphFile,
     limits: Limits,
+    extent: Extent,
     gate: &G,
     steps: &mut Steps<L>,
 ) -> Result<Exploration, Stop>
     requires named { IsNamed graph.now (F.net net.now) }
     requires explorable { IsExplorable (F.net net.now) }
     requires limits { AreLimits limits }
-    ensures does { Does (deciding (λ (e : AnExploration). IsExploration (F.net net.now) limits e.members.items e.points.items) (IsExplorationEnd graph.now (F.net net.now) limits)) result }
+    ensures does { Does (deciding (λ (e : AnExploration). Explores extent (F.net net.now) limits e.members.items e.points.items) (IsExplorationEnd graph.now (F.net net.now) limits)) result }
     ensures counts { IfOk result (λ e. steps.new.count ≡ steps.old.count + cycles_in e.members.items) }
     ensures most { CountsFew (F.net net.now) limits steps.old.count steps.new.count }
     ensures rises { steps.old.count ≤ steps.new.count }
     ensures share { steps.new.share ≡ steps.old.share }
 {
     know_laws(net);
-    match explore(rt, alloc, net, limits, gate, steps) {
+    match explore_as_far(rt, alloc, net, limits, extent, gate, steps) {
         Ok(exploration) => Ok(exploration),
         Err(ExploreError::StatesSpent { at }) => Err(Stop::Refused(Refusal::StatesSpent {
             states: limits.states,
@@ -145,7 +166,7 @@ fn shown<R: Threads + Sync, F: Firing + Sync>(
     requires explorable { IsExplorable (F.net net.now) }
     requires unordered { HasNoOrders (F.net net.now) }
     requires total { wanted.now.limits.total ≤ STORAGE }
-    requires explored { IsExploration (F.net net.now) wanted.now.limits exploration.members.items exploration.points.items }
+    requires explored { Explores (extent_for wanted.now.certificate) (F.net net.now) wanted.now.limits exploration.members.items exploration.points.items }
     ensures { let n : ℕ = cycles_in exploration.members.items in
         Does (deciding (λ answer. IsPointsAnswer graph.now (F.net net.now) wanted.now answer n) (λ refusal. ArePointsTooLong (F.net net.now) wanted.now refusal n)) result }
 {
@@ -169,7 +190,7 @@ fn put_for<F: Firing>(
     requires explorable { IsExplorable (F.net net.now) }
     requires unordered { HasNoOrders (F.net net.now) }
     requires total { wanted.now.limits.total ≤ STORAGE }
-    requires explored { IsExploration (F.net net.now) wanted.now.limits exploration.members.items exploration.points.items }
+    requires explored { Explores (extent_for wanted.now.certificate) (F.net net.now) wanted.now.limits exploration.members.items exploration.points.items }
     requires many { length schedules.items ≡ length exploration.points.items }
     requires starts { All (λ (s : APeriodic). All AreStarts s.starts) schedules.items }
     ensures { let shows : ACertificate → Type 0 = IsOfPoints (F.net net.now) wanted.now exploration.members.items exploration.points.items schedules.items in

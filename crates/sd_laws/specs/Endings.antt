@@ -124,7 +124,7 @@ pub record Suffice (net : Net) (limits : Limits) : Type 0 where
 
 -- where a certificate of the points of a net is asked for, each one is short enough
 abbrev pub PointCertificatesFit : Net → WantedPoints → Type 0
-PointCertificatesFit net wanted = (members : List Member) (points : List Point) (schedules : List Periodic) → ArePointsShown net wanted.limits members points schedules
+PointCertificatesFit net wanted = (members : List Member) (points : List Point) (schedules : List Periodic) → ArePointsShown net wanted members points schedules
     → AreShort wanted.certificate (IsOfPoints net wanted members points schedules)
 
 -- such a run of `storage` is done, or ends for want of memory, where no refusal is due, the limits are enough, and the

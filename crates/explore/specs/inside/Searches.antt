@@ -31,6 +31,9 @@ use Rattle.explore.specs.declared.error.ExploreError.TheVariants.{StatesSpent, T
 use Rattle.explore.specs.inside.Levels.{IsEvaluation, least_loops, most_loops, onto}
 use Rattle.explore.specs.inside.WaitingOrder.{waiting_cmp}
 use Rattle.explore.specs.Reachable.{IsReachable, stepped}
+use Rattle.explore.specs.declared.extent.Extent.{Extent}
+use Rattle.explore.specs.declared.extent.Extent.TheVariants.{Limit, Fastest}
+use Rattle.explore.specs.Ceilings.{BoundsAll}
 use Rattle.explore.specs.Explorations.{IsLedTo, IsMember, IsOneOf, AreInOrder, ShowsChannel, capacities_of, shows_cycle}
 
 -- a distribution on the grid and within the limit that can be reached
@@ -152,6 +155,20 @@ pub record IsSearch (net : Net) (limits : Limits) (floor : ℕ) (done : List (Li
 -- where an exploration stands between two levels
 abbrev pub IsStanding : Net → Limits → Search → Type 0
 IsStanding net limits s = (floor : ℕ) × IsSearch net limits floor (capacities_of s.members.items) s
+
+-- one of the points has a rate that no distribution passes
+abbrev pub IsTopAmong : Net → List Point → Type 0
+IsTopAmong net points = (p : Point) × IsOneOf points p × BoundsAll net p.rate
+
+-- an exploration has come past this storage, which is within the limit
+abbrev pub IsPast : Net → Limits → ℕ → Search → Type 0
+IsPast net limits storage s = (storage ≤ limits.total) × IsSearch net limits (storage + 1) (capacities_of s.members.items) s
+
+-- an exploration is as far as is wanted: none waits; or, where that is enough, a point has a rate that none passes, and those
+-- that wait need more storage than all levels that were taken in
+abbrev pub IsFarEnough : Extent → Net → Limits → Search → Type 0
+IsFarEnough Limit net limits s = s.waiting.keys ≡ []
+IsFarEnough Fastest net limits s = (s.waiting.keys ≡ []) ⊎ ((storage : ℕ) × IsPast net limits storage s × IsTopAmong net s.front)
 
 -- those that wait are in order, and the first one needs this storage
 pub record IsNext (storage : ℕ) (ws : List Waiting) : Type 0 where

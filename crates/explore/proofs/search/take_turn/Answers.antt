@@ -1,8 +1,9 @@
-use Rattle.std.proofs.Common.{◌≡◌, ◌+◌, ◌++◌, length, refl, ap, arith}
+use Rattle.std.proofs.Common.{◌≡◌, ◌+◌, ◌++◌, List, length, inl, refl, sym, ap, subst, arith}
 use Rattle.std.proofs.lemmas.Result.{err_from_is_err_and}
 use Rattle.std.proofs.lemmas.List.{length-append}
 use Rattle.sd_base.specs.Counter.{Tally}
-use Rattle.explore.specs.Explorations.{capacities_of}
+use Rattle.explore.specs.declared.waiting.Waiting.{Waiting}
+use Rattle.explore.specs.Explorations.{IsOneOf, capacities_of}
 use Rattle.explore.specs.inside.Searches.{turned}
 use Rattle.explore.proofs.Turning.{capacities-length, counts-few, cycles-few, level-answers, level-search, level-startable, sum-few, turned-length}
 use Rattle.explore.proofs.search.take_turn.Goals as goal
@@ -53,3 +54,9 @@ returns-in_err-take_in_all-clause-most g c =
     rw p.1 (λ before was.
     counts-few (g.F.Firing.net c.args.exploring.now.net.now) c.args.exploring.now.limits (c.args.total + 1) s.members.items (capacities_of s.members.items ++ turned answers) c.take_level.new.waiting.keys before c.run_level.new.steps.count stands.spread
     (omega (arith, was, c.in_ok-answers.ensures.most, cycles-few s.members.items, sum-few answers, long)) (omega (arith, stands.found, stands.few)))
+
+pub returns-clause-past : goal.returns-clause-past
+returns-clause-past g c =
+    let next = c.requires.next in
+    let waits = c.requires.stands.1.spread.waits next.first (subst (λ (ws : List Waiting). IsOneOf ws next.first) (sym next.are) (inl refl)) in
+    (omega (arith, waits.total, waits.candidate.within, next.least), c.in_ok-take_in_all.ensures.search)

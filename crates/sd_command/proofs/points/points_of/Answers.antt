@@ -6,7 +6,9 @@ use Rattle.sd_command.specs.Courses.{deciding}
 use Rattle.sd_command.specs.Nets.{touching, completing}
 use Rattle.sd_command.specs.PointAnswers.{ArePointsTooLong, IsPointsAnswer}
 use Rattle.sd_command.specs.inside.Going.{Does}
+use Rattle.explore.specs.declared.exploration.Exploration.{Exploration}
 use Rattle.explore.specs.Explorations.{cycles_in}
+use Rattle.explore.specs.Extents.{Explores}
 use Rattle.explore.proofs.Explorable.{touched-explorable}
 use Rattle.sd_command.proofs.Goings.{step_stops, goes_on, exploration_stops, points_answer, few_from}
 use Rattle.sd_command.proofs.points.points_of.Goals as goal
@@ -30,7 +32,8 @@ returns-in_err-exploration-clause-goes g c = λ faults.
     let p = err_from_is_err_and c.from_residual-in_err-exploration.result c.from_residual-in_err-exploration.ensures.1 in
     rw (p.1, p.2) (goes_on (touching c.args.graph.now (g.F.Firing.net c.args.net.now)) _ tt _ _ faults faults c.in_ok-touch.ensures
     (goes_on (completing c.args.graph.now (g.F.Firing.net c.args.net.now)) _ tt _ _ faults faults c.in_ok-complete.ensures
-    (exploration_stops c.args.graph.now (g.F.Firing.net c.args.net.now) c.args.wanted.now _ faults (few_from (g.F.Firing.net c.args.net.now) c.args.wanted.now.limits _ _ c.in_err-exploration.ensures.most) _ c.in_err-exploration.ensures.does)))
+    (exploration_stops c.args.graph.now (g.F.Firing.net c.args.net.now) c.args.wanted.now _ faults (λ (e : Exploration). Explores c.extent_for.result (g.F.Firing.net c.args.net.now) c.args.wanted.now.limits e.members.items e.points.items)
+    (few_from (g.F.Firing.net c.args.net.now) c.args.wanted.now.limits _ _ c.in_err-exploration.ensures.most) _ c.in_err-exploration.ensures.does)))
 
 pub shown-requires-clause-explorable : goal.shown-requires-clause-explorable
 shown-requires-clause-explorable g c = λ κs outlive. touched-explorable (g.F.Firing.net c.args.net.now) c.requires.plain c.requires.connected c.in_ok-touch.ensures c.requires.few

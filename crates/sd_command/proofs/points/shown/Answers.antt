@@ -9,6 +9,7 @@ use Rattle.report.specs.StorageTexts.{points_lines}
 use Rattle.pareto_front.specs.declared.point.Point.{Point}
 use Rattle.explore.specs.Explorations.{IsOneOf}
 use Rattle.explore.proofs.Elements.{one-at}
+use Rattle.explore.proofs.Enough.{explores-points}
 use Rattle.sd_command.specs.PointAnswers.{ArePointsShown, IsPointSchedule}
 use Rattle.sd_command.proofs.Certified.{points-stops}
 use Rattle.sd_command.proofs.PointSchedules.{zip-starts}
@@ -21,7 +22,7 @@ shown_points-requires-after_bounds g c κs within = λ k d below.
       explorable = c.requires.explorable;
       limits = c.args.wanted.now.limits;
       total = c.requires.total;
-      found = c.requires.explored.reached p (subst (λ (ps : List Point). IsOneOf ps p) c.as_slice.ensures.value (one-at c.as_slice.result.now k d below));
+      found = explores-points _ _ _ _ _ c.requires.explored p (subst (λ (ps : List Point). IsOneOf ps p) c.as_slice.ensures.value (one-at c.as_slice.result.now k d below));
     }
 
 pub put_for-requires-clause-many : goal.put_for-requires-clause-many
@@ -30,14 +31,14 @@ put_for-requires-clause-many g c = AllZip-long _ _ _ c.in_ok-shown.ensures.sched
 pub put_for-requires-clause-starts : goal.put_for-requires-clause-starts
 put_for-requires-clause-starts g c =
     zip-starts (g.F.Firing.net c.args.net.now) c.know_laws.ensures c.requires.explorable c.args.wanted.now.limits c.requires.total c.as_slice.result.now c.in_ok-shown.shown.schedules.items
-    (λ p one. c.requires.explored.reached p (subst (λ (ps : List Point). IsOneOf ps p) c.as_slice.ensures.value one)) c.in_ok-shown.ensures.schedules
+    (λ p one. explores-points _ _ _ _ _ c.requires.explored p (subst (λ (ps : List Point). IsOneOf ps p) c.as_slice.ensures.value one)) c.in_ok-shown.ensures.schedules
 
 pub returns-in_err-put : goal.returns-in_err-put
 returns-in_err-put g c =
     let net : Net = g.F.Firing.net c.args.net.now in
     let p = err_from_is_err_and c.from_residual-in_err-put.result c.from_residual-in_err-put.ensures.1 in
     let schedules : List Periodic = c.in_ok-shown.shown.schedules.items in
-    let shown : ArePointsShown net c.args.wanted.now.limits c.args.exploration.members.items c.args.exploration.points.items schedules = record {
+    let shown : ArePointsShown net c.args.wanted.now c.args.exploration.members.items c.args.exploration.points.items schedules = record {
       explored = c.requires.explored;
       reached = subst (λ (ps : List Point). AllZip (IsPointSchedule net) ps schedules) c.as_slice.ensures.value c.in_ok-shown.ensures.schedules;
     } in

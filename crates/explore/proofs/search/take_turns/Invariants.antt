@@ -1,11 +1,11 @@
 use Rattle.std.proofs.Common.{◌≡◌, ◌+◌, ◌-◌, length}
 use Rattle.explore.specs.Explorations.{cycles_in}
 use Rattle.explore.specs.inside.Searches.{IsStanding}
-use Rattle.explore.proofs.search.explore.Given as goal
+use Rattle.explore.proofs.search.take_turns.Given as goal
 
 abbrev pub invariant-loop-total : goal.invariant-loop-total
 invariant-loop-total g l =
-    IsStanding (g.F.Firing.net l.net) l.exploring.limits l.search
+    IsStanding (g.F.Firing.net l.exploring.net.now) l.exploring.limits l.search
     × (l.steps.count ≡ l.initial.steps.count + cycles_in l.search.members.items)
     × (l.steps.share ≡ l.initial.steps.share)
 
