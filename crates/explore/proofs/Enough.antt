@@ -1,13 +1,12 @@
 -- An exploration that ends below the limit has all points, if one of them has a rate that none passes.
-use Rattle.std.proofs.Common.{◌≡◌, ℕ, zero, suc, ◌+◌, ◌*◌, ◌≤◌, ◌<◌, ◌⊎◌, Option, Some, None, List, [], ◌∷◌, length, map, inl, inr, ⊎_elim, refl, sym, ap, ◌∙◌, subst, arith, mul-le-mul_right}
+use Rattle.std.proofs.Common.{◌≡◌, ℕ, zero, suc, ◌+◌, ◌*◌, ◌≤◌, ◌<◌, Option, Some, None, List, [], ◌∷◌, length, map, inl, inr, ⊎_elim, sym, ap, subst, arith, mul-le-mul_right}
 use Rattle.std.specs.Prelude.{slice_index_or}
 use Rattle.std.proofs.lemmas.Bool.{cases_lt}
 use Rattle.sd_base.specs.declared.limits.Limits.{Limits}
 use Rattle.sd_base.specs.declared.limits.TheConstants.{STORAGE}
 use Rattle.sd_base.specs.Net.{Channel, Net}
 use Rattle.sd_base.specs.Lawful.{Lawful}
-use Rattle.storage.specs.BoundedNets.{bound}
-use Rattle.storage.specs.Distributions.{IsDistribution, enlarged, storage_of}
+use Rattle.storage.specs.Distributions.{enlarged, storage_of}
 use Rattle.storage.specs.ParetoPoints.{Beats, IsFront, IsPareto, IsReached, Pair, Reaches, no_pair}
 use Rattle.storage.proofs.Fits.{within-lawful}
 use Rattle.storage.proofs.FileChannels.{plain-no_spaces}

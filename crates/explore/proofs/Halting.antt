@@ -1,5 +1,5 @@
 -- Where the levels end.
-use Rattle.std.proofs.Common.{◌≡◌, ℕ, ◌+◌, ◌≤◌, [], inl, inr, sym, subst}
+use Rattle.std.proofs.Common.{◌≡◌, ℕ, [], inl, inr, sym, subst}
 use Rattle.sd_base.specs.declared.limits.Limits.{Limits}
 use Rattle.sd_base.specs.Net.{Net}
 use Rattle.explore.specs.declared.extent.Extent.{Extent}

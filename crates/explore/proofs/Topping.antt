@@ -1,5 +1,5 @@
 -- The points of a search are candidates, each with the loop of its net.
-use Rattle.std.proofs.Common.{◌≡◌, ℕ, Option, List, ap, subst}
+use Rattle.std.proofs.Common.{ℕ, List, ap, subst}
 use Rattle.std.specs.Prelude.{IfOk, Result, Ok, Err, map}
 use Rattle.sd_base.specs.Net.{Net}
 use Rattle.pareto_front.specs.declared.point.Point.{Point}

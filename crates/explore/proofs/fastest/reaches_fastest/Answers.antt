@@ -1,5 +1,4 @@
-use Rattle.std.proofs.Common.{◌≡◌, ◌-◌, ℕ, Bool, length, subst, sym, true, arith}
-use Rattle.sd_base.specs.Net.{Net}
+use Rattle.std.proofs.Common.{◌≡◌, ◌-◌, Bool, length, subst, sym, true, arith}
 use Rattle.explore.specs.Explorations.{IsOneOf}
 use Rattle.explore.specs.Ceilings.{BoundsAll}
 use Rattle.explore.specs.inside.Searches.{IsTopAmong}

@@ -1,4 +1,4 @@
-use Rattle.std.proofs.Common.{◌≡◌, ℕ, Option, [], List, refl, ap, subst, sym, arith}
+use Rattle.std.proofs.Common.{◌≡◌, ℕ, Option, [], List, ap, subst, sym, arith}
 use Rattle.pareto_front.specs.declared.point.Point.{Point}
 use Rattle.explore.specs.Explorations.{capacities_of, cycles_in}
 use Rattle.explore.specs.Extents.{Explores}

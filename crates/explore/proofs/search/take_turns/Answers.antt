@@ -1,9 +1,9 @@
-use Rattle.std.proofs.Common.{◌≡◌, ◌+◌, List, [], length, refl, ap, subst, sym, arith}
+use Rattle.std.proofs.Common.{◌+◌, List, subst, arith}
 use Rattle.std.proofs.lemmas.Result.{err_from_is_err_and}
 use Rattle.pareto_front.specs.declared.point.Point.{Point}
-use Rattle.explore.specs.Explorations.{IsOneOf, capacities_of, cycles_in}
+use Rattle.explore.specs.Explorations.{IsOneOf, capacities_of}
 use Rattle.explore.specs.inside.Searches.{IsTopAmong}
-use Rattle.explore.proofs.Halting.{far-none, far-top}
+use Rattle.explore.proofs.Halting.{far-top}
 use Rattle.explore.proofs.Topping.{point-candidate}
 use Rattle.explore.proofs.Turning.{capacities-length, counts-few, cycles-few}
 use Rattle.explore.proofs.search.take_turns.Goals as goal
