@@ -19,3 +19,5 @@ pub mod StorageFirsts
 pub mod TradeOffFirsts
 pub mod EntryLists
 pub mod KnownLists
+pub mod SpaceSets
+pub mod ChildMarks

@@ -3,5 +3,6 @@ pub mod Listed
 pub mod Entries
 pub mod FirstFaults
 pub mod ShownAt
+pub mod Spaces
 pub mod KnownSets
 pub mod BelowPoints

@@ -16,9 +16,9 @@ ghost use Rattle.cert_checker.specs.declared.verdict.Verdict.TheVariants.{Reject
 ghost use Rattle.cert_checker.specs.inside.FirstFaults.{AreMembersRight, ArePointsRight, IsFaultOfMembers, IsFaultOfPoints, Judges};
 
 use crate::fault::Fault;
-use crate::known::{known_children, known_members};
 use crate::laws::trade_off_is_shown;
-use crate::members::{Listed, member_fault};
+use crate::listed::listed_of;
+use crate::members::member_fault;
 use crate::points::{are_below, point_fault};
 use crate::sizes::{cycles_size, member_size, point_size};
 use crate::touched::are_touched;
@@ -130,10 +130,7 @@ fn members_fault<F: Firing>(
     requires first { first_line ≡ member_line version certificate.now 0 }
     ensures { IfOk result (Judges (IsFaultOfMembers (F.net net.now) version certificate.now) (AreMembersRight (F.net net.now) certificate.now)) }
 {
-    let listed = Listed {
-        members: known_members(alloc, certificate.members.as_slice())?,
-        children: known_children(alloc, net, certificate)?,
-    };
+    let listed = listed_of(alloc, net, certificate)?;
     let mut line = first_line;
     for number in 0..certificate.members.len() {
         if let Some(fault) = member_fault(alloc, net, version, certificate, &listed, number)? {

@@ -2,7 +2,7 @@ use Rattle.std.proofs.Common.{◌≤◌, List, Option, ℕ, length, subst, sym, 
 use Rattle.storage.specs.Distributions.{enlarged}
 use Rattle.storage.proofs.Enlarging.{distribution-length, enlarged-distribution, hold-small}
 use Rattle.storage.proofs.Fits.{can-hold}
-use Rattle.cert_checker.proofs.known.child_on.Goals as goal
+use Rattle.cert_checker.proofs.children.child_on.Goals as goal
 
 pub enlarge-requires : goal.enlarge-requires
 enlarge-requires g c = λ k at.
