@@ -21,3 +21,6 @@ pub mod EntryLists
 pub mod KnownLists
 pub mod SpaceSets
 pub mod ChildMarks
+pub mod BestRates
+pub mod LinkMaps
+pub mod EdgeWeights

@@ -6,3 +6,6 @@ pub mod ShownAt
 pub mod Spaces
 pub mod KnownSets
 pub mod BelowPoints
+pub mod Bests
+pub mod Links
+pub mod Weights

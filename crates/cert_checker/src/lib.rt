@@ -2,6 +2,7 @@
 //! execution of a net.
 #![tactic(auto)]
 
+mod best_rates;
 mod blocking;
 mod buffers;
 mod certificates;
@@ -12,6 +13,7 @@ mod fits;
 mod joins;
 mod known;
 mod laws;
+mod links;
 mod listed;
 mod members;
 mod points;
@@ -27,6 +29,7 @@ mod touched;
 mod trade_offs;
 mod verdict;
 mod walks;
+mod weights;
 
 pub use certificates::check;
 pub use laws::{rate_is_shown, spelled_lines_fit, trade_off_is_shown};

@@ -33,7 +33,8 @@ use storage::{Distribution, corner};
 /// Whether the certificate of a trade-off is valid for a connected graph with its repetition vector: the members begin at the
 /// corner, are in order, and with each one those with a step more room on a channel that it shows are among them; a need cycle
 /// or counts bound the rate of each; and the points are members whose schedules reach their rates, and cover the others. Cost:
-/// for each member the steps of its cycle times the channels, and the points.
+/// for each member the channels and the steps of its cycle, times the logarithm of the members and the channels, and the
+/// channels times those that it shows; the points with their starts.
 pub fn check_storage(
     alloc: Global,
     graph: &GraphFile,
@@ -85,7 +86,7 @@ fn check_trade_off<F: Firing>(
         return Ok(rejected(fault.line, fault.reason));
     }
     let line = line + 1 + members_size(version, certificate);
-    if !are_below(net, certificate) {
+    if !are_below(alloc, net, certificate)? {
         return Ok(rejected(line, Reason::Point));
     }
     if let Some(fault) = points_fault(alloc, net, version, certificate, line + 1)? {
