@@ -104,25 +104,25 @@ child-of net c ds fit parent = (
 )
 
 -- a member that isn't the first one
-pub later-place : (net : Net) (c : StorageCertificate) (i : ℕ) (known : List (Option ℕ) → Type 0) → ((ds : List (Option ℕ)) → known ds ↔ IsChildOfFirst net c (length c.members) ds) → (i ≡ 0 → ⊥)
-    → IsWithin net c.limit (capacities_at c.members i) → IsAfter net (capacities_at c.members (i - 1)) (capacities_at c.members i) → (b : Bool) → IsTrue b ↔ known (capacities_at c.members i) → IsTrue b ↔ IsInPlace net c i
-later-place net c i known children later fit after b tests = (
-  λ yes. record { within = fit; after = λ some. after; parent = λ some. parent-of net c (capacities_at c.members i) ((children (capacities_at c.members i)).0 (tests.0 yes)) },
-  λ in_place. tests.1 ((children (capacities_at c.members i)).1 (child-of net c (capacities_at c.members i) fit (in_place.parent (some i later)))),
+pub later-place : (net : Net) (c : StorageCertificate) (i : ℕ) → (i ≡ 0 → ⊥) → IsWithin net c.limit (capacities_at c.members i) → IsAfter net (capacities_at c.members (i - 1)) (capacities_at c.members i)
+    → (b : Bool) → IsTrue b ↔ IsChildOfFirst net c (length c.members) (capacities_at c.members i) → IsTrue b ↔ IsInPlace net c i
+later-place net c i later fit after b tests = (
+  λ yes. record { within = fit; after = λ some. after; parent = λ some. parent-of net c (capacities_at c.members i) (tests.0 yes) },
+  λ in_place. tests.1 (child-of net c (capacities_at c.members i) fit (in_place.parent (some i later))),
 )
   where
     some : (n : ℕ) → (n ≡ 0 → ⊥) → 1 ≤ n
     some zero none = absurd (none refl)
     some (suc n) none = omega arith
 
-module _ (net : Net) (c : StorageCertificate) (m : MemberLine) (n : ℕ) (first old : List (Option ℕ) → Type 0) (before : (ds : List (Option ℕ)) → old ds ↔ (first ds ⊎ IsChild net c m n ds)) where
-  later : (ds : List (Option ℕ)) → IsChild net c m n ds → IsChild net c m (n + 1) ds
-  later ds k = record { channel = k.channel; below = omega (arith, k.below); shows = k.shows; small = k.small; is = k.is }
+module _ (net : Net) (c : StorageCertificate) (m : MemberLine) (n : ℕ) (ds : List (Option ℕ)) (first old : Type 0) (before : old ↔ (first ⊎ IsChild net c m n ds)) where
+  later : IsChild net c m n ds → IsChild net c m (n + 1) ds
+  later k = record { channel = k.channel; below = omega (arith, k.below); shows = k.shows; small = k.small; is = k.is }
 
-  pub no-child : (Shows net c.limit c.cycles m n → c.limit < storage_of net.channels (stepped net m.capacities.capacities n)) → (ds : List (Option ℕ)) → old ds ↔ (first ds ⊎ IsChild net c m (n + 1) ds)
-  no-child none ds = (
-    λ has. ⊎_elim (λ (f : first ds). inl f) (λ (k : IsChild net c m n ds). inr (later ds k)) ((before ds).0 has),
-    λ both. (before ds).1 (⊎_elim (λ (f : first ds). inl f) (λ (k : IsChild net c m (n + 1) ds). ⊎_elim
+  pub no-child : (Shows net c.limit c.cycles m n → c.limit < storage_of net.channels (stepped net m.capacities.capacities n)) → old ↔ (first ⊎ IsChild net c m (n + 1) ds)
+  no-child none = (
+    λ has. ⊎_elim (λ (f : first). inl f) (λ (k : IsChild net c m n ds). inr (later k)) (before.0 has),
+    λ both. before.1 (⊎_elim (λ (f : first). inl f) (λ (k : IsChild net c m (n + 1) ds). ⊎_elim
         (λ (less : k.channel < n). inr (record { channel = k.channel; below = less; shows = k.shows; small = k.small; is = k.is }))
         (λ (past : n ≤ k.channel).
         let same : k.channel ≡ n = omega (arith, past, k.below) in
@@ -132,15 +132,15 @@ module _ (net : Net) (c : StorageCertificate) (m : MemberLine) (n : ℕ) (first 
         (cases_lt k.channel n)) both),
   )
 
-  pub one-child : (new : List (Option ℕ) → Type 0) (es : List (Option ℕ)) → ((ds : List (Option ℕ)) → new ds ↔ (old ds ⊎ (es ≡ ds))) → Shows net c.limit c.cycles m n → es ≡ stepped net m.capacities.capacities n → storage_of net.channels (stepped net m.capacities.capacities n) ≤ c.limit
-      → (ds : List (Option ℕ)) → new ds ↔ (first ds ⊎ IsChild net c m (n + 1) ds)
-  one-child new es added shows is small ds = (
+  pub one-child : (new : Type 0) (es : List (Option ℕ)) → new ↔ (old ⊎ (es ≡ ds)) → Shows net c.limit c.cycles m n → es ≡ stepped net m.capacities.capacities n → storage_of net.channels (stepped net m.capacities.capacities n) ≤ c.limit
+      → new ↔ (first ⊎ IsChild net c m (n + 1) ds)
+  one-child new es added shows is small = (
     λ has. ⊎_elim
-        (λ (o : old ds). ⊎_elim (λ (f : first ds). inl f) (λ (k : IsChild net c m n ds). inr (later ds k)) ((before ds).0 o))
+        (λ (o : old). ⊎_elim (λ (f : first). inl f) (λ (k : IsChild net c m n ds). inr (later k)) (before.0 o))
         (λ (e : es ≡ ds). inr (record { channel = n; below = omega arith; shows = shows; small = small; is = sym is ∙ e }))
-        ((added ds).0 has),
-    λ both. (added ds).1 (⊎_elim (λ (f : first ds). inl ((before ds).1 (inl f))) (λ (k : IsChild net c m (n + 1) ds). ⊎_elim
-        (λ (less : k.channel < n). inl ((before ds).1 (inr (record { channel = k.channel; below = less; shows = k.shows; small = k.small; is = k.is }))))
+        (added.0 has),
+    λ both. added.1 (⊎_elim (λ (f : first). inl (before.1 (inl f))) (λ (k : IsChild net c m (n + 1) ds). ⊎_elim
+        (λ (less : k.channel < n). inl (before.1 (inr (record { channel = k.channel; below = less; shows = k.shows; small = k.small; is = k.is }))))
         (λ (past : n ≤ k.channel). let same : k.channel ≡ n = omega (arith, past, k.below) in inr (is ∙ (ap (stepped net m.capacities.capacities) (sym same) ∙ k.is)))
         (cases_lt k.channel n)) both),
   )

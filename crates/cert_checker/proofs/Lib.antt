@@ -19,3 +19,8 @@ pub mod StorageFirsts
 pub mod TradeOffFirsts
 pub mod EntryLists
 pub mod KnownLists
+pub mod SpaceSets
+pub mod ChildMarks
+pub mod BestRates
+pub mod LinkMaps
+pub mod EdgeWeights

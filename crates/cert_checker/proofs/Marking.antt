@@ -19,7 +19,7 @@ unmarked-set (false ∷ ms) zero below off = refl
 unmarked-set (true ∷ ms) (suc i) below off = unmarked-set ms i (omega arith) off
 unmarked-set (false ∷ ms) (suc i) below off = ap suc (unmarked-set ms i (omega arith) off)
 
-cases-eq : (i j : ℕ) → (i ≡ j) ⊎ (i ≢ j)
+pub cases-eq : (i j : ℕ) → (i ≡ j) ⊎ (i ≢ j)
 cases-eq i j = ⊎_elim (λ (less : i < j). inr (λ e. omega arith)) (λ (more : j ≤ i). ⊎_elim (λ (less : j < i). inr (λ e. omega arith)) (λ (no_more : i ≤ j). inl (omega arith)) (cases_lt j i)) (cases_lt i j)
 
 -- what is marked stays marked

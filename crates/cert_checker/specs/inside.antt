@@ -3,5 +3,9 @@ pub mod Listed
 pub mod Entries
 pub mod FirstFaults
 pub mod ShownAt
+pub mod Spaces
 pub mod KnownSets
 pub mod BelowPoints
+pub mod Bests
+pub mod Links
+pub mod Weights

@@ -1,17 +1,17 @@
 //! Need cycles by links.
-ghost use Rattle.std.specs.Prelude.{◌≡◌, ◌≢◌, ◌↔◌, ℕ, ◌<◌, List, IfOk, IsTrue, MatchOption, length};
-ghost use Rattle.sd_base.specs.Net.{channel_at};
+ghost use Rattle.std.specs.Prelude.{◌↔◌, List, IfOk, IsTrue, MatchOption};
 ghost use Rattle.critical.specs.declared.cycle.CycleStep.{CycleStep};
 ghost use Rattle.cert_checker.specs.LinkCycles.{AreAlong, IsCycleLine, IsCycleOf};
 
+use crate::links::Links;
 use cert_text::{LinkCycle, LinkStep};
 use critical::{CycleStep, CycleSteps, NeedCycle};
 use firing::{Firing, know_laws};
-use sd_base::{NoMemory, Role};
+use sd_base::NoMemory;
 use std::alloc::Global;
 
-/// Whether links are a need cycle on a net, of as many rounds for its time as a rate has. Cost: the steps times the
-/// channels.
+/// Whether links are a need cycle on a net, of as many rounds for its time as a rate has. Cost: the channels and the steps,
+/// each times the logarithm of the channels.
 pub(crate) fn is_cycle_line<F: Firing>(
     alloc: Global,
     net: &F,
@@ -51,9 +51,10 @@ fn steps_along<F: Firing>(
 ) -> Result<Option<CycleSteps>, NoMemory>
     ensures { IfOk result (λ o. MatchOption o ((steps : List CycleStep) → ¬ AreAlong (F.net net.now) links.now steps) (AreAlong (F.net net.now) links.now)) }
 {
+    let channels = Links::of(alloc, net)?;
     let mut steps = CycleSteps::new(alloc);
     for link in links {
-        match channel_of(net, link.link) {
+        match channels.channel_of(link.link) {
             Some(channel) => steps.push(CycleStep {
                 channel,
                 to: link.to,
@@ -62,17 +63,4 @@ fn steps_along<F: Firing>(
         }
     }
     Ok(Some(steps))
-}
-
-/// The channel that stands for a link.
-fn channel_of<F: Firing>(net: &F, link: Role) -> Option<u32>
-    ensures { MatchOption result ((i : ℕ) → i < length (F.net net.now).channels → (channel_at (F.net net.now) i).role ≢ link)
-        (λ i. (i < length (F.net net.now).channels) × ((channel_at (F.net net.now) i).role ≡ link)) }
-{
-    for channel in 0..net.channels() {
-        if net.role(channel) == link {
-            return Some(channel);
-        }
-    }
-    None
 }

@@ -2,15 +2,19 @@
 //! execution of a net.
 #![tactic(auto)]
 
+mod best_rates;
 mod blocking;
 mod buffers;
 mod certificates;
+mod children;
 mod cycles;
 mod fault;
 mod fits;
 mod joins;
 mod known;
 mod laws;
+mod links;
+mod listed;
 mod members;
 mod points;
 mod potentials;
@@ -20,10 +24,12 @@ mod scenarios;
 mod schedules;
 mod shown;
 mod sizes;
+mod spaces;
 mod touched;
 mod trade_offs;
 mod verdict;
 mod walks;
+mod weights;
 
 pub use certificates::check;
 pub use laws::{rate_is_shown, spelled_lines_fit, trade_off_is_shown};

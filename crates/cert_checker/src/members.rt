@@ -8,13 +8,14 @@ ghost use Rattle.cert_checker.specs.ShownChannels.{IsWithin, capacities_at};
 ghost use Rattle.cert_checker.specs.StorageCertificates.{AreBlocking, IsAfter, IsClosedAt, IsFileNet, IsInPlace, IsMemberRight, IsShownRight};
 ghost use Rattle.cert_checker.specs.StorageFaults.{IsCountsFault, IsCycleFault, IsMemberFault, IsShownFault};
 ghost use Rattle.cert_checker.specs.inside.FirstFaults.{Judges};
-ghost use Rattle.cert_checker.specs.inside.KnownSets.{AreChildren, AreMembers};
+ghost use Rattle.cert_checker.specs.inside.KnownSets.{IsListing};
 
 use crate::blocking::are_blocking;
+use crate::children::child_on;
 use crate::cycles::is_cycle_line;
 use crate::fault::Fault;
 use crate::fits::is_within;
-use crate::known::{Known, child_on};
+use crate::listed::Listed;
 use crate::schedules::is_rate_line;
 use crate::verdict::Reason;
 use cert_text::{LinkCycle, MemberShown, StorageCertificate};
@@ -22,13 +23,6 @@ use firing::Firing;
 use sd_base::NoMemory;
 use std::alloc::Global;
 use storage::{Bounded, Distribution};
-
-/// The distributions of members, and those with a step more room on a channel that a member shows.
-#[derive(Drop)]
-pub(crate) struct Listed {
-    pub(crate) members: Known,
-    pub(crate) children: Known,
-}
 
 /// The first fault of a member, by how many lines it stands after the member's first one.
 pub(crate) fn member_fault<F: Firing>(
@@ -41,20 +35,19 @@ pub(crate) fn member_fault<F: Firing>(
 ) -> Result<Option<Fault>, NoMemory>
     requires file { IsFileNet (F.net net.now) }
     requires limit { certificate.now.limit ≤ STORAGE }
-    requires members { AreMembers certificate.now listed.now.members }
-    requires children { AreChildren (F.net net.now) certificate.now listed.now.children }
+    requires listing { IsListing (F.net net.now) certificate.now listed.now }
     requires orderly { NameOnes (length certificate.now.cycles) certificate.now.members }
     requires number { number < length certificate.now.members }
     requires before { 1 ≤ number → IsWithin (F.net net.now) certificate.now.limit (capacities_at certificate.now.members (number - 1)) }
     ensures { IfOk result (Judges (IsMemberFault (F.net net.now) version certificate.now number) (IsMemberRight (F.net net.now) certificate.now number)) }
 {
-    if !is_in_place(net, certificate, &listed.children, number) {
+    if !is_in_place(net, certificate, listed, number) {
         return Ok(Some(Fault {
             line: 0,
             reason: Reason::Member,
         }));
     }
-    if !is_closed_at(alloc, net, certificate, &listed.members, number)? {
+    if !is_closed_at(alloc, net, certificate, listed, number)? {
         return Ok(Some(Fault {
             line: 0,
             reason: Reason::Closure,
@@ -76,10 +69,10 @@ pub(crate) fn member_fault<F: Firing>(
 fn is_in_place<F: Firing>(
     net: &F,
     certificate: &StorageCertificate,
-    children: &Known,
+    listed: &Listed,
     number: usize,
 ) -> bool
-    requires known { AreChildren (F.net net.now) certificate.now children.now }
+    requires listing { IsListing (F.net net.now) certificate.now listed.now }
     requires number { number < length certificate.now.members }
     requires before { 1 ≤ number → IsWithin (F.net net.now) certificate.now.limit (capacities_at certificate.now.members (number - 1)) }
     ensures { IsTrue result ↔ IsInPlace (F.net net.now) certificate.now number }
@@ -93,7 +86,7 @@ fn is_in_place<F: Firing>(
                 certificate.limit,
                 &members[number - 1].capacities,
                 capacities,
-            ) && children.has(capacities)))
+            ) && listed.is_child(capacities)))
 }
 
 /// Whether a distribution comes after another, both within a limit.
@@ -113,10 +106,10 @@ fn is_closed_at<F: Firing>(
     alloc: Global,
     net: &F,
     certificate: &StorageCertificate,
-    members: &Known,
+    listed: &Listed,
     number: usize,
 ) -> Result<bool, NoMemory>
-    requires known { AreMembers certificate.now members.now }
+    requires listing { IsListing (F.net net.now) certificate.now listed.now }
     requires limit { certificate.now.limit ≤ STORAGE }
     requires number { number < length certificate.now.members }
     requires within { IsWithin (F.net net.now) certificate.now.limit (capacities_at certificate.now.members number) }
@@ -124,9 +117,9 @@ fn is_closed_at<F: Firing>(
 {
     let member = &certificate.members.as_slice()[number];
     for channel in 0..net.channels() {
-        match child_on(alloc, net, certificate, member, channel)? {
+        match child_on(alloc, net, certificate, &listed.spaces, member, channel)? {
             Some(child) => {
-                if !members.has(&child) {
+                if listed.members.number_of(&child).is_none() {
                     return Ok(false);
                 }
             }

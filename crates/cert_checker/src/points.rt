@@ -1,14 +1,17 @@
 //! The lines of points.
-ghost use Rattle.std.specs.Prelude.{◌≡◌, ◌↔◌, ℕ, ◌*◌, ◌≤◌, ◌<◌, All, IfOk, IsTrue, length};
+ghost use Rattle.std.specs.Prelude.{◌≡◌, ◌↔◌, ℕ, ◌*◌, ◌≤◌, ◌<◌, All, List, IfOk, IsTrue, length};
 ghost use Rattle.sd_base.specs.declared.limits.TheConstants.{STORAGE};
 ghost use Rattle.storage.specs.Distributions.{storage_of};
+ghost use Rattle.cert_text.specs.declared.certificates.PointLine.{PointLine};
 ghost use Rattle.cert_text.specs.Spellable.{AreStarts};
 ghost use Rattle.cert_checker.specs.ShownChannels.{IsWithin, capacities_at};
 ghost use Rattle.cert_checker.specs.StorageCertificates.{AreBelow, HasRate, IsFileNet, IsPointOf, IsPointRight, IsScheduleRight, point_at};
 ghost use Rattle.cert_checker.specs.StorageFaults.{IsPointFault, IsScheduleFault};
-ghost use Rattle.cert_checker.specs.inside.BelowPoints.{HasBelow, IsMemberBelow};
+ghost use Rattle.cert_checker.specs.inside.BelowPoints.{IsMemberBelow};
+ghost use Rattle.cert_checker.specs.inside.Bests.{AreBestRates};
 ghost use Rattle.cert_checker.specs.inside.FirstFaults.{Judges};
 
+use crate::best_rates::BestRates;
 use crate::fault::Fault;
 use crate::schedules::{first_faulty, is_schedule_line};
 use crate::verdict::Reason;
@@ -18,54 +21,36 @@ use sd_base::NoMemory;
 use std::alloc::Global;
 use storage::Bounded;
 
-/// Whether each member with a rate has a point of no more storage and no less rate. Cost: the members times the points.
-pub(crate) fn are_below<F: Firing>(net: &F, certificate: &StorageCertificate) -> bool
+/// Whether each member with a rate has a point of no more storage and no less rate. Cost: the points and the members, each
+/// times the logarithm of the points.
+pub(crate) fn are_below<F: Firing>(
+    alloc: Global,
+    net: &F,
+    certificate: &StorageCertificate,
+) -> Result<bool, NoMemory>
     requires limit { certificate.now.limit ≤ STORAGE }
     requires within { (i : ℕ) → i < length certificate.now.members → IsWithin (F.net net.now) certificate.now.limit (capacities_at certificate.now.members i) }
-    ensures { IsTrue result ↔ AreBelow (F.net net.now) certificate.now }
+    ensures { IfOk result (λ b. IsTrue b ↔ AreBelow (F.net net.now) certificate.now) }
 {
+    let best = BestRates::of(alloc, certificate.points.as_slice())?;
     for member in certificate.members.as_slice() {
-        if !is_member_below(
-            net,
-            certificate.limit,
-            certificate.points.as_slice(),
-            member,
-        ) {
-            return false;
+        if !is_member_below(net, certificate.limit, &best, member) {
+            return Ok(false);
         }
     }
-    true
+    Ok(true)
 }
 
 /// Whether a member has no rate, or a point of no more storage and no less rate.
-fn is_member_below<F: Firing>(
-    net: &F,
-    limit: u64,
-    points: &[PointLine],
-    member: &MemberLine,
-) -> bool
+fn is_member_below<F: Firing>(net: &F, limit: u64, best: &BestRates, member: &MemberLine) -> bool
     requires limit { limit ≤ STORAGE }
     requires within { IsWithin (F.net net.now) limit member.now.capacities.capacities }
-    ensures { IsTrue result ↔ IsMemberBelow (F.net net.now) points.now member.now }
+    ensures { (points : List PointLine) → AreBestRates points best.now → IsTrue result ↔ IsMemberBelow (F.net net.now) points member.now }
 {
     match &member.shown {
-        MemberShown::Cycle { rate, .. } => is_below(points, member.capacities.total(net), *rate),
+        MemberShown::Cycle { rate, .. } => best.has(member.capacities.total(net), *rate),
         MemberShown::Blocked { .. } => true,
     }
-}
-
-fn is_below(points: &[PointLine], storage: u64, rate: (u64, u64)) -> bool
-    ensures { IsTrue result ↔ HasBelow points.now storage rate }
-{
-    for point in points {
-        if point.rate.1 != 0
-            && point.total <= storage
-            && rate.0 as u128 * point.rate.1 as u128 <= point.rate.0 as u128 * rate.1 as u128
-        {
-            return true;
-        }
-    }
-    false
 }
 
 /// The first fault of a point, by how many lines it stands after the point's first one.

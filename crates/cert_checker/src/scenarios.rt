@@ -16,7 +16,7 @@ use std::alloc::Global;
 
 /// Whether the certificate of a worst-case rate, listed in a version, is valid for the timed graph of a file: the cycle is a
 /// walk of reachable nodes that has the rate, and the potentials of all reachable nodes fit it. Versions differ in no line
-/// number. Cost: the nodes of the cycle, and those of the graph, times the edges.
+/// number. Cost: the nodes of the cycle times the logarithm of the edges, and those of the graph times the edges.
 pub fn check_scenario(
     alloc: Global,
     graph: &TimedGraph,
@@ -36,7 +36,14 @@ pub fn check_scenario(
             reason: Reason::Rate,
         });
     }
-    if !is_closed_walk(graph, &marks, certificate.rate, certificate.time, nodes) {
+    if !is_closed_walk(
+        alloc,
+        graph,
+        &marks,
+        certificate.rate,
+        certificate.time,
+        nodes,
+    )? {
         return Ok(Verdict::Rejected {
             line: 4,
             reason: Reason::Cycle,

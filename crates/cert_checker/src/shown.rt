@@ -1,34 +1,35 @@
 //! The channels that members show.
-ghost use Rattle.std.specs.Prelude.{◌≡◌, ◌↔◌, ℕ, ◌<◌, IsTrue, length, slice_index, slice_index_or};
+ghost use Rattle.std.specs.Prelude.{◌≡◌, ◌↔◌, ◌<◌, List, IsTrue, length};
 ghost use Rattle.sd_base.specs.Net.{channel_at};
 ghost use Rattle.sd_base.specs.Schedules.{Needs};
 ghost use Rattle.storage.specs.BoundedNets.{space_of};
 ghost use Rattle.storage.specs.Distributions.{capacity_at};
-ghost use Rattle.cert_text.specs.MemberLines.{cycle_at};
+ghost use Rattle.cert_text.specs.declared.certificates.LinkCycle.{LinkCycle};
 ghost use Rattle.cert_checker.specs.ShownChannels.{IsShownBy};
-ghost use Rattle.cert_checker.specs.inside.ShownAt.{HasSpaceLink, IsFullAt};
+ghost use Rattle.cert_checker.specs.inside.ShownAt.{IsFullAt};
+ghost use Rattle.cert_checker.specs.inside.Spaces.{AreSpaces};
 
 use crate::blocking::can_fire;
-use cert_text::{LinkCycle, LinkStep, MemberLine, MemberShown};
+use crate::spaces::Spaces;
+use cert_text::{MemberLine, MemberShown};
 use firing::{Firing, know_laws, made_sum, taken_sum};
-use sd_base::Role;
 use storage::Distribution;
 
-/// Whether a member shows a channel, where its capacities are right. Cost: the steps of its cycle, or the channels.
+/// Whether a member shows a channel, where its capacities are right. Cost: a search among the spaces, or the channels.
 pub(crate) fn is_shown<F: Firing>(
     net: &F,
-    cycles: &[LinkCycle],
+    spaces: &Spaces,
     member: &MemberLine,
     channel: u32,
 ) -> bool
     requires channel { channel < length (F.net net.now).channels }
-    ensures { IsTrue result ↔ IsShownBy (F.net net.now) cycles.now member.now.capacities.capacities member.now.shown channel }
+    ensures { (cycles : List LinkCycle) → AreSpaces cycles spaces.now → IsTrue result ↔ IsShownBy (F.net net.now) cycles member.now.capacities.capacities member.now.shown channel }
 {
     let Some(room) = capacity_of(&member.capacities, channel) else {
         return false;
     };
     match &member.shown {
-        MemberShown::Cycle { cycle, .. } => is_along_space(cycles, *cycle, channel),
+        MemberShown::Cycle { cycle, .. } => spaces.has(*cycle, channel),
         MemberShown::Blocked { counts } => { is_full(net, counts.as_slice(), channel, room) }
     }
 }
@@ -41,27 +42,6 @@ fn capacity_of(capacities: &Distribution, channel: u32) -> Option<u64>
         Some(entry) => *entry,
         None => None,
     }
-}
-
-/// Whether a step of a cycle is along the free space of a channel.
-fn is_along_space(cycles: &[LinkCycle], number: u64, channel: u32) -> bool
-    ensures { IsTrue result ↔ HasSpaceLink (cycle_at cycles.now number).steps channel }
-{
-    match cycles.get(number as usize) {
-        Some(cycle) => has_space(cycle.steps.as_slice(), channel),
-        None => false,
-    }
-}
-
-fn has_space(steps: &[LinkStep], channel: u32) -> bool
-    ensures { IsTrue result ↔ HasSpaceLink steps.now channel }
-{
-    for step in steps {
-        if step.link == Role::Space(channel) {
-            return true;
-        }
-    }
-    false
 }
 
 /// Whether there is a count for each actor, and the source of a channel is below its round, lacks no token, and lacks space.

@@ -16,9 +16,9 @@ ghost use Rattle.cert_checker.specs.declared.verdict.Verdict.TheVariants.{Reject
 ghost use Rattle.cert_checker.specs.inside.FirstFaults.{AreMembersRight, ArePointsRight, IsFaultOfMembers, IsFaultOfPoints, Judges};
 
 use crate::fault::Fault;
-use crate::known::{known_children, known_members};
 use crate::laws::trade_off_is_shown;
-use crate::members::{Listed, member_fault};
+use crate::listed::listed_of;
+use crate::members::member_fault;
 use crate::points::{are_below, point_fault};
 use crate::sizes::{cycles_size, member_size, point_size};
 use crate::touched::are_touched;
@@ -33,7 +33,8 @@ use storage::{Distribution, corner};
 /// Whether the certificate of a trade-off is valid for a connected graph with its repetition vector: the members begin at the
 /// corner, are in order, and with each one those with a step more room on a channel that it shows are among them; a need cycle
 /// or counts bound the rate of each; and the points are members whose schedules reach their rates, and cover the others. Cost:
-/// for each member the steps of its cycle times the channels, and the points.
+/// for each member the channels and the steps of its cycle, times the logarithm of the members and the channels, and the
+/// channels times those that it shows; the points with their starts.
 pub fn check_storage(
     alloc: Global,
     graph: &GraphFile,
@@ -85,7 +86,7 @@ fn check_trade_off<F: Firing>(
         return Ok(rejected(fault.line, fault.reason));
     }
     let line = line + 1 + members_size(version, certificate);
-    if !are_below(net, certificate) {
+    if !are_below(alloc, net, certificate)? {
         return Ok(rejected(line, Reason::Point));
     }
     if let Some(fault) = points_fault(alloc, net, version, certificate, line + 1)? {
@@ -130,10 +131,7 @@ fn members_fault<F: Firing>(
     requires first { first_line ≡ member_line version certificate.now 0 }
     ensures { IfOk result (Judges (IsFaultOfMembers (F.net net.now) version certificate.now) (AreMembersRight (F.net net.now) certificate.now)) }
 {
-    let listed = Listed {
-        members: known_members(alloc, certificate.members.as_slice())?,
-        children: known_children(alloc, net, certificate)?,
-    };
+    let listed = listed_of(alloc, net, certificate)?;
     let mut line = first_line;
     for number in 0..certificate.members.len() {
         if let Some(fault) = member_fault(alloc, net, version, certificate, &listed, number)? {

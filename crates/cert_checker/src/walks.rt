@@ -1,32 +1,39 @@
 //! Closed walks of a timed graph along listed nodes.
-ghost use Rattle.std.specs.Prelude.{◌≡◌, ◌↔◌, ℕ, ◌*◌, ◌<◌, ◌≤◌, ◌^◌, All, Some, IsTrue, length};
+ghost use Rattle.std.specs.Prelude.{◌≡◌, ◌↔◌, ℕ, ◌*◌, ◌<◌, ◌≤◌, ◌^◌, All, IfOk, Some, IsTrue, length};
 ghost use Rattle.scenario_rate.specs.Graphs.{IsSound};
 ghost use Rattle.cert_checker.specs.inside.Marks.{AreReached};
-ghost use Rattle.cert_checker.specs.ListedNodes.{IsClosedWalk, IsNode, IsWalk, end_of, node_of, time_on, weight_between};
+ghost use Rattle.cert_checker.specs.inside.Weights.{AreWeights};
+ghost use Rattle.cert_checker.specs.ListedNodes.{IsClosedWalk, IsNode, IsWalk, end_of, node_of, time_on};
 
-use automaton::{Edge, TimedGraph};
+use crate::weights::Weights;
+use automaton::TimedGraph;
+use sd_base::NoMemory;
+use std::alloc::Global;
 
 /// Whether nodes, the first one first, are a closed walk of reachable nodes that takes a time, with as many edges for it
-/// as a rate has rounds. Cost: the nodes times the edges.
+/// as a rate has rounds. Cost: the edges and the nodes, each times the logarithm of the edges.
 pub(crate) fn is_closed_walk(
+    alloc: Global,
     graph: &TimedGraph,
     marks: &[bool],
     rate: (u64, u64),
     time: u64,
     nodes: &[(u32, u32)],
-) -> bool
+) -> Result<bool, NoMemory>
     requires sound { IsSound graph.now }
     requires marks { AreReached graph.now marks.now }
-    ensures { IsTrue result ↔ IsClosedWalk graph.now rate time nodes.now }
+    ensures { IfOk result (λ b. IsTrue b ↔ IsClosedWalk graph.now rate time nodes.now) }
 {
     let [first, rest @ ..] = nodes else {
-        return false;
+        return Ok(false);
     };
-    is_walk(graph, marks, rate, time, *first, rest)
+    let weights = Weights::of(alloc, graph.edges.as_slice())?;
+    Ok(is_walk(graph, &weights, marks, rate, time, *first, rest))
 }
 
 fn is_walk(
     graph: &TimedGraph,
+    weights: &Weights,
     marks: &[bool],
     rate: (u64, u64),
     time: u64,
@@ -34,6 +41,7 @@ fn is_walk(
     nodes: &[(u32, u32)],
 ) -> bool
     requires sound { IsSound graph.now }
+    requires weights { AreWeights graph.now.edges weights.now }
     requires marks { AreReached graph.now marks.now }
     ensures { IsTrue result ↔ IsWalk graph.now rate time first nodes.now }
 {
@@ -43,7 +51,7 @@ fn is_walk(
     if end_of(first, nodes) != first || !marks[node_of(graph, first) as usize] {
         return false;
     }
-    takes(graph, time, first, nodes)
+    takes(graph, weights, time, first, nodes)
         && nodes.len() as u128 * rate.1 as u128 == rate.0 as u128 * time as u128
 }
 
@@ -84,18 +92,21 @@ fn end_of(first: (u32, u32), nodes: &[(u32, u32)]) -> (u32, u32)
 }
 
 /// Whether a walk takes a time.
-fn takes(graph: &TimedGraph, time: u64, first: (u32, u32), nodes: &[(u32, u32)]) -> bool
+fn takes(
+    graph: &TimedGraph,
+    weights: &Weights,
+    time: u64,
+    first: (u32, u32),
+    nodes: &[(u32, u32)],
+) -> bool
+    requires { AreWeights graph.now.edges weights.now }
     ensures { IsTrue result ↔ (time_on graph.now 0 first nodes.now ≡ Some time) }
 {
     let mut so_far: u128 = 0;
     let mut from = first;
     let mut rest = nodes;
     while let [node, others @ ..] = rest {
-        match weight_between(
-            graph.edges.as_slice(),
-            node_of(graph, from),
-            node_of(graph, *node),
-        ) {
+        match weights.between(node_of(graph, from), node_of(graph, *node)) {
             Some(weight) => so_far += u128::from(weight),
             None => return false,
         }
@@ -106,14 +117,4 @@ fn takes(graph: &TimedGraph, time: u64, first: (u32, u32), nodes: &[(u32, u32)])
         rest = others;
     }
     so_far == u128::from(time)
-}
-
-/// The weight of the first edge between two nodes.
-fn weight_between(edges: &[Edge], from: u64, to: u64) -> Option<u64>
-    ensures { result ≡ weight_between edges.now from to }
-{
-    edges
-        .iter()
-        .find(|edge| u64::from(edge.from) == from && u64::from(edge.to) == to)
-        .map(|edge| edge.weight)
 }

@@ -1,9 +1,9 @@
-use Rattle.std.proofs.Common.{◌≡◌, ◌-◌, ◌↔◌, subst, sym, ◌∙◌, arith}
+use Rattle.std.proofs.Common.{◌≡◌, ◌-◌, ◌↔◌, ap, length, subst, sym, ◌∙◌, arith}
 use Rattle.std.specs.Prelude.{IsTrue, slice_index_or}
 use Rattle.cert_text.specs.declared.certificates.MemberLine.{MemberLine}
 use Rattle.cert_checker.specs.ShownChannels.{IsWithin, capacities_at, member_at, no_member}
 use Rattle.cert_checker.specs.StorageCertificates.{IsAfter}
-use Rattle.cert_checker.specs.inside.KnownSets.{Knows}
+use Rattle.cert_checker.specs.inside.KnownSets.{IsChildOfFirst}
 use Rattle.cert_checker.proofs.Glue.{item-of, later-place}
 use Rattle.cert_checker.proofs.members.is_in_place.Goals as goal
 
@@ -22,5 +22,6 @@ returns-then-is_after g c =
     let two : IsAfter net (capacities_at cert.members (n - 1)) (slice_index_or c.as_slice-members.result.now n c.index-members-number.result).capacities.capacities =
     subst (λ (x : MemberLine). IsAfter net x.capacities.capacities (slice_index_or c.as_slice-members.result.now n c.index-members-number.result).capacities.capacities) before one in
     let after : IsAfter net (capacities_at cert.members (n - 1)) (capacities_at cert.members n) = subst (λ (x : MemberLine). IsAfter net (capacities_at cert.members (n - 1)) x.capacities.capacities) here two in
-    later-place net cert n (Knows c.args.children.now) c.requires.known c.if-number-eq0.false fit after c.has.result
-    (subst (λ (x : MemberLine). IsTrue c.has.result ↔ Knows c.args.children.now x.capacities.capacities) here c.has.ensures)
+    later-place net cert n c.if-number-eq0.false fit after c.is_child.result
+    (subst (λ (x : MemberLine). IsTrue c.is_child.result ↔ IsChildOfFirst net cert (length cert.members) x.capacities.capacities) here
+    (c.is_child.ensures net cert c.requires.listing (n, c.requires.number, ap (λ (x : MemberLine). x.capacities.capacities) (sym here))))

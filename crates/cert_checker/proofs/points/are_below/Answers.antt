@@ -4,6 +4,7 @@ use Rattle.cert_text.specs.declared.certificates.MemberLine.{MemberLine}
 use Rattle.cert_text.specs.declared.certificates.PointLine.{PointLine}
 use Rattle.cert_checker.specs.ShownChannels.{member_at, no_member}
 use Rattle.cert_checker.specs.inside.BelowPoints.{IsMemberBelow}
+use Rattle.cert_checker.specs.inside.Bests.{AreBestRates}
 use Rattle.cert_checker.proofs.Glue.{item-of, member-below}
 use Rattle.cert_checker.proofs.points.are_below.Goals as goal
 
@@ -16,6 +17,6 @@ returns-then-not-is_member_below g c =
       λ no. absurd (true≢false (sym no)),
       λ are.
           (let one = subst (IsMemberBelow net c.args.certificate.now.points) (sym m) (member-below net c.args.certificate.now c.loop-member.member-index are below) in
-          let two = subst (λ (ps : List PointLine). IsMemberBelow net ps c.member-item.result) (sym c.as_slice.ensures) one in
-          absurd (true≢false (sym (c.is_member_below.ensures.1 two) ∙ c.if-not-is_member_below.true))),
+          let best : AreBestRates c.args.certificate.now.points c.in_ok-best.best = subst (λ (ps : List PointLine). AreBestRates ps c.in_ok-best.best) c.as_slice.ensures c.in_ok-best.ensures in
+          absurd (true≢false (sym ((c.is_member_below.ensures c.args.certificate.now.points best).1 one) ∙ c.if-not-is_member_below.true))),
     )

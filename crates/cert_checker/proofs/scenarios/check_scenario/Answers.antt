@@ -10,7 +10,7 @@ pub returns-in-Some : goal.returns-in-Some
 returns-in-Some c =
     let rate = c.is_rate_line.ensures.0 c.if-not-is_rate_line.false in
     let walk : IsClosedWalk c.args.graph.now c.args.certificate.now.rate c.args.certificate.now.time c.args.certificate.now.nodes =
-    subst (λ (ns : List (ℕ × ℕ)). IsClosedWalk c.args.graph.now c.args.certificate.now.rate c.args.certificate.now.time ns) c.as_slice-nodes.ensures (c.is_closed_walk.ensures.0 c.if-not-is_closed_walk.false) in
+    subst (λ (ns : List (ℕ × ℕ)). IsClosedWalk c.args.graph.now c.args.certificate.now.rate c.args.certificate.now.time ns) c.as_slice-nodes.ensures (c.in_ok-is_closed_walk.ensures.0 c.if-not-branch.false) in
     let lists : ListsNodes c.args.graph.now c.args.certificate.now.potentials = subst (ListsNodes c.args.graph.now) c.as_slice-potentials.ensures (c.lists_nodes.ensures.0 c.if-not-lists_nodes.false) in
     let long : length c.as_slice-nodes.result.now ≡ length c.args.certificate.now.nodes = ap (λ (ns : List (ℕ × ℕ)). length ns) c.as_slice-nodes.ensures in
     first-unfit c.args.graph.now c.args.certificate.now rate walk lists c.in-Some.place _
@@ -22,7 +22,7 @@ pub returns : goal.returns
 returns c =
     let rate = c.is_rate_line.ensures.0 c.if-not-is_rate_line.false in
     let walk : IsClosedWalk c.args.graph.now c.args.certificate.now.rate c.args.certificate.now.time c.args.certificate.now.nodes =
-    subst (λ (ns : List (ℕ × ℕ)). IsClosedWalk c.args.graph.now c.args.certificate.now.rate c.args.certificate.now.time ns) c.as_slice-nodes.ensures (c.is_closed_walk.ensures.0 c.if-not-is_closed_walk.false) in
+    subst (λ (ns : List (ℕ × ℕ)). IsClosedWalk c.args.graph.now c.args.certificate.now.rate c.args.certificate.now.time ns) c.as_slice-nodes.ensures (c.in_ok-is_closed_walk.ensures.0 c.if-not-branch.false) in
     let lists : ListsNodes c.args.graph.now c.args.certificate.now.potentials = subst (ListsNodes c.args.graph.now) c.as_slice-potentials.ensures (c.lists_nodes.ensures.0 c.if-not-lists_nodes.false) in
     let fits : (i : ℕ) → i < length c.args.certificate.now.potentials → FitsAt c.args.graph.now c.args.certificate.now.rate c.args.certificate.now.potentials i =
     subst (λ (ps : List (ℕ × ℕ × ℤ)). (i : ℕ) → i < length ps → FitsAt c.args.graph.now c.args.certificate.now.rate ps i) c.as_slice-potentials.ensures c.in_default.ensures in

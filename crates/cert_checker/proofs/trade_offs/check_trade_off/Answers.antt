@@ -45,8 +45,8 @@ returns-in-Some g c =
     subst (λ (v : Verdict). IsVerdict (IsTradeOffFault net version cert) (IsFrontClaim net cert) v) (sym c.rejected-in-Some.ensures)
     (members-first net version cert touched small begins c.in-Some.fault.line c.in-Some.fault.reason (subst (λ (o : Option Fault). Judges (IsFaultOfMembers net version cert) (AreMembersRight net cert) o) c.in-Some.is c.in_ok-fault.ensures))
 
-pub returns-then-not-are_below : goal.returns-then-not-are_below
-returns-then-not-are_below g c =
+pub returns-then-not-branch : goal.returns-then-not-branch
+returns-then-not-branch g c =
     let net = g.F.Firing.net c.args.net.now in
     let cert = c.args.certificate.now in
     let version = c.args.version in
@@ -56,8 +56,8 @@ returns-then-not-are_below g c =
     let begins : BeginsAtCorner net cert = c.begins_at.ensures.0 c.if-not-begins_at.false in
     let right : AreMembersRight net cert = subst (λ (o : Option Fault). Judges (IsFaultOfMembers net version cert) (AreMembersRight net cert) o) c.in_default.is c.in_ok-fault.ensures in
     let at : 5 + c.cycles_size-line.result + 1 + c.members_size.result ≡ points_line version cert = omega (arith, line, c.members_size.ensures) in
-    subst (λ (v : Verdict). IsVerdict (IsTradeOffFault net version cert) (IsFrontClaim net cert) v) (sym c.rejected-then-not-are_below.ensures)
-    (subst (λ (n : ℕ). IsFirst (IsTradeOffFault net version cert) n reasons.Point) (sym at) (points-line-first net version cert touched small begins right (λ b. true≢false (sym (c.are_below.ensures.1 b) ∙ c.if-not-are_below.true))))
+    subst (λ (v : Verdict). IsVerdict (IsTradeOffFault net version cert) (IsFrontClaim net cert) v) (sym c.rejected-then-not-branch.ensures)
+    (subst (λ (n : ℕ). IsFirst (IsTradeOffFault net version cert) n reasons.Point) (sym at) (points-line-first net version cert touched small begins right (λ b. true≢false (sym (c.in_ok-are_below.ensures.1 b) ∙ c.if-not-branch.true))))
 
 pub returns-in-Some-2 : goal.returns-in-Some-2
 returns-in-Some-2 g c =
@@ -69,7 +69,7 @@ returns-in-Some-2 g c =
     let line : 5 + c.cycles_size-line.result ≡ members_line version cert = ap (λ (n : ℕ). 5 + n) (c.cycles_size-line.ensures ∙ ap (λ (cs : List LinkCycle). cycles_size version cs) c.as_slice.ensures) in
     let begins : BeginsAtCorner net cert = c.begins_at.ensures.0 c.if-not-begins_at.false in
     let right : AreMembersRight net cert = subst (λ (o : Option Fault). Judges (IsFaultOfMembers net version cert) (AreMembersRight net cert) o) c.in_default.is c.in_ok-fault.ensures in
-    let below : AreBelow net cert = c.are_below.ensures.0 c.if-not-are_below.false in
+    let below : AreBelow net cert = c.in_ok-are_below.ensures.0 c.if-not-branch.false in
     subst (λ (v : Verdict). IsVerdict (IsTradeOffFault net version cert) (IsFrontClaim net cert) v) (sym c.rejected-in-Some-2.ensures)
     (points-first net version cert touched small begins right below c.in-Some-2.fault.line c.in-Some-2.fault.reason (subst (λ (o : Option Fault). Judges (IsFaultOfPoints net version cert) (ArePointsRight net cert) o) c.in-Some-2.is c.in_ok-fault-2.ensures))
 
@@ -83,7 +83,7 @@ returns g c =
     let line : 5 + c.cycles_size-line.result ≡ members_line version cert = ap (λ (n : ℕ). 5 + n) (c.cycles_size-line.ensures ∙ ap (λ (cs : List LinkCycle). cycles_size version cs) c.as_slice.ensures) in
     let begins : BeginsAtCorner net cert = c.begins_at.ensures.0 c.if-not-begins_at.false in
     let right : AreMembersRight net cert = subst (λ (o : Option Fault). Judges (IsFaultOfMembers net version cert) (AreMembersRight net cert) o) c.in_default.is c.in_ok-fault.ensures in
-    let below : AreBelow net cert = c.are_below.ensures.0 c.if-not-are_below.false in
+    let below : AreBelow net cert = c.in_ok-are_below.ensures.0 c.if-not-branch.false in
     let points : ArePointsRight net cert = subst (λ (o : Option Fault). Judges (IsFaultOfPoints net version cert) (ArePointsRight net cert) o) c.in_default-2.is c.in_ok-fault-2.ensures in
     let is : IsTradeOff net cert = record { touched = touched; limit = small; corner = begins; members = right; below = below; points = points } in (
       c.trade_off_is_shown.ensures.faultless net version cert is,

@@ -36,8 +36,8 @@ overflow_add-line g c =
     let cert = c.args.certificate.now in
     let n = c.loop-number.number in
     let below : n < length cert.members = omega (arith, c.loop-number-test.true, c.len-number-end.ensures) in
-    let m : c.index-as_slice-number.result ≡ member_at cert.members n = item-of c.as_slice-in-loop-number-2.result.now cert.members n c.index-as_slice-number.result no_member c.as_slice-in-loop-number-2.ensures below c.index-as_slice-number.is in
-    let size : c.member_size.result ≡ member_size c.args.version cert.cycles (member_at cert.members n) = c.member_size.ensures ∙ ap₂ (λ (cs : List LinkCycle) (x : MemberLine). member_size c.args.version cs x) c.as_slice-in-loop-number.ensures m in
+    let m : c.index-as_slice-number.result ≡ member_at cert.members n = item-of c.as_slice-in-loop-number.result.now cert.members n c.index-as_slice-number.result no_member c.as_slice-in-loop-number.ensures below c.index-as_slice-number.is in
+    let size : c.member_size-line.result ≡ member_size c.args.version cert.cycles (member_at cert.members n) = c.member_size-line.ensures ∙ ap₂ (λ (cs : List LinkCycle) (x : MemberLine). member_size c.args.version cs x) c.as_slice.ensures m in
     omega (arith, c.loop-number.invariant.0, size, member-inside c.args.version cert n below, c.requires.lines)
 
 pub loop-number-preserved : goal.loop-number-preserved
@@ -46,7 +46,7 @@ loop-number-preserved g c =
     let cert = c.args.certificate.now in
     let n = c.loop-number.number in
     let below : n < length cert.members = omega (arith, c.loop-number-test.true, c.len-number-end.ensures) in
-    let m : c.index-as_slice-number.result ≡ member_at cert.members n = item-of c.as_slice-in-loop-number-2.result.now cert.members n c.index-as_slice-number.result no_member c.as_slice-in-loop-number-2.ensures below c.index-as_slice-number.is in
-    let size : c.member_size.result ≡ member_size c.args.version cert.cycles (member_at cert.members n) = c.member_size.ensures ∙ ap₂ (λ (cs : List LinkCycle) (x : MemberLine). member_size c.args.version cs x) c.as_slice-in-loop-number.ensures m in
+    let m : c.index-as_slice-number.result ≡ member_at cert.members n = item-of c.as_slice-in-loop-number.result.now cert.members n c.index-as_slice-number.result no_member c.as_slice-in-loop-number.ensures below c.index-as_slice-number.is in
+    let size : c.member_size-line.result ≡ member_size c.args.version cert.cycles (member_at cert.members n) = c.member_size-line.ensures ∙ ap₂ (λ (cs : List LinkCycle) (x : MemberLine). member_size c.args.version cs x) c.as_slice.ensures m in
     let right : IsMemberRight net cert n = subst (λ (o : Option Fault). Judges (IsMemberFault net c.args.version cert n) (IsMemberRight net cert n) o) c.in_default.is c.in_ok-fault.ensures in
     (omega (arith, c.loop-number.invariant.0, size, member-more net c.args.version cert n below), below_more (IsMemberRight net cert) n c.loop-number.invariant.1 right)
