@@ -1,5 +1,5 @@
 -- What stands at the places of the options.
-use Rattle.std.proofs.Common.{◌≡◌, List, Option, map, refl, ap, ◌∙◌}
+use Rattle.std.proofs.Common.{◌≡◌, ◌≢◌, List, Option, Some, map, refl, ap, ◌∙◌, arith}
 use Rattle.sd_words.specs.declared.names.OptionName.{OptionName}
 use Rattle.sd_words.specs.declared.names.OptionName.TheVariants as opt
 use Rattle.sd_words.specs.declared.form.Value.{Value}
@@ -29,3 +29,11 @@ all-seen r = λ i o. each o i
 
 pub seen-list : (values : List (Option Value)) (r : Readings) → values ≡ map r options → seen_in values ≡ r
 seen-list values r is = ap seen_in is ∙ all-seen r
+
+-- the two options whose values a request takes one after the other
+pub buffers-apart : place_of opt.Buffers ≢ place_of opt.Order
+unfolding place_of option_word
+buffers-apart = λ e.
+    let places : Some 3 ≡ Some 10 = e in
+    let same : 3 ≡ 10 = cc in
+    omega arith
