@@ -12,14 +12,15 @@ use Rattle.sd_words.specs.declared.request.UsageCause.{UsageCause}
 use Rattle.sd_words.specs.declared.request.UsageCause.TheVariants.{Words, Missing, NotFor, BadValue}
 use Rattle.sd_words.specs.declared.table.Standing.{Standing}
 use Rattle.sd_words.specs.declared.table.Standing.TheVariants.{Required, Allowed, Foreign}
-use Rattle.sd_words.specs.OptionWords.{algorithm_word, algorithm_named, algorithms}
+use Rattle.sd_words.specs.OptionWords.{algorithm_word, algorithm_named, algorithms, options}
 use Rattle.sd_words.specs.Spelling.{Setting}
 use Rattle.sd_words.specs.OptionWords.{names_value, names_flag}
 use Rattle.sd_words.specs.Values.{is_value}
+use Rattle.sd_words.specs.declared.form.Form.{Form}
 use Rattle.sd_words.specs.declared.form.Form.TheVariants as form
-use Rattle.sd_words.specs.Forms.{fits}
+use Rattle.sd_words.specs.Forms.{fits, made_of, read}
 use Rattle.sd_words.specs.Reading.{◌>>=◌, Progress, is_taken, with_setting, with_value, with_name, with_text, with_option, with_word, with_words, finished, settings_of}
-use Rattle.sd_words.specs.Asked.{value_of, values_in, standing, is_good, judged, checked, all_checked, are_one, named_apart, output_apart, input_of, puts_certificate, certificate_apart, tested, options, algorithm_in, known, algorithm_of, request_for, request_from, request_of}
+use Rattle.sd_words.specs.Asked.{value_of, values_in, standing, is_good, judged, checked, all_checked, are_one, named_apart, apart_from, source_of, certified, certificate_apart, tested, algorithm_in, known, algorithm_of, readings, request_for, request_from, request_of}
 use Rattle.sd_words.specs.Rules.{IsFault, AllFit, IsFirstFault, IsNamedAs, IsNamedTwice, IsWrong, Asks, AreMisspelled, AskNothing}
 use Rattle.sd_words.proofs.TestChains.{bind-ok}
 use Rattle.sd_words.proofs.Spelled.{read-spelled, spelled-read}
@@ -93,47 +94,43 @@ apart-same o p settings cause h =
     let e = apart-err o (are_one (value_of o settings) (value_of p settings)) cause h in
     (twice-named (value_of o settings) (value_of p settings) e.0, e.1)
 
--- each algorithm that has an output requires it
+-- an option that has to differ from another one
 
-asked-output : (a : Algorithm) (w : List ℕ) → judged (standing a option.Output) a option.Output (Some w) ≡ Ok (tt {0}) → standing a option.Output ≡ Required form.Any
-unfolding standing judged
-asked-output algorithm.Repetition w h = absurd (cc)
-asked-output algorithm.Throughput w h = absurd (cc)
-asked-output algorithm.Storage w h = absurd (cc)
-asked-output algorithm.Scenario w h = absurd (cc)
-asked-output algorithm.Check w h = absurd (cc)
-asked-output algorithm.Generate w h = absurd (cc)
-asked-output algorithm.Convert w h = refl
-asked-output algorithm.Ordered w h = absurd (cc)
-asked-output algorithm.Expand w h = refl
-asked-output algorithm.Complete w h = absurd (cc)
+apart-same-as : (p : Option OptionName) (o : OptionName) (settings : List Setting) (cause : UsageCause) → apart_from p o (values_in settings) ≡ Err cause
+    → (q : OptionName) × (p ≡ Some q) × IsNamedAs settings o q × (cause ≡ BadValue o)
+unfolding apart_from
+apart-same-as None o settings cause h = absurd (cc)
+apart-same-as (Some q) o settings cause h = let same = apart-same o q settings cause h in (q, refl, same.0, same.1)
 
-output-fault : (a : Algorithm) (o : OptionName) (settings : List Setting) (cause : UsageCause)
-    → judged (standing a o) a o (value_of o settings) ≡ Ok (tt {0}) → output_apart a o (values_in settings) ≡ Err cause → IsFault a settings o cause
-unfolding output_apart
-output-fault a option.Output settings cause ok h =
-    let same = apart-same option.Output (input_of a) settings cause h in
-    let st = asked-output a same.0.0 (subst (λ v. judged (standing a option.Output) a option.Output v ≡ Ok (tt {0})) same.0.1 ok) in
-    inr (inr (inr (st, refl, same.0, same.1)))
-output-fault a option.Algo settings cause ok h = absurd (cc)
-output-fault a option.Graph settings cause ok h = absurd (cc)
-output-fault a option.Certificate settings cause ok h = absurd (cc)
-output-fault a option.Buffers settings cause ok h = absurd (cc)
-output-fault a option.States settings cause ok h = absurd (cc)
-output-fault a option.Distributions settings cause ok h = absurd (cc)
-output-fault a option.Limit settings cause ok h = absurd (cc)
-output-fault a option.Seed settings cause ok h = absurd (cc)
-output-fault a option.Actors settings cause ok h = absurd (cc)
-output-fault a option.Order settings cause ok h = absurd (cc)
-output-fault a option.Rounds settings cause ok h = absurd (cc)
-output-fault a option.NoOverlap settings cause ok h = absurd (cc)
+same-as-apart : (p : Option OptionName) (o q : OptionName) (settings : List Setting) → p ≡ Some q → IsNamedAs settings o q
+    → apart_from p o (values_in settings) ≡ Err (BadValue o)
+unfolding apart_from
+same-as-apart None o q settings is twice = absurd (cc)
+same-as-apart (Some p) o q settings is twice =
+    let same : p ≡ q = cc in
+    same-apart o p settings (rw same twice)
 
-named-output : (a : Algorithm) (settings : List Setting) → standing a option.Output ≡ Required form.Any → IsNamedAs settings option.Output (input_of a)
-    → checked a option.Output (values_in settings) ≡ Err (BadValue option.Output)
-unfolding checked judged output_apart fits
-named-output a settings st twice =
-    let ok : judged (standing a option.Output) a option.Output (value_of option.Output settings) ≡ Ok (tt {0}) = rw (st, twice.1) refl in
-    ap (λ r. r >>= λ _. output_apart a option.Output (values_in settings)) ok ∙ same-apart option.Output (input_of a) settings twice
+-- each text is a name of an output
+
+output-fits : (f : Form) (q : OptionName) (w : List ℕ) → made_of f ≡ Some q → fits f w ≡ true
+unfolding made_of read
+output-fits form.Text q w h = absurd (cc)
+output-fits (form.Output source) q w h = refl
+output-fits (form.Certificate source) q w h = absurd (cc)
+output-fits (form.Number least greatest) q w h = absurd (cc)
+output-fits form.Buffers q w h = absurd (cc)
+output-fits form.Orders q w h = absurd (cc)
+output-fits form.Flag q w h = absurd (cc)
+
+good-ok : (b : Bool) (o : OptionName) → b ≡ true → cond b (Ok (tt {0})) (Err (BadValue o)) ≡ Ok (tt {0})
+good-ok true o h = refl
+good-ok false o h = absurd (cc)
+
+output-judged : (st : Standing) (a : Algorithm) (o q : OptionName) (w : List ℕ) → source_of st ≡ Some q → judged st a o (Some w) ≡ Ok (tt {0})
+unfolding judged
+output-judged (Required f) a o q w h = good-ok (fits f w) o (output-fits f q w h)
+output-judged (Allowed f) a o q w h = good-ok (fits f w) o (output-fits f q w h)
+output-judged Foreign a o q w h = absurd (cc)
 
 outcome : {A : Type 0} (r : Result A UsageCause) → ((x : A) × (r ≡ Ok x)) ⊎ ((cause : UsageCause) × (r ≡ Err cause))
 outcome (Ok x) = inl (x, refl)
@@ -142,9 +139,11 @@ outcome (Err cause) = inr (cause, refl)
 checked-fault : (a : Algorithm) (o : OptionName) (settings : List Setting) (cause : UsageCause) → checked a o (values_in settings) ≡ Err cause → IsFault a settings o cause
 unfolding checked
 checked-fault a o settings cause h = elim (outcome (judged (standing a o) a o (value_of o settings))) [
-  | inl e ↦ output-fault a o settings cause e.1 (sym (ap (λ r. r >>= λ _. output_apart a o (values_in settings)) e.1) ∙ h)
+  | inl e ↦
+      let later : apart_from (source_of (standing a o)) o (values_in settings) ≡ Err cause = sym (ap (λ r. r >>= λ _. apart_from (source_of (standing a o)) o (values_in settings)) e.1) ∙ h in
+      inr (inr (inr (apart-same-as (source_of (standing a o)) o settings cause later)))
   | inr e ↦
-      let same : Err e.0 ≡ Err cause = sym (ap (λ r. r >>= λ _. output_apart a o (values_in settings)) e.1) ∙ h in
+      let same : Err e.0 ≡ Err cause = sym (ap (λ r. r >>= λ _. apart_from (source_of (standing a o)) o (values_in settings)) e.1) ∙ h in
       let is : e.0 ≡ cause = cc (same) in
       judged-fault (standing a o) (value_of o settings) a o settings cause refl refl (e.1 ∙ ap (λ c. Err c) is)
 ]
@@ -154,9 +153,11 @@ unfolding checked judged
 fault-checked a o settings cause (inl h) = rw (h.1, h.2, h.3) refl
 fault-checked a o settings cause (inr (inl h)) = rw (h.1, h.2, h.3) refl
 fault-checked a o settings cause (inr (inr (inl h))) =
-    rw (h.2, h.4) (ap (λ r. r >>= λ _. output_apart a o (values_in settings)) (judged-bad (standing a o) h.0 a o h.1 h.3))
+    rw (h.2, h.4) (ap (λ r. r >>= λ _. apart_from (source_of (standing a o)) o (values_in settings)) (judged-bad (standing a o) h.0 a o h.1 h.3))
 fault-checked a o settings cause (inr (inr (inr h))) =
-    rw h.3 (subst (λ p. standing a p ≡ Required form.Any → checked a p (values_in settings) ≡ Err (BadValue p)) (sym h.1) (λ st. named-output a settings st h.2) h.0)
+    let ok : judged (standing a o) a o (value_of o settings) ≡ Ok (tt {0}) = ap (judged (standing a o) a o) h.2.1 ∙ output-judged (standing a o) a o h.0 h.2.0 h.1 in
+    ap (λ r. r >>= λ _. apart_from (source_of (standing a o)) o (values_in settings)) ok
+    ∙ (same-as-apart (source_of (standing a o)) o h.0 settings h.1 h.2 ∙ ap (λ c. Err c) (sym h.3))
 
 -- the options are tested in turn
 
@@ -342,30 +343,22 @@ settings-only words = only-then (with_words _ words) finished (words-only words 
 
 -- the options, and then the name of the certificate
 
-certificate-ok : (a : Algorithm) (settings : List Setting) → (IsNamedTwice a settings → ⊥) → certificate_apart a (values_in settings) ≡ Ok (tt {0})
-unfolding certificate_apart named_apart
-certificate-ok a settings apart = of (puts_certificate a) refl (are_one (value_of option.Certificate settings) (value_of option.Graph settings)) refl
-  where
-    of : (b : Bool) → puts_certificate a ≡ b → (same : Bool) → are_one (value_of option.Certificate settings) (value_of option.Graph settings) ≡ same
-        → cond b (cond same (Err (BadValue option.Certificate)) (Ok (tt {0}))) (Ok (tt {0})) ≡ Ok (tt {0})
-    of true p true q = absurd (apart (p, twice-named (value_of option.Certificate settings) (value_of option.Graph settings) q))
-    of true p false q = refl
-    of false p same q = refl
-
 certificate-err : (a : Algorithm) (settings : List Setting) (cause : UsageCause) → certificate_apart a (values_in settings) ≡ Err cause
     → IsNamedTwice a settings × (cause ≡ BadValue option.Certificate)
 unfolding certificate_apart
-certificate-err a settings cause h = of (puts_certificate a) refl h
-  where
-    of : (b : Bool) → puts_certificate a ≡ b → cond b (named_apart option.Certificate option.Graph (values_in settings)) (Ok (tt {0})) ≡ Err cause
-        → IsNamedTwice a settings × (cause ≡ BadValue option.Certificate)
-    of true p e = let same = apart-same option.Certificate option.Graph settings cause e in ((p, same.0), same.1)
-    of false p e = absurd (cc)
+certificate-err a settings cause h =
+    let same = apart-same-as (certified (standing a option.Certificate)) option.Certificate settings cause h in
+    ((same.0, same.1, same.2), same.3)
+
+certificate-ok : (a : Algorithm) (settings : List Setting) → (IsNamedTwice a settings → ⊥) → certificate_apart a (values_in settings) ≡ Ok (tt {0})
+certificate-ok a settings apart = elim (outcome (certificate_apart a (values_in settings))) [
+  | inl e ↦ e.1
+  | inr e ↦ absurd (apart (certificate-err a settings e.0 e.1).0)
+]
 
 twice-certificate : (a : Algorithm) (settings : List Setting) → IsNamedTwice a settings → certificate_apart a (values_in settings) ≡ Err (BadValue option.Certificate)
 unfolding certificate_apart
-twice-certificate a settings twice =
-    ap (λ b. cond b (named_apart option.Certificate option.Graph (values_in settings)) (Ok (tt {0}))) twice.0 ∙ same-apart option.Certificate option.Graph settings twice.1
+twice-certificate a settings twice = same-as-apart (certified (standing a option.Certificate)) option.Certificate twice.0 settings twice.1 twice.2
 
 tested-ok : (a : Algorithm) (settings : List Setting) (u : Unit {0}) → tested a (values_in settings) ≡ Ok u → AllFit a settings options × (IsNamedTwice a settings → ⊥)
 unfolding tested
@@ -402,20 +395,20 @@ err-tested a settings cause (inr h) =
 -- the answers
 
 request-ok : (settings : List Setting) (r : Request) → request_from (values_in settings) ≡ Ok r
-    → (a : Algorithm) × (value_of option.Algo settings ≡ Some (algorithm_word a)) × AllFit a settings options × (IsNamedTwice a settings → ⊥) × (r ≡ request_for a (values_in settings))
+    → (a : Algorithm) × (value_of option.Algo settings ≡ Some (algorithm_word a)) × AllFit a settings options × (IsNamedTwice a settings → ⊥) × (r ≡ request_for a (readings a (values_in settings)))
 unfolding request_from
 request-ok settings r h =
-    let one = bind-ok (algorithm_of (values_in settings)) (λ a. tested a (values_in settings) >>= λ _. Ok (request_for a (values_in settings))) r h in
-    let two = bind-ok (tested one.0 (values_in settings)) (λ _. Ok (request_for one.0 (values_in settings))) r one.2 in
-    let same : r ≡ request_for one.0 (values_in settings) = cc (two.2) in
+    let one = bind-ok (algorithm_of (values_in settings)) (λ a. tested a (values_in settings) >>= λ _. Ok (request_for a (readings a (values_in settings)))) r h in
+    let two = bind-ok (tested one.0 (values_in settings)) (λ _. Ok (request_for one.0 (readings one.0 (values_in settings)))) r one.2 in
+    let same : r ≡ request_for one.0 (readings one.0 (values_in settings)) = cc (two.2) in
     let fit = tested-ok one.0 settings two.0 two.1 in
     (one.0, algorithm-ok settings one.0 one.1, fit.0, fit.1, same)
 
-request-asked : (settings : List Setting) (a : Algorithm) → value_of option.Algo settings ≡ Some (algorithm_word a) → AllFit a settings options → (IsNamedTwice a settings → ⊥) → request_from (values_in settings) ≡ Ok (request_for a (values_in settings))
+request-asked : (settings : List Setting) (a : Algorithm) → value_of option.Algo settings ≡ Some (algorithm_word a) → AllFit a settings options → (IsNamedTwice a settings → ⊥) → request_from (values_in settings) ≡ Ok (request_for a (readings a (values_in settings)))
 unfolding request_from
 request-asked settings a h fit apart =
-    ap (λ r. r >>= λ b. tested b (values_in settings) >>= λ _. Ok (request_for b (values_in settings))) (algorithm-named settings a h)
-    ∙ ap (λ r. r >>= λ _. Ok (request_for a (values_in settings))) (ok-tested a settings fit apart)
+    ap (λ r. r >>= λ b. tested b (values_in settings) >>= λ _. Ok (request_for b (readings b (values_in settings)))) (algorithm-named settings a h)
+    ∙ ap (λ r. r >>= λ _. Ok (request_for a (readings a (values_in settings)))) (ok-tested a settings fit apart)
 
 pub asks : (words : List (List ℕ)) (r : Request) → request_of words ≡ Ok r → Asks words r
 unfolding request_of
@@ -439,31 +432,31 @@ request-err : (settings : List Setting) (cause : UsageCause) → request_from (v
 unfolding request_from
 request-err settings cause h = elim (outcome (algorithm_of (values_in settings))) [
   | inl a ↦
-      let later : (tested a.0 (values_in settings) >>= λ _. Ok (request_for a.0 (values_in settings))) ≡ Err cause =
-      sym (ap (λ r. r >>= λ b. tested b (values_in settings) >>= λ _. Ok (request_for b (values_in settings))) a.1) ∙ h in
+      let later : (tested a.0 (values_in settings) >>= λ _. Ok (request_for a.0 (readings a.0 (values_in settings)))) ≡ Err cause =
+      sym (ap (λ r. r >>= λ b. tested b (values_in settings) >>= λ _. Ok (request_for b (readings b (values_in settings)))) a.1) ∙ h in
       elim (outcome (tested a.0 (values_in settings))) [
-        | inl e ↦ absurd (cc (ap (λ r. r >>= λ _. Ok (request_for a.0 (values_in settings))) e.1, later))
+        | inl e ↦ absurd (cc (ap (λ r. r >>= λ _. Ok (request_for a.0 (readings a.0 (values_in settings)))) e.1, later))
         | inr e ↦
-            let same : Err e.0 ≡ Err cause = sym (ap (λ r. r >>= λ _. Ok (request_for a.0 (values_in settings))) e.1) ∙ later in
+            let same : Err e.0 ≡ Err cause = sym (ap (λ r. r >>= λ _. Ok (request_for a.0 (readings a.0 (values_in settings)))) e.1) ∙ later in
             let is : tested a.0 (values_in settings) ≡ Err cause = cc (e.1, same) in
             inr (inr (a.0, algorithm-ok settings a.0 a.1, tested-err a.0 settings cause is))
       ]
   | inr e ↦
-      let same : Err e.0 ≡ Err cause = sym (ap (λ r. r >>= λ b. tested b (values_in settings) >>= λ _. Ok (request_for b (values_in settings))) e.1) ∙ h in
+      let same : Err e.0 ≡ Err cause = sym (ap (λ r. r >>= λ b. tested b (values_in settings) >>= λ _. Ok (request_for b (readings b (values_in settings)))) e.1) ∙ h in
       let is : algorithm_of (values_in settings) ≡ Err cause = cc (e.1, same) in
       elim (algorithm-err settings cause is) [ inl f ↦ inl f | inr f ↦ inr (inl f) ]
 ]
 
 refused-request : (settings : List Setting) (cause : UsageCause) → Refused settings cause → request_from (values_in settings) ≡ Err cause
 unfolding request_from algorithm_of
-refused-request settings cause (inl h) = ap (λ v. algorithm_in v >>= λ a. tested a (values_in settings) >>= λ _. Ok (request_for a (values_in settings))) h.0 ∙ ap (λ c. Err c) (sym h.1)
+refused-request settings cause (inl h) = ap (λ v. algorithm_in v >>= λ a. tested a (values_in settings) >>= λ _. Ok (request_for a (readings a (values_in settings)))) h.0 ∙ ap (λ c. Err c) (sym h.1)
 refused-request settings cause (inr (inl h)) =
-    ap (λ v. algorithm_in v >>= λ a. tested a (values_in settings) >>= λ _. Ok (request_for a (values_in settings))) h.1
-    ∙ (ap (λ o. known o >>= λ a. tested a (values_in settings) >>= λ _. Ok (request_for a (values_in settings))) (unnamed h.0 h.2) ∙ ap (λ c. Err c) (sym h.3))
+    ap (λ v. algorithm_in v >>= λ a. tested a (values_in settings) >>= λ _. Ok (request_for a (readings a (values_in settings)))) h.1
+    ∙ (ap (λ o. known o >>= λ a. tested a (values_in settings) >>= λ _. Ok (request_for a (readings a (values_in settings)))) (unnamed h.0 h.2) ∙ ap (λ c. Err c) (sym h.3))
 refused-request settings cause (inr (inr h)) =
     let fault : tested h.0 (values_in settings) ≡ Err cause = err-tested h.0 settings cause h.2 in
-    ap (λ r. r >>= λ a. tested a (values_in settings) >>= λ _. Ok (request_for a (values_in settings))) (algorithm-named settings h.0 h.1)
-    ∙ ap (λ r. r >>= λ _. Ok (request_for h.0 (values_in settings))) fault
+    ap (λ r. r >>= λ a. tested a (values_in settings) >>= λ _. Ok (request_for a (readings a (values_in settings)))) (algorithm-named settings h.0 h.1)
+    ∙ ap (λ r. r >>= λ _. Ok (request_for h.0 (readings h.0 (values_in settings)))) fault
 
 pub asks_nothing : (words : List (List ℕ)) (cause : UsageCause) → request_of words ≡ Err cause → AskNothing words cause
 unfolding request_of

@@ -1,6 +1,7 @@
 mod BufferParts
 mod OrderParts
 pub mod Turns
+pub mod Places
 pub mod Seen
 pub mod Apart
 pub mod Spelled

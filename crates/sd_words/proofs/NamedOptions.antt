@@ -1,35 +1,41 @@
 -- The words of options.
-use Rattle.std.proofs.Common.{◌≡◌, ◌≢◌, ℕ, Bool, true, false, ◌||◌, ◌⊎◌, inl, inr, List, [], ◌∷◌, ◌++◌, codes, drop, nat_eq, refl, sym}
+use Rattle.std.proofs.Common.{◌≡◌, ◌≢◌, ℕ, Bool, true, false, ◌&&◌, ◌||◌, ◌⊎◌, inl, inr, List, [], ◌∷◌, ◌++◌, codes, drop, nat_eq, refl, sym, ap}
 use Rattle.std.specs.List.{list_any, starts_with}
 use Rattle.std.specs.Str.{bytes_eq}
 use Rattle.std.proofs.lemmas.Slice.Eq.{bytes_eq-Decides, starts_is}
 use Rattle.std.proofs.lemmas.Bool.Decides.{Decides-eqb}
 use Rattle.sd_words.specs.declared.names.OptionName.{OptionName}
 use Rattle.sd_words.specs.declared.names.OptionName.TheVariants as option
-use Rattle.sd_words.specs.OptionWords.{option_word, names_value, names_flag, valued_options}
+use Rattle.sd_words.specs.OptionWords.{option_word, has_value, names_value, names_flag, options}
 use Rattle.sd_words.proofs.CutWords.{is_whole}
-
--- none of the options is the one without a value
-abbrev Valued : List OptionName → Type 0
-Valued [] = Unit {0}
-Valued (o ∷ os) = (o ≢ option.NoOverlap) × Valued os
 
 either-true : (x y : Bool) → (x || y) ≡ true → (x ≡ true) ⊎ (y ≡ true)
 either-true true y h = inl refl
 either-true false y h = inr h
 
-valued_among : (os : List OptionName) (name : List ℕ) → Valued os → list_any (λ o. bytes_eq (option_word o) name) os ≡ true
+both-true : (x y : Bool) → (x && y) ≡ true → (x ≡ true) × (y ≡ true)
+both-true true y h = (refl, h)
+both-true false y h = absurd (cc)
+
+valued : (o : OptionName) → has_value o ≡ true → o ≢ option.NoOverlap
+valued o h = λ e.
+    let none : has_value o ≡ false = ap has_value e in
+    cc
+
+valued_among : (os : List OptionName) (name : List ℕ) → list_any (λ o. has_value o && bytes_eq (option_word o) name) os ≡ true
     → (o : OptionName) × (o ≢ option.NoOverlap) × (name ≡ option_word o)
-valued_among [] name v h = absurd (cc)
-valued_among (o ∷ os) name v h = elim (either-true (bytes_eq (option_word o) name) (list_any (λ p. bytes_eq (option_word p) name) os) h) [
-  | inl e ↦ (o, v.0, sym ((bytes_eq-Decides (option_word o) name).0 e))
-  | inr e ↦ valued_among os name v.1 e
+valued_among [] name h = absurd (cc)
+valued_among (o ∷ os) name h = elim (either-true (has_value o && bytes_eq (option_word o) name) (list_any (λ p. has_value p && bytes_eq (option_word p) name) os) h) [
+  | inl e ↦
+      let both = both-true (has_value o) (bytes_eq (option_word o) name) e in
+      (o, valued o both.0, sym ((bytes_eq-Decides (option_word o) name).0 both.1))
+  | inr e ↦ valued_among os name e
 ]
 
 -- a name of an option that has a value
 pub names_value-is : (name : List ℕ) → names_value name ≡ true → (o : OptionName) × (o ≢ option.NoOverlap) × (name ≡ option_word o)
 unfolding names_value
-names_value-is name h = valued_among valued_options name ((λ e. cc), ((λ e. cc), ((λ e. cc), ((λ e. cc), ((λ e. cc), ((λ e. cc), ((λ e. cc), ((λ e. cc), ((λ e. cc), ((λ e. cc), ((λ e. cc), ((λ e. cc), tt)))))))))))) h
+names_value-is name h = valued_among options name h
 
 pub names_value-of : (o : OptionName) → o ≢ option.NoOverlap → names_value (option_word o) ≡ true
 unfolding names_value option_word

@@ -1,6 +1,6 @@
 -- `clap` reads words that are well spelled: it takes them, and finds the value of each option.
 use Rattle.std.proofs.Common.{◌≡◌, ◌≢◌, ℕ, Bool, true, false, not, cond, ◌||◌, inl, inr, List, [], ◌∷◌, ◌++◌, map, codes, nat_eq, Option, Some, None, Ok, refl, sym, ap, ap₂, ◌∙◌}
-use Rattle.std.specs.List.{fold, list_all}
+use Rattle.std.specs.List.{filter, fold, list_all}
 use Rattle.std.specs.Str.{bytes_eq}
 use Rattle.std.proofs.lemmas.List.{append-nil, map-append}
 use Rattle.std.proofs.lemmas.Slice.Eq.{bytes_eq-Decides}
@@ -15,7 +15,7 @@ use Rattle.clap.specs.declared.parser.matches.Found.{Found}
 use Rattle.clap.specs.declared.parser.matches.ValueSource.TheVariants.{CommandLine, DefaultValue}
 use Rattle.sd_words.specs.declared.names.OptionName.{OptionName}
 use Rattle.sd_words.specs.declared.names.OptionName.TheVariants as opt
-use Rattle.sd_words.specs.OptionWords.{option_word, names_flag, names_value, valued_options}
+use Rattle.sd_words.specs.OptionWords.{option_word, has_value, names_flag, names_value, options}
 use Rattle.sd_words.specs.Values.{is_value}
 use Rattle.sd_words.specs.Spelling.{Setting, SpellsValue, SpellsFlag, Spells, SplitInto}
 use Rattle.sd_words.specs.Reading.{Progress, is_taken, finished as done_when, with_word, with_words, settings_of}
@@ -58,7 +58,11 @@ once : shape.args_override_self ≡ false
 unfolding shape command_of_options empty_command
 once = refl
 
-rules-are : rules ≡ map text_rule (map option_word valued_options) ++ flag_rule ∷ []
+-- the words of the options that have a value
+abbrev valued_words : List (List ℕ)
+valued_words = map option_word (filter has_value options)
+
+rules-are : rules ≡ map text_rule valued_words ++ flag_rule ∷ []
 unfolding shape command_of_options empty_command argument_of argument action_for option_word
 rules-are = refl
 
@@ -446,7 +450,7 @@ rows-found words settings e =
     let noted : finished rules (walk rules [] nothing_held words).held ≡ fold with_default (shown_all settings) rules =
     ap (λ (w : Walk). finished rules w.held) f.is ∙ ap (λ rows. fold with_default rows rules) f.noted in
     let last : fold with_default (shown_all settings) rules ≡ shown_all settings ++ cond (has_row flag_word (shown_all settings)) [] (default_row ∷ []) =
-    ap (fold with_default (shown_all settings)) rules-are ∙ text-defaults (map option_word valued_options) (shown_all settings) (flag_rule ∷ []) ∙ with-flag settings _ refl in
+    ap (fold with_default (shown_all settings)) rules-are ∙ text-defaults valued_words (shown_all settings) (flag_rule ∷ []) ∙ with-flag settings _ refl in
     rw (is-built, all-words words) (noted ∙ last ∙ ap (λ b. shown_all settings ++ cond b [] (default_row ∷ [])) (has-shown flag_word settings))
 
 first-here : (n v : List ℕ) (r : Row) (rest : List Row) → bytes_eq r.id n ≡ true → r.values ≡ v ∷ [] → first_of n (r ∷ rest) ≡ Some v

@@ -1,5 +1,5 @@
 -- The numbers that are asked for lie within their ranges.
-use Rattle.std.proofs.Common.{◌≡◌, ℕ, ◌≤◌, Bool, true, false, ◌&&◌, List, [], ◌∷◌, ◌++◌, length, Option, Some, None, All, cond, refl, subst, lit≤}
+use Rattle.std.proofs.Common.{◌≡◌, ℕ, ◌≤◌, Bool, true, false, ◌&&◌, List, [], ◌∷◌, ◌++◌, length, Option, Some, None, All, cond, refl, sym, subst, lit≤}
 use Rattle.std.specs.List.{list_any, position_or_len, before_first, after_first}
 use Rattle.std.specs.Option.{option_map}
 use Rattle.std.specs.Str.{bytes_eq}
@@ -7,13 +7,18 @@ use Rattle.std.proofs.lemmas.List.Elements.{All-nil, All-push}
 use Rattle.std.proofs.lemmas.Bool.{leb-true}
 use Rattle.std.specs.Prelude.{◌==◌, nat_le, nat_lt, unwrap_or, option_and_then}
 use Rattle.sd_base.specs.declared.limits.TheConstants.{ACTORS, CAPACITY, DISTRIBUTIONS, LEAST_DISTRIBUTIONS, LEAST_ROUNDS, LEAST_STATES, ROUNDS, STATES, STORAGE, USUAL_DISTRIBUTIONS, USUAL_STATES}
-use Rattle.sd_words.specs.declared.making.TheConstants.{LEAST_ACTORS, USUAL_ACTORS}
+use Rattle.sd_words.specs.declared.table.TheConstants.{LEAST_ACTORS, USUAL_ACTORS}
+use Rattle.sd_words.specs.declared.form.Form.{Form}
+use Rattle.sd_words.specs.declared.form.Form.TheVariants as form
+use Rattle.sd_words.specs.declared.form.Value.{Value}
+use Rattle.sd_words.specs.declared.form.Value.TheVariants as read_value
 use Rattle.sd_words.specs.declared.names.OptionName.{OptionName}
 use Rattle.sd_words.specs.declared.names.OptionName.TheVariants as option
 use Rattle.sd_words.specs.declared.names.Algorithm.{Algorithm}
 use Rattle.sd_words.specs.declared.names.Algorithm.TheVariants as algorithm
 use Rattle.sd_words.specs.Values.{is_decimal, number as value, number_within}
-use Rattle.sd_words.specs.Asked.{AreLimits, AreMadeActors, AreRounds, AreStates, actors_of, limit_of, IsWithinLimits, Values, capacities_of, limits_of, number_of, request_for, rounds_of, states_of}
+use Rattle.sd_words.specs.Forms.{read}
+use Rattle.sd_words.specs.Asked.{AreLimits, AreMadeActors, AreRead, AreRounds, AreStates, IsWithinLimits, Readings, Values, actors_of, buffers_in, limits_of, number_or, read_as, readings, request_for, standing}
 use Rattle.sd_words.specs.Buffers.{Buffer, buffer_of, buffers_of, named_number, with_buffer, with_parts}
 use Rattle.escapes.specs.SpelledNames.{unescaped}
 
@@ -21,38 +26,44 @@ module _ (least greatest usual : ℕ) (above : least ≤ usual) (below : usual �
   abbrev Within : ℕ → Type 0
   Within n = (least ≤ n) × (n ≤ greatest)
 
-  tested : (n : ℕ) (decimal low high : Bool) → nat_le least n ≡ low → nat_le n greatest ≡ high → Within (unwrap_or (cond (decimal && (low && high)) (Some n) None) usual)
+  tested : (n : ℕ) (decimal low high : Bool) → nat_le least n ≡ low → nat_le n greatest ≡ high
+      → Within (number_or usual (option_map (λ k. read_value.Number k) (cond (decimal && (low && high)) (Some n) None)))
   tested n true true true p q = (leb-true least n p, leb-true n greatest q)
   tested n true true false p q = (above, below)
   tested n true false high p q = (above, below)
   tested n false low high p q = (above, below)
 
-  given : (o : Option (List ℕ)) → Within (unwrap_or (option_and_then (number_within least greatest) o) usual)
-  unfolding number_within
+  given : (text : Option (List ℕ)) → Within (number_or usual (option_and_then (read (form.Number least greatest)) text))
+  unfolding read number_within
   given None = (above, below)
   given (Some text) = tested (value text) (is_decimal text) (nat_le least (value text)) (nat_le (value text) greatest) refl refl
 
-  number-given : (o : OptionName) (values : Values) → Within (number_of o least greatest usual values)
-  unfolding number_of
-  number-given o values = given (values o)
+-- what is made of a value by a form
+abbrev By : Form → Option (List ℕ) → Option Value
+By form text = option_and_then (read form) text
 
-states-given : (values : Values) → AreStates (states_of values)
-states-given values = number-given LEAST_STATES STATES USUAL_STATES (lit≤ tt) (lit≤ tt) option.States values
+states-read : (text : Option (List ℕ)) → AreStates (number_or USUAL_STATES (By (form.Number LEAST_STATES STATES) text))
+states-read text = given LEAST_STATES STATES USUAL_STATES (lit≤ tt) (lit≤ tt) text
 
-rounds-given : (values : Values) → AreRounds (rounds_of values)
-rounds-given values = number-given LEAST_ROUNDS ROUNDS LEAST_ROUNDS (lit≤ tt) (lit≤ tt) option.Rounds values
+rounds-read : (text : Option (List ℕ)) → AreRounds (number_or LEAST_ROUNDS (By (form.Number LEAST_ROUNDS ROUNDS) text))
+rounds-read text = given LEAST_ROUNDS ROUNDS LEAST_ROUNDS (lit≤ tt) (lit≤ tt) text
 
-limit-given : (values : Values) → limit_of values ≤ STORAGE
-limit-given values = (number-given 0 STORAGE 0 (lit≤ tt) (lit≤ tt) option.Limit values).1
+limit-read : (text : Option (List ℕ)) → number_or 0 (By (form.Number 0 STORAGE) text) ≤ STORAGE
+limit-read text = (given 0 STORAGE 0 (lit≤ tt) (lit≤ tt) text).1
 
-pub actors-given : (values : Values) → AreMadeActors (actors_of values)
-actors-given values = number-given LEAST_ACTORS ACTORS USUAL_ACTORS (lit≤ tt) (lit≤ tt) option.Actors values
+made-actors : (text : Option (List ℕ)) → AreMadeActors (number_or USUAL_ACTORS (By (form.Number LEAST_ACTORS ACTORS) text))
+made-actors text = given LEAST_ACTORS ACTORS USUAL_ACTORS (lit≤ tt) (lit≤ tt) text
 
-limits-given : (values : Values) → AreLimits (limits_of values)
-limits-given values = record {
-  total = limit-given values;
-  states = states-given values;
-  distributions = number-given LEAST_DISTRIBUTIONS DISTRIBUTIONS USUAL_DISTRIBUTIONS (lit≤ tt) (lit≤ tt) option.Distributions values;
+pub actors-read : (r : Readings) → AreRead algorithm.Generate r → AreMadeActors (actors_of r)
+unfolding standing read_as
+actors-read r h = subst (λ q. AreMadeActors (actors_of q)) (sym h.1) (made-actors (h.0 option.Actors))
+
+limits-read : (values : Values) → AreLimits (limits_of (readings algorithm.Storage values))
+unfolding standing read_as
+limits-read values = record {
+  total = limit-read (values option.Limit);
+  states = states-read (values option.States);
+  distributions = given LEAST_DISTRIBUTIONS DISTRIBUTIONS USUAL_DISTRIBUTIONS (lit≤ tt) (lit≤ tt) (values option.Distributions);
 }
 
 -- ---- buffers
@@ -117,27 +128,24 @@ all-small (p ∷ ps) bs cs is small = of (λ more. all-small ps more cs) (buffer
     of rest (Some b) at e = added rest b (parted p b at) (with_buffer bs b) refl e
     of rest None at e = absurd (cc)
 
-capacities-small : (values : Values) → AreSmall (capacities_of values)
-unfolding capacities_of buffers_of
-capacities-small values = given-small (values option.Buffers)
+buffers-small : (text : Option (List ℕ)) → AreSmall (buffers_in (By form.Buffers text))
+unfolding read buffers_of
+buffers-small None = none-small
+buffers-small (Some text) = of (buffers_of text) (λ bs is. all-small _ [] bs is none-small)
   where
-    or-none : (o : Option (List Buffer)) → ((bs : List Buffer) → o ≡ Some bs → AreSmall bs) → AreSmall (unwrap_or o [])
-    or-none (Some bs) small = small bs refl
-    or-none None small = none-small
+    of : (o : Option (List Buffer)) → ((bs : List Buffer) → o ≡ Some bs → AreSmall bs) → AreSmall (buffers_in (option_map (λ bs. read_value.Buffers bs) o))
+    of (Some bs) small = small bs refl
+    of None small = none-small
 
-    given-small : (o : Option (List ℕ)) → AreSmall (unwrap_or (option_and_then buffers_of o) [])
-    given-small (Some text) = or-none (buffers_of text) (λ bs is. all-small _ [] bs is none-small)
-    given-small None = none-small
-
-pub request-within : (a : Algorithm) (values : Values) → IsWithinLimits (request_for a values)
-unfolding request_for
+pub request-within : (a : Algorithm) (values : Values) → IsWithinLimits (request_for a (readings a values))
+unfolding request_for standing read_as
 request-within algorithm.Repetition values = tt
-request-within algorithm.Throughput values = (capacities-small values, states-given values)
-request-within algorithm.Storage values = limits-given values
+request-within algorithm.Throughput values = (buffers-small (values option.Buffers), states-read (values option.States))
+request-within algorithm.Storage values = limits-read values
 request-within algorithm.Scenario values = tt
 request-within algorithm.Check values = tt
-request-within algorithm.Generate values = (limit-given values, actors-given values)
+request-within algorithm.Generate values = (limit-read (values option.Limit), made-actors (values option.Actors))
 request-within algorithm.Convert values = tt
-request-within algorithm.Ordered values = (capacities-small values, states-given values)
-request-within algorithm.Expand values = capacities-small values
-request-within algorithm.Complete values = (capacities-small values, states-given values, rounds-given values)
+request-within algorithm.Expand values = buffers-small (values option.Buffers)
+request-within algorithm.Ordered values = (buffers-small (values option.Buffers), states-read (values option.States))
+request-within algorithm.Complete values = (buffers-small (values option.Buffers), states-read (values option.States), rounds-read (values option.Rounds))

@@ -1,7 +1,7 @@
--- One turn of the loop over the words, and of the one over the options.
-use Rattle.std.proofs.Common.{◌≡◌, ℕ, ◌+◌, ◌<◌, ◌≤◌, List, ◌∷◌, length, get_or, drop, Result, Ok, Err, sym, ap, ◌∙◌, add-one, drop-cons}
+-- One turn of the loop over the words, and of those over the options.
+use Rattle.std.proofs.Common.{◌≡◌, ℕ, ◌+◌, ◌<◌, ◌≤◌, List, [], ◌∷◌, ◌++◌, length, map, get_or, drop, Result, Ok, Err, sym, ap, ◌∙◌, add-one, append_assoc, drop-cons}
 use Rattle.std.specs.List.{fold}
-use Rattle.std.proofs.lemmas.List.{drop_all}
+use Rattle.std.proofs.lemmas.List.{append-nil, drop_all}
 use Rattle.sd_words.specs.declared.names.OptionName.{OptionName}
 use Rattle.sd_words.specs.declared.names.Algorithm.{Algorithm}
 use Rattle.sd_words.specs.declared.request.UsageCause.{UsageCause}
@@ -61,3 +61,13 @@ pub fold-at : {A X : Type 0} (f : A → X → A) (a : A) (xs : List X) (i : ℕ)
 fold-at f a xs i d lt =
     let first : drop i xs ≡ get_or xs i d ∷ drop (i + 1) xs = rw add-one (drop-cons xs i d lt) in
     ap (fold f a) first
+
+-- one turn of a loop that maps
+pub map-at : {X Y : Type 0} (f : X → Y) (done : List Y) (xs : List X) (i : ℕ) (d : X) → i < length xs
+    → (done ++ f (get_or xs i d) ∷ []) ++ map f (drop (i + 1) xs) ≡ done ++ map f (drop i xs)
+map-at f done xs i d lt =
+    let first : drop i xs ≡ get_or xs i d ∷ drop (i + 1) xs = rw add-one (drop-cons xs i d lt) in
+    append_assoc done (f (get_or xs i d) ∷ []) (map f (drop (i + 1) xs)) ∙ sym (ap (λ l. done ++ map f l) first)
+
+pub map-end : {X Y : Type 0} (f : X → Y) (done : List Y) (xs : List X) (i : ℕ) → length xs ≤ i → done ++ map f (drop i xs) ≡ done
+map-end f done xs i past = ap (λ l. done ++ map f l) (drop_all i xs past) ∙ append-nil done

@@ -3,12 +3,15 @@ use Rattle.std.specs.Prelude.{All, ◌≡◌, ◌≤◌, ℕ, Bool, true, false,
 use Rattle.std.specs.Str.{bytes_eq}
 use Rattle.sd_base.specs.declared.limits.TheConstants.{ACTORS, CAPACITY, DISTRIBUTIONS, LEAST_DISTRIBUTIONS, LEAST_ROUNDS, LEAST_STATES, ROUNDS, STATES, STORAGE, USUAL_DISTRIBUTIONS, USUAL_STATES}
 use Rattle.sd_base.specs.declared.limits.Limits.{Limits}
-use Rattle.sd_words.specs.declared.making.TheConstants.{LEAST_ACTORS, SEED, USUAL_ACTORS}
+use Rattle.sd_words.specs.declared.table.TheConstants.{LEAST_ACTORS, SEED, USUAL_ACTORS}
 use Rattle.sd_words.specs.declared.names.OptionName.{OptionName}
 use Rattle.sd_words.specs.declared.names.OptionName.TheVariants as option
 use Rattle.sd_words.specs.declared.names.Algorithm.{Algorithm}
 use Rattle.sd_words.specs.declared.names.Algorithm.TheVariants as algorithm
+use Rattle.sd_words.specs.declared.form.Form.{Form}
 use Rattle.sd_words.specs.declared.form.Form.TheVariants as form
+use Rattle.sd_words.specs.declared.form.Value.{Value}
+use Rattle.sd_words.specs.declared.form.Value.TheVariants as value
 use Rattle.sd_words.specs.declared.request.Request.{Request}
 use Rattle.sd_words.specs.declared.request.Request.TheVariants as request
 use Rattle.sd_words.specs.declared.request.UsageCause.{UsageCause}
@@ -17,11 +20,9 @@ use Rattle.sd_words.specs.declared.request.WordsError.{WordsError}
 use Rattle.sd_words.specs.declared.request.WordsError.TheVariants.{Usage, NoMemory}
 use Rattle.sd_words.specs.declared.table.Standing.{Standing}
 use Rattle.sd_words.specs.declared.table.Standing.TheVariants.{Required, Allowed, Foreign}
-use Rattle.sd_words.specs.OptionWords.{option_word, algorithm_named}
-use Rattle.sd_words.specs.Values.{number_within}
-use Rattle.sd_words.specs.Forms.{fits}
-use Rattle.sd_words.specs.Buffers.{Buffer, buffers_of}
-use Rattle.sd_words.specs.OrderLists.{orders_of}
+use Rattle.sd_words.specs.OptionWords.{option_word, options, algorithm_named}
+use Rattle.sd_words.specs.Forms.{fits, made_of, put_for, read}
+use Rattle.sd_words.specs.Buffers.{Buffer}
 use Rattle.sd_words.specs.Spelling.{Setting}
 use Rattle.sd_words.specs.Reading.{◌>>=◌, settings_of}
 
@@ -55,48 +56,51 @@ algorithm_in (Some word) = known (algorithm_named word)
 unfoldable pub algorithm_of : Values → Result Algorithm UsageCause
 algorithm_of values = algorithm_in (values option.Algo)
 
--- the options beside `--algo`, in the order in which they are tested
-abbrev pub options : List OptionName
-options = option.Graph ∷ option.Certificate ∷ option.Buffers ∷ option.States ∷ option.Distributions ∷ option.Limit ∷ option.Seed ∷ option.Actors ∷ option.Output ∷ option.Order ∷ option.Rounds ∷ option.NoOverlap ∷ []
-
 -- the table of the algorithms and their options
 unfoldable pub standing : Algorithm → OptionName → Standing
-standing algorithm.Repetition option.Graph = Required form.Any
-standing algorithm.Throughput option.Graph = Required form.Any
-standing algorithm.Throughput option.Certificate = Allowed form.Any
+standing a option.Algo = Required form.Text
+standing algorithm.Repetition option.Graph = Required form.Text
+standing algorithm.Throughput option.Graph = Required form.Text
+standing algorithm.Throughput option.Certificate = Allowed (form.Certificate option.Graph)
 standing algorithm.Throughput option.Buffers = Allowed form.Buffers
 standing algorithm.Throughput option.States = Allowed (form.Number LEAST_STATES STATES)
-standing algorithm.Throughput option.NoOverlap = Allowed form.Any
-standing algorithm.Storage option.Graph = Required form.Any
-standing algorithm.Storage option.Certificate = Allowed form.Any
+standing algorithm.Throughput option.NoOverlap = Allowed form.Flag
+standing algorithm.Storage option.Graph = Required form.Text
+standing algorithm.Storage option.Certificate = Allowed (form.Certificate option.Graph)
 standing algorithm.Storage option.States = Allowed (form.Number LEAST_STATES STATES)
 standing algorithm.Storage option.Distributions = Allowed (form.Number LEAST_DISTRIBUTIONS DISTRIBUTIONS)
 standing algorithm.Storage option.Limit = Required (form.Number 0 STORAGE)
-standing algorithm.Storage option.NoOverlap = Allowed form.Any
-standing algorithm.Scenario option.Graph = Required form.Any
-standing algorithm.Scenario option.Certificate = Allowed form.Any
-standing algorithm.Check option.Graph = Required form.Any
-standing algorithm.Check option.Certificate = Required form.Any
+standing algorithm.Storage option.NoOverlap = Allowed form.Flag
+standing algorithm.Scenario option.Graph = Required form.Text
+standing algorithm.Scenario option.Certificate = Allowed (form.Certificate option.Graph)
+standing algorithm.Check option.Graph = Required form.Text
+standing algorithm.Check option.Certificate = Required form.Text
 standing algorithm.Generate option.Limit = Required (form.Number 0 STORAGE)
 standing algorithm.Generate option.Seed = Required (form.Number 0 SEED)
 standing algorithm.Generate option.Actors = Allowed (form.Number LEAST_ACTORS ACTORS)
-standing algorithm.Convert option.Certificate = Required form.Any
-standing algorithm.Convert option.Output = Required form.Any
-standing algorithm.Ordered option.Graph = Required form.Any
+standing algorithm.Convert option.Certificate = Required form.Text
+standing algorithm.Convert option.Output = Required (form.Output option.Certificate)
+standing algorithm.Expand option.Graph = Required form.Text
+standing algorithm.Expand option.Buffers = Allowed form.Buffers
+standing algorithm.Expand option.Output = Required (form.Output option.Graph)
+standing algorithm.Expand option.NoOverlap = Allowed form.Flag
+standing algorithm.Ordered option.Graph = Required form.Text
 standing algorithm.Ordered option.Buffers = Allowed form.Buffers
 standing algorithm.Ordered option.States = Allowed (form.Number LEAST_STATES STATES)
 standing algorithm.Ordered option.Order = Required form.Orders
-standing algorithm.Ordered option.NoOverlap = Allowed form.Any
-standing algorithm.Expand option.Graph = Required form.Any
-standing algorithm.Expand option.Buffers = Allowed form.Buffers
-standing algorithm.Expand option.Output = Required form.Any
-standing algorithm.Expand option.NoOverlap = Allowed form.Any
-standing algorithm.Complete option.Graph = Required form.Any
+standing algorithm.Ordered option.NoOverlap = Allowed form.Flag
+standing algorithm.Complete option.Graph = Required form.Text
 standing algorithm.Complete option.Buffers = Allowed form.Buffers
 standing algorithm.Complete option.States = Allowed (form.Number LEAST_STATES STATES)
 standing algorithm.Complete option.Rounds = Required (form.Number LEAST_ROUNDS ROUNDS)
-standing algorithm.Complete option.NoOverlap = Allowed form.Any
+standing algorithm.Complete option.NoOverlap = Allowed form.Flag
 standing a o = Foreign
+
+-- the form that an algorithm asks of an option that it has
+abbrev pub form_of : Standing → Option Form
+form_of (Required form) = Some form
+form_of (Allowed form) = Some form
+form_of Foreign = None
 
 -- a value is of the form that the table asks
 abbrev pub is_good : Standing → List ℕ → Bool
@@ -122,97 +126,109 @@ are_one w v = false
 unfoldable pub named_apart : OptionName → OptionName → Values → Result (Unit {0}) UsageCause
 named_apart o p values = if are_one (values o) (values p) then Err (BadValue o) else Ok tt
 
--- the option that names the file of which an output is made
-unfoldable pub input_of : Algorithm → OptionName
-input_of algorithm.Expand = option.Graph
-input_of a = option.Certificate
+-- an option has another value than the one that it has to differ from, where there is one
+unfoldable pub apart_from : Option OptionName → OptionName → Values → Result (Unit {0}) UsageCause
+apart_from None o values = Ok tt
+apart_from (Some p) o values = named_apart o p values
 
--- what is put as the output has another name than the file of which it is made
-unfoldable pub output_apart : Algorithm → OptionName → Values → Result (Unit {0}) UsageCause
-output_apart a option.Output values = named_apart option.Output (input_of a) values
-output_apart a o values = Ok tt
+-- the option whose file an option's output is made of
+abbrev pub source_of : Standing → Option OptionName
+source_of st = option_and_then made_of (form_of st)
 
 -- an option is as the table asks
 unfoldable pub checked : Algorithm → OptionName → Values → Result (Unit {0}) UsageCause
-checked a o values = judged (standing a o) a o (values o) >>= λ _. output_apart a o values
+checked a o values = judged (standing a o) a o (values o) >>= λ _. apart_from (source_of (standing a o)) o values
 
 -- the same of each of these options in turn
 unfoldable pub all_checked : Algorithm → Values → List OptionName → Result (Unit {0}) UsageCause
 all_checked a values [] = Ok tt
 all_checked a values (o ∷ os) = checked a o values >>= λ _. all_checked a values os
 
--- a certificate is put, where one is given
-unfoldable pub puts_certificate : Algorithm → Bool
-puts_certificate algorithm.Check = false
-puts_certificate a = true
+-- the option whose file the certificate is put for, where one is put
+abbrev pub certified : Standing → Option OptionName
+certified st = option_and_then put_for (form_of st)
 
--- then it has another name than the graph
+-- a certificate that is put has another name than the file that it is put for
 unfoldable pub certificate_apart : Algorithm → Values → Result (Unit {0}) UsageCause
-certificate_apart a values = if puts_certificate a then named_apart option.Certificate option.Graph values else Ok tt
+certificate_apart a values = apart_from (certified (standing a option.Certificate)) option.Certificate values
 
--- the options beside `--algo` are as the algorithm asks
+-- the options are as the algorithm asks
 unfoldable pub tested : Algorithm → Values → Result (Unit {0}) UsageCause
 tested a values = all_checked a values options >>= λ _. certificate_apart a values
 
--- the name of a file: a required option
-abbrev pub name_in : OptionName → Values → List ℕ
-name_in o values = unwrap_or (values o) []
+-- what is made of the value of each option that the algorithm has
+abbrev pub Readings : Type 0
+Readings = OptionName → Option Value
 
--- the name under which a certificate is put
-abbrev pub certificate_of : Values → Option (List ℕ)
-certificate_of values = values option.Certificate
+-- a value is read by the form that the table asks
+unfoldable pub read_as : Standing → Option (List ℕ) → Option Value
+read_as (Required form) given = option_and_then (read form) given
+read_as (Allowed form) given = option_and_then (read form) given
+read_as Foreign given = None
 
--- the number that is asked for within a range, or else the usual one
-unfoldable pub number_of : OptionName → ℕ → ℕ → ℕ → Values → ℕ
-number_of o least greatest usual values = unwrap_or (option_and_then (number_within least greatest) (values o)) usual
+abbrev pub readings : Algorithm → Values → Readings
+readings a values = λ o. read_as (standing a o) (values o)
 
-abbrev pub states_of : Values → ℕ
-states_of values = number_of option.States LEAST_STATES STATES USUAL_STATES values
+-- these are read of some values, as the algorithm asks
+abbrev pub AreRead : Algorithm → Readings → Type 0
+AreRead a r = (values : Values) × (r ≡ readings a values)
 
--- the channels that are asked to have a capacity
-unfoldable pub capacities_of : Values → List Buffer
-capacities_of values = unwrap_or (option_and_then buffers_of (values option.Buffers)) []
+-- the text, where one is read
+abbrev pub text_in : Option Value → Option (List ℕ)
+text_in (Some (value.Text text)) = Some text
+text_in v = None
 
--- the actors by processor: a required option
-unfoldable pub orders_in : Values → List (List (List ℕ))
-orders_in values = unwrap_or (option_and_then orders_of (values option.Order)) []
+-- the number, where one is read
+abbrev pub number_in : Option Value → Option ℕ
+number_in (Some (value.Number n)) = Some n
+number_in v = None
 
--- the greatest storage: a required option, so that no other number stands for it
-abbrev pub limit_of : Values → ℕ
-limit_of values = number_of option.Limit 0 STORAGE 0 values
+-- the channels that are given a capacity; none, where none are read
+abbrev pub buffers_in : Option Value → List Buffer
+buffers_in (Some (value.Buffers buffers)) = buffers
+buffers_in v = []
+
+-- the actors by processor; none stand for a required option, which is there
+abbrev pub orders_in : Option Value → List (List (List ℕ))
+orders_in (Some (value.Orders orders)) = orders
+orders_in v = []
+
+-- the name of a file; no bytes stand for a required option, which is there
+abbrev pub name_in : Option Value → List ℕ
+name_in v = unwrap_or (text_in v) []
+
+-- the number that is read, or else the usual one; for a required option, which is there, any is good
+abbrev pub number_or : ℕ → Option Value → ℕ
+number_or usual v = unwrap_or (number_in v) usual
+
+-- the bound on the states of an execution
+abbrev pub states_of : Readings → ℕ
+states_of r = number_or USUAL_STATES (r option.States)
 
 -- what an exploration may use
-abbrev pub limits_of : Values → Limits
-limits_of values = record {
-  total = limit_of values;
-  states = states_of values;
-  distributions = number_of option.Distributions LEAST_DISTRIBUTIONS DISTRIBUTIONS USUAL_DISTRIBUTIONS values;
+abbrev pub limits_of : Readings → Limits
+limits_of r = record {
+  total = number_or 0 (r option.Limit);
+  states = states_of r;
+  distributions = number_or USUAL_DISTRIBUTIONS (r option.Distributions);
 }
 
--- the number that a graph is made from: a required option
-abbrev pub seed_of : Values → ℕ
-seed_of values = number_of option.Seed 0 SEED 0 values
-
--- the rounds that are to be completed: a required option
-abbrev pub rounds_of : Values → ℕ
-rounds_of values = number_of option.Rounds LEAST_ROUNDS ROUNDS LEAST_ROUNDS values
-
 -- the actors of a graph that is made
-abbrev pub actors_of : Values → ℕ
-actors_of values = number_of option.Actors LEAST_ACTORS ACTORS USUAL_ACTORS values
+abbrev pub actors_of : Readings → ℕ
+actors_of r = number_or USUAL_ACTORS (r option.Actors)
 
--- the request of values that are as the algorithm asks
-unfoldable pub request_for : Algorithm → Values → Request
-request_for algorithm.Repetition values = request.Repetition (name_in option.Graph values)
-request_for algorithm.Throughput values = request.Throughput (name_in option.Graph values) (capacities_of values) (is_some (values option.NoOverlap)) (states_of values) (certificate_of values)
-request_for algorithm.Storage values = request.Storage (name_in option.Graph values) (limits_of values) (is_some (values option.NoOverlap)) (certificate_of values)
-request_for algorithm.Scenario values = request.Scenario (name_in option.Graph values) (certificate_of values)
-request_for algorithm.Check values = request.Check (name_in option.Graph values) (name_in option.Certificate values)
-request_for algorithm.Generate values = request.Generate (seed_of values) (limit_of values) (actors_of values)
-request_for algorithm.Convert values = request.Convert (name_in option.Certificate values) (name_in option.Output values)
-request_for algorithm.Ordered values = request.Ordered (name_in option.Graph values) (orders_in values) (capacities_of values) (is_some (values option.NoOverlap)) (states_of values)
-request_for algorithm.Expand values = request.Expand (name_in option.Graph values) (name_in option.Output values) (capacities_of values) (is_some (values option.NoOverlap))
-request_for algorithm.Complete values = request.Complete (name_in option.Graph values) (rounds_of values) (capacities_of values) (is_some (values option.NoOverlap)) (states_of values)
+-- the request of values that are read
+unfoldable pub request_for : Algorithm → Readings → Request
+request_for algorithm.Repetition r = request.Repetition (name_in (r option.Graph))
+request_for algorithm.Throughput r = request.Throughput (name_in (r option.Graph)) (buffers_in (r option.Buffers)) (is_some (r option.NoOverlap)) (states_of r) (text_in (r option.Certificate))
+request_for algorithm.Storage r = request.Storage (name_in (r option.Graph)) (limits_of r) (is_some (r option.NoOverlap)) (text_in (r option.Certificate))
+request_for algorithm.Scenario r = request.Scenario (name_in (r option.Graph)) (text_in (r option.Certificate))
+request_for algorithm.Check r = request.Check (name_in (r option.Graph)) (name_in (r option.Certificate))
+request_for algorithm.Generate r = request.Generate (number_or 0 (r option.Seed)) (number_or 0 (r option.Limit)) (actors_of r)
+request_for algorithm.Convert r = request.Convert (name_in (r option.Certificate)) (name_in (r option.Output))
+request_for algorithm.Expand r = request.Expand (name_in (r option.Graph)) (name_in (r option.Output)) (buffers_in (r option.Buffers)) (is_some (r option.NoOverlap))
+request_for algorithm.Ordered r = request.Ordered (name_in (r option.Graph)) (orders_in (r option.Order)) (buffers_in (r option.Buffers)) (is_some (r option.NoOverlap)) (states_of r)
+request_for algorithm.Complete r = request.Complete (name_in (r option.Graph)) (number_or LEAST_ROUNDS (r option.Rounds)) (buffers_in (r option.Buffers)) (is_some (r option.NoOverlap)) (states_of r)
 
 -- a number of states is within its range
 abbrev pub AreStates : ℕ → Type 0
@@ -250,7 +266,7 @@ unfoldable pub request_from : Values → Result Request UsageCause
 request_from values = do
   a ← algorithm_of values
   _ ← tested a values
-  Ok (request_for a values)
+  Ok (request_for a (readings a values))
 
 -- what words ask for
 unfoldable pub request_of : List (List ℕ) → Result Request UsageCause

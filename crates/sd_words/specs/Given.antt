@@ -10,7 +10,7 @@ use Rattle.sd_words.specs.declared.names.OptionName.{OptionName}
 use Rattle.sd_words.specs.declared.names.OptionName.TheVariants as option
 use Rattle.sd_words.specs.declared.given.Given.{Given}
 use Rattle.sd_words.specs.Asked.{Values}
-use Rattle.sd_words.specs.OptionWords.{option_word, valued_options}
+use Rattle.sd_words.specs.OptionWords.{option_word, options}
 
 -- what the argument of an option does
 unfoldable pub action_for : OptionName → ArgAction
@@ -33,7 +33,7 @@ empty_command =
 
 -- an argument for each option
 unfoldable pub command_of_options : App
-command_of_options = with_rule (fold (λ app o. with_rule app (argument_of o)) empty_command valued_options) (argument_of option.NoOverlap)
+command_of_options = fold (λ app o. with_rule app (argument_of o)) empty_command options
 
 -- the option without a value is there where its argument is true
 unfoldable pub flag_value : Option (List ℕ) → Option (List ℕ)

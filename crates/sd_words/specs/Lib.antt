@@ -8,4 +8,5 @@ pub mod Asked
 pub mod Rules
 pub mod Parts
 pub mod Given
+pub mod Readings
 pub mod OptionWords

@@ -1,5 +1,5 @@
 -- The words of options and algorithms.
-use Rattle.std.specs.Prelude.{ℕ, Bool, List, [], ◌∷◌, Option, codes}
+use Rattle.std.specs.Prelude.{ℕ, Bool, true, false, ◌&&◌, List, [], ◌∷◌, Option, codes}
 use Rattle.std.specs.List.{find, list_any}
 use Rattle.std.specs.Str.{bytes_eq}
 use Rattle.sd_words.specs.declared.names.OptionName.{OptionName}
@@ -23,13 +23,18 @@ option_word option.Order = codes "order"
 option_word option.Rounds = codes "rounds"
 option_word option.NoOverlap = codes "no-overlap"
 
--- the options that have a value
-abbrev pub valued_options : List OptionName
-valued_options = option.Algo ∷ option.Graph ∷ option.Certificate ∷ option.Buffers ∷ option.States ∷ option.Distributions ∷ option.Limit ∷ option.Seed ∷ option.Actors ∷ option.Output ∷ option.Order ∷ option.Rounds ∷ []
+-- the options, in the order in which they are tested
+abbrev pub options : List OptionName
+options = option.Algo ∷ option.Graph ∷ option.Certificate ∷ option.Buffers ∷ option.States ∷ option.Distributions ∷ option.Limit ∷ option.Seed ∷ option.Actors ∷ option.Output ∷ option.Order ∷ option.Rounds ∷ option.NoOverlap ∷ []
+
+-- an option has a value
+abbrev pub has_value : OptionName → Bool
+has_value option.NoOverlap = false
+has_value o = true
 
 -- an option that has a value is named so
 unfoldable pub names_value : List ℕ → Bool
-names_value name = list_any (λ o. bytes_eq (option_word o) name) valued_options
+names_value name = list_any (λ o. has_value o && bytes_eq (option_word o) name) options
 
 -- the option that has no value is named so
 unfoldable pub names_flag : List ℕ → Bool

@@ -1,5 +1,5 @@
 -- When words ask for a request, and when for nothing and why, in plain words.
-use Rattle.std.specs.Prelude.{◌≡◌, ◌≢◌, ℕ, ◌⊎◌, true, false, List, [], ◌∷◌, ◌++◌, Some, None}
+use Rattle.std.specs.Prelude.{◌≡◌, ◌≢◌, ℕ, ◌⊎◌, false, List, [], ◌∷◌, ◌++◌, Some, None}
 use Rattle.sd_words.specs.declared.names.OptionName.{OptionName}
 use Rattle.sd_words.specs.declared.names.OptionName.TheVariants as option
 use Rattle.sd_words.specs.declared.names.Algorithm.{Algorithm}
@@ -7,24 +7,23 @@ use Rattle.sd_words.specs.declared.request.Request.{Request}
 use Rattle.sd_words.specs.declared.request.UsageCause.{UsageCause}
 use Rattle.sd_words.specs.declared.request.UsageCause.TheVariants.{Words, Missing, NotFor, BadValue}
 use Rattle.sd_words.specs.declared.form.Form.{Form}
-use Rattle.sd_words.specs.declared.form.Form.TheVariants as form
 use Rattle.sd_words.specs.declared.table.Standing.TheVariants.{Required, Foreign}
-use Rattle.sd_words.specs.OptionWords.{algorithm_word}
+use Rattle.sd_words.specs.OptionWords.{algorithm_word, options}
 use Rattle.sd_words.specs.Spelling.{Setting, IsSpelling}
-use Rattle.sd_words.specs.Asked.{value_of, values_in, standing, input_of, is_good, options, puts_certificate, request_for}
+use Rattle.sd_words.specs.Asked.{value_of, values_in, standing, source_of, is_good, certified, readings, request_for}
 
 -- a file that is to be put has the name of one that is read
 abbrev pub IsNamedAs : List Setting → OptionName → OptionName → Type 0
 IsNamedAs settings o p = (w : List ℕ) × (value_of o settings ≡ Some w) × (value_of p settings ≡ Some w)
 
 -- what is wrong with an option: it is required and isn't there; or it is there and the algorithm doesn't have it; or the
--- algorithm has it and its value isn't good; or it is the output, and has the name of the file of which it is made
+-- algorithm has it and its value isn't good; or it is an output, and has the name of the file of which it is made
 abbrev pub IsFault : Algorithm → List Setting → OptionName → UsageCause → Type 0
 IsFault a settings o cause =
     ((form : Form) × (standing a o ≡ Required form) × (value_of o settings ≡ None) × (cause ≡ Missing o))
     ⊎ (((v : List ℕ) × (standing a o ≡ Foreign) × (value_of o settings ≡ Some v) × (cause ≡ NotFor o a))
     ⊎ (((v : List ℕ) × (standing a o ≢ Foreign) × (value_of o settings ≡ Some v) × (is_good (standing a o) v ≡ false) × (cause ≡ BadValue o))
-    ⊎ ((standing a o ≡ Required form.Any) × (o ≡ option.Output) × IsNamedAs settings option.Output (input_of a) × (cause ≡ BadValue o))))
+    ⊎ ((p : OptionName) × (source_of (standing a o) ≡ Some p) × IsNamedAs settings o p × (cause ≡ BadValue o))))
 
 -- nothing is wrong with any of these options
 abbrev pub AllFit : Algorithm → List Setting → List OptionName → Type 0
@@ -36,9 +35,9 @@ abbrev pub IsFirstFault : Algorithm → List Setting → List OptionName → Usa
 IsFirstFault a settings os cause =
     (before : List OptionName) × (o : OptionName) × (after : List OptionName) × (os ≡ before ++ o ∷ after) × AllFit a settings before × IsFault a settings o cause
 
--- a certificate that is put is to have the name of the graph
+-- a certificate that is put is to have the name of the file that it is put for
 abbrev pub IsNamedTwice : Algorithm → List Setting → Type 0
-IsNamedTwice a settings = (puts_certificate a ≡ true) × IsNamedAs settings option.Certificate option.Graph
+IsNamedTwice a settings = (p : OptionName) × (certified (standing a option.Certificate) ≡ Some p) × IsNamedAs settings option.Certificate p
 
 -- the first thing that is wrong with the options of an algorithm: an option that doesn't fit, or else the name of the certificate
 abbrev pub IsWrong : Algorithm → List Setting → UsageCause → Type 0
@@ -49,7 +48,7 @@ IsWrong a settings cause =
 abbrev pub Asks : List (List ℕ) → Request → Type 0
 Asks words request =
     (settings : List Setting) × (a : Algorithm) × IsSpelling words settings × (value_of option.Algo settings ≡ Some (algorithm_word a))
-    × AllFit a settings options × (IsNamedTwice a settings → ⊥) × (request ≡ request_for a (values_in settings))
+    × AllFit a settings options × (IsNamedTwice a settings → ⊥) × (request ≡ request_for a (readings a (values_in settings)))
 
 -- the words aren't well spelled
 abbrev pub AreMisspelled : List (List ℕ) → Type 0

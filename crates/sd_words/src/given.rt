@@ -10,7 +10,7 @@ ghost use Rattle.sd_words.specs.Asked.{values_in};
 ghost use Rattle.sd_words.specs.Given.{action_for, argument, argument_of, command_of_options, empty_command, flag_value, values_given};
 
 use crate::OptionName;
-use crate::names::WITH_VALUE;
+use crate::names::OPTIONS;
 use clap::error::ErrorKind;
 use clap::{Arg, ArgAction, ArgMatches, Command, Error};
 use sd_base::Text;
@@ -69,10 +69,10 @@ fn command_of_options<'a>(alloc: Global) -> Result<Command<'a>, AllocError>
     ensures { IfOk result (λ c. app_of c ≡ command_of_options) }
 {
     let mut command = empty_command(alloc);
-    for option in &WITH_VALUE {
+    for option in &OPTIONS {
         command = with_option(alloc, command, *option)?;
     }
-    with_option(alloc, command, OptionName::NoOverlap)
+    Ok(command)
 }
 
 /// The value of the option without a value, which is there where its argument is true: by default it is false.

@@ -5,12 +5,14 @@ ghost use Rattle.std.specs.Prelude.{◌≡◌, IfOk, MatchResult, Ok};
 ghost use Rattle.sd_words.specs.Asked.{Fails, IsWithinLimits, request_of};
 
 mod buffers;
+mod checks;
 mod form;
 mod given;
 mod laws;
 mod making;
 mod names;
 mod orders;
+mod readings;
 mod request;
 mod spelling;
 mod table;
@@ -37,9 +39,9 @@ pub fn parse_words(alloc: Global, words: &[Text]) -> Result<Request, WordsError>
         Ok(given) => given,
         Err(error) => return Err(want_of_memory(error.kind())),
     };
-    let algo = table::algorithm_of(&given)?;
-    table::check_options(alloc, algo, &given)?;
-    Ok(table::request_for(alloc, algo, &given)?)
+    let algo = checks::algorithm_of(&given)?;
+    let values = checks::read_values(alloc, algo, &given)?;
+    Ok(making::request_for(alloc, algo, values)?)
 }
 
 /// `clap` refuses words that are well spelled for want of memory alone.

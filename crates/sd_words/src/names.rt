@@ -1,7 +1,7 @@
 //! Options and algorithms, by the words that name them.
 
 ghost use Rattle.std.specs.Prelude.{◌≡◌};
-ghost use Rattle.sd_words.specs.OptionWords.{algorithm_named, algorithm_word, names_flag, names_value, option_word};
+ghost use Rattle.sd_words.specs.OptionWords.{algorithm_named, algorithm_word, has_value, names_flag, names_value, option_word};
 
 /// An option of the command line; each but `NoOverlap` has a value. The words may give the options in any
 /// order; where they are tested one by one, it is in this order.
@@ -22,8 +22,8 @@ pub enum OptionName {
     NoOverlap,
 }
 
-/// The options that have a value.
-pub(crate) const WITH_VALUE: [OptionName; 12] = [
+/// The options, in the order in which they are tested.
+pub(crate) const OPTIONS: [OptionName; 13] = [
     OptionName::Algo,
     OptionName::Graph,
     OptionName::Certificate,
@@ -36,6 +36,7 @@ pub(crate) const WITH_VALUE: [OptionName; 12] = [
     OptionName::Output,
     OptionName::Order,
     OptionName::Rounds,
+    OptionName::NoOverlap,
 ];
 
 impl OptionName {
@@ -60,6 +61,16 @@ impl OptionName {
             OptionName::NoOverlap => "no-overlap",
         }
     }
+
+    /// Whether the option has a value.
+    fn has_value(&self) -> bool
+        ensures { result ≡ has_value self.now }
+    {
+        match self {
+            OptionName::NoOverlap => false,
+            _ => true,
+        }
+    }
 }
 
 /// Whether an option that has a value is named so.
@@ -67,7 +78,9 @@ impl OptionName {
 pub(crate) fn names_value(name: &str) -> bool
     ensures { result ≡ names_value name.now }
 {
-    WITH_VALUE.iter().any(|option| option.word() == name)
+    OPTIONS
+        .iter()
+        .any(|option| option.has_value() && option.word() == name)
 }
 
 /// Whether the option that has no value is named so.
