@@ -11,6 +11,7 @@ mod Expanding
 mod BoundedPaths
 mod Wanting
 mod CompleteNets
+mod ReadExpansions
 mod CompleteOrdered
 mod Bounds
 mod Complete

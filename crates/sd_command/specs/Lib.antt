@@ -23,6 +23,7 @@ pub mod Endings
 pub mod PutCertificates
 pub mod AcceptedCertificates
 pub mod KeptOrders
+pub mod PutExpansions
 pub mod ActorNames
 pub mod CertificateReadings
 pub mod Conversions
