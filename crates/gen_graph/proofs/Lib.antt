@@ -1,7 +1,7 @@
 mod OneMore
 mod Values
-mod ElementTexts
-mod TreeTexts
+pub mod ElementTexts
+pub mod TreeTexts
 pub mod MadeTables
 mod NumbersBack
 mod Listed
@@ -10,4 +10,4 @@ mod ChannelsBack
 mod TimesBack
 mod SizesBack
 mod PhasesBack
-mod TableBack
+pub mod TableBack

@@ -22,3 +22,4 @@ mod SharedSteps
 mod OneWorst
 mod CertificatesDecide
 mod SummariesDecide
+mod ReadExpansions

@@ -2,3 +2,4 @@ pub mod Endings
 pub mod AcceptedCertificates
 pub mod KeptOrders
 pub mod PutCertificates
+pub mod PutExpansions

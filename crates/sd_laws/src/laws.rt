@@ -1,6 +1,7 @@
 ghost use Rattle.sd_laws.specs.AcceptedCertificates.{PutsAreAccepted};
 ghost use Rattle.sd_laws.specs.KeptOrders.{OrdersAreKept};
 ghost use Rattle.sd_laws.specs.PutCertificates.{PutsAreValid};
+ghost use Rattle.sd_laws.specs.PutExpansions.{ExpansionsAreRead};
 ghost use Rattle.sd_laws.specs.Endings.{CheckIsComplete, CompleteIsComplete, ConvertIsComplete, DueIsAnswered, DueIsOne, ElseIsDone, ExpandIsComplete, GenerateIsComplete, OrderedIsComplete, RepetitionIsComplete, ScenarioIsComplete, StorageIsComplete, ThroughputIsComplete};
 
 use balance::one_answer;
@@ -18,6 +19,7 @@ use token_matrix::matrices_are_one;
 
 /// The words and files decide how a run ends, but for faults and want of memory; and what is put beside a rate, a
 /// trade-off or a worst rate is valid, and accepted by `check`. The rate by orders is the greatest of the schedules that keep them.
+/// What `expand` puts is read as the expansion.
 pub fn know_endings()
     ensures one { DueIsOne }
     ensures due { DueIsAnswered }
@@ -32,6 +34,7 @@ pub fn know_endings()
     ensures check { CheckIsComplete }
     ensures convert { ConvertIsComplete }
     ensures expand { ExpandIsComplete }
+    ensures read { ExpansionsAreRead }
     ensures ordered { OrderedIsComplete }
     ensures orders { OrdersAreKept }
     ensures complete { CompleteIsComplete }

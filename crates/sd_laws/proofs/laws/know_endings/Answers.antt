@@ -14,6 +14,7 @@ use Rattle.sd_laws.proofs.CompleteCertificates.{check_is_complete, convert_is_co
 use Rattle.sd_laws.proofs.CompleteNets.{complete_is_complete, expand_is_complete}
 use Rattle.sd_laws.proofs.CompleteOrdered.{ordered_is_complete, orders_are_kept}
 use Rattle.sd_laws.proofs.OneOrder.{OrderLaws}
+use Rattle.sd_laws.proofs.ReadExpansions.{expansions_are_read}
 use Rattle.sd_laws.proofs.CompleteOthers.{repetition_is_complete, scenario_is_complete}
 use Rattle.sd_laws.proofs.laws.know_endings.Goals as goal
 
@@ -98,6 +99,9 @@ returns-clause-scenario c = scenario_is_complete
 
 pub returns-clause-expand : goal.returns-clause-expand
 returns-clause-expand c = expand_is_complete
+
+pub returns-clause-read : goal.returns-clause-read
+returns-clause-read c = expansions_are_read (laws c) c.know_files.ensures.writable
 
 pub returns-clause-ordered : goal.returns-clause-ordered
 returns-clause-ordered c = ordered_is_complete (laws c) (orders c)
