@@ -30,7 +30,11 @@ def sources():
 
 
 def program(crate):
-    """The path of a crate's program. It is built, and so proved, first where sources changed; that needs the command `rt`."""
+    """The path of a crate's program. It is built, and so proved, first where sources changed; that needs the command `rt`.
+    $SDF3ANALYSIS names another analyser, as it does for the companions."""
+    named = os.environ.get("SDF3ANALYSIS")
+    if named and crate == "sdf3analysis":
+        return named
     folder = os.path.join(CRATES, crate)
     path = os.path.join(folder, "out", crate)
     if not os.path.exists(path) or any(os.path.getmtime(source) > os.path.getmtime(path) for source in sources()):
@@ -59,6 +63,12 @@ def instructions(words):
     done = subprocess.run(["valgrind", "--tool=callgrind", "--callgrind-out-file=/dev/null", *words], capture_output=True, text=True)
     found = re.search(r"Collected : (\d+)", done.stderr)
     return int(found.group(1)) / 1e6 if found else None
+
+
+def counted(words, seconds, most=1.0):
+    """The instructions of a run in millions as a table shows them; those of a run that takes longer aren't counted."""
+    count = instructions(words) if seconds <= most else None
+    return "-" if count is None else f"{count:.1f}" if count < 100 else f"{count:.0f}"
 
 
 def memory(words):

@@ -10,7 +10,7 @@ five runs, the most memory of one, and the millions of instructions of one, wher
 import os
 import tempfile
 
-from programs import ROOT, instructions, least_time, memory, program
+from programs import ROOT, counted, least_time, memory, program
 
 
 def graph(times, channels):
@@ -56,13 +56,14 @@ def cases():
     with open(os.path.join(ROOT, "examples", "video_modes.xml"), encoding="utf-8") as text:
         yield "the modes of a video decoder", text.read()
     yield "20,000 firings, 16 channels", fan(20_000, 16, 199)
-    yield "a falling path of 64", falling(64, 64)
-    yield "a falling path of 128", falling(128, 128)
+    yield "a falling path of 64 to 64 states", falling(64, 64)
+    yield "a falling path of 128 to 128", falling(128, 128)
+    yield "a falling path of 192 to 64", falling(192, 64)
 
 
 def main():
     built = program("sdf3analysis")
-    print(f"{'scenarios':32} {'bytes':>9} {'ms':>8} {'MB':>6} {'M instr.':>8}")
+    print(f"{'scenarios':34} {'bytes':>9} {'ms':>8} {'MB':>6} {'M instr.':>8}")
     with tempfile.TemporaryDirectory() as folder:
         for name, text in cases():
             path = os.path.join(folder, "scenarios.xml")
@@ -71,9 +72,8 @@ def main():
             words = [built, "--algo", "scenario", "--graph", path]
             seconds, done = least_time(words)
             done.check_returncode()
-            count = instructions(words)
-            shown = "-" if count is None else f"{count:.1f}"
-            print(f"{name:32} {len(text):9} {seconds * 1e3:8.1f} {memory(words):6.0f} {shown:>8}")
+            print(f"{name:34} {len(text):9} {seconds * 1e3:8.1f} {memory(words):6.0f} {counted(words, seconds):>8}")
 
 
-main()
+if __name__ == "__main__":
+    main()

@@ -3,12 +3,14 @@
 
     tools/build.py [CRATE]
 
-Exit status 0 where the program stands at crates/CRATE/out/CRATE (sdf3analysis where none is named), else 1.
+Exit status 0 where the program stands at crates/CRATE/out/CRATE (sdf3analysis where none is named), else 1. The file `built`
+beside it is as old as the build's beginning, and names what the program is made of, as `sdf3analysis` asks for it.
 
 While a crate is built, it holds a lock on those below it. So each worker has a copy of the sources, where `rt lib` takes the
 libraries that the other copies have built. What the copies have proved is kept for the next build.
 """
 import os
+import shlex
 import shutil
 import subprocess
 import sys
@@ -18,6 +20,8 @@ from concurrent.futures import FIRST_COMPLETED, ThreadPoolExecutor, wait
 
 ROOT = os.path.dirname(os.path.dirname(os.path.abspath(__file__)))
 SOURCES = ("src", "specs", "proofs")
+# What a program is made of: its code with the contracts, and the definitions that these name.
+MADE_OF = ("src", "specs")
 # By estimate: processor minutes from nothing, and the minutes of the longest chain of crates, each proved by one process.
 MINUTES_OF_ONE_CORE = 90
 MINUTES_OF_THE_CHAIN = 25
@@ -44,14 +48,19 @@ def crates_below(program):
     return found
 
 
+def files_of(name, parts=SOURCES):
+    """The paths of a crate's sources."""
+    for part in parts:
+        for at, _, files in os.walk(os.path.join(ROOT, "crates", name, part)):
+            yield from (os.path.join(at, file) for file in sorted(files))
+
+
 def lines_of(name):
     """How many lines a crate has, by which the work of its proof goes."""
     total = 0
-    for part in SOURCES:
-        for at, _, files in os.walk(os.path.join(ROOT, "crates", name, part)):
-            for file in files:
-                with open(os.path.join(at, file), "rb") as it:
-                    total += it.read().count(b"\n")
+    for path in files_of(name):
+        with open(path, "rb") as it:
+            total += it.read().count(b"\n")
     return total
 
 
@@ -126,7 +135,30 @@ def keep_work(crates, copies):
                     shutil.move(made, os.path.join(to, part))
 
 
+def note_sources(crates, home, begun):
+    """Says what the program is made of, in a file as old as the build's beginning."""
+    paths = ["crates.txt", "HANDLES"]
+    paths += [os.path.relpath(path, ROOT) for name in crates for path in files_of(name, MADE_OF)]
+    note = os.path.join(home, "built")
+    with open(f"{note}.part", "w", encoding="utf-8") as it:
+        it.write(f"are_older {' '.join(map(shlex.quote, paths))}\n")
+    os.utime(f"{note}.part", ns=(begun, begun))
+    os.replace(f"{note}.part", note)
+
+
+def is_of_sources(program):
+    """Whether the program was proved and built from all its sources as they stand, also from the proofs."""
+    home = os.path.join(ROOT, "crates", program, "out")
+    note = os.path.join(home, "built")
+    if not os.path.exists(os.path.join(home, program)) or not os.path.exists(note):
+        return False
+    paths = [os.path.join(ROOT, name) for name in ("crates.txt", "HANDLES")]
+    paths += [path for name in crates_below(program) for path in files_of(name)]
+    return all(os.stat(path).st_mtime_ns < os.stat(note).st_mtime_ns for path in paths)
+
+
 def build(program):
+    begun = time.time_ns()
     crates = crates_below(program)
     home = os.path.join(ROOT, "crates", program, "out")
     built = os.path.join(home, program)
@@ -148,7 +180,10 @@ def build(program):
     if good and not os.path.exists(built):
         print(text, file=sys.stderr)
         say(f"{program} isn't proved")
-    return 0 if os.path.exists(built) else 1
+    if not os.path.exists(built):
+        return 1
+    note_sources(crates, home, begun)
+    return 0
 
 
 if __name__ == "__main__":

