@@ -1,5 +1,5 @@
 -- What stands at the places of the options.
-use Rattle.std.proofs.Common.{◌≡◌, ◌≢◌, List, Option, Some, map, refl, ap, ◌∙◌, arith}
+use Rattle.std.proofs.Common.{◌≡◌, ◌≢◌, List, Option, Some, true, false, nat_eq, map, refl, ap, ◌∙◌}
 use Rattle.sd_words.specs.declared.names.OptionName.{OptionName}
 use Rattle.sd_words.specs.declared.names.OptionName.TheVariants as opt
 use Rattle.sd_words.specs.declared.form.Value.{Value}
@@ -36,4 +36,5 @@ unfolding place_of option_word
 buffers-apart = λ e.
     let places : Some 3 ≡ Some 10 = e in
     let same : 3 ≡ 10 = cc in
-    omega arith
+    let differ : true ≡ false = ap (nat_eq 3) same in
+    cc
