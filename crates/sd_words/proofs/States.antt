@@ -5,14 +5,13 @@ use Rattle.std.specs.Option.{option_map}
 use Rattle.std.specs.Str.{bytes_eq}
 use Rattle.std.proofs.lemmas.List.Elements.{All-nil, All-push}
 use Rattle.std.proofs.lemmas.Bool.{leb-true}
-use Rattle.std.specs.Prelude.{◌==◌, nat_le, nat_lt, unwrap_or, option_and_then}
+use Rattle.std.specs.Prelude.{◌==◌, nat_le, nat_lt, option_and_then}
 use Rattle.sd_base.specs.declared.limits.TheConstants.{ACTORS, CAPACITY, DISTRIBUTIONS, LEAST_DISTRIBUTIONS, LEAST_ROUNDS, LEAST_STATES, ROUNDS, STATES, STORAGE, USUAL_DISTRIBUTIONS, USUAL_STATES}
 use Rattle.sd_words.specs.declared.table.TheConstants.{LEAST_ACTORS, USUAL_ACTORS}
 use Rattle.sd_words.specs.declared.form.Form.{Form}
 use Rattle.sd_words.specs.declared.form.Form.TheVariants as form
 use Rattle.sd_words.specs.declared.form.Value.{Value}
 use Rattle.sd_words.specs.declared.form.Value.TheVariants as read_value
-use Rattle.sd_words.specs.declared.names.OptionName.{OptionName}
 use Rattle.sd_words.specs.declared.names.OptionName.TheVariants as option
 use Rattle.sd_words.specs.declared.names.Algorithm.{Algorithm}
 use Rattle.sd_words.specs.declared.names.Algorithm.TheVariants as algorithm

@@ -13,7 +13,8 @@ use sd_base::{Rows, Text};
 use std::alloc::{AllocError, Global};
 use std::mem;
 
-/// What is made of the values, at the places of their options.
+/// What is made of the values, at the places of their options. Each option has a place and something there, `None`
+/// for one that isn't given.
 #[derive(Drop)]
 pub(crate) struct Readings {
     values: Vec<Option<Value>>,

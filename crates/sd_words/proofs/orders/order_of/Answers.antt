@@ -1,4 +1,4 @@
-use Rattle.std.proofs.Common.{◌≡◌, ◌≤◌, Some, ◌∙◌, ◌∷◌, [], List, ℕ, Bor, sym, ap, map, subst, drop, ◌+◌}
+use Rattle.std.proofs.Common.{◌≤◌, Some, ◌∙◌, [], List, ℕ, Bor, sym, ap, map, subst, drop, ◌+◌}
 use Rattle.std.proofs.lemmas.List.{length-map}
 use Rattle.sd_words.specs.OrderLists.{with_names}
 use Rattle.sd_words.proofs.BufferParts.{next-part}
