@@ -1,7 +1,7 @@
 -- Need cycles by links: by what the channels of a net stand for.
-use Rattle.std.specs.Prelude.{◌≡◌, ℕ, ◌<◌, map, length}
-use Rattle.sd_base.specs.declared.role.Role.TheVariants.{Order}
+use Rattle.std.specs.Prelude.{◌≡◌, ℕ, ◌<◌, false, map, length}
 use Rattle.sd_base.specs.Net.{Net, channel_at}
+use Rattle.sd_base.specs.Lawful.{is_order_role}
 use Rattle.critical.specs.declared.cycle.CycleStep.{CycleStep}
 use Rattle.critical.specs.declared.cycle.NeedCycle.{NeedCycle}
 use Rattle.cert_text.specs.declared.certificates.LinkStep.{LinkStep}
@@ -17,4 +17,4 @@ link_cycle net cycle = record { time = cycle.time; rounds = cycle.rounds; first 
 
 -- no channel of the net is an edge of an order, which has no text
 abbrev pub HasNoOrders : Net → Type 0
-HasNoOrders net = (i : ℕ) → i < length net.channels → (a b : ℕ) → (channel_at net i).role ≡ Order a b → ⊥
+HasNoOrders net = (i : ℕ) → i < length net.channels → is_order_role (channel_at net i).role ≡ false

@@ -16,7 +16,7 @@ AreNoOrders cs = (i : ℕ) → i < length cs → IsNoOrder (slice_index_or cs i 
 
 file-orderless : (n : ℕ) (rows : List ChannelRow) → AreNoOrders (file_channels_from n rows)
 file-orderless n [] i below = absurd (omega arith)
-file-orderless n (r ∷ rows) zero below = λ a b is. cc
+file-orderless n (r ∷ rows) zero below = refl
 file-orderless n (r ∷ rows) (suc i) below = file-orderless (n + 1) rows i (omega arith)
 
 own-orderless : (apart : Bool) (channels : List ChannelRow) (a : ℕ) (rows : List ActorRow) → AreNoOrders (own_channels_from apart channels a rows)
@@ -26,7 +26,7 @@ own-orderless apart channels a (r ∷ rows) i below = step (gets_own apart chann
     step : (b : Bool) (i : ℕ) → i < length (if b then own_channel a r.phases ∷ own_channels_from apart channels (suc a) rows else own_channels_from apart channels (suc a) rows)
         → AreNoOrders (own_channels_from apart channels (suc a) rows)
         → IsNoOrder (slice_index_or (if b then own_channel a r.phases ∷ own_channels_from apart channels (suc a) rows else own_channels_from apart channels (suc a) rows) i nowhere)
-    step true zero below rest = λ x y is. cc
+    step true zero below rest = refl
     step true (suc k) below rest = rest k (omega arith)
     step false i below rest = rest i below
 
