@@ -55,7 +55,7 @@ def cases(folder):
     yield "expand, 128 actors, 256 channels", rings(128), ["expand", *out]
     yield "expand, 128 firings at rates of 1,000,000", fan(127, 1_000_000), ["expand", *out]
     for entries in (16_000, 32_000, 64_000):
-        yield f"ordered, {entries:,} entries", fan(entries - 1, entries - 1), ["ordered", "--order", ",".join(["x", *["y"] * (entries - 1)])]
+        yield f"ordered, {entries:,} entries", fan(entries - 1, entries - 1), ["ordered", "--states", "200000", "--order", ",".join(["x", *["y"] * (entries - 1)])]
     for rounds in (1, 1_000, 1_000_000):
         yield f"complete, decoder, {rounds:,} rounds", None, ["complete", "--no-overlap", "--buffers", FASTEST, "--rounds", str(rounds)]
     yield "throughput, decoder", None, ["throughput", "--no-overlap", "--buffers", FASTEST]

@@ -11,6 +11,8 @@ from companion.faults import MISSING, Fault, OutOfTime
 
 ROOT = os.path.dirname(os.path.dirname(os.path.realpath(__file__)))
 BUILT = os.path.join(ROOT, "crates", "sdf3analysis", "out", "sdf3analysis")
+HANDED_ON = os.path.join(ROOT, "program")
+"""The program as the archive of `tools/dist` has it."""
 TUNABLES = os.path.join(ROOT, "tools", "tunables")
 MOST_STORAGE = 10**9
 """The greatest `--limit` that the analyser takes."""
@@ -91,7 +93,7 @@ def escaped(name):
 def found(program):
     """The analyser that was named, or else the first that is there."""
     named = program or os.environ.get("SDF3ANALYSIS")
-    for path in [named] if named else [BUILT, shutil.which("sdf3analysis")]:
+    for path in [named] if named else [BUILT, HANDED_ON, shutil.which("sdf3analysis")]:
         if path and os.path.isfile(path) and os.access(path, os.X_OK):
             return os.path.abspath(path)
     if named:

@@ -19,7 +19,7 @@ def add_common(parser):
     group.add_argument("--no-overlap", action="store_true", help="the firings of an actor don't overlap")
     group.add_argument("--buffers", metavar="NAME=NUMBER,..", help="capacities of channels, in tokens")
     group.add_argument("--states", metavar="N", help="how many shapes may differ before one comes again")
-    parser.add_argument("--program", metavar="FILE", help="the analyser; else $SDF3ANALYSIS, else the one built in this repository, "
+    parser.add_argument("--program", metavar="FILE", help="the analyser; else $SDF3ANALYSIS, else the one of this repository or archive, "
                         "else the one on the PATH")
     parser.add_argument("--json", action="store_true", help="print one JSON document, with exact fractions as strings")
 
