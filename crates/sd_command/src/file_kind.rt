@@ -6,7 +6,7 @@ use sd_base::Quantity;
 
 /// A kind of file that commands take or put.
 #[derive(Clone, Copy, Debug, PartialEq, Eq)]
-pub(crate) enum FileKind {
+pub enum FileKind {
     Graph,
     Certificate,
     Output,

@@ -36,5 +36,9 @@ mod taking;
 mod trade_off;
 mod wanted;
 
+// The types that laws of the top call speak of.
+pub use answer::{Answer, Put};
 pub use command::analyse;
+pub use file_kind::FileKind;
 pub use status::Status;
+pub use wanted::{WantedPoints, WantedRate, WantedRounds};

@@ -37,7 +37,7 @@ impl Wanted {
 /// What words ask for beside the rate of a graph: that no firings of an actor overlap, among how many shapes one has to come
 /// again, and a certificate under a name.
 #[derive(Debug, Drop)]
-pub(crate) struct WantedRate {
+pub struct WantedRate {
     pub no_overlap: bool,
     pub states: u64,
     pub certificate: Option<Text>,
@@ -46,7 +46,7 @@ pub(crate) struct WantedRate {
 /// What words ask for beside the least time for rounds of a graph: that no firings of an actor overlap, among how many shapes
 /// one has to come again, and how many rounds.
 #[derive(Debug, Drop)]
-pub(crate) struct WantedRounds {
+pub struct WantedRounds {
     pub no_overlap: bool,
     pub states: u64,
     pub rounds: u64,
@@ -55,7 +55,7 @@ pub(crate) struct WantedRounds {
 /// What words ask for beside the points of a graph: how far they are explored, that no firings of an actor overlap, and a
 /// certificate under a name.
 #[derive(Debug, Drop)]
-pub(crate) struct WantedPoints {
+pub struct WantedPoints {
     pub limits: Limits,
     pub no_overlap: bool,
     pub certificate: Option<Text>,
