@@ -51,7 +51,8 @@ use Rattle.sd_command.specs.Takings.{Files}
 use Rattle.sd_laws.proofs.BoundedPaths.{lawful_on, on_the_net}
 use Rattle.sd_laws.proofs.CommandsDecide.{goes_past}
 use Rattle.sd_laws.proofs.Requested.{of_request}
-use Rattle.sd_laws.proofs.SharedSteps.{AreSmall, FileLaws}
+use Rattle.sd_command.proofs.Bounds.{AreSmall}
+use Rattle.sd_laws.proofs.SharedSteps.{FileLaws}
 
 -- ---- names
 
