@@ -21,3 +21,4 @@ pub mod SoundSections
 pub mod SoundMembers
 pub mod SoundWholes
 pub mod Within
+pub mod GivenUp

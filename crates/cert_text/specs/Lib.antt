@@ -6,6 +6,7 @@ pub mod ScheduleLines
 pub mod MemberLines
 pub mod ScenarioLines
 pub mod Spelling
+pub mod Overlong
 pub mod Spellable
 pub mod Orderly
 pub mod Limits

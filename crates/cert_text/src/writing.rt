@@ -2,6 +2,7 @@
 
 mod buffers;
 mod cycles;
+mod limit;
 mod members;
 mod numbers;
 mod points;
@@ -10,28 +11,29 @@ mod scenarios;
 mod schedules;
 mod trade_offs;
 
-ghost use Rattle.std.specs.Prelude.{◌≡◌, ◌⊎◌, ◌<◌, ◌≤◌, ◌++◌, IfOk, IfErr, OnOk, length};
+ghost use Rattle.std.specs.Prelude.{◌≡◌, ◌⊎◌, ◌<◌, ◌≤◌, [], ◌++◌, IfOk, IfErr, OnOk, length};
 ghost use Rattle.std.specs.String.{string_bytes};
 ghost use Rattle.sd_base.specs.declared.limits.TheConstants.{CERTIFICATE_BYTES};
 ghost use Rattle.cert_text.specs.declared.error.CertError.TheVariants.{TooLong, NoMemory};
 ghost use Rattle.cert_text.specs.Limits.{IsWithinLimits};
 ghost use Rattle.cert_text.specs.Orderly.{IsOrderly};
+ghost use Rattle.cert_text.specs.Overlong.{GivesUp};
 ghost use Rattle.cert_text.specs.Reading.{IsCertText};
 ghost use Rattle.cert_text.specs.Spellable.{IsSpellable};
 ghost use Rattle.cert_text.specs.Spelling.{lines_after, spelling};
 
 use crate::certificates::Certificate;
 use crate::error::CertError;
+use limit::keep_within;
 use numbers::put_version;
 use rates::put_rate_certificate;
 use scenarios::put_scenario_certificate;
 use sd_base::Rows;
-use sd_base::limits::CERTIFICATE_BYTES;
-use std::alloc::{AllocError, Global};
+use std::alloc::Global;
 use trade_offs::put_storage_certificate;
 
 /// The text of a certificate in version 1, which lists the cycle of each member, or 2, which lists each cycle once. Cost: linear
-/// in the text.
+/// in the text, of which no more is made than its limit and a line.
 pub fn write_certificate(
     alloc: Global,
     certificate: &Certificate,
@@ -47,29 +49,29 @@ pub fn write_certificate(
     ensures short { OnOk result (length (spelling version certificate.now) ≤ CERTIFICATE_BYTES) }
     ensures long { IfErr result (λ e. (e ≡ NoMemory) ⊎ ((e ≡ TooLong) × (CERTIFICATE_BYTES < length (spelling version certificate.now)))) }
 {
-    let bytes = text_of(alloc, certificate, version)?;
-    if bytes.len() as u64 > CERTIFICATE_BYTES {
-        return Err(CertError::TooLong);
-    }
-    Ok(bytes)
+    let text = text_of(alloc, certificate, version)?;
+    keep_within(&text)?;
+    Ok(bytes_of(text))
 }
 
 #[tactic(auto, unfolding(crate::specs::Spelling::spelling))]
-fn text_of(alloc: Global, certificate: &Certificate, version: u32) -> Result<Rows<u8>, AllocError>
+fn text_of(alloc: Global, certificate: &Certificate, version: u32) -> Result<String, CertError>
     requires { IsOrderly certificate.now }
-    ensures text { IfOk result (λ t. t ≡ spelling version certificate.now) }
+    ensures text { IfOk result (λ t. string_bytes t ≡ spelling version certificate.now) }
+    ensures long { IfErr result (GivesUp [] (spelling version certificate.now)) }
     ensures within { OnOk result ((version ≡ 1) ⊎ (version ≡ 2) → IsWithinLimits certificate.now) }
 {
     let mut text = String::new(alloc);
     put_version(&mut text, version)?;
     put_lines(&mut text, certificate, version)?;
-    Ok(bytes_of(text))
+    Ok(text)
 }
 
 #[tactic(auto, unfolding(crate::specs::Spelling::lines_after))]
-fn put_lines(text: &mut String, certificate: &Certificate, version: u32) -> Result<(), AllocError>
+fn put_lines(text: &mut String, certificate: &Certificate, version: u32) -> Result<(), CertError>
     requires { IsOrderly certificate.now }
     ensures text { OnOk result (string_bytes text.new ≡ string_bytes text.old ++ lines_after version certificate.now) }
+    ensures long { IfErr result (GivesUp (string_bytes text.old) (lines_after version certificate.now)) }
     ensures within { OnOk result ((version ≡ 1) ⊎ (version ≡ 2) → IsWithinLimits certificate.now) }
 {
     match certificate {

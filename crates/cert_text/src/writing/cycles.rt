@@ -1,18 +1,22 @@
-ghost use Rattle.std.specs.Prelude.{◌≡◌, ◌++◌, OnOk, All};
+ghost use Rattle.std.specs.Prelude.{◌≡◌, ◌++◌, IfErr, OnOk, All};
 ghost use Rattle.cert_text.specs.Limits.{IsCycleWithin, IsFiringWithin, IsLinkWithin, IsLong, IsStepWithin};
 ghost use Rattle.std.specs.String.{string_bytes};
 ghost use Rattle.std.specs.List.{flat_map};
+ghost use Rattle.cert_text.specs.Overlong.{GivesUp};
 ghost use Rattle.cert_text.specs.CycleLines.{cycle_header, cycle_lines, link_text, step_line};
 
 use crate::certificates::{LinkCycle, LinkStep};
+use crate::error::CertError;
+use crate::writing::limit::keep_within;
 use critical::FiringNo;
 use sd_base::Role;
 use std::alloc::AllocError;
 
 /// Puts the lines of a cycle.
 #[tactic(auto, unfolding(crate::specs::CycleLines::cycle_lines))]
-pub(crate) fn put_cycle(text: &mut String, cycle: &LinkCycle) -> Result<(), AllocError>
+pub(crate) fn put_cycle(text: &mut String, cycle: &LinkCycle) -> Result<(), CertError>
     ensures text { OnOk result (string_bytes text.new ≡ string_bytes text.old ++ cycle_lines cycle.now) }
+    ensures long { IfErr result (GivesUp (string_bytes text.old) (cycle_lines cycle.now)) }
     ensures within { OnOk result (IsCycleWithin cycle.now) }
 {
     let steps = cycle.steps.as_slice();
@@ -20,12 +24,14 @@ pub(crate) fn put_cycle(text: &mut String, cycle: &LinkCycle) -> Result<(), Allo
     put_steps(text, steps)
 }
 
-fn put_steps(text: &mut String, steps: &[LinkStep]) -> Result<(), AllocError>
+fn put_steps(text: &mut String, steps: &[LinkStep]) -> Result<(), CertError>
     ensures text { OnOk result (string_bytes text.new ≡ string_bytes text.old ++ flat_map step_line steps.now) }
+    ensures long { IfErr result (GivesUp (string_bytes text.old) (flat_map step_line steps.now)) }
     ensures within { OnOk result (All IsStepWithin steps.now) }
 {
     for step in steps {
         put_step(text, *step)?;
+        keep_within(text)?;
     }
     Ok(())
 }

@@ -1,11 +1,13 @@
-ghost use Rattle.std.specs.Prelude.{◌≡◌, ◌<◌, ◌++◌, Option, OnOk, length, All};
+ghost use Rattle.std.specs.Prelude.{◌≡◌, ◌<◌, ◌++◌, Option, IfErr, OnOk, length, All};
 ghost use Rattle.cert_text.specs.Limits.{IsCapacityWithin, IsMemberWithin, IsRateWithin, IsShownWithin, NamesWithin};
 ghost use Rattle.std.specs.String.{string_bytes};
 ghost use Rattle.std.specs.List.{flat_map};
+ghost use Rattle.cert_text.specs.Overlong.{GivesUp};
 ghost use Rattle.cert_text.specs.MemberLines.{capacity_text, member_line, member_lines, numbered_rate_line, shown_lines};
 ghost use Rattle.cert_text.specs.Orderly.{NamesOneOf};
 
 use crate::certificates::{LinkCycle, MemberLine, MemberShown};
+use crate::error::CertError;
 use crate::writing::cycles::put_cycle;
 use crate::writing::numbers::{put_counts, put_rate, put_spaced};
 use std::alloc::AllocError;
@@ -17,9 +19,10 @@ pub(crate) fn put_member(
     member: &MemberLine,
     cycles: &[LinkCycle],
     version: u32,
-) -> Result<(), AllocError>
+) -> Result<(), CertError>
     requires { NamesOneOf (length cycles.now) member.now.shown }
     ensures text { OnOk result (string_bytes text.new ≡ string_bytes text.old ++ member_lines version cycles.now member.now) }
+    ensures long { IfErr result (GivesUp (string_bytes text.old) (member_lines version cycles.now member.now)) }
     ensures within { OnOk result (IsMemberWithin member.now) }
     ensures named { OnOk result (version ≡ 1 → NamesWithin cycles.now member.now.shown) }
 {
@@ -64,9 +67,10 @@ fn put_shown(
     shown: &MemberShown,
     cycles: &[LinkCycle],
     version: u32,
-) -> Result<(), AllocError>
+) -> Result<(), CertError>
     requires { NamesOneOf (length cycles.now) shown.now }
     ensures text { OnOk result (string_bytes text.new ≡ string_bytes text.old ++ shown_lines version cycles.now shown.now) }
+    ensures long { IfErr result (GivesUp (string_bytes text.old) (shown_lines version cycles.now shown.now)) }
     ensures within { OnOk result (IsShownWithin shown.now) }
     ensures named { OnOk result (version ≡ 1 → NamesWithin cycles.now shown.now) }
 {
@@ -76,12 +80,12 @@ fn put_shown(
                 put_rate(text, *rate)?;
                 put_cycle(text, &cycles[*cycle as usize])
             } else {
-                put_numbered_rate(text, *rate, *cycle)
+                Ok(put_numbered_rate(text, *rate, *cycle)?)
             }
         }
         MemberShown::Blocked { counts } => {
             text.push_str("blocked\n")?;
-            put_counts(text, counts.as_slice())
+            Ok(put_counts(text, counts.as_slice())?)
         }
     }
 }

@@ -1,3 +1,8 @@
+use Rattle.std.proofs.Common.{◌≡◌, ◌+◌, ◌++◌, take}
+use Rattle.std.specs.List.{flat_map}
+use Rattle.std.specs.String.{string_bytes}
+use Rattle.std.proofs.lemmas.Result.{err_from_is_err_and}
+use Rattle.cert_text.proofs.GivenUp.{up-at}
 use Rattle.cert_text.specs.CycleLines.{step_line}
 use Rattle.cert_text.proofs.Texts.{all-end, all-more, flat_end, flat_next}
 use Rattle.cert_text.proofs.writing.cycles.put_steps.Goals as goal
@@ -14,3 +19,9 @@ loop-step-preserved c = record {
   text = flat_next step_line _ _ _ c.args.steps.now c.loop-step.step-index _ c.loop-step-test.true c.loop-step.invariant.text c.in_ok-put_step.ensures.text;
   within = all-more IsStepWithin c.args.steps.now c.loop-step.step-index _ c.loop-step-test.true c.loop-step.invariant.within c.put_step.ensures.within;
 }
+
+pub returns-in_err-keep_within-clause-long : goal.returns-in_err-keep_within-clause-long
+returns-in_err-keep_within-clause-long c =
+    let p = err_from_is_err_and c.from_residual-in_err-keep_within.result c.from_residual-in_err-keep_within.ensures.1 in
+    let put : string_bytes c.put_step.new.text ≡ string_bytes c.args.text.now ++ flat_map step_line (take (c.loop-step.step-index + 1) c.args.steps.now) = flat_next step_line _ _ _ c.args.steps.now c.loop-step.step-index _ c.loop-step-test.true c.loop-step.invariant.text c.in_ok-put_step.ensures.text in
+    rw (p.1, p.2) (up-at step_line (string_bytes c.args.text.now) (string_bytes c.put_step.new.text) c.args.steps.now (c.loop-step.step-index + 1) c.in_err-keep_within.field-0.0 put c.in_err-keep_within.ensures.long)

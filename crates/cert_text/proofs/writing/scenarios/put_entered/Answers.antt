@@ -1,3 +1,8 @@
+use Rattle.std.proofs.Common.{◌≡◌, ◌+◌, ◌++◌, take}
+use Rattle.std.specs.List.{flat_map}
+use Rattle.std.specs.String.{string_bytes}
+use Rattle.std.proofs.lemmas.Result.{err_from_is_err_and}
+use Rattle.cert_text.proofs.GivenUp.{up-at}
 use Rattle.cert_text.specs.ScenarioLines.{node_line}
 use Rattle.cert_text.proofs.Texts.{all-end, all-more, flat_end, flat_next}
 use Rattle.cert_text.proofs.writing.scenarios.put_entered.Goals as goal
@@ -14,3 +19,9 @@ loop-node-preserved c = record {
   text = flat_next node_line _ _ _ c.args.nodes.now c.loop-node.node-index _ c.loop-node-test.true c.loop-node.invariant.text c.in_ok-put_node.ensures.text;
   within = all-more IsNodeWithin c.args.nodes.now c.loop-node.node-index _ c.loop-node-test.true c.loop-node.invariant.within c.put_node.ensures.within;
 }
+
+pub returns-in_err-keep_within-clause-long : goal.returns-in_err-keep_within-clause-long
+returns-in_err-keep_within-clause-long c =
+    let p = err_from_is_err_and c.from_residual-in_err-keep_within.result c.from_residual-in_err-keep_within.ensures.1 in
+    let put : string_bytes c.put_node.new.text ≡ string_bytes c.args.text.now ++ flat_map node_line (take (c.loop-node.node-index + 1) c.args.nodes.now) = flat_next node_line _ _ _ c.args.nodes.now c.loop-node.node-index _ c.loop-node-test.true c.loop-node.invariant.text c.in_ok-put_node.ensures.text in
+    rw (p.1, p.2) (up-at node_line (string_bytes c.args.text.now) (string_bytes c.put_node.new.text) c.args.nodes.now (c.loop-node.node-index + 1) c.in_err-keep_within.field-0.0 put c.in_err-keep_within.ensures.long)

@@ -1,3 +1,8 @@
+use Rattle.std.proofs.Common.{◌≡◌, ◌+◌, ◌++◌, take}
+use Rattle.std.specs.List.{flat_map}
+use Rattle.std.specs.String.{string_bytes}
+use Rattle.std.proofs.lemmas.Result.{err_from_is_err_and}
+use Rattle.cert_text.proofs.GivenUp.{up-at, up-in}
 use Rattle.cert_text.specs.MemberLines.{member_lines}
 use Rattle.cert_text.proofs.Texts.{all-end, all-item, flat-item, flat_end}
 use Rattle.cert_text.proofs.writing.trade_offs.put_each_member.Goals as goal
@@ -19,3 +24,14 @@ loop-member-preserved c = record {
   within = all-item IsMemberWithin c.args.members.now c.loop-member.member-index c.member-item.result c.loop-member-test.true c.member-item.is c.loop-member.invariant.within c.in_ok-put_member.ensures.within;
   named = λ first. all-item (λ (m : MemberLine). NamesWithin c.args.cycles.now m.shown) c.args.members.now c.loop-member.member-index c.member-item.result c.loop-member-test.true c.member-item.is (c.loop-member.invariant.named first) (c.in_ok-put_member.ensures.named first);
 }
+
+pub returns-in_err-keep_within-clause-long : goal.returns-in_err-keep_within-clause-long
+returns-in_err-keep_within-clause-long c =
+    let p = err_from_is_err_and c.from_residual-in_err-keep_within.result c.from_residual-in_err-keep_within.ensures.1 in
+    let put : string_bytes c.put_member.new.text ≡ string_bytes c.args.text.now ++ flat_map (member_lines c.args.version c.args.cycles.now) (take (c.loop-member.member-index + 1) c.args.members.now) = flat-item (member_lines c.args.version c.args.cycles.now) _ _ _ c.args.members.now c.loop-member.member-index c.member-item.result c.loop-member-test.true c.member-item.is c.loop-member.invariant.text c.in_ok-put_member.ensures.text in
+    rw (p.1, p.2) (up-at (member_lines c.args.version c.args.cycles.now) (string_bytes c.args.text.now) (string_bytes c.put_member.new.text) c.args.members.now (c.loop-member.member-index + 1) c.in_err-keep_within.field-0.0 put c.in_err-keep_within.ensures.long)
+
+pub returns-in_err-put_member-clause-long : goal.returns-in_err-put_member-clause-long
+returns-in_err-put_member-clause-long c =
+    let p = err_from_is_err_and c.from_residual.result c.from_residual.ensures.1 in
+    rw (p.1, p.2) (up-in (member_lines c.args.version c.args.cycles.now) (string_bytes c.args.text.now) (string_bytes c.loop-member.text) c.args.members.now c.loop-member.member-index c.member-item.result c.in_err-put_member.field-0.0 c.loop-member-test.true c.member-item.is c.loop-member.invariant.text c.in_err-put_member.ensures.long)
