@@ -1,5 +1,6 @@
 -- What stands at the places of the options.
-use Rattle.std.proofs.Common.{◌≡◌, ◌≢◌, List, Option, Some, true, false, nat_eq, map, refl, ap, ◌∙◌}
+use Rattle.std.proofs.Common.{◌≡◌, ◌≢◌, List, Option, true, false, nat_eq, map, refl, ap, ◌∙◌}
+use Rattle.std.specs.Prelude.{unwrap_or}
 use Rattle.sd_words.specs.declared.names.OptionName.{OptionName}
 use Rattle.sd_words.specs.declared.names.OptionName.TheVariants as opt
 use Rattle.sd_words.specs.declared.form.Value.{Value}
@@ -34,7 +35,5 @@ seen-list values r is = ap seen_in is ∙ all-seen r
 pub buffers-apart : place_of opt.Buffers ≢ place_of opt.Order
 unfolding place_of option_word
 buffers-apart = λ e.
-    let places : Some 3 ≡ Some 10 = e in
-    let same : 3 ≡ 10 = cc in
-    let differ : true ≡ false = ap (nat_eq 3) same in
+    let differ : true ≡ false = ap (λ place. nat_eq (unwrap_or place 0) (unwrap_or (place_of opt.Buffers) 0)) e in
     cc
