@@ -8,6 +8,7 @@ ghost use Rattle.explore.specs.Ceilings.{BoundsAll};
 ghost use Rattle.explore.specs.inside.Levels.{WiresAll};
 ghost use Rattle.explore.specs.inside.Searches.{HasTable, IsCandidate, IsTopAmong};
 
+use crate::ceiling::may_bound;
 use critical::laws::cycles_bound_the_rate;
 use critical::{NeedCycle, cycle_without_spaces};
 use firing::{Firing, Wiring, know_laws};
@@ -34,7 +35,9 @@ pub(crate) fn reaches_fastest<F: Firing>(
     ensures { IfOk result (λ reached. reached ≡ true → IsTopAmong (F.net net.now) points.now) }
 {
     match points.last() {
-        Some(point) if point.total == total => is_fastest(alloc, net, wiring, limit, point),
+        Some(point) if point.total == total && may_bound(net, point.rate) => {
+            is_fastest(alloc, net, wiring, limit, point)
+        }
         _ => Ok(false),
     }
 }

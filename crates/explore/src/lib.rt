@@ -2,6 +2,7 @@
 //! equal storage, whose distributions are evaluated side by side.
 #![tactic(auto)]
 
+mod ceiling;
 mod children;
 mod error;
 mod exploration;
