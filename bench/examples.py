@@ -4,9 +4,9 @@
     bench/examples.py
 
 Where sources changed since the last build it builds, and so proves, the program first. For a graph a row has the least
-wall-clock time of five runs for its whole trade-off up to a limit, how many distributions that visits, the most memory of a run,
+wall-clock time of five runs for its whole trade-off up to a limit, how many distributions that finds, the most memory of a run,
 and the time for its rate with the buffers of the fastest point; for scenarios the time and memory for the worst rate. The
-distributions that are visited are the least number of `--distributions` with which the program ends.
+distributions that are found are the least number of `--distributions` with which the program ends.
 """
 import os
 import subprocess
@@ -36,7 +36,7 @@ def storage(main, name, limit, most):
     return [main, "--algo", "storage", "--graph", path(name), "--no-overlap", "--limit", str(limit), "--distributions", str(most)]
 
 
-def visited(main, name, limit):
+def found(main, name, limit):
     """The least number of distributions with which an exploration ends; None where it ends for another cause."""
     if subprocess.run(storage(main, name, limit, MOST), capture_output=True).returncode != 0:
         return None
@@ -61,7 +61,7 @@ def shown(seconds):
 
 def main():
     built = program("sdf3analysis")
-    print("| Example | Limit | Points | Visited | Trade-off, ms | MB | Rate, ms |")
+    print("| Example | Limit | Points | Found | Trade-off, ms | MB | Rate, ms |")
     print("|---|---|---|---|---|---|---|")
     for name, limit in GRAPHS:
         words = storage(built, name, limit, MOST)
@@ -71,7 +71,7 @@ def main():
         if buffers is not None:
             rate, ended = least_time([built, "--algo", "throughput", "--graph", path(name), "--no-overlap", "--buffers", buffers])
             took = shown(rate) if ended.returncode == 0 else "-"
-        print(f"| {name} | {limit:,} | {points} | {visited(built, name, limit):,} | {shown(seconds)} | {memory(words):.0f} | {took} |")
+        print(f"| {name} | {limit:,} | {points} | {found(built, name, limit):,} | {shown(seconds)} | {memory(words):.0f} | {took} |")
     for name in SCENARIOS:
         words = [built, "--algo", "scenario", "--graph", path(name)]
         seconds, _ = least_time(words)

@@ -9,13 +9,17 @@ there, and the text's first line.
 """
 import os
 import shutil
+import tempfile
 
 from programs import ROOT, instructions, least_time, memory, program
+
+CERTIFIED = "with a certificate"
 
 CASES = [
     ("chain, 10", "chain.xml", ["--limit", "10"]),
     ("decoder, 8010", "h263_decoder.xml", ["--limit", "8010"]),
-    ("converter, 60", "rate_converter.xml", ["--limit", "60", "--distributions", "1000000"]),
+    ("converter, 60", "rate_converter.xml", ["--limit", "60"]),
+    (CERTIFIED, "rate_converter.xml", ["--limit", "60", "--distributions", "1000000"]),
 ]
 
 
@@ -25,6 +29,8 @@ def main():
     print(f"{'graph, limit':16} {'status':>6} {'bytes':>9} {'ms':>8} {'one core':>8} {'MB':>7} {'M instr':>8}  first line")
     for name, file, options in CASES:
         words = [path, "--algo", "storage", "--graph", os.path.join(ROOT, "examples", file), "--no-overlap", *options]
+        if name == CERTIFIED:
+            words += ["--certificate", os.path.join(tempfile.gettempdir(), "sdf3analysis-bench.cert")]
         seconds, done = least_time(words)
         alone, _ = least_time([*one_core, *words])
         counted = instructions(words)
