@@ -16,9 +16,9 @@ from bisect import bisect_left
 from collections import deque, namedtuple
 from fractions import Fraction
 from itertools import accumulate, cycle as repeated
-from math import gcd, lcm
+from math import gcd, inf, lcm
 
-U32, U64, START, POTENTIAL, NEVER = 2**32 - 1, 2**64 - 1, 2**100, 2**127 - 1, float("-inf")
+U32, U64, START, POTENTIAL, NEVER = 2**32 - 1, 2**64 - 1, 2**100, 2**127 - 1, -inf
 Member = namedtuple("Member", "line capacities rate cycle counts")
 
 
@@ -140,7 +140,7 @@ class Graph:
         pairs = list(zip(capacities, self.channels))
         good = all(k is None if c.least is None else k is not None and k >= c.tokens for k, c in pairs)
         fit = good and len(capacities) == len(self.channels)
-        return sum(k * c.size for k, c in pairs if k is not None) if fit else -NEVER
+        return sum(k * c.size for k, c in pairs if k is not None) if fit else inf
 
     def larger(self, member):
         """A member's capacities with a step more room on each channel in turn whose free space it shows."""
@@ -151,7 +151,7 @@ class Graph:
             links = self.lacking(net, member.counts)
             short = {net[link].target for link in links if link[0] != "s"}
             links = [link for link in links if net[link].target not in short]
-        places = [int(link[1:]) for link in links if link[0] == "s" and self.storage(capacities) != -NEVER]
+        places = [int(link[1:]) for link in links if link[0] == "s" and self.storage(capacities) < inf]
         return [(*capacities[:n], capacities[n] + self.channels[n].step, *capacities[n + 1:]) for n in places]
 
 
