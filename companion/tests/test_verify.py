@@ -32,3 +32,11 @@ def test_the_verdict_is_that_of_check(case, line, tmp_path):
 
 def test_there_are_many():
     assert len(list(judged())) >= 250
+
+
+def test_a_number_of_any_length_is_too_large(tmp_path):
+    certificate = tmp_path / "certificate"
+    certificate.write_text(f"sdf3-certificate 2\nscenario\nrate 1/{'9' * 5000}\n", encoding="latin-1", newline="")
+    with pytest.raises(verify.Refused) as refused:
+        verify.verdict("no graph", str(certificate))
+    assert refused.value.args == (4, "limit: certificate number too large")
