@@ -78,10 +78,20 @@ def lines_behind(crates):
     return found
 
 
+def lists(line, crates):
+    """Whether a line of crates.txt is that of one of these crates."""
+    words = line.partition(":")[0].split()
+    return bool(words) and words[0] in crates
+
+
 def copy_sources(folder, crates):
-    """Makes a copy of what the proofs of these crates read."""
-    for name in ("crates.txt", "HANDLES"):
-        shutil.copy2(os.path.join(ROOT, name), folder)
+    """Makes a copy of what the proofs of these crates read. Its crates.txt has these alone, since `rt` wants the folder of each
+    crate in it."""
+    shutil.copy2(os.path.join(ROOT, "HANDLES"), folder)
+    with open(os.path.join(ROOT, "crates.txt"), encoding="utf-8") as lines:
+        listed = [line for line in lines if lists(line, crates)]
+    with open(os.path.join(folder, "crates.txt"), "w", encoding="utf-8") as out:
+        out.writelines(listed)
     for name in crates:
         for part in SOURCES:
             there = os.path.join(ROOT, "crates", name, part)
