@@ -13,7 +13,7 @@ from html import escape
 
 from companion import curve, draw, graphs, output, timeline, words
 from companion.analyser import Analyser
-from companion.faults import BUDGET, Fault, OutOfTime
+from companion.faults import BUDGET, Fault
 from companion.gantt import times_of
 from companion.tradeoff import DISTRIBUTIONS, Search
 
@@ -23,15 +23,8 @@ TEMPLATE = os.path.join(os.path.dirname(os.path.realpath(__file__)), "page.html"
 def explored(analyser, graph, asked):
     """A search that ended, by itself or since the time was up, with a point at least."""
     search = Search(analyser, graph, words.passed_on(asked), asked.seconds)
-    try:
-        for _ in search.levels():
-            output.progress(f"complete up to storage {search.complete}: {len(search.points)} points")
-    except OutOfTime:
-        search.ended = "the limit of time is reached"
-    except KeyboardInterrupt:
-        search.ended = "interrupted"
-    except Fault as fault:
-        if not search.points:
+    search.explore(lambda new: None)
+    if not search.points:
             raise
         search.ended = fault.line
     output.progress("")
@@ -102,8 +95,6 @@ def add_words(parser):
 def run(asked):
     analyser = Analyser(asked.program)
     graph = graphs.opened(analyser, asked.graph)
-    if asked.buffers is not None:
-        analyser.storage(graph, 0, words.passed_on(asked))
     picture = drawn(graph)
     search = explored(analyser, graph, asked)
     data = {"points": [shown(analyser, graph, asked, point) for point in search.points]}

@@ -7,7 +7,9 @@ import sys
 
 import pytest
 
+from companion import graphs, tradeoff
 from companion.tests.conftest import LAUNCHER
+from companion.tradeoff import Search
 
 FRONTS = {
     "two_filters": (1, {}),
@@ -45,6 +47,16 @@ def test_tradeoff_of_the_examples(run, example, name):
     assert named.items() <= {point["storage"]: point["rate"] for point in found["points"]}.items()
     assert found["points"][-1]["rate"] == found["fastest"]["rate"]
     assert found["complete_to"] >= found["points"][-1]["storage"]
+
+
+@pytest.mark.parametrize("name", ["chain", "modem", "satellite_receiver"])
+def test_limits_that_rise_find_the_same_points(analyser, example, monkeypatch, name):
+    graph = graphs.opened(analyser, example(name))
+    at_once, rising = (Search(analyser, graph, ["--no-overlap"]) for _ in range(2))
+    assert len(list(at_once.levels())) == 1
+    monkeypatch.setattr(tradeoff, "MOMENT", 0)
+    assert len(list(rising.levels())) > 1
+    assert (rising.points, rising.complete, rising.ended) == (at_once.points, at_once.complete, at_once.ended)
 
 
 def test_tradeoff_without_an_end_keeps_what_it_found(run, example):
