@@ -8,7 +8,7 @@ import sys
 import pytest
 
 from companion import graphs, tradeoff
-from companion.tests.conftest import LAUNCHER
+from companion.tests.conftest import LAUNCHER, SECONDS
 from companion.tradeoff import Search
 
 FRONTS = {
@@ -53,6 +53,7 @@ def test_tradeoff_of_the_examples(run, example, name):
 def test_limits_that_rise_find_the_same_points(analyser, example, monkeypatch, name):
     graph = graphs.opened(analyser, example(name))
     at_once, rising = (Search(analyser, graph, ["--no-overlap"]) for _ in range(2))
+    monkeypatch.setattr(tradeoff, "MOMENT", SECONDS)
     assert len(list(at_once.levels())) == 1
     monkeypatch.setattr(tradeoff, "MOMENT", 0)
     assert len(list(rising.levels())) > 1
