@@ -14,6 +14,7 @@ use Rattle.storage.specs.ParetoPoints.{IsFront, IsReached, Pair, no_pair}
 use Rattle.storage.specs.Steps.{IsCorner, IsOnGrid, step_of}
 use Rattle.storage.proofs.ChannelSteps.{some-step}
 use Rattle.storage.proofs.CornerLists.{corner-grid}
+use Rattle.storage.proofs.Covers.{BoundsRoomier, net-above, net-bounds}
 use Rattle.storage.proofs.Enlarging.{distribution-length, enlarged-grid, enlarged-storage}
 use Rattle.storage.proofs.FrontsFromMembers.{front-over, less_on}
 use Rattle.storage.proofs.Lawfulness.{bound-lawful}
@@ -128,6 +129,11 @@ module _ (cycles_bound : CyclesBoundTheRate) (rates : RateIsShown) (net : Net) (
             let shows : IsShownBy net c.cycles (capacities_at c.members i) (member_at c.members i).shown (slice_index xs j) = subst (λ (ys : List ℕ). j < length ys → IsShownBy net c.cycles (capacities_at c.members i) (member_at c.members i).shown (slice_index ys j)) (sym same) (e.bound_of.each j) less in
             entry-of (stepped net (capacities_at c.members i) (slice_index xs j)) ((is.members i below).closed (slice_index xs j) (record { within = within i below; by = shows }) few)
 
+    bounds : (i : ℕ) → i < length es → BoundsRoomier net c.limit (entry_at es i)
+    bounds i below ds dist small most agrees p q rate =
+        let e : IsEntry i (entry_at es i) = are i (here i below) in
+        rw (e.num, e.den) (e.bound_of.bounds ds (record { distribution = dist; storage = small }) (rw (← e.capacities) most) (rw (← e.capacities, ← e.list) agrees) p q rate)
+
     closed : IsClosed net c.limit es
     closed = record {
       corner = corner;
@@ -141,9 +147,8 @@ module _ (cycles_bound : CyclesBoundTheRate) (rates : RateIsShown) (net : Net) (
       within = λ i below. rw ((are i (here i below)).capacities) (within i (here i below)).storage;
       next = next-of;
       positive = λ i below. rw ((are i (here i below)).den) (are i (here i below)).bound_of.positive;
-      bounds = λ i below ds dist small most agrees p q rate.
-          (let e : IsEntry i (entry_at es i) = are i (here i below) in
-          rw (e.num, e.den) (e.bound_of.bounds ds (record { distribution = dist; storage = small }) (rw (← e.capacities) most) (rw (← e.capacities, ← e.list) agrees) p q rate));
+      above = net-above net file.laws corner is_corner;
+      bounds = λ i below. net-bounds net file.laws c.limit (entry_at es i) (bounds i below);
     }
 
     -- ---- the points over it

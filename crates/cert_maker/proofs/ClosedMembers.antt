@@ -7,13 +7,13 @@ use Rattle.sd_base.specs.declared.limits.Limits.{Limits}
 use Rattle.sd_base.specs.declared.limits.TheConstants.{STORAGE}
 use Rattle.sd_base.specs.Lawful.{Lawful}
 use Rattle.sd_base.specs.Net.{Net}
-use Rattle.sd_base.specs.Rates.{Rate}
 use Rattle.critical.specs.Bounds.{CyclesBoundTheRate}
 use Rattle.periodic.specs.declared.schedule.Periodic.{Periodic}
 use Rattle.storage.specs.BoundedNets.{bound}
-use Rattle.storage.specs.ClosedLists.{AgreesOn, Entry, HasEntry, IsClosed, entry_at, no_entry}
-use Rattle.storage.specs.Distributions.{AtMost, IsDistribution, storage_of}
+use Rattle.storage.specs.ClosedLists.{Entry, HasEntry, IsClosed, entry_at, no_entry}
+use Rattle.storage.specs.Distributions.{IsDistribution, storage_of}
 use Rattle.storage.specs.Steps.{IsOnGrid}
+use Rattle.storage.proofs.Covers.{BoundsRoomier, net-above, net-bounds}
 use Rattle.storage.proofs.Lawfulness.{bound-lawful}
 use Rattle.pareto_front.specs.declared.point.Point.{Point}
 use Rattle.explore.specs.declared.exploration.Member.{Member}
@@ -44,7 +44,7 @@ pub record IsEntryOf (net : Net) (limit : ℕ) (m : Member) (e : Entry) : Type 0
   pub num : e.num ≡ m.rate.num
   pub den : e.den ≡ m.rate.den
   pub each : (j : ℕ) → j < length e.shown → ShowsChannel net m.capacities.capacities m.shown (slice_index e.shown j)
-  pub bounds : (ds : List (Option ℕ)) → IsDistribution net.channels ds → storage_of net.channels ds ≤ limit → AtMost e.capacities ds → AgreesOn e.shown e.capacities ds → (p q : ℕ) → Rate (bound net ds) p q → p * e.den ≤ e.num * q
+  pub bounds : BoundsRoomier net limit e
 
 module _ (cycles_bound : CyclesBoundTheRate) (net : Net) (file : IsFileNet net) (limits : Limits) (small : limits.total ≤ STORAGE) (ms : List Member) (ps : List Point) (is : IsExploration net limits ms ps)
     (no_overlap : Bool) (schedules : List Periodic) (c : StorageCertificate) (put : IsStorageCertificate net no_overlap limits.total ms ps schedules c) where
@@ -114,5 +114,6 @@ module _ (cycles_bound : CyclesBoundTheRate) (net : Net) (file : IsFileNet net) 
           (let n = zip-at (IsEntryOf net limits.total) ms es i no_entry are below in subst (λ (ds : List (Option ℕ)). storage_of net.channels ds ≤ limits.total) (sym n.holds.capacities) (member-fits net file limits ms ps is n.item n.one).1);
       next = next-entry;
       positive = λ i below. (let n = zip-at (IsEntryOf net limits.total) ms es i no_entry are below in subst (λ (d : ℕ). 1 ≤ d) (sym n.holds.den) (is.evaluated n.item n.one).rate.positive);
-      bounds = λ i below. (zip-at (IsEntryOf net limits.total) ms es i no_entry are below).holds.bounds;
+      above = net-above net file.laws is.start.corner is.start.is_corner;
+      bounds = λ i below. net-bounds net file.laws limits.total (entry_at es i) (zip-at (IsEntryOf net limits.total) ms es i no_entry are below).holds.bounds;
     }

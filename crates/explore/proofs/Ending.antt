@@ -15,6 +15,7 @@ use Rattle.storage.specs.Distributions.{AtMost, IsDistribution, storage_of}
 use Rattle.storage.specs.ParetoPoints.{IsFront, IsPareto, IsReached, Reaches, no_pair}
 use Rattle.storage.specs.ClosedLists.{AgreesOn, Entry, HasEntry, IsClosed, IsFrontOver, entry_at, no_entry}
 use Rattle.storage.specs.Steps.{IsOnGrid}
+use Rattle.storage.proofs.Covers.{net-above, net-bounds}
 use Rattle.storage.proofs.Fits.{within-lawful}
 use Rattle.storage.proofs.FileChannels.{plain-no_spaces}
 use Rattle.storage.proofs.FrontsFromMembers.{AreExact, front-over, less_on, no_less, pareto-listed}
@@ -158,7 +159,8 @@ module _ (net : Net) (laws : Lawful net) (can : IsExplorable net) (limits : Limi
     within = λ i below. let n = noted i below in subst (λ (x : Entry). storage_of net.channels x.capacities ≤ limits.total) (sym n.2.is) (candidate n.0 n.1).within;
     next = nexts;
     positive = λ i below. let n = noted i below in subst (λ (x : Entry). 1 ≤ x.den) (sym n.2.is) n.0.rate.positive;
-    bounds = bounds;
+    above = net-above net laws spread.corner spread.is_corner;
+    bounds = λ i below. net-bounds net laws limits.total (entry_at known.entries i) (bounds i below);
   }
 
   exact : AreExact net known.entries

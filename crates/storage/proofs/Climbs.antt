@@ -3,10 +3,11 @@
 use Rattle.std.proofs.Common.{◌≡◌, ℕ, zero, suc, ◌+◌, ◌*◌, ◌≤◌, ◌<◌, ◌⊎◌, Option, None, Some, List, [], ◌∷◌, length, inl, inr, ⊎_elim, subst, sym, refl, ap, arith, mul-le-mul_right}
 use Rattle.std.specs.Prelude.{slice_index, slice_index_or}
 use Rattle.std.proofs.lemmas.Bool.{cases_lt}
-use Rattle.sd_base.specs.Net.{Channel, Net, nowhere, channel_at}
+use Rattle.sd_base.specs.Net.{Channel, nowhere}
 use Rattle.storage.specs.Distributions.{capacity_at, AtMost, storage_of, enlarged}
 use Rattle.storage.specs.Steps.{step_of, IsOnGrid}
-use Rattle.storage.specs.ClosedLists.{Entry, entry_at, AgreesOn, IsClosed}
+use Rattle.storage.specs.ParetoPoints.{Rating}
+use Rattle.storage.specs.ClosedLists.{Entry, entry_at, AgreesOn, IsClosedBy}
 
 abbrev pub number_of : Option ℕ → ℕ
 number_of None = 0
@@ -78,17 +79,17 @@ pub record Meets (es : List Entry) (ds : List (Option ℕ)) : Type 0 where
   pub most : AtMost (entry_at es place).capacities ds
   pub agrees : AgreesOn (entry_at es place).shown (entry_at es place).capacities ds
 
-module _ (net : Net) (limit : ℕ) (es : List Entry) (closed : IsClosed net limit es) (steps : HasSteps net.channels) (ds : List (Option ℕ)) (grid : IsOnGrid net.channels ds) (within : storage_of net.channels ds ≤ limit) where
-  pub climb : (n i : ℕ) → i < length es → AtMost (entry_at es i).capacities ds → storage_of net.channels ds < storage_of net.channels (entry_at es i).capacities + n → Meets es ds
-  climb zero i below most few = absurd (omega (arith, storage-le net.channels (entry_at es i).capacities ds most))
+module _ (cs : List Channel) (rating : Rating) (limit : ℕ) (es : List Entry) (closed : IsClosedBy cs rating limit es) (steps : HasSteps cs) (ds : List (Option ℕ)) (grid : IsOnGrid cs ds) (within : storage_of cs ds ≤ limit) where
+  pub climb : (n i : ℕ) → i < length es → AtMost (entry_at es i).capacities ds → storage_of cs ds < storage_of cs (entry_at es i).capacities + n → Meets es ds
+  climb zero i below most few = absurd (omega (arith, storage-le cs (entry_at es i).capacities ds most))
   climb (suc n) i below most few = at (λ k there under more. climb n k there under (omega arith)) (low_or_none (λ (c : ℕ). number_of (capacity_at (entry_at es i).capacities c)) (λ (c : ℕ). number_of (capacity_at ds c)) (entry_at es i).shown)
     where
-      at : ((k : ℕ) → k < length es → AtMost (entry_at es k).capacities ds → storage_of net.channels (entry_at es i).capacities < storage_of net.channels (entry_at es k).capacities → Meets es ds) → ((j : ℕ) × (j < length (entry_at es i).shown) × (number_of (capacity_at (entry_at es i).capacities (slice_index (entry_at es i).shown j)) < number_of (capacity_at ds (slice_index (entry_at es i).shown j)))) ⊎ ((j : ℕ) → j < length (entry_at es i).shown → number_of (capacity_at ds (slice_index (entry_at es i).shown j)) ≤ number_of (capacity_at (entry_at es i).capacities (slice_index (entry_at es i).shown j))) → Meets es ds
+      at : ((k : ℕ) → k < length es → AtMost (entry_at es k).capacities ds → storage_of cs (entry_at es i).capacities < storage_of cs (entry_at es k).capacities → Meets es ds) → ((j : ℕ) × (j < length (entry_at es i).shown) × (number_of (capacity_at (entry_at es i).capacities (slice_index (entry_at es i).shown j)) < number_of (capacity_at ds (slice_index (entry_at es i).shown j)))) ⊎ ((j : ℕ) → j < length (entry_at es i).shown → number_of (capacity_at ds (slice_index (entry_at es i).shown j)) ≤ number_of (capacity_at (entry_at es i).capacities (slice_index (entry_at es i).shown j))) → Meets es ds
       at next (inr none) = record {
         place = i;
         below = below;
         most = most;
         agrees = λ j there. agree (entry_at es i).capacities ds (slice_index (entry_at es i).shown j) most (none j there);
       }
-      at next (inl found) = let moved : StepsUp net.channels (entry_at es i).capacities ds (slice_index (entry_at es i).shown found.0) = step-up net.channels (entry_at es i).capacities ds (slice_index (entry_at es i).shown found.0) steps (closed.grid i below) grid most found.2 in let small : storage_of net.channels (enlarged (entry_at es i).capacities (slice_index (entry_at es i).shown found.0) (step_of (channel_at net (slice_index (entry_at es i).shown found.0)))) ≤ limit = omega (arith, storage-le net.channels _ ds moved.0) in let has = closed.next i found.0 below found.1 small in let there : AtMost (entry_at es has.0).capacities ds = subst (λ (x : List (Option ℕ)). AtMost x ds) (sym has.2) moved.0 in
-          let more : storage_of net.channels (entry_at es i).capacities < storage_of net.channels (entry_at es has.0).capacities = subst (λ (x : List (Option ℕ)). storage_of net.channels (entry_at es i).capacities < storage_of net.channels x) (sym has.2) moved.1 in next has.0 has.1 there more
+      at next (inl found) = let moved : StepsUp cs (entry_at es i).capacities ds (slice_index (entry_at es i).shown found.0) = step-up cs (entry_at es i).capacities ds (slice_index (entry_at es i).shown found.0) steps (closed.grid i below) grid most found.2 in let small : storage_of cs (enlarged (entry_at es i).capacities (slice_index (entry_at es i).shown found.0) (step_of (slice_index_or cs (slice_index (entry_at es i).shown found.0) nowhere))) ≤ limit = omega (arith, storage-le cs _ ds moved.0) in let has = closed.next i found.0 below found.1 small in let there : AtMost (entry_at es has.0).capacities ds = subst (λ (x : List (Option ℕ)). AtMost x ds) (sym has.2) moved.0 in
+          let more : storage_of cs (entry_at es i).capacities < storage_of cs (entry_at es has.0).capacities = subst (λ (x : List (Option ℕ)). storage_of cs (entry_at es i).capacities < storage_of cs x) (sym has.2) moved.1 in next has.0 has.1 there more

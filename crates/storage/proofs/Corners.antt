@@ -95,7 +95,7 @@ module _ (net : Net) (laws : Lawful net) (ds : List (Option ℕ)) (dist : IsDist
     pub live-covers : CoversRates (channel_at net c) k
     live-covers = record { made = made-fits; taken = taken-fits }
 
-rounded-entry : (cs : List Channel) (ds : List (Option ℕ)) (p k : ℕ) → p < length cs → capacity_at ds p ≡ Some k → capacity_at (rounded cs ds) p ≡ Some (rounded_at (slice_index_or cs p nowhere) k)
+pub rounded-entry : (cs : List Channel) (ds : List (Option ℕ)) (p k : ℕ) → p < length cs → capacity_at ds p ≡ Some k → capacity_at (rounded cs ds) p ≡ Some (rounded_at (slice_index_or cs p nowhere) k)
 rounded-entry [] ds p k below has = absurd (omega arith)
 rounded-entry (c ∷ cs) [] p k below has = cc
 rounded-entry (c ∷ cs) (None ∷ ds) zero k below has = cc
@@ -107,7 +107,7 @@ corner-least : (c : Channel) (e k : ℕ) → IsCornerAt c e → CoversRates c (r
 unfolding rounded_at
 corner-least c e k corner covers = corner.least ((k - c.tokens) / step_of c) covers
 
-corner-below : (cs : List Channel) (es ds : List (Option ℕ)) → IsCorner cs es → IsDistribution cs ds → ((p k : ℕ) → p < length cs → capacity_at ds p ≡ Some k → CoversRates (slice_index_or cs p nowhere) (rounded_at (slice_index_or cs p nowhere) k)) → AtMost es (rounded cs ds)
+pub corner-below : (cs : List Channel) (es ds : List (Option ℕ)) → IsCorner cs es → IsDistribution cs ds → ((p k : ℕ) → p < length cs → capacity_at ds p ≡ Some k → CoversRates (slice_index_or cs p nowhere) (rounded_at (slice_index_or cs p nowhere) k)) → AtMost es (rounded cs ds)
 corner-below [] [] [] corner dist covers = tt
 corner-below [] [] (d ∷ ds) corner dist covers = absurd dist
 corner-below [] (e ∷ es) ds corner dist covers = absurd corner

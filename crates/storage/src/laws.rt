@@ -60,7 +60,7 @@ pub fn blocked_nets_have_rate_zero()
 /// that are reached and cover the members are the front.
 pub fn closed_lists_give_the_front()
     ensures covers { (net : Net) (limit t p q : ℕ) (es : List Entry) (ds : List (Option ℕ)) → Lawful net → IsClosed net limit es → Reaches net limit t p q ds →
-        IsCovered net es ds p q }
+        IsCovered es ds p q }
     ensures front { (net : Net) (limit : ℕ) (es : List Entry) (pairs : List Pair) → Lawful net → IsClosed net limit es → IsFrontOver net limit es pairs →
         IsFront net limit pairs }
 {}
