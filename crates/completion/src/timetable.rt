@@ -1,4 +1,7 @@
 //! When each firing of self-timed execution starts.
+//!
+//! The starts up to the entry are made twice: the loop's table has only their numbers, so a second execution up to there
+//! makes them. It isn't counted, since no shape is looked for in it.
 ghost use Rattle.std.specs.Prelude.{◌≡◌, ◌+◌, ◌^◌, ◌≤◌, ◌<◌, IfSome, length};
 ghost use Rattle.sd_base.specs.declared.limits.TheConstants.{TIME};
 ghost use Rattle.sd_base.specs.Schedules.{time_of};

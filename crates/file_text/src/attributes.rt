@@ -1,3 +1,7 @@
+//! The attributes of a tag.
+//!
+//! Up to 8 attributes a tag has no set of names, and a new name is compared with each; above that they stand in a set too.
+//! Most tags have fewer, and a file can't make the reader slow by a tag of many.
 ghost use Rattle.std.specs.Prelude.{◌≡◌, ◌==◌, ◌<◌, ◌≤◌, ℕ, true, if◌then◌else◌, List, [], ◌∷◌, ◌++◌, length, IfOk, OnOk};
 ghost use Rattle.std.specs.String.{string_bytes};
 ghost use Rattle.std.specs.Str.{bytes_eq};

@@ -1,3 +1,6 @@
+//! The tree of elements that a text spells.
+//!
+//! Children of an element are a plain vector, since a type that leads back to itself can't go through the small list type.
 use crate::AttributeList;
 use sd_base::Text;
 

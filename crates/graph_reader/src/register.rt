@@ -1,4 +1,7 @@
 //! Rows that are found by their names.
+//!
+//! The reader finds actors, ports and channels by name in maps from names to numbers, whose order of insertion is the order
+//! of the file. Whether an end of a channel was used before is found by comparing it with those of at most 256 channels.
 
 ghost use Rattle.std.specs.Prelude.{◌≡◌, ◌==◌, ◌&&◌, Bool, ◌++◌, ◌∷◌, [], ℕ, List, false, IfOk, length, map, slice_get};
 ghost use Rattle.std.specs.List.{find, position};

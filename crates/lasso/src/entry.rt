@@ -1,4 +1,10 @@
 //! The entry of a loop, found in what an execution left behind once two equal shapes are known.
+//!
+//! The entry of a loop is read off the starts. Once a shape has come again, a period is known, and so is what started on
+//! the way. The loop is entered at the first event from which on every firing is a period before its like: an unlike one,
+//! and what started a period later without a like, have to be over by then. That is found by going back through the starts,
+//! and needs no execution (a law of shapes: the same stands at a moment and a period later just where all firings are alike
+//! or over). Where the search made more starts than may be kept, two executions a period apart find it instead.
 ghost use Rattle.std.specs.Prelude.{◌≡◌, ◌↔◌, ◌+◌, ◌-◌, ◌≤◌, ◌<◌, IsTrue, length, slice_index};
 ghost use Rattle.sd_base.specs.Schedules.{HasInputs, time_of};
 ghost use Rattle.sd_base.specs.Rates.{IsLoop};

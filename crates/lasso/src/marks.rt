@@ -1,4 +1,13 @@
 //! Events that are marked, so that a shape is noticed soon after it came again.
+//!
+//! Where events are gone through, most loops are found by marks: a few events with a print and starts, and no shape. An
+//! event is marked if the print of its tokens is at most a limit (distinguished points: Rivest; van Oorschot and Wiener
+//! 1999). The limit is halved when there would be more than 32, so the marks lie spread over the execution, and it is
+//! doubled when long no print is as small, since a short loop may have none. When a mark's print comes again, whole rounds
+//! later, and the actors' last starts are alike, the starts that were kept tell whether the shape does: so many rounds have
+//! started in between, and by the mark all firings are over that aren't as they are a period later. Where it doesn't, the
+//! newer event takes the place of the mark, which keeps it sure that a mark's shape didn't come in between. A look at the
+//! starts may be as long as they are, so the next one waits where earlier ones come to eight times that.
 ghost use Rattle.std.specs.Prelude.{◌≡◌, ◌≢◌, ◌+◌, ◌/◌, ◌≤◌, ◌==◌, [], All, IfOk, IfSome, IsFalse, MatchOption, OnOk, nat_le, not, filter};
 ghost use Rattle.sd_base.specs.declared.limits.TheConstants.{STARTS as MOST_STARTS};
 ghost use Rattle.sd_base.specs.Schedules.{HasInputs};

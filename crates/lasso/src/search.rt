@@ -1,4 +1,14 @@
 //! The search for two equal shapes, by one execution that marks some events, and keeps one shape (Brent 1980).
+//!
+//! The last shape that is allowed is a checkpoint too. The search for the loop keeps one shape and compares later ones with
+//! it. A shape that comes again within what is allowed may not be the one that is kept. So the last allowed one becomes the
+//! checkpoint, and the search goes on up to twice its moment: if a shape has come again up to there, this one stands on the
+//! loop itself, whose period is no longer than its moment.
+//!
+//! For what the marks miss, as a loop whose prints come several times a round, the search keeps one shape. It moves it when
+//! the starts are twice those up to it, as Brent has it, but not before it has stood for a time: half a round for the first
+//! one, a round and a half for each other one, since no loop has fewer starts than a round. So a loop that is entered soon
+//! and is one round long is found in one and a half times the starts up to its first repeat.
 ghost use Rattle.std.specs.Prelude.{◌≡◌, ◌↔◌, ◌+◌, ◌*◌, ◌≤◌, ◌<◌, [], IfErr, IfOk, IsTrue, OnOk, MatchOption, length, replicate};
 ghost use Rattle.sd_base.specs.declared.limits.TheConstants.{STARTS};
 ghost use Rattle.sd_base.specs.Schedules.{HasInputs};

@@ -1,4 +1,8 @@
 //! Orders that are given by the names of actors.
+//!
+//! Actors of earlier orders are marked. Whether an entry's actor stands in an earlier list is read off a mark, since lists
+//! may be long; and pairs of neighbours are counted up to one more than may be. So 100,000 entries are read in a time
+//! linear in them.
 ghost use Rattle.std.specs.Prelude.{◌≡◌, ◌==◌, ◌||◌, ◌++◌, ◌∷◌, ◌<◌, ◌≤◌, [], ℕ, List, None, All, IfErr, IfOk, count_by, length, map, nat_lt, slice_index, not, ◌&&◌};
 ghost use Rattle.std.specs.List.{list_any, position_or_len};
 ghost use Rattle.std.specs.Str.{bytes_eq};

@@ -1,4 +1,8 @@
 //! Numbers at the end of a text, each behind a space, many at once.
+//!
+//! Numbers are put at the end of a text a hundred at once. Their digits are written from the last to the first, where
+//! others were before, so that nothing is moved; then all are copied behind the text. To put each by itself takes two
+//! copies of a few bytes, and more instructions than its digits.
 ghost use Rattle.std.specs.Prelude.{◌≡◌, ◌+◌, ◌≤◌, ◌++◌, OnOk, drop, length};
 ghost use Rattle.std.specs.String.{string_bytes};
 ghost use Rattle.std.specs.List.{flat_map};

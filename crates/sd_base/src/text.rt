@@ -1,3 +1,8 @@
+//! Texts, of which short ones take no memory of their own.
+//!
+//! Short texts take no memory of their own. A text of up to 16 bytes stands in its value, and the attribute of an element
+//! that has one stands in the element. Names and most values are as short, so a tag costs no allocation but its share of
+//! the vector that it stands in.
 ghost use Rattle.std.specs.Prelude.{◌≡◌, ◌↔◌, IfOk, IsTrue, length};
 ghost use Rattle.std.specs.String.{string_bytes};
 ghost use Rattle.std.specs.Str.{IsUtf8};

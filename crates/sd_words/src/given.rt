@@ -1,4 +1,7 @@
 //! The values that words give to options, read by `clap`.
+//!
+//! Whether a list of words is well spelled is tested by this project's own code, since its rules are stricter than
+//! `clap`'s; then `clap` reads the values, and can refuse such a list for want of memory alone.
 
 ghost use Rattle.std.specs.Prelude.{◌≡◌, List, Ok, IfOk, IfErr, false, map};
 ghost use Rattle.std.specs.Option.{option_map};

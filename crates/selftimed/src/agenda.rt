@@ -1,3 +1,12 @@
+//! What an execution looks at next.
+//!
+//! The engine keeps a calendar with the first end of each actor that runs, with each actor the channel on which it lacked
+//! tokens when it was last looked at, and a list of the actors whose such channel has enough since. So an event costs
+//! little for an actor that nothing lets go on, and a logarithm of the running actors for each that ends or starts. Where
+//! several channels feed no more firings, one from another actor is noted and not the actor's own, which has a token again
+//! as soon as a firing ends: so an actor that waits for others isn't looked at when its own firing ends. Of up to 16 actors
+//! the calendar is a plain list that is looked through, which costs less than to keep a heap in order. In which order the
+//! listed actors start doesn't matter, since only an actor's own starts take tokens from the channels into it.
 ghost use Rattle.std.specs.Prelude.{◌≡◌, [], ◌∷◌, ◌++◌, true, nat_lt, if◌then◌else◌, IfOk, OnOk};
 ghost use Rattle.std.specs.List.{range_with_len};
 ghost use Rattle.selftimed.specs.inside.Agendas.{Announces, IsSoonest, TakesDue};

@@ -1,3 +1,8 @@
+//! Self-timed execution of a net, event by event.
+//!
+//! An engine borrows the wiring. `Engine::new` takes the channels by actor as an argument, since an engine borrows them and
+//! two engines of one net share them. Every caller has them from `Wiring::new` of the same net; its condition `wired`
+//! speaks of the ends of the channels alone.
 ghost use Rattle.std.specs.Prelude.{◌≡◌, ◌↔◌, IsTrue, ◌+◌, ◌^◌, ◌<◌, ◌≤◌, length, IfOk, IfErr, OnErr, OnOk};
 ghost use Rattle.sd_base.specs.Schedules.{count_of};
 ghost use Rattle.sd_base.specs.SelfTimed.{earliest, shape_at, starts_by};

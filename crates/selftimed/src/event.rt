@@ -1,4 +1,7 @@
 //! An event of an execution: the firings that end at its moment, and those that start then.
+//!
+//! An event tells who started. The engine lists the actors of which firings started, so what keeps the starts looks at
+//! these and not at all actors.
 ghost use Rattle.std.specs.Prelude.{◌≡◌, ℕ, false, ◌^◌, ◌<◌, ◌≤◌, length, IfOk, OnOk, MatchBool};
 ghost use Rattle.std.proofs.Props.{props};
 ghost use Rattle.std.specs.Bool.{OnTrue};

@@ -1,3 +1,8 @@
+//! What each firing asks of a channel.
+//!
+//! What a firing asks for lies together. An engine keeps by channel the target, the rates of the first phase and the weight
+//! in a print, which a bounded net would otherwise look up by way of the channel whose space it is. Of an actor of one
+//! phase these decide all; one of more phases is asked phase by phase.
 ghost use Rattle.std.specs.Prelude.{◌≡◌, ◌+◌, ◌*◌, ◌^◌, ◌<◌, ◌≤◌, IfOk, length, slice_index};
 ghost use Rattle.sd_base.specs.declared.limits.TheConstants.{RATE};
 ghost use Rattle.sd_base.specs.Net.{channel_at, phase_entry, total};

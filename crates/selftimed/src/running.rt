@@ -1,3 +1,9 @@
+//! The firings of an actor that run.
+//!
+//! The firings of an actor that run are kept as runs: a moment, and how many firings beside each other end at it. So a
+//! million firings that start together cost what one costs. Two runs beside each other end at different moments, so that
+//! equal lists of ends have the same runs, and are compared run by run. Mostly there is one run, and so an actor's first
+//! one stands in its state itself, and only the later ones in a vector.
 ghost use Rattle.std.specs.Prelude.{◌≡◌, ℕ, ◌+◌, ◌-◌, ◌%◌, ◌^◌, ◌<◌, ◌≤◌, [], ◌∷◌, ◌++◌, All, MatchOption, OnErr, OnOk, drop, length, map, replicate, slice_get, slice_index, sum, take};
 ghost use Rattle.selftimed.specs.inside.Runs.{run_at, ends_of, AreRuns};
 

@@ -1,3 +1,11 @@
+//! The tokens on each channel, with their print.
+//!
+//! An engine makes at most 2^32 starts, each of which puts at most a million tokens on a channel that begins with at most
+//! two thousand million, so its tokens stay below 2^60. A shape shows them in 128 bits.
+//!
+//! The print of tokens is kept as they change, that of remaining times is made from a sum that each actor keeps of the ends
+//! of its running firings. So two shapes that differ are mostly told apart without going through lists, however many
+//! firings run.
 ghost use Rattle.std.specs.Prelude.{◌≡◌, ◌↔◌, ℕ, ◌+◌, ◌-◌, ◌^◌, ◌<◌, ◌≤◌, [], ◌∷◌, ◌++◌, length, map, set, slice_index, IfOk, IfSome, IsTrue, MatchOption, OnOk};
 ghost use Rattle.sd_base.specs.Net.{Channel, channel_at, total};
 ghost use Rattle.firing.specs.declared.sums.Port.TheVariants.{Made, Taken};

@@ -1,4 +1,8 @@
 //! One round of a net in which each actor has one phase, carried out on rows in place of stamps.
+//!
+//! A scenario's round is carried out on rows. In place of stamps each token has a row, which says how long after each
+//! shared token it comes; tokens that a firing puts together have one row. The rows of the tokens that are left are the
+//! matrix.
 ghost use Rattle.std.specs.Prelude.{◌≡◌, ◌<◌, ◌+◌, ℕ, [], IfOk, OnOk, length, take};
 ghost use Rattle.firing.specs.declared.sums.Port.TheVariants.{Made, Taken};
 ghost use Rattle.firing.specs.Wiring.{IsListed};
