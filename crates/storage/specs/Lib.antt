@@ -3,6 +3,7 @@ pub mod NamedBuffers
 pub mod Distributions
 pub mod CapacityOrder
 pub mod Steps
+pub mod StorageOrder
 pub mod ShownSpaces
 pub mod ParetoPoints
 pub mod ClosedLists

@@ -1,0 +1,11 @@
+pub mod Elements
+pub mod WaitingOrder
+pub mod Heads
+pub mod Inserts
+pub mod Growing
+pub mod TakenOff
+pub mod Adding
+pub mod LedOn
+pub mod Children
+pub mod Spreading
+pub mod ComingTo

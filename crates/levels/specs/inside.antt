@@ -1,0 +1,2 @@
+pub mod WaitingOrder
+pub mod Waiting
