@@ -25,10 +25,6 @@ def explored(analyser, graph, asked):
     search = Search(analyser, graph, words.passed_on(asked), asked.seconds)
     search.explore(lambda new: None)
     if not search.points:
-            raise
-        search.ended = fault.line
-    output.progress("")
-    if not search.points:
         raise Fault(BUDGET, f"there is no point: {search.ended}")
     return search
 
