@@ -2,7 +2,7 @@
 use Rattle.std.proofs.Common.{◌≡◌, ℕ, zero, suc, ◌<◌, ◌≤◌, Option, Some, List, [], ◌∷◌, All, length, map, drop, slice_get, inl, inr, refl, ap, arith}
 use Rattle.std.specs.Prelude.{slice_index_or}
 use Rattle.std.proofs.lemmas.List.{length-map}
-use Rattle.std.proofs.lemmas.List.Elements.{All-nil, All-cons}
+use Rattle.std.proofs.lemmas.List.Elements.{All-cons, All-contains, All-nil}
 use Rattle.sd_base.specs.declared.limits.Limits.{Limits}
 use Rattle.sd_base.specs.declared.limits.TheConstants.{STORAGE}
 use Rattle.sd_base.specs.Net.{Net}
@@ -17,7 +17,7 @@ use Rattle.explore.specs.declared.exploration.Member.{Member}
 use Rattle.explore.specs.declared.exploration.Shown.{Shown}
 use Rattle.explore.specs.declared.exploration.Shown.TheVariants.{Cycle, Blocked}
 use Rattle.explore.specs.Explorations.{AreInOrder, IsBefore, IsExploration, IsOneOf, ShowsRate, capacities_of, pair_of}
-use Rattle.explore.proofs.Elements.{one-at, one-map}
+use Rattle.explore.proofs.Elements.{one-at, one-contains, one-map}
 use Rattle.explore.proofs.Explorable.{reachable-fits}
 use Rattle.sd_base.specs.declared.numbers.Fraction.{Fraction}
 use Rattle.cert_maker.specs.inside.Lines.{ArePlaced, HasLine, HasText}
@@ -54,7 +54,7 @@ module _ (net : Net) (plain : IsPlain net) (limits : Limits) (small : limits.tot
   after-place [] i ds es order at one more = absurd one
   after-place (x ∷ xs) zero ds es order at one more = one
   after-place (x ∷ xs) (suc i) ds es order at (inl head) more =
-      absurd (before (order.0 ds (found xs i at)))
+      absurd (before (All-contains (IsBefore net x) xs ds order.0 (one-contains xs ds (found xs i at))))
     where
       found : (ys : List (List (Option ℕ))) (j : ℕ) → slice_get ys j ≡ Some ds → IsOneOf ys ds
       found [] j none = absurd (cc)

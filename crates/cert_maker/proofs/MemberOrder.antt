@@ -1,6 +1,7 @@
 -- The members of an exploration in their order: the corner comes first, and each other one after what led to it.
 use Rattle.std.proofs.Common.{◌≡◌, ◌⊎◌, ℕ, zero, suc, ◌≤◌, ◌<◌, false, Option, Some, List, [], ◌∷◌, slice_get, inl, inr, ⊎_elim, refl, sym, ap, subst, ◌∙◌, arith}
 use Rattle.std.proofs.lemmas.Bool.{true≢false}
+use Rattle.std.proofs.lemmas.List.Elements.{All-contains}
 use Rattle.std.proofs.lemmas.Option.{slice_get_within}
 use Rattle.sd_base.specs.declared.limits.Limits.{Limits}
 use Rattle.sd_base.specs.Net.{Net, channel_at}
@@ -16,7 +17,7 @@ use Rattle.pareto_front.specs.declared.point.Point.{Point}
 use Rattle.explore.specs.declared.exploration.Member.{Member}
 use Rattle.explore.specs.Explorations.{AreInOrder, IsBefore, IsExploration, IsOneOf, ShowsChannel, capacities_of}
 use Rattle.explore.specs.Reachable.{IsReachable, corner, next, stepped}
-use Rattle.explore.proofs.Elements.{one-map}
+use Rattle.explore.proofs.Elements.{one-contains, one-map}
 use Rattle.explore.proofs.Explorable.{reachable-fits}
 use Rattle.cert_checker.specs.StorageCertificates.{IsFileNet}
 use Rattle.cert_checker.proofs.FileNets.{no-spaces}
@@ -29,7 +30,7 @@ pub order-at : (net : Net) (dss : List (List (Option ℕ))) (i j : ℕ) (ds es :
 order-at net [] i j ds es order less one other = absurd (cc)
 order-at net (x ∷ xs) i zero ds es order less one other = absurd (omega arith)
 order-at net (x ∷ xs) zero (suc j) ds es order less one other =
-    let same : x ≡ ds = cc in subst (λ (y : List (Option ℕ)). IsBefore net y es) same (order.0 es (get-one xs j es other))
+    let same : x ≡ ds = cc in subst (λ (y : List (Option ℕ)). IsBefore net y es) same (All-contains (IsBefore net x) xs es order.0 (one-contains xs es (get-one xs j es other)))
 order-at net (x ∷ xs) (suc i) (suc j) ds es order less one other = order-at net xs i j ds es order.1 (omega arith) one other
 
 pub reachable-grid : (net : Net) (limit : ℕ) (ds : List (Option ℕ)) → IsReachable net limit ds → IsOnGrid net.channels ds

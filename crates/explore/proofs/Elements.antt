@@ -1,8 +1,7 @@
--- Elements of lists, and lists of distributions in order.
-use Rattle.std.proofs.Common.{◌≡◌, ℕ, zero, suc, ◌<◌, ◌⊎◌, Option, List, [], ◌∷◌, ◌++◌, length, map, inl, inr, ⊎_elim, refl, ap, arith}
-use Rattle.std.specs.Prelude.{slice_index_or}
-use Rattle.sd_base.specs.Net.{Net}
-use Rattle.explore.specs.Explorations.{AreInOrder, IsBefore, IsOneOf}
+-- Elements of lists.
+use Rattle.std.proofs.Common.{◌≡◌, ℕ, zero, suc, ◌<◌, List, [], ◌∷◌, ◌++◌, length, map, ◌⊎◌, inl, inr, ⊎_elim, refl, ap, subst, arith}
+use Rattle.std.specs.Prelude.{All, Contains, slice_index_or}
+use Rattle.explore.specs.Explorations.{IsOneOf}
 
 pub one-left : {A : Type 0} (xs ys : List A) (x : A) → IsOneOf xs x → IsOneOf (xs ++ ys) x
 one-left [] ys x is = absurd is
@@ -38,9 +37,17 @@ at-one [] d x is = absurd is
 at-one (z ∷ xs) d x (inl same) = (0, omega arith, same)
 at-one (z ∷ xs) d x (inr later) = let found = at-one xs d x later in (suc found.0, omega (arith, found.1), found.2)
 
-pub order-append : (net : Net) (xs ys : List (List (Option ℕ))) → AreInOrder net xs → AreInOrder net ys → ((ds es : List (Option ℕ)) → IsOneOf xs ds → IsOneOf ys es → IsBefore net ds es) → AreInOrder net (xs ++ ys)
-order-append net [] ys one other apart = other
-order-append net (x ∷ xs) ys one other apart = (
-  λ es is. ⊎_elim (λ (h : IsOneOf xs es). one.0 es h) (λ (h : IsOneOf ys es). apart x es (inl refl) h) (one-split xs ys es is),
-  order-append net xs ys one.1 other (λ ds es front back. apart ds es (inr front) back),
-)
+-- between the two ways to say that an element is there
+
+pub one-contains : {A : Type 0} (xs : List A) (x : A) → IsOneOf xs x → Contains xs x
+one-contains xs x one = at-one xs x x one
+
+pub contains-one : {A : Type 0} (xs : List A) (x : A) → Contains xs x → IsOneOf xs x
+contains-one xs x (k, below, same) = subst (IsOneOf xs) same (one-at xs k x below)
+
+pub one-all : {A : Type 0} (P : A → Type 0) (xs : List A) → ((x : A) → IsOneOf xs x → P x) → All P xs
+one-all P xs holds = λ k d below. holds (slice_index_or xs k d) (one-at xs k d below)
+
+pub map-map : {A B C : Type 0} (f : B → C) (g : A → B) (xs : List A) → map f (map g xs) ≡ map (λ (x : A). f (g x)) xs
+map-map f g [] = refl
+map-map f g (x ∷ xs) = ap (λ ys. f (g x) ∷ ys) (map-map f g xs)

@@ -1,6 +1,7 @@
--- A search whose distributions are all members is an exploration: its points are the front.
+-- A search that has ended is an exploration: its points are the front.
 use Rattle.std.proofs.Common.{◌≡◌, ℕ, ◌*◌, ◌≤◌, ◌<◌, ◌⊎◌, true, false, Option, List, [], ◌∷◌, length, map, inl, inr, ⊎_elim, refl, sym, ap, ◌∙◌, subst, arith}
-use Rattle.std.specs.Prelude.{◌==◌, slice_index, slice_index_or}
+use Rattle.std.specs.Prelude.{◌==◌, Contains, slice_index, slice_index_or}
+use Rattle.std.proofs.lemmas.List.Elements.{Contains-get_or}
 use Rattle.std.proofs.lemmas.Bool.{cases_lt, cases_Bool, true≢false}
 use Rattle.std.proofs.lemmas.Bool.Decides.{Decides-eqb}
 use Rattle.sd_base.specs.declared.limits.Limits.{Limits}
@@ -23,11 +24,12 @@ use Rattle.pareto_front.specs.declared.point.Point.{Point}
 use Rattle.pareto_front.specs.Offers.{AreAbove, AreInOrder as AreRising, Covers, IsCoveredBy, IsOneOf as IsOffer, Offer}
 use Rattle.pareto_front.specs.Points.{offer_of}
 use Rattle.explore.specs.declared.exploration.Member.{Member}
-use Rattle.explore.specs.Reachable.{IsExplorable, stepped}
-use Rattle.explore.specs.Explorations.{IsExploration, IsOneOf, capacities_of, pair_of}
-use Rattle.explore.specs.inside.Searches.{AreKnown, AreNoted, IsCandidate, IsNoted, IsSpread, WasFound, offer_for, offers_of}
-use Rattle.explore.proofs.Elements.{at-one, one-at, one-map, one-unmap}
-use Rattle.explore.proofs.Spreading.{map-map}
+use Rattle.levels.specs.Visits.{led_by, visited}
+use Rattle.explore.specs.Reachable.{IsExplorable, IsReachable, stepped}
+use Rattle.explore.specs.Explorations.{AreInOrder, IsExploration, IsOneOf, ShowsChannel, capacities_of, pair_of}
+use Rattle.explore.specs.inside.Searches.{IsEnded, IsNoted, offer_for, offers_of, visits_of}
+use Rattle.explore.proofs.Elements.{at-one, contains-one, map-map, one-at, one-contains, one-map, one-unmap}
+use Rattle.explore.proofs.Searching.{entry-of, entry-visit, has-contains, led-member, noted-at, noted-of, visited-members}
 use Rattle.explore.proofs.OfferFronts.{front-of_offers, pair_of as offer_pair}
 
 zero-test : (n : ℕ) → (((n == 0) ≡ true) × (n ≡ 0)) ⊎ (((n == 0) ≡ false) × (1 ≤ n))
@@ -58,19 +60,6 @@ offer-from net (x ∷ ms) o is = at (zero-test x.rate.num) (λ later. offer-from
     at : (((x.rate.num == 0) ≡ true) × (x.rate.num ≡ 0)) ⊎ (((x.rate.num == 0) ≡ false) × (1 ≤ x.rate.num)) → (IsOffer (offers_of net ms) o → IsOfferOf net ms o) → IsOfferOf net (x ∷ ms) o
     at (inl test) rest = further (rest (rw test.0 at is))
     at (inr test) rest = ⊎_elim (λ (same : offer_for net x ≡ o). (x, inl refl, same, test.1)) (λ (later : IsOffer (offers_of net ms) o). further (rest later)) (rw test.0 at is)
-
-noted-at : (net : Net) (states : ℕ) (ms : List Member) (es : List Entry) (e : Entry) → AreNoted net states ms es → IsOneOf es e → (m : Member) × IsOneOf ms m × IsNoted net states m e
-noted-at net states [] [] e are is = absurd is
-noted-at net states [] (f ∷ es) e are is = absurd are
-noted-at net states (m ∷ ms) [] e are is = absurd are
-noted-at net states (m ∷ ms) (f ∷ es) e are (inl same) = (m, inl refl, subst (IsNoted net states m) same are.0)
-noted-at net states (m ∷ ms) (f ∷ es) e are (inr later) = let found = noted-at net states ms es e are.1 later in (found.0, inr found.1, found.2)
-
-noted-of : (net : Net) (states : ℕ) (ms : List Member) (es : List Entry) (m : Member) → AreNoted net states ms es → IsOneOf ms m → (e : Entry) × IsOneOf es e × IsNoted net states m e
-noted-of net states [] es m are is = absurd is
-noted-of net states (x ∷ ms) [] m are is = absurd are
-noted-of net states (x ∷ ms) (f ∷ es) m are (inl same) = (f, inl refl, subst (λ (y : Member). IsNoted net states y f) same are.0)
-noted-of net states (x ∷ ms) (f ∷ es) m are (inr later) = let found = noted-of net states ms es m are.1 later in (found.0, inr found.1, found.2)
 
 pub to-offer : (os : List Offer) (o : Offer) → IsOneOf os o → IsOffer os o
 to-offer [] o is = is
@@ -109,77 +98,60 @@ same-covers (q ∷ ps) p o order (inr later) (inl covers) storage rate =
     absurd (omega (arith, above.1, no_more))
 same-covers (q ∷ ps) p o order (inr later) (inr covered) storage rate = same-covers ps p o (rest-rising q ps order) later covered storage rate
 
-module _ (net : Net) (laws : Lawful net) (can : IsExplorable net) (limits : Limits) (small : limits.total ≤ STORAGE) (floor : ℕ) (members : List Member) (points : List Point) (spread : IsSpread net limits.total floor members (capacities_of members) []) (known : AreKnown net limits.states members points) where
-  candidate : (m : Member) → IsOneOf members m → IsCandidate net limits.total m.capacities.capacities
-  candidate m one = spread.candidates m.capacities.capacities (one-map (λ (x : Member). x.capacities.capacities) members m one)
-
+module _ (net : Net) (laws : Lawful net) (can : IsExplorable net) (limits : Limits) (small : limits.total ≤ STORAGE) (members : List Member) (points : List Point) (ended : IsEnded net limits members points) where
   lawful-at : (ds : List (Option ℕ)) → (m : Member) → IsOneOf members m → IsDistribution net.channels ds → storage_of net.channels ds ≤ limits.total → Lawful (bound net ds)
   lawful-at ds m one dist within =
-      let mine = candidate m one in
+      let mine = ended.candidates m one in
       within-lawful net laws (plain-no_spaces net can.plain) m.capacities.capacities ds mine.distribution (can.few m.capacities.capacities mine.distribution) dist (omega (arith, small, within))
 
-  found-one : (ds : List (Option ℕ)) → WasFound (capacities_of members) [] ds → IsOneOf (capacities_of members) ds
-  found-one ds (inl one) = one
-  found-one ds (inr (w, none, same)) = absurd none
+  noted : (i : ℕ) → i < length ended.entries → (m : Member) × IsOneOf members m × IsNoted net limits.states m (entry_at ended.entries i)
+  noted i below = noted-at net limits.states members ended.entries (entry_at ended.entries i) ended.known.noted (one-at ended.entries i no_entry below)
 
-  noted : (i : ℕ) → i < length known.entries → (m : Member) × IsOneOf members m × IsNoted net limits.states m (entry_at known.entries i)
-  noted i below = noted-at net limits.states members known.entries (entry_at known.entries i) known.noted (one-at known.entries i no_entry below)
-
-  has-entry : (ds : List (Option ℕ)) → IsOneOf (capacities_of members) ds → HasEntry known.entries ds
-  has-entry ds one =
-      let m = one-unmap (λ (x : Member). x.capacities.capacities) members ds one in
-      let e = noted-of net limits.states members known.entries m.0 known.noted m.1 in
-      let at = at-one known.entries no_entry e.0 e.1 in
-      (at.0, at.1, ap (λ (x : Entry). x.capacities) at.2 ∙ (ap (λ (x : Entry). x.capacities) e.2.is ∙ m.2))
-
-  nexts : (i j : ℕ) → i < length known.entries → j < length (entry_at known.entries i).shown →
-      storage_of net.channels (stepped net (entry_at known.entries i).capacities (slice_index (entry_at known.entries i).shown j)) ≤ limits.total →
-      HasEntry known.entries (stepped net (entry_at known.entries i).capacities (slice_index (entry_at known.entries i).shown j))
+  nexts : (i j : ℕ) → i < length ended.entries → j < length (entry_at ended.entries i).shown →
+      storage_of net.channels (stepped net (entry_at ended.entries i).capacities (slice_index (entry_at ended.entries i).shown j)) ≤ limits.total →
+      HasEntry ended.entries (stepped net (entry_at ended.entries i).capacities (slice_index (entry_at ended.entries i).shown j))
   nexts i j below shown within =
-      let n = noted i below in
-      let e : Entry = entry_at known.entries i in
-      let c : ℕ = slice_index (entry_at known.entries i).shown j in
-      let caps : (entry_at known.entries i).capacities ≡ n.0.capacities.capacities = ap (λ (x : Entry). x.capacities) n.2.is in
-      let from : storage_of net.channels (stepped net n.0.capacities.capacities (slice_index (entry_at known.entries i).shown j)) ≤ limits.total → HasEntry known.entries (stepped net n.0.capacities.capacities (slice_index (entry_at known.entries i).shown j)) =
-      λ fits. has-entry _ (found-one _ (spread.next n.0 (slice_index (entry_at known.entries i).shown j) n.1 ((n.2.shows (slice_index (entry_at known.entries i).shown j)).0 (j, shown, refl)) fits)) in
-      subst (λ (ds : List (Option ℕ)). storage_of net.channels (stepped net ds (slice_index (entry_at known.entries i).shown j)) ≤ limits.total → HasEntry known.entries (stepped net ds (slice_index (entry_at known.entries i).shown j))) (sym caps) from within
+      let e : Entry = entry_at ended.entries i in
+      let c : ℕ = slice_index (entry_at ended.entries i).shown j in
+      entry-of ended.entries (stepped net e.capacities c)
+      (ended.visits.next (led_by e.capacities e.shown) (stepped net e.capacities c) (entry-visit ended.entries e (one-at ended.entries i no_entry below)) (c, Contains-get_or (entry_at ended.entries i).shown j 0 shown, refl) within)
 
-  bounds : (i : ℕ) → i < length known.entries → (ds : List (Option ℕ)) → IsDistribution net.channels ds → storage_of net.channels ds ≤ limits.total → AtMost (entry_at known.entries i).capacities ds → AgreesOn (entry_at known.entries i).shown (entry_at known.entries i).capacities ds → (p q : ℕ) → Rate (bound net ds) p q → p * (entry_at known.entries i).den ≤ (entry_at known.entries i).num * q
+  bounds : (i : ℕ) → i < length ended.entries → (ds : List (Option ℕ)) → IsDistribution net.channels ds → storage_of net.channels ds ≤ limits.total → AtMost (entry_at ended.entries i).capacities ds → AgreesOn (entry_at ended.entries i).shown (entry_at ended.entries i).capacities ds → (p q : ℕ) → Rate (bound net ds) p q → p * (entry_at ended.entries i).den ≤ (entry_at ended.entries i).num * q
   bounds i below ds dist within most agrees p q rate =
       let n = noted i below in
-      (subst (λ (x : Entry). AtMost x.capacities ds → AgreesOn (entry_at known.entries i).shown x.capacities ds → p * x.den ≤ x.num * q) (sym n.2.is) (λ under same. n.2.bounds ds p q under same (lawful-at ds n.0 n.1 dist within) rate)) most agrees
+      (subst (λ (x : Entry). AtMost x.capacities ds → AgreesOn (entry_at ended.entries i).shown x.capacities ds → p * x.den ≤ x.num * q) (sym n.2.is) (λ under same. n.2.bounds ds p q under same (lawful-at ds n.0 n.1 dist within) rate)) most agrees
 
-  closed : IsClosed net limits.total known.entries
+  closed : IsClosed net limits.total ended.entries
   closed = record {
-    corner = spread.corner;
-    is_corner = spread.is_corner;
-    start = λ fits. has-entry spread.corner (found-one spread.corner (spread.start fits));
-    distributions = λ i below. let n = noted i below in subst (λ (x : Entry). IsDistribution net.channels x.capacities) (sym n.2.is) (candidate n.0 n.1).distribution;
-    grid = λ i below. let n = noted i below in subst (λ (x : Entry). IsOnGrid net.channels x.capacities) (sym n.2.is) (candidate n.0 n.1).grid;
-    within = λ i below. let n = noted i below in subst (λ (x : Entry). storage_of net.channels x.capacities ≤ limits.total) (sym n.2.is) (candidate n.0 n.1).within;
+    corner = ended.corner;
+    is_corner = ended.is_corner;
+    start = λ fits. entry-of ended.entries ended.corner (ended.visits.begins fits);
+    distributions = λ i below. let n = noted i below in subst (λ (x : Entry). IsDistribution net.channels x.capacities) (sym n.2.is) (ended.candidates n.0 n.1).distribution;
+    grid = λ i below. let n = noted i below in subst (λ (x : Entry). IsOnGrid net.channels x.capacities) (sym n.2.is) (ended.candidates n.0 n.1).grid;
+    within = λ i below. let n = noted i below in subst (λ (x : Entry). storage_of net.channels x.capacities ≤ limits.total) (sym n.2.is) (ended.candidates n.0 n.1).within;
     next = nexts;
     positive = λ i below. let n = noted i below in subst (λ (x : Entry). 1 ≤ x.den) (sym n.2.is) n.0.rate.positive;
     above = net-above net laws spread.corner spread.is_corner;
     bounds = λ i below. net-bounds net laws limits.total (entry_at known.entries i) (bounds i below);
   }
 
-  exact : AreExact net known.entries
+  exact : AreExact net ended.entries
   exact i below runs = let n = noted i below in subst (λ (x : Entry). Rate (bound net x.capacities) x.num x.den) (sym n.2.is) n.2.member.rate
 
   member-rate : (m : Member) → IsOneOf members m → Rate (bound net m.capacities.capacities) m.rate.num m.rate.den
-  member-rate m one = (noted-of net limits.states members known.entries m known.noted one).2.member.rate
+  member-rate m one = (noted-of net limits.states members ended.entries m ended.known.noted one).2.member.rate
 
   offers : List Offer
   offers = map offer_of points
 
   reached-offer : (o : Offer) → IsOffer (map offer_of points) o → (m : Member) × IsOneOf members m × (offer_for net m ≡ o) × Reaches net limits.total o.storage o.rate.num o.rate.den o.capacities
   reached-offer o one =
-      let from = offer-from net members o (known.front.among o one) in
-      let mine = candidate from.0 from.1 in
+      let from = offer-from net members o (ended.known.front.among o one) in
+      let mine = ended.candidates from.0 from.1 in
       (from.0, from.1, from.2, subst (λ (x : Offer). Reaches net limits.total x.storage x.rate.num x.rate.den x.capacities) from.2 (record { distribution = mine.distribution; total = refl; within = mine.within; rate = member-rate from.0 from.1; runs = from.3 }))
 
-  over : IsFrontOver net limits.total known.entries (map offer_pair (map offer_of points))
-  over = front-of_offers net limits.total known.entries (map offer_of points) known.front.order
+  over : IsFrontOver net limits.total ended.entries (map offer_pair (map offer_of points))
+  over = front-of_offers net limits.total ended.entries (map offer_of points) ended.known.front.order
       (λ i below.
       let o = one-unmap offer_pair (map offer_of points) (slice_index_or (map offer_pair (map offer_of points)) i no_pair) (one-at (map offer_pair (map offer_of points)) i no_pair below) in
       let reaches = reached-offer o.0 (to-offer (map offer_of points) o.0 o.1) in
@@ -192,11 +164,11 @@ module _ (net : Net) (laws : Lawful net) (can : IsExplorable net) (limits : Limi
         storage = sym (ap (λ (x : Entry). storage_of net.channels x.capacities) n.2.is);
         num = sym (ap (λ (x : Entry). x.num) n.2.is);
         den = sym (ap (λ (x : Entry). x.den) n.2.is);
-        covered = known.front.covers (offer_for net n.0) (offer-there net members n.0 n.1 some);
+        covered = ended.known.front.covers (offer_for net n.0) (offer-there net members n.0 n.1 some);
       })
 
   front : IsFront net limits.total (map pair_of points)
-  front = subst (IsFront net limits.total) (map-map offer_pair offer_of points) (front-over net laws limits.total known.entries (map offer_pair (map offer_of points)) closed over)
+  front = subst (IsFront net limits.total) (map-map offer_pair offer_of points) (front-over net laws limits.total ended.entries (map offer_pair (map offer_of points)) closed over)
 
   pareto : (p : Point) → IsOneOf points p → IsPareto net limits.total (pair_of p)
   pareto p one =
@@ -205,33 +177,50 @@ module _ (net : Net) (laws : Lawful net) (can : IsExplorable net) (limits : Limi
 
   least : (p : Point) → IsOneOf points p → (ds : List (Option ℕ)) → Reaches net limits.total p.total p.rate.num p.rate.den ds → no_later p.capacities.capacities ds ≡ true
   least p one ds reaches =
-      let has = pareto-listed net laws limits.total known.entries closed exact (pair_of p) (pareto p one) ds reaches in
+      let has = pareto-listed net laws limits.total ended.entries closed exact (pair_of p) (pareto p one) ds reaches in
       let n = noted has.0 has.1 in
       let same : n.0.capacities.capacities ≡ ds = sym (ap (λ (x : Entry). x.capacities) n.2.is) ∙ has.2 in
       let mine : Rate (bound net ds) n.0.rate.num n.0.rate.den = subst (λ (es : List (Option ℕ)). Rate (bound net es) n.0.rate.num n.0.rate.den) same n.2.member.rate in
       let fits : storage_of net.channels ds ≤ limits.total = omega (arith, reaches.total, reaches.within) in
       let rates = one-rate (bound net ds) n.0.rate.num n.0.rate.den p.rate.num p.rate.den (lawful-at ds n.0 n.1 reaches.distribution fits) mine reaches.rate in
       let some : 1 ≤ n.0.rate.num = omega (arith, rates.0, reaches.runs) in
-      let covered = known.front.covers (offer_for net n.0) (offer-there net members n.0 n.1 some) in
+      let covered = ended.known.front.covers (offer_for net n.0) (offer-there net members n.0 n.1 some) in
       let storage : storage_of net.channels n.0.capacities.capacities ≡ p.total = ap (storage_of net.channels) same ∙ reaches.total in
       let cross : n.0.rate.num * p.rate.den ≡ p.rate.num * n.0.rate.den = ap (λ (x : ℕ). x * p.rate.den) rates.0 ∙ ap (λ (x : ℕ). p.rate.num * x) (sym rates.1) in
-      let covers : Covers (offer_of p) (offer_for net n.0) = same-covers (map offer_of points) (offer_of p) (offer_for net n.0) known.front.order (to-offer (map offer_of points) (offer_of p) (one-map offer_of points p one)) covered storage cross in
+      let covers : Covers (offer_of p) (offer_for net n.0) = same-covers (map offer_of points) (offer_of p) (offer_for net n.0) ended.known.front.order (to-offer (map offer_of points) (offer_of p) (one-map offer_of points p one)) covered storage cross in
       subst (λ (es : List (Option ℕ)). no_later p.capacities.capacities es ≡ true) same (covers.tie (sym storage) cross)
 
-  pub explored : length members ≤ limits.distributions → IsExploration net limits members points
-  explored few = record {
+  same-visits : visited (visits_of ended.entries) ≡ capacities_of members
+  same-visits = visited-members net limits.states members ended.entries ended.known.noted
+
+  is-member : (ds : List (Option ℕ)) → Contains (visited (visits_of ended.entries)) ds → IsOneOf (capacities_of members) ds
+  is-member ds one = contains-one (capacities_of members) ds (subst (λ (xs : List (List (Option ℕ))). Contains xs ds) same-visits one)
+
+  is-visit : (ds : List (Option ℕ)) → IsOneOf (capacities_of members) ds → Contains (visited (visits_of ended.entries)) ds
+  is-visit ds one = subst (λ (xs : List (List (Option ℕ))). Contains xs ds) (sym same-visits) (one-contains (capacities_of members) ds one)
+
+  follows : (m : Member) (c : ℕ) → IsOneOf members m → ShowsChannel net m.capacities.capacities m.shown c → storage_of net.channels (stepped net m.capacities.capacities c) ≤ limits.total → IsOneOf (capacities_of members) (stepped net m.capacities.capacities c)
+  follows m c one shows fits =
+      let e = noted-of net limits.states members ended.entries m ended.known.noted one in
+      let same : e.0.capacities ≡ m.capacities.capacities = ap (λ (x : Entry). x.capacities) e.2.is in
+      is-member (stepped net m.capacities.capacities c)
+      (ended.visits.next (led_by e.0.capacities e.0.shown) (stepped net m.capacities.capacities c) (entry-visit ended.entries e.0 e.1)
+      (c, has-contains e.0.shown c ((e.2.shows c).1 shows), ap (λ (ds : List (Option ℕ)). stepped net ds c) (sym same)) fits)
+
+  pub explored : IsExploration net limits members points
+  explored = record {
     front = front;
     reached = λ p one.
         let at = reached-offer (offer_of p) (to-offer (map offer_of points) (offer_of p) (one-map offer_of points p one)) in
-        record { reaches = at.3; least = least p one; found = known.tables p one };
+        record { reaches = at.3; least = least p one; found = ended.known.tables p one };
     listed = λ p one.
         let at = reached-offer (offer_of p) (to-offer (map offer_of points) (offer_of p) (one-map offer_of points p one)) in
         subst (IsOneOf (capacities_of members)) (ap (λ (o : Offer). o.capacities) at.2) (one-map (λ (x : Member). x.capacities.capacities) members at.0 at.1);
-    evaluated = λ m one. (noted-of net limits.states members known.entries m known.noted one).2.member;
-    reachable = λ ds one. (spread.candidates ds one).reachable;
-    order = spread.order;
-    start = record { corner = spread.corner; is_corner = spread.is_corner; start = λ fits. found-one spread.corner (spread.start fits) };
-    closed = λ m c one shows fits. found-one (stepped net m.capacities.capacities c) (spread.next m c one shows fits);
-    led = λ ds one. spread.led ds (inl one);
-    few = few;
+    evaluated = λ m one. (noted-of net limits.states members ended.entries m ended.known.noted one).2.member;
+    reachable = λ ds one. let m = one-unmap (λ (x : Member). x.capacities.capacities) members ds one in subst (IsReachable net limits.total) m.2 (ended.candidates m.0 m.1).reachable;
+    order = subst (AreInOrder net) same-visits ended.visits.order;
+    start = record { corner = ended.corner; is_corner = ended.is_corner; start = λ fits. is-member ended.corner (ended.visits.begins fits) };
+    closed = follows;
+    led = λ ds one. led-member net limits.states members ended.entries ended.known.noted ended.corner ended.is_corner ds (ended.visits.led ds (is-visit ds one));
+    few = ended.few;
   }

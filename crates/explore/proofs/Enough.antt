@@ -1,6 +1,7 @@
 -- An exploration that ends below the limit has all points, if one of them has a rate that none passes.
-use Rattle.std.proofs.Common.{◌≡◌, ℕ, zero, suc, ◌+◌, ◌*◌, ◌≤◌, ◌<◌, Option, Some, None, List, [], ◌∷◌, length, map, inl, inr, ⊎_elim, sym, ap, subst, arith, mul-le-mul_right}
-use Rattle.std.specs.Prelude.{slice_index_or}
+use Rattle.std.proofs.Common.{ℕ, zero, suc, ◌+◌, ◌*◌, ◌≤◌, ◌<◌, Option, Some, None, List, [], ◌∷◌, length, map, inl, inr, ⊎_elim, sym, subst, arith, mul-le-mul_right}
+use Rattle.std.specs.Prelude.{Contains, slice_index_or}
+use Rattle.std.proofs.lemmas.List.Elements.{All-contains}
 use Rattle.std.proofs.lemmas.Bool.{cases_lt}
 use Rattle.sd_base.specs.declared.limits.Limits.{Limits}
 use Rattle.sd_base.specs.declared.limits.TheConstants.{STORAGE}
@@ -12,7 +13,6 @@ use Rattle.storage.proofs.Fits.{within-lawful}
 use Rattle.storage.proofs.FileChannels.{plain-no_spaces}
 use Rattle.pareto_front.specs.declared.point.Point.{Point}
 use Rattle.explore.specs.declared.exploration.Member.{Member}
-use Rattle.explore.specs.declared.waiting.Waiting.{Waiting}
 use Rattle.explore.specs.Reachable.{IsExplorable, IsReachable, corner, next, stepped}
 use Rattle.explore.specs.Explorations.{IsExploration, IsOneOf, IsPoint, capacities_of, pair_of}
 use Rattle.explore.specs.declared.extent.Extent.{Extent}
@@ -20,10 +20,12 @@ use Rattle.explore.specs.declared.extent.Extent.TheVariants.{Limit, Fastest}
 use Rattle.explore.specs.declared.search.Search.{Search}
 use Rattle.explore.specs.Extents.{Explores, IsEnough, up_to}
 use Rattle.explore.specs.Ceilings.{BoundsAll}
-use Rattle.explore.specs.inside.Searches.{AreKnown, IsCandidate, IsFarEnough, IsSearch, IsSpread, IsStanding, IsTopAmong, WasFound}
-use Rattle.explore.proofs.Elements.{at-one, one-map}
+use Rattle.levels.specs.Visits.{AreVisits, visited}
+use Rattle.levels.proofs.Spreading.{frontier-up_to}
+use Rattle.explore.specs.inside.Searches.{IsCandidate, IsEnded, IsFarEnough, IsPast, IsSearch, IsTopAmong, visits_of}
+use Rattle.explore.proofs.Elements.{at-one, one-contains, one-map}
+use Rattle.explore.proofs.Searching.{search-few, search-limit, visited-members}
 use Rattle.explore.proofs.Ending.{explored}
-use Rattle.explore.proofs.Turning.{capacities-length}
 
 more-storage : (cs : List Channel) (ds : List (Option ℕ)) (c by : ℕ) → storage_of cs ds ≤ storage_of cs (enlarged ds c by)
 more-storage [] ds c by = omega arith
@@ -40,35 +42,6 @@ reachable-low : (net : Net) (limit storage : ℕ) (ds : List (Option ℕ)) → I
 reachable-low net limit storage ds (corner _ is within) low = corner ds is low
 reachable-low net limit storage _ (next ds c reach guide within) low =
     next ds c (reachable-low net limit storage ds reach (let more : storage_of net.channels ds ≤ storage_of net.channels (stepped net ds c) = more-storage net.channels ds c _ in omega (arith, more, low))) guide low
-
--- those that wait need more storage, so below it all is done
-module _ (net : Net) (limit storage : ℕ) (low : storage ≤ limit) (members : List Member) (done : List (List (Option ℕ))) (pending : List Waiting) (s : IsSpread net limit (storage + 1) members done pending) where
-  done-low : (ds : List (Option ℕ)) → storage_of net.channels ds ≤ storage → WasFound done pending ds → WasFound done [] ds
-  done-low ds small (inl one) = inl one
-  done-low ds small (inr (w, one, same)) =
-      let waits = s.waits w one in
-      let is : storage_of net.channels w.capacities.capacities ≡ storage_of net.channels ds = ap (storage_of net.channels) same in
-      absurd (omega (arith, waits.above, waits.total, is, small))
-
-  done-all : (ds : List (Option ℕ)) → WasFound done [] ds → WasFound done pending ds
-  done-all ds (inl one) = inl one
-  done-all ds (inr (w, none, same)) = absurd none
-
-  pub spread-low : IsSpread net storage (storage + 1) members done []
-  spread-low = record {
-    candidates = λ ds one.
-        let is : IsCandidate net limit ds = s.candidates ds one in
-        let small : storage_of net.channels ds < storage + 1 = s.low ds one in
-        record { distribution = is.distribution; grid = is.grid; within = omega (arith, small); reachable = reachable-low net limit storage ds is.reachable (omega (arith, small)) };
-    order = s.order;
-    low = s.low;
-    waits = λ w none. absurd none;
-    corner = s.corner;
-    is_corner = s.is_corner;
-    start = λ small. done-low s.corner small (s.start (omega (arith, small, low)));
-    next = λ m c one shows small. done-low (stepped net m.capacities.capacities c) small (s.next m c one shows (omega (arith, small, low)));
-    led = λ ds found. s.led ds (done-all ds found);
-  }
 
 -- what is reached within less storage
 reaches-up : (net : Net) (storage limit t p q : ℕ) (ds : List (Option ℕ)) → storage ≤ limit → Reaches net storage t p q ds → Reaches net limit t p q ds
@@ -142,33 +115,49 @@ module _ (net : Net) (laws : Lawful net) (can : IsExplorable net) (limits : Limi
 pub enough-whole : (net : Net) (limits : Limits) (members : List Member) (points : List Point) → IsExploration net limits members points → IsEnough net limits members points
 enough-whole net limits members points is = record { storage = limits.total; within = omega arith; explored = is; front = is.front; reached = is.reached }
 
--- one that has come past a storage, and whose points have one with a rate that none passes, is enough
-pub enough-past : (net : Net) → Lawful net → IsExplorable net → (limits : Limits) → limits.total ≤ STORAGE → (storage : ℕ) → storage ≤ limits.total → (members : List Member) (points : List Point) (pending : List Waiting)
-    → IsSpread net limits.total (storage + 1) members (capacities_of members) pending → AreKnown net limits.states members points → length members ≤ limits.distributions → IsTopAmong net points → IsEnough net limits members points
-enough-past net laws can limits small storage low members points pending spread known few top =
-    enough net laws can limits small storage low members points
-    (explored net laws can (up_to storage limits) (omega (arith, small, low)) (storage + 1) members points (spread-low net limits.total storage low members (capacities_of members) pending spread) known few)
-    top
-
 -- an exploration that is as far as is wanted
 pub explores-whole : (extent : Extent) (net : Net) (limits : Limits) (members : List Member) (points : List Point) → IsExploration net limits members points → Explores extent net limits members points
 explores-whole Limit net limits members points is = is
 explores-whole Fastest net limits members points is = enough-whole net limits members points is
 
+-- an exploration that has come past a storage has ended up to it
+pub ended-past : (net : Net) (can : IsExplorable net) (limits : Limits) (storage : ℕ) (s : Search) → IsPast net limits storage s → IsEnded net (up_to storage limits) s.members.items s.front
+ended-past net can limits storage s (low, search) = record {
+  entries = search.entries;
+  known = search.known;
+  corner = search.corner;
+  is_corner = search.is_corner;
+  visits = visits;
+  candidates = λ m one.
+      let is : IsCandidate net limits.total m.capacities.capacities = search.candidates m one in
+      let mine : storage_of net.channels m.capacities.capacities ≤ storage = All-contains (λ (ds : List (Option ℕ)). storage_of net.channels ds ≤ storage) (visited (visits_of search.entries)) m.capacities.capacities visits.within
+      (subst (λ (xs : List (List (Option ℕ))). Contains xs m.capacities.capacities) (sym (visited-members net limits.states s.members.items search.entries search.known.noted)) (one-contains (capacities_of s.members.items) m.capacities.capacities (one-map (λ (x : Member). x.capacities.capacities) s.members.items m one))) in
+      record { distribution = is.distribution; grid = is.grid; within = mine; reachable = reachable-low net limits.total storage m.capacities.capacities is.reachable mine };
+  few = (let few = search-few net can limits (storage + 1) [] s search in omega (arith, few));
+}
+  where
+    visits : AreVisits net.channels search.corner storage (visits_of search.entries)
+    visits = frontier-up_to net.channels search.corner storage (visits_of search.entries) s.levels search.frontier (omega (arith, low, search-limit net can limits (storage + 1) [] s search))
+
+-- one that has ended up to the limit, where nothing waits any more
+pub ended-whole : (net : Net) (can : IsExplorable net) (limits : Limits) (floor : ℕ) (s : Search) → (search : IsSearch net limits floor [] s) → AreVisits net.channels search.corner s.levels.bounds.total (visits_of search.entries) → IsEnded net limits s.members.items s.front
+ended-whole net can limits floor s search visits = record {
+  entries = search.entries;
+  known = search.known;
+  corner = search.corner;
+  is_corner = search.is_corner;
+  visits = subst (λ (n : ℕ). AreVisits net.channels search.corner n (visits_of search.entries)) (search-limit net can limits floor [] s search) visits;
+  candidates = search.candidates;
+  few = (let few = search-few net can limits floor [] s search in omega (arith, few));
+}
+
 module _ (net : Net) (laws : Lawful net) (can : IsExplorable net) (limits : Limits) (small : limits.total ≤ STORAGE) where
-  members-few : (floor : ℕ) (s : Search) → IsSearch net limits floor (capacities_of s.members.items) s → length s.members.items ≤ limits.distributions
-  members-few floor s is = omega (arith, is.found, is.few, capacities-length s.members.items)
-
-  explored-none : (s : Search) → IsStanding net limits s → s.waiting.keys ≡ [] → IsExploration net limits s.members.items s.front
-  explored-none s stands none =
-      explored net laws can limits small stands.0 s.members.items s.front
-      (subst (IsSpread net limits.total stands.0 s.members.items (capacities_of s.members.items)) none stands.1.spread) stands.1.known (members-few stands.0 s stands.1)
-
-  pub explores-far : (extent : Extent) (s : Search) → IsStanding net limits s → IsFarEnough extent net limits s → Explores extent net limits s.members.items s.front
-  explores-far Limit s stands none = explored-none s stands none
-  explores-far Fastest s stands (inl none) = enough-whole net limits s.members.items s.front (explored-none s stands none)
-  explores-far Fastest s stands (inr (storage, past, top)) =
-      enough-past net laws can limits small storage past.0 s.members.items s.front s.waiting.keys past.1.spread past.1.known (members-few (storage + 1) s past.1) top
+  pub explores-far : (extent : Extent) (s : Search) → IsFarEnough extent net limits s → Explores extent net limits s.members.items s.front
+  explores-far Limit s ended = explored net laws can limits small s.members.items s.front ended
+  explores-far Fastest s (inl ended) = enough-whole net limits s.members.items s.front (explored net laws can limits small s.members.items s.front ended)
+  explores-far Fastest s (inr (storage, past, top)) =
+      enough net laws can limits small storage past.0 s.members.items s.front
+      (explored net laws can (up_to storage limits) (omega (arith, small, past.0)) s.members.items s.front (ended-past net can limits storage s past)) top
 
 -- the points are those of all distributions within the limit
 pub explores-points : (extent : Extent) (net : Net) (limits : Limits) (members : List Member) (points : List Point) → Explores extent net limits members points → (p : Point) → IsOneOf points p → IsPoint net limits p

@@ -1,6 +1,6 @@
 -- What is known of members, with one more.
 use Rattle.std.proofs.Common.{◌≡◌, ℕ, ◌+◌, ◌⊎◌, Bool, true, false, Option, List, [], ◌∷◌, ◌++◌, map, inl, inr, ⊎_elim, refl, sym, ap, subst, arith, eq-eqb}
-use Rattle.std.specs.Prelude.{◌==◌, if◌then◌else◌, nat_le}
+use Rattle.std.specs.Prelude.{◌==◌, ◌↔◌, if◌then◌else◌, nat_le}
 use Rattle.std.proofs.lemmas.List.{append-nil}
 use Rattle.sd_base.specs.declared.numbers.Fraction.{Fraction}
 use Rattle.sd_base.specs.Net.{Net}
@@ -19,9 +19,21 @@ use Rattle.guide.specs.declared.rating.Outcome.{Outcome}
 use Rattle.guide.specs.declared.rating.Outcome.TheVariants as outcomes
 use Rattle.guide.specs.Evaluations.{IsEvaluated, IsOutcome, loops_run}
 use Rattle.explore.specs.declared.exploration.Member.{Member}
-use Rattle.explore.specs.Explorations.{IsOneOf, ShowsRate, cycles_in, shows_cycle}
+use Rattle.explore.specs.Explorations.{IsOneOf, ShowsChannel, ShowsRate, cycles_in, shows_cycle}
 use Rattle.explore.specs.inside.Searches.{AreKnown, AreNoted, HasTable, IsNoted, entry_of, member_of, offer_for, offers_at, offers_of, shown_by}
-use Rattle.explore.proofs.Spreading.{evaluation-shown}
+use Rattle.critical.specs.Spaces.{Has, IsSpaceAt}
+use Rattle.guide.proofs.Shown.{evaluation-shows}
+
+-- what an outcome shows is what its member shows
+outcome-shown : (net : Net) (ds : List (Option ℕ)) (states : ℕ) (rate : Fraction) (shown : List ℕ) (outcome : Outcome) → IsOutcome net ds states rate shown outcome → (c : ℕ) → Has shown c ↔ ShowsChannel net ds (shown_by outcome) c
+outcome-shown net ds states rate shown (outcomes.Live table cycle) is c = (
+  λ has. let at = is.channels.there has.0 has.1 in (at.0, at.1, subst (IsSpaceAt (bound net ds) cycle.steps at.0) has.2 at.2),
+  λ shows. is.channels.all shows.0 c shows.1 shows.2,
+)
+outcome-shown net ds states rate shown (outcomes.Blocked counts lacks) is c = is.channels c
+
+pub evaluation-shown : (net : Net) (d : Distribution) (states : ℕ) (e : Evaluation) → IsEvaluated net d.capacities states e → (c : ℕ) → Has e.enlarge c ↔ ShowsChannel net d.capacities (member_of d e).shown c
+evaluation-shown net d states e is c = outcome-shown net d.capacities states e.rate e.enlarge e.outcome is.outcome c
 
 -- a member with the channels of its evaluation
 
@@ -33,11 +45,12 @@ pub member-noted : (net : Net) (d : Distribution) (states : ℕ) (e : Evaluation
 member-noted net d states e is = record {
   is = refl;
   shows = evaluation-shown net d states e is;
+  guided = λ c has. evaluation-shows net d.capacities states e c is has;
   member = record { rate = is.rate; shown = outcome-rate net d.capacities states e e.outcome is.outcome };
   bounds = is.bounds;
 }
 
-noted-more : (net : Net) (states : ℕ) (ms : List Member) (es : List Entry) (m : Member) (e : Entry) → AreNoted net states ms es → IsNoted net states m e → AreNoted net states (ms ++ m ∷ []) (es ++ e ∷ [])
+pub noted-more : (net : Net) (states : ℕ) (ms : List Member) (es : List Entry) (m : Member) (e : Entry) → AreNoted net states ms es → IsNoted net states m e → AreNoted net states (ms ++ m ∷ []) (es ++ e ∷ [])
 noted-more net states [] [] m e are is = (is, tt)
 noted-more net states [] (f ∷ es) m e are is = absurd are
 noted-more net states (n ∷ ms) [] m e are is = absurd are
@@ -52,10 +65,9 @@ offers-more net (m ∷ ms) new = at (m.rate.num == 0) (offers-more net ms new)
     at false rest = ap (λ (os : List Offer). offer_for net m ∷ os) rest
 
 -- one more member is known
-pub known-more : (net : Net) (states : ℕ) (ms : List Member) (old new : List Point) (m : Member) (e : Entry) → AreKnown net states ms old → IsNoted net states m e → ((os : List Offer) → IsFrontOf os (map offer_of old) → IsFrontOf (os ++ offers_of net (m ∷ [])) (map offer_of new)) → (((p : Point) → IsOneOf old p → HasTable net states p) → (p : Point) → IsOneOf new p → HasTable net states p) → AreKnown net states (ms ++ m ∷ []) new
-known-more net states ms old new m e known is front tables = record {
-  entries = known.entries ++ e ∷ [];
-  noted = noted-more net states ms known.entries m e known.noted is;
+pub known-more : (net : Net) (states : ℕ) (ms : List Member) (es : List Entry) (old new : List Point) (m : Member) (e : Entry) → AreKnown net states ms es old → IsNoted net states m e → ((os : List Offer) → IsFrontOf os (map offer_of old) → IsFrontOf (os ++ offers_of net (m ∷ [])) (map offer_of new)) → (((p : Point) → IsOneOf old p → HasTable net states p) → (p : Point) → IsOneOf new p → HasTable net states p) → AreKnown net states (ms ++ m ∷ []) (es ++ e ∷ []) new
+known-more net states ms es old new m e known is front tables = record {
+  noted = noted-more net states ms es m e known.noted is;
   front = subst (λ (os : List Offer). IsFrontOf os (map offer_of new)) (sym (offers-more net ms (m ∷ []))) (front (offers_of net ms) known.front);
   tables = tables known.tables;
 }
@@ -94,9 +106,9 @@ offered-one n old new p (inr (not, same)) is = put-one n old p (subst (λ (ps : 
 
 -- a member whose net is live, and one whose net is blocked
 
-pub live-known : (net : Net) (d : Distribution) (e : Evaluation) (total : ℕ) (table : LoopTable) (cycle : NeedCycle) (old new : List Point) → e.outcome ≡ outcomes.Live table cycle → storage_of net.channels d.capacities ≡ total → ((os : List Offer) → IsFrontOf os (map offer_of old) → IsFrontOf (os ++ offers_at total e.rate d.capacities) (map offer_of new)) → ((p : Point) → IsOneOf new p → ((p.capacities ≡ d) × (p.table ≡ table)) ⊎ IsOneOf old p) → (states : ℕ) (ms : List Member) → IsEvaluated net d.capacities states e → AreKnown net states ms old → AreKnown net states (ms ++ member_of d e ∷ []) new
-live-known net d e total table cycle old new live storage front points states ms is known =
-    known-more net states ms old new (member_of d e) (entry_of (member_of d e) e.enlarge) known (member-noted net d states e is) fronts tables
+pub live-known : (net : Net) (d : Distribution) (e : Evaluation) (total : ℕ) (table : LoopTable) (cycle : NeedCycle) (old new : List Point) → e.outcome ≡ outcomes.Live table cycle → storage_of net.channels d.capacities ≡ total → ((os : List Offer) → IsFrontOf os (map offer_of old) → IsFrontOf (os ++ offers_at total e.rate d.capacities) (map offer_of new)) → ((p : Point) → IsOneOf new p → ((p.capacities ≡ d) × (p.table ≡ table)) ⊎ IsOneOf old p) → (states : ℕ) (ms : List Member) (es : List Entry) → IsEvaluated net d.capacities states e → AreKnown net states ms es old → AreKnown net states (ms ++ member_of d e ∷ []) (es ++ entry_of (member_of d e) e.enlarge ∷ []) new
+live-known net d e total table cycle old new live storage front points states ms es is known =
+    known-more net states ms es old new (member_of d e) (entry_of (member_of d e) e.enlarge) known (member-noted net d states e is) fronts tables
   where
     fronts : (os : List Offer) → IsFrontOf os (map offer_of old) → IsFrontOf (os ++ offers_of net (member_of d e ∷ [])) (map offer_of new)
     fronts os was = subst (λ (n : ℕ). IsFrontOf (os ++ offers_at n e.rate d.capacities) (map offer_of new)) (sym storage) (front os was)
@@ -107,9 +119,9 @@ live-known net d e total table cycle old new live storage front points states ms
     tables : ((p : Point) → IsOneOf old p → HasTable net states p) → (p : Point) → IsOneOf new p → HasTable net states p
     tables was p one = ⊎_elim (λ (h : (p.capacities ≡ d) × (p.table ≡ table)). subst (λ (x : Distribution). IsFound (bound net x.capacities) states p.table) (sym h.0) (subst (λ (t : LoopTable). IsFound (bound net d.capacities) states t) (sym h.1) found)) (λ (h : IsOneOf old p). was p h) (points p one)
 
-pub blocked-known : (net : Net) (d : Distribution) (e : Evaluation) (counts : List ℕ) (lacks : List (Option ℕ)) (points : List Point) → e.outcome ≡ outcomes.Blocked counts lacks → (states : ℕ) (ms : List Member) → IsEvaluated net d.capacities states e → AreKnown net states ms points → AreKnown net states (ms ++ member_of d e ∷ []) points
-blocked-known net d e counts lacks points blocked states ms is known =
-    known-more net states ms points points (member_of d e) (entry_of (member_of d e) e.enlarge) known (member-noted net d states e is) fronts (λ was p one. was p one)
+pub blocked-known : (net : Net) (d : Distribution) (e : Evaluation) (counts : List ℕ) (lacks : List (Option ℕ)) (points : List Point) → e.outcome ≡ outcomes.Blocked counts lacks → (states : ℕ) (ms : List Member) (es : List Entry) → IsEvaluated net d.capacities states e → AreKnown net states ms es points → AreKnown net states (ms ++ member_of d e ∷ []) (es ++ entry_of (member_of d e) e.enlarge ∷ []) points
+blocked-known net d e counts lacks points blocked states ms es is known =
+    known-more net states ms es points points (member_of d e) (entry_of (member_of d e) e.enlarge) known (member-noted net d states e is) fronts (λ was p one. was p one)
   where
     zero : e.rate.num ≡ 0
     zero = (subst (IsOutcome net d.capacities states e.rate e.enlarge) blocked is.outcome).zero

@@ -2,22 +2,21 @@
 use Rattle.std.proofs.Common.{ℕ, List, ap, subst}
 use Rattle.std.specs.Prelude.{IfOk, Result, Ok, Err, map}
 use Rattle.sd_base.specs.Net.{Net}
+use Rattle.storage.specs.ClosedLists.{Entry}
 use Rattle.pareto_front.specs.declared.point.Point.{Point}
 use Rattle.pareto_front.specs.Offers.{Offer}
 use Rattle.pareto_front.specs.Points.{offer_of}
 use Rattle.explore.specs.declared.exploration.Member.{Member}
-use Rattle.explore.specs.declared.waiting.Waiting.{Waiting}
-use Rattle.explore.specs.Explorations.{IsOneOf, capacities_of}
-use Rattle.explore.specs.inside.Searches.{AreKnown, IsCandidate, IsSpread}
+use Rattle.explore.specs.Explorations.{IsOneOf}
+use Rattle.explore.specs.inside.Searches.{AreKnown, IsCandidate}
 use Rattle.explore.proofs.Elements.{one-map}
 use Rattle.explore.proofs.Ending.{offer-from, to-offer}
 
-pub point-candidate : (net : Net) (limit floor states : ℕ) (members : List Member) (points : List Point) (pending : List Waiting) → IsSpread net limit floor members (capacities_of members) pending → AreKnown net states members points
+pub point-candidate : (net : Net) (limit states : ℕ) (members : List Member) (entries : List Entry) (points : List Point) → ((m : Member) → IsOneOf members m → IsCandidate net limit m.capacities.capacities) → AreKnown net states members entries points
     → (p : Point) → IsOneOf points p → IsCandidate net limit p.capacities.capacities
-point-candidate net limit floor states members points pending spread known p one =
+point-candidate net limit states members entries points candidates known p one =
     let from = offer-from net members (offer_of p) (known.front.among (offer_of p) (to-offer (map offer_of points) (offer_of p) (one-map offer_of points p one))) in
-    subst (IsCandidate net limit) (ap (λ (o : Offer). o.capacities) from.2)
-    (spread.candidates from.0.capacities.capacities (one-map (λ (x : Member). x.capacities.capacities) members from.0 from.1))
+    subst (IsCandidate net limit) (ap (λ (o : Offer). o.capacities) from.2) (candidates from.0 from.1)
 
 pub ok-more : {A E : Type 0} (P Q : A → Type 0) (r : Result A E) → ((a : A) → P a → Q a) → IfOk r P → IfOk r Q
 ok-more P Q (Ok a) more is = more a is

@@ -1,51 +1,117 @@
--- A level is taken off those that wait, and its answers can be taken in.
-use Rattle.std.proofs.Common.{◌≡◌, ℕ, ◌+◌, ◌≤◌, Option, List, [], ◌∷◌, ◌++◌, Result, Ok, Err, length, map, inl, inr, sym, ap, ◌∙◌, subst, arith}
-use Rattle.std.specs.Prelude.{All, slice_index_or}
-use Rattle.std.specs.List.Sorted.{IsStrictlySortedBy}
-use Rattle.std.proofs.lemmas.List.{length-append, length-map}
+-- A level is taken off those that wait, its distributions are evaluated, and each of its answers is taken in.
+use Rattle.std.proofs.Common.{◌≡◌, ℕ, ◌+◌, ◌≤◌, ◌<◌, Option, None, Some, List, [], ◌∷◌, ◌++◌, Result, Ok, Err, length, map, ⊎_elim, refl, sym, ap, ◌∙◌, subst, arith}
+use Rattle.std.specs.Prelude.{All, Contains, MatchOption, slice_index_or}
+use Rattle.std.proofs.lemmas.List.{get_or-map, length-map, map-append}
+use Rattle.std.proofs.lemmas.List.Elements.{All-contains, All-map, Contains-append_left, Contains-append_right, Contains-get_or}
 use Rattle.sd_base.specs.declared.limits.Limits.{Limits}
 use Rattle.sd_base.specs.declared.limits.TheConstants.{STORAGE}
-use Rattle.sd_base.specs.Net.{Net}
+use Rattle.sd_base.specs.Net.{Channel, Net, nowhere}
 use Rattle.sd_base.specs.Lawful.{Lawful}
-use Rattle.firing.specs.declared.wiring.Wiring.{Wiring}
 use Rattle.lasso.specs.declared.error.RunError.{RunError}
 use Rattle.storage.specs.declared.distribution.Distribution.{Distribution}
+use Rattle.storage.specs.ClosedLists.{Entry}
+use Rattle.storage.specs.Distributions.{AtMost, storage_of}
+use Rattle.storage.specs.Steps.{step_of}
+use Rattle.storage.proofs.Enlarging.{enlarged-most}
 use Rattle.guide.specs.declared.rating.Evaluation.{Evaluation}
 use Rattle.guide.specs.declared.rating.Outcome.{Outcome}
 use Rattle.guide.specs.declared.rating.Outcome.TheVariants as outcomes
-use Rattle.guide.specs.Evaluations.{loops_run}
+use Rattle.guide.specs.Evaluations.{IsEvaluated, loops_run}
+use Rattle.levels.specs.declared.error.LevelsError.{LevelsError}
+use Rattle.levels.specs.declared.error.LevelsError.TheVariants as causes
+use Rattle.levels.specs.declared.found.Found.{Found}
+use Rattle.levels.specs.declared.found.Level.{Level}
+use Rattle.levels.specs.declared.levels.Bounds.{Bounds}
+use Rattle.levels.specs.Visits.{AreVisits, IsLedTo as IsLed, Visit, led_by, visited}
+use Rattle.levels.specs.Frontiers.{AreLedOn, IsFoundBy, IsFrontier, IsLevelTaken, IsSame, IsSpent, Rises, Waits, distributions_of}
+use Rattle.levels.proofs.Elements.{contains-map}
+use Rattle.levels.proofs.LedOn.{known-long}
 use Rattle.explore.specs.declared.exploration.Member.{Member}
 use Rattle.explore.specs.declared.exploration.Shown.{Shown}
 use Rattle.explore.specs.declared.exploration.Shown.TheVariants.{Cycle, Blocked}
 use Rattle.explore.specs.declared.level.Answered.{Answered}
 use Rattle.explore.specs.declared.search.Search.{Search}
-use Rattle.explore.specs.declared.waiting.Waiting.{Waiting}
 use Rattle.explore.specs.Reachable.{IsExplorable}
-use Rattle.explore.specs.Explorations.{CountsFew, IsOneOf, capacities_of, cycles_in, shows_cycle}
-use Rattle.explore.specs.inside.Levels.{IsEvaluation, IsStartable, WiresAll, most_loops, onto, sum_of}
-use Rattle.explore.specs.inside.Searches.{AreKnown, IsAnswerOf, IsNext, IsSearch, IsSpread, IsTakenOff, StopsAt, Waits, turned, waiting_order}
-use Rattle.explore.proofs.Elements.{at-one, one-at, one-map}
-use Rattle.explore.proofs.Spreading.{level-storage, level-waits, map-map, spread-found, spread-level}
-use Rattle.explore.proofs.Stepping.{candidate-evaluable}
+use Rattle.explore.specs.Explorations.{IsOneOf, IsRefusal, cycles_in, shows_cycle}
+use Rattle.explore.specs.inside.Errors.{error_of}
+use Rattle.explore.specs.inside.Levels.{IsEvaluation, IsVisitable, most_loops, sum_of}
+use Rattle.explore.specs.inside.Searches.{AreKnown, IsAnswerOf, IsCandidate, IsEnded, IsSearch, IsTurn, answered_of, entry_of, member_of, visits_of}
+use Rattle.explore.specs.inside.Starts.{IsHinted}
+use Rattle.explore.proofs.Elements.{map-map, one-contains, one-split}
+use Rattle.explore.proofs.Enough.{ended-whole}
+use Rattle.explore.proofs.Knowing.{member-noted, noted-more}
+use Rattle.explore.proofs.Searching.{contains-has, led-candidate, search-candidate, search-limit}
+use Rattle.explore.proofs.Starting.{get-last, hinted-longer}
+use Rattle.explore.proofs.Stepping.{candidate-evaluable, child-above, shown-bounded}
 
-onto-rest : {A : Type 0} (f : A → Distribution) (xs : List A) (rest : List Distribution) (d : Distribution) → IsOneOf rest d → IsOneOf (onto f xs rest) d
-onto-rest f [] rest d is = is
-onto-rest f (x ∷ xs) rest d is = onto-rest f xs (f x ∷ rest) d (inr is)
+-- a level that is taken off
+module _ (net : Net) (laws : Lawful net) (can : IsExplorable net) (limits : Limits) (small : limits.total ≤ STORAGE) (floor : ℕ) (old new : Search) (search : IsSearch net limits floor [] old) (members : new.members ≡ old.members) (front : new.front ≡ old.front) (level : Level (Option ℕ)) (off : IsLevelTaken level.total level.visits.items old.levels.waiting.keys new.levels.waiting.keys) (same : IsSame old.levels new.levels) (frontier : IsFrontier net.channels search.corner (level.total + 1) (visits_of search.entries) (distributions_of level.visits.items) new.levels) where
+  same-members : new.members.items ≡ old.members.items
+  same-members = ap (λ v. v.items) members
 
-onto-one : {A : Type 0} (f : A → Distribution) (xs : List A) (rest : List Distribution) (x : A) → IsOneOf xs x → IsOneOf (onto f xs rest) (f x)
-onto-one f [] rest x is = absurd is
-onto-one f (y ∷ xs) rest x (inl same) = onto-rest f xs (f y ∷ rest) (f x) (inl (ap f same))
-onto-one f (y ∷ xs) rest x (inr later) = onto-one f xs (f y ∷ rest) x later
+  turned : IsSearch net limits (level.total + 1) (distributions_of level.visits.items) new
+  turned = record {
+    entries = search.entries;
+    known = subst (λ (ms : List Member). AreKnown net limits.states ms search.entries new.front) (sym same-members) (subst (AreKnown net limits.states old.members.items search.entries) (sym front) search.known);
+    corner = search.corner;
+    is_corner = search.is_corner;
+    bounds = same.bounds ∙ search.bounds;
+    frontier = frontier;
+    candidates = λ m one. search.candidates m (subst (λ (ms : List Member). IsOneOf ms m) same-members one);
+    hinted = λ f one. subst (λ (ms : List Member). IsHinted net limits.states ms f.hint f.capacities.capacities) (sym same-members)
+        (search.hinted f (subst (λ (fs : List (Found (Option ℕ))). Contains fs f) (sym off.parts) (Contains-append_right level.visits.items new.levels.waiting.keys f one)));
+  }
 
-onto-length : {A : Type 0} (f : A → Distribution) (xs : List A) (rest : List Distribution) → length (onto f xs rest) ≡ length xs + length rest
-onto-length f [] rest = omega arith
-onto-length f (x ∷ xs) rest = let later = onto-length f xs (f x ∷ rest) in omega (arith, later)
+  waited : (f : Found (Option ℕ)) → Contains level.visits.items f → Contains old.levels.waiting.keys f
+  waited f one = subst (λ (fs : List (Found (Option ℕ))). Contains fs f) (sym off.parts) (Contains-append_left level.visits.items new.levels.waiting.keys f one)
 
-all-one : {A : Type 0} (P : A → Type 0) (xs : List A) (x : A) → All P xs → IsOneOf xs x → P x
-all-one P xs x all one = let at = at-one xs x x one in subst P at.2 (all at.0 x at.1)
+  total-of : (f : Found (Option ℕ)) → Contains level.visits.items f → (storage_of net.channels f.capacities.capacities ≡ level.total) × (level.total ≤ limits.total)
+  total-of f one =
+      let waits : Waits net.channels old.levels.bounds.total floor f = All-contains (Waits net.channels old.levels.bounds.total floor) old.levels.waiting.keys f search.frontier.spread.waits (waited f one) in
+      let here : f.total ≡ level.total = All-contains (λ (x : Found (Option ℕ)). x.total ≡ level.total) level.visits.items f off.totals one in (omega (arith, waits.total, here), omega (arith, waits.within, here, search-limit net can limits floor [] old search))
 
-pub turned-length : (answers : List Answered) → length (turned answers) ≡ length answers
-turned-length answers = length-map (onto (λ (a : Answered). a.capacities) answers []) (λ (d : Distribution). d.capacities) ∙ (let long = onto-length (λ (a : Answered). a.capacities) answers [] in omega (arith, long))
+  visitable : (f : Found (Option ℕ)) → Contains level.visits.items f → IsVisitable net limits.states new.members.items f
+  unfolding turned
+  visitable f one = record {
+    fits = candidate-evaluable net laws can limits.total f.capacities.capacities (omega (arith, small))
+        (search-candidate net can limits (level.total + 1) (distributions_of level.visits.items) new turned f.capacities.capacities
+        (Contains-append_right (visited (visits_of search.entries)) (distributions_of level.visits.items) f.capacities.capacities (contains-map (λ (x : Found (Option ℕ)). x.capacities.capacities) level.visits.items f one)));
+    hinted = subst (λ (ms : List Member). IsHinted net limits.states ms f.hint f.capacities.capacities) (sym same-members) (search.hinted f (waited f one));
+  }
+
+  pub turn-of : IsTurn net limits level new
+  turn-of = record {
+    search = turned;
+    totals = λ k d below. (total-of (slice_index_or level.visits.items k d) (Contains-get_or level.visits.items k d below)).0;
+    within = first level.visits.items off.some (λ f one. (total-of f one).1);
+    visitable = λ k d below. visitable (slice_index_or level.visits.items k d) (Contains-get_or level.visits.items k d below);
+    some = off.some;
+  }
+    where
+      first : (fs : List (Found (Option ℕ))) → 1 ≤ length fs → ((f : Found (Option ℕ)) → Contains fs f → level.total ≤ limits.total) → level.total ≤ limits.total
+      first [] some holds = absurd (omega (arith, some))
+      first (f ∷ fs) some holds = holds f (0, omega arith, refl)
+
+-- the answers of a level are of its distributions
+all-unmap : {A B : Type 0} (P : B → Type 0) (f : A → B) (xs : List A) → All P (map f xs) → All (λ (x : A). P (f x)) xs
+all-unmap P f xs all = λ k d below. subst P (get_or-map f xs k d (f d) below) (all k (f d) (omega (arith, below, length-map xs f)))
+
+pub level-answers : (net : Net) (limits : Limits) (total : ℕ) (answers : List Answered) (fs : List (Found (Option ℕ))) → map (λ (a : Answered). a.capacities) answers ≡ map (λ (f : Found (Option ℕ)). f.capacities) fs → All (λ (f : Found (Option ℕ)). storage_of net.channels f.capacities.capacities ≡ total) fs → All (λ (a : Answered). IsEvaluation net limits.states a.capacities a.answer) answers → All (IsAnswerOf net limits total) answers
+level-answers net limits total answers fs order totals all = λ k d below.
+    let P : Distribution → Type 0 = λ (x : Distribution). storage_of net.channels x.capacities ≡ total in
+    let of : All P (map (λ (a : Answered). a.capacities) answers) = subst (All P) (sym order) (All-map P (λ (f : Found (Option ℕ)). f.capacities) fs totals) in
+    record { answer = all k d below; storage = all-unmap P (λ (a : Answered). a.capacities) answers of k d below }
+
+pub answered-level : (answers : List Answered) (fs : List (Found (Option ℕ))) → map (λ (a : Answered). a.capacities) answers ≡ map (λ (f : Found (Option ℕ)). f.capacities) fs → answered_of answers ≡ distributions_of fs
+answered-level answers fs order =
+    sym (map-map (λ (d : Distribution). d.capacities) (λ (a : Answered). a.capacities) answers)
+    ∙ (ap (λ (ds : List Distribution). map (λ (d : Distribution). d.capacities) ds) order
+    ∙ map-map (λ (d : Distribution). d.capacities) (λ (f : Found (Option ℕ)). f.capacities) fs)
+
+pub answers-long : (answers : List Answered) (fs : List (Found (Option ℕ))) → map (λ (a : Answered). a.capacities) answers ≡ map (λ (f : Found (Option ℕ)). f.capacities) fs → length answers ≡ length fs
+answers-long answers fs order =
+    let same : length (map (λ (a : Answered). a.capacities) answers) ≡ length (map (λ (f : Found (Option ℕ)). f.capacities) fs) = ap (λ (ds : List Distribution). length ds) order in
+    omega (arith, same, length-map answers (λ (a : Answered). a.capacities), length-map fs (λ (f : Found (Option ℕ)). f.capacities))
 
 shows-few : (shown : Shown) → shows_cycle shown ≤ 1
 shows-few (Cycle cycle) = omega arith
@@ -67,67 +133,84 @@ pub sum-few : (answers : List Answered) → sum_of most_loops answers ≤ length
 sum-few [] = omega arith
 sum-few (a ∷ answers) = let later = sum-few answers in omega (arith, later, loops-few a.answer)
 
-pub counts-few : (net : Net) (limits : Limits) (floor : ℕ) (members : List Member) (done : List (List (Option ℕ))) (pending : List Waiting) (before after : ℕ) → IsSpread net limits.total floor members done pending → after ≤ before + length done → length done ≤ limits.distributions → CountsFew net limits before after
-counts-few net limits floor members done pending before after s rise few = (done, spread-found net limits.total floor members done pending s, rise, few)
+-- a member that is taken in
+visits-more : (es : List Entry) (e : Entry) → visits_of (es ++ e ∷ []) ≡ visits_of es ++ led_by e.capacities e.shown ∷ []
+visits-more es e = map-append (λ (x : Entry). led_by x.capacities x.shown) es (e ∷ [])
 
-pub capacities-length : (ms : List Member) → length (capacities_of ms) ≡ length ms
-capacities-length ms = length-map ms (λ (m : Member). m.capacities.capacities)
+module _ (net : Net) (laws : Lawful net) (can : IsExplorable net) (limits : Limits) (total : ℕ) (d : Distribution) (e : Evaluation) (is : IsEvaluated net d.capacities limits.states e) (rest : List (List (Option ℕ))) (old : Search) (search : IsSearch net limits (total + 1) (d.capacities ∷ rest) old) where
+  here : Contains (visited (visits_of search.entries) ++ d.capacities ∷ rest) d.capacities
+  here = Contains-append_right (visited (visits_of search.entries)) (d.capacities ∷ rest) d.capacities (0, omega arith, refl)
 
-module _ (net : Net) (laws : Lawful net) (can : IsExplorable net) (limits : Limits) (small : limits.total ≤ STORAGE) (floor total : ℕ) (s : Search) (search : IsSearch net limits floor (capacities_of s.members.items) s) (next : IsNext total s.waiting.keys) (level new : List Waiting) (off : IsTakenOff total level s.waiting.keys new) where
-  off-first : IsTakenOff total level (next.first ∷ next.rest) new
-  off-first = subst (λ (ws : List Waiting). IsTakenOff total level ws new) next.are off
+  pub its-candidate : IsCandidate net limits.total d.capacities
+  its-candidate = search-candidate net can limits (total + 1) (d.capacities ∷ rest) old search d.capacities here
 
-  sorted-first : IsStrictlySortedBy waiting_order (next.first ∷ next.rest)
-  sorted-first = subst (IsStrictlySortedBy waiting_order) next.are next.sorted
+  -- more room on a channel that is shown needs more storage
+  pub shown-rises : Rises net.channels (led_by d.capacities e.enlarge)
+  shown-rises es (c, one, same) = subst (λ (x : List (Option ℕ)). storage_of net.channels d.capacities < storage_of net.channels x) (sym same) (child-above net laws can limits.total d.capacities its-candidate limits.states e is c (contains-has e.enlarge c one))
 
-  spread-first : IsSpread net limits.total floor s.members.items (capacities_of s.members.items) (next.first ∷ next.rest)
-  spread-first = subst (IsSpread net limits.total floor s.members.items (capacities_of s.members.items)) next.are search.spread
+  -- the channels are known
+  pub shown-known : All (λ (c : ℕ). c < length old.levels.channels) e.enlarge
+  shown-known = λ k z below.
+      let b = shown-bounded net laws can limits.total d.capacities its-candidate limits.states e is (slice_index_or e.enlarge k z) (contains-has e.enlarge (slice_index_or e.enlarge k z) (Contains-get_or e.enlarge k z below)) in
+      omega (arith, b.place, known-long net.channels old.levels.channels search.frontier.over)
 
-  pub level-startable : (wiring : Wiring) → WiresAll net wiring → All (λ (w : Waiting). IsStartable net wiring w.capacities w.counts) level
-  level-startable wiring wired k d below =
-      let w : Waiting = slice_index_or level k d in
-      let waits : Waits net limits.total floor (slice_index_or level k d) = level-waits net limits.total floor s.members.items (capacities_of s.members.items) total level next.first next.rest new next.least off-first sorted-first spread-first (slice_index_or level k d) (one-at level k d below) in
-      record {
-        fits = candidate-evaluable net laws can limits.total w.capacities.capacities (omega (arith, small)) waits.candidate;
-        wired = wired w.capacities.capacities waits.candidate.distribution;
-        reached = waits.reached;
-      }
+  pub total-within : storage_of net.channels d.capacities ≡ total → total ≤ old.levels.bounds.total
+  total-within is_total = omega (arith, is_total, its-candidate.within, search-limit net can limits (total + 1) (d.capacities ∷ rest) old search)
 
-  pub level-answers : (answers : List Answered) → All (λ (a : Answered). IsEvaluation net limits.states a.capacities a.answer) answers → onto (λ (a : Answered). a.capacities) answers [] ≡ map (λ (w : Waiting). w.capacities) level → (a : Answered) → IsOneOf answers a → IsAnswerOf net limits total a
-  level-answers answers all order a one = record {
-    answer = all-one (λ (b : Answered). IsEvaluation net limits.states b.capacities b.answer) answers a all one;
-    storage = level-storage net limits.total floor s.members.items (capacities_of s.members.items) total level next.first next.rest new next.least off-first sorted-first spread-first a.capacities.capacities
-        (subst (λ (xs : List (List (Option ℕ))). IsOneOf xs a.capacities.capacities) (map-map (λ (d : Distribution). d.capacities) (λ (w : Waiting). w.capacities) level)
-        (one-map (λ (d : Distribution). d.capacities) (map (λ (w : Waiting). w.capacities) level) a.capacities (subst (λ (ds : List Distribution). IsOneOf ds a.capacities) order (onto-one (λ (b : Answered). b.capacities) answers [] a one))));
+  candidates-more : (m : Member) → IsOneOf (old.members.items ++ member_of d e ∷ []) m → IsCandidate net limits.total m.capacities.capacities
+  candidates-more m one =
+      ⊎_elim
+      (λ (h : IsOneOf old.members.items m). search.candidates m h)
+      (λ (h : IsOneOf (member_of d e ∷ []) m). ⊎_elim (λ (same : member_of d e ≡ m). subst (λ (x : Member). IsCandidate net limits.total x.capacities.capacities) same its-candidate) (λ (none : ⊥). absurd none) h)
+      (one-split old.members.items (member_of d e ∷ []) m one)
+
+  hint-new : (f : Found (Option ℕ)) → IsFoundBy net.channels old.levels.bounds.total (led_by d.capacities e.enlarge) (Some (length old.members.items)) f → IsHinted net limits.states (old.members.items ++ member_of d e ∷ []) f.hint f.capacities.capacities
+  hint-new f by = subst (λ (hint : Option ℕ). IsHinted net limits.states (old.members.items ++ member_of d e ∷ []) hint f.capacities.capacities) (sym by.hinted) (record {
+    member = member_of d e;
+    at = get-last old.members.items (member_of d e);
+    evaluated = (member-noted net d limits.states e is).member;
+    most = subst (AtMost d.capacities) (sym by.leads.2) (enlarged-most d.capacities by.leads.0 (step_of (slice_index_or net.channels by.leads.0 nowhere)));
+  })
+
+  pub taken-in : (new : Search) → new.members.items ≡ old.members.items ++ member_of d e ∷ [] → AreKnown net limits.states (old.members.items ++ member_of d e ∷ []) (search.entries ++ entry_of (member_of d e) e.enlarge ∷ []) new.front
+      → IsFrontier net.channels search.corner (total + 1) (visits_of search.entries ++ led_by d.capacities e.enlarge ∷ []) rest new.levels → IsSame old.levels new.levels
+      → AreLedOn net.channels old.levels.bounds.total (led_by d.capacities e.enlarge) (Some (length old.members.items)) old.levels.waiting.keys new.levels.waiting.keys → IsSearch net limits (total + 1) rest new
+  taken-in new members known frontier same on = record {
+    entries = search.entries ++ entry_of (member_of d e) e.enlarge ∷ [];
+    known = subst (λ (ms : List Member). AreKnown net limits.states ms (search.entries ++ entry_of (member_of d e) e.enlarge ∷ []) new.front) (sym members) known;
+    corner = search.corner;
+    is_corner = search.is_corner;
+    bounds = same.bounds ∙ search.bounds;
+    frontier = subst (λ (vs : List Visit). IsFrontier net.channels search.corner (total + 1) vs rest new.levels) (sym (visits-more search.entries (entry_of (member_of d e) e.enlarge))) frontier;
+    candidates = λ m one. candidates-more m (subst (λ (ms : List Member). IsOneOf ms m) members one);
+    hinted = λ f one. subst (λ (ms : List Member). IsHinted net limits.states ms f.hint f.capacities.capacities) (sym members)
+        (⊎_elim
+        (λ (h : Contains old.levels.waiting.keys f). hinted-longer net limits.states old.members.items (member_of d e ∷ []) f.hint f.capacities.capacities (search.hinted f h))
+        (λ (h : IsFoundBy net.channels old.levels.bounds.total (led_by d.capacities e.enlarge) (Some (length old.members.items)) f). hint-new f h)
+        (on.only f one));
   }
 
-  long : length s.waiting.keys ≡ length level + length new
-  long =
-      let parts : length s.waiting.keys ≡ length (level ++ new) = ap length off.parts in
-      let both = length-append level new in
-      omega (arith, parts, both)
+  -- or more are found than allowed
+  pub spent : (error : LevelsError) → IsSpent net.channels search.corner old.levels.bounds (visits_of search.entries ++ led_by d.capacities e.enlarge ∷ []) error → IsRefusal net limits (error_of error)
+  spent causes.NoMemory is_spent = tt
+  spent causes.Spent many = (
+    many.found,
+    record {
+      order = many.order;
+      reachable = λ ds one.
+          let has = one-contains many.found ds one in
+          (led-candidate net limits.states (old.members.items ++ member_of d e ∷ []) (search.entries ++ entry_of (member_of d e) e.enlarge ∷ [])
+          (noted-more net limits.states old.members.items search.entries (member_of d e) (entry_of (member_of d e) e.enlarge) search.known.noted (member-noted net d limits.states e is)) search.corner search.is_corner can limits.total candidates-more ds
+          (subst (λ (n : ℕ). storage_of net.channels ds ≤ n) (search-limit net can limits (total + 1) (d.capacities ∷ rest) old search) (All-contains (λ (x : List (Option ℕ)). storage_of net.channels x ≤ old.levels.bounds.total) many.found ds many.within has))
+          (subst (λ (vs : List Visit). IsLed net.channels search.corner vs ds) (sym (visits-more search.entries (entry_of (member_of d e) e.enlarge))) (many.led ds has))).reachable;
+    },
+    (let most : old.levels.bounds.distributions ≡ limits.distributions = ap (λ (b : Bounds). b.distributions) search.bounds in omega (arith, many.many, most)),
+  )
 
-  pub level-search : (answers : List Answered) → onto (λ (a : Answered). a.capacities) answers [] ≡ map (λ (w : Waiting). w.capacities) level → (t : Search) → t.waiting.keys ≡ new → t.members.items ≡ s.members.items → t.front ≡ s.front → t.found ≡ s.found → IsSearch net limits (total + 1) (capacities_of t.members.items ++ turned answers) t
-  level-search answers order t waiting members front found =
-      let are : turned answers ≡ map (λ (w : Waiting). w.capacities.capacities) level =
-      ap (λ (ds : List Distribution). map (λ (d : Distribution). d.capacities) ds) order ∙ map-map (λ (d : Distribution). d.capacities) (λ (w : Waiting). w.capacities) level in
-      let done : capacities_of t.members.items ++ turned answers ≡ capacities_of s.members.items ++ map (λ (w : Waiting). w.capacities.capacities) level = ap (λ (ms : List Member). capacities_of ms ++ turned answers) members ∙ ap (λ (xs : List (List (Option ℕ))). capacities_of s.members.items ++ xs) are in
-      let spread = spread-level net limits.total floor s.members.items (capacities_of s.members.items) total level next.first next.rest new next.least off-first sorted-first spread-first in
-      let a : IsSpread net limits.total (total + 1) s.members.items (capacities_of t.members.items ++ turned answers) new = subst (λ (xs : List (List (Option ℕ))). IsSpread net limits.total (total + 1) s.members.items xs new) (sym done) spread in
-      let b : IsSpread net limits.total (total + 1) t.members.items (capacities_of t.members.items ++ turned answers) new = subst (λ (ms : List Member). IsSpread net limits.total (total + 1) ms (capacities_of t.members.items ++ turned answers) new) (sym members) a in
-      let lengths = length-append (capacities_of s.members.items) (map (λ (w : Waiting). w.capacities.capacities) level) in
-      let mapped = length-map level (λ (w : Waiting). w.capacities.capacities) in
-      let all : length (capacities_of t.members.items ++ turned answers) ≡ length (capacities_of s.members.items) + length level = ap length done ∙ omega (arith, lengths, mapped) in
-      record {
-        spread = subst (IsSpread net limits.total (total + 1) t.members.items (capacities_of t.members.items ++ turned answers)) (sym waiting) b;
-        known = subst (λ (ms : List Member). AreKnown net limits.states ms t.front) (sym members) (subst (AreKnown net limits.states s.members.items) (sym front) search.known);
-        found = (let keys : length t.waiting.keys ≡ length new = ap length waiting in omega (arith, found, search.found, all, long, keys));
-        few = omega (arith, found, search.few);
-      }
-
-  pub level-some : 1 ≤ length level
-  level-some = at level off-first.parts
-    where
-      at : (taken : List Waiting) → next.first ∷ next.rest ≡ taken ++ new → 1 ≤ length taken
-      at [] parts = absurd ((subst (StopsAt total) (sym parts) off.stops) next.least)
-      at (w ∷ taken) parts = omega arith
+-- the next level, or the end
+pub next-turn : (net : Net) → Lawful net → IsExplorable net → (limits : Limits) → limits.total ≤ STORAGE → (floor : ℕ) (old new : Search) → IsSearch net limits floor [] old → new.members ≡ old.members → new.front ≡ old.front → IsSame old.levels new.levels → (found : Option (Level (Option ℕ)))
+    → MatchOption found (old.levels.waiting.keys ≡ []) (λ (level : Level (Option ℕ)). IsLevelTaken level.total level.visits.items old.levels.waiting.keys new.levels.waiting.keys)
+    → ((cs : List Channel) (start : List (Option ℕ)) (low : ℕ) (visits : List Visit) → IsFrontier cs start low visits [] old.levels → MatchOption found (AreVisits cs start old.levels.bounds.total visits) (λ (level : Level (Option ℕ)). IsFrontier cs start (level.total + 1) visits (distributions_of level.visits.items) new.levels))
+    → MatchOption found (IsEnded net limits old.members.items old.front) (λ (level : Level (Option ℕ)). IsTurn net limits level new)
+next-turn net laws can limits small floor old new search members front same None none frontier = ended-whole net can limits floor old search (frontier net.channels search.corner floor (visits_of search.entries) search.frontier)
+next-turn net laws can limits small floor old new search members front same (Some level) off frontier = turn-of net laws can limits small floor old new search members front level off same (frontier net.channels search.corner floor (visits_of search.entries) search.frontier)

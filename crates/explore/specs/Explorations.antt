@@ -1,5 +1,5 @@
 -- What an exploration of storage distributions comes to.
-use Rattle.std.specs.Prelude.{◌≡◌, ℕ, ◌+◌, ◌*◌, ◌≤◌, ◌<◌, ◌⊎◌, false, true, Option, List, [], ◌∷◌, length, map, slice_index}
+use Rattle.std.specs.Prelude.{◌≡◌, ℕ, ◌+◌, ◌*◌, ◌≤◌, ◌<◌, ◌⊎◌, true, Option, List, [], ◌∷◌, length, map, slice_index}
 use Rattle.sd_base.specs.declared.limits.Limits.{Limits}
 use Rattle.sd_base.specs.declared.numbers.Fraction.{Fraction}
 use Rattle.sd_base.specs.Net.{Net}
@@ -15,6 +15,7 @@ use Rattle.storage.specs.CapacityOrder.{no_later}
 use Rattle.storage.specs.Distributions.{storage_of}
 use Rattle.storage.specs.ParetoPoints.{IsFront, Pair, Reaches}
 use Rattle.storage.specs.ShownSpaces.{ShowsSpace}
+use Rattle.storage.specs.StorageOrder as storage_order
 use Rattle.storage.specs.Steps.{IsCorner}
 use Rattle.pareto_front.specs.declared.point.Point.{Point}
 use Rattle.explore.specs.declared.error.ExploreError.{ExploreError}
@@ -54,14 +55,11 @@ capacities_of ms = map (λ (m : Member). m.capacities.capacities) ms
 
 -- the first distribution needs less storage, or as much and is lexicographically earlier
 abbrev pub IsBefore : Net → List (Option ℕ) → List (Option ℕ) → Type 0
-IsBefore net ds es =
-    (storage_of net.channels ds < storage_of net.channels es)
-    ⊎ ((storage_of net.channels ds ≡ storage_of net.channels es) × (no_later es ds ≡ false))
+IsBefore net ds es = storage_order.IsBefore net.channels ds es
 
 -- each distribution stands before all later ones, so that none is there twice
 abbrev pub AreInOrder : Net → List (List (Option ℕ)) → Type 0
-AreInOrder net [] = Unit {0}
-AreInOrder net (ds ∷ rest) = ((es : List (Option ℕ)) → IsOneOf rest es → IsBefore net ds es) × AreInOrder net rest
+AreInOrder net dss = storage_order.AreInOrder net.channels dss
 
 -- the distribution is the corner, or has a step more room than a member on a channel that this one shows
 abbrev pub IsLedTo : Net → List Member → List (Option ℕ) → Type 0

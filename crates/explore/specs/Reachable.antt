@@ -1,12 +1,13 @@
 -- The distributions that an exploration may come to.
 use Rattle.std.specs.Prelude.{ℕ, ◌≤◌, Option, List, length}
 use Rattle.sd_base.specs.declared.limits.TheConstants.{NET_CHANNELS}
-use Rattle.sd_base.specs.Net.{Net, channel_at}
+use Rattle.sd_base.specs.Net.{Net}
 use Rattle.sd_base.specs.Schedules.{HasInputs}
 use Rattle.sd_base.specs.Connection.{IsConnected}
 use Rattle.storage.specs.BoundedNets.{bound}
-use Rattle.storage.specs.Distributions.{IsDistribution, IsPlain, enlarged, storage_of}
-use Rattle.storage.specs.Steps.{IsCorner, step_of}
+use Rattle.storage.specs.Distributions.{IsDistribution, IsPlain, storage_of}
+use Rattle.storage.specs.Steps.{IsCorner}
+use Rattle.storage.specs.StorageOrder as storage_order
 use Rattle.guide.specs.Guides.{IsInGuide}
 
 -- the net is connected, its channels are those of a file and self-loops, and each of its distributions gives a net that isn't
@@ -19,7 +20,7 @@ pub record IsExplorable (net : Net) : Type 0 where
 
 -- the distribution with a step more room on channel c
 abbrev pub stepped : Net → List (Option ℕ) → ℕ → List (Option ℕ)
-stepped net ds c = enlarged ds c (step_of (channel_at net c))
+stepped net ds c = storage_order.stepped net.channels ds c
 
 -- the corner, if it is within the limit, and with each distribution those that have a step more room on a channel of its
 -- guide, if they are within the limit

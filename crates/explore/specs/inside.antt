@@ -1,3 +1,4 @@
+pub mod Errors
+pub mod Starts
 pub mod Levels
-pub mod WaitingOrder
 pub mod Searches

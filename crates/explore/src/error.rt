@@ -1,6 +1,8 @@
 ghost use Rattle.std.specs.Prelude.{◌≡◌};
 ghost use Rattle.explore.specs.declared.error.ExploreError.TheVariants.{NoMemory};
+ghost use Rattle.explore.specs.inside.Errors.{error_of};
 
+use levels::LevelsError;
 use sd_base::limits::STARTS;
 use std::alloc::{AllocError, AllocFailed};
 use storage::Distribution;
@@ -44,5 +46,16 @@ impl From<sd_base::NoMemory> for ExploreError {
 
     fn from(_error: sd_base::NoMemory) -> ExploreError {
         ExploreError::NoMemory
+    }
+}
+
+impl From<LevelsError> for ExploreError {
+    ghost from_gives = { λ x e. e ≡ error_of x };
+
+    fn from(error: LevelsError) -> ExploreError {
+        match error {
+            LevelsError::Spent => ExploreError::DistributionsSpent,
+            LevelsError::NoMemory => ExploreError::NoMemory,
+        }
     }
 }

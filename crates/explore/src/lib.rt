@@ -3,20 +3,17 @@
 #![tactic(auto)]
 
 mod ceiling;
-mod children;
 mod error;
 mod exploration;
 mod exploring;
 mod extent;
 mod fastest;
-mod head;
 pub mod laws;
 mod level;
 mod members;
-mod pending;
 mod search;
+mod starts;
 mod task;
-mod waiting;
 
 pub use error::ExploreError;
 pub use exploration::{Exploration, Member, Shown};

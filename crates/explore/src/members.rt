@@ -1,100 +1,76 @@
 //! How the answers of a level become members.
-ghost use Rattle.std.specs.Prelude.{◌≡◌, ◌+◌, ◌≤◌, ◌⊎◌, ◌++◌, ℕ, [], ◌∷◌, Option, List, IfErr, IfOk, OnOk, map};
+ghost use Rattle.std.specs.Prelude.{◌≡◌, ◌+◌, ◌≤◌, ◌⊎◌, ◌++◌, ℕ, [], ◌∷◌, All, Option, List, IfErr, IfOk, OnOk, length, map};
 ghost use Rattle.sd_base.specs.declared.limits.TheConstants.{STORAGE};
 ghost use Rattle.sd_base.specs.declared.limits.Limits.{Limits as SomeLimits};
 ghost use Rattle.sd_base.specs.Net.{Net};
-ghost use Rattle.liveness.specs.RoundAnswers.{IsReached};
-ghost use Rattle.storage.specs.BoundedNets.{bound};
 ghost use Rattle.pareto_front.specs.declared.point.Point.{Point as APoint};
 ghost use Rattle.pareto_front.specs.Offers.{Offer};
 ghost use Rattle.pareto_front.specs.Points.{IsFrontOf, offer_of};
+ghost use Rattle.storage.specs.ClosedLists.{Entry};
 ghost use Rattle.storage.specs.Distributions.{storage_of};
-ghost use Rattle.guide.specs.Evaluations.{IsEvaluable, IsEvaluated, IsRefused};
+ghost use Rattle.guide.specs.Evaluations.{IsEvaluated, IsRefused};
 ghost use Rattle.explore.specs.declared.exploration.Member.{Member as AMember};
-ghost use Rattle.explore.specs.declared.level.Answered.{Answered as AnAnswered};
-ghost use Rattle.explore.specs.Explorations.{IsOneOf, IsRefusal, capacities_of, cycles_in};
+ghost use Rattle.explore.specs.Explorations.{IsOneOf, IsRefusal, cycles_in};
 ghost use Rattle.explore.specs.Reachable.{IsExplorable, IsReachable};
 ghost use Rattle.explore.specs.inside.Levels.{least_loops, most_loops, sum_of};
-ghost use Rattle.explore.specs.inside.Searches.{AreKnown, AreSteps, IsAnswerOf, IsCandidate, IsMemberAdded, IsSearch, member_of, offers_at, turned};
+ghost use Rattle.explore.specs.inside.Searches.{AreKnown, IsAnswerOf, IsMemberAdded, IsSearch, answered_of, entry_of, member_of, offers_at};
 
-use crate::children::children_of;
 use crate::error::ExploreError;
 use crate::exploration::{Member, Shown};
+use crate::exploring::Exploring;
 use crate::level::Answered;
-use crate::pending::wait_all;
 use crate::search::Search;
 use firing::{Firing, LoopTable, know_laws};
 use guide::{Evaluation, Outcome};
 use lasso::RunError;
-use liveness::whole_counts;
 use pareto_front::{Front, Point};
-use sd_base::{Fraction, Limits, NoMemory, Rows};
+use sd_base::{Fraction, NoMemory};
 use std::alloc::Global;
 use storage::Distribution;
 
-/// Takes in the answers of a level, of which the last one is taken in first.
+/// Takes in the answers of a level, one after another.
 pub(crate) fn take_in_all<F: Firing>(
-    alloc: Global,
-    net: &F,
-    channel_steps: &[u64],
-    limits: Limits,
+    exploring: &Exploring<F>,
     total: u64,
     answers: Vec<Answered>,
     search: &mut Search,
 ) -> Result<(), ExploreError>
-    requires net { IsExplorable (F.net net.now) }
-    requires small { limits.total ≤ STORAGE }
-    requires steps { AreSteps (F.net net.now) channel_steps.now }
-    requires answers { (a : AnAnswered) → IsOneOf answers.items a → IsAnswerOf (F.net net.now) limits total a }
-    requires search { IsSearch (F.net net.now) limits (total + 1) (capacities_of search.old.members.items ++ turned answers.items) search.old }
-    ensures search { OnOk result (IsSearch (F.net net.now) limits (total + 1) (capacities_of search.new.members.items) search.new) }
-    ensures done { OnOk result (capacities_of search.new.members.items ≡ capacities_of search.old.members.items ++ turned answers.items) }
+    requires net { IsExplorable (F.net exploring.now.net.now) }
+    requires small { exploring.now.limits.total ≤ STORAGE }
+    requires answers { All (IsAnswerOf (F.net exploring.now.net.now) exploring.now.limits total) answers.items }
+    requires search { IsSearch (F.net exploring.now.net.now) exploring.now.limits (total + 1) (answered_of answers.items) search.old }
+    ensures search { OnOk result (IsSearch (F.net exploring.now.net.now) exploring.now.limits (total + 1) [] search.new) }
+    ensures many { OnOk result (length search.new.members.items ≡ length search.old.members.items + length answers.items) }
     ensures least { OnOk result (cycles_in search.new.members.items ≡ cycles_in search.old.members.items + sum_of least_loops answers.items) }
     ensures most { OnOk result (cycles_in search.new.members.items ≡ cycles_in search.old.members.items + sum_of most_loops answers.items) }
-    ensures refused { IfErr result (IsRefusal (F.net net.now) limits) }
+    ensures refused { IfErr result (IsRefusal (F.net exploring.now.net.now) exploring.now.limits) }
 {
-    let mut answers = answers;
-    while let Some(answered) = answers.pop() {
-        take_answer(alloc, net, channel_steps, limits, total, answered, search)?;
+    for answered in answers {
+        take_answer(exploring, total, answered, search)?;
     }
     Ok(())
 }
 
 /// Takes in one answer.
 fn take_answer<F: Firing>(
-    alloc: Global,
-    net: &F,
-    channel_steps: &[u64],
-    limits: Limits,
+    exploring: &Exploring<F>,
     total: u64,
     answered: Answered,
     search: &mut Search,
 ) -> Result<(), ExploreError>
-    requires net { IsExplorable (F.net net.now) }
-    requires small { limits.total ≤ STORAGE }
-    requires steps { AreSteps (F.net net.now) channel_steps.now }
-    requires few { search.old.found ≤ limits.distributions }
-    requires answer { IsAnswerOf (F.net net.now) limits total answered }
-    requires fits { IsCandidate (F.net net.now) limits.total answered.capacities.capacities }
-    ensures search { OnOk result ((done : List (List (Option ℕ))) → IsSearch (F.net net.now) limits (total + 1) done search.old → IsOneOf done answered.capacities.capacities →
-        IsSearch (F.net net.now) limits (total + 1) done search.new) }
+    requires net { IsExplorable (F.net exploring.now.net.now) }
+    requires small { exploring.now.limits.total ≤ STORAGE }
+    requires answer { IsAnswerOf (F.net exploring.now.net.now) exploring.now.limits total answered }
+    requires search { (rest : List (List (Option ℕ))) × IsSearch (F.net exploring.now.net.now) exploring.now.limits (total + 1) (answered.capacities.capacities ∷ rest) search.old }
+    ensures search { OnOk result ((rest : List (List (Option ℕ))) → IsSearch (F.net exploring.now.net.now) exploring.now.limits (total + 1) (answered.capacities.capacities ∷ rest) search.old →
+        IsSearch (F.net exploring.now.net.now) exploring.now.limits (total + 1) rest search.new) }
     ensures member { OnOk result (IsMemberAdded answered search.old.members.items search.new.members.items) }
-    ensures refused { IfErr result (λ e. (done : List (List (Option ℕ))) → IsSearch (F.net net.now) limits (total + 1) done search.old → IsOneOf done answered.capacities.capacities →
-        IsRefusal (F.net net.now) limits e) }
+    ensures refused { IfErr result (IsRefusal (F.net exploring.now.net.now) exploring.now.limits) }
 {
     let Answered { capacities, answer } = answered;
     match answer {
         Ok(evaluation) => {
-            take_in(
-                alloc,
-                net,
-                channel_steps,
-                limits,
-                total,
-                capacities,
-                evaluation,
-                search,
-            )?;
+            take_in(exploring, total, capacities, evaluation, search)?;
             Ok(())
         }
         Err(error) => Err(refusal(error, capacities)),
@@ -112,87 +88,51 @@ fn refusal(error: RunError, at: Distribution) -> ExploreError
     }
 }
 
-/// Takes in a member: it is offered to the front, it stands last, and those by which it leads on wait.
+/// Takes in a member: those by which it leads on wait with its place for a hint, it is offered to the front, and it stands
+/// last.
 fn take_in<F: Firing>(
-    alloc: Global,
-    net: &F,
-    channel_steps: &[u64],
-    limits: Limits,
+    exploring: &Exploring<F>,
     total: u64,
     capacities: Distribution,
     evaluation: Evaluation,
     search: &mut Search,
 ) -> Result<(), ExploreError>
-    requires net { IsExplorable (F.net net.now) }
-    requires small { limits.total ≤ STORAGE }
-    requires steps { AreSteps (F.net net.now) channel_steps.now }
-    requires few { search.old.found ≤ limits.distributions }
-    requires evaluated { IsEvaluated (F.net net.now) capacities.capacities limits.states evaluation }
-    requires total { storage_of (F.net net.now).channels capacities.capacities ≡ total }
-    requires fits { IsCandidate (F.net net.now) limits.total capacities.capacities }
-    ensures search { OnOk result ((done : List (List (Option ℕ))) → IsSearch (F.net net.now) limits (total + 1) done search.old → IsOneOf done capacities.capacities →
-        IsSearch (F.net net.now) limits (total + 1) done search.new) }
+    requires net { IsExplorable (F.net exploring.now.net.now) }
+    requires small { exploring.now.limits.total ≤ STORAGE }
+    requires evaluated { IsEvaluated (F.net exploring.now.net.now) capacities.capacities exploring.now.limits.states evaluation }
+    requires total { storage_of (F.net exploring.now.net.now).channels capacities.capacities ≡ total }
+    requires search { (rest : List (List (Option ℕ))) × IsSearch (F.net exploring.now.net.now) exploring.now.limits (total + 1) (capacities.capacities ∷ rest) search.old }
+    ensures search { OnOk result ((rest : List (List (Option ℕ))) → IsSearch (F.net exploring.now.net.now) exploring.now.limits (total + 1) (capacities.capacities ∷ rest) search.old →
+        IsSearch (F.net exploring.now.net.now) exploring.now.limits (total + 1) rest search.new) }
     ensures members { OnOk result (search.new.members.items ≡ search.old.members.items ++ member_of capacities evaluation ∷ []) }
-    ensures refused { IfErr result (λ e. (done : List (List (Option ℕ))) → IsSearch (F.net net.now) limits (total + 1) done search.old → IsOneOf done capacities.capacities →
-        IsRefusal (F.net net.now) limits e) }
+    ensures refused { IfErr result (IsRefusal (F.net exploring.now.net.now) exploring.now.limits) }
 {
-    know_laws(net);
-    let counts = reached_by(alloc, net, &evaluation)?;
-    let children = children_of(
-        alloc,
-        net,
-        channel_steps,
-        limits.total,
-        total,
+    know_laws(exploring.net);
+    let hint = Some(search.members.len());
+    search.levels.lead_on(
+        exploring.alloc,
         &capacities,
-        counts.as_slice(),
+        total,
         evaluation.enlarge.as_slice(),
+        hint,
     )?;
-    let member = offered(alloc, net, total, capacities, evaluation, &mut search.front)?;
+    let member = offered(exploring, total, capacities, evaluation, &mut search.front)?;
     search.members.push(member)?;
-    wait_all(
-        limits.distributions,
-        children,
-        &mut search.waiting,
-        &mut search.found,
-    )?;
     Ok(())
-}
-
-/// The counts that an evaluation reaches: those at which the net is blocked, or those of a whole round.
-fn reached_by<F: Firing>(
-    alloc: Global,
-    net: &F,
-    evaluation: &Evaluation,
-) -> Result<Rows<u64>, NoMemory>
-    ensures { IfOk result (λ v. (ds : List (Option ℕ)) (states : ℕ) → IsEvaluable (F.net net.now) ds → IsEvaluated (F.net net.now) ds states evaluation.now →
-        IsReached (bound (F.net net.now) ds) v) }
-{
-    know_laws(net);
-    match &evaluation.outcome {
-        Outcome::Live { table: _, cycle: _ } => {
-            let counts = whole_counts(alloc, net)?;
-            Ok(counts)
-        }
-        Outcome::Blocked { counts, lacks: _ } => {
-            Ok(Rows::from_vec(Vec::from_slice(alloc, counts.as_slice())?))
-        }
-    }
 }
 
 /// The member that an evaluation makes of a distribution, which is offered to the front if its rate is above 0.
 fn offered<F: Firing>(
-    alloc: Global,
-    net: &F,
+    exploring: &Exploring<F>,
     total: u64,
     capacities: Distribution,
     evaluation: Evaluation,
     front: &mut Front,
 ) -> Result<Member, NoMemory>
-    requires { storage_of (F.net net.now).channels capacities.capacities ≡ total }
+    requires { storage_of (F.net exploring.now.net.now).channels capacities.capacities ≡ total }
     ensures member { IfOk result (λ m. m ≡ member_of capacities evaluation) }
-    ensures known { IfOk result (λ m. (states : ℕ) (ms : List AMember) → IsEvaluated (F.net net.now) capacities.capacities states evaluation → AreKnown (F.net net.now) states ms front.old →
-        AreKnown (F.net net.now) states (ms ++ member_of capacities evaluation ∷ []) front.new) }
+    ensures known { IfOk result (λ m. (states : ℕ) (ms : List AMember) (es : List Entry) → IsEvaluated (F.net exploring.now.net.now) capacities.capacities states evaluation → AreKnown (F.net exploring.now.net.now) states ms es front.old →
+        AreKnown (F.net exploring.now.net.now) states (ms ++ member_of capacities evaluation ∷ []) (es ++ entry_of (member_of capacities evaluation) evaluation.enlarge ∷ []) front.new) }
 {
     let Evaluation {
         rate,
@@ -201,7 +141,7 @@ fn offered<F: Firing>(
     } = evaluation;
     match outcome {
         Outcome::Live { table, cycle } => {
-            offer(alloc, total, rate, &capacities, table, front)?;
+            offer(exploring.alloc, total, rate, &capacities, table, front)?;
             Ok(Member {
                 capacities,
                 rate,

@@ -1,45 +1,42 @@
-ghost use Rattle.std.specs.Prelude.{◌≡◌, ◌+◌, ◌≤◌, ◌<◌, ℕ, true, [], IfErr, IfOk, OnOk, length};
+ghost use Rattle.std.specs.Prelude.{◌≡◌, ◌+◌, ◌≤◌, ◌<◌, ℕ, true, [], All, IfErr, IfOk, MatchOption, OnOk, length, map, take};
 ghost use Rattle.sd_base.specs.declared.limits.TheConstants.{DISTRIBUTIONS, LEAST_DISTRIBUTIONS, LEAST_STATES, STATES, STORAGE};
-ghost use Rattle.sd_base.specs.declared.limits.Limits.{Limits as SomeLimits};
 ghost use Rattle.storage.specs.Distributions.{storage_of};
 ghost use Rattle.storage.specs.Steps.{IsCorner};
+ghost use Rattle.levels.specs.Frontiers.{channel_step};
 ghost use Rattle.explore.specs.Explorations.{CountsFew, IsExploration, IsOneOf, IsRefusal, cycles_in};
 ghost use Rattle.explore.specs.Extents.{Explores};
 ghost use Rattle.explore.specs.Reachable.{IsExplorable};
 ghost use Rattle.pareto_front.specs.declared.point.Point.{Point as APoint};
 ghost use Rattle.explore.specs.declared.extent.Extent.TheVariants.{Fastest};
-ghost use Rattle.explore.specs.inside.Searches.{AreSteps, HasTable, IsCandidate, IsFarEnough, IsNext, IsPast, IsSearch, IsStanding, IsTopAmong};
+ghost use Rattle.explore.specs.inside.Searches.{HasTable, IsCandidate, IsEnded, IsFarEnough, IsPast, IsSearch, IsStanding, IsTopAmong, IsTurn};
 ghost use Rattle.explore.specs.inside.Levels.{WiresAll};
+ghost use Rattle.explore.specs.inside.Starts.{AreStarts};
 
 use crate::error::ExploreError;
 use crate::exploration::{Exploration, Member};
 use crate::exploring::Exploring;
 use crate::extent::Extent;
 use crate::fastest::reaches_fastest;
-use crate::head::head;
 use crate::level::run_level;
 use crate::members::take_in_all;
-use crate::pending::{next_total, take_level};
-use crate::waiting::Waiting;
+use crate::starts::Starts;
 use fanout::Gate;
 use firing::{Firing, Wiring, know_laws};
 use guide::laws::distributions_share_a_wiring;
-use liveness::no_counts;
+use levels::{Bounds, ChannelStep, Level, Levels};
 use pareto_front::{Front, Point};
 use sd_base::{Ledger, Limits, NoMemory, Rows, Steps};
 use std::alloc::Global;
-use std::collections::BTreeSet;
 use std::thread::Threads;
 use storage::{Bounded, Distribution, corner, step};
 
-/// Where an exploration stands: the distributions that wait, the members so far, the points among them, and how many
-/// distributions were found.
+/// Where an exploration stands: the distributions that wait, each with the place of the member that led to it for a hint, the
+/// members so far, and the points among them.
 #[derive(Drop)]
 pub(crate) struct Search {
-    pub(crate) waiting: BTreeSet<Waiting>,
+    pub(crate) levels: Levels<Option<usize>>,
     pub(crate) members: Vec<Member>,
     pub(crate) front: Front,
-    pub(crate) found: u64,
 }
 
 /// The Pareto points of all storage distributions within a limit, and the members that show it: the corner, and with each
@@ -106,20 +103,20 @@ pub fn explore_as_far<R: Threads + Sync, F: Firing + Sync, G: Gate + Sync, L: Le
         });
     };
     let wiring = wiring_of(alloc, net, limits.total, &first)?;
-    let channel_steps = steps_of(alloc, net)?;
+    let starts = Starts::of(alloc, net)?;
     let exploring = Exploring {
+        alloc,
         net,
         wiring: &wiring,
-        channel_steps: &channel_steps,
+        starts: &starts,
         limits,
     };
-    let mut search = begin(alloc, net, total, first)?;
-    take_turns(rt, alloc, &exploring, extent, gate, &mut search, steps)?;
+    let mut search = begin(&exploring, first, total)?;
+    take_turns(rt, &exploring, extent, gate, &mut search, steps)?;
     let Search {
-        waiting: _,
+        levels: _,
         members,
         front,
-        found: _,
     } = search;
     Ok(Exploration {
         members,
@@ -130,7 +127,6 @@ pub fn explore_as_far<R: Threads + Sync, F: Firing + Sync, G: Gate + Sync, L: Le
 /// Takes level after level in, until none waits or no further one is wanted.
 fn take_turns<R: Threads + Sync, F: Firing + Sync, G: Gate + Sync, L: Ledger + Send>(
     rt: &R,
-    alloc: Global,
     exploring: &Exploring<F>,
     extent: Extent,
     gate: &G,
@@ -139,23 +135,23 @@ fn take_turns<R: Threads + Sync, F: Firing + Sync, G: Gate + Sync, L: Ledger + S
 ) -> Result<(), ExploreError>
     requires net { IsExplorable (F.net exploring.now.net.now) }
     requires wired { WiresAll (F.net exploring.now.net.now) exploring.now.wiring.now }
-    requires steps { AreSteps (F.net exploring.now.net.now) exploring.now.channel_steps.now }
+    requires starts { AreStarts (F.net exploring.now.net.now) exploring.now.starts.now }
     requires small { exploring.now.limits.total ≤ STORAGE }
     requires some_states { LEAST_STATES ≤ exploring.now.limits.states }
     requires few_states { exploring.now.limits.states ≤ STATES }
     requires stands { IsStanding (F.net exploring.now.net.now) exploring.now.limits search.old }
     requires none { cycles_in search.old.members.items ≡ 0 }
-    ensures stands { OnOk result (IsStanding (F.net exploring.now.net.now) exploring.now.limits search.new) }
     ensures far { OnOk result (IsFarEnough extent (F.net exploring.now.net.now) exploring.now.limits search.new) }
     ensures count { OnOk result (steps.new.count ≡ steps.old.count + cycles_in search.new.members.items) }
     ensures refused { IfErr result (IsRefusal (F.net exploring.now.net.now) exploring.now.limits) }
-    ensures most { IfErr result (λ e. CountsFew (F.net exploring.now.net.now) exploring.now.limits steps.old.count steps.new.count) }
+    ensures most { CountsFew (F.net exploring.now.net.now) exploring.now.limits steps.old.count steps.new.count }
     ensures rises { steps.old.count ≤ steps.new.count }
     ensures share { steps.new.share ≡ steps.old.share }
 {
-    while let Some(total) = next_total(&search.waiting) {
-        take_turn(rt, alloc, exploring, total, gate, search, steps)?;
-        let last = is_last(alloc, exploring, extent, total, search.front.points())?;
+    while let Some(level) = next_level(exploring, search)? {
+        let total = level.total;
+        take_turn(rt, exploring, level, gate, search, steps)?;
+        let last = is_last(exploring, extent, total, search.front.points())?;
         if last {
             return Ok(());
         }
@@ -163,9 +159,26 @@ fn take_turns<R: Threads + Sync, F: Firing + Sync, G: Gate + Sync, L: Ledger + S
     Ok(())
 }
 
+/// Takes the next level off those that wait, if one does.
+fn next_level<F: Firing>(
+    exploring: &Exploring<F>,
+    search: &mut Search,
+) -> Result<Option<Level<Option<usize>>>, NoMemory>
+    requires net { IsExplorable (F.net exploring.now.net.now) }
+    requires small { exploring.now.limits.total ≤ STORAGE }
+    requires stands { IsStanding (F.net exploring.now.net.now) exploring.now.limits search.old }
+    ensures level { IfOk result (λ found. MatchOption found (IsEnded (F.net exploring.now.net.now) exploring.now.limits search.old.members.items search.old.front)
+        (λ level. IsTurn (F.net exploring.now.net.now) exploring.now.limits level search.new)) }
+    ensures members { search.new.members ≡ search.old.members }
+    ensures front { search.new.front ≡ search.old.front }
+{
+    know_laws(exploring.net);
+    let found = search.levels.next(exploring.alloc)?;
+    Ok(found)
+}
+
 /// Whether no level after that of a storage is wanted.
 fn is_last<F: Firing>(
-    alloc: Global,
     exploring: &Exploring<F>,
     extent: Extent,
     total: u64,
@@ -182,7 +195,7 @@ fn is_last<F: Firing>(
         Extent::Limit => Ok(false),
         Extent::Fastest => {
             reaches_fastest(
-                alloc,
+                exploring.alloc,
                 exploring.net,
                 exploring.wiring,
                 exploring.limits.total,
@@ -193,25 +206,23 @@ fn is_last<F: Firing>(
     }
 }
 
-/// Takes the next level off those that wait, and its distributions in as members.
+/// Takes the distributions of a level in as members.
 fn take_turn<R: Threads + Sync, F: Firing + Sync, G: Gate + Sync, L: Ledger + Send>(
     rt: &R,
-    alloc: Global,
     exploring: &Exploring<F>,
-    total: u64,
+    level: Level<Option<usize>>,
     gate: &G,
     search: &mut Search,
     steps: &mut Steps<L>,
 ) -> Result<(), ExploreError>
     requires net { IsExplorable (F.net exploring.now.net.now) }
     requires wired { WiresAll (F.net exploring.now.net.now) exploring.now.wiring.now }
-    requires steps { AreSteps (F.net exploring.now.net.now) exploring.now.channel_steps.now }
+    requires starts { AreStarts (F.net exploring.now.net.now) exploring.now.starts.now }
     requires small { exploring.now.limits.total ≤ STORAGE }
     requires some_states { LEAST_STATES ≤ exploring.now.limits.states }
     requires few_states { exploring.now.limits.states ≤ STATES }
-    requires stands { IsStanding (F.net exploring.now.net.now) exploring.now.limits search.old }
-    requires next { IsNext total search.old.waiting.keys }
-    ensures past { OnOk result (IsPast (F.net exploring.now.net.now) exploring.now.limits total search.new) }
+    requires turn { IsTurn (F.net exploring.now.net.now) exploring.now.limits level search.old }
+    ensures past { OnOk result (IsPast (F.net exploring.now.net.now) exploring.now.limits level.total search.new) }
     ensures more { OnOk result (length search.old.members.items < length search.new.members.items) }
     ensures few { OnOk result (length search.new.members.items ≤ exploring.now.limits.distributions) }
     ensures count { OnOk result (steps.new.count + cycles_in search.old.members.items ≡ steps.old.count + cycles_in search.new.members.items) }
@@ -220,19 +231,11 @@ fn take_turn<R: Threads + Sync, F: Firing + Sync, G: Gate + Sync, L: Ledger + Se
     ensures rises { steps.old.count ≤ steps.new.count }
     ensures share { steps.new.share ≡ steps.old.share }
 {
-    let net = exploring.net;
-    know_laws(net);
-    let level = take_level(alloc, total, &mut search.waiting)?;
-    let answers = run_level(rt, alloc, exploring, total, level, gate, steps)?;
-    take_in_all(
-        alloc,
-        net,
-        exploring.channel_steps.as_slice(),
-        exploring.limits,
-        total,
-        answers,
-        search,
-    )?;
+    know_laws(exploring.net);
+    let total = level.total;
+    let members = search.members.as_slice();
+    let answers = run_level(rt, exploring, members, level, gate, steps)?;
+    take_in_all(exploring, total, answers, search)?;
     Ok(())
 }
 
@@ -254,42 +257,43 @@ fn wiring_of<F: Firing>(
     Wiring::new(alloc, &bounded)
 }
 
-/// By channel its step. Cost: that of `step` for each channel.
-fn steps_of<F: Firing>(alloc: Global, net: &F) -> Result<Rows<u64>, NoMemory>
-    ensures { IfOk result (AreSteps (F.net net.now)) }
+/// By channel the size of its tokens and its step. Cost: that of `step` for each channel.
+fn steps_of<F: Firing>(alloc: Global, net: &F) -> Result<Rows<ChannelStep>, NoMemory>
+    ensures { IfOk result (λ v. v ≡ map channel_step (F.net net.now).channels) }
 {
     let mut steps = Vec::with_capacity(alloc, net.channels() as usize)?;
     for channel in 0..net.channels() {
-        steps.push(step(net, channel))?;
+        steps.push(ChannelStep {
+            size: net.size(channel),
+            step: step(net, channel),
+        })?;
     }
     Ok(Rows::from_vec(steps))
 }
 
-/// The corner waits.
+/// The corner waits, to which no member led.
 fn begin<F: Firing>(
-    alloc: Global,
-    net: &F,
-    total: u64,
+    exploring: &Exploring<F>,
     capacities: Distribution,
+    total: u64,
 ) -> Result<Search, NoMemory>
-    requires net { IsExplorable (F.net net.now) }
-    requires corner { IsCorner (F.net net.now).channels capacities.capacities }
-    requires total { total ≡ storage_of (F.net net.now).channels capacities.capacities }
+    requires net { IsExplorable (F.net exploring.now.net.now) }
+    requires some { 1 ≤ exploring.now.limits.distributions }
+    requires corner { IsCorner (F.net exploring.now.net.now).channels capacities.capacities }
+    requires total { total ≡ storage_of (F.net exploring.now.net.now).channels capacities.capacities }
     ensures members { IfOk result (λ s. s.members.items ≡ []) }
-    ensures search { IfOk result (λ s. (limits : SomeLimits) → total ≤ limits.total → 1 ≤ limits.distributions → IsSearch (F.net net.now) limits 0 [] s) }
+    ensures search { IfOk result (IsSearch (F.net exploring.now.net.now) exploring.now.limits 0 []) }
 {
-    let counts = no_counts(alloc, net)?;
-    let mut waiting = BTreeSet::new(alloc);
-    waiting.insert(Waiting {
-        total,
-        head: head(capacities.capacities.as_slice()),
-        capacities,
-        counts,
-    })?;
+    know_laws(exploring.net);
+    let alloc = exploring.alloc;
+    let bounds = Bounds {
+        total: exploring.limits.total,
+        distributions: exploring.limits.distributions,
+    };
+    let steps = steps_of(alloc, exploring.net)?;
     Ok(Search {
-        waiting,
+        levels: Levels::begin(alloc, steps, bounds, capacities, total, None)?,
         members: Vec::new(alloc),
         front: Front::new(alloc),
-        found: 1,
     })
 }

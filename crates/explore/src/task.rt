@@ -5,7 +5,7 @@ use fanout::Job;
 use firing::{Firing, Wiring};
 use guide::{Evaluation, evaluate_from};
 use lasso::RunError;
-use sd_base::{Ledger, Rows, Steps};
+use sd_base::{Ledger, Steps};
 use std::alloc::Global;
 use storage::Distribution;
 
@@ -16,14 +16,14 @@ pub(crate) struct Task<'a, F: Firing, L: Ledger> {
     pub(crate) net: &'a F,
     pub(crate) wiring: &'a Wiring,
     pub(crate) capacities: Distribution,
-    pub(crate) counts: Rows<u64>,
+    pub(crate) counts: &'a [u64],
     pub(crate) states: u64,
     pub(crate) steps: Steps<L>,
     pub(crate) answer: Option<Result<Evaluation, RunError>>,
 }
 
 impl<'a, F: Firing + Sync, L: Ledger + Send> Job for Task<'a, F, L> {
-    ghost ready = { λ t. IsReady (F.net t.net.now) t.wiring.now t.capacities t.counts t.states };
+    ghost ready = { λ t. IsReady (F.net t.net.now) t.wiring.now t.capacities t.counts.now t.states };
 
     ghost ran = { λ old new. HasRun (F.net old.net.now) old.capacities old.states old.steps new.capacities new.steps new.answer };
 
@@ -33,7 +33,7 @@ impl<'a, F: Firing + Sync, L: Ledger + Send> Job for Task<'a, F, L> {
             self.net,
             &self.capacities,
             self.wiring,
-            self.counts.as_slice(),
+            self.counts,
             self.states,
             &mut self.steps,
         );

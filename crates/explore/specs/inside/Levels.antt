@@ -12,7 +12,10 @@ use Rattle.storage.specs.Distributions.{IsDistribution}
 use Rattle.storage.specs.declared.distribution.Distribution.{Distribution}
 use Rattle.guide.specs.declared.rating.Evaluation.{Evaluation}
 use Rattle.guide.specs.Evaluations.{IsEvaluable, IsEvaluated, IsRefused, loops_run}
+use Rattle.levels.specs.declared.found.Found.{Found}
+use Rattle.explore.specs.declared.exploration.Member.{Member}
 use Rattle.explore.specs.declared.level.Answered.{Answered}
+use Rattle.explore.specs.inside.Starts.{IsHinted}
 
 -- the answer is that of `evaluate`, and the counter rose as it says
 abbrev pub IsAnswer : Net → List (Option ℕ) → ℕ → ℕ → ℕ → Result Evaluation RunError → Type 0
@@ -38,6 +41,11 @@ pub record IsStartable (net : Net) (wiring : Wiring) (capacities : Distribution)
   pub fits : IsEvaluable net capacities.capacities
   pub wired : IsWiringOf (bound net capacities.capacities) wiring
   pub reached : IsReached (bound net capacities.capacities) counts
+
+-- one that was found can be evaluated, and its hint is of it
+pub record IsVisitable (net : Net) (states : ℕ) (ms : List Member) (f : Found (Option ℕ)) : Type 0 where
+  pub fits : IsEvaluable net f.capacities.capacities
+  pub hinted : IsHinted net states ms f.hint f.capacities.capacities
 
 -- a task can run
 pub record IsReady (net : Net) (wiring : Wiring) (capacities : Distribution) (counts : List ℕ) (states : ℕ) : Type 0 where
@@ -77,8 +85,3 @@ most_loops (Err error) = 1
 abbrev pub sum_of : (Result Evaluation RunError → ℕ) → List Answered → ℕ
 sum_of f [] = 0
 sum_of f (a ∷ rest) = f a.answer + sum_of f rest
-
--- what f gives of a list, turned round, before what follows
-abbrev pub onto : {A : Type 0} → (A → Distribution) → List A → List Distribution → List Distribution
-onto f [] rest = rest
-onto f (x ∷ xs) rest = onto f xs (f x ∷ rest)

@@ -1,12 +1,11 @@
-use Rattle.std.proofs.Common.{◌≡◌, ◌++◌, ◌∷◌, [], ℕ, ◌+◌, All, Result, Some, map, append_assoc, ap, subst, sym, ◌∙◌, arith}
+use Rattle.std.proofs.Common.{◌≡◌, ◌++◌, ◌∷◌, [], ℕ, ◌+◌, All, Result, Some, refl, ap, subst, sym, ◌∙◌, arith}
 use Rattle.explore.specs.declared.task.Task.{Task}
 use Rattle.explore.specs.declared.level.Answered.{Answered}
-use Rattle.explore.specs.inside.Levels.{IsAnswered, IsDone, IsEvaluation, least_loops, most_loops, onto, sum_of}
-use Rattle.std.proofs.lemmas.List.{map-append}
+use Rattle.explore.specs.inside.Levels.{IsAnswered, IsDone, IsEvaluation, least_loops, most_loops, sum_of}
 use Rattle.storage.specs.declared.distribution.Distribution.{Distribution}
 use Rattle.lasso.specs.declared.error.RunError.{RunError}
 use Rattle.guide.specs.declared.rating.Evaluation.{Evaluation}
-use Rattle.explore.proofs.Tasks.{answer-is, counts-least, counts-most, onto-more, sum-more}
+use Rattle.explore.proofs.Tasks.{answer-is, counts-least, counts-most, drained-more, sum-more}
 use Rattle.explore.proofs.Ends.{all-front, all-last, all-more}
 use Rattle.explore.proofs.level.drain.Goals as goal
 
@@ -33,10 +32,5 @@ loop-task-preserved g c =
       c.absorb.ensures.share ∙ c.loop-task.invariant.5,
       omega (arith, c.absorb.ensures.count, c.loop-task.invariant.6, counts-least net t.capacities.capacities c.args.states t.steps.count c.in-Some.answer answered, sums least_loops),
       omega (arith, c.absorb.ensures.count, c.loop-task.invariant.7, counts-most net t.capacities.capacities c.args.states t.steps.count c.in-Some.answer answered, sums most_loops),
-      c.loop-task.invariant.8
-          ∙ (ap (λ ts. map h c.loop-task.answers.items ++ onto f ts []) c.take_last-capacities.ensures.items
-          ∙ (ap (λ xs. map h c.loop-task.answers.items ++ xs) (onto-more f rest t [])
-          ∙ (sym (append_assoc (map h c.loop-task.answers.items) (t.capacities ∷ []) (onto f rest []))
-          ∙ (ap (λ xs. xs ++ onto f rest []) (sym (map-append h c.loop-task.answers.items (pushed ∷ [])))
-          ∙ ap (λ xs. map h xs ++ onto f rest []) (sym c.push_reserved.ensures.items))))),
+      c.loop-task.invariant.8 ∙ drained-more f h c.loop-task.tasks.items rest t c.loop-task.answers.items c.push_reserved.new.self.items pushed c.take_last-capacities.ensures.items c.push_reserved.ensures.items refl,
     )

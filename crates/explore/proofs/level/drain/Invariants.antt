@@ -1,5 +1,5 @@
-use Rattle.std.proofs.Common.{◌≡◌, ◌+◌, ◌≤◌, ◌++◌, [], map, All, vec_len, vec_capacity}
-use Rattle.explore.specs.inside.Levels.{IsDone, IsEvaluation, least_loops, most_loops, onto, sum_of}
+use Rattle.std.proofs.Common.{◌≡◌, ◌+◌, ◌≤◌, ◌++◌, map, reverse, All, vec_len, vec_capacity}
+use Rattle.explore.specs.inside.Levels.{IsDone, IsEvaluation, least_loops, most_loops, sum_of}
 use Rattle.explore.proofs.level.drain.Given as goal
 
 abbrev pub invariant-loop-task : goal.invariant-loop-task
@@ -12,4 +12,4 @@ invariant-loop-task g l =
     × (l.steps.share ≡ l.initial.steps.share)
     × (l.initial.steps.count + sum_of least_loops l.answers.items ≤ l.steps.count)
     × (l.steps.count ≤ l.initial.steps.count + sum_of most_loops l.answers.items)
-    × (onto (λ t. t.capacities) l.initial.tasks.items [] ≡ map (λ a. a.capacities) l.answers.items ++ onto (λ t. t.capacities) l.tasks.items [])
+    × (reverse (map (λ t. t.capacities) l.initial.tasks.items) ≡ map (λ a. a.capacities) l.answers.items ++ reverse (map (λ t. t.capacities) l.tasks.items))

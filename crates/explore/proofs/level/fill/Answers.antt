@@ -1,36 +1,48 @@
-use Rattle.std.proofs.Common.{◌++◌, ◌∷◌, [], All, None, map, append_assoc, subst, sym, refl, ap, ◌∙◌, arith}
+use Rattle.std.proofs.Common.{◌≡◌, ◌++◌, ◌∷◌, [], All, None, length, map, map-id, subst, sym, refl, ap, ◌∙◌, arith, rules}
+use Rattle.std.specs.Prelude.{Option, ℕ}
+use Rattle.std.proofs.lemmas.List.{length_push, map-append}
+use Rattle.std.proofs.lemmas.Iterator.Consumers.{YieldsList-end, YieldsList-turn}
+use Rattle.std.proofs.lemmas.Iterator.Adapters.{YieldsList-from_vec}
+use Rattle.liveness.specs.RoundAnswers.{IsReached}
+use Rattle.storage.specs.BoundedNets.{bound}
 use Rattle.storage.specs.declared.distribution.Distribution.{Distribution}
-use Rattle.std.proofs.lemmas.List.{map-append}
+use Rattle.guide.specs.Evaluations.{IsEvaluable}
+use Rattle.levels.specs.declared.found.Found.{Found}
 use Rattle.explore.specs.declared.task.Task.{Task}
-use Rattle.explore.specs.declared.waiting.Waiting.{Waiting}
-use Rattle.explore.specs.inside.Levels.{IsFresh, IsStartable, onto}
-use Rattle.explore.proofs.Ends.{all-front, all-last, all-more}
-use Rattle.explore.proofs.Tasks.{onto-more}
+use Rattle.explore.specs.inside.Levels.{IsFresh, IsVisitable}
+use Rattle.explore.proofs.Ends.{all-more}
 use Rattle.explore.proofs.level.fill.Goals as goal
 
-pub loop-task-preserved : goal.loop-task-preserved
-loop-task-preserved g c =
+pub loop-found-preserved : goal.loop-found-preserved
+loop-found-preserved g c =
     let net = g.F.Firing.net c.args.exploring.now.net.now in
-    let D : Waiting → Type 0 = λ w. IsStartable net c.args.exploring.now.wiring.now w.capacities w.counts in
-    let P : Task g.row.F.Denot g.row.L.Denot → Type 0 = λ t. IsFresh net (g.F.Firing.net t.net.now) t.wiring.now c.args.exploring.now.limits.states t.capacities t.counts t.states t.steps in
-    let both : All D (c.take_last-capacities.new.self.items ++ c.take_last-capacities.result ∷ []) = subst (All D) c.take_last-capacities.ensures.items c.loop-task.invariant.3 in
-    let here : D c.take_last-capacities.result = all-last D c.take_last-capacities.new.self.items c.take_last-capacities.result both in
+    let P : Task g.row.F.Denot g.row.L.Denot → Type 0 = λ t. IsFresh net (g.F.Firing.net t.net.now) t.wiring.now c.args.exploring.now.limits.states t.capacities t.counts.now t.states t.steps in
     let f : Task g.row.F.Denot g.row.L.Denot → Distribution = λ t. t.capacities in
-    let k : Waiting → Distribution = λ w. w.capacities in
-    let w = c.take_last-capacities.result in
-    let rest = c.take_last-capacities.new.self.items in
-    let pushed : Task g.row.F.Denot g.row.L.Denot = record { alloc = c.args.alloc; net = c.args.exploring.now.net; wiring = c.args.exploring.now.wiring; capacities = w.capacities; counts = w.counts; states = c.args.exploring.now.limits.states; steps = c.share.result; answer = None } in (
-      omega (arith, c.take_last-capacities.ensures.len, c.loop-task.invariant.0),
-      omega (arith, c.push_reserved.ensures.len, c.loop-task.invariant.1),
-      c.push_reserved.ensures.capacity ∙ c.loop-task.invariant.2,
-      all-front D c.take_last-capacities.new.self.items c.take_last-capacities.result both,
-      subst (All P) (sym c.push_reserved.ensures.items) (all-more P c.loop-task.tasks.items _ c.loop-task.invariant.4
-          (record { net_is = refl; states_are = refl; start = here; share = c.share.ensures.share; count = c.share.ensures.count })),
-      c.share.ensures.stays ∙ c.loop-task.invariant.5,
-      c.loop-task.invariant.6
-          ∙ (ap (λ ws. map k ws ++ onto f c.loop-task.tasks.items []) c.take_last-capacities.ensures.items
-          ∙ (ap (λ xs. xs ++ onto f c.loop-task.tasks.items []) (map-append k rest (w ∷ []))
-          ∙ (append_assoc (map k rest) (w.capacities ∷ []) (onto f c.loop-task.tasks.items [])
-          ∙ (ap (λ xs. map k rest ++ xs) (sym (onto-more f c.loop-task.tasks.items pushed []))
-          ∙ ap (λ xs. map k rest ++ onto f xs []) (sym c.push_reserved.ensures.items))))),
+    let k : Found (Option ℕ) → Distribution = λ x. x.capacities in
+    let found = c.in-Some.found in
+    let turn = YieldsList-turn (YieldsList-from_vec {s = c.into_iter-found-iterator.result} c.args.visits.items (search rules) (search rules))
+    c.loop-found.yielded c.loop-found.found-iterator c.loop-found.yielded_by c.next.result c.next.new.self c.in-Some.found c.in-Some.is c.next.ensures.steps in
+    let visitable : IsVisitable (g.F.Firing.net c.args.exploring.now.net.now) c.args.exploring.now.limits.states c.args.members.now c.in-Some.found =
+    subst (IsVisitable net c.args.exploring.now.limits.states c.args.members.now) (sym turn.1) (c.requires.fits (length c.loop-found.yielded) c.in-Some.found turn.0) in
+    let fits : IsEvaluable (g.F.Firing.net c.args.exploring.now.net.now) c.into_capacities.result.capacities = subst (λ (d : Distribution). IsEvaluable net d.capacities) (sym c.into_capacities.ensures) visitable.fits in
+    let reached : IsReached (bound (g.F.Firing.net c.args.exploring.now.net.now) c.into_capacities.result.capacities) c.led_to-counts.result.now = subst (λ (d : Distribution). IsReached (bound net d.capacities) c.led_to-counts.result.now) (sym c.into_capacities.ensures) c.led_to-counts.ensures in
+    let pushed : Task g.row.F.Denot g.row.L.Denot = record { alloc = c.args.exploring.now.alloc; net = c.args.exploring.now.net; wiring = c.args.exploring.now.wiring; capacities = c.into_capacities.result; counts = c.led_to-counts.result; states = c.args.exploring.now.limits.states; steps = c.share.result; answer = None } in (
+      omega (arith, c.push_reserved.ensures.len, c.loop-found.invariant.0, length_push c.loop-found.yielded c.in-Some.found),
+      c.push_reserved.ensures.capacity ∙ c.loop-found.invariant.1,
+      subst (All P) (sym c.push_reserved.ensures.items) (all-more P c.loop-found.tasks.items pushed c.loop-found.invariant.2
+          (record { net_is = refl; states_are = refl; start = record { fits = fits; wired = c.requires.wired c.into_capacities.result.capacities fits.distribution; reached = reached }; share = c.share.ensures.share; count = c.share.ensures.count })),
+      c.share.ensures.stays ∙ c.loop-found.invariant.3,
+      ap (map f) c.push_reserved.ensures.items
+          ∙ (map-append f c.loop-found.tasks.items (pushed ∷ [])
+          ∙ (ap (λ xs. map f c.loop-found.tasks.items ++ (xs ∷ [])) c.into_capacities.ensures
+          ∙ (ap (λ xs. xs ++ found.capacities ∷ []) c.loop-found.invariant.4
+          ∙ sym (map-append k c.loop-found.yielded (found ∷ []))))),
     )
+
+pub returns-clause-order : goal.returns-clause-order
+returns-clause-order g c =
+    let k : Found (Option ℕ) → Distribution = λ x. x.capacities in
+    let end = YieldsList-end (YieldsList-from_vec {s = c.into_iter-found-iterator.result} c.args.visits.items (search rules) (search rules))
+    c.loop-found.yielded c.loop-found.found-iterator c.loop-found.yielded_by c.next.result c.next.new.self c.in-None.is c.next.ensures.steps in
+    let all : c.loop-found.yielded ≡ c.args.visits.items = sym (map-id c.loop-found.yielded) ∙ end.0 in
+    c.loop-found.invariant.4 ∙ ap (map k) all

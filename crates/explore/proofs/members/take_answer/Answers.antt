@@ -1,6 +1,10 @@
-use Rattle.std.proofs.Common.{refl, sym, ap, ◌∙◌}
+use Rattle.std.proofs.Common.{◌+◌, ◌∷◌, sym, ap, ◌∙◌}
 use Rattle.explore.specs.inside.Levels.{least_loops, most_loops}
-use Rattle.explore.specs.inside.Searches.{member_of}
+use Rattle.std.proofs.lemmas.List.Elements.{Contains-append_right}
+use Rattle.levels.specs.Visits.{visited}
+use Rattle.levels.proofs.Elements.{contains-here}
+use Rattle.explore.specs.inside.Searches.{member_of, visits_of}
+use Rattle.explore.proofs.Searching.{search-candidate}
 use Rattle.explore.proofs.Knowing.{loops-shown}
 use Rattle.explore.proofs.members.take_answer.Goals as goal
 
@@ -11,7 +15,15 @@ pub returns-in_ok-take_in-in-Ok-clause-member : goal.returns-in_ok-take_in-in-Ok
 returns-in_ok-take_in-in-Ok-clause-member g c = record {
   member = member_of c.args.answered.capacities c.in-Ok.evaluation;
   added = c.in_ok-take_in-in-Ok.ensures.members;
-  same = refl;
   least = loops-shown c.in-Ok.evaluation.outcome ∙ sym (ap least_loops c.in-Ok.is);
   most = loops-shown c.in-Ok.evaluation.outcome ∙ sym (ap most_loops c.in-Ok.is);
 }
+
+pub returns-in-Err-clause-refused : goal.returns-in-Err-clause-refused
+returns-in-Err-clause-refused g c =
+    let net = g.F.Firing.net c.args.exploring.now.net.now in
+    let search = c.requires.search in
+    let limits = c.args.exploring.now.limits in
+    c.refusal.ensures net limits (search-candidate net c.requires.net limits (c.args.total + 1) (c.args.answered.capacities.capacities ∷ search.0) c.args.search.now search.1 c.args.answered.capacities.capacities
+    (Contains-append_right (visited (visits_of search.1.entries)) (c.args.answered.capacities.capacities ∷ search.0) c.args.answered.capacities.capacities (contains-here c.args.answered.capacities.capacities search.0))).reachable
+    (rw c.in-Err.is at c.requires.answer.answer)

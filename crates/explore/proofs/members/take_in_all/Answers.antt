@@ -1,40 +1,54 @@
-use Rattle.std.proofs.Common.{◌++◌, ◌∷◌, [], List, inl, refl, subst, sym}
-use Rattle.std.proofs.lemmas.Result.{err_from_is_err_and}
+use Rattle.std.proofs.Common.{◌≡◌, ◌+◌, ◌∷◌, [], ℕ, List, Option, drop, length, map-id, subst, sym, ap, ◌∙◌, arith, rules}
+use Rattle.std.proofs.lemmas.List.{drop_all, length_push}
+use Rattle.std.proofs.lemmas.Iterator.Consumers.{YieldsList-end, YieldsList-turn}
+use Rattle.std.proofs.lemmas.Iterator.Adapters.{YieldsList-from_vec}
 use Rattle.explore.specs.declared.level.Answered.{Answered}
-use Rattle.explore.specs.Explorations.{IsOneOf, capacities_of}
-use Rattle.explore.specs.inside.Levels.{least_loops, most_loops}
-use Rattle.explore.specs.inside.Searches.{turned}
-use Rattle.explore.proofs.Elements.{one-left, one-right}
-use Rattle.explore.proofs.Levelled.{cycles-same, done-here, done-same}
+use Rattle.explore.specs.inside.Levels.{least_loops, most_loops, sum_of}
+use Rattle.explore.specs.inside.Searches.{IsAnswerOf, IsSearch, answered_of}
+use Rattle.explore.specs.Explorations.{cycles_in}
+use Rattle.explore.proofs.Levelled.{cycles-same, many-same, rest-more}
 use Rattle.explore.proofs.members.take_in_all.Goals as goal
-
-pub take_answer-requires-clause-few : goal.take_answer-requires-clause-few
-take_answer-requires-clause-few g c = c.loop-answered.invariant.0.few
 
 pub take_answer-requires-clause-answer : goal.take_answer-requires-clause-answer
 take_answer-requires-clause-answer g c =
-    c.loop-answered.invariant.2 c.in-Some.answered (subst (λ (xs : List Answered). IsOneOf xs c.in-Some.answered) (sym c.in-Some.ensures.items) (one-right c.pop.new.self.items (c.in-Some.answered ∷ []) c.in-Some.answered (inl refl)))
+    let t = YieldsList-turn (YieldsList-from_vec {s = c.into_iter-answered-iterator.result} c.args.answers.items (search rules) (search rules))
+    c.loop-answered.yielded c.loop-answered.answered-iterator c.loop-answered.yielded_by c.next.result c.next.new.self c.in-Some.answered c.in-Some.is c.next.ensures.steps in
+    subst (IsAnswerOf (g.F.Firing.net c.args.exploring.now.net.now) c.args.exploring.now.limits c.args.total) (sym t.1) (c.requires.answers (length c.loop-answered.yielded) c.in-Some.answered t.0)
 
-pub take_answer-requires-clause-fits : goal.take_answer-requires-clause-fits
-take_answer-requires-clause-fits g c =
-    c.loop-answered.invariant.0.spread.candidates _ (done-here _ c.loop-answered.search.members.items c.loop-answered.answers.items c.pop.new.self.items c.in-Some.answered c.in-Some.ensures.items c.loop-answered.invariant.1)
+pub take_answer-requires-clause-search : goal.take_answer-requires-clause-search
+take_answer-requires-clause-search g c =
+    let t = YieldsList-turn (YieldsList-from_vec {s = c.into_iter-answered-iterator.result} c.args.answers.items (search rules) (search rules))
+    c.loop-answered.yielded c.loop-answered.answered-iterator c.loop-answered.yielded_by c.next.result c.next.new.self c.in-Some.answered c.in-Some.is c.next.ensures.steps in (
+      answered_of (drop (length c.loop-answered.yielded + 1) c.args.answers.items),
+      subst (λ (taken : List (List (Option ℕ))). IsSearch (g.F.Firing.net c.args.exploring.now.net.now) c.args.exploring.now.limits (c.args.total + 1) taken c.loop-answered.search)
+          (rest-more c.args.answers.items (length c.loop-answered.yielded) c.in-Some.answered t.0 t.1) c.loop-answered.invariant.0,
+    )
 
 pub loop-answered-preserved : goal.loop-answered-preserved
 loop-answered-preserved g c =
-    let all = capacities_of c.args.search.now.members.items ++ turned c.args.answers.items in
-    let ms = c.loop-answered.search.members.items in
-    let answers = c.loop-answered.answers.items in
-    let rest = c.pop.new.self.items in
-    let a = c.in-Some.answered in
-    let member = c.in_ok-take_answer.ensures.member in (
-      c.in_ok-take_answer.ensures.search _ c.loop-answered.invariant.0 (done-here _ ms answers rest a c.in-Some.ensures.items c.loop-answered.invariant.1),
-      done-same _ ms _ answers rest a c.in-Some.ensures.items member c.loop-answered.invariant.1,
-      λ b one. c.loop-answered.invariant.2 b (subst (λ (xs : List Answered). IsOneOf xs b) (sym c.in-Some.ensures.items) (one-left rest (a ∷ []) b one)),
-      cycles-same least_loops _ ms _ answers rest a c.in-Some.ensures.items member member.least c.loop-answered.invariant.3,
-      cycles-same most_loops _ ms _ answers rest a c.in-Some.ensures.items member member.most c.loop-answered.invariant.4,
+    let t = YieldsList-turn (YieldsList-from_vec {s = c.into_iter-answered-iterator.result} c.args.answers.items (search rules) (search rules))
+    c.loop-answered.yielded c.loop-answered.answered-iterator c.loop-answered.yielded_by c.next.result c.next.new.self c.in-Some.answered c.in-Some.is c.next.ensures.steps in
+    let member = c.in_ok-take_answer.ensures.member in
+    let was : IsSearch (g.F.Firing.net c.args.exploring.now.net.now) c.args.exploring.now.limits (c.args.total + 1) (c.in-Some.answered.capacities.capacities ∷ answered_of (drop (length c.loop-answered.yielded + 1) c.args.answers.items)) c.loop-answered.search =
+    subst (λ (taken : List (List (Option ℕ))). IsSearch (g.F.Firing.net c.args.exploring.now.net.now) c.args.exploring.now.limits (c.args.total + 1) taken c.loop-answered.search)
+    (rest-more c.args.answers.items (length c.loop-answered.yielded) c.in-Some.answered t.0 t.1) c.loop-answered.invariant.0 in (
+      subst (λ (n : ℕ). IsSearch (g.F.Firing.net c.args.exploring.now.net.now) c.args.exploring.now.limits (c.args.total + 1) (answered_of (drop n c.args.answers.items)) c.take_answer.new.search) (sym (length_push c.loop-answered.yielded c.in-Some.answered))
+          (c.in_ok-take_answer.ensures.search (answered_of (drop (length c.loop-answered.yielded + 1) c.args.answers.items)) was),
+      many-same c.args.search.now.members.items c.loop-answered.search.members.items c.take_answer.new.search.members.items c.loop-answered.yielded c.in-Some.answered member c.loop-answered.invariant.1,
+      cycles-same least_loops c.args.search.now.members.items c.loop-answered.search.members.items c.take_answer.new.search.members.items c.loop-answered.yielded c.in-Some.answered member member.least c.loop-answered.invariant.2,
+      cycles-same most_loops c.args.search.now.members.items c.loop-answered.search.members.items c.take_answer.new.search.members.items c.loop-answered.yielded c.in-Some.answered member member.most c.loop-answered.invariant.3,
     )
 
-pub returns-in_err-take_answer-clause-refused : goal.returns-in_err-take_answer-clause-refused
-returns-in_err-take_answer-clause-refused g c =
-    let p = err_from_is_err_and c.from_residual.result c.from_residual.ensures.1 in
-    rw (p.1, p.2) (c.in_err-take_answer.ensures.refused _ c.loop-answered.invariant.0 (done-here _ c.loop-answered.search.members.items c.loop-answered.answers.items c.pop.new.self.items c.in-Some.answered c.in-Some.ensures.items c.loop-answered.invariant.1))
+pub returns : goal.returns
+returns g c =
+    let end = YieldsList-end (YieldsList-from_vec {s = c.into_iter-answered-iterator.result} c.args.answers.items (search rules) (search rules))
+    c.loop-answered.yielded c.loop-answered.answered-iterator c.loop-answered.yielded_by c.next.result c.next.new.self c.in-None.is c.next.ensures.steps in
+    let all : c.loop-answered.yielded ≡ c.args.answers.items = sym (map-id c.loop-answered.yielded) ∙ end.0 in
+    let none : answered_of (drop (length c.loop-answered.yielded) c.args.answers.items) ≡ [] = ap answered_of (drop_all (length c.loop-answered.yielded) c.args.answers.items (omega (arith, end.1))) in
+    record {
+      search = subst (λ (taken : List (List (Option ℕ))). IsSearch (g.F.Firing.net c.args.exploring.now.net.now) c.args.exploring.now.limits (c.args.total + 1) taken c.loop-answered.search) none c.loop-answered.invariant.0;
+      many = omega (arith, end.1, c.loop-answered.invariant.1);
+      least = subst (λ (xs : List Answered). cycles_in c.loop-answered.search.members.items ≡ cycles_in c.args.search.now.members.items + sum_of least_loops xs) all c.loop-answered.invariant.2;
+      most = subst (λ (xs : List Answered). cycles_in c.loop-answered.search.members.items ≡ cycles_in c.args.search.now.members.items + sum_of most_loops xs) all c.loop-answered.invariant.3;
+      refused = tt;
+    }

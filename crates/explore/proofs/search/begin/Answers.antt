@@ -1,10 +1,8 @@
-use Rattle.std.proofs.Common.{refl, arith}
-use Rattle.storage.specs.BoundedNets.{bound}
-use Rattle.explore.proofs.Beginning.{begun-one, waits-alone}
+use Rattle.explore.proofs.Beginning.{search-begun}
 use Rattle.explore.proofs.search.begin.Goals as goal
 
 pub returns-clause-search : goal.returns-clause-search
-returns-clause-search g c = λ limits within some.
-    let net = g.F.Firing.net c.args.net.now in
-    begun-one net c.requires.net limits c.args.capacities.capacities c.requires.corner _ _ refl c.requires.total (omega (arith, c.requires.total, within))
-    (c.in_ok-counts.ensures (bound net c.args.capacities.capacities) refl) (waits-alone _ _ _ c.in_ok-insert.ensures.keys c.new-waiting.ensures.empty) c.new.ensures.items c.new-2.ensures.points refl some
+returns-clause-search g c =
+    let net = g.F.Firing.net c.args.exploring.now.net.now in
+    search-begun net c.args.exploring.now.limits c.args.capacities.capacities _ c.requires.corner c.new.ensures.items c.new-2.ensures.points c.in_ok-begin.ensures.bounds
+    (c.in_ok-begin.ensures.frontier net.channels (record { known = c.in_ok-steps.ensures; some_size = c.know_laws.ensures.some_size }) c.requires.total) c.in_ok-begin.ensures.hints

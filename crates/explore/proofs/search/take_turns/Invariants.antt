@@ -3,11 +3,11 @@ use Rattle.explore.specs.Explorations.{cycles_in}
 use Rattle.explore.specs.inside.Searches.{IsStanding}
 use Rattle.explore.proofs.search.take_turns.Given as goal
 
-abbrev pub invariant-loop-total : goal.invariant-loop-total
-invariant-loop-total g l =
+abbrev pub invariant-loop-level : goal.invariant-loop-level
+invariant-loop-level g l =
     IsStanding (g.F.Firing.net l.exploring.net.now) l.exploring.limits l.search
     × (l.steps.count ≡ l.initial.steps.count + cycles_in l.search.members.items)
     × (l.steps.share ≡ l.initial.steps.share)
 
-abbrev pub decreases-loop-total : goal.decreases-loop-total
-decreases-loop-total g l = l.exploring.limits.distributions + 1 - length l.search.members.items
+abbrev pub decreases-loop-level : goal.decreases-loop-level
+decreases-loop-level g l = l.exploring.limits.distributions + 1 - length l.search.members.items

@@ -1,0 +1,49 @@
+-- The counts from which an evaluation begins are reached.
+use Rattle.std.proofs.Common.{◌≡◌, ℕ, zero, suc, Option, None, Some, List, [], ◌∷◌, ◌++◌, length, refl, ◌∙◌}
+use Rattle.std.specs.Prelude.{slice_get, slice_index_or}
+use Rattle.sd_base.specs.Net.{Net}
+use Rattle.sd_base.specs.Lawful.{Lawful}
+use Rattle.sd_base.specs.Untimed.{IsBlockedBy, IsLive}
+use Rattle.liveness.specs.RoundAnswers.{IsReached}
+use Rattle.storage.specs.BoundedNets.{bound}
+use Rattle.storage.specs.Distributions.{AtMost}
+use Rattle.explore.specs.declared.exploration.Member.{Member}
+use Rattle.explore.specs.declared.exploration.Shown.{Shown}
+use Rattle.explore.specs.declared.exploration.Shown.TheVariants.{Cycle, Blocked}
+use Rattle.explore.specs.declared.starts.Starts.{Starts}
+use Rattle.explore.specs.Explorations.{IsMember, ShowsRate}
+use Rattle.explore.specs.inside.Starts.{AreStarts, IsHinted, counts_at}
+use Rattle.explore.proofs.Reaching.{looped-live}
+
+blocked-reached : (net : Net) (counts : List ℕ) (lacks : List (Option ℕ)) → IsBlockedBy net counts lacks → IsReached net counts
+blocked-reached net counts lacks is = record { actors = is.actors; order = is.ends.order; fires = is.ends.fires; reached = is.ends.counts }
+
+module _ (net : Net) (laws : Lawful net) (starts : Starts) (are : AreStarts net starts) (ds : List (Option ℕ)) (lawful : Lawful (bound net ds))
+    (more : (es : List (Option ℕ)) (counts : List ℕ) → AtMost es ds → IsReached (bound net es) counts → IsReached (bound net ds) counts) (live : (es : List (Option ℕ)) → AtMost es ds → IsLive (bound net es) → IsLive (bound net ds)) where
+  pub member-reached : (states : ℕ) (m : Member) → IsMember net states m → AtMost m.capacities.capacities ds → IsReached (bound net ds) (counts_at starts m.shown)
+  member-reached states m is most = at m.shown is.shown
+    where
+      at : (shown : Shown) → ShowsRate net m.capacities.capacities states m.rate shown → IsReached (bound net ds) (counts_at starts shown)
+      at (Cycle cycle) (table, found, critical, same) =
+          are.whole (bound net ds) lawful refl (live m.capacities.capacities most (looped-live net laws m.capacities.capacities m.rate table cycle is.rate critical same))
+      at (Blocked counts) (lacks, blocked, none) = more m.capacities.capacities counts most (blocked-reached (bound net m.capacities.capacities) counts lacks blocked)
+
+-- the member at a place
+pub get-same : (ms : List Member) (place : ℕ) (m x : Member) → slice_get ms place ≡ Some m → x ≡ slice_index_or ms place x → x ≡ m
+get-same [] place m x at is = cc
+get-same (y ∷ ms) zero m x at is = let same : y ≡ m = cc in is ∙ same
+get-same (y ∷ ms) (suc place) m x at is = get-same ms place m x at is
+
+-- a place keeps its member
+get-longer : (ms : List Member) (new : List Member) (place : ℕ) (m : Member) → slice_get ms place ≡ Some m → slice_get (ms ++ new) place ≡ Some m
+get-longer [] new place m at = cc
+get-longer (x ∷ ms) new zero m at = at
+get-longer (x ∷ ms) new (suc place) m at = get-longer ms new place m at
+
+pub get-last : (ms : List Member) (m : Member) → slice_get (ms ++ m ∷ []) (length ms) ≡ Some m
+get-last [] m = refl
+get-last (x ∷ ms) m = get-last ms m
+
+pub hinted-longer : (net : Net) (states : ℕ) (ms new : List Member) (hint : Option ℕ) (ds : List (Option ℕ)) → IsHinted net states ms hint ds → IsHinted net states (ms ++ new) hint ds
+hinted-longer net states ms new None ds is = tt
+hinted-longer net states ms new (Some place) ds is = record { member = is.member; at = get-longer ms new place is.member is.at; evaluated = is.evaluated; most = is.most }
