@@ -132,11 +132,11 @@ fn loop_at<F: Firing>(
     requires soon { until ≤ 2 ^ 62 }
     ensures { IfOk result (λ o. IfSome o (IsLoopIn (F.net net.now) starts.now)) }
 {
-    let Some(pair) = last_pair(net, starts, until) else {
+    let Some(pair) = last_pair(net, starts, until, 1) else {
         return Ok(None);
     };
     if are_whole(net, firings, starts, until) {
-        loop_by_rows(alloc, net, starts, pair)
+        loop_by_rows(alloc, net, starts, pair, 1)
     } else {
         Ok(None)
     }

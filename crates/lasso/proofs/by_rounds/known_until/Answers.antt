@@ -1,4 +1,4 @@
-use Rattle.std.proofs.Common.{◌≡◌, ℕ, ◌-◌, ◌≤◌, ◌<◌, length, arith, below_more}
+use Rattle.std.proofs.Common.{ℕ, ◌-◌, ◌≤◌, ◌<◌, length, arith, below_more}
 use Rattle.sd_base.specs.Schedules.{count_of, start_of}
 use Rattle.lasso.proofs.Due.{row-at, row-last}
 use Rattle.lasso.proofs.by_rounds.known_until.Goals as goal

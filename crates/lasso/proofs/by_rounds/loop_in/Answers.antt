@@ -24,4 +24,4 @@ returns g c =
     c.starts_in.ensures ∙ ap (λ rows. sum (map length rows)) (c.as_slice.ensures.value ∙ sym c.as_slice-3.ensures.value) in
     IfSome_then c.in_ok-found.found c.in_ok-found.ensures
     (λ table found. loop-found (g.F.Firing.net c.args.net.now) (g.met.F.Firing.lawful c.args.net.now) c.requires.inputs c.args.states c.starts_in.result c.as_slice-3.result.now table
-    (omega (arith, c.requires.some)) total (omega (arith, c.if-starts_in-from.false, c.from.ensures, c.min.ensures)) (omega (arith, c.if-starts_in-from.false, c.from.ensures, c.min.ensures)) found)
+    (omega (arith, c.requires.states)) total (omega (arith, c.if-starts_in-from.false, c.from.ensures, c.min.ensures)) (omega (arith, c.if-starts_in-from.false, c.from.ensures, c.min.ensures)) found)
