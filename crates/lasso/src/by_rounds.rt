@@ -25,6 +25,7 @@ pub(crate) const FEW: u64 = 256;
 
 /// Up to how many rounds of starts are looked through, and how many starts these may have.
 const ROUNDS: u64 = 64;
+
 const SEARCHED: u64 = 4_096;
 
 /// Up to how many rounds long a loop is found.
@@ -140,11 +141,7 @@ fn known_until(starts: &[Rows<u64>]) -> Option<u64>
 }
 
 /// By actor the starts up to and with a moment. Cost: linear in them.
-fn starts_by(
-    alloc: Global,
-    starts: &[Rows<u64>],
-    moment: u64,
-) -> Result<Vec<Rows<u64>>, NoMemory>
+fn starts_by(alloc: Global, starts: &[Rows<u64>], moment: u64) -> Result<Vec<Rows<u64>>, NoMemory>
     requires ascend { (a : ℕ) → a < length starts.now → Ascend (slice_index_or starts.now a []) }
     ensures { IfOk result (λ rows. AreStartsBy starts.now moment rows.items) }
 {

@@ -12,6 +12,7 @@ use std::alloc::Global;
 
 /// For how many starts, or events, there is room at first, at most and at least.
 const ROOM: u64 = 8_192;
+
 const LEAST_ROOM: u64 = 16;
 
 /// How many firings a round has.

@@ -40,12 +40,7 @@ pub(crate) fn entry_by_rows<F: Firing>(
 
 /// From when on each firing is a period after the one so many rounds before it, or neither runs any more, if that is so by the
 /// earlier moment and these rounds lie between.
-fn settled_since<F: Firing>(
-    net: &F,
-    starts: &[Rows<u64>],
-    pair: Pair,
-    rounds: u64,
-) -> Option<u64>
+fn settled_since<F: Firing>(net: &F, starts: &[Rows<u64>], pair: Pair, rounds: u64) -> Option<u64>
     requires inputs { HasInputs (F.net net.now) }
     requires order { pair.earlier < pair.later }
     requires starts { AreStarts (F.net net.now) pair.later starts.now }

@@ -92,7 +92,7 @@ pub(crate) fn take_unlike<F: Firing>(net: &F, starts: &[Rows<u64>], rounds: u64)
 {
     know_laws(net);
     let first = took(net, starts, 0, rounds);
-    for actor in 0..net.actors() {
+    for actor in 1..net.actors() {
         if took(net, starts, actor, rounds) != first {
             return true;
         }

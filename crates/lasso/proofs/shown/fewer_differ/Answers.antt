@@ -7,6 +7,6 @@ pub loop-fewer-preserved : goal.loop-fewer-preserved
 loop-fewer-preserved g c =
     let here : Differ (g.F.Firing.net c.args.net.now) c.args.starts.now c.loop-fewer.fewer = c.take_unlike.ensures c.if-not-take_unlike.false in
     λ k some below. ⊎_elim
-        (λ (old : k < c.loop-fewer.fewer). c.loop-fewer.invariant k some old)
-        (λ (last : c.loop-fewer.fewer ≤ k). let same : k ≡ c.loop-fewer.fewer = omega arith in rw same here)
-        (cases_lt k c.loop-fewer.fewer)
+    (λ (old : k < c.loop-fewer.fewer). c.loop-fewer.invariant k some old)
+    (λ (last : c.loop-fewer.fewer ≤ k). let same : k ≡ c.loop-fewer.fewer = omega arith in rw same here)
+    (cases_lt k c.loop-fewer.fewer)
