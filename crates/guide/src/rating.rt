@@ -1,11 +1,11 @@
-ghost use Rattle.std.specs.Prelude.{◌≡◌, ◌+◌, ◌≤◌, ℕ, IfErr, IfOk, List, Option};
+ghost use Rattle.std.specs.Prelude.{◌≡◌, ◌+◌, ◌≤◌, ◌<◌, ℕ, IfErr, IfOk, IsTrue, List, Option, length, slice_index};
 ghost use Rattle.sd_base.specs.declared.limits.TheConstants.{LEAST_STATES, STATES};
 ghost use Rattle.sd_base.specs.Net.{Net};
 ghost use Rattle.sd_base.specs.Schedules.{HasInputs};
 ghost use Rattle.sd_base.specs.Connection.{IsConnected};
 ghost use Rattle.sd_base.specs.Untimed.{IsBlockedBy, IsLive};
 ghost use Rattle.firing.specs.Wiring.{IsWiringOf};
-ghost use Rattle.liveness.specs.RoundAnswers.{IsReached};
+ghost use Rattle.liveness.specs.RoundAnswers.{IsEnding, IsReached};
 ghost use Rattle.lasso.specs.LoopAnswers.{IsRunRefusal};
 ghost use Rattle.storage.specs.BoundedNets.{bound};
 ghost use Rattle.guide.specs.Evaluations.{IsEvaluable, IsEvaluated, IsRefused, loops_run};
@@ -136,12 +136,43 @@ fn evaluate_on<F: Firing, B: Firing, L: Ledger>(
     ensures rises { steps.old.count ≤ steps.new.count }
     ensures share { steps.new.share ≡ steps.old.share }
 {
-    match one_round_from(alloc, bounded, wiring, counts)? {
+    match ending_from(alloc, bounded, wiring, counts)? {
         Ending::Whole => evaluate_whole(alloc, bounded, wiring, states, steps),
         Ending::Blocked { counts, lacks } => {
             Ok(evaluate_blocked(alloc, net, capacities, counts, lacks)?)
         }
     }
+}
+
+/// What `one_round_from` answers. Counts of a whole round show that one can be completed, which is seen at once. Cost: linear in
+/// the actors where they are, else that of `one_round_from`.
+fn ending_from<B: Firing>(
+    alloc: Global,
+    bounded: &B,
+    wiring: &Wiring,
+    counts: &[u64],
+) -> Result<Ending, NoMemory>
+    requires wired { IsWiringOf (B.net bounded.now) wiring.now }
+    requires reached { IsReached (B.net bounded.now) counts.now }
+    ensures { IfOk result (IsEnding (B.net bounded.now)) }
+{
+    if are_whole(bounded, counts) {
+        return Ok(Ending::Whole);
+    }
+    one_round_from(alloc, bounded, wiring, counts)
+}
+
+/// Whether each actor has fired its round.
+fn are_whole<B: Firing>(bounded: &B, counts: &[u64]) -> bool
+    requires { length counts.now ≡ length (B.net bounded.now).times }
+    ensures { IsTrue result → (a : ℕ) → a < length (B.net bounded.now).times → slice_index counts.now a ≡ slice_index (B.net bounded.now).round a }
+{
+    for actor in 0..bounded.actors() {
+        if counts[actor as usize] != bounded.round(actor) {
+            return false;
+        }
+    }
+    true
 }
 
 /// What counts that block a distribution show.

@@ -37,10 +37,10 @@ module _ (net : Net) (laws : Lawful net) (inputs : HasInputs net) (until : ℕ) 
   early : Earliest net (until + 1) (earliest net (until + 1))
   early = early_at net (regular net laws) inputs (until + 1)
 
-  admissible : Admissible net rows
+  pub admissible : Admissible net rows
   admissible = from-last net (regular net laws).own (regular net laws).wired rows due.admissible
 
-  no-later : (a k : ℕ) → k < count_of rows a → (k < count_of all a) × (start_of all a k ≤ start_of rows a k)
+  pub no-later : (a k : ℕ) → k < count_of rows a → (k < count_of all a) × (start_of all a k ≤ start_of rows a k)
   no-later a k there = early.least rows admissible a k there (omega (arith, due.by a k there))
 
   -- what a firing of self-timed execution needs has ended by its start
@@ -85,7 +85,7 @@ module _ (net : Net) (laws : Lawful net) (inputs : HasInputs net) (until : ℕ) 
   no-sooner zero a k there small = absurd (omega arith)
   no-sooner (suc fuel) a k there small = no-sooner-row fuel a k (no-sooner fuel) there small
 
-  same-start : (a k : ℕ) → k < count_of rows a → start_of rows a k ≡ start_of all a k
+  pub same-start : (a k : ℕ) → k < count_of rows a → start_of rows a k ≡ start_of all a k
   same-start a k there = omega (arith, (no-later a k there).1, no-sooner (suc (start_of rows a k)) a k there (omega arith))
 
   module _ (done : (a : ℕ) → a < length net.times → IsDone net rows until a) where

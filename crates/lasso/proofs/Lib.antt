@@ -21,3 +21,4 @@ pub mod Due
 pub mod RowLoops
 pub mod Totals
 pub mod FirstDue
+pub mod Known

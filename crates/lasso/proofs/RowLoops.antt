@@ -1,7 +1,7 @@
 -- The loop that rows of starts show.
 use Rattle.std.proofs.Common.{◌≡◌, ◌≢◌, ◌↔◌, ℕ, suc, ◌+◌, ◌-◌, ◌*◌, ◌%◌, ◌^◌, ◌≤◌, ◌<◌, ◌⊎◌, Bool, List, [], length, IsTrue, inl, inr, ⊎_elim, subst, sym, ap, ◌∙◌, arith}
 use Rattle.std.specs.Prelude.{slice_index, slice_index_or}
-use Rattle.std.proofs.Math.Nat.{le-mul_of_pos_right}
+use Rattle.std.proofs.Math.Nat.{add-mul, mul-le-mul_right, one-le-mul}
 use Rattle.std.proofs.lemmas.Bool.{cases_lt}
 use Rattle.sd_base.specs.Net.{Net}
 use Rattle.sd_base.specs.Schedules.{HasInputs, Schedule, count_of, start_of, end_of, phases_at, time_of}
@@ -12,11 +12,12 @@ use Rattle.sd_base.specs.Connection.{IsConnected}
 use Rattle.sd_base.proofs.Parts.{regular, balanced}
 use Rattle.sd_base.proofs.Admissibles.{is_actor, one_time}
 use Rattle.sd_base.proofs.Counts.{early_at}
+use Rattle.sd_base.proofs.Alike.{count-rises}
 use Rattle.sd_base.proofs.Returns.{rounds, repeats-rounds, at-least_one}
 use Rattle.lasso.specs.inside.Collecting.{AreStarts}
 use Rattle.lasso.specs.inside.Entering.{Ascend, AreBy, IsRowSettled, Recurs}
-use Rattle.lasso.specs.inside.Showing.{IsFirstDoubled, IsFirstEnd, IsFirstEvent, SettlesFrom}
-use Rattle.lasso.proofs.Recurring.{apart-event, apart-same, apart-least}
+use Rattle.lasso.specs.inside.Showing.{Differ, IsFirstDoubled, IsFirstEnd, IsFirstEvent, SettlesFrom, took}
+use Rattle.lasso.proofs.Recurring.{again-shape, apart-event, apart-same, apart-least}
 use Rattle.lasso.proofs.Settling.{started-by, start-kept, settled-same}
 use Rattle.lasso.proofs.Entered.{row-count, row-start, count-by, rows-settle, same-over}
 use Rattle.lasso.proofs.RowsSettle.{settled-later}
@@ -163,16 +164,10 @@ doubled-next net from period until later event none is soon again = record {
       (cases_lt from x);
 }
 
--- two parts of at least one turn each are more than one turn
-two-turns : (n m k : ℕ) → 1 ≤ k → 1 ≤ n → 1 ≤ m → n * k + m * k ≡ k → ⊥
-two-turns n m k some one other all =
-    let first : k ≤ k * n = le-mul_of_pos_right k (omega arith) in
-    let last : k ≤ k * m = le-mul_of_pos_right k (omega arith) in
-    omega arith
+-- ---- from two moments with some rounds of starts between them to the loop
 
--- ---- from two moments with a round of starts between them to the loop
-
-module _ (net : Net) (laws : Lawful net) (fed : HasInputs net) (connected : IsConnected net) (r t : ℕ) (later : r < t) (starts : Schedule) (have : AreStarts net t starts) where
+module _ (net : Net) (laws : Lawful net) (fed : HasInputs net) (connected : IsConnected net) (r t rounds_between : ℕ) (later : r < t) (some_rounds : 1 ≤ rounds_between) (starts : Schedule) (have : AreStarts net t starts)
+    (differ : (k : ℕ) → 1 ≤ k → k < rounds_between → Differ net starts k) where
   -- between events of equal shapes there is some number of rounds
   module _ (x y : ℕ) (less : x < y) (same : shape_at net x ≡ shape_at net y) where
     abbrev turns : ℕ
@@ -191,25 +186,24 @@ module _ (net : Net) (laws : Lawful net) (fed : HasInputs net) (connected : IsCo
     turns-some = at-least_one net laws fed x y less same connected
 
   -- from one moment on all is settled, and another one is the first event from there on that is one a period later too
-  module _ (from e : ℕ) (settles : SettlesFrom net starts r t from) (doubled : IsFirstDoubled net from (t - r) r e) where
-    row-recurs : (a : ℕ) → a < length net.times → Recurs net a (slice_index_or starts a []) r (t - r) (1 * slice_index net.round a)
-    row-recurs a actor =
-        let one : 1 * slice_index net.round a ≡ slice_index net.round a = omega arith in
-        rw one (record {
-          before = count_of starts a - slice_index net.round a;
-          by = settles.counts a actor;
-          number = omega (arith, settles.long a actor);
-          settled = settled-later net a (slice_index_or starts a []) (slice_index net.round a) (t - r) from r settles.before (settles.settled a actor);
-        })
+  module _ (from e : ℕ) (settles : SettlesFrom net starts rounds_between r t from) (doubled : IsFirstDoubled net from (t - r) r e) where
+    row-recurs : (a : ℕ) → a < length net.times → Recurs net a (slice_index_or starts a []) r (t - r) (rounds_between * slice_index net.round a)
+    row-recurs a actor = record {
+      before = count_of starts a - rounds_between * slice_index net.round a;
+      by = settles.counts a actor;
+      number = omega (arith, settles.long a actor);
+      settled = settled-later net a (slice_index_or starts a []) (rounds_between * slice_index net.round a) (t - r) from r settles.before (settles.settled a actor);
+    }
 
     -- so the shape at the earlier moment comes again at the later one
     same-ends : shape_at net r ≡ shape_at net t
-    same-ends = sym (rows-again net laws fed r t 1 later starts have row-recurs)
+    same-ends = sym (rows-again net laws fed r t rounds_between later starts have row-recurs)
 
-    -- a round of each actor lies between them
-    round-between : (a : ℕ) → a < length net.times → slice_index net.round a ≡ count_of starts a - count_of (earliest net (r + 1)) a
+    -- these rounds of each actor lie between them
+    round-between : (a : ℕ) → a < length net.times → rounds_between * slice_index net.round a ≡ count_of starts a - count_of (earliest net (r + 1)) a
     round-between a actor =
-        let early : count_of starts a - slice_index net.round a ≡ count_of (earliest net (r + 1)) a = count-by net laws fed t starts have r a (count_of starts a - slice_index net.round a) (omega arith) actor (settles.counts a actor) in
+        let early : count_of starts a - rounds_between * slice_index net.round a ≡ count_of (earliest net (r + 1)) a =
+        count-by net laws fed t starts have r a (count_of starts a - rounds_between * slice_index net.round a) (omega arith) actor (settles.counts a actor) in
         omega (arith, settles.long a actor)
 
     -- and that at the event a period later
@@ -218,30 +212,173 @@ module _ (net : Net) (laws : Lawful net) (fed : HasInputs net) (connected : IsCo
       where
         settled : (a m : ℕ) → a < length net.times → m ≡ count_of starts a - count_of (earliest net (r + 1)) a → IsRowSettled net a (slice_index_or starts a []) m (t - r) e
         settled a m actor is =
-            let number : m ≡ slice_index net.round a = is ∙ sym (round-between a actor) in
-            rw number (settled-later net a (slice_index_or starts a []) (slice_index net.round a) (t - r) from e doubled.late (settles.settled a actor))
+            let number : m ≡ rounds_between * slice_index net.round a = is ∙ sym (round-between a actor) in
+            rw number (settled-later net a (slice_index_or starts a []) (rounds_between * slice_index net.round a) (t - r) from e doubled.late (settles.settled a actor))
 
     ahead : e < e + (t - r)
     ahead = omega arith
 
+    across : (a : ℕ) → a < length net.times → count_of (earliest net (t + 1)) a ≡ count_of (earliest net (r + 1)) a + rounds_between * slice_index net.round a
+    across a actor = omega (arith, have.all a actor, round-between a actor, count-rises net (regular net laws) fed (r + 1) (t + 1) (omega arith) a)
+
+    some-fire : (a : ℕ) → a < length net.times → 1 ≤ slice_index net.round a
+    some-fire a actor = (balanced net laws).fires a actor
+
+    -- no shape like the last one stood fewer rounds before: the last rounds would take all actors as long
+    module _ (x : ℕ) (less : x < t) (same : shape_at net x ≡ shape_at net t) (fewer : turns x t less same < rounds_between) (some : 1 ≤ turns x t less same) where
+      abbrev k : ℕ
+      k = turns x t less same
+
+      abbrev m : ℕ
+      m = rounds_between - k
+
+      module _ (a : ℕ) (actor : a < length net.times) where
+        abbrev count : ℕ → ℕ
+        count y = count_of (earliest net (y + 1)) a
+
+        both : rounds_between * slice_index net.round a ≡ k * slice_index net.round a + m * slice_index net.round a
+        both = let e : rounds_between ≡ k + m = omega arith in ap (λ (n : ℕ). n * slice_index net.round a) e ∙ add-mul k m (slice_index net.round a)
+
+        some-k : 1 ≤ k * slice_index net.round a
+        some-k = one-le-mul some (some-fire a actor)
+
+        some-m : 1 ≤ m * slice_index net.round a
+        some-m = one-le-mul (omega arith) (some-fire a actor)
+
+        inside : r < x
+        inside = ⊎_elim
+            (λ (h : r < x). h)
+            (λ (low : x ≤ r). absurd (omega (arith, count-rises net (regular net laws) fed (x + 1) (r + 1) (omega arith) a, turns-here x t less same a, across a actor, both, some-m)))
+            (cases_lt r x)
+
+        -- what has started by a moment from there on, and by one so much sooner
+        apart : (d : ℕ) → count (x + d) ≡ count (r + d) + m * slice_index net.round a
+        apart d =
+            let whole : turns r t later same-ends * slice_index net.round a ≡ rounds_between * slice_index net.round a = omega (arith, turns-here r t later same-ends a, across a actor) in
+            omega (arith, turns-on x t less same d a, turns-on r t later same-ends d a, both, whole)
+
+        abbrev last : ℕ
+        last = count t - 1
+
+        abbrev start : ℕ → ℕ
+        start j = start_of (earliest net (suc t)) a j
+
+        up : (y : ℕ) → y + 1 ≡ suc y
+        up y = omega arith
+
+        by-start : (y j : ℕ) → y ≤ t → j < count t → start j ≤ y → j < count y
+        by-start y j le there soon = rw (up y) (started-by net laws fed y t a j le (rw (up t) at there) soon)
+
+        start-by : (y j : ℕ) → y ≤ t → j < count y → start j ≤ y
+        start-by y j le there =
+            let here : j < count_of (earliest net (suc y)) a = rw (up y) at there in
+            let soon : start_of (earliest net (suc y)) a j < suc y = (early_at net (regular net laws) fed (suc y)).before a j here in
+            omega (arith, (start-kept net laws fed y t a j le here).1)
+
+        there-last : last < count t
+        there-last = omega (arith, turns-here x t less same a, some-k)
+
+        late : x < start last
+        late = ⊎_elim
+            (λ (h : x < start last). h)
+            (λ (soon : start last ≤ x). absurd (omega (arith, by-start x last (omega arith) there-last soon, turns-here x t less same a, some-k)))
+            (cases_lt x (start last))
+
+        soon-last : start last ≤ t
+        soon-last = start-by t last (omega arith) there-last
+
+        -- the last firing of the actor is so long after the one these rounds before it
+        long : m * slice_index net.round a ≤ last
+        long = omega (arith, across a actor, both, some-k)
+
+        at-most : start (last - m * slice_index net.round a) ≤ start last - (x - r)
+        at-most =
+            let here : last < count (start last) = by-start (start last) last soon-last there-last (omega arith) in
+            let one : x + (start last - x) ≡ start last = omega (arith, late) in
+            let other : r + (start last - x) ≡ start last - (x - r) = omega (arith, late, inside) in
+            let more : count (start last) ≡ count (start last - (x - r)) + m * slice_index net.round a = rw one at (rw other at (apart (start last - x))) in
+            start-by (start last - (x - r)) (last - m * slice_index net.round a) (omega (arith, soon-last)) (omega (arith, here, long))
+
+        at-least : start last - (x - r) ≤ start (last - m * slice_index net.round a)
+        at-least = ⊎_elim
+            (λ (early : start (last - m * slice_index net.round a) < start last - (x - r)). absurd (
+            let one : x + (start last - 1 - x) ≡ start last - 1 = omega (arith, late) in
+            let other : r + (start last - 1 - x) ≡ start last - 1 - (x - r) = omega (arith, late, inside) in
+            let more : count (start last - 1) ≡ count (start last - 1 - (x - r)) + m * slice_index net.round a = rw one at (rw other at (apart (start last - 1 - x))) in
+            let there : last - m * slice_index net.round a < count (start last - 1 - (x - r)) =
+            by-start (start last - 1 - (x - r)) (last - m * slice_index net.round a) (omega (arith, soon-last)) (omega (arith, there-last)) (omega (arith, early)) in
+            let before : last < count (start last - 1) = omega (arith, more, there, long) in
+            omega (arith, start-by (start last - 1) last (omega (arith, soon-last)) before, late)))
+            (λ (h : start last - (x - r) ≤ start (last - m * slice_index net.round a)). h)
+            (cases_lt (start (last - m * slice_index net.round a)) (start last - (x - r)))
+
+        took-is : took net starts m a ≡ x - r
+        took-is =
+            let number : count_of starts a ≡ count t = have.all a actor in
+            let place : count_of starts a - 1 ≡ last = omega (arith, number) in
+            let mine : start_of starts a last ≡ start last = row-start net laws fed t starts have a last actor (omega (arith, number, there-last)) in
+            let other : start_of starts a (last - m * slice_index net.round a) ≡ start (last - m * slice_index net.round a) =
+            row-start net laws fed t starts have a (last - m * slice_index net.round a) actor (omega (arith, number, there-last)) in
+            rw place (omega (arith, mine, other, at-most, at-least, late, inside))
+
+      none-fewer : ⊥
+      none-fewer =
+          let found : Differ net starts m = differ m (omega arith) (omega arith) in
+          found.unlike (took-is found.actor found.is_actor ∙ sym (took-is found.other found.is_other))
+
     -- the shape of the first event that is one a period later too doesn't come again sooner
     none-sooner : (x : ℕ) → IsEvent net x → e < x → x < e + (t - r) → shape_at net x ≢ shape_at net e
-    none-sooner x event after before equal = two-turns
-        (turns e x after (sym equal)) (turns x (e + (t - r)) before (equal ∙ same-entry)) (slice_index net.round 0)
-        ((balanced net laws).fires 0 (omega (arith, laws.some_actor)))
-        (turns-some e x after (sym equal) event)
-        (turns-some x (e + (t - r)) before (equal ∙ same-entry) doubled.again)
-        (omega (arith, whole, turns-here e x after (sym equal) 0, turns-here x (e + (t - r)) before (equal ∙ same-entry) 0, turns-here e (e + (t - r)) ahead same-entry 0))
+    none-sooner x event after before equal = none-fewer (t - (x - e)) inside again fewer some
       where
-        -- as between the two moments
-        whole : turns e (e + (t - r)) ahead same-entry * slice_index net.round 0 ≡ slice_index net.round 0
+        inside : t - (x - e) < t
+        inside = omega arith
+
+        back : t - (x - e) + (x - e) ≡ t
+        back = omega arith
+
+        again : shape_at net (t - (x - e)) ≡ shape_at net t
+        again = sym (rw back at (again-shape net laws fed e x after (sym equal) (t - (x - e)) (omega (arith, doubled.soon))))
+
+        actor : 0 < length net.times
+        actor = omega (arith, laws.some_actor)
+
+        -- as many rounds lie between as between the two events
+        rounds-are : turns (t - (x - e)) t inside again * slice_index net.round 0 ≡ turns e x after (sym equal) * slice_index net.round 0
+        rounds-are =
+            let one : x + (t - (x - e) - e) + 1 ≡ t + 1 = omega (arith, doubled.soon) in
+            let other : e + (t - (x - e) - e) + 1 ≡ t - (x - e) + 1 = omega (arith, doubled.soon) in
+            let counts : count_of (earliest net (t + 1)) 0 ≡ count_of (earliest net (t - (x - e) + 1)) 0 + turns e x after (sym equal) * slice_index net.round 0 =
+            rw one at (rw other at (turns-on e x after (sym equal) (t - (x - e) - e) 0)) in
+            omega (arith, counts, turns-here (t - (x - e)) t inside again 0)
+
+        whole : turns e (e + (t - r)) ahead same-entry * slice_index net.round 0 ≡ rounds_between * slice_index net.round 0
         whole =
             let one : e + (r - e) + 1 ≡ r + 1 = omega (arith, doubled.soon) in
             let other : e + (t - r) + (r - e) + 1 ≡ t + 1 = omega (arith, doubled.soon) in
             let counts : count_of (earliest net (t + 1)) 0 ≡ count_of (earliest net (r + 1)) 0 + turns e (e + (t - r)) ahead same-entry * slice_index net.round 0 =
             rw one at (rw other at (turns-on e (e + (t - r)) ahead same-entry (r - e) 0)) in
-            let actor : 0 < length net.times = omega (arith, laws.some_actor) in
-            omega (arith, counts, have.all 0 actor, round-between 0 actor, settles.long 0 actor)
+            omega (arith, counts, across 0 actor)
+
+        parts : turns e x after (sym equal) * slice_index net.round 0 + turns x (e + (t - r)) before (equal ∙ same-entry) * slice_index net.round 0 ≡ rounds_between * slice_index net.round 0
+        parts = omega (arith, whole, turns-here e x after (sym equal) 0, turns-here x (e + (t - r)) before (equal ∙ same-entry) 0, turns-here e (e + (t - r)) ahead same-entry 0)
+
+        some-after : 1 ≤ turns x (e + (t - r)) before (equal ∙ same-entry) * slice_index net.round 0
+        some-after = one-le-mul (turns-some x (e + (t - r)) before (equal ∙ same-entry) doubled.again) (some-fire 0 actor)
+
+        some-before : 1 ≤ turns e x after (sym equal) * slice_index net.round 0
+        some-before = one-le-mul (turns-some e x after (sym equal) event) (some-fire 0 actor)
+
+        fewer : turns (t - (x - e)) t inside again < rounds_between
+        fewer = ⊎_elim
+            (λ (h : turns (t - (x - e)) t inside again < rounds_between). h)
+            (λ (many : rounds_between ≤ turns (t - (x - e)) t inside again). absurd (omega (arith, mul-le-mul_right (slice_index net.round 0) many, rounds-are, parts, some-after)))
+            (cases_lt (turns (t - (x - e)) t inside again) rounds_between)
+
+        some : 1 ≤ turns (t - (x - e)) t inside again
+        some = ⊎_elim
+            (λ (h : 0 < turns (t - (x - e)) t inside again). omega arith)
+            (λ (none : turns (t - (x - e)) t inside again ≤ 0). absurd (omega (arith, mul-le-mul_right (slice_index net.round 0) none, rounds-are, some-before)))
+            (cases_lt 0 (turns (t - (x - e)) t inside again))
 
     -- no shape comes again before: it would stand at an earlier event that is one a period later too
     pub row-loops : IsLoop net e (t - r)
@@ -257,6 +394,6 @@ module _ (net : Net) (laws : Lawful net) (fed : HasInputs net) (connected : IsCo
           let apart : x + (t - r) ≤ y = apart-least net laws fed e (t - r) some doubled.is doubled.again same-entry none-sooner x y less one other equal in
           let early : x < e = omega arith in
           let late : from ≤ x = settles.first x (λ a j actor there unlike.
-          same-over net laws fed r t later same-ends starts have x a (slice_index net.round a) j (omega (arith, doubled.soon)) like actor (round-between a actor) there unlike) in
+          same-over net laws fed r t later same-ends starts have x a (rounds_between * slice_index net.round a) j (omega (arith, doubled.soon)) like actor (round-between a actor) there unlike) in
           doubled.first x late early one twin;
     }

@@ -23,13 +23,10 @@ ghost use Rattle.lasso.specs.LoopAnswers.{IsFound};
 ghost use Rattle.lasso.specs.inside.Needing.{AreDue, AreNext};
 ghost use Rattle.lasso.specs.inside.Showing.{IsLoopIn};
 
-use crate::again::all_end_alike;
 use crate::collect::{empty_rows, starts_of_round};
 use crate::feeds::{NextFiring, first_firings};
 use crate::needs::{are_whole, extend_all};
-use crate::rows::entry_by_rows;
-use crate::search::Pair;
-use crate::table::loop_table;
+use crate::shown::{last_pair, loop_by_rows, starts_in};
 use firing::{Firing, LoopTable, Wiring, know_laws};
 use sd_base::limits::STARTS;
 use sd_base::{NoMemory, Rows};
@@ -45,7 +42,7 @@ const LOOKS: u32 = 1_024;
 const LOOKS_A_ROUND: u64 = 32;
 
 /// Up to this moment, in time units, the starts are looked for.
-const LATEST: u64 = 1 << 60;
+pub(crate) const LATEST: u64 = 1 << 60;
 
 /// The loop of a net of which each actor has one phase, if it is one round long, is entered within some two rounds, and has fewer
 /// starts up to its repeat than `states`, so that it has no more shapes. The starts of an actor are found several in a row, by
@@ -112,7 +109,7 @@ pub(crate) fn loop_by_needs<F: Firing>(
 }
 
 /// By actor no flag.
-fn no_flags<F: Firing>(alloc: Global, net: &F) -> Result<Vec<bool>, NoMemory>
+pub(crate) fn no_flags<F: Firing>(alloc: Global, net: &F) -> Result<Vec<bool>, NoMemory>
     ensures { IfOk result (λ flags. length flags.items ≡ length (F.net net.now).times) }
 {
     let mut flags = Vec::with_capacity(alloc, net.actors() as usize)?;
@@ -120,19 +117,6 @@ fn no_flags<F: Firing>(alloc: Global, net: &F) -> Result<Vec<bool>, NoMemory>
         flags.push(false)?;
     }
     Ok(flags)
-}
-
-/// How many starts there are.
-fn starts_in<F: Firing>(net: &F, starts: &[Rows<u64>]) -> u128
-    requires { length starts.now ≡ length (F.net net.now).times }
-    ensures { result ≡ sum (map length starts.now) }
-{
-    know_laws(net);
-    let mut total = 0u128;
-    for row in starts {
-        total += row.len() as u128;
-    }
-    total
 }
 
 /// How far to go on, where a round has `round` starts, there are `total`, and the last `step` time units had `gained`: to those
@@ -163,40 +147,12 @@ fn loop_at<F: Firing>(
     requires soon { until ≤ 2 ^ 62 }
     ensures { IfOk result (λ o. IfSome o (IsLoopIn (F.net net.now) starts.now)) }
 {
-    let period = last_round(net, starts);
-    if period == 0 || period > until {
+    let Some(pair) = last_pair(net, starts, until, 1) else {
         return Ok(None);
-    }
-    let pair = Pair {
-        earlier: until - period,
-        later: until,
     };
-    if all_end_alike(net, starts, pair, 1)
-        && are_whole(net, firings, starts, until)
-        && let Some(entry) = entry_by_rows(net, starts, pair)
-    {
-        let table = loop_table(alloc, net, entry, period, starts)?;
-        return Ok(Some(table));
-    }
-    Ok(None)
-}
-
-/// How long the last round took of the first actor that has the most firings in a round, or 0.
-fn last_round<F: Firing>(net: &F, starts: &[Rows<u64>]) -> u64
-    requires { length starts.now ≡ length (F.net net.now).times }
-{
-    know_laws(net);
-    let mut lead = 0;
-    for actor in 0..net.actors() {
-        if net.round(lead) < net.round(actor) {
-            lead = actor;
-        }
-    }
-    let row = starts[lead as usize].as_slice();
-    let round = net.round(lead) as usize;
-    if round < row.len() {
-        row[row.len() - 1].saturating_sub(row[row.len() - 1 - round])
+    if are_whole(net, firings, starts, until) {
+        loop_by_rows(alloc, net, starts, pair, 1)
     } else {
-        0
+        Ok(None)
     }
 }

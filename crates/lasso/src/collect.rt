@@ -10,8 +10,10 @@ use sd_base::{NoMemory, Rows};
 use selftimed::Engine;
 use std::alloc::Global;
 
-/// For how many starts, or events, there is room at first, at most.
+/// For how many starts, or events, there is room at first, at most and at least.
 const ROOM: u64 = 8_192;
+
+const LEAST_ROOM: u64 = 16;
 
 /// How many firings a round has.
 pub(crate) fn starts_of_round<F: Firing>(net: &F) -> u64 {
@@ -22,9 +24,9 @@ pub(crate) fn starts_of_round<F: Firing>(net: &F) -> u64 {
     starts
 }
 
-/// Room for twice so many starts, or for as many events, if these are few.
+/// Room for twice so many starts, or for as many events, if these are few, and for some more if they are very few.
 pub(crate) fn room_for(starts: u64) -> usize {
-    starts.saturating_mul(2).min(ROOM) as usize
+    starts.saturating_mul(2).max(LEAST_ROOM).min(ROOM) as usize
 }
 
 /// An empty row by actor, with room for the starts of two rounds if these are few.

@@ -4,6 +4,7 @@
 mod again;
 mod beginning;
 mod by_needs;
+mod by_rounds;
 mod collect;
 mod entry;
 mod error;
@@ -16,6 +17,7 @@ mod repeat;
 mod rows;
 mod run;
 mod search;
+mod shown;
 mod steps;
 mod table;
 mod trace;

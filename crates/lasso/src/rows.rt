@@ -6,46 +6,56 @@ ghost use Rattle.sd_base.specs.Rates.{IsLoop};
 ghost use Rattle.sd_base.specs.Connection.{IsConnected};
 ghost use Rattle.lasso.specs.inside.Collecting.{AreStarts};
 ghost use Rattle.lasso.specs.inside.Entering.{Ascend};
-ghost use Rattle.lasso.specs.inside.Showing.{IsFirstDoubled, IsFirstEnd, IsFirstEvent, SettlesFrom};
+ghost use Rattle.lasso.specs.inside.Showing.{Differ, IsFirstDoubled, IsFirstEnd, IsFirstEvent, SettlesFrom};
 
 use crate::entry::{count_by, is_after, settled_from};
 use crate::search::Pair;
 use firing::{Firing, know_laws};
 use sd_base::Rows;
 
-/// The entry of a loop of one round, if the starts up to the later of two moments show that each actor starts a round between
-/// them and that the shape at the earlier one comes again. Cost: linear in the starts after the entry.
-pub(crate) fn entry_by_rows<F: Firing>(net: &F, starts: &[Rows<u64>], pair: Pair) -> Option<u64>
+/// The entry of a loop of so many rounds, if the starts up to the later of two moments show that each actor starts these rounds
+/// between them and that the shape at the earlier one comes again. That no fewer rounds make a loop is told by unlike times of
+/// the last ones. Cost: linear in the starts after the entry.
+pub(crate) fn entry_by_rows<F: Firing>(
+    net: &F,
+    starts: &[Rows<u64>],
+    pair: Pair,
+    rounds: u64,
+) -> Option<u64>
     requires single { (a : ℕ) → a < length (F.net net.now).times → phases_at (F.net net.now) a ≡ 1 }
     requires connected { IsConnected (F.net net.now) }
     requires inputs { HasInputs (F.net net.now) }
     requires order { pair.earlier < pair.later }
     requires soon { pair.later ≤ 2 ^ 62 }
     requires starts { AreStarts (F.net net.now) pair.later starts.now }
+    requires some { 1 ≤ rounds }
+    requires few { rounds ≤ 2 ^ 20 }
+    requires fewest { (k : ℕ) → 1 ≤ k → k < rounds → Differ (F.net net.now) starts.now k }
     ensures before { IfSome result (λ entry. entry ≤ pair.earlier) }
     ensures loops { IfSome result (λ entry. IsLoop (F.net net.now) entry (pair.later - pair.earlier)) }
 {
-    let from = settled_since(net, starts, pair)?;
+    let from = settled_since(net, starts, pair, rounds)?;
     doubled_since(net, starts, from, pair)
 }
 
-/// From when on each firing is a period after the one a round before it, or neither runs any more, if that is so by the earlier
-/// moment and a round lies between.
-fn settled_since<F: Firing>(net: &F, starts: &[Rows<u64>], pair: Pair) -> Option<u64>
+/// From when on each firing is a period after the one so many rounds before it, or neither runs any more, if that is so by the
+/// earlier moment and these rounds lie between.
+fn settled_since<F: Firing>(net: &F, starts: &[Rows<u64>], pair: Pair, rounds: u64) -> Option<u64>
     requires inputs { HasInputs (F.net net.now) }
     requires order { pair.earlier < pair.later }
     requires starts { AreStarts (F.net net.now) pair.later starts.now }
-    ensures { IfSome result (SettlesFrom (F.net net.now) starts.now pair.earlier pair.later) }
+    requires few { rounds ≤ 2 ^ 20 }
+    ensures { IfSome result (SettlesFrom (F.net net.now) starts.now rounds pair.earlier pair.later) }
 {
     know_laws(net);
     let mut from = 0u128;
     for actor in 0..net.actors() {
         let row = starts[actor as usize].as_slice();
-        let round = net.round(actor) as usize;
-        if row.len() < round || count_by(row, pair.earlier) != row.len() - round {
+        let more = (rounds * net.round(actor)) as usize;
+        if row.len() < more || count_by(row, pair.earlier) != row.len() - more {
             return None;
         }
-        let settled = settled_from(net, actor, row, round, pair.later - pair.earlier);
+        let settled = settled_from(net, actor, row, more, pair.later - pair.earlier);
         if from < settled {
             from = settled;
         }

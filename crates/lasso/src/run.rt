@@ -1,13 +1,14 @@
-ghost use Rattle.std.specs.Prelude.{◌≡◌, ◌+◌, ◌≤◌, IfErr, IfOk};
+ghost use Rattle.std.specs.Prelude.{◌≡◌, ℕ, ◌+◌, ◌≤◌, ◌<◌, IfErr, IfOk, IfSome, length};
 ghost use Rattle.sd_base.specs.declared.limits.TheConstants.{STATES, LEAST_STATES};
-ghost use Rattle.sd_base.specs.Schedules.{HasInputs};
+ghost use Rattle.sd_base.specs.Schedules.{HasInputs, phases_at};
 ghost use Rattle.sd_base.specs.Untimed.{IsLive};
 ghost use Rattle.sd_base.specs.Connection.{IsConnected};
 ghost use Rattle.firing.specs.Wiring.{IsWiringOf};
 ghost use Rattle.lasso.specs.LoopAnswers.{IsFound, IsRunRefusal};
 
 use crate::by_needs::loop_by_needs;
-use crate::collect::empty_rows;
+use crate::by_rounds::{FEW, loop_by_rounds};
+use crate::collect::{empty_rows, starts_of_round};
 use crate::entry::entry_of;
 use crate::error::RunError;
 use crate::repeat::first_repeat;
@@ -16,7 +17,7 @@ use crate::table::loop_table;
 use crate::trace::Trace;
 use firing::{Firing, LoopTable, Wiring, is_single_phase};
 use sd_base::limits::STARTS;
-use sd_base::{Ledger, Steps};
+use sd_base::{Ledger, NoMemory, Steps};
 use selftimed::Engine;
 use std::alloc::Global;
 
@@ -95,11 +96,33 @@ fn find_loop<F: Firing>(
     ensures refused { IfErr result (IsRunRefusal (F.net net.now) states) }
 {
     if is_single_phase(net)
-        && let Some(table) = loop_by_needs(alloc, net, wiring, states)?
+        && let Some(table) = loop_by_starts(alloc, net, wiring, states)?
     {
         return Ok(table);
     }
     loop_by_events(alloc, net, wiring, states)
+}
+
+/// The loop of a net of which each actor has one phase, by needs alone where these show it: round by round where a round has few
+/// firings.
+fn loop_by_starts<F: Firing>(
+    alloc: Global,
+    net: &F,
+    wiring: &Wiring,
+    states: u64,
+) -> Result<Option<LoopTable>, NoMemory>
+    requires wired { IsWiringOf (F.net net.now) wiring.now }
+    requires single { (a : ℕ) → a < length (F.net net.now).times → phases_at (F.net net.now) a ≡ 1 }
+    requires connected { IsConnected (F.net net.now) }
+    requires inputs { HasInputs (F.net net.now) }
+    requires some { LEAST_STATES ≤ states }
+    ensures { IfOk result (λ o. IfSome o (IsFound (F.net net.now) states)) }
+{
+    if starts_of_round(net) <= FEW {
+        loop_by_rounds(alloc, net, wiring, states)
+    } else {
+        loop_by_needs(alloc, net, wiring, states)
+    }
 }
 
 /// The loop, by the shapes at the events of the execution.

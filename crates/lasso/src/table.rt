@@ -46,11 +46,11 @@ fn counts_by(alloc: Global, starts: &[Rows<u64>], moment: u64) -> Result<Rows<u6
     requires ascend { (a : ℕ) → a < length starts.now → Ascend (slice_index_or starts.now a []) }
     ensures { IfOk result (AreCounts starts.now moment) }
 {
-    let mut counts = Rows::new(alloc);
+    let mut counts = Vec::with_capacity(alloc, starts.len())?;
     for row in starts {
         counts.push(count_by(row.as_slice(), moment) as u64)?;
     }
-    Ok(counts)
+    Ok(Rows::from_vec(counts))
 }
 
 /// By actor its starts after the first ones, of which there are `before`, up to those of which there are `until`.
@@ -66,7 +66,7 @@ fn starts_between(
     requires within { (a : ℕ) → a < length starts.now → slice_index until.now a ≤ count_of starts.now a }
     ensures { IfOk result (λ rows. AreBetween starts.now before.now until.now (length starts.now) rows.items) }
 {
-    let mut rows = Vec::new(alloc);
+    let mut rows = Vec::with_capacity(alloc, starts.len())?;
     for (actor, row) in starts.iter().enumerate() {
         let first = before[actor] as usize;
         let end = until[actor] as usize;

@@ -42,3 +42,13 @@ pub record AreStartsAfter (net : Net) (now : ℕ) (before : List ℕ) (starts : 
   pub all : (a : ℕ) → a < length net.times → count_of (earliest net (now + 1)) a ≡ slice_index before a + count_of starts a
   pub moments : (a k : ℕ) → a < length net.times → k < count_of starts a →
       start_of starts a k ≡ start_of (earliest net (now + 1)) a (slice_index before a + k)
+
+-- a moment before the last start of each row
+abbrev pub GoPast : List (List ℕ) → ℕ → Type 0
+GoPast starts moment = (a : ℕ) → a < length starts → (k : ℕ) × (k < count_of starts a) × (moment < start_of starts a k)
+
+-- by actor the first starts of its row, those up to and with a moment
+pub record AreStartsBy (starts : List (List ℕ)) (moment : ℕ) (known : List (List ℕ)) : Type 0 where
+  pub rows : length known ≡ length starts
+  pub each : (a : ℕ) → a < length starts → AreBy (slice_index_or starts a []) moment (count_of known a)
+  pub first : (a : ℕ) → a < length starts → slice_index_or known a [] ≡ take (count_of known a) (slice_index_or starts a [])

@@ -1,21 +1,33 @@
 -- What rows of starts show of a loop.
-use Rattle.std.specs.Prelude.{◌≡◌, ℕ, ◌+◌, ◌-◌, ◌^◌, ◌≤◌, ◌<◌, ◌⊎◌, List, [], length, map, sum, slice_index, slice_index_or}
+use Rattle.std.specs.Prelude.{◌≡◌, ◌≢◌, ℕ, ◌+◌, ◌-◌, ◌*◌, ◌^◌, ◌≤◌, ◌<◌, ◌⊎◌, List, [], length, map, sum, slice_index, slice_index_or}
 use Rattle.sd_base.specs.Net.{Net}
-use Rattle.sd_base.specs.Schedules.{Schedule, count_of, time_of}
+use Rattle.sd_base.specs.Schedules.{Schedule, count_of, start_of, time_of}
 use Rattle.sd_base.specs.SelfTimed.{IsEvent, events_by, starts_by}
 use Rattle.sd_base.specs.Rates.{IsLoopTable}
 use Rattle.firing.specs.declared.table.LoopTable.{LoopTable}
 use Rattle.lasso.specs.inside.Entering.{AreBy, IsRowLike, IsRowOver, IsRowSettled}
 
--- between two moments each actor starts a round, and from a moment on, and from no earlier one, each firing that isn't so many
--- time units after the one a round before it is over
-pub record SettlesFrom (net : Net) (starts : Schedule) (earlier later from : ℕ) : Type 0 where
+-- how long an actor's last firings of so many rounds took, by its row of starts
+abbrev pub took : Net → Schedule → ℕ → ℕ → ℕ
+took net starts rounds a = start_of starts a (count_of starts a - 1) - start_of starts a (count_of starts a - 1 - rounds * slice_index net.round a)
+
+-- the last firings of so many rounds took two actors unlike times
+pub record Differ (net : Net) (starts : Schedule) (rounds : ℕ) : Type 0 where
+  pub actor : ℕ
+  pub other : ℕ
+  pub is_actor : actor < length net.times
+  pub is_other : other < length net.times
+  pub unlike : took net starts rounds actor ≢ took net starts rounds other
+
+-- between two moments each actor starts so many rounds, and from a moment on, and from no earlier one, each firing that isn't so
+-- many time units after the one so many rounds before it is over
+pub record SettlesFrom (net : Net) (starts : Schedule) (rounds earlier later from : ℕ) : Type 0 where
   pub before : from ≤ earlier
-  pub long : (a : ℕ) → a < length net.times → slice_index net.round a ≤ count_of starts a
-  pub counts : (a : ℕ) → a < length net.times → AreBy (slice_index_or starts a []) earlier (count_of starts a - slice_index net.round a)
-  pub settled : (a : ℕ) → a < length net.times → IsRowSettled net a (slice_index_or starts a []) (slice_index net.round a) (later - earlier) from
-  pub first : (x : ℕ) → ((a j : ℕ) → a < length net.times → j < count_of starts a → (IsRowLike (slice_index_or starts a []) (slice_index net.round a) (later - earlier) j → ⊥) →
-      IsRowOver net a (slice_index_or starts a []) (slice_index net.round a) (later - earlier) x j) → from ≤ x
+  pub long : (a : ℕ) → a < length net.times → rounds * slice_index net.round a ≤ count_of starts a
+  pub counts : (a : ℕ) → a < length net.times → AreBy (slice_index_or starts a []) earlier (count_of starts a - rounds * slice_index net.round a)
+  pub settled : (a : ℕ) → a < length net.times → IsRowSettled net a (slice_index_or starts a []) (rounds * slice_index net.round a) (later - earlier) from
+  pub first : (x : ℕ) → ((a j : ℕ) → a < length net.times → j < count_of starts a → (IsRowLike (slice_index_or starts a []) (rounds * slice_index net.round a) (later - earlier) j → ⊥) →
+      IsRowOver net a (slice_index_or starts a []) (rounds * slice_index net.round a) (later - earlier) x j) → from ≤ x
 
 -- the first event from a moment on, and it is one up to another
 pub record IsFirstEvent (net : Net) (from until event : ℕ) : Type 0 where

@@ -1,6 +1,5 @@
-use Rattle.std.proofs.Common.{◌≡◌, ◌+◌, ◌≤◌, ◌<◌, ◌∙◌, ℕ, [], List, length, subst, sym, arith}
-use Rattle.std.proofs.lemmas.List.{ext_get_or, take_at}
-use Rattle.sd_base.specs.SelfTimed.{earliest}
+use Rattle.std.proofs.Common.{◌≡◌, ◌∙◌, length, subst, sym, arith}
+use Rattle.std.proofs.lemmas.List.{take_at}
 use Rattle.selftimed.specs.declared.engine.Stage.TheVariants.{Fresh, Running}
 use Rattle.selftimed.specs.Moves.{ComesNext}
 use Rattle.lasso.specs.inside.Collecting.{AreStarts}

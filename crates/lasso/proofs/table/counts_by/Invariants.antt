@@ -5,6 +5,6 @@ use Rattle.lasso.proofs.table.counts_by.Given as goal
 
 abbrev pub invariant-loop-row : goal.invariant-loop-row
 invariant-loop-row l = record {
-  rows : length l.counts ≡ l.row-index;
-  each : (a : ℕ) → a < l.row-index → AreBy (slice_index_or l.starts a []) l.moment (slice_index l.counts a);
+  rows : length l.counts.items ≡ l.row-index;
+  each : (a : ℕ) → a < l.row-index → AreBy (slice_index_or l.starts a []) l.moment (slice_index l.counts.items a);
 }

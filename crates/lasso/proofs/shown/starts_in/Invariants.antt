@@ -1,5 +1,5 @@
 use Rattle.std.proofs.Common.{◌≡◌, ◌*◌, ◌^◌, ◌≤◌, length, map, sum, take}
-use Rattle.lasso.proofs.by_needs.starts_in.Given as goal
+use Rattle.lasso.proofs.shown.starts_in.Given as goal
 
 abbrev pub invariant-loop-row : goal.invariant-loop-row
 invariant-loop-row g l = record {
