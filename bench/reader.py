@@ -13,6 +13,7 @@ import tempfile
 from programs import instructions, least_time, memory, program
 
 LIMIT = 4 * 1024 * 1024
+WIDE = "\U0001F600"
 
 
 def sdf(inner):
@@ -66,7 +67,24 @@ def cases(size):
     yield "a comment", "<a><!--" + "x" * (size - 14) + "--></a>"
     yield "a text", "<a>" + "x" * (size - 7) + "</a>"
     yield "a value", "<a b='" + "x" * (size - 9) + "'/>"
-    yield "hyphens in a comment", "<a><!--" + "-" * (size - 20)
+    yield "hyphens in a comment", "<a><!--" + "-" * (size - 14) + "--></a>"
+    yield "hyphens and letters in a comment", "<a><!--" + "-x" * (size // 2 - 7) + "--></a>"
+    yield "a comment that has no end", "<a><!--" + "-" * (size - 7)
+    yield "lines", "<a>" + "\n" * (size - 7) + "</a>"
+    yield "lines before the root", "\n" * (size - 4) + "<a/>"
+    yield "lines in a tag", "<a" + "\n" * (size - 4) + "/>"
+    yield "lines in an end tag", "<a></a" + "\n" * (size - 7) + ">"
+    yield "four-byte characters", "<a>" + WIDE * (size // 4 - 2) + "</a>"
+    yield "the same in a comment", "<a><!--" + WIDE * (size // 4 - 4) + "--></a>"
+    yield "the same in a value", "<a b='" + WIDE * (size // 4 - 3) + "'/>"
+    yield "the same in a name", "<" + WIDE * (size // 4 - 1) + "/>"
+    yield "letters and two-byte characters", "<a>" + "x\u00E9" * (size // 3 - 3) + "</a>"
+    yield "a name of an element", "<" + "x" * (size - 3) + "/>"
+    yield "a name of both its tags", "<" + "x" * (size // 2 - 3) + "></" + "x" * (size // 2 - 3) + ">"
+    yield "a name of an attribute", "<a " + "x" * (size - 8) + "=''/>"
+    yield "quotes in a value", "<a b='" + '"' * (size - 9) + "'/>"
+    yield "entities", "<a>" + "&amp;" * (size // 5 - 2) + "</a>"
+    yield "entities in a value", "<a b='" + "&amp;" * (size // 5 - 2) + "'/>"
     yield "broken UTF-8 at the end", "<a>" + "x" * (size - 10)
     yield "10,000 attributes", attributes(10_000)
     yield "100,000 attributes", attributes(100_000)

@@ -1,5 +1,6 @@
 pub mod Utf8Laws
 pub mod Classes
+pub mod WholeCharacters
 pub mod Names
 pub mod OverTags
 pub mod OverFillers
@@ -12,7 +13,7 @@ pub mod KeepsEnds
 pub mod Tidy
 pub mod TidyRuns
 pub mod Exact
-pub mod GoodValues
+pub mod ValueTexts
 pub mod Encodings
 pub mod Known
 pub mod Sees

@@ -1,228 +1,176 @@
--- A run of ordinary bytes leaves the machine where it stands, but for a value, which grows by them, as a name does by its bytes.
-use Rattle.std.proofs.Common.{◌≡◌, ℕ, suc, ◌+◌, ◌-◌, Bool, true, false, cond, List, [], ◌∷◌, ◌++◌, length, take, drop, Option, Some, refl, sym, ap, ◌∙◌, subst, arith, append_assoc, append-nil}
-use Rattle.std.specs.List.{take_while, prefix_len}
-use Rattle.std.proofs.lemmas.List.Folds.{length-prefix_len}
+-- A run of characters leaves the machine where it stands, but for a value, which grows by them, as a name does, and for an end
+-- tag, which has so much less to come.
+use Rattle.std.proofs.Common.{◌≡◌, ℕ, ◌+◌, ◌-◌, ◌<◌, ◌≤◌, Bool, true, false, List, [], ◌∷◌, ◌++◌, length, take, drop, inl, inr, Option, Some, refl, sym, ap, ◌∙◌, subst, arith, append_assoc, append-nil, eq-eqb}
+use Rattle.std.specs.Prelude.{IsTrue, ◌==◌}
+use Rattle.std.proofs.Math.Seq.{take-add}
 use Rattle.std.proofs.lemmas.Bool.Decides.{nat_tests}
+use Rattle.std.proofs.lemmas.List.{take_all, take-take, take-append-drop, drop-drop, length-drop, length-take}
 use Rattle.file_text.specs.declared.tree.Attribute.{Attribute}
 use Rattle.file_text.specs.declared.class.Class.{Class}
-use Rattle.file_text.specs.declared.class.Class.TheVariants.{Wide, White, Control, Letter, Digit, Hyphen, Less, Greater, Slash, Bang, Question, Equals, Quote, Ampersand, Other}
-use Rattle.file_text.specs.declared.mode.Comment.TheVariants as comment
-use Rattle.file_text.specs.declared.due.Due.{Due}
+use Rattle.file_text.specs.declared.class.Class.TheVariants.{White, Control, Less, Quote, Ampersand}
+use Rattle.file_text.specs.declared.mode.Comment.{Comment}
 use Rattle.file_text.specs.declared.due.Due.TheVariants.{Nothing}
-use Rattle.file_text.specs.inside.Utf8.{due_after}
-use Rattle.file_text.specs.inside.Machine.{class_of, Around, within, Opened, Holder, Shape, at_between, in_comment, in_name, in_attribute, in_value, Step, goes, comment_step, between_step, name_step, attribute_step, value_step, table, State, both, follow, move, run, start}
-use Rattle.file_text.specs.inside.Runs.{is_name_byte, is_ordinary}
-use Rattle.std.proofs.Math.Seq.{take-add}
-use Rattle.std.proofs.lemmas.List.{take_all, length-drop}
-use Rattle.file_text.proofs.Exact.{run-append}
+use Rattle.file_text.specs.declared.characters.Run.TheVariants as run_of
 use Rattle.file_text.specs.declared.scanner.Frame.{Frame}
 use Rattle.file_text.specs.declared.scanner.Scanner.{Scanner}
+use Rattle.file_text.specs.Grammar.{Each, is_white, is_plain, is_name_byte}
+use Rattle.file_text.specs.inside.Machine.{class_of, Around, within, Opened, Holder, Shape, at_between, in_comment, in_name, at_gap, in_attribute, at_named, at_equals, in_value, in_closing, Step, goes, between_step, name_step, attribute_step, value_step, match_step, table, follow, walk, State, run, start, IsDue}
+use Rattle.file_text.specs.inside.Runs.{takes, IsRun, IsPartOfBody}
 use Rattle.file_text.specs.inside.Seen.{opened_of, stack_on, around_in, around_of}
+use Rattle.file_text.proofs.Classes.{plain_class, name_class, Known, known, by_name}
+use Rattle.file_text.proofs.MachineWalks.{at_white}
+use Rattle.file_text.proofs.TidyRuns.{run_both}
+use Rattle.file_text.proofs.Exact.{run-append}
 
--- the classes of ordinary bytes
-abbrev ordinary_class : Class → Bool
-ordinary_class Wide = false
-ordinary_class Control = false
-ordinary_class Hyphen = false
-ordinary_class Less = false
-ordinary_class Ampersand = false
-ordinary_class Quote = false
-ordinary_class c = true
+-- ---- what the bytes of a run do
 
-ordinary_of : (b : ℕ) → is_ordinary b ≡ true → ordinary_class (class_of b) ≡ true
-ordinary_of b ordinary = grind (arith, nat_tests, ordinary)
+text-stays : (o : Opened) (os : List Opened) (c : Class) → plain_class c ≡ true → between_step (within o os) c ≡ goes (within o os) at_between
+text-stays o os White plain = refl
+text-stays o os Control plain = cc
+text-stays o os Less plain = cc
+text-stays o os Ampersand plain = cc
+text-stays o os c plain = refl
 
-due_of : (b : ℕ) → is_ordinary b ≡ true → due_after Nothing b ≡ Some Nothing
-due_of b ordinary = grind (arith, nat_tests, ordinary)
+-- a byte of a value is plain, and not its quote
+in-value-plain : (quote b : ℕ) → takes (run_of.Value quote) b ≡ true → is_plain b ≡ true
+in-value-plain quote b took = grind (arith, nat_tests)
 
-comment-stays : (a : Around) (c : Class) → ordinary_class c ≡ true → comment_step a comment.Body c ≡ goes a (in_comment comment.Body)
-comment-stays a Wide h = absurd cc
-comment-stays a White h = refl
-comment-stays a Control h = absurd cc
-comment-stays a Letter h = refl
-comment-stays a Digit h = refl
-comment-stays a Hyphen h = absurd cc
-comment-stays a Less h = absurd cc
-comment-stays a Greater h = refl
-comment-stays a Slash h = refl
-comment-stays a Bang h = refl
-comment-stays a Question h = refl
-comment-stays a Equals h = refl
-comment-stays a Quote h = absurd cc
-comment-stays a Ampersand h = absurd cc
-comment-stays a Other h = refl
+no-quote : (quote b : ℕ) → takes (run_of.Value quote) b ≡ true → b < 128 → (b == quote) ≡ false
+no-quote quote b took low = grind (arith, nat_tests)
 
-text-stays : (o : Opened) (os : List Opened) (c : Class) → ordinary_class c ≡ true → between_step (within o os) c ≡ goes (within o os) at_between
-text-stays o os Wide h = absurd cc
-text-stays o os White h = refl
-text-stays o os Control h = absurd cc
-text-stays o os Letter h = refl
-text-stays o os Digit h = refl
-text-stays o os Hyphen h = absurd cc
-text-stays o os Less h = absurd cc
-text-stays o os Greater h = refl
-text-stays o os Slash h = refl
-text-stays o os Bang h = refl
-text-stays o os Question h = refl
-text-stays o os Equals h = refl
-text-stays o os Quote h = absurd cc
-text-stays o os Ampersand h = absurd cc
-text-stays o os Other h = refl
+quote-low : (b : ℕ) → Known Quote b → b < 128
+quote-low b byte = elim byte.code [ inl double ↦ omega (arith, double) | inr single ↦ omega (arith, single) ]
 
-value-grows : (a : Around) (h : Holder) (xs : List Attribute) (name : List ℕ) (quote : ℕ) (value : List ℕ) (c : Class) (b : ℕ) → ordinary_class c ≡ true →
+value-grows : (a : Around) (h : Holder) (xs : List Attribute) (name : List ℕ) (quote : ℕ) (value : List ℕ) (c : Class) (b : ℕ) → Known c b → takes (run_of.Value quote) b ≡ true → plain_class c ≡ true →
     value_step a h xs name quote value c b ≡ goes a (in_value h xs name quote (value ++ b ∷ []))
-value-grows a h xs name quote value Wide b o = absurd cc
-value-grows a h xs name quote value White b o = refl
-value-grows a h xs name quote value Control b o = absurd cc
-value-grows a h xs name quote value Letter b o = refl
-value-grows a h xs name quote value Digit b o = refl
-value-grows a h xs name quote value Hyphen b o = absurd cc
-value-grows a h xs name quote value Less b o = absurd cc
-value-grows a h xs name quote value Greater b o = refl
-value-grows a h xs name quote value Slash b o = refl
-value-grows a h xs name quote value Bang b o = refl
-value-grows a h xs name quote value Question b o = refl
-value-grows a h xs name quote value Equals b o = refl
-value-grows a h xs name quote value Quote b o = absurd cc
-value-grows a h xs name quote value Ampersand b o = absurd cc
-value-grows a h xs name quote value Other b o = refl
+value-grows a h xs name quote value Quote b byte took plain = rw (no-quote quote b took (quote-low b byte)) refl
+value-grows a h xs name quote value Control b byte took plain = cc
+value-grows a h xs name quote value Less b byte took plain = cc
+value-grows a h xs name quote value Ampersand b byte took plain = cc
+value-grows a h xs name quote value c b byte took plain = refl
 
--- the classes of the bytes of names
-abbrev name_class : Class → Bool
-name_class Letter = true
-name_class Digit = true
-name_class Hyphen = true
-name_class c = false
+-- what the name in an end tag still needs, without its first byte
+matches : (a : Around) (x : ℕ) (rest : List ℕ) (c : Class) → name_class c ≡ true → match_step a x rest c x ≡ goes a (in_closing rest)
+matches a x rest c named =
+    let same = eq-eqb x x refl in
+    by_name (λ (c : Class). match_step a x rest c x ≡ goes a (in_closing rest)) (rw same refl) (rw same refl) (rw same refl) (rw same refl) c named
 
-named_of : (b : ℕ) → is_name_byte b ≡ true → name_class (class_of b) ≡ true
-named_of b named = grind (arith, nat_tests, named)
+-- ---- along bytes that pass a test
 
-due_in_name : (b : ℕ) → is_name_byte b ≡ true → due_after Nothing b ≡ Some Nothing
-due_in_name b named = grind (arith, nat_tests, named)
+-- a shape that they leave as it is
+module _ (p : ℕ → Bool) (a : Around) (x : Shape) (stays : (b : ℕ) → p b ≡ true → table a x (class_of b) b ≡ goes a x) where
+  passes : (t : List ℕ) → Each (λ b. IsTrue (p b)) t → walk true (Some (a, x)) t ≡ Some (a, x)
+  passes [] all = refl
+  passes (b ∷ t) all = ap (λ (s : Step). walk true (follow true s) t) (stays b all.0) ∙ passes t all.1
 
-name-grows : (a : Around) (name : List ℕ) (c : Class) (b : ℕ) → name_class c ≡ true → name_step a name c b ≡ goes a (in_name (name ++ b ∷ []))
-name-grows a name Wide b h = absurd cc
-name-grows a name White b h = absurd cc
-name-grows a name Control b h = absurd cc
-name-grows a name Letter b h = refl
-name-grows a name Digit b h = refl
-name-grows a name Hyphen b h = refl
-name-grows a name Less b h = absurd cc
-name-grows a name Greater b h = absurd cc
-name-grows a name Slash b h = absurd cc
-name-grows a name Bang b h = absurd cc
-name-grows a name Question b h = absurd cc
-name-grows a name Equals b h = absurd cc
-name-grows a name Quote b h = absurd cc
-name-grows a name Ampersand b h = absurd cc
-name-grows a name Other b h = absurd cc
+-- a shape that grows by them
+module _ (p : ℕ → Bool) (a : Around) (shape : List ℕ → Shape) (step : (read : List ℕ) (b : ℕ) → p b ≡ true → table a (shape read) (class_of b) b ≡ goes a (shape (read ++ b ∷ []))) where
+  grows : (t read : List ℕ) → Each (λ b. IsTrue (p b)) t → walk true (Some (a, shape read)) t ≡ Some (a, shape (read ++ t))
+  grows [] read all = ap (λ (v : List ℕ). Some (a, shape v)) (sym (append-nil read))
+  grows (b ∷ t) read all =
+      ap (λ (s : Step). walk true (follow true s) t) (step read b all.0) ∙ grows t (read ++ b ∷ []) all.1
+      ∙ ap (λ (v : List ℕ). Some (a, shape v)) (append_assoc read (b ∷ []) t)
 
-attribute-grows : (a : Around) (h : Holder) (xs : List Attribute) (name : List ℕ) (c : Class) (b : ℕ) → name_class c ≡ true →
-    attribute_step a h xs name c b ≡ goes a (in_attribute h xs (name ++ b ∷ []))
-attribute-grows a h xs name Wide b n = absurd cc
-attribute-grows a h xs name White b n = absurd cc
-attribute-grows a h xs name Control b n = absurd cc
-attribute-grows a h xs name Letter b n = refl
-attribute-grows a h xs name Digit b n = refl
-attribute-grows a h xs name Hyphen b n = refl
-attribute-grows a h xs name Less b n = absurd cc
-attribute-grows a h xs name Greater b n = absurd cc
-attribute-grows a h xs name Slash b n = absurd cc
-attribute-grows a h xs name Bang b n = absurd cc
-attribute-grows a h xs name Question b n = absurd cc
-attribute-grows a h xs name Equals b n = absurd cc
-attribute-grows a h xs name Quote b n = absurd cc
-attribute-grows a h xs name Ampersand b n = absurd cc
-attribute-grows a h xs name Other b n = absurd cc
-
--- the bytes in front that pass a test
-front-of : (ℕ → Bool) → List ℕ → List ℕ
-front-of p [] = []
-front-of p (x ∷ xs) = cond (p x) (x ∷ front-of p xs) []
-
-take-front : (p : ℕ → Bool) (xs : List ℕ) → take_while p xs ≡ front-of p xs
-unfolding front-of
-take-front p [] = refl
-take-front p (x ∷ xs) = cases (take-front p xs) (p x)
-  where
-    cases : take_while p xs ≡ front-of p xs → (t : Bool) → take (cond t (1 + prefix_len p xs) 0) (x ∷ xs) ≡ cond t (x ∷ front-of p xs) []
-    cases later true =
-        let one : 1 + prefix_len p xs ≡ suc (prefix_len p xs) = omega arith in
-        rw one (ap (λ (ys : List ℕ). x ∷ ys) later)
-    cases later false = refl
-
-front : (p : ℕ → Bool) (bytes : List ℕ) (n : ℕ) → n ≡ length (take_while p bytes) → take n bytes ≡ front-of p bytes
-front p bytes n is = ap (λ (k : ℕ). take k bytes) (is ∙ length-prefix_len p bytes) ∙ take-front p bytes
+closes : (a : Around) (t left : List ℕ) → Each (λ b. IsTrue (is_name_byte b)) t → walk true (Some (a, in_closing (t ++ left))) t ≡ Some (a, in_closing left)
+unfolding table
+closes a [] left all = refl
+closes a (b ∷ t) left all =
+    ap (λ (s : Step). walk true (follow true s) t) (matches a b (t ++ left) (class_of b) (sym (known b).named ∙ all.0)) ∙ closes a t left all.1
 
 at : Around → Shape → State
 at a x = record { due = Nothing; spot = (a, x) }
 
--- a byte that is a character at a shape that it makes another
-moved : (a : Around) (x y : Shape) (b : ℕ) → due_after Nothing b ≡ Some Nothing → table a x (class_of b) b ≡ goes a y → move true (at a x) b ≡ Some (at a y)
+-- whole characters leave nothing due
+whole : (a : Around) (x y : Shape) (t : List ℕ) → IsDue t Nothing → walk true (Some (a, x)) t ≡ Some (a, y) → run true (Some (at a x)) t ≡ Some (at a y)
 unfolding at
-moved a x y b whole step = ap (λ (d : Option Due). both d (follow true (table a x (class_of b) b))) whole ∙ ap (λ (s : Step). both (Some Nothing) (follow true s)) step
-
--- a shape that ordinary bytes leave as it is
-module _ (a : Around) (x : Shape) (stays : (b : ℕ) → is_ordinary b ≡ true → table a x (class_of b) b ≡ goes a x) where
-  passes : (bytes : List ℕ) → run true (Some (at a x)) (front-of is_ordinary bytes) ≡ Some (at a x)
-  unfolding front-of
-  passes [] = refl
-  passes (b ∷ bs) = cases (passes bs) (is_ordinary b) refl
-    where
-      cases : run true (Some (at a x)) (front-of is_ordinary bs) ≡ Some (at a x) → (t : Bool) → is_ordinary b ≡ t → run true (Some (at a x)) (cond t (b ∷ front-of is_ordinary bs) []) ≡ Some (at a x)
-      cases later true h = ap (λ (s : Option State). run true s (front-of is_ordinary bs)) (moved a x x b (due_of b h) (stays b h)) ∙ later
-      cases later false h = refl
-
--- a shape that grows by the bytes that pass a test
-module _ (p : ℕ → Bool) (whole : (b : ℕ) → p b ≡ true → due_after Nothing b ≡ Some Nothing) (a : Around) (shape : List ℕ → Shape)
-    (step : (read : List ℕ) (b : ℕ) → p b ≡ true → table a (shape read) (class_of b) b ≡ goes a (shape (read ++ b ∷ []))) where
-  grows : (bytes read : List ℕ) → run true (Some (at a (shape read))) (front-of p bytes) ≡ Some (at a (shape (read ++ front-of p bytes)))
-  unfolding front-of
-  grows [] read = ap (λ (v : List ℕ). Some (at a (shape v))) (sym (append-nil read))
-  grows (b ∷ bs) read = cases (grows bs (read ++ b ∷ [])) (p b) refl
-    where
-      cases : run true (Some (at a (shape (read ++ b ∷ [])))) (front-of p bs) ≡ Some (at a (shape ((read ++ b ∷ []) ++ front-of p bs))) → (t : Bool) → p b ≡ t →
-          run true (Some (at a (shape read))) (cond t (b ∷ front-of p bs) []) ≡ Some (at a (shape (read ++ cond t (b ∷ front-of p bs) [])))
-      cases later true t =
-          ap (λ (s : Option State). run true s (front-of p bs)) (moved a (shape read) (shape (read ++ b ∷ [])) b (whole b t) (step read b t))
-          ∙ later ∙ ap (λ (v : List ℕ). Some (at a (shape v))) (append_assoc read (b ∷ []) (front-of p bs))
-      cases later false t = ap (λ (v : List ℕ). Some (at a (shape v))) (sym (append-nil read))
-
-  grown : (read more bytes : List ℕ) (n : ℕ) → n ≡ length (take_while p bytes) → more ≡ read ++ take n bytes → run true (Some (at a (shape read))) (take n bytes) ≡ Some (at a (shape more))
-  grown read more bytes n is so =
-      ap (λ (ts : List ℕ). run true (Some (at a (shape read))) ts) (front p bytes n is) ∙ grows bytes read
-      ∙ ap (λ (v : List ℕ). Some (at a (shape v))) (ap (λ (ts : List ℕ). read ++ ts) (sym (front p bytes n is)) ∙ sym so)
+whole a x y t due walks = run_both true (Some Nothing) (Some (a, x)) t ∙ rw (due, walks) refl
 
 -- ---- the run in front of some bytes
 
-pub in-body : (a : Around) (bytes : List ℕ) (n : ℕ) → n ≡ length (take_while is_ordinary bytes) →
-    run true (Some (record { due = Nothing; spot = (a, in_comment comment.Body) })) (take n bytes) ≡ Some (record { due = Nothing; spot = (a, in_comment comment.Body) })
-unfolding at table
-in-body a bytes n is = ap (λ (ts : List ℕ). run true (Some (at a (in_comment comment.Body))) ts) (front is_ordinary bytes n is) ∙ passes a (in_comment comment.Body) (λ b o. comment-stays a (class_of b) (ordinary_of b o)) bytes
+pub in-body : (a : Around) (from to : Comment) (bytes : List ℕ) (n : ℕ) → IsPartOfBody from to bytes n →
+    run true (Some (record { due = Nothing; spot = (a, in_comment from) })) (take n bytes) ≡ Some (record { due = Nothing; spot = (a, in_comment to) })
+unfolding at
+in-body a from to bytes n is = whole a (in_comment from) (in_comment to) (take n bytes) is.whole (is.leads a)
 
-pub in-text : (a : Around) (o : Opened) (os : List Opened) (bytes : List ℕ) (n : ℕ) → a ≡ within o os → n ≡ length (take_while is_ordinary bytes) →
+pub in-text : (a : Around) (o : Opened) (os : List Opened) (bytes : List ℕ) (n : ℕ) → a ≡ within o os → IsRun run_of.Text bytes n →
     run true (Some (record { due = Nothing; spot = (a, at_between) })) (take n bytes) ≡ Some (record { due = Nothing; spot = (a, at_between) })
 unfolding at table
 in-text a o os bytes n there is =
     subst (λ (x : Around). run true (Some (at x at_between)) (take n bytes) ≡ Some (at x at_between)) (sym there)
-    (ap (λ (ts : List ℕ). run true (Some (at (within o os) at_between)) ts) (front is_ordinary bytes n is) ∙ passes (within o os) at_between (λ b ordinary. text-stays o os (class_of b) (ordinary_of b ordinary)) bytes)
+    (whole (within o os) at_between at_between (take n bytes) is.whole (passes is_plain (within o os) at_between (λ b plain. text-stays o os (class_of b) (sym (known b).plain ∙ plain)) (take n bytes) is.taken))
 
-pub in-values : (a : Around) (h : Holder) (xs : List Attribute) (name : List ℕ) (quote : ℕ) (value more bytes : List ℕ) (n : ℕ) → n ≡ length (take_while is_ordinary bytes) → more ≡ value ++ take n bytes →
+-- white in a shape that it leaves as it is
+abbrev pub StaysAtWhite : Shape → Type 0
+StaysAtWhite x = (a : Around) (b : ℕ) → table a x White b ≡ goes a x
+
+pub in-white : (a : Around) (x : Shape) (bytes : List ℕ) (n : ℕ) → StaysAtWhite x → IsRun run_of.White bytes n →
+    run true (Some (record { due = Nothing; spot = (a, x) })) (take n bytes) ≡ Some (record { due = Nothing; spot = (a, x) })
+unfolding at
+in-white a x bytes n stays is =
+    whole a x x (take n bytes) is.whole (passes is_white a x (λ b white. at_white (λ (c : Class). table a x c b ≡ goes a x) b white (stays a b)) (take n bytes) is.taken)
+
+pub white-between : StaysAtWhite at_between
+unfolding table
+white-between a b = refl
+
+pub white-gap : (h : Holder) (xs : List Attribute) → StaysAtWhite (at_gap h xs)
+unfolding table
+white-gap h xs a b = refl
+
+pub white-named : (h : Holder) (xs : List Attribute) (name : List ℕ) → StaysAtWhite (at_named h xs name)
+unfolding table
+white-named h xs name a b = refl
+
+pub white-equals : (h : Holder) (xs : List Attribute) (name : List ℕ) → StaysAtWhite (at_equals h xs name)
+unfolding table
+white-equals h xs name a b = refl
+
+pub white-closing : (left : List ℕ) → left ≡ [] → StaysAtWhite (in_closing left)
+unfolding table
+white-closing left none a b = rw none refl
+
+grown : (p : ℕ → Bool) (a : Around) (shape : List ℕ → Shape) → ((read : List ℕ) (b : ℕ) → p b ≡ true → table a (shape read) (class_of b) b ≡ goes a (shape (read ++ b ∷ []))) →
+    (read more t : List ℕ) → IsDue t Nothing → Each (λ b. IsTrue (p b)) t → more ≡ read ++ t → run true (Some (at a (shape read))) t ≡ Some (at a (shape more))
+grown p a shape step read more t due all so = whole a (shape read) (shape more) t due (grows p a shape step t read all ∙ ap (λ (v : List ℕ). Some (a, shape v)) (sym so))
+
+pub in-values : (a : Around) (h : Holder) (xs : List Attribute) (name : List ℕ) (quote : ℕ) (value more bytes : List ℕ) (n : ℕ) → IsRun (run_of.Value quote) bytes n → more ≡ value ++ take n bytes →
     run true (Some (record { due = Nothing; spot = (a, in_value h xs name quote value) })) (take n bytes) ≡ Some (record { due = Nothing; spot = (a, in_value h xs name quote more) })
 unfolding at table
 in-values a h xs name quote value more bytes n is so =
-    grown is_ordinary due_of a (in_value h xs name quote) (λ read b o. value-grows a h xs name quote read (class_of b) b (ordinary_of b o)) value more bytes n is so
+    grown (takes (run_of.Value quote)) a (in_value h xs name quote) (λ read b took. value-grows a h xs name quote read (class_of b) b (known b) took (sym (known b).plain ∙ in-value-plain quote b took))
+    value more (take n bytes) is.whole is.taken so
 
-pub in-names : (a : Around) (name more bytes : List ℕ) (n : ℕ) → n ≡ length (take_while is_name_byte bytes) → more ≡ name ++ take n bytes →
+pub in-names : (a : Around) (name more bytes : List ℕ) (n : ℕ) → IsRun run_of.Name bytes n → more ≡ name ++ take n bytes →
     run true (Some (record { due = Nothing; spot = (a, in_name name) })) (take n bytes) ≡ Some (record { due = Nothing; spot = (a, in_name more) })
 unfolding at table
-in-names a name more bytes n is so = grown is_name_byte due_in_name a in_name (λ read b o. name-grows a read (class_of b) b (named_of b o)) name more bytes n is so
+in-names a name more bytes n is so =
+    grown is_name_byte a in_name (λ read b named. by_name (λ (c : Class). name_step a read c b ≡ goes a (in_name (read ++ b ∷ []))) refl refl refl refl (class_of b) (sym (known b).named ∙ named))
+    name more (take n bytes) is.whole is.taken so
 
-pub in-attributes : (a : Around) (h : Holder) (xs : List Attribute) (name more bytes : List ℕ) (n : ℕ) → n ≡ length (take_while is_name_byte bytes) → more ≡ name ++ take n bytes →
+pub in-attributes : (a : Around) (h : Holder) (xs : List Attribute) (name more bytes : List ℕ) (n : ℕ) → IsRun run_of.Name bytes n → more ≡ name ++ take n bytes →
     run true (Some (record { due = Nothing; spot = (a, in_attribute h xs name) })) (take n bytes) ≡ Some (record { due = Nothing; spot = (a, in_attribute h xs more) })
 unfolding at table
 in-attributes a h xs name more bytes n is so =
-    grown is_name_byte due_in_name a (in_attribute h xs) (λ read b o. attribute-grows a h xs read (class_of b) b (named_of b o)) name more bytes n is so
+    grown is_name_byte a (in_attribute h xs) (λ read b named. by_name (λ (c : Class). attribute_step a h xs read c b ≡ goes a (in_attribute h xs (read ++ b ∷ []))) refl refl refl refl (class_of b) (sym (known b).named ∙ named))
+    name more (take n bytes) is.whole is.taken so
+
+-- what comes is what goes on with the name
+same-front : (left bytes : List ℕ) (s n : ℕ) → take s left ≡ take s bytes → n ≤ s → take n left ≡ take n bytes
+same-front left bytes s n same few = sym (take-take n s left few) ∙ ap (take n) same ∙ take-take n s bytes few
+
+pub in-closings : (a : Around) (name bytes : List ℕ) (matched s n : ℕ) → take s (drop matched name) ≡ take s bytes → IsRun run_of.Name (take s bytes) n → s ≤ length bytes →
+    run true (Some (record { due = Nothing; spot = (a, in_closing (drop matched name)) })) (take n bytes) ≡ Some (record { due = Nothing; spot = (a, in_closing (drop (matched + n) name)) })
+unfolding at
+in-closings a name bytes matched s n same is long =
+    let few : n ≤ s = omega (arith, is.within, length-take s bytes) in
+    let front : take n (take s bytes) ≡ take n bytes = take-take n s bytes few in
+    let here : take n bytes ++ drop (matched + n) name ≡ drop matched name =
+    ap (λ (t : List ℕ). t ++ drop (matched + n) name) (sym (same-front (drop matched name) bytes s n same few))
+    ∙ ap (λ (t : List ℕ). take n (drop matched name) ++ t) (sym (drop-drop n matched name)) ∙ take-append-drop n (drop matched name) in
+    let walks : walk true (Some (a, in_closing (drop matched name))) (take n bytes) ≡ Some (a, in_closing (drop (matched + n) name)) =
+    ap (λ (t : List ℕ). walk true (Some (a, in_closing t)) (take n bytes)) (sym here)
+    ∙ closes a (take n bytes) (drop (matched + n) name) (subst (Each (λ b. IsTrue (is_name_byte b))) front is.taken) in
+    whole a (in_closing (drop matched name)) (in_closing (drop (matched + n) name)) (take n bytes) (subst (λ (t : List ℕ). IsDue t Nothing) front is.whole) walks
 
 pub run-as : {s t u v : State} (bytes : List ℕ) → s ≡ u → t ≡ v → run true (Some u) bytes ≡ Some v → run true (Some s) bytes ≡ Some t
 run-as {s} {t} {u} {v} bytes before after is = ap (λ (x : State). run true (Some x) bytes) before ∙ is ∙ ap Some (sym after)

@@ -135,7 +135,7 @@ pub both-none : (d : Option Due) → both d None ≡ None
 both-none None = refl
 both-none (Some d) = refl
 
-run_both : (strict : Bool) (d : Option Due) (o : Option Spot) (t : List ℕ) → run strict (both d o) t ≡ both (due_along d t) (walk strict o t)
+pub run_both : (strict : Bool) (d : Option Due) (o : Option Spot) (t : List ℕ) → run strict (both d o) t ≡ both (due_along d t) (walk strict o t)
 run_both strict None o t = rw (run-none strict t) refl
 run_both strict (Some d) None t = sym (both-none (due_along (Some d) t))
 run_both strict (Some d) (Some s) [] = refl

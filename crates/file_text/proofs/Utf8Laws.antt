@@ -1,5 +1,5 @@
 -- UTF-8 byte by byte reads exactly the texts that are UTF-8.
-use Rattle.std.proofs.Common.{◌≡◌, ℕ, ◌+◌, ◌-◌, ◌*◌, ◌/◌, ◌%◌, ◌<◌, ◌≤◌, ◌⊎◌, inl, inr, refl, ◌∙◌, ap, subst, true, List, [], ◌∷◌, ◌++◌, Option, Some, None, Result, Ok, Err, MatchResult, IsOk, arith}
+use Rattle.std.proofs.Common.{◌≡◌, ℕ, ◌+◌, ◌-◌, ◌*◌, ◌/◌, ◌%◌, ◌<◌, ◌≤◌, ◌⊎◌, inl, inr, refl, ◌∙◌, ap, subst, true, List, [], ◌∷◌, ◌++◌, Option, Some, None, arith}
 use Rattle.std.proofs.lemmas.Bool.{and_parts}
 use Rattle.std.proofs.lemmas.Bool.Decides.{nat_tests}
 use Rattle.std.proofs.Math.Utf8.{scalar, scalar_cases}
@@ -252,8 +252,3 @@ meets (b ∷ bs) (Byte low high more) e = from_byte b bs low high more (due_afte
 -- a text that leaves nothing due is UTF-8
 pub IsUtf8-due_along : (bs : List ℕ) → due_along (Some Nothing) bs ≡ Some Nothing → IsUtf8 bs
 IsUtf8-due_along bs e = let (front, rest, no_front, utf8, spelled) = meets bs Nothing e in bare front rest bs no_front utf8 spelled
-
--- a result that is no error
-pub ok_since : {A B : Type 0} (r : Result A B) (P : A → Type 0) (Q : B → Type 0) → MatchResult r P Q → ((e : B) → Q e → ⊥) → IsOk r
-ok_since (Ok x) P Q m none = refl
-ok_since (Err e) P Q m none = absurd (none e m)

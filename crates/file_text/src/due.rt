@@ -1,4 +1,5 @@
 ghost use Rattle.std.specs.Prelude.{◌≡◌};
+ghost use Rattle.std.specs.Str.Lossy.{second_byte_min, second_byte_max};
 ghost use Rattle.file_text.specs.inside.Utf8.{due_after, due_after_first, first_due};
 
 /// The bytes that a character still needs.
@@ -50,16 +51,34 @@ impl Due {
     fn begun(b: u8, more: u8) -> Due
         ensures { result ≡ first_due b more }
     {
-        let low = match b {
-            0xE0 => 0xA0,
-            0xF0 => 0x90,
-            _ => 0x80,
-        };
-        let high = match b {
-            0xED => 0x9F,
-            0xF4 => 0x8F,
-            _ => 0xBF,
-        };
-        Due::Byte { low, high, more }
+        Due::Byte {
+            low: second_min(b),
+            high: second_max(b),
+            more,
+        }
+    }
+}
+
+/// The least second byte of a character that begins so.
+#[inline(always)]
+pub(crate) fn second_min(first: u8) -> u8
+    ensures { result ≡ second_byte_min first }
+{
+    match first {
+        0xE0 => 0xA0,
+        0xF0 => 0x90,
+        _ => 0x80,
+    }
+}
+
+/// The greatest one.
+#[inline(always)]
+pub(crate) fn second_max(first: u8) -> u8
+    ensures { result ≡ second_byte_max first }
+{
+    match first {
+        0xED => 0x9F,
+        0xF4 => 0x8F,
+        _ => 0xBF,
     }
 }

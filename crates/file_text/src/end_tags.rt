@@ -37,9 +37,16 @@ impl Scanner {
         ensures found { result ≡ slice_get (name_in (around_of self.now)) matched }
         ensures fits { OnSome result (matched + 1 < 2 ^ 64) }
     {
+        byte_at(self.innermost_name(), matched)
+    }
+
+    /// The name of the innermost element, or nothing outside the root.
+    pub(crate) fn innermost_name(&self) -> &[u8]
+        ensures { result.now ≡ name_in (around_of self.now) }
+    {
         match self.frames.last() {
-            Some(frame) => byte_at(frame.name.as_str().as_bytes(), matched),
-            None => None,
+            Some(frame) => frame.name.as_str().as_bytes(),
+            None => &[],
         }
     }
 

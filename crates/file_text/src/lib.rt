@@ -3,6 +3,7 @@
 #![tactic(auto)]
 
 mod attributes;
+mod characters;
 mod class;
 mod due;
 mod end_tags;

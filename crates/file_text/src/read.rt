@@ -1,6 +1,7 @@
 ghost use Rattle.std.specs.Prelude.{◌≡◌, ◌<◌, ◌≤◌, ◌↔◌, ◌⊎◌, length, IsTrue, IfErr, IfOk, MatchResult};
 ghost use Rattle.file_text.specs.Node.{Node, tree_of};
 ghost use Rattle.file_text.specs.Grammar.{IsText};
+ghost use Rattle.file_text.specs.Values.{HasCharacters};
 ghost use Rattle.file_text.specs.Fault.{FirstFault, Stands, LeavesDeclaration};
 ghost use Rattle.file_text.specs.inside.Exits.{IsStop, FaultAt, BehindQuote};
 ghost use Rattle.file_text.specs.declared.error.TextError.TheVariants.{NoMemory};
@@ -16,6 +17,7 @@ pub fn read_tree(alloc: Global, bytes: &[u8]) -> Result<Tree, TextError>
     ensures spelled { IfOk result (λ tree. IsText (tree_of tree.root) bytes.now) }
     ensures only { (e : Node) → IsText e bytes.now → MatchResult result (λ tree. tree_of tree.root ≡ e) (λ error. error ≡ NoMemory) }
     ensures fault { IfErr result (λ error. (error ≡ NoMemory) ⊎ FirstFault bytes.now error) }
+    ensures characters { IfOk result (λ tree. HasCharacters (tree_of tree.root)) }
 {
     let mut scanner = Scanner::new(alloc);
     let mut i = 0;

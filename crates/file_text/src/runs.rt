@@ -1,32 +1,14 @@
-//! Runs of ordinary bytes, each of which is passed in one step.
+//! Runs of characters, each of which is passed in one step.
 
-ghost use Rattle.std.specs.Prelude.{◌≡◌, ◌≤◌, ◌++◌, ℕ, length, true, take, Some, IfOk, OnOk};
-ghost use Rattle.std.specs.List.{take_while};
+ghost use Rattle.std.specs.Prelude.{◌≡◌, ◌≤◌, ◌++◌, length, true, take, Some, IfOk, OnOk};
 ghost use Rattle.file_text.specs.inside.Machine.{run};
-ghost use Rattle.file_text.specs.inside.Runs.{is_name_byte, is_ordinary};
 ghost use Rattle.file_text.specs.inside.Seen.{state_of};
 
+use crate::characters::{Run, body_len, run_len, same_len};
 use crate::due::Due;
 use crate::mode::{Comment, Mode};
 use crate::scanner::Scanner;
 use std::alloc::AllocError;
-
-/// Whether a byte is an ordinary character of comments, of the text in elements, and of values.
-fn is_ordinary(b: u8) -> bool
-    ensures { result ≡ is_ordinary b }
-{
-    b >= b' ' && b < 128 && b != b'-' && b != b'<' && b != b'&' && b != b'"' && b != b'\''
-}
-
-/// Whether a byte is a character of names: a letter, a digit or one of `-`, `.`, `:` and `_`.
-fn is_name_byte(b: u8) -> bool
-    ensures { result ≡ is_name_byte b }
-{
-    (b >= b'a' && b <= b'z')
-        || (b >= b'A' && b <= b'Z')
-        || (b >= b'-' && b <= b':' && b != b'/')
-        || b == b'_'
-}
 
 /// Adds bytes, of which there are often none.
 #[inline(always)]
@@ -39,24 +21,9 @@ fn take_in(taken: &mut Vec<u8>, bytes: &[u8]) -> Result<(), AllocError>
     taken.extend_from_slice(bytes)
 }
 
-/// How many bytes of a name stand in front.
-fn name_count(bytes: &[u8]) -> usize
-    ensures count { result ≡ length (take_while is_name_byte bytes.now) }
-    ensures within { result ≤ length bytes.now }
-{
-    bytes.iter().take_while(|b| is_name_byte(**b)).count()
-}
-
-/// How many ordinary bytes stand in front.
-fn ordinary_count(bytes: &[u8]) -> usize
-    ensures count { result ≡ length (take_while is_ordinary bytes.now) }
-    ensures within { result ≤ length bytes.now }
-{
-    bytes.iter().take_while(|b| is_ordinary(**b)).count()
-}
-
 impl Scanner {
-    /// Passes the ordinary bytes in front where they are of a comment, of a text, of a value or of a name, and says how many.
+    /// Passes the characters in front that go on with a comment, a text, a value, a name or white, and says how many bytes they
+    /// are.
     #[inline(always)]
     pub(crate) fn pass(&mut self, bytes: &[u8]) -> Result<usize, AllocError>
         ensures within { IfOk result (λ n. n ≤ length bytes.now) }
@@ -76,75 +43,109 @@ impl Scanner {
         ensures same { IfOk result (λ n. run true (Some (state_of self.old)) (take n bytes.now) ≡ Some (state_of self.new)) }
     {
         match self.mode {
-            Mode::Comment(comment) => Ok(self.comment_count(comment, bytes)),
-            Mode::Between => Ok(self.text_count(bytes)),
+            Mode::Comment(comment) => Ok(self.pass_comment(comment, bytes)),
+            Mode::Between => Ok(self.text_len(bytes)),
             Mode::Value => self.pass_value(bytes),
             Mode::Naming => self.pass_name(bytes),
             Mode::Attribute => self.pass_attribute(bytes),
-            _ => Ok(0),
+            Mode::Closing(matched) => Ok(self.pass_closing(matched, bytes)),
+            _ => Ok(self.white_len(bytes)),
         }
     }
 
-    /// How many ordinary bytes of a comment stand in front.
-    fn comment_count(&self, comment: Comment, bytes: &[u8]) -> usize
-        requires due { self.now.due ≡ Due.Nothing }
-        requires mode { self.now.mode ≡ Mode.Comment comment }
+    /// Passes what goes on with the body of a comment.
+    fn pass_comment(&mut self, comment: Comment, bytes: &[u8]) -> usize
+        requires due { self.old.due ≡ Due.Nothing }
+        requires mode { self.old.mode ≡ Mode.Comment comment }
         ensures within { result ≤ length bytes.now }
-        ensures same { run true (Some (state_of self.now)) (take result bytes.now) ≡ Some (state_of self.now) }
+        ensures same { run true (Some (state_of self.old)) (take result bytes.now) ≡ Some (state_of self.new) }
     {
-        match comment {
-            Comment::Body => ordinary_count(bytes),
-            _ => 0,
+        if matches!(comment, Comment::Bang | Comment::Dash) {
+            return 0;
         }
+        let (count, place) = body_len(comment, bytes);
+        self.mode = Mode::Comment(place);
+        count
     }
 
-    /// How many ordinary bytes of a text stand in front.
-    fn text_count(&self, bytes: &[u8]) -> usize
+    /// How many bytes of a text stand in front; outside the root, of white.
+    fn text_len(&self, bytes: &[u8]) -> usize
         requires due { self.now.due ≡ Due.Nothing }
         requires mode { self.now.mode ≡ Mode.Between }
         ensures within { result ≤ length bytes.now }
         ensures same { run true (Some (state_of self.now)) (take result bytes.now) ≡ Some (state_of self.now) }
     {
         if self.frames.is_empty() {
-            0
+            run_len(Run::White, bytes)
         } else {
-            ordinary_count(bytes)
+            run_len(Run::Text, bytes)
         }
     }
 
-    /// Takes the ordinary bytes in front into a value.
+    /// Takes what goes on with a value into it.
     fn pass_value(&mut self, bytes: &[u8]) -> Result<usize, AllocError>
         requires due { self.old.due ≡ Due.Nothing }
         requires mode { self.old.mode ≡ Mode.Value }
         ensures within { IfOk result (λ n. n ≤ length bytes.now) }
         ensures same { IfOk result (λ n. run true (Some (state_of self.old)) (take n bytes.now) ≡ Some (state_of self.new)) }
     {
-        let count = ordinary_count(bytes);
+        let quote = self.tag.quote;
+        let count = run_len(Run::Value { quote }, bytes);
         take_in(&mut self.tag.value, &bytes[..count])?;
         Ok(count)
     }
 
-    /// Takes the bytes of a name in front into the name of an element.
+    /// Takes what goes on with the name of an element into it.
     fn pass_name(&mut self, bytes: &[u8]) -> Result<usize, AllocError>
         requires due { self.old.due ≡ Due.Nothing }
         requires mode { self.old.mode ≡ Mode.Naming }
         ensures within { IfOk result (λ n. n ≤ length bytes.now) }
         ensures same { IfOk result (λ n. run true (Some (state_of self.old)) (take n bytes.now) ≡ Some (state_of self.new)) }
     {
-        let count = name_count(bytes);
+        let count = run_len(Run::Name, bytes);
         take_in(&mut self.tag.name, &bytes[..count])?;
         Ok(count)
     }
 
-    /// Takes the bytes of a name in front into the name of an attribute.
+    /// Takes what goes on with the name of an attribute into it.
     fn pass_attribute(&mut self, bytes: &[u8]) -> Result<usize, AllocError>
         requires due { self.old.due ≡ Due.Nothing }
         requires mode { self.old.mode ≡ Mode.Attribute }
         ensures within { IfOk result (λ n. n ≤ length bytes.now) }
         ensures same { IfOk result (λ n. run true (Some (state_of self.old)) (take n bytes.now) ≡ Some (state_of self.new)) }
     {
-        let count = name_count(bytes);
+        let count = run_len(Run::Name, bytes);
         take_in(&mut self.tag.attribute, &bytes[..count])?;
         Ok(count)
+    }
+
+    /// Passes what goes on with an end tag: the rest of the name, or white behind it.
+    fn pass_closing(&mut self, matched: usize, bytes: &[u8]) -> usize
+        requires due { self.old.due ≡ Due.Nothing }
+        requires mode { self.old.mode ≡ Mode.Closing matched }
+        ensures within { result ≤ length bytes.now }
+        ensures same { run true (Some (state_of self.old)) (take result bytes.now) ≡ Some (state_of self.new) }
+    {
+        let name = self.innermost_name();
+        if matched >= name.len() {
+            return run_len(Run::White, bytes);
+        }
+        let same = same_len(&name[matched..], bytes);
+        let count = run_len(Run::Name, &bytes[..same]);
+        self.mode = Mode::Closing(matched + count);
+        count
+    }
+
+    /// How much white stands in front where it changes nothing.
+    #[inline(always)]
+    fn white_len(&self, bytes: &[u8]) -> usize
+        requires { self.now.due ≡ Due.Nothing }
+        ensures within { result ≤ length bytes.now }
+        ensures same { run true (Some (state_of self.now)) (take result bytes.now) ≡ Some (state_of self.now) }
+    {
+        match self.mode {
+            Mode::Gap | Mode::Named | Mode::Equals => run_len(Run::White, bytes),
+            _ => 0,
+        }
     }
 }

@@ -22,7 +22,8 @@ fn text_of(bytes: &[u8]) -> &str
     requires { IsDue bytes.now Nothing }
     ensures { result.now ≡ bytes.now }
 {
-    str::from_utf8(bytes).unwrap()
+    // The bytes were tested as they came.
+    unsafe { str::from_utf8_unchecked(bytes) }
 }
 
 /// The name of an encoding is UTF-8, in any ASCII case.

@@ -1,5 +1,6 @@
 -- The names of a table that is read can be written.
-use Rattle.std.proofs.Common.{◌≡◌, ◌≢◌, ℕ, Bool, List, [], ◌∷◌, map, Ok, All, subst, sym, arith}
+use Rattle.std.proofs.Common.{◌≡◌, ◌≢◌, ℕ, Bool, List, [], ◌∷◌, map, Result, Ok, Err, All, subst, sym, arith}
+use Rattle.std.specs.Prelude.{IsTrue, IfOk}
 use Rattle.std.specs.List.{AllPairs}
 use Rattle.std.proofs.lemmas.List.Elements.{All-nil, All-cons}
 use Rattle.std.proofs.lemmas.List.Kept.{AllPairs-cons}
@@ -7,21 +8,27 @@ use Rattle.sd_base.specs.declared.tables.Kind.{Kind}
 use Rattle.sd_base.specs.declared.tables.GraphFile.{GraphFile}
 use Rattle.sd_base.specs.declared.tables.ActorRow.{ActorRow}
 use Rattle.sd_base.specs.declared.tables.ChannelRow.{ChannelRow}
+use Rattle.sd_base.specs.Tables.{IsTimed}
 use Rattle.file_text.specs.Node.{Node}
 use Rattle.file_text.specs.Grammar.{Each}
 use Rattle.graph_reader.specs.declared.field.Field.TheVariants as field
 use Rattle.graph_reader.specs.declared.actors.Actor.{Actor}
 use Rattle.graph_reader.specs.declared.channels.Channel.{Channel}
 use Rattle.graph_reader.specs.Field.{word_of}
-use Rattle.graph_reader.specs.TreeSteps.{children}
+use Rattle.graph_reader.specs.declared.error.ReadError.{ReadError}
+use Rattle.graph_reader.specs.TreeSteps.{children, Gives}
 use Rattle.graph_reader.specs.Sections.{actor_row, channel_row, phases_in, section_of, table, table_of}
 use Rattle.graph_reader.specs.Spelled.{EachTwo, Pairwise, HasName, IsActor, IsChannel, AreApart, IsGraph, IsTable}
 use Rattle.graph_reader.specs.WritableNames.{HasWritableNames, IsWritableName}
 use Rattle.graph_reader.specs.Laws.{ReadIsWritable}
-use Rattle.file_text.proofs.GoodValues.{HasGoodValues, text-good}
-use Rattle.graph_reader.proofs.Values.{attribute-good, children-good}
+use Rattle.file_text.specs.Values.{HasCharacters}
+use Rattle.file_text.proofs.ValueTexts.{text-characters}
+use Rattle.graph_reader.proofs.ReaderSteps.{if-ok}
+use Rattle.graph_reader.proofs.Rules.{is_timed}
+use Rattle.graph_reader.proofs.Found.{table_of as found}
+use Rattle.graph_reader.proofs.Values.{attribute-characters, children-characters}
 
-all-from_each : {X : Type 0} (P : X → Type 0) (xs : List X) → Each P xs → All P xs
+pub all-from_each : {X : Type 0} (P : X → Type 0) (xs : List X) → Each P xs → All P xs
 all-from_each P [] each = All-nil P
 all-from_each P (x ∷ xs) each = All-cons P x xs each.0 (all-from_each P xs each.1)
 
@@ -37,20 +44,20 @@ two-map : {X Y : Type 0} (f : X → Y) (R : Y → Y → Type 0) (xs : List X) �
 two-map f R [] two = tt
 two-map f R (x ∷ xs) two = (each-map f (R (f x)) xs two.0, two-map f R xs two.1)
 
--- what is read of elements with good values, one by one
-each-read : {X : Type 0} (R : Node → X → Type 0) (P : X → Type 0) → ((e : Node) (x : X) → HasGoodValues e → R e x → P x) → (es : List Node) (xs : List X) → Each HasGoodValues es → Pairwise R es xs → Each P xs
+-- what is read of elements whose values are characters, one by one
+pub each-read : {X : Type 0} (R : Node → X → Type 0) (P : X → Type 0) → ((e : Node) (x : X) → HasCharacters e → R e x → P x) → (es : List Node) (xs : List X) → Each HasCharacters es → Pairwise R es xs → Each P xs
 each-read R P one [] [] good read = tt
 each-read R P one [] (x ∷ xs) good read = absurd read
 each-read R P one (e ∷ es) [] good read = tt
 each-read R P one (e ∷ es) (x ∷ xs) good read = (one e x good.0 read.0, each-read R P one es xs good.1 read.1)
 
-name-good : (e : Node) (name : List ℕ) → HasGoodValues e → HasName e name → IsWritableName name
-name-good e name good is =
-    let value = attribute-good (word_of field.Name) e name good is.has in
+pub name-writable : (e : Node) (name : List ℕ) → HasCharacters e → HasName e name → IsWritableName name
+name-writable e name good is =
+    let value = attribute-characters (word_of field.Name) e name good is.has in
     record { some = is.some; short = is.short; characters = value.characters; utf8 = value.utf8 }
 
-only-good : (word : List ℕ) (e child : Node) → HasGoodValues e → children word e ≡ child ∷ [] → HasGoodValues child
-only-good word e child good one = (subst (Each HasGoodValues) one (children-good word e good)).0
+pub only-characters : (word : List ℕ) (e child : Node) → HasCharacters e → children word e ≡ child ∷ [] → HasCharacters child
+only-characters word e child good one = (subst (Each HasCharacters) one (children-characters word e good)).0
 
 apart-names : (channels : List Channel) → EachTwo AreApart channels → EachTwo (λ (c d : Channel). c.name ≢ d.name) channels
 apart-names [] two = tt
@@ -60,20 +67,20 @@ apart-names (c ∷ cs) two = (each-names cs two.0, apart-names cs two.1)
     each-names [] each = tt
     each-names (d ∷ ds) each = (each.0.names, each-names ds each.1)
 
-graph-names : (kind : Kind) (need_times : Bool) (e : Node) (t : GraphFile) → HasGoodValues e → IsGraph kind need_times e t → HasWritableNames t
+pub graph-names : (kind : Kind) (need_times : Bool) (e : Node) (t : GraphFile) → HasCharacters e → IsGraph kind need_times e t → HasWritableNames t
 unfolding table
 graph-names kind need_times e t good is = subst HasWritableNames (sym is.is_table) names
   where
-    section : HasGoodValues is.section
-    section = only-good (word_of (section_of kind)) e is.section good is.one_section
+    section : HasCharacters is.section
+    section = only-characters (word_of (section_of kind)) e is.section good is.one_section
 
     actors : Each (λ (a : Actor). IsWritableName a.name) is.actors
-    actors = each-read (IsActor kind) (λ (a : Actor). IsWritableName a.name) (λ x a fine read. name-good x a.name fine read.name)
-        (children (word_of field.Actor) is.section) is.actors (children-good (word_of field.Actor) is.section section) is.are_actors.rows
+    actors = each-read (IsActor kind) (λ (a : Actor). IsWritableName a.name) (λ x a fine read. name-writable x a.name fine read.name)
+        (children (word_of field.Actor) is.section) is.actors (children-characters (word_of field.Actor) is.section section) is.are_actors.rows
 
     channels : Each (λ (c : Channel). IsWritableName c.name) is.channels
-    channels = each-read (IsChannel is.actors) (λ (c : Channel). IsWritableName c.name) (λ x c fine read. name-good x c.name fine read.name)
-        (children (word_of field.Channel) is.section) is.channels (children-good (word_of field.Channel) is.section section) is.are_channels.rows
+    channels = each-read (IsChannel is.actors) (λ (c : Channel). IsWritableName c.name) (λ x c fine read. name-writable x c.name fine read.name)
+        (children (word_of field.Channel) is.section) is.channels (children-characters (word_of field.Channel) is.section section) is.are_channels.rows
 
     names : HasWritableNames (table kind is.actors is.channels is.times is.sizes)
     names = record {
@@ -83,10 +90,20 @@ graph-names kind need_times e t good is = subst HasWritableNames (sym is.is_tabl
       channels_differ = pairs-from_two (λ (c d : ChannelRow). c.name ≢ d.name) (map (channel_row (map (phases_in is.times) is.actors) is.sizes) is.channels) (two-map (channel_row (map (phases_in is.times) is.actors) is.sizes) (λ (c d : ChannelRow). c.name ≢ d.name) is.channels (apart-names is.channels is.are_channels.apart));
     }
 
-pub table-names : (need_times : Bool) (e : Node) (t : GraphFile) → HasGoodValues e → IsTable need_times e t → HasWritableNames t
+table-names : (need_times : Bool) (e : Node) (t : GraphFile) → HasCharacters e → IsTable need_times e t → HasWritableNames t
 table-names need_times e t good is =
-    graph-names t.kind need_times is.graph t (only-good (word_of field.ApplicationGraph) e is.graph good is.one_graph) is.is_graph
+    graph-names t.kind need_times is.graph t (only-characters (word_of field.ApplicationGraph) e is.graph good is.one_graph) is.is_graph
 
--- a table that is read has names that can be written
-pub writable : ((need_times : Bool) (e : Node) (t : GraphFile) → table_of need_times e ≡ Ok t → IsTable need_times e t) → ReadIsWritable
-writable spelled bytes need_times t (e, is, gives) = table-names need_times e t (text-good e bytes is) (spelled need_times e t gives)
+-- the table that a tree gives has names that can be written
+pub tree_names : (need_times : Bool) (e : Node) (t : GraphFile) → HasCharacters e → table_of need_times e ≡ Ok t → HasWritableNames t
+tree_names need_times e t good gives =
+    table-names need_times e t good
+    (if-ok (λ u. (IsTrue need_times → IsTimed u) → IsTable need_times e u) (table_of need_times e) t (found need_times e) gives (is_timed need_times e (Ok t) gives))
+
+pub given_names : (need_times : Bool) (e : Node) (result : Result GraphFile ReadError) → HasCharacters e → Gives (λ t. t) result (table_of need_times e) → IfOk result HasWritableNames
+given_names need_times e (Ok t) good gives = tree_names need_times e t good gives
+given_names need_times e (Err error) good gives = tt
+
+-- and so has a table that is read
+pub writable : ReadIsWritable
+writable bytes need_times t (e, is, gives) = tree_names need_times e t (text-characters e bytes is) gives

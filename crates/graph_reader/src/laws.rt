@@ -1,6 +1,5 @@
 ghost use Rattle.graph_reader.specs.Laws.{HasOneFault, HasOneTable, ReadHasNoFault, ReadIsTimed, ReadIsWritable, ReadKeepsRules};
 
-use crate::walk_is_exact;
 use file_text::answers_are_one;
 
 /// The bytes decide whether they have a table, and which, or what their first fault is. A table that is read keeps the rules,
@@ -14,5 +13,4 @@ pub fn know_files()
     ensures writable { ReadIsWritable }
 {
     answers_are_one();
-    walk_is_exact();
 }

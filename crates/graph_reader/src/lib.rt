@@ -10,6 +10,7 @@ ghost use Rattle.sd_base.specs.declared.tables.GraphFile.{GraphFile};
 ghost use Rattle.graph_reader.specs.TreeSteps.{Gives};
 ghost use Rattle.graph_reader.specs.Sections.{table_of};
 ghost use Rattle.graph_reader.specs.Spelled.{IsTable};
+ghost use Rattle.graph_reader.specs.WritableNames.{HasWritableNames};
 
 mod actors;
 mod channels;
@@ -41,6 +42,7 @@ pub fn read_graph(alloc: Global, bytes: &[u8], need_times: bool) -> Result<Graph
     ensures exact { (e : Node) → IsText e bytes.now → Gives (λ t. t) result (table_of need_times e) }
     ensures keeps { IfOk result KeepsRules }
     ensures timed { IfOk result (λ t. IsTrue need_times → IsTimed t) }
+    ensures names { IfOk result HasWritableNames }
 {
     match read_tree(alloc, bytes) {
         Ok(tree) => table::table_of(alloc, &tree.root, need_times),

@@ -5,6 +5,7 @@ use Rattle.file_text.specs.inside.Seen.{state_of}
 use Rattle.file_text.proofs.Exact.{tidy_at}
 use Rattle.file_text.proofs.RecognisedFaults.{no_fault}
 use Rattle.file_text.proofs.LoopOutcomes.{goes_on, read_text, read_only, early_fault}
+use Rattle.file_text.proofs.ValueTexts.{text-characters}
 use Rattle.file_text.proofs.PassedRuns.{passed-on, passed-none, rest-is}
 use Rattle.file_text.proofs.read.read_tree.Goals as goal
 
@@ -18,6 +19,7 @@ returns-in_default c = record {
   spelled = tt;
   only = λ e is. absurd (no_fault c.args.bytes.now e c.fault_of.result is c.fault_of.ensures);
   fault = inr c.fault_of.ensures;
+  characters = tt;
 }
 
 pub loop-i-preserved-then-passed-gt0 : goal.loop-i-preserved-then-passed-gt0
@@ -50,6 +52,11 @@ pub returns-in-Some-clause-spelled : goal.returns-in-Some-clause-spelled
 returns-in-Some-clause-spelled c =
     let all : take c.loop-i.i c.args.bytes.now ≡ c.args.bytes.now = take_all c.loop-i.i c.args.bytes.now c.loop-i-test.false in
     read_text c.args.bytes.now (state_of c.loop-i.scanner) (tree_of c.in-Some.root) (rw all at c.loop-i.invariant.same) (sym c.in-Some.ensures)
+
+pub returns-in-Some-clause-characters : goal.returns-in-Some-clause-characters
+returns-in-Some-clause-characters c =
+    let all : take c.loop-i.i c.args.bytes.now ≡ c.args.bytes.now = take_all c.loop-i.i c.args.bytes.now c.loop-i-test.false in
+    text-characters (tree_of c.in-Some.root) c.args.bytes.now (read_text c.args.bytes.now (state_of c.loop-i.scanner) (tree_of c.in-Some.root) (rw all at c.loop-i.invariant.same) (sym c.in-Some.ensures))
 
 pub returns-in-Some-clause-only : goal.returns-in-Some-clause-only
 returns-in-Some-clause-only c = λ e is.

@@ -18,4 +18,4 @@ pub returns-clause-timed : goal.returns-clause-timed
 returns-clause-timed c = timed
 
 pub returns-clause-writable : goal.returns-clause-writable
-returns-clause-writable c = writable (λ need_times e t gives. (c.walk_is_exact.ensures need_times e t).0 gives)
+returns-clause-writable c = writable

@@ -1,7 +1,7 @@
 -- The values of attributes in a tree that a text spells: characters that a text may have, in UTF-8.
-use Rattle.std.proofs.Common.{◌≡◌, ◌≢◌, ℕ, zero, suc, ◌+◌, ◌≤◌, ◌<◌, ◌⊎◌, inl, inr, Bool, true, false, List, [], ◌∷◌, ◌++◌, length, take, drop, get_or, Option, Some, None, All, append_assoc, subst, sym, refl, ap, ◌∙◌, arith}
-use Rattle.std.specs.Prelude.{IsTrue, codes, if◌then◌else◌, filter, cond}
-use Rattle.std.specs.Str.{IsUtf8, bytes_eq}
+use Rattle.std.proofs.Common.{◌≡◌, ℕ, ◌+◌, ◌≤◌, ◌<◌, ◌⊎◌, inl, inr, List, [], ◌∷◌, ◌++◌, length, drop, get_or, Option, Some, None, All, append_assoc, subst, sym, refl, ap, ◌∙◌, arith}
+use Rattle.std.specs.Prelude.{IsTrue}
+use Rattle.std.specs.Str.{IsUtf8}
 use Rattle.std.proofs.Math.Seq.{take-append_seam, drop-append_seam, get_or-append_seam}
 use Rattle.std.proofs.lemmas.Bool.{and_parts}
 use Rattle.std.proofs.lemmas.Bool.Decides.{nat_tests}
@@ -12,8 +12,9 @@ use Rattle.file_text.specs.declared.due.Due.{Due}
 use Rattle.file_text.specs.declared.due.Due.TheVariants.{Nothing, Byte}
 use Rattle.file_text.specs.declared.tree.Attribute.{Attribute}
 use Rattle.file_text.specs.inside.Utf8.{due_after, due_after_first, due_along}
-use Rattle.file_text.specs.Node.{Node, node, Nodes, no_node, node_then, name_of, list_of, children_of}
-use Rattle.file_text.specs.Grammar.{Each, Entity, less, greater, ampersand, quotation, apostrophe, Item, byte, entity, comment, entity_text, entity_value, item_text, items_text, item_value, items_value, is_character, is_plain, IsQuoted, IsHead, IsAttribute, AreAttributes, IsTag, IsRest, IsElement, IsContent, IsFiller, IsText, Spells}
+use Rattle.file_text.specs.Node.{Node, node, Nodes, no_node, node_then}
+use Rattle.file_text.specs.Grammar.{Each, Entity, less, greater, ampersand, quotation, apostrophe, Item, byte, entity, comment, entity_text, entity_value, items_text, items_value, is_character, IsQuoted, IsHead, IsAttribute, AreAttributes, IsTag, IsElement, IsContent, IsText}
+use Rattle.file_text.specs.Values.{AreCharacters, HasCharacters, HaveCharacters}
 use Rattle.file_text.proofs.Utf8Laws.{ascii_along, due_along-IsUtf8, due_along-none, IsUtf8-due_along}
 
 -- ---- pieces of a text
@@ -121,11 +122,6 @@ value-along quote (comment body ∷ items) d all high is = absurd all.0
 
 -- ---- attributes and elements
 
--- characters that a text may have, in UTF-8
-pub record IsGoodValue (value : List ℕ) : Type 0 where
-  pub characters : All (λ b. IsTrue (is_character b)) value
-  pub utf8 : IsUtf8 value
-
 entity-character : (e : Entity) → IsTrue (is_character (entity_value e))
 entity-character less = refl
 entity-character greater = refl
@@ -156,8 +152,8 @@ quote-ascii : (quote : ℕ) → (quote ≡ 34) ⊎ (quote ≡ 39) → quote < 12
 quote-ascii quote (inl is) = omega (arith, is)
 quote-ascii quote (inr is) = omega (arith, is)
 
-good-value : (whole : List ℕ) (a : Attribute) (t : List ℕ) → IsUtf8 whole → IsAttribute a t → IsPieceOf whole t → IsGoodValue a.value
-good-value whole a t utf8 is piece =
+value-read : (whole : List ℕ) (a : Attribute) (t : List ℕ) → IsUtf8 whole → IsAttribute a t → IsPieceOf whole t → AreCharacters a.value
+value-read whole a t utf8 is piece =
     let ascii : is.quote < 128 = quote-ascii is.quote is.is_head.is_quote in
     let quoted : IsPieceOf whole (is.quote ∷ (items_text is.items ++ is.quote ∷ [])) = quoted-piece whole a.name is.head (items_text is.items ++ is.quote ∷ []) is.quote is.is_head (subst (IsPieceOf whole) is.spelled piece) in
     let text : IsUtf8 (items_text is.items) = between-ascii whole (items_text is.items) is.quote is.quote ascii ascii utf8 quoted in
@@ -167,45 +163,36 @@ good-value whole a t utf8 is piece =
       utf8 = subst IsUtf8 (sym is.value) value;
     }
 
-good-attributes : (whole : List ℕ) (attributes : List Attribute) (t : List ℕ) → IsUtf8 whole → AreAttributes attributes t → IsPieceOf whole t → Each (λ (a : Attribute). IsGoodValue a.value) attributes
-good-attributes whole [] t utf8 are piece = tt
-good-attributes whole (a ∷ rest) t utf8 (u, v, one, others, spelled) piece =
+attributes-read : (whole : List ℕ) (attributes : List Attribute) (t : List ℕ) → IsUtf8 whole → AreAttributes attributes t → IsPieceOf whole t → Each (λ (a : Attribute). AreCharacters a.value) attributes
+attributes-read whole [] t utf8 are piece = tt
+attributes-read whole (a ∷ rest) t utf8 (u, v, one, others, spelled) piece =
     let both : IsPieceOf whole (u ++ v) = subst (IsPieceOf whole) spelled piece in
-    (good-value whole a u utf8 one (piece-left whole u v both), good-attributes whole rest v utf8 others (piece-right whole u v both))
+    (value-read whole a u utf8 one (piece-left whole u v both), attributes-read whole rest v utf8 others (piece-right whole u v both))
 
--- each value of an element, and of those in it, is good
-abbrev mutual
-  pub HasGoodValues : Node → Type 0
-  HasGoodValues (node name attributes children) = Each (λ (a : Attribute). IsGoodValue a.value) attributes × HaveGoodValues children
-
-  pub HaveGoodValues : Nodes → Type 0
-  HaveGoodValues no_node = Unit {0}
-  HaveGoodValues (node_then e es) = HasGoodValues e × HaveGoodValues es
-
-good-tag : (whole name : List ℕ) (attributes : List Attribute) (tag : List ℕ) → IsUtf8 whole → IsTag name attributes tag → IsPieceOf whole tag → Each (λ (a : Attribute). IsGoodValue a.value) attributes
-good-tag whole name attributes tag utf8 is piece =
+tag-read : (whole name : List ℕ) (attributes : List Attribute) (tag : List ℕ) → IsUtf8 whole → IsTag name attributes tag → IsPieceOf whole tag → Each (λ (a : Attribute). AreCharacters a.value) attributes
+tag-read whole name attributes tag utf8 is piece =
     let opened : IsPieceOf whole (60 ∷ (name ++ (is.middle ++ is.gap))) = subst (IsPieceOf whole) is.spelled piece in
-    good-attributes whole attributes is.middle utf8 is.are_attributes (piece-left whole is.middle is.gap (piece-right whole (60 ∷ name) (is.middle ++ is.gap) opened))
+    attributes-read whole attributes is.middle utf8 is.are_attributes (piece-left whole is.middle is.gap (piece-right whole (60 ∷ name) (is.middle ++ is.gap) opened))
 
 mutual
-  good-element : (whole : List ℕ) (e : Node) (t : List ℕ) → IsUtf8 whole → IsElement e t → IsPieceOf whole t → HasGoodValues e
-  good-element whole (node name attributes children) t utf8 (tag, rest, is_tag, inl none, spelled) piece =
+  element-read : (whole : List ℕ) (e : Node) (t : List ℕ) → IsUtf8 whole → IsElement e t → IsPieceOf whole t → HasCharacters e
+  element-read whole (node name attributes children) t utf8 (tag, rest, is_tag, inl none, spelled) piece =
       let both : IsPieceOf whole (tag ++ rest) = subst (IsPieceOf whole) spelled piece in
-      (good-tag whole name attributes tag utf8 is_tag (piece-left whole tag rest both), subst HaveGoodValues (sym none.0) tt)
-  good-element whole (node name attributes children) t utf8 (tag, rest, is_tag, inr is, spelled) piece =
+      (tag-read whole name attributes tag utf8 is_tag (piece-left whole tag rest both), subst HaveCharacters (sym none.0) tt)
+  element-read whole (node name attributes children) t utf8 (tag, rest, is_tag, inr is, spelled) piece =
       let both : IsPieceOf whole (tag ++ rest) = subst (IsPieceOf whole) spelled piece in
       let inside : IsPieceOf whole (62 ∷ (is.inner ++ (60 ∷ (47 ∷ (name ++ (is.gap ++ (62 ∷ []))))))) = subst (IsPieceOf whole) is.spelled (piece-right whole tag rest both) in (
-        good-tag whole name attributes tag utf8 is_tag (piece-left whole tag rest both),
-        good-content whole children is.inner utf8 is.content (piece-left whole is.inner (60 ∷ (47 ∷ (name ++ (is.gap ++ (62 ∷ []))))) (piece-right whole (62 ∷ []) (is.inner ++ (60 ∷ (47 ∷ (name ++ (is.gap ++ (62 ∷ [])))))) inside)),
+        tag-read whole name attributes tag utf8 is_tag (piece-left whole tag rest both),
+        content-read whole children is.inner utf8 is.content (piece-left whole is.inner (60 ∷ (47 ∷ (name ++ (is.gap ++ (62 ∷ []))))) (piece-right whole (62 ∷ []) (is.inner ++ (60 ∷ (47 ∷ (name ++ (is.gap ++ (62 ∷ [])))))) inside)),
       )
 
-  good-content : (whole : List ℕ) (es : Nodes) (t : List ℕ) → IsUtf8 whole → IsContent es t → IsPieceOf whole t → HaveGoodValues es
-  good-content whole no_node t utf8 content piece = tt
-  good-content whole (node_then e es) t utf8 (u, v, w, filler, element, content, spelled) piece =
+  content-read : (whole : List ℕ) (es : Nodes) (t : List ℕ) → IsUtf8 whole → IsContent es t → IsPieceOf whole t → HaveCharacters es
+  content-read whole no_node t utf8 content piece = tt
+  content-read whole (node_then e es) t utf8 (u, v, w, filler, element, content, spelled) piece =
       let all : IsPieceOf whole (u ++ (v ++ w)) = subst (IsPieceOf whole) spelled piece in
       let both : IsPieceOf whole (v ++ w) = piece-right whole u (v ++ w) all in
-      (good-element whole e v utf8 element (piece-left whole v w both), good-content whole es w utf8 content (piece-right whole v w both))
+      (element-read whole e v utf8 element (piece-left whole v w both), content-read whole es w utf8 content (piece-right whole v w both))
 
-pub text-good : (e : Node) (t : List ℕ) → IsText e t → HasGoodValues e
-text-good e t (declared, is, encoding) =
-    good-element t e is.root is.utf8 is.is_root (is.prolog, is.misc, is.spelled)
+pub text-characters : (e : Node) (t : List ℕ) → IsText e t → HasCharacters e
+text-characters e t (declared, is, encoding) =
+    element-read t e is.root is.utf8 is.is_root (is.prolog, is.misc, is.spelled)

@@ -1,0 +1,184 @@
+//! Whole characters in front of some bytes, by runs.
+
+ghost use Rattle.std.specs.Prelude.{◌≡◌, ◌<◌, ◌≤◌, true, length, take, IsTrue};
+ghost use Rattle.file_text.specs.Grammar.{is_character, is_name_byte, is_plain, is_white};
+ghost use Rattle.file_text.specs.inside.Runs.{HasFurther, HasSecond, IsCharacter, IsPartOfBody, IsRun, after_byte, is_in_body, takes};
+
+use crate::due::{second_max, second_min};
+use crate::mode::Comment;
+
+/// What the characters of a run are.
+#[derive(Clone, Copy)]
+pub(crate) enum Run {
+    /// Those that stand for themselves between tags.
+    Text,
+    /// Those that stand for themselves in these quotes.
+    Value { quote: u8 },
+    /// Those of names.
+    Name,
+    White,
+}
+
+impl Run {
+    /// Whether a character that begins so is one of the run.
+    #[inline(always)]
+    fn takes(self, b: u8) -> bool
+        ensures { result ≡ takes self b }
+    {
+        match self {
+            Run::Text => is_plain(b),
+            Run::Value { quote } => b >= 128 || (is_plain(b) && b != quote),
+            Run::Name => is_name_byte(b),
+            Run::White => is_white(b),
+        }
+    }
+}
+
+#[inline(always)]
+fn is_white(b: u8) -> bool
+    ensures { result ≡ is_white b }
+{
+    b == b' ' || b == b'\t' || b == b'\n' || b == b'\r'
+}
+
+#[inline(always)]
+fn is_character(b: u8) -> bool
+    ensures { result ≡ is_character b }
+{
+    b >= b' ' || is_white(b)
+}
+
+#[inline(always)]
+fn is_plain(b: u8) -> bool
+    ensures { result ≡ is_plain b }
+{
+    // Most bytes are letters.
+    b > b'<' || (is_character(b) && b != b'<' && b != b'&')
+}
+
+#[inline(always)]
+fn is_name_byte(b: u8) -> bool
+    ensures { result ≡ is_name_byte b }
+{
+    (b >= b'a' && b <= b'z')
+        || (b >= b'A' && b <= b'Z')
+        || (b == b'_' || b == b':' || b >= 128)
+        || (b >= b'0' && b <= b'9')
+        || (b == b'.' || b == b'-')
+}
+
+/// How many bytes in front are whole characters of the run.
+#[inline(always)]
+pub(crate) fn run_len(run: Run, bytes: &[u8]) -> usize
+    ensures { IsRun run bytes.now result }
+{
+    let mut count = 0;
+    while count < bytes.len() && run.takes(bytes[count]) {
+        if bytes[count] < 128 {
+            count += 1;
+        } else {
+            let more = wide_len(&bytes[count..]);
+            if more == 0 {
+                break;
+            }
+            count += more;
+        }
+    }
+    count
+}
+
+/// The same with the body of a comment, and where in it they lead.
+pub(crate) fn body_len(comment: Comment, bytes: &[u8]) -> (usize, Comment)
+    requires { is_in_body comment ≡ true }
+    ensures { IsPartOfBody comment result.1 bytes.now result.0 }
+{
+    let mut place = comment;
+    let mut count = 0;
+    while count < bytes.len() {
+        let Some(after) = place.after(bytes[count]) else {
+            break;
+        };
+        if bytes[count] < 128 {
+            count += 1;
+        } else {
+            let more = wide_len(&bytes[count..]);
+            if more == 0 {
+                break;
+            }
+            count += more;
+        }
+        place = after;
+    }
+    (count, place)
+}
+
+impl Comment {
+    /// What has been read of a comment in its body after a further byte, unless that ends it or may not stand there.
+    #[inline(always)]
+    fn after(self, b: u8) -> Option<Comment>
+        ensures { result ≡ after_byte self b }
+    {
+        // Most bytes are letters.
+        if b > b'>' {
+            return Some(Comment::Body);
+        }
+        match (self, b) {
+            (Comment::Body, b'-') => Some(Comment::Hyphen),
+            (_, b'-') => Some(Comment::Hyphens),
+            (Comment::Hyphens, b'>') => None,
+            _ if is_character(b) => Some(Comment::Body),
+            _ => None,
+        }
+    }
+}
+
+/// How many bytes the character from U+0080 up in front has, or 0 where none stands there whole.
+#[inline(always)]
+fn wide_len(bytes: &[u8]) -> usize
+    requires { 0 < length bytes.now }
+    ensures { IsCharacter bytes.now result }
+{
+    match bytes[0] {
+        0xC2..=0xDF if is_pair(bytes) => 2,
+        0xE0..=0xEF if is_triple(bytes) => 3,
+        0xF0..=0xF4 if is_triple(bytes) && bytes.len() >= 4 && continues(bytes[3]) => 4,
+        _ => 0,
+    }
+}
+
+/// Whether a second byte of a character follows the first one.
+#[inline(always)]
+fn is_pair(bytes: &[u8]) -> bool
+    ensures { IsTrue result → HasSecond bytes.now }
+{
+    bytes.len() >= 2 && second_min(bytes[0]) <= bytes[1] && bytes[1] <= second_max(bytes[0])
+}
+
+/// Whether a second and a third byte of a character follow the first one.
+#[inline(always)]
+fn is_triple(bytes: &[u8]) -> bool
+    ensures { IsTrue result → HasSecond bytes.now × HasFurther bytes.now 2 }
+{
+    is_pair(bytes) && bytes.len() >= 3 && continues(bytes[2])
+}
+
+/// Whether the byte is one of a character's behind the second.
+#[inline(always)]
+fn continues(b: u8) -> bool
+    ensures { IsTrue result → (0x80 ≤ b) × (b ≤ 0xBF) }
+{
+    b >= 0x80 && b <= 0xBF
+}
+
+/// How many bytes in front are the same.
+pub(crate) fn same_len(left: &[u8], bytes: &[u8]) -> usize
+    ensures left { result ≤ length left.now }
+    ensures bytes { result ≤ length bytes.now }
+    ensures same { take result left.now ≡ take result bytes.now }
+{
+    let mut count = 0;
+    while count < left.len() && count < bytes.len() && left[count] == bytes[count] {
+        count += 1;
+    }
+    count
+}
