@@ -12,27 +12,11 @@ import os
 import sys
 import tempfile
 
-from programs import ROOT, counted, least_time, memory, program
+from programs import ROOT, counted, graph, least_time, memory, program
 
 DECODER = os.path.join(ROOT, "examples", "h263_decoder.xml")
 FASTEST = "blocks=2423,coefficients=2,pixels=2396"
 """The buffers of the decoder's last point."""
-
-
-def graph(times, channels):
-    """A graph of actors by their times, and channels: source, tokens put, tokens taken, target, tokens that are there."""
-    ports = {actor: [] for actor in times}
-    lines = []
-    for number, (source, put, taken, target, tokens) in enumerate(channels):
-        ports[source].append(f"<port name='o{number}' type='out' rate='{put}'/>")
-        ports[target].append(f"<port name='i{number}' type='in' rate='{taken}'/>")
-        lines.append(f"<channel name='c{number}' srcActor='{source}' srcPort='o{number}' dstActor='{target}' dstPort='i{number}'"
-                     f" initialTokens='{tokens}'/>")
-    actors = [f"<actor name='{actor}'>{''.join(held)}</actor>" for actor, held in ports.items()]
-    properties = [f"<actorProperties actor='{actor}'><processor type='p' default='true'><executionTime time='{time}'/>"
-                  "</processor></actorProperties>" for actor, time in times.items()]
-    return (f"<sdf3 type='sdf'><applicationGraph><sdf>{''.join(actors + lines)}</sdf><sdfProperties>{''.join(properties)}</sdfProperties>"
-            "</applicationGraph></sdf3>")
 
 
 def rings(actors):

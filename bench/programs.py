@@ -1,4 +1,5 @@
-"""What the benchmarks share: programs of the repository that are built where sources changed, and the least time of some runs."""
+"""What the benchmarks share: programs of the repository that are built where sources changed, graphs as files have them, and the
+least time of some runs."""
 import os
 import re
 import shutil
@@ -43,6 +44,22 @@ def program(crate):
             sys.exit(done.stdout + done.stderr)
         os.utime(path)
     return path
+
+
+def graph(times, channels):
+    """A graph of actors by their times, and channels: source, tokens put, tokens taken, target, tokens that are there."""
+    ports = {actor: [] for actor in times}
+    lines = []
+    for number, (source, put, taken, target, tokens) in enumerate(channels):
+        ports[source].append(f"<port name='o{number}' type='out' rate='{put}'/>")
+        ports[target].append(f"<port name='i{number}' type='in' rate='{taken}'/>")
+        lines.append(f"<channel name='c{number}' srcActor='{source}' srcPort='o{number}' dstActor='{target}' dstPort='i{number}'"
+                     f" initialTokens='{tokens}'/>")
+    actors = [f"<actor name='{actor}'>{''.join(held)}</actor>" for actor, held in ports.items()]
+    properties = [f"<actorProperties actor='{actor}'><processor type='p' default='true'><executionTime time='{time}'/>"
+                  "</processor></actorProperties>" for actor, time in times.items()]
+    return (f"<sdf3 type='sdf'><applicationGraph><sdf>{''.join(actors + lines)}</sdf><sdfProperties>{''.join(properties)}</sdfProperties>"
+            "</applicationGraph></sdf3>")
 
 
 def least_time(words):

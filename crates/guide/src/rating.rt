@@ -83,8 +83,8 @@ pub fn evaluate<F: Firing, L: Ledger>(
 
 /// What `evaluate` answers, where the wiring of the bounded net is there already, and with counts by actor that some
 /// order of firings of it reaches, from which the test for a round begins: those at which a net with less room is blocked,
-/// or those of a whole round where one with less room is live. Cost: that of `one_round_from` and, where the net is live,
-/// of a copy of it, `run_loop` and `cycle_of`.
+/// or those of a whole round where one with less room is live. Cost: that of `one_round_from`, unless they are those of a
+/// whole round, and, where the net is live, of a copy of it, `run_loop` and `cycle_of`.
 pub fn evaluate_from<F: Firing, L: Ledger>(
     alloc: Global,
     net: &F,

@@ -4,12 +4,11 @@
 //! has one phase, an actor's next starts are read off the rows of those that it needs, as many in a row as these tell, and
 //! nothing is done at the moments between: no calendar, no tokens, no shapes. The rows grow up to a moment, and hold all
 //! starts up to there once each actor's next firing needs one that isn't in them or would start later. Then they show a
-//! loop that is one round long: the last round's length is its period, the entry is read off as in `entry.rt`, and that the period
-//! is the least follows from the balance of the net, since equal shapes lie whole rounds apart. A firing ends at each event
-//! but the first, so that no more shapes come than are allowed is told by the number of starts. Where this shows no loop
-//! within some three rounds, as for one of several rounds, or within so few starts, or where an actor has several phases,
-//! events are gone through as if nothing had been tried: the starts that were made cost a small part of theirs, and
-//! refusals are theirs alone.
+//! loop that is one round long: the last round's length is its period, the entry is read off as in `entry.rt`, and that the
+//! period is the least follows from the balance of the net, since equal shapes lie whole rounds apart. A firing ends at
+//! each event but the first, so that no more shapes come than are allowed is told by the number of starts. Where this shows
+//! no loop within some three rounds, or within so few starts, or where an actor has several phases, events are gone through
+//! as if nothing had been tried: the starts that were made cost a small part of theirs, and refusals are theirs alone.
 //!
 //! Nothing can come again within a round, so the first steps aim at its starts, by how many the last step had, and go at
 //! most as far again as before, since many actors start late. After that a step has about a thirty-second of a round, and

@@ -22,12 +22,12 @@ use selftimed::Engine;
 use std::alloc::Global;
 
 /// The loop of self-timed execution (Ghamarian et al. 2006), found without keeping its shapes: by the needs of firings alone
-/// where each actor has one phase and the loop one round, else by marks at a few events (van Oorschot and Wiener 1999), and one
-/// shape for the rest (Brent 1980). At most `states` shapes are looked at, and at most `STARTS` firings started. `steps` counts
-/// the call.
+/// where each actor has one phase and the loop one round, or some where a round has few firings, else by marks at a few events
+/// (van Oorschot and Wiener 1999), and one shape for the rest (Brent 1980). At most `states` shapes are looked at, and at most
+/// `STARTS` firings started. `steps` counts the call.
 ///
 /// Cost by needs: for each start up to a little more than the first repeat, the channels into its actor; where that finds no
-/// loop, for each of some three rounds.
+/// loop, for each of some three rounds, and for some 4,000 starts at most where a round has up to 256.
 /// Cost by events: an execution up to the first mark on the loop that comes again, mostly a little longer than one up to the
 /// first repeat. Where the marks miss the loop, as they do if each print of its tokens comes several times a round, an execution to a
 /// shape that came before, at most three times as long as one up to the first repeat, and half as long again as this one where
