@@ -12,6 +12,7 @@ pub mod KeepsTags
 pub mod KeepsEnds
 pub mod Tidy
 pub mod TidyRuns
+pub mod Entities
 pub mod Exact
 pub mod ValueTexts
 pub mod Encodings

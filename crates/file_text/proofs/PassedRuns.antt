@@ -10,12 +10,14 @@ use Rattle.file_text.specs.declared.class.Class.{Class}
 use Rattle.file_text.specs.declared.class.Class.TheVariants.{White, Control, Less, Quote, Ampersand}
 use Rattle.file_text.specs.declared.mode.Comment.{Comment}
 use Rattle.file_text.specs.declared.due.Due.TheVariants.{Nothing}
+use Rattle.file_text.specs.declared.reference.Reference.{Reference}
+use Rattle.file_text.specs.declared.reference.Referred.TheVariants.{More, Done}
 use Rattle.file_text.specs.declared.characters.Run.TheVariants as run_of
 use Rattle.file_text.specs.declared.scanner.Frame.{Frame}
 use Rattle.file_text.specs.declared.scanner.Scanner.{Scanner}
 use Rattle.file_text.specs.Grammar.{Each, is_white, is_plain, is_name_byte}
-use Rattle.file_text.specs.inside.Machine.{class_of, Around, within, Opened, Holder, Shape, at_between, in_comment, in_name, at_gap, in_attribute, at_named, at_equals, in_value, in_closing, Step, goes, between_step, name_step, attribute_step, value_step, match_step, table, follow, walk, State, run, start, IsDue}
-use Rattle.file_text.specs.inside.Runs.{takes, IsRun, IsPartOfBody}
+use Rattle.file_text.specs.inside.Machine.{class_of, Around, within, Opened, Holder, Shape, at_between, in_comment, in_name, at_gap, in_attribute, at_named, at_equals, in_value, in_value_reference, in_text_reference, in_closing, Step, goes, between_step, name_step, attribute_step, value_step, match_step, table, follow, walk, State, run, start, IsDue}
+use Rattle.file_text.specs.inside.Runs.{takes, IsRun, IsPartOfBody, IsPartOfEntity}
 use Rattle.file_text.specs.inside.Seen.{opened_of, stack_on, around_in, around_of}
 use Rattle.file_text.proofs.Classes.{plain_class, name_class, Known, known, by_name}
 use Rattle.file_text.proofs.MachineWalks.{at_white}
@@ -171,6 +173,31 @@ in-closings a name bytes matched s n same is long =
     ap (λ (t : List ℕ). walk true (Some (a, in_closing t)) (take n bytes)) (sym here)
     ∙ closes a (take n bytes) (drop (matched + n) name) (subst (Each (λ b. IsTrue (is_name_byte b))) front is.taken) in
     whole a (in_closing (drop matched name)) (in_closing (drop (matched + n) name)) (take n bytes) (subst (λ (t : List ℕ). IsDue t Nothing) front is.whole) walks
+
+-- an entity goes on, or ends
+pub in-entity : (a : Around) (from to : Reference) (bytes : List ℕ) (n : ℕ) → IsPartOfEntity from bytes n (More to) →
+    run true (Some (record { due = Nothing; spot = (a, in_text_reference from) })) (take n bytes) ≡ Some (record { due = Nothing; spot = (a, in_text_reference to) })
+unfolding at
+in-entity a from to bytes n is = whole a (in_text_reference from) (in_text_reference to) (take n bytes) is.whole (is.text a)
+
+pub past-entity : (a : Around) (from : Reference) (character : ℕ) (bytes : List ℕ) (n : ℕ) → IsPartOfEntity from bytes n (Done character) →
+    run true (Some (record { due = Nothing; spot = (a, in_text_reference from) })) (take n bytes) ≡ Some (record { due = Nothing; spot = (a, at_between) })
+unfolding at
+past-entity a from character bytes n is = whole a (in_text_reference from) at_between (take n bytes) is.whole (is.text a)
+
+pub in-value-entity : (a : Around) (h : Holder) (xs : List Attribute) (name : List ℕ) (quote : ℕ) (value : List ℕ) (from to : Reference) (bytes : List ℕ) (n : ℕ) → IsPartOfEntity from bytes n (More to) →
+    run true (Some (record { due = Nothing; spot = (a, in_value_reference h xs name quote value from) })) (take n bytes) ≡ Some (record { due = Nothing; spot = (a, in_value_reference h xs name quote value to) })
+unfolding at
+in-value-entity a h xs name quote value from to bytes n is =
+    whole a (in_value_reference h xs name quote value from) (in_value_reference h xs name quote value to) (take n bytes) is.whole (is.value a h xs name quote value)
+
+pub past-value-entity : (a : Around) (h : Holder) (xs : List Attribute) (name : List ℕ) (quote : ℕ) (value more : List ℕ) (from : Reference) (character : ℕ) (bytes : List ℕ) (n : ℕ) →
+    IsPartOfEntity from bytes n (Done character) → more ≡ value ++ character ∷ [] →
+    run true (Some (record { due = Nothing; spot = (a, in_value_reference h xs name quote value from) })) (take n bytes) ≡ Some (record { due = Nothing; spot = (a, in_value h xs name quote more) })
+unfolding at
+past-value-entity a h xs name quote value more from character bytes n is so =
+    whole a (in_value_reference h xs name quote value from) (in_value h xs name quote more) (take n bytes) is.whole
+    (is.value a h xs name quote value ∙ ap (λ (v : List ℕ). Some (a, in_value h xs name quote v)) (sym so))
 
 pub run-as : {s t u v : State} (bytes : List ℕ) → s ≡ u → t ≡ v → run true (Some u) bytes ≡ Some v → run true (Some s) bytes ≡ Some t
 run-as {s} {t} {u} {v} bytes before after is = ap (λ (x : State). run true (Some x) bytes) before ∙ is ∙ ap Some (sym after)

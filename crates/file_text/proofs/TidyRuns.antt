@@ -17,14 +17,14 @@ use Rattle.file_text.proofs.KeepsEnds.{Refers, refers, when_byte}
 use Rattle.file_text.proofs.Tidy.{Dues, dues, ascii_after, due_more, IsAsciiClass, TidyAt, TidyAfter, between_nothing, when_tidy, tidy_start, tidy_mark, tidy_first, tidy_declaring, tidy_between, tidy_markup, tidy_comment, tidy_name, tidy_gap, tidy_valued, tidy_attribute, tidy_named, tidy_equals, tidy_value}
 
 -- the bytes of an entity are ASCII
-abbrev IsAsciiRead : ℕ → Referred → Type 0
+abbrev pub IsAsciiRead : ℕ → Referred → Type 0
 IsAsciiRead b Leaves = Unit {0}
 IsAsciiRead b s = b < 128
 
 ascii_code : (b k : ℕ) → b ≡ k → k < 128 → b < 128
 ascii_code b k e low = omega arith
 
-ascii_read : (r : Reference) (b : ℕ) → IsAsciiRead b (referred r b)
+pub ascii_read : (r : Reference) (b : ℕ) → IsAsciiRead b (referred r b)
 ascii_read reference.Ampersand b =
     when_byte (λ s. IsAsciiRead b s) b 108 _ _ (λ e. omega arith)
     (when_byte (λ s. IsAsciiRead b s) b 103 _ _ (λ e. omega arith)

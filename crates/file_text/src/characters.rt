@@ -27,7 +27,7 @@ impl Run {
     {
         match self {
             Run::Text => is_plain(b),
-            Run::Value { quote } => b >= 128 || (is_plain(b) && b != quote),
+            Run::Value { quote } => (b != quote || b >= 128) && is_plain(b),
             Run::Name => is_name_byte(b),
             Run::White => is_white(b),
         }

@@ -1,5 +1,6 @@
 ghost use Rattle.std.specs.Prelude.{◌≡◌};
 ghost use Rattle.file_text.specs.inside.Machine.{referred};
+ghost use Rattle.file_text.specs.inside.Runs.{IsPartOfEntity};
 
 /// What has been read of an entity.
 #[derive(Clone, Copy)]
@@ -57,4 +58,23 @@ impl Reference {
             _ => Referred::Leaves,
         }
     }
+}
+
+/// How many bytes in front go on with an entity, and what they make of it.
+pub(crate) fn entity_len(read: Reference, bytes: &[u8]) -> (usize, Referred)
+    ensures { IsPartOfEntity read bytes.now result.0 result.1 }
+{
+    let mut known = read;
+    let mut count = 0;
+    while count < bytes.len() {
+        match known.after(bytes[count]) {
+            Referred::More(more) => {
+                known = more;
+                count += 1;
+            }
+            Referred::Done(c) => return (count + 1, Referred::Done(c)),
+            Referred::Leaves => break,
+        }
+    }
+    (count, Referred::More(known))
 }

@@ -7,6 +7,7 @@ ghost use Rattle.file_text.specs.inside.Seen.{state_of};
 use crate::characters::{Run, body_len, run_len, same_len};
 use crate::due::Due;
 use crate::mode::{Comment, Mode};
+use crate::reference::{Reference, Referred, entity_len};
 use crate::scanner::Scanner;
 use std::alloc::AllocError;
 
@@ -22,8 +23,8 @@ fn take_in(taken: &mut Vec<u8>, bytes: &[u8]) -> Result<(), AllocError>
 }
 
 impl Scanner {
-    /// Passes the characters in front that go on with a comment, a text, a value, a name or white, and says how many bytes they
-    /// are.
+    /// Passes the characters in front that go on with a comment, a text, a value, a name, an entity or white, and says how many
+    /// bytes they are.
     #[inline(always)]
     pub(crate) fn pass(&mut self, bytes: &[u8]) -> Result<usize, AllocError>
         ensures within { IfOk result (λ n. n ≤ length bytes.now) }
@@ -49,6 +50,8 @@ impl Scanner {
             Mode::Naming => self.pass_name(bytes),
             Mode::Attribute => self.pass_attribute(bytes),
             Mode::Closing(matched) => Ok(self.pass_closing(matched, bytes)),
+            Mode::TextReference(read) => Ok(self.pass_text_reference(read, bytes)),
+            Mode::ValueReference(read) => self.pass_value_reference(read, bytes),
             _ => Ok(self.white_len(bytes)),
         }
     }
@@ -134,6 +137,49 @@ impl Scanner {
         let count = run_len(Run::Name, &bytes[..same]);
         self.mode = Mode::Closing(matched + count);
         count
+    }
+
+    /// Passes what goes on with an entity between tags.
+    fn pass_text_reference(&mut self, read: Reference, bytes: &[u8]) -> usize
+        requires due { self.old.due ≡ Due.Nothing }
+        requires mode { self.old.mode ≡ Mode.TextReference read }
+        ensures within { result ≤ length bytes.now }
+        ensures same { run true (Some (state_of self.old)) (take result bytes.now) ≡ Some (state_of self.new) }
+    {
+        let (count, made) = entity_len(read, bytes);
+        match made {
+            Referred::More(more) => {
+                self.mode = Mode::TextReference(more);
+                count
+            }
+            Referred::Done(_) => {
+                self.mode = Mode::Between;
+                count
+            }
+            Referred::Leaves => unreachable!(),
+        }
+    }
+
+    /// Passes what goes on with an entity in a value, and takes its character into the value.
+    fn pass_value_reference(&mut self, read: Reference, bytes: &[u8]) -> Result<usize, AllocError>
+        requires due { self.old.due ≡ Due.Nothing }
+        requires mode { self.old.mode ≡ Mode.ValueReference read }
+        ensures within { IfOk result (λ n. n ≤ length bytes.now) }
+        ensures same { IfOk result (λ n. run true (Some (state_of self.old)) (take n bytes.now) ≡ Some (state_of self.new)) }
+    {
+        let (count, made) = entity_len(read, bytes);
+        match made {
+            Referred::More(more) => {
+                self.mode = Mode::ValueReference(more);
+                Ok(count)
+            }
+            Referred::Done(c) => {
+                self.tag.value.push(c)?;
+                self.mode = Mode::Value;
+                Ok(count)
+            }
+            Referred::Leaves => unreachable!(),
+        }
     }
 
     /// How much white stands in front where it changes nothing.

@@ -3,3 +3,4 @@ pub mod SharedRows
 pub mod FileRules
 pub mod ScenarioFound
 pub mod ScenarioAgain
+pub mod FileNames

@@ -1,3 +1,4 @@
 pub mod ScenarioSections
+pub mod ScenarioNames
 pub mod ScenarioFiles
 pub mod ScenarioSpelled

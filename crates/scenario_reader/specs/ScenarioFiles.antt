@@ -6,6 +6,7 @@ use Rattle.graph_reader.specs.declared.error.ReadError.{ReadError}
 use Rattle.graph_reader.specs.declared.error.ReadError.TheVariants.{NoMemory}
 use Rattle.graph_reader.specs.FirstFaults.{IsFirstFaultOf}
 use Rattle.graph_reader.specs.Laws.{GivesBy}
+use Rattle.scenario_reader.specs.ScenarioNames.{FileHasWritableNames}
 use Rattle.scenario_reader.specs.ScenarioSections.{file_of}
 
 -- the bytes spell a tree whose sections give this file
@@ -31,3 +32,7 @@ ReadFileHasNoFault = (bytes : List ℕ) (f : ScenarioFile) (x : ReadError) → x
 -- a file that is read keeps the rules
 abbrev pub ReadFileKeepsRules : Type 0
 ReadFileKeepsRules = (bytes : List ℕ) (f : ScenarioFile) → GivesFile bytes f → FileKeepsRules f
+
+-- and has names that can be written
+abbrev pub ReadFileIsWritable : Type 0
+ReadFileIsWritable = (bytes : List ℕ) (f : ScenarioFile) → GivesFile bytes f → FileHasWritableNames f

@@ -6,6 +6,7 @@ ghost use Rattle.sd_base.specs.Scenarios.{FileKeepsRules};
 ghost use Rattle.file_text.specs.Node.{Node};
 ghost use Rattle.file_text.specs.Grammar.{IsText};
 ghost use Rattle.graph_reader.specs.TreeSteps.{Gives};
+ghost use Rattle.scenario_reader.specs.ScenarioNames.{FileHasWritableNames};
 ghost use Rattle.scenario_reader.specs.ScenarioSections.{file_of};
 ghost use Rattle.scenario_reader.specs.ScenarioFiles.{IsFirstFileFault};
 ghost use Rattle.scenario_reader.specs.ScenarioSpelled.{IsScenarioFile};
@@ -32,6 +33,7 @@ pub fn read_scenarios(alloc: Global, bytes: &[u8]) -> Result<ScenarioFile, ReadE
     // Bytes that spell a tree are answered by its file or by the first rule that it breaks.
     ensures exact { (e : Node) → IsText e bytes.now → Gives (λ f. f) result (file_of e) }
     ensures keeps { IfOk result FileKeepsRules }
+    ensures names { IfOk result FileHasWritableNames }
 {
     match read_tree(alloc, bytes) {
         Ok(tree) => file::read_file(alloc, &tree.root),

@@ -1,19 +1,23 @@
 -- Runs of characters that are passed in one step. Nothing public speaks of them.
-use Rattle.std.specs.Prelude.{◌≡◌, ℕ, ◌<◌, ◌≤◌, Bool, true, false, ◌&&◌, ◌||◌, not, ◌==◌, nat_le, if◌then◌else◌, IsTrue, List, length, take, slice_index}
+use Rattle.std.specs.Prelude.{◌≡◌, ◌≢◌, ℕ, ◌<◌, ◌≤◌, Bool, true, false, ◌&&◌, ◌||◌, not, ◌==◌, nat_le, if◌then◌else◌, IsTrue, List, length, take, slice_index}
 use Rattle.std.specs.Prelude.{Option, Some, None}
 use Rattle.std.specs.Str.Lossy.{second_byte_min, second_byte_max}
 use Rattle.file_text.specs.declared.due.Due.TheVariants.{Nothing}
 use Rattle.file_text.specs.declared.mode.Comment.{Comment}
 use Rattle.file_text.specs.declared.mode.Comment.TheVariants as comment
+use Rattle.file_text.specs.declared.reference.Reference.{Reference}
+use Rattle.file_text.specs.declared.reference.Referred.{Referred}
+use Rattle.file_text.specs.declared.reference.Referred.TheVariants.{Leaves}
+use Rattle.file_text.specs.declared.tree.Attribute.{Attribute}
 use Rattle.file_text.specs.declared.characters.Run.{Run}
 use Rattle.file_text.specs.declared.characters.Run.TheVariants.{Text, Value, Name, White}
 use Rattle.file_text.specs.Grammar.{Each, is_white, is_character, is_plain, is_name_byte}
-use Rattle.file_text.specs.inside.Machine.{Around, in_comment, walk, IsDue}
+use Rattle.file_text.specs.inside.Machine.{Around, Holder, in_comment, in_text_reference, in_value_reference, text_reference_step, value_reference_step, follow, walk, IsDue}
 
 -- the bytes of a run: those of characters from U+0080 up are all of it, or none
 abbrev pub takes : Run → ℕ → Bool
 takes Text b = is_plain b
-takes (Value quote) b = nat_le 128 b || (is_plain b && not (b == quote))
+takes (Value quote) b = (not (b == quote) || nat_le 128 b) && is_plain b
 takes Name b = is_name_byte b
 takes White b = is_white b
 
@@ -59,3 +63,12 @@ pub record IsPartOfBody (from to : Comment) (bytes : List ℕ) (n : ℕ) : Type 
   pub whole : IsDue (take n bytes) Nothing
   pub inside : is_in_body to ≡ true
   pub leads : (a : Around) → walk true (Some (a, in_comment from)) (take n bytes) ≡ Some (a, in_comment to)
+
+-- so many bytes in front go on with an entity, in a text and in a value, and this is what they make of it
+pub record IsPartOfEntity (from : Reference) (bytes : List ℕ) (n : ℕ) (made : Referred) : Type 0 where
+  pub within : n ≤ length bytes
+  pub whole : IsDue (take n bytes) Nothing
+  pub read : made ≢ Leaves
+  pub text : (a : Around) → walk true (Some (a, in_text_reference from)) (take n bytes) ≡ follow true (text_reference_step a made)
+  pub value : (a : Around) (h : Holder) (xs : List Attribute) (name : List ℕ) (quote : ℕ) (read : List ℕ) →
+      walk true (Some (a, in_value_reference h xs name quote read from)) (take n bytes) ≡ follow true (value_reference_step a h xs name quote read made)
