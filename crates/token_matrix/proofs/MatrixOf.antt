@@ -8,7 +8,7 @@ use Rattle.sd_base.specs.declared.tables.Kind.TheVariants.{Sdf}
 use Rattle.sd_base.specs.declared.tables.GraphFile.{GraphFile}
 use Rattle.sd_base.specs.declared.tables.ActorRow.{ActorRow}
 use Rattle.sd_base.specs.declared.tables.SharedRow.{SharedRow}
-use Rattle.sd_base.specs.Tables.{KeepsRules, IsTimed}
+use Rattle.sd_base.specs.Tables.{KeepsWideRules, IsTimed}
 use Rattle.sd_base.specs.Net.{Net, channel_at, total, IsRepetitionOf}
 use Rattle.sd_base.specs.Schedules.{HasInputs}
 use Rattle.sd_base.specs.Lawful.{Lawful}
@@ -33,7 +33,7 @@ use Rattle.token_matrix.proofs.OneRow.{row_initial}
 use Rattle.token_matrix.proofs.LeftRows.{is_left}
 use Rattle.token_matrix.proofs.EntryBounds.{is_matrix}
 
-module _ (shared : List SharedRow) (g : GraphFile) (gamma : List ℕ) (rules : KeepsRules g) (kind : g.kind ≡ Sdf) (shares : Shares shared g) (timed : IsTimed g) (gives : IsRepetitionOf g gamma) (small : sum gamma ≤ ROUND)
+module _ (shared : List SharedRow) (g : GraphFile) (gamma : List ℕ) (rules : KeepsWideRules g) (kind : g.kind ≡ Sdf) (shares : Shares shared g) (timed : IsTimed g) (gives : IsRepetitionOf g gamma) (small : sum gamma ≤ ROUND)
     (order : List ℕ) (round : IsRoundOrder (net_of g gamma false) order) where
   abbrev net : Net
   net = net_of g gamma false

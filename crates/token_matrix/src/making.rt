@@ -2,7 +2,7 @@
 ghost use Rattle.std.specs.Prelude.{◌≡◌, ◌≤◌, ◌<◌, ◌+◌, ◌*◌, ℕ, false, IfOk, IfErr, OnOk, MatchOption, length, sum};
 ghost use Rattle.sd_base.specs.declared.limits.TheConstants.{ROUND, STAMPS};
 ghost use Rattle.sd_base.specs.declared.tables.Kind.TheVariants.{Sdf};
-ghost use Rattle.sd_base.specs.Tables.{KeepsRules, IsTimed};
+ghost use Rattle.sd_base.specs.Tables.{KeepsWideRules, IsTimed};
 ghost use Rattle.sd_base.specs.Net.{IsRepetitionOf};
 ghost use Rattle.sd_base.specs.FileNet.{net_of};
 ghost use Rattle.sd_base.specs.Schedules.{HasInputs};
@@ -61,7 +61,7 @@ pub fn matrix_of(
     gamma: &[u64],
     shared: &[SharedRow],
 ) -> Result<Matrix, MatrixError>
-    requires rules { KeepsRules graph.now }
+    requires rules { KeepsWideRules graph.now }
     requires kind { graph.now.kind ≡ Sdf }
     requires timed { IsTimed graph.now }
     requires gamma { IsRepetitionOf graph.now gamma.now }
@@ -99,7 +99,7 @@ fn matrix_by(
     net: &SdfNet,
     order: &[u32],
 ) -> Result<Matrix, NoMemory>
-    requires rules { KeepsRules graph.now }
+    requires rules { KeepsWideRules graph.now }
     requires kind { graph.now.kind ≡ Sdf }
     requires timed { IsTimed graph.now }
     requires gamma { IsRepetitionOf graph.now gamma.now }
