@@ -21,11 +21,11 @@ use Rattle.sd_base.proofs.FileNets.{net_of-lawful}
 use Rattle.sd_base.specs.declared.tables.SharedRow.{SharedRow}
 use Rattle.sd_base.specs.declared.limits.TheConstants.{TIME, ROUND}
 use Rattle.sd_base.specs.Scenarios.{shared_count, Shares}
-use Rattle.token_matrix.specs.Stamps.{first_of}
+use Rattle.token_matrix.specs.Stamps.{first_of, left_token}
 use Rattle.token_matrix.specs.Matrices.{entry_at, IsMatrix}
 use Rattle.token_matrix.specs.inside.RoundRows.{Table, row_at, HasEntry, UpTo, Small}
 use Rattle.token_matrix.proofs.Symbolic.{AreRows}
-use Rattle.token_matrix.proofs.Carrying.{IsLeft, left_token}
+use Rattle.token_matrix.proofs.Carrying.{IsLeft}
 use Rattle.token_matrix.proofs.Putters.{put_earlier}
 use Rattle.token_matrix.proofs.RowsSoFar.{IsNextRow, HasRowMore, row_on, row_new, counts_grow, cases_firing}
 use Rattle.token_matrix.proofs.OfGraph.{covers, matrix_carries}

@@ -19,14 +19,13 @@ use Rattle.sd_base.proofs.Sums.{total-zero}
 use Rattle.sd_base.proofs.Parts.{balanced}
 use Rattle.sd_base.proofs.Ends.{sum_to, sum_to-le}
 use Rattle.sd_base.proofs.FileNets.{net_of-lawful}
-use Rattle.token_matrix.specs.Stamps.{no_row, first_of}
+use Rattle.token_matrix.specs.Stamps.{no_row, first_of, left_token}
 use Rattle.token_matrix.specs.Matrices.{IsSquare, IsMatrix}
 use Rattle.token_matrix.specs.inside.LaterRows.{IsUnit}
 use Rattle.token_matrix.specs.inside.Lines.{line_at, HasOnePhase}
 use Rattle.token_matrix.specs.inside.RoundRows.{Table, Small, IsRowOf, AreTokens, StandsAfter, IsStart}
 use Rattle.token_matrix.specs.inside.Tokens.{AreFirstLines, AreHeld, AreLeftRows}
 use Rattle.token_matrix.proofs.Symbolic.{AreRows}
-use Rattle.token_matrix.proofs.Carrying.{left_token}
 use Rattle.token_matrix.proofs.OfGraph.{no_actor, channels-many, tokens-are, covers}
 use Rattle.token_matrix.proofs.RowsSoFar.{rows_none, rows_all}
 use Rattle.token_matrix.proofs.OneRow.{row_initial}

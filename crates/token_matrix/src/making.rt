@@ -195,8 +195,9 @@ fn first_line(alloc: Global, size: usize, first: usize, tokens: usize) -> Result
     Ok(line)
 }
 
-/// The number of the first shared token of the channel of a name.
-fn first_token(shared: &[SharedRow], name: &Text) -> u64
+/// The number of the first shared token of the channel of a name; tokens are numbered through the rows. Cost: linear in the
+/// rows.
+pub fn first_token(shared: &[SharedRow], name: &Text) -> u64
     requires { shared_count shared.now ≤ STAMPS }
     ensures { result ≡ first_token shared.now name.now }
 {
