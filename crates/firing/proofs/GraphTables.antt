@@ -5,7 +5,7 @@ use Rattle.std.proofs.lemmas.List.{map_push, take_more, take_all, at_drop_more, 
 use Rattle.sd_base.specs.declared.tables.GraphFile.{GraphFile}
 use Rattle.sd_base.specs.declared.tables.ActorRow.{ActorRow}
 use Rattle.sd_base.specs.declared.tables.ChannelRow.{ChannelRow}
-use Rattle.sd_base.specs.Tables.{KeepsRules, IsTimed}
+use Rattle.sd_base.specs.Tables.{KeepsRules, KeepsWideRules, IsTimed}
 use Rattle.sd_base.specs.Net.{Channel, Net, nowhere, file_channel, file_channels, IsRepetitionOf}
 use Rattle.sd_base.specs.Lawful.{Lawful}
 use Rattle.sd_base.specs.FileNet.{own_channel, gets_own, own_channels_from, net_of}
@@ -56,7 +56,7 @@ pub file-all : (g : GraphFile) (n : ℕ) → length g.channels ≤ n → take n 
 file-all g n past = take_all n (file_channels g) (rw (file-length 0 g.channels) past)
 
 -- tables that are the net of a file keep its laws
-pub lawful-as : (g : GraphFile) (gamma : List ℕ) (apart : Bool) (net : Net) → KeepsRules g → IsTimed g → IsRepetitionOf g gamma → sum gamma ≤ 100000 →
+pub lawful-as : (g : GraphFile) (gamma : List ℕ) (apart : Bool) (net : Net) → KeepsWideRules g → IsTimed g → IsRepetitionOf g gamma → sum gamma ≤ 100000 →
     net ≡ net_of g gamma apart → Lawful net
 lawful-as g gamma apart net rules timed gives small is = subst Lawful (sym is) (net_of-lawful g gamma apart rules timed gives small)
 

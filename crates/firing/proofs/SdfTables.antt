@@ -6,7 +6,7 @@ use Rattle.sd_base.specs.declared.tables.Kind.TheVariants.{Sdf}
 use Rattle.sd_base.specs.declared.tables.GraphFile.{GraphFile}
 use Rattle.sd_base.specs.declared.tables.ActorRow.{ActorRow}
 use Rattle.sd_base.specs.declared.tables.ChannelRow.{ChannelRow}
-use Rattle.sd_base.specs.Tables.{phases_of, KeepsRules, IsTimed}
+use Rattle.sd_base.specs.Tables.{phases_of, KeepsWideRules, IsTimed}
 use Rattle.sd_base.specs.Net.{nowhere, file_channels, IsRepetitionOf, total}
 use Rattle.sd_base.proofs.Sums.{total-zero, total-turn}
 use Rattle.sd_base.specs.Lawful.{Lawful}
@@ -16,24 +16,24 @@ use Rattle.firing.specs.declared.sdf.SdfChannel.{SdfChannel}
 use Rattle.firing.specs.Sdf.{plain_channel, plain_net}
 
 -- in a synchronous file each actor has one phase, and each port one rate
-pub one_phase : (g : GraphFile) → KeepsRules g → g.kind ≡ Sdf → All (λ (a : ActorRow). a.phases ≡ 1) g.actors
+pub one_phase : (g : GraphFile) → KeepsWideRules g → g.kind ≡ Sdf → All (λ (a : ActorRow). a.phases ≡ 1) g.actors
 one_phase g rules kind k d below = (rules.actors k d below).one_phase kind
 
-phase-read : (g : GraphFile) → KeepsRules g → g.kind ≡ Sdf → (a : ℕ) → a < length (phases_of g) → slice_index (phases_of g) a ≡ 1
+phase-read : (g : GraphFile) → KeepsWideRules g → g.kind ≡ Sdf → (a : ℕ) → a < length (phases_of g) → slice_index (phases_of g) a ≡ 1
 phase-read g rules kind a below =
     let nobody : ActorRow = record { name = []; phases = 0; times = [] } in
     let there : a < length g.actors = rw length-map at below in
     get_or-map (λ (r : ActorRow). r.phases) g.actors a nobody 0 there ∙ one_phase g rules kind a nobody there
 
-pub one_made : (g : GraphFile) → KeepsRules g → g.kind ≡ Sdf → All (λ (c : ChannelRow). length c.made ≡ 1) g.channels
+pub one_made : (g : GraphFile) → KeepsWideRules g → g.kind ≡ Sdf → All (λ (c : ChannelRow). length c.made ≡ 1) g.channels
 one_made g rules kind k d below =
     let row = rules.channels k d below in row.made.listed ∙ phase-read g rules kind (slice_index_or g.channels k d).source row.source
 
-pub one_taken : (g : GraphFile) → KeepsRules g → g.kind ≡ Sdf → All (λ (c : ChannelRow). length c.taken ≡ 1) g.channels
+pub one_taken : (g : GraphFile) → KeepsWideRules g → g.kind ≡ Sdf → All (λ (c : ChannelRow). length c.taken ≡ 1) g.channels
 one_taken g rules kind k d below =
     let row = rules.channels k d below in row.taken.listed ∙ phase-read g rules kind (slice_index_or g.channels k d).target row.target
 
-pub one_own : (g : GraphFile) → KeepsRules g → g.kind ≡ Sdf → All (λ (a : ActorRow). length {A = ℕ} (replicate a.phases 1) ≡ 1) g.actors
+pub one_own : (g : GraphFile) → KeepsWideRules g → g.kind ≡ Sdf → All (λ (a : ActorRow). length {A = ℕ} (replicate a.phases 1) ≡ 1) g.actors
 one_own g rules kind k d below = let many : length {A = ℕ} (replicate (slice_index_or g.actors k d).phases 1) ≡ (slice_index_or g.actors k d).phases = length-replicate {A = ℕ} (slice_index_or g.actors k d).phases 1 in
     many ∙ one_phase g rules kind k d below
 
@@ -44,7 +44,7 @@ pub plain-is : (g : GraphFile) (gamma : List ℕ) (apart : Bool) (times rounds :
 plain-is g gamma apart times rounds table at_times at_channels at_rounds = cc
 
 pub plain-lawful : (g : GraphFile) (gamma : List ℕ) (apart : Bool) (times rounds : List ℕ) (table : List SdfChannel) →
-    KeepsRules g → IsTimed g → IsRepetitionOf g gamma → sum gamma ≤ 100000 →
+    KeepsWideRules g → IsTimed g → IsRepetitionOf g gamma → sum gamma ≤ 100000 →
     map (λ t. t ∷ []) times ≡ map (λ (a : ActorRow). a.times) g.actors → map plain_channel table ≡ file_channels g ++ own_channels_from apart g.channels 0 g.actors → rounds ≡ gamma →
     Lawful (plain_net times table rounds)
 plain-lawful g gamma apart times rounds table rules timed gives small at_times at_channels at_rounds =

@@ -1,6 +1,6 @@
 //! The channels of a graph's net, in order, as a net keeps them.
 
-ghost use Rattle.std.specs.Prelude.{◌≡◌, ◌≤◌, ◌++◌, ℕ, List, All, IfOk, OnOk, length, map, replicate};
+ghost use Rattle.std.specs.Prelude.{◌≡◌, ◌*◌, ◌≤◌, ◌++◌, ℕ, List, All, IfOk, OnOk, length, map, replicate};
 ghost use Rattle.sd_base.specs.declared.limits.TheConstants.{CHANNELS, ACTORS};
 ghost use Rattle.sd_base.specs.declared.tables.ActorRow.{ActorRow};
 ghost use Rattle.sd_base.specs.declared.tables.ChannelRow.{ChannelRow};
@@ -39,7 +39,7 @@ pub(crate) fn net_channels<C: NetChannel + Drop>(
     requires made { All (λ (c : ChannelRow). C.Keeps c.made) graph.now.channels }
     requires taken { All (λ (c : ChannelRow). C.Keeps c.taken) graph.now.channels }
     requires own { All (λ (a : ActorRow). C.Keeps (replicate a.phases 1)) graph.now.actors }
-    requires few_channels { length graph.now.channels ≤ CHANNELS }
+    requires few_channels { length graph.now.channels ≤ 2 * CHANNELS }
     requires few_actors { length graph.now.actors ≤ ACTORS }
     ensures { IfOk result (λ v. map C.plain v.items ≡ file_channels graph.now ++ own_channels_from no_overlap graph.now.channels 0 graph.now.actors) }
 {
@@ -52,7 +52,7 @@ pub(crate) fn net_channels<C: NetChannel + Drop>(
 fn file_table<C: NetChannel + Drop>(alloc: Global, graph: &GraphFile) -> Result<Vec<C>, NoMemory>
     requires made { All (λ (c : ChannelRow). C.Keeps c.made) graph.now.channels }
     requires taken { All (λ (c : ChannelRow). C.Keeps c.taken) graph.now.channels }
-    requires few { length graph.now.channels ≤ CHANNELS }
+    requires few { length graph.now.channels ≤ 2 * CHANNELS }
     ensures { IfOk result (λ v. map C.plain v.items ≡ file_channels graph.now) }
 {
     let mut table = Vec::new(alloc);

@@ -4,7 +4,7 @@ ghost use Rattle.std.specs.Prelude.{◌≡◌, ◌≤◌, [], ◌∷◌, All, If
 ghost use Rattle.sd_base.specs.declared.limits.TheConstants.{ROUND};
 ghost use Rattle.sd_base.specs.declared.tables.Kind.TheVariants.{Sdf};
 ghost use Rattle.sd_base.specs.declared.tables.ActorRow.{ActorRow};
-ghost use Rattle.sd_base.specs.Tables.{KeepsRules, IsTimed};
+ghost use Rattle.sd_base.specs.Tables.{KeepsWideRules, IsTimed};
 ghost use Rattle.sd_base.specs.Net.{file_channel, IsRepetitionOf};
 ghost use Rattle.sd_base.specs.Lawful.{Lawful};
 ghost use Rattle.sd_base.specs.FileNet.{own_channel, net_of};
@@ -146,7 +146,7 @@ impl SdfNet {
         gamma: &[u64],
         no_overlap: bool,
     ) -> Result<SdfNet, NoMemory>
-        requires rules { KeepsRules graph.now }
+        requires rules { KeepsWideRules graph.now }
         requires kind { graph.now.kind ≡ Sdf }
         requires timed { IsTimed graph.now }
         requires gamma { IsRepetitionOf graph.now gamma.now }

@@ -8,7 +8,7 @@ use Rattle.sd_base.specs.declared.role.Role.TheVariants.{Token, Own}
 use Rattle.sd_base.specs.declared.tables.GraphFile.{GraphFile}
 use Rattle.sd_base.specs.declared.tables.ActorRow.{ActorRow}
 use Rattle.sd_base.specs.declared.tables.ChannelRow.{ChannelRow}
-use Rattle.sd_base.specs.Tables.{phases_of, ActorKeepsRules, ChannelKeepsRules, KeepsRules, IsTimed}
+use Rattle.sd_base.specs.Tables.{phases_of, ActorKeepsRules, ChannelKeepsRules, KeepsRules, KeepsWideRules, IsTimed}
 use Rattle.sd_base.specs.Net.{Channel, nowhere, channel_at, total, Balances, file_channel, file_channels_from, file_channels, IsRepetitionOf}
 use Rattle.sd_base.specs.Lawful.{is_file_channel, is_token_role, is_own, Lawful}
 use Rattle.sd_base.specs.FileNet.{own_channel, gets_own, own_channels_from, net_of}
@@ -162,13 +162,17 @@ record GoodChannel (times : List (List ℕ)) (c : Channel) : Type 0 where
   some_size : 1 ≤ c.size
   small_size : c.size ≤ 1000000
 
+-- a table as it stands is one with free spaces
+pub widened : (g : GraphFile) → KeepsRules g → KeepsWideRules g
+widened g rules = record { some_actor = rules.some_actor; few_actors = rules.few_actors; few_channels = omega (arith, rules.few_channels); actors = rules.actors; channels = rules.channels }
+
 nobody : ActorRow
 nobody = record { name = []; phases = 0; times = [] }
 
 pub nothing : ChannelRow
 nothing = record { name = []; source = 0; target = 0; made = []; taken = []; tokens = 0; size = 0 }
 
-module _ (g : GraphFile) (gamma : List ℕ) (apart : Bool) (rules : KeepsRules g) (timed : IsTimed g) (gives : IsRepetitionOf g gamma) (small : sum gamma ≤ 100000) where
+module _ (g : GraphFile) (gamma : List ℕ) (apart : Bool) (rules : KeepsWideRules g) (timed : IsTimed g) (gives : IsRepetitionOf g gamma) (small : sum gamma ≤ 100000) where
   files : List Channel
   files = file_channels g
 

@@ -1,5 +1,5 @@
 -- The rules and limits of a graph table on counts, places, lists and numbers.
-use Rattle.std.specs.Prelude.{◌≡◌, ℕ, ◌≤◌, ◌<◌, ◌⊎◌, List, length, map, sum, slice_index, All}
+use Rattle.std.specs.Prelude.{◌≡◌, ℕ, ◌*◌, ◌≤◌, ◌<◌, ◌⊎◌, List, length, map, sum, slice_index, All}
 use Rattle.sd_base.specs.declared.limits.TheConstants.{ACTORS, CHANNELS, PHASES, RATE, TIME, TOKENS, SIZE}
 use Rattle.sd_base.specs.declared.tables.Kind.{Kind}
 use Rattle.sd_base.specs.declared.tables.Kind.TheVariants.{Sdf}
@@ -45,6 +45,10 @@ pub record KeepsRulesWithin (most : ℕ) (g : GraphFile) : Type 0 where
 -- what holds of each table that a call takes
 abbrev pub KeepsRules : GraphFile → Type 0
 KeepsRules = KeepsRulesWithin CHANNELS
+
+-- what holds of such a table with a free space for some of its channels
+abbrev pub KeepsWideRules : GraphFile → Type 0
+KeepsWideRules = KeepsRulesWithin (2 * CHANNELS)
 
 -- each actor has its times
 abbrev pub IsTimed : GraphFile → Type 0

@@ -2,7 +2,7 @@
 ghost use Rattle.std.specs.Prelude.{◌≡◌, ℕ, ◌+◌, ◌≤◌, ◌<◌, ◌⊎◌, ◌↔◌, Bool, List, length, sum, slice_index};
 ghost use Rattle.sd_base.specs.declared.limits.TheConstants.{ROUND};
 ghost use Rattle.sd_base.specs.declared.tables.GraphFile.{GraphFile};
-ghost use Rattle.sd_base.specs.Tables.{KeepsRules, IsTimed};
+ghost use Rattle.sd_base.specs.Tables.{KeepsWideRules, IsTimed};
 ghost use Rattle.sd_base.specs.FileNet.{net_of};
 ghost use Rattle.sd_base.specs.Net.{Channel, Net, channel_at, IsRepetitionOf};
 ghost use Rattle.sd_base.specs.Lawful.{Lawful};
@@ -10,9 +10,10 @@ ghost use Rattle.sd_base.specs.Schedules.{Schedule, HasInputs, LastNeed, IsNeed,
 ghost use Rattle.sd_base.specs.SelfTimed.{earliest};
 ghost use Rattle.sd_base.specs.Untimed.{IsLive, Closed, Blocks, IsEnd};
 
-/// The net of a graph file that keeps its rules, with its repetition vector, keeps the laws of nets.
+/// The net of a graph file that keeps its rules, also with a free space for each channel, with its repetition vector, keeps
+/// the laws of nets.
 pub fn file_nets_are_lawful()
-    ensures { (g : GraphFile) (gamma : List ℕ) (no_overlap : Bool) → KeepsRules g → IsTimed g → IsRepetitionOf g gamma →
+    ensures { (g : GraphFile) (gamma : List ℕ) (no_overlap : Bool) → KeepsWideRules g → IsTimed g → IsRepetitionOf g gamma →
         sum gamma ≤ ROUND → Lawful (net_of g gamma no_overlap) }
 {}
 

@@ -7,7 +7,7 @@ use Rattle.sd_base.specs.declared.tables.GraphFile.{GraphFile}
 use Rattle.sd_base.specs.FileNet.{net_of}
 use Rattle.sd_base.specs.Lawful.{Lawful}
 use Rattle.sd_base.specs.Net.{channel_at}
-use Rattle.sd_base.proofs.FileNets.{net_of-lawful}
+use Rattle.sd_base.proofs.FileNets.{net_of-lawful, widened}
 use Rattle.sd_base.specs.Tables.{IsTimed, KeepsRules}
 use Rattle.balance.specs.Repetition.{IsRound}
 use Rattle.storage.specs.declared.distribution.Distribution.{Distribution}
@@ -51,7 +51,7 @@ file-spaceless graph gamma no_overlap = plain-no_spaces (net_of graph gamma no_o
 module _ (graph : GraphFile) (gamma : List ℕ) (no_overlap : Bool) (ds : List (Option ℕ)) (is : IsBounded graph gamma no_overlap ds) where
   pub lawful-bounded : Lawful (bound (net_of graph gamma no_overlap) ds)
   lawful-bounded =
-      bound-lawful (net_of graph gamma no_overlap) (net_of-lawful graph gamma no_overlap is.rules is.timed is.gives is.small) ds (file-spaceless graph gamma no_overlap) is.held
+      bound-lawful (net_of graph gamma no_overlap) (net_of-lawful graph gamma no_overlap (widened graph is.rules) is.timed is.gives is.small) ds (file-spaceless graph gamma no_overlap) is.held
       (bounded-few graph gamma no_overlap ds is.rules is.over)
 
   pub few-bounded : length (bound (net_of graph gamma no_overlap) ds).channels ≤ NET_CHANNELS

@@ -17,7 +17,7 @@ use Rattle.sd_base.specs.FileNet.{net_of}
 use Rattle.sd_base.specs.Lawful.{Lawful}
 use Rattle.sd_base.specs.Untimed.{IsLive, Fires, CanFire, none_fired, counts_after}
 use Rattle.sd_base.specs.Schedules.{HasInputs}
-use Rattle.sd_base.proofs.FileNets.{net_of-lawful}
+use Rattle.sd_base.proofs.FileNets.{net_of-lawful, widened}
 use Rattle.token_matrix.proofs.OfGraph.{inside}
 use Rattle.automaton.specs.TimedGraphs.{AreMatrices, AreSized}
 use Rattle.balance.specs.Repetition.{IsRound}
@@ -121,7 +121,7 @@ module _ (g : GraphFile) (gamma : List ℕ) (rules : KeepsRules g) (kind : g.kin
   net = net_of g gamma false
 
   lawful : Lawful net
-  lawful = net_of-lawful g gamma false rules timed round.least round.fits
+  lawful = net_of-lawful g gamma false (widened g rules) timed round.least round.fits
 
   abbrev HasToken : Type 0
   HasToken = (i : ℕ) × (i < length net.channels) × (1 ≤ (channel_at net i).tokens)
@@ -158,7 +158,7 @@ module _ (g : GraphFile) (gamma : List ℕ) (rules : KeepsRules g) (kind : g.kin
   pub some_shared : IsLive net → HasInputs net → 1 ≤ shared_count shared
   some_shared live inputs =
       let token = has-token live inputs in
-      let inside' = inside g gamma rules kind shared shares token.0 0 token.1 token.2 in
+      let inside' = inside g gamma (widened g rules) kind shared shares token.0 0 token.1 token.2 in
       omega (arith, inside')
 
 -- a measured file shares some token

@@ -2,19 +2,15 @@
 use Rattle.std.proofs.Common.{◌≡◌, ℕ, ◌+◌, ◌≤◌, ◌<◌, ◌↔◌, List, [], length, Option, Some, sym, subst, ◌∙◌, inl, inr, arith}
 use Rattle.std.specs.Prelude.{slice_index, slice_index_or}
 use Rattle.std.proofs.lemmas.List.{length-map}
-use Rattle.sd_base.specs.Net.{Net, channel_at, total}
+use Rattle.sd_base.specs.Net.{Net, channel_at}
 use Rattle.sd_base.specs.Lawful.{Lawful}
 use Rattle.sd_base.specs.Untimed.{IsRoundOrder}
-use Rattle.token_matrix.specs.Stamps.{HasStamp, AreStamps}
+use Rattle.token_matrix.specs.Stamps.{HasStamp, AreStamps, left_token}
 use Rattle.token_matrix.specs.Matrices.{apply_row, applied, entry_at}
 use Rattle.token_matrix.specs.inside.RoundRows.{Table, HasEntry}
 use Rattle.token_matrix.proofs.Rows.{row-least, row-gives, Gives, applied-at}
 use Rattle.token_matrix.proofs.Symbolic.{AreRows, starts_by, are_starts, stamp_entry, entry_stamp}
 use Rattle.token_matrix.proofs.OneRound.{Covers, one_stamps}
-
--- the number of a token that is left on a shared channel after a round
-abbrev pub left_token : Net → ℕ → ℕ → ℕ
-left_token net i k = total (channel_at net i).taken (slice_index net.round (channel_at net i).target) + k
 
 -- the matrix has for each shared token the row of the token that is left in its place
 pub record IsLeft (net : Net) (first : ℕ → ℕ) (count : ℕ) (rows : Table) (matrix : List (List (Option ℕ))) : Type 0 where

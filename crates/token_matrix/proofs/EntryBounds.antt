@@ -6,7 +6,7 @@ use Rattle.std.proofs.lemmas.List.{take_all}
 use Rattle.std.proofs.lemmas.List.Sums.{sum_by_more}
 use Rattle.sd_base.specs.declared.tables.Kind.TheVariants.{Sdf}
 use Rattle.sd_base.specs.declared.tables.GraphFile.{GraphFile}
-use Rattle.sd_base.specs.Tables.{KeepsRules, IsTimed}
+use Rattle.sd_base.specs.Tables.{KeepsWideRules, IsTimed}
 use Rattle.sd_base.specs.Net.{Net, channel_at, total, IsRepetitionOf}
 use Rattle.sd_base.specs.Schedules.{time_of}
 use Rattle.sd_base.specs.Lawful.{Lawful}
@@ -21,11 +21,11 @@ use Rattle.sd_base.proofs.FileNets.{net_of-lawful}
 use Rattle.sd_base.specs.declared.tables.SharedRow.{SharedRow}
 use Rattle.sd_base.specs.declared.limits.TheConstants.{TIME, ROUND}
 use Rattle.sd_base.specs.Scenarios.{shared_count, Shares}
-use Rattle.token_matrix.specs.Stamps.{first_of}
+use Rattle.token_matrix.specs.Stamps.{first_of, left_token}
 use Rattle.token_matrix.specs.Matrices.{entry_at, IsMatrix}
 use Rattle.token_matrix.specs.inside.RoundRows.{Table, row_at, HasEntry, UpTo, Small}
 use Rattle.token_matrix.proofs.Symbolic.{AreRows}
-use Rattle.token_matrix.proofs.Carrying.{IsLeft, left_token}
+use Rattle.token_matrix.proofs.Carrying.{IsLeft}
 use Rattle.token_matrix.proofs.Putters.{put_earlier}
 use Rattle.token_matrix.proofs.RowsSoFar.{IsNextRow, HasRowMore, row_on, row_new, counts_grow, cases_firing}
 use Rattle.token_matrix.proofs.OfGraph.{covers, matrix_carries}
@@ -128,7 +128,7 @@ module _ (net : Net) (laws : Lawful net) (first : ℕ → ℕ) (count : ℕ) (ro
       absurd (let no : ⊥ = omega (arith, is) in no)
 
 -- rows by firing and the rows that are left make the matrix of a scenario's graph
-pub is_matrix : (shared : List SharedRow) (g : GraphFile) (gamma : List ℕ) → KeepsRules g → g.kind ≡ Sdf → Shares shared g → IsTimed g → IsRepetitionOf g gamma → sum gamma ≤ ROUND
+pub is_matrix : (shared : List SharedRow) (g : GraphFile) (gamma : List ℕ) → KeepsWideRules g → g.kind ≡ Sdf → Shares shared g → IsTimed g → IsRepetitionOf g gamma → sum gamma ≤ ROUND
     → (order : List ℕ) → IsRoundOrder (net_of g gamma false) order → (rows : Table) (matrix : List (List (Option ℕ)))
     → Small (net_of g gamma false) rows (slice_index gamma)
     → AreRows (net_of g gamma false) (first_of shared g) (shared_count shared) rows → IsLeft (net_of g gamma false) (first_of shared g) (shared_count shared) rows matrix

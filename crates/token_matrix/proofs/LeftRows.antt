@@ -11,7 +11,8 @@ use Rattle.token_matrix.specs.inside.RoundRows.{Table, row_at, HasEntry, IsRowOf
 use Rattle.token_matrix.proofs.Putters.{one_putter, putter}
 use Rattle.token_matrix.proofs.OneRound.{Covers}
 use Rattle.token_matrix.proofs.Symbolic.{AreRows}
-use Rattle.token_matrix.proofs.Carrying.{IsLeft, left_token}
+use Rattle.token_matrix.specs.Stamps.{left_token}
+use Rattle.token_matrix.proofs.Carrying.{IsLeft}
 
 module _ (net : Net) (first : ℕ → ℕ) (rows : Table) where
   -- a token has one entry in a column

@@ -1,4 +1,5 @@
 pub mod Rows
+pub mod Spikes
 pub mod OneMatrix
 pub mod Putters
 pub mod OneRound
@@ -19,3 +20,10 @@ pub mod Moving
 pub mod FirstLines
 pub mod LeftTokens
 pub mod MatrixOf
+pub mod ChainStamps
+pub mod WayStamps
+pub mod EntryWays
+pub mod Bests
+pub mod RoundStarts
+pub mod StampsExist
+pub mod GraphWays

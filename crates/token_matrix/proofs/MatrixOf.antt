@@ -8,7 +8,7 @@ use Rattle.sd_base.specs.declared.tables.Kind.TheVariants.{Sdf}
 use Rattle.sd_base.specs.declared.tables.GraphFile.{GraphFile}
 use Rattle.sd_base.specs.declared.tables.ActorRow.{ActorRow}
 use Rattle.sd_base.specs.declared.tables.SharedRow.{SharedRow}
-use Rattle.sd_base.specs.Tables.{KeepsRules, IsTimed}
+use Rattle.sd_base.specs.Tables.{KeepsWideRules, IsTimed}
 use Rattle.sd_base.specs.Net.{Net, channel_at, total, IsRepetitionOf}
 use Rattle.sd_base.specs.Schedules.{HasInputs}
 use Rattle.sd_base.specs.Lawful.{Lawful}
@@ -19,21 +19,20 @@ use Rattle.sd_base.proofs.Sums.{total-zero}
 use Rattle.sd_base.proofs.Parts.{balanced}
 use Rattle.sd_base.proofs.Ends.{sum_to, sum_to-le}
 use Rattle.sd_base.proofs.FileNets.{net_of-lawful}
-use Rattle.token_matrix.specs.Stamps.{no_row, first_of}
+use Rattle.token_matrix.specs.Stamps.{no_row, first_of, left_token}
 use Rattle.token_matrix.specs.Matrices.{IsSquare, IsMatrix}
 use Rattle.token_matrix.specs.inside.LaterRows.{IsUnit}
 use Rattle.token_matrix.specs.inside.Lines.{line_at, HasOnePhase}
 use Rattle.token_matrix.specs.inside.RoundRows.{Table, Small, IsRowOf, AreTokens, StandsAfter, IsStart}
 use Rattle.token_matrix.specs.inside.Tokens.{AreFirstLines, AreHeld, AreLeftRows}
 use Rattle.token_matrix.proofs.Symbolic.{AreRows}
-use Rattle.token_matrix.proofs.Carrying.{left_token}
 use Rattle.token_matrix.proofs.OfGraph.{no_actor, channels-many, tokens-are, covers}
 use Rattle.token_matrix.proofs.RowsSoFar.{rows_none, rows_all}
 use Rattle.token_matrix.proofs.OneRow.{row_initial}
 use Rattle.token_matrix.proofs.LeftRows.{is_left}
 use Rattle.token_matrix.proofs.EntryBounds.{is_matrix}
 
-module _ (shared : List SharedRow) (g : GraphFile) (gamma : List ℕ) (rules : KeepsRules g) (kind : g.kind ≡ Sdf) (shares : Shares shared g) (timed : IsTimed g) (gives : IsRepetitionOf g gamma) (small : sum gamma ≤ ROUND)
+module _ (shared : List SharedRow) (g : GraphFile) (gamma : List ℕ) (rules : KeepsWideRules g) (kind : g.kind ≡ Sdf) (shares : Shares shared g) (timed : IsTimed g) (gives : IsRepetitionOf g gamma) (small : sum gamma ≤ ROUND)
     (order : List ℕ) (round : IsRoundOrder (net_of g gamma false) order) where
   abbrev net : Net
   net = net_of g gamma false

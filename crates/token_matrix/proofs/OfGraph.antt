@@ -5,7 +5,7 @@ use Rattle.sd_base.specs.declared.tables.Kind.TheVariants.{Sdf}
 use Rattle.sd_base.specs.declared.tables.GraphFile.{GraphFile}
 use Rattle.sd_base.specs.declared.tables.ActorRow.{ActorRow}
 use Rattle.sd_base.specs.declared.tables.ChannelRow.{ChannelRow}
-use Rattle.sd_base.specs.Tables.{KeepsRules, IsTimed}
+use Rattle.sd_base.specs.Tables.{KeepsWideRules, IsTimed}
 use Rattle.sd_base.specs.Net.{Channel, nowhere, channel_at, file_channels, IsRepetitionOf}
 use Rattle.sd_base.specs.FileNet.{own_channels_from, net_of}
 use Rattle.sd_base.specs.Untimed.{IsRoundOrder}
@@ -32,7 +32,7 @@ no_own channels a (r ∷ rows) ones =
     let rest : own_channels_from false channels (suc a) rows ≡ [] = no_own channels (suc a) rows (λ k d below. ones (suc k) d (omega arith)) in
     rw (one, rest) refl
 
-module _ (g : GraphFile) (gamma : List ℕ) (rules : KeepsRules g) (kind : g.kind ≡ Sdf) where
+module _ (g : GraphFile) (gamma : List ℕ) (rules : KeepsWideRules g) (kind : g.kind ≡ Sdf) where
   pub channels-are : (net_of g gamma false).channels ≡ file_channels g
   channels-are = rw (no_own g.channels 0 g.actors (λ k d below. (rules.actors k d below).one_phase kind)) (append-nil (file_channels g))
 

@@ -1,4 +1,6 @@
 pub mod Stamps
+pub mod Ways
 pub mod Matrices
+pub mod EntryWays
 pub mod MatrixRefusals
 pub mod inside

@@ -48,6 +48,10 @@ pub record AreRoundStarts (net : Net) (first : ℕ → ℕ) (x : List ℕ) (star
       (i : ℕ) × (m : ℕ) × (i < length net.channels) × ((channel_at net i).target ≡ a)
       × IsTakenBy (channel_at net i) m j × HasStamp net first x starts i m (start_of starts a j)
 
+-- the number of the token that is left as token k of channel i after a round
+abbrev pub left_token : Net → ℕ → ℕ → ℕ
+left_token net i k = total (channel_at net i).taken (slice_index net.round (channel_at net i).target) + k
+
 -- x and y are the stamps of the shared tokens before and after one round
 pub record AreStamps (net : Net) (first : ℕ → ℕ) (count : ℕ) (x y : List ℕ) : Type 0 where
   pub before : length x ≡ count
@@ -55,7 +59,7 @@ pub record AreStamps (net : Net) (first : ℕ → ℕ) (count : ℕ) (x y : List
   pub starts : Schedule
   pub round : AreRoundStarts net first x starts
   pub left : (i k : ℕ) → i < length net.channels → k < (channel_at net i).tokens →
-      HasStamp net first x starts i (total (channel_at net i).taken (slice_index net.round (channel_at net i).target) + k) (slice_index y (first i + k))
+      HasStamp net first x starts i (left_token net i k) (slice_index y (first i + k))
 
 -- the same of a scenario's graph with its repetition vector
 abbrev pub AreStampsOf : List SharedRow → GraphFile → List ℕ → List ℕ → List ℕ → Type 0

@@ -9,6 +9,6 @@ mod making;
 mod matrix;
 mod round;
 
-pub use laws::matrices_are_one;
-pub use making::{MatrixError, matrix_of};
+pub use laws::{entries_are_longest_ways, matrices_are_one};
+pub use making::{MatrixError, first_token, matrix_of};
 pub use matrix::Matrix;

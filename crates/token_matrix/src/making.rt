@@ -2,7 +2,7 @@
 ghost use Rattle.std.specs.Prelude.{◌≡◌, ◌≤◌, ◌<◌, ◌+◌, ◌*◌, ℕ, false, IfOk, IfErr, OnOk, MatchOption, length, sum};
 ghost use Rattle.sd_base.specs.declared.limits.TheConstants.{ROUND, STAMPS};
 ghost use Rattle.sd_base.specs.declared.tables.Kind.TheVariants.{Sdf};
-ghost use Rattle.sd_base.specs.Tables.{KeepsRules, IsTimed};
+ghost use Rattle.sd_base.specs.Tables.{KeepsWideRules, IsTimed};
 ghost use Rattle.sd_base.specs.Net.{IsRepetitionOf};
 ghost use Rattle.sd_base.specs.FileNet.{net_of};
 ghost use Rattle.sd_base.specs.Schedules.{HasInputs};
@@ -61,7 +61,7 @@ pub fn matrix_of(
     gamma: &[u64],
     shared: &[SharedRow],
 ) -> Result<Matrix, MatrixError>
-    requires rules { KeepsRules graph.now }
+    requires rules { KeepsWideRules graph.now }
     requires kind { graph.now.kind ≡ Sdf }
     requires timed { IsTimed graph.now }
     requires gamma { IsRepetitionOf graph.now gamma.now }
@@ -99,7 +99,7 @@ fn matrix_by(
     net: &SdfNet,
     order: &[u32],
 ) -> Result<Matrix, NoMemory>
-    requires rules { KeepsRules graph.now }
+    requires rules { KeepsWideRules graph.now }
     requires kind { graph.now.kind ≡ Sdf }
     requires timed { IsTimed graph.now }
     requires gamma { IsRepetitionOf graph.now gamma.now }
@@ -195,8 +195,9 @@ fn first_line(alloc: Global, size: usize, first: usize, tokens: usize) -> Result
     Ok(line)
 }
 
-/// The number of the first shared token of the channel of a name.
-fn first_token(shared: &[SharedRow], name: &Text) -> u64
+/// The number of the first shared token of the channel of a name; tokens are numbered through the rows. Cost: linear in the
+/// rows.
+pub fn first_token(shared: &[SharedRow], name: &Text) -> u64
     requires { shared_count shared.now ≤ STAMPS }
     ensures { result ≡ first_token shared.now name.now }
 {

@@ -1,3 +1,4 @@
+use Rattle.sd_base.proofs.FileNets.{widened}
 use Rattle.sd_laws.specs.Endings.{DueIsOne}
 use Rattle.sd_laws.proofs.SharedSteps.{FileLaws}
 use Rattle.sd_laws.proofs.Commands.{course_decides}
@@ -27,7 +28,7 @@ laws c = record {
   either = c.know_files.ensures.either;
   keeps = c.know_files.ensures.keeps;
   timed = c.know_files.ensures.timed;
-  lawful = c.file_nets_are_lawful.ensures;
+  lawful = λ g gamma no_overlap rules. c.file_nets_are_lawful.ensures g gamma no_overlap (widened g rules);
   nets = record {
     ends = c.ending_counts_are_one.ensures.one;
     live = c.blocking_counts_bound_each_schedule.ensures.live;
