@@ -4,7 +4,8 @@ use Rattle.std.specs.Prelude.{slice_get}
 use Rattle.std.specs.List.{flat_map}
 use Rattle.std.proofs.Math.Seq.{drop-cons}
 use Rattle.std.proofs.lemmas.List.{append_assoc}
-use Rattle.sd_base.specs.declared.tables.ScenarioFile.{ScenarioFile}
+use Rattle.sd_base.specs.declared.tables.SharedRow.{SharedRow}
+use Rattle.sd_base.specs.declared.tables.StateRow.{StateRow}
 use Rattle.automaton.specs.declared.graph.Edge.{Edge}
 use Rattle.automaton.specs.declared.graph.TimedGraph.{TimedGraph}
 use Rattle.automaton.specs.CriticalCycles.{weight_in, weights}
@@ -21,16 +22,16 @@ weights-more es ks i t w total below is kept =
     omega (arith, split, kept)
 
 -- the header of a cycle, and all its lines
-pub cycle-end : (file : ScenarioFile) (graph : TimedGraph) (cycle : List ℕ) (es : List Edge) (time i : ℕ) (start headed text : List ℕ) → es ≡ graph.edges → time ≡ weights es cycle → length cycle ≤ i
-    → headed ≡ start ++ worst_header file graph time (length cycle) (get_or es (get_or cycle 0 0) no_edge) → text ≡ headed ++ flat_map (edge_on file graph) (take i cycle) → text ≡ start ++ worst_cycle_lines file graph cycle
+pub cycle-end : (states : List StateRow) (shared : List SharedRow) (graph : TimedGraph) (cycle : List ℕ) (es : List Edge) (time i : ℕ) (start headed text : List ℕ) → es ≡ graph.edges → time ≡ weights es cycle → length cycle ≤ i
+    → headed ≡ start ++ worst_header states shared graph time (length cycle) (get_or es (get_or cycle 0 0) no_edge) → text ≡ headed ++ flat_map (edge_on states shared graph) (take i cycle) → text ≡ start ++ worst_cycle_lines states shared graph cycle
 unfolding worst_cycle_lines
-cycle-end file graph cycle es time i start headed text same time_is past is kept =
-    let lines = flat_map (edge_on file graph) cycle in
-    let header : worst_header file graph time (length cycle) (get_or es (get_or cycle 0 0) no_edge) ≡ worst_header file graph (weights graph.edges cycle) (length cycle) (edge_at graph (get_or cycle 0 0)) =
-    ap₂ (λ t e. worst_header file graph t (length cycle) e) (time_is ∙ ap (λ xs. weights xs cycle) same) (ap (λ xs. get_or xs (get_or cycle 0 0) no_edge) same) in
-    flat_end (edge_on file graph) headed text cycle i past kept
+cycle-end states shared graph cycle es time i start headed text same time_is past is kept =
+    let lines = flat_map (edge_on states shared graph) cycle in
+    let header : worst_header states shared graph time (length cycle) (get_or es (get_or cycle 0 0) no_edge) ≡ worst_header states shared graph (weights graph.edges cycle) (length cycle) (edge_at graph (get_or cycle 0 0)) =
+    ap₂ (λ t e. worst_header states shared graph t (length cycle) e) (time_is ∙ ap (λ xs. weights xs cycle) same) (ap (λ xs. get_or xs (get_or cycle 0 0) no_edge) same) in
+    flat_end (edge_on states shared graph) headed text cycle i past kept
     ∙ ap (λ l. l ++ lines) (is ∙ ap (λ h. start ++ h) header)
-    ∙ append_assoc start (worst_header file graph (weights graph.edges cycle) (length cycle) (edge_at graph (get_or cycle 0 0))) lines
+    ∙ append_assoc start (worst_header states shared graph (weights graph.edges cycle) (length cycle) (edge_at graph (get_or cycle 0 0))) lines
 
 -- four pieces one after another
 four : (empty a b c d one two three text : List ℕ) → empty ≡ [] → one ≡ empty ++ a → two ≡ one ++ b → three ≡ two ++ c → text ≡ three ++ d → text ≡ a ++ (b ++ (c ++ d))
@@ -38,10 +39,10 @@ four empty a b c d one two three text none first second third fourth =
     fourth ∙ ap (λ l. l ++ d) (third ∙ ap (λ l. l ++ c) (second ∙ ap (λ l. l ++ b) (first ∙ ap (λ l. l ++ a) none)))
     ∙ append_assoc (a ++ b) c d ∙ append_assoc a b (c ++ d)
 
-pub worst-end : (file : ScenarioFile) (graph : TimedGraph) (worst : Worst) (empty rated cycled counted text : List ℕ) (count : ℕ) → empty ≡ [] → rated ≡ empty ++ worst_rate_line worst.rate.num worst.rate.den
-    → cycled ≡ rated ++ worst_cycle_lines file graph worst.cycle → counted ≡ cycled ++ potentials_header count → count ≡ potential_count worst.potentials
-    → text ≡ counted ++ potential_lines file graph.tokens 0 worst.potentials → text ≡ worst_lines file graph worst
+pub worst-end : (states : List StateRow) (shared : List SharedRow) (graph : TimedGraph) (worst : Worst) (empty rated cycled counted text : List ℕ) (count : ℕ) → empty ≡ [] → rated ≡ empty ++ worst_rate_line worst.rate.num worst.rate.den
+    → cycled ≡ rated ++ worst_cycle_lines states shared graph worst.cycle → counted ≡ cycled ++ potentials_header count → count ≡ potential_count worst.potentials
+    → text ≡ counted ++ potential_lines states shared graph.tokens 0 worst.potentials → text ≡ worst_lines states shared graph worst
 unfolding worst_lines
-worst-end file graph worst empty rated cycled counted text count none first second third count_is fourth =
-    four empty (worst_rate_line worst.rate.num worst.rate.den) (worst_cycle_lines file graph worst.cycle) (potentials_header (potential_count worst.potentials)) (potential_lines file graph.tokens 0 worst.potentials)
+worst-end states shared graph worst empty rated cycled counted text count none first second third count_is fourth =
+    four empty (worst_rate_line worst.rate.num worst.rate.den) (worst_cycle_lines states shared graph worst.cycle) (potentials_header (potential_count worst.potentials)) (potential_lines states shared graph.tokens 0 worst.potentials)
     rated cycled counted text none first second (third ∙ ap (λ n. cycled ++ potentials_header n) count_is) fourth

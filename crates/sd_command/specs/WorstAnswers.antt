@@ -39,7 +39,7 @@ IsOfWorst graph worst c = (s : ScenarioCertificate) × (c ≡ certificates.Scena
 pub record IsWorstAnswer (file : ScenarioFile) (graph : TimedGraph) (certificate : Option (List ℕ)) (answer : Answer) (n : ℕ) : Type 0 where
   pub worst : Worst
   pub is : IsShown file graph worst
-  pub text : answer.text ≡ worst_lines file graph worst
+  pub text : answer.text ≡ worst_lines file.states file.shared graph worst
   pub put : Certifies certificate (IsOfWorst graph worst) answer.put
   pub none : n ≡ 0
 

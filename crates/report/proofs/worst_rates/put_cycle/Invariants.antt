@@ -5,4 +5,4 @@ use Rattle.report.specs.WorstTexts.{edge_on}
 use Rattle.report.proofs.worst_rates.put_cycle.Given as goal
 
 abbrev pub invariant-loop-k : goal.invariant-loop-k
-invariant-loop-k l = string_bytes l.text ≡ string_bytes l.initial.text ++ flat_map (edge_on l.file l.graph) (take l.k-index l.cycle)
+invariant-loop-k l = string_bytes l.text ≡ string_bytes l.initial.text ++ flat_map (edge_on l.nodes.states.now l.nodes.shared.now l.graph) (take l.k-index l.cycle)
