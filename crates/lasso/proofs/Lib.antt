@@ -22,3 +22,4 @@ pub mod RowLoops
 pub mod Totals
 pub mod FirstDue
 pub mod Known
+pub mod Apart

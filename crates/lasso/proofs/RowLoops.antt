@@ -1,7 +1,7 @@
 -- The loop that rows of starts show.
 use Rattle.std.proofs.Common.{◌≡◌, ◌≢◌, ◌↔◌, ℕ, suc, ◌+◌, ◌-◌, ◌*◌, ◌%◌, ◌^◌, ◌≤◌, ◌<◌, ◌⊎◌, Bool, List, [], length, IsTrue, inl, inr, ⊎_elim, subst, sym, ap, ◌∙◌, arith}
 use Rattle.std.specs.Prelude.{slice_index, slice_index_or}
-use Rattle.std.proofs.Math.Nat.{add-mul, mul-le-mul_right, one-le-mul}
+use Rattle.std.proofs.Math.Nat.{mul-le-mul_right, one-le-mul}
 use Rattle.std.proofs.lemmas.Bool.{cases_lt}
 use Rattle.sd_base.specs.Net.{Net}
 use Rattle.sd_base.specs.Schedules.{HasInputs, Schedule, count_of, start_of, end_of, phases_at, time_of}
@@ -16,8 +16,8 @@ use Rattle.sd_base.proofs.Alike.{count-rises}
 use Rattle.sd_base.proofs.Returns.{rounds, repeats-rounds, at-least_one}
 use Rattle.lasso.specs.inside.Collecting.{AreStarts}
 use Rattle.lasso.specs.inside.Entering.{Ascend, AreBy, IsRowSettled, Recurs}
-use Rattle.lasso.specs.inside.Showing.{Differ, IsFirstDoubled, IsFirstEnd, IsFirstEvent, SettlesFrom, took}
-use Rattle.lasso.proofs.Recurring.{again-shape, apart-event, apart-same, apart-least}
+use Rattle.lasso.specs.inside.Showing.{AreBothAfter, Differ, IsFirstDoubled, IsFirstEnd, IsFirstEvent, SettlesFrom}
+use Rattle.lasso.proofs.Recurring.{apart-event, apart-same, apart-least}
 use Rattle.lasso.proofs.Settling.{started-by, start-kept, settled-same}
 use Rattle.lasso.proofs.Entered.{row-count, row-start, count-by, rows-settle, same-over}
 use Rattle.lasso.proofs.RowsSettle.{settled-later}
@@ -166,8 +166,7 @@ doubled-next net from period until later event none is soon again = record {
 
 -- ---- from two moments with some rounds of starts between them to the loop
 
-module _ (net : Net) (laws : Lawful net) (fed : HasInputs net) (connected : IsConnected net) (r t rounds_between : ℕ) (later : r < t) (some_rounds : 1 ≤ rounds_between) (starts : Schedule) (have : AreStarts net t starts)
-    (differ : (k : ℕ) → 1 ≤ k → k < rounds_between → Differ net starts k) where
+module _ (net : Net) (laws : Lawful net) (fed : HasInputs net) (connected : IsConnected net) (r t rounds_between : ℕ) (later : r < t) (some_rounds : 1 ≤ rounds_between) (starts : Schedule) (have : AreStarts net t starts) where
   -- between events of equal shapes there is some number of rounds
   module _ (x y : ℕ) (less : x < y) (same : shape_at net x ≡ shape_at net y) where
     abbrev turns : ℕ
@@ -186,7 +185,8 @@ module _ (net : Net) (laws : Lawful net) (fed : HasInputs net) (connected : IsCo
     turns-some = at-least_one net laws fed x y less same connected
 
   -- from one moment on all is settled, and another one is the first event from there on that is one a period later too
-  module _ (from e : ℕ) (settles : SettlesFrom net starts rounds_between r t from) (doubled : IsFirstDoubled net from (t - r) r e) where
+  module _ (from e : ℕ) (settles : SettlesFrom net starts rounds_between r t from) (doubled : IsFirstDoubled net from (t - r) r e)
+      (differ : (k : ℕ) → 1 ≤ k → k < rounds_between → Differ net starts e k) where
     row-recurs : (a : ℕ) → a < length net.times → Recurs net a (slice_index_or starts a []) r (t - r) (rounds_between * slice_index net.round a)
     row-recurs a actor = record {
       before = count_of starts a - rounds_between * slice_index net.round a;
@@ -218,138 +218,88 @@ module _ (net : Net) (laws : Lawful net) (fed : HasInputs net) (connected : IsCo
     ahead : e < e + (t - r)
     ahead = omega arith
 
-    across : (a : ℕ) → a < length net.times → count_of (earliest net (t + 1)) a ≡ count_of (earliest net (r + 1)) a + rounds_between * slice_index net.round a
-    across a actor = omega (arith, have.all a actor, round-between a actor, count-rises net (regular net laws) fed (r + 1) (t + 1) (omega arith) a)
+    -- where the shape of the entry comes again, each firing after it starts as long after the one so many rounds before it
+    module _ (x : ℕ) (less : e < x) (same : shape_at net e ≡ shape_at net x) (a j : ℕ) (both : AreBothAfter net starts e (turns e x less same) a j) where
+      abbrev v : ℕ
+      v = turns e x less same * slice_index net.round a
+
+      abbrev count : ℕ → ℕ
+      count y = count_of (earliest net (y + 1)) a
+
+      abbrev start : ℕ → ℕ
+      start k = start_of (earliest net (suc t)) a k
+
+      up : (y : ℕ) → y + 1 ≡ suc y
+      up y = omega arith
+
+      by-start : (k : ℕ) → k < count t → k < count (start k)
+      by-start k there =
+          let soon : start k ≤ t = omega (arith, (early_at net (regular net laws) fed (suc t)).before a k (rw (up t) at there)) in
+          rw (up (start k)) (started-by net laws fed (start k) t a k soon (rw (up t) at there) (omega arith))
+
+      start-by : (y k : ℕ) → y ≤ t → k < count y → start k ≤ y
+      start-by y k le there =
+          let here : k < count_of (earliest net (suc y)) a = rw (up y) at there in
+          let soon : start_of (earliest net (suc y)) a k < suc y = (early_at net (regular net laws) fed (suc y)).before a k here in
+          omega (arith, (start-kept net laws fed y t a k le here).1)
+
+      number : count_of starts a ≡ count t
+      number = have.all a both.is_actor
+
+      read : (k : ℕ) → k < count_of starts a → start_of starts a k ≡ start k
+      read k there = row-start net laws fed t starts have a k both.is_actor there
+
+      there-last : j < count t
+      there-last = omega (arith, number, both.within)
+
+      there-first : j - v < count t
+      there-first = omega (arith, there-last)
+
+      late : e < start (j - v)
+      late = omega (arith, both.late, read (j - v) (omega (arith, both.within)))
+
+      soon-last : start j ≤ t
+      soon-last = start-by t j (omega arith) there-last
+
+      soon-first : start (j - v) ≤ t
+      soon-first = start-by t (j - v) (omega arith) there-first
+
+      at-least : start (j - v) + (x - e) ≤ start j
+      at-least = ⊎_elim
+          (λ (early : start j < start (j - v) + (x - e)). absurd (
+          let one : x + (start (j - v) - 1 - e) ≡ start (j - v) - 1 + (x - e) = omega (arith, late) in
+          let other : e + (start (j - v) - 1 - e) ≡ start (j - v) - 1 = omega (arith, late) in
+          let more : count (start (j - v) - 1 + (x - e)) ≡ count (start (j - v) - 1) + v = rw one at (rw other at (turns-on e x less same (start (j - v) - 1 - e) a)) in
+          let rises : count (start j) ≤ count (start (j - v) - 1 + (x - e)) = count-rises net (regular net laws) fed (start j + 1) (start (j - v) - 1 + (x - e) + 1) (omega (arith, late)) a in
+          let before : j - v < count (start (j - v) - 1) = omega (arith, by-start j there-last, rises, more, both.back) in
+          omega (arith, start-by (start (j - v) - 1) (j - v) (omega (arith, soon-first)) before, late)))
+          (λ (h : start (j - v) + (x - e) ≤ start j). h)
+          (cases_lt (start j) (start (j - v) + (x - e)))
+
+      at-most : start j ≤ start (j - v) + (x - e)
+      at-most =
+          let one : x + (start (j - v) - e) ≡ start (j - v) + (x - e) = omega (arith, late) in
+          let other : e + (start (j - v) - e) ≡ start (j - v) = omega (arith, late) in
+          let more : count (start (j - v) + (x - e)) ≡ count (start (j - v)) + v = rw one at (rw other at (turns-on e x less same (start (j - v) - e) a)) in
+          start-by (start (j - v) + (x - e)) j (omega (arith, at-least, soon-last)) (omega (arith, by-start (j - v) there-first, more, both.back))
+
+      apart-is : start_of starts a (j - v) + (x - e) ≡ start_of starts a j
+      apart-is = omega (arith, read j both.within, read (j - v) (omega (arith, both.within)), at-least, at-most)
 
     some-fire : (a : ℕ) → a < length net.times → 1 ≤ slice_index net.round a
     some-fire a actor = (balanced net laws).fires a actor
 
-    -- no shape like the last one stood fewer rounds before: the last rounds would take all actors as long
-    module _ (x : ℕ) (less : x < t) (same : shape_at net x ≡ shape_at net t) (fewer : turns x t less same < rounds_between) (some : 1 ≤ turns x t less same) where
-      abbrev k : ℕ
-      k = turns x t less same
-
-      abbrev m : ℕ
-      m = rounds_between - k
-
-      module _ (a : ℕ) (actor : a < length net.times) where
-        abbrev count : ℕ → ℕ
-        count y = count_of (earliest net (y + 1)) a
-
-        both : rounds_between * slice_index net.round a ≡ k * slice_index net.round a + m * slice_index net.round a
-        both = let e : rounds_between ≡ k + m = omega arith in ap (λ (n : ℕ). n * slice_index net.round a) e ∙ add-mul k m (slice_index net.round a)
-
-        some-k : 1 ≤ k * slice_index net.round a
-        some-k = one-le-mul some (some-fire a actor)
-
-        some-m : 1 ≤ m * slice_index net.round a
-        some-m = one-le-mul (omega arith) (some-fire a actor)
-
-        inside : r < x
-        inside = ⊎_elim
-            (λ (h : r < x). h)
-            (λ (low : x ≤ r). absurd (omega (arith, count-rises net (regular net laws) fed (x + 1) (r + 1) (omega arith) a, turns-here x t less same a, across a actor, both, some-m)))
-            (cases_lt r x)
-
-        -- what has started by a moment from there on, and by one so much sooner
-        apart : (d : ℕ) → count (x + d) ≡ count (r + d) + m * slice_index net.round a
-        apart d =
-            let whole : turns r t later same-ends * slice_index net.round a ≡ rounds_between * slice_index net.round a = omega (arith, turns-here r t later same-ends a, across a actor) in
-            omega (arith, turns-on x t less same d a, turns-on r t later same-ends d a, both, whole)
-
-        abbrev last : ℕ
-        last = count t - 1
-
-        abbrev start : ℕ → ℕ
-        start j = start_of (earliest net (suc t)) a j
-
-        up : (y : ℕ) → y + 1 ≡ suc y
-        up y = omega arith
-
-        by-start : (y j : ℕ) → y ≤ t → j < count t → start j ≤ y → j < count y
-        by-start y j le there soon = rw (up y) (started-by net laws fed y t a j le (rw (up t) at there) soon)
-
-        start-by : (y j : ℕ) → y ≤ t → j < count y → start j ≤ y
-        start-by y j le there =
-            let here : j < count_of (earliest net (suc y)) a = rw (up y) at there in
-            let soon : start_of (earliest net (suc y)) a j < suc y = (early_at net (regular net laws) fed (suc y)).before a j here in
-            omega (arith, (start-kept net laws fed y t a j le here).1)
-
-        there-last : last < count t
-        there-last = omega (arith, turns-here x t less same a, some-k)
-
-        late : x < start last
-        late = ⊎_elim
-            (λ (h : x < start last). h)
-            (λ (soon : start last ≤ x). absurd (omega (arith, by-start x last (omega arith) there-last soon, turns-here x t less same a, some-k)))
-            (cases_lt x (start last))
-
-        soon-last : start last ≤ t
-        soon-last = start-by t last (omega arith) there-last
-
-        -- the last firing of the actor is so long after the one these rounds before it
-        long : m * slice_index net.round a ≤ last
-        long = omega (arith, across a actor, both, some-k)
-
-        at-most : start (last - m * slice_index net.round a) ≤ start last - (x - r)
-        at-most =
-            let here : last < count (start last) = by-start (start last) last soon-last there-last (omega arith) in
-            let one : x + (start last - x) ≡ start last = omega (arith, late) in
-            let other : r + (start last - x) ≡ start last - (x - r) = omega (arith, late, inside) in
-            let more : count (start last) ≡ count (start last - (x - r)) + m * slice_index net.round a = rw one at (rw other at (apart (start last - x))) in
-            start-by (start last - (x - r)) (last - m * slice_index net.round a) (omega (arith, soon-last)) (omega (arith, here, long))
-
-        at-least : start last - (x - r) ≤ start (last - m * slice_index net.round a)
-        at-least = ⊎_elim
-            (λ (early : start (last - m * slice_index net.round a) < start last - (x - r)). absurd (
-            let one : x + (start last - 1 - x) ≡ start last - 1 = omega (arith, late) in
-            let other : r + (start last - 1 - x) ≡ start last - 1 - (x - r) = omega (arith, late, inside) in
-            let more : count (start last - 1) ≡ count (start last - 1 - (x - r)) + m * slice_index net.round a = rw one at (rw other at (apart (start last - 1 - x))) in
-            let there : last - m * slice_index net.round a < count (start last - 1 - (x - r)) =
-            by-start (start last - 1 - (x - r)) (last - m * slice_index net.round a) (omega (arith, soon-last)) (omega (arith, there-last)) (omega (arith, early)) in
-            let before : last < count (start last - 1) = omega (arith, more, there, long) in
-            omega (arith, start-by (start last - 1) last (omega (arith, soon-last)) before, late)))
-            (λ (h : start last - (x - r) ≤ start (last - m * slice_index net.round a)). h)
-            (cases_lt (start (last - m * slice_index net.round a)) (start last - (x - r)))
-
-        took-is : took net starts m a ≡ x - r
-        took-is =
-            let number : count_of starts a ≡ count t = have.all a actor in
-            let place : count_of starts a - 1 ≡ last = omega (arith, number) in
-            let mine : start_of starts a last ≡ start last = row-start net laws fed t starts have a last actor (omega (arith, number, there-last)) in
-            let other : start_of starts a (last - m * slice_index net.round a) ≡ start (last - m * slice_index net.round a) =
-            row-start net laws fed t starts have a (last - m * slice_index net.round a) actor (omega (arith, number, there-last)) in
-            rw place (omega (arith, mine, other, at-most, at-least, late, inside))
-
-      none-fewer : ⊥
-      none-fewer =
-          let found : Differ net starts m = differ m (omega arith) (omega arith) in
-          found.unlike (took-is found.actor found.is_actor ∙ sym (took-is found.other found.is_other))
-
     -- the shape of the first event that is one a period later too doesn't come again sooner
     none-sooner : (x : ℕ) → IsEvent net x → e < x → x < e + (t - r) → shape_at net x ≢ shape_at net e
-    none-sooner x event after before equal = none-fewer (t - (x - e)) inside again fewer some
+    none-sooner x event after before equal =
+        let found : Differ net starts e (turns e x after (sym equal)) = differ (turns e x after (sym equal)) (turns-some e x after (sym equal) event) fewer in
+        let one = apart-is x after (sym equal) found.one.actor found.one.firing found.one.both in
+        let two = apart-is x after (sym equal) found.other found.later found.both in
+        let same : found.apart ≡ x - e = omega (arith, one, found.one.is) in
+        found.unlike (rw same two)
       where
-        inside : t - (x - e) < t
-        inside = omega arith
-
-        back : t - (x - e) + (x - e) ≡ t
-        back = omega arith
-
-        again : shape_at net (t - (x - e)) ≡ shape_at net t
-        again = sym (rw back at (again-shape net laws fed e x after (sym equal) (t - (x - e)) (omega (arith, doubled.soon))))
-
         actor : 0 < length net.times
         actor = omega (arith, laws.some_actor)
-
-        -- as many rounds lie between as between the two events
-        rounds-are : turns (t - (x - e)) t inside again * slice_index net.round 0 ≡ turns e x after (sym equal) * slice_index net.round 0
-        rounds-are =
-            let one : x + (t - (x - e) - e) + 1 ≡ t + 1 = omega (arith, doubled.soon) in
-            let other : e + (t - (x - e) - e) + 1 ≡ t - (x - e) + 1 = omega (arith, doubled.soon) in
-            let counts : count_of (earliest net (t + 1)) 0 ≡ count_of (earliest net (t - (x - e) + 1)) 0 + turns e x after (sym equal) * slice_index net.round 0 =
-            rw one at (rw other at (turns-on e x after (sym equal) (t - (x - e) - e) 0)) in
-            omega (arith, counts, turns-here (t - (x - e)) t inside again 0)
 
         whole : turns e (e + (t - r)) ahead same-entry * slice_index net.round 0 ≡ rounds_between * slice_index net.round 0
         whole =
@@ -357,7 +307,7 @@ module _ (net : Net) (laws : Lawful net) (fed : HasInputs net) (connected : IsCo
             let other : e + (t - r) + (r - e) + 1 ≡ t + 1 = omega (arith, doubled.soon) in
             let counts : count_of (earliest net (t + 1)) 0 ≡ count_of (earliest net (r + 1)) 0 + turns e (e + (t - r)) ahead same-entry * slice_index net.round 0 =
             rw one at (rw other at (turns-on e (e + (t - r)) ahead same-entry (r - e) 0)) in
-            omega (arith, counts, across 0 actor)
+            omega (arith, counts, have.all 0 actor, round-between 0 actor, settles.long 0 actor)
 
         parts : turns e x after (sym equal) * slice_index net.round 0 + turns x (e + (t - r)) before (equal ∙ same-entry) * slice_index net.round 0 ≡ rounds_between * slice_index net.round 0
         parts = omega (arith, whole, turns-here e x after (sym equal) 0, turns-here x (e + (t - r)) before (equal ∙ same-entry) 0, turns-here e (e + (t - r)) ahead same-entry 0)
@@ -365,20 +315,11 @@ module _ (net : Net) (laws : Lawful net) (fed : HasInputs net) (connected : IsCo
         some-after : 1 ≤ turns x (e + (t - r)) before (equal ∙ same-entry) * slice_index net.round 0
         some-after = one-le-mul (turns-some x (e + (t - r)) before (equal ∙ same-entry) doubled.again) (some-fire 0 actor)
 
-        some-before : 1 ≤ turns e x after (sym equal) * slice_index net.round 0
-        some-before = one-le-mul (turns-some e x after (sym equal) event) (some-fire 0 actor)
-
-        fewer : turns (t - (x - e)) t inside again < rounds_between
+        fewer : turns e x after (sym equal) < rounds_between
         fewer = ⊎_elim
-            (λ (h : turns (t - (x - e)) t inside again < rounds_between). h)
-            (λ (many : rounds_between ≤ turns (t - (x - e)) t inside again). absurd (omega (arith, mul-le-mul_right (slice_index net.round 0) many, rounds-are, parts, some-after)))
-            (cases_lt (turns (t - (x - e)) t inside again) rounds_between)
-
-        some : 1 ≤ turns (t - (x - e)) t inside again
-        some = ⊎_elim
-            (λ (h : 0 < turns (t - (x - e)) t inside again). omega arith)
-            (λ (none : turns (t - (x - e)) t inside again ≤ 0). absurd (omega (arith, mul-le-mul_right (slice_index net.round 0) none, rounds-are, some-before)))
-            (cases_lt 0 (turns (t - (x - e)) t inside again))
+            (λ (h : turns e x after (sym equal) < rounds_between). h)
+            (λ (many : rounds_between ≤ turns e x after (sym equal)). absurd (omega (arith, mul-le-mul_right (slice_index net.round 0) many, parts, some-after)))
+            (cases_lt (turns e x after (sym equal)) rounds_between)
 
     -- no shape comes again before: it would stand at an earlier event that is one a period later too
     pub row-loops : IsLoop net e (t - r)

@@ -21,6 +21,7 @@ mod shown;
 mod steps;
 mod table;
 mod trace;
+mod unlike;
 
 pub use beginning::starts_until;
 pub use error::RunError;

@@ -6,16 +6,18 @@ ghost use Rattle.sd_base.specs.Rates.{IsLoop};
 ghost use Rattle.sd_base.specs.Connection.{IsConnected};
 ghost use Rattle.lasso.specs.inside.Collecting.{AreStarts};
 ghost use Rattle.lasso.specs.inside.Entering.{Ascend};
-ghost use Rattle.lasso.specs.inside.Showing.{Differ, IsFirstDoubled, IsFirstEnd, IsFirstEvent, SettlesFrom};
+ghost use Rattle.lasso.specs.inside.Showing.{IsFirstDoubled, IsFirstEnd, IsFirstEvent, SettlesFrom};
 
 use crate::entry::{count_by, is_after, settled_from};
 use crate::search::Pair;
+use crate::unlike::fewer_differ;
 use firing::{Firing, know_laws};
 use sd_base::Rows;
 
 /// The entry of a loop of so many rounds, if the starts up to the later of two moments show that each actor starts these rounds
-/// between them and that the shape at the earlier one comes again. That no fewer rounds make a loop is told by unlike times of
-/// the last ones. Cost: linear in the starts after the entry.
+/// between them and that the shape at the earlier one comes again. That no fewer rounds make a loop is told by firings that start
+/// unlike times after those so many rounds before them. Cost: linear in the starts after the entry, and in all starts for each
+/// lesser number of rounds.
 pub(crate) fn entry_by_rows<F: Firing>(
     net: &F,
     starts: &[Rows<u64>],
@@ -30,12 +32,16 @@ pub(crate) fn entry_by_rows<F: Firing>(
     requires starts { AreStarts (F.net net.now) pair.later starts.now }
     requires some { 1 ≤ rounds }
     requires few { rounds ≤ 2 ^ 20 }
-    requires fewest { (k : ℕ) → 1 ≤ k → k < rounds → Differ (F.net net.now) starts.now k }
     ensures before { IfSome result (λ entry. entry ≤ pair.earlier) }
     ensures loops { IfSome result (λ entry. IsLoop (F.net net.now) entry (pair.later - pair.earlier)) }
 {
     let from = settled_since(net, starts, pair, rounds)?;
-    doubled_since(net, starts, from, pair)
+    let entry = doubled_since(net, starts, from, pair)?;
+    if fewer_differ(net, starts, entry, rounds) {
+        Some(entry)
+    } else {
+        None
+    }
 }
 
 /// From when on each firing is a period after the one so many rounds before it, or neither runs any more, if that is so by the

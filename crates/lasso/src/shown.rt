@@ -1,9 +1,9 @@
 //! The loop that rows of starts show.
-ghost use Rattle.std.specs.Prelude.{◌≡◌, ℕ, ◌^◌, ◌≤◌, ◌<◌, IfOk, IfSome, IsTrue, length, map, sum};
+ghost use Rattle.std.specs.Prelude.{◌≡◌, ℕ, ◌^◌, ◌≤◌, ◌<◌, IfOk, IfSome, length, map, sum};
 ghost use Rattle.sd_base.specs.Schedules.{HasInputs, phases_at};
 ghost use Rattle.sd_base.specs.Connection.{IsConnected};
 ghost use Rattle.lasso.specs.inside.Collecting.{AreStarts};
-ghost use Rattle.lasso.specs.inside.Showing.{Differ, IsLoopIn, took};
+ghost use Rattle.lasso.specs.inside.Showing.{IsLoopIn};
 
 use crate::again::all_end_alike;
 use crate::rows::entry_by_rows;
@@ -72,7 +72,6 @@ fn took<F: Firing>(net: &F, starts: &[Rows<u64>], actor: u32, rounds: u64) -> u6
     requires rows { length starts.now ≡ length (F.net net.now).times }
     requires actor { actor < length (F.net net.now).times }
     requires few { rounds ≤ 2 ^ 20 }
-    ensures { result ≡ took (F.net net.now) starts.now rounds actor }
 {
     know_laws(net);
     let row = starts[actor as usize].as_slice();
@@ -88,7 +87,6 @@ fn took<F: Firing>(net: &F, starts: &[Rows<u64>], actor: u32, rounds: u64) -> u6
 pub(crate) fn take_unlike<F: Firing>(net: &F, starts: &[Rows<u64>], rounds: u64) -> bool
     requires rows { length starts.now ≡ length (F.net net.now).times }
     requires few { rounds ≤ 2 ^ 20 }
-    ensures { IsTrue result → Differ (F.net net.now) starts.now rounds }
 {
     know_laws(net);
     let first = took(net, starts, 0, rounds);
@@ -98,20 +96,6 @@ pub(crate) fn take_unlike<F: Firing>(net: &F, starts: &[Rows<u64>], rounds: u64)
         }
     }
     false
-}
-
-/// Whether the last firings of each lesser number of rounds took two actors unlike times.
-fn fewer_differ<F: Firing>(net: &F, starts: &[Rows<u64>], rounds: u64) -> bool
-    requires rows { length starts.now ≡ length (F.net net.now).times }
-    requires few { rounds ≤ 2 ^ 20 }
-    ensures { IsTrue result → (k : ℕ) → 1 ≤ k → k < rounds → Differ (F.net net.now) starts.now k }
-{
-    for fewer in 1..rounds {
-        if !take_unlike(net, starts, fewer) {
-            return false;
-        }
-    }
-    true
 }
 
 /// The loop, if the starts up to the later moment of a pair show that the shape at it stood so many rounds before, at the earlier
@@ -133,9 +117,6 @@ pub(crate) fn loop_by_rows<F: Firing>(
     requires few { rounds ≤ 2 ^ 20 }
     ensures { IfOk result (λ o. IfSome o (IsLoopIn (F.net net.now) starts.now)) }
 {
-    if !fewer_differ(net, starts, rounds) {
-        return Ok(None);
-    }
     if let Some(entry) = entry_by_rows(net, starts, pair, rounds) {
         let table = loop_table(alloc, net, entry, pair.later - pair.earlier, starts)?;
         return Ok(Some(table));

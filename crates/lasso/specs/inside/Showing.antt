@@ -7,17 +7,28 @@ use Rattle.sd_base.specs.Rates.{IsLoopTable}
 use Rattle.firing.specs.declared.table.LoopTable.{LoopTable}
 use Rattle.lasso.specs.inside.Entering.{AreBy, IsRowLike, IsRowOver, IsRowSettled}
 
--- how long an actor's last firings of so many rounds took, by its row of starts
-abbrev pub took : Net → Schedule → ℕ → ℕ → ℕ
-took net starts rounds a = start_of starts a (count_of starts a - 1) - start_of starts a (count_of starts a - 1 - rounds * slice_index net.round a)
+-- firing j of an actor and the one so many rounds before it are in the rows, and start after a moment
+pub record AreBothAfter (net : Net) (starts : Schedule) (after rounds a j : ℕ) : Type 0 where
+  pub is_actor : a < length net.times
+  pub within : j < count_of starts a
+  pub back : rounds * slice_index net.round a ≤ j
+  pub late : after < start_of starts a (j - rounds * slice_index net.round a)
 
--- the last firings of so many rounds took two actors unlike times
-pub record Differ (net : Net) (starts : Schedule) (rounds : ℕ) : Type 0 where
+-- a firing starts so many time units after the one so many rounds before it, both after a moment
+pub record IsApart (net : Net) (starts : Schedule) (after rounds apart : ℕ) : Type 0 where
   pub actor : ℕ
+  pub firing : ℕ
+  pub both : AreBothAfter net starts after rounds actor firing
+  pub is : start_of starts actor (firing - rounds * slice_index net.round actor) + apart ≡ start_of starts actor firing
+
+-- and another one doesn't
+pub record Differ (net : Net) (starts : Schedule) (after rounds : ℕ) : Type 0 where
+  pub apart : ℕ
+  pub one : IsApart net starts after rounds apart
   pub other : ℕ
-  pub is_actor : actor < length net.times
-  pub is_other : other < length net.times
-  pub unlike : took net starts rounds actor ≢ took net starts rounds other
+  pub later : ℕ
+  pub both : AreBothAfter net starts after rounds other later
+  pub unlike : start_of starts other (later - rounds * slice_index net.round other) + apart ≢ start_of starts other later
 
 -- between two moments each actor starts so many rounds, and from a moment on, and from no earlier one, each firing that isn't so
 -- many time units after the one so many rounds before it is over
