@@ -1,12 +1,12 @@
 //! The loop of a net of which each actor has one phase and a round few firings, round by round.
 //!
-//! Where a round has few firings, rows grow round by round. There a look at the rows costs as much as a round of starts,
-//! and loops are often entered after many rounds, as in nets of rates 1. So each actor's row grows to a round, then to two,
-//! however late these starts are. All starts up to a moment that is before the last one of each row are known then, since
-//! what an actor starts next comes no sooner than its last one. Among them a loop is looked for where the last rounds took
-//! all actors as long, of one round or of up to eight. That no fewer rounds make a loop is told by two actors whose last
-//! firings of so few rounds took unlike times: where a shape stood all these rounds before, one equal to it and fewer
-//! rounds before would mean that the firings of the rounds between took all actors as long.
+//! Where a round has few firings, a look at the rows costs as much as a round of starts, and loops are often entered after
+//! many rounds, as in nets of rates 1. So each actor's row grows to a round, then to two, however late these starts are.
+//! All starts up to a moment that is before the last one of each row are known then, since what an actor starts next comes
+//! no sooner than its last one. Among them a loop is looked for where the last rounds took all actors as long, of one round
+//! or of up to eight. That no fewer rounds make a loop is told by two firings after its entry that start unlike times after
+//! those so many rounds before them: if the entry's shape came again after so few rounds, all firings after it would start
+//! as long after those.
 ghost use Rattle.std.specs.Prelude.{◌≡◌, ℕ, ◌+◌, ◌-◌, ◌^◌, ◌≤◌, ◌<◌, [], IfOk, IfSome, length, slice_index_or};
 ghost use Rattle.sd_base.specs.declared.limits.TheConstants.{LEAST_STATES};
 ghost use Rattle.sd_base.specs.Schedules.{HasInputs, phases_at};
