@@ -39,7 +39,7 @@ zero-test n =
     (λ (h : (n == 0) ≡ false). inr (h, ⊎_elim (λ (less : n < 1). absurd (true≢false (sym ((Decides-eqb n 0).1 (omega arith)) ∙ h))) (λ (some : 1 ≤ n). some) (cases_lt n 1)))
     (cases_Bool (n == 0))
 
-offer-there : (net : Net) (ms : List Member) (m : Member) → IsOneOf ms m → 1 ≤ m.rate.num → IsOffer (offers_of net ms) (offer_for net m)
+pub offer-there : (net : Net) (ms : List Member) (m : Member) → IsOneOf ms m → 1 ≤ m.rate.num → IsOffer (offers_of net ms) (offer_for net m)
 offer-there net [] m is some = absurd is
 offer-there net (x ∷ ms) m is some = at (zero-test x.rate.num) (λ later. offer-there net ms m later some)
   where

@@ -1,5 +1,5 @@
 -- What is known of members, with one more.
-use Rattle.std.proofs.Common.{◌≡◌, ℕ, ◌+◌, ◌⊎◌, Bool, true, false, Option, List, [], ◌∷◌, ◌++◌, map, inl, inr, ⊎_elim, refl, sym, ap, subst, arith, eq-eqb}
+use Rattle.std.proofs.Common.{◌≡◌, ℕ, ◌+◌, ◌*◌, ◌≤◌, ◌<◌, ◌⊎◌, ◌∙◌, None, Some, mul-le-mul_left, Bool, true, false, Option, List, [], ◌∷◌, ◌++◌, map, inl, inr, ⊎_elim, refl, sym, ap, subst, arith, eq-eqb}
 use Rattle.std.specs.Prelude.{◌==◌, ◌↔◌, if◌then◌else◌, nat_le}
 use Rattle.std.proofs.lemmas.List.{append-nil}
 use Rattle.sd_base.specs.declared.numbers.Fraction.{Fraction}
@@ -12,15 +12,22 @@ use Rattle.storage.specs.BoundedNets.{bound}
 use Rattle.storage.specs.Distributions.{storage_of}
 use Rattle.storage.specs.ClosedLists.{Entry}
 use Rattle.pareto_front.specs.declared.point.Point.{Point}
-use Rattle.pareto_front.specs.Offers.{Offer, is_slower}
+use Rattle.pareto_front.specs.Offers.{Covers, IsCoveredBy, IsOneOf as IsOffer, Offer, is_slower}
 use Rattle.pareto_front.specs.Points.{IsFrontOf, IsOffered, left_points, offer_of, put_point}
 use Rattle.guide.specs.declared.rating.Evaluation.{Evaluation}
 use Rattle.guide.specs.declared.rating.Outcome.{Outcome}
 use Rattle.guide.specs.declared.rating.Outcome.TheVariants as outcomes
 use Rattle.guide.specs.Evaluations.{IsEvaluated, IsOutcome, loops_run}
 use Rattle.explore.specs.declared.exploration.Member.{Member}
+use Rattle.explore.specs.declared.exploration.Shown.{Shown}
+use Rattle.storage.proofs.FrontsFromMembers.{no_less}
+use Rattle.std.proofs.lemmas.Bool.{cases_lt}
+use Rattle.explore.proofs.Elements.{one-left}
+use Rattle.explore.proofs.Ending.{offer-there}
 use Rattle.explore.specs.Explorations.{IsOneOf, ShowsChannel, ShowsRate, cycles_in, shows_cycle}
-use Rattle.explore.specs.inside.Searches.{AreKnown, AreNoted, HasTable, IsNoted, entry_of, member_of, offer_for, offers_at, offers_of, shown_by}
+use Rattle.explore.specs.inside.Searches.{AreKnown, AreNoted, HasTable, IsNoted, entry_of, offer_for, offers_at, offers_of}
+use Rattle.explore.specs.inside.Rated.{IsBest, IsRated, KeepsTable, evaluated_member, member_of, shown_by}
+use Rattle.explore.specs.declared.rated.Rated.{Rated}
 use Rattle.critical.specs.Spaces.{Has, IsSpaceAt}
 use Rattle.guide.proofs.Shown.{evaluation-shows}
 
@@ -32,7 +39,7 @@ outcome-shown net ds states rate shown (outcomes.Live table cycle) is c = (
 )
 outcome-shown net ds states rate shown (outcomes.Blocked counts lacks) is c = is.channels c
 
-pub evaluation-shown : (net : Net) (d : Distribution) (states : ℕ) (e : Evaluation) → IsEvaluated net d.capacities states e → (c : ℕ) → Has e.enlarge c ↔ ShowsChannel net d.capacities (member_of d e).shown c
+pub evaluation-shown : (net : Net) (d : Distribution) (states : ℕ) (e : Evaluation) → IsEvaluated net d.capacities states e → (c : ℕ) → Has e.enlarge c ↔ ShowsChannel net d.capacities (evaluated_member d e).shown c
 evaluation-shown net d states e is c = outcome-shown net d.capacities states e.rate e.enlarge e.outcome is.outcome c
 
 -- a member with the channels of its evaluation
@@ -41,7 +48,7 @@ outcome-rate : (net : Net) (ds : List (Option ℕ)) (states : ℕ) (e : Evaluati
 outcome-rate net ds states e (outcomes.Live table cycle) is = (table, is.found, is.critical, is.same)
 outcome-rate net ds states e (outcomes.Blocked counts lacks) is = (lacks, is.blocked, is.zero)
 
-pub member-noted : (net : Net) (d : Distribution) (states : ℕ) (e : Evaluation) → IsEvaluated net d.capacities states e → IsNoted net states (member_of d e) (entry_of (member_of d e) e.enlarge)
+pub member-noted : (net : Net) (d : Distribution) (states : ℕ) (e : Evaluation) → IsEvaluated net d.capacities states e → IsNoted net states (evaluated_member d e) (entry_of (evaluated_member d e) e.enlarge)
 member-noted net d states e is = record {
   is = refl;
   shows = evaluation-shown net d states e is;
@@ -106,11 +113,11 @@ offered-one n old new p (inr (not, same)) is = put-one n old p (subst (λ (ps : 
 
 -- a member whose net is live, and one whose net is blocked
 
-pub live-known : (net : Net) (d : Distribution) (e : Evaluation) (total : ℕ) (table : LoopTable) (cycle : NeedCycle) (old new : List Point) → e.outcome ≡ outcomes.Live table cycle → storage_of net.channels d.capacities ≡ total → ((os : List Offer) → IsFrontOf os (map offer_of old) → IsFrontOf (os ++ offers_at total e.rate d.capacities) (map offer_of new)) → ((p : Point) → IsOneOf new p → ((p.capacities ≡ d) × (p.table ≡ table)) ⊎ IsOneOf old p) → (states : ℕ) (ms : List Member) (es : List Entry) → IsEvaluated net d.capacities states e → AreKnown net states ms es old → AreKnown net states (ms ++ member_of d e ∷ []) (es ++ entry_of (member_of d e) e.enlarge ∷ []) new
+pub live-known : (net : Net) (d : Distribution) (e : Evaluation) (total : ℕ) (table : LoopTable) (cycle : NeedCycle) (old new : List Point) → e.outcome ≡ outcomes.Live table cycle → storage_of net.channels d.capacities ≡ total → ((os : List Offer) → IsFrontOf os (map offer_of old) → IsFrontOf (os ++ offers_at total e.rate d.capacities) (map offer_of new)) → ((p : Point) → IsOneOf new p → ((p.capacities ≡ d) × (p.table ≡ table)) ⊎ IsOneOf old p) → (states : ℕ) (ms : List Member) (es : List Entry) → IsEvaluated net d.capacities states e → AreKnown net states ms es old → AreKnown net states (ms ++ evaluated_member d e ∷ []) (es ++ entry_of (evaluated_member d e) e.enlarge ∷ []) new
 live-known net d e total table cycle old new live storage front points states ms es is known =
-    known-more net states ms es old new (member_of d e) (entry_of (member_of d e) e.enlarge) known (member-noted net d states e is) fronts tables
+    known-more net states ms es old new (evaluated_member d e) (entry_of (evaluated_member d e) e.enlarge) known (member-noted net d states e is) fronts tables
   where
-    fronts : (os : List Offer) → IsFrontOf os (map offer_of old) → IsFrontOf (os ++ offers_of net (member_of d e ∷ [])) (map offer_of new)
+    fronts : (os : List Offer) → IsFrontOf os (map offer_of old) → IsFrontOf (os ++ offers_of net (evaluated_member d e ∷ [])) (map offer_of new)
     fronts os was = subst (λ (n : ℕ). IsFrontOf (os ++ offers_at n e.rate d.capacities) (map offer_of new)) (sym storage) (front os was)
 
     found : IsFound (bound net d.capacities) states table
@@ -119,9 +126,9 @@ live-known net d e total table cycle old new live storage front points states ms
     tables : ((p : Point) → IsOneOf old p → HasTable net states p) → (p : Point) → IsOneOf new p → HasTable net states p
     tables was p one = ⊎_elim (λ (h : (p.capacities ≡ d) × (p.table ≡ table)). subst (λ (x : Distribution). IsFound (bound net x.capacities) states p.table) (sym h.0) (subst (λ (t : LoopTable). IsFound (bound net d.capacities) states t) (sym h.1) found)) (λ (h : IsOneOf old p). was p h) (points p one)
 
-pub blocked-known : (net : Net) (d : Distribution) (e : Evaluation) (counts : List ℕ) (lacks : List (Option ℕ)) (points : List Point) → e.outcome ≡ outcomes.Blocked counts lacks → (states : ℕ) (ms : List Member) (es : List Entry) → IsEvaluated net d.capacities states e → AreKnown net states ms es points → AreKnown net states (ms ++ member_of d e ∷ []) (es ++ entry_of (member_of d e) e.enlarge ∷ []) points
+pub blocked-known : (net : Net) (d : Distribution) (e : Evaluation) (counts : List ℕ) (lacks : List (Option ℕ)) (points : List Point) → e.outcome ≡ outcomes.Blocked counts lacks → (states : ℕ) (ms : List Member) (es : List Entry) → IsEvaluated net d.capacities states e → AreKnown net states ms es points → AreKnown net states (ms ++ evaluated_member d e ∷ []) (es ++ entry_of (evaluated_member d e) e.enlarge ∷ []) points
 blocked-known net d e counts lacks points blocked states ms es is known =
-    known-more net states ms es points points (member_of d e) (entry_of (member_of d e) e.enlarge) known (member-noted net d states e is) fronts (λ was p one. was p one)
+    known-more net states ms es points points (evaluated_member d e) (entry_of (evaluated_member d e) e.enlarge) known (member-noted net d states e is) fronts (λ was p one. was p one)
   where
     zero : e.rate.num ≡ 0
     zero = (subst (IsOutcome net d.capacities states e.rate e.enlarge) blocked is.outcome).zero
@@ -129,8 +136,8 @@ blocked-known net d e counts lacks points blocked states ms es is known =
     none : (e.rate.num == 0) ≡ true
     none = eq-eqb e.rate.num 0 zero
 
-    fronts : (os : List Offer) → IsFrontOf os (map offer_of points) → IsFrontOf (os ++ offers_of net (member_of d e ∷ [])) (map offer_of points)
-    fronts os was = subst (λ (xs : List Offer). IsFrontOf (os ++ xs) (map offer_of points)) (sym (no-offer net (member_of d e) none)) (subst (λ (xs : List Offer). IsFrontOf xs (map offer_of points)) (sym (append-nil os)) was)
+    fronts : (os : List Offer) → IsFrontOf os (map offer_of points) → IsFrontOf (os ++ offers_of net (evaluated_member d e ∷ [])) (map offer_of points)
+    fronts os was = subst (λ (xs : List Offer). IsFrontOf (os ++ xs) (map offer_of points)) (sym (no-offer net (evaluated_member d e) none)) (subst (λ (xs : List Offer). IsFrontOf xs (map offer_of points)) (sym (append-nil os)) was)
 
 pub cycles-more : (ms : List Member) (m : Member) → cycles_in (ms ++ m ∷ []) ≡ cycles_in ms + shows_cycle m.shown
 cycles-more [] m = omega arith
@@ -145,3 +152,116 @@ offers-some total rate ds some = rw some refl
 
 pub front-as : (os xs ys : List Offer) (ps : List Point) → xs ≡ ys → IsFrontOf (os ++ xs) (map offer_of ps) → IsFrontOf (os ++ ys) (map offer_of ps)
 front-as os xs ys ps same front = subst (λ (zs : List Offer). IsFrontOf (os ++ zs) (map offer_of ps)) same front
+
+abbrev record_of : Distribution → Fraction → Shown → Member
+record_of d rate shown = record { capacities = d; rate = rate; shown = shown }
+
+-- a member whose loop wasn't kept is covered: one of less storage has no less rate
+
+covering : (ps : List Offer) (o : Offer) → IsCoveredBy ps o → (p : Offer) × IsOffer ps p × Covers p o
+covering [] o covered = absurd covered
+covering (p ∷ ps) o (inl covers) = (p, inl refl, covers)
+covering (p ∷ ps) o (inr later) = let found = covering ps o later in (found.0, inr found.1, found.2)
+
+covered-by : (ps : List Offer) (p o : Offer) → IsOffer ps p → Covers p o → IsCoveredBy ps o
+covered-by [] p o is covers = absurd is
+covered-by (q ∷ ps) p o (inl same) covers = inl (subst (λ (x : Offer). Covers x o) (sym same) covers)
+covered-by (q ∷ ps) p o (inr later) covers = inr (covered-by ps p o later covers)
+
+offer-split : (os : List Offer) (o x : Offer) → IsOffer (os ++ o ∷ []) x → IsOffer os x ⊎ (o ≡ x)
+offer-split [] o x (inl same) = inr same
+offer-split [] o x (inr none) = absurd none
+offer-split (y ∷ os) o x (inl same) = inl (inl same)
+offer-split (y ∷ os) o x (inr later) = ⊎_elim (λ (h : IsOffer os x). inl (inr h)) (λ (h : o ≡ x). inr h) (offer-split os o x later)
+
+offer-left : (os more : List Offer) (x : Offer) → IsOffer os x → IsOffer (os ++ more) x
+offer-left [] more x is = absurd is
+offer-left (y ∷ os) more x (inl same) = inl same
+offer-left (y ∷ os) more x (inr later) = inr (offer-left os more x later)
+
+module _ (net : Net) (d : Distribution) (e : Evaluation) (total : ℕ) (best : Fraction) (points : List Point) (storage : storage_of net.channels d.capacities ≡ total) (slow : e.rate.num * best.den ≤ best.num * e.rate.den) (ms : List Member) where
+  its-offer : Offer
+  its-offer = offer_for net (evaluated_member d e)
+
+  without : e.rate.num ≡ 0 → IsFrontOf (offers_of net ms) (map offer_of points) → IsFrontOf (offers_of net ms ++ offers_of net (evaluated_member d e ∷ [])) (map offer_of points)
+  without zero was = subst (λ (xs : List Offer). IsFrontOf (offers_of net ms ++ xs) (map offer_of points)) (sym (no-offer net (evaluated_member d e) (eq-eqb e.rate.num 0 zero))) (subst (λ (xs : List Offer). IsFrontOf xs (map offer_of points)) (sym (append-nil (offers_of net ms))) was)
+
+  covered : (b : Offer) → b.storage < total → e.rate.num * b.rate.den ≤ b.rate.num * e.rate.den → IsCoveredBy (map offer_of points) b → IsCoveredBy (map offer_of points) (offer_for net (evaluated_member d e))
+  covered b less rate by =
+      let p = covering (map offer_of points) b by in
+      covered-by (map offer_of points) p.0 (offer_for net (evaluated_member d e)) p.1 (record {
+        storage = omega (arith, storage, less, p.2.storage);
+        rate = no_less e.rate.num e.rate.den b.rate.num b.rate.den p.0.rate.num p.0.rate.den b.rate.positive rate p.2.rate;
+        tie = λ same cross. absurd (omega (arith, storage, less, p.2.storage, same));
+      })
+
+  behind : (m : Member) → IsOneOf ms m → m.rate ≡ best → storage_of net.channels m.capacities.capacities < total → 1 ≤ best.num → IsFrontOf (offers_of net ms) (map offer_of points) → IsFrontOf (offers_of net ms ++ offers_of net (evaluated_member d e ∷ [])) (map offer_of points)
+  behind m one same less some was = at (e.rate.num == 0) refl
+    where
+      runs : 1 ≤ m.rate.num
+      runs = subst (λ (f : Fraction). 1 ≤ f.num) (sym same) some
+
+      slower : e.rate.num * m.rate.den ≤ m.rate.num * e.rate.den
+      slower = subst (λ (f : Fraction). e.rate.num * f.den ≤ f.num * e.rate.den) (sym same) slow
+
+      by : IsCoveredBy (map offer_of points) (offer_for net (evaluated_member d e))
+      by = covered (offer_for net m) less slower (was.covers (offer_for net m) (offer-there net ms m one runs))
+
+      more : IsFrontOf (offers_of net ms ++ offer_for net (evaluated_member d e) ∷ []) (map offer_of points)
+      more = record {
+        order = was.order;
+        covers = λ x is. ⊎_elim (λ (h : IsOffer (offers_of net ms) x). was.covers x h) (λ (h : offer_for net (evaluated_member d e) ≡ x). subst (IsCoveredBy (map offer_of points)) h by) (offer-split (offers_of net ms) (offer_for net (evaluated_member d e)) x is);
+        among = λ p is. offer-left (offers_of net ms) (offer_for net (evaluated_member d e) ∷ []) p (was.among p is);
+      }
+
+      at : (b : Bool) → (e.rate.num == 0) ≡ b → IsFrontOf (offers_of net ms ++ offers_of net (evaluated_member d e ∷ [])) (map offer_of points)
+      at true zero = subst (λ (xs : List Offer). IsFrontOf (offers_of net ms ++ xs) (map offer_of points)) (sym (no-offer net (evaluated_member d e) zero)) (subst (λ (xs : List Offer). IsFrontOf xs (map offer_of points)) (sym (append-nil (offers_of net ms))) was)
+      at false nonzero = subst (λ (xs : List Offer). IsFrontOf (offers_of net ms ++ xs) (map offer_of points)) (sym (one-offer net (evaluated_member d e) nonzero)) more
+
+  fronts : IsBest net best total ms → IsFrontOf (offers_of net ms) (map offer_of points) → IsFrontOf (offers_of net ms ++ offers_of net (evaluated_member d e ∷ [])) (map offer_of points)
+  fronts fastest was = ⊎_elim
+      (λ (none : best.num < 1).
+      let nothing : best.num * e.rate.den ≡ 0 * e.rate.den = ap (λ (n : ℕ). n * e.rate.den) (omega arith) in
+      let least : e.rate.num * 1 ≤ e.rate.num * best.den = mul-le-mul_left e.rate.num best.positive in
+      without (omega (arith, slow, nothing, least)) was)
+      (λ (some : 1 ≤ best.num). ⊎_elim
+      (λ (none : best.num ≡ 0). absurd (omega (arith, none, some)))
+      (λ (b : (m : Member) × IsOneOf ms m × (m.rate ≡ best) × (storage_of net.channels m.capacities.capacities < total)). behind b.0 b.1 b.2 b.3 some was)
+      fastest)
+      (cases_lt best.num 1)
+
+  pub behind-known : (states : ℕ) (es : List Entry) → IsEvaluated net d.capacities states e → IsBest net best total ms → AreKnown net states ms es points → AreKnown net states (ms ++ evaluated_member d e ∷ []) (es ++ entry_of (evaluated_member d e) e.enlarge ∷ []) points
+  behind-known states es is fastest known = record {
+    noted = noted-more net states ms es (evaluated_member d e) (entry_of (evaluated_member d e) e.enlarge) known.noted (member-noted net d states e is);
+    front = subst (λ (os : List Offer). IsFrontOf os (map offer_of points)) (sym (offers-more net ms (evaluated_member d e ∷ []))) (fronts fastest known.front);
+    tables = known.tables;
+  }
+
+-- what is kept of an evaluation makes its member
+
+pub same-member : (d : Distribution) (best : Fraction) (e : Evaluation) (r : Rated) → IsRated best e r → evaluated_member d e ≡ member_of d r
+same-member d best e r is =
+    ap (λ (x : Fraction). record_of d x (shown_by e.outcome)) (sym is.rate) ∙ ap (λ (x : Shown). record_of d r.rate x) (sym is.shown)
+
+pub kept-known : (net : Net) (d : Distribution) (best : Fraction) (e : Evaluation) (r : Rated) (total : ℕ) (table : LoopTable) (old new : List Point) → IsRated best e r → r.table ≡ Some table → storage_of net.channels d.capacities ≡ total → ((os : List Offer) → IsFrontOf os (map offer_of old) → IsFrontOf (os ++ offers_at total r.rate d.capacities) (map offer_of new)) → ((p : Point) → IsOneOf new p → ((p.capacities ≡ d) × (p.table ≡ table)) ⊎ IsOneOf old p) → (states : ℕ) (ms : List Member) (es : List Entry) → IsEvaluated net d.capacities states e → AreKnown net states ms es old → AreKnown net states (ms ++ evaluated_member d e ∷ []) (es ++ entry_of (evaluated_member d e) e.enlarge ∷ []) new
+kept-known net d best e r total table old new is kept storage front points states ms es evaluated known = at e.outcome refl (subst (KeepsTable best e.rate e.outcome) kept is.table)
+  where
+    fronts-of : (os : List Offer) → IsFrontOf os (map offer_of old) → IsFrontOf (os ++ offers_at total e.rate d.capacities) (map offer_of new)
+    fronts-of os was = subst (λ (x : Fraction). IsFrontOf (os ++ offers_at total x d.capacities) (map offer_of new)) is.rate (front os was)
+
+    at : (outcome : Outcome) → e.outcome ≡ outcome → KeepsTable best e.rate outcome (Some table) → AreKnown net states (ms ++ evaluated_member d e ∷ []) (es ++ entry_of (evaluated_member d e) e.enlarge ∷ []) new
+    at (outcomes.Live own cycle) live keeps = live-known net d e total table cycle old new (live ∙ ap (λ (t : LoopTable). outcomes.Live t cycle) (sym keeps)) storage fronts-of points states ms es evaluated known
+    at (outcomes.Blocked counts lacks) blocked keeps = cc
+
+pub left-known : (net : Net) (d : Distribution) (best : Fraction) (e : Evaluation) (r : Rated) (total : ℕ) (points : List Point) → IsRated best e r → r.table ≡ None → storage_of net.channels d.capacities ≡ total → (states : ℕ) (ms : List Member) (es : List Entry) → IsEvaluated net d.capacities states e → IsBest net best total ms → AreKnown net states ms es points → AreKnown net states (ms ++ evaluated_member d e ∷ []) (es ++ entry_of (evaluated_member d e) e.enlarge ∷ []) points
+left-known net d best e r total points is left storage states ms es evaluated fastest known = at e.outcome refl (subst (KeepsTable best e.rate e.outcome) left is.table)
+  where
+    at : (outcome : Outcome) → e.outcome ≡ outcome → KeepsTable best e.rate outcome None → AreKnown net states (ms ++ evaluated_member d e ∷ []) (es ++ entry_of (evaluated_member d e) e.enlarge ∷ []) points
+    at (outcomes.Live own cycle) live slow = behind-known net d e total best points storage slow ms states es evaluated fastest known
+    at (outcomes.Blocked counts lacks) blocked keeps = blocked-known net d e counts lacks points blocked states ms es evaluated known
+
+-- the best rate stays that of a member
+
+pub best-more : (net : Net) (best : Fraction) (total : ℕ) (ms : List Member) (m : Member) → IsBest net best total ms → IsBest net best total (ms ++ m ∷ [])
+best-more net best total ms m (inl none) = inl none
+best-more net best total ms m (inr (x, one, same, less)) = inr (x, one-left ms (m ∷ []) x one, same, less)

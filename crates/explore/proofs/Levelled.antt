@@ -3,9 +3,9 @@ use Rattle.std.proofs.Common.{◌≡◌, ℕ, ◌+◌, ◌<◌, List, [], ◌∷
 use Rattle.std.specs.Prelude.{slice_index_or}
 use Rattle.std.proofs.lemmas.List.{drop_more, length-append}
 use Rattle.lasso.specs.declared.error.RunError.{RunError}
-use Rattle.guide.specs.declared.rating.Evaluation.{Evaluation}
 use Rattle.explore.specs.declared.exploration.Member.{Member}
 use Rattle.explore.specs.declared.level.Answered.{Answered}
+use Rattle.explore.specs.declared.rated.Rated.{Rated}
 use Rattle.explore.specs.Explorations.{cycles_in, shows_cycle}
 use Rattle.explore.specs.inside.Levels.{sum_of}
 use Rattle.explore.specs.inside.Searches.{IsMemberAdded, answered_of}
@@ -23,7 +23,7 @@ many-same old ms new done a is same =
     let added : length new ≡ length (ms ++ is.member ∷ []) = ap (λ (xs : List Member). length xs) is.added in
     omega (arith, added, same, length-append ms (is.member ∷ []), length-append done (a ∷ []))
 
-pub cycles-same : (f : Result Evaluation RunError → ℕ) (old ms new : List Member) (done : List Answered) (a : Answered) → (is : IsMemberAdded a ms new) → shows_cycle is.member.shown ≡ f a.answer → cycles_in ms ≡ cycles_in old + sum_of f done → cycles_in new ≡ cycles_in old + sum_of f (done ++ a ∷ [])
+pub cycles-same : (f : Result Rated RunError → ℕ) (old ms new : List Member) (done : List Answered) (a : Answered) → (is : IsMemberAdded a ms new) → shows_cycle is.member.shown ≡ f a.answer → cycles_in ms ≡ cycles_in old + sum_of f done → cycles_in new ≡ cycles_in old + sum_of f (done ++ a ∷ [])
 cycles-same f old ms new done a is loops same =
     let added : cycles_in new ≡ cycles_in ms + shows_cycle is.member.shown = ap cycles_in is.added ∙ cycles-more ms is.member in
     omega (arith, added, loops, same, sum-more f done a)

@@ -1,6 +1,6 @@
 -- A task that was fresh is done when it has run; and the list behind a slice that was lent.
 use Rattle.std.proofs.Common.{◌≡◌, ℕ, suc, ◌+◌, ◌-◌, ◌≤◌, Option, List, [], ◌∷◌, ◌++◌, Result, Ok, Err, length, map, reverse, take, drop, append_assoc, refl, sym, ap, ◌∙◌, subst, arith}
-use Rattle.std.specs.Prelude.{All}
+use Rattle.std.specs.Prelude.{All, IfErr, IfOk}
 use Rattle.std.proofs.lemmas.List.{get_or-reverse, length-reverse, map-append, reverse-append, reverse-reverse}
 use Rattle.fanout.specs.JobRuns.{EachRan}
 use Rattle.sd_base.specs.declared.limits.TheConstants.{LEAST_STATES, STATES}
@@ -10,26 +10,32 @@ use Rattle.firing.specs.declared.wiring.Wiring.{Wiring}
 use Rattle.lasso.specs.declared.error.RunError.{RunError}
 use Rattle.storage.specs.declared.distribution.Distribution.{Distribution}
 use Rattle.guide.specs.declared.rating.Evaluation.{Evaluation}
-use Rattle.guide.specs.Evaluations.{IsEvaluable}
+use Rattle.guide.specs.Evaluations.{IsEvaluable, IsEvaluated, IsRefused, loops_run}
+use Rattle.explore.specs.declared.rated.Rated.{Rated}
+use Rattle.explore.specs.Explorations.{shows_cycle}
+use Rattle.explore.specs.inside.Rated.{IsRated, IsRatedAnswer}
+use Rattle.explore.proofs.Knowing.{loops-shown}
+use Rattle.sd_base.specs.declared.numbers.Fraction.{Fraction}
 use Rattle.explore.specs.inside.Levels.{HasRun, IsAnswer, IsAnswered, IsDone, IsEvaluation, IsFresh, IsReady, IsStartable, least_loops, most_loops, sum_of}
 use Rattle.explore.specs.declared.level.Answered.{Answered}
 
-pub ready-from : (net own : Net) (wiring : Wiring) (states : ℕ) (capacities : Distribution) (counts : List ℕ) (wanted : ℕ) (steps : Tally) → IsFresh net own wiring states capacities counts wanted steps → LEAST_STATES ≤ states → states ≤ STATES → IsReady own wiring capacities counts wanted
-ready-from net own wiring states capacities counts wanted steps fresh some few = record {
+pub ready-from : (net own : Net) (wiring : Wiring) (states : ℕ) (best : Fraction) (capacities : Distribution) (counts : List ℕ) (wanted : ℕ) (known : Fraction) (steps : Tally) → IsFresh net own wiring states best capacities counts wanted known steps → LEAST_STATES ≤ states → states ≤ STATES → IsReady own wiring capacities counts wanted
+ready-from net own wiring states best capacities counts wanted known steps fresh some few = record {
   start = subst (λ (n : Net). IsStartable n wiring capacities counts) (sym fresh.net_is) fresh.start;
   some = omega (arith, fresh.states_are, some);
   few = omega (arith, fresh.states_are, few);
 }
 
-pub done-from : (net own : Net) (wiring : Wiring) (counts : List ℕ) (states wanted : ℕ) (was : Distribution) (before : Tally) (now : Distribution) (after : Tally) (answer : Option (Result Evaluation RunError)) → IsFresh net own wiring states was counts wanted before → HasRun own was wanted before now after answer → IsDone net states now after answer
-done-from net own wiring counts states wanted was before now after answer fresh ran =
-    let a = subst (λ (n : Net). IsAnswered n was.capacities wanted before.count after.count answer) fresh.net_is ran.answered in
-    let b = subst (λ (s : ℕ). IsAnswered net was.capacities s before.count after.count answer) fresh.states_are a in
-    let d = subst (λ (k : ℕ). IsAnswered net was.capacities states k after.count answer) fresh.count b in
+pub done-from : (net own : Net) (wiring : Wiring) (counts : List ℕ) (states wanted : ℕ) (best known : Fraction) (was : Distribution) (before : Tally) (now : Distribution) (after : Tally) (answer : Option (Result Rated RunError)) → IsFresh net own wiring states best was counts wanted known before → HasRun own was wanted known before now after answer → IsDone net states best now after answer
+done-from net own wiring counts states wanted best known was before now after answer fresh ran =
+    let a = subst (λ (n : Net). IsAnswered n was.capacities wanted known before.count after.count answer) fresh.net_is ran.answered in
+    let b = subst (λ (s : ℕ). IsAnswered net was.capacities s known before.count after.count answer) fresh.states_are a in
+    let f = subst (λ (x : Fraction). IsAnswered net was.capacities states x before.count after.count answer) fresh.best_is b in
+    let d = subst (λ (k : ℕ). IsAnswered net was.capacities states best k after.count answer) fresh.count f in
     record {
       share = ran.share ∙ fresh.share;
       fits = subst (λ (x : Distribution). IsEvaluable net x.capacities) (sym ran.same) fresh.start.fits;
-      answered = subst (λ (x : Distribution). IsAnswered net x.capacities states 0 after.count answer) (sym ran.same) d;
+      answered = subst (λ (x : Distribution). IsAnswered net x.capacities states best 0 after.count answer) (sym ran.same) d;
     }
 
 pub slice-back : {A : Type 0} (new old : List A) → length new ≡ length old → take (length old) (new ++ drop (length new) old) ≡ new
@@ -49,19 +55,29 @@ map-same R f keeps (x ∷ xs) (y ∷ ys) ran =
 
 -- what an answer says of its distribution, and of the loops that were counted
 
-pub answer-is : (net : Net) (capacities : Distribution) (states before after : ℕ) (answer : Result Evaluation RunError) → IsAnswer net capacities.capacities states before after answer → IsEvaluation net states capacities answer
-answer-is net capacities states before after (Ok e) is = is.0
-answer-is net capacities states before after (Err error) is = is.0
+pub answer-is : (net : Net) (capacities : Distribution) (states : ℕ) (best : Fraction) (before after : ℕ) (answer : Result Rated RunError) → IsAnswer net capacities.capacities states best before after answer → IsEvaluation net states best capacities answer
+answer-is net capacities states best before after (Ok r) (e, is, kept, count) = (e, is, kept)
+answer-is net capacities states best before after (Err error) is = is.0
 
-pub counts-least : (net : Net) (ds : List (Option ℕ)) (states n : ℕ) (answer : Result Evaluation RunError) → IsAnswer net ds states 0 n answer → least_loops answer ≤ n
-counts-least net ds states n (Ok e) is = omega (arith, is.1)
-counts-least net ds states n (Err error) is = omega arith
+runs-shown : (best : Fraction) (e : Evaluation) (r : Rated) → IsRated best e r → shows_cycle r.shown ≡ loops_run e.outcome
+runs-shown best e r kept = ap shows_cycle kept.shown ∙ loops-shown e.outcome
 
-pub counts-most : (net : Net) (ds : List (Option ℕ)) (states n : ℕ) (answer : Result Evaluation RunError) → IsAnswer net ds states 0 n answer → n ≤ most_loops answer
-counts-most net ds states n (Ok e) is = omega (arith, is.1)
-counts-most net ds states n (Err error) is = omega (arith, is.1)
+pub counts-least : (net : Net) (ds : List (Option ℕ)) (states : ℕ) (best : Fraction) (n : ℕ) (answer : Result Rated RunError) → IsAnswer net ds states best 0 n answer → least_loops answer ≤ n
+counts-least net ds states best n (Ok r) (e, is, kept, count) = omega (arith, count, runs-shown best e r kept)
+counts-least net ds states best n (Err error) is = omega arith
 
-pub sum-more : (f : Result Evaluation RunError → ℕ) (xs : List Answered) (x : Answered) → sum_of f (xs ++ x ∷ []) ≡ sum_of f xs + f x.answer
+pub counts-most : (net : Net) (ds : List (Option ℕ)) (states : ℕ) (best : Fraction) (n : ℕ) (answer : Result Rated RunError) → IsAnswer net ds states best 0 n answer → n ≤ most_loops answer
+counts-most net ds states best n (Ok r) (e, is, kept, count) = omega (arith, count, runs-shown best e r kept)
+counts-most net ds states best n (Err error) is = omega (arith, is.1)
+
+-- what is kept of an answer is what the task answers
+pub run-answer : (net : Net) (ds : List (Option ℕ)) (states : ℕ) (best : Fraction) (before after : ℕ) (answer : Result Evaluation RunError) (kept : Result Rated RunError) → IsRatedAnswer best answer kept → IfOk answer (IsEvaluated net ds states) → IfErr answer (IsRefused net ds states) → IfOk answer (λ (e : Evaluation). after ≡ before + loops_run e.outcome) → after ≤ before + 1 → IsAnswer net ds states best before after kept
+run-answer net ds states best before after (Ok e) (Ok r) is evaluated refused count most = (e, evaluated, is, count)
+run-answer net ds states best before after (Ok e) (Err y) is evaluated refused count most = absurd is
+run-answer net ds states best before after (Err x) (Ok r) is evaluated refused count most = absurd is
+run-answer net ds states best before after (Err x) (Err y) is evaluated refused count most = (subst (IsRefused net ds states) is refused, most)
+
+pub sum-more : (f : Result Rated RunError → ℕ) (xs : List Answered) (x : Answered) → sum_of f (xs ++ x ∷ []) ≡ sum_of f xs + f x.answer
 sum-more f [] x = omega arith
 sum-more f (y ∷ ys) x = let later = sum-more f ys x in omega (arith, later)
 

@@ -1,5 +1,5 @@
 -- A level is taken off those that wait, its distributions are evaluated, and each of its answers is taken in.
-use Rattle.std.proofs.Common.{◌≡◌, ℕ, ◌+◌, ◌≤◌, ◌<◌, Option, None, Some, List, [], ◌∷◌, ◌++◌, Result, Ok, Err, length, map, ⊎_elim, refl, sym, ap, ◌∙◌, subst, arith}
+use Rattle.std.proofs.Common.{◌≡◌, ℕ, ◌+◌, ◌≤◌, ◌<◌, Option, None, Some, List, [], ◌∷◌, ◌++◌, Result, Ok, Err, length, map, ⊎_elim, refl, sym, ap, ◌∙◌, subst, arith, inl, inr}
 use Rattle.std.specs.Prelude.{All, Contains, MatchOption, slice_index_or}
 use Rattle.std.proofs.lemmas.List.{get_or-map, length-map, map-append}
 use Rattle.std.proofs.lemmas.List.Elements.{All-contains, All-map, Contains-append_left, Contains-append_right, Contains-get_or}
@@ -32,15 +32,22 @@ use Rattle.explore.specs.declared.exploration.Shown.TheVariants.{Cycle, Blocked}
 use Rattle.explore.specs.declared.level.Answered.{Answered}
 use Rattle.explore.specs.declared.search.Search.{Search}
 use Rattle.explore.specs.Reachable.{IsExplorable}
-use Rattle.explore.specs.Explorations.{IsOneOf, IsRefusal, cycles_in, shows_cycle}
+use Rattle.explore.specs.Explorations.{IsOneOf, IsRefusal, capacities_of, cycles_in, shows_cycle}
 use Rattle.explore.specs.inside.Errors.{error_of}
 use Rattle.explore.specs.inside.Levels.{IsEvaluation, IsVisitable, most_loops, sum_of}
-use Rattle.explore.specs.inside.Searches.{AreKnown, IsAnswerOf, IsCandidate, IsEnded, IsSearch, IsTurn, answered_of, entry_of, member_of, visits_of}
+use Rattle.explore.specs.inside.Searches.{AreKnown, IsAnswerOf, IsCandidate, IsEnded, IsSearch, IsTurn, answered_of, entry_of, visits_of}
+use Rattle.explore.specs.inside.Rated.{IsBest, IsBestOf, evaluated_member}
+use Rattle.explore.specs.declared.rated.Rated.{Rated}
+use Rattle.sd_base.specs.declared.numbers.Fraction.{Fraction}
+use Rattle.pareto_front.specs.declared.point.Point.{Point}
+use Rattle.pareto_front.specs.Points.{offer_of}
+use Rattle.pareto_front.specs.Offers.{Offer}
 use Rattle.explore.specs.inside.Starts.{IsHinted}
-use Rattle.explore.proofs.Elements.{map-map, one-contains, one-split}
+use Rattle.explore.proofs.Elements.{map-map, one-contains, one-map, one-split}
+use Rattle.explore.proofs.Ending.{offer-from, to-offer}
 use Rattle.explore.proofs.Enough.{ended-whole}
 use Rattle.explore.proofs.Knowing.{member-noted, noted-more}
-use Rattle.explore.proofs.Searching.{contains-has, led-candidate, search-candidate, search-limit}
+use Rattle.explore.proofs.Searching.{contains-has, led-candidate, search-candidate, search-limit, visited-members}
 use Rattle.explore.proofs.Starting.{get-last, hinted-longer}
 use Rattle.explore.proofs.Stepping.{candidate-evaluable, child-above, shown-bounded}
 
@@ -84,10 +91,23 @@ module _ (net : Net) (laws : Lawful net) (can : IsExplorable net) (limits : Limi
     search = turned;
     totals = λ k d below. (total-of (slice_index_or level.visits.items k d) (Contains-get_or level.visits.items k d below)).0;
     within = first level.visits.items off.some (λ f one. (total-of f one).1);
+    before = λ m one. earlier m level.visits.items off.some (λ f here. here) (subst (λ (ms : List Member). IsOneOf ms m) same-members one);
     visitable = λ k d below. visitable (slice_index_or level.visits.items k d) (Contains-get_or level.visits.items k d below);
     some = off.some;
   }
     where
+      earlier : (m : Member) (fs : List (Found (Option ℕ))) → 1 ≤ length fs → ((f : Found (Option ℕ)) → Contains fs f → Contains level.visits.items f) → IsOneOf old.members.items m → storage_of net.channels m.capacities.capacities < level.total
+      earlier m [] some holds one = absurd (omega (arith, some))
+      earlier m (f ∷ fs) some holds one =
+          let there = holds f (0, omega arith, refl) in
+          let waits : Waits net.channels old.levels.bounds.total floor f = All-contains (Waits net.channels old.levels.bounds.total floor) old.levels.waiting.keys f search.frontier.spread.waits (waited f there) in
+          let here : f.total ≡ level.total = All-contains (λ (x : Found (Option ℕ)). x.total ≡ level.total) level.visits.items f off.totals there in
+          let low : storage_of net.channels m.capacities.capacities < floor = All-contains (λ (ds : List (Option ℕ)). storage_of net.channels ds < floor) (visited (visits_of search.entries) ++ []) m.capacities.capacities search.frontier.spread.low
+          (Contains-append_left (visited (visits_of search.entries)) [] m.capacities.capacities
+          (subst (λ (xs : List (List (Option ℕ))). Contains xs m.capacities.capacities) (sym (visited-members net limits.states old.members.items search.entries search.known.noted))
+          (one-contains (capacities_of old.members.items) m.capacities.capacities (one-map (λ (x : Member). x.capacities.capacities) old.members.items m one)))) in
+          omega (arith, waits.above, here, low)
+
       first : (fs : List (Found (Option ℕ))) → 1 ≤ length fs → ((f : Found (Option ℕ)) → Contains fs f → level.total ≤ limits.total) → level.total ≤ limits.total
       first [] some holds = absurd (omega (arith, some))
       first (f ∷ fs) some holds = holds f (0, omega arith, refl)
@@ -96,8 +116,8 @@ module _ (net : Net) (laws : Lawful net) (can : IsExplorable net) (limits : Limi
 all-unmap : {A B : Type 0} (P : B → Type 0) (f : A → B) (xs : List A) → All P (map f xs) → All (λ (x : A). P (f x)) xs
 all-unmap P f xs all = λ k d below. subst P (get_or-map f xs k d (f d) below) (all k (f d) (omega (arith, below, length-map xs f)))
 
-pub level-answers : (net : Net) (limits : Limits) (total : ℕ) (answers : List Answered) (fs : List (Found (Option ℕ))) → map (λ (a : Answered). a.capacities) answers ≡ map (λ (f : Found (Option ℕ)). f.capacities) fs → All (λ (f : Found (Option ℕ)). storage_of net.channels f.capacities.capacities ≡ total) fs → All (λ (a : Answered). IsEvaluation net limits.states a.capacities a.answer) answers → All (IsAnswerOf net limits total) answers
-level-answers net limits total answers fs order totals all = λ k d below.
+pub level-answers : (net : Net) (limits : Limits) (total : ℕ) (best : Fraction) (answers : List Answered) (fs : List (Found (Option ℕ))) → map (λ (a : Answered). a.capacities) answers ≡ map (λ (f : Found (Option ℕ)). f.capacities) fs → All (λ (f : Found (Option ℕ)). storage_of net.channels f.capacities.capacities ≡ total) fs → All (λ (a : Answered). IsEvaluation net limits.states best a.capacities a.answer) answers → All (IsAnswerOf net limits total best) answers
+level-answers net limits total best answers fs order totals all = λ k d below.
     let P : Distribution → Type 0 = λ (x : Distribution). storage_of net.channels x.capacities ≡ total in
     let of : All P (map (λ (a : Answered). a.capacities) answers) = subst (All P) (sym order) (All-map P (λ (f : Found (Option ℕ)). f.capacities) fs totals) in
     record { answer = all k d below; storage = all-unmap P (λ (a : Answered). a.capacities) answers of k d below }
@@ -121,12 +141,8 @@ pub cycles-few : (ms : List Member) → cycles_in ms ≤ length ms
 cycles-few [] = omega arith
 cycles-few (m ∷ ms) = let later = cycles-few ms in omega (arith, later, shows-few m.shown)
 
-runs-few : (outcome : Outcome) → loops_run outcome ≤ 1
-runs-few (outcomes.Live table cycle) = omega arith
-runs-few (outcomes.Blocked counts lacks) = omega arith
-
-loops-few : (answer : Result Evaluation RunError) → most_loops answer ≤ 1
-loops-few (Ok e) = runs-few e.outcome
+loops-few : (answer : Result Rated RunError) → most_loops answer ≤ 1
+loops-few (Ok r) = shows-few r.shown
 loops-few (Err error) = omega arith
 
 pub sum-few : (answers : List Answered) → sum_of most_loops answers ≤ length answers
@@ -157,35 +173,35 @@ module _ (net : Net) (laws : Lawful net) (can : IsExplorable net) (limits : Limi
   pub total-within : storage_of net.channels d.capacities ≡ total → total ≤ old.levels.bounds.total
   total-within is_total = omega (arith, is_total, its-candidate.within, search-limit net can limits (total + 1) (d.capacities ∷ rest) old search)
 
-  candidates-more : (m : Member) → IsOneOf (old.members.items ++ member_of d e ∷ []) m → IsCandidate net limits.total m.capacities.capacities
+  candidates-more : (m : Member) → IsOneOf (old.members.items ++ evaluated_member d e ∷ []) m → IsCandidate net limits.total m.capacities.capacities
   candidates-more m one =
       ⊎_elim
       (λ (h : IsOneOf old.members.items m). search.candidates m h)
-      (λ (h : IsOneOf (member_of d e ∷ []) m). ⊎_elim (λ (same : member_of d e ≡ m). subst (λ (x : Member). IsCandidate net limits.total x.capacities.capacities) same its-candidate) (λ (none : ⊥). absurd none) h)
-      (one-split old.members.items (member_of d e ∷ []) m one)
+      (λ (h : IsOneOf (evaluated_member d e ∷ []) m). ⊎_elim (λ (same : evaluated_member d e ≡ m). subst (λ (x : Member). IsCandidate net limits.total x.capacities.capacities) same its-candidate) (λ (none : ⊥). absurd none) h)
+      (one-split old.members.items (evaluated_member d e ∷ []) m one)
 
-  hint-new : (f : Found (Option ℕ)) → IsFoundBy net.channels old.levels.bounds.total (led_by d.capacities e.enlarge) (Some (length old.members.items)) f → IsHinted net limits.states (old.members.items ++ member_of d e ∷ []) f.hint f.capacities.capacities
-  hint-new f by = subst (λ (hint : Option ℕ). IsHinted net limits.states (old.members.items ++ member_of d e ∷ []) hint f.capacities.capacities) (sym by.hinted) (record {
-    member = member_of d e;
-    at = get-last old.members.items (member_of d e);
+  hint-new : (f : Found (Option ℕ)) → IsFoundBy net.channels old.levels.bounds.total (led_by d.capacities e.enlarge) (Some (length old.members.items)) f → IsHinted net limits.states (old.members.items ++ evaluated_member d e ∷ []) f.hint f.capacities.capacities
+  hint-new f by = subst (λ (hint : Option ℕ). IsHinted net limits.states (old.members.items ++ evaluated_member d e ∷ []) hint f.capacities.capacities) (sym by.hinted) (record {
+    member = evaluated_member d e;
+    at = get-last old.members.items (evaluated_member d e);
     evaluated = (member-noted net d limits.states e is).member;
     most = subst (AtMost d.capacities) (sym by.leads.2) (enlarged-most d.capacities by.leads.0 (step_of (slice_index_or net.channels by.leads.0 nowhere)));
   })
 
-  pub taken-in : (new : Search) → new.members.items ≡ old.members.items ++ member_of d e ∷ [] → AreKnown net limits.states (old.members.items ++ member_of d e ∷ []) (search.entries ++ entry_of (member_of d e) e.enlarge ∷ []) new.front
+  pub taken-in : (new : Search) → new.members.items ≡ old.members.items ++ evaluated_member d e ∷ [] → AreKnown net limits.states (old.members.items ++ evaluated_member d e ∷ []) (search.entries ++ entry_of (evaluated_member d e) e.enlarge ∷ []) new.front
       → IsFrontier net.channels search.corner (total + 1) (visits_of search.entries ++ led_by d.capacities e.enlarge ∷ []) rest new.levels → IsSame old.levels new.levels
       → AreLedOn net.channels old.levels.bounds.total (led_by d.capacities e.enlarge) (Some (length old.members.items)) old.levels.waiting.keys new.levels.waiting.keys → IsSearch net limits (total + 1) rest new
   taken-in new members known frontier same on = record {
-    entries = search.entries ++ entry_of (member_of d e) e.enlarge ∷ [];
-    known = subst (λ (ms : List Member). AreKnown net limits.states ms (search.entries ++ entry_of (member_of d e) e.enlarge ∷ []) new.front) (sym members) known;
+    entries = search.entries ++ entry_of (evaluated_member d e) e.enlarge ∷ [];
+    known = subst (λ (ms : List Member). AreKnown net limits.states ms (search.entries ++ entry_of (evaluated_member d e) e.enlarge ∷ []) new.front) (sym members) known;
     corner = search.corner;
     is_corner = search.is_corner;
     bounds = same.bounds ∙ search.bounds;
-    frontier = subst (λ (vs : List Visit). IsFrontier net.channels search.corner (total + 1) vs rest new.levels) (sym (visits-more search.entries (entry_of (member_of d e) e.enlarge))) frontier;
+    frontier = subst (λ (vs : List Visit). IsFrontier net.channels search.corner (total + 1) vs rest new.levels) (sym (visits-more search.entries (entry_of (evaluated_member d e) e.enlarge))) frontier;
     candidates = λ m one. candidates-more m (subst (λ (ms : List Member). IsOneOf ms m) members one);
     hinted = λ f one. subst (λ (ms : List Member). IsHinted net limits.states ms f.hint f.capacities.capacities) (sym members)
         (⊎_elim
-        (λ (h : Contains old.levels.waiting.keys f). hinted-longer net limits.states old.members.items (member_of d e ∷ []) f.hint f.capacities.capacities (search.hinted f h))
+        (λ (h : Contains old.levels.waiting.keys f). hinted-longer net limits.states old.members.items (evaluated_member d e ∷ []) f.hint f.capacities.capacities (search.hinted f h))
         (λ (h : IsFoundBy net.channels old.levels.bounds.total (led_by d.capacities e.enlarge) (Some (length old.members.items)) f). hint-new f h)
         (on.only f one));
   }
@@ -199,10 +215,10 @@ module _ (net : Net) (laws : Lawful net) (can : IsExplorable net) (limits : Limi
       order = many.order;
       reachable = λ ds one.
           let has = one-contains many.found ds one in
-          (led-candidate net limits.states (old.members.items ++ member_of d e ∷ []) (search.entries ++ entry_of (member_of d e) e.enlarge ∷ [])
-          (noted-more net limits.states old.members.items search.entries (member_of d e) (entry_of (member_of d e) e.enlarge) search.known.noted (member-noted net d limits.states e is)) search.corner search.is_corner can limits.total candidates-more ds
+          (led-candidate net limits.states (old.members.items ++ evaluated_member d e ∷ []) (search.entries ++ entry_of (evaluated_member d e) e.enlarge ∷ [])
+          (noted-more net limits.states old.members.items search.entries (evaluated_member d e) (entry_of (evaluated_member d e) e.enlarge) search.known.noted (member-noted net d limits.states e is)) search.corner search.is_corner can limits.total candidates-more ds
           (subst (λ (n : ℕ). storage_of net.channels ds ≤ n) (search-limit net can limits (total + 1) (d.capacities ∷ rest) old search) (All-contains (λ (x : List (Option ℕ)). storage_of net.channels x ≤ old.levels.bounds.total) many.found ds many.within has))
-          (subst (λ (vs : List Visit). IsLed net.channels search.corner vs ds) (sym (visits-more search.entries (entry_of (member_of d e) e.enlarge))) (many.led ds has))).reachable;
+          (subst (λ (vs : List Visit). IsLed net.channels search.corner vs ds) (sym (visits-more search.entries (entry_of (evaluated_member d e) e.enlarge))) (many.led ds has))).reachable;
     },
     (let most : old.levels.bounds.distributions ≡ limits.distributions = ap (λ (b : Bounds). b.distributions) search.bounds in omega (arith, many.many, most)),
   )
@@ -214,3 +230,10 @@ pub next-turn : (net : Net) → Lawful net → IsExplorable net → (limits : Li
     → MatchOption found (IsEnded net limits old.members.items old.front) (λ (level : Level (Option ℕ)). IsTurn net limits level new)
 next-turn net laws can limits small floor old new search members front same None none frontier = ended-whole net can limits floor old search (frontier net.channels search.corner floor (visits_of search.entries) search.frontier)
 next-turn net laws can limits small floor old new search members front same (Some level) off frontier = turn-of net laws can limits small floor old new search members front level off same (frontier net.channels search.corner floor (visits_of search.entries) search.frontier)
+
+-- the rate of a point is that of a member of less storage
+pub best-of : (net : Net) (limits : Limits) (level : Level (Option ℕ)) (s : Search) (best : Fraction) → IsTurn net limits level s → IsBestOf s.front best → IsBest net best level.total s.members.items
+best-of net limits level s best turn (inl none) = inl none
+best-of net limits level s best turn (inr (p, one, same)) =
+    let from = offer-from net s.members.items (offer_of p) (turn.search.known.front.among (offer_of p) (to-offer (map offer_of s.front) (offer_of p) (one-map offer_of s.front p one))) in
+    inr (from.0, from.1, ap (λ (o : Offer). o.rate) from.2 ∙ same, turn.before from.0 from.1)

@@ -1,4 +1,5 @@
 pub mod Errors
 pub mod Starts
+pub mod Rated
 pub mod Levels
 pub mod Searches

@@ -11,6 +11,7 @@ mod fastest;
 pub mod laws;
 mod level;
 mod members;
+mod rated;
 mod search;
 mod starts;
 mod task;

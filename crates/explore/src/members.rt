@@ -13,15 +13,18 @@ ghost use Rattle.explore.specs.declared.exploration.Member.{Member as AMember};
 ghost use Rattle.explore.specs.Explorations.{IsOneOf, IsRefusal, cycles_in};
 ghost use Rattle.explore.specs.Reachable.{IsExplorable, IsReachable};
 ghost use Rattle.explore.specs.inside.Levels.{least_loops, most_loops, sum_of};
-ghost use Rattle.explore.specs.inside.Searches.{AreKnown, IsAnswerOf, IsMemberAdded, IsSearch, answered_of, entry_of, member_of, offers_at};
+ghost use Rattle.sd_base.specs.declared.numbers.Fraction.{Fraction as AFraction};
+ghost use Rattle.guide.specs.declared.rating.Evaluation.{Evaluation as AnEvaluation};
+ghost use Rattle.explore.specs.inside.Rated.{IsBest, IsRated, evaluated_member, member_of};
+ghost use Rattle.explore.specs.inside.Searches.{AreKnown, IsAnswerOf, IsMemberAdded, IsSearch, answered_of, entry_of, offers_at};
 
 use crate::error::ExploreError;
-use crate::exploration::{Member, Shown};
+use crate::exploration::Member;
 use crate::exploring::Exploring;
 use crate::level::Answered;
+use crate::rated::Rated;
 use crate::search::Search;
 use firing::{Firing, LoopTable, know_laws};
-use guide::{Evaluation, Outcome};
 use lasso::RunError;
 use pareto_front::{Front, Point};
 use sd_base::{Fraction, NoMemory};
@@ -37,7 +40,7 @@ pub(crate) fn take_in_all<F: Firing>(
 ) -> Result<(), ExploreError>
     requires net { IsExplorable (F.net exploring.now.net.now) }
     requires small { exploring.now.limits.total ≤ STORAGE }
-    requires answers { All (IsAnswerOf (F.net exploring.now.net.now) exploring.now.limits total) answers.items }
+    requires answers { (best : AFraction) × IsBest (F.net exploring.now.net.now) best total search.old.members.items × All (IsAnswerOf (F.net exploring.now.net.now) exploring.now.limits total best) answers.items }
     requires search { IsSearch (F.net exploring.now.net.now) exploring.now.limits (total + 1) (answered_of answers.items) search.old }
     ensures search { OnOk result (IsSearch (F.net exploring.now.net.now) exploring.now.limits (total + 1) [] search.new) }
     ensures many { OnOk result (length search.new.members.items ≡ length search.old.members.items + length answers.items) }
@@ -60,7 +63,7 @@ fn take_answer<F: Firing>(
 ) -> Result<(), ExploreError>
     requires net { IsExplorable (F.net exploring.now.net.now) }
     requires small { exploring.now.limits.total ≤ STORAGE }
-    requires answer { IsAnswerOf (F.net exploring.now.net.now) exploring.now.limits total answered }
+    requires answer { (best : AFraction) × IsBest (F.net exploring.now.net.now) best total search.old.members.items × IsAnswerOf (F.net exploring.now.net.now) exploring.now.limits total best answered }
     requires search { (rest : List (List (Option ℕ))) × IsSearch (F.net exploring.now.net.now) exploring.now.limits (total + 1) (answered.capacities.capacities ∷ rest) search.old }
     ensures search { OnOk result ((rest : List (List (Option ℕ))) → IsSearch (F.net exploring.now.net.now) exploring.now.limits (total + 1) (answered.capacities.capacities ∷ rest) search.old →
         IsSearch (F.net exploring.now.net.now) exploring.now.limits (total + 1) rest search.new) }
@@ -69,8 +72,8 @@ fn take_answer<F: Firing>(
 {
     let Answered { capacities, answer } = answered;
     match answer {
-        Ok(evaluation) => {
-            take_in(exploring, total, capacities, evaluation, search)?;
+        Ok(rated) => {
+            take_in(exploring, total, capacities, rated, search)?;
             Ok(())
         }
         Err(error) => Err(refusal(error, capacities)),
@@ -94,17 +97,17 @@ fn take_in<F: Firing>(
     exploring: &Exploring<F>,
     total: u64,
     capacities: Distribution,
-    evaluation: Evaluation,
+    rated: Rated,
     search: &mut Search,
 ) -> Result<(), ExploreError>
     requires net { IsExplorable (F.net exploring.now.net.now) }
     requires small { exploring.now.limits.total ≤ STORAGE }
-    requires evaluated { IsEvaluated (F.net exploring.now.net.now) capacities.capacities exploring.now.limits.states evaluation }
+    requires rated { (best : AFraction) × IsBest (F.net exploring.now.net.now) best total search.old.members.items × ((e : AnEvaluation) × IsEvaluated (F.net exploring.now.net.now) capacities.capacities exploring.now.limits.states e × IsRated best e rated) }
     requires total { storage_of (F.net exploring.now.net.now).channels capacities.capacities ≡ total }
     requires search { (rest : List (List (Option ℕ))) × IsSearch (F.net exploring.now.net.now) exploring.now.limits (total + 1) (capacities.capacities ∷ rest) search.old }
     ensures search { OnOk result ((rest : List (List (Option ℕ))) → IsSearch (F.net exploring.now.net.now) exploring.now.limits (total + 1) (capacities.capacities ∷ rest) search.old →
         IsSearch (F.net exploring.now.net.now) exploring.now.limits (total + 1) rest search.new) }
-    ensures members { OnOk result (search.new.members.items ≡ search.old.members.items ++ member_of capacities evaluation ∷ []) }
+    ensures members { OnOk result (search.new.members.items ≡ search.old.members.items ++ member_of capacities rated ∷ []) }
     ensures refused { IfErr result (IsRefusal (F.net exploring.now.net.now) exploring.now.limits) }
 {
     know_laws(exploring.net);
@@ -113,45 +116,47 @@ fn take_in<F: Firing>(
         exploring.alloc,
         &capacities,
         total,
-        evaluation.enlarge.as_slice(),
+        rated.enlarge.as_slice(),
         hint,
     )?;
-    let member = offered(exploring, total, capacities, evaluation, &mut search.front)?;
+    let member = offered(exploring, total, capacities, rated, &mut search.front)?;
     search.members.push(member)?;
     Ok(())
 }
 
-/// The member that an evaluation makes of a distribution, which is offered to the front if its rate is above 0.
+/// The member that is made of what was kept of a distribution, which is offered to the front if its loop was kept.
 fn offered<F: Firing>(
     exploring: &Exploring<F>,
     total: u64,
     capacities: Distribution,
-    evaluation: Evaluation,
+    rated: Rated,
     front: &mut Front,
 ) -> Result<Member, NoMemory>
     requires { storage_of (F.net exploring.now.net.now).channels capacities.capacities ≡ total }
-    ensures member { IfOk result (λ m. m ≡ member_of capacities evaluation) }
-    ensures known { IfOk result (λ m. (states : ℕ) (ms : List AMember) (es : List Entry) → IsEvaluated (F.net exploring.now.net.now) capacities.capacities states evaluation → AreKnown (F.net exploring.now.net.now) states ms es front.old →
-        AreKnown (F.net exploring.now.net.now) states (ms ++ member_of capacities evaluation ∷ []) (es ++ entry_of (member_of capacities evaluation) evaluation.enlarge ∷ []) front.new) }
+    ensures member { IfOk result (λ m. m ≡ member_of capacities rated) }
+    ensures known { IfOk result (λ m. (states : ℕ) (ms : List AMember) (es : List Entry) (best : AFraction) (e : AnEvaluation) → IsEvaluated (F.net exploring.now.net.now) capacities.capacities states e → IsRated best e rated →
+        IsBest (F.net exploring.now.net.now) best total ms → AreKnown (F.net exploring.now.net.now) states ms es front.old →
+        AreKnown (F.net exploring.now.net.now) states (ms ++ evaluated_member capacities e ∷ []) (es ++ entry_of (evaluated_member capacities e) e.enlarge ∷ []) front.new) }
 {
-    let Evaluation {
+    let Rated {
         rate,
         enlarge: _,
-        outcome,
-    } = evaluation;
-    match outcome {
-        Outcome::Live { table, cycle } => {
+        shown,
+        table,
+    } = rated;
+    match table {
+        Some(table) => {
             offer(exploring.alloc, total, rate, &capacities, table, front)?;
             Ok(Member {
                 capacities,
                 rate,
-                shown: Shown::Cycle(cycle),
+                shown,
             })
         }
-        Outcome::Blocked { counts, lacks: _ } => Ok(Member {
+        None => Ok(Member {
             capacities,
             rate,
-            shown: Shown::Blocked { counts },
+            shown,
         }),
     }
 }

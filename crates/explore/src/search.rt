@@ -233,8 +233,7 @@ fn take_turn<R: Threads + Sync, F: Firing + Sync, G: Gate + Sync, L: Ledger + Se
 {
     know_laws(exploring.net);
     let total = level.total;
-    let members = search.members.as_slice();
-    let answers = run_level(rt, exploring, members, level, gate, steps)?;
+    let answers = run_level(rt, exploring, search, level, gate, steps)?;
     take_in_all(exploring, total, answers, search)?;
     Ok(())
 }

@@ -1,5 +1,5 @@
 -- Where an exploration stands: its members, the distributions that are being evaluated, and those that wait.
-use Rattle.std.specs.Prelude.{◌≡◌, ℕ, ◌+◌, ◌≤◌, ◌⊎◌, ◌↔◌, All, Contains, Option, List, [], ◌∷◌, ◌++◌, length, map, if◌then◌else◌, ◌==◌}
+use Rattle.std.specs.Prelude.{◌≡◌, ℕ, ◌+◌, ◌≤◌, ◌<◌, ◌⊎◌, ◌↔◌, All, Contains, Option, List, [], ◌∷◌, ◌++◌, length, map, if◌then◌else◌, ◌==◌}
 use Rattle.sd_base.specs.declared.limits.Limits.{Limits}
 use Rattle.sd_base.specs.declared.numbers.Fraction.{Fraction}
 use Rattle.sd_base.specs.Net.{Net}
@@ -12,19 +12,13 @@ use Rattle.storage.specs.ClosedLists.{Entry}
 use Rattle.pareto_front.specs.declared.point.Point.{Point}
 use Rattle.pareto_front.specs.Offers.{Offer}
 use Rattle.pareto_front.specs.Points.{IsFrontOf, offer_of}
-use Rattle.guide.specs.declared.rating.Evaluation.{Evaluation}
-use Rattle.guide.specs.declared.rating.Outcome.{Outcome}
-use Rattle.guide.specs.declared.rating.Outcome.TheVariants as outcomes
 use Rattle.guide.specs.Evaluations.{Bounds}
 use Rattle.guide.specs.Guides.{IsInGuide}
 use Rattle.levels.specs.declared.found.Found.{Found}
 use Rattle.levels.specs.declared.found.Level.{Level}
 use Rattle.levels.specs.Visits.{AreVisits, Visit, led_by}
 use Rattle.levels.specs.Frontiers.{IsFrontier, distributions_of}
-use Rattle.storage.specs.declared.distribution.Distribution.{Distribution}
 use Rattle.explore.specs.declared.exploration.Member.{Member}
-use Rattle.explore.specs.declared.exploration.Shown.{Shown}
-use Rattle.explore.specs.declared.exploration.Shown.TheVariants.{Cycle, Blocked}
 use Rattle.explore.specs.declared.search.Search.{Search}
 use Rattle.explore.specs.declared.level.Answered.{Answered}
 use Rattle.explore.specs.inside.Levels.{IsEvaluation, IsVisitable, least_loops, most_loops}
@@ -82,15 +76,6 @@ pub record AreKnown (net : Net) (states : ℕ) (members : List Member) (entries 
   pub front : IsFrontOf (offers_of net members) (map offer_of points)
   pub tables : (p : Point) → IsOneOf points p → HasTable net states p
 
--- what an outcome shows
-abbrev pub shown_by : Outcome → Shown
-shown_by (outcomes.Live table cycle) = Cycle cycle
-shown_by (outcomes.Blocked counts lacks) = Blocked counts
-
--- the member that an evaluation makes of a distribution
-abbrev pub member_of : Distribution → Evaluation → Member
-member_of d e = record { capacities = d; rate = e.rate; shown = shown_by e.outcome }
-
 -- the visits that entries are
 abbrev pub visits_of : List Entry → List Visit
 visits_of es = map (λ (e : Entry). led_by e.capacities e.shown) es
@@ -116,6 +101,7 @@ pub record IsTurn (net : Net) (limits : Limits) (level : Level (Option ℕ)) (s 
   pub search : IsSearch net limits (level.total + 1) (distributions_of level.visits.items) s
   pub totals : All (λ (f : Found (Option ℕ)). storage_of net.channels f.capacities.capacities ≡ level.total) level.visits.items
   pub within : level.total ≤ limits.total
+  pub before : (m : Member) → IsOneOf s.members.items m → storage_of net.channels m.capacities.capacities < level.total
   pub visitable : All (IsVisitable net limits.states s.members.items) level.visits.items
   pub some : 1 ≤ length level.visits.items
 
@@ -147,9 +133,9 @@ IsFarEnough Fastest net limits s = IsEnded net limits s.members.items s.front �
 abbrev pub answered_of : List Answered → List (List (Option ℕ))
 answered_of answers = map (λ (a : Answered). a.capacities.capacities) answers
 
--- an answer of a distribution of the level with this storage
-pub record IsAnswerOf (net : Net) (limits : Limits) (total : ℕ) (a : Answered) : Type 0 where
-  pub answer : IsEvaluation net limits.states a.capacities a.answer
+-- an answer of a distribution of the level with this storage, given the best rate of less
+pub record IsAnswerOf (net : Net) (limits : Limits) (total : ℕ) (best : Fraction) (a : Answered) : Type 0 where
+  pub answer : IsEvaluation net limits.states best a.capacities a.answer
   pub storage : storage_of net.channels a.capacities.capacities ≡ total
 
 -- the member that an answer makes stands last

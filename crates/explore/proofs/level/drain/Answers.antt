@@ -4,7 +4,7 @@ use Rattle.explore.specs.declared.level.Answered.{Answered}
 use Rattle.explore.specs.inside.Levels.{IsAnswered, IsDone, IsEvaluation, least_loops, most_loops, sum_of}
 use Rattle.storage.specs.declared.distribution.Distribution.{Distribution}
 use Rattle.lasso.specs.declared.error.RunError.{RunError}
-use Rattle.guide.specs.declared.rating.Evaluation.{Evaluation}
+use Rattle.explore.specs.declared.rated.Rated.{Rated}
 use Rattle.explore.proofs.Tasks.{answer-is, counts-least, counts-most, drained-more, sum-more}
 use Rattle.explore.proofs.Ends.{all-front, all-last, all-more}
 use Rattle.explore.proofs.level.drain.Goals as goal
@@ -12,25 +12,25 @@ use Rattle.explore.proofs.level.drain.Goals as goal
 pub loop-task-preserved : goal.loop-task-preserved
 loop-task-preserved g c =
     let net = g.F.Firing.net c.args.net.now in
-    let P : Task g.row.F.Denot g.row.L.Denot → Type 0 = λ t. IsDone net c.args.states t.capacities t.steps t.answer in
-    let Q : Answered → Type 0 = λ a. IsEvaluation net c.args.states a.capacities a.answer in
+    let P : Task g.row.F.Denot g.row.L.Denot → Type 0 = λ t. IsDone net c.args.states c.args.best t.capacities t.steps t.answer in
+    let Q : Answered → Type 0 = λ a. IsEvaluation net c.args.states c.args.best a.capacities a.answer in
     let t = c.take_last-capacities.result in
     let rest = c.take_last-capacities.new.self.items in
     let both : All P (rest ++ t ∷ []) = subst (All P) c.take_last-capacities.ensures.items c.loop-task.invariant.3 in
     let here : P t = all-last P rest t both in
-    let answered : IsAnswered net t.capacities.capacities c.args.states 0 t.steps.count (Some c.in-Some.answer) =
-    subst (IsAnswered net t.capacities.capacities c.args.states 0 t.steps.count) c.in-Some.is here.answered in
+    let answered : IsAnswered net t.capacities.capacities c.args.states c.args.best 0 t.steps.count (Some c.in-Some.answer) =
+    subst (IsAnswered net t.capacities.capacities c.args.states c.args.best 0 t.steps.count) c.in-Some.is here.answered in
     let pushed : Answered = record { capacities = t.capacities; answer = c.in-Some.answer } in
     let f : Task g.row.F.Denot g.row.L.Denot → Distribution = λ x. x.capacities in
     let h : Answered → Distribution = λ a. a.capacities in
-    let sums : (p : Result Evaluation RunError → ℕ) → sum_of p c.push_reserved.new.self.items ≡ sum_of p c.loop-task.answers.items + p c.in-Some.answer = λ p. ap (sum_of p) c.push_reserved.ensures.items ∙ sum-more p c.loop-task.answers.items pushed in (
+    let sums : (p : Result Rated RunError → ℕ) → sum_of p c.push_reserved.new.self.items ≡ sum_of p c.loop-task.answers.items + p c.in-Some.answer = λ p. ap (sum_of p) c.push_reserved.ensures.items ∙ sum-more p c.loop-task.answers.items pushed in (
       omega (arith, c.take_last-capacities.ensures.len, c.loop-task.invariant.0),
       omega (arith, c.push_reserved.ensures.len, c.loop-task.invariant.1),
       c.push_reserved.ensures.capacity ∙ c.loop-task.invariant.2,
       all-front P rest t both,
-      subst (All Q) (sym c.push_reserved.ensures.items) (all-more Q c.loop-task.answers.items pushed c.loop-task.invariant.4 (answer-is net t.capacities c.args.states 0 t.steps.count c.in-Some.answer answered)),
+      subst (All Q) (sym c.push_reserved.ensures.items) (all-more Q c.loop-task.answers.items pushed c.loop-task.invariant.4 (answer-is net t.capacities c.args.states c.args.best 0 t.steps.count c.in-Some.answer answered)),
       c.absorb.ensures.share ∙ c.loop-task.invariant.5,
-      omega (arith, c.absorb.ensures.count, c.loop-task.invariant.6, counts-least net t.capacities.capacities c.args.states t.steps.count c.in-Some.answer answered, sums least_loops),
-      omega (arith, c.absorb.ensures.count, c.loop-task.invariant.7, counts-most net t.capacities.capacities c.args.states t.steps.count c.in-Some.answer answered, sums most_loops),
+      omega (arith, c.absorb.ensures.count, c.loop-task.invariant.6, counts-least net t.capacities.capacities c.args.states c.args.best t.steps.count c.in-Some.answer answered, sums least_loops),
+      omega (arith, c.absorb.ensures.count, c.loop-task.invariant.7, counts-most net t.capacities.capacities c.args.states c.args.best t.steps.count c.in-Some.answer answered, sums most_loops),
       c.loop-task.invariant.8 ∙ drained-more f h c.loop-task.tasks.items rest t c.loop-task.answers.items c.push_reserved.new.self.items pushed c.take_last-capacities.ensures.items c.push_reserved.ensures.items refl,
     )

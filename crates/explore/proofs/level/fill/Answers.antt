@@ -16,7 +16,7 @@ use Rattle.explore.proofs.level.fill.Goals as goal
 pub loop-found-preserved : goal.loop-found-preserved
 loop-found-preserved g c =
     let net = g.F.Firing.net c.args.exploring.now.net.now in
-    let P : Task g.row.F.Denot g.row.L.Denot → Type 0 = λ t. IsFresh net (g.F.Firing.net t.net.now) t.wiring.now c.args.exploring.now.limits.states t.capacities t.counts.now t.states t.steps in
+    let P : Task g.row.F.Denot g.row.L.Denot → Type 0 = λ t. IsFresh net (g.F.Firing.net t.net.now) t.wiring.now c.args.exploring.now.limits.states c.args.best t.capacities t.counts.now t.states t.best t.steps in
     let f : Task g.row.F.Denot g.row.L.Denot → Distribution = λ t. t.capacities in
     let k : Found (Option ℕ) → Distribution = λ x. x.capacities in
     let found = c.in-Some.found in
@@ -26,11 +26,11 @@ loop-found-preserved g c =
     subst (IsVisitable net c.args.exploring.now.limits.states c.args.members.now) (sym turn.1) (c.requires.fits (length c.loop-found.yielded) c.in-Some.found turn.0) in
     let fits : IsEvaluable (g.F.Firing.net c.args.exploring.now.net.now) c.into_capacities.result.capacities = subst (λ (d : Distribution). IsEvaluable net d.capacities) (sym c.into_capacities.ensures) visitable.fits in
     let reached : IsReached (bound (g.F.Firing.net c.args.exploring.now.net.now) c.into_capacities.result.capacities) c.led_to-counts.result.now = subst (λ (d : Distribution). IsReached (bound net d.capacities) c.led_to-counts.result.now) (sym c.into_capacities.ensures) c.led_to-counts.ensures in
-    let pushed : Task g.row.F.Denot g.row.L.Denot = record { alloc = c.args.exploring.now.alloc; net = c.args.exploring.now.net; wiring = c.args.exploring.now.wiring; capacities = c.into_capacities.result; counts = c.led_to-counts.result; states = c.args.exploring.now.limits.states; steps = c.share.result; answer = None } in (
+    let pushed : Task g.row.F.Denot g.row.L.Denot = record { alloc = c.args.exploring.now.alloc; net = c.args.exploring.now.net; wiring = c.args.exploring.now.wiring; capacities = c.into_capacities.result; counts = c.led_to-counts.result; states = c.args.exploring.now.limits.states; best = c.args.best; steps = c.share.result; answer = None } in (
       omega (arith, c.push_reserved.ensures.len, c.loop-found.invariant.0, length_push c.loop-found.yielded c.in-Some.found),
       c.push_reserved.ensures.capacity ∙ c.loop-found.invariant.1,
       subst (All P) (sym c.push_reserved.ensures.items) (all-more P c.loop-found.tasks.items pushed c.loop-found.invariant.2
-          (record { net_is = refl; states_are = refl; start = record { fits = fits; wired = c.requires.wired c.into_capacities.result.capacities fits.distribution; reached = reached }; share = c.share.ensures.share; count = c.share.ensures.count })),
+          (record { net_is = refl; states_are = refl; best_is = refl; start = record { fits = fits; wired = c.requires.wired c.into_capacities.result.capacities fits.distribution; reached = reached }; share = c.share.ensures.share; count = c.share.ensures.count })),
       c.share.ensures.stays ∙ c.loop-found.invariant.3,
       ap (map f) c.push_reserved.ensures.items
           ∙ (map-append f c.loop-found.tasks.items (pushed ∷ [])

@@ -6,6 +6,6 @@ abbrev pub invariant-loop-found : goal.invariant-loop-found
 invariant-loop-found g l =
     (vec_len l.tasks ≡ length l.yielded)
     × (vec_capacity l.tasks ≡ vec_capacity l.initial.tasks)
-    × All (λ t. IsFresh (g.F.Firing.net l.exploring.net.now) (g.F.Firing.net t.net.now) t.wiring.now l.exploring.limits.states t.capacities t.counts.now t.states t.steps) l.tasks.items
+    × All (λ t. IsFresh (g.F.Firing.net l.exploring.net.now) (g.F.Firing.net t.net.now) t.wiring.now l.exploring.limits.states l.best t.capacities t.counts.now t.states t.best t.steps) l.tasks.items
     × (l.steps ≡ l.initial.steps)
     × (map (λ t. t.capacities) l.tasks.items ≡ map (λ f. f.capacities) l.yielded)

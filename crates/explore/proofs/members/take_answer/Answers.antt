@@ -1,22 +1,25 @@
-use Rattle.std.proofs.Common.{◌+◌, ◌∷◌, sym, ap, ◌∙◌}
-use Rattle.explore.specs.inside.Levels.{least_loops, most_loops}
+use Rattle.std.proofs.Common.{◌+◌, ◌∷◌, sym, ap}
 use Rattle.std.proofs.lemmas.List.Elements.{Contains-append_right}
 use Rattle.levels.specs.Visits.{visited}
 use Rattle.levels.proofs.Elements.{contains-here}
-use Rattle.explore.specs.inside.Searches.{member_of, visits_of}
+use Rattle.explore.specs.inside.Levels.{least_loops, most_loops}
+use Rattle.explore.specs.inside.Rated.{member_of}
+use Rattle.explore.specs.inside.Searches.{visits_of}
 use Rattle.explore.proofs.Searching.{search-candidate}
-use Rattle.explore.proofs.Knowing.{loops-shown}
 use Rattle.explore.proofs.members.take_answer.Goals as goal
 
-pub take_in-requires-clause-evaluated : goal.take_in-requires-clause-evaluated
-take_in-requires-clause-evaluated g c = rw c.in-Ok.is at c.requires.answer.answer
+pub take_in-requires-clause-rated : goal.take_in-requires-clause-rated
+take_in-requires-clause-rated g c = (c.requires.answer.0, c.requires.answer.1, rw c.in-Ok.is at c.requires.answer.2.answer)
+
+pub take_in-requires-clause-total : goal.take_in-requires-clause-total
+take_in-requires-clause-total g c = c.requires.answer.2.storage
 
 pub returns-in_ok-take_in-in-Ok-clause-member : goal.returns-in_ok-take_in-in-Ok-clause-member
 returns-in_ok-take_in-in-Ok-clause-member g c = record {
-  member = member_of c.args.answered.capacities c.in-Ok.evaluation;
+  member = member_of c.args.answered.capacities c.in-Ok.rated;
   added = c.in_ok-take_in-in-Ok.ensures.members;
-  least = loops-shown c.in-Ok.evaluation.outcome ∙ sym (ap least_loops c.in-Ok.is);
-  most = loops-shown c.in-Ok.evaluation.outcome ∙ sym (ap most_loops c.in-Ok.is);
+  least = sym (ap least_loops c.in-Ok.is);
+  most = sym (ap most_loops c.in-Ok.is);
 }
 
 pub returns-in-Err-clause-refused : goal.returns-in-Err-clause-refused
@@ -26,4 +29,4 @@ returns-in-Err-clause-refused g c =
     let limits = c.args.exploring.now.limits in
     c.refusal.ensures net limits (search-candidate net c.requires.net limits (c.args.total + 1) (c.args.answered.capacities.capacities ∷ search.0) c.args.search.now search.1 c.args.answered.capacities.capacities
     (Contains-append_right (visited (visits_of search.1.entries)) (c.args.answered.capacities.capacities ∷ search.0) c.args.answered.capacities.capacities (contains-here c.args.answered.capacities.capacities search.0))).reachable
-    (rw c.in-Err.is at c.requires.answer.answer)
+    (rw c.in-Err.is at c.requires.answer.2.answer)

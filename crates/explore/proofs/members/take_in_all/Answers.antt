@@ -6,14 +6,19 @@ use Rattle.explore.specs.declared.level.Answered.{Answered}
 use Rattle.explore.specs.inside.Levels.{least_loops, most_loops, sum_of}
 use Rattle.explore.specs.inside.Searches.{IsAnswerOf, IsSearch, answered_of}
 use Rattle.explore.specs.Explorations.{cycles_in}
+use Rattle.explore.specs.inside.Rated.{IsBest}
+use Rattle.explore.proofs.Knowing.{best-more}
 use Rattle.explore.proofs.Levelled.{cycles-same, many-same, rest-more}
 use Rattle.explore.proofs.members.take_in_all.Goals as goal
 
 pub take_answer-requires-clause-answer : goal.take_answer-requires-clause-answer
 take_answer-requires-clause-answer g c =
     let t = YieldsList-turn (YieldsList-from_vec {s = c.into_iter-answered-iterator.result} c.args.answers.items (search rules) (search rules))
-    c.loop-answered.yielded c.loop-answered.answered-iterator c.loop-answered.yielded_by c.next.result c.next.new.self c.in-Some.answered c.in-Some.is c.next.ensures.steps in
-    subst (IsAnswerOf (g.F.Firing.net c.args.exploring.now.net.now) c.args.exploring.now.limits c.args.total) (sym t.1) (c.requires.answers (length c.loop-answered.yielded) c.in-Some.answered t.0)
+    c.loop-answered.yielded c.loop-answered.answered-iterator c.loop-answered.yielded_by c.next.result c.next.new.self c.in-Some.answered c.in-Some.is c.next.ensures.steps in (
+      c.requires.answers.0,
+      c.loop-answered.invariant.4 c.requires.answers.0 c.requires.answers.1,
+      subst (IsAnswerOf (g.F.Firing.net c.args.exploring.now.net.now) c.args.exploring.now.limits c.args.total c.requires.answers.0) (sym t.1) (c.requires.answers.2 (length c.loop-answered.yielded) c.in-Some.answered t.0),
+    )
 
 pub take_answer-requires-clause-search : goal.take_answer-requires-clause-search
 take_answer-requires-clause-search g c =
@@ -37,6 +42,7 @@ loop-answered-preserved g c =
       many-same c.args.search.now.members.items c.loop-answered.search.members.items c.take_answer.new.search.members.items c.loop-answered.yielded c.in-Some.answered member c.loop-answered.invariant.1,
       cycles-same least_loops c.args.search.now.members.items c.loop-answered.search.members.items c.take_answer.new.search.members.items c.loop-answered.yielded c.in-Some.answered member member.least c.loop-answered.invariant.2,
       cycles-same most_loops c.args.search.now.members.items c.loop-answered.search.members.items c.take_answer.new.search.members.items c.loop-answered.yielded c.in-Some.answered member member.most c.loop-answered.invariant.3,
+      λ best was. subst (IsBest (g.F.Firing.net c.args.exploring.now.net.now) best c.args.total) (sym member.added) (best-more (g.F.Firing.net c.args.exploring.now.net.now) best c.args.total c.loop-answered.search.members.items member.member (c.loop-answered.invariant.4 best was)),
     )
 
 pub returns : goal.returns

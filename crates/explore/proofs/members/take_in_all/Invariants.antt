@@ -1,6 +1,8 @@
 use Rattle.std.proofs.Common.{◌≡◌, ◌+◌, drop, length}
 use Rattle.explore.specs.Explorations.{cycles_in}
 use Rattle.explore.specs.inside.Levels.{least_loops, most_loops, sum_of}
+use Rattle.sd_base.specs.declared.numbers.Fraction.{Fraction}
+use Rattle.explore.specs.inside.Rated.{IsBest}
 use Rattle.explore.specs.inside.Searches.{IsSearch, answered_of}
 use Rattle.explore.proofs.members.take_in_all.Given as goal
 
@@ -10,3 +12,4 @@ invariant-loop-answered g l =
     × (length l.search.members.items ≡ length l.initial.search.members.items + length l.yielded)
     × (cycles_in l.search.members.items ≡ cycles_in l.initial.search.members.items + sum_of least_loops l.yielded)
     × (cycles_in l.search.members.items ≡ cycles_in l.initial.search.members.items + sum_of most_loops l.yielded)
+    × ((best : Fraction) → IsBest (g.F.Firing.net l.exploring.net.now) best l.total l.initial.search.members.items → IsBest (g.F.Firing.net l.exploring.net.now) best l.total l.search.members.items)

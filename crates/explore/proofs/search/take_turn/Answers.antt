@@ -6,12 +6,17 @@ use Rattle.levels.specs.declared.found.Found.{Found}
 use Rattle.levels.specs.Frontiers.{distributions_of}
 use Rattle.explore.specs.inside.Searches.{IsSearch}
 use Rattle.explore.proofs.Searching.{counts-few, search-few}
-use Rattle.explore.proofs.Turning.{answered-level, answers-long, cycles-few, level-answers, sum-few}
+use Rattle.explore.proofs.Turning.{answered-level, answers-long, best-of, cycles-few, level-answers, sum-few}
 use Rattle.explore.proofs.search.take_turn.Goals as goal
 
 pub take_in_all-requires-clause-answers : goal.take_in_all-requires-clause-answers
 take_in_all-requires-clause-answers g c =
-    level-answers (g.F.Firing.net c.args.exploring.now.net.now) c.args.exploring.now.limits c.args.level.total c.in_ok-answers.answers.items c.args.level.visits.items c.in_ok-answers.ensures.order c.requires.turn.totals c.in_ok-answers.ensures.answers
+    let net = g.F.Firing.net c.args.exploring.now.net.now in
+    let answers = c.in_ok-answers.ensures.answers in (
+      answers.0,
+      best-of net c.args.exploring.now.limits c.args.level c.args.search.now answers.0 c.requires.turn answers.1,
+      level-answers net c.args.exploring.now.limits c.args.level.total answers.0 c.in_ok-answers.answers.items c.args.level.visits.items c.in_ok-answers.ensures.order c.requires.turn.totals answers.2,
+    )
 
 pub take_in_all-requires-clause-search : goal.take_in_all-requires-clause-search
 take_in_all-requires-clause-search g c =

@@ -1,0 +1,13 @@
+use Rattle.std.proofs.Common.{refl}
+use Rattle.explore.proofs.Tasks.{run-answer}
+use Rattle.explore.proofs.task.TaskJob.run.Goals as goal
+
+pub returns : goal.returns
+returns g c =
+    let t = c.args.self.now in
+    record {
+      same = refl;
+      share = c.evaluate_from-answer.ensures.share;
+      answered = run-answer (g.F.Firing.net t.net.now) t.capacities.capacities t.states t.best t.steps.count c.evaluate_from-answer.new.steps.count c.evaluate_from-answer.result c.keep.result c.keep.ensures
+          c.evaluate_from-answer.ensures.evaluated c.evaluate_from-answer.ensures.refused c.evaluate_from-answer.ensures.count c.evaluate_from-answer.ensures.most;
+    }
