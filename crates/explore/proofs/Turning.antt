@@ -14,9 +14,7 @@ use Rattle.storage.specs.Distributions.{AtMost, storage_of}
 use Rattle.storage.specs.Steps.{step_of}
 use Rattle.storage.proofs.Enlarging.{enlarged-most}
 use Rattle.guide.specs.declared.rating.Evaluation.{Evaluation}
-use Rattle.guide.specs.declared.rating.Outcome.{Outcome}
-use Rattle.guide.specs.declared.rating.Outcome.TheVariants as outcomes
-use Rattle.guide.specs.Evaluations.{IsEvaluated, loops_run}
+use Rattle.guide.specs.Evaluations.{IsEvaluated}
 use Rattle.levels.specs.declared.error.LevelsError.{LevelsError}
 use Rattle.levels.specs.declared.error.LevelsError.TheVariants as causes
 use Rattle.levels.specs.declared.found.Found.{Found}
@@ -39,7 +37,6 @@ use Rattle.explore.specs.inside.Searches.{AreKnown, IsAnswerOf, IsCandidate, IsE
 use Rattle.explore.specs.inside.Rated.{IsBest, IsBestOf, evaluated_member}
 use Rattle.explore.specs.declared.rated.Rated.{Rated}
 use Rattle.sd_base.specs.declared.numbers.Fraction.{Fraction}
-use Rattle.pareto_front.specs.declared.point.Point.{Point}
 use Rattle.pareto_front.specs.Points.{offer_of}
 use Rattle.pareto_front.specs.Offers.{Offer}
 use Rattle.explore.specs.inside.Starts.{IsHinted}
