@@ -133,12 +133,7 @@ fn put_edge(
 
 /// Puts a node of a timed graph with so many shared tokens at the end of a text.
 #[tactic(auto, unfolding(crate::specs::WorstTexts::node_text))]
-fn put_node(
-    text: &mut String,
-    nodes: &Nodes,
-    tokens: u64,
-    node: u64,
-) -> Result<(), AllocError>
+fn put_node(text: &mut String, nodes: &Nodes, tokens: u64, node: u64) -> Result<(), AllocError>
     requires { node < length nodes.now.states.now * tokens }
     ensures { OnOk result (string_bytes text.new ≡ string_bytes text.old ++ node_text nodes.now.states.now nodes.now.shared.now tokens node) }
 {
