@@ -2,7 +2,9 @@
 -- come to.
 use Rattle.std.specs.Prelude.{◌≡◌, ℕ, ◌*◌, ◌≤◌, ◌<◌, Option, List, [], length, slice_index, slice_index_or}
 use Rattle.sd_base.specs.Net.{Channel, Net, nowhere}
+use Rattle.sd_base.specs.Rates.{Rate}
 use Rattle.storage.specs.Distributions.{capacity_at, IsDistribution, AtMost, storage_of, enlarged}
+use Rattle.storage.specs.BoundedNets.{bound}
 use Rattle.storage.specs.Steps.{step_of, IsOnGrid, IsCorner, rounded}
 use Rattle.storage.specs.ParetoPoints.{Pair, Rating, IsReachedBy, no_pair, rating_of}
 
@@ -66,6 +68,22 @@ pub record IsFrontOverBy (cs : List Channel) (rating : Rating) (limit : ℕ) (es
 abbrev pub IsClosed : Net → ℕ → List Entry → Type 0
 IsClosed net limit es = IsClosedBy net.channels (rating_of net) limit es
 
--- pairs that cover the members of such a list
+-- the same, but that rates are bounded of what agrees with a member as it stands, and nothing is said of the corner: of nets
+-- this is enough
+pub record IsClosedUnrounded (net : Net) (limit : ℕ) (es : List Entry) : Type 0 where
+  pub corner : List (Option ℕ)
+  pub is_corner : IsCorner net.channels corner
+  pub start : storage_of net.channels corner ≤ limit → HasEntry es corner
+  pub distributions : (i : ℕ) → i < length es → IsDistribution net.channels (entry_at es i).capacities
+  pub grid : (i : ℕ) → i < length es → IsOnGrid net.channels (entry_at es i).capacities
+  pub within : (i : ℕ) → i < length es → storage_of net.channels (entry_at es i).capacities ≤ limit
+  pub next : (i j : ℕ) → i < length es → j < length (entry_at es i).shown →
+      storage_of net.channels (enlarged (entry_at es i).capacities (slice_index (entry_at es i).shown j) (step_of (slice_index_or net.channels (slice_index (entry_at es i).shown j) nowhere))) ≤ limit →
+      HasEntry es (enlarged (entry_at es i).capacities (slice_index (entry_at es i).shown j) (step_of (slice_index_or net.channels (slice_index (entry_at es i).shown j) nowhere)))
+  pub positive : (i : ℕ) → i < length es → 1 ≤ (entry_at es i).den
+  pub bounds : (i : ℕ) → i < length es → (ds : List (Option ℕ)) → IsDistribution net.channels ds → storage_of net.channels ds ≤ limit → AtMost (entry_at es i).capacities ds →
+      AgreesOn (entry_at es i).shown (entry_at es i).capacities ds → (p q : ℕ) → Rate (bound net ds) p q → p * (entry_at es i).den ≤ (entry_at es i).num * q
+
+-- pairs that cover the members of a closed list
 abbrev pub IsFrontOver : Net → ℕ → List Entry → List Pair → Type 0
 IsFrontOver net limit es pairs = IsFrontOverBy net.channels (rating_of net) limit es pairs

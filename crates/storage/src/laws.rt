@@ -9,7 +9,7 @@ ghost use Rattle.storage.specs.BoundedNets.{HasNoSpaces, bound};
 ghost use Rattle.storage.specs.Steps.{IsCorner, rounded};
 ghost use Rattle.storage.specs.ShownSpaces.{ShowsSpace};
 ghost use Rattle.storage.specs.ParetoPoints.{IsFront, Pair, Reaches};
-ghost use Rattle.storage.specs.ClosedLists.{Entry, IsClosed, IsCovered, IsFrontOver};
+ghost use Rattle.storage.specs.ClosedLists.{Entry, IsClosed, IsClosedUnrounded, IsCovered, IsFrontOver};
 ghost use Rattle.sd_base.specs.Connection.{IsConnected, IsStronglyConnected};
 ghost use Rattle.sd_base.specs.declared.limits.TheConstants.{CAPACITY, NET_CHANNELS, TOKENS};
 ghost use Rattle.sd_base.specs.declared.tables.GraphFile.{GraphFile};
@@ -57,12 +57,14 @@ pub fn blocked_nets_have_rate_zero()
 {}
 
 /// Each distribution that reaches a pair within the limit is above a member of a closed list that bounds its rate; so pairs
-/// that are reached and cover the members are the front.
+/// that are reached and cover the members are the front. Of a net it is enough that rates are bounded of what agrees with a
+/// member as it stands.
 pub fn closed_lists_give_the_front()
     ensures covers { (net : Net) (limit t p q : ℕ) (es : List Entry) (ds : List (Option ℕ)) → Lawful net → IsClosed net limit es → Reaches net limit t p q ds →
         IsCovered es ds p q }
     ensures front { (net : Net) (limit : ℕ) (es : List Entry) (pairs : List Pair) → Lawful net → IsClosed net limit es → IsFrontOver net limit es pairs →
         IsFront net limit pairs }
+    ensures nets { (net : Net) (limit : ℕ) (es : List Entry) → Lawful net → IsClosedUnrounded net limit es → IsClosed net limit es }
 {}
 
 /// Buffers without a fault give the net of their graph capacities that it can hold, and not too many channels; and no
