@@ -1,16 +1,17 @@
 -- Chains and ways of the net of a scenario's graph, by the numbers of the first shared tokens of its channels.
-use Rattle.std.proofs.Common.{◌≡◌, ℕ, ◌+◌, ◌-◌, ◌≤◌, ◌<◌, false, List, [], length, sym, ap, subst, ◌∙◌, arith}
+use Rattle.std.proofs.Common.{◌≡◌, ℕ, ◌+◌, ◌-◌, ◌*◌, ◌≤◌, ◌<◌, false, List, [], length, sum, sym, ap, subst, ◌∙◌, arith, mul-le-mul_right}
 use Rattle.std.specs.Prelude.{slice_index, slice_index_or}
 use Rattle.std.proofs.lemmas.List.{get_or-map, length-map}
+use Rattle.sd_base.specs.declared.limits.TheConstants.{STAMPS}
 use Rattle.sd_base.specs.declared.tables.Kind.TheVariants.{Sdf}
 use Rattle.sd_base.specs.declared.tables.GraphFile.{GraphFile}
 use Rattle.sd_base.specs.declared.tables.ActorRow.{ActorRow}
 use Rattle.sd_base.specs.declared.tables.SharedRow.{SharedRow}
-use Rattle.sd_base.specs.Tables.{KeepsWideRules, IsTimed}
-use Rattle.sd_base.specs.Net.{Net, channel_at}
+use Rattle.sd_base.specs.Tables.{KeepsWideRules, IsTimed, phases_of}
+use Rattle.sd_base.specs.Net.{Net, channel_at, IsRepetitionOf}
 use Rattle.sd_base.specs.Schedules.{phases_at}
 use Rattle.sd_base.specs.FileNet.{net_of}
-use Rattle.sd_base.specs.Scenarios.{Shares}
+use Rattle.sd_base.specs.Scenarios.{Shares, shared_count}
 use Rattle.firing.specs.Wiring.{IsWiringOf}
 use Rattle.firing.specs.declared.wiring.Wiring.{Wiring}
 use Rattle.token_matrix.specs.Stamps.{first_of, no_row}
@@ -21,8 +22,17 @@ use Rattle.entry_ways.specs.WayMarks.{HasWay, IsLongestWay}
 use Rattle.entry_ways.specs.inside.Columns.{IsTraceable}
 use Rattle.entry_ways.specs.inside.Firsts.{AreFirsts}
 use Rattle.entry_ways.specs.inside.Traces.{AreApart, IsOnChannel}
+use Rattle.entry_ways.proofs.ColumnSteps.{part-sum}
 use Rattle.entry_ways.proofs.Apartness.{channels-apart}
 use Rattle.entry_ways.proofs.SameNumbers.{same-way, same-longest}
+
+-- shared tokens have numbers below their limit, since some actor fires in a round
+pub few-shared : (shared : List SharedRow) (g : GraphFile) (gamma : List ℕ) → KeepsWideRules g → IsRepetitionOf g gamma → sum gamma * shared_count shared ≤ STAMPS → shared_count shared ≤ STAMPS
+few-shared shared g gamma rules gives within =
+    let first : 1 ≤ slice_index gamma 0 = gives.balances.fires 0 (let f : 0 < length (phases_of g) = omega (arith, rules.some_actor, length-map g.actors (λ (r : ActorRow). r.phases)) in f) in
+    let part : slice_index gamma 0 ≤ sum gamma = part-sum gamma 0 (let f : 0 < length gamma = omega (arith, gives.balances.actors, rules.some_actor, length-map g.actors (λ (r : ActorRow). r.phases)) in f) in
+    let up : 1 * shared_count shared ≤ sum gamma * shared_count shared = mul-le-mul_right (shared_count shared) (let f : 1 ≤ sum gamma = omega arith in f) in
+    omega arith
 
 module _ (shared : List SharedRow) (g : GraphFile) (gamma : List ℕ) (rules : KeepsWideRules g) (kind : g.kind ≡ Sdf) (firsts : List ℕ) (are : AreFirsts shared g firsts) (net : Net) (is : net ≡ net_of g gamma false) where
   many : length net.channels ≡ length g.channels

@@ -10,7 +10,6 @@ use crate::chains::Chains;
 use firing::{Firing, know_laws, know_wiring};
 use sd_base::{NoMemory, Rows};
 use std::alloc::Global;
-use std::cmp::max;
 
 /// The firings of a channel's source that put the tokens of a firing of its target, from the first to one past the last,
 /// and whether the shared token is among those that it takes.
@@ -242,6 +241,6 @@ fn later(first: Option<u128>, second: Option<u128>) -> Option<u128>
     match (first, second) {
         (None, other) => other,
         (Some(start), None) => Some(start),
-        (Some(start), Some(other)) => Some(max(start, other)),
+        (Some(start), Some(other)) => Some(start.max(other)),
     }
 }
