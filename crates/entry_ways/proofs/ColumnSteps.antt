@@ -1,19 +1,22 @@
 -- A column with the start of one more firing is a column.
-use Rattle.std.proofs.Common.{◌≡◌, ℕ, zero, suc, ◌+◌, ◌≤◌, ◌<◌, ◌⊎◌, List, [], ◌∷◌, ◌++◌, length, Option, None, Some, inl, inr, ⊎_elim, subst, sym, ap, ◌∙◌, refl, arith, length-append, sum, mod-lt, ◌%◌}
+use Rattle.std.proofs.Common.{◌≡◌, ℕ, zero, suc, ◌+◌, ◌≤◌, ◌<◌, ◌⊎◌, List, [], ◌∷◌, ◌++◌, length, Option, None, Some, Result, Ok, Err, inl, inr, ⊎_elim, subst, sym, ap, ◌∙◌, refl, arith, length-append, sum, mod-lt, ◌%◌}
 use Rattle.std.specs.Prelude.{slice_index, slice_index_or}
+use Rattle.std.specs.Result.{OnOk}
 use Rattle.std.proofs.lemmas.Bool.{cases_lt, cases_eq}
 use Rattle.std.proofs.lemmas.List.{get_or_append_left}
 use Rattle.std.proofs.lemmas.List.Sums.{get_or-le-sum_by}
 use Rattle.sd_base.specs.Net.{Net, channel_at, total}
 use Rattle.sd_base.specs.Lawful.{Lawful}
-use Rattle.sd_base.specs.declared.limits.TheConstants.{TIME}
+use Rattle.sd_base.specs.declared.limits.TheConstants.{ROUND, TIME}
+use Rattle.sd_base.specs.declared.memory.NoMemory.{NoMemory}
 use Rattle.sd_base.specs.Schedules.{phases_at, time_of}
 use Rattle.sd_base.specs.Untimed.{one_more, CanFire, none_fired}
+use Rattle.sd_base.proofs.Parts.{balanced}
 use Rattle.sd_base.proofs.Blocking.{bump-same, bump-other}
 use Rattle.token_matrix.specs.Stamps.{IsTakenBy}
 use Rattle.token_matrix.specs.Ways.{IsChain}
 use Rattle.token_matrix.specs.Ways.IsChain.{begins, goes}
-use Rattle.entry_ways.specs.inside.Columns.{start_in, AreUpTo, IsColumn, IsLink, IsLinkInto, IsLongest, HasStart}
+use Rattle.entry_ways.specs.inside.Columns.{start_in, AreUpTo, IsColumn, IsFedBy, IsLink, IsLinkInto, IsLongest, HasStart}
 use Rattle.token_matrix.proofs.Putters.{put_earlier}
 
 -- a start is there only for a firing that the column has
@@ -126,6 +129,30 @@ same-default (x ∷ xs) (suc i) d e below = same-default xs i d e (omega arith)
 
 pub part-sum : (xs : List ℕ) (i : ℕ) → i < length xs → slice_index xs i ≤ sum xs
 part-sum xs i below = get_or-le-sum_by (λ (n : ℕ). n) xs i 0 below
+
+-- an actor fires in a round no more often than all do
+pub round-small : (net : Net) → Lawful net → (a : ℕ) → a < length net.times → slice_index net.round a ≤ ROUND
+round-small net laws a actor =
+    let many : length net.round ≡ length net.times = (balanced net laws).actors in
+    let part : slice_index net.round a ≤ sum net.round = part-sum net.round a (omega arith) in
+    omega (arith, laws.small_round)
+
+-- a row of a column is as long as its actor has fired
+pub row-long : (net : Net) (first : ℕ → ℕ) (p : ℕ) (v : ℕ → ℕ) (rows : List (List (Option ℕ))) → IsColumn net first p v rows → (a : ℕ) (row : List (Option ℕ)) → a < length net.times → row ≡ slice_index_or rows a row → length row ≡ v a
+row-long net first p v rows column a row actor is =
+    ap (λ (r : List (Option ℕ)). length r) (is ∙ same-default rows a row [] (omega (arith, column.actors))) ∙ column.whole a actor
+
+-- what the next firing takes is put by firings that have starts
+pub next-fed : (net : Net) → Lawful net → (first : ℕ → ℕ) (p : ℕ) (v : ℕ → ℕ) (rows : List (List (Option ℕ))) → IsColumn net first p v rows → (a : ℕ) → CanFire net v a
+    → (i : ℕ) → i < length net.channels → (channel_at net i).target ≡ a → IsFedBy net rows i (v a)
+next-fed net laws first p v rows column a can i below into =
+    subst (λ (n : ℕ). total (channel_at net i).taken (v a + 1) ≤ (channel_at net i).tokens + total (channel_at net i).made n)
+    (sym (column.whole (channel_at net i).source (laws.sources i below))) (can i below into)
+
+-- what holds of a value that is there, where something else does
+pub on-ok : {P Q : Type 0} → (r : Result (Unit {0}) NoMemory) → (P → Q) → OnOk r P → OnOk r Q
+on-ok (Ok o) then has = then has
+on-ok (Err e) then has = tt
 
 -- no link comes later than the starts and a time
 pub link-small : (net : Net) → Lawful net → ((a : ℕ) → a < length net.times → phases_at net a ≡ 1) → (first : ℕ → ℕ) (p : ℕ) (rows : List (List (Option ℕ))) (b a j t : ℕ) → AreUpTo b rows → IsLinkInto net first p rows a j t → t ≤ b + TIME
