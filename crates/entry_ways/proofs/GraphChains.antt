@@ -1,5 +1,5 @@
 -- Chains and ways of the net of a scenario's graph, by the numbers of the first shared tokens of its channels.
-use Rattle.std.proofs.Common.{◌≡◌, ℕ, ◌+◌, ◌-◌, ◌*◌, ◌≤◌, ◌<◌, false, List, [], length, sum, sym, ap, subst, ◌∙◌, arith, mul-le-mul_right}
+use Rattle.std.proofs.Common.{◌≡◌, ℕ, ◌-◌, ◌*◌, ◌≤◌, ◌<◌, false, List, [], length, sum, sym, ap, subst, ◌∙◌, arith, mul-le-mul_right}
 use Rattle.std.specs.Prelude.{slice_index, slice_index_or}
 use Rattle.std.proofs.lemmas.List.{get_or-map, length-map}
 use Rattle.sd_base.specs.declared.limits.TheConstants.{STAMPS}
@@ -21,7 +21,7 @@ use Rattle.entry_ways.specs.declared.marking.EntryPlace.{EntryPlace}
 use Rattle.entry_ways.specs.WayMarks.{HasWay, IsLongestWay}
 use Rattle.entry_ways.specs.inside.Columns.{IsTraceable}
 use Rattle.entry_ways.specs.inside.Firsts.{AreFirsts}
-use Rattle.entry_ways.specs.inside.Traces.{AreApart, IsOnChannel}
+use Rattle.entry_ways.specs.inside.Traces.{AreApart}
 use Rattle.entry_ways.proofs.ColumnSteps.{part-sum}
 use Rattle.entry_ways.proofs.Apartness.{channels-apart}
 use Rattle.entry_ways.proofs.SameNumbers.{same-way, same-longest}
@@ -67,8 +67,12 @@ module _ (shared : List SharedRow) (g : GraphFile) (gamma : List ℕ) (rules : K
 
   -- an entry has a way by these numbers
   pub way-by : (entry : EntryPlace) → HasWay (net_of g gamma false) (first_of shared g) entry → (e : ℕ) × (cs : List ℕ) × IsWay net (slice_index firsts) entry.column entry.row e cs
-  way-by entry (e, cs, way) = (e, cs, same-way net (first_of shared g) (slice_index firsts) (λ i below. sym (numbers i below)) entry.column entry.row e cs
-      (subst (λ (n : Net). IsWay n (first_of shared g) entry.column entry.row e cs) (sym is) way))
+  way-by entry (e, cs, way) = (
+    e,
+    cs,
+    same-way net (first_of shared g) (slice_index firsts) (λ i below. sym (numbers i below)) entry.column entry.row e cs
+        (subst (λ (n : Net). IsWay n (first_of shared g) entry.column entry.row e cs) (sym is) way),
+  )
 
   -- and a longest way by them is one
   pub longest-by : (p q : ℕ) (cs : List ℕ) → IsLongestWay net (slice_index firsts) p q cs → IsLongestWay (net_of g gamma false) (first_of shared g) p q cs

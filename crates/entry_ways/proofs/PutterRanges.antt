@@ -1,5 +1,5 @@
 -- Which firings put the tokens that one firing takes.
-use Rattle.std.proofs.Common.{◌≡◌, ℕ, zero, suc, ◌+◌, ◌-◌, ◌*◌, ◌/◌, ◌%◌, ◌≤◌, ◌<◌, ◌⊎◌, Bool, List, [], ◌∷◌, length, sum, ⊎_elim, ap, ◌∙◌, refl, arith, mod-lt, mul-le-mul_right, div-add-mod'}
+use Rattle.std.proofs.Common.{◌≡◌, ℕ, zero, suc, ◌+◌, ◌-◌, ◌*◌, ◌/◌, ◌%◌, ◌≤◌, ◌<◌, ◌⊎◌, Bool, List, [], ◌∷◌, length, sum, ⊎_elim, ap, ◌∙◌, refl, arith, mod-lt, div-add-mod'}
 use Rattle.std.specs.Prelude.{◌↔◌, IsTrue, slice_index}
 use Rattle.std.proofs.lemmas.Bool.{cases_lt}
 use Rattle.sd_base.specs.Net.{Channel, Net, channel_at, total, phase_entry}
@@ -39,9 +39,12 @@ module _ (net : Net) (number : ℕ → ℕ) (p i j from end : ℕ) (start : tota
   -- the shared token is taken just where it is among those that are there
   pub among : (has : Bool) → (IsTrue has ↔ IsAmong (number i) p from end (channel_at net i).tokens) → Token has
   among has same = (
-    λ yes. (let a = same.0 yes in (p - number i,
-        ((let f : total (channel_at net i).taken j ≤ p - number i = omega (arith, start, a.past, a.low) in f), (let f : p - number i < total (channel_at net i).taken (j + 1) = omega (arith, stop, a.past, a.high) in f)),
-        (let f : p - number i < (channel_at net i).tokens = omega (arith, a.past, a.there) in f), (let e : p ≡ number i + (p - number i) = omega (arith, a.past) in e))),
+    λ yes. (let a = same.0 yes in (
+      p - number i,
+      ((let f : total (channel_at net i).taken j ≤ p - number i = omega (arith, start, a.past, a.low) in f), (let f : p - number i < total (channel_at net i).taken (j + 1) = omega (arith, stop, a.past, a.high) in f)),
+      (let f : p - number i < (channel_at net i).tokens = omega (arith, a.past, a.there) in f),
+      (let e : p ≡ number i + (p - number i) = omega (arith, a.past) in e),
+    )),
     λ token. (let m : ℕ = token.0 in let low : from ≤ m = omega (arith, start, token.1.0) in let high : m < end = omega (arith, stop, token.1.1) in
         let b : m < (channel_at net i).tokens = token.2 in let e : p ≡ number i + m = token.3 in
         same.1 (record { past = omega (arith, e); low = omega (arith, e, low); high = omega (arith, e, high); there = omega (arith, e, b) })),
@@ -68,16 +71,17 @@ module _ (net : Net) (number : ℕ → ℕ) (p i j from end : ℕ) (start : tota
         (t.0, ((let f : total (channel_at net i).taken j ≤ t.0 = omega (arith, start, t.1) in f), (let f : t.0 < total (channel_at net i).taken (j + 1) = omega (arith, stop, t.2) in f)), (t.3, t.4)));
     all = λ n h is put. (
         let here : from ≤ n = omega (arith, start, is.0) in
-        let there : n < end = omega (arith, stop, is.1) in
-        (⊎_elim (λ (less : h < k). absurd (
-            let up : total (channel_at net i).made (h + 1) ≤ total (channel_at net i).made k = total-le (channel_at net i).made (omega arith) in
-            let before : n < m = omega (arith, put.1, first.0) in
-            let no : ⊥ = ⊎_elim (λ (e : m ≡ from). omega arith) (λ (e : m ≡ (channel_at net i).tokens). omega (arith, put.0)) which in no))
-            (λ (more : k ≤ h). more) (cases_lt h k),
-        ⊎_elim (λ (less : h < l + 1). less)
-            (λ (more : l + 1 ≤ h). absurd (
-            let up : total (channel_at net i).made (l + 1) ≤ total (channel_at net i).made h = total-le (channel_at net i).made more in
-            let no : ⊥ = omega (arith, put.0, puts.1) in no)) (cases_lt h (l + 1))));
+        let there : n < end = omega (arith, stop, is.1) in (
+          ⊎_elim (λ (less : h < k). absurd (
+              let up : total (channel_at net i).made (h + 1) ≤ total (channel_at net i).made k = total-le (channel_at net i).made (omega arith) in
+              let before : n < m = omega (arith, put.1, first.0) in
+              let no : ⊥ = ⊎_elim (λ (e : m ≡ from). omega arith) (λ (e : m ≡ (channel_at net i).tokens). omega (arith, put.0)) which in no))
+              (λ (more : k ≤ h). more) (cases_lt h k),
+          ⊎_elim (λ (less : h < l + 1). less)
+              (λ (more : l + 1 ≤ h). absurd (
+              let up : total (channel_at net i).made (l + 1) ≤ total (channel_at net i).made h = total-le (channel_at net i).made more in
+              let no : ⊥ = omega (arith, put.0, puts.1) in no)) (cases_lt h (l + 1)),
+        ));
   }
 
 -- a single rate that moves a token

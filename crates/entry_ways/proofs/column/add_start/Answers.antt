@@ -1,4 +1,4 @@
-use Rattle.std.proofs.Common.{◌≡◌, ◌≤◌, ◌<◌, ◌+◌, ◌*◌, ℕ, List, length, take, Option, Some, sym, subst, ◌∙◌, arith}
+use Rattle.std.proofs.Common.{◌≡◌, ◌≤◌, ◌+◌, ◌*◌, ℕ, List, length, take, Option, Some, sym, subst, ◌∙◌, arith}
 use Rattle.std.specs.Prelude.{slice_index}
 use Rattle.sd_base.specs.declared.limits.TheConstants.{TIME}
 use Rattle.sd_base.specs.Net.{Net}
@@ -54,12 +54,12 @@ returns-clause-column g c =
     let f = fires_at net none_fired c.args.order.now c.args.place c.requires.order.fires c.requires.within in
     let firing : c.len-firing.result ≡ v a = c.len-firing.ensures ∙ row-long net number p v old c.requires.column a c.index.result.now f.actor c.index.ensures in
     let longest : IsLongest (IsLinkInto net number p old a (v a)) start =
-        subst (λ (n : ℕ). IsLongest (IsLinkInto net number p old a n) start) {y = v a} firing
-        (subst (λ (rows : List (List (Option ℕ))). IsLongest (IsLinkInto net number p rows a c.len-firing.result) start) {y = old} c.as_slice.ensures.value c.start_of-start.ensures) in
+    subst (λ (n : ℕ). IsLongest (IsLinkInto net number p old a n) start) {y = v a} firing
+    (subst (λ (rows : List (List (Option ℕ))). IsLongest (IsLinkInto net number p rows a c.len-firing.result) start) {y = old} c.as_slice.ensures.value c.start_of-start.ensures) in
     on-ok c.push_start.result
     (λ (has : HasStart a start old c.push_start.new.rows.items).
-      subst (λ (w : ℕ → ℕ). IsColumn net number p w c.push_start.new.rows.items) (sym (after_more none_fired c.args.order.now c.args.place c.requires.within))
-      (column-more net c.know_laws.ensures number p v a start old c.push_start.new.rows.items c.requires.column f.actor f.below f.can longest has))
+    subst (λ (w : ℕ → ℕ). IsColumn net number p w c.push_start.new.rows.items) (sym (after_more none_fired c.args.order.now c.args.place c.requires.within))
+    (column-more net c.know_laws.ensures number p v a start old c.push_start.new.rows.items c.requires.column f.actor f.below f.can longest has))
     c.push_start.ensures
 
 pub returns-clause-small : goal.returns-clause-small
@@ -69,11 +69,11 @@ returns-clause-small g c =
     let p : ℕ = c.args.chains.now.token in
     let a : ℕ = slice_index c.args.order.now c.args.place in
     let low : (t : ℕ) → c.start_of-start.result ≡ Some t → t ≤ TIME * (c.args.place + 1) = λ t at. (
-        let bound : AreUpTo (TIME * c.args.place) c.as_slice.result.now = subst (λ (rows : List (List (Option ℕ))). AreUpTo (TIME * c.args.place) rows) {y = c.as_slice.result.now} (sym c.as_slice.ensures.value) c.requires.small in
-        let most : t ≤ TIME * c.args.place + TIME =
-            link-small net c.know_laws.ensures c.requires.chains.phases number p c.as_slice.result.now (TIME * c.args.place) a c.len-firing.result t bound (c.start_of-start.ensures.just t at) in
-        omega arith) in
+    let bound : AreUpTo (TIME * c.args.place) c.as_slice.result.now = subst (λ (rows : List (List (Option ℕ))). AreUpTo (TIME * c.args.place) rows) {y = c.as_slice.result.now} (sym c.as_slice.ensures.value) c.requires.small in
+    let most : t ≤ TIME * c.args.place + TIME =
+    link-small net c.know_laws.ensures c.requires.chains.phases number p c.as_slice.result.now (TIME * c.args.place) a c.len-firing.result t bound (c.start_of-start.ensures.just t at) in
+    omega arith) in
     on-ok c.push_start.result
     (λ (has : HasStart a c.start_of-start.result c.args.rows.now.items c.push_start.new.rows.items).
-      starts-small a c.start_of-start.result c.args.rows.now.items c.push_start.new.rows.items (TIME * c.args.place) (TIME * (c.args.place + 1)) c.requires.small (omega arith) low has)
+    starts-small a c.start_of-start.result c.args.rows.now.items c.push_start.new.rows.items (TIME * c.args.place) (TIME * (c.args.place + 1)) c.requires.small (omega arith) low has)
     c.push_start.ensures

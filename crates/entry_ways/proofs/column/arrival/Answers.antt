@@ -1,8 +1,7 @@
-use Rattle.std.proofs.Common.{ℕ, Option, sym, subst}
+use Rattle.std.proofs.Common.{ℕ}
 use Rattle.std.specs.Prelude.{slice_index}
 use Rattle.sd_base.specs.Net.{Net}
 use Rattle.entry_ways.specs.declared.putters.Putters.{Putters}
-use Rattle.entry_ways.specs.inside.Columns.{IsLink, IsLongest}
 use Rattle.entry_ways.proofs.Arrivals.{putters-there, token-links, other-links}
 use Rattle.entry_ways.proofs.column.arrival.Goals as goal
 
@@ -18,7 +17,7 @@ returns-then-putters g c =
     let number : ℕ → ℕ = slice_index c.args.chains.now.firsts.now in
     let p : ℕ = c.args.chains.now.token in
     let by : Putters = c.putters_of-putters.result in
-    subst (λ (o : Option ℕ). IsLongest (IsLink net number p c.args.rows.now c.args.channel c.args.firing) o) (sym c.later.ensures)
+    rw c.later.ensures
     (token-links net number p c.args.rows.now c.args.channel c.args.firing by.has_token by.first by.end c.latest_end-end.result c.putters_of-putters.ensures c.if-putters.true c.latest_end-end.ensures)
 
 pub returns-else-putters : goal.returns-else-putters

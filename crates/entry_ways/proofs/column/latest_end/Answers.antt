@@ -1,6 +1,6 @@
-use Rattle.std.proofs.Common.{◌≡◌, ◌≤◌, ◌+◌, ℕ, List, Option, inl, inr, ⊎_elim, ap, sym, subst, ◌∙◌, refl, arith}
+use Rattle.std.proofs.Common.{◌≡◌, ◌≤◌, ℕ, List, Option, inl, inr, ⊎_elim, subst, refl, arith}
 use Rattle.sd_base.specs.Net.{Net}
-use Rattle.entry_ways.specs.inside.Columns.{IsEndIn, IsLongest, later}
+use Rattle.entry_ways.specs.inside.Columns.{IsEndIn, IsLongest}
 use Rattle.entry_ways.proofs.Arrivals.{ends-none, ends-more}
 use Rattle.entry_ways.proofs.Longest.{longest-same}
 use Rattle.entry_ways.proofs.column.latest_end.Goals as goal
@@ -21,9 +21,9 @@ returns g c =
     let rows : List (List (Option ℕ)) = c.args.rows.now in
     ⊎_elim
     (λ (within : c.loop-putter.putter ≤ c.args.end).
-      let same : c.loop-putter.putter ≡ c.args.end = omega (arith, c.loop-putter-test.false) in
-      subst (λ (n : ℕ). IsLongest (IsEndIn net rows c.args.channel c.args.first n) c.loop-putter.latest) same c.loop-putter.invariant.2)
+    let same : c.loop-putter.putter ≡ c.args.end = omega (arith, c.loop-putter-test.false) in
+    subst (λ (n : ℕ). IsLongest (IsEndIn net rows c.args.channel c.args.first n) c.loop-putter.latest) same c.loop-putter.invariant.2)
     (λ (none : c.loop-putter.putter ≡ c.args.first).
-      longest-same (IsEndIn net rows c.args.channel c.args.first c.loop-putter.putter) (IsEndIn net rows c.args.channel c.args.first c.args.end) c.loop-putter.latest
-      (λ t (k, d, low, high, at, is). absurd (omega arith)) (λ t (k, d, low, high, at, is). absurd (omega (arith, c.loop-putter-test.false))) c.loop-putter.invariant.2)
+    longest-same (IsEndIn net rows c.args.channel c.args.first c.loop-putter.putter) (IsEndIn net rows c.args.channel c.args.first c.args.end) c.loop-putter.latest
+    (λ t (k, d, low, high, at, is). absurd (omega arith)) (λ t (k, d, low, high, at, is). absurd (omega (arith, c.loop-putter-test.false))) c.loop-putter.invariant.2)
     c.loop-putter.invariant.1

@@ -18,7 +18,7 @@ returns-in-Begins g c =
     let taken = link.3.2 in
     let inv = c.chain.invariant in
     let chain : IsChain net number p c.chain.actor c.chain.firing c.chain.start (i ∷ []) =
-        chain-from net c.know_laws.ensures number p c.args.rows.now c.requires.column c.chain.actor c.chain.firing c.chain.start i taken.0 link.1 link.2 inv.1 taken.1 taken.2 taken.3 link.3.1 in
+    chain-from net c.know_laws.ensures number p c.args.rows.now c.requires.column c.chain.actor c.chain.firing c.chain.start i taken.0 link.1 link.2 inv.1 taken.1 taken.2 taken.3 link.3.1 in
     let marked : AreMarked (i ∷ []) c.chain.marks c.mark.new.marks = subst (λ (j : ℕ). AreMarked (j ∷ []) c.chain.marks c.mark.new.marks) link.3.0 c.mark.ensures in
     (inv.3.0 ++ (i ∷ []), inv.3.2 (i ∷ []) chain, more-marked inv.3.0 (i ∷ []) c.args.marks.now c.chain.marks c.mark.new.marks inv.3.1 marked)
 
@@ -46,8 +46,8 @@ chain-preserved g c =
         λ rest chain. (
             let here : IsChain net number p on.source k d rest = subst (λ (a : ℕ). IsChain net number p a k d rest) source chain in
             let more : IsChain net number p c.chain.actor c.chain.firing c.chain.start (i ∷ rest) =
-                chain-on net c.know_laws.ensures number p c.args.rows.now c.requires.column c.chain.actor c.chain.firing c.chain.start i k d taken.0 rest
-                link.1 link.2 inv.1 taken.1 taken.2 link.3.2 here in
+            chain-on net c.know_laws.ensures number p c.args.rows.now c.requires.column c.chain.actor c.chain.firing c.chain.start i k d taken.0 rest
+            link.1 link.2 inv.1 taken.1 taken.2 link.3.2 here in
             subst (λ (l : List ℕ). IsChain net number p c.args.actor c.args.firing c.args.start l) (sym (snoc-on inv.3.0 i rest)) (inv.3.2 (i ∷ rest) more)),
       ),
     )

@@ -1,4 +1,4 @@
-use Rattle.std.proofs.Common.{◌≡◌, ◌+◌, ℕ, false, List, length, take, sym, subst, ◌∙◌}
+use Rattle.std.proofs.Common.{false, List, length, take, sym, subst, ◌∙◌}
 use Rattle.std.specs.Prelude.{slice_index_or}
 use Rattle.std.proofs.lemmas.List.{take_more}
 use Rattle.sd_base.specs.FileNet.{net_of}

@@ -1,4 +1,4 @@
-use Rattle.std.proofs.Common.{◌≡◌, ◌≤◌, ◌-◌, ◌/◌, ℕ, length, sym, subst, ◌∙◌, div-le_self}
+use Rattle.std.proofs.Common.{◌≡◌, ◌≤◌, ◌-◌, ◌/◌, ℕ, length, sym, subst, ◌∙◌}
 use Rattle.sd_base.specs.Net.{Channel, channel_at}
 use Rattle.token_matrix.specs.Stamps.{IsPutBy}
 use Rattle.entry_ways.proofs.PutterRanges.{putter-at, single-some}

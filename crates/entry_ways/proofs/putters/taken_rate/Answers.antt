@@ -1,4 +1,4 @@
-use Rattle.std.proofs.Common.{◌≡◌, ℕ, length, ◌∙◌}
+use Rattle.std.proofs.Common.{◌≡◌, length, ◌∙◌}
 use Rattle.sd_base.specs.Net.{Channel, channel_at}
 use Rattle.entry_ways.proofs.PutterRanges.{single-some, single-total}
 use Rattle.entry_ways.proofs.putters.taken_rate.Goals as goal

@@ -17,7 +17,7 @@ returns-then-last-tokens g c =
     let net : Net = g.F.Firing.net c.args.chains.now.net.now in
     let number : ℕ → ℕ = slice_index c.args.chains.now.firsts.now in
     let early : left_token net c.channel_of-channel.result (c.args.left - number c.channel_of-channel.result) < (channel_at net c.channel_of-channel.result).tokens =
-        omega (arith, c.if-last-tokens.true, c.tokens.ensures, c.left_token-last.ensures) in
+    omega (arith, c.if-last-tokens.true, c.tokens.ensures, c.left_token-last.ensures) in
     let way = c.requires.way in
     ([], stays-way net number c.args.chains.now.token c.args.left c.channel_of-channel.result c.requires.apart c.channel_of-channel.ensures early way.0 way.1 way.2, none-marked c.args.marks.now)
 

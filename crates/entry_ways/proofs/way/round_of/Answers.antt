@@ -1,4 +1,4 @@
-use Rattle.std.proofs.Common.{◌≤◌, arith}
+use Rattle.std.proofs.Common.{arith}
 use Rattle.entry_ways.proofs.ColumnSteps.{round-small}
 use Rattle.entry_ways.proofs.way.round_of.Goals as goal
 
