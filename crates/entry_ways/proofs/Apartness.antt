@@ -11,11 +11,13 @@ use Rattle.token_matrix.specs.Stamps.{first_token, first_of, no_row}
 use Rattle.token_matrix.proofs.Numbering.{RowsDiffer, later_differ, one_head}
 
 -- token m of one row and token n of another one have different numbers, where no two rows have one name
-row-apart : (shared : List SharedRow) (s t m n : ℕ) (row other : SharedRow) → RowsDiffer shared → slice_get shared s ≡ Some row → slice_get shared t ≡ Some other → m < row.tokens → n < other.tokens
+row-apart : (shared : List SharedRow) (s t m n : ℕ) (row other : SharedRow) → RowsDiffer shared → slice_get shared s ≡ Some row → slice_get shared t ≡ Some other → m < row.tokens
+    → n < other.tokens
     → first_token shared row.name + m ≡ first_token shared other.name + n → row.name ≡ other.name
 row-apart [] s t m n row other differ at there few less same = absurd (cc)
 row-apart (r ∷ rest) s t m n row other differ at there few less same =
-    step (λ k l here also alike. row-apart rest k l m n row other (later_differ r rest differ) here also few less alike) s t at there (bytes_eq r.name row.name) (bytes_eq r.name other.name) refl refl
+    step (λ k l here also alike. row-apart rest k l m n row other (later_differ r rest differ) here also few less alike) s t at there (bytes_eq r.name row.name)
+    (bytes_eq r.name other.name) refl refl
   where
     -- the row of a name that is the head's
     head : (k : ℕ) (x : SharedRow) → slice_get (r ∷ rest) k ≡ Some x → bytes_eq r.name x.name ≡ true → r ≡ x
@@ -31,7 +33,8 @@ row-apart (r ∷ rest) s t m n row other differ at there few less same =
     behind (suc k) x here off = (k, here)
 
     step : ((k l : ℕ) → slice_get rest k ≡ Some row → slice_get rest l ≡ Some other → first_token rest row.name + m ≡ first_token rest other.name + n → row.name ≡ other.name)
-        → (s t : ℕ) → slice_get (r ∷ rest) s ≡ Some row → slice_get (r ∷ rest) t ≡ Some other → (b d : Bool) → bytes_eq r.name row.name ≡ b → bytes_eq r.name other.name ≡ d → row.name ≡ other.name
+        → (s t : ℕ) → slice_get (r ∷ rest) s ≡ Some row → slice_get (r ∷ rest) t ≡ Some other → (b d : Bool) → bytes_eq r.name row.name ≡ b → bytes_eq r.name other.name ≡ d
+        → row.name ≡ other.name
     step next s t at there true true one two = sym ((bytes_eq-Decides r.name row.name).0 one) ∙ (bytes_eq-Decides r.name other.name).0 two
     step next s t at there true false one two = absurd (
         let few' : m < r.tokens = (let e : r ≡ row = head s row at one in rw e few) in

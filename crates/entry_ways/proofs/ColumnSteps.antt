@@ -29,7 +29,8 @@ last-at : (xs : List (Option ℕ)) (s : Option ℕ) → slice_index_or (xs ++ s 
 last-at [] s = refl
 last-at (x ∷ xs) s = last-at xs s
 
-pub none-start : (first : ℕ → ℕ) (net : Net) (p : ℕ) (rows : List (List (Option ℕ))) → length rows ≡ length net.times → ((a : ℕ) → slice_index_or rows a [] ≡ []) → IsColumn net first p none_fired rows
+pub none-start : (first : ℕ → ℕ) (net : Net) (p : ℕ) (rows : List (List (Option ℕ))) → length rows ≡ length net.times → ((a : ℕ) → slice_index_or rows a [] ≡ [])
+    → IsColumn net first p none_fired rows
 none-start first net p rows long empty = record {
   actors = long;
   whole = λ a actor. ap (λ (r : List (Option ℕ)). length r) (empty a);
@@ -38,7 +39,8 @@ none-start first net p rows long empty = record {
 }
 
 module _ (net : Net) (laws : Lawful net) (first : ℕ → ℕ) (p : ℕ) (v : ℕ → ℕ) (a : ℕ) (start : Option ℕ) (old new : List (List (Option ℕ))) (column : IsColumn net first p v old)
-    (actor : a < length net.times) (early : v a < slice_index net.round a) (can : CanFire net v a) (longest : IsLongest (IsLinkInto net first p old a (v a)) start) (more : HasStart a start old new) where
+    (actor : a < length net.times) (early : v a < slice_index net.round a) (can : CanFire net v a) (longest : IsLongest (IsLinkInto net first p old a (v a)) start)
+    (more : HasStart a start old new) where
   -- the new start, and the others
   here : start_in new a (v a) ≡ start
   here = let long : length (slice_index_or old a []) ≡ v a = column.whole a actor in
@@ -112,7 +114,8 @@ module _ (net : Net) (laws : Lawful net) (first : ℕ → ℕ) (p : ℕ) (v : �
           let long : length (slice_index_or old a []) ≡ v a = column.whole a actor in
           let added : length (slice_index_or old a [] ++ start ∷ []) ≡ length (slice_index_or old a []) + 1 = length-append (slice_index_or old a []) (start ∷ []) in
           let e : one_more v a b ≡ v a + 1 = ap (λ (c : ℕ). one_more v a c) same ∙ bump-same v a in
-          let f : length (slice_index_or new b []) ≡ length (slice_index_or old a [] ++ start ∷ []) = ap (λ (c : ℕ). length (slice_index_or new c [])) same ∙ ap (λ (r : List (Option ℕ)). length r) more.here in
+          let f : length (slice_index_or new b []) ≡ length (slice_index_or old a [] ++ start ∷ []) =
+          ap (λ (c : ℕ). length (slice_index_or new c [])) same ∙ ap (λ (r : List (Option ℕ)). length r) more.here in
           omega arith))
           (λ (apart : b ≡ a → ⊥). (
           let e : one_more v a b ≡ v b = bump-other v a b apart in
@@ -138,7 +141,8 @@ round-small net laws a actor =
     omega (arith, laws.small_round)
 
 -- a row of a column is as long as its actor has fired
-pub row-long : (net : Net) (first : ℕ → ℕ) (p : ℕ) (v : ℕ → ℕ) (rows : List (List (Option ℕ))) → IsColumn net first p v rows → (a : ℕ) (row : List (Option ℕ)) → a < length net.times → row ≡ slice_index_or rows a row → length row ≡ v a
+pub row-long : (net : Net) (first : ℕ → ℕ) (p : ℕ) (v : ℕ → ℕ) (rows : List (List (Option ℕ))) → IsColumn net first p v rows → (a : ℕ) (row : List (Option ℕ)) → a < length net.times
+    → row ≡ slice_index_or rows a row → length row ≡ v a
 row-long net first p v rows column a row actor is =
     ap (λ (r : List (Option ℕ)). length r) (is ∙ same-default rows a row [] (omega (arith, column.actors))) ∙ column.whole a actor
 
@@ -155,7 +159,8 @@ on-ok (Ok o) then has = then has
 on-ok (Err e) then has = tt
 
 -- no link comes later than the starts and a time
-pub link-small : (net : Net) → Lawful net → ((a : ℕ) → a < length net.times → phases_at net a ≡ 1) → (first : ℕ → ℕ) (p : ℕ) (rows : List (List (Option ℕ))) (b a j t : ℕ) → AreUpTo b rows → IsLinkInto net first p rows a j t → t ≤ b + TIME
+pub link-small : (net : Net) → Lawful net → ((a : ℕ) → a < length net.times → phases_at net a ≡ 1) → (first : ℕ → ℕ) (p : ℕ) (rows : List (List (Option ℕ))) (b a j t : ℕ)
+    → AreUpTo b rows → IsLinkInto net first p rows a j t → t ≤ b + TIME
 link-small net laws phases first p rows b a j t small (i, below, into, inl (m, takes, there, at, is)) = omega arith
 link-small net laws phases first p rows b a j t small (i, below, into, inr (m, k, d, takes, puts, at, is)) =
     let low : d ≤ b = small (channel_at net i).source k d at in
@@ -169,7 +174,8 @@ link-small net laws phases first p rows b a j t small (i, below, into, inr (m, k
 pub starts-small : (a : ℕ) (start : Option ℕ) (old new : List (List (Option ℕ))) (b c : ℕ) → AreUpTo b old → b ≤ c → ((t : ℕ) → start ≡ Some t → t ≤ c) → HasStart a start old new → AreUpTo c new
 starts-small a start old new b c small more one has d j t at = ⊎_elim
     (λ (same : d ≡ a). (
-    let here : slice_index_or (slice_index_or old a [] ++ start ∷ []) j None ≡ Some t = ap (λ (r : List (Option ℕ)). slice_index_or r j None) (sym has.here) ∙ (ap (λ (n : ℕ). start_in new n j) (sym same) ∙ at) in
+    let here : slice_index_or (slice_index_or old a [] ++ start ∷ []) j None ≡ Some t = ap (λ (r : List (Option ℕ)). slice_index_or r j None) (sym has.here) ∙
+    (ap (λ (n : ℕ). start_in new n j) (sym same) ∙ at) in
     ⊎_elim
     (λ (before : j < length (slice_index_or old a [])). (let s : t ≤ b = small a j t (sym (get_or_append_left (slice_index_or old a []) (start ∷ []) None j before) ∙ here) in omega arith))
     (λ (past : length (slice_index_or old a []) ≤ j). (

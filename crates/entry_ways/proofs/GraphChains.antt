@@ -30,11 +30,13 @@ use Rattle.entry_ways.proofs.SameNumbers.{same-way, same-longest}
 pub few-shared : (shared : List SharedRow) (g : GraphFile) (gamma : List ℕ) → KeepsWideRules g → IsRepetitionOf g gamma → sum gamma * shared_count shared ≤ STAMPS → shared_count shared ≤ STAMPS
 few-shared shared g gamma rules gives within =
     let first : 1 ≤ slice_index gamma 0 = gives.balances.fires 0 (let f : 0 < length (phases_of g) = omega (arith, rules.some_actor, length-map g.actors (λ (r : ActorRow). r.phases)) in f) in
-    let part : slice_index gamma 0 ≤ sum gamma = part-sum gamma 0 (let f : 0 < length gamma = omega (arith, gives.balances.actors, rules.some_actor, length-map g.actors (λ (r : ActorRow). r.phases)) in f) in
+    let part : slice_index gamma 0 ≤ sum gamma = part-sum gamma 0 (let f : 0 < length gamma =
+    omega (arith, gives.balances.actors, rules.some_actor, length-map g.actors (λ (r : ActorRow). r.phases)) in f) in
     let up : 1 * shared_count shared ≤ sum gamma * shared_count shared = mul-le-mul_right (shared_count shared) (let f : 1 ≤ sum gamma = omega arith in f) in
     omega arith
 
-module _ (shared : List SharedRow) (g : GraphFile) (gamma : List ℕ) (rules : KeepsWideRules g) (kind : g.kind ≡ Sdf) (firsts : List ℕ) (are : AreFirsts shared g firsts) (net : Net) (is : net ≡ net_of g gamma false) where
+module _ (shared : List SharedRow) (g : GraphFile) (gamma : List ℕ) (rules : KeepsWideRules g) (kind : g.kind ≡ Sdf) (firsts : List ℕ) (are : AreFirsts shared g firsts) (net : Net)
+    (is : net ≡ net_of g gamma false) where
   many : length net.channels ≡ length g.channels
   many = subst (λ (n : Net). length n.channels ≡ length g.channels) (sym is) (channels-many g gamma rules kind)
 

@@ -41,7 +41,10 @@ module _ (net : Net) (number : ℕ → ℕ) (p i j from end : ℕ) (start : tota
   among has same = (
     λ yes. (let a = same.0 yes in (
       p - number i,
-      ((let f : total (channel_at net i).taken j ≤ p - number i = omega (arith, start, a.past, a.low) in f), (let f : p - number i < total (channel_at net i).taken (j + 1) = omega (arith, stop, a.past, a.high) in f)),
+      (
+        (let f : total (channel_at net i).taken j ≤ p - number i = omega (arith, start, a.past, a.low) in f),
+        (let f : p - number i < total (channel_at net i).taken (j + 1) = omega (arith, stop, a.past, a.high) in f),
+      ),
       (let f : p - number i < (channel_at net i).tokens = omega (arith, a.past, a.there) in f),
       (let e : p ≡ number i + (p - number i) = omega (arith, a.past) in e),
     )),
@@ -60,15 +63,23 @@ module _ (net : Net) (number : ℕ → ℕ) (p i j from end : ℕ) (start : tota
 
   -- the firings from the one that puts the first of the others to the one that puts the last
   pub some-put : (has : Bool) (m last : ℕ) → ((n : ℕ) → total (channel_at net i).made n < total (channel_at net i).made (n + 1)) → Token has → from < end → (channel_at net i).tokens < end
-      → from ≤ m → (m ≡ from) ⊎ (m ≡ (channel_at net i).tokens) → (k l : ℕ) → IsPutBy (channel_at net i) m k → last + 1 ≡ end → IsPutBy (channel_at net i) last l → ArePutters net number p i j has k (l + 1)
+      → from ≤ m → (m ≡ from) ⊎ (m ≡ (channel_at net i).tokens) → (k l : ℕ) → IsPutBy (channel_at net i) m k → last + 1 ≡ end → IsPutBy (channel_at net i) last l
+      → ArePutters net number p i j has k (l + 1)
   some-put has m last grows token some late low which k l first is_last puts = record {
     token = token;
     each = λ n above below. (
         let up : total (channel_at net i).made (k + 1) ≤ total (channel_at net i).made (n + 1) = total-le (channel_at net i).made (omega arith) in
         let down : total (channel_at net i).made n ≤ total (channel_at net i).made l = total-le (channel_at net i).made (omega arith) in
         let one : total (channel_at net i).made n < total (channel_at net i).made (n + 1) = grows n in
-        let t = token-between from end ((channel_at net i).tokens + total (channel_at net i).made n) ((channel_at net i).tokens + total (channel_at net i).made (n + 1)) some (omega arith) (omega (arith, puts.0)) (omega (arith, first.1)) in
-        (t.0, ((let f : total (channel_at net i).taken j ≤ t.0 = omega (arith, start, t.1) in f), (let f : t.0 < total (channel_at net i).taken (j + 1) = omega (arith, stop, t.2) in f)), (t.3, t.4)));
+        let t = token-between from end ((channel_at net i).tokens + total (channel_at net i).made n) ((channel_at net i).tokens + total (channel_at net i).made (n + 1)) some
+        (omega arith) (omega (arith, puts.0)) (omega (arith, first.1)) in (
+          t.0,
+          (
+            (let f : total (channel_at net i).taken j ≤ t.0 = omega (arith, start, t.1) in f),
+            (let f : t.0 < total (channel_at net i).taken (j + 1) = omega (arith, stop, t.2) in f),
+          ),
+          (t.3, t.4),
+        ));
     all = λ n h is put. (
         let here : from ≤ n = omega (arith, start, is.0) in
         let there : n < end = omega (arith, stop, is.1) in (
@@ -100,7 +111,8 @@ putter-at c m made one is some late =
     ((let f : c.tokens + total c.made ((m - c.tokens) / made) ≤ m = omega arith in f), (let f : m < c.tokens + total c.made ((m - c.tokens) / made + 1) = omega arith in f))
 
 -- each firing of a source puts some tokens
-pub made-grows : (net : Net) → Lawful net → ((a : ℕ) → a < length net.times → phases_at net a ≡ 1) → (i : ℕ) → i < length net.channels → (n : ℕ) → total (channel_at net i).made n < total (channel_at net i).made (n + 1)
+pub made-grows : (net : Net) → Lawful net → ((a : ℕ) → a < length net.times → phases_at net a ≡ 1) → (i : ℕ) → i < length net.channels → (n : ℕ)
+    → total (channel_at net i).made n < total (channel_at net i).made (n + 1)
 made-grows net laws phases i below n =
     let c : Channel = channel_at net i in
     let one : length c.made ≡ 1 = laws.made_phases i below ∙ phases c.source (laws.sources i below) in

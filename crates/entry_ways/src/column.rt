@@ -162,7 +162,8 @@ fn end_of<F: Firing>(
     requires long { length rows.now ≡ length (F.net chains.now.net.now).times }
     requires there { putter < length (slice_index_or rows.now (channel_at (F.net chains.now.net.now) channel).source []) }
     requires small { AreSmall rows.now }
-    ensures { result ≡ later_by (time_of (F.net chains.now.net.now) (channel_at (F.net chains.now.net.now) channel).source putter) (start_in rows.now (channel_at (F.net chains.now.net.now) channel).source putter) }
+    ensures { result ≡ later_by (time_of (F.net chains.now.net.now) (channel_at (F.net chains.now.net.now) channel).source putter)
+        (start_in rows.now (channel_at (F.net chains.now.net.now) channel).source putter) }
 {
     know_laws(chains.net);
     let source = chains.net.source(channel);

@@ -22,7 +22,8 @@ start_of-start-requires-clause-few g c =
     let a : ℕ = slice_index c.args.order.now c.args.place in
     let v : ℕ → ℕ = counts_after none_fired (take c.args.place c.args.order.now) in
     let f = fires_at net none_fired c.args.order.now c.args.place c.requires.order.fires c.requires.within in
-    let row : length c.index.result.now ≡ v a = row-long net (slice_index c.args.chains.now.firsts.now) c.args.chains.now.token v c.args.rows.now.items c.requires.column a c.index.result.now f.actor c.index.ensures in
+    let row : length c.index.result.now ≡ v a = row-long net (slice_index c.args.chains.now.firsts.now) c.args.chains.now.token v c.args.rows.now.items c.requires.column a
+    c.index.result.now f.actor c.index.ensures in
     omega (arith, c.len-firing.ensures, row, f.below, round-small net c.know_laws.ensures a f.actor)
 
 pub start_of-start-requires-clause-fed : goal.start_of-start-requires-clause-fed
@@ -35,7 +36,8 @@ start_of-start-requires-clause-fed g c =
     let f = fires_at net none_fired c.args.order.now c.args.place c.requires.order.fires c.requires.within in
     let firing : c.len-firing.result ≡ v a = c.len-firing.ensures ∙ row-long net number p v c.args.rows.now.items c.requires.column a c.index.result.now f.actor c.index.ensures in
     λ i below into. subst (λ (rows : List (List (Option ℕ))). IsFedBy net rows i c.len-firing.result) {y = c.as_slice.result.now} (sym c.as_slice.ensures.value)
-    (subst (λ (n : ℕ). IsFedBy net c.args.rows.now.items i n) {y = c.len-firing.result} (sym firing) (next-fed net c.know_laws.ensures number p v c.args.rows.now.items c.requires.column a f.can i below into))
+    (subst (λ (n : ℕ). IsFedBy net c.args.rows.now.items i n) {y = c.len-firing.result} (sym firing)
+    (next-fed net c.know_laws.ensures number p v c.args.rows.now.items c.requires.column a f.can i below into))
 
 pub push_start-requires : goal.push_start-requires
 push_start-requires g c =
@@ -69,7 +71,8 @@ returns-clause-small g c =
     let p : ℕ = c.args.chains.now.token in
     let a : ℕ = slice_index c.args.order.now c.args.place in
     let low : (t : ℕ) → c.start_of-start.result ≡ Some t → t ≤ TIME * (c.args.place + 1) = λ t at. (
-    let bound : AreUpTo (TIME * c.args.place) c.as_slice.result.now = subst (λ (rows : List (List (Option ℕ))). AreUpTo (TIME * c.args.place) rows) {y = c.as_slice.result.now} (sym c.as_slice.ensures.value) c.requires.small in
+    let bound : AreUpTo (TIME * c.args.place) c.as_slice.result.now = subst (λ (rows : List (List (Option ℕ))). AreUpTo (TIME * c.args.place) rows) {y = c.as_slice.result.now}
+    (sym c.as_slice.ensures.value) c.requires.small in
     let most : t ≤ TIME * c.args.place + TIME =
     link-small net c.know_laws.ensures c.requires.chains.phases number p c.as_slice.result.now (TIME * c.args.place) a c.len-firing.result t bound (c.start_of-start.ensures.just t at) in
     omega arith) in

@@ -18,7 +18,8 @@ returns-then-putters g c =
     let p : ℕ = c.args.chains.now.token in
     let by : Putters = c.putters_of-putters.result in
     rw c.later.ensures
-    (token-links net number p c.args.rows.now c.args.channel c.args.firing by.has_token by.first by.end c.latest_end-end.result c.putters_of-putters.ensures c.if-putters.true c.latest_end-end.ensures)
+    (token-links net number p c.args.rows.now c.args.channel c.args.firing by.has_token by.first by.end c.latest_end-end.result c.putters_of-putters.ensures c.if-putters.true
+    c.latest_end-end.ensures)
 
 pub returns-else-putters : goal.returns-else-putters
 returns-else-putters g c =

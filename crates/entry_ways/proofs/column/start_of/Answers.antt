@@ -26,5 +26,6 @@ returns g c =
     let number : ℕ → ℕ = slice_index c.args.chains.now.firsts.now in
     let inputs : List ℕ = slice_index_or c.args.chains.now.wiring.now.inputs c.args.actor [] in
     let same : length c.inputs_of-channel-items.result.now ≡ length inputs = ap (λ (l : List ℕ). length l) {y = inputs} c.inputs_of-channel-items.ensures in
-    links-all net number c.args.chains.now.token c.args.rows.now c.args.actor c.args.firing inputs c.loop-channel.channel-index c.loop-channel.start (c.know_wiring.ensures.inputs.each c.args.actor c.requires.actor)
+    links-all net number c.args.chains.now.token c.args.rows.now c.args.actor c.args.firing inputs c.loop-channel.channel-index c.loop-channel.start
+    (c.know_wiring.ensures.inputs.each c.args.actor c.requires.actor)
     (omega (arith, c.loop-channel-test.false)) c.loop-channel.invariant (λ l below. (omega (arith, c.loop-channel.auto.channel-index-end)))

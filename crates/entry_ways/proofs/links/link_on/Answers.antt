@@ -14,4 +14,5 @@ pub returns : goal.returns
 returns g c =
     let by : Putters = c.putters_of-putters.result in
     end-links (g.F.Firing.net c.args.chains.now.net.now) (slice_index c.args.chains.now.firsts.now) c.args.chains.now.token c.args.rows.now c.args.channel c.args.firing c.args.start
-    by.has_token by.first by.end c.putters_of-putters.ensures (λ held none. (let yes : IsTrue c.is_begun.result = c.is_begun.ensures.1 (held, none) in (cc))) c.putter_ending.result c.putter_ending.ensures
+    by.has_token by.first by.end c.putters_of-putters.ensures (λ held none. (let yes : IsTrue c.is_begun.result = c.is_begun.ensures.1 (held, none) in (cc))) c.putter_ending.result
+    c.putter_ending.ensures

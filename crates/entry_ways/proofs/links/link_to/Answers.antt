@@ -29,9 +29,9 @@ loop-channel-preserved g c =
     λ k below link. ⊎_elim
     (λ (less : k < n). c.loop-channel.invariant k less link)
     (λ (last : n ≤ k).
-      let same : k ≡ n = omega arith in
-      no-link net number p c.args.rows.now (slice_index channels n) c.args.firing c.args.start c.link_on.result c.link_on.ensures c.in_default.not-Some
-      (subst (λ (m : ℕ). IsLink net number p c.args.rows.now (slice_index channels m) c.args.firing c.args.start) same link))
+    let same : k ≡ n = omega arith in
+    no-link net number p c.args.rows.now (slice_index channels n) c.args.firing c.args.start c.link_on.result c.link_on.ensures c.in_default.not-Some
+    (subst (λ (m : ℕ). IsLink net number p c.args.rows.now (slice_index channels m) c.args.firing c.args.start) same link))
     (cases_lt k n)
 
 pub unreachable-requires : goal.unreachable-requires

@@ -13,11 +13,13 @@ pub firsts_of-requires : goal.firsts_of-requires
 firsts_of-requires c = few-shared c.args.shared.now c.args.graph.now c.args.gamma.now c.requires.rules c.requires.gamma c.requires.within
 
 pub mark_entry-requires-clause-chains : goal.mark_entry-requires-clause-chains
-mark_entry-requires-clause-chains c = traceable c.args.shared.now c.args.graph.now c.args.gamma.now c.requires.rules c.requires.kind c.in_ok-firsts.firsts c.in_ok-firsts.ensures _ c.in_ok-net.ensures
+mark_entry-requires-clause-chains c = traceable c.args.shared.now c.args.graph.now c.args.gamma.now c.requires.rules c.requires.kind c.in_ok-firsts.firsts c.in_ok-firsts.ensures _
+    c.in_ok-net.ensures
     c.requires.timed c.in_ok-wiring.wiring c.in_ok-wiring.ensures.wired
 
 pub mark_entry-requires-clause-apart : goal.mark_entry-requires-clause-apart
-mark_entry-requires-clause-apart c = apart c.args.shared.now c.args.graph.now c.args.gamma.now c.requires.rules c.requires.kind c.in_ok-firsts.firsts c.in_ok-firsts.ensures _ c.in_ok-net.ensures c.requires.shares
+mark_entry-requires-clause-apart c = apart c.args.shared.now c.args.graph.now c.args.gamma.now c.requires.rules c.requires.kind c.in_ok-firsts.firsts c.in_ok-firsts.ensures _
+    c.in_ok-net.ensures c.requires.shares
 
 pub mark_entry-requires-clause-way : goal.mark_entry-requires-clause-way
 mark_entry-requires-clause-way c =
@@ -38,4 +40,5 @@ loop-entry-preserved c =
     (sym (take_more c.args.entries.now c.loop-entry.entry-index none c.loop-entry-test.true))
     (entry-marked (net_of c.args.graph.now c.args.gamma.now false) (first_of c.args.shared.now c.args.graph.now) (take c.loop-entry.entry-index c.args.entries.now) entry way.0
     c.args.marks.now c.loop-entry.marks c.mark_entry.new.marks c.loop-entry.invariant
-    (longest-by c.args.shared.now c.args.graph.now c.args.gamma.now c.requires.rules c.requires.kind c.in_ok-firsts.firsts c.in_ok-firsts.ensures _ c.in_ok-net.ensures entry.column entry.row way.0 way.1) way.2)
+    (longest-by c.args.shared.now c.args.graph.now c.args.gamma.now c.requires.rules c.requires.kind c.in_ok-firsts.firsts c.in_ok-firsts.ensures _ c.in_ok-net.ensures entry.column
+    entry.row way.0 way.1) way.2)

@@ -29,9 +29,12 @@ start_at-requires-clause-firing g c =
     let i : ℕ = c.channel_of-channel.result in
     let on : Channel = channel_at net i in
     let n : ℕ = c.putter_of-putter.result in
-    let puts : IsPutBy on (left_token net i (c.args.left - number i)) n = subst (λ (m : ℕ). IsPutBy on m n) {y = left_token net i (c.args.left - number i)} c.left_token-last.ensures c.putter_of-putter.ensures.put in
-    let early : n < slice_index net.round on.source = last-early net number p c.args.left i c.requires.apart c.channel_of-channel.ensures c.know_laws.ensures n puts c.args.rows.now c.requires.column in
-    let whole : length (slice_index_or c.args.rows.now on.source []) ≡ slice_index net.round on.source = c.requires.column.whole on.source (c.know_laws.ensures.sources i c.channel_of-channel.ensures.place) in
+    let puts : IsPutBy on (left_token net i (c.args.left - number i)) n = subst (λ (m : ℕ). IsPutBy on m n) {y = left_token net i (c.args.left - number i)} c.left_token-last.ensures
+    c.putter_of-putter.ensures.put in
+    let early : n < slice_index net.round on.source = last-early net number p c.args.left i c.requires.apart c.channel_of-channel.ensures c.know_laws.ensures n puts c.args.rows.now
+    c.requires.column in
+    let whole : length (slice_index_or c.args.rows.now on.source []) ≡ slice_index net.round on.source =
+    c.requires.column.whole on.source (c.know_laws.ensures.sources i c.channel_of-channel.ensures.place) in
     subst (λ (a : ℕ). n < length (slice_index_or c.args.rows.now a [])) (sym c.source-actor.ensures) (omega (arith, early, whole))
 
 pub unreachable-requires : goal.unreachable-requires
@@ -43,7 +46,8 @@ unreachable-requires g c =
     let on : Channel = channel_at net i in
     let n : ℕ = c.putter_of-putter.result in
     let way = c.requires.way in
-    let puts : IsPutBy on (left_token net i (c.args.left - number i)) n = subst (λ (m : ℕ). IsPutBy on m n) {y = left_token net i (c.args.left - number i)} c.left_token-last.ensures c.putter_of-putter.ensures.put in
+    let puts : IsPutBy on (left_token net i (c.args.left - number i)) n = subst (λ (m : ℕ). IsPutBy on m n) {y = left_token net i (c.args.left - number i)} c.left_token-last.ensures
+    c.putter_of-putter.ensures.put in
     let start = last-started net number p c.args.left i c.requires.apart c.channel_of-channel.ensures c.know_laws.ensures n puts c.args.rows.now c.requires.column way.0 way.1 way.2 in
     let there : start_in c.args.rows.now c.source-actor.result n ≡ Some start.0 = ap (λ (a : ℕ). start_in c.args.rows.now a n) c.source-actor.ensures ∙ start.1 in
     let none : ◌≡◌ {A = Option ℕ} None (Some start.0) = sym c.in-None.is ∙ (c.start_at.ensures ∙ there) in
@@ -59,7 +63,8 @@ returns g c =
     let n : ℕ = c.putter_of-putter.result in
     let start : ℕ = c.in-Some.start in
     let marked = c.mark_chain.ensures in
-    let puts : IsPutBy on (left_token net i (c.args.left - number i)) n = subst (λ (m : ℕ). IsPutBy on m n) {y = left_token net i (c.args.left - number i)} c.left_token-last.ensures c.putter_of-putter.ensures.put in
+    let puts : IsPutBy on (left_token net i (c.args.left - number i)) n = subst (λ (m : ℕ). IsPutBy on m n) {y = left_token net i (c.args.left - number i)} c.left_token-last.ensures
+    c.putter_of-putter.ensures.put in
     let at : start_in c.args.rows.now on.source n ≡ Some start = ap (λ (a : ℕ). start_in c.args.rows.now a n) (sym c.source-actor.ensures) ∙ (sym c.start_at.ensures ∙ c.in-Some.is) in
     let chain : IsChain net number p on.source n start marked.0 = subst (λ (a : ℕ). IsChain net number p a n start marked.0) c.source-actor.ensures marked.1 in
     (marked.0, put-way net number p c.args.left i c.requires.apart c.channel_of-channel.ensures c.know_laws.ensures n puts c.args.rows.now c.requires.column start marked.0 at chain, marked.2)
