@@ -9,84 +9,10 @@ use Rattle.sd_base.specs.Scenarios.{Shares}
 use Rattle.bounded_scenarios.specs.BoundedFiles.{bounded_graph, space_name, space_row, space_rows, space_shares}
 use Rattle.bounded_scenarios.specs.SharedChannels.{channel_named}
 use Rattle.bounded_scenarios.specs.Boundings.{AreFileNames}
+use Rattle.bounded_scenarios.proofs.Lists.{IsLater, at-either, at-left, at-right}
+use Rattle.bounded_scenarios.proofs.Spaces.{HasRow, share-at, share-there, share_of, space-at, space-there}
 use Rattle.token_matrix.proofs.Numbering.{RowsDiffer, later_differ}
-use Rattle.bounded_scenarios.proofs.Fitting.{named-is, shared-named}
-
--- ---- elements of two lists, one after the other
-
-abbrev pub IsLater : {X : Type 0} → List X → List X → ℕ → X → Type 0
-IsLater xs ys i x = (j : ℕ) × (i ≡ length xs + j) × (slice_get ys j ≡ Some x)
-
-at-either : {X : Type 0} (xs ys : List X) (i : ℕ) (x : X) → slice_get (xs ++ ys) i ≡ Some x → (slice_get xs i ≡ Some x) ⊎ IsLater xs ys i x
-at-either [] ys i x at = let e : i ≡ 0 + i = omega arith in inr (i, e, at)
-at-either (y ∷ xs) ys zero x at = inl at
-at-either (y ∷ xs) ys (suc i) x at = ⊎_elim (λ left. inl left) (λ (right : IsLater xs ys i x). inr (right.0, (let e : suc i ≡ suc (length xs) + right.0 = omega (arith, right.1) in e), right.2)) (at-either xs ys i x at)
-
-at-left : {X : Type 0} (xs ys : List X) (i : ℕ) (x : X) → slice_get xs i ≡ Some x → slice_get (xs ++ ys) i ≡ Some x
-at-left [] ys i x at = absurd (cc)
-at-left (y ∷ xs) ys zero x at = at
-at-left (y ∷ xs) ys (suc i) x at = at-left xs ys i x at
-
-at-right : {X : Type 0} (xs ys : List X) (j : ℕ) (x : X) → slice_get ys j ≡ Some x → slice_get (xs ++ ys) (length xs + j) ≡ Some x
-at-right [] ys j x at = let e : j ≡ 0 + j = omega arith in subst (λ (n : ℕ). slice_get ys n ≡ Some x) e at
-at-right (y ∷ xs) ys j x at = let e : suc (length xs + j) ≡ suc (length xs) + j = omega arith in subst (λ (n : ℕ). slice_get (y ∷ (xs ++ ys)) n ≡ Some x) e (at-right xs ys j x at)
-
--- ---- the spaces, row by row
-
-abbrev pub share_of : SharedRow → ℕ → SharedRow
-share_of row k = record { name = space_name row.name; tokens = k - row.tokens }
-
--- a row with a capacity
-abbrev pub HasRow : List SharedRow → List (Option ℕ) → (SharedRow → ℕ → Type 0) → Type 0
-HasRow rows ds P = (t : ℕ) × (row : SharedRow) × (k : ℕ) × (slice_get rows t ≡ Some row) × (slice_get ds t ≡ Some (Some k)) × P row k
-
-one-more : (r : SharedRow) (d : Option ℕ) (rows : List SharedRow) (ds : List (Option ℕ)) (P : SharedRow → ℕ → Type 0) → HasRow rows ds P → HasRow (r ∷ rows) (d ∷ ds) P
-one-more r d rows ds P has = (suc has.0, has.1, has.2, has.3, has.4, has.5)
-
-space-at : (cs : List ChannelRow) (rows : List SharedRow) (ds : List (Option ℕ)) (i : ℕ) (c : ChannelRow) → slice_get (space_rows cs rows ds) i ≡ Some c →
-    HasRow rows ds (λ row k. c ≡ space_row (channel_named cs row.name) k)
-space-at cs [] ds i c at = absurd (cc)
-space-at cs (row ∷ rows) [] i c at = absurd (cc)
-space-at cs (row ∷ rows) (None ∷ ds) i c at = one-more row None rows ds (λ r k. c ≡ space_row (channel_named cs r.name) k) (space-at cs rows ds i c at)
-space-at cs (row ∷ rows) (Some k ∷ ds) zero c at = let e : space_row (channel_named cs row.name) k ≡ c = cc in (0, row, k, refl, refl, sym e)
-space-at cs (row ∷ rows) (Some k ∷ ds) (suc i) c at = one-more row (Some k) rows ds (λ r j. c ≡ space_row (channel_named cs r.name) j) (space-at cs rows ds i c at)
-
-space-there : (cs : List ChannelRow) (rows : List SharedRow) (ds : List (Option ℕ)) (t : ℕ) (row : SharedRow) (k : ℕ) → slice_get rows t ≡ Some row → slice_get ds t ≡ Some (Some k) →
-    (i : ℕ) × (slice_get (space_rows cs rows ds) i ≡ Some (space_row (channel_named cs row.name) k))
-space-there cs [] ds t row k at has = absurd (cc)
-space-there cs (r ∷ rows) [] t row k at has = absurd (cc)
-space-there cs (r ∷ rows) (None ∷ ds) zero row k at has = absurd (cc)
-space-there cs (r ∷ rows) (None ∷ ds) (suc t) row k at has = space-there cs rows ds t row k at has
-space-there cs (r ∷ rows) (Some j ∷ ds) zero row k at has = let er : r ≡ row = cc in let ek : j ≡ k = cc in (0, cc)
-space-there cs (r ∷ rows) (Some j ∷ ds) (suc t) row k at has = let next = space-there cs rows ds t row k at has in (suc next.0, next.1)
-
-share-at : (rows : List SharedRow) (ds : List (Option ℕ)) (s : ℕ) (x : SharedRow) → slice_get (space_shares rows ds) s ≡ Some x → HasRow rows ds (λ row k. (row.tokens < k) × (x ≡ share_of row k))
-share-at [] ds s x at = absurd (cc)
-share-at (row ∷ rows) [] s x at = absurd (cc)
-share-at (row ∷ rows) (None ∷ ds) s x at = one-more row None rows ds (λ r k. (r.tokens < k) × (x ≡ share_of r k)) (share-at rows ds s x at)
-share-at (row ∷ rows) (Some k ∷ ds) s x at = ⊎_elim (λ (lt : row.tokens < k). some lt (λ i there. share-at rows ds i x there) s (subst (λ (b : Bool). slice_get (if b then share_of row k ∷ space_shares rows ds else space_shares rows ds) s ≡ Some x) (lt-ltb row.tokens k lt) at))
-    (λ (le : k ≤ row.tokens). one-more row (Some k) rows ds (λ r j. (r.tokens < j) × (x ≡ share_of r j)) (share-at rows ds s x (subst (λ (b : Bool). slice_get (if b then share_of row k ∷ space_shares rows ds else space_shares rows ds) s ≡ Some x) (le-ltb row.tokens k le) at))) (cases_lt row.tokens k)
-  where
-    some : row.tokens < k → ((i : ℕ) → slice_get (space_shares rows ds) i ≡ Some x → HasRow rows ds (λ r j. (r.tokens < j) × (x ≡ share_of r j))) → (i : ℕ) → slice_get (share_of row k ∷ space_shares rows ds) i ≡ Some x → HasRow (row ∷ rows) (Some k ∷ ds) (λ r j. (r.tokens < j) × (x ≡ share_of r j))
-    some lt next zero there = let e : share_of row k ≡ x = cc in (0, row, k, refl, refl, (lt, sym e))
-    some lt next (suc i) there = one-more row (Some k) rows ds (λ r j. (r.tokens < j) × (x ≡ share_of r j)) (next i there)
-
-share-there : (rows : List SharedRow) (ds : List (Option ℕ)) (t : ℕ) (row : SharedRow) (k : ℕ) → slice_get rows t ≡ Some row → slice_get ds t ≡ Some (Some k) → row.tokens < k →
-    (s : ℕ) × (slice_get (space_shares rows ds) s ≡ Some (share_of row k))
-share-there [] ds t row k at has lt = absurd (cc)
-share-there (r ∷ rows) [] t row k at has lt = absurd (cc)
-share-there (r ∷ rows) (None ∷ ds) zero row k at has lt = absurd (cc)
-share-there (r ∷ rows) (None ∷ ds) (suc t) row k at has lt = share-there rows ds t row k at has lt
-share-there (r ∷ rows) (Some j ∷ ds) zero row k at has lt =
-    let er : r ≡ row = cc in let ek : j ≡ k = cc in
-    let less : r.tokens < j = subst (λ (x : SharedRow). x.tokens < j) (sym er) (subst (λ (n : ℕ). row.tokens < n) (sym ek) lt) in
-    let yes : nat_lt r.tokens j ≡ true = lt-ltb r.tokens j less in
-    rw yes (0, cc)
-share-there (r ∷ rows) (Some j ∷ ds) (suc t) row k at has lt = later (share-there rows ds t row k at has lt) (nat_lt r.tokens j)
-  where
-    later : (s : ℕ) × (slice_get (space_shares rows ds) s ≡ Some (share_of row k)) → (b : Bool) → (s : ℕ) × (slice_get (if b then share_of r j ∷ space_shares rows ds else space_shares rows ds) s ≡ Some (share_of row k))
-    later next true = (suc next.0, next.1)
-    later next false = next
+use Rattle.bounded_scenarios.proofs.NamedChannels.{named-is, shared-named}
 
 -- ---- no two of them have one name
 

@@ -1,7 +1,7 @@
 -- Ways are ways where tokens stand for tokens: with more room elsewhere, and with spare room.
 use Rattle.std.proofs.Common.{◌≡◌, ℕ, ◌+◌, ◌-◌, ◌*◌, ◌/◌, ◌%◌, ◌≤◌, ◌<◌, List, [], length, subst, sym, ap, ◌∙◌, arith, ⊎_elim, mod-lt, mul-le-mul_right, div-add-mod'}
 use Rattle.std.proofs.Math.Nat.{mul-add-div_right}
-use Rattle.std.specs.Prelude.{slice_index, slice_index_or}
+use Rattle.std.specs.Prelude.{Contains, slice_index, slice_index_or}
 use Rattle.std.proofs.lemmas.Bool.{cases_lt}
 use Rattle.sd_base.specs.Net.{Net, Channel, channel_at, phase_entry, total}
 use Rattle.sd_base.specs.Schedules.{time_of}

@@ -1,5 +1,5 @@
 //! The file whose shared channels have capacities.
-ghost use Rattle.std.specs.Prelude.{◌≡◌, ◌≤◌, ◌++◌, IfOk, OnOk, length};
+ghost use Rattle.std.specs.Prelude.{◌≡◌, ◌≤◌, ◌++◌, IfOk, OnOk, length, map};
 ghost use Rattle.sd_base.specs.Scenarios.{FileKeepsRules};
 ghost use Rattle.storage.specs.Distributions.{IsDistribution};
 ghost use Rattle.bounded_scenarios.specs.SharedChannels.{shared_channels};

@@ -1,15 +1,16 @@
 //! The rates of a channel in all scenarios.
-ghost use Rattle.std.specs.Prelude.{◌≡◌, ◌≢◌, ◌↔◌, ◌≤◌, ◌+◌, ◌*◌, ◌++◌, ℕ, IfOk, OnOk, MatchOption, slice_index, sum};
+ghost use Rattle.std.specs.Prelude.{◌≡◌, ◌↔◌, ◌≤◌, ◌+◌, ◌*◌, ◌==◌, ◌||◌, ◌++◌, ℕ, true, false, IfOk, OnOk, MatchOption, slice_index};
 ghost use Rattle.std.specs.Int.{◌∣◌};
 ghost use Rattle.sd_base.specs.declared.limits.TheConstants.{RATE, TOKENS};
 ghost use Rattle.sd_base.specs.Net.{Channel};
 ghost use Rattle.storage.specs.Steps.{CoversRates, IsCornerAt, step_of};
-ghost use Rattle.bounded_scenarios.specs.inside.Joints.{AreRates, HasRates, IsJoint, IsLimited};
+ghost use Rattle.bounded_scenarios.specs.inside.Joints.{HasRates, IsJoint, IsLimited};
 ghost use Rattle.bounded_scenarios.specs.inside.Naming.{NameAll};
 
 use crate::naming::channel_named;
 use sd_base::{ChannelRow, NoMemory, ScenarioRow, Text, gcd};
 use std::alloc::Global;
+use std::cmp::max;
 
 /// The rates of a channel in all scenarios, one after another, and whether it is a self-loop in one of them.
 #[derive(Debug, Drop)]
@@ -64,7 +65,7 @@ impl Joint {
         requires limited { IsLimited self.now }
         requires few { tokens ≤ TOKENS }
         ensures looped { MatchOption result (self.now.looped ≡ true) (λ k. (self.now.looped ≡ false) × ((c : Channel) → HasRates self.now c → c.tokens ≡ tokens → IsCornerAt c k)) }
-        ensures small { MatchOption result Unit (λ k. k ≤ TOKENS + 2 * RATE) }
+        ensures small { MatchOption result (Unit {0}) (λ k. k ≤ TOKENS + 2 * RATE) }
     {
         if self.looped {
             return None;
