@@ -28,3 +28,4 @@ pub mod BlockedMembers
 pub mod BoundedStamps
 pub mod CycleTours
 pub mod LiveMembers
+pub mod Scanning

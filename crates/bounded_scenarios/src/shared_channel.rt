@@ -27,7 +27,7 @@ pub fn channel_steps(alloc: Global, file: &ScenarioFile) -> Result<Rows<ChannelS
 {
     let mut steps = Rows::new(alloc);
     for row in file.shared.as_slice() {
-        let joint = joint_of(alloc, file.scenarios.as_slice(), &row.name)?;
+        let joint = joint_of(alloc, file.scenarios.as_slice(), row)?;
         steps.push(ChannelStep {
             size: 1,
             step: joint.step(),
@@ -45,8 +45,8 @@ pub fn corner_of(alloc: Global, file: &ScenarioFile) -> Result<Corner, NoMemory>
     let mut capacities = Rows::new(alloc);
     let mut total = 0;
     for row in file.shared.as_slice() {
-        let joint = joint_of(alloc, file.scenarios.as_slice(), &row.name)?;
-        let entry = joint.corner(row.tokens);
+        let joint = joint_of(alloc, file.scenarios.as_slice(), row)?;
+        let entry = joint.corner();
         total += entry.unwrap_or(0);
         capacities.push(entry)?;
     }
