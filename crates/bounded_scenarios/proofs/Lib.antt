@@ -29,3 +29,4 @@ pub mod BoundedStamps
 pub mod CycleTours
 pub mod LiveMembers
 pub mod Scanning
+pub mod JointChannels

@@ -1,6 +1,6 @@
 -- Steps of the loops over channels, scenarios and shared rows.
 use Rattle.std.proofs.Common.{◌≡◌, ℕ, zero, suc, ◌+◌, ◌-◌, ◌≤◌, ◌<◌, ◌⊎◌, Bool, true, false, Option, None, Some, List, [], ◌∷◌, ◌++◌, length, take, drop, map, ⊎_elim, inl, inr, subst, sym, ap, ◌∙◌, refl, arith}
-use Rattle.std.specs.Prelude.{◌||◌, ◌==◌, flat_map, slice_get, slice_index_or, if◌then◌else◌, nat_lt}
+use Rattle.std.specs.Prelude.{◌||◌, ◌==◌, flat_map, slice_get, slice_index, slice_index_or, if◌then◌else◌, nat_lt}
 use Rattle.std.specs.List.{list_any}
 use Rattle.std.specs.Str.{bytes_eq}
 use Rattle.std.proofs.Math.Bool.{or_assoc}
@@ -110,3 +110,12 @@ mapped-more {X} {Y} f xs i x y old new below is made added before =
     push : (l : List X) (z : X) → map f l ++ f z ∷ [] ≡ map f (l ++ z ∷ [])
     push [] z = refl
     push (w ∷ l) z = ap (λ (r : List Y). f w ∷ r) (push l z)
+
+-- ---- the greatest of rates
+
+pub greatest-more : (xs : List ℕ) (old new i : ℕ) → old ≤ new → slice_index xs i ≤ new → ((k : ℕ) → old ≤ k → slice_index xs i ≤ k → new ≤ k) → ((p : ℕ) → p < i → slice_index xs p ≤ old) → ((k : ℕ) → ((p : ℕ) → slice_index xs p ≤ k) → old ≤ k) →
+    ((p : ℕ) → p < i + 1 → slice_index xs p ≤ new) × ((k : ℕ) → ((p : ℕ) → slice_index xs p ≤ k) → new ≤ k)
+greatest-more xs old new i up here both covers least = (
+  λ p below. ⊎_elim (λ (less : p < i). omega (arith, covers p less, up)) (λ (last : i ≤ p). subst (λ (n : ℕ). slice_index xs n ≤ new) (let e : i ≡ p = omega arith in e) here) (cases_lt p i),
+  λ k all. both k (least k all) (all i),
+)

@@ -118,7 +118,9 @@ fn greatest_of(rates: &[u64]) -> u64
 {
     let mut greatest = 0;
     for rate in rates {
-        greatest = greatest.max(*rate);
+        if greatest < *rate {
+            greatest = *rate;
+        }
     }
     greatest
 }

@@ -1,16 +1,20 @@
-use Rattle.std.proofs.Common.{◌≡◌, ◌<◌, ◌≤◌, ⊎_elim, ap, ℕ, arith}
+use Rattle.std.proofs.Common.{◌≡◌, ◌<◌, ◌≤◌, ℕ, arith}
 use Rattle.std.specs.Prelude.{slice_index}
-use Rattle.std.proofs.lemmas.Bool.{cases_lt}
+use Rattle.bounded_scenarios.proofs.Scanning.{greatest-more}
 use Rattle.bounded_scenarios.proofs.joint.greatest_of.Goals as goal
+use Rattle.bounded_scenarios.proofs.joint.greatest_of.Goals.{then-greatest-rate, else-greatest-rate}
 
 pub loop-rate-preserved : goal.loop-rate-preserved
 loop-rate-preserved c =
-    record {
-      covers = λ p below. ⊎_elim
-        (λ (less : p < c.loop-rate.rate-index). omega (arith, c.max-greatest.ensures, c.loop-rate.invariant.covers p less))
-        (λ (last : c.loop-rate.rate-index ≤ p).
-          let place : c.loop-rate.rate-index ≡ p = omega arith in
-          let here : slice_index c.args.rates.now c.loop-rate.rate-index ≡ slice_index c.args.rates.now p = ap (slice_index c.args.rates.now) place in
-          omega (arith, c.max-greatest.ensures, here)) (cases_lt p c.loop-rate.rate-index);
-      least = λ k all. omega (arith, c.max-greatest.ensures, c.loop-rate.invariant.least k all, all c.loop-rate.rate-index);
-    }
+    elim c.if-greatest-rate.branch [
+      | then-greatest-rate w ↦
+          let less : c.loop-rate.greatest < slice_index c.args.rates.now c.loop-rate.rate-index = w.if-greatest-rate.true in
+          let is : c.if-greatest-rate.greatest ≡ slice_index c.args.rates.now c.loop-rate.rate-index = w.greatest-is in
+          let more = greatest-more c.args.rates.now c.loop-rate.greatest c.if-greatest-rate.greatest c.loop-rate.rate-index (omega (arith, less, is)) (omega (arith, is)) (λ k old here. omega (arith, is, here)) c.loop-rate.invariant.covers c.loop-rate.invariant.least in
+          record { covers = more.0; least = more.1 }
+      | else-greatest-rate w ↦
+          let most : slice_index c.args.rates.now c.loop-rate.rate-index ≤ c.loop-rate.greatest = w.if-greatest-rate.false in
+          let is : c.if-greatest-rate.greatest ≡ c.loop-rate.greatest = w.greatest-is in
+          let more = greatest-more c.args.rates.now c.loop-rate.greatest c.if-greatest-rate.greatest c.loop-rate.rate-index (omega (arith, is)) (omega (arith, is, most)) (λ k old here. omega (arith, is, old)) c.loop-rate.invariant.covers c.loop-rate.invariant.least in
+          record { covers = more.0; least = more.1 }
+    ]
