@@ -76,13 +76,17 @@ module _ (file : ScenarioFile) (rules : FileKeepsRules file) where
         tokens = omega (arith, is.tokens, one.2, kept.tokens);
       }
 
-  -- the shared rows are few
+  -- the shared tokens are few, and so are the rows
+  pub few-tokens : shared_count file.shared ≤ NODES
+  few-tokens =
+      let states : 1 * shared_count file.shared ≤ length file.states * shared_count file.shared = mul-le-mul_right (shared_count file.shared) rules.some_state in
+      omega (arith, states, rules.few_nodes)
+
   pub few-shared : length file.shared ≤ NODES
   few-shared =
       let first = get_there file.scenarios 0 (let f : 0 < length file.scenarios = omega (arith, rules.some_scenario) in f) in
       let few = rows-few file.shared (λ t row there. (let one = (rules.scenarios 0 first.0 first.1).shares.rows t row there in one.5)) in
-      let states : 1 * shared_count file.shared ≤ length file.states * shared_count file.shared = mul-le-mul_right (shared_count file.shared) rules.some_state in
-      omega (arith, few, states, rules.few_nodes)
+      omega (arith, few, few-tokens)
 
 -- ---- one row after another
 

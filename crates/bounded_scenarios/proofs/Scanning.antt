@@ -3,13 +3,13 @@ use Rattle.std.proofs.Common.{◌≡◌, ℕ, zero, suc, ◌+◌, ◌-◌, ◌�
 use Rattle.std.specs.Prelude.{◌||◌, ◌==◌, flat_map, slice_get, slice_index, slice_index_or, if◌then◌else◌, nat_lt}
 use Rattle.std.specs.List.{list_any}
 use Rattle.std.specs.Str.{bytes_eq}
-use Rattle.std.proofs.Math.Bool.{or_assoc}
 use Rattle.std.proofs.lemmas.Bool.{cases_Bool, cases_lt, le-ltb, lt-ltb}
 use Rattle.std.proofs.lemmas.List.{append_assoc, at_drop_more, drop_more, take_more}
 use Rattle.std.proofs.lemmas.Slice.Eq.{bytes_eq-Decides}
 use Rattle.sd_base.specs.declared.tables.ChannelRow.{ChannelRow}
 use Rattle.sd_base.specs.declared.tables.ScenarioRow.{ScenarioRow}
 use Rattle.sd_base.specs.declared.tables.SharedRow.{SharedRow}
+use Rattle.bounded_scenarios.specs.Boundings.{looped_tokens}
 use Rattle.bounded_scenarios.specs.BoundedFiles.{space_name, space_row, space_rows, space_shares}
 use Rattle.bounded_scenarios.specs.SharedChannels.{channel_named, channels_named, is_looped}
 use Rattle.bounded_scenarios.specs.declared.joint.Joint.{Joint}
@@ -28,7 +28,6 @@ first-named (x ∷ cs) name (suc i) c at same others =
 
 -- those of the first scenarios
 pub record JointSoFar (ss : List ScenarioRow) (name : List ℕ) (i : ℕ) (j : Joint) : Type 0 where
-  pub looped : (j.looped || is_looped (channels_named (drop i ss) name)) ≡ is_looped (channels_named ss name)
   pub made : j.made.items ++ flat_map (λ (c : ChannelRow). c.made) (channels_named (drop i ss) name) ≡ flat_map (λ (c : ChannelRow). c.made) (channels_named ss name)
   pub taken : j.taken.items ++ flat_map (λ (c : ChannelRow). c.taken) (channels_named (drop i ss) name) ≡ flat_map (λ (c : ChannelRow). c.taken) (channels_named ss name)
 
@@ -43,18 +42,30 @@ rates-more f ss name i sc c old new below is named added before =
     ∙ (append_assoc old (f c) (flat_map f (channels_named (drop (i + 1) ss) name)) ∙ (ap (λ (l : List ℕ). old ++ l) (sym split) ∙ before))
 
 pub joint-more : (ss : List ScenarioRow) (name : List ℕ) (i : ℕ) (sc : ScenarioRow) (c : ChannelRow) (old new : Joint) → i < length ss → sc ≡ slice_index_or ss i sc → c ≡ channel_named sc.graph.channels name →
-    new.looped ≡ (old.looped || (c.source == c.target)) → new.made.items ≡ old.made.items ++ c.made → new.taken.items ≡ old.taken.items ++ c.taken → JointSoFar ss name i old → JointSoFar ss name (i + 1) new
-joint-more ss name i sc c old new below is named looped made taken before = record {
-  looped = (
-    let split : is_looped (channels_named (drop i ss) name) ≡ ((c.source == c.target) || is_looped (channels_named (drop (i + 1) ss) name)) =
-      at_drop_more (λ (l : List ScenarioRow). is_looped (channels_named l name)) ss i sc below
-      ∙ (ap (λ (s : ScenarioRow). ((channel_named s.graph.channels name).source == (channel_named s.graph.channels name).target) || is_looped (channels_named (drop (i + 1) ss) name)) (sym is)
-      ∙ ap (λ (x : ChannelRow). (x.source == x.target) || is_looped (channels_named (drop (i + 1) ss) name)) (sym named)) in
-    ap (λ (b : Bool). b || is_looped (channels_named (drop (i + 1) ss) name)) looped
-    ∙ (or_assoc old.looped (c.source == c.target) (is_looped (channels_named (drop (i + 1) ss) name)) ∙ (ap (λ (b : Bool). old.looped || b) (sym split) ∙ before.looped)));
+    new.made.items ≡ old.made.items ++ c.made → new.taken.items ≡ old.taken.items ++ c.taken → JointSoFar ss name i old → JointSoFar ss name (i + 1) new
+joint-more ss name i sc c old new below is named made taken before = record {
   made = rates-more (λ (x : ChannelRow). x.made) ss name i sc c old.made.items new.made.items below is named made before.made;
   taken = rates-more (λ (x : ChannelRow). x.taken) ss name i sc c old.taken.items new.taken.items below is named taken before.taken;
 }
+
+-- whether the channel of this scenario or of a later one is a self-loop
+pub looped-here : (ss : List ScenarioRow) (name : List ℕ) (i : ℕ) (sc : ScenarioRow) (c : ChannelRow) → i < length ss → sc ≡ slice_index_or ss i sc → c ≡ channel_named sc.graph.channels name →
+    is_looped (channels_named (drop i ss) name) ≡ ((c.source == c.target) || is_looped (channels_named (drop (i + 1) ss) name))
+looped-here ss name i sc c below is named =
+    at_drop_more (λ (l : List ScenarioRow). is_looped (channels_named l name)) ss i sc below
+    ∙ (ap (λ (s : ScenarioRow). ((channel_named s.graph.channels name).source == (channel_named s.graph.channels name).target) || is_looped (channels_named (drop (i + 1) ss) name)) (sym is)
+    ∙ ap (λ (x : ChannelRow). (x.source == x.target) || is_looped (channels_named (drop (i + 1) ss) name)) (sym named))
+
+pub looped-on : (rows : List SharedRow) (ss : List ScenarioRow) (i : ℕ) (row : SharedRow) → i < length rows → row ≡ slice_index_or rows i row →
+    looped_tokens ss (drop i rows) ≡ (if is_looped (channels_named ss row.name) then row.tokens else 0) + looped_tokens ss (drop (i + 1) rows)
+looped-on rows ss i row below is = at_drop_more (λ (l : List SharedRow). looped_tokens ss l) rows i row below
+    ∙ ap (λ (r : SharedRow). (if is_looped (channels_named ss r.name) then r.tokens else 0) + looped_tokens ss (drop (i + 1) rows)) (sym is)
+
+pub looped-row : (rows : List SharedRow) (ss : List ScenarioRow) (i : ℕ) (row : SharedRow) → i < length rows → row ≡ slice_index_or rows i row → is_looped (channels_named ss row.name) ≡ true → row.tokens ≤ looped_tokens ss (drop i rows)
+looped-row rows ss i row below is looped =
+    let on = looped-on rows ss i row below is in
+    let tokens : (if is_looped (channels_named ss row.name) then row.tokens else 0) ≡ row.tokens = ap (λ (b : Bool). if b then row.tokens else 0) looped in
+    omega (arith, on, tokens)
 
 -- ---- the free spaces
 

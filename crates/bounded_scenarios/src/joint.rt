@@ -1,13 +1,14 @@
 //! The rates of a channel in all scenarios.
-ghost use Rattle.std.specs.Prelude.{◌≡◌, ◌↔◌, ◌≤◌, ◌+◌, ◌*◌, ◌==◌, ◌||◌, ◌++◌, ℕ, true, false, IfOk, OnOk, MatchOption, slice_index};
+ghost use Rattle.std.specs.Prelude.{◌≡◌, ◌↔◌, ◌≤◌, ◌+◌, ◌*◌, ◌++◌, ℕ, true, false, IfOk, OnOk, MatchOption, slice_index};
 ghost use Rattle.std.specs.Int.{◌∣◌};
 ghost use Rattle.sd_base.specs.declared.limits.TheConstants.{RATE, TOKENS};
 ghost use Rattle.storage.specs.Steps.{CoversRates, IsCornerAt, step_of};
+ghost use Rattle.bounded_scenarios.specs.SharedChannels.{channels_named, is_looped};
 ghost use Rattle.bounded_scenarios.specs.inside.Joints.{IsJoint, IsLimited, joint_channel};
 ghost use Rattle.bounded_scenarios.specs.inside.Naming.{NameAll};
 
 use crate::naming::channel_named;
-use sd_base::{ChannelRow, NoMemory, ScenarioRow, SharedRow, gcd};
+use sd_base::{ChannelRow, NoMemory, ScenarioRow, SharedRow, Text, gcd};
 use std::alloc::Global;
 
 /// A shared channel in all scenarios: the rates, one scenario after another, and whether it is a self-loop in one of them.
@@ -29,7 +30,7 @@ pub(crate) fn joint_of(
     ensures { IfOk result (IsJoint scenarios.now row.now) }
 {
     let mut joint = Joint {
-        looped: false,
+        looped: is_looped(scenarios, &row.name),
         made: Vec::new(alloc),
         taken: Vec::new(alloc),
         tokens: row.tokens,
@@ -40,15 +41,28 @@ pub(crate) fn joint_of(
     Ok(joint)
 }
 
+/// Whether the channel of a name is a self-loop in some scenario. Cost: linear in their channels.
+pub(crate) fn is_looped(scenarios: &[ScenarioRow], name: &Text) -> bool
+    requires { NameAll scenarios.now name.now }
+    ensures { result ≡ is_looped (channels_named scenarios.now name.now) }
+{
+    for scenario in scenarios {
+        let channel = channel_named(scenario.graph.channels.as_slice(), name);
+        if channel.source == channel.target {
+            return true;
+        }
+    }
+    false
+}
+
 impl Joint {
-    /// Adds the channel of one more scenario.
+    /// Adds the rates of one more scenario.
     fn add(&mut self, channel: &ChannelRow) -> Result<(), NoMemory>
-        ensures looped { OnOk result (self.new.looped ≡ (self.old.looped || (channel.now.source == channel.now.target))) }
         ensures made { OnOk result (self.new.made.items ≡ self.old.made.items ++ channel.now.made) }
         ensures taken { OnOk result (self.new.taken.items ≡ self.old.taken.items ++ channel.now.taken) }
+        ensures looped { self.new.looped ≡ self.old.looped }
         ensures tokens { self.new.tokens ≡ self.old.tokens }
     {
-        self.looped = self.looped || channel.source == channel.target;
         self.made.extend_from_slice(channel.made.as_slice())?;
         self.taken.extend_from_slice(channel.taken.as_slice())?;
         Ok(())
