@@ -1,14 +1,12 @@
 -- What runs is, rounded down, at least the corner; and worst rates are in lowest terms.
-use Rattle.std.proofs.Common.{◌≡◌, ℕ, zero, suc, ◌+◌, ◌-◌, ◌≤◌, ◌<◌, false, Option, None, Some, List, [], ◌∷◌, ◌++◌, length, sum, subst, sym, ap, ◌∙◌, refl, arith}
+use Rattle.std.proofs.Common.{◌≡◌, ℕ, ◌+◌, ◌-◌, ◌≤◌, ◌<◌, Option, None, Some, List, [], ◌∷◌, length, sum, subst, sym, ap, ◌∙◌, refl, arith}
 use Rattle.std.specs.Prelude.{slice_get, slice_index, slice_index_or}
-use Rattle.std.specs.Int.{IsGcd}
 use Rattle.std.proofs.lemmas.Nat.Gcd.{IsGcd-from_zero, IsGcd-swap}
-use Rattle.std.proofs.lemmas.Option.{get_or_from_slice_get, slice_get-get_or, slice_get_within}
+use Rattle.std.proofs.lemmas.Option.{slice_get-get_or, slice_get_within}
 use Rattle.sd_base.specs.declared.tables.ChannelRow.{ChannelRow}
 use Rattle.sd_base.specs.declared.tables.ScenarioFile.{ScenarioFile}
 use Rattle.sd_base.specs.declared.tables.ScenarioRow.{ScenarioRow}
 use Rattle.sd_base.specs.declared.tables.SharedRow.{SharedRow}
-use Rattle.sd_base.specs.Lawful.{Lawful}
 use Rattle.sd_base.specs.Net.{Channel, IsRepetitionOf, channel_at, file_channel, nowhere, total}
 use Rattle.sd_base.specs.Untimed.{IsLive}
 use Rattle.sd_base.proofs.Parts.{balanced}
@@ -29,7 +27,7 @@ use Rattle.bounded_scenarios.proofs.Lists.{at-left, at-right}
 use Rattle.bounded_scenarios.proofs.LiveRooms.{IsSpaceOf, made-covered, taken-covered}
 use Rattle.bounded_scenarios.proofs.Measurable.{kept}
 use Rattle.bounded_scenarios.proofs.NamedChannels.{shared-named}
-use Rattle.bounded_scenarios.proofs.RunningRooms.{low-carries, low-dist, low-live, low-within}
+use Rattle.bounded_scenarios.proofs.RunningRooms.{low-carries, low-dist, low-live}
 use Rattle.bounded_scenarios.proofs.SharedSteps.{bound-named, bound-single, shared-there}
 use Rattle.bounded_scenarios.proofs.Spaces.{space-there}
 
@@ -66,18 +64,18 @@ module _ (file : ScenarioFile) (total_room : ℕ) (can : CanBeBounded file total
         let space = space-there row.graph.channels file.shared (rounded (shared_channels file) ds) t r k there has in
         let c : ChannelRow = channel_named row.graph.channels r.name in
         let here : slice_get (bounded_graph file.shared (rounded (shared_channels file) ds) row.graph).channels one.0 ≡ Some (channel_named row.graph.channels r.name) =
-          at-left row.graph.channels (space_rows row.graph.channels file.shared (rounded (shared_channels file) ds)) one.0 (channel_named row.graph.channels r.name) one.1 in
+        at-left row.graph.channels (space_rows row.graph.channels file.shared (rounded (shared_channels file) ds)) one.0 (channel_named row.graph.channels r.name) one.1 in
         let beside : slice_get (bounded_graph file.shared (rounded (shared_channels file) ds) row.graph).channels (length row.graph.channels + space.0) ≡ Some (space_row (channel_named row.graph.channels r.name) k) =
-          at-right row.graph.channels (space_rows row.graph.channels file.shared (rounded (shared_channels file) ds)) space.0 (space_row (channel_named row.graph.channels r.name) k) space.1 in
+        at-right row.graph.channels (space_rows row.graph.channels file.shared (rounded (shared_channels file) ds)) space.0 (space_row (channel_named row.graph.channels r.name) k) space.1 in
         let many = channels-many (bounded_graph file.shared (rounded (shared_channels file) ds) row.graph) gamma carries.rules carries.kind in
         let i : one.0 < length (bounded_net file.shared (rounded (shared_channels file) ds) row.graph gamma).channels =
-          omega (arith, many, slice_get_within (bounded_graph file.shared (rounded (shared_channels file) ds) row.graph).channels one.0 (channel_named row.graph.channels r.name) here) in
+        omega (arith, many, slice_get_within (bounded_graph file.shared (rounded (shared_channels file) ds) row.graph).channels one.0 (channel_named row.graph.channels r.name) here) in
         let j : length row.graph.channels + space.0 < length (bounded_net file.shared (rounded (shared_channels file) ds) row.graph gamma).channels =
-          omega (arith, many, slice_get_within (bounded_graph file.shared (rounded (shared_channels file) ds) row.graph).channels (length row.graph.channels + space.0) (space_row (channel_named row.graph.channels r.name) k) beside) in
+        omega (arith, many, slice_get_within (bounded_graph file.shared (rounded (shared_channels file) ds) row.graph).channels (length row.graph.channels + space.0) (space_row (channel_named row.graph.channels r.name) k) beside) in
         let c_is : channel_at (bounded_net file.shared (rounded (shared_channels file) ds) row.graph gamma) one.0 ≡ file_channel one.0 (channel_named row.graph.channels r.name) =
-          channel-is (bounded_graph file.shared (rounded (shared_channels file) ds) row.graph) gamma carries.rules carries.kind one.0 (channel_named row.graph.channels r.name) here in
+        channel-is (bounded_graph file.shared (rounded (shared_channels file) ds) row.graph) gamma carries.rules carries.kind one.0 (channel_named row.graph.channels r.name) here in
         let s_is : channel_at (bounded_net file.shared (rounded (shared_channels file) ds) row.graph gamma) (length row.graph.channels + space.0) ≡ file_channel (length row.graph.channels + space.0) (space_row (channel_named row.graph.channels r.name) k) =
-          channel-is (bounded_graph file.shared (rounded (shared_channels file) ds) row.graph) gamma carries.rules carries.kind (length row.graph.channels + space.0) (space_row (channel_named row.graph.channels r.name) k) beside in
+        channel-is (bounded_graph file.shared (rounded (shared_channels file) ds) row.graph) gamma carries.rules carries.kind (length row.graph.channels + space.0) (space_row (channel_named row.graph.channels r.name) k) beside in
         let pair : IsSpaceOf (channel_at (bounded_net file.shared (rounded (shared_channels file) ds) row.graph gamma) one.0) (channel_at (bounded_net file.shared (rounded (shared_channels file) ds) row.graph gamma) (length row.graph.channels + space.0)) = record {
           source = ap (λ (x : Channel). x.source) s_is ∙ sym (ap (λ (x : Channel). x.target) c_is);
           target = ap (λ (x : Channel). x.target) s_is ∙ sym (ap (λ (x : Channel). x.source) c_is);
@@ -91,15 +89,15 @@ module _ (file : ScenarioFile) (total_room : ℕ) (can : CanBeBounded file total
         let tokens : (channel_at (bounded_net file.shared (rounded (shared_channels file) ds) row.graph gamma) one.0).tokens ≡ (channel_named row.graph.channels r.name).tokens = ap (λ (x : Channel). x.tokens) c_is in
         let free : (channel_at (bounded_net file.shared (rounded (shared_channels file) ds) row.graph gamma) (length row.graph.channels + space.0)).tokens ≡ k - (channel_named row.graph.channels r.name).tokens = ap (λ (x : Channel). x.tokens) s_is in
         let made_one : length (channel_named row.graph.channels r.name).made ≡ 1 =
-          sym (ap (λ (x : Channel). length x.made) c_is) ∙ (lawful.made_phases one.0 i ∙ one-phase (bounded_file file (rounded (shared_channels file) ds)).shared (bounded_graph file.shared (rounded (shared_channels file) ds) row.graph) gamma carries
-          (channel_at (bounded_net file.shared (rounded (shared_channels file) ds) row.graph gamma) one.0).source (lawful.sources one.0 i)) in
+        sym (ap (λ (x : Channel). length x.made) c_is) ∙ (lawful.made_phases one.0 i ∙ one-phase (bounded_file file (rounded (shared_channels file) ds)).shared (bounded_graph file.shared (rounded (shared_channels file) ds) row.graph) gamma carries
+        (channel_at (bounded_net file.shared (rounded (shared_channels file) ds) row.graph gamma) one.0).source (lawful.sources one.0 i)) in
         let taken_one : length (channel_named row.graph.channels r.name).taken ≡ 1 =
-          sym (ap (λ (x : Channel). length x.taken) c_is) ∙ (lawful.taken_phases one.0 i ∙ one-phase (bounded_file file (rounded (shared_channels file) ds)).shared (bounded_graph file.shared (rounded (shared_channels file) ds) row.graph) gamma carries
-          (channel_at (bounded_net file.shared (rounded (shared_channels file) ds) row.graph gamma) one.0).target (lawful.targets one.0 i)) in
+        sym (ap (λ (x : Channel). length x.taken) c_is) ∙ (lawful.taken_phases one.0 i ∙ one-phase (bounded_file file (rounded (shared_channels file) ds)).shared (bounded_graph file.shared (rounded (shared_channels file) ds) row.graph) gamma carries
+        (channel_at (bounded_net file.shared (rounded (shared_channels file) ds) row.graph gamma) one.0).target (lawful.targets one.0 i)) in
         let made_is : total (channel_at (bounded_net file.shared (rounded (shared_channels file) ds) row.graph gamma) one.0).made 1 ≡ slice_index (channel_named row.graph.channels r.name).made 0 =
-          ap (λ (x : Channel). total x.made 1) c_is ∙ first-entry (channel_named row.graph.channels r.name).made made_one in
+        ap (λ (x : Channel). total x.made 1) c_is ∙ first-entry (channel_named row.graph.channels r.name).made made_one in
         let taken_is : total (channel_at (bounded_net file.shared (rounded (shared_channels file) ds) row.graph gamma) one.0).taken 1 ≡ slice_index (channel_named row.graph.channels r.name).taken 0 =
-          ap (λ (x : Channel). total x.taken 1) c_is ∙ first-entry (channel_named row.graph.channels r.name).taken taken_one in
+        ap (λ (x : Channel). total x.taken 1) c_is ∙ first-entry (channel_named row.graph.channels r.name).taken taken_one in
         record {
           made = bound-single (channel_named row.graph.channels r.name).made k made_one (omega (arith, made, covers, one.2, tokens, free, made_is));
           taken = bound-single (channel_named row.graph.channels r.name).taken k taken_one (omega (arith, taken, covers, one.2, tokens, free, taken_is));
@@ -121,7 +119,7 @@ module _ (file : ScenarioFile) (total_room : ℕ) (can : CanBeBounded file total
           let long = dist-long file.scenarios 0 file.shared (rounded (shared_channels file) ds) (low-dist file total_room can ds is within) in
           let inside : p < length file.shared = slice_get_within file.shared p row.0 row.1 in
           let there : slice_get (rounded (shared_channels file) ds) p ≡ Some (Some (rounded_at (slice_index_or (shared_channels file) p nowhere) k)) =
-            slice_get-get_or (rounded (shared_channels file) ds) p None (omega (arith, long)) ∙ ap Some entry in
+          slice_get-get_or (rounded (shared_channels file) ds) p None (omega (arith, long)) ∙ ap Some entry in
           let same : slice_index_or (shared_channels file) p nowhere ≡ shared_channel file.scenarios p row.0 = row.2 ∙ ap (λ (n : ℕ). shared_channel file.scenarios n row.0) (let e : 0 + p ≡ p = omega arith in e) in
           subst (λ (c : Channel). CoversRates c (rounded_at (slice_index_or (shared_channels file) p nowhere) k)) (sym same) (all-cover all p (rounded_at (slice_index_or (shared_channels file) p nowhere) k) row.0 row.1 there)
 

@@ -1,11 +1,10 @@
 -- What blocks a distribution, and is shown, blocks each one above it that agrees on what is shown.
-use Rattle.std.proofs.Common.{◌≡◌, ℕ, suc, ◌+◌, ◌≤◌, ◌<◌, ◌⊎◌, false, Option, None, Some, List, [], length, inl, inr, ⊎_elim, subst, sym, ap, ◌∙◌, refl, arith}
+use Rattle.std.proofs.Common.{◌≡◌, ℕ, ◌≤◌, ◌<◌, false, Option, Some, List, length, ⊎_elim, subst, sym, ap, ◌∙◌, arith}
 use Rattle.std.specs.Prelude.{slice_get, slice_index}
 use Rattle.std.proofs.lemmas.Option.{slice_get_within}
 use Rattle.sd_base.specs.declared.tables.ChannelRow.{ChannelRow}
 use Rattle.sd_base.specs.declared.tables.ScenarioFile.{ScenarioFile}
 use Rattle.sd_base.specs.declared.tables.ScenarioRow.{ScenarioRow}
-use Rattle.sd_base.specs.declared.tables.SharedRow.{SharedRow}
 use Rattle.sd_base.specs.FileNet.{net_of}
 use Rattle.sd_base.specs.Net.{Channel, IsRepetitionOf, channel_at, file_channel}
 use Rattle.sd_base.specs.Schedules.{Lacks, Needs}
@@ -13,8 +12,7 @@ use Rattle.sd_base.specs.Untimed.{Blocks, CanFire, IsLive}
 use Rattle.sd_base.proofs.Blocking.{live-unblocked}
 use Rattle.sd_base.proofs.FileNets.{widened}
 use Rattle.sd_base.proofs.Parts.{wired}
-use Rattle.storage.specs.ClosedLists.{AgreesOn}
-use Rattle.storage.specs.Distributions.{AtMost, IsDistribution, storage_of}
+use Rattle.storage.specs.Distributions.{storage_of}
 use Rattle.storage.specs.Steps.{rounded}
 use Rattle.storage.proofs.Climbs.{storage-le}
 use Rattle.storage.proofs.Kept.{can_or_lacks}
@@ -25,17 +23,17 @@ use Rattle.bounded_scenarios.specs.BoundedFiles.{bounded_file, bounded_graph, sp
 use Rattle.bounded_scenarios.specs.Boundings.{CanBeBounded}
 use Rattle.bounded_scenarios.specs.ScenarioGuides.{IsHeldUp, IsSpaceFor}
 use Rattle.bounded_scenarios.specs.SharedChannels.{channel_named, shared_channels}
-use Rattle.bounded_scenarios.specs.ShownSpaces.{BlockedBounds, IsAbove, IsShownBlocked, ShowsHeldUp}
-use Rattle.bounded_scenarios.specs.StorageRates.{AllRun, HasWorstRate, bounded_net}
+use Rattle.bounded_scenarios.specs.ShownSpaces.{BlockedBounds, IsAbove, ShowsHeldUp}
+use Rattle.bounded_scenarios.specs.StorageRates.{bounded_net}
 use Rattle.bounded_scenarios.specs.StorageRates.HasWorstRate.{blocked, runs}
-use Rattle.bounded_scenarios.proofs.BothNets.{BothAt, IsSpaceOfBoth, both-at, both-rows, high-is, low-is, same-nets}
+use Rattle.bounded_scenarios.proofs.BothNets.{BothAt, IsSpaceOfBoth, both-at, high-is, low-is, same-nets}
 use Rattle.bounded_scenarios.proofs.BoundedRules.{channel-is, channel-there}
 use Rattle.bounded_scenarios.proofs.FirstTokens.{laws}
 use Rattle.bounded_scenarios.proofs.Lists.{at-left}
 use Rattle.bounded_scenarios.proofs.LiveRooms.{blocks-on}
 use Rattle.bounded_scenarios.proofs.Measurable.{gives-matrix, kept}
 use Rattle.bounded_scenarios.proofs.PushedWays.{agreed}
-use Rattle.bounded_scenarios.proofs.RunningRooms.{low-carries, low-dist, low-live, low-within, named}
+use Rattle.bounded_scenarios.proofs.RunningRooms.{low-carries, low-live, low-within, named}
 
 module _ (file : ScenarioFile) (total : ℕ) (can : CanBeBounded file total) (m : List (Option ℕ)) (shown : List ℕ) (ds : List (Option ℕ)) (above : IsAbove file total m shown ds)
     (k : ℕ) (row : ScenarioRow) (at : slice_get file.scenarios k ≡ Some row) (gamma : List ℕ) (gives : IsRepetitionOf row.graph gamma) where
@@ -73,9 +71,12 @@ module _ (file : ScenarioFile) (total : ℕ) (can : CanBeBounded file total) (m 
       let plain = plain-is i c.0 c.1 in
       let many = channels-many (bounded_graph file.shared m row.graph) gamma member-carries.rules member-carries.kind in
       let inside = slice_get_within (bounded_graph file.shared m row.graph).channels i c.0 here in
-      let need : Needs (file_channel i c.0) (v a) (v (file_channel i c.0).source) = subst (λ (x : Channel). Needs x (v a) (v x.source)) plain needs in
-      (i, (let f : i < length (bounded_net file.shared m row.graph gamma).channels = omega (arith, many, inside) in f), ap (λ (x : Channel). x.target) low ∙ (sym (ap (λ (x : Channel). x.target) plain) ∙ into),
-        subst (λ (x : Channel). Needs x (v a) (v (channel_at (bounded_net file.shared m row.graph gamma) i).source)) (sym high) (subst (λ (n : ℕ). Needs (file_channel i c.0) (v a) (v n)) (sym (ap (λ (x : Channel). x.source) low)) need))
+      let need : Needs (file_channel i c.0) (v a) (v (file_channel i c.0).source) = subst (λ (x : Channel). Needs x (v a) (v x.source)) plain needs in (
+        i,
+        (let f : i < length (bounded_net file.shared m row.graph gamma).channels = omega (arith, many, inside) in f),
+        ap (λ (x : Channel). x.target) low ∙ (sym (ap (λ (x : Channel). x.target) plain) ∙ into),
+        subst (λ (x : Channel). Needs x (v a) (v (channel_at (bounded_net file.shared m row.graph gamma) i).source)) (sym high) (subst (λ (n : ℕ). Needs (file_channel i c.0) (v a) (v n)) (sym (ap (λ (x : Channel). x.source) low)) need),
+      )
 
   -- free space that is lacking, where no token of the file is, is shown, and so lacking above
   on-space : (v : ℕ → ℕ) (a : ℕ) → ShowsHeldUp file m row.graph gamma v shown → v a < slice_index gamma a → CanFire (net_of row.graph gamma false) v a → Lacks (bounded_net file.shared m row.graph gamma) v a (v a) → LacksAbove v a

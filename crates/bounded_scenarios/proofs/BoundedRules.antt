@@ -1,11 +1,11 @@
 -- The bounded graph keeps the rules of a table with free spaces.
-use Rattle.std.proofs.Common.{◌≡◌, ℕ, zero, suc, ◌+◌, ◌-◌, ◌*◌, ◌≤◌, ◌<◌, ◌⊎◌, false, Option, None, Some, List, [], ◌∷◌, ◌++◌, length, inl, inr, ⊎_elim, subst, sym, ap, ◌∙◌, refl, arith}
-use Rattle.std.specs.Prelude.{All, ◌≢◌, slice_get, slice_index, slice_index_or}
+use Rattle.std.proofs.Common.{◌≡◌, ℕ, suc, ◌+◌, ◌≤◌, ◌<◌, ◌⊎◌, false, Option, None, Some, List, [], ◌∷◌, ◌++◌, length, inl, inr, ⊎_elim, subst, sym, ap, ◌∙◌, arith}
+use Rattle.std.specs.Prelude.{All, ◌≢◌, slice_get, slice_index_or}
 use Rattle.std.proofs.lemmas.Bool.{cases_lt}
 use Rattle.std.proofs.lemmas.List.{length-append}
 use Rattle.std.proofs.lemmas.List.Elements.{All-append}
 use Rattle.std.proofs.lemmas.Option.{slice_get-get_or, slice_get_within, get_or_from_slice_get}
-use Rattle.sd_base.specs.declared.limits.TheConstants.{CHANNELS, TOKENS}
+use Rattle.sd_base.specs.declared.limits.TheConstants.{TOKENS}
 use Rattle.sd_base.specs.declared.tables.ChannelRow.{ChannelRow}
 use Rattle.sd_base.specs.declared.tables.GraphFile.{GraphFile}
 use Rattle.sd_base.specs.declared.tables.Kind.TheVariants.{Sdf}
@@ -92,10 +92,10 @@ module _ (shared : List SharedRow) (ds : List (Option ℕ)) (g : GraphFile) (rul
     some_actor = rules.some_actor;
     few_actors = rules.few_actors;
     few_channels = (
-      let long : length (g.channels ++ space_rows g.channels shared ds) ≡ length g.channels + length (space_rows g.channels shared ds) = length-append g.channels (space_rows g.channels shared ds) in
-      let one = few-spaces g.channels shared ds in
-      let two = few-rows shared g shares in
-      omega (arith, long, one, two, rules.few_channels));
+        let long : length (g.channels ++ space_rows g.channels shared ds) ≡ length g.channels + length (space_rows g.channels shared ds) = length-append g.channels (space_rows g.channels shared ds) in
+        let one = few-spaces g.channels shared ds in
+        let two = few-rows shared g shares in
+        omega (arith, long, one, two, rules.few_channels));
     actors = rules.actors;
     channels = All-append (ChannelKeepsRules (phases_of g)) g.channels (space_rows g.channels shared ds) rules.channels spaces-rules;
   }
@@ -120,6 +120,8 @@ bounded-inputs shared ds g gamma rules kind wide inputs a actor =
     let at : slice_get (g.channels ++ space_rows g.channels shared ds) into.0 ≡ Some row.0 = at-left g.channels (space_rows g.channels shared ds) into.0 row.0 row.1 in
     let inside : into.0 < length (g.channels ++ space_rows g.channels shared ds) = slice_get_within (g.channels ++ space_rows g.channels shared ds) into.0 row.0 at in
     let small : channel_at (net_of g gamma false) into.0 ≡ file_channel into.0 row.0 = channel-is g gamma (widened g rules) kind into.0 row.0 row.1 in
-    let large : channel_at (net_of (bounded_graph shared ds g) gamma false) into.0 ≡ file_channel into.0 row.0 = channel-is (bounded_graph shared ds g) gamma wide kind into.0 row.0 at in
-    (into.0, (let f : into.0 < length (net_of (bounded_graph shared ds g) gamma false).channels = omega (arith, inside, channels-many (bounded_graph shared ds g) gamma wide kind) in f),
-      ap (λ (c : Channel). c.target) large ∙ (sym (ap (λ (c : Channel). c.target) small) ∙ into.2))
+    let large : channel_at (net_of (bounded_graph shared ds g) gamma false) into.0 ≡ file_channel into.0 row.0 = channel-is (bounded_graph shared ds g) gamma wide kind into.0 row.0 at in (
+      into.0,
+      (let f : into.0 < length (net_of (bounded_graph shared ds g) gamma false).channels = omega (arith, inside, channels-many (bounded_graph shared ds g) gamma wide kind) in f),
+      ap (λ (c : Channel). c.target) large ∙ (sym (ap (λ (c : Channel). c.target) small) ∙ into.2),
+    )

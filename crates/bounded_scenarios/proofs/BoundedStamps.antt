@@ -1,6 +1,6 @@
 -- The stamps after a round of each scenario of a bounded file exist, where it runs.
 use Rattle.std.proofs.Common.{◌≡◌, ℕ, zero, suc, ◌+◌, ◌*◌, ◌≤◌, ◌<◌, false, Option, Some, List, [], ◌∷◌, length, map, sum, subst, sym, ap, ◌∙◌, refl, arith}
-use Rattle.std.specs.Prelude.{slice_get, slice_index_or}
+use Rattle.std.specs.Prelude.{slice_get}
 use Rattle.std.proofs.lemmas.Option.{get_or_from_slice_get}
 use Rattle.sd_base.specs.declared.tables.ChannelRow.{ChannelRow}
 use Rattle.sd_base.specs.declared.tables.GraphFile.{GraphFile}
@@ -26,7 +26,7 @@ use Rattle.bounded_scenarios.specs.SharedChannels.{shared_channels}
 use Rattle.bounded_scenarios.specs.StorageRates.{AllRun}
 use Rattle.bounded_scenarios.proofs.BoundedRules.{channel-is, channel-there}
 use Rattle.bounded_scenarios.proofs.FirstTokens.{laws, one-phase}
-use Rattle.bounded_scenarios.proofs.Measurable.{bounded-row, gives-matrix, measurable}
+use Rattle.bounded_scenarios.proofs.Measurable.{gives-matrix, measurable}
 use Rattle.bounded_scenarios.proofs.Numbers.{Says, name_at, place_at, token_is}
 use Rattle.bounded_scenarios.proofs.TourLists.{HaveStamps}
 
@@ -89,12 +89,14 @@ module _ (file : ScenarioFile) (room : ℕ) (can : CanBeBounded file room) (ds :
   have-stamps all = record {
     row_of = λ q s at. get_there (bounded_file file ds).scenarios s.scenario ((measurable file room can ds is within).leads_on.scenarios q s at);
     stamps = λ k row at. (
-      let from = row-from file.scenarios (bounded_scenario file.shared ds) k row at in
-      let run = all k from.0 from.1 in
-      let gives = gives-matrix file room can ds is within k from.0 run.0 from.1 run.1 in
-      (run.0, subst (λ (r : ScenarioRow). IsRepetitionOf r.graph run.0) (sym from.2) gives.carries.gives,
-        subst (λ (r : ScenarioRow). (x : List ℕ) → length x ≡ shared_count (bounded_file file ds).shared → (y : List ℕ) × AreStampsOf (bounded_file file ds).shared r.graph run.0 x y) (sym from.2)
-        (stamps-there (bounded_file file ds).shared (bounded_graph file.shared ds from.0.graph) run.0 gives.carries gives.inputs run.2)));
+        let from = row-from file.scenarios (bounded_scenario file.shared ds) k row at in
+        let run = all k from.0 from.1 in
+        let gives = gives-matrix file room can ds is within k from.0 run.0 from.1 run.1 in (
+          run.0,
+          subst (λ (r : ScenarioRow). IsRepetitionOf r.graph run.0) (sym from.2) gives.carries.gives,
+          subst (λ (r : ScenarioRow). (x : List ℕ) → length x ≡ shared_count (bounded_file file ds).shared → (y : List ℕ) × AreStampsOf (bounded_file file ds).shared r.graph run.0 x y) (sym from.2)
+              (stamps-there (bounded_file file ds).shared (bounded_graph file.shared ds from.0.graph) run.0 gives.carries gives.inputs run.2),
+        ));
   }
 
   pub all-lawful : (k : ℕ) (row : ScenarioRow) (gamma : List ℕ) → slice_get (bounded_file file ds).scenarios k ≡ Some row → IsRepetitionOf row.graph gamma → Lawful (net_of row.graph gamma false)

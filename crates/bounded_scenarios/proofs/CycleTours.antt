@@ -1,12 +1,10 @@
 -- Walks in the timed graph of a bounded file as walks of ways through its states.
-use Rattle.std.proofs.Common.{◌≡◌, ℕ, zero, suc, ◌+◌, ◌*◌, ◌/◌, ◌%◌, ◌≤◌, ◌<◌, false, Option, Some, List, [], ◌∷◌, length, map, subst, sym, ap, ◌∙◌, refl, arith}
-use Rattle.std.specs.Prelude.{Contains, slice_get}
+use Rattle.std.proofs.Common.{◌≡◌, ℕ, suc, ◌+◌, ◌*◌, ◌/◌, ◌%◌, ◌<◌, Option, Some, List, [], ◌∷◌, length, subst, sym, ap, ◌∙◌, refl}
+use Rattle.std.specs.Prelude.{slice_get}
 use Rattle.std.proofs.lemmas.Nat.{div-mul-add, mod-mul-add}
 use Rattle.sd_base.specs.declared.tables.ScenarioFile.{ScenarioFile}
 use Rattle.sd_base.specs.declared.tables.ScenarioRow.{ScenarioRow}
-use Rattle.sd_base.specs.declared.tables.StateRow.{StateRow}
 use Rattle.sd_base.specs.Net.{IsRepetitionOf}
-use Rattle.sd_base.specs.Scenarios.{shared_count}
 use Rattle.automaton.specs.declared.graph.Edge.{Edge}
 use Rattle.automaton.specs.declared.graph.TimedGraph.{TimedGraph}
 use Rattle.automaton.specs.CriticalCycles.{IsPath, IsReached, weight_in, weights}
@@ -64,11 +62,11 @@ module _ (file : ScenarioFile) (m : List (Option ℕ)) (shown : List ℕ) (graph
             channels = channels;
             way = way.way;
             good = λ other there. (
-              let same : row ≡ other = (let h : ◌≡◌ {A = Option ScenarioRow} (Some row) (Some other) = sym entry.scenario ∙ there in (cc)) in
-              subst (λ (x : ScenarioRow). ShowsTaken file m x.graph channels shown) same taken);
+                let same : row ≡ other = (let h : ◌≡◌ {A = Option ScenarioRow} (Some row) (Some other) = sym entry.scenario ∙ there in (cc)) in
+                subst (λ (x : ScenarioRow). ShowsTaken file m x.graph channels shown) same taken);
           } in
           let leg' : IsLeg (AreShown file m shown) (bounded_file file m) q p way.q e.weight =
-            subst (λ (n : ℕ). IsLeg (AreShown file m shown) (bounded_file file m) q n way.q e.weight) place.1 (subst (λ (n : ℕ). IsLeg (AreShown file m shown) (bounded_file file m) n way.p way.q e.weight) place.0 leg) in
+          subst (λ (n : ℕ). IsLeg (AreShown file m shown) (bounded_file file m) q n way.q e.weight) place.1 (subst (λ (n : ℕ). IsLeg (AreShown file m shown) (bounded_file file m) n way.p way.q e.weight) place.0 leg) in
           let weight : weights graph.edges (k ∷ ks) ≡ e.weight + weights graph.edges ks = ap (λ (o : Option Edge). weight_in o + weights graph.edges ks) at in
           record {
             states = entry.next ∷ rest.states;

@@ -1,17 +1,15 @@
 -- A graph of which a round can be completed, and each of whose actors has an input, has a token at first: the first firing takes one.
-use Rattle.std.proofs.Common.{◌≡◌, ℕ, suc, ◌+◌, ◌≤◌, ◌<◌, false, List, [], ◌∷◌, length, map, sum, subst, sym, ap, ◌∙◌, refl, arith}
+use Rattle.std.proofs.Common.{◌≡◌, ℕ, ◌+◌, ◌≤◌, ◌<◌, false, List, [], ◌∷◌, length, map, sum, sym, ap, ◌∙◌, arith}
 use Rattle.std.specs.Prelude.{slice_index, slice_index_or}
 use Rattle.std.proofs.lemmas.List.{get_or-map, length-map}
 use Rattle.sd_base.specs.declared.tables.ActorRow.{ActorRow}
 use Rattle.sd_base.specs.declared.tables.GraphFile.{GraphFile}
-use Rattle.sd_base.specs.declared.tables.Kind.TheVariants.{Sdf}
 use Rattle.sd_base.specs.declared.tables.SharedRow.{SharedRow}
 use Rattle.sd_base.specs.FileNet.{net_of}
 use Rattle.sd_base.specs.Lawful.{Lawful}
 use Rattle.sd_base.specs.Net.{channel_at, total}
 use Rattle.sd_base.specs.Scenarios.{shared_count}
 use Rattle.sd_base.specs.Schedules.{HasInputs}
-use Rattle.sd_base.specs.Tables.{phases_of}
 use Rattle.sd_base.specs.Untimed.{CanFire, Fires, IsLive, counts_after, none_fired}
 use Rattle.sd_base.proofs.FileNets.{net_of-lawful}
 use Rattle.sd_base.proofs.Sums.{total-turn, total-zero}

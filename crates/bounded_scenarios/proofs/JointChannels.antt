@@ -1,17 +1,16 @@
 -- What the rules of a file say of its shared rows, and the steps of the loops over them.
-use Rattle.std.proofs.Common.{◌≡◌, ℕ, zero, suc, ◌+◌, ◌*◌, ◌≤◌, ◌<◌, Bool, true, false, Option, None, Some, List, [], ◌∷◌, ◌++◌, length, take, map, sum, ⊎_elim, subst, sym, ap, ◌∙◌, refl, arith}
+use Rattle.std.proofs.Common.{◌≡◌, ℕ, suc, ◌+◌, ◌*◌, ◌≤◌, ◌<◌, Bool, true, false, Option, None, Some, List, [], ◌∷◌, ◌++◌, length, take, map, sum, ⊎_elim, subst, sym, ap, ◌∙◌, refl, arith}
 use Rattle.std.specs.Prelude.{All, MatchOption, ◌≢◌, flat_map, slice_get, slice_index, slice_index_or, if◌then◌else◌}
 use Rattle.std.specs.Option.{unwrap_or}
 use Rattle.std.proofs.Math.Nat.{mul-le-mul_right}
 use Rattle.std.proofs.lemmas.Bool.{cases_lt}
-use Rattle.std.proofs.lemmas.List.{get_or_default, get_or_past, length-append, take_more}
+use Rattle.std.proofs.lemmas.List.{get_or_past, length-append, take_more}
 use Rattle.std.proofs.lemmas.List.Sums.{sum_by-append}
 use Rattle.sd_base.specs.declared.limits.TheConstants.{NODES, RATE, TOKENS}
 use Rattle.sd_base.specs.declared.tables.ChannelRow.{ChannelRow}
 use Rattle.sd_base.specs.declared.tables.ScenarioFile.{ScenarioFile}
 use Rattle.sd_base.specs.declared.tables.ScenarioRow.{ScenarioRow}
 use Rattle.sd_base.specs.declared.tables.SharedRow.{SharedRow}
-use Rattle.sd_base.specs.Lawful.{is_token_role}
 use Rattle.sd_base.specs.Net.{Channel}
 use Rattle.sd_base.specs.Scenarios.{FileKeepsRules, shared_count}
 use Rattle.sd_base.specs.Tables.{ChannelKeepsRules, phases_of}
@@ -37,8 +36,8 @@ module _ (file : ScenarioFile) (rules : FileKeepsRules file) where
     long = dist-long file.scenarios 0 file.shared ds is;
     named = λ t row there. (let one = (rules.scenarios s sc at).shares.rows t row there in (one.0, one.1, one.2, one.3));
     covered = λ t k row there has. (
-      let one = shared-named file.shared sc.graph (rules.scenarios s sc at).shares t row there in
-      omega (arith, one.2, (dist-room file.scenarios 0 file.shared ds is t k row there has).0));
+        let one = shared-named file.shared sc.graph (rules.scenarios s sc at).shares t row there in
+        omega (arith, one.2, (dist-room file.scenarios 0 file.shared ds is t k row there has).0));
   }
 
   pub name-all : (t : ℕ) (row : SharedRow) → slice_get file.shared t ≡ Some row → NameAll file.scenarios row.name

@@ -1,30 +1,24 @@
 -- The rate of a critical cycle whose ways are shown bounds the worst rates of the distributions above.
-use Rattle.std.proofs.Common.{◌≡◌, ℕ, suc, ◌+◌, ◌*◌, ◌≤◌, ◌<◌, ◌⊎◌, false, Option, Some, List, [], ◌∷◌, ◌++◌, length, map, ⊎_elim, subst, sym, ap, ◌∙◌, refl, arith}
-use Rattle.std.specs.Prelude.{Contains, slice_get}
-use Rattle.std.proofs.lemmas.Bool.{cases_lt}
+use Rattle.std.proofs.Common.{◌≡◌, ℕ, ◌*◌, ◌≤◌, Option, Some, List, length, subst, sym, ap, refl, arith}
+use Rattle.std.specs.Prelude.{slice_get}
 use Rattle.std.proofs.Math.Nat.{le_of_mul-le-mul_right, mul-le-mul_right}
 use Rattle.sd_base.specs.declared.tables.ScenarioFile.{ScenarioFile}
 use Rattle.sd_base.specs.declared.tables.ScenarioRow.{ScenarioRow}
-use Rattle.sd_base.specs.declared.tables.SharedRow.{SharedRow}
-use Rattle.sd_base.specs.FileNet.{net_of}
 use Rattle.sd_base.specs.Net.{IsRepetitionOf}
 use Rattle.automaton.specs.CriticalCycles.{weights}
-use Rattle.automaton.specs.declared.graph.TimedGraph.{TimedGraph}
 use Rattle.automaton.specs.WorstRates.{IsWorst}
-use Rattle.storage.specs.Distributions.{IsDistribution, storage_of}
+use Rattle.storage.specs.Distributions.{storage_of}
 use Rattle.storage.specs.Steps.{rounded}
 use Rattle.storage.proofs.Climbs.{storage-le}
-use Rattle.token_matrix.specs.Stamps.{first_of}
-use Rattle.token_matrix.specs.Ways.{IsWay}
-use Rattle.bounded_scenarios.specs.BoundedFiles.{bounded_file, bounded_graph, bounded_scenario}
+use Rattle.bounded_scenarios.specs.BoundedFiles.{bounded_file, bounded_scenario}
 use Rattle.bounded_scenarios.specs.Boundings.{CanBeBounded}
 use Rattle.bounded_scenarios.specs.SharedChannels.{shared_channels}
 use Rattle.bounded_scenarios.specs.ShownSpaces.{IsAbove, IsShownLive, LiveBounds}
-use Rattle.bounded_scenarios.specs.StorageRates.{AllRun, HasWorstRate}
+use Rattle.bounded_scenarios.specs.StorageRates.{AllRun}
 use Rattle.bounded_scenarios.specs.StorageRates.HasWorstRate.{blocked, runs}
 use Rattle.bounded_scenarios.proofs.BlockedMembers.{above-carries, member-carries}
 use Rattle.bounded_scenarios.proofs.BoundedStamps.{all-lawful, gives-back, have-stamps, row-from}
-use Rattle.bounded_scenarios.proofs.CycleTours.{AreShown, EndsAt, LeadsAt, path-tour, reached-leads, same-place}
+use Rattle.bounded_scenarios.proofs.CycleTours.{AreShown, LeadsAt, path-tour, reached-leads, same-place}
 use Rattle.bounded_scenarios.proofs.Measurable.{bounded-row, kept}
 use Rattle.bounded_scenarios.proofs.Numbers.{renumbered}
 use Rattle.bounded_scenarios.proofs.PushedWays.{pushed_named, way-pushed}
@@ -87,7 +81,7 @@ module _ (file : ScenarioFile) (total : ℕ) (can : CanBeBounded file total) (m 
   stands-on k row gamma at gives =
       let from = row-from file.scenarios (bounded_scenario file.shared (rounded (shared_channels file) ds)) k row at in
       let plain = gives-back file total can (rounded (shared_channels file) ds) (low-dist file total can ds above.distribution above.within) (low-within file total can ds above.distribution above.within) k from.0 gamma from.1
-          (subst (λ (r : ScenarioRow). IsRepetitionOf r.graph gamma) from.2 gives) in
+      (subst (λ (r : ScenarioRow). IsRepetitionOf r.graph gamma) from.2 gives) in
       subst (λ (r : ScenarioRow). StandsFor (AreShown file m shown) (bounded_file file (rounded (shared_channels file) ds)) (bounded_file file ds) on k r gamma) (sym from.2) (one-on k from.0 from.1 gamma plain)
 
   -- a closed walk of the member's ways bounds the worst rate of the distribution
@@ -95,9 +89,9 @@ module _ (file : ScenarioFile) (total : ℕ) (can : CanBeBounded file total) (m 
       IsTour (AreShown file m shown) (bounded_file file m) r s states r s v → p * v ≤ q * length states
   tour-above p q all worst front states r s v leads tour =
       let low : IsTour (AreShown file m shown) (bounded_file file (rounded (shared_channels file) ds)) r (up s) states r (up s) v =
-        tour-maps (AreShown file m shown) (bounded_file file m) (bounded_file file (rounded (shared_channels file) ds)) up refl stands-up states r s r s v tour in
+      tour-maps (AreShown file m shown) (bounded_file file m) (bounded_file file (rounded (shared_channels file) ds)) up refl stands-up states r s r s v tour in
       let high : IsTour (AreShown file m shown) (bounded_file file ds) r (on (up s)) states r (on (up s)) v =
-        tour-maps (AreShown file m shown) (bounded_file file (rounded (shared_channels file) ds)) (bounded_file file ds) on refl stands-on states r (up s) r (up s) v low in
+      tour-maps (AreShown file m shown) (bounded_file file (rounded (shared_channels file) ds)) (bounded_file file ds) on refl stands-on states r (up s) r (up s) v low in
       let first : LeadTo (bounded_file file (rounded (shared_channels file) ds)) file.initial front r = lead-maps (AreShown file m shown) (bounded_file file m) (bounded_file file (rounded (shared_channels file) ds)) up refl stands-up front file.initial r leads in
       let second : LeadTo (bounded_file file ds) file.initial front r = lead-maps (AreShown file m shown) (bounded_file file (rounded (shared_channels file) ds)) (bounded_file file ds) on refl stands-on front file.initial r first in
       tour-bounds (bounded_file file ds) (all-lawful file total can ds above.distribution above.within) (have-stamps file total can ds above.distribution above.within all) (AreShown file m shown) p q worst front states r (on (up s)) v second high
@@ -108,8 +102,8 @@ module _ (file : ScenarioFile) (total : ℕ) (can : CanBeBounded file total) (m 
       let turn = path-tour file m shown live.graph (λ row k gamma at gives. (member-carries file total can m shown ds above k row at gamma gives).gives) live.cycle live.critical.node live.critical.node front.r front.s front.end front.inside live.shows live.critical.closed in
       let place = same-place live.graph.tokens turn.r turn.s front.r front.s live.critical.node turn.inside front.inside turn.end front.end in
       let tour : IsTour (AreShown file m shown) (bounded_file file m) front.r front.s turn.states front.r front.s (weights live.graph.edges live.cycle) =
-        subst (λ (n : ℕ). IsTour (AreShown file m shown) (bounded_file file m) front.r front.s turn.states front.r n (weights live.graph.edges live.cycle)) place.1
-        (subst (λ (n : ℕ). IsTour (AreShown file m shown) (bounded_file file m) front.r front.s turn.states n turn.s (weights live.graph.edges live.cycle)) place.0 turn.tour) in
+      subst (λ (n : ℕ). IsTour (AreShown file m shown) (bounded_file file m) front.r front.s turn.states front.r n (weights live.graph.edges live.cycle)) place.1
+      (subst (λ (n : ℕ). IsTour (AreShown file m shown) (bounded_file file m) front.r front.s turn.states n turn.s (weights live.graph.edges live.cycle)) place.0 turn.tour) in
       let bound : p * weights live.graph.edges live.cycle ≤ q * length turn.states = tour-above p q all worst front.states turn.states front.r front.s (weights live.graph.edges live.cycle) front.leads tour in
       let long : length turn.states ≡ length live.cycle = turn.long in
       cross (weights live.graph.edges live.cycle) l w (length live.cycle) p q live.critical.some live.critical.rate (subst (λ (n : ℕ). p * weights live.graph.edges live.cycle ≤ q * n) long bound)

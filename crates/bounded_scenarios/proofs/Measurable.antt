@@ -1,16 +1,14 @@
 -- A bounded file within the limit of storage has a timed graph and a worst rate, where its scenarios run.
-use Rattle.std.proofs.Common.{◌≡◌, ℕ, zero, suc, ◌+◌, ◌*◌, ◌≤◌, ◌<◌, false, Option, Some, List, [], ◌∷◌, ◌++◌, length, map, sum, subst, sym, ap, ◌∙◌, arith, mul-le-mul_left}
+use Rattle.std.proofs.Common.{◌≡◌, ℕ, zero, suc, ◌+◌, ◌*◌, ◌≤◌, ◌<◌, Option, Some, List, [], ◌∷◌, length, map, sum, subst, ap, ◌∙◌, arith, mul-le-mul_left}
 use Rattle.std.specs.Prelude.{slice_get}
 use Rattle.std.proofs.lemmas.List.{length-map}
 use Rattle.std.proofs.Math.Nat.{mul-le-mul_right}
-use Rattle.sd_base.specs.declared.limits.TheConstants.{NODES, STAMPS, TOKENS}
+use Rattle.sd_base.specs.declared.limits.TheConstants.{TOKENS}
 use Rattle.sd_base.specs.declared.tables.ScenarioFile.{ScenarioFile}
 use Rattle.sd_base.specs.declared.tables.ScenarioRow.{ScenarioRow}
 use Rattle.sd_base.specs.declared.tables.SharedRow.{SharedRow}
-use Rattle.sd_base.specs.FileNet.{net_of}
 use Rattle.sd_base.specs.Net.{IsRepetitionOf}
-use Rattle.sd_base.specs.Scenarios.{FileKeepsRules, LeadsOn, ScenarioKeepsRules, shared_count}
-use Rattle.sd_base.specs.Schedules.{HasInputs}
+use Rattle.sd_base.specs.Scenarios.{ScenarioKeepsRules, shared_count}
 use Rattle.sd_base.specs.Tables.{KeepsWideRules}
 use Rattle.sd_base.proofs.FileNets.{widened}
 use Rattle.storage.specs.Distributions.{IsDistribution, storage_of}
@@ -102,7 +100,7 @@ module _ (file : ScenarioFile) (total : ℕ) (can : CanBeBounded file total) whe
       };
       few_states = can.rules.few_states;
       few_nodes = (
-        let nodes : length file.states * shared_count (bounded_file file ds).shared ≤ length file.states * (total + looped_tokens file.scenarios file.shared) = mul-le-mul_left (length file.states) count-few in
-        omega (arith, nodes, can.nodes));
+          let nodes : length file.states * shared_count (bounded_file file ds).shared ≤ length file.states * (total + looped_tokens file.scenarios file.shared) = mul-le-mul_left (length file.states) count-few in
+          omega (arith, nodes, can.nodes));
       some_token = omega (arith, some-shared-token, count-append file.shared (space_shares file.shared ds));
     }

@@ -1,30 +1,27 @@
 -- A distribution with more room elsewhere, and one with spare room, have the ways of a bounded file.
-use Rattle.std.proofs.Common.{◌≡◌, ℕ, suc, ◌+◌, ◌-◌, ◌≤◌, ◌<◌, ◌⊎◌, false, Option, None, Some, List, [], ◌∷◌, ◌++◌, length, inl, inr, ⊎_elim, subst, sym, ap, ◌∙◌, refl, arith}
-use Rattle.std.specs.Prelude.{Contains, slice_get, slice_index, slice_index_or}
+use Rattle.std.proofs.Common.{◌≡◌, ℕ, ◌+◌, ◌-◌, ◌<◌, Option, None, Some, List, ◌++◌, length, ⊎_elim, sym, ap, ◌∙◌, arith}
+use Rattle.std.specs.Prelude.{Contains, slice_get, slice_index}
 use Rattle.std.proofs.lemmas.List.{get_or_default}
 use Rattle.std.proofs.lemmas.Option.{get_or_from_slice_get}
 use Rattle.sd_base.specs.declared.tables.ChannelRow.{ChannelRow}
 use Rattle.sd_base.specs.declared.tables.GraphFile.{GraphFile}
 use Rattle.sd_base.specs.declared.tables.ScenarioFile.{ScenarioFile}
-use Rattle.sd_base.specs.declared.tables.ScenarioRow.{ScenarioRow}
 use Rattle.sd_base.specs.declared.tables.SharedRow.{SharedRow}
-use Rattle.sd_base.specs.Net.{Channel, channel_at, file_channel}
-use Rattle.sd_base.specs.Scenarios.{Shares}
+use Rattle.sd_base.specs.Net.{Channel, channel_at}
 use Rattle.storage.specs.ClosedLists.{AgreesOn}
 use Rattle.storage.specs.Distributions.{AtMost, capacity_at}
 use Rattle.token_matrix.specs.EntryWays.{CarriesStamps}
 use Rattle.token_matrix.specs.Stamps.{first_of}
 use Rattle.token_matrix.specs.Ways.{IsWay}
-use Rattle.bounded_scenarios.specs.BoundedFiles.{bounded_graph, space_name, space_row, space_shares}
+use Rattle.bounded_scenarios.specs.BoundedFiles.{bounded_graph, space_name, space_shares}
 use Rattle.bounded_scenarios.specs.ScenarioGuides.{IsSpaceFor}
 use Rattle.bounded_scenarios.specs.SharedChannels.{channel_named}
 use Rattle.bounded_scenarios.specs.ShownSpaces.{ShowsTaken}
 use Rattle.bounded_scenarios.specs.StorageRates.{bounded_net}
 use Rattle.bounded_scenarios.proofs.BothNets.{BothAt, IsSpaceOfBoth, both-at, both-rows, high-is, low-is, roomier, same-ends}
-use Rattle.bounded_scenarios.proofs.NamedChannels.{named-is}
 use Rattle.bounded_scenarios.proofs.Numbers.{renumbered}
 use Rattle.bounded_scenarios.proofs.Renumbering.{IsNamedAlike, way-stands}
-use Rattle.bounded_scenarios.proofs.TokenMaps.{MapsTokens, pushed}
+use Rattle.bounded_scenarios.proofs.TokenMaps.{pushed}
 use Rattle.bounded_scenarios.proofs.TokensNamed.{tokens-named, tokens_named}
 use Rattle.bounded_scenarios.proofs.WayMaps.{pushed-left, pushed-maps}
 
@@ -90,4 +87,4 @@ module _ (file : ScenarioFile) (ds es : List (Option ℕ)) (g : GraphFile) (gamm
       (pushed_named (file.shared ++ space_shares file.shared ds) (file.shared ++ space_shares file.shared es)) (pushed (bounded_net file.shared ds g gamma) (bounded_net file.shared es g gamma)) agree p q e cs
       (pushed-maps (bounded_net file.shared ds g gamma) (bounded_net file.shared es g gamma) room cs (kept cs shown named shows agrees))
       (λ i k below number. pushed-left (bounded_net file.shared ds g gamma) (bounded_net file.shared es g gamma) room (first_of (file.shared ++ space_shares file.shared es) (bounded_graph file.shared es g))
-        (renumbered (file.shared ++ space_shares file.shared ds) (file.shared ++ space_shares file.shared es) (pushed_named (file.shared ++ space_shares file.shared ds) (file.shared ++ space_shares file.shared es)) q) i k below number) way
+      (renumbered (file.shared ++ space_shares file.shared ds) (file.shared ++ space_shares file.shared es) (pushed_named (file.shared ++ space_shares file.shared ds) (file.shared ++ space_shares file.shared es)) q) i k below number) way

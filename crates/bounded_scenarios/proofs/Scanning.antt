@@ -1,9 +1,8 @@
 -- Steps of the loops over channels, scenarios and shared rows.
-use Rattle.std.proofs.Common.{◌≡◌, ℕ, zero, suc, ◌+◌, ◌-◌, ◌≤◌, ◌<◌, ◌⊎◌, Bool, true, false, Option, None, Some, List, [], ◌∷◌, ◌++◌, length, take, drop, map, ⊎_elim, inl, inr, subst, sym, ap, ◌∙◌, refl, arith}
+use Rattle.std.proofs.Common.{◌≡◌, ℕ, zero, suc, ◌+◌, ◌-◌, ◌≤◌, ◌<◌, Bool, true, false, Option, None, Some, List, [], ◌∷◌, ◌++◌, length, take, drop, map, ⊎_elim, subst, sym, ap, ◌∙◌, refl, arith}
 use Rattle.std.specs.Prelude.{◌||◌, ◌==◌, flat_map, slice_get, slice_index, slice_index_or, if◌then◌else◌, nat_lt}
-use Rattle.std.specs.List.{list_any}
 use Rattle.std.specs.Str.{bytes_eq}
-use Rattle.std.proofs.lemmas.Bool.{cases_Bool, cases_lt, le-ltb, lt-ltb}
+use Rattle.std.proofs.lemmas.Bool.{cases_Bool, cases_lt}
 use Rattle.std.proofs.lemmas.List.{append_assoc, at_drop_more, drop_more, take_more}
 use Rattle.std.proofs.lemmas.Slice.Eq.{bytes_eq-Decides}
 use Rattle.sd_base.specs.declared.tables.ChannelRow.{ChannelRow}
@@ -35,9 +34,9 @@ rates-more : (f : ChannelRow → List ℕ) (ss : List ScenarioRow) (name : List 
     new ≡ old ++ f c → old ++ flat_map f (channels_named (drop i ss) name) ≡ flat_map f (channels_named ss name) → new ++ flat_map f (channels_named (drop (i + 1) ss) name) ≡ flat_map f (channels_named ss name)
 rates-more f ss name i sc c old new below is named added before =
     let split : flat_map f (channels_named (drop i ss) name) ≡ f c ++ flat_map f (channels_named (drop (i + 1) ss) name) =
-      at_drop_more (λ (l : List ScenarioRow). flat_map f (channels_named l name)) ss i sc below
-      ∙ (ap (λ (s : ScenarioRow). f (channel_named s.graph.channels name) ++ flat_map f (channels_named (drop (i + 1) ss) name)) (sym is)
-      ∙ ap (λ (x : ChannelRow). f x ++ flat_map f (channels_named (drop (i + 1) ss) name)) (sym named)) in
+    at_drop_more (λ (l : List ScenarioRow). flat_map f (channels_named l name)) ss i sc below
+    ∙ (ap (λ (s : ScenarioRow). f (channel_named s.graph.channels name) ++ flat_map f (channels_named (drop (i + 1) ss) name)) (sym is)
+    ∙ ap (λ (x : ChannelRow). f x ++ flat_map f (channels_named (drop (i + 1) ss) name)) (sym named)) in
     ap (λ (l : List ℕ). l ++ flat_map f (channels_named (drop (i + 1) ss) name)) added
     ∙ (append_assoc old (f c) (flat_map f (channels_named (drop (i + 1) ss) name)) ∙ (ap (λ (l : List ℕ). old ++ l) (sym split) ∙ before))
 
@@ -84,7 +83,7 @@ spaces-more cs rows ds i row d old new all below long is has added before =
     let first : drop i rows ≡ row ∷ drop (i + 1) rows = drop_more rows i row below ∙ ap (λ (r : SharedRow). r ∷ drop (i + 1) rows) (sym is) in
     let second : drop i ds ≡ d ∷ drop (i + 1) ds = drop_more ds i d (omega arith) ∙ ap (λ (x : Option ℕ). x ∷ drop (i + 1) ds) (sym has) in
     let split : space_rows cs (drop i rows) (drop i ds) ≡ space_here cs row d ++ space_rows cs (drop (i + 1) rows) (drop (i + 1) ds) =
-      ap (λ (l : List SharedRow). space_rows cs l (drop i ds)) first ∙ (ap (λ (l : List (Option ℕ)). space_rows cs (row ∷ drop (i + 1) rows) l) second ∙ spaces-cons cs row d (drop (i + 1) rows) (drop (i + 1) ds)) in
+    ap (λ (l : List SharedRow). space_rows cs l (drop i ds)) first ∙ (ap (λ (l : List (Option ℕ)). space_rows cs (row ∷ drop (i + 1) rows) l) second ∙ spaces-cons cs row d (drop (i + 1) rows) (drop (i + 1) ds)) in
     ap (λ (l : List ChannelRow). l ++ space_rows cs (drop (i + 1) rows) (drop (i + 1) ds)) added
     ∙ (append_assoc old (space_here cs row d) (space_rows cs (drop (i + 1) rows) (drop (i + 1) ds)) ∙ (ap (λ (l : List ChannelRow). old ++ l) (sym split) ∙ before))
 
@@ -108,7 +107,7 @@ shares-more rows ds i row d old new all below long is has added before =
     let first : drop i rows ≡ row ∷ drop (i + 1) rows = drop_more rows i row below ∙ ap (λ (r : SharedRow). r ∷ drop (i + 1) rows) (sym is) in
     let second : drop i ds ≡ d ∷ drop (i + 1) ds = drop_more ds i d (omega arith) ∙ ap (λ (x : Option ℕ). x ∷ drop (i + 1) ds) (sym has) in
     let split : space_shares (drop i rows) (drop i ds) ≡ share_here row d ++ space_shares (drop (i + 1) rows) (drop (i + 1) ds) =
-      ap (λ (l : List SharedRow). space_shares l (drop i ds)) first ∙ (ap (λ (l : List (Option ℕ)). space_shares (row ∷ drop (i + 1) rows) l) second ∙ shares-cons row d (drop (i + 1) rows) (drop (i + 1) ds)) in
+    ap (λ (l : List SharedRow). space_shares l (drop i ds)) first ∙ (ap (λ (l : List (Option ℕ)). space_shares (row ∷ drop (i + 1) rows) l) second ∙ shares-cons row d (drop (i + 1) rows) (drop (i + 1) ds)) in
     ap (λ (l : List SharedRow). l ++ space_shares (drop (i + 1) rows) (drop (i + 1) ds)) added
     ∙ (append_assoc old (share_here row d) (space_shares (drop (i + 1) rows) (drop (i + 1) ds)) ∙ (ap (λ (l : List SharedRow). old ++ l) (sym split) ∙ before))
 

@@ -1,5 +1,5 @@
 -- Spare room is no way's: a distribution has the ways of what it is rounded down to.
-use Rattle.std.proofs.Common.{◌≡◌, ℕ, zero, suc, ◌+◌, ◌-◌, ◌*◌, ◌/◌, ◌%◌, ◌≤◌, ◌<◌, ◌⊎◌, Bool, true, false, Option, None, Some, List, [], ◌∷◌, ◌++◌, length, inl, inr, ⊎_elim, subst, sym, ap, ◌∙◌, refl, arith, mod-lt, div-add-mod'}
+use Rattle.std.proofs.Common.{◌≡◌, ℕ, zero, suc, ◌+◌, ◌-◌, ◌*◌, ◌/◌, ◌%◌, ◌≤◌, ◌<◌, Bool, true, false, Option, None, Some, List, [], ◌∷◌, ◌++◌, length, ⊎_elim, subst, sym, ap, ◌∙◌, refl, arith, mod-lt, div-add-mod'}
 use Rattle.std.specs.Prelude.{◌≢◌, slice_get, slice_index, slice_index_or, if◌then◌else◌}
 use Rattle.std.specs.Str.{bytes_eq}
 use Rattle.std.proofs.lemmas.Option.{get_or_from_slice_get}
@@ -17,7 +17,7 @@ use Rattle.storage.proofs.Corners.{rounded-entry, rounded-most}
 use Rattle.token_matrix.specs.EntryWays.{CarriesStamps}
 use Rattle.token_matrix.specs.Stamps.{first_of, no_row}
 use Rattle.token_matrix.specs.Ways.{IsWay}
-use Rattle.token_matrix.proofs.Numbering.{RowsDiffer, later_differ, one_head}
+use Rattle.token_matrix.proofs.Numbering.{RowsDiffer, later_differ}
 use Rattle.bounded_scenarios.specs.BoundedFiles.{bounded_graph, space_name, space_row, space_shares}
 use Rattle.bounded_scenarios.specs.Boundings.{AreFileNames}
 use Rattle.bounded_scenarios.specs.SharedChannels.{channel_named, shared_channel, shared_channels, shared_channels_from}
@@ -162,12 +162,12 @@ module _ (file : ScenarioFile) (ds : List (Option ℕ)) (g : GraphFile) (gamma :
       at_space space =
           let name : both.c.name ≡ space_name space.row.name = ap (λ (x : ChannelRow). x.name) space.first ∙ ap space_name (named space.place space.row space.at) in
           let step_is : step_named file.scenarios 0 file.shared both.c.name ≡ step_of (shared_channel file.scenarios space.place space.row) =
-            ap (step_named file.scenarios 0 file.shared) name ∙ (space-step file.scenarios 0 file.shared space.place space.row differ space.at ∙ ap (λ (n : ℕ). step_of (shared_channel file.scenarios n space.row)) (let e : 0 + space.place ≡ space.place = omega arith in e)) in
+          ap (step_named file.scenarios 0 file.shared) name ∙ (space-step file.scenarios 0 file.shared space.place space.row differ space.at ∙ ap (λ (n : ℕ). step_of (shared_channel file.scenarios n space.row)) (let e : 0 + space.place ≡ space.place = omega arith in e)) in
           let room : space.low ≡ rounded_at (shared_channel file.scenarios space.place space.row) space.high = rounded-is file.scenarios file.shared ds space.place space.low space.high space.row space.at space.low_at space.high_at in
           let first : both.c ≡ space_row (channel_named g.channels space.row.name) (rounded_at (shared_channel file.scenarios space.place space.row) space.high) = space.first ∙ ap (space_row (channel_named g.channels space.row.name)) room in
           subst (IsSparing both.c both.d) (sym step_is) (subst (λ (x : ChannelRow). IsSparing x both.d (step_of (shared_channel file.scenarios space.place space.row))) (sym first)
-            (subst (λ (x : ChannelRow). IsSparing (space_row (channel_named g.channels space.row.name) (rounded_at (shared_channel file.scenarios space.place space.row) space.high)) x (step_of (shared_channel file.scenarios space.place space.row))) (sym space.second)
-            (space-sparing (channel_named g.channels space.row.name) (shared_channel file.scenarios space.place space.row) space.high (fits space.place space.row space.at))))
+          (subst (λ (x : ChannelRow). IsSparing (space_row (channel_named g.channels space.row.name) (rounded_at (shared_channel file.scenarios space.place space.row) space.high)) x (step_of (shared_channel file.scenarios space.place space.row))) (sym space.second)
+          (space-sparing (channel_named g.channels space.row.name) (shared_channel file.scenarios space.place space.row) space.high (fits space.place space.row space.at))))
 
   one-at : (i : ℕ) → i < length (bounded_net file.shared (rounded (shared_channels file) ds) g gamma).channels → BothAt g file.shared (rounded (shared_channels file) ds) ds i
   one-at i below = both-at g gamma file.shared (rounded (shared_channels file) ds) ds most low.kind low.rules high.rules i below
@@ -194,12 +194,12 @@ module _ (file : ScenarioFile) (ds : List (Option ℕ)) (g : GraphFile) (gamma :
     taken = λ i below. (let both = one-at i below in subst (λ (x : Channel). AreWhole (step i) x.taken) (sym (low-at i both)) (sparing i both).taken);
     whole = λ i below. (let both = one-at i below in subst (λ (x : Channel). (u : ℕ) × (x.tokens ≡ u * step i)) (sym (low-at i both)) (sparing i both).whole);
     tokens = λ i below. (
-      let both = one-at i below in
-      let one : (channel_at (bounded_net file.shared (rounded (shared_channels file) ds) g gamma) i).tokens ≡ both.c.tokens = ap (λ (x : Channel). x.tokens) (low-at i both) in
-      let two : (channel_at (bounded_net file.shared ds g gamma) i).tokens ≡ both.d.tokens = ap (λ (x : Channel). x.tokens) (high-at i both) in
-      let three = spare-is i both in
-      let four = (sparing i both).tokens in
-      omega (arith, one, two, three, four));
+        let both = one-at i below in
+        let one : (channel_at (bounded_net file.shared (rounded (shared_channels file) ds) g gamma) i).tokens ≡ both.c.tokens = ap (λ (x : Channel). x.tokens) (low-at i both) in
+        let two : (channel_at (bounded_net file.shared ds g gamma) i).tokens ≡ both.d.tokens = ap (λ (x : Channel). x.tokens) (high-at i both) in
+        let three = spare-is i both in
+        let four = (sparing i both).tokens in
+        omega (arith, one, two, three, four));
   }
 
   agree : (i m : ℕ) (c : ChannelRow) → slice_get (bounded_graph file.shared (rounded (shared_channels file) ds) g).channels i ≡ Some c →
@@ -228,4 +228,4 @@ module _ (file : ScenarioFile) (ds : List (Option ℕ)) (g : GraphFile) (gamma :
       (spared_named file.scenarios file.shared (file.shared ++ space_shares file.shared (rounded (shared_channels file) ds)) (file.shared ++ space_shares file.shared ds)) (spared step spare) agree p q e cs
       (spare-maps (bounded_net file.shared (rounded (shared_channels file) ds) g gamma) (bounded_net file.shared ds g gamma) step spare has-spare cs)
       (λ i k below number. spare-left (bounded_net file.shared (rounded (shared_channels file) ds) g gamma) (bounded_net file.shared ds g gamma) step spare has-spare (first_of (file.shared ++ space_shares file.shared ds) (bounded_graph file.shared ds g))
-        (renumbered (file.shared ++ space_shares file.shared (rounded (shared_channels file) ds)) (file.shared ++ space_shares file.shared ds) (spared_named file.scenarios file.shared (file.shared ++ space_shares file.shared (rounded (shared_channels file) ds)) (file.shared ++ space_shares file.shared ds)) q) i k below number) way
+      (renumbered (file.shared ++ space_shares file.shared (rounded (shared_channels file) ds)) (file.shared ++ space_shares file.shared ds) (spared_named file.scenarios file.shared (file.shared ++ space_shares file.shared (rounded (shared_channels file) ds)) (file.shared ++ space_shares file.shared ds)) q) i k below number) way

@@ -127,9 +127,10 @@ module _ (net other : Net) (step spare : ℕ → ℕ) (has : HasSpare net other 
       let up : (u.0 + a.0) * step i + spare i ≤ m / step i * step i + spare i = above (step i) (spare i) (u.0 + a.0) m (has.some i below) (omega (arith, a.1, u.1)) in
       let down : m / step i * step i + spare i < (u.0 + b.0) * step i = under (step i) (spare i) (u.0 + b.0) m (has.small i below) (omega (arith, b.1, u.1)) in
       let one : total (channel_at net i).made k ≡ total (channel_at other i).made k = (same k).0 in
-      let two : total (channel_at net i).made (k + 1) ≡ total (channel_at other i).made (k + 1) = (same (k + 1)).0 in
-      ((let f : (channel_at other i).tokens + total (channel_at other i).made k ≤ m / step i * step i + spare i = omega (arith, a.1, u.1) in f),
-      (let f : m / step i * step i + spare i < (channel_at other i).tokens + total (channel_at other i).made (k + 1) = omega (arith, b.1, u.1) in f))
+      let two : total (channel_at net i).made (k + 1) ≡ total (channel_at other i).made (k + 1) = (same (k + 1)).0 in (
+        (let f : (channel_at other i).tokens + total (channel_at other i).made k ≤ m / step i * step i + spare i = omega (arith, a.1, u.1) in f),
+        (let f : m / step i * step i + spare i < (channel_at other i).tokens + total (channel_at other i).made (k + 1) = omega (arith, b.1, u.1) in f),
+      )
 
   pub spare-maps : (cs : List ℕ) → MapsTokens net other cs (spared step spare)
   spare-maps cs = record {
@@ -137,9 +138,9 @@ module _ (net other : Net) (step spare : ℕ → ℕ) (has : HasSpare net other 
     taken = λ i m j below on takes. spare-taken i m j below takes;
     put = λ i m k below on puts. spare-put i m k below puts;
     initial = λ i m below there.
-      let u = has.whole i below in
-      let down : m / step i * step i + spare i < u.0 * step i = under (step i) (spare i) u.0 m (has.small i below) (omega (arith, u.1)) in
-      omega (arith, has.tokens i below, u.1);
+        let u = has.whole i below in
+        let down : m / step i * step i + spare i < u.0 * step i = under (step i) (spare i) u.0 m (has.small i below) (omega (arith, u.1)) in
+        omega (arith, has.tokens i below, u.1);
   }
 
   pub spare-left : (first' : ℕ → ℕ) (q' i k : ℕ) → i < length net.channels → q' ≡ first' i + spared step spare i k → MapsLeft net other first' (spared step spare) q' i k

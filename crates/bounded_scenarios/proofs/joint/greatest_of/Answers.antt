@@ -1,4 +1,4 @@
-use Rattle.std.proofs.Common.{◌≡◌, ◌<◌, ◌≤◌, ℕ, arith}
+use Rattle.std.proofs.Common.{◌≡◌, ◌<◌, ◌≤◌, arith}
 use Rattle.std.specs.Prelude.{slice_index}
 use Rattle.bounded_scenarios.proofs.Scanning.{greatest-more}
 use Rattle.bounded_scenarios.proofs.joint.greatest_of.Goals as goal

@@ -1,15 +1,11 @@
-use Rattle.std.proofs.Common.{◌≡◌, ◌<◌, ◌≤◌, ◌+◌, ◌*◌, ◌∙◌, List, Some, length, map, take, sym, ap, subst, arith}
-use Rattle.std.specs.Prelude.{slice_get, slice_index_or}
-use Rattle.std.proofs.lemmas.List.{take_all}
+use Rattle.std.proofs.Common.{◌≡◌, ◌<◌, ◌+◌, ◌*◌, ◌∙◌, List, Some, length, sym, ap, subst, arith}
+use Rattle.std.specs.Prelude.{slice_index_or}
 use Rattle.std.proofs.lemmas.Option.{slice_get-get_or}
 use Rattle.sd_base.specs.declared.limits.TheConstants.{RATE, TOKENS}
 use Rattle.sd_base.specs.declared.tables.ScenarioRow.{ScenarioRow}
 use Rattle.sd_base.specs.declared.tables.SharedRow.{SharedRow}
-use Rattle.storage.specs.Distributions.{storage_of}
-use Rattle.storage.specs.Steps.{IsCorner}
-use Rattle.bounded_scenarios.specs.SharedChannels.{shared_channels_from}
 use Rattle.bounded_scenarios.specs.inside.Joints.{IsJoint}
-use Rattle.bounded_scenarios.proofs.JointChannels.{corner-more, corner-none, few-shared, limited, name-all, room-few}
+use Rattle.bounded_scenarios.proofs.JointChannels.{corner-more, few-shared, limited, name-all, room-few}
 use Rattle.bounded_scenarios.proofs.shared_channel.corner_of.Goals as goal
 
 pub joint_of-requires : goal.joint_of-requires
