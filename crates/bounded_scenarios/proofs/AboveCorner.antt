@@ -49,11 +49,13 @@ record IsRoomFor (c : ChannelRow) (k : ℕ) : Type 0 where
   made : (p : ℕ) → slice_index c.made p ≤ k
   taken : (p : ℕ) → slice_index c.taken p ≤ k
 
-module _ (file : ScenarioFile) (total_room : ℕ) (can : CanBeBounded file total_room) (ds : List (Option ℕ)) (is : IsDistribution (shared_channels file) ds) (within : storage_of (shared_channels file) ds ≤ total_room) where
+module _ (file : ScenarioFile) (total_room : ℕ) (can : CanBeBounded file total_room) (ds : List (Option ℕ)) (is : IsDistribution (shared_channels file) ds)
+    (within : storage_of (shared_channels file) ds ≤ total_room) where
   low : List (Option ℕ)
   low = rounded (shared_channels file) ds
 
-  module _ (s : ℕ) (row : ScenarioRow) (at : slice_get file.scenarios s ≡ Some row) (gamma : List ℕ) (gives : IsRepetitionOf row.graph gamma) (live : IsLive (bounded_net file.shared ds row.graph gamma))
+  module _ (s : ℕ) (row : ScenarioRow) (at : slice_get file.scenarios s ≡ Some row) (gamma : List ℕ) (gives : IsRepetitionOf row.graph gamma)
+      (live : IsLive (bounded_net file.shared ds row.graph gamma))
       (t k : ℕ) (r : SharedRow) (there : slice_get file.shared t ≡ Some r) (has : slice_get (rounded (shared_channels file) ds) t ≡ Some (Some k)) where
     room-for : IsRoomFor (channel_named row.graph.channels r.name) k
     room-for =
@@ -65,34 +67,51 @@ module _ (file : ScenarioFile) (total_room : ℕ) (can : CanBeBounded file total
         let c : ChannelRow = channel_named row.graph.channels r.name in
         let here : slice_get (bounded_graph file.shared (rounded (shared_channels file) ds) row.graph).channels one.0 ≡ Some (channel_named row.graph.channels r.name) =
         at-left row.graph.channels (space_rows row.graph.channels file.shared (rounded (shared_channels file) ds)) one.0 (channel_named row.graph.channels r.name) one.1 in
-        let beside : slice_get (bounded_graph file.shared (rounded (shared_channels file) ds) row.graph).channels (length row.graph.channels + space.0) ≡ Some (space_row (channel_named row.graph.channels r.name) k) =
+        let beside : slice_get (bounded_graph file.shared (rounded (shared_channels file) ds) row.graph).channels (length row.graph.channels + space.0) ≡ Some
+        (space_row (channel_named row.graph.channels r.name) k) =
         at-right row.graph.channels (space_rows row.graph.channels file.shared (rounded (shared_channels file) ds)) space.0 (space_row (channel_named row.graph.channels r.name) k) space.1 in
         let many = channels-many (bounded_graph file.shared (rounded (shared_channels file) ds) row.graph) gamma carries.rules carries.kind in
         let i : one.0 < length (bounded_net file.shared (rounded (shared_channels file) ds) row.graph gamma).channels =
         omega (arith, many, slice_get_within (bounded_graph file.shared (rounded (shared_channels file) ds) row.graph).channels one.0 (channel_named row.graph.channels r.name) here) in
         let j : length row.graph.channels + space.0 < length (bounded_net file.shared (rounded (shared_channels file) ds) row.graph gamma).channels =
-        omega (arith, many, slice_get_within (bounded_graph file.shared (rounded (shared_channels file) ds) row.graph).channels (length row.graph.channels + space.0) (space_row (channel_named row.graph.channels r.name) k) beside) in
+        omega (
+          arith,
+          many,
+          slice_get_within (bounded_graph file.shared (rounded (shared_channels file) ds) row.graph).channels (length row.graph.channels + space.0)
+              (space_row (channel_named row.graph.channels r.name) k) beside,
+        ) in
         let c_is : channel_at (bounded_net file.shared (rounded (shared_channels file) ds) row.graph gamma) one.0 ≡ file_channel one.0 (channel_named row.graph.channels r.name) =
         channel-is (bounded_graph file.shared (rounded (shared_channels file) ds) row.graph) gamma carries.rules carries.kind one.0 (channel_named row.graph.channels r.name) here in
-        let s_is : channel_at (bounded_net file.shared (rounded (shared_channels file) ds) row.graph gamma) (length row.graph.channels + space.0) ≡ file_channel (length row.graph.channels + space.0) (space_row (channel_named row.graph.channels r.name) k) =
-        channel-is (bounded_graph file.shared (rounded (shared_channels file) ds) row.graph) gamma carries.rules carries.kind (length row.graph.channels + space.0) (space_row (channel_named row.graph.channels r.name) k) beside in
-        let pair : IsSpaceOf (channel_at (bounded_net file.shared (rounded (shared_channels file) ds) row.graph gamma) one.0) (channel_at (bounded_net file.shared (rounded (shared_channels file) ds) row.graph gamma) (length row.graph.channels + space.0)) = record {
+        let s_is : channel_at (bounded_net file.shared (rounded (shared_channels file) ds) row.graph gamma) (length row.graph.channels + space.0) ≡ file_channel
+        (length row.graph.channels + space.0) (space_row (channel_named row.graph.channels r.name) k) =
+        channel-is (bounded_graph file.shared (rounded (shared_channels file) ds) row.graph) gamma carries.rules carries.kind (length row.graph.channels + space.0)
+        (space_row (channel_named row.graph.channels r.name) k) beside in
+        let pair : IsSpaceOf (channel_at (bounded_net file.shared (rounded (shared_channels file) ds) row.graph gamma) one.0)
+        (channel_at (bounded_net file.shared (rounded (shared_channels file) ds) row.graph gamma) (length row.graph.channels + space.0)) = record {
           source = ap (λ (x : Channel). x.source) s_is ∙ sym (ap (λ (x : Channel). x.target) c_is);
           target = ap (λ (x : Channel). x.target) s_is ∙ sym (ap (λ (x : Channel). x.source) c_is);
           made = ap (λ (x : Channel). x.made) s_is ∙ sym (ap (λ (x : Channel). x.taken) c_is);
           taken = ap (λ (x : Channel). x.taken) s_is ∙ sym (ap (λ (x : Channel). x.made) c_is);
         } in
         let fires = (balanced (bounded_net file.shared (rounded (shared_channels file) ds) row.graph gamma) lawful).fires in
-        let made = made-covered (bounded_net file.shared (rounded (shared_channels file) ds) row.graph gamma) alive fires one.0 (length row.graph.channels + space.0) i j pair (lawful.sources one.0 i) in
-        let taken = taken-covered (bounded_net file.shared (rounded (shared_channels file) ds) row.graph gamma) alive fires one.0 (length row.graph.channels + space.0) i j pair (lawful.targets one.0 i) in
+        let made = made-covered (bounded_net file.shared (rounded (shared_channels file) ds) row.graph gamma) alive fires one.0 (length row.graph.channels + space.0) i j pair
+        (lawful.sources one.0 i) in
+        let taken = taken-covered (bounded_net file.shared (rounded (shared_channels file) ds) row.graph gamma) alive fires one.0 (length row.graph.channels + space.0) i j pair
+        (lawful.targets one.0 i) in
         let covers = (dist-room file.scenarios 0 file.shared (rounded (shared_channels file) ds) (low-dist file total_room can ds is within) t k r there has).0 in
-        let tokens : (channel_at (bounded_net file.shared (rounded (shared_channels file) ds) row.graph gamma) one.0).tokens ≡ (channel_named row.graph.channels r.name).tokens = ap (λ (x : Channel). x.tokens) c_is in
-        let free : (channel_at (bounded_net file.shared (rounded (shared_channels file) ds) row.graph gamma) (length row.graph.channels + space.0)).tokens ≡ k - (channel_named row.graph.channels r.name).tokens = ap (λ (x : Channel). x.tokens) s_is in
+        let tokens : (channel_at (bounded_net file.shared (rounded (shared_channels file) ds) row.graph gamma) one.0).tokens ≡ (channel_named row.graph.channels r.name).tokens = ap
+        (λ (x : Channel). x.tokens) c_is in
+        let free : (channel_at (bounded_net file.shared (rounded (shared_channels file) ds) row.graph gamma) (length row.graph.channels + space.0)).tokens ≡ k -
+        (channel_named row.graph.channels r.name).tokens = ap (λ (x : Channel). x.tokens) s_is in
         let made_one : length (channel_named row.graph.channels r.name).made ≡ 1 =
-        sym (ap (λ (x : Channel). length x.made) c_is) ∙ (lawful.made_phases one.0 i ∙ one-phase (bounded_file file (rounded (shared_channels file) ds)).shared (bounded_graph file.shared (rounded (shared_channels file) ds) row.graph) gamma carries
+        sym (ap (λ (x : Channel). length x.made) c_is)
+        ∙ (lawful.made_phases one.0 i ∙ one-phase (bounded_file file (rounded (shared_channels file) ds)).shared
+        (bounded_graph file.shared (rounded (shared_channels file) ds) row.graph) gamma carries
         (channel_at (bounded_net file.shared (rounded (shared_channels file) ds) row.graph gamma) one.0).source (lawful.sources one.0 i)) in
         let taken_one : length (channel_named row.graph.channels r.name).taken ≡ 1 =
-        sym (ap (λ (x : Channel). length x.taken) c_is) ∙ (lawful.taken_phases one.0 i ∙ one-phase (bounded_file file (rounded (shared_channels file) ds)).shared (bounded_graph file.shared (rounded (shared_channels file) ds) row.graph) gamma carries
+        sym (ap (λ (x : Channel). length x.taken) c_is)
+        ∙ (lawful.taken_phases one.0 i ∙ one-phase (bounded_file file (rounded (shared_channels file) ds)).shared
+        (bounded_graph file.shared (rounded (shared_channels file) ds) row.graph) gamma carries
         (channel_at (bounded_net file.shared (rounded (shared_channels file) ds) row.graph gamma) one.0).target (lawful.targets one.0 i)) in
         let made_is : total (channel_at (bounded_net file.shared (rounded (shared_channels file) ds) row.graph gamma) one.0).made 1 ≡ slice_index (channel_named row.graph.channels r.name).made 0 =
         ap (λ (x : Channel). total x.made 1) c_is ∙ first-entry (channel_named row.graph.channels r.name).made made_one in
@@ -103,7 +122,8 @@ module _ (file : ScenarioFile) (total_room : ℕ) (can : CanBeBounded file total
           taken = bound-single (channel_named row.graph.channels r.name).taken k taken_one (omega (arith, taken, covers, one.2, tokens, free, taken_is));
         }
 
-  all-cover : AllRun file ds → (t k : ℕ) (r : SharedRow) → slice_get file.shared t ≡ Some r → slice_get (rounded (shared_channels file) ds) t ≡ Some (Some k) → CoversRates (shared_channel file.scenarios t r) k
+  all-cover : AllRun file ds → (t k : ℕ) (r : SharedRow) → slice_get file.shared t ≡ Some r → slice_get (rounded (shared_channels file) ds) t ≡ Some (Some k) →
+      CoversRates (shared_channel file.scenarios t r) k
   all-cover all t k r there has = record {
     made = bound-named (λ (c : ChannelRow). c.made) file.scenarios r.name k (λ s row at. (let run = all s row at in (room-for s row at run.0 run.1 run.2 t k r there has).made));
     taken = bound-named (λ (c : ChannelRow). c.taken) file.scenarios r.name k (λ s row at. (let run = all s row at in (room-for s row at run.0 run.1 run.2 t k r there has).taken));
@@ -112,19 +132,24 @@ module _ (file : ScenarioFile) (total_room : ℕ) (can : CanBeBounded file total
   above : (corner : List (Option ℕ)) → IsCorner (shared_channels file) corner → AllRun file ds → AtMost corner (rounded (shared_channels file) ds)
   above corner is_corner all = corner-below (shared_channels file) corner ds is_corner is covers
     where
-      covers : (p k : ℕ) → p < length (shared_channels file) → capacity_at ds p ≡ Some k → CoversRates (slice_index_or (shared_channels file) p nowhere) (rounded_at (slice_index_or (shared_channels file) p nowhere) k)
+      covers : (p k : ℕ) → p < length (shared_channels file) → capacity_at ds p ≡ Some k →
+          CoversRates (slice_index_or (shared_channels file) p nowhere) (rounded_at (slice_index_or (shared_channels file) p nowhere) k)
       covers p k below has =
           let row = shared-there file.scenarios 0 file.shared p below in
-          let entry : capacity_at (rounded (shared_channels file) ds) p ≡ Some (rounded_at (slice_index_or (shared_channels file) p nowhere) k) = rounded-entry (shared_channels file) ds p k below has in
+          let entry : capacity_at (rounded (shared_channels file) ds) p ≡ Some (rounded_at (slice_index_or (shared_channels file) p nowhere) k) = rounded-entry
+          (shared_channels file) ds p k below has in
           let long = dist-long file.scenarios 0 file.shared (rounded (shared_channels file) ds) (low-dist file total_room can ds is within) in
           let inside : p < length file.shared = slice_get_within file.shared p row.0 row.1 in
           let there : slice_get (rounded (shared_channels file) ds) p ≡ Some (Some (rounded_at (slice_index_or (shared_channels file) p nowhere) k)) =
           slice_get-get_or (rounded (shared_channels file) ds) p None (omega (arith, long)) ∙ ap Some entry in
-          let same : slice_index_or (shared_channels file) p nowhere ≡ shared_channel file.scenarios p row.0 = row.2 ∙ ap (λ (n : ℕ). shared_channel file.scenarios n row.0) (let e : 0 + p ≡ p = omega arith in e) in
-          subst (λ (c : Channel). CoversRates c (rounded_at (slice_index_or (shared_channels file) p nowhere) k)) (sym same) (all-cover all p (rounded_at (slice_index_or (shared_channels file) p nowhere) k) row.0 row.1 there)
+          let same : slice_index_or (shared_channels file) p nowhere ≡ shared_channel file.scenarios p row.0 = row.2
+          ∙ ap (λ (n : ℕ). shared_channel file.scenarios n row.0) (let e : 0 + p ≡ p = omega arith in e) in
+          subst (λ (c : Channel). CoversRates c (rounded_at (slice_index_or (shared_channels file) p nowhere) k)) (sym same)
+          (all-cover all p (rounded_at (slice_index_or (shared_channels file) p nowhere) k) row.0 row.1 there)
 
 -- what has a worst rate above 0 is, rounded down, at least the corner
-pub above-corner : (file : ScenarioFile) (total_room : ℕ) → CanBeBounded file total_room → (corner ds : List (Option ℕ)) (p q : ℕ) → IsCorner (shared_channels file) corner → IsDistribution (shared_channels file) ds →
+pub above-corner : (file : ScenarioFile) (total_room : ℕ) → CanBeBounded file total_room → (corner ds : List (Option ℕ)) (p q : ℕ) → IsCorner (shared_channels file) corner →
+    IsDistribution (shared_channels file) ds →
     storage_of (shared_channels file) ds ≤ total_room → HasWorstRate file ds p q → 1 ≤ p → AtMost corner (rounded (shared_channels file) ds)
 above-corner file total_room can corner ds _ _ is_corner is within (blocked s row at stopped) some = absurd (omega (arith, some))
 above-corner file total_room can corner ds _ _ is_corner is within (runs l w all worst) some = above file total_room can ds is within corner is_corner all

@@ -47,7 +47,8 @@ pub record BothAt (g : GraphFile) (shared : List SharedRow) (ds es : List (Optio
   pub second : slice_get (bounded_graph shared es g).channels i ≡ Some d
   pub what : ((slice_get g.channels i ≡ Some c) × (d ≡ c)) ⊎ IsSpaceOfBoth g shared ds es i c d
 
-pub both-rows : (g : GraphFile) (shared : List SharedRow) (ds es : List (Option ℕ)) → AtMost ds es → (i : ℕ) (c : ChannelRow) → slice_get (bounded_graph shared ds g).channels i ≡ Some c → BothAt g shared ds es i
+pub both-rows : (g : GraphFile) (shared : List SharedRow) (ds es : List (Option ℕ)) → AtMost ds es → (i : ℕ) (c : ChannelRow) → slice_get (bounded_graph shared ds g).channels i ≡ Some c →
+    BothAt g shared ds es i
 both-rows g shared ds es most i c at = ⊎_elim file space (at-either g.channels (space_rows g.channels shared ds) i c at)
   where
     file : slice_get g.channels i ≡ Some c → BothAt g shared ds es i
@@ -130,7 +131,8 @@ module _ (g : GraphFile) (gamma : List ℕ) (shared : List SharedRow) (ds es : L
     many = nets-many;
     each = λ i below. (
         let both = both-at i below in
-        subst (λ (x : Channel). SameRates x (channel_at (bounded_net shared es g gamma) i)) (sym (low-is i both)) (subst (λ (x : Channel). SameRates (file_channel i both.c) x) (sym (high-is i both)) (rates i both)));
+        subst (λ (x : Channel). SameRates x (channel_at (bounded_net shared es g gamma) i)) (sym (low-is i both))
+        (subst (λ (x : Channel). SameRates (file_channel i both.c) x) (sym (high-is i both)) (rates i both)));
   }
 
   -- the second net has no less room

@@ -36,7 +36,8 @@ module _ (shared : List SharedRow) (g : GraphFile) (shares : Shares shared g) wh
 
   few-over : length g.channels < length shared → ⊥
   unfolding channel-of
-  few-over more = pigeons (length g.channels) (λ i. channel-of i (cases_lt i (length shared))) (λ i h. inside i h (cases_lt i (length shared))) (λ i j less h. apart i j less h (cases_lt i (length shared)) (cases_lt j (length shared)))
+  few-over more = pigeons (length g.channels) (λ i. channel-of i (cases_lt i (length shared))) (λ i h. inside i h (cases_lt i (length shared)))
+      (λ i j less h. apart i j less h (cases_lt i (length shared)) (cases_lt j (length shared)))
     where
       inside : (i : ℕ) → i < suc (length g.channels) → (u : (i < length shared) ⊎ (length shared ≤ i)) → channel-of i u < length g.channels
       inside i h (inl below) = let row = get_there shared i below in let one = shares.rows i row.0 row.1 in slice_get_within g.channels one.0 one.1 one.2
@@ -84,7 +85,8 @@ module _ (shared : List SharedRow) (ds : List (Option ℕ)) (g : GraphFile) (rul
   spaces-rules i d below =
       let one = space-at g.channels shared ds i (slice_index_or (space_rows g.channels shared ds) i d) (slice_get-get_or (space_rows g.channels shared ds) i d below) in
       let there = shared-named shared g shares one.0 one.1 one.3 in
-      let keeps : ChannelKeepsRules (phases_of g) (channel_named g.channels one.1.name) = at-all (ChannelKeepsRules (phases_of g)) g.channels there.0 (channel_named g.channels one.1.name) rules.channels there.1 in
+      let keeps : ChannelKeepsRules (phases_of g) (channel_named g.channels one.1.name) = at-all (ChannelKeepsRules (phases_of g)) g.channels there.0
+      (channel_named g.channels one.1.name) rules.channels there.1 in
       subst (ChannelKeepsRules (phases_of g)) (sym one.5) (space-rules (channel_named g.channels one.1.name) one.2 keeps (few one.0 one.2 one.1 one.3 one.4))
 
   pub bounded-rules : KeepsWideRules (bounded_graph shared ds g)
@@ -102,7 +104,8 @@ module _ (shared : List SharedRow) (ds : List (Option ℕ)) (g : GraphFile) (rul
 
 -- ---- the channels of the net are those of the graph
 
-pub channel-is : (g : GraphFile) (gamma : List ℕ) → KeepsWideRules g → g.kind ≡ Sdf → (i : ℕ) (c : ChannelRow) → slice_get g.channels i ≡ Some c → channel_at (net_of g gamma false) i ≡ file_channel i c
+pub channel-is : (g : GraphFile) (gamma : List ℕ) → KeepsWideRules g → g.kind ≡ Sdf → (i : ℕ) (c : ChannelRow) → slice_get g.channels i ≡ Some c →
+    channel_at (net_of g gamma false) i ≡ file_channel i c
 channel-is g gamma rules kind i c at =
     ap (λ (cs : List Channel). slice_index_or cs i nowhere) (channels-are g gamma rules kind)
     ∙ (file-at 0 g.channels i no_row (slice_get_within g.channels i c at) ∙ (ap (λ (x : ChannelRow). file_channel (0 + i) x) (get_or_from_slice_get g.channels i c no_row at)

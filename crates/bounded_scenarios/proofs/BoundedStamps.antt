@@ -52,7 +52,8 @@ module _ (shared : List SharedRow) (g : GraphFile) (gamma : List ℕ) (carries :
       subst (λ (n : ℕ). Says shared c.name (n + k) k) (sym first) names
 
   -- two tokens of one number are one
-  pub apart : (i k j l : ℕ) → i < length (net_of g gamma false).channels → k < (channel_at (net_of g gamma false) i).tokens → j < length (net_of g gamma false).channels → l < (channel_at (net_of g gamma false) j).tokens →
+  pub apart : (i k j l : ℕ) → i < length (net_of g gamma false).channels → k < (channel_at (net_of g gamma false) i).tokens → j < length (net_of g gamma false).channels →
+      l < (channel_at (net_of g gamma false) j).tokens →
       first_of shared g i + k ≡ first_of shared g j + l → (i ≡ j) × (k ≡ l)
   apart i k j l below there place here same =
       let c = channel-there g gamma carries.rules carries.kind i below in
@@ -68,7 +69,8 @@ module _ (shared : List SharedRow) (g : GraphFile) (gamma : List ℕ) (carries :
   stamps-there inputs live x long =
       let lawful = laws shared g gamma carries in
       stamps (net_of g gamma false) lawful (first_of shared g) (shared_count shared) inputs
-      (λ i j below. single-moves (channel_at (net_of g gamma false) i).taken (lawful.taken_phases i below ∙ one-phase shared g gamma carries (channel_at (net_of g gamma false) i).target (lawful.targets i below)) (lawful.some_taken i below) j)
+      (λ i j below. single-moves (channel_at (net_of g gamma false) i).taken
+      (lawful.taken_phases i below ∙ one-phase shared g gamma carries (channel_at (net_of g gamma false) i).target (lawful.targets i below)) (lawful.some_taken i below) j)
       (covers g gamma carries.rules carries.kind shared carries.shares) apart (inside g gamma carries.rules carries.kind shared carries.shares) live.0 live.1 x long
 
 -- a row of the bounded file is that of a row of the file
@@ -77,12 +79,14 @@ row-from [] f k row at = absurd (cc)
 row-from (s ∷ ss) f zero row at = let e : f s ≡ row = cc in (s, refl, sym e)
 row-from (s ∷ ss) f (suc k) row at = row-from ss f k row at
 
-module _ (file : ScenarioFile) (room : ℕ) (can : CanBeBounded file room) (ds : List (Option ℕ)) (is : IsDistribution (shared_channels file) ds) (within : storage_of (shared_channels file) ds ≤ room) where
+module _ (file : ScenarioFile) (room : ℕ) (can : CanBeBounded file room) (ds : List (Option ℕ)) (is : IsDistribution (shared_channels file) ds)
+    (within : storage_of (shared_channels file) ds ≤ room) where
   -- a repetition vector of the bounded graph is that of the graph
   pub gives-back : (k : ℕ) (row : ScenarioRow) (gamma : List ℕ) → slice_get file.scenarios k ≡ Some row → IsRepetitionOf (bounded_graph file.shared ds row.graph) gamma → IsRepetitionOf row.graph gamma
   gives-back k row gamma at gives =
       let run = can.runs k row at in
-      let same : run.gamma ≡ gamma = one-repetition (bounded_graph file.shared ds row.graph) run.gamma gamma (gives-matrix file room can ds is within k row run.gamma at run.round.least).carries.gives gives in
+      let same : run.gamma ≡ gamma = one-repetition (bounded_graph file.shared ds row.graph) run.gamma gamma
+      (gives-matrix file room can ds is within k row run.gamma at run.round.least).carries.gives gives in
       subst (IsRepetitionOf row.graph) same run.round.least
 
   pub have-stamps : AllRun file ds → HaveStamps (bounded_file file ds)
@@ -104,4 +108,5 @@ module _ (file : ScenarioFile) (room : ℕ) (can : CanBeBounded file room) (ds :
       let from = row-from file.scenarios (bounded_scenario file.shared ds) k row at in
       let mine : IsRepetitionOf (bounded_graph file.shared ds from.0.graph) gamma = subst (λ (r : ScenarioRow). IsRepetitionOf r.graph gamma) from.2 gives in
       let plain = gives-back k from.0 gamma from.1 mine in
-      subst (λ (r : ScenarioRow). Lawful (net_of r.graph gamma false)) (sym from.2) (laws (bounded_file file ds).shared (bounded_graph file.shared ds from.0.graph) gamma (gives-matrix file room can ds is within k from.0 gamma from.1 plain).carries)
+      subst (λ (r : ScenarioRow). Lawful (net_of r.graph gamma false)) (sym from.2)
+      (laws (bounded_file file ds).shared (bounded_graph file.shared ds from.0.graph) gamma (gives-matrix file room can ds is within k from.0 gamma from.1 plain).carries)

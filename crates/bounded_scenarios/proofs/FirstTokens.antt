@@ -31,14 +31,16 @@ module _ (shared : List SharedRow) (g : GraphFile) (gamma : List ℕ) (carries :
   one-phase a actor =
       let many : length (map (λ (r : ActorRow). r.times) g.actors) ≡ length g.actors = length-map g.actors (λ (r : ActorRow). r.times) in
       let here : a < length g.actors = omega (arith, many) in
-      ap (λ (t : List ℕ). length t) (get_or-map (λ (r : ActorRow). r.times) g.actors a no_actor [] here) ∙ (carries.timed a no_actor here ∙ (carries.rules.actors a no_actor here).one_phase carries.kind)
+      ap (λ (t : List ℕ). length t) (get_or-map (λ (r : ActorRow). r.times) g.actors a no_actor [] here)
+      ∙ (carries.timed a no_actor here ∙ (carries.rules.actors a no_actor here).one_phase carries.kind)
 
   first-takes : (a : ℕ) → a < length (net_of g gamma false).times → CanFire (net_of g gamma false) none_fired a → HasInputs (net_of g gamma false) →
       (i : ℕ) × (i < length (net_of g gamma false).channels) × (0 < (channel_at (net_of g gamma false) i).tokens)
   first-takes a actor can inputs =
       let into = inputs a actor in
       let fires = can into.0 into.1 into.2 in
-      let one : length (channel_at (net_of g gamma false) into.0).taken ≡ 1 = laws.taken_phases into.0 into.1 ∙ one-phase (channel_at (net_of g gamma false) into.0).target (laws.targets into.0 into.1) in
+      let one : length (channel_at (net_of g gamma false) into.0).taken ≡ 1 = laws.taken_phases into.0 into.1
+      ∙ one-phase (channel_at (net_of g gamma false) into.0).target (laws.targets into.0 into.1) in
       let takes = first-rate (channel_at (net_of g gamma false) into.0).taken one in
       (into.0, into.1, omega (arith, fires, takes, laws.some_taken into.0 into.1, total-zero (channel_at (net_of g gamma false) into.0).made))
 

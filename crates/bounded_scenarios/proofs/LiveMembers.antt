@@ -38,7 +38,8 @@ cross v l w len p q some rate bound = le_of_mul-le-mul_right (
 module _ (file : ScenarioFile) (total : ℕ) (can : CanBeBounded file total) (m : List (Option ℕ)) (shown : List ℕ) (ds : List (Option ℕ)) (above : IsAbove file total m shown ds) where
   -- the number of a token of the member in the file of what is rounded down, and from there in that of the distribution
   up : ℕ → ℕ
-  up = renumbered (bounded_file file m).shared (bounded_file file (rounded (shared_channels file) ds)).shared (pushed_named (bounded_file file m).shared (bounded_file file (rounded (shared_channels file) ds)).shared)
+  up = renumbered (bounded_file file m).shared (bounded_file file (rounded (shared_channels file) ds)).shared
+      (pushed_named (bounded_file file m).shared (bounded_file file (rounded (shared_channels file) ds)).shared)
 
   on : ℕ → ℕ
   on = renumbered (bounded_file file (rounded (shared_channels file) ds)).shared (bounded_file file ds).shared
@@ -55,18 +56,22 @@ module _ (file : ScenarioFile) (total : ℕ) (can : CanBeBounded file total) (m 
       row' = bounded_scenario file.shared (rounded (shared_channels file) ds) s;
       at = bounded-row file.scenarios (bounded_scenario file.shared (rounded (shared_channels file) ds)) k s at;
       gives = (above-carries file total can m shown ds above k s at gamma gives).gives;
-      way = λ p q e cs good way. way-pushed file m (rounded (shared_channels file) ds) s.graph gamma above.most (member-carries file total can m shown ds above k s at gamma gives) (above-carries file total can m shown ds above k s at gamma gives)
+      way = λ p q e cs good way. way-pushed file m (rounded (shared_channels file) ds) s.graph gamma above.most (member-carries file total can m shown ds above k s at gamma gives)
+          (above-carries file total can m shown ds above k s at gamma gives)
           cs shown (named file total can ds above.distribution above.within k s at gamma gives) (good s at) above.agrees p q e way;
     }
 
-    one-on : StandsFor (AreShown file m shown) (bounded_file file (rounded (shared_channels file) ds)) (bounded_file file ds) on k (bounded_scenario file.shared (rounded (shared_channels file) ds) s) gamma
+    one-on : StandsFor (AreShown file m shown) (bounded_file file (rounded (shared_channels file) ds)) (bounded_file file ds) on k
+        (bounded_scenario file.shared (rounded (shared_channels file) ds) s) gamma
     unfolding on
     one-on = record {
       row' = bounded_scenario file.shared ds s;
       at = bounded-row file.scenarios (bounded_scenario file.shared ds) k s at;
       gives = (high-carries file total can ds above.distribution above.within k s at gamma gives).gives;
-      way = λ p q e cs good way. way-spared file ds s.graph gamma above.distribution (can.names k s at) (kept file total can k s at).shares.rows_differ (named file total can ds above.distribution above.within k s at gamma gives)
-          (fit file total can ds above.distribution above.within k s at gamma gives) (above-carries file total can m shown ds above k s at gamma gives) (high-carries file total can ds above.distribution above.within k s at gamma gives) cs p q e way;
+      way = λ p q e cs good way. way-spared file ds s.graph gamma above.distribution (can.names k s at) (kept file total can k s at).shares.rows_differ
+          (named file total can ds above.distribution above.within k s at gamma gives)
+          (fit file total can ds above.distribution above.within k s at gamma gives) (above-carries file total can m shown ds above k s at gamma gives)
+          (high-carries file total can ds above.distribution above.within k s at gamma gives) cs p q e way;
     }
 
   stands-up : (k : ℕ) (row : ScenarioRow) (gamma : List ℕ) → slice_get (bounded_file file m).scenarios k ≡ Some row → IsRepetitionOf row.graph gamma →
@@ -74,15 +79,18 @@ module _ (file : ScenarioFile) (total : ℕ) (can : CanBeBounded file total) (m 
   stands-up k row gamma at gives =
       let from = row-from file.scenarios (bounded_scenario file.shared m) k row at in
       let plain = gives-back file total can m above.member small k from.0 gamma from.1 (subst (λ (r : ScenarioRow). IsRepetitionOf r.graph gamma) from.2 gives) in
-      subst (λ (r : ScenarioRow). StandsFor (AreShown file m shown) (bounded_file file m) (bounded_file file (rounded (shared_channels file) ds)) up k r gamma) (sym from.2) (one-up k from.0 from.1 gamma plain)
+      subst (λ (r : ScenarioRow). StandsFor (AreShown file m shown) (bounded_file file m) (bounded_file file (rounded (shared_channels file) ds)) up k r gamma) (sym from.2)
+      (one-up k from.0 from.1 gamma plain)
 
   stands-on : (k : ℕ) (row : ScenarioRow) (gamma : List ℕ) → slice_get (bounded_file file (rounded (shared_channels file) ds)).scenarios k ≡ Some row → IsRepetitionOf row.graph gamma →
       StandsFor (AreShown file m shown) (bounded_file file (rounded (shared_channels file) ds)) (bounded_file file ds) on k row gamma
   stands-on k row gamma at gives =
       let from = row-from file.scenarios (bounded_scenario file.shared (rounded (shared_channels file) ds)) k row at in
-      let plain = gives-back file total can (rounded (shared_channels file) ds) (low-dist file total can ds above.distribution above.within) (low-within file total can ds above.distribution above.within) k from.0 gamma from.1
+      let plain = gives-back file total can (rounded (shared_channels file) ds) (low-dist file total can ds above.distribution above.within)
+      (low-within file total can ds above.distribution above.within) k from.0 gamma from.1
       (subst (λ (r : ScenarioRow). IsRepetitionOf r.graph gamma) from.2 gives) in
-      subst (λ (r : ScenarioRow). StandsFor (AreShown file m shown) (bounded_file file (rounded (shared_channels file) ds)) (bounded_file file ds) on k r gamma) (sym from.2) (one-on k from.0 from.1 gamma plain)
+      subst (λ (r : ScenarioRow). StandsFor (AreShown file m shown) (bounded_file file (rounded (shared_channels file) ds)) (bounded_file file ds) on k r gamma) (sym from.2)
+      (one-on k from.0 from.1 gamma plain)
 
   -- a closed walk of the member's ways bounds the worst rate of the distribution
   tour-above : (p q : ℕ) → AllRun file ds → IsWorst (bounded_file file ds) p q → (front states : List ℕ) (r s v : ℕ) → LeadTo (bounded_file file m) file.initial front r →
@@ -92,19 +100,24 @@ module _ (file : ScenarioFile) (total : ℕ) (can : CanBeBounded file total) (m 
       tour-maps (AreShown file m shown) (bounded_file file m) (bounded_file file (rounded (shared_channels file) ds)) up refl stands-up states r s r s v tour in
       let high : IsTour (AreShown file m shown) (bounded_file file ds) r (on (up s)) states r (on (up s)) v =
       tour-maps (AreShown file m shown) (bounded_file file (rounded (shared_channels file) ds)) (bounded_file file ds) on refl stands-on states r (up s) r (up s) v low in
-      let first : LeadTo (bounded_file file (rounded (shared_channels file) ds)) file.initial front r = lead-maps (AreShown file m shown) (bounded_file file m) (bounded_file file (rounded (shared_channels file) ds)) up refl stands-up front file.initial r leads in
-      let second : LeadTo (bounded_file file ds) file.initial front r = lead-maps (AreShown file m shown) (bounded_file file (rounded (shared_channels file) ds)) (bounded_file file ds) on refl stands-on front file.initial r first in
-      tour-bounds (bounded_file file ds) (all-lawful file total can ds above.distribution above.within) (have-stamps file total can ds above.distribution above.within all) (AreShown file m shown) p q worst front states r (on (up s)) v second high
+      let first : LeadTo (bounded_file file (rounded (shared_channels file) ds)) file.initial front r = lead-maps (AreShown file m shown) (bounded_file file m)
+      (bounded_file file (rounded (shared_channels file) ds)) up refl stands-up front file.initial r leads in
+      let second : LeadTo (bounded_file file ds) file.initial front r = lead-maps (AreShown file m shown) (bounded_file file (rounded (shared_channels file) ds))
+      (bounded_file file ds) on refl stands-on front file.initial r first in
+      tour-bounds (bounded_file file ds) (all-lawful file total can ds above.distribution above.within) (have-stamps file total can ds above.distribution above.within all)
+      (AreShown file m shown) p q worst front states r (on (up s)) v second high
 
   live-above : (l w p q : ℕ) → IsShownLive file m l w shown → AllRun file ds → IsWorst (bounded_file file ds) p q → p * w ≤ l * q
   live-above l w p q live all worst =
       let front : LeadsAt file m shown live.graph file.initial live.critical.node = reached-leads file m shown live.graph live.timed live.critical.node live.critical.reached in
-      let turn = path-tour file m shown live.graph (λ row k gamma at gives. (member-carries file total can m shown ds above k row at gamma gives).gives) live.cycle live.critical.node live.critical.node front.r front.s front.end front.inside live.shows live.critical.closed in
+      let turn = path-tour file m shown live.graph
+      (λ row k gamma at gives. (member-carries file total can m shown ds above k row at gamma gives).gives) live.cycle live.critical.node live.critical.node front.r front.s front.end front.inside live.shows live.critical.closed in
       let place = same-place live.graph.tokens turn.r turn.s front.r front.s live.critical.node turn.inside front.inside turn.end front.end in
       let tour : IsTour (AreShown file m shown) (bounded_file file m) front.r front.s turn.states front.r front.s (weights live.graph.edges live.cycle) =
       subst (λ (n : ℕ). IsTour (AreShown file m shown) (bounded_file file m) front.r front.s turn.states front.r n (weights live.graph.edges live.cycle)) place.1
       (subst (λ (n : ℕ). IsTour (AreShown file m shown) (bounded_file file m) front.r front.s turn.states n turn.s (weights live.graph.edges live.cycle)) place.0 turn.tour) in
-      let bound : p * weights live.graph.edges live.cycle ≤ q * length turn.states = tour-above p q all worst front.states turn.states front.r front.s (weights live.graph.edges live.cycle) front.leads tour in
+      let bound : p * weights live.graph.edges live.cycle ≤ q * length turn.states = tour-above p q all worst front.states turn.states front.r front.s
+      (weights live.graph.edges live.cycle) front.leads tour in
       let long : length turn.states ≡ length live.cycle = turn.long in
       cross (weights live.graph.edges live.cycle) l w (length live.cycle) p q live.critical.some live.critical.rate (subst (λ (n : ℕ). p * weights live.graph.edges live.cycle ≤ q * n) long bound)
 

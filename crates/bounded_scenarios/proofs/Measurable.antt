@@ -54,7 +54,8 @@ module _ (file : ScenarioFile) (total : ℕ) (can : CanBeBounded file total) whe
     few : (t k : ℕ) (row : SharedRow) → slice_get file.shared t ≡ Some row → slice_get ds t ≡ Some (Some k) → k ≤ TOKENS
     few t k row at has =
         let room = dist-room file.scenarios 0 file.shared ds is t k row at has in
-        let states : 1 * (total + looped_tokens file.scenarios file.shared) ≤ length file.states * (total + looped_tokens file.scenarios file.shared) = mul-le-mul_right (total + looped_tokens file.scenarios file.shared) can.rules.some_state in
+        let states : 1 * (total + looped_tokens file.scenarios file.shared) ≤ length file.states * (total + looped_tokens file.scenarios file.shared) = mul-le-mul_right
+        (total + looped_tokens file.scenarios file.shared) can.rules.some_state in
         omega (arith, room.1, within, states, can.nodes)
 
     pub count-is : shared_count (bounded_file file ds).shared ≡ storage_of (shared_channels file) ds + looped_tokens file.scenarios file.shared
@@ -100,7 +101,8 @@ module _ (file : ScenarioFile) (total : ℕ) (can : CanBeBounded file total) whe
       };
       few_states = can.rules.few_states;
       few_nodes = (
-          let nodes : length file.states * shared_count (bounded_file file ds).shared ≤ length file.states * (total + looped_tokens file.scenarios file.shared) = mul-le-mul_left (length file.states) count-few in
+          let nodes : length file.states * shared_count (bounded_file file ds).shared ≤ length file.states * (total + looped_tokens file.scenarios file.shared) = mul-le-mul_left
+          (length file.states) count-few in
           omega (arith, nodes, can.nodes));
       some_token = omega (arith, some-shared-token, count-append file.shared (space_shares file.shared ds));
     }

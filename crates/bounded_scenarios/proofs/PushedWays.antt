@@ -40,7 +40,8 @@ abbrev pub pushed_named : List SharedRow → List SharedRow → List ℕ → ℕ
 pushed_named low high name m = m + (tokens_named high name - tokens_named low name)
 
 module _ (file : ScenarioFile) (ds es : List (Option ℕ)) (g : GraphFile) (gamma : List ℕ) (most : AtMost ds es)
-    (low : CarriesStamps (file.shared ++ space_shares file.shared ds) (bounded_graph file.shared ds g) gamma) (high : CarriesStamps (file.shared ++ space_shares file.shared es) (bounded_graph file.shared es g) gamma) where
+    (low : CarriesStamps (file.shared ++ space_shares file.shared ds) (bounded_graph file.shared ds g) gamma)
+    (high : CarriesStamps (file.shared ++ space_shares file.shared es) (bounded_graph file.shared es g) gamma) where
   pub alike : IsNamedAlike (bounded_graph file.shared ds g) (bounded_graph file.shared es g)
   alike i c at =
       let both = both-rows g file.shared ds es most i c at in
@@ -48,24 +49,33 @@ module _ (file : ScenarioFile) (ds es : List (Option ℕ)) (g : GraphFile) (gamm
       (both.d, both.second, (same-ends g file.shared ds es i both).name ∙ ap (λ (x : ChannelRow). x.name) same)
 
   agree : (i m : ℕ) (c : ChannelRow) → slice_get (bounded_graph file.shared ds g).channels i ≡ Some c →
-      pushed_named (file.shared ++ space_shares file.shared ds) (file.shared ++ space_shares file.shared es) c.name m ≡ pushed (bounded_net file.shared ds g gamma) (bounded_net file.shared es g gamma) i m
+      pushed_named (file.shared ++ space_shares file.shared ds) (file.shared ++ space_shares file.shared es) c.name m ≡ pushed (bounded_net file.shared ds g gamma)
+      (bounded_net file.shared es g gamma) i m
   agree i m c at =
       let both = both-rows g file.shared ds es most i c at in
       let same : both.c ≡ c = (let h : ◌≡◌ {A = Option ChannelRow} (Some both.c) (Some c) = sym both.first ∙ at in (cc)) in
       let name : both.d.name ≡ c.name = (same-ends g file.shared ds es i both).name ∙ ap (λ (x : ChannelRow). x.name) same in
-      let one : tokens_named (file.shared ++ space_shares file.shared ds) c.name ≡ c.tokens = tokens-named (file.shared ++ space_shares file.shared ds) (bounded_graph file.shared ds g) low.shares i c at in
-      let two : tokens_named (file.shared ++ space_shares file.shared es) c.name ≡ both.d.tokens = ap (tokens_named (file.shared ++ space_shares file.shared es)) (sym name) ∙ tokens-named (file.shared ++ space_shares file.shared es) (bounded_graph file.shared es g) high.shares i both.d both.second in
-      let three : (channel_at (bounded_net file.shared ds g gamma) i).tokens ≡ c.tokens = ap (λ (x : Channel). x.tokens) (low-is g gamma file.shared ds es most low.kind low.rules high.rules i both) ∙ ap (λ (x : ChannelRow). x.tokens) same in
-      let four : (channel_at (bounded_net file.shared es g gamma) i).tokens ≡ both.d.tokens = ap (λ (x : Channel). x.tokens) (high-is g gamma file.shared ds es most low.kind low.rules high.rules i both) in
+      let one : tokens_named (file.shared ++ space_shares file.shared ds) c.name ≡ c.tokens = tokens-named (file.shared ++ space_shares file.shared ds)
+      (bounded_graph file.shared ds g) low.shares i c at in
+      let two : tokens_named (file.shared ++ space_shares file.shared es) c.name ≡ both.d.tokens = ap (tokens_named (file.shared ++ space_shares file.shared es)) (sym name)
+      ∙ tokens-named (file.shared ++ space_shares file.shared es) (bounded_graph file.shared es g) high.shares i both.d both.second in
+      let three : (channel_at (bounded_net file.shared ds g gamma) i).tokens ≡ c.tokens = ap (λ (x : Channel). x.tokens)
+      (low-is g gamma file.shared ds es most low.kind low.rules high.rules i both) ∙ ap (λ (x : ChannelRow). x.tokens) same in
+      let four : (channel_at (bounded_net file.shared es g gamma) i).tokens ≡ both.d.tokens = ap (λ (x : Channel). x.tokens)
+      (high-is g gamma file.shared ds es most low.kind low.rules high.rules i both) in
       omega (arith, one, two, three, four)
 
   -- where the spaces that are taken have the same capacity, they have the same tokens
-  kept : (cs shown : List ℕ) → ((t : ℕ) (row : SharedRow) → slice_get file.shared t ≡ Some row → (channel_named g.channels row.name).name ≡ row.name) → ShowsTaken file ds g cs shown → AgreesOn shown ds es →
-      (i : ℕ) → i < length (bounded_net file.shared ds g gamma).channels → Contains cs i → (channel_at (bounded_net file.shared ds g gamma) i).tokens ≡ (channel_at (bounded_net file.shared es g gamma) i).tokens
+  kept : (cs shown : List ℕ) → ((t : ℕ) (row : SharedRow) → slice_get file.shared t ≡ Some row → (channel_named g.channels row.name).name ≡ row.name) → ShowsTaken file ds g cs shown →
+      AgreesOn shown ds es →
+      (i : ℕ) → i < length (bounded_net file.shared ds g gamma).channels → Contains cs i →
+      (channel_at (bounded_net file.shared ds g gamma) i).tokens ≡ (channel_at (bounded_net file.shared es g gamma) i).tokens
   kept cs shown named shows agrees i below has =
       let both = both-at g gamma file.shared ds es most low.kind low.rules high.rules i below in
-      let one : (channel_at (bounded_net file.shared ds g gamma) i).tokens ≡ both.c.tokens = ap (λ (x : Channel). x.tokens) (low-is g gamma file.shared ds es most low.kind low.rules high.rules i both) in
-      let two : (channel_at (bounded_net file.shared es g gamma) i).tokens ≡ both.d.tokens = ap (λ (x : Channel). x.tokens) (high-is g gamma file.shared ds es most low.kind low.rules high.rules i both) in
+      let one : (channel_at (bounded_net file.shared ds g gamma) i).tokens ≡ both.c.tokens = ap (λ (x : Channel). x.tokens)
+      (low-is g gamma file.shared ds es most low.kind low.rules high.rules i both) in
+      let two : (channel_at (bounded_net file.shared es g gamma) i).tokens ≡ both.d.tokens = ap (λ (x : Channel). x.tokens)
+      (high-is g gamma file.shared ds es most low.kind low.rules high.rules i both) in
       one ∙ (⊎_elim (λ (f : (slice_get g.channels i ≡ Some both.c) × (both.d ≡ both.c)). sym (ap (λ (x : ChannelRow). x.tokens) f.1)) (space both) both.what ∙ sym two)
     where
       space : (both : BothAt g file.shared ds es i) → IsSpaceOfBoth g file.shared ds es i both.c both.d → both.c.tokens ≡ both.d.tokens
@@ -76,15 +86,22 @@ module _ (file : ScenarioFile) (ds es : List (Option ℕ)) (g : GraphFile) (gamm
           ap (λ (x : ChannelRow). x.tokens) is.first ∙ (ap (λ (n : ℕ). n - (channel_named g.channels is.row.name).tokens) same ∙ sym (ap (λ (x : ChannelRow). x.tokens) is.second))
 
   -- a way that takes no space but such is a way of the second file
-  pub way-pushed : (cs shown : List ℕ) → ((t : ℕ) (row : SharedRow) → slice_get file.shared t ≡ Some row → (channel_named g.channels row.name).name ≡ row.name) → ShowsTaken file ds g cs shown → AgreesOn shown ds es →
+  pub way-pushed : (cs shown : List ℕ) → ((t : ℕ) (row : SharedRow) → slice_get file.shared t ≡ Some row → (channel_named g.channels row.name).name ≡ row.name) → ShowsTaken file ds g cs shown →
+      AgreesOn shown ds es →
       (p q e : ℕ) → IsWay (bounded_net file.shared ds g gamma) (first_of (file.shared ++ space_shares file.shared ds) (bounded_graph file.shared ds g)) p q e cs →
       IsWay (bounded_net file.shared es g gamma) (first_of (file.shared ++ space_shares file.shared es) (bounded_graph file.shared es g))
-      (renumbered (file.shared ++ space_shares file.shared ds) (file.shared ++ space_shares file.shared es) (pushed_named (file.shared ++ space_shares file.shared ds) (file.shared ++ space_shares file.shared es)) p)
-      (renumbered (file.shared ++ space_shares file.shared ds) (file.shared ++ space_shares file.shared es) (pushed_named (file.shared ++ space_shares file.shared ds) (file.shared ++ space_shares file.shared es)) q) e cs
+      (renumbered (file.shared ++ space_shares file.shared ds) (file.shared ++ space_shares file.shared es)
+      (pushed_named (file.shared ++ space_shares file.shared ds) (file.shared ++ space_shares file.shared es)) p)
+      (renumbered (file.shared ++ space_shares file.shared ds) (file.shared ++ space_shares file.shared es)
+      (pushed_named (file.shared ++ space_shares file.shared ds) (file.shared ++ space_shares file.shared es)) q) e cs
   way-pushed cs shown named shows agrees p q e way =
       let room = roomier g gamma file.shared ds es most low.kind low.rules high.rules in
-      way-stands (file.shared ++ space_shares file.shared ds) (file.shared ++ space_shares file.shared es) (bounded_graph file.shared ds g) (bounded_graph file.shared es g) gamma low.rules low.kind low.shares alike
-      (pushed_named (file.shared ++ space_shares file.shared ds) (file.shared ++ space_shares file.shared es)) (pushed (bounded_net file.shared ds g gamma) (bounded_net file.shared es g gamma)) agree p q e cs
+      way-stands (file.shared ++ space_shares file.shared ds) (file.shared ++ space_shares file.shared es) (bounded_graph file.shared ds g)
+      (bounded_graph file.shared es g) gamma low.rules low.kind low.shares alike
+      (pushed_named (file.shared ++ space_shares file.shared ds) (file.shared ++ space_shares file.shared es))
+      (pushed (bounded_net file.shared ds g gamma) (bounded_net file.shared es g gamma)) agree p q e cs
       (pushed-maps (bounded_net file.shared ds g gamma) (bounded_net file.shared es g gamma) room cs (kept cs shown named shows agrees))
-      (λ i k below number. pushed-left (bounded_net file.shared ds g gamma) (bounded_net file.shared es g gamma) room (first_of (file.shared ++ space_shares file.shared es) (bounded_graph file.shared es g))
-      (renumbered (file.shared ++ space_shares file.shared ds) (file.shared ++ space_shares file.shared es) (pushed_named (file.shared ++ space_shares file.shared ds) (file.shared ++ space_shares file.shared es)) q) i k below number) way
+      (λ i k below number. pushed-left (bounded_net file.shared ds g gamma) (bounded_net file.shared es g gamma) room
+      (first_of (file.shared ++ space_shares file.shared es) (bounded_graph file.shared es g))
+      (renumbered (file.shared ++ space_shares file.shared ds) (file.shared ++ space_shares file.shared es)
+      (pushed_named (file.shared ++ space_shares file.shared ds) (file.shared ++ space_shares file.shared es)) q) i k below number) way

@@ -23,7 +23,8 @@ use Rattle.bounded_scenarios.proofs.Measurable.{gives-matrix, kept}
 use Rattle.bounded_scenarios.proofs.NamedChannels.{named-is}
 use Rattle.bounded_scenarios.proofs.SparedWays.{has-spare, spare, step}
 
-module _ (file : ScenarioFile) (total_room : ℕ) (can : CanBeBounded file total_room) (ds : List (Option ℕ)) (is : IsDistribution (shared_channels file) ds) (within : storage_of (shared_channels file) ds ≤ total_room) where
+module _ (file : ScenarioFile) (total_room : ℕ) (can : CanBeBounded file total_room) (ds : List (Option ℕ)) (is : IsDistribution (shared_channels file) ds)
+    (within : storage_of (shared_channels file) ds ≤ total_room) where
   pub low-dist : IsDistribution (shared_channels file) (rounded (shared_channels file) ds)
   low-dist = rounded-dist (shared_channels file) ds is
 

@@ -41,11 +41,13 @@ plain-step : (ss : List ScenarioRow) (p : ℕ) (rows : List SharedRow) (name : L
 plain-step ss p [] name plain = refl
 plain-step ss p (row ∷ rows) name plain = at (bytes_eq (space_name row.name) name) refl (plain-step ss (suc p) rows name plain)
   where
-    at : (b : Bool) → bytes_eq (space_name row.name) name ≡ b → step_named ss (suc p) rows name ≡ 1 → (if bytes_eq (space_name row.name) name then step_of (shared_channel ss p row) else step_named ss (suc p) rows name) ≡ 1
+    at : (b : Bool) → bytes_eq (space_name row.name) name ≡ b → step_named ss (suc p) rows name ≡ 1 →
+        (if bytes_eq (space_name row.name) name then step_of (shared_channel ss p row) else step_named ss (suc p) rows name) ≡ 1
     at true same rest = absurd (plain row.name (sym ((bytes_eq-Decides (space_name row.name) name).0 same)))
     at false other rest = rw other rest
 
-space-step : (ss : List ScenarioRow) (p : ℕ) (rows : List SharedRow) (t : ℕ) (row : SharedRow) → RowsDiffer rows → slice_get rows t ≡ Some row → step_named ss p rows (space_name row.name) ≡ step_of (shared_channel ss (p + t) row)
+space-step : (ss : List ScenarioRow) (p : ℕ) (rows : List SharedRow) (t : ℕ) (row : SharedRow) → RowsDiffer rows → slice_get rows t ≡ Some row →
+    step_named ss p rows (space_name row.name) ≡ step_of (shared_channel ss (p + t) row)
 space-step ss p [] t row differ at = absurd (cc)
 space-step ss p (r ∷ rest) zero row differ at =
     let is : r ≡ row = cc in
@@ -76,12 +78,14 @@ shared-at ss p (r ∷ rest) (suc t) row at =
     (omega (arith, next.0), next.1 ∙ ap (λ (n : ℕ). shared_channel ss n row) places)
 
 -- the capacity to which one is rounded down
-pub rounded-is : (ss : List ScenarioRow) (rows : List SharedRow) (ds : List (Option ℕ)) (t k l : ℕ) (row : SharedRow) → slice_get rows t ≡ Some row → slice_get (rounded (shared_channels_from ss 0 rows) ds) t ≡ Some (Some k) → slice_get ds t ≡ Some (Some l) →
+pub rounded-is : (ss : List ScenarioRow) (rows : List SharedRow) (ds : List (Option ℕ)) (t k l : ℕ) (row : SharedRow) → slice_get rows t ≡ Some row →
+    slice_get (rounded (shared_channels_from ss 0 rows) ds) t ≡ Some (Some k) → slice_get ds t ≡ Some (Some l) →
     k ≡ rounded_at (shared_channel ss t row) l
 rounded-is ss rows ds t k l row at low high =
     let there = shared-at ss 0 rows t row at in
     let has : capacity_at ds t ≡ Some l = get_or_from_slice_get ds t (Some l) None high in
-    let entry : capacity_at (rounded (shared_channels_from ss 0 rows) ds) t ≡ Some (rounded_at (slice_index_or (shared_channels_from ss 0 rows) t nowhere) l) = rounded-entry (shared_channels_from ss 0 rows) ds t l there.0 has in
+    let entry : capacity_at (rounded (shared_channels_from ss 0 rows) ds) t ≡ Some (rounded_at (slice_index_or (shared_channels_from ss 0 rows) t nowhere) l) = rounded-entry
+    (shared_channels_from ss 0 rows) ds t l there.0 has in
     let low_is : capacity_at (rounded (shared_channels_from ss 0 rows) ds) t ≡ Some k = get_or_from_slice_get (rounded (shared_channels_from ss 0 rows) ds) t (Some k) None low in
     let h : ◌≡◌ {A = Option ℕ} (Some k) (Some (rounded_at (slice_index_or (shared_channels_from ss 0 rows) t nowhere) l)) = sym low_is ∙ entry in
     let same : k ≡ rounded_at (slice_index_or (shared_channels_from ss 0 rows) t nowhere) l = cc in
@@ -129,7 +133,8 @@ space-sparing c s k fits =
       tokens = (let f : k - c.tokens ≡ (rounded_at s k - c.tokens) + ((k - c.tokens) - (rounded_at s k - c.tokens)) = omega arith in f);
     }
 
-module _ (file : ScenarioFile) (ds : List (Option ℕ)) (g : GraphFile) (gamma : List ℕ) (is : IsDistribution (shared_channels file) ds) (names : AreFileNames g.channels) (differ : RowsDiffer file.shared)
+module _ (file : ScenarioFile) (ds : List (Option ℕ)) (g : GraphFile) (gamma : List ℕ) (is : IsDistribution (shared_channels file) ds) (names : AreFileNames g.channels)
+    (differ : RowsDiffer file.shared)
     (named : (t : ℕ) (row : SharedRow) → slice_get file.shared t ≡ Some row → (channel_named g.channels row.name).name ≡ row.name)
     (fits : (t : ℕ) (row : SharedRow) → slice_get file.shared t ≡ Some row → FitsShared (channel_named g.channels row.name) (shared_channel file.scenarios t row))
     (low : CarriesStamps (file.shared ++ space_shares file.shared (rounded (shared_channels file) ds)) (bounded_graph file.shared (rounded (shared_channels file) ds) g) gamma)
@@ -148,7 +153,8 @@ module _ (file : ScenarioFile) (ds : List (Option ℕ)) (g : GraphFile) (gamma :
 
   name-is : (i : ℕ) (c : ChannelRow) → slice_get (bounded_graph file.shared (rounded (shared_channels file) ds) g).channels i ≡ Some c → step i ≡ step_named file.scenarios 0 file.shared c.name
   unfolding step name_of
-  name-is i c at = ap (λ (x : ChannelRow). step_named file.scenarios 0 file.shared x.name) (get_or_from_slice_get (bounded_graph file.shared (rounded (shared_channels file) ds) g).channels i c no_row at)
+  name-is i c at = ap (λ (x : ChannelRow). step_named file.scenarios 0 file.shared x.name)
+      (get_or_from_slice_get (bounded_graph file.shared (rounded (shared_channels file) ds) g).channels i c no_row at)
 
   sparing : (i : ℕ) (both : BothAt g file.shared (rounded (shared_channels file) ds) ds i) → IsSparing both.c both.d (step i)
   sparing i both = subst (IsSparing both.c both.d) (sym (name-is i both.c both.first)) (⊎_elim at_file at_space both.what)
@@ -162,11 +168,16 @@ module _ (file : ScenarioFile) (ds : List (Option ℕ)) (g : GraphFile) (gamma :
       at_space space =
           let name : both.c.name ≡ space_name space.row.name = ap (λ (x : ChannelRow). x.name) space.first ∙ ap space_name (named space.place space.row space.at) in
           let step_is : step_named file.scenarios 0 file.shared both.c.name ≡ step_of (shared_channel file.scenarios space.place space.row) =
-          ap (step_named file.scenarios 0 file.shared) name ∙ (space-step file.scenarios 0 file.shared space.place space.row differ space.at ∙ ap (λ (n : ℕ). step_of (shared_channel file.scenarios n space.row)) (let e : 0 + space.place ≡ space.place = omega arith in e)) in
-          let room : space.low ≡ rounded_at (shared_channel file.scenarios space.place space.row) space.high = rounded-is file.scenarios file.shared ds space.place space.low space.high space.row space.at space.low_at space.high_at in
-          let first : both.c ≡ space_row (channel_named g.channels space.row.name) (rounded_at (shared_channel file.scenarios space.place space.row) space.high) = space.first ∙ ap (space_row (channel_named g.channels space.row.name)) room in
+          ap (step_named file.scenarios 0 file.shared) name
+          ∙ (space-step file.scenarios 0 file.shared space.place space.row differ space.at
+          ∙ ap (λ (n : ℕ). step_of (shared_channel file.scenarios n space.row)) (let e : 0 + space.place ≡ space.place = omega arith in e)) in
+          let room : space.low ≡ rounded_at (shared_channel file.scenarios space.place space.row) space.high =
+          rounded-is file.scenarios file.shared ds space.place space.low space.high space.row space.at space.low_at space.high_at in
+          let first : both.c ≡ space_row (channel_named g.channels space.row.name) (rounded_at (shared_channel file.scenarios space.place space.row) space.high) = space.first
+          ∙ ap (space_row (channel_named g.channels space.row.name)) room in
           subst (IsSparing both.c both.d) (sym step_is) (subst (λ (x : ChannelRow). IsSparing x both.d (step_of (shared_channel file.scenarios space.place space.row))) (sym first)
-          (subst (λ (x : ChannelRow). IsSparing (space_row (channel_named g.channels space.row.name) (rounded_at (shared_channel file.scenarios space.place space.row) space.high)) x (step_of (shared_channel file.scenarios space.place space.row))) (sym space.second)
+          (subst (λ (x : ChannelRow). IsSparing (space_row (channel_named g.channels space.row.name) (rounded_at (shared_channel file.scenarios space.place space.row) space.high)) x
+          (step_of (shared_channel file.scenarios space.place space.row))) (sym space.second)
           (space-sparing (channel_named g.channels space.row.name) (shared_channel file.scenarios space.place space.row) space.high (fits space.place space.row space.at))))
 
   one-at : (i : ℕ) → i < length (bounded_net file.shared (rounded (shared_channels file) ds) g gamma).channels → BothAt g file.shared (rounded (shared_channels file) ds) ds i
@@ -203,29 +214,43 @@ module _ (file : ScenarioFile) (ds : List (Option ℕ)) (g : GraphFile) (gamma :
   }
 
   agree : (i m : ℕ) (c : ChannelRow) → slice_get (bounded_graph file.shared (rounded (shared_channels file) ds) g).channels i ≡ Some c →
-      spared_named file.scenarios file.shared (file.shared ++ space_shares file.shared (rounded (shared_channels file) ds)) (file.shared ++ space_shares file.shared ds) c.name m ≡ spared step spare i m
+      spared_named file.scenarios file.shared (file.shared ++ space_shares file.shared (rounded (shared_channels file) ds))
+      (file.shared ++ space_shares file.shared ds) c.name m ≡ spared step spare i m
   agree i m c at =
       let both = both-rows g file.shared (rounded (shared_channels file) ds) ds most i c at in
       let same : both.c ≡ c = (let h : ◌≡◌ {A = Option ChannelRow} (Some both.c) (Some c) = sym both.first ∙ at in (cc)) in
       let name : both.d.name ≡ c.name = (same-ends g file.shared (rounded (shared_channels file) ds) ds i both).name ∙ ap (λ (x : ChannelRow). x.name) same in
-      let one : tokens_named (file.shared ++ space_shares file.shared (rounded (shared_channels file) ds)) c.name ≡ c.tokens = tokens-named (file.shared ++ space_shares file.shared (rounded (shared_channels file) ds)) (bounded_graph file.shared (rounded (shared_channels file) ds) g) low.shares i c at in
-      let two : tokens_named (file.shared ++ space_shares file.shared ds) c.name ≡ both.d.tokens = ap (tokens_named (file.shared ++ space_shares file.shared ds)) (sym name) ∙ tokens-named (file.shared ++ space_shares file.shared ds) (bounded_graph file.shared ds g) high.shares i both.d both.second in
+      let one : tokens_named (file.shared ++ space_shares file.shared (rounded (shared_channels file) ds)) c.name ≡ c.tokens = tokens-named
+      (file.shared ++ space_shares file.shared (rounded (shared_channels file) ds)) (bounded_graph file.shared (rounded (shared_channels file) ds) g) low.shares i c at in
+      let two : tokens_named (file.shared ++ space_shares file.shared ds) c.name ≡ both.d.tokens = ap (tokens_named (file.shared ++ space_shares file.shared ds)) (sym name)
+      ∙ tokens-named (file.shared ++ space_shares file.shared ds) (bounded_graph file.shared ds g) high.shares i both.d both.second in
       let three : both.c.tokens ≡ c.tokens = ap (λ (x : ChannelRow). x.tokens) same in
       let four = spare-is i both in
-      let left : tokens_named (file.shared ++ space_shares file.shared ds) c.name - tokens_named (file.shared ++ space_shares file.shared (rounded (shared_channels file) ds)) c.name ≡ spare i = omega (arith, one, two, three, four) in
+      let left : tokens_named (file.shared ++ space_shares file.shared ds) c.name - tokens_named (file.shared ++ space_shares file.shared (rounded (shared_channels file) ds)) c.name ≡ spare i =
+      omega (arith, one, two, three, four) in
       let steps : step_named file.scenarios 0 file.shared c.name ≡ step i = sym (name-is i c at) in
-      ap (λ (n : ℕ). m / n * n + (tokens_named (file.shared ++ space_shares file.shared ds) c.name - tokens_named (file.shared ++ space_shares file.shared (rounded (shared_channels file) ds)) c.name)) steps
+      ap (λ (n : ℕ). m / n * n + (tokens_named (file.shared ++ space_shares file.shared ds) c.name - tokens_named
+      (file.shared ++ space_shares file.shared (rounded (shared_channels file) ds)) c.name)) steps
       ∙ ap (λ (n : ℕ). m / step i * step i + n) left
 
   -- each way of what the distribution is rounded down to is one of it
-  pub way-spared : (cs : List ℕ) (p q e : ℕ) → IsWay (bounded_net file.shared (rounded (shared_channels file) ds) g gamma) (first_of (file.shared ++ space_shares file.shared (rounded (shared_channels file) ds)) (bounded_graph file.shared (rounded (shared_channels file) ds) g)) p q e cs →
+  pub way-spared : (cs : List ℕ) (p q e : ℕ) →
+      IsWay (bounded_net file.shared (rounded (shared_channels file) ds) g gamma)
+      (first_of (file.shared ++ space_shares file.shared (rounded (shared_channels file) ds)) (bounded_graph file.shared (rounded (shared_channels file) ds) g)) p q e cs →
       IsWay (bounded_net file.shared ds g gamma) (first_of (file.shared ++ space_shares file.shared ds) (bounded_graph file.shared ds g))
-      (renumbered (file.shared ++ space_shares file.shared (rounded (shared_channels file) ds)) (file.shared ++ space_shares file.shared ds) (spared_named file.scenarios file.shared (file.shared ++ space_shares file.shared (rounded (shared_channels file) ds)) (file.shared ++ space_shares file.shared ds)) p)
-      (renumbered (file.shared ++ space_shares file.shared (rounded (shared_channels file) ds)) (file.shared ++ space_shares file.shared ds) (spared_named file.scenarios file.shared (file.shared ++ space_shares file.shared (rounded (shared_channels file) ds)) (file.shared ++ space_shares file.shared ds)) q) e cs
+      (renumbered (file.shared ++ space_shares file.shared (rounded (shared_channels file) ds)) (file.shared ++ space_shares file.shared ds)
+      (spared_named file.scenarios file.shared (file.shared ++ space_shares file.shared (rounded (shared_channels file) ds)) (file.shared ++ space_shares file.shared ds)) p)
+      (renumbered (file.shared ++ space_shares file.shared (rounded (shared_channels file) ds)) (file.shared ++ space_shares file.shared ds)
+      (spared_named file.scenarios file.shared (file.shared ++ space_shares file.shared (rounded (shared_channels file) ds)) (file.shared ++ space_shares file.shared ds)) q) e cs
   way-spared cs p q e way =
-      way-stands (file.shared ++ space_shares file.shared (rounded (shared_channels file) ds)) (file.shared ++ space_shares file.shared ds) (bounded_graph file.shared (rounded (shared_channels file) ds) g) (bounded_graph file.shared ds g) gamma low.rules low.kind low.shares
+      way-stands (file.shared ++ space_shares file.shared (rounded (shared_channels file) ds)) (file.shared ++ space_shares file.shared ds)
+      (bounded_graph file.shared (rounded (shared_channels file) ds) g) (bounded_graph file.shared ds g) gamma low.rules low.kind low.shares
       (alike file (rounded (shared_channels file) ds) ds g gamma most low high)
-      (spared_named file.scenarios file.shared (file.shared ++ space_shares file.shared (rounded (shared_channels file) ds)) (file.shared ++ space_shares file.shared ds)) (spared step spare) agree p q e cs
+      (spared_named file.scenarios file.shared (file.shared ++ space_shares file.shared (rounded (shared_channels file) ds)) (file.shared ++ space_shares file.shared ds))
+      (spared step spare) agree p q e cs
       (spare-maps (bounded_net file.shared (rounded (shared_channels file) ds) g gamma) (bounded_net file.shared ds g gamma) step spare has-spare cs)
-      (λ i k below number. spare-left (bounded_net file.shared (rounded (shared_channels file) ds) g gamma) (bounded_net file.shared ds g gamma) step spare has-spare (first_of (file.shared ++ space_shares file.shared ds) (bounded_graph file.shared ds g))
-      (renumbered (file.shared ++ space_shares file.shared (rounded (shared_channels file) ds)) (file.shared ++ space_shares file.shared ds) (spared_named file.scenarios file.shared (file.shared ++ space_shares file.shared (rounded (shared_channels file) ds)) (file.shared ++ space_shares file.shared ds)) q) i k below number) way
+      (λ i k below number. spare-left (bounded_net file.shared (rounded (shared_channels file) ds) g gamma) (bounded_net file.shared ds g gamma) step spare has-spare
+      (first_of (file.shared ++ space_shares file.shared ds) (bounded_graph file.shared ds g))
+      (renumbered (file.shared ++ space_shares file.shared (rounded (shared_channels file) ds)) (file.shared ++ space_shares file.shared ds)
+      (spared_named file.scenarios file.shared (file.shared ++ space_shares file.shared (rounded (shared_channels file) ds))
+      (file.shared ++ space_shares file.shared ds)) q) i k below number) way
