@@ -29,7 +29,7 @@ use Rattle.bounded_scenarios.proofs.TourMaps.{StandsFor, lead-maps, tour-maps}
 use Rattle.bounded_scenarios.proofs.Tours.{tour-bounds}
 
 -- of two equal ratios and one that is no greater than the first
-cross : (v l w len p q : ℕ) → 1 ≤ len → v * l ≡ w * len → p * v ≤ q * len → p * w ≤ l * q
+pub cross : (v l w len p q : ℕ) → 1 ≤ len → v * l ≡ w * len → p * v ≤ q * len → p * w ≤ l * q
 cross v l w len p q some rate bound = le_of_mul-le-mul_right (
     let scaled : p * v * l ≤ q * len * l = mul-le-mul_right l bound in
     let one : p * (v * l) ≡ p * (w * len) = ap (λ (n : ℕ). p * n) rate in
