@@ -50,9 +50,6 @@ offered-noted file limit es best total ds r ps is = record {
 }
 
 module _ (file : ScenarioFile) (limit : ℕ) (es : List Entry) (best : Fraction) (total : ℕ) (ds : List (Option ℕ)) (r : Rated) (ps : List ScenarioPoint) (is : IsOffered file limit es best total ds r ps) where
-  its : Entry
-  its = entry_of ds r
-
   -- points so far need no more storage
   pub offered-late : (p : ScenarioPoint) → Contains ps p → p.total ≤ total
   offered-late p one =
@@ -60,7 +57,7 @@ module _ (file : ScenarioFile) (limit : ℕ) (es : List Entry) (best : Fraction)
       let before : storage_of (shared_channels file) of.0.capacities ≤ storage_of (shared_channels file) ds = before-le file of.0.capacities ds (is.after of.0 of.1) in
       omega (arith, before, is.storage, of.2.total)
 
-  noted-more : (x : Entry) → Contains (es ++ entry_of ds r ∷ []) x → IsNoted file limit x
+  pub noted-more : (x : Entry) → Contains (es ++ entry_of ds r ∷ []) x → IsNoted file limit x
   noted-more x one =
       ⊎_elim
       (λ (h : Contains es x). is.known.noted x h)

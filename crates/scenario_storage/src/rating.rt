@@ -1,11 +1,9 @@
 //! The worst rate of a distribution.
-ghost use Rattle.std.specs.Prelude.{◌≡◌, ◌<◌, ◌≤◌, Contains, IfErr, IfOk, OnErr, length};
+ghost use Rattle.std.specs.Prelude.{◌≡◌, ◌<◌, IfErr, IfOk, length};
+ghost use Rattle.sd_base.specs.declared.numbers.Fraction.{Fraction as AFraction};
 ghost use Rattle.bounded_scenarios.specs.BoundedFiles.{bounded_file};
-ghost use Rattle.bounded_scenarios.specs.Boundings.{CanBeMeasured};
-ghost use Rattle.scenario_storage.specs.declared.rated.RateError.TheVariants.{NoMemory as no_memory};
-ghost use Rattle.scenario_storage.specs.ScenarioPoints.{HasTooManyEdges};
-ghost use Rattle.scenario_storage.specs.inside.Levels.{IsAnswer, IsPlan, IsRateRefusal, IsRated, IsWithin};
-ghost use Rattle.scenario_storage.specs.inside.Ratings.{AreAllMatrices, AreTimed, IsBlockedAt, IsGraphOf, IsMeasured, IsMatrixAnswer};
+ghost use Rattle.scenario_storage.specs.inside.Levels.{IsAnswer, IsPlan, IsRateRefusal, IsWithin};
+ghost use Rattle.scenario_storage.specs.inside.Ratings.{AreAllMatrices, IsBlockedAt, IsGraphOf, IsMatrixAnswer, IsMeasured};
 
 use crate::plan::Plan;
 use crate::rated::{Evidence, RateError, Rated, if_above};

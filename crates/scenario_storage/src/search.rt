@@ -7,7 +7,7 @@ ghost use Rattle.bounded_scenarios.specs.SharedChannels.{shared_channels};
 ghost use Rattle.scenario_storage.specs.ScenarioPoints.{AreScenarioPoints, IsRefusal};
 ghost use Rattle.scenario_storage.specs.inside.Levels.{AreRounds, IsPlan};
 ghost use Rattle.scenario_storage.specs.inside.Points.{IsBestOf};
-ghost use Rattle.scenario_storage.specs.inside.Searches.{IsEnded, IsSearch, IsStanding, IsTurn};
+ghost use Rattle.scenario_storage.specs.inside.Searches.{IsEnded, IsStanding, IsTurn, taken_off};
 
 use crate::error::ScenarioStorageError;
 use crate::level::run_level;
@@ -124,6 +124,7 @@ fn next_level(plan: &Plan, search: &mut Search) -> Result<Option<Level<()>>, NoM
     ensures level { IfOk result (λ found. MatchOption found (IsEnded plan.now.file.now plan.now.limits search.old.points.items)
         (λ level. IsTurn plan.now.file.now plan.now.limits level search.new)) }
     ensures points { search.new.points ≡ search.old.points }
+    ensures off { IfOk result (λ found. MatchOption found Unit (λ _. taken_off search.old < taken_off search.new)) }
 {
     let found = search.levels.next(plan.alloc)?;
     Ok(found)
@@ -140,6 +141,7 @@ fn take_turn<R: Threads + Sync, G: Gate + Sync>(
     requires plan { IsPlan plan.now.file.now plan.now.gammas.now plan.now.limits }
     requires turn { IsTurn plan.now.file.now plan.now.limits level search.old }
     ensures stands { OnOk result (IsStanding plan.now.file.now plan.now.limits search.new) }
+    ensures off { OnOk result (taken_off search.new ≡ taken_off search.old) }
     ensures refused { IfErr result (IsRefusal plan.now.file.now plan.now.limits) }
 {
     let total = level.total;
