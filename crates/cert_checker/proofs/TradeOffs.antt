@@ -147,7 +147,7 @@ module _ (cycles_bound : CyclesBoundTheRate) (rates : RateIsShown) (net : Net) (
       within = λ i below. rw ((are i (here i below)).capacities) (within i (here i below)).storage;
       next = next-of;
       positive = λ i below. rw ((are i (here i below)).den) (are i (here i below)).bound_of.positive;
-      above = net-above net file.laws corner is_corner;
+      above = net-above net file.laws c.limit corner is_corner;
       bounds = λ i below. net-bounds net file.laws c.limit (entry_at es i) (bounds i below);
     }
 

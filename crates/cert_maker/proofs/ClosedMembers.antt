@@ -114,6 +114,6 @@ module _ (cycles_bound : CyclesBoundTheRate) (net : Net) (file : IsFileNet net) 
           (let n = zip-at (IsEntryOf net limits.total) ms es i no_entry are below in subst (λ (ds : List (Option ℕ)). storage_of net.channels ds ≤ limits.total) (sym n.holds.capacities) (member-fits net file limits ms ps is n.item n.one).1);
       next = next-entry;
       positive = λ i below. (let n = zip-at (IsEntryOf net limits.total) ms es i no_entry are below in subst (λ (d : ℕ). 1 ≤ d) (sym n.holds.den) (is.evaluated n.item n.one).rate.positive);
-      above = net-above net file.laws is.start.corner is.start.is_corner;
+      above = net-above net file.laws limits.total is.start.corner is.start.is_corner;
       bounds = λ i below. net-bounds net file.laws limits.total (entry_at es i) (zip-at (IsEntryOf net limits.total) ms es i no_entry are below).holds.bounds;
     }

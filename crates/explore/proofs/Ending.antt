@@ -131,7 +131,7 @@ module _ (net : Net) (laws : Lawful net) (can : IsExplorable net) (limits : Limi
     within = λ i below. let n = noted i below in subst (λ (x : Entry). storage_of net.channels x.capacities ≤ limits.total) (sym n.2.is) (ended.candidates n.0 n.1).within;
     next = nexts;
     positive = λ i below. let n = noted i below in subst (λ (x : Entry). 1 ≤ x.den) (sym n.2.is) n.0.rate.positive;
-    above = net-above net laws ended.corner ended.is_corner;
+    above = net-above net laws limits.total ended.corner ended.is_corner;
     bounds = λ i below. net-bounds net laws limits.total (entry_at ended.entries i) (bounds i below);
   }
 

@@ -19,7 +19,7 @@ use Rattle.storage.proofs.Zeros.{bound-timed, bound-wired, bound-balanced, block
 use Rattle.storage.proofs.Climbs.{HasSteps, most-trans, storage-le, Meets, climb}
 
 pub covered-by : (cs : List Channel) (rating : Rating) → HasSteps cs → (limit : ℕ) (es : List Entry) → IsClosedBy cs rating limit es → (t p q : ℕ) (ds : List (Option ℕ)) → ReachesBy cs rating limit t p q ds → IsCovered es ds p q
-covered-by cs rating steps limit es closed t p q ds reaches = let under : AtMost (rounded cs ds) ds = rounded-most cs ds reaches.distribution in let fits : storage_of cs (rounded cs ds) ≤ storage_of cs ds = storage-le cs (rounded cs ds) ds under in let small : storage_of cs (rounded cs ds) ≤ limit = omega (arith, reaches.total, reaches.within) in let above : AtMost closed.corner (rounded cs ds) = closed.above ds p q reaches.distribution reaches.rate reaches.runs in
+covered-by cs rating steps limit es closed t p q ds reaches = let under : AtMost (rounded cs ds) ds = rounded-most cs ds reaches.distribution in let fits : storage_of cs (rounded cs ds) ≤ storage_of cs ds = storage-le cs (rounded cs ds) ds under in let small : storage_of cs (rounded cs ds) ≤ limit = omega (arith, reaches.total, reaches.within) in let above : AtMost closed.corner (rounded cs ds) = closed.above ds p q reaches.distribution (omega (arith, reaches.total, reaches.within)) reaches.rate reaches.runs in
     let corner : storage_of cs closed.corner ≤ limit = omega (arith, storage-le cs closed.corner (rounded cs ds) above) in let start = closed.start corner in let first : AtMost (entry_at es start.0).capacities (rounded cs ds) = subst (λ (x : List (Option ℕ)). AtMost x (rounded cs ds)) (sym start.2) above in let meets : Meets es (rounded cs ds) = climb cs rating limit es closed steps (rounded cs ds) (rounded-grid cs ds reaches.distribution) small (suc (storage_of cs (rounded cs ds))) start.0 start.1 first (omega arith) in record {
       place = meets.place;
       below = meets.below;
@@ -37,9 +37,9 @@ pub running-live : (net : Net) → Lawful net → (ds : List (Option ℕ)) (p q 
 running-live net laws ds p q rate runs = ⊎_elim (λ (live : IsLive (bound net ds)). live) (λ (blocked : (v : ℕ → ℕ) × IsEnd (bound net ds) v × Blocks (bound net ds) v). absurd (let none : p ≡ 0 = blocked-zero (bound net ds) (bound-timed net laws ds) (bound-wired net laws ds) (bound-balanced net laws ds) blocked.0 blocked.2 p q rate in omega arith)) (live_or_blocked (bound net ds))
 
 -- what has a rate above 0 is, rounded down, at least the corner
-pub net-above : (net : Net) → Lawful net → (corner : List (Option ℕ)) → IsCorner net.channels corner →
-    (ds : List (Option ℕ)) (p q : ℕ) → IsDistribution net.channels ds → Rate (bound net ds) p q → 1 ≤ p → AtMost corner (rounded net.channels ds)
-net-above net laws corner is_corner ds p q dist rate runs = rounded-above net laws (net-steps net laws).step ds corner dist (running-live net laws ds p q rate runs) is_corner
+pub net-above : (net : Net) → Lawful net → (limit : ℕ) (corner : List (Option ℕ)) → IsCorner net.channels corner →
+    (ds : List (Option ℕ)) (p q : ℕ) → IsDistribution net.channels ds → storage_of net.channels ds ≤ limit → Rate (bound net ds) p q → 1 ≤ p → AtMost corner (rounded net.channels ds)
+net-above net laws limit corner is_corner ds p q dist within rate runs = rounded-above net laws (net-steps net laws).step ds corner dist (running-live net laws ds p q rate runs) is_corner
 
 -- an entry bounds the rates of all distributions that agree with it on what it shows and have no less room elsewhere
 abbrev pub BoundsRoomier : Net → ℕ → Entry → Type 0

@@ -31,7 +31,7 @@ abbrev pub AgreesOn : List ℕ → List (Option ℕ) → List (Option ℕ) → T
 AgreesOn shown ds es = (j : ℕ) → j < length shown → capacity_at ds (slice_index shown j) ≡ capacity_at es (slice_index shown j)
 
 -- the corner is among them if it is within the limit; each is on the grid and within the limit; so is, with each, the one
--- enlarged on a channel that it shows, if that is within the limit. What runs is, rounded down, at least the corner; and what,
+-- enlarged on a channel that it shows, if that is within the limit. What runs within the limit is, rounded down, at least the corner; and what,
 -- rounded down, agrees with one on what it shows and is no less elsewhere has no rate above the bound of that one
 pub record IsClosedBy (cs : List Channel) (rating : Rating) (limit : ℕ) (es : List Entry) : Type 0 where
   pub corner : List (Option ℕ)
@@ -44,7 +44,7 @@ pub record IsClosedBy (cs : List Channel) (rating : Rating) (limit : ℕ) (es : 
       storage_of cs (enlarged (entry_at es i).capacities (slice_index (entry_at es i).shown j) (step_of (slice_index_or cs (slice_index (entry_at es i).shown j) nowhere))) ≤ limit →
       HasEntry es (enlarged (entry_at es i).capacities (slice_index (entry_at es i).shown j) (step_of (slice_index_or cs (slice_index (entry_at es i).shown j) nowhere)))
   pub positive : (i : ℕ) → i < length es → 1 ≤ (entry_at es i).den
-  pub above : (ds : List (Option ℕ)) (p q : ℕ) → IsDistribution cs ds → rating ds p q → 1 ≤ p → AtMost corner (rounded cs ds)
+  pub above : (ds : List (Option ℕ)) (p q : ℕ) → IsDistribution cs ds → storage_of cs ds ≤ limit → rating ds p q → 1 ≤ p → AtMost corner (rounded cs ds)
   pub bounds : (i : ℕ) → i < length es → (ds : List (Option ℕ)) → IsDistribution cs ds → storage_of cs ds ≤ limit → AtMost (entry_at es i).capacities (rounded cs ds) →
       AgreesOn (entry_at es i).shown (entry_at es i).capacities (rounded cs ds) → (p q : ℕ) → rating ds p q → 1 ≤ p → p * (entry_at es i).den ≤ (entry_at es i).num * q
 

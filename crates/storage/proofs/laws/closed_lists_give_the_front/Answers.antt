@@ -19,6 +19,6 @@ returns-clause-nets c = λ net limit es laws closed. record {
   within = closed.within;
   next = closed.next;
   positive = closed.positive;
-  above = net-above net laws closed.corner closed.is_corner;
+  above = net-above net laws limit closed.corner closed.is_corner;
   bounds = λ i below. net-bounds net laws limit (entry_at es i) (closed.bounds i below);
 }
