@@ -37,10 +37,10 @@ text-stays o os c plain = refl
 in-value-plain : (quote b : ℕ) → takes (run_of.Value quote) b ≡ true → is_plain b ≡ true
 in-value-plain quote b took = grind (arith, nat_tests)
 
-no-quote : (quote b : ℕ) → takes (run_of.Value quote) b ≡ true → b < 128 → (b == quote) ≡ false
+no-quote : (quote b : ℕ) → takes (run_of.Value quote) b ≡ true → b < 61 → (b == quote) ≡ false
 no-quote quote b took low = grind (arith, nat_tests)
 
-quote-low : (b : ℕ) → Known Quote b → b < 128
+quote-low : (b : ℕ) → Known Quote b → b < 61
 quote-low b byte = elim byte.code [ inl double ↦ omega (arith, double) | inr single ↦ omega (arith, single) ]
 
 value-grows : (a : Around) (h : Holder) (xs : List Attribute) (name : List ℕ) (quote : ℕ) (value : List ℕ) (c : Class) (b : ℕ) → Known c b → takes (run_of.Value quote) b ≡ true → plain_class c ≡ true →

@@ -1,10 +1,11 @@
--- Whole characters in front of some bytes.
-use Rattle.std.proofs.Common.{◌≡◌, ℕ, zero, suc, ◌+◌, ◌<◌, ◌≤◌, Bool, true, false, List, [], ◌∷◌, length, take, drop, slice_index, Option, Some, None, refl, sym, ap, ◌∙◌, subst, arith, add-zero}
+-- Whole characters in front of some bytes, and where in a comment they lead.
+use Rattle.std.proofs.Common.{◌≡◌, ◌≢◌, ℕ, zero, suc, ◌+◌, ◌-◌, ◌<◌, ◌≤◌, Bool, true, false, List, [], ◌∷◌, ◌++◌, length, take, drop, slice_index, Option, Some, None, refl, sym, ap, ◌∙◌, subst, arith, add-zero}
 use Rattle.std.specs.Prelude.{IsTrue, if◌then◌else◌, ◌==◌}
 use Rattle.std.specs.Str.Lossy.{second_byte_min, second_byte_max}
-use Rattle.std.proofs.Math.Seq.{take-add}
+use Rattle.std.proofs.Math.Seq.{take-add, take-suc}
 use Rattle.std.proofs.lemmas.Bool.Decides.{nat_tests}
-use Rattle.std.proofs.lemmas.List.{length-drop, get_or-drop}
+use Rattle.std.proofs.lemmas.Bool.{ne_eqb}
+use Rattle.std.proofs.lemmas.List.{length-drop, get_or-drop, take_all}
 use Rattle.file_text.specs.declared.class.Class.{Class}
 use Rattle.file_text.specs.declared.class.Class.TheVariants.{Wide, Control, Hyphen, Greater}
 use Rattle.file_text.specs.declared.mode.Comment.{Comment}
@@ -15,7 +16,7 @@ use Rattle.file_text.specs.declared.characters.Run.TheVariants as run_of
 use Rattle.file_text.specs.Grammar.{Each, is_character}
 use Rattle.file_text.specs.inside.Utf8.{due_along}
 use Rattle.file_text.specs.inside.Machine.{class_of, Around, in_comment, Step, goes, comment_step, table, Spot, follow, walk, IsDue}
-use Rattle.file_text.specs.inside.Runs.{takes, HasSecond, HasFurther, IsCharacter, IsRun, is_in_body, after_byte, IsPartOfBody}
+use Rattle.file_text.specs.inside.Runs.{takes, HasSecond, HasFurther, IsCharacter, IsRun, is_in_body, after_byte, hyphened, behind, place_behind, IsPartOfBody}
 use Rattle.file_text.proofs.Classes.{character_class, hyphen_class, greater_class, Known, known}
 use Rattle.file_text.proofs.Names.{each-append}
 use Rattle.file_text.proofs.MachineWalks.{walk-append}
@@ -219,3 +220,70 @@ body-more j k l bs n m front is more some = record {
       ∙ ap (λ (o : Option Spot). walk true o (take m (drop n bs))) (front.leads a)
       ∙ character-walk a k l (drop n bs) m front.inside (ap (after_byte k) (at-front bs n) ∙ is) some more.within more.wide;
 }
+
+-- ---- where in the body of a comment bytes of it lead
+
+behind-append : (k : Comment) (t u : List ℕ) → place_behind k (t ++ u) ≡ place_behind (place_behind k t) u
+behind-append k [] u = refl
+behind-append k (b ∷ t) u = behind-append (behind k b) t u
+
+-- one byte more
+behind-one : (k : Comment) (bs : List ℕ) (n : ℕ) → n < length bs → place_behind k (take (suc n) bs) ≡ behind (place_behind k (take n bs)) (slice_index bs n)
+behind-one k bs n some = ap (place_behind k) (take-suc bs n 0 some) ∙ behind-append k (take n bs) (slice_index bs n ∷ [])
+
+no-hyphen : (k : Comment) (b : ℕ) → b ≢ 45 → behind k b ≡ part.Body
+no-hyphen k b other = rw (ne_eqb b 45 other) refl
+
+wide-behind : (k : Comment) (b : ℕ) (t : List ℕ) → 128 ≤ b → Each (λ c. 128 ≤ c) t → place_behind k (b ∷ t) ≡ part.Body
+wide-behind k b [] high wide = no-hyphen k b (λ is. omega (arith, is))
+wide-behind k b (c ∷ t) high wide = wide-behind (behind k b) c t wide.0 wide.1
+
+-- one character more
+behind-character : (k : Comment) (bs : List ℕ) (m : ℕ) → 0 < m → m ≤ length bs → (1 < m → Each (λ b. 128 ≤ b) (take m bs)) → place_behind k (take m bs) ≡ behind k (slice_index bs 0)
+behind-character k bs zero some within wide = absurd (omega arith)
+behind-character k [] (suc m) some within wide = absurd (omega arith)
+behind-character k (b ∷ bs) (suc zero) some within wide = refl
+behind-character k (b ∷ bs) (suc (suc m)) some within wide =
+    let high = wide (omega arith) in
+    wide-behind k b (take (suc m) bs) high.0 high.1 ∙ sym (no-hyphen k b (λ is. omega (arith, is, high.0)))
+
+behind-more : (k : Comment) (bs : List ℕ) (n m : ℕ) → IsCharacter (drop n bs) m → 0 < m → place_behind k (take (n + m) bs) ≡ behind (place_behind k (take n bs)) (slice_index bs n)
+behind-more k bs n m more some =
+    ap (place_behind k) (take-add n m bs) ∙ behind-append k (take n bs) (take m (drop n bs))
+    ∙ behind-character (place_behind k (take n bs)) (drop n bs) m some more.within more.wide ∙ ap (behind (place_behind k (take n bs))) (at-front bs n)
+
+pub body-on : (k : Comment) (bs : List ℕ) (n m : ℕ) → IsPartOfBody k (place_behind k (take n bs)) bs n →
+    after_byte (place_behind k (take n bs)) (slice_index bs n) ≡ Some (behind (place_behind k (take n bs)) (slice_index bs n)) → IsCharacter (drop n bs) m → 0 < m →
+    IsPartOfBody k (place_behind k (take (n + m) bs)) bs (n + m)
+body-on k bs n m front is more some =
+    body-more k (place_behind k (take n bs)) (place_behind k (take (n + m) bs)) bs n m front (is ∙ ap Some (sym (behind-more k bs n m more some))) more some
+
+-- by the last byte, and by the last two
+by-last : (k : Comment) (bs : List ℕ) (j : ℕ) → length bs ≡ suc j → place_behind k bs ≡ behind (place_behind k (take j bs)) (slice_index bs j)
+by-last k bs j long = ap (place_behind k) (sym (take_all (suc j) bs (omega (arith, long)))) ∙ behind-one k bs j (omega (arith, long))
+
+by-two : (k : Comment) (bs : List ℕ) (j : ℕ) → length bs ≡ suc (suc j) → place_behind k bs ≡ behind (behind (place_behind k (take j bs)) (slice_index bs j)) (slice_index bs (suc j))
+by-two k bs j long = by-last k bs (suc j) long ∙ ap (λ (p : Comment). behind p (slice_index bs (suc j))) (behind-one k bs j (omega (arith, long)))
+
+two-hyphens : (k : Comment) → hyphened (hyphened k) ≡ part.Hyphens
+two-hyphens part.Bang = refl
+two-hyphens part.Dash = refl
+two-hyphens part.Body = refl
+two-hyphens part.Hyphen = refl
+two-hyphens part.Hyphens = refl
+
+pub no-last : (k : Comment) (bs : List ℕ) → 0 < length bs → slice_index bs (length bs - 1) ≢ 45 → place_behind k bs ≡ part.Body
+no-last k bs some other =
+    by-last k bs (length bs - 1) (omega arith) ∙ no-hyphen (place_behind k (take (length bs - 1) bs)) (slice_index bs (length bs - 1)) other
+
+pub two-last : (k : Comment) (bs : List ℕ) → 1 < length bs → slice_index bs (length bs - 1) ≡ 45 → slice_index bs (length bs - 2) ≡ 45 → place_behind k bs ≡ part.Hyphens
+two-last k bs some last before =
+    let same : suc (length bs - 2) ≡ length bs - 1 = omega arith in
+    by-two k bs (length bs - 2) (omega arith) ∙ rw (same, last, before) (two-hyphens (place_behind k (take (length bs - 2) bs)))
+
+pub one-last : (k : Comment) (bs : List ℕ) → 1 < length bs → slice_index bs (length bs - 1) ≡ 45 → slice_index bs (length bs - 2) ≢ 45 → place_behind k bs ≡ part.Hyphen
+one-last k bs some last other =
+    let same : suc (length bs - 2) ≡ length bs - 1 = omega arith in
+    by-two k bs (length bs - 2) (omega arith)
+    ∙ ap (λ (p : Comment). behind p (slice_index bs (suc (length bs - 2)))) (no-hyphen (place_behind k (take (length bs - 2) bs)) (slice_index bs (length bs - 2)) other)
+    ∙ rw (same, last) refl

@@ -1,8 +1,8 @@
 //! Whole characters in front of some bytes, by runs.
 
-ghost use Rattle.std.specs.Prelude.{◌≡◌, ◌<◌, ◌≤◌, true, length, take, IsTrue};
+ghost use Rattle.std.specs.Prelude.{◌≡◌, ◌<◌, ◌≤◌, ◌↔◌, true, length, take, IsTrue, Some, None, if◌then◌else◌};
 ghost use Rattle.file_text.specs.Grammar.{is_character, is_name_byte, is_plain, is_white};
-ghost use Rattle.file_text.specs.inside.Runs.{HasFurther, HasSecond, IsCharacter, IsPartOfBody, IsRun, after_byte, is_in_body, takes};
+ghost use Rattle.file_text.specs.inside.Runs.{HasFurther, HasSecond, IsCharacter, IsPartOfBody, IsRun, after_byte, behind, hyphened, is_in_body, place_behind, takes};
 
 use crate::due::{second_max, second_min};
 use crate::mode::Comment;
@@ -12,7 +12,7 @@ use crate::mode::Comment;
 pub(crate) enum Run {
     /// Those that stand for themselves between tags.
     Text,
-    /// Those that stand for themselves in these quotes.
+    /// Those that stand for themselves in these quotes, `"` or `'`.
     Value { quote: u8 },
     /// Those of names.
     Name,
@@ -27,7 +27,7 @@ impl Run {
     {
         match self {
             Run::Text => is_plain(b),
-            Run::Value { quote } => (b != quote || b >= 128) && is_plain(b),
+            Run::Value { quote } => b > b'<' || (b != quote && is_plain(b)),
             Run::Name => is_name_byte(b),
             Run::White => is_white(b),
         }
@@ -92,12 +92,8 @@ pub(crate) fn body_len(comment: Comment, bytes: &[u8]) -> (usize, Comment)
     requires { is_in_body comment ≡ true }
     ensures { IsPartOfBody comment result.1 bytes.now result.0 }
 {
-    let mut place = comment;
     let mut count = 0;
-    while count < bytes.len() {
-        let Some(after) = place.after(bytes[count]) else {
-            break;
-        };
+    while count < bytes.len() && comment.goes_on(&bytes[..count], bytes[count]) {
         if bytes[count] < 128 {
             count += 1;
         } else {
@@ -107,27 +103,58 @@ pub(crate) fn body_len(comment: Comment, bytes: &[u8]) -> (usize, Comment)
             }
             count += more;
         }
-        place = after;
     }
-    (count, place)
+    (count, comment.behind(&bytes[..count]))
 }
 
 impl Comment {
-    /// What has been read of a comment in its body after a further byte, unless that ends it or may not stand there.
+    /// Whether the body goes on with a further byte behind these ones of it: the byte neither ends it nor may not stand there.
     #[inline(always)]
-    fn after(self, b: u8) -> Option<Comment>
-        ensures { result ≡ after_byte self b }
+    fn goes_on(self, read: &[u8], b: u8) -> bool
+        ensures { after_byte (place_behind self read.now) b ≡ (if result then Some (behind (place_behind self read.now) b) else None) }
     {
         // Most bytes are letters.
-        if b > b'>' {
-            return Some(Comment::Body);
+        b > b'>' || (is_character(b) && (b != b'>' || !self.behind(read).may_end()))
+    }
+
+    /// Whether the character `>` ends the comment.
+    #[inline(always)]
+    fn may_end(self) -> bool
+        ensures { IsTrue result ↔ (self ≡ Comment.Hyphens) }
+    {
+        matches!(self, Comment::Hyphens)
+    }
+
+    /// Where in the body these bytes of it lead, which the last two tell.
+    #[inline(always)]
+    fn behind(self, read: &[u8]) -> Comment
+        ensures { result ≡ place_behind self read.now }
+    {
+        let n = read.len();
+        if n == 0 {
+            return self;
         }
-        match (self, b) {
-            (Comment::Body, b'-') => Some(Comment::Hyphen),
-            (_, b'-') => Some(Comment::Hyphens),
-            (Comment::Hyphens, b'>') => None,
-            _ if is_character(b) => Some(Comment::Body),
-            _ => None,
+        if read[n - 1] != b'-' {
+            return Comment::Body;
+        }
+        if n == 1 {
+            return self.hyphened();
+        }
+        if read[n - 2] == b'-' {
+            Comment::Hyphens
+        } else {
+            Comment::Hyphen
+        }
+    }
+
+    /// What has been read after a hyphen more.
+    #[inline(always)]
+    fn hyphened(self) -> Comment
+        ensures { result ≡ hyphened self }
+    {
+        match self {
+            Comment::Body => Comment::Hyphen,
+            _ => Comment::Hyphens,
         }
     }
 }

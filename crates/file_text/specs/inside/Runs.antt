@@ -1,5 +1,5 @@
 -- Runs of characters that are passed in one step. Nothing public speaks of them.
-use Rattle.std.specs.Prelude.{◌≡◌, ◌≢◌, ℕ, ◌<◌, ◌≤◌, Bool, true, false, ◌&&◌, ◌||◌, not, ◌==◌, nat_le, if◌then◌else◌, IsTrue, List, length, take, slice_index}
+use Rattle.std.specs.Prelude.{◌≡◌, ◌≢◌, ℕ, ◌<◌, ◌≤◌, Bool, true, false, ◌&&◌, ◌||◌, not, ◌==◌, nat_le, if◌then◌else◌, IsTrue, List, [], ◌∷◌, length, take, slice_index}
 use Rattle.std.specs.Prelude.{Option, Some, None}
 use Rattle.std.specs.Str.Lossy.{second_byte_min, second_byte_max}
 use Rattle.file_text.specs.declared.due.Due.TheVariants.{Nothing}
@@ -14,10 +14,10 @@ use Rattle.file_text.specs.declared.characters.Run.TheVariants.{Text, Value, Nam
 use Rattle.file_text.specs.Grammar.{Each, is_white, is_character, is_plain, is_name_byte}
 use Rattle.file_text.specs.inside.Machine.{Around, Holder, in_comment, in_text_reference, in_value_reference, text_reference_step, value_reference_step, follow, walk, IsDue}
 
--- the bytes of a run: those of characters from U+0080 up are all of it, or none
+-- the bytes of a run: those of characters from U+0080 up are all of it, or none; a quote is below `<`
 abbrev pub takes : Run → ℕ → Bool
 takes Text b = is_plain b
-takes (Value quote) b = (not (b == quote) || nat_le 128 b) && is_plain b
+takes (Value quote) b = nat_le 61 b || (not (b == quote) && is_plain b)
 takes Name b = is_name_byte b
 takes White b = is_white b
 
@@ -56,6 +56,20 @@ abbrev pub after_byte : Comment → ℕ → Option Comment
 after_byte comment.Body b = if b == 45 then Some comment.Hyphen else after_character b
 after_byte comment.Hyphens b = if b == 45 then Some comment.Hyphens else (if b == 62 then None else after_character b)
 after_byte k b = if b == 45 then Some comment.Hyphens else after_character b
+
+-- what has been read of a comment in its body after a hyphen more
+abbrev pub hyphened : Comment → Comment
+hyphened comment.Body = comment.Hyphen
+hyphened k = comment.Hyphens
+
+-- the same after a further byte of the body
+abbrev pub behind : Comment → ℕ → Comment
+behind k b = if b == 45 then hyphened k else comment.Body
+
+-- the same after further bytes of it
+abbrev pub place_behind : Comment → List ℕ → Comment
+place_behind k [] = k
+place_behind k (b ∷ t) = place_behind (behind k b) t
 
 -- so many bytes in front are whole characters that lead from one place in the body of a comment to another
 pub record IsPartOfBody (from to : Comment) (bytes : List ℕ) (n : ℕ) : Type 0 where
