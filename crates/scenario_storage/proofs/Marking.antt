@@ -136,6 +136,7 @@ module _ (file : ScenarioFile) (gammas : List (List ℕ)) (ds : List (Option ℕ
               (subst (λ (q : ℕ). IsWay (bounded_net file.shared ds sc.row.graph sc.gamma) (first_of (bounded_file file ds).shared (bounded_graph file.shared ds sc.row.graph)) (place_of graph.tokens e).column q longest.time cs) row-is longest.way)
 
           time-is : longest.time ≡ e.weight
+          unfolding has-way
           time-is =
               let bound = no-longer (bounded_file file ds).shared (bounded_graph file.shared ds sc.row.graph) sc.gamma (can.scenarios s sc.row sc.gamma sc.at sc.gives).carries
               (slice_index_or is.matrices f.s.scenario []) its-matrix f.i f.j f.column f.row longest.time cs time-way in

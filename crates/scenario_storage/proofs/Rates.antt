@@ -22,15 +22,14 @@ use Rattle.bounded_scenarios.specs.BoundedFiles.{bounded_file}
 use Rattle.bounded_scenarios.specs.Boundings.{CanBeBounded}
 use Rattle.bounded_scenarios.specs.SharedChannels.{shared_channels}
 use Rattle.bounded_scenarios.specs.StorageRates.{AllRun, HasWorstRate, RunsOn, bounded_net, blocked, runs}
-use Rattle.bounded_scenarios.specs.ScenarioGuides.{IsHeldUp, IsInGuide}
-use Rattle.bounded_scenarios.specs.ScenarioGuides.IsInGuide as guides
+use Rattle.bounded_scenarios.specs.ScenarioGuides.{blocked as held_by, runs as on_way}
 use Rattle.bounded_scenarios.specs.ShownSpaces.{BlockedBounds, LiveBounds, ShowsWays}
 use Rattle.scenario_storage.specs.declared.rated.Evidence.{Evidence}
 use Rattle.scenario_storage.specs.declared.rated.Rated.{Rated}
 use Rattle.scenario_storage.specs.inside.Levels.{IsGuided, IsRated, IsWithin, Shows}
 use Rattle.scenario_storage.specs.inside.Ratings.{IsBlockedAt}
 use Rattle.scenario_storage.specs.inside.Shown.{AreShownBlocked, AreShownLive, HasSpace, IsTakenOn, IsWaitedFor, WaitsFor, spaces_from}
-use Rattle.scenario_storage.proofs.SpaceNumbers.{numbered-space, space-capped, space-number, spaces-long}
+use Rattle.scenario_storage.proofs.SpaceNumbers.{has-place, numbered-space, space-capped, space-number, spaces-long}
 
 -- the channels for whose space an actor of the blocked scenario waits are shown
 module _ (file : ScenarioFile) (gammas : List (List ℕ)) (ds : List (Option ℕ)) (s : ℕ) (counts : List ℕ) (at : IsBlockedAt file gammas ds s counts) (shares : Shares file.shared at.is.scenario.row.graph) (long : length ds ≡ length file.shared) (shown : List ℕ)
@@ -39,9 +38,9 @@ module _ (file : ScenarioFile) (gammas : List (List ℕ)) (ds : List (Option ℕ
   held-guided c one =
       let w = (listed c).0 one in
       let capped = space-capped file ds at.is.scenario.row.graph shares c w.0 w.1 in
-      let low : c < length file.shared = omega (arith, long, within c w.0 w.1, spaces-long (length at.is.scenario.row.graph.channels) ds) in
+      let low : c < length file.shared = omega (arith, long, has-place (spaces_from (length at.is.scenario.row.graph.channels) ds) c w.0 w.1, spaces-long (length at.is.scenario.row.graph.channels) ds) in
       let shared = get_there file.shared c low in (
-        guides.blocked shared.0 s at.is.scenario.row shared.1 at.is.scenario.at at.first (record {
+        held_by shared.0 s at.is.scenario.row shared.1 at.is.scenario.at at.first (record {
           gamma = at.is.scenario.gamma;
           gives = at.is.scenario.gives;
           counts = slice_index counts;
@@ -57,9 +56,6 @@ module _ (file : ScenarioFile) (gammas : List (List ℕ)) (ds : List (Option ℕ
         }),
         capped,
       )
-    where
-      within : (k i : ℕ) → HasSpace (spaces_from (length at.is.scenario.row.graph.channels) ds) k i → k < length (spaces_from (length at.is.scenario.row.graph.channels) ds)
-      within k i has = ?
 
   pub shown-blocked : Lawful (bounded_net file.shared ds at.is.scenario.row.graph at.is.scenario.gamma) → AreShownBlocked file ds shown
   shown-blocked laws = record {
@@ -113,7 +109,7 @@ module _ (file : ScenarioFile) (total : ℕ) (can : CanBeBounded file total) (ds
       guided : (c : ℕ) → Contains r.enlarge c → IsGuided file ds c
       guided c one =
           let t : IsTakenOn file ds graph cycle c = is.taken c one in (
-            guides.runs t.shared graph t.at all timed (record {
+            on_way t.shared graph t.at all timed (record {
               l = r.rate.num;
               w = r.rate.den;
               worst = worst;

@@ -8,8 +8,10 @@ use Rattle.storage.specs.Distributions.{AtMost, IsDistribution, storage_of}
 use Rattle.storage.specs.Steps.{IsCorner, rounded}
 use Rattle.storage.proofs.Climbs.{HasSteps}
 use Rattle.storage.proofs.FrontsFromMembers.{AreLowest}
+use Rattle.bounded_scenarios.specs.Boundings.{CanBeBounded, CanBeMeasured}
 use Rattle.bounded_scenarios.specs.SharedChannels.{shared_channels}
 use Rattle.bounded_scenarios.specs.StorageRates.{HasWorstRate}
+use Rattle.scenario_storage.specs.inside.Levels.{IsWithin}
 
 -- what runs within the limit is, rounded down, at least the corner
 abbrev pub IsAboveCorner : ScenarioFile → ℕ → Type 0
@@ -22,3 +24,11 @@ pub record IsSearchable (file : ScenarioFile) (limit : ℕ) : Type 0 where
   pub lowest : AreLowest (HasWorstRate file)
   pub above : IsAboveCorner file limit
   pub roles : (i : ℕ) → i < length (shared_channels file) → is_token_role (slice_index_or (shared_channels file) i nowhere).role ≡ true
+
+-- a file that can be bounded is searchable
+pub searchable : (file : ScenarioFile) (limit : ℕ) → CanBeBounded file limit → IsSearchable file limit
+searchable file limit can = ?
+
+-- and its bounded files can be measured
+pub can-measure : (file : ScenarioFile) (limit : ℕ) → CanBeBounded file limit → (ds : List (Option ℕ)) → IsWithin file limit ds → CanBeMeasured file ds
+can-measure file limit can ds fits = ?

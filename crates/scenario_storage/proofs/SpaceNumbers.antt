@@ -1,6 +1,8 @@
 -- The numbers of free spaces: by shared channel that of its free space in a scenario's bounded graph.
 use Rattle.std.proofs.Common.{◌≡◌, ℕ, zero, suc, ◌+◌, ◌≤◌, ◌<◌, ◌⊎◌, Option, None, Some, List, [], ◌∷◌, ◌++◌, length, inl, inr, ⊎_elim, refl, sym, ap, ◌∙◌, subst, arith}
 use Rattle.std.specs.Prelude.{slice_get, slice_index_or}
+use Rattle.std.proofs.lemmas.Bool.{cases_lt}
+use Rattle.std.proofs.lemmas.List.{get_or_past}
 use Rattle.std.proofs.lemmas.Option.{slice_get_within}
 use Rattle.sd_base.specs.declared.tables.ChannelRow.{ChannelRow}
 use Rattle.sd_base.specs.declared.tables.GraphFile.{GraphFile}
@@ -19,6 +21,14 @@ pub spaces-long : (n : ℕ) (ds : List (Option ℕ)) → length (spaces_from n d
 spaces-long n [] = refl
 spaces-long n (None ∷ ds) = ap suc (spaces-long n ds)
 spaces-long n (Some k ∷ ds) = ap suc (spaces-long (suc n) ds)
+
+-- a channel with a number stands in the list
+pub has-place : (spaces : List (Option ℕ)) (c i : ℕ) → HasSpace spaces c i → c < length spaces
+has-place spaces c i has =
+    ⊎_elim
+    (λ (below : c < length spaces). below)
+    (λ (past : length spaces ≤ c). absurd (let none : slice_index_or spaces c None ≡ None = get_or_past spaces c None past in cc))
+    (cases_lt c (length spaces))
 
 -- the space of a number is that of a row with a capacity
 pub record SpaceOf (cs : List ChannelRow) (rows : List SharedRow) (ds : List (Option ℕ)) (n c i : ℕ) : Type 0 where

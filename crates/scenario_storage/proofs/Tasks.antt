@@ -1,7 +1,7 @@
 -- Tasks that have run; and the list behind a slice that was lent.
 use Rattle.std.proofs.Common.{◌≡◌, ℕ, suc, ◌+◌, ◌-◌, Option, List, [], ◌∷◌, ◌++◌, Result, length, map, reverse, take, drop, append_assoc, refl, sym, ap, ◌∙◌, subst, arith}
 use Rattle.std.specs.Prelude.{All}
-use Rattle.std.proofs.lemmas.List.{get_or-reverse, length-reverse, map-append, reverse-append, reverse-reverse}
+use Rattle.std.proofs.lemmas.List.{get_or_append_left, get_or-append-add, get_or-reverse, length-append, length-reverse, map-append, reverse-append, reverse-reverse}
 use Rattle.fanout.specs.JobRuns.{EachRan}
 use Rattle.sd_base.specs.declared.numbers.Fraction.{Fraction}
 use Rattle.sd_base.specs.declared.tables.ScenarioFile.{ScenarioFile}
@@ -49,6 +49,13 @@ turned-back f xs = ap reverse (map-reverse f xs) ∙ reverse-reverse (map f xs)
 
 pub all-reverse : {A : Type 0} (P : A → Type 0) (xs : List A) → All P xs → All P (reverse xs)
 all-reverse P xs all = λ k d below. subst P (sym (get_or-reverse xs k d (omega (arith, below, length-reverse xs)))) (all (length xs - 1 - k) d (omega (arith, below, length-reverse xs)))
+
+-- all of a list, and its last element
+pub all-front : {A : Type 0} (P : A → Type 0) (xs : List A) (x : A) → All P (xs ++ x ∷ []) → All P xs
+all-front P xs x all = λ k d below. subst P (get_or_append_left xs (x ∷ []) d k below) (all k d (omega (arith, below, length-append xs (x ∷ []))))
+
+pub all-last : {A : Type 0} (P : A → Type 0) (xs : List A) (x : A) → All P (xs ++ x ∷ []) → P x
+all-last P xs x all = subst P (get_or-append-add xs (x ∷ []) 0 x) (all (length xs + 0) x (omega (arith, length-append xs (x ∷ []))))
 
 -- one more task is taken off the end, and its answer put last
 pub drained-more : {A B C : Type 0} (f : A → C) (h : B → C) (tasks rest : List A) (t : A) (answers new : List B) (a : B) → tasks ≡ rest ++ t ∷ [] → new ≡ answers ++ a ∷ [] → f t ≡ h a → map h answers ++ reverse (map f tasks) ≡ map h new ++ reverse (map f rest)

@@ -1,13 +1,15 @@
 -- A level is taken off those that wait, and each of its answers is taken in.
-use Rattle.std.proofs.Common.{◌≡◌, ℕ, ◌+◌, ◌-◌, ◌≤◌, ◌<◌, Option, List, [], ◌∷◌, ◌++◌, length, map, ⊎_elim, refl, sym, ap, ◌∙◌, subst, arith, inl, inr}
-use Rattle.std.specs.Prelude.{All, Contains, slice_index_or}
-use Rattle.std.proofs.lemmas.List.{get_or-map, length-append, length-map}
+use Rattle.std.proofs.Common.{◌≡◌, ℕ, ◌+◌, ◌-◌, ◌≤◌, ◌<◌, Option, None, Some, List, [], ◌∷◌, ◌++◌, drop, length, map, ⊎_elim, refl, sym, ap, ◌∙◌, subst, arith, inl, inr}
+use Rattle.std.specs.Prelude.{All, Contains, MatchOption, slice_index_or}
+use Rattle.std.proofs.lemmas.List.{drop_more, get_or-map, length-append, length-map}
 use Rattle.std.proofs.lemmas.List.Elements.{All-append, All-contains, All-map, Contains-append_left, Contains-append_right, Contains-get_or, Contains-push_cases}
 use Rattle.sd_base.specs.declared.numbers.Fraction.{Fraction}
 use Rattle.sd_base.specs.declared.tables.ScenarioFile.{ScenarioFile}
+use Rattle.sd_base.specs.Net.{Channel}
 use Rattle.storage.specs.ClosedLists.{Entry}
 use Rattle.storage.specs.Distributions.{storage_of}
 use Rattle.storage.specs.StorageOrder.{AreInOrder, IsBefore}
+use Rattle.storage.specs.Steps.{IsCorner}
 use Rattle.storage.specs.declared.distribution.Distribution.{Distribution}
 use Rattle.levels.specs.declared.error.LevelsError.{LevelsError}
 use Rattle.levels.specs.declared.error.LevelsError.TheVariants as causes
@@ -17,7 +19,7 @@ use Rattle.levels.specs.declared.levels.Bounds.{Bounds}
 use Rattle.levels.specs.declared.levels.Levels.{Levels}
 use Rattle.levels.specs.Visits.{AreVisits, IsLedTo, Visit, led_by, visited}
 use Rattle.levels.specs.Frontiers.{IsFrontier, IsLevelTaken, IsSame, IsSpent, Rises, Waits, distributions_of}
-use Rattle.levels.proofs.Elements.{contains-cases, contains-here, contains-map}
+use Rattle.levels.proofs.Elements.{contains-cases, contains-here, contains-map, contains-none}
 use Rattle.levels.proofs.LedOn.{known-long}
 use Rattle.bounded_scenarios.specs.SharedChannels.{shared_channels}
 use Rattle.bounded_scenarios.specs.ScenarioGuides.{IsReachable}
@@ -28,9 +30,9 @@ use Rattle.scenario_storage.specs.declared.rated.Rated.{Rated}
 use Rattle.scenario_storage.specs.declared.search.Search.{Search}
 use Rattle.scenario_storage.specs.ScenarioPoints.{IsRefusal}
 use Rattle.scenario_storage.specs.inside.Errors.{error_of}
-use Rattle.scenario_storage.specs.inside.Levels.{IsAnswer, IsRated}
+use Rattle.scenario_storage.specs.inside.Levels.{IsAnswer, IsRated, IsWithin}
 use Rattle.scenario_storage.specs.inside.Points.{IsBestOf}
-use Rattle.scenario_storage.specs.inside.Searches.{AreKnown, IsAnswerOf, IsBest, IsCandidate, IsEnded, IsNoted, IsOffered, IsSearch, IsTurn, answered_of, entry_of, taken_off, visits_of}
+use Rattle.scenario_storage.specs.inside.Searches.{AreKnown, IsAnswerOf, IsBest, IsCandidate, IsEnded, IsNoted, IsOffered, IsSearch, IsStanding, IsTurn, answered_of, entry_of, taken_off, visits_of}
 use Rattle.scenario_storage.proofs.Knowing.{noted-more}
 use Rattle.scenario_storage.proofs.Searchable.{IsSearchable}
 use Rattle.scenario_storage.proofs.Stepping.{capped-place, entry-visited, guided-rises, led-candidate, visits-more}
@@ -226,3 +228,46 @@ answered-level answers fs order =
 pub best-before : (best : Fraction) (total : ℕ) (ps : List ScenarioPoint) → ((p : ScenarioPoint) → Contains ps p → p.total < total) → IsBestOf ps best → IsBest best total ps
 best-before best total ps before (inl none) = inl none
 best-before best total ps before (inr (p, one, same)) = inr (p, one, same, before p one)
+
+-- the distributions of the answers that are left begin with that of the next one
+pub rest-more : (answers : List Answered) (n : ℕ) (a : Answered) → n < length answers → a ≡ slice_index_or answers n a → answered_of (drop n answers) ≡ a.capacities.capacities ∷ answered_of (drop (n + 1) answers)
+rest-more answers n a below is =
+    ap answered_of (drop_more answers n a below)
+    ∙ ap (λ (x : Answered). x.capacities.capacities ∷ answered_of (drop (n + 1) answers)) (sym is)
+
+module _ (file : ScenarioFile) (limits : ScenarioLimits) where
+  pub all-within : (fs : List (Found Unit)) → All (λ (f : Found Unit). IsCandidate file limits.total f.capacities.capacities) fs → All (λ (f : Found Unit). IsWithin file limits.total f.capacities.capacities) fs
+  all-within fs all = λ k d below. record { distribution = (all k d below).distribution; within = (all k d below).within }
+
+-- what taking a level off comes to
+abbrev IsNextLevel : Search → Search → Option (Level Unit) → Type 0
+IsNextLevel old new found = MatchOption found (old.levels.waiting.keys ≡ []) (λ (level : Level Unit). IsLevelTaken level.total level.visits.items old.levels.waiting.keys new.levels.waiting.keys)
+
+abbrev IsNextFrontier : Search → Search → Option (Level Unit) → Type 0
+IsNextFrontier old new found = (cs : List Channel) (start : List (Option ℕ)) (floor : ℕ) (visits : List Visit) → IsFrontier cs start floor visits [] old.levels →
+    MatchOption found (AreVisits cs start old.levels.bounds.total visits) (λ (level : Level Unit). IsFrontier cs start (level.total + 1) visits (distributions_of level.visits.items) new.levels)
+
+module _ (file : ScenarioFile) (limits : ScenarioLimits) (can : IsSearchable file limits.total) (floor : ℕ) (old new : Search) (search : IsSearch file limits floor [] old) (points : new.points ≡ old.points) (same : IsSame old.levels new.levels) where
+  pub next-turn : (found : Option (Level Unit)) → IsNextLevel old new found → IsNextFrontier old new found → MatchOption found (IsEnded file limits old.points.items) (λ (level : Level Unit). IsTurn file limits level new)
+  next-turn None off frontier = ended-of file limits can floor old search (frontier (shared_channels file) search.corner floor (visits_of search.entries) search.frontier)
+  next-turn (Some level) off frontier = turn-of file limits can floor old new search points level off same (frontier (shared_channels file) search.corner floor (visits_of search.entries) search.frontier)
+
+  pub next-more : (found : Option (Level Unit)) → IsNextLevel old new found → IsNextFrontier old new found → MatchOption found Unit (λ (level : Level Unit). taken_off old < taken_off new)
+  next-more None off frontier = tt
+  next-more (Some level) off frontier = off-more file limits can floor old new search points level off same (frontier (shared_channels file) search.corner floor (visits_of search.entries) search.frontier)
+
+-- the corner waits
+pub begun : (file : ScenarioFile) (limits : ScenarioLimits) (corner : List (Option ℕ)) (s : Search) → IsCorner (shared_channels file) corner → s.points.items ≡ [] → s.levels.bounds ≡ record { total = limits.total; distributions = limits.distributions } → IsFrontier (shared_channels file) corner 0 [] [] s.levels → IsStanding file limits s
+begun file limits corner s is points bounds frontier = (0, record {
+  entries = [];
+  known = subst (AreKnown file limits.total []) (sym points) (record {
+    noted = λ e one. absurd (contains-none e one);
+    rising = λ i j d less below. absurd (omega (arith, below));
+    among = λ p one. absurd (contains-none p one);
+    covers = λ e one. absurd (contains-none e one);
+  });
+  corner = corner;
+  is_corner = is;
+  bounds = bounds;
+  frontier = frontier;
+})

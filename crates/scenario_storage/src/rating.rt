@@ -7,6 +7,7 @@ ghost use Rattle.scenario_storage.specs.inside.Ratings.{AreAllMatrices, IsBlocke
 
 use crate::plan::Plan;
 use crate::rated::{Evidence, RateError, Rated, if_above};
+use crate::scenario::{gamma_at, graph_at};
 use crate::shown::{shown_by_counts, shown_by_cycle};
 use automaton::{GraphError, TimedGraph, product};
 use bounded_scenarios::bounded_file;
@@ -35,7 +36,7 @@ pub(crate) fn rate(
     ensures { IsAnswer plan.now.file.now plan.now.limits best capacities.now.capacities result }
 {
     let bounded = bounded_file(plan.alloc, plan.file, capacities)?;
-    match measured(plan, capacities, &bounded)? {
+    match measure(plan, capacities, &bounded)? {
         Measured::Blocked { scenario, counts } => {
             rate_blocked(plan, capacities, &bounded, scenario, counts.as_slice())
         },
@@ -46,7 +47,7 @@ pub(crate) fn rate(
 }
 
 /// The matrices of the scenarios, or the first that is blocked.
-fn measured(
+fn measure(
     plan: &Plan,
     capacities: &Distribution,
     bounded: &ScenarioFile,
@@ -83,9 +84,9 @@ fn matrix_at(
     requires scenario { scenario < length plan.now.file.now.scenarios }
     ensures { IsMatrixAnswer plan.now.file.now plan.now.gammas.now capacities.now.capacities scenario result }
 {
-    let row = &bounded.scenarios.as_slice()[scenario];
-    let gamma = plan.gammas.as_slice()[scenario].as_slice();
-    matrix_of(plan.alloc, &row.graph, gamma, bounded.shared.as_slice())
+    let graph = graph_at(bounded, scenario);
+    let gamma = gamma_at(plan.gammas, scenario);
+    matrix_of(plan.alloc, graph, gamma, bounded.shared.as_slice())
 }
 
 /// The rate 0 of a distribution of which a scenario can't complete its round.

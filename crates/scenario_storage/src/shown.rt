@@ -11,6 +11,7 @@ ghost use Rattle.scenario_storage.specs.inside.Ratings.{IsBlockedAt, IsGraphOf};
 ghost use Rattle.scenario_storage.specs.inside.Shown.{AreShownBlocked, AreShownLive, AreSpaceMarks, AreSpacesWithin, BeginAtStates, HasSpace, HaveWays, IsEntryIn, IsWaitedFor, WaitsFor, place_of, scenario_at, spaces_from};
 
 use crate::plan::Plan;
+use crate::scenario::{gamma_at, graph_at};
 use automaton::{Edge, TimedGraph};
 use entry_ways::{EntryPlace, mark_ways};
 use firing::{Firing, SdfNet, know_laws, made_sum, taken_sum};
@@ -33,12 +34,12 @@ pub(crate) fn shown_by_counts(
     requires blocked { IsBlockedAt plan.now.file.now plan.now.gammas.now capacities.now.capacities scenario counts.now }
     ensures { IfOk result (AreShownBlocked plan.now.file.now capacities.now.capacities) }
 {
-    let graph = &plan.file.scenarios.as_slice()[scenario].graph;
-    let gamma = plan.gammas.as_slice()[scenario].as_slice();
+    let graph = graph_at(plan.file, scenario);
+    let gamma = gamma_at(plan.gammas, scenario);
     let spaces = spaces_of(plan.alloc, graph.channels.len() as u32, capacities)?;
     let net = SdfNet::new(plan.alloc, graph, gamma, false)?;
-    let bounded = &bounded.scenarios.as_slice()[scenario].graph;
-    let bounded_net = SdfNet::new(plan.alloc, bounded, gamma, false)?;
+    let bounded_net = SdfNet::new(plan.alloc, graph_at(bounded, scenario), gamma, false)?;
+    know_laws(&bounded_net);
     held_up(plan.alloc, &net, &bounded_net, spaces.as_slice(), counts)
 }
 
@@ -133,6 +134,15 @@ fn lacks<F: Firing>(net: &F, counts: &[u64], channel: u32) -> bool
     know_laws(net);
     let later = counts[net.target(channel) as usize];
     let made = counts[net.source(channel) as usize];
+    needs(net, channel, later, made)
+}
+
+/// Whether a channel has too few tokens for a firing of its target after so many firings of its source.
+fn needs<F: Firing>(net: &F, channel: u32, later: u64, made: u64) -> bool
+    requires { channel < length (F.net net.now).channels }
+    ensures { IsTrue result ↔ Needs (channel_at (F.net net.now) channel) later made }
+{
+    know_laws(net);
     u128::from(net.tokens(channel)) + made_sum(net, channel, u128::from(made))
         < taken_sum(net, channel, u128::from(later) + 1)
 }
@@ -224,9 +234,9 @@ fn mark_scenario(
     if entries.is_empty() {
         return Ok(());
     }
-    let graph = &bounded.scenarios.as_slice()[scenario].graph;
-    let gamma = plan.gammas.as_slice()[scenario].as_slice();
-    let first = plan.file.scenarios.as_slice()[scenario].graph.channels.len();
+    let graph = graph_at(bounded, scenario);
+    let gamma = gamma_at(plan.gammas, scenario);
+    let first = graph_at(plan.file, scenario).channels.len();
     let spaces = spaces_of(plan.alloc, first as u32, capacities)?;
     let mut taken = vec![in plan.alloc; false; graph.channels.len()]?;
     mark_ways(plan.alloc, graph, gamma, bounded.shared.as_slice(), entries, taken.as_mut_slice())?;
