@@ -74,3 +74,12 @@ bounded-count ss p (row ∷ rows) (Some k ∷ ds) is =
 pub rows-few : (rows : List SharedRow) → ((t : ℕ) (row : SharedRow) → slice_get rows t ≡ Some row → 1 ≤ row.tokens) → length rows ≤ shared_count rows
 rows-few [] some = omega arith
 rows-few (row ∷ rows) some = let rest = rows-few rows (λ t r at. some (suc t) r at) in let first = some 0 row refl in omega (arith, rest, first)
+
+-- the tokens of the rows without a capacity are no more than all
+pub looped-few : (ss : List ScenarioRow) (rows : List SharedRow) → looped_tokens ss rows ≤ shared_count rows
+looped-few ss [] = omega arith
+looped-few ss (row ∷ rows) = let rest = looped-few ss rows in let one = if-few (is_looped (channels_named ss row.name)) row.tokens in omega (arith, rest, one)
+  where
+    if-few : (b : Bool) (n : ℕ) → (if b then n else 0) ≤ n
+    if-few true n = omega arith
+    if-few false n = omega arith

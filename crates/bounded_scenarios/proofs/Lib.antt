@@ -28,3 +28,5 @@ pub mod BlockedMembers
 pub mod BoundedStamps
 pub mod CycleTours
 pub mod LiveMembers
+pub mod Scanning
+pub mod JointChannels
