@@ -1,10 +1,10 @@
 //! How long after one shared token each firing of a round starts at the least.
-ghost use Rattle.std.specs.Prelude.{◌≡◌, ◌+◌, ◌*◌, ◌≤◌, ◌<◌, ◌↔◌, ◌^◌, ◌⊎◌, ℕ, [], None, Some, IfOk, IsTrue, OnOk, length, slice_index, slice_index_or, take};
+ghost use Rattle.std.specs.Prelude.{◌≡◌, ◌+◌, ◌*◌, ◌≤◌, ◌<◌, ℕ, [], None, Some, IfOk, OnOk, length, slice_index, slice_index_or, take};
 ghost use Rattle.sd_base.specs.declared.limits.TheConstants.{ROUND, TIME};
 ghost use Rattle.sd_base.specs.Net.{channel_at};
 ghost use Rattle.sd_base.specs.Schedules.{time_of};
 ghost use Rattle.sd_base.specs.Untimed.{IsRoundOrder, counts_after, none_fired};
-ghost use Rattle.entry_ways.specs.inside.Columns.{ArePutters, AreSmall, AreUpTo, HasStart, IsAmong, IsColumn, IsTraceable, IsEndIn, IsFedBy, IsLink, IsLinkInto, IsLongest, later, later_by, start_in};
+ghost use Rattle.entry_ways.specs.inside.Columns.{AreSmall, AreUpTo, HasStart, IsColumn, IsEndIn, IsFedBy, IsLink, IsLinkInto, IsLongest, IsTraceable, later, later_by, start_in};
 
 use crate::chains::Chains;
 use crate::putters::putters_of;
@@ -14,7 +14,7 @@ use std::alloc::Global;
 
 /// By actor and firing the greatest time of a chain of firings from a shared token to its start; none where no chain leads
 /// to it. Cost: the firings of a round, times the channels of the actors fired, and a step for each firing of which a
-/// firing takes tokens.
+/// firing takes tokens; memory of four words for each firing.
 pub(crate) fn column_of<F: Firing>(
     alloc: Global,
     chains: &Chains<F>,

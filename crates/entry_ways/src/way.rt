@@ -1,7 +1,6 @@
 //! A way of an entry of a scenario's matrix.
 ghost use Rattle.std.specs.Prelude.{◌≡◌, ◌-◌, ◌≤◌, ◌<◌, ◌↔◌, ℕ, List, IsTrue, length, slice_index};
 ghost use Rattle.sd_base.specs.declared.limits.TheConstants.{ROUND};
-ghost use Rattle.sd_base.specs.Net.{channel_at};
 ghost use Rattle.token_matrix.specs.Stamps.{left_token};
 ghost use Rattle.token_matrix.specs.Ways.{IsWay};
 ghost use Rattle.entry_ways.specs.WayMarks.{IsLongestWay};
@@ -15,8 +14,8 @@ use crate::putters::{putter_of, taken_rate};
 use firing::{Firing, know_laws};
 use sd_base::Rows;
 
-/// Marks the channels from which tokens are taken on one way from the shared token of a column to the one that is left as
-/// another shared token. Cost: that of `mark_chain`, and linear in the channels.
+/// Marks the channels from which tokens are taken on one longest way from the shared token of a column to the one that is
+/// left as another shared token. Cost: that of `mark_chain`, and linear in the channels.
 pub(crate) fn mark_way<F: Firing>(
     chains: &Chains<F>,
     rows: &[Rows<Option<u128>>],
