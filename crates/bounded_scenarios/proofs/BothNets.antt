@@ -1,8 +1,7 @@
 -- The nets of a scenario bounded by two distributions of the same channels: they differ in the tokens of free spaces alone.
-use Rattle.std.proofs.Common.{◌≡◌, ℕ, suc, ◌+◌, ◌-◌, ◌≤◌, ◌<◌, ◌⊎◌, false, Option, None, Some, List, [], ◌∷◌, ◌++◌, length, inl, inr, ⊎_elim, subst, sym, ap, ◌∙◌, refl, arith}
+use Rattle.std.proofs.Common.{◌≡◌, ℕ, suc, ◌+◌, ◌≤◌, ◌<◌, ◌⊎◌, Option, None, Some, List, [], ◌∷◌, ◌++◌, length, inl, inr, ⊎_elim, subst, sym, ap, ◌∙◌, refl, arith}
 use Rattle.std.specs.Prelude.{slice_get}
 use Rattle.std.proofs.lemmas.List.{length-append}
-use Rattle.std.proofs.lemmas.Option.{slice_get_within}
 use Rattle.sd_base.specs.declared.tables.ChannelRow.{ChannelRow}
 use Rattle.sd_base.specs.declared.tables.GraphFile.{GraphFile}
 use Rattle.sd_base.specs.declared.tables.Kind.TheVariants.{Sdf}
@@ -48,7 +47,8 @@ pub record BothAt (g : GraphFile) (shared : List SharedRow) (ds es : List (Optio
   pub second : slice_get (bounded_graph shared es g).channels i ≡ Some d
   pub what : ((slice_get g.channels i ≡ Some c) × (d ≡ c)) ⊎ IsSpaceOfBoth g shared ds es i c d
 
-pub both-rows : (g : GraphFile) (shared : List SharedRow) (ds es : List (Option ℕ)) → AtMost ds es → (i : ℕ) (c : ChannelRow) → slice_get (bounded_graph shared ds g).channels i ≡ Some c → BothAt g shared ds es i
+pub both-rows : (g : GraphFile) (shared : List SharedRow) (ds es : List (Option ℕ)) → AtMost ds es → (i : ℕ) (c : ChannelRow) → slice_get (bounded_graph shared ds g).channels i ≡ Some c →
+    BothAt g shared ds es i
 both-rows g shared ds es most i c at = ⊎_elim file space (at-either g.channels (space_rows g.channels shared ds) i c at)
   where
     file : slice_get g.channels i ≡ Some c → BothAt g shared ds es i
@@ -130,8 +130,9 @@ module _ (g : GraphFile) (gamma : List ℕ) (shared : List SharedRow) (ds es : L
     round = refl;
     many = nets-many;
     each = λ i below. (
-      let both = both-at i below in
-      subst (λ (x : Channel). SameRates x (channel_at (bounded_net shared es g gamma) i)) (sym (low-is i both)) (subst (λ (x : Channel). SameRates (file_channel i both.c) x) (sym (high-is i both)) (rates i both)));
+        let both = both-at i below in
+        subst (λ (x : Channel). SameRates x (channel_at (bounded_net shared es g gamma) i)) (sym (low-is i both))
+        (subst (λ (x : Channel). SameRates (file_channel i both.c) x) (sym (high-is i both)) (rates i both)));
   }
 
   -- the second net has no less room
@@ -139,8 +140,8 @@ module _ (g : GraphFile) (gamma : List ℕ) (shared : List SharedRow) (ds es : L
   roomier = record {
     same = same-nets;
     more = λ i below. (
-      let both = both-at i below in
-      let low : (channel_at (bounded_net shared ds g gamma) i).tokens ≡ both.c.tokens = ap (λ (x : Channel). x.tokens) (low-is i both) in
-      let high : (channel_at (bounded_net shared es g gamma) i).tokens ≡ both.d.tokens = ap (λ (x : Channel). x.tokens) (high-is i both) in
-      omega (arith, low, high, (same-ends g shared ds es i both).more));
+        let both = both-at i below in
+        let low : (channel_at (bounded_net shared ds g gamma) i).tokens ≡ both.c.tokens = ap (λ (x : Channel). x.tokens) (low-is i both) in
+        let high : (channel_at (bounded_net shared es g gamma) i).tokens ≡ both.d.tokens = ap (λ (x : Channel). x.tokens) (high-is i both) in
+        omega (arith, low, high, (same-ends g shared ds es i both).more));
   }

@@ -1,11 +1,11 @@
 -- The bounded graph keeps the rules of a table with free spaces.
-use Rattle.std.proofs.Common.{◌≡◌, ℕ, zero, suc, ◌+◌, ◌-◌, ◌*◌, ◌≤◌, ◌<◌, ◌⊎◌, false, Option, None, Some, List, [], ◌∷◌, ◌++◌, length, inl, inr, ⊎_elim, subst, sym, ap, ◌∙◌, refl, arith}
-use Rattle.std.specs.Prelude.{All, ◌≢◌, slice_get, slice_index, slice_index_or}
+use Rattle.std.proofs.Common.{◌≡◌, ℕ, suc, ◌+◌, ◌≤◌, ◌<◌, ◌⊎◌, false, Option, None, Some, List, [], ◌∷◌, ◌++◌, length, inl, inr, ⊎_elim, subst, sym, ap, ◌∙◌, arith}
+use Rattle.std.specs.Prelude.{All, ◌≢◌, slice_get, slice_index_or}
 use Rattle.std.proofs.lemmas.Bool.{cases_lt}
 use Rattle.std.proofs.lemmas.List.{length-append}
 use Rattle.std.proofs.lemmas.List.Elements.{All-append}
 use Rattle.std.proofs.lemmas.Option.{slice_get-get_or, slice_get_within, get_or_from_slice_get}
-use Rattle.sd_base.specs.declared.limits.TheConstants.{CHANNELS, TOKENS}
+use Rattle.sd_base.specs.declared.limits.TheConstants.{TOKENS}
 use Rattle.sd_base.specs.declared.tables.ChannelRow.{ChannelRow}
 use Rattle.sd_base.specs.declared.tables.GraphFile.{GraphFile}
 use Rattle.sd_base.specs.declared.tables.Kind.TheVariants.{Sdf}
@@ -36,7 +36,8 @@ module _ (shared : List SharedRow) (g : GraphFile) (shares : Shares shared g) wh
 
   few-over : length g.channels < length shared → ⊥
   unfolding channel-of
-  few-over more = pigeons (length g.channels) (λ i. channel-of i (cases_lt i (length shared))) (λ i h. inside i h (cases_lt i (length shared))) (λ i j less h. apart i j less h (cases_lt i (length shared)) (cases_lt j (length shared)))
+  few-over more = pigeons (length g.channels) (λ i. channel-of i (cases_lt i (length shared))) (λ i h. inside i h (cases_lt i (length shared)))
+      (λ i j less h. apart i j less h (cases_lt i (length shared)) (cases_lt j (length shared)))
     where
       inside : (i : ℕ) → i < suc (length g.channels) → (u : (i < length shared) ⊎ (length shared ≤ i)) → channel-of i u < length g.channels
       inside i h (inl below) = let row = get_there shared i below in let one = shares.rows i row.0 row.1 in slice_get_within g.channels one.0 one.1 one.2
@@ -84,7 +85,8 @@ module _ (shared : List SharedRow) (ds : List (Option ℕ)) (g : GraphFile) (rul
   spaces-rules i d below =
       let one = space-at g.channels shared ds i (slice_index_or (space_rows g.channels shared ds) i d) (slice_get-get_or (space_rows g.channels shared ds) i d below) in
       let there = shared-named shared g shares one.0 one.1 one.3 in
-      let keeps : ChannelKeepsRules (phases_of g) (channel_named g.channels one.1.name) = at-all (ChannelKeepsRules (phases_of g)) g.channels there.0 (channel_named g.channels one.1.name) rules.channels there.1 in
+      let keeps : ChannelKeepsRules (phases_of g) (channel_named g.channels one.1.name) = at-all (ChannelKeepsRules (phases_of g)) g.channels there.0
+      (channel_named g.channels one.1.name) rules.channels there.1 in
       subst (ChannelKeepsRules (phases_of g)) (sym one.5) (space-rules (channel_named g.channels one.1.name) one.2 keeps (few one.0 one.2 one.1 one.3 one.4))
 
   pub bounded-rules : KeepsWideRules (bounded_graph shared ds g)
@@ -92,17 +94,18 @@ module _ (shared : List SharedRow) (ds : List (Option ℕ)) (g : GraphFile) (rul
     some_actor = rules.some_actor;
     few_actors = rules.few_actors;
     few_channels = (
-      let long : length (g.channels ++ space_rows g.channels shared ds) ≡ length g.channels + length (space_rows g.channels shared ds) = length-append g.channels (space_rows g.channels shared ds) in
-      let one = few-spaces g.channels shared ds in
-      let two = few-rows shared g shares in
-      omega (arith, long, one, two, rules.few_channels));
+        let long : length (g.channels ++ space_rows g.channels shared ds) ≡ length g.channels + length (space_rows g.channels shared ds) = length-append g.channels (space_rows g.channels shared ds) in
+        let one = few-spaces g.channels shared ds in
+        let two = few-rows shared g shares in
+        omega (arith, long, one, two, rules.few_channels));
     actors = rules.actors;
     channels = All-append (ChannelKeepsRules (phases_of g)) g.channels (space_rows g.channels shared ds) rules.channels spaces-rules;
   }
 
 -- ---- the channels of the net are those of the graph
 
-pub channel-is : (g : GraphFile) (gamma : List ℕ) → KeepsWideRules g → g.kind ≡ Sdf → (i : ℕ) (c : ChannelRow) → slice_get g.channels i ≡ Some c → channel_at (net_of g gamma false) i ≡ file_channel i c
+pub channel-is : (g : GraphFile) (gamma : List ℕ) → KeepsWideRules g → g.kind ≡ Sdf → (i : ℕ) (c : ChannelRow) → slice_get g.channels i ≡ Some c →
+    channel_at (net_of g gamma false) i ≡ file_channel i c
 channel-is g gamma rules kind i c at =
     ap (λ (cs : List Channel). slice_index_or cs i nowhere) (channels-are g gamma rules kind)
     ∙ (file-at 0 g.channels i no_row (slice_get_within g.channels i c at) ∙ (ap (λ (x : ChannelRow). file_channel (0 + i) x) (get_or_from_slice_get g.channels i c no_row at)
@@ -120,6 +123,8 @@ bounded-inputs shared ds g gamma rules kind wide inputs a actor =
     let at : slice_get (g.channels ++ space_rows g.channels shared ds) into.0 ≡ Some row.0 = at-left g.channels (space_rows g.channels shared ds) into.0 row.0 row.1 in
     let inside : into.0 < length (g.channels ++ space_rows g.channels shared ds) = slice_get_within (g.channels ++ space_rows g.channels shared ds) into.0 row.0 at in
     let small : channel_at (net_of g gamma false) into.0 ≡ file_channel into.0 row.0 = channel-is g gamma (widened g rules) kind into.0 row.0 row.1 in
-    let large : channel_at (net_of (bounded_graph shared ds g) gamma false) into.0 ≡ file_channel into.0 row.0 = channel-is (bounded_graph shared ds g) gamma wide kind into.0 row.0 at in
-    (into.0, (let f : into.0 < length (net_of (bounded_graph shared ds g) gamma false).channels = omega (arith, inside, channels-many (bounded_graph shared ds g) gamma wide kind) in f),
-      ap (λ (c : Channel). c.target) large ∙ (sym (ap (λ (c : Channel). c.target) small) ∙ into.2))
+    let large : channel_at (net_of (bounded_graph shared ds g) gamma false) into.0 ≡ file_channel into.0 row.0 = channel-is (bounded_graph shared ds g) gamma wide kind into.0 row.0 at in (
+      into.0,
+      (let f : into.0 < length (net_of (bounded_graph shared ds g) gamma false).channels = omega (arith, inside, channels-many (bounded_graph shared ds g) gamma wide kind) in f),
+      ap (λ (c : Channel). c.target) large ∙ (sym (ap (λ (c : Channel). c.target) small) ∙ into.2),
+    )

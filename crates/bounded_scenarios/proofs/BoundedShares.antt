@@ -1,7 +1,6 @@
 -- The bounded file shares the free spaces with tokens as its scenarios' graphs have them.
-use Rattle.std.proofs.Common.{◌≡◌, ℕ, zero, suc, ◌+◌, ◌-◌, ◌≤◌, ◌<◌, ◌⊎◌, Bool, true, false, Option, None, Some, List, [], ◌∷◌, ◌++◌, length, inl, inr, ⊎_elim, subst, sym, ap, ◌∙◌, refl, arith}
+use Rattle.std.proofs.Common.{◌≡◌, ℕ, zero, suc, ◌+◌, ◌-◌, ◌≤◌, ◌<◌, Bool, true, false, Option, None, Some, List, [], ◌∷◌, ◌++◌, length, ⊎_elim, sym, ap, ◌∙◌, refl, arith}
 use Rattle.std.specs.Prelude.{slice_get, if◌then◌else◌, nat_lt}
-use Rattle.std.proofs.lemmas.Bool.{cases_lt, lt-ltb, le-ltb}
 use Rattle.sd_base.specs.declared.tables.GraphFile.{GraphFile}
 use Rattle.sd_base.specs.declared.tables.ChannelRow.{ChannelRow}
 use Rattle.sd_base.specs.declared.tables.SharedRow.{SharedRow}
@@ -10,7 +9,7 @@ use Rattle.bounded_scenarios.specs.BoundedFiles.{bounded_graph, space_name, spac
 use Rattle.bounded_scenarios.specs.SharedChannels.{channel_named}
 use Rattle.bounded_scenarios.specs.Boundings.{AreFileNames}
 use Rattle.bounded_scenarios.proofs.Lists.{IsLater, at-either, at-left, at-right}
-use Rattle.bounded_scenarios.proofs.Spaces.{HasRow, share-at, share-there, share_of, space-at, space-there}
+use Rattle.bounded_scenarios.proofs.Spaces.{share-at, share-there, share_of, space-at, space-there}
 use Rattle.token_matrix.proofs.Numbering.{RowsDiffer, later_differ}
 use Rattle.bounded_scenarios.proofs.NamedChannels.{named-is, shared-named}
 
@@ -19,7 +18,8 @@ use Rattle.bounded_scenarios.proofs.NamedChannels.{named-is, shared-named}
 abbrev SharesDiffer : List SharedRow → Type 0
 SharesDiffer rows = (s t : ℕ) (x y : SharedRow) → slice_get rows s ≡ Some x → slice_get rows t ≡ Some y → x.name ≡ y.name → s ≡ t
 
-not-later : (row : SharedRow) (rows : List SharedRow) (ds : List (Option ℕ)) (t : ℕ) (y : SharedRow) → RowsDiffer (row ∷ rows) → slice_get (space_shares rows ds) t ≡ Some y → space_name row.name ≡ y.name → ⊥
+not-later : (row : SharedRow) (rows : List SharedRow) (ds : List (Option ℕ)) (t : ℕ) (y : SharedRow) → RowsDiffer (row ∷ rows) → slice_get (space_shares rows ds) t ≡ Some y →
+    space_name row.name ≡ y.name → ⊥
 not-later row rows ds t y differ at same =
     let one = share-at rows ds t y at in
     let spaces : space_name row.name ≡ space_name one.1.name = same ∙ ap (λ (r : SharedRow). r.name) one.5.1 in
@@ -49,7 +49,8 @@ ChannelsDiffer cs = (i j : ℕ) (c d : ChannelRow) → slice_get cs i ≡ Some c
 abbrev AreNamed : List ChannelRow → List SharedRow → Type 0
 AreNamed cs rows = (t : ℕ) (row : SharedRow) → slice_get rows t ≡ Some row → (channel_named cs row.name).name ≡ row.name
 
-no-later-space : (cs : List ChannelRow) (row : SharedRow) (rows : List SharedRow) (ds : List (Option ℕ)) (t : ℕ) (d : ChannelRow) → AreNamed cs (row ∷ rows) → RowsDiffer (row ∷ rows) → slice_get (space_rows cs rows ds) t ≡ Some d →
+no-later-space : (cs : List ChannelRow) (row : SharedRow) (rows : List SharedRow) (ds : List (Option ℕ)) (t : ℕ) (d : ChannelRow) → AreNamed cs (row ∷ rows) → RowsDiffer (row ∷ rows) →
+    slice_get (space_rows cs rows ds) t ≡ Some d →
     space_name (channel_named cs row.name).name ≡ d.name → ⊥
 no-later-space cs row rows ds t d called differ at same =
     let one = space-at cs rows ds t d at in
@@ -69,7 +70,8 @@ spaces-apart cs (row ∷ rows) (Some k ∷ ds) called differ zero (suc j) c d at
     let e : space_row (channel_named cs row.name) k ≡ c = cc in let z : ⊥ = no-later-space cs row rows ds j d called differ there (ap (λ (r : ChannelRow). r.name) e ∙ same) in absurd z
 spaces-apart cs (row ∷ rows) (Some k ∷ ds) called differ (suc i) zero c d at there same =
     let e : space_row (channel_named cs row.name) k ≡ d = cc in let z : ⊥ = no-later-space cs row rows ds i c called differ at (ap (λ (r : ChannelRow). r.name) e ∙ sym same) in absurd z
-spaces-apart cs (row ∷ rows) (Some k ∷ ds) called differ (suc i) (suc j) c d at there same = ap suc (spaces-apart cs rows ds (λ t r has. called (suc t) r has) (later_differ row rows differ) i j c d at there same)
+spaces-apart cs (row ∷ rows) (Some k ∷ ds) called differ (suc i) (suc j) c d at there same = ap suc
+    (spaces-apart cs rows ds (λ t r has. called (suc t) r has) (later_differ row rows differ) i j c d at there same)
 
 -- ---- the shares
 
@@ -97,12 +99,14 @@ module _ (shared : List SharedRow) (ds : List (Option ℕ)) (g : GraphFile) (sha
           let name : (channel_named g.channels one.1.name).name ≡ one.1.name = named one.0 one.1 one.3 in
           let tokens : (channel_named g.channels one.1.name).tokens ≡ one.1.tokens = tokened one.0 one.1 one.3 in
           let lt : one.1.tokens < one.2 = one.5.0 in
-          let xt : x.tokens ≡ one.2 - one.1.tokens = ap (λ (r : SharedRow). r.tokens) is in
-          (length g.channels + there.0, space_row (channel_named g.channels one.1.name) one.2,
+          let xt : x.tokens ≡ one.2 - one.1.tokens = ap (λ (r : SharedRow). r.tokens) is in (
+            length g.channels + there.0,
+            space_row (channel_named g.channels one.1.name) one.2,
             at-right g.channels (space_rows g.channels shared ds) there.0 (space_row (channel_named g.channels one.1.name) one.2) there.1,
             ap space_name name ∙ sym (ap (λ (r : SharedRow). r.name) is),
             ap (λ (n : ℕ). one.2 - n) tokens ∙ sym xt,
-            omega arith)
+            omega arith,
+          )
 
   channel-shared : (i : ℕ) (c : ChannelRow) → slice_get (g.channels ++ space_rows g.channels shared ds) i ≡ Some c → 1 ≤ c.tokens →
       (s : ℕ) × (row : SharedRow) × (slice_get (shared ++ space_shares shared ds) s ≡ Some row) × (row.name ≡ c.name) × (row.tokens ≡ c.tokens)
@@ -111,17 +115,21 @@ module _ (shared : List SharedRow) (ds : List (Option ℕ)) (g : GraphFile) (sha
       left : slice_get g.channels i ≡ Some c → (s : ℕ) × (row : SharedRow) × (slice_get (shared ++ space_shares shared ds) s ≡ Some row) × (row.name ≡ c.name) × (row.tokens ≡ c.tokens)
       left here = let one = shares.channels i c here some in (one.0, one.1, at-left shared (space_shares shared ds) one.0 one.1 one.2, one.3, one.4)
 
-      right : IsLater g.channels (space_rows g.channels shared ds) i c → (s : ℕ) × (row : SharedRow) × (slice_get (shared ++ space_shares shared ds) s ≡ Some row) × (row.name ≡ c.name) × (row.tokens ≡ c.tokens)
+      right : IsLater g.channels (space_rows g.channels shared ds) i c →
+          (s : ℕ) × (row : SharedRow) × (slice_get (shared ++ space_shares shared ds) s ≡ Some row) × (row.name ≡ c.name) × (row.tokens ≡ c.tokens)
       right later =
           let one = space-at g.channels shared ds later.0 c later.2 in
           let name : (channel_named g.channels one.1.name).name ≡ one.1.name = named one.0 one.1 one.3 in
           let tokens : (channel_named g.channels one.1.name).tokens ≡ one.1.tokens = tokened one.0 one.1 one.3 in
           let ct : c.tokens ≡ one.2 - (channel_named g.channels one.1.name).tokens = ap (λ (r : ChannelRow). r.tokens) one.5 in
           let lt : one.1.tokens < one.2 = omega arith in
-          let there = share-there shared ds one.0 one.1 one.2 one.3 one.4 lt in
-          (length shared + there.0, share_of one.1 one.2, at-right shared (space_shares shared ds) there.0 (share_of one.1 one.2) there.1,
+          let there = share-there shared ds one.0 one.1 one.2 one.3 one.4 lt in (
+            length shared + there.0,
+            share_of one.1 one.2,
+            at-right shared (space_shares shared ds) there.0 (share_of one.1 one.2) there.1,
             ap space_name (sym name) ∙ sym (ap (λ (r : ChannelRow). r.name) one.5),
-            ap (λ (n : ℕ). one.2 - n) (sym tokens) ∙ sym ct)
+            ap (λ (n : ℕ). one.2 - n) (sym tokens) ∙ sym ct,
+          )
 
   -- no row of the file has the name of a space
   no-space : (s : ℕ) (x : SharedRow) (name : List ℕ) → slice_get shared s ≡ Some x → x.name ≡ space_name name → ⊥
@@ -130,17 +138,24 @@ module _ (shared : List SharedRow) (ds : List (Option ℕ)) (g : GraphFile) (sha
   rows-apart : SharesDiffer (shared ++ space_shares shared ds)
   rows-apart s t x y at there same = ⊎_elim
       (λ (a : slice_get shared s ≡ Some x). ⊎_elim (λ (b : slice_get shared t ≡ Some y). shares.rows_differ s t x y a b same)
-        (λ (b : IsLater shared (space_shares shared ds) t y). let one = share-at shared ds b.0 y b.2 in let z : ⊥ = no-space s x one.1.name a (same ∙ ap (λ (r : SharedRow). r.name) one.5.1) in absurd z) (at-either shared (space_shares shared ds) t y there))
-      (λ (a : IsLater shared (space_shares shared ds) s x). ⊎_elim (λ (b : slice_get shared t ≡ Some y). let one = share-at shared ds a.0 x a.2 in let z : ⊥ = no-space t y one.1.name b (sym same ∙ ap (λ (r : SharedRow). r.name) one.5.1) in absurd z)
-        (λ (b : IsLater shared (space_shares shared ds) t y). let e : a.0 ≡ b.0 = shares-apart shared ds shares.rows_differ a.0 b.0 x y a.2 b.2 same in omega (arith, e, a.1, b.1)) (at-either shared (space_shares shared ds) t y there))
+      (λ (b : IsLater shared (space_shares shared ds) t y). let one = share-at shared ds b.0 y b.2 in let z : ⊥ = no-space s x one.1.name a (same ∙ ap (λ (r : SharedRow). r.name) one.5.1) in
+      absurd z) (at-either shared (space_shares shared ds) t y there))
+      (λ (a : IsLater shared (space_shares shared ds) s x). ⊎_elim
+      (λ (b : slice_get shared t ≡ Some y). let one = share-at shared ds a.0 x a.2 in let z : ⊥ = no-space t y one.1.name b (sym same ∙ ap (λ (r : SharedRow). r.name) one.5.1) in absurd z)
+      (λ (b : IsLater shared (space_shares shared ds) t y). let e : a.0 ≡ b.0 = shares-apart shared ds shares.rows_differ a.0 b.0 x y a.2 b.2 same in omega (arith, e, a.1, b.1))
+      (at-either shared (space_shares shared ds) t y there))
       (at-either shared (space_shares shared ds) s x at)
 
   channels-apart : ChannelsDiffer (g.channels ++ space_rows g.channels shared ds)
   channels-apart i j c d at there same = ⊎_elim
       (λ (a : slice_get g.channels i ≡ Some c). ⊎_elim (λ (b : slice_get g.channels j ≡ Some d). shares.names_differ i j c d a b same)
-        (λ (b : IsLater g.channels (space_rows g.channels shared ds) j d). let one = space-at g.channels shared ds b.0 d b.2 in absurd (names i c (channel_named g.channels one.1.name).name a (same ∙ ap (λ (r : ChannelRow). r.name) one.5))) (at-either g.channels (space_rows g.channels shared ds) j d there))
-      (λ (a : IsLater g.channels (space_rows g.channels shared ds) i c). ⊎_elim (λ (b : slice_get g.channels j ≡ Some d). let one = space-at g.channels shared ds a.0 c a.2 in absurd (names j d (channel_named g.channels one.1.name).name b (sym same ∙ ap (λ (r : ChannelRow). r.name) one.5)))
-        (λ (b : IsLater g.channels (space_rows g.channels shared ds) j d). let e : a.0 ≡ b.0 = spaces-apart g.channels shared ds named shares.rows_differ a.0 b.0 c d a.2 b.2 same in omega (arith, e, a.1, b.1)) (at-either g.channels (space_rows g.channels shared ds) j d there))
+      (λ (b : IsLater g.channels (space_rows g.channels shared ds) j d). let one = space-at g.channels shared ds b.0 d b.2 in
+      absurd (names i c (channel_named g.channels one.1.name).name a (same ∙ ap (λ (r : ChannelRow). r.name) one.5))) (at-either g.channels (space_rows g.channels shared ds) j d there))
+      (λ (a : IsLater g.channels (space_rows g.channels shared ds) i c). ⊎_elim
+      (λ (b : slice_get g.channels j ≡ Some d). let one = space-at g.channels shared ds a.0 c a.2 in
+      absurd (names j d (channel_named g.channels one.1.name).name b (sym same ∙ ap (λ (r : ChannelRow). r.name) one.5)))
+      (λ (b : IsLater g.channels (space_rows g.channels shared ds) j d). let e : a.0 ≡ b.0 = spaces-apart g.channels shared ds named shares.rows_differ a.0 b.0 c d a.2 b.2 same in
+      omega (arith, e, a.1, b.1)) (at-either g.channels (space_rows g.channels shared ds) j d there))
       (at-either g.channels (space_rows g.channels shared ds) i c at)
 
   pub bounded-shares : Shares (shared ++ space_shares shared ds) (bounded_graph shared ds g)

@@ -1,6 +1,6 @@
 -- The stamps after a round of each scenario of a bounded file exist, where it runs.
 use Rattle.std.proofs.Common.{◌≡◌, ℕ, zero, suc, ◌+◌, ◌*◌, ◌≤◌, ◌<◌, false, Option, Some, List, [], ◌∷◌, length, map, sum, subst, sym, ap, ◌∙◌, refl, arith}
-use Rattle.std.specs.Prelude.{slice_get, slice_index_or}
+use Rattle.std.specs.Prelude.{slice_get}
 use Rattle.std.proofs.lemmas.Option.{get_or_from_slice_get}
 use Rattle.sd_base.specs.declared.tables.ChannelRow.{ChannelRow}
 use Rattle.sd_base.specs.declared.tables.GraphFile.{GraphFile}
@@ -26,7 +26,7 @@ use Rattle.bounded_scenarios.specs.SharedChannels.{shared_channels}
 use Rattle.bounded_scenarios.specs.StorageRates.{AllRun}
 use Rattle.bounded_scenarios.proofs.BoundedRules.{channel-is, channel-there}
 use Rattle.bounded_scenarios.proofs.FirstTokens.{laws, one-phase}
-use Rattle.bounded_scenarios.proofs.Measurable.{bounded-row, gives-matrix, measurable}
+use Rattle.bounded_scenarios.proofs.Measurable.{gives-matrix, measurable}
 use Rattle.bounded_scenarios.proofs.Numbers.{Says, name_at, place_at, token_is}
 use Rattle.bounded_scenarios.proofs.TourLists.{HaveStamps}
 
@@ -52,7 +52,8 @@ module _ (shared : List SharedRow) (g : GraphFile) (gamma : List ℕ) (carries :
       subst (λ (n : ℕ). Says shared c.name (n + k) k) (sym first) names
 
   -- two tokens of one number are one
-  pub apart : (i k j l : ℕ) → i < length (net_of g gamma false).channels → k < (channel_at (net_of g gamma false) i).tokens → j < length (net_of g gamma false).channels → l < (channel_at (net_of g gamma false) j).tokens →
+  pub apart : (i k j l : ℕ) → i < length (net_of g gamma false).channels → k < (channel_at (net_of g gamma false) i).tokens → j < length (net_of g gamma false).channels →
+      l < (channel_at (net_of g gamma false) j).tokens →
       first_of shared g i + k ≡ first_of shared g j + l → (i ≡ j) × (k ≡ l)
   apart i k j l below there place here same =
       let c = channel-there g gamma carries.rules carries.kind i below in
@@ -68,7 +69,8 @@ module _ (shared : List SharedRow) (g : GraphFile) (gamma : List ℕ) (carries :
   stamps-there inputs live x long =
       let lawful = laws shared g gamma carries in
       stamps (net_of g gamma false) lawful (first_of shared g) (shared_count shared) inputs
-      (λ i j below. single-moves (channel_at (net_of g gamma false) i).taken (lawful.taken_phases i below ∙ one-phase shared g gamma carries (channel_at (net_of g gamma false) i).target (lawful.targets i below)) (lawful.some_taken i below) j)
+      (λ i j below. single-moves (channel_at (net_of g gamma false) i).taken
+      (lawful.taken_phases i below ∙ one-phase shared g gamma carries (channel_at (net_of g gamma false) i).target (lawful.targets i below)) (lawful.some_taken i below) j)
       (covers g gamma carries.rules carries.kind shared carries.shares) apart (inside g gamma carries.rules carries.kind shared carries.shares) live.0 live.1 x long
 
 -- a row of the bounded file is that of a row of the file
@@ -77,24 +79,28 @@ row-from [] f k row at = absurd (cc)
 row-from (s ∷ ss) f zero row at = let e : f s ≡ row = cc in (s, refl, sym e)
 row-from (s ∷ ss) f (suc k) row at = row-from ss f k row at
 
-module _ (file : ScenarioFile) (room : ℕ) (can : CanBeBounded file room) (ds : List (Option ℕ)) (is : IsDistribution (shared_channels file) ds) (within : storage_of (shared_channels file) ds ≤ room) where
+module _ (file : ScenarioFile) (room : ℕ) (can : CanBeBounded file room) (ds : List (Option ℕ)) (is : IsDistribution (shared_channels file) ds)
+    (within : storage_of (shared_channels file) ds ≤ room) where
   -- a repetition vector of the bounded graph is that of the graph
   pub gives-back : (k : ℕ) (row : ScenarioRow) (gamma : List ℕ) → slice_get file.scenarios k ≡ Some row → IsRepetitionOf (bounded_graph file.shared ds row.graph) gamma → IsRepetitionOf row.graph gamma
   gives-back k row gamma at gives =
       let run = can.runs k row at in
-      let same : run.gamma ≡ gamma = one-repetition (bounded_graph file.shared ds row.graph) run.gamma gamma (gives-matrix file room can ds is within k row run.gamma at run.round.least).carries.gives gives in
+      let same : run.gamma ≡ gamma = one-repetition (bounded_graph file.shared ds row.graph) run.gamma gamma
+      (gives-matrix file room can ds is within k row run.gamma at run.round.least).carries.gives gives in
       subst (IsRepetitionOf row.graph) same run.round.least
 
   pub have-stamps : AllRun file ds → HaveStamps (bounded_file file ds)
   have-stamps all = record {
     row_of = λ q s at. get_there (bounded_file file ds).scenarios s.scenario ((measurable file room can ds is within).leads_on.scenarios q s at);
     stamps = λ k row at. (
-      let from = row-from file.scenarios (bounded_scenario file.shared ds) k row at in
-      let run = all k from.0 from.1 in
-      let gives = gives-matrix file room can ds is within k from.0 run.0 from.1 run.1 in
-      (run.0, subst (λ (r : ScenarioRow). IsRepetitionOf r.graph run.0) (sym from.2) gives.carries.gives,
-        subst (λ (r : ScenarioRow). (x : List ℕ) → length x ≡ shared_count (bounded_file file ds).shared → (y : List ℕ) × AreStampsOf (bounded_file file ds).shared r.graph run.0 x y) (sym from.2)
-        (stamps-there (bounded_file file ds).shared (bounded_graph file.shared ds from.0.graph) run.0 gives.carries gives.inputs run.2)));
+        let from = row-from file.scenarios (bounded_scenario file.shared ds) k row at in
+        let run = all k from.0 from.1 in
+        let gives = gives-matrix file room can ds is within k from.0 run.0 from.1 run.1 in (
+          run.0,
+          subst (λ (r : ScenarioRow). IsRepetitionOf r.graph run.0) (sym from.2) gives.carries.gives,
+          subst (λ (r : ScenarioRow). (x : List ℕ) → length x ≡ shared_count (bounded_file file ds).shared → (y : List ℕ) × AreStampsOf (bounded_file file ds).shared r.graph run.0 x y) (sym from.2)
+              (stamps-there (bounded_file file ds).shared (bounded_graph file.shared ds from.0.graph) run.0 gives.carries gives.inputs run.2),
+        ));
   }
 
   pub all-lawful : (k : ℕ) (row : ScenarioRow) (gamma : List ℕ) → slice_get (bounded_file file ds).scenarios k ≡ Some row → IsRepetitionOf row.graph gamma → Lawful (net_of row.graph gamma false)
@@ -102,4 +108,5 @@ module _ (file : ScenarioFile) (room : ℕ) (can : CanBeBounded file room) (ds :
       let from = row-from file.scenarios (bounded_scenario file.shared ds) k row at in
       let mine : IsRepetitionOf (bounded_graph file.shared ds from.0.graph) gamma = subst (λ (r : ScenarioRow). IsRepetitionOf r.graph gamma) from.2 gives in
       let plain = gives-back k from.0 gamma from.1 mine in
-      subst (λ (r : ScenarioRow). Lawful (net_of r.graph gamma false)) (sym from.2) (laws (bounded_file file ds).shared (bounded_graph file.shared ds from.0.graph) gamma (gives-matrix file room can ds is within k from.0 gamma from.1 plain).carries)
+      subst (λ (r : ScenarioRow). Lawful (net_of r.graph gamma false)) (sym from.2)
+      (laws (bounded_file file ds).shared (bounded_graph file.shared ds from.0.graph) gamma (gives-matrix file room can ds is within k from.0 gamma from.1 plain).carries)

@@ -31,7 +31,8 @@ chain_maps net other first first' to p p' _ _ _ _ maps number (begins a j i m be
     (subst (λ (r : List ℕ). j < slice_index r a) maps.same.round early) (maps.taken i m j below (has-here i []) takes) (maps.initial i m below there) (number i m below there is)
 chain_maps net other first first' to p p' _ _ _ _ maps number (goes a j i m k s rest below into early takes puts chain) =
     let one : SameRates (channel_at net i) (channel_at other i) = maps.same.each i below in
-    let inner : IsChain other first' p' (channel_at net i).source k s rest = chain_maps net other first first' to p p' (channel_at net i).source k s rest (fewer net other i rest to maps) number chain in
+    let inner : IsChain other first' p' (channel_at net i).source k s rest = chain_maps net other first first' to p p' (channel_at net i).source k s rest
+    (fewer net other i rest to maps) number chain in
     let inner' : IsChain other first' p' (channel_at other i).source k s rest = subst (λ (b : ℕ). IsChain other first' p' b k s rest) one.source inner in
     let made : IsChain other first' p' a j (s + time_of other (channel_at other i).source k) (i ∷ rest) =
     goes a j i (to i m) k s rest (subst (λ (n : ℕ). i < n) maps.same.many below) (sym one.target ∙ into)

@@ -1,12 +1,10 @@
 -- Walks in the timed graph of a bounded file as walks of ways through its states.
-use Rattle.std.proofs.Common.{◌≡◌, ℕ, zero, suc, ◌+◌, ◌*◌, ◌/◌, ◌%◌, ◌≤◌, ◌<◌, false, Option, Some, List, [], ◌∷◌, length, map, subst, sym, ap, ◌∙◌, refl, arith}
-use Rattle.std.specs.Prelude.{Contains, slice_get}
+use Rattle.std.proofs.Common.{◌≡◌, ℕ, suc, ◌+◌, ◌*◌, ◌/◌, ◌%◌, ◌<◌, Option, Some, List, [], ◌∷◌, length, subst, sym, ap, ◌∙◌, refl}
+use Rattle.std.specs.Prelude.{slice_get}
 use Rattle.std.proofs.lemmas.Nat.{div-mul-add, mod-mul-add}
 use Rattle.sd_base.specs.declared.tables.ScenarioFile.{ScenarioFile}
 use Rattle.sd_base.specs.declared.tables.ScenarioRow.{ScenarioRow}
-use Rattle.sd_base.specs.declared.tables.StateRow.{StateRow}
 use Rattle.sd_base.specs.Net.{IsRepetitionOf}
-use Rattle.sd_base.specs.Scenarios.{shared_count}
 use Rattle.automaton.specs.declared.graph.Edge.{Edge}
 use Rattle.automaton.specs.declared.graph.TimedGraph.{TimedGraph}
 use Rattle.automaton.specs.CriticalCycles.{IsPath, IsReached, weight_in, weights}
@@ -42,13 +40,16 @@ module _ (file : ScenarioFile) (m : List (Option ℕ)) (shown : List ℕ) (graph
     pub tour : IsTour (AreShown file m shown) (bounded_file file m) q p states r s time
 
   -- a walk each of whose edges has a way is a walk of ways
-  pub path-tour : ((row : ScenarioRow) (k : ℕ) (gamma : List ℕ) → slice_get file.scenarios k ≡ Some row → IsRepetitionOf row.graph gamma → IsRepetitionOf (bounded_graph file.shared m row.graph) gamma) →
+  pub path-tour : ((row : ScenarioRow) (k : ℕ) (gamma : List ℕ) → slice_get file.scenarios k ≡ Some row → IsRepetitionOf row.graph gamma →
+      IsRepetitionOf (bounded_graph file.shared m row.graph) gamma) →
       (ks : List ℕ) (u v q p : ℕ) → u ≡ q * graph.tokens + p → p < graph.tokens → ShowsWays file m graph ks shown → IsPath graph.edges u ks v → EndsAt q p v (length ks) (weights graph.edges ks)
   path-tour bounded [] u v q p from inside shows same = record { states = []; r = q; s = p; end = sym same ∙ from; inside = inside; long = refl; tour = (refl, refl, refl) }
   path-tour bounded (k ∷ ks) u v q p from inside shows (e, at, starts, path) =
       step (λ next line to below. path-tour bounded ks e.to v next line to below (λ n f has there. shows n f (has-more k n ks has) there) path) (shows k e (has-here k ks) at)
     where
-      step : ((next line : ℕ) → e.to ≡ next * graph.tokens + line → line < graph.tokens → EndsAt next line v (length ks) (weights graph.edges ks)) → (row : ScenarioRow) × (channels : List ℕ) × IsWayOf file m graph.tokens e row channels × ShowsTaken file m row.graph channels shown → EndsAt q p v (length (k ∷ ks)) (weights graph.edges (k ∷ ks))
+      step : ((next line : ℕ) → e.to ≡ next * graph.tokens + line → line < graph.tokens → EndsAt next line v (length ks) (weights graph.edges ks)) →
+          (row : ScenarioRow) × (channels : List ℕ) × IsWayOf file m graph.tokens e row channels × ShowsTaken file m row.graph channels shown →
+          EndsAt q p v (length (k ∷ ks)) (weights graph.edges (k ∷ ks))
       step further (row, channels, way, taken) =
           let entry : IsEntryOf file graph.tokens e row way.p way.q = way.entry in
           let place = same-place graph.tokens entry.state way.p q p e.from entry.column inside entry.from (sym starts ∙ from) in
@@ -64,11 +65,12 @@ module _ (file : ScenarioFile) (m : List (Option ℕ)) (shown : List ℕ) (graph
             channels = channels;
             way = way.way;
             good = λ other there. (
-              let same : row ≡ other = (let h : ◌≡◌ {A = Option ScenarioRow} (Some row) (Some other) = sym entry.scenario ∙ there in (cc)) in
-              subst (λ (x : ScenarioRow). ShowsTaken file m x.graph channels shown) same taken);
+                let same : row ≡ other = (let h : ◌≡◌ {A = Option ScenarioRow} (Some row) (Some other) = sym entry.scenario ∙ there in (cc)) in
+                subst (λ (x : ScenarioRow). ShowsTaken file m x.graph channels shown) same taken);
           } in
           let leg' : IsLeg (AreShown file m shown) (bounded_file file m) q p way.q e.weight =
-            subst (λ (n : ℕ). IsLeg (AreShown file m shown) (bounded_file file m) q n way.q e.weight) place.1 (subst (λ (n : ℕ). IsLeg (AreShown file m shown) (bounded_file file m) n way.p way.q e.weight) place.0 leg) in
+          subst (λ (n : ℕ). IsLeg (AreShown file m shown) (bounded_file file m) q n way.q e.weight) place.1
+          (subst (λ (n : ℕ). IsLeg (AreShown file m shown) (bounded_file file m) n way.p way.q e.weight) place.0 leg) in
           let weight : weights graph.edges (k ∷ ks) ≡ e.weight + weights graph.edges ks = ap (λ (o : Option Edge). weight_in o + weights graph.edges ks) at in
           record {
             states = entry.next ∷ rest.states;

@@ -1,17 +1,15 @@
 -- A graph of which a round can be completed, and each of whose actors has an input, has a token at first: the first firing takes one.
-use Rattle.std.proofs.Common.{◌≡◌, ℕ, suc, ◌+◌, ◌≤◌, ◌<◌, false, List, [], ◌∷◌, length, map, sum, subst, sym, ap, ◌∙◌, refl, arith}
+use Rattle.std.proofs.Common.{◌≡◌, ℕ, ◌+◌, ◌≤◌, ◌<◌, false, List, [], ◌∷◌, length, map, sum, sym, ap, ◌∙◌, arith}
 use Rattle.std.specs.Prelude.{slice_index, slice_index_or}
 use Rattle.std.proofs.lemmas.List.{get_or-map, length-map}
 use Rattle.sd_base.specs.declared.tables.ActorRow.{ActorRow}
 use Rattle.sd_base.specs.declared.tables.GraphFile.{GraphFile}
-use Rattle.sd_base.specs.declared.tables.Kind.TheVariants.{Sdf}
 use Rattle.sd_base.specs.declared.tables.SharedRow.{SharedRow}
 use Rattle.sd_base.specs.FileNet.{net_of}
 use Rattle.sd_base.specs.Lawful.{Lawful}
 use Rattle.sd_base.specs.Net.{channel_at, total}
 use Rattle.sd_base.specs.Scenarios.{shared_count}
 use Rattle.sd_base.specs.Schedules.{HasInputs}
-use Rattle.sd_base.specs.Tables.{phases_of}
 use Rattle.sd_base.specs.Untimed.{CanFire, Fires, IsLive, counts_after, none_fired}
 use Rattle.sd_base.proofs.FileNets.{net_of-lawful}
 use Rattle.sd_base.proofs.Sums.{total-turn, total-zero}
@@ -33,14 +31,16 @@ module _ (shared : List SharedRow) (g : GraphFile) (gamma : List ℕ) (carries :
   one-phase a actor =
       let many : length (map (λ (r : ActorRow). r.times) g.actors) ≡ length g.actors = length-map g.actors (λ (r : ActorRow). r.times) in
       let here : a < length g.actors = omega (arith, many) in
-      ap (λ (t : List ℕ). length t) (get_or-map (λ (r : ActorRow). r.times) g.actors a no_actor [] here) ∙ (carries.timed a no_actor here ∙ (carries.rules.actors a no_actor here).one_phase carries.kind)
+      ap (λ (t : List ℕ). length t) (get_or-map (λ (r : ActorRow). r.times) g.actors a no_actor [] here)
+      ∙ (carries.timed a no_actor here ∙ (carries.rules.actors a no_actor here).one_phase carries.kind)
 
   first-takes : (a : ℕ) → a < length (net_of g gamma false).times → CanFire (net_of g gamma false) none_fired a → HasInputs (net_of g gamma false) →
       (i : ℕ) × (i < length (net_of g gamma false).channels) × (0 < (channel_at (net_of g gamma false) i).tokens)
   first-takes a actor can inputs =
       let into = inputs a actor in
       let fires = can into.0 into.1 into.2 in
-      let one : length (channel_at (net_of g gamma false) into.0).taken ≡ 1 = laws.taken_phases into.0 into.1 ∙ one-phase (channel_at (net_of g gamma false) into.0).target (laws.targets into.0 into.1) in
+      let one : length (channel_at (net_of g gamma false) into.0).taken ≡ 1 = laws.taken_phases into.0 into.1
+      ∙ one-phase (channel_at (net_of g gamma false) into.0).target (laws.targets into.0 into.1) in
       let takes = first-rate (channel_at (net_of g gamma false) into.0).taken one in
       (into.0, into.1, omega (arith, fires, takes, laws.some_taken into.0 into.1, total-zero (channel_at (net_of g gamma false) into.0).made))
 

@@ -19,7 +19,8 @@ use Rattle.bounded_scenarios.proofs.NamedChannels.{shared-named}
 -- ---- parts of a list of whole numbers
 
 whole-left : (g : ℕ) (xs ys : List ℕ) → AreWhole g (xs ++ ys) → AreWhole g xs
-whole-left g xs ys whole p = ⊎_elim (λ (here : p < length xs). ((whole p).0, sym (get_or_append_left xs ys 0 p here) ∙ (whole p).1)) (λ (past : length xs ≤ p). (0, get_or_past xs p 0 past ∙ omega arith)) (cases_lt p (length xs))
+whole-left g xs ys whole p = ⊎_elim (λ (here : p < length xs). ((whole p).0, sym (get_or_append_left xs ys 0 p here) ∙ (whole p).1))
+    (λ (past : length xs ≤ p). (0, get_or_past xs p 0 past ∙ omega arith)) (cases_lt p (length xs))
 
 whole-right : (g : ℕ) (xs ys : List ℕ) → AreWhole g (xs ++ ys) → AreWhole g ys
 whole-right g xs ys whole p = ((whole (length xs + p)).0, sym (get_or-append-add xs ys p 0) ∙ (whole (length xs + p)).1)
@@ -33,7 +34,9 @@ whole-named g f (x ∷ ss) name whole zero row at =
 whole-named g f (x ∷ ss) name whole (suc s) row at = whole-named g f ss name (whole-right g (f (channel_named x.graph.channels name)) (flat_map f (channels_named ss name)) whole) s row at
 
 some-whole : (g : ℕ) (xs : List ℕ) → AreWhole g xs → 1 ≤ sum xs → 1 ≤ g
-some-whole g xs whole some = ⊎_elim (λ (none : g < 1). absurd (let nothing : (p : ℕ) → slice_index xs p ≤ 0 = λ p. zero-here none p in let few : total xs (length xs) ≤ length xs * 0 = total-bound xs 0 (length xs) nothing in omega (arith, total-turn xs))) (λ (h : 1 ≤ g). h) (cases_lt g 1)
+some-whole g xs whole some = ⊎_elim (λ (none : g < 1). absurd
+    (let nothing : (p : ℕ) → slice_index xs p ≤ 0 = λ p. zero-here none p in let few : total xs (length xs) ≤ length xs * 0 = total-bound xs 0 (length xs) nothing in
+    omega (arith, total-turn xs))) (λ (h : 1 ≤ g). h) (cases_lt g 1)
   where
     zero-here : g < 1 → (p : ℕ) → slice_index xs p ≤ 0
     zero-here none p = let zero_here : g ≡ 0 = omega arith in let product : (whole p).0 * g ≡ (whole p).0 * 0 = ap (λ (n : ℕ). (whole p).0 * n) zero_here in omega (arith, (whole p).1)
@@ -48,11 +51,15 @@ pub record FitsShared (c : ChannelRow) (shared : Channel) : Type 0 where
   pub tokens : c.tokens ≡ shared.tokens
 
 -- the channel of a shared row in each scenario of a file fits the shared channel
-pub fits : (ss : List ScenarioRow) (s : ℕ) (sc : ScenarioRow) → slice_get ss s ≡ Some sc → (shared : List SharedRow) → ScenarioKeepsRules shared sc → (p t : ℕ) (row : SharedRow) → slice_get shared t ≡ Some row →
+pub fits : (ss : List ScenarioRow) (s : ℕ) (sc : ScenarioRow) → slice_get ss s ≡ Some sc → (shared : List SharedRow) → ScenarioKeepsRules shared sc → (p t : ℕ) (row : SharedRow) →
+    slice_get shared t ≡ Some row →
     FitsShared (channel_named sc.graph.channels row.name) (shared_channel ss p row)
 fits ss s sc at shared keeps p t row there =
     let one = shared-named shared sc.graph keeps.shares t row there in
-    let rules : ChannelKeepsRules (phases_of sc.graph) (channel_named sc.graph.channels row.name) = at-all (ChannelKeepsRules (phases_of sc.graph)) sc.graph.channels one.0 (channel_named sc.graph.channels row.name) keeps.rules.channels one.1 in
-    let made : AreWhole (step_of (shared_channel ss p row)) (channel_named sc.graph.channels row.name).made = whole-named (step_of (shared_channel ss p row)) (λ (c : ChannelRow). c.made) ss row.name (made-whole (shared_channel ss p row)) s sc at in
-    let taken : AreWhole (step_of (shared_channel ss p row)) (channel_named sc.graph.channels row.name).taken = whole-named (step_of (shared_channel ss p row)) (λ (c : ChannelRow). c.taken) ss row.name (taken-whole (shared_channel ss p row)) s sc at in
+    let rules : ChannelKeepsRules (phases_of sc.graph) (channel_named sc.graph.channels row.name) = at-all (ChannelKeepsRules (phases_of sc.graph)) sc.graph.channels one.0
+    (channel_named sc.graph.channels row.name) keeps.rules.channels one.1 in
+    let made : AreWhole (step_of (shared_channel ss p row)) (channel_named sc.graph.channels row.name).made = whole-named (step_of (shared_channel ss p row))
+    (λ (c : ChannelRow). c.made) ss row.name (made-whole (shared_channel ss p row)) s sc at in
+    let taken : AreWhole (step_of (shared_channel ss p row)) (channel_named sc.graph.channels row.name).taken = whole-named (step_of (shared_channel ss p row))
+    (λ (c : ChannelRow). c.taken) ss row.name (taken-whole (shared_channel ss p row)) s sc at in
     record { some = some-whole (step_of (shared_channel ss p row)) (channel_named sc.graph.channels row.name).made made rules.made.moves; made = made; taken = taken; tokens = one.2 }

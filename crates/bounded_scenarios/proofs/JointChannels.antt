@@ -1,17 +1,16 @@
 -- What the rules of a file say of its shared rows, and the steps of the loops over them.
-use Rattle.std.proofs.Common.{◌≡◌, ℕ, zero, suc, ◌+◌, ◌*◌, ◌≤◌, ◌<◌, Bool, true, false, Option, None, Some, List, [], ◌∷◌, ◌++◌, length, take, map, sum, ⊎_elim, subst, sym, ap, ◌∙◌, refl, arith}
+use Rattle.std.proofs.Common.{◌≡◌, ℕ, suc, ◌+◌, ◌*◌, ◌≤◌, ◌<◌, Bool, true, false, Option, None, Some, List, [], ◌∷◌, ◌++◌, length, take, map, sum, ⊎_elim, subst, sym, ap, ◌∙◌, refl, arith}
 use Rattle.std.specs.Prelude.{All, MatchOption, ◌≢◌, flat_map, slice_get, slice_index, slice_index_or, if◌then◌else◌}
 use Rattle.std.specs.Option.{unwrap_or}
 use Rattle.std.proofs.Math.Nat.{mul-le-mul_right}
 use Rattle.std.proofs.lemmas.Bool.{cases_lt}
-use Rattle.std.proofs.lemmas.List.{get_or_default, get_or_past, length-append, take_more}
+use Rattle.std.proofs.lemmas.List.{get_or_past, length-append, take_more}
 use Rattle.std.proofs.lemmas.List.Sums.{sum_by-append}
 use Rattle.sd_base.specs.declared.limits.TheConstants.{NODES, RATE, TOKENS}
 use Rattle.sd_base.specs.declared.tables.ChannelRow.{ChannelRow}
 use Rattle.sd_base.specs.declared.tables.ScenarioFile.{ScenarioFile}
 use Rattle.sd_base.specs.declared.tables.ScenarioRow.{ScenarioRow}
 use Rattle.sd_base.specs.declared.tables.SharedRow.{SharedRow}
-use Rattle.sd_base.specs.Lawful.{is_token_role}
 use Rattle.sd_base.specs.Net.{Channel}
 use Rattle.sd_base.specs.Scenarios.{FileKeepsRules, shared_count}
 use Rattle.sd_base.specs.Tables.{ChannelKeepsRules, phases_of}
@@ -37,14 +36,15 @@ module _ (file : ScenarioFile) (rules : FileKeepsRules file) where
     long = dist-long file.scenarios 0 file.shared ds is;
     named = λ t row there. (let one = (rules.scenarios s sc at).shares.rows t row there in (one.0, one.1, one.2, one.3));
     covered = λ t k row there has. (
-      let one = shared-named file.shared sc.graph (rules.scenarios s sc at).shares t row there in
-      omega (arith, one.2, (dist-room file.scenarios 0 file.shared ds is t k row there has).0));
+        let one = shared-named file.shared sc.graph (rules.scenarios s sc at).shares t row there in
+        omega (arith, one.2, (dist-room file.scenarios 0 file.shared ds is t k row there has).0));
   }
 
   pub name-all : (t : ℕ) (row : SharedRow) → slice_get file.shared t ≡ Some row → NameAll file.scenarios row.name
   name-all t row there s sc at = let one = (rules.scenarios s sc at).shares.rows t row there in (one.0, one.1, one.2, one.3)
 
-  row-rules : (s : ℕ) (sc : ScenarioRow) → slice_get file.scenarios s ≡ Some sc → (t : ℕ) (row : SharedRow) → slice_get file.shared t ≡ Some row → ChannelKeepsRules (phases_of sc.graph) (channel_named sc.graph.channels row.name)
+  row-rules : (s : ℕ) (sc : ScenarioRow) → slice_get file.scenarios s ≡ Some sc → (t : ℕ) (row : SharedRow) → slice_get file.shared t ≡ Some row →
+      ChannelKeepsRules (phases_of sc.graph) (channel_named sc.graph.channels row.name)
   row-rules s sc at t row there =
       let one = shared-named file.shared sc.graph (rules.scenarios s sc at).shares t row there in
       at-all (ChannelKeepsRules (phases_of sc.graph)) sc.graph.channels one.0 (channel_named sc.graph.channels row.name) (rules.scenarios s sc at).rules.channels one.1
@@ -57,7 +57,8 @@ module _ (file : ScenarioFile) (rules : FileKeepsRules file) where
   sum-first : (xs ys : List ℕ) → sum xs ≤ sum (xs ++ ys)
   sum-first xs ys = let parts : sum (xs ++ ys) ≡ sum xs + sum ys = sum_by-append (λ (x : ℕ). x) xs ys in omega (arith, parts)
 
-  some-made : (ss : List ScenarioRow) (name : List ℕ) (sc : ScenarioRow) → slice_get ss 0 ≡ Some sc → 1 ≤ sum (channel_named sc.graph.channels name).made → 1 ≤ sum (flat_map (λ (c : ChannelRow). c.made) (channels_named ss name))
+  some-made : (ss : List ScenarioRow) (name : List ℕ) (sc : ScenarioRow) → slice_get ss 0 ≡ Some sc → 1 ≤ sum (channel_named sc.graph.channels name).made →
+      1 ≤ sum (flat_map (λ (c : ChannelRow). c.made) (channels_named ss name))
   some-made [] name sc at some = absurd (cc)
   some-made (s ∷ ss) name sc at some =
       let is : s ≡ sc = cc in
@@ -70,8 +71,12 @@ module _ (file : ScenarioFile) (rules : FileKeepsRules file) where
       let one = shared-named file.shared first.0.graph (rules.scenarios 0 first.0 first.1).shares t row there in
       let kept = row-rules 0 first.0 first.1 t row there in
       record {
-        made = λ p. subst (λ (xs : List ℕ). slice_index xs p ≤ RATE) (sym is.made) (bound-named (λ (c : ChannelRow). c.made) file.scenarios row.name RATE (λ s sc at. few-rates (channel_named sc.graph.channels row.name).made (row-rules s sc at t row there).made.limited) p);
-        taken = λ p. subst (λ (xs : List ℕ). slice_index xs p ≤ RATE) (sym is.taken) (bound-named (λ (c : ChannelRow). c.taken) file.scenarios row.name RATE (λ s sc at. few-rates (channel_named sc.graph.channels row.name).taken (row-rules s sc at t row there).taken.limited) p);
+        made = λ p. subst (λ (xs : List ℕ). slice_index xs p ≤ RATE) (sym is.made)
+            (bound-named (λ (c : ChannelRow). c.made) file.scenarios row.name RATE
+            (λ s sc at. few-rates (channel_named sc.graph.channels row.name).made (row-rules s sc at t row there).made.limited) p);
+        taken = λ p. subst (λ (xs : List ℕ). slice_index xs p ≤ RATE) (sym is.taken)
+            (bound-named (λ (c : ChannelRow). c.taken) file.scenarios row.name RATE
+            (λ s sc at. few-rates (channel_named sc.graph.channels row.name).taken (row-rules s sc at t row there).taken.limited) p);
         moves = subst (λ (xs : List ℕ). 1 ≤ sum xs) (sym is.made) (some-made file.scenarios row.name first.0 first.1 kept.made.moves);
         tokens = omega (arith, is.tokens, one.2, kept.tokens);
       }
@@ -90,9 +95,11 @@ module _ (file : ScenarioFile) (rules : FileKeepsRules file) where
 
 -- ---- one row after another
 
-channels-push : (ss : List ScenarioRow) (p : ℕ) (rows : List SharedRow) (r : SharedRow) → shared_channels_from ss p (rows ++ r ∷ []) ≡ shared_channels_from ss p rows ++ shared_channel ss (p + length rows) r ∷ []
+channels-push : (ss : List ScenarioRow) (p : ℕ) (rows : List SharedRow) (r : SharedRow) →
+    shared_channels_from ss p (rows ++ r ∷ []) ≡ shared_channels_from ss p rows ++ shared_channel ss (p + length rows) r ∷ []
 channels-push ss p [] r = ap (λ (n : ℕ). shared_channel ss n r ∷ []) (let e : p ≡ p + 0 = omega arith in e)
-channels-push ss p (x ∷ rows) r = ap (λ (l : List Channel). shared_channel ss p x ∷ l) (channels-push ss (suc p) rows r ∙ ap (λ (n : ℕ). shared_channels_from ss (suc p) rows ++ shared_channel ss n r ∷ []) (let e : suc p + length rows ≡ p + suc (length rows) = omega arith in e))
+channels-push ss p (x ∷ rows) r = ap (λ (l : List Channel). shared_channel ss p x ∷ l)
+    (channels-push ss (suc p) rows r ∙ ap (λ (n : ℕ). shared_channels_from ss (suc p) rows ++ shared_channel ss n r ∷ []) (let e : suc p + length rows ≡ p + suc (length rows) = omega arith in e))
 
 steps-push : (cs : List Channel) (c : Channel) → map channel_step (cs ++ c ∷ []) ≡ map channel_step cs ++ channel_step c ∷ []
 steps-push [] c = refl
@@ -105,11 +112,13 @@ same-step c d made taken = ap (λ (xs : List ℕ). divisor_of (xs ++ c.taken)) m
 joint-step : (ss : List ScenarioRow) (p : ℕ) (row : SharedRow) (j : Joint) → IsJoint ss row j → step_of (joint_channel j) ≡ step_of (shared_channel ss p row)
 joint-step ss p row j is = same-step (joint_channel j) (shared_channel ss p row) is.made is.taken
 
-pub steps-more : (ss : List ScenarioRow) (rows : List SharedRow) (i : ℕ) (row : SharedRow) (j : Joint) (n : ℕ) (old new : List ChannelStep) → i < length rows → row ≡ slice_index_or rows i row → IsJoint ss row j → n ≡ step_of (joint_channel j) →
+pub steps-more : (ss : List ScenarioRow) (rows : List SharedRow) (i : ℕ) (row : SharedRow) (j : Joint) (n : ℕ) (old new : List ChannelStep) → i < length rows → row ≡ slice_index_or rows i row →
+    IsJoint ss row j → n ≡ step_of (joint_channel j) →
     new ≡ old ++ record { size = 1; step = n } ∷ [] → old ≡ map channel_step (shared_channels_from ss 0 (take i rows)) → new ≡ map channel_step (shared_channels_from ss 0 (take (i + 1) rows))
 steps-more ss rows i row j n old new below is joint step added before =
     let rows_are : take (i + 1) rows ≡ take i rows ++ row ∷ [] = take_more rows i row below ∙ ap (λ (r : SharedRow). take i rows ++ r ∷ []) (sym is) in
-    let last : ◌≡◌ {A = ChannelStep} (record { size = 1; step = n }) (channel_step (shared_channel ss (0 + length (take i rows)) row)) = ap (λ (x : ℕ). record { size = 1; step = x }) (step ∙ joint-step ss (0 + length (take i rows)) row j joint) in
+    let last : ◌≡◌ {A = ChannelStep} (record { size = 1; step = n }) (channel_step (shared_channel ss (0 + length (take i rows)) row)) = ap (λ (x : ℕ). record { size = 1; step = x })
+    (step ∙ joint-step ss (0 + length (take i rows)) row j joint) in
     added ∙ (ap (λ (l : List ChannelStep). l ++ record { size = 1; step = n } ∷ []) before
     ∙ (ap (λ (x : ChannelStep). map channel_step (shared_channels_from ss 0 (take i rows)) ++ x ∷ []) last
     ∙ (sym (steps-push (shared_channels_from ss 0 (take i rows)) (shared_channel ss (0 + length (take i rows)) row))
@@ -157,7 +166,8 @@ module _ (ss : List ScenarioRow) (row : SharedRow) (j : Joint) (is : IsJoint ss 
       let one : ◌≡◌ {A = ℕ} 1 (if is_looped (channels_named ss row.name) then 0 else 1) = ap (λ (b : Bool). if b then 0 else 1) (sym apart ∙ is.looped) in
       omega (arith, one, same)
 
-  corner-push : (p : ℕ) (rows : List SharedRow) (ds : List (Option ℕ)) (e : Option ℕ) → IsCorner (shared_channels_from ss p rows) ds → IsEntryFor j e → IsCorner (shared_channels_from ss p (rows ++ row ∷ [])) (ds ++ e ∷ [])
+  corner-push : (p : ℕ) (rows : List SharedRow) (ds : List (Option ℕ)) (e : Option ℕ) → IsCorner (shared_channels_from ss p rows) ds → IsEntryFor j e →
+      IsCorner (shared_channels_from ss p (rows ++ row ∷ [])) (ds ++ e ∷ [])
   corner-push p [] [] None corner entry = (refl, looped-ends p entry, tt)
   corner-push p [] [] (Some k) corner entry = (refl, apart-ends p entry.0, same-corner (joint_channel j) (shared_channel ss p row) k is.made is.taken is.tokens entry.1, tt)
   corner-push p [] (d ∷ ds) e corner entry = absurd corner
@@ -184,15 +194,19 @@ pub record CornerSoFar (ss : List ScenarioRow) (rows : List SharedRow) (i : ℕ)
 pub corner-none : (ss : List ScenarioRow) (rows : List SharedRow) → CornerSoFar ss rows 0 [] 0
 corner-none ss rows = record { corner = tt; long = refl; total = refl; small = omega arith }
 
-pub corner-more : (ss : List ScenarioRow) (rows : List SharedRow) (i : ℕ) (row : SharedRow) (j : Joint) (e : Option ℕ) (old new : List (Option ℕ)) (total sum : ℕ) → i < length rows → row ≡ slice_index_or rows i row → IsJoint ss row j → IsEntryFor j e →
+pub corner-more : (ss : List ScenarioRow) (rows : List SharedRow) (i : ℕ) (row : SharedRow) (j : Joint) (e : Option ℕ) (old new : List (Option ℕ)) (total sum : ℕ) → i < length rows →
+    row ≡ slice_index_or rows i row → IsJoint ss row j → IsEntryFor j e →
     room_of e ≤ TOKENS + 2 * RATE → new ≡ old ++ e ∷ [] → sum ≡ total + room_of e → CornerSoFar ss rows i old total → CornerSoFar ss rows (i + 1) new sum
 corner-more ss rows i row j e old new total sum below is joint entry few added more before =
     let rows_are : take (i + 1) rows ≡ take i rows ++ row ∷ [] = take_more rows i row below ∙ ap (λ (r : SharedRow). take i rows ++ r ∷ []) (sym is) in
     let one : IsCorner (shared_channels_from ss 0 (take i rows ++ row ∷ [])) (old ++ e ∷ []) = corner-push ss row j joint 0 (take i rows) old e before.corner entry in
     let two = storage-push ss 0 (take i rows) row old e before.long in
     record {
-      corner = subst (λ (l : List SharedRow). IsCorner (shared_channels_from ss 0 l) new) (sym rows_are) (subst (λ (l : List (Option ℕ)). IsCorner (shared_channels_from ss 0 (take i rows ++ row ∷ [])) l) (sym added) one);
-      long = ap (λ (l : List (Option ℕ)). length l) added ∙ (length-append old (e ∷ []) ∙ (ap (λ (n : ℕ). n + 1) before.long ∙ (sym (length-append (take i rows) (row ∷ [])) ∙ ap (λ (l : List SharedRow). length l) (sym rows_are))));
-      total = subst (λ (l : List SharedRow). sum ≡ storage_of (shared_channels_from ss 0 l) new) (sym rows_are) (subst (λ (l : List (Option ℕ)). sum ≡ storage_of (shared_channels_from ss 0 (take i rows ++ row ∷ [])) l) (sym added) (omega (arith, two, more, before.total)));
+      corner = subst (λ (l : List SharedRow). IsCorner (shared_channels_from ss 0 l) new) (sym rows_are)
+          (subst (λ (l : List (Option ℕ)). IsCorner (shared_channels_from ss 0 (take i rows ++ row ∷ [])) l) (sym added) one);
+      long = ap (λ (l : List (Option ℕ)). length l) added
+          ∙ (length-append old (e ∷ []) ∙ (ap (λ (n : ℕ). n + 1) before.long ∙ (sym (length-append (take i rows) (row ∷ [])) ∙ ap (λ (l : List SharedRow). length l) (sym rows_are))));
+      total = subst (λ (l : List SharedRow). sum ≡ storage_of (shared_channels_from ss 0 l) new) (sym rows_are)
+          (subst (λ (l : List (Option ℕ)). sum ≡ storage_of (shared_channels_from ss 0 (take i rows ++ row ∷ [])) l) (sym added) (omega (arith, two, more, before.total)));
       small = omega (arith, few, more, before.small);
     }

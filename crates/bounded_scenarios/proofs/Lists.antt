@@ -1,5 +1,5 @@
 -- Elements of two lists, one after the other.
-use Rattle.std.proofs.Common.{◌≡◌, ℕ, zero, suc, ◌+◌, ◌<◌, ◌⊎◌, Some, List, [], ◌∷◌, ◌++◌, length, inl, inr, ⊎_elim, subst, ◌∙◌, refl, arith}
+use Rattle.std.proofs.Common.{◌≡◌, ℕ, zero, suc, ◌+◌, ◌⊎◌, Some, List, [], ◌∷◌, ◌++◌, length, inl, inr, ⊎_elim, subst, arith}
 use Rattle.std.specs.Prelude.{All, slice_get}
 use Rattle.std.proofs.lemmas.Option.{get_or_from_slice_get, slice_get_within}
 
@@ -9,7 +9,8 @@ IsLater xs ys i x = (j : ℕ) × (i ≡ length xs + j) × (slice_get ys j ≡ So
 pub at-either : {X : Type 0} (xs ys : List X) (i : ℕ) (x : X) → slice_get (xs ++ ys) i ≡ Some x → (slice_get xs i ≡ Some x) ⊎ IsLater xs ys i x
 at-either [] ys i x at = let e : i ≡ 0 + i = omega arith in inr (i, e, at)
 at-either (y ∷ xs) ys zero x at = inl at
-at-either (y ∷ xs) ys (suc i) x at = ⊎_elim (λ left. inl left) (λ (right : IsLater xs ys i x). inr (right.0, (let e : suc i ≡ suc (length xs) + right.0 = omega (arith, right.1) in e), right.2)) (at-either xs ys i x at)
+at-either (y ∷ xs) ys (suc i) x at = ⊎_elim (λ left. inl left) (λ (right : IsLater xs ys i x). inr (right.0, (let e : suc i ≡ suc (length xs) + right.0 = omega (arith, right.1) in e), right.2))
+    (at-either xs ys i x at)
 
 pub at-left : {X : Type 0} (xs ys : List X) (i : ℕ) (x : X) → slice_get xs i ≡ Some x → slice_get (xs ++ ys) i ≡ Some x
 at-left [] ys i x at = absurd (cc)

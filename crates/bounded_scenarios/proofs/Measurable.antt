@@ -1,16 +1,14 @@
 -- A bounded file within the limit of storage has a timed graph and a worst rate, where its scenarios run.
-use Rattle.std.proofs.Common.{◌≡◌, ℕ, zero, suc, ◌+◌, ◌*◌, ◌≤◌, ◌<◌, false, Option, Some, List, [], ◌∷◌, ◌++◌, length, map, sum, subst, sym, ap, ◌∙◌, arith, mul-le-mul_left}
+use Rattle.std.proofs.Common.{◌≡◌, ℕ, zero, suc, ◌+◌, ◌*◌, ◌≤◌, ◌<◌, Option, Some, List, [], ◌∷◌, length, map, sum, subst, ap, ◌∙◌, arith, mul-le-mul_left}
 use Rattle.std.specs.Prelude.{slice_get}
 use Rattle.std.proofs.lemmas.List.{length-map}
 use Rattle.std.proofs.Math.Nat.{mul-le-mul_right}
-use Rattle.sd_base.specs.declared.limits.TheConstants.{NODES, STAMPS, TOKENS}
+use Rattle.sd_base.specs.declared.limits.TheConstants.{TOKENS}
 use Rattle.sd_base.specs.declared.tables.ScenarioFile.{ScenarioFile}
 use Rattle.sd_base.specs.declared.tables.ScenarioRow.{ScenarioRow}
 use Rattle.sd_base.specs.declared.tables.SharedRow.{SharedRow}
-use Rattle.sd_base.specs.FileNet.{net_of}
 use Rattle.sd_base.specs.Net.{IsRepetitionOf}
-use Rattle.sd_base.specs.Scenarios.{FileKeepsRules, LeadsOn, ScenarioKeepsRules, shared_count}
-use Rattle.sd_base.specs.Schedules.{HasInputs}
+use Rattle.sd_base.specs.Scenarios.{ScenarioKeepsRules, shared_count}
 use Rattle.sd_base.specs.Tables.{KeepsWideRules}
 use Rattle.sd_base.proofs.FileNets.{widened}
 use Rattle.storage.specs.Distributions.{IsDistribution, storage_of}
@@ -56,7 +54,8 @@ module _ (file : ScenarioFile) (total : ℕ) (can : CanBeBounded file total) whe
     few : (t k : ℕ) (row : SharedRow) → slice_get file.shared t ≡ Some row → slice_get ds t ≡ Some (Some k) → k ≤ TOKENS
     few t k row at has =
         let room = dist-room file.scenarios 0 file.shared ds is t k row at has in
-        let states : 1 * (total + looped_tokens file.scenarios file.shared) ≤ length file.states * (total + looped_tokens file.scenarios file.shared) = mul-le-mul_right (total + looped_tokens file.scenarios file.shared) can.rules.some_state in
+        let states : 1 * (total + looped_tokens file.scenarios file.shared) ≤ length file.states * (total + looped_tokens file.scenarios file.shared) = mul-le-mul_right
+        (total + looped_tokens file.scenarios file.shared) can.rules.some_state in
         omega (arith, room.1, within, states, can.nodes)
 
     pub count-is : shared_count (bounded_file file ds).shared ≡ storage_of (shared_channels file) ds + looped_tokens file.scenarios file.shared
@@ -102,7 +101,8 @@ module _ (file : ScenarioFile) (total : ℕ) (can : CanBeBounded file total) whe
       };
       few_states = can.rules.few_states;
       few_nodes = (
-        let nodes : length file.states * shared_count (bounded_file file ds).shared ≤ length file.states * (total + looped_tokens file.scenarios file.shared) = mul-le-mul_left (length file.states) count-few in
-        omega (arith, nodes, can.nodes));
+          let nodes : length file.states * shared_count (bounded_file file ds).shared ≤ length file.states * (total + looped_tokens file.scenarios file.shared) = mul-le-mul_left
+          (length file.states) count-few in
+          omega (arith, nodes, can.nodes));
       some_token = omega (arith, some-shared-token, count-append file.shared (space_shares file.shared ds));
     }

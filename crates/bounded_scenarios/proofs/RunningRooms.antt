@@ -1,40 +1,30 @@
 -- What runs at a distribution runs at what it is rounded down to, and holds each rate there.
-use Rattle.std.proofs.Common.{◌≡◌, ℕ, suc, ◌+◌, ◌-◌, ◌≤◌, ◌<◌, false, Option, None, Some, List, [], ◌∷◌, ◌++◌, length, sum, subst, sym, ap, ◌∙◌, refl, arith}
-use Rattle.std.specs.Prelude.{slice_get, slice_index, slice_index_or}
-use Rattle.std.proofs.lemmas.Option.{get_or_from_slice_get, slice_get_within}
-use Rattle.sd_base.specs.declared.tables.ChannelRow.{ChannelRow}
-use Rattle.sd_base.specs.declared.tables.GraphFile.{GraphFile}
+use Rattle.std.proofs.Common.{◌≡◌, ℕ, ◌≤◌, Option, Some, List, arith}
+use Rattle.std.specs.Prelude.{slice_get}
 use Rattle.sd_base.specs.declared.tables.ScenarioFile.{ScenarioFile}
 use Rattle.sd_base.specs.declared.tables.ScenarioRow.{ScenarioRow}
 use Rattle.sd_base.specs.declared.tables.SharedRow.{SharedRow}
-use Rattle.sd_base.specs.Lawful.{Lawful}
-use Rattle.sd_base.specs.Net.{Channel, IsRepetitionOf, channel_at, file_channel, total}
+use Rattle.sd_base.specs.Net.{IsRepetitionOf}
 use Rattle.sd_base.specs.Untimed.{IsLive}
-use Rattle.sd_base.proofs.FileNets.{net_of-lawful}
-use Rattle.sd_base.proofs.Parts.{balanced, wired}
-use Rattle.sd_base.proofs.Sums.{total-turn}
+use Rattle.sd_base.proofs.Parts.{wired}
 use Rattle.storage.specs.Distributions.{IsDistribution, storage_of}
-use Rattle.storage.specs.Steps.{rounded, step_of}
+use Rattle.storage.specs.Steps.{rounded}
 use Rattle.storage.proofs.Climbs.{storage-le}
 use Rattle.storage.proofs.Corners.{rounded-dist, rounded-most}
 use Rattle.token_matrix.specs.EntryWays.{CarriesStamps}
-use Rattle.token_matrix.proofs.OfGraph.{channels-many}
-use Rattle.token_matrix.proofs.Rows.{one-repetition}
-use Rattle.bounded_scenarios.specs.BoundedFiles.{bounded_file, bounded_graph, space_row, space_rows}
+use Rattle.bounded_scenarios.specs.BoundedFiles.{bounded_file, bounded_graph}
 use Rattle.bounded_scenarios.specs.Boundings.{CanBeBounded}
 use Rattle.bounded_scenarios.specs.SharedChannels.{channel_named, shared_channel, shared_channels}
-use Rattle.bounded_scenarios.specs.StorageRates.{AllRun, RunsOn, bounded_net}
-use Rattle.bounded_scenarios.proofs.BoundedRules.{channel-is}
-use Rattle.bounded_scenarios.proofs.FirstTokens.{laws, one-phase}
+use Rattle.bounded_scenarios.specs.StorageRates.{bounded_net}
+use Rattle.bounded_scenarios.proofs.FirstTokens.{laws}
 use Rattle.bounded_scenarios.proofs.Fitting.{FitsShared, fits}
-use Rattle.bounded_scenarios.proofs.Lists.{at-left, at-right}
-use Rattle.bounded_scenarios.proofs.LiveRooms.{made-covered, spare-live, taken-covered}
+use Rattle.bounded_scenarios.proofs.LiveRooms.{spare-live}
 use Rattle.bounded_scenarios.proofs.Measurable.{gives-matrix, kept}
-use Rattle.bounded_scenarios.proofs.NamedChannels.{named-is, shared-named}
-use Rattle.bounded_scenarios.proofs.Spaces.{space-there}
+use Rattle.bounded_scenarios.proofs.NamedChannels.{named-is}
 use Rattle.bounded_scenarios.proofs.SparedWays.{has-spare, spare, step}
 
-module _ (file : ScenarioFile) (total_room : ℕ) (can : CanBeBounded file total_room) (ds : List (Option ℕ)) (is : IsDistribution (shared_channels file) ds) (within : storage_of (shared_channels file) ds ≤ total_room) where
+module _ (file : ScenarioFile) (total_room : ℕ) (can : CanBeBounded file total_room) (ds : List (Option ℕ)) (is : IsDistribution (shared_channels file) ds)
+    (within : storage_of (shared_channels file) ds ≤ total_room) where
   pub low-dist : IsDistribution (shared_channels file) (rounded (shared_channels file) ds)
   low-dist = rounded-dist (shared_channels file) ds is
 

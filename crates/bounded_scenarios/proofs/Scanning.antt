@@ -1,9 +1,8 @@
 -- Steps of the loops over channels, scenarios and shared rows.
-use Rattle.std.proofs.Common.{◌≡◌, ℕ, zero, suc, ◌+◌, ◌-◌, ◌≤◌, ◌<◌, ◌⊎◌, Bool, true, false, Option, None, Some, List, [], ◌∷◌, ◌++◌, length, take, drop, map, ⊎_elim, inl, inr, subst, sym, ap, ◌∙◌, refl, arith}
+use Rattle.std.proofs.Common.{◌≡◌, ℕ, zero, suc, ◌+◌, ◌-◌, ◌≤◌, ◌<◌, Bool, true, false, Option, None, Some, List, [], ◌∷◌, ◌++◌, length, take, drop, map, ⊎_elim, subst, sym, ap, ◌∙◌, refl, arith}
 use Rattle.std.specs.Prelude.{◌||◌, ◌==◌, flat_map, slice_get, slice_index, slice_index_or, if◌then◌else◌, nat_lt}
-use Rattle.std.specs.List.{list_any}
 use Rattle.std.specs.Str.{bytes_eq}
-use Rattle.std.proofs.lemmas.Bool.{cases_Bool, cases_lt, le-ltb, lt-ltb}
+use Rattle.std.proofs.lemmas.Bool.{cases_Bool, cases_lt}
 use Rattle.std.proofs.lemmas.List.{append_assoc, at_drop_more, drop_more, take_more}
 use Rattle.std.proofs.lemmas.Slice.Eq.{bytes_eq-Decides}
 use Rattle.sd_base.specs.declared.tables.ChannelRow.{ChannelRow}
@@ -15,7 +14,8 @@ use Rattle.bounded_scenarios.specs.SharedChannels.{channel_named, channels_named
 use Rattle.bounded_scenarios.specs.declared.joint.Joint.{Joint}
 
 -- the first channel of a name
-pub first-named : (cs : List ChannelRow) (name : List ℕ) (i : ℕ) (c : ChannelRow) → slice_get cs i ≡ Some c → c.name ≡ name → ((j : ℕ) (d : ChannelRow) → j < i → slice_get cs j ≡ Some d → d.name ≡ name → ⊥) → channel_named cs name ≡ c
+pub first-named : (cs : List ChannelRow) (name : List ℕ) (i : ℕ) (c : ChannelRow) → slice_get cs i ≡ Some c → c.name ≡ name →
+    ((j : ℕ) (d : ChannelRow) → j < i → slice_get cs j ≡ Some d → d.name ≡ name → ⊥) → channel_named cs name ≡ c
 first-named [] name i c at same others = absurd (cc)
 first-named (x ∷ cs) name zero c at same others =
     let is : x ≡ c = cc in
@@ -31,17 +31,20 @@ pub record JointSoFar (ss : List ScenarioRow) (name : List ℕ) (i : ℕ) (j : J
   pub made : j.made.items ++ flat_map (λ (c : ChannelRow). c.made) (channels_named (drop i ss) name) ≡ flat_map (λ (c : ChannelRow). c.made) (channels_named ss name)
   pub taken : j.taken.items ++ flat_map (λ (c : ChannelRow). c.taken) (channels_named (drop i ss) name) ≡ flat_map (λ (c : ChannelRow). c.taken) (channels_named ss name)
 
-rates-more : (f : ChannelRow → List ℕ) (ss : List ScenarioRow) (name : List ℕ) (i : ℕ) (sc : ScenarioRow) (c : ChannelRow) (old new : List ℕ) → i < length ss → sc ≡ slice_index_or ss i sc → c ≡ channel_named sc.graph.channels name →
-    new ≡ old ++ f c → old ++ flat_map f (channels_named (drop i ss) name) ≡ flat_map f (channels_named ss name) → new ++ flat_map f (channels_named (drop (i + 1) ss) name) ≡ flat_map f (channels_named ss name)
+rates-more : (f : ChannelRow → List ℕ) (ss : List ScenarioRow) (name : List ℕ) (i : ℕ) (sc : ScenarioRow) (c : ChannelRow) (old new : List ℕ) → i < length ss → sc ≡ slice_index_or ss i sc →
+    c ≡ channel_named sc.graph.channels name →
+    new ≡ old ++ f c → old ++ flat_map f (channels_named (drop i ss) name) ≡ flat_map f (channels_named ss name) →
+    new ++ flat_map f (channels_named (drop (i + 1) ss) name) ≡ flat_map f (channels_named ss name)
 rates-more f ss name i sc c old new below is named added before =
     let split : flat_map f (channels_named (drop i ss) name) ≡ f c ++ flat_map f (channels_named (drop (i + 1) ss) name) =
-      at_drop_more (λ (l : List ScenarioRow). flat_map f (channels_named l name)) ss i sc below
-      ∙ (ap (λ (s : ScenarioRow). f (channel_named s.graph.channels name) ++ flat_map f (channels_named (drop (i + 1) ss) name)) (sym is)
-      ∙ ap (λ (x : ChannelRow). f x ++ flat_map f (channels_named (drop (i + 1) ss) name)) (sym named)) in
+    at_drop_more (λ (l : List ScenarioRow). flat_map f (channels_named l name)) ss i sc below
+    ∙ (ap (λ (s : ScenarioRow). f (channel_named s.graph.channels name) ++ flat_map f (channels_named (drop (i + 1) ss) name)) (sym is)
+    ∙ ap (λ (x : ChannelRow). f x ++ flat_map f (channels_named (drop (i + 1) ss) name)) (sym named)) in
     ap (λ (l : List ℕ). l ++ flat_map f (channels_named (drop (i + 1) ss) name)) added
     ∙ (append_assoc old (f c) (flat_map f (channels_named (drop (i + 1) ss) name)) ∙ (ap (λ (l : List ℕ). old ++ l) (sym split) ∙ before))
 
-pub joint-more : (ss : List ScenarioRow) (name : List ℕ) (i : ℕ) (sc : ScenarioRow) (c : ChannelRow) (old new : Joint) → i < length ss → sc ≡ slice_index_or ss i sc → c ≡ channel_named sc.graph.channels name →
+pub joint-more : (ss : List ScenarioRow) (name : List ℕ) (i : ℕ) (sc : ScenarioRow) (c : ChannelRow) (old new : Joint) → i < length ss → sc ≡ slice_index_or ss i sc →
+    c ≡ channel_named sc.graph.channels name →
     new.made.items ≡ old.made.items ++ c.made → new.taken.items ≡ old.taken.items ++ c.taken → JointSoFar ss name i old → JointSoFar ss name (i + 1) new
 joint-more ss name i sc c old new below is named made taken before = record {
   made = rates-more (λ (x : ChannelRow). x.made) ss name i sc c old.made.items new.made.items below is named made before.made;
@@ -61,7 +64,8 @@ pub looped-on : (rows : List SharedRow) (ss : List ScenarioRow) (i : ℕ) (row :
 looped-on rows ss i row below is = at_drop_more (λ (l : List SharedRow). looped_tokens ss l) rows i row below
     ∙ ap (λ (r : SharedRow). (if is_looped (channels_named ss r.name) then r.tokens else 0) + looped_tokens ss (drop (i + 1) rows)) (sym is)
 
-pub looped-row : (rows : List SharedRow) (ss : List ScenarioRow) (i : ℕ) (row : SharedRow) → i < length rows → row ≡ slice_index_or rows i row → is_looped (channels_named ss row.name) ≡ true → row.tokens ≤ looped_tokens ss (drop i rows)
+pub looped-row : (rows : List SharedRow) (ss : List ScenarioRow) (i : ℕ) (row : SharedRow) → i < length rows → row ≡ slice_index_or rows i row → is_looped (channels_named ss row.name) ≡ true →
+    row.tokens ≤ looped_tokens ss (drop i rows)
 looped-row rows ss i row below is looped =
     let on = looped-on rows ss i row below is in
     let tokens : (if is_looped (channels_named ss row.name) then row.tokens else 0) ≡ row.tokens = ap (λ (b : Bool). if b then row.tokens else 0) looped in
@@ -74,17 +78,20 @@ abbrev pub space_here : List ChannelRow → SharedRow → Option ℕ → List Ch
 space_here cs row None = []
 space_here cs row (Some k) = space_row (channel_named cs row.name) k ∷ []
 
-spaces-cons : (cs : List ChannelRow) (row : SharedRow) (d : Option ℕ) (rows : List SharedRow) (ds : List (Option ℕ)) → space_rows cs (row ∷ rows) (d ∷ ds) ≡ space_here cs row d ++ space_rows cs rows ds
+spaces-cons : (cs : List ChannelRow) (row : SharedRow) (d : Option ℕ) (rows : List SharedRow) (ds : List (Option ℕ)) →
+    space_rows cs (row ∷ rows) (d ∷ ds) ≡ space_here cs row d ++ space_rows cs rows ds
 spaces-cons cs row None rows ds = refl
 spaces-cons cs row (Some k) rows ds = refl
 
-pub spaces-more : (cs : List ChannelRow) (rows : List SharedRow) (ds : List (Option ℕ)) (i : ℕ) (row : SharedRow) (d : Option ℕ) (old new all : List ChannelRow) → i < length rows → length ds ≡ length rows → row ≡ slice_index_or rows i row → d ≡ slice_index_or ds i d →
+pub spaces-more : (cs : List ChannelRow) (rows : List SharedRow) (ds : List (Option ℕ)) (i : ℕ) (row : SharedRow) (d : Option ℕ) (old new all : List ChannelRow) → i < length rows →
+    length ds ≡ length rows → row ≡ slice_index_or rows i row → d ≡ slice_index_or ds i d →
     new ≡ old ++ space_here cs row d → old ++ space_rows cs (drop i rows) (drop i ds) ≡ all → new ++ space_rows cs (drop (i + 1) rows) (drop (i + 1) ds) ≡ all
 spaces-more cs rows ds i row d old new all below long is has added before =
     let first : drop i rows ≡ row ∷ drop (i + 1) rows = drop_more rows i row below ∙ ap (λ (r : SharedRow). r ∷ drop (i + 1) rows) (sym is) in
     let second : drop i ds ≡ d ∷ drop (i + 1) ds = drop_more ds i d (omega arith) ∙ ap (λ (x : Option ℕ). x ∷ drop (i + 1) ds) (sym has) in
     let split : space_rows cs (drop i rows) (drop i ds) ≡ space_here cs row d ++ space_rows cs (drop (i + 1) rows) (drop (i + 1) ds) =
-      ap (λ (l : List SharedRow). space_rows cs l (drop i ds)) first ∙ (ap (λ (l : List (Option ℕ)). space_rows cs (row ∷ drop (i + 1) rows) l) second ∙ spaces-cons cs row d (drop (i + 1) rows) (drop (i + 1) ds)) in
+    ap (λ (l : List SharedRow). space_rows cs l (drop i ds)) first
+    ∙ (ap (λ (l : List (Option ℕ)). space_rows cs (row ∷ drop (i + 1) rows) l) second ∙ spaces-cons cs row d (drop (i + 1) rows) (drop (i + 1) ds)) in
     ap (λ (l : List ChannelRow). l ++ space_rows cs (drop (i + 1) rows) (drop (i + 1) ds)) added
     ∙ (append_assoc old (space_here cs row d) (space_rows cs (drop (i + 1) rows) (drop (i + 1) ds)) ∙ (ap (λ (l : List ChannelRow). old ++ l) (sym split) ∙ before))
 
@@ -102,18 +109,21 @@ shares-cons row (Some k) rows ds = at (nat_lt row.tokens k)
     at true = refl
     at false = refl
 
-pub shares-more : (rows : List SharedRow) (ds : List (Option ℕ)) (i : ℕ) (row : SharedRow) (d : Option ℕ) (old new all : List SharedRow) → i < length rows → length ds ≡ length rows → row ≡ slice_index_or rows i row → d ≡ slice_index_or ds i d →
+pub shares-more : (rows : List SharedRow) (ds : List (Option ℕ)) (i : ℕ) (row : SharedRow) (d : Option ℕ) (old new all : List SharedRow) → i < length rows → length ds ≡ length rows →
+    row ≡ slice_index_or rows i row → d ≡ slice_index_or ds i d →
     new ≡ old ++ share_here row d → old ++ space_shares (drop i rows) (drop i ds) ≡ all → new ++ space_shares (drop (i + 1) rows) (drop (i + 1) ds) ≡ all
 shares-more rows ds i row d old new all below long is has added before =
     let first : drop i rows ≡ row ∷ drop (i + 1) rows = drop_more rows i row below ∙ ap (λ (r : SharedRow). r ∷ drop (i + 1) rows) (sym is) in
     let second : drop i ds ≡ d ∷ drop (i + 1) ds = drop_more ds i d (omega arith) ∙ ap (λ (x : Option ℕ). x ∷ drop (i + 1) ds) (sym has) in
     let split : space_shares (drop i rows) (drop i ds) ≡ share_here row d ++ space_shares (drop (i + 1) rows) (drop (i + 1) ds) =
-      ap (λ (l : List SharedRow). space_shares l (drop i ds)) first ∙ (ap (λ (l : List (Option ℕ)). space_shares (row ∷ drop (i + 1) rows) l) second ∙ shares-cons row d (drop (i + 1) rows) (drop (i + 1) ds)) in
+    ap (λ (l : List SharedRow). space_shares l (drop i ds)) first
+    ∙ (ap (λ (l : List (Option ℕ)). space_shares (row ∷ drop (i + 1) rows) l) second ∙ shares-cons row d (drop (i + 1) rows) (drop (i + 1) ds)) in
     ap (λ (l : List SharedRow). l ++ space_shares (drop (i + 1) rows) (drop (i + 1) ds)) added
     ∙ (append_assoc old (share_here row d) (space_shares (drop (i + 1) rows) (drop (i + 1) ds)) ∙ (ap (λ (l : List SharedRow). old ++ l) (sym split) ∙ before))
 
 -- rows that are made one after another by a function
-pub mapped-more : {X Y : Type 0} → (f : X → Y) (xs : List X) (i : ℕ) (x : X) (y : Y) (old new : List Y) → i < length xs → x ≡ slice_index_or xs i x → y ≡ f x → new ≡ old ++ y ∷ [] → old ≡ map f (take i xs) → new ≡ map f (take (i + 1) xs)
+pub mapped-more : {X Y : Type 0} → (f : X → Y) (xs : List X) (i : ℕ) (x : X) (y : Y) (old new : List Y) → i < length xs → x ≡ slice_index_or xs i x → y ≡ f x → new ≡ old ++ y ∷ [] →
+    old ≡ map f (take i xs) → new ≡ map f (take (i + 1) xs)
 mapped-more {X} {Y} f xs i x y old new below is made added before =
     added ∙ (ap (λ (l : List Y). l ++ y ∷ []) before ∙ (ap (λ (z : Y). map f (take i xs) ++ z ∷ []) (made ∙ ap f is)
     ∙ (push (take i xs) (slice_index_or xs i x) ∙ ap (λ (l : List X). map f l) (sym (take_more xs i x below)))))
@@ -124,7 +134,8 @@ mapped-more {X} {Y} f xs i x y old new below is made added before =
 
 -- ---- the greatest of rates
 
-pub greatest-more : (xs : List ℕ) (old new i : ℕ) → old ≤ new → slice_index xs i ≤ new → ((k : ℕ) → old ≤ k → slice_index xs i ≤ k → new ≤ k) → ((p : ℕ) → p < i → slice_index xs p ≤ old) → ((k : ℕ) → ((p : ℕ) → slice_index xs p ≤ k) → old ≤ k) →
+pub greatest-more : (xs : List ℕ) (old new i : ℕ) → old ≤ new → slice_index xs i ≤ new → ((k : ℕ) → old ≤ k → slice_index xs i ≤ k → new ≤ k) → ((p : ℕ) → p < i → slice_index xs p ≤ old) →
+    ((k : ℕ) → ((p : ℕ) → slice_index xs p ≤ k) → old ≤ k) →
     ((p : ℕ) → p < i + 1 → slice_index xs p ≤ new) × ((k : ℕ) → ((p : ℕ) → slice_index xs p ≤ k) → new ≤ k)
 greatest-more xs old new i up here both covers least = (
   λ p below. ⊎_elim (λ (less : p < i). omega (arith, covers p less, up)) (λ (last : i ≤ p). subst (λ (n : ℕ). slice_index xs n ≤ new) (let e : i ≡ p = omega arith in e) here) (cases_lt p i),

@@ -1,5 +1,5 @@
 -- The shared channels as channels: their steps, their roles, and the rates of their scenarios.
-use Rattle.std.proofs.Common.{◌≡◌, ℕ, zero, suc, ◌+◌, ◌-◌, ◌≤◌, ◌<◌, true, Option, Some, List, [], ◌∷◌, ◌++◌, length, sum, inl, ⊎_elim, subst, sym, ap, ◌∙◌, refl, arith}
+use Rattle.std.proofs.Common.{◌≡◌, ℕ, zero, suc, ◌+◌, ◌-◌, ◌≤◌, ◌<◌, true, Option, Some, List, [], ◌∷◌, ◌++◌, length, inl, ⊎_elim, subst, sym, ap, ◌∙◌, refl, arith}
 use Rattle.std.specs.Prelude.{flat_map, slice_get, slice_index, slice_index_or}
 use Rattle.std.proofs.lemmas.Bool.{cases_lt}
 use Rattle.std.proofs.lemmas.List.{get_or_append_left, get_or-append_right, get_or_past}
@@ -49,7 +49,8 @@ bound-append xs ys k first second p = ⊎_elim
     (λ (past : length xs ≤ p). subst (λ (n : ℕ). n ≤ k) (sym (get_or-append_right xs ys (length xs) p 0 refl past)) (second (p - length xs))) (cases_lt p (length xs))
 
 pub bound-named : (f : ChannelRow → List ℕ) (ss : List ScenarioRow) (name : List ℕ) (k : ℕ) →
-    ((s : ℕ) (row : ScenarioRow) → slice_get ss s ≡ Some row → (p : ℕ) → slice_index (f (channel_named row.graph.channels name)) p ≤ k) → (p : ℕ) → slice_index (flat_map f (channels_named ss name)) p ≤ k
+    ((s : ℕ) (row : ScenarioRow) → slice_get ss s ≡ Some row → (p : ℕ) → slice_index (f (channel_named row.graph.channels name)) p ≤ k) → (p : ℕ) →
+    slice_index (flat_map f (channels_named ss name)) p ≤ k
 bound-named f [] name k each p = omega arith
 bound-named f (s ∷ ss) name k each p =
     bound-append (f (channel_named s.graph.channels name)) (flat_map f (channels_named ss name)) k (each 0 s refl) (bound-named f ss name k (λ t row at. each (suc t) row at)) p
@@ -60,7 +61,8 @@ bound-single xs k one small (suc p) = subst (λ (n : ℕ). n ≤ k) (sym (get_or
 
 -- ---- the corner is a distribution on the grid
 
-token-role : (ss : List ScenarioRow) (p : ℕ) (rows : List SharedRow) (i : ℕ) → i < length (shared_channels_from ss p rows) → is_token_role (slice_index_or (shared_channels_from ss p rows) i nowhere).role ≡ true
+token-role : (ss : List ScenarioRow) (p : ℕ) (rows : List SharedRow) (i : ℕ) → i < length (shared_channels_from ss p rows) →
+    is_token_role (slice_index_or (shared_channels_from ss p rows) i nowhere).role ≡ true
 token-role ss p rows i below = let one = shared-there ss p rows i below in ap (λ (c : Channel). is_token_role c.role) one.2
 
 pub corner-distributed : (file : ScenarioFile) (ds : List (Option ℕ)) → IsCorner (shared_channels file) ds → IsDistribution (shared_channels file) ds

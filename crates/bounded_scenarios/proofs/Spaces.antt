@@ -39,10 +39,15 @@ pub share-at : (rows : List SharedRow) (ds : List (Option ℕ)) (s : ℕ) (x : S
 share-at [] ds s x at = absurd (cc)
 share-at (row ∷ rows) [] s x at = absurd (cc)
 share-at (row ∷ rows) (None ∷ ds) s x at = one-more row None rows ds (λ r k. (r.tokens < k) × (x ≡ share_of r k)) (share-at rows ds s x at)
-share-at (row ∷ rows) (Some k ∷ ds) s x at = ⊎_elim (λ (lt : row.tokens < k). some lt (λ i there. share-at rows ds i x there) s (subst (λ (b : Bool). slice_get (if b then share_of row k ∷ space_shares rows ds else space_shares rows ds) s ≡ Some x) (lt-ltb row.tokens k lt) at))
-    (λ (le : k ≤ row.tokens). one-more row (Some k) rows ds (λ r j. (r.tokens < j) × (x ≡ share_of r j)) (share-at rows ds s x (subst (λ (b : Bool). slice_get (if b then share_of row k ∷ space_shares rows ds else space_shares rows ds) s ≡ Some x) (le-ltb row.tokens k le) at))) (cases_lt row.tokens k)
+share-at (row ∷ rows) (Some k ∷ ds) s x at = ⊎_elim
+    (λ (lt : row.tokens < k). some lt (λ i there. share-at rows ds i x there) s
+    (subst (λ (b : Bool). slice_get (if b then share_of row k ∷ space_shares rows ds else space_shares rows ds) s ≡ Some x) (lt-ltb row.tokens k lt) at))
+    (λ (le : k ≤ row.tokens). one-more row (Some k) rows ds (λ r j. (r.tokens < j) × (x ≡ share_of r j))
+    (share-at rows ds s x (subst (λ (b : Bool). slice_get (if b then share_of row k ∷ space_shares rows ds else space_shares rows ds) s ≡ Some x) (le-ltb row.tokens k le) at)))
+    (cases_lt row.tokens k)
   where
-    some : row.tokens < k → ((i : ℕ) → slice_get (space_shares rows ds) i ≡ Some x → HasRow rows ds (λ r j. (r.tokens < j) × (x ≡ share_of r j))) → (i : ℕ) → slice_get (share_of row k ∷ space_shares rows ds) i ≡ Some x → HasRow (row ∷ rows) (Some k ∷ ds) (λ r j. (r.tokens < j) × (x ≡ share_of r j))
+    some : row.tokens < k → ((i : ℕ) → slice_get (space_shares rows ds) i ≡ Some x → HasRow rows ds (λ r j. (r.tokens < j) × (x ≡ share_of r j))) → (i : ℕ) →
+        slice_get (share_of row k ∷ space_shares rows ds) i ≡ Some x → HasRow (row ∷ rows) (Some k ∷ ds) (λ r j. (r.tokens < j) × (x ≡ share_of r j))
     some lt next zero there = let e : share_of row k ≡ x = cc in (0, row, k, refl, refl, (lt, sym e))
     some lt next (suc i) there = one-more row (Some k) rows ds (λ r j. (r.tokens < j) × (x ≡ share_of r j)) (next i there)
 
@@ -59,7 +64,8 @@ share-there (r ∷ rows) (Some j ∷ ds) zero row k at has lt =
     rw yes (0, cc)
 share-there (r ∷ rows) (Some j ∷ ds) (suc t) row k at has lt = later (share-there rows ds t row k at has lt) (nat_lt r.tokens j)
   where
-    later : (s : ℕ) × (slice_get (space_shares rows ds) s ≡ Some (share_of row k)) → (b : Bool) → (s : ℕ) × (slice_get (if b then share_of r j ∷ space_shares rows ds else space_shares rows ds) s ≡ Some (share_of row k))
+    later : (s : ℕ) × (slice_get (space_shares rows ds) s ≡ Some (share_of row k)) → (b : Bool) →
+        (s : ℕ) × (slice_get (if b then share_of r j ∷ space_shares rows ds else space_shares rows ds) s ≡ Some (share_of row k))
     later next true = (suc next.0, next.1)
     later next false = next
 
@@ -93,7 +99,8 @@ next-pair cs r rows d e ds es i j c one same = record {
   other = same ∙ one.other;
 }
 
-pub space-pair : (cs : List ChannelRow) (rows : List SharedRow) (ds es : List (Option ℕ)) (i : ℕ) (c : ChannelRow) → AtMost ds es → slice_get (space_rows cs rows ds) i ≡ Some c → SpacePair cs rows ds es i c
+pub space-pair : (cs : List ChannelRow) (rows : List SharedRow) (ds es : List (Option ℕ)) (i : ℕ) (c : ChannelRow) → AtMost ds es → slice_get (space_rows cs rows ds) i ≡ Some c →
+    SpacePair cs rows ds es i c
 space-pair cs [] ds es i c most at = absurd (cc)
 space-pair cs (row ∷ rows) [] [] i c most at = absurd (cc)
 space-pair cs (row ∷ rows) (None ∷ ds) (None ∷ es) i c most at = next-pair cs row rows None None ds es i i c (space-pair cs rows ds es i c most at) refl

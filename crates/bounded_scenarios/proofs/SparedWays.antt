@@ -1,5 +1,5 @@
 -- Spare room is no way's: a distribution has the ways of what it is rounded down to.
-use Rattle.std.proofs.Common.{◌≡◌, ℕ, zero, suc, ◌+◌, ◌-◌, ◌*◌, ◌/◌, ◌%◌, ◌≤◌, ◌<◌, ◌⊎◌, Bool, true, false, Option, None, Some, List, [], ◌∷◌, ◌++◌, length, inl, inr, ⊎_elim, subst, sym, ap, ◌∙◌, refl, arith, mod-lt, div-add-mod'}
+use Rattle.std.proofs.Common.{◌≡◌, ℕ, zero, suc, ◌+◌, ◌-◌, ◌*◌, ◌/◌, ◌%◌, ◌≤◌, ◌<◌, Bool, true, false, Option, None, Some, List, [], ◌∷◌, ◌++◌, length, ⊎_elim, subst, sym, ap, ◌∙◌, refl, arith, mod-lt, div-add-mod'}
 use Rattle.std.specs.Prelude.{◌≢◌, slice_get, slice_index, slice_index_or, if◌then◌else◌}
 use Rattle.std.specs.Str.{bytes_eq}
 use Rattle.std.proofs.lemmas.Option.{get_or_from_slice_get}
@@ -9,7 +9,7 @@ use Rattle.sd_base.specs.declared.tables.GraphFile.{GraphFile}
 use Rattle.sd_base.specs.declared.tables.ScenarioFile.{ScenarioFile}
 use Rattle.sd_base.specs.declared.tables.ScenarioRow.{ScenarioRow}
 use Rattle.sd_base.specs.declared.tables.SharedRow.{SharedRow}
-use Rattle.sd_base.specs.Net.{Channel, channel_at, file_channel, nowhere}
+use Rattle.sd_base.specs.Net.{Channel, Net, channel_at, file_channel, nowhere}
 use Rattle.storage.specs.Distributions.{AtMost, IsDistribution, capacity_at}
 use Rattle.storage.specs.Steps.{rounded, rounded_at, step_of}
 use Rattle.storage.proofs.ChannelSteps.{AreWhole}
@@ -17,7 +17,7 @@ use Rattle.storage.proofs.Corners.{rounded-entry, rounded-most}
 use Rattle.token_matrix.specs.EntryWays.{CarriesStamps}
 use Rattle.token_matrix.specs.Stamps.{first_of, no_row}
 use Rattle.token_matrix.specs.Ways.{IsWay}
-use Rattle.token_matrix.proofs.Numbering.{RowsDiffer, later_differ, one_head}
+use Rattle.token_matrix.proofs.Numbering.{RowsDiffer, later_differ}
 use Rattle.bounded_scenarios.specs.BoundedFiles.{bounded_graph, space_name, space_row, space_shares}
 use Rattle.bounded_scenarios.specs.Boundings.{AreFileNames}
 use Rattle.bounded_scenarios.specs.SharedChannels.{channel_named, shared_channel, shared_channels, shared_channels_from}
@@ -41,11 +41,13 @@ plain-step : (ss : List ScenarioRow) (p : ℕ) (rows : List SharedRow) (name : L
 plain-step ss p [] name plain = refl
 plain-step ss p (row ∷ rows) name plain = at (bytes_eq (space_name row.name) name) refl (plain-step ss (suc p) rows name plain)
   where
-    at : (b : Bool) → bytes_eq (space_name row.name) name ≡ b → step_named ss (suc p) rows name ≡ 1 → (if bytes_eq (space_name row.name) name then step_of (shared_channel ss p row) else step_named ss (suc p) rows name) ≡ 1
+    at : (b : Bool) → bytes_eq (space_name row.name) name ≡ b → step_named ss (suc p) rows name ≡ 1 →
+        (if bytes_eq (space_name row.name) name then step_of (shared_channel ss p row) else step_named ss (suc p) rows name) ≡ 1
     at true same rest = absurd (plain row.name (sym ((bytes_eq-Decides (space_name row.name) name).0 same)))
     at false other rest = rw other rest
 
-space-step : (ss : List ScenarioRow) (p : ℕ) (rows : List SharedRow) (t : ℕ) (row : SharedRow) → RowsDiffer rows → slice_get rows t ≡ Some row → step_named ss p rows (space_name row.name) ≡ step_of (shared_channel ss (p + t) row)
+space-step : (ss : List ScenarioRow) (p : ℕ) (rows : List SharedRow) (t : ℕ) (row : SharedRow) → RowsDiffer rows → slice_get rows t ≡ Some row →
+    step_named ss p rows (space_name row.name) ≡ step_of (shared_channel ss (p + t) row)
 space-step ss p [] t row differ at = absurd (cc)
 space-step ss p (r ∷ rest) zero row differ at =
     let is : r ≡ row = cc in
@@ -76,12 +78,14 @@ shared-at ss p (r ∷ rest) (suc t) row at =
     (omega (arith, next.0), next.1 ∙ ap (λ (n : ℕ). shared_channel ss n row) places)
 
 -- the capacity to which one is rounded down
-pub rounded-is : (ss : List ScenarioRow) (rows : List SharedRow) (ds : List (Option ℕ)) (t k l : ℕ) (row : SharedRow) → slice_get rows t ≡ Some row → slice_get (rounded (shared_channels_from ss 0 rows) ds) t ≡ Some (Some k) → slice_get ds t ≡ Some (Some l) →
+pub rounded-is : (ss : List ScenarioRow) (rows : List SharedRow) (ds : List (Option ℕ)) (t k l : ℕ) (row : SharedRow) → slice_get rows t ≡ Some row →
+    slice_get (rounded (shared_channels_from ss 0 rows) ds) t ≡ Some (Some k) → slice_get ds t ≡ Some (Some l) →
     k ≡ rounded_at (shared_channel ss t row) l
 rounded-is ss rows ds t k l row at low high =
     let there = shared-at ss 0 rows t row at in
     let has : capacity_at ds t ≡ Some l = get_or_from_slice_get ds t (Some l) None high in
-    let entry : capacity_at (rounded (shared_channels_from ss 0 rows) ds) t ≡ Some (rounded_at (slice_index_or (shared_channels_from ss 0 rows) t nowhere) l) = rounded-entry (shared_channels_from ss 0 rows) ds t l there.0 has in
+    let entry : capacity_at (rounded (shared_channels_from ss 0 rows) ds) t ≡ Some (rounded_at (slice_index_or (shared_channels_from ss 0 rows) t nowhere) l) = rounded-entry
+    (shared_channels_from ss 0 rows) ds t l there.0 has in
     let low_is : capacity_at (rounded (shared_channels_from ss 0 rows) ds) t ≡ Some k = get_or_from_slice_get (rounded (shared_channels_from ss 0 rows) ds) t (Some k) None low in
     let h : ◌≡◌ {A = Option ℕ} (Some k) (Some (rounded_at (slice_index_or (shared_channels_from ss 0 rows) t nowhere) l)) = sym low_is ∙ entry in
     let same : k ≡ rounded_at (slice_index_or (shared_channels_from ss 0 rows) t nowhere) l = cc in
@@ -129,28 +133,54 @@ space-sparing c s k fits =
       tokens = (let f : k - c.tokens ≡ (rounded_at s k - c.tokens) + ((k - c.tokens) - (rounded_at s k - c.tokens)) = omega arith in f);
     }
 
-module _ (file : ScenarioFile) (ds : List (Option ℕ)) (g : GraphFile) (gamma : List ℕ) (is : IsDistribution (shared_channels file) ds) (names : AreFileNames g.channels) (differ : RowsDiffer file.shared)
+module _ (file : ScenarioFile) (ds : List (Option ℕ)) (g : GraphFile) (gamma : List ℕ) (is : IsDistribution (shared_channels file) ds) (names : AreFileNames g.channels)
+    (differ : RowsDiffer file.shared)
     (named : (t : ℕ) (row : SharedRow) → slice_get file.shared t ≡ Some row → (channel_named g.channels row.name).name ≡ row.name)
     (fits : (t : ℕ) (row : SharedRow) → slice_get file.shared t ≡ Some row → FitsShared (channel_named g.channels row.name) (shared_channel file.scenarios t row))
     (low : CarriesStamps (file.shared ++ space_shares file.shared (rounded (shared_channels file) ds)) (bounded_graph file.shared (rounded (shared_channels file) ds) g) gamma)
     (high : CarriesStamps (file.shared ++ space_shares file.shared ds) (bounded_graph file.shared ds g) gamma) where
-  most : AtMost (rounded (shared_channels file) ds) ds
+  -- what the distribution is rounded down to
+  abbrev floored : List (Option ℕ)
+  floored = rounded (shared_channels file) ds
+
+  abbrev low_shared : List SharedRow
+  low_shared = file.shared ++ space_shares file.shared floored
+
+  abbrev high_shared : List SharedRow
+  high_shared = file.shared ++ space_shares file.shared ds
+
+  abbrev low_graph : GraphFile
+  low_graph = bounded_graph file.shared floored g
+
+  abbrev high_graph : GraphFile
+  high_graph = bounded_graph file.shared ds g
+
+  abbrev low_net : Net
+  low_net = bounded_net file.shared floored g gamma
+
+  abbrev high_net : Net
+  high_net = bounded_net file.shared ds g gamma
+
+  abbrev moved : List ℕ → ℕ → ℕ
+  moved = spared_named file.scenarios file.shared low_shared high_shared
+
+  most : AtMost floored ds
   most = rounded-most (shared_channels file) ds is
 
   name_of : ℕ → List ℕ
-  name_of i = (slice_index_or (bounded_graph file.shared (rounded (shared_channels file) ds) g).channels i no_row).name
+  name_of i = (slice_index_or low_graph.channels i no_row).name
 
   pub step : ℕ → ℕ
   step i = step_named file.scenarios 0 file.shared (name_of i)
 
   pub spare : ℕ → ℕ
-  spare i = (channel_at (bounded_net file.shared ds g gamma) i).tokens - (channel_at (bounded_net file.shared (rounded (shared_channels file) ds) g gamma) i).tokens
+  spare i = (channel_at high_net i).tokens - (channel_at low_net i).tokens
 
-  name-is : (i : ℕ) (c : ChannelRow) → slice_get (bounded_graph file.shared (rounded (shared_channels file) ds) g).channels i ≡ Some c → step i ≡ step_named file.scenarios 0 file.shared c.name
+  name-is : (i : ℕ) (c : ChannelRow) → slice_get low_graph.channels i ≡ Some c → step i ≡ step_named file.scenarios 0 file.shared c.name
   unfolding step name_of
-  name-is i c at = ap (λ (x : ChannelRow). step_named file.scenarios 0 file.shared x.name) (get_or_from_slice_get (bounded_graph file.shared (rounded (shared_channels file) ds) g).channels i c no_row at)
+  name-is i c at = ap (λ (x : ChannelRow). step_named file.scenarios 0 file.shared x.name) (get_or_from_slice_get low_graph.channels i c no_row at)
 
-  sparing : (i : ℕ) (both : BothAt g file.shared (rounded (shared_channels file) ds) ds i) → IsSparing both.c both.d (step i)
+  sparing : (i : ℕ) (both : BothAt g file.shared floored ds i) → IsSparing both.c both.d (step i)
   sparing i both = subst (IsSparing both.c both.d) (sym (name-is i both.c both.first)) (⊎_elim at_file at_space both.what)
     where
       at_file : (slice_get g.channels i ≡ Some both.c) × (both.d ≡ both.c) → IsSparing both.c both.d (step_named file.scenarios 0 file.shared both.c.name)
@@ -158,74 +188,79 @@ module _ (file : ScenarioFile) (ds : List (Option ℕ)) (g : GraphFile) (gamma :
           let one : step_named file.scenarios 0 file.shared both.c.name ≡ 1 = plain-step file.scenarios 0 file.shared both.c.name (λ other. names i both.c other here) in
           subst (IsSparing both.c both.d) (sym one) (subst (λ (x : ChannelRow). IsSparing both.c x 1) (sym same) (same-sparing both.c))
 
-      at_space : IsSpaceOfBoth g file.shared (rounded (shared_channels file) ds) ds i both.c both.d → IsSparing both.c both.d (step_named file.scenarios 0 file.shared both.c.name)
+      at_space : IsSpaceOfBoth g file.shared floored ds i both.c both.d → IsSparing both.c both.d (step_named file.scenarios 0 file.shared both.c.name)
       at_space space =
           let name : both.c.name ≡ space_name space.row.name = ap (λ (x : ChannelRow). x.name) space.first ∙ ap space_name (named space.place space.row space.at) in
           let step_is : step_named file.scenarios 0 file.shared both.c.name ≡ step_of (shared_channel file.scenarios space.place space.row) =
-            ap (step_named file.scenarios 0 file.shared) name ∙ (space-step file.scenarios 0 file.shared space.place space.row differ space.at ∙ ap (λ (n : ℕ). step_of (shared_channel file.scenarios n space.row)) (let e : 0 + space.place ≡ space.place = omega arith in e)) in
-          let room : space.low ≡ rounded_at (shared_channel file.scenarios space.place space.row) space.high = rounded-is file.scenarios file.shared ds space.place space.low space.high space.row space.at space.low_at space.high_at in
-          let first : both.c ≡ space_row (channel_named g.channels space.row.name) (rounded_at (shared_channel file.scenarios space.place space.row) space.high) = space.first ∙ ap (space_row (channel_named g.channels space.row.name)) room in
+          ap (step_named file.scenarios 0 file.shared) name
+          ∙ (space-step file.scenarios 0 file.shared space.place space.row differ space.at
+          ∙ ap (λ (n : ℕ). step_of (shared_channel file.scenarios n space.row)) (let e : 0 + space.place ≡ space.place = omega arith in e)) in
+          let room : space.low ≡ rounded_at (shared_channel file.scenarios space.place space.row) space.high =
+          rounded-is file.scenarios file.shared ds space.place space.low space.high space.row space.at space.low_at space.high_at in
+          let first : both.c ≡ space_row (channel_named g.channels space.row.name) (rounded_at (shared_channel file.scenarios space.place space.row) space.high) = space.first
+          ∙ ap (space_row (channel_named g.channels space.row.name)) room in
           subst (IsSparing both.c both.d) (sym step_is) (subst (λ (x : ChannelRow). IsSparing x both.d (step_of (shared_channel file.scenarios space.place space.row))) (sym first)
-            (subst (λ (x : ChannelRow). IsSparing (space_row (channel_named g.channels space.row.name) (rounded_at (shared_channel file.scenarios space.place space.row) space.high)) x (step_of (shared_channel file.scenarios space.place space.row))) (sym space.second)
-            (space-sparing (channel_named g.channels space.row.name) (shared_channel file.scenarios space.place space.row) space.high (fits space.place space.row space.at))))
+          (subst (λ (x : ChannelRow). IsSparing (space_row (channel_named g.channels space.row.name) (rounded_at (shared_channel file.scenarios space.place space.row) space.high)) x
+          (step_of (shared_channel file.scenarios space.place space.row))) (sym space.second)
+          (space-sparing (channel_named g.channels space.row.name) (shared_channel file.scenarios space.place space.row) space.high (fits space.place space.row space.at))))
 
-  one-at : (i : ℕ) → i < length (bounded_net file.shared (rounded (shared_channels file) ds) g gamma).channels → BothAt g file.shared (rounded (shared_channels file) ds) ds i
-  one-at i below = both-at g gamma file.shared (rounded (shared_channels file) ds) ds most low.kind low.rules high.rules i below
+  one-at : (i : ℕ) → i < length low_net.channels → BothAt g file.shared floored ds i
+  one-at i below = both-at g gamma file.shared floored ds most low.kind low.rules high.rules i below
 
-  low-at : (i : ℕ) (both : BothAt g file.shared (rounded (shared_channels file) ds) ds i) → channel_at (bounded_net file.shared (rounded (shared_channels file) ds) g gamma) i ≡ file_channel i both.c
-  low-at i both = low-is g gamma file.shared (rounded (shared_channels file) ds) ds most low.kind low.rules high.rules i both
+  low-at : (i : ℕ) (both : BothAt g file.shared floored ds i) → channel_at low_net i ≡ file_channel i both.c
+  low-at i both = low-is g gamma file.shared floored ds most low.kind low.rules high.rules i both
 
-  high-at : (i : ℕ) (both : BothAt g file.shared (rounded (shared_channels file) ds) ds i) → channel_at (bounded_net file.shared ds g gamma) i ≡ file_channel i both.d
-  high-at i both = high-is g gamma file.shared (rounded (shared_channels file) ds) ds most low.kind low.rules high.rules i both
+  high-at : (i : ℕ) (both : BothAt g file.shared floored ds i) → channel_at high_net i ≡ file_channel i both.d
+  high-at i both = high-is g gamma file.shared floored ds most low.kind low.rules high.rules i both
 
-  spare-is : (i : ℕ) (both : BothAt g file.shared (rounded (shared_channels file) ds) ds i) → spare i ≡ both.d.tokens - both.c.tokens
+  spare-is : (i : ℕ) (both : BothAt g file.shared floored ds i) → spare i ≡ both.d.tokens - both.c.tokens
   unfolding spare
   spare-is i both =
-      let one : (channel_at (bounded_net file.shared (rounded (shared_channels file) ds) g gamma) i).tokens ≡ both.c.tokens = ap (λ (x : Channel). x.tokens) (low-at i both) in
-      let two : (channel_at (bounded_net file.shared ds g gamma) i).tokens ≡ both.d.tokens = ap (λ (x : Channel). x.tokens) (high-at i both) in
+      let one : (channel_at low_net i).tokens ≡ both.c.tokens = ap (λ (x : Channel). x.tokens) (low-at i both) in
+      let two : (channel_at high_net i).tokens ≡ both.d.tokens = ap (λ (x : Channel). x.tokens) (high-at i both) in
       omega (arith, one, two)
 
-  pub has-spare : HasSpare (bounded_net file.shared (rounded (shared_channels file) ds) g gamma) (bounded_net file.shared ds g gamma) step spare
+  pub has-spare : HasSpare low_net high_net step spare
   has-spare = record {
-    same = same-nets g gamma file.shared (rounded (shared_channels file) ds) ds most low.kind low.rules high.rules;
+    same = same-nets g gamma file.shared floored ds most low.kind low.rules high.rules;
     some = λ i below. (sparing i (one-at i below)).some;
     small = λ i below. (let both = one-at i below in let one = spare-is i both in let two = (sparing i both).small in omega (arith, one, two));
     made = λ i below. (let both = one-at i below in subst (λ (x : Channel). AreWhole (step i) x.made) (sym (low-at i both)) (sparing i both).made);
     taken = λ i below. (let both = one-at i below in subst (λ (x : Channel). AreWhole (step i) x.taken) (sym (low-at i both)) (sparing i both).taken);
     whole = λ i below. (let both = one-at i below in subst (λ (x : Channel). (u : ℕ) × (x.tokens ≡ u * step i)) (sym (low-at i both)) (sparing i both).whole);
     tokens = λ i below. (
-      let both = one-at i below in
-      let one : (channel_at (bounded_net file.shared (rounded (shared_channels file) ds) g gamma) i).tokens ≡ both.c.tokens = ap (λ (x : Channel). x.tokens) (low-at i both) in
-      let two : (channel_at (bounded_net file.shared ds g gamma) i).tokens ≡ both.d.tokens = ap (λ (x : Channel). x.tokens) (high-at i both) in
-      let three = spare-is i both in
-      let four = (sparing i both).tokens in
-      omega (arith, one, two, three, four));
+        let both = one-at i below in
+        let one : (channel_at low_net i).tokens ≡ both.c.tokens = ap (λ (x : Channel). x.tokens) (low-at i both) in
+        let two : (channel_at high_net i).tokens ≡ both.d.tokens = ap (λ (x : Channel). x.tokens) (high-at i both) in
+        let three = spare-is i both in
+        let four = (sparing i both).tokens in
+        omega (arith, one, two, three, four));
   }
 
-  agree : (i m : ℕ) (c : ChannelRow) → slice_get (bounded_graph file.shared (rounded (shared_channels file) ds) g).channels i ≡ Some c →
-      spared_named file.scenarios file.shared (file.shared ++ space_shares file.shared (rounded (shared_channels file) ds)) (file.shared ++ space_shares file.shared ds) c.name m ≡ spared step spare i m
+  agree : (i m : ℕ) (c : ChannelRow) → slice_get low_graph.channels i ≡ Some c →
+      moved c.name m ≡ spared step spare i m
   agree i m c at =
-      let both = both-rows g file.shared (rounded (shared_channels file) ds) ds most i c at in
+      let both = both-rows g file.shared floored ds most i c at in
       let same : both.c ≡ c = (let h : ◌≡◌ {A = Option ChannelRow} (Some both.c) (Some c) = sym both.first ∙ at in (cc)) in
-      let name : both.d.name ≡ c.name = (same-ends g file.shared (rounded (shared_channels file) ds) ds i both).name ∙ ap (λ (x : ChannelRow). x.name) same in
-      let one : tokens_named (file.shared ++ space_shares file.shared (rounded (shared_channels file) ds)) c.name ≡ c.tokens = tokens-named (file.shared ++ space_shares file.shared (rounded (shared_channels file) ds)) (bounded_graph file.shared (rounded (shared_channels file) ds) g) low.shares i c at in
-      let two : tokens_named (file.shared ++ space_shares file.shared ds) c.name ≡ both.d.tokens = ap (tokens_named (file.shared ++ space_shares file.shared ds)) (sym name) ∙ tokens-named (file.shared ++ space_shares file.shared ds) (bounded_graph file.shared ds g) high.shares i both.d both.second in
+      let name : both.d.name ≡ c.name = (same-ends g file.shared floored ds i both).name ∙ ap (λ (x : ChannelRow). x.name) same in
+      let one : tokens_named low_shared c.name ≡ c.tokens = tokens-named low_shared low_graph low.shares i c at in
+      let two : tokens_named high_shared c.name ≡ both.d.tokens = ap (tokens_named high_shared) (sym name) ∙ tokens-named high_shared high_graph high.shares i both.d both.second in
       let three : both.c.tokens ≡ c.tokens = ap (λ (x : ChannelRow). x.tokens) same in
       let four = spare-is i both in
-      let left : tokens_named (file.shared ++ space_shares file.shared ds) c.name - tokens_named (file.shared ++ space_shares file.shared (rounded (shared_channels file) ds)) c.name ≡ spare i = omega (arith, one, two, three, four) in
+      let left : tokens_named high_shared c.name - tokens_named low_shared c.name ≡ spare i = omega (arith, one, two, three, four) in
       let steps : step_named file.scenarios 0 file.shared c.name ≡ step i = sym (name-is i c at) in
-      ap (λ (n : ℕ). m / n * n + (tokens_named (file.shared ++ space_shares file.shared ds) c.name - tokens_named (file.shared ++ space_shares file.shared (rounded (shared_channels file) ds)) c.name)) steps
+      ap (λ (n : ℕ). m / n * n + (tokens_named high_shared c.name - tokens_named low_shared c.name)) steps
       ∙ ap (λ (n : ℕ). m / step i * step i + n) left
 
   -- each way of what the distribution is rounded down to is one of it
-  pub way-spared : (cs : List ℕ) (p q e : ℕ) → IsWay (bounded_net file.shared (rounded (shared_channels file) ds) g gamma) (first_of (file.shared ++ space_shares file.shared (rounded (shared_channels file) ds)) (bounded_graph file.shared (rounded (shared_channels file) ds) g)) p q e cs →
-      IsWay (bounded_net file.shared ds g gamma) (first_of (file.shared ++ space_shares file.shared ds) (bounded_graph file.shared ds g))
-      (renumbered (file.shared ++ space_shares file.shared (rounded (shared_channels file) ds)) (file.shared ++ space_shares file.shared ds) (spared_named file.scenarios file.shared (file.shared ++ space_shares file.shared (rounded (shared_channels file) ds)) (file.shared ++ space_shares file.shared ds)) p)
-      (renumbered (file.shared ++ space_shares file.shared (rounded (shared_channels file) ds)) (file.shared ++ space_shares file.shared ds) (spared_named file.scenarios file.shared (file.shared ++ space_shares file.shared (rounded (shared_channels file) ds)) (file.shared ++ space_shares file.shared ds)) q) e cs
+  pub way-spared : (cs : List ℕ) (p q e : ℕ) → IsWay low_net (first_of low_shared low_graph) p q e cs →
+      IsWay high_net (first_of high_shared high_graph)
+      (renumbered low_shared high_shared moved p)
+      (renumbered low_shared high_shared moved q) e cs
   way-spared cs p q e way =
-      way-stands (file.shared ++ space_shares file.shared (rounded (shared_channels file) ds)) (file.shared ++ space_shares file.shared ds) (bounded_graph file.shared (rounded (shared_channels file) ds) g) (bounded_graph file.shared ds g) gamma low.rules low.kind low.shares
-      (alike file (rounded (shared_channels file) ds) ds g gamma most low high)
-      (spared_named file.scenarios file.shared (file.shared ++ space_shares file.shared (rounded (shared_channels file) ds)) (file.shared ++ space_shares file.shared ds)) (spared step spare) agree p q e cs
-      (spare-maps (bounded_net file.shared (rounded (shared_channels file) ds) g gamma) (bounded_net file.shared ds g gamma) step spare has-spare cs)
-      (λ i k below number. spare-left (bounded_net file.shared (rounded (shared_channels file) ds) g gamma) (bounded_net file.shared ds g gamma) step spare has-spare (first_of (file.shared ++ space_shares file.shared ds) (bounded_graph file.shared ds g))
-        (renumbered (file.shared ++ space_shares file.shared (rounded (shared_channels file) ds)) (file.shared ++ space_shares file.shared ds) (spared_named file.scenarios file.shared (file.shared ++ space_shares file.shared (rounded (shared_channels file) ds)) (file.shared ++ space_shares file.shared ds)) q) i k below number) way
+      way-stands low_shared high_shared low_graph high_graph gamma low.rules low.kind low.shares
+      (alike file floored ds g gamma most low high)
+      moved (spared step spare) agree p q e cs
+      (spare-maps low_net high_net step spare has-spare cs)
+      (λ i k below number. spare-left low_net high_net step spare has-spare (first_of high_shared high_graph)
+      (renumbered low_shared high_shared moved q) i k below number) way

@@ -27,7 +27,8 @@ named-there (r ∷ rest) t row differ at = step (bytes_eq r.name row.name) refl 
     tail zero there other = let e : r ≡ row = cc in let same : bytes_eq r.name row.name ≡ true = (bytes_eq-Decides r.name row.name).1 (ap (λ (x : SharedRow). x.name) e) in absurd (cc)
     tail (suc s) there other = (s, there)
 
-    step : (b : Bool) → bytes_eq r.name row.name ≡ b → ((s : ℕ) → slice_get rest s ≡ Some row → tokens_named rest row.name ≡ row.tokens) → (if bytes_eq r.name row.name then r.tokens else tokens_named rest row.name) ≡ row.tokens
+    step : (b : Bool) → bytes_eq r.name row.name ≡ b → ((s : ℕ) → slice_get rest s ≡ Some row → tokens_named rest row.name ≡ row.tokens) →
+        (if bytes_eq r.name row.name then r.tokens else tokens_named rest row.name) ≡ row.tokens
     step true same next = rw same (ap (λ (x : SharedRow). x.tokens) (head t at (one_head r row rest t differ at ((bytes_eq-Decides r.name row.name).0 same))))
     step false other next = let later = tail t at other in rw other (next later.0 later.1)
 

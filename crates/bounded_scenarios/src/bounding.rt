@@ -66,7 +66,13 @@ fn bounded_graph(
     ensures { IfOk result (λ bounded. bounded ≡ bounded_graph shared.now rooms.now graph.now) }
 {
     let mut channels = copy_channels(alloc, graph.channels.as_slice())?;
-    add_spaces(alloc, &mut channels, graph.channels.as_slice(), shared, rooms)?;
+    add_spaces(
+        alloc,
+        &mut channels,
+        graph.channels.as_slice(),
+        shared,
+        rooms,
+    )?;
     Ok(GraphFile {
         kind: graph.kind,
         actors: copy_actors(alloc, graph.actors.as_slice())?,

@@ -75,7 +75,10 @@ impl Joint {
         ensures some { 1 ≤ result }
         ensures small { result ≤ RATE }
     {
-        gcd(divisor_of(self.made.as_slice()), divisor_of(self.taken.as_slice()))
+        gcd(
+            divisor_of(self.made.as_slice()),
+            divisor_of(self.taken.as_slice()),
+        )
     }
 
     /// The greatest of all the rates.

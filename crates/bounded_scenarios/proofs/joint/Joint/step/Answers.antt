@@ -1,8 +1,7 @@
-use Rattle.std.proofs.Common.{◌≡◌, ◌∙◌, arith, subst, ℕ, List}
+use Rattle.std.proofs.Common.{arith, subst, ℕ, List}
 use Rattle.std.specs.Prelude.{◌↔◌, slice_index}
 use Rattle.std.specs.Int.{◌∣◌}
 use Rattle.sd_base.specs.declared.limits.TheConstants.{RATE}
-use Rattle.storage.specs.Steps.{step_of}
 use Rattle.storage.proofs.ChannelSteps.{some-step, step-is, step-small}
 use Rattle.bounded_scenarios.specs.inside.Joints.{joint_channel}
 use Rattle.bounded_scenarios.proofs.joint.Joint.step.Goals as goal
