@@ -17,4 +17,5 @@ mod PointTasks
 mod Summaries
 mod Throughs
 mod Measured
+mod Boundable
 mod TimedFiles

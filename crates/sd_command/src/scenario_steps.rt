@@ -4,6 +4,7 @@ ghost use Rattle.sd_base.specs.FileNet.{net_of};
 ghost use Rattle.balance.specs.Repetition.{IsRound};
 ghost use Rattle.automaton.specs.TimedGraphs.{AreSized, IsTimedGraph};
 ghost use Rattle.scenario_rate.specs.Graphs.{IsSound};
+ghost use Rattle.escapes.specs.EscapedNames.{escaped_name};
 ghost use Rattle.report.specs.LinkTexts.{IsNamed};
 ghost use Rattle.sd_command.specs.Nets.{IsFed};
 ghost use Rattle.sd_base.specs.Scenarios.{FileKeepsRules, ScenarioKeepsRules, Shares, shared_count};
@@ -11,7 +12,7 @@ ghost use Rattle.sd_base.specs.Tables.{IsTimed, KeepsRules};
 ghost use Rattle.sd_base.specs.Untimed.{IsBlockedBy};
 ghost use Rattle.sd_command.specs.Nets.{IsDeadlocked};
 ghost use Rattle.sd_command.specs.ScenarioSteps.{linking, making_matrix, measuring, measuring_graph, measuring_one, of_scenario, reading_scenarios, timing};
-ghost use Rattle.sd_command.specs.inside.Going.{Does};
+ghost use Rattle.sd_command.specs.inside.Going.{Does, IsStopOf};
 
 use crate::balancing::balanced;
 use crate::nets::feed;
@@ -65,11 +66,20 @@ fn measure_one(alloc: Global, shared: &[SharedRow], scenario: &ScenarioRow) -> R
 {
     match measure_graph(alloc, shared, &scenario.graph) {
         Ok(matrix) => Ok(matrix),
-        Err(Stop::Refused(refusal)) => {
-            let name = escaped(alloc, scenario.name.as_str())?;
-            Err(Stop::Refused(of_scenario(name, refusal)))
-        }
-        Err(Stop::OutOfMemory) => Err(Stop::OutOfMemory),
+        Err(stop) => Err(stop_of(alloc, scenario, stop)),
+    }
+}
+
+/// A stop of a scenario's graph, as that of the scenario: a refusal names it.
+pub(crate) fn stop_of(alloc: Global, scenario: &ScenarioRow, stop: Stop) -> Stop
+    ensures { IsStopOf (escaped_name scenario.now.name) stop result }
+{
+    match stop {
+        Stop::Refused(refusal) => match escaped(alloc, scenario.name.as_str()) {
+            Ok(name) => Stop::Refused(of_scenario(name, refusal)),
+            Err(_) => Stop::OutOfMemory,
+        },
+        Stop::OutOfMemory => Stop::OutOfMemory,
     }
 }
 
