@@ -1,0 +1,13 @@
+//! Scenario files whose shared channels have capacities, and the laws on which a search for the trade-off of storage against
+//! the worst rate rests.
+#![tactic(auto)]
+
+mod bounding;
+mod copies;
+mod joint;
+pub mod laws;
+mod naming;
+mod shared_channel;
+
+pub use bounding::bounded_file;
+pub use shared_channel::{Corner, channel_steps, corner_of};

@@ -1,0 +1,10 @@
+pub mod PutterRanges
+pub mod Longest
+pub mod Arrivals
+pub mod ColumnSteps
+pub mod WaySteps
+pub mod LastSteps
+pub mod Marks
+pub mod SameNumbers
+pub mod Apartness
+pub mod GraphChains

@@ -1,0 +1,2 @@
+pub mod WayMarks
+pub mod inside

@@ -1,0 +1,247 @@
+//! How long after one shared token each firing of a round starts at the least.
+ghost use Rattle.std.specs.Prelude.{◌≡◌, ◌+◌, ◌*◌, ◌≤◌, ◌<◌, ◌↔◌, ◌^◌, ◌⊎◌, ℕ, [], None, Some, IfOk, IsTrue, OnOk, length, slice_index, slice_index_or, take};
+ghost use Rattle.sd_base.specs.declared.limits.TheConstants.{ROUND, TIME};
+ghost use Rattle.sd_base.specs.Net.{channel_at};
+ghost use Rattle.sd_base.specs.Schedules.{time_of};
+ghost use Rattle.sd_base.specs.Untimed.{IsRoundOrder, counts_after, none_fired};
+ghost use Rattle.entry_ways.specs.inside.Columns.{ArePutters, AreSmall, AreUpTo, HasStart, IsAmong, IsColumn, IsTraceable, IsEndIn, IsFedBy, IsLink, IsLinkInto, IsLongest, later, later_by, start_in};
+
+use crate::chains::Chains;
+use firing::{Firing, know_laws, know_wiring};
+use sd_base::{NoMemory, Rows};
+use std::alloc::Global;
+use std::cmp::max;
+
+/// The firings of a channel's source that put the tokens of a firing of its target, from the first to one past the last,
+/// and whether the shared token is among those that it takes.
+#[derive(Clone, Copy, Debug)]
+pub(crate) struct Putters {
+    pub(crate) has_token: bool,
+    pub(crate) first: u64,
+    pub(crate) end: u64,
+}
+
+/// By actor and firing the greatest time of a chain of firings from a shared token to its start; none where no chain leads
+/// to it. Cost: the firings of a round, times the channels of the actors fired, and a step for each firing of which a
+/// firing takes tokens.
+pub(crate) fn column_of<F: Firing>(
+    alloc: Global,
+    chains: &Chains<F>,
+    order: &[u32],
+) -> Result<Vec<Rows<Option<u128>>>, NoMemory>
+    requires chains { IsTraceable (F.net chains.now.net.now) chains.now.wiring.now chains.now.firsts.now }
+    requires order { IsRoundOrder (F.net chains.now.net.now) order.now }
+    ensures column { IfOk result (λ rows. IsColumn (F.net chains.now.net.now) (slice_index chains.now.firsts.now) chains.now.token (slice_index (F.net chains.now.net.now).round) rows.items) }
+    ensures small { IfOk result (λ rows. AreSmall rows.items) }
+{
+    let mut rows = free_rows(alloc, chains.net)?;
+    for place in 0..order.len() {
+        add_start(chains, order, place, &mut rows)?;
+    }
+    Ok(rows)
+}
+
+/// No starts of each actor.
+fn free_rows<F: Firing>(alloc: Global, net: &F) -> Result<Vec<Rows<Option<u128>>>, NoMemory>
+    ensures long { IfOk result (λ rows. length rows.items ≡ length (F.net net.now).times) }
+    ensures empty { IfOk result (λ rows. (a : ℕ) → slice_index_or rows.items a [] ≡ []) }
+{
+    let mut rows = Vec::with_capacity(alloc, net.actors() as usize)?;
+    for _actor in 0..net.actors() {
+        rows.push(Rows::new(alloc))?;
+    }
+    Ok(rows)
+}
+
+/// Adds the start of the firing at a place of an order.
+fn add_start<F: Firing>(
+    chains: &Chains<F>,
+    order: &[u32],
+    place: usize,
+    rows: &mut Vec<Rows<Option<u128>>>,
+) -> Result<(), NoMemory>
+    requires chains { IsTraceable (F.net chains.now.net.now) chains.now.wiring.now chains.now.firsts.now }
+    requires order { IsRoundOrder (F.net chains.now.net.now) order.now }
+    requires within { place < length order.now }
+    requires column { IsColumn (F.net chains.now.net.now) (slice_index chains.now.firsts.now) chains.now.token (counts_after none_fired (take place order.now)) rows.old.items }
+    requires small { AreUpTo (TIME * place) rows.old.items }
+    ensures column { OnOk result (IsColumn (F.net chains.now.net.now) (slice_index chains.now.firsts.now) chains.now.token (counts_after none_fired (take (place + 1) order.now)) rows.new.items) }
+    ensures small { OnOk result (AreUpTo (TIME * (place + 1)) rows.new.items) }
+{
+    know_laws(chains.net);
+    let actor = order[place];
+    let firing = rows[actor as usize].len() as u64;
+    let start = start_of(chains, rows.as_slice(), actor, firing);
+    push_start(rows, actor, start)
+}
+
+/// Puts a start last among those of an actor.
+fn push_start(
+    rows: &mut Vec<Rows<Option<u128>>>,
+    actor: u32,
+    start: Option<u128>,
+) -> Result<(), NoMemory>
+    requires { actor < length rows.old.items }
+    ensures { OnOk result (HasStart actor start rows.old.items rows.new.items) }
+{
+    rows[actor as usize].push(start)?;
+    Ok(())
+}
+
+/// The start of a firing of an actor, of which the earlier ones have theirs.
+fn start_of<F: Firing>(
+    chains: &Chains<F>,
+    rows: &[Rows<Option<u128>>],
+    actor: u32,
+    firing: u64,
+) -> Option<u128>
+    requires chains { IsTraceable (F.net chains.now.net.now) chains.now.wiring.now chains.now.firsts.now }
+    requires actor { actor < length (F.net chains.now.net.now).times }
+    requires long { length rows.now ≡ length (F.net chains.now.net.now).times }
+    requires few { firing ≤ ROUND }
+    requires fed { (i : ℕ) → i < length (F.net chains.now.net.now).channels → (channel_at (F.net chains.now.net.now) i).target ≡ actor → IsFedBy (F.net chains.now.net.now) rows.now i firing }
+    requires small { AreSmall rows.now }
+    ensures { IsLongest (IsLinkInto (F.net chains.now.net.now) (slice_index chains.now.firsts.now) chains.now.token rows.now actor firing) result }
+{
+    know_laws(chains.net);
+    know_wiring(chains.net, chains.wiring);
+    let mut start = None;
+    for channel in chains.wiring.inputs_of(actor) {
+        start = later(start, arrival(chains, rows, *channel, firing));
+    }
+    start
+}
+
+/// When the tokens that a firing takes from a channel are all there.
+fn arrival<F: Firing>(
+    chains: &Chains<F>,
+    rows: &[Rows<Option<u128>>],
+    channel: u32,
+    firing: u64,
+) -> Option<u128>
+    requires chains { IsTraceable (F.net chains.now.net.now) chains.now.wiring.now chains.now.firsts.now }
+    requires channel { channel < length (F.net chains.now.net.now).channels }
+    requires long { length rows.now ≡ length (F.net chains.now.net.now).times }
+    requires few { firing ≤ ROUND }
+    requires fed { IsFedBy (F.net chains.now.net.now) rows.now channel firing }
+    requires small { AreSmall rows.now }
+    ensures { IsLongest (IsLink (F.net chains.now.net.now) (slice_index chains.now.firsts.now) chains.now.token rows.now channel firing) result }
+{
+    know_laws(chains.net);
+    let putters = putters_of(chains, channel, firing);
+    let end = latest_end(chains, rows, channel, putters.first, putters.end);
+    if putters.has_token {
+        later(Some(0), end)
+    } else {
+        end
+    }
+}
+
+/// The latest end of firings of a channel's source, from a first to one past the last.
+fn latest_end<F: Firing>(
+    chains: &Chains<F>,
+    rows: &[Rows<Option<u128>>],
+    channel: u32,
+    first: u64,
+    end: u64,
+) -> Option<u128>
+    requires chains { IsTraceable (F.net chains.now.net.now) chains.now.wiring.now chains.now.firsts.now }
+    requires channel { channel < length (F.net chains.now.net.now).channels }
+    requires long { length rows.now ≡ length (F.net chains.now.net.now).times }
+    requires there { (k : ℕ) → first ≤ k → k < end → k < length (slice_index_or rows.now (channel_at (F.net chains.now.net.now) channel).source []) }
+    requires small { AreSmall rows.now }
+    ensures { IsLongest (IsEndIn (F.net chains.now.net.now) rows.now channel first end) result }
+{
+    let mut latest = None;
+    for putter in first..end {
+        latest = later(latest, end_of(chains, rows, channel, putter));
+    }
+    latest
+}
+
+/// The end of a firing of a channel's source.
+fn end_of<F: Firing>(
+    chains: &Chains<F>,
+    rows: &[Rows<Option<u128>>],
+    channel: u32,
+    putter: u64,
+) -> Option<u128>
+    requires chains { IsTraceable (F.net chains.now.net.now) chains.now.wiring.now chains.now.firsts.now }
+    requires channel { channel < length (F.net chains.now.net.now).channels }
+    requires long { length rows.now ≡ length (F.net chains.now.net.now).times }
+    requires there { putter < length (slice_index_or rows.now (channel_at (F.net chains.now.net.now) channel).source []) }
+    requires small { AreSmall rows.now }
+    ensures { result ≡ later_by (time_of (F.net chains.now.net.now) (channel_at (F.net chains.now.net.now) channel).source putter) (start_in rows.now (channel_at (F.net chains.now.net.now) channel).source putter) }
+{
+    know_laws(chains.net);
+    let source = chains.net.source(channel);
+    match start_at(rows, source, putter) {
+        Some(start) => Some(start + u128::from(chains.net.time(source, 0))),
+        None => None,
+    }
+}
+
+/// The start of a firing of an actor, if a chain leads to it.
+pub(crate) fn start_at(rows: &[Rows<Option<u128>>], actor: u32, firing: u64) -> Option<u128>
+    requires actor { actor < length rows.now }
+    requires firing { firing < length (slice_index_or rows.now actor []) }
+    ensures { result ≡ start_in rows.now actor firing }
+{
+    rows[actor as usize].as_slice()[firing as usize]
+}
+
+/// Which firings put the tokens that a firing takes from a channel.
+pub(crate) fn putters_of<F: Firing>(chains: &Chains<F>, channel: u32, firing: u64) -> Putters
+    requires chains { IsTraceable (F.net chains.now.net.now) chains.now.wiring.now chains.now.firsts.now }
+    requires channel { channel < length (F.net chains.now.net.now).channels }
+    requires few { firing ≤ ROUND }
+    ensures { ArePutters (F.net chains.now.net.now) (slice_index chains.now.firsts.now) chains.now.token channel firing result.has_token result.first result.end }
+{
+    know_laws(chains.net);
+    let tokens = chains.net.tokens(channel);
+    let made = chains.net.made(channel, 0);
+    let taken = chains.net.taken(channel, 0);
+    let from = firing * taken;
+    let end = from + taken;
+    let first = chains.firsts.as_slice()[channel as usize];
+    let has_token = is_among(first, chains.token, from, end, tokens);
+    if end <= tokens {
+        return Putters {
+            has_token,
+            first: 0,
+            end: 0,
+        };
+    }
+    Putters {
+        has_token,
+        first: (first_put(from, tokens) - tokens) / made,
+        end: (end - 1 - tokens) / made + 1,
+    }
+}
+
+/// The first token from a number on that isn't there before the round.
+fn first_put(from: u64, tokens: u64) -> u64
+    ensures above { tokens ≤ result }
+    ensures low { from ≤ result }
+    ensures which { (result ≡ from) ⊎ (result ≡ tokens) }
+{
+    if from < tokens { tokens } else { from }
+}
+
+/// Whether the shared token is one of those that are there and taken.
+fn is_among(first: u64, token: u64, from: u64, end: u64, tokens: u64) -> bool
+    ensures { IsTrue result ↔ IsAmong first token from end tokens }
+{
+    first <= token && from <= token - first && token - first < end && token - first < tokens
+}
+
+/// The later of two starts.
+fn later(first: Option<u128>, second: Option<u128>) -> Option<u128>
+    ensures { result ≡ later first second }
+{
+    match (first, second) {
+        (None, other) => other,
+        (Some(start), None) => Some(start),
+        (Some(start), Some(other)) => Some(max(start, other)),
+    }
+}

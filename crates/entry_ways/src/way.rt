@@ -1,0 +1,102 @@
+//! A way of an entry of a scenario's matrix.
+ghost use Rattle.std.specs.Prelude.{◌≡◌, ◌≤◌, ◌<◌, ◌↔◌, ℕ, List, IsTrue, length, slice_index};
+ghost use Rattle.sd_base.specs.declared.limits.TheConstants.{ROUND};
+ghost use Rattle.sd_base.specs.Net.{channel_at};
+ghost use Rattle.token_matrix.specs.Stamps.{IsPutBy, left_token};
+ghost use Rattle.token_matrix.specs.Ways.{IsWay};
+ghost use Rattle.entry_ways.specs.WayMarks.{IsLongestWay};
+ghost use Rattle.entry_ways.specs.inside.Columns.{AreSmall, IsColumn, IsTraceable};
+ghost use Rattle.entry_ways.specs.inside.Traces.{AreApart, AreMarked, IsOnChannel};
+
+use crate::chains::Chains;
+use crate::column::start_at;
+use crate::links::mark_chain;
+use firing::{Firing, know_laws};
+use sd_base::Rows;
+
+/// Marks the channels from which tokens are taken on one way from the shared token of a column to the one that is left as
+/// another shared token. Cost: that of `mark_chain`, and linear in the channels.
+pub(crate) fn mark_way<F: Firing>(
+    chains: &Chains<F>,
+    rows: &[Rows<Option<u128>>],
+    left: u64,
+    marks: &mut [bool],
+)
+    requires chains { IsTraceable (F.net chains.now.net.now) chains.now.wiring.now chains.now.firsts.now }
+    requires column { IsColumn (F.net chains.now.net.now) (slice_index chains.now.firsts.now) chains.now.token (slice_index (F.net chains.now.net.now).round) rows.now }
+    requires small { AreSmall rows.now }
+    requires apart { AreApart (F.net chains.now.net.now) (slice_index chains.now.firsts.now) }
+    requires way { (e : ℕ) × (cs : List ℕ) × IsWay (F.net chains.now.net.now) (slice_index chains.now.firsts.now) chains.now.token left e cs }
+    requires wide { length (F.net chains.now.net.now).channels ≤ length marks.old }
+    ensures { (cs : List ℕ) × IsLongestWay (F.net chains.now.net.now) (slice_index chains.now.firsts.now) chains.now.token left cs × AreMarked cs marks.old marks.new }
+{
+    know_laws(chains.net);
+    let channel = channel_of(chains, left);
+    let place = left - chains.firsts.as_slice()[channel as usize];
+    let last = left_token(chains, channel, place);
+    if last < chains.net.tokens(channel) {
+        return;
+    }
+    let actor = chains.net.source(channel);
+    let putter = putter_of(chains, channel, last);
+    match start_at(rows, actor, putter) {
+        Some(start) => mark_chain(chains, rows, actor, putter, start, marks),
+        None => unreachable!(),
+    }
+}
+
+/// The channel of which a shared token is one.
+fn channel_of<F: Firing>(chains: &Chains<F>, token: u64) -> u32
+    requires chains { IsTraceable (F.net chains.now.net.now) chains.now.wiring.now chains.now.firsts.now }
+    requires there { (i : ℕ) × IsOnChannel (F.net chains.now.net.now) (slice_index chains.now.firsts.now) token i }
+    ensures { IsOnChannel (F.net chains.now.net.now) (slice_index chains.now.firsts.now) token result }
+{
+    for channel in 0..chains.net.channels() {
+        if is_on(chains, token, channel) {
+            return channel;
+        }
+    }
+    unreachable!()
+}
+
+/// Whether a shared token is one of a channel.
+fn is_on<F: Firing>(chains: &Chains<F>, token: u64, channel: u32) -> bool
+    requires chains { IsTraceable (F.net chains.now.net.now) chains.now.wiring.now chains.now.firsts.now }
+    requires channel { channel < length (F.net chains.now.net.now).channels }
+    ensures { IsTrue result ↔ IsOnChannel (F.net chains.now.net.now) (slice_index chains.now.firsts.now) token channel }
+{
+    let first = chains.firsts.as_slice()[channel as usize];
+    first <= token && token - first < chains.net.tokens(channel)
+}
+
+/// The token of a channel that is left in a place after a round.
+fn left_token<F: Firing>(chains: &Chains<F>, channel: u32, place: u64) -> u64
+    requires chains { IsTraceable (F.net chains.now.net.now) chains.now.wiring.now chains.now.firsts.now }
+    requires channel { channel < length (F.net chains.now.net.now).channels }
+    requires place { place < (channel_at (F.net chains.now.net.now) channel).tokens }
+    ensures { result ≡ left_token (F.net chains.now.net.now) channel place }
+{
+    know_laws(chains.net);
+    chains.net.taken(channel, 0) * round_of(chains.net, chains.net.target(channel)) + place
+}
+
+/// The firings of an actor in a round.
+fn round_of<F: Firing>(net: &F, actor: u32) -> u64
+    requires { actor < length (F.net net.now).times }
+    ensures is { result ≡ slice_index (F.net net.now).round actor }
+    ensures small { result ≤ ROUND }
+{
+    know_laws(net);
+    net.round(actor)
+}
+
+/// The firing that puts a token on a channel.
+fn putter_of<F: Firing>(chains: &Chains<F>, channel: u32, token: u64) -> u64
+    requires chains { IsTraceable (F.net chains.now.net.now) chains.now.wiring.now chains.now.firsts.now }
+    requires channel { channel < length (F.net chains.now.net.now).channels }
+    requires late { (channel_at (F.net chains.now.net.now) channel).tokens ≤ token }
+    ensures { IsPutBy (channel_at (F.net chains.now.net.now) channel) token result }
+{
+    know_laws(chains.net);
+    (token - chains.net.tokens(channel)) / chains.net.made(channel, 0)
+}

@@ -1,0 +1,2 @@
+pub mod ScenarioPoints
+pub mod inside

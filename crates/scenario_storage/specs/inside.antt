@@ -1,0 +1,4 @@
+pub mod Errors
+pub mod Points
+pub mod Levels
+pub mod Searches

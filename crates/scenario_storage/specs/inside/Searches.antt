@@ -1,0 +1,135 @@
+-- Where a search for points stands: the distributions that were rated, those that are being rated, and those that wait.
+use Rattle.std.specs.Prelude.{◌≡◌, ℕ, ◌+◌, ◌-◌, ◌*◌, ◌≤◌, ◌<◌, ◌⊎◌, All, Contains, Option, List, [], ◌∷◌, length, map}
+use Rattle.sd_base.specs.declared.numbers.Fraction.{Fraction}
+use Rattle.sd_base.specs.declared.tables.ScenarioFile.{ScenarioFile}
+use Rattle.storage.specs.Distributions.{IsDistribution, storage_of}
+use Rattle.storage.specs.Steps.{IsCorner, IsOnGrid}
+use Rattle.storage.specs.CapacityOrder.{no_later}
+use Rattle.storage.specs.ClosedLists.{Entry}
+use Rattle.storage.specs.StorageOrder.{IsBefore}
+use Rattle.levels.specs.declared.found.Level.{Level}
+use Rattle.levels.specs.Visits.{AreVisits, Visit, led_by}
+use Rattle.levels.specs.Frontiers.{IsFrontier, distributions_of}
+use Rattle.bounded_scenarios.specs.SharedChannels.{shared_channels}
+use Rattle.bounded_scenarios.specs.StorageRates.{HasWorstRate}
+use Rattle.bounded_scenarios.specs.ScenarioGuides.{IsReachable}
+use Rattle.scenario_storage.specs.declared.level.Answered.{Answered}
+use Rattle.scenario_storage.specs.declared.point.ScenarioLimits.{ScenarioLimits}
+use Rattle.scenario_storage.specs.declared.point.ScenarioPoint.{ScenarioPoint}
+use Rattle.scenario_storage.specs.declared.rated.Rated.{Rated}
+use Rattle.scenario_storage.specs.declared.search.Search.{Search}
+use Rattle.scenario_storage.specs.ScenarioPoints.{IsShownBy}
+use Rattle.scenario_storage.specs.inside.Levels.{BoundsRates, IsAnswer, IsGuided, IsRated}
+use Rattle.scenario_storage.specs.inside.Points.{AreRising}
+
+-- a distribution on the grid and within the limit that can be reached
+pub record IsCandidate (file : ScenarioFile) (limit : ℕ) (ds : List (Option ℕ)) : Type 0 where
+  pub distribution : IsDistribution (shared_channels file) ds
+  pub grid : IsOnGrid (shared_channels file) ds
+  pub within : storage_of (shared_channels file) ds ≤ limit
+  pub reachable : IsReachable file limit ds
+
+-- a distribution that was rated, as an entry of a closed list
+abbrev pub entry_of : List (Option ℕ) → Rated → Entry
+entry_of ds r = record { capacities = ds; shown = r.enlarge; num = r.rate.num; den = r.rate.den }
+
+-- an entry is a candidate with its worst rate, and the channels that it shows are in its guide and bound the rate
+pub record IsNoted (file : ScenarioFile) (limit : ℕ) (e : Entry) : Type 0 where
+  pub candidate : IsCandidate file limit e.capacities
+  pub rate : HasWorstRate file e.capacities e.num e.den
+  pub positive : 1 ≤ e.den
+  pub guided : (c : ℕ) → Contains e.shown c → IsGuided file e.capacities c
+  pub bounds : BoundsRates file limit e.capacities e.shown e.num e.den
+
+-- a point has no more storage and no less rate than an entry and, where both are equal, no later capacities
+pub record Covers (file : ScenarioFile) (p : ScenarioPoint) (e : Entry) : Type 0 where
+  pub storage : p.total ≤ storage_of (shared_channels file) e.capacities
+  pub rate : e.num * p.rate.den ≤ p.rate.num * e.den
+  pub tie : p.total ≡ storage_of (shared_channels file) e.capacities → e.num * p.rate.den ≡ p.rate.num * e.den → no_later p.capacities.capacities e.capacities ≡ true
+
+-- some point covers an entry
+abbrev pub IsCoveredBy : ScenarioFile → List ScenarioPoint → Entry → Type 0
+IsCoveredBy file ps e = (p : ScenarioPoint) × Contains ps p × Covers file p e
+
+-- a point has the distribution, the storage and the rate of an entry, which is above 0, and the rate is shown
+pub record IsPointFor (file : ScenarioFile) (e : Entry) (p : ScenarioPoint) : Type 0 where
+  pub capacities : e.capacities ≡ p.capacities.capacities
+  pub num : e.num ≡ p.rate.num
+  pub den : e.den ≡ p.rate.den
+  pub total : p.total ≡ storage_of (shared_channels file) e.capacities
+  pub runs : 1 ≤ p.rate.num
+  pub shown : IsShownBy file p.capacities.capacities p.rate p.shared p.graph p.worst
+
+-- it is so with some entry
+abbrev pub IsPointOf : ScenarioFile → List Entry → ScenarioPoint → Type 0
+IsPointOf file es p = (e : Entry) × Contains es e × IsPointFor file e p
+
+-- the points rise; each is that of an entry, and each entry with a rate above 0 is covered
+pub record AreKnown (file : ScenarioFile) (limit : ℕ) (es : List Entry) (ps : List ScenarioPoint) : Type 0 where
+  pub noted : (e : Entry) → Contains es e → IsNoted file limit e
+  pub rising : AreRising ps
+  pub among : (p : ScenarioPoint) → Contains ps p → IsPointOf file es p
+  pub covers : (e : Entry) → Contains es e → 1 ≤ e.num → IsCoveredBy file ps e
+
+-- the visits that entries are
+abbrev pub visits_of : List Entry → List Visit
+visits_of es = map (λ (e : Entry). led_by e.capacities e.shown) es
+
+-- where a search stands that has these distributions taken off, and whose levels before the floor are taken in: from the
+-- corner it has made the visits that its entries are
+pub record IsSearch (file : ScenarioFile) (limits : ScenarioLimits) (floor : ℕ) (taken : List (List (Option ℕ))) (s : Search) : Type 0 where
+  pub entries : List Entry
+  pub known : AreKnown file limits.total entries s.points.items
+  pub corner : List (Option ℕ)
+  pub is_corner : IsCorner (shared_channels file) corner
+  pub bounds : s.levels.bounds ≡ record { total = limits.total; distributions = limits.distributions }
+  pub frontier : IsFrontier (shared_channels file) corner floor (visits_of entries) taken s.levels
+
+-- where a search stands between two levels
+abbrev pub IsStanding : ScenarioFile → ScenarioLimits → Search → Type 0
+IsStanding file limits s = (floor : ℕ) × IsSearch file limits floor [] s
+
+-- a search is to take in this level, which was taken off those that waited
+pub record IsTurn (file : ScenarioFile) (limits : ScenarioLimits) (level : Level Unit) (s : Search) : Type 0 where
+  pub search : IsSearch file limits (level.total + 1) (distributions_of level.visits.items) s
+  pub totals : All (λ f. storage_of (shared_channels file) f.capacities.capacities ≡ level.total) level.visits.items
+  pub before : (p : ScenarioPoint) → Contains s.points.items p → p.total < level.total
+  pub candidates : All (λ f. IsCandidate file limits.total f.capacities.capacities) level.visits.items
+
+-- the entries are all visits from the corner within the limit
+pub record IsEnded (file : ScenarioFile) (limits : ScenarioLimits) (ps : List ScenarioPoint) : Type 0 where
+  pub entries : List Entry
+  pub known : AreKnown file limits.total entries ps
+  pub corner : List (Option ℕ)
+  pub is_corner : IsCorner (shared_channels file) corner
+  pub visits : AreVisits (shared_channels file) corner limits.total (visits_of entries)
+
+-- the distributions of answers
+abbrev pub answered_of : List Answered → List (List (Option ℕ))
+answered_of answers = map (λ (a : Answered). a.capacities.capacities) answers
+
+-- an answer of a distribution of the level with this storage, given the best rate of less
+pub record IsAnswerOf (file : ScenarioFile) (limits : ScenarioLimits) (total : ℕ) (best : Fraction) (a : Answered) : Type 0 where
+  pub answer : IsAnswer file limits best a.capacities.capacities a.answer
+  pub storage : storage_of (shared_channels file) a.capacities.capacities ≡ total
+
+-- the best rate is that of a point of less storage, or 0
+abbrev pub IsBest : Fraction → ℕ → List ScenarioPoint → Type 0
+IsBest best total ps = (best.num ≡ 0) ⊎ ((p : ScenarioPoint) × Contains ps p × (p.rate ≡ best) × (p.total < total))
+
+-- what was rated of a distribution of this storage is to be taken in after these entries
+pub record IsOffered (file : ScenarioFile) (limit : ℕ) (es : List Entry) (best : Fraction) (total : ℕ) (ds : List (Option ℕ)) (r : Rated) (ps : List ScenarioPoint) : Type 0 where
+  pub known : AreKnown file limit es ps
+  pub rated : IsRated file limit best ds r
+  pub candidate : IsCandidate file limit ds
+  pub storage : storage_of (shared_channels file) ds ≡ total
+  pub after : (x : Entry) → Contains es x → IsBefore (shared_channels file) x.capacities ds
+  pub fastest : IsBest best total ps
+
+-- points of less storage stay
+abbrev pub KeepsEarlier : ℕ → List ScenarioPoint → List ScenarioPoint → Type 0
+KeepsEarlier total old new = (p : ScenarioPoint) → Contains old p → p.total < total → Contains new p
+
+-- the distributions that a search has taken off
+abbrev pub taken_off : Search → ℕ
+taken_off s = s.levels.found - length s.levels.waiting.keys

@@ -1,0 +1,85 @@
+//! How the distributions of a level are evaluated.
+ghost use Rattle.std.specs.Prelude.{◌≡◌, ◌≤◌, [], All, IfOk, map, reverse, vec_capacity, vec_len};
+ghost use Rattle.scenario_storage.specs.inside.Levels.{IsAnswer, IsAnswered, IsFresh, IsPlan, IsWithin};
+
+use crate::plan::Plan;
+use crate::rated::{RateError, Rated};
+use crate::task::Task;
+use fanout::{Gate, all};
+use levels::{Found, Level};
+use sd_base::{Fraction, NoMemory};
+use std::thread::Threads;
+use storage::Distribution;
+
+/// A distribution, and what is kept of its evaluation.
+#[derive(Drop)]
+pub(crate) struct Answered {
+    pub(crate) capacities: Distribution,
+    pub(crate) answer: Result<Rated, RateError>,
+}
+
+/// Evaluates the distributions of a level side by side, given the best rate of less storage, and answers in their order.
+pub(crate) fn run_level<R: Threads + Sync, G: Gate + Sync>(
+    rt: &R,
+    plan: &Plan,
+    best: Fraction,
+    level: Level<()>,
+    gate: &G,
+) -> Result<Vec<Answered>, NoMemory>
+    requires plan { IsPlan plan.now.file.now plan.now.gammas.now plan.now.limits }
+    requires fits { All (λ f. IsWithin plan.now.file.now plan.now.limits.total f.capacities.capacities) level.visits.items }
+    ensures answers { IfOk result (λ v. All (λ a. IsAnswer plan.now.file.now plan.now.limits best a.capacities.capacities a.answer) v.items) }
+    ensures order { IfOk result (λ v. map (λ a. a.capacities) v.items ≡ map (λ f. f.capacities) level.visits.items) }
+{
+    let Level { total, visits } = level;
+    let mut answers = Vec::with_capacity(plan.alloc, visits.len())?;
+    let mut tasks = Vec::with_capacity(plan.alloc, visits.len())?;
+    fill(plan, best, visits, &mut tasks);
+    all(rt, total, tasks.as_mut_slice(), gate);
+    tasks.reverse();
+    drain(plan, best, tasks, &mut answers);
+    Ok(answers)
+}
+
+/// Makes a task of each distribution.
+fn fill<'a>(plan: &'a Plan<'a>, best: Fraction, visits: Vec<Found<()>>, tasks: &mut Vec<Task<'a>>)
+    requires fits { All (λ f. IsWithin plan.now.file.now plan.now.limits.total f.capacities.capacities) visits.items }
+    requires empty { tasks.old.items ≡ [] }
+    requires room { vec_len visits ≤ vec_capacity tasks.old }
+    ensures fresh { All (λ t. IsFresh plan.now.file.now plan.now.gammas.now plan.now.limits best t.plan.now.file.now t.plan.now.gammas.now t.plan.now.limits t.best t.capacities) tasks.new.items }
+    ensures order { map (λ t. t.capacities) tasks.new.items ≡ map (λ f. f.capacities) visits.items }
+    ensures many { vec_len tasks.new ≡ vec_len visits }
+{
+    for found in visits {
+        tasks.push_reserved(Task {
+            plan,
+            capacities: found.into_capacities(),
+            best,
+            answer: None,
+        });
+    }
+}
+
+/// Takes the tasks apart, the last one first.
+fn drain(plan: &Plan, best: Fraction, tasks: Vec<Task<'_>>, answers: &mut Vec<Answered>)
+    requires done { All (λ t. IsAnswered plan.now.file.now plan.now.limits best t.capacities.capacities t.answer) tasks.items }
+    requires empty { answers.old.items ≡ [] }
+    requires room { vec_len tasks ≤ vec_capacity answers.old }
+    ensures answers { All (λ a. IsAnswer plan.now.file.now plan.now.limits best a.capacities.capacities a.answer) answers.new.items }
+    ensures order { map (λ a. a.capacities) answers.new.items ≡ reverse (map (λ t. t.capacities) tasks.entry.items) }
+{
+    let mut tasks = tasks;
+    for _task in 0..tasks.len() {
+        let Task {
+            plan: _,
+            capacities,
+            best: _,
+            answer,
+        } = tasks.take_last();
+        match answer {
+            Some(answer) => answers.push_reserved(Answered { capacities, answer }),
+            None => unreachable!(),
+        }
+    }
+    tasks.destroy_empty();
+}

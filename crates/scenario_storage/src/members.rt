@@ -1,0 +1,135 @@
+//! How the answers of a level are taken in.
+ghost use Rattle.std.specs.Prelude.{◌≡◌, ◌+◌, [], ◌∷◌, ℕ, All, IfErr, List, OnOk, Option};
+ghost use Rattle.sd_base.specs.declared.numbers.Fraction.{Fraction as AFraction};
+ghost use Rattle.sd_base.specs.declared.tables.ScenarioFile.{ScenarioFile as AFile};
+ghost use Rattle.storage.specs.Distributions.{storage_of};
+ghost use Rattle.bounded_scenarios.specs.SharedChannels.{shared_channels};
+ghost use Rattle.bounded_scenarios.specs.ScenarioGuides.{IsReachable};
+ghost use Rattle.scenario_storage.specs.declared.point.ScenarioLimits.{ScenarioLimits as SomeLimits};
+ghost use Rattle.scenario_storage.specs.ScenarioPoints.{IsRefusal};
+ghost use Rattle.scenario_storage.specs.inside.Levels.{IsPlan, IsRateRefusal, IsRated};
+ghost use Rattle.scenario_storage.specs.inside.Searches.{AreKnown, IsAnswerOf, IsBest, IsSearch, answered_of, entry_of};
+
+use crate::error::ScenarioStorageError;
+use crate::level::Answered;
+use crate::plan::Plan;
+use crate::point::ScenarioPoint;
+use crate::rated::{Evidence, RateError, Rated};
+use crate::rising::take_point;
+use crate::search::Search;
+use sd_base::{Fraction, NoMemory};
+use storage::Distribution;
+
+/// Takes in the answers of a level, one after another.
+pub(crate) fn take_in_all(
+    plan: &Plan,
+    total: u64,
+    answers: Vec<Answered>,
+    search: &mut Search,
+) -> Result<(), ScenarioStorageError>
+    requires plan { IsPlan plan.now.file.now plan.now.gammas.now plan.now.limits }
+    requires answers { (best : AFraction) × IsBest best total search.old.points.items × All (IsAnswerOf plan.now.file.now plan.now.limits total best) answers.items }
+    requires search { IsSearch plan.now.file.now plan.now.limits (total + 1) (answered_of answers.items) search.old }
+    ensures search { OnOk result (IsSearch plan.now.file.now plan.now.limits (total + 1) [] search.new) }
+    ensures refused { IfErr result (IsRefusal plan.now.file.now plan.now.limits) }
+{
+    for answered in answers {
+        take_answer(plan, total, answered, search)?;
+    }
+    Ok(())
+}
+
+/// Takes in one answer.
+fn take_answer(
+    plan: &Plan,
+    total: u64,
+    answered: Answered,
+    search: &mut Search,
+) -> Result<(), ScenarioStorageError>
+    requires plan { IsPlan plan.now.file.now plan.now.gammas.now plan.now.limits }
+    requires answer { (best : AFraction) × IsBest best total search.old.points.items × IsAnswerOf plan.now.file.now plan.now.limits total best answered }
+    requires search { (rest : List (List (Option ℕ))) × IsSearch plan.now.file.now plan.now.limits (total + 1) (answered.capacities.capacities ∷ rest) search.old }
+    ensures search { OnOk result ((rest : List (List (Option ℕ))) → IsSearch plan.now.file.now plan.now.limits (total + 1) (answered.capacities.capacities ∷ rest) search.old →
+        IsSearch plan.now.file.now plan.now.limits (total + 1) rest search.new) }
+    ensures best { OnOk result ((best : AFraction) → IsBest best total search.old.points.items → IsBest best total search.new.points.items) }
+    ensures refused { IfErr result (IsRefusal plan.now.file.now plan.now.limits) }
+{
+    let Answered { capacities, answer } = answered;
+    match answer {
+        Ok(rated) => {
+            take_in(plan, total, capacities, rated, search)?;
+            Ok(())
+        }
+        Err(error) => Err(refusal(error, capacities)),
+    }
+}
+
+/// Why a distribution ends the search.
+fn refusal(error: RateError, at: Distribution) -> ScenarioStorageError
+    ensures { (file : AFile) (limits : SomeLimits) → IsReachable file limits.total at.capacities → IsRateRefusal file at.capacities error → IsRefusal file limits result }
+{
+    match error {
+        RateError::Edges => ScenarioStorageError::Edges { at },
+        RateError::NoMemory => ScenarioStorageError::NoMemory,
+    }
+}
+
+/// Takes in a distribution that was rated: those to which it leads on wait, and its point is taken in, if it has one.
+fn take_in(
+    plan: &Plan,
+    total: u64,
+    capacities: Distribution,
+    rated: Rated,
+    search: &mut Search,
+) -> Result<(), ScenarioStorageError>
+    requires plan { IsPlan plan.now.file.now plan.now.gammas.now plan.now.limits }
+    requires rated { (best : AFraction) × IsBest best total search.old.points.items × IsRated plan.now.file.now plan.now.limits.total best capacities.capacities rated }
+    requires total { storage_of (shared_channels plan.now.file.now) capacities.capacities ≡ total }
+    requires search { (rest : List (List (Option ℕ))) × IsSearch plan.now.file.now plan.now.limits (total + 1) (capacities.capacities ∷ rest) search.old }
+    ensures search { OnOk result ((rest : List (List (Option ℕ))) → IsSearch plan.now.file.now plan.now.limits (total + 1) (capacities.capacities ∷ rest) search.old →
+        IsSearch plan.now.file.now plan.now.limits (total + 1) rest search.new) }
+    ensures best { OnOk result ((best : AFraction) → IsBest best total search.old.points.items → IsBest best total search.new.points.items) }
+    ensures refused { IfErr result (IsRefusal plan.now.file.now plan.now.limits) }
+{
+    let enlarge = rated.enlarge.as_slice();
+    search.levels.lead_on(plan.alloc, &capacities, total, enlarge, ())?;
+    offer(total, capacities, rated, &mut search.points)?;
+    Ok(())
+}
+
+/// Takes in the point of a distribution, if its evidence was kept.
+fn offer(
+    total: u64,
+    capacities: Distribution,
+    rated: Rated,
+    points: &mut Vec<ScenarioPoint>,
+) -> Result<(), NoMemory>
+{
+    let Rated {
+        rate,
+        enlarge: _,
+        evidence,
+    } = rated;
+    match evidence {
+        Some(evidence) => take_point(point_of(total, rate, capacities, evidence), points),
+        None => Ok(()),
+    }
+}
+
+/// A point with its evidence.
+fn point_of(total: u64, rate: Fraction, capacities: Distribution, evidence: Evidence) -> ScenarioPoint
+{
+    let Evidence {
+        shared,
+        graph,
+        worst,
+    } = evidence;
+    ScenarioPoint {
+        total,
+        rate,
+        capacities,
+        shared,
+        graph,
+        worst,
+    }
+}

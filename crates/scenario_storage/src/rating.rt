@@ -1,0 +1,172 @@
+//! The worst rate of a distribution.
+ghost use Rattle.std.specs.Prelude.{◌≡◌, ◌<◌, ◌≤◌, Contains, IfErr, IfOk, OnErr, length};
+ghost use Rattle.bounded_scenarios.specs.BoundedFiles.{bounded_file};
+ghost use Rattle.bounded_scenarios.specs.Boundings.{CanBeMeasured};
+ghost use Rattle.scenario_storage.specs.declared.rated.RateError.TheVariants.{NoMemory as no_memory};
+ghost use Rattle.scenario_storage.specs.ScenarioPoints.{HasTooManyEdges};
+ghost use Rattle.scenario_storage.specs.inside.Levels.{IsAnswer, IsPlan, IsRateRefusal, IsRated, IsWithin};
+ghost use Rattle.scenario_storage.specs.inside.Ratings.{AreAllMatrices, AreTimed, IsBlockedAt, IsGraphOf, IsMeasured, IsMatrixAnswer};
+
+use crate::plan::Plan;
+use crate::rated::{Evidence, RateError, Rated, if_above};
+use crate::shown::{shown_by_counts, shown_by_cycle};
+use automaton::{GraphError, TimedGraph, product};
+use bounded_scenarios::bounded_file;
+use scenario_rate::{files_are_sound, files_grow, worst};
+use sd_base::{Fraction, NoMemory, Rows, ScenarioFile};
+use storage::Distribution;
+use token_matrix::{Matrix, MatrixError, matrix_of};
+
+/// What the scenarios of a bounded file come to.
+#[derive(Debug, Drop)]
+pub(crate) enum Measured {
+    /// The first scenario that can't complete its round, with its ending counts.
+    Blocked { scenario: usize, counts: Rows<u64> },
+    Live { matrices: Vec<Matrix> },
+}
+
+/// The worst rate of a distribution, given the best rate of less storage. Cost: that of `matrix_of` for each scenario, of
+/// `product`, of `worst`, and of one way for each edge of the critical cycle.
+pub(crate) fn rate(
+    plan: &Plan,
+    capacities: &Distribution,
+    best: Fraction,
+) -> Result<Rated, RateError>
+    requires plan { IsPlan plan.now.file.now plan.now.gammas.now plan.now.limits }
+    requires fits { IsWithin plan.now.file.now plan.now.limits.total capacities.now.capacities }
+    ensures { IsAnswer plan.now.file.now plan.now.limits best capacities.now.capacities result }
+{
+    let bounded = bounded_file(plan.alloc, plan.file, capacities)?;
+    match measured(plan, capacities, &bounded)? {
+        Measured::Blocked { scenario, counts } => {
+            rate_blocked(plan, capacities, &bounded, scenario, counts.as_slice())
+        },
+        Measured::Live { matrices } => {
+            rate_live(plan, capacities, best, bounded, matrices.as_slice())
+        },
+    }
+}
+
+/// The matrices of the scenarios, or the first that is blocked.
+fn measured(
+    plan: &Plan,
+    capacities: &Distribution,
+    bounded: &ScenarioFile,
+) -> Result<Measured, NoMemory>
+    requires plan { IsPlan plan.now.file.now plan.now.gammas.now plan.now.limits }
+    requires fits { IsWithin plan.now.file.now plan.now.limits.total capacities.now.capacities }
+    requires bounded { bounded.now ≡ bounded_file plan.now.file.now capacities.now.capacities }
+    ensures { IfOk result (IsMeasured plan.now.file.now plan.now.gammas.now capacities.now.capacities) }
+{
+    let mut matrices = Vec::with_capacity(plan.alloc, bounded.scenarios.len())?;
+    for scenario in 0..bounded.scenarios.len() {
+        match matrix_at(plan, capacities, bounded, scenario) {
+            Ok(matrix) => matrices.push(matrix)?,
+            Err(MatrixError::Blocked { counts, lacks: _ }) => {
+                return Ok(Measured::Blocked { scenario, counts });
+            },
+            Err(MatrixError::NoMemory) => return Err(NoMemory),
+            Err(MatrixError::Limit) => unreachable!(),
+        }
+    }
+    Ok(Measured::Live { matrices })
+}
+
+/// The matrix of a scenario of a bounded file; its limit isn't passed.
+fn matrix_at(
+    plan: &Plan,
+    capacities: &Distribution,
+    bounded: &ScenarioFile,
+    scenario: usize,
+) -> Result<Matrix, MatrixError>
+    requires plan { IsPlan plan.now.file.now plan.now.gammas.now plan.now.limits }
+    requires fits { IsWithin plan.now.file.now plan.now.limits.total capacities.now.capacities }
+    requires bounded { bounded.now ≡ bounded_file plan.now.file.now capacities.now.capacities }
+    requires scenario { scenario < length plan.now.file.now.scenarios }
+    ensures { IsMatrixAnswer plan.now.file.now plan.now.gammas.now capacities.now.capacities scenario result }
+{
+    let row = &bounded.scenarios.as_slice()[scenario];
+    let gamma = plan.gammas.as_slice()[scenario].as_slice();
+    matrix_of(plan.alloc, &row.graph, gamma, bounded.shared.as_slice())
+}
+
+/// The rate 0 of a distribution of which a scenario can't complete its round.
+fn rate_blocked(
+    plan: &Plan,
+    capacities: &Distribution,
+    bounded: &ScenarioFile,
+    scenario: usize,
+    counts: &[u64],
+) -> Result<Rated, RateError>
+    requires plan { IsPlan plan.now.file.now plan.now.gammas.now plan.now.limits }
+    requires fits { IsWithin plan.now.file.now plan.now.limits.total capacities.now.capacities }
+    requires bounded { bounded.now ≡ bounded_file plan.now.file.now capacities.now.capacities }
+    requires blocked { IsBlockedAt plan.now.file.now plan.now.gammas.now capacities.now.capacities scenario counts.now }
+    ensures rated { (best : AFraction) → IsAnswer plan.now.file.now plan.now.limits best capacities.now.capacities result }
+{
+    let enlarge = shown_by_counts(plan, capacities, bounded, scenario, counts)?;
+    Ok(Rated {
+        rate: Fraction::new(0, 1),
+        enlarge,
+        evidence: None,
+    })
+}
+
+/// The rate of a distribution of which each scenario can complete its round.
+fn rate_live(
+    plan: &Plan,
+    capacities: &Distribution,
+    best: Fraction,
+    bounded: ScenarioFile,
+    matrices: &[Matrix],
+) -> Result<Rated, RateError>
+    requires plan { IsPlan plan.now.file.now plan.now.gammas.now plan.now.limits }
+    requires fits { IsWithin plan.now.file.now plan.now.limits.total capacities.now.capacities }
+    requires bounded { bounded ≡ bounded_file plan.now.file.now capacities.now.capacities }
+    requires live { AreAllMatrices plan.now.file.now capacities.now.capacities matrices.now }
+    ensures { IsAnswer plan.now.file.now plan.now.limits best capacities.now.capacities result }
+{
+    let graph = timed_graph(plan, capacities, &bounded, matrices)?;
+    files_grow();
+    files_are_sound();
+    let worst = worst(plan.alloc, &graph)?;
+    let enlarge = shown_by_cycle(plan, capacities, &bounded, &graph, worst.cycle.as_slice())?;
+    let rate = worst.rate;
+    let ScenarioFile {
+        scenarios: _,
+        shared,
+        states: _,
+        initial: _,
+    } = bounded;
+    let evidence = Evidence {
+        shared,
+        graph,
+        worst,
+    };
+    Ok(Rated {
+        rate,
+        enlarge,
+        evidence: if_above(evidence, rate, best),
+    })
+}
+
+/// The timed graph of a bounded file.
+fn timed_graph(
+    plan: &Plan,
+    capacities: &Distribution,
+    bounded: &ScenarioFile,
+    matrices: &[Matrix],
+) -> Result<TimedGraph, RateError>
+    requires plan { IsPlan plan.now.file.now plan.now.gammas.now plan.now.limits }
+    requires fits { IsWithin plan.now.file.now plan.now.limits.total capacities.now.capacities }
+    requires bounded { bounded.now ≡ bounded_file plan.now.file.now capacities.now.capacities }
+    requires live { AreAllMatrices plan.now.file.now capacities.now.capacities matrices.now }
+    ensures graph { IfOk result (IsGraphOf plan.now.file.now capacities.now.capacities) }
+    ensures refused { IfErr result (IsRateRefusal plan.now.file.now capacities.now.capacities) }
+{
+    match product(plan.alloc, bounded, matrices) {
+        Ok(graph) => Ok(graph),
+        Err(GraphError::Limit) => Err(RateError::Edges),
+        Err(GraphError::NoMemory) => Err(RateError::NoMemory),
+    }
+}

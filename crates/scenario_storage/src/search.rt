@@ -1,0 +1,160 @@
+ghost use Rattle.std.specs.Prelude.{◌≡◌, ◌+◌, ◌≤◌, ◌<◌, ℕ, [], IfErr, IfOk, MatchOption, OnOk};
+ghost use Rattle.sd_base.specs.declared.limits.TheConstants.{DISTRIBUTIONS, LEAST_DISTRIBUTIONS, STORAGE};
+ghost use Rattle.storage.specs.Distributions.{storage_of};
+ghost use Rattle.storage.specs.Steps.{IsCorner};
+ghost use Rattle.bounded_scenarios.specs.Boundings.{CanBeBounded};
+ghost use Rattle.bounded_scenarios.specs.SharedChannels.{shared_channels};
+ghost use Rattle.scenario_storage.specs.ScenarioPoints.{AreScenarioPoints, IsRefusal};
+ghost use Rattle.scenario_storage.specs.inside.Levels.{AreRounds, IsPlan};
+ghost use Rattle.scenario_storage.specs.inside.Points.{IsBestOf};
+ghost use Rattle.scenario_storage.specs.inside.Searches.{IsEnded, IsSearch, IsStanding, IsTurn};
+
+use crate::error::ScenarioStorageError;
+use crate::level::run_level;
+use crate::members::take_in_all;
+use crate::plan::Plan;
+use crate::point::{ScenarioLimits, ScenarioPoint};
+use balance::{BalanceError, repetition};
+use bounded_scenarios::{channel_steps, corner_of};
+use fanout::Gate;
+use levels::{Bounds, Level, Levels};
+use sd_base::{Fraction, NoMemory, Rows, ScenarioFile};
+use std::alloc::Global;
+use std::thread::Threads;
+use storage::Distribution;
+
+/// Where the search stands: the distributions that wait, and the points among those that were rated.
+#[derive(Drop)]
+pub(crate) struct Search {
+    pub(crate) levels: Levels<()>,
+    pub(crate) points: Vec<ScenarioPoint>,
+}
+
+/// The Pareto points of the storage of shared channels and the worst rate (Geilen 2010; Stuijk, Geilen and Basten 2008):
+/// the corner is rated and, with each distribution, those that have a step more room on a shared channel which it shows.
+/// The distributions of one storage are one level: the gate is entered with that storage, and they are rated side by side.
+/// Cost: for each distribution that of the matrices of its scenarios, of their timed graph's worst rate, and of a way for
+/// each edge of a critical cycle; memory of the points with their graphs, of the distributions that wait, and of the
+/// evaluations that run at one time.
+pub fn scenario_points<R: Threads + Sync, G: Gate + Sync>(
+    rt: &R,
+    alloc: Global,
+    file: &ScenarioFile,
+    limits: ScenarioLimits,
+    gate: &G,
+) -> Result<Vec<ScenarioPoint>, ScenarioStorageError>
+    requires bounded { CanBeBounded file.now limits.total }
+    requires some { LEAST_DISTRIBUTIONS ≤ limits.distributions }
+    requires few { limits.distributions ≤ DISTRIBUTIONS }
+    requires total { limits.total ≤ STORAGE }
+    ensures points { IfOk result (λ v. AreScenarioPoints file.now limits v.items) }
+    ensures refused { IfErr result (IsRefusal file.now limits) }
+{
+    let gammas = gammas_of(alloc, file)?;
+    let plan = Plan {
+        alloc,
+        file,
+        gammas: &gammas,
+        limits,
+    };
+    let corner = corner_of(alloc, file)?;
+    let mut search = begin(&plan, corner.capacities, corner.total)?;
+    take_turns(rt, &plan, gate, &mut search)?;
+    let Search { levels: _, points } = search;
+    Ok(points)
+}
+
+/// By scenario its repetition vector. Cost: that of `repetition` for each.
+fn gammas_of(alloc: Global, file: &ScenarioFile) -> Result<Rows<Rows<u64>>, NoMemory>
+    requires { (total : ℕ) × CanBeBounded file.now total }
+    ensures { IfOk result (AreRounds file.now) }
+{
+    let mut gammas = Rows::new(alloc);
+    for scenario in file.scenarios.as_slice() {
+        match repetition(alloc, &scenario.graph) {
+            Ok(gamma) => gammas.push(gamma)?,
+            Err(BalanceError::NoMemory) => return Err(NoMemory),
+            Err(_) => unreachable!(),
+        }
+    }
+    Ok(gammas)
+}
+
+/// The corner waits, if it is within the limit.
+fn begin(plan: &Plan, corner: Distribution, total: u64) -> Result<Search, NoMemory>
+    requires plan { IsPlan plan.now.file.now plan.now.gammas.now plan.now.limits }
+    requires some { 1 ≤ plan.now.limits.distributions }
+    requires corner { IsCorner (shared_channels plan.now.file.now) corner.capacities }
+    requires total { total ≡ storage_of (shared_channels plan.now.file.now) corner.capacities }
+    ensures { IfOk result (IsStanding plan.now.file.now plan.now.limits) }
+{
+    let bounds = Bounds {
+        total: plan.limits.total,
+        distributions: plan.limits.distributions,
+    };
+    let channels = channel_steps(plan.alloc, plan.file)?;
+    Ok(Search {
+        levels: Levels::begin(plan.alloc, channels, bounds, corner, total, ())?,
+        points: Vec::new(plan.alloc),
+    })
+}
+
+/// Takes level after level in, until none waits.
+fn take_turns<R: Threads + Sync, G: Gate + Sync>(
+    rt: &R,
+    plan: &Plan,
+    gate: &G,
+    search: &mut Search,
+) -> Result<(), ScenarioStorageError>
+    requires plan { IsPlan plan.now.file.now plan.now.gammas.now plan.now.limits }
+    requires stands { IsStanding plan.now.file.now plan.now.limits search.old }
+    ensures ended { OnOk result (IsEnded plan.now.file.now plan.now.limits search.new.points.items) }
+    ensures refused { IfErr result (IsRefusal plan.now.file.now plan.now.limits) }
+{
+    while let Some(level) = next_level(plan, search)? {
+        take_turn(rt, plan, level, gate, search)?;
+    }
+    Ok(())
+}
+
+/// Takes the next level off those that wait, if one does.
+fn next_level(plan: &Plan, search: &mut Search) -> Result<Option<Level<()>>, NoMemory>
+    requires plan { IsPlan plan.now.file.now plan.now.gammas.now plan.now.limits }
+    requires stands { IsStanding plan.now.file.now plan.now.limits search.old }
+    ensures level { IfOk result (λ found. MatchOption found (IsEnded plan.now.file.now plan.now.limits search.old.points.items)
+        (λ level. IsTurn plan.now.file.now plan.now.limits level search.new)) }
+    ensures points { search.new.points ≡ search.old.points }
+{
+    let found = search.levels.next(plan.alloc)?;
+    Ok(found)
+}
+
+/// Rates the distributions of a level and takes them in.
+fn take_turn<R: Threads + Sync, G: Gate + Sync>(
+    rt: &R,
+    plan: &Plan,
+    level: Level<()>,
+    gate: &G,
+    search: &mut Search,
+) -> Result<(), ScenarioStorageError>
+    requires plan { IsPlan plan.now.file.now plan.now.gammas.now plan.now.limits }
+    requires turn { IsTurn plan.now.file.now plan.now.limits level search.old }
+    ensures stands { OnOk result (IsStanding plan.now.file.now plan.now.limits search.new) }
+    ensures refused { IfErr result (IsRefusal plan.now.file.now plan.now.limits) }
+{
+    let total = level.total;
+    let best = best_rate(search.points.as_slice());
+    let answers = run_level(rt, plan, best, level, gate)?;
+    take_in_all(plan, total, answers, search)?;
+    Ok(())
+}
+
+/// The rate of the last point, or 0 where there is none.
+fn best_rate(points: &[ScenarioPoint]) -> Fraction
+    ensures { IsBestOf points.now result }
+{
+    match points.last() {
+        Some(point) => point.rate,
+        None => Fraction::new(0, 1),
+    }
+}
