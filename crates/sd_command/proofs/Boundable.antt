@@ -1,9 +1,8 @@
 -- A file whose scenarios are tested can be bounded.
-use Rattle.std.proofs.Common.{◌≡◌, ◌≢◌, ℕ, ◌+◌, ◌*◌, ◌≤◌, ◌<◌, false, Bool, true, List, [], ◌∷◌, length, Option, Some, cond, sum, refl, sym, ap, subst, ◌∙◌, arith}
+use Rattle.std.proofs.Common.{◌≡◌, ℕ, ◌+◌, ◌≤◌, false, Bool, true, List, [], ◌∷◌, length, Some, subst, arith}
 use Rattle.std.specs.Prelude.{All, IsTrue, if◌then◌else◌, slice_get}
 use Rattle.std.proofs.lemmas.Nat.{mul-le}
-use Rattle.std.proofs.lemmas.Option.{get_or_from_slice_get, slice_get_within}
-use Rattle.sd_base.specs.declared.limits.TheConstants.{NODES, STAMPS, STORAGE}
+use Rattle.sd_base.specs.declared.limits.TheConstants.{NODES, STORAGE}
 use Rattle.sd_base.specs.Limits.{greatest_of}
 use Rattle.sd_base.specs.declared.tables.ChannelRow.{ChannelRow}
 use Rattle.sd_base.specs.declared.tables.ScenarioFile.{ScenarioFile}
@@ -17,7 +16,8 @@ use Rattle.scenario_reader.specs.ScenarioNames.{FileHasWritableNames}
 use Rattle.bounded_scenarios.specs.SharedChannels.{channels_named, is_looped}
 use Rattle.bounded_scenarios.specs.BoundedFiles.{space_name}
 use Rattle.bounded_scenarios.specs.Boundings.{AreFileNames, CanBeBounded, RunsUnbounded, looped_tokens}
-use Rattle.sd_command.specs.ScenarioBounds.{ArePassed, bounding_one, fitting_nodes}
+use Rattle.balance.proofs.TableLemmas.{at_All}
+use Rattle.sd_command.specs.ScenarioBounds.{ArePassed, fitting_nodes}
 use Rattle.sd_command.proofs.Joins.{fed-inputs}
 
 -- ---- the shared tokens that a distribution can come to
@@ -50,13 +50,9 @@ tokens-few file total rules small =
 no_space : (name : List ℕ) → All (λ b. IsTrue (is_character b)) (space_name name) → ⊥
 no_space name all = all 0 0 (omega arith)
 
--- what holds of all elements of a list holds of each one
-at_each : {X : Type 0} (P : X → Type 0) (xs : List X) → All P xs → (i : ℕ) (x : X) → slice_get xs i ≡ Some x → P x
-at_each P xs all i x at = subst P (get_or_from_slice_get xs i x x at) (all i x (slice_get_within xs i x at))
-
 file_names : (cs : List ChannelRow) → All (λ (c : ChannelRow). IsWritableName c.name) cs → AreFileNames cs
 file_names cs all i c name at same =
-    let good = at_each (λ (d : ChannelRow). IsWritableName d.name) cs all i c at in
+    let good = at_All (λ (d : ChannelRow). IsWritableName d.name) cs i c all at in
     no_space name (subst (λ (n : List ℕ). All (λ b. IsTrue (is_character b)) n) same good.characters)
 
 module _ (file : ScenarioFile) (total : ℕ) where
@@ -64,7 +60,7 @@ module _ (file : ScenarioFile) (total : ℕ) where
   tokens = total + looped_tokens file.scenarios file.shared
 
   names : FileHasWritableNames file → (k : ℕ) (row : ScenarioRow) → slice_get file.scenarios k ≡ Some row → AreFileNames row.graph.channels
-  names good k row at = file_names row.graph.channels (at_each (λ (r : ScenarioRow). HasWritableNames r.graph) file.scenarios good.graphs k row at).channels
+  names good k row at = file_names row.graph.channels (at_All (λ (r : ScenarioRow). HasWritableNames r.graph) file.scenarios k row good.graphs at).channels
 
   runs : ArePassed file tokens → (k : ℕ) (row : ScenarioRow) → slice_get file.scenarios k ≡ Some row → RunsUnbounded tokens row
   unfolding greatest_of

@@ -16,6 +16,9 @@ pub mod PointSchedules
 mod PointTasks
 mod Summaries
 mod Throughs
+mod ScenarioWalks
 mod Measured
+mod LoopedTokens
 mod Boundable
+mod ToldPoints
 mod TimedFiles

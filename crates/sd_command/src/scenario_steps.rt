@@ -6,6 +6,7 @@ ghost use Rattle.automaton.specs.TimedGraphs.{AreSized, IsTimedGraph};
 ghost use Rattle.scenario_rate.specs.Graphs.{IsSound};
 ghost use Rattle.escapes.specs.EscapedNames.{escaped_name};
 ghost use Rattle.report.specs.LinkTexts.{IsNamed};
+ghost use Rattle.scenario_reader.specs.ScenarioNames.{FileHasWritableNames};
 ghost use Rattle.sd_command.specs.Nets.{IsFed};
 ghost use Rattle.sd_base.specs.Scenarios.{FileKeepsRules, ScenarioKeepsRules, Shares, shared_count};
 ghost use Rattle.sd_base.specs.Tables.{IsTimed, KeepsRules};
@@ -32,6 +33,7 @@ use token_matrix::{Matrix, MatrixError, matrix_of};
 pub(crate) fn read_file(alloc: Global, bytes: &[u8]) -> Result<ScenarioFile, Stop>
     ensures does { Does (reading_scenarios bytes.now) result }
     ensures keeps { IfOk result FileKeepsRules }
+    ensures names { IfOk result FileHasWritableNames }
 {
     match read_scenarios(alloc, bytes) {
         Ok(file) => Ok(file),
