@@ -18,7 +18,6 @@ mod Summaries
 mod Throughs
 mod ScenarioWalks
 mod Measured
-mod LoopedTokens
 mod Boundable
 mod ToldPoints
 mod TimedFiles

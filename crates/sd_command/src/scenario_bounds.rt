@@ -1,47 +1,20 @@
-ghost use Rattle.std.specs.Prelude.{◌≡◌, ◌+◌, ◌≤◌, IfOk, List, length};
-ghost use Rattle.sd_base.specs.declared.limits.TheConstants.{NODES, STORAGE};
+ghost use Rattle.std.specs.Prelude.{◌≡◌, ◌+◌, ◌≤◌, List, sum};
+ghost use Rattle.sd_base.specs.declared.limits.TheConstants.{NODES, ROUND, STORAGE};
 ghost use Rattle.sd_base.specs.declared.tables.Kind.TheVariants.{Sdf};
 ghost use Rattle.sd_base.specs.declared.tables.SharedRow.{SharedRow as ASharedRow};
-ghost use Rattle.sd_base.specs.Scenarios.{FileKeepsRules, ScenarioKeepsRules, shared_count};
-ghost use Rattle.bounded_scenarios.specs.Boundings.{looped_tokens};
+ghost use Rattle.sd_base.specs.Scenarios.{FileKeepsRules, ScenarioKeepsRules};
 ghost use Rattle.sd_base.specs.Tables.{IsTimed, KeepsRules};
 ghost use Rattle.sd_command.specs.ScenarioBounds.{bounding_all, bounding_graph, bounding_one, fitting, fitting_nodes};
 ghost use Rattle.sd_command.specs.inside.Going.{Does};
-ghost use Rattle.sd_command.specs.inside.ScenarioPoints.{open_tokens};
 
 use crate::balancing::balanced;
 use crate::nets::{complete, feed};
 use crate::reading::above;
 use crate::scenario_steps::stop_of;
 use crate::stop::Stop;
-use bounded_scenarios::corner_of;
 use firing::SdfNet;
-use sd_base::{GraphFile, NoMemory, Quantity, ScenarioFile, ScenarioRow, SharedRow};
+use sd_base::{GraphFile, Quantity, ScenarioFile, ScenarioRow};
 use std::alloc::Global;
-
-/// The tokens of the shared channels that get no capacity: those without one in the corner.
-pub(crate) fn looped_tokens(alloc: Global, file: &ScenarioFile) -> Result<u64, NoMemory>
-    requires { FileKeepsRules file.now }
-    ensures { IfOk result (λ n. n ≡ looped_tokens file.now.scenarios file.now.shared) }
-{
-    let corner = corner_of(alloc, file)?;
-    Ok(open_tokens(file.shared.as_slice(), corner.capacities.capacities.as_slice()))
-}
-
-// The tokens of the shared channels without a capacity.
-fn open_tokens(shared: &[SharedRow], rooms: &[Option<u64>]) -> u64
-    requires many { length rooms.now ≡ length shared.now }
-    requires few { shared_count shared.now ≤ NODES }
-    ensures { result ≡ open_tokens shared.now rooms.now }
-{
-    let mut tokens = 0;
-    for place in 0..shared.len() {
-        if rooms[place].is_none() {
-            tokens += shared[place].tokens;
-        }
-    }
-    tokens
-}
 
 /// Tests each scenario of a file in turn, where there may be so many shared tokens.
 pub(crate) fn bound_all(alloc: Global, file: &ScenarioFile, tokens: u64) -> Result<(), Stop>
@@ -79,9 +52,16 @@ fn bound_graph(alloc: Global, graph: &GraphFile, tokens: u64) -> Result<(), Stop
     let gamma = balanced(alloc, graph)?;
     let net = SdfNet::new(alloc, graph, gamma.as_slice(), false)?;
     feed(alloc, &net, graph)?;
-    let firings: u64 = gamma.as_slice().iter().sum();
-    fit(alloc, Quantity::Stamps, firings * tokens)?;
+    fit(alloc, Quantity::Stamps, firings_of(gamma.as_slice()) * tokens)?;
     complete(alloc, &net, graph)
+}
+
+// The firings of a round.
+fn firings_of(gamma: &[u64]) -> u64
+    requires { sum gamma.now ≤ ROUND }
+    ensures { result ≡ sum gamma.now }
+{
+    gamma.iter().sum()
 }
 
 /// Tests that the states of a file times the shared tokens are within the limit of nodes.

@@ -12,8 +12,9 @@ ghost use Rattle.sd_command.specs.inside.ScenarioPoints.{CanBeTold};
 
 use crate::answer::Answer;
 use crate::opening::open_scenarios;
-use crate::scenario_bounds::{bound_all, fit_nodes, looped_tokens};
+use crate::scenario_bounds::{bound_all, fit_nodes};
 use crate::stop::Stop;
+use bounded_scenarios::looped_tokens;
 use fanout::Gate;
 use report::{Refusal, WorstPoint, points_header, scenario_point_text, shared_buffers_text};
 use scenario_storage::{ScenarioLimits, ScenarioPoint, ScenarioStorageError, scenario_points};
@@ -59,7 +60,7 @@ fn points_in<R: Threads + Sync, G: Gate + Sync>(
     requires few { limits.distributions ≤ DISTRIBUTIONS }
     ensures { (faults : ℕ) → Goes (points_in limits file.now) result 0 faults faults }
 {
-    let tokens = limits.total + looped_tokens(alloc, file)?;
+    let tokens = limits.total + looped_tokens(file);
     bound_all(alloc, file, tokens)?;
     fit_nodes(alloc, file, tokens)?;
     let points = search(rt, alloc, file, limits, gate)?;
