@@ -18,7 +18,12 @@ pub blocks-on : (net other : Net) (v : ℕ → ℕ) → SameNets net other → B
     (i : ℕ) × (i < length net.channels) × ((channel_at net i).target ≡ a) × Needs (channel_at other i) (v a) (v (channel_at net i).source)) → Blocks other v
 blocks-on net other v same blocks lacks = record {
   within = λ a actor. subst (λ (r : List ℕ). v a ≤ slice_index r a) same.round (blocks.within a (there a actor));
-  short = (blocks.short.0, subst (λ (ts : List (List ℕ)). blocks.short.0 < length ts) same.times blocks.short.1, subst (λ (r : List ℕ). v blocks.short.0 < slice_index r blocks.short.0) same.round blocks.short.2);
+  short = (
+    blocks.short.0,
+    subst (λ (ts : List (List ℕ)). blocks.short.0 < length ts) same.times blocks.short.1,
+    subst
+        (λ (r : List ℕ). v blocks.short.0 < slice_index r blocks.short.0) same.round blocks.short.2,
+  );
   closed = λ a actor less. (
       let l = lacks a (there a actor) (subst (λ (r : List ℕ). v a < slice_index r a) (sym same.round) less) in
       let one : SameRates (channel_at net l.0) (channel_at other l.0) = same.each l.0 l.1 in
@@ -46,7 +51,8 @@ pub spare-live : (net other : Net) (step spare : ℕ → ℕ) → HasSpare net o
 spare-live net other step spare has wired live = ⊎_elim
     (λ (runs : IsLive net). runs)
     (λ (blocked : (v : ℕ → ℕ) × Rattle.sd_base.specs.Untimed.IsEnd net v × Blocks net v). absurd (live-unblocked other wired live blocked.0 (
-    blocks-on net other blocked.0 has.same blocked.2 (λ a actor less. (let l = blocked.2.closed a actor less in (l.0, l.1, l.2, spare-needs net other step spare has l.0 (blocked.0 a) (blocked.0 (channel_at net l.0).source) l.1 l.3))))))
+    blocks-on net other blocked.0 has.same blocked.2
+    (λ a actor less. (let l = blocked.2.closed a actor less in (l.0, l.1, l.2, spare-needs net other step spare has l.0 (blocked.0 a) (blocked.0 (channel_at net l.0).source) l.1 l.3))))))
     (live_or_blocked net)
 
 -- ---- a channel and its free space hold enough for each rate
@@ -67,8 +73,10 @@ module _ (net : Net) (live : IsLive net) (fires : (a : ℕ) → a < length net.t
   pub made-covered : (channel_at net c).source < length net.times → total (channel_at net c).made 1 ≤ (channel_at net c).tokens + (channel_at net s).tokens
   made-covered actor =
       let b = first-of (channel_at net c).source actor in
-      let can : total (channel_at net s).taken (b.counts (channel_at net c).source + 1) ≤ (channel_at net s).tokens + total (channel_at net s).made (b.counts (channel_at net s).source) = b.can s there is.target in
-      let paid : total (channel_at net c).taken (b.counts (channel_at net c).target) ≤ (channel_at net c).tokens + total (channel_at net c).made (b.counts (channel_at net c).source) = b.paid.each c here in
+      let can : total (channel_at net s).taken (b.counts (channel_at net c).source + 1) ≤ (channel_at net s).tokens + total (channel_at net s).made (b.counts (channel_at net s).source) =
+      b.can s there is.target in
+      let paid : total (channel_at net c).taken (b.counts (channel_at net c).target) ≤ (channel_at net c).tokens + total (channel_at net c).made (b.counts (channel_at net c).source) =
+      b.paid.each c here in
       let none : total (channel_at net c).made (b.counts (channel_at net c).source) ≡ 0 = ap (λ (n : ℕ). total (channel_at net c).made n) b.next ∙ total-zero (channel_at net c).made in
       let one : total (channel_at net s).taken (b.counts (channel_at net c).source + 1) ≡ total (channel_at net c).made 1 =
       ap (λ (n : ℕ). total (channel_at net s).taken (n + 1)) b.next ∙ ap (λ (xs : List ℕ). total xs 1) is.taken in
@@ -79,8 +87,10 @@ module _ (net : Net) (live : IsLive net) (fires : (a : ℕ) → a < length net.t
   pub taken-covered : (channel_at net c).target < length net.times → total (channel_at net c).taken 1 ≤ (channel_at net c).tokens + (channel_at net s).tokens
   taken-covered actor =
       let b = first-of (channel_at net c).target actor in
-      let can : total (channel_at net c).taken (b.counts (channel_at net c).target + 1) ≤ (channel_at net c).tokens + total (channel_at net c).made (b.counts (channel_at net c).source) = b.can c here refl in
-      let paid : total (channel_at net s).taken (b.counts (channel_at net s).target) ≤ (channel_at net s).tokens + total (channel_at net s).made (b.counts (channel_at net s).source) = b.paid.each s there in
+      let can : total (channel_at net c).taken (b.counts (channel_at net c).target + 1) ≤ (channel_at net c).tokens + total (channel_at net c).made (b.counts (channel_at net c).source) =
+      b.can c here refl in
+      let paid : total (channel_at net s).taken (b.counts (channel_at net s).target) ≤ (channel_at net s).tokens + total (channel_at net s).made (b.counts (channel_at net s).source) =
+      b.paid.each s there in
       let one : total (channel_at net c).taken (b.counts (channel_at net c).target + 1) ≡ total (channel_at net c).taken 1 = ap (λ (n : ℕ). total (channel_at net c).taken (n + 1)) b.next in
       let back : total (channel_at net s).taken (b.counts (channel_at net s).target) ≡ total (channel_at net c).made (b.counts (channel_at net c).source) =
       ap (λ (n : ℕ). total (channel_at net s).taken (b.counts n)) is.target ∙ ap (λ (xs : List ℕ). total xs (b.counts (channel_at net c).source)) is.taken in

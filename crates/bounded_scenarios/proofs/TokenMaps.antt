@@ -1,5 +1,5 @@
 -- Tokens of one net as tokens of another that differs in initial tokens alone.
-use Rattle.std.specs.Prelude.{◌≡◌, ℕ, ◌+◌, ◌-◌, ◌*◌, ◌/◌, ◌≤◌, ◌<◌, List, length}
+use Rattle.std.specs.Prelude.{◌≡◌, ℕ, ◌+◌, ◌-◌, ◌*◌, ◌/◌, ◌≤◌, ◌<◌, Contains, List, length}
 use Rattle.sd_base.specs.Net.{Channel, Net, channel_at}
 use Rattle.token_matrix.specs.Stamps.{IsTakenBy, IsPutBy, left_token}
 use Rattle.storage.proofs.ChannelSteps.{AreWhole}

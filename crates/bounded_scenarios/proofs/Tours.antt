@@ -20,7 +20,8 @@ use Rattle.token_matrix.proofs.WayStamps.{way_stamp}
 
 -- ---- tours one after another
 
-pub tour-append : (P : ℕ → List ℕ → Type 0) (file : ScenarioFile) (rs ts : List ℕ) (q p r s u v w x : ℕ) → IsTour P file q p rs r s w → IsTour P file r s ts u v x → IsTour P file q p (rs ++ ts) u v (w + x)
+pub tour-append : (P : ℕ → List ℕ → Type 0) (file : ScenarioFile) (rs ts : List ℕ) (q p r s u v w x : ℕ) → IsTour P file q p rs r s w → IsTour P file r s ts u v x →
+    IsTour P file q p (rs ++ ts) u v (w + x)
 tour-append P file [] ts q p r s u v w x (same, also, none) rest =
     subst (λ (n : ℕ). IsTour P file q p ts u v n) (let e : x ≡ w + x = omega (arith, none) in e)
     (subst (λ (n : ℕ). IsTour P file n p ts u v x) (sym same) (subst (λ (n : ℕ). IsTour P file r n ts u v x) (sym also) rest))
@@ -57,14 +58,16 @@ tour-laps P file rs q p w tour (suc n) = subst (λ (x : ℕ). IsTour P file q p 
 pub length-laps : (n : ℕ) (rs : List ℕ) → length (laps n rs) ≡ n * length rs
 unfolding laps
 length-laps zero rs = omega arith
-length-laps (suc n) rs = let h : length (laps n rs) ≡ n * length rs = length-laps n rs in let a : length (rs ++ laps n rs) ≡ length rs + length (laps n rs) = length-append rs (laps n rs) in omega arith
+length-laps (suc n) rs = let h : length (laps n rs) ≡ n * length rs = length-laps n rs in let a : length (rs ++ laps n rs) ≡ length rs + length (laps n rs) = length-append rs (laps n rs) in
+    omega arith
 
 -- ---- stamps along them
 
 runs-long : (file : ScenarioFile) (q : ℕ) (x y : List ℕ) → Carries file q x y → length y ≡ shared_count file.shared
 runs-long file q x y (s, at, row, runs, gamma, gives, stamps) = stamps.after
 
-module _ (file : ScenarioFile) (lawful : (k : ℕ) (row : ScenarioRow) (gamma : List ℕ) → slice_get file.scenarios k ≡ Some row → IsRepetitionOf row.graph gamma → Lawful (net_of row.graph gamma false)) where
+module _ (file : ScenarioFile) (lawful : (k : ℕ) (row : ScenarioRow) (gamma : List ℕ) → slice_get file.scenarios k ≡ Some row → IsRepetitionOf row.graph gamma →
+    Lawful (net_of row.graph gamma false)) where
   -- a round carries the stamps at least as far as a way
   pub leg-stamp : (P : ℕ → List ℕ → Type 0) (q p s e : ℕ) (x y : List ℕ) → IsLeg P file q p s e → Carries file q x y → slice_index x p + e ≤ slice_index y s
   leg-stamp P q p s e x y leg (state, at, row, runs, gamma, gives, stamps) =
@@ -89,7 +92,8 @@ module _ (file : ScenarioFile) (lawful : (k : ℕ) (row : ScenarioRow) (gamma : 
 
   module _ (have : HaveStamps file) where
     -- each path of states has stamps
-    pub runs : (qs : List ℕ) (x : List ℕ) → ((q : ℕ) (i : ℕ) → slice_get qs i ≡ Some q → (s : StateRow) × (slice_get file.states q ≡ Some s)) → length x ≡ shared_count file.shared → (y : List ℕ) × RunsTo file x qs y
+    pub runs : (qs : List ℕ) (x : List ℕ) → ((q : ℕ) (i : ℕ) → slice_get qs i ≡ Some q → (s : StateRow) × (slice_get file.states q ≡ Some s)) → length x ≡ shared_count file.shared →
+        (y : List ℕ) × RunsTo file x qs y
     runs [] x known long = (x, refl)
     runs (q ∷ qs) x known long =
         let s = known q 0 refl in
@@ -131,7 +135,8 @@ module _ (file : ScenarioFile) (lawful : (k : ℕ) (row : ScenarioRow) (gamma : 
             let whole : RunsTo file (zeros file) (run_from file.initial (front ++ laps n rs)) second.0 =
             subst (λ (qs : List ℕ). RunsTo file (zeros file) qs second.0) (sym split) (joined (run_from file.initial front) (run_from q (laps n rs)) (zeros file) first.0 second.0 first.1 second.1) in
             let path : IsStatePath file (run_from file.initial (front ++ laps n rs)) = path-run (front ++ laps n rs) file.initial q all refl in
-            let above : l * greatest second.0 ≤ w * length (run_from file.initial (front ++ laps n rs)) + worst.slack = worst.bounds.above (run_from file.initial (front ++ laps n rs)) second.0 path whole in
+            let above : l * greatest second.0 ≤ w * length (run_from file.initial (front ++ laps n rs)) + worst.slack = worst.bounds.above
+            (run_from file.initial (front ++ laps n rs)) second.0 path whole in
             let size : length (run_from file.initial (front ++ laps n rs)) ≡ length front + n * length rs =
             length-run (front ++ laps n rs) file.initial ∙ (length-append front (laps n rs) ∙ ap (λ (m : ℕ). length front + m) (length-laps n rs)) in
             let scaled : l * (n * v) ≤ l * greatest second.0 = mul-le-mul_left l (let f : n * v ≤ greatest second.0 = omega arith in f) in

@@ -1,7 +1,7 @@
 -- Ways are ways where tokens stand for tokens: with more room elsewhere, and with spare room.
 use Rattle.std.proofs.Common.{◌≡◌, ℕ, ◌+◌, ◌-◌, ◌*◌, ◌/◌, ◌%◌, ◌≤◌, ◌<◌, List, [], length, subst, sym, ap, ◌∙◌, arith, ⊎_elim, mod-lt, mul-le-mul_right, div-add-mod'}
 use Rattle.std.proofs.Math.Nat.{mul-add-div_right}
-use Rattle.std.specs.Prelude.{slice_index, slice_index_or}
+use Rattle.std.specs.Prelude.{Contains, slice_index, slice_index_or}
 use Rattle.std.proofs.lemmas.Bool.{cases_lt}
 use Rattle.sd_base.specs.Net.{Net, Channel, channel_at, phase_entry, total}
 use Rattle.sd_base.specs.Schedules.{time_of}
@@ -68,9 +68,11 @@ module _ (net other : Net) (room : IsRoomier net other) where
   pub pushed-maps : (cs : List ℕ) → ((i : ℕ) → i < length net.channels → Contains cs i → (channel_at net i).tokens ≡ (channel_at other i).tokens) → MapsTokens net other cs (pushed net other)
   pushed-maps cs kept = record {
     same = room.same;
-    taken = λ i m j below has takes. subst (λ (n : ℕ). IsTakenBy (channel_at other i) n j) (sym (kept-none i m (kept i below has))) (taken-same (channel_at net i) (channel_at other i) m j (room.same.each i below) takes);
+    taken = λ i m j below has takes. subst (λ (n : ℕ). IsTakenBy (channel_at other i) n j) (sym (kept-none i m (kept i below has)))
+        (taken-same (channel_at net i) (channel_at other i) m j (room.same.each i below) takes);
     put = λ i m k below has puts. put-pushed (channel_at net i) (channel_at other i) m k (room.same.each i below) (room.more i below) puts;
-    initial = λ i m below there. (let more : (channel_at net i).tokens ≤ (channel_at other i).tokens = room.more i below in let f : pushed net other i m < (channel_at other i).tokens = omega arith in f);
+    initial = λ i m below there. (let more : (channel_at net i).tokens ≤ (channel_at other i).tokens = room.more i below in
+        let f : pushed net other i m < (channel_at other i).tokens = omega arith in f);
   }
 
   pub pushed-left : (first' : ℕ → ℕ) (q' i k : ℕ) → i < length net.channels → q' ≡ first' i + pushed net other i k → MapsLeft net other first' (pushed net other) q' i k
@@ -86,7 +88,8 @@ module _ (net other : Net) (room : IsRoomier net other) where
 
 floor-above : (g a m : ℕ) → a * g ≤ m → 1 ≤ g → a ≤ m / g
 floor-above g a m low some = ⊎_elim
-    (λ (less : m / g < a). absurd (let parts : m / g * g + m % g ≡ m = div-add-mod' m g in let rest : m % g < g = mod-lt m some in let up : (m / g + 1) * g ≤ a * g = mul-le-mul_right g (omega arith) in let no : ⊥ = omega arith in no))
+    (λ (less : m / g < a). absurd (let parts : m / g * g + m % g ≡ m = div-add-mod' m g in let rest : m % g < g = mod-lt m some in
+    let up : (m / g + 1) * g ≤ a * g = mul-le-mul_right g (omega arith) in let no : ⊥ = omega arith in no))
     (λ (h : a ≤ m / g). h) (cases_lt (m / g) a)
 
 floor-below : (g b m : ℕ) → m < b * g → m / g < b
@@ -114,8 +117,10 @@ module _ (net other : Net) (step spare : ℕ → ℕ) (has : HasSpare net other 
       let up : a.0 * step i + spare i ≤ m / step i * step i + spare i = above (step i) (spare i) a.0 m (has.some i below) (omega (arith, a.1)) in
       let down : m / step i * step i + spare i < b.0 * step i = under (step i) (spare i) b.0 m (has.small i below) (omega (arith, b.1)) in
       let one : total (channel_at net i).taken j ≡ total (channel_at other i).taken j = (same j).1 in
-      let two : total (channel_at net i).taken (j + 1) ≡ total (channel_at other i).taken (j + 1) = (same (j + 1)).1 in
-      ((let f : total (channel_at other i).taken j ≤ m / step i * step i + spare i = omega (arith, a.1) in f), (let f : m / step i * step i + spare i < total (channel_at other i).taken (j + 1) = omega (arith, b.1) in f))
+      let two : total (channel_at net i).taken (j + 1) ≡ total (channel_at other i).taken (j + 1) = (same (j + 1)).1 in (
+        (let f : total (channel_at other i).taken j ≤ m / step i * step i + spare i = omega (arith, a.1) in f),
+        (let f : m / step i * step i + spare i < total (channel_at other i).taken (j + 1) = omega (arith, b.1) in f),
+      )
 
   spare-put : (i m k : ℕ) → i < length net.channels → IsPutBy (channel_at net i) m k → IsPutBy (channel_at other i) (spared step spare i m) k
   spare-put i m k below (low, high) =
@@ -127,9 +132,10 @@ module _ (net other : Net) (step spare : ℕ → ℕ) (has : HasSpare net other 
       let up : (u.0 + a.0) * step i + spare i ≤ m / step i * step i + spare i = above (step i) (spare i) (u.0 + a.0) m (has.some i below) (omega (arith, a.1, u.1)) in
       let down : m / step i * step i + spare i < (u.0 + b.0) * step i = under (step i) (spare i) (u.0 + b.0) m (has.small i below) (omega (arith, b.1, u.1)) in
       let one : total (channel_at net i).made k ≡ total (channel_at other i).made k = (same k).0 in
-      let two : total (channel_at net i).made (k + 1) ≡ total (channel_at other i).made (k + 1) = (same (k + 1)).0 in
-      ((let f : (channel_at other i).tokens + total (channel_at other i).made k ≤ m / step i * step i + spare i = omega (arith, a.1, u.1) in f),
-      (let f : m / step i * step i + spare i < (channel_at other i).tokens + total (channel_at other i).made (k + 1) = omega (arith, b.1, u.1) in f))
+      let two : total (channel_at net i).made (k + 1) ≡ total (channel_at other i).made (k + 1) = (same (k + 1)).0 in (
+        (let f : (channel_at other i).tokens + total (channel_at other i).made k ≤ m / step i * step i + spare i = omega (arith, a.1, u.1) in f),
+        (let f : m / step i * step i + spare i < (channel_at other i).tokens + total (channel_at other i).made (k + 1) = omega (arith, b.1, u.1) in f),
+      )
 
   pub spare-maps : (cs : List ℕ) → MapsTokens net other cs (spared step spare)
   spare-maps cs = record {
@@ -137,9 +143,9 @@ module _ (net other : Net) (step spare : ℕ → ℕ) (has : HasSpare net other 
     taken = λ i m j below on takes. spare-taken i m j below takes;
     put = λ i m k below on puts. spare-put i m k below puts;
     initial = λ i m below there.
-      let u = has.whole i below in
-      let down : m / step i * step i + spare i < u.0 * step i = under (step i) (spare i) u.0 m (has.small i below) (omega (arith, u.1)) in
-      omega (arith, has.tokens i below, u.1);
+        let u = has.whole i below in
+        let down : m / step i * step i + spare i < u.0 * step i = under (step i) (spare i) u.0 m (has.small i below) (omega (arith, u.1)) in
+        omega (arith, has.tokens i below, u.1);
   }
 
   pub spare-left : (first' : ℕ → ℕ) (q' i k : ℕ) → i < length net.channels → q' ≡ first' i + spared step spare i k → MapsLeft net other first' (spared step spare) q' i k

@@ -6,7 +6,7 @@ use Rattle.sd_base.specs.declared.tables.ScenarioFile.{ScenarioFile}
 use Rattle.sd_base.specs.declared.tables.ScenarioRow.{ScenarioRow}
 use Rattle.sd_base.specs.declared.tables.SharedRow.{SharedRow}
 use Rattle.sd_base.specs.Net.{IsRepetitionOf}
-use Rattle.sd_base.specs.Untimed.{Blocks, IsEnd}
+use Rattle.sd_base.specs.Untimed.{Blocks}
 use Rattle.automaton.specs.declared.graph.Edge.{Edge}
 use Rattle.automaton.specs.declared.graph.TimedGraph.{TimedGraph}
 use Rattle.automaton.specs.CriticalCycles.{IsCritical}

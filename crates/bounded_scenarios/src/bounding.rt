@@ -1,5 +1,5 @@
 //! The file whose shared channels have capacities.
-ghost use Rattle.std.specs.Prelude.{◌≡◌, ◌≤◌, ◌++◌, IfOk, OnOk, length};
+ghost use Rattle.std.specs.Prelude.{◌≡◌, ◌≤◌, ◌++◌, IfOk, OnOk, length, map};
 ghost use Rattle.sd_base.specs.Scenarios.{FileKeepsRules};
 ghost use Rattle.storage.specs.Distributions.{IsDistribution};
 ghost use Rattle.bounded_scenarios.specs.SharedChannels.{shared_channels};
@@ -66,7 +66,13 @@ fn bounded_graph(
     ensures { IfOk result (λ bounded. bounded ≡ bounded_graph shared.now rooms.now graph.now) }
 {
     let mut channels = copy_channels(alloc, graph.channels.as_slice())?;
-    add_spaces(alloc, &mut channels, graph.channels.as_slice(), shared, rooms)?;
+    add_spaces(
+        alloc,
+        &mut channels,
+        graph.channels.as_slice(),
+        shared,
+        rooms,
+    )?;
     Ok(GraphFile {
         kind: graph.kind,
         actors: copy_actors(alloc, graph.actors.as_slice())?,

@@ -1,52 +1,68 @@
 //! The rates of a channel in all scenarios.
-ghost use Rattle.std.specs.Prelude.{◌≡◌, ◌≢◌, ◌↔◌, ◌≤◌, ◌+◌, ◌*◌, ◌++◌, ℕ, IfOk, OnOk, MatchOption, slice_index, sum};
+ghost use Rattle.std.specs.Prelude.{◌≡◌, ◌↔◌, ◌≤◌, ◌+◌, ◌*◌, ◌++◌, ℕ, true, false, IfOk, OnOk, MatchOption, slice_index};
 ghost use Rattle.std.specs.Int.{◌∣◌};
 ghost use Rattle.sd_base.specs.declared.limits.TheConstants.{RATE, TOKENS};
-ghost use Rattle.sd_base.specs.Net.{Channel};
 ghost use Rattle.storage.specs.Steps.{CoversRates, IsCornerAt, step_of};
-ghost use Rattle.bounded_scenarios.specs.inside.Joints.{AreRates, HasRates, IsJoint, IsLimited};
+ghost use Rattle.bounded_scenarios.specs.SharedChannels.{channels_named, is_looped};
+ghost use Rattle.bounded_scenarios.specs.inside.Joints.{IsJoint, IsLimited, joint_channel};
 ghost use Rattle.bounded_scenarios.specs.inside.Naming.{NameAll};
 
 use crate::naming::channel_named;
-use sd_base::{ChannelRow, NoMemory, ScenarioRow, Text, gcd};
+use sd_base::{ChannelRow, NoMemory, ScenarioRow, SharedRow, Text, gcd};
 use std::alloc::Global;
 
-/// The rates of a channel in all scenarios, one after another, and whether it is a self-loop in one of them.
+/// A shared channel in all scenarios: the rates, one scenario after another, and whether it is a self-loop in one of them.
 #[derive(Debug, Drop)]
 pub(crate) struct Joint {
     pub(crate) looped: bool,
     pub(crate) made: Vec<u64>,
     pub(crate) taken: Vec<u64>,
+    pub(crate) tokens: u64,
 }
 
-/// The rates of the channel of a name in all scenarios. Cost: linear in their channels.
+/// The channel of a shared row in all scenarios. Cost: linear in their channels.
 pub(crate) fn joint_of(
     alloc: Global,
     scenarios: &[ScenarioRow],
-    name: &Text,
+    row: &SharedRow,
 ) -> Result<Joint, NoMemory>
-    requires { NameAll scenarios.now name.now }
-    ensures { IfOk result (IsJoint scenarios.now name.now) }
+    requires { NameAll scenarios.now row.now.name }
+    ensures { IfOk result (IsJoint scenarios.now row.now) }
 {
     let mut joint = Joint {
-        looped: false,
+        looped: is_looped(scenarios, &row.name),
         made: Vec::new(alloc),
         taken: Vec::new(alloc),
+        tokens: row.tokens,
     };
     for scenario in scenarios {
-        joint.add(channel_named(scenario.graph.channels.as_slice(), name))?;
+        joint.add(channel_named(scenario.graph.channels.as_slice(), &row.name))?;
     }
     Ok(joint)
 }
 
+/// Whether the channel of a name is a self-loop in some scenario. Cost: linear in their channels.
+pub(crate) fn is_looped(scenarios: &[ScenarioRow], name: &Text) -> bool
+    requires { NameAll scenarios.now name.now }
+    ensures { result ≡ is_looped (channels_named scenarios.now name.now) }
+{
+    for scenario in scenarios {
+        let channel = channel_named(scenario.graph.channels.as_slice(), name);
+        if channel.source == channel.target {
+            return true;
+        }
+    }
+    false
+}
+
 impl Joint {
-    /// Adds the channel of one more scenario.
+    /// Adds the rates of one more scenario.
     fn add(&mut self, channel: &ChannelRow) -> Result<(), NoMemory>
-        ensures looped { OnOk result (self.new.looped ≡ (self.old.looped || (channel.now.source == channel.now.target))) }
         ensures made { OnOk result (self.new.made.items ≡ self.old.made.items ++ channel.now.made) }
         ensures taken { OnOk result (self.new.taken.items ≡ self.old.taken.items ++ channel.now.taken) }
+        ensures looped { self.new.looped ≡ self.old.looped }
+        ensures tokens { self.new.tokens ≡ self.old.tokens }
     {
-        self.looped = self.looped || channel.source == channel.target;
         self.made.extend_from_slice(channel.made.as_slice())?;
         self.taken.extend_from_slice(channel.taken.as_slice())?;
         Ok(())
@@ -54,36 +70,50 @@ impl Joint {
 
     /// The step in which the capacity is worth changing: the greatest common divisor of all the rates.
     pub(crate) fn step(&self) -> u64
-        ensures { (c : Channel) → HasRates self.now c → result ≡ step_of c }
+        requires { IsLimited self.now }
+        ensures step { result ≡ step_of (joint_channel self.now) }
+        ensures some { 1 ≤ result }
+        ensures small { result ≤ RATE }
     {
-        gcd(divisor_of(self.made.as_slice()), divisor_of(self.taken.as_slice()))
+        gcd(
+            divisor_of(self.made.as_slice()),
+            divisor_of(self.taken.as_slice()),
+        )
+    }
+
+    /// The greatest of all the rates.
+    fn greatest_rate(&self) -> u64
+        requires { IsLimited self.now }
+        ensures covers { CoversRates (joint_channel self.now) result }
+        ensures least { (k : ℕ) → CoversRates (joint_channel self.now) k → result ≤ k }
+        ensures small { result ≤ RATE }
+    {
+        greatest_of(self.made.as_slice()).max(greatest_of(self.taken.as_slice()))
     }
 
     /// The capacity in the corner, if there is one: the least number of tokens and whole steps that is at least each rate.
-    pub(crate) fn corner(&self, tokens: u64) -> Option<u64>
-        requires limited { IsLimited self.now }
-        requires few { tokens ≤ TOKENS }
-        ensures looped { MatchOption result (self.now.looped ≡ true) (λ k. (self.now.looped ≡ false) × ((c : Channel) → HasRates self.now c → c.tokens ≡ tokens → IsCornerAt c k)) }
-        ensures small { MatchOption result Unit (λ k. k ≤ TOKENS + 2 * RATE) }
+    pub(crate) fn corner(&self) -> Option<u64>
+        requires { IsLimited self.now }
+        ensures corner { MatchOption result (self.now.looped ≡ true) (λ k. (self.now.looped ≡ false) × IsCornerAt (joint_channel self.now) k) }
+        ensures small { MatchOption result (Unit {0}) (λ k. k ≤ TOKENS + 2 * RATE) }
     {
         if self.looped {
             return None;
         }
-        Some(self.corner_at(tokens))
+        Some(self.corner_at())
     }
 
-    fn corner_at(&self, tokens: u64) -> u64
-        requires limited { IsLimited self.now }
-        requires few { tokens ≤ TOKENS }
-        ensures corner { (c : Channel) → HasRates self.now c → c.tokens ≡ tokens → IsCornerAt c result }
+    fn corner_at(&self) -> u64
+        requires { IsLimited self.now }
+        ensures corner { IsCornerAt (joint_channel self.now) result }
         ensures small { result ≤ TOKENS + 2 * RATE }
     {
-        let greatest = max(greatest_of(self.made.as_slice()), greatest_of(self.taken.as_slice()));
-        if greatest <= tokens {
-            return tokens;
+        let greatest = self.greatest_rate();
+        if greatest <= self.tokens {
+            return self.tokens;
         }
         let step = self.step();
-        tokens + (greatest - tokens).div_ceil(step) * step
+        self.tokens + (greatest - self.tokens).div_ceil(step) * step
     }
 }
 
@@ -105,7 +135,9 @@ fn greatest_of(rates: &[u64]) -> u64
 {
     let mut greatest = 0;
     for rate in rates {
-        greatest = max(greatest, *rate);
+        if greatest < *rate {
+            greatest = *rate;
+        }
     }
     greatest
 }

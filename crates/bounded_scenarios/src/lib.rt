@@ -10,4 +10,4 @@ mod naming;
 mod shared_channel;
 
 pub use bounding::bounded_file;
-pub use shared_channel::{Corner, channel_steps, corner_of};
+pub use shared_channel::{Corner, channel_steps, corner_of, looped_tokens};

@@ -5,8 +5,9 @@ ghost use Rattle.levels.specs.Frontiers.{IsOver};
 ghost use Rattle.storage.specs.Distributions.{storage_of};
 ghost use Rattle.storage.specs.Steps.{IsCorner};
 ghost use Rattle.bounded_scenarios.specs.SharedChannels.{shared_channels};
+ghost use Rattle.bounded_scenarios.specs.Boundings.{looped_tokens};
 
-use crate::joint::joint_of;
+use crate::joint::{is_looped, joint_of};
 use levels::ChannelStep;
 use sd_base::{NoMemory, Rows, ScenarioFile};
 use std::alloc::Global;
@@ -27,7 +28,7 @@ pub fn channel_steps(alloc: Global, file: &ScenarioFile) -> Result<Rows<ChannelS
 {
     let mut steps = Rows::new(alloc);
     for row in file.shared.as_slice() {
-        let joint = joint_of(alloc, file.scenarios.as_slice(), &row.name)?;
+        let joint = joint_of(alloc, file.scenarios.as_slice(), row)?;
         steps.push(ChannelStep {
             size: 1,
             step: joint.step(),
@@ -45,8 +46,8 @@ pub fn corner_of(alloc: Global, file: &ScenarioFile) -> Result<Corner, NoMemory>
     let mut capacities = Rows::new(alloc);
     let mut total = 0;
     for row in file.shared.as_slice() {
-        let joint = joint_of(alloc, file.scenarios.as_slice(), &row.name)?;
-        let entry = joint.corner(row.tokens);
+        let joint = joint_of(alloc, file.scenarios.as_slice(), row)?;
+        let entry = joint.corner();
         total += entry.unwrap_or(0);
         capacities.push(entry)?;
     }
@@ -54,4 +55,19 @@ pub fn corner_of(alloc: Global, file: &ScenarioFile) -> Result<Corner, NoMemory>
         capacities: Distribution { capacities },
         total,
     })
+}
+
+/// The tokens of the shared rows that get no capacity, since their channel is a self-loop in some scenario. Cost: linear in
+/// the channels of all scenarios, for each shared row.
+pub fn looped_tokens(file: &ScenarioFile) -> u64
+    requires { FileKeepsRules file.now }
+    ensures { result ≡ looped_tokens file.now.scenarios file.now.shared }
+{
+    let mut tokens = 0;
+    for row in file.shared.as_slice() {
+        if is_looped(file.scenarios.as_slice(), &row.name) {
+            tokens += row.tokens;
+        }
+    }
+    tokens
 }

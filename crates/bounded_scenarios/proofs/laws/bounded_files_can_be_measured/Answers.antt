@@ -1,0 +1,5 @@
+use Rattle.bounded_scenarios.proofs.Measurable.{measurable}
+use Rattle.bounded_scenarios.proofs.laws.bounded_files_can_be_measured.Goals as goal
+
+pub returns : goal.returns
+returns c = λ file total ds can is within. measurable file total can ds is within
