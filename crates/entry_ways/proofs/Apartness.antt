@@ -1,5 +1,5 @@
 -- Each shared token is one of one channel alone.
-use Rattle.std.proofs.Common.{◌≡◌, ℕ, zero, suc, ◌+◌, ◌-◌, ◌≤◌, ◌<◌, Bool, true, false, List, [], ◌∷◌, length, Some, refl, sym, ap, ◌∙◌, inl, inr, arith, bytes_eq}
+use Rattle.std.proofs.Common.{◌≡◌, ℕ, zero, suc, ◌+◌, ◌<◌, Bool, true, false, List, [], ◌∷◌, length, Some, refl, sym, ap, ◌∙◌, arith, bytes_eq}
 use Rattle.std.specs.Prelude.{slice_get, slice_index_or}
 use Rattle.std.proofs.lemmas.Option.{slice_get-get_or}
 use Rattle.std.proofs.lemmas.Slice.Eq.{bytes_eq-Decides}
@@ -11,11 +11,13 @@ use Rattle.token_matrix.specs.Stamps.{first_token, first_of, no_row}
 use Rattle.token_matrix.proofs.Numbering.{RowsDiffer, later_differ, one_head}
 
 -- token m of one row and token n of another one have different numbers, where no two rows have one name
-row-apart : (shared : List SharedRow) (s t m n : ℕ) (row other : SharedRow) → RowsDiffer shared → slice_get shared s ≡ Some row → slice_get shared t ≡ Some other → m < row.tokens → n < other.tokens
+row-apart : (shared : List SharedRow) (s t m n : ℕ) (row other : SharedRow) → RowsDiffer shared → slice_get shared s ≡ Some row → slice_get shared t ≡ Some other → m < row.tokens
+    → n < other.tokens
     → first_token shared row.name + m ≡ first_token shared other.name + n → row.name ≡ other.name
 row-apart [] s t m n row other differ at there few less same = absurd (cc)
 row-apart (r ∷ rest) s t m n row other differ at there few less same =
-    step s t at there (bytes_eq r.name row.name) (bytes_eq r.name other.name) refl refl
+    step (λ k l here also alike. row-apart rest k l m n row other (later_differ r rest differ) here also few less alike) s t at there (bytes_eq r.name row.name)
+    (bytes_eq r.name other.name) refl refl
   where
     -- the row of a name that is the head's
     head : (k : ℕ) (x : SharedRow) → slice_get (r ∷ rest) k ≡ Some x → bytes_eq r.name x.name ≡ true → r ≡ x
@@ -30,24 +32,26 @@ row-apart (r ∷ rest) s t m n row other differ at there few less same =
     behind zero x here off = absurd (let e : r ≡ x = cc in let is : bytes_eq r.name x.name ≡ true = (bytes_eq-Decides r.name x.name).1 (ap (λ (y : SharedRow). y.name) e) in (cc))
     behind (suc k) x here off = (k, here)
 
-    step : (s t : ℕ) → slice_get (r ∷ rest) s ≡ Some row → slice_get (r ∷ rest) t ≡ Some other → (b d : Bool) → bytes_eq r.name row.name ≡ b → bytes_eq r.name other.name ≡ d → row.name ≡ other.name
-    step s t at there true true one two = sym ((bytes_eq-Decides r.name row.name).0 one) ∙ (bytes_eq-Decides r.name other.name).0 two
-    step s t at there true false one two = absurd (
+    step : ((k l : ℕ) → slice_get rest k ≡ Some row → slice_get rest l ≡ Some other → first_token rest row.name + m ≡ first_token rest other.name + n → row.name ≡ other.name)
+        → (s t : ℕ) → slice_get (r ∷ rest) s ≡ Some row → slice_get (r ∷ rest) t ≡ Some other → (b d : Bool) → bytes_eq r.name row.name ≡ b → bytes_eq r.name other.name ≡ d
+        → row.name ≡ other.name
+    step next s t at there true true one two = sym ((bytes_eq-Decides r.name row.name).0 one) ∙ (bytes_eq-Decides r.name other.name).0 two
+    step next s t at there true false one two = absurd (
         let few' : m < r.tokens = (let e : r ≡ row = head s row at one in rw e few) in
         let f : first_token (r ∷ rest) row.name ≡ 0 = rw one refl in
         let g : first_token (r ∷ rest) other.name ≡ r.tokens + first_token rest other.name = rw two refl in
         let no : ⊥ = omega (arith, same) in no)
-    step s t at there false true one two = absurd (
+    step next s t at there false true one two = absurd (
         let less' : n < r.tokens = (let e : r ≡ other = head t other there two in rw e less) in
         let f : first_token (r ∷ rest) row.name ≡ r.tokens + first_token rest row.name = rw one refl in
         let g : first_token (r ∷ rest) other.name ≡ 0 = rw two refl in
         let no : ⊥ = omega (arith, same) in no)
-    step s t at there false false one two =
+    step next s t at there false false one two =
         let a = behind s row at one in
         let b = behind t other there two in
         let f : first_token (r ∷ rest) row.name ≡ r.tokens + first_token rest row.name = rw one refl in
         let g : first_token (r ∷ rest) other.name ≡ r.tokens + first_token rest other.name = rw two refl in
-        row-apart rest a.0 b.0 m n row other (later_differ r rest differ) a.1 b.1 few less (omega (arith, same))
+        next a.0 b.0 a.1 b.1 (omega (arith, same))
 
 -- of a graph that shares them: channels with tokens of one number are one
 pub channels-apart : (shared : List SharedRow) (g : GraphFile) → Shares shared g → (i j m n : ℕ) → i < length g.channels → j < length g.channels

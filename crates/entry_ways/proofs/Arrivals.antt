@@ -34,12 +34,17 @@ module _ (net : Net) (number : ℕ → ℕ) (p : ℕ) (rows : List (List (Option
       (λ ((d, at, is) : (d : ℕ) × (start_in rows (channel_at net i).source k ≡ Some d) × (t ≡ d + time_of net (channel_at net i).source k)). (k, d, low, omega arith, at, is)) has)
       (λ t (l, d, above, below, at, is). ⊎_elim
       (λ (less : l < k). inl (l, d, above, less, at, is))
-      (λ (last : k ≤ l). (let e : l ≡ k = omega arith in inr (d, ap (λ (n : ℕ). start_in rows (channel_at net i).source n) (sym e) ∙ at, is ∙ ap (λ (n : ℕ). d + time_of net (channel_at net i).source n) e)))
+      (λ (last : k ≤ l). (let e : l ≡ k = omega arith in inr (
+        d,
+        ap (λ (n : ℕ). start_in rows (channel_at net i).source n) (sym e) ∙ at,
+        is ∙ ap (λ (n : ℕ). d + time_of net (channel_at net i).source n) e,
+      )))
       (cases_lt l k))
       (longest-both _ _ s (later_by (time_of net (channel_at net i).source k) (start_in rows (channel_at net i).source k)) longest (one-end k (start_in rows (channel_at net i).source k) refl))
 
   -- the putters have their starts
-  pub putters-there : (has : Bool) (first end : ℕ) → ArePutters net number p i j has first end → IsFedBy net rows i j → (k : ℕ) → first ≤ k → k < end → k < length (slice_index_or rows (channel_at net i).source [])
+  pub putters-there : (has : Bool) (first end : ℕ) → ArePutters net number p i j has first end → IsFedBy net rows i j → (k : ℕ) → first ≤ k → k < end
+      → k < length (slice_index_or rows (channel_at net i).source [])
   putters-there has first end putters fed k low high =
       let m = putters.each k low high in
       put_earlier net (λ b. length (slice_index_or rows b [])) i m.0 k (let h : m.0 < total (channel_at net i).taken (j + 1) = m.1.1 in omega (arith, fed)) m.2
@@ -52,7 +57,8 @@ module _ (net : Net) (number : ℕ → ℕ) (p : ℕ) (rows : List (List (Option
       × (start_in rows (channel_at net i).source k ≡ Some d) × (t ≡ d + time_of net (channel_at net i).source k) → IsEndIn net rows i first end t
   end-link has first end putters t (m, k, d, takes, puts, at, is) = let range = putters.all m k takes puts in (k, d, range.0, range.1, at, is)
 
-  pub token-links : (has : Bool) (first end : ℕ) (s : Option ℕ) → ArePutters net number p i j has first end → IsTrue has → IsLongest (IsEndIn net rows i first end) s → IsLongest (IsLink net number p rows i j) (later (Some 0) s)
+  pub token-links : (has : Bool) (first end : ℕ) (s : Option ℕ) → ArePutters net number p i j has first end → IsTrue has → IsLongest (IsEndIn net rows i first end) s
+      → IsLongest (IsLink net number p rows i j) (later (Some 0) s)
   token-links has first end s putters held longest =
       longest-same _ (IsLink net number p rows i j) _
       (λ t has_one. ⊎_elim
@@ -65,7 +71,8 @@ module _ (net : Net) (number : ℕ → ℕ) (p : ℕ) (rows : List (List (Option
       sides t (inl (m, takes, there, at, is)) = inl is
       sides t (inr link) = inr (end-link has first end putters t link)
 
-  pub other-links : (has : Bool) (first end : ℕ) (s : Option ℕ) → ArePutters net number p i j has first end → (IsTrue has → ⊥) → IsLongest (IsEndIn net rows i first end) s → IsLongest (IsLink net number p rows i j) s
+  pub other-links : (has : Bool) (first end : ℕ) (s : Option ℕ) → ArePutters net number p i j has first end → (IsTrue has → ⊥) → IsLongest (IsEndIn net rows i first end) s
+      → IsLongest (IsLink net number p rows i j) s
   other-links has first end s putters free longest =
       longest-same (IsEndIn net rows i first end) (IsLink net number p rows i j) s (λ t end_is. link-end has first end putters t end_is) back longest
     where

@@ -1,19 +1,22 @@
 -- A column with the start of one more firing is a column.
-use Rattle.std.proofs.Common.{◌≡◌, ℕ, zero, suc, ◌+◌, ◌≤◌, ◌<◌, ◌⊎◌, List, [], ◌∷◌, ◌++◌, length, Option, None, Some, inl, inr, ⊎_elim, subst, sym, ap, ◌∙◌, refl, arith, length-append, sum, mod-lt, ◌%◌}
+use Rattle.std.proofs.Common.{◌≡◌, ℕ, zero, suc, ◌+◌, ◌≤◌, ◌<◌, ◌⊎◌, List, [], ◌∷◌, ◌++◌, length, Option, None, Some, Result, Ok, Err, inl, inr, ⊎_elim, subst, sym, ap, ◌∙◌, refl, arith, length-append, sum, mod-lt, ◌%◌}
 use Rattle.std.specs.Prelude.{slice_index, slice_index_or}
+use Rattle.std.specs.Result.{OnOk}
 use Rattle.std.proofs.lemmas.Bool.{cases_lt, cases_eq}
 use Rattle.std.proofs.lemmas.List.{get_or_append_left}
 use Rattle.std.proofs.lemmas.List.Sums.{get_or-le-sum_by}
 use Rattle.sd_base.specs.Net.{Net, channel_at, total}
 use Rattle.sd_base.specs.Lawful.{Lawful}
-use Rattle.sd_base.specs.declared.limits.TheConstants.{TIME}
+use Rattle.sd_base.specs.declared.limits.TheConstants.{ROUND, TIME}
+use Rattle.sd_base.specs.declared.memory.NoMemory.{NoMemory}
 use Rattle.sd_base.specs.Schedules.{phases_at, time_of}
 use Rattle.sd_base.specs.Untimed.{one_more, CanFire, none_fired}
+use Rattle.sd_base.proofs.Parts.{balanced}
 use Rattle.sd_base.proofs.Blocking.{bump-same, bump-other}
 use Rattle.token_matrix.specs.Stamps.{IsTakenBy}
 use Rattle.token_matrix.specs.Ways.{IsChain}
 use Rattle.token_matrix.specs.Ways.IsChain.{begins, goes}
-use Rattle.entry_ways.specs.inside.Columns.{start_in, AreUpTo, IsColumn, IsLink, IsLinkInto, IsLongest, HasStart}
+use Rattle.entry_ways.specs.inside.Columns.{start_in, AreUpTo, IsColumn, IsFedBy, IsLink, IsLinkInto, IsLongest, HasStart}
 use Rattle.token_matrix.proofs.Putters.{put_earlier}
 
 -- a start is there only for a firing that the column has
@@ -26,7 +29,8 @@ last-at : (xs : List (Option ℕ)) (s : Option ℕ) → slice_index_or (xs ++ s 
 last-at [] s = refl
 last-at (x ∷ xs) s = last-at xs s
 
-pub none-start : (first : ℕ → ℕ) (net : Net) (p : ℕ) (rows : List (List (Option ℕ))) → length rows ≡ length net.times → ((a : ℕ) → slice_index_or rows a [] ≡ []) → IsColumn net first p none_fired rows
+pub none-start : (first : ℕ → ℕ) (net : Net) (p : ℕ) (rows : List (List (Option ℕ))) → length rows ≡ length net.times → ((a : ℕ) → slice_index_or rows a [] ≡ [])
+    → IsColumn net first p none_fired rows
 none-start first net p rows long empty = record {
   actors = long;
   whole = λ a actor. ap (λ (r : List (Option ℕ)). length r) (empty a);
@@ -35,7 +39,8 @@ none-start first net p rows long empty = record {
 }
 
 module _ (net : Net) (laws : Lawful net) (first : ℕ → ℕ) (p : ℕ) (v : ℕ → ℕ) (a : ℕ) (start : Option ℕ) (old new : List (List (Option ℕ))) (column : IsColumn net first p v old)
-    (actor : a < length net.times) (early : v a < slice_index net.round a) (can : CanFire net v a) (longest : IsLongest (IsLinkInto net first p old a (v a)) start) (more : HasStart a start old new) where
+    (actor : a < length net.times) (early : v a < slice_index net.round a) (can : CanFire net v a) (longest : IsLongest (IsLinkInto net first p old a (v a)) start)
+    (more : HasStart a start old new) where
   -- the new start, and the others
   here : start_in new a (v a) ≡ start
   here = let long : length (slice_index_or old a []) ≡ v a = column.whole a actor in
@@ -109,7 +114,8 @@ module _ (net : Net) (laws : Lawful net) (first : ℕ → ℕ) (p : ℕ) (v : �
           let long : length (slice_index_or old a []) ≡ v a = column.whole a actor in
           let added : length (slice_index_or old a [] ++ start ∷ []) ≡ length (slice_index_or old a []) + 1 = length-append (slice_index_or old a []) (start ∷ []) in
           let e : one_more v a b ≡ v a + 1 = ap (λ (c : ℕ). one_more v a c) same ∙ bump-same v a in
-          let f : length (slice_index_or new b []) ≡ length (slice_index_or old a [] ++ start ∷ []) = ap (λ (c : ℕ). length (slice_index_or new c [])) same ∙ ap (λ (r : List (Option ℕ)). length r) more.here in
+          let f : length (slice_index_or new b []) ≡ length (slice_index_or old a [] ++ start ∷ []) =
+          ap (λ (c : ℕ). length (slice_index_or new c [])) same ∙ ap (λ (r : List (Option ℕ)). length r) more.here in
           omega arith))
           (λ (apart : b ≡ a → ⊥). (
           let e : one_more v a b ≡ v b = bump-other v a b apart in
@@ -127,8 +133,34 @@ same-default (x ∷ xs) (suc i) d e below = same-default xs i d e (omega arith)
 pub part-sum : (xs : List ℕ) (i : ℕ) → i < length xs → slice_index xs i ≤ sum xs
 part-sum xs i below = get_or-le-sum_by (λ (n : ℕ). n) xs i 0 below
 
+-- an actor fires in a round no more often than all do
+pub round-small : (net : Net) → Lawful net → (a : ℕ) → a < length net.times → slice_index net.round a ≤ ROUND
+round-small net laws a actor =
+    let many : length net.round ≡ length net.times = (balanced net laws).actors in
+    let part : slice_index net.round a ≤ sum net.round = part-sum net.round a (omega arith) in
+    omega (arith, laws.small_round)
+
+-- a row of a column is as long as its actor has fired
+pub row-long : (net : Net) (first : ℕ → ℕ) (p : ℕ) (v : ℕ → ℕ) (rows : List (List (Option ℕ))) → IsColumn net first p v rows → (a : ℕ) (row : List (Option ℕ)) → a < length net.times
+    → row ≡ slice_index_or rows a row → length row ≡ v a
+row-long net first p v rows column a row actor is =
+    ap (λ (r : List (Option ℕ)). length r) (is ∙ same-default rows a row [] (omega (arith, column.actors))) ∙ column.whole a actor
+
+-- what the next firing takes is put by firings that have starts
+pub next-fed : (net : Net) → Lawful net → (first : ℕ → ℕ) (p : ℕ) (v : ℕ → ℕ) (rows : List (List (Option ℕ))) → IsColumn net first p v rows → (a : ℕ) → CanFire net v a
+    → (i : ℕ) → i < length net.channels → (channel_at net i).target ≡ a → IsFedBy net rows i (v a)
+next-fed net laws first p v rows column a can i below into =
+    subst (λ (n : ℕ). total (channel_at net i).taken (v a + 1) ≤ (channel_at net i).tokens + total (channel_at net i).made n)
+    (sym (column.whole (channel_at net i).source (laws.sources i below))) (can i below into)
+
+-- what holds of a value that is there, where something else does
+pub on-ok : {P Q : Type 0} → (r : Result (Unit {0}) NoMemory) → (P → Q) → OnOk r P → OnOk r Q
+on-ok (Ok o) then has = then has
+on-ok (Err e) then has = tt
+
 -- no link comes later than the starts and a time
-pub link-small : (net : Net) → Lawful net → ((a : ℕ) → a < length net.times → phases_at net a ≡ 1) → (first : ℕ → ℕ) (p : ℕ) (rows : List (List (Option ℕ))) (b a j t : ℕ) → AreUpTo b rows → IsLinkInto net first p rows a j t → t ≤ b + TIME
+pub link-small : (net : Net) → Lawful net → ((a : ℕ) → a < length net.times → phases_at net a ≡ 1) → (first : ℕ → ℕ) (p : ℕ) (rows : List (List (Option ℕ))) (b a j t : ℕ)
+    → AreUpTo b rows → IsLinkInto net first p rows a j t → t ≤ b + TIME
 link-small net laws phases first p rows b a j t small (i, below, into, inl (m, takes, there, at, is)) = omega arith
 link-small net laws phases first p rows b a j t small (i, below, into, inr (m, k, d, takes, puts, at, is)) =
     let low : d ≤ b = small (channel_at net i).source k d at in
@@ -142,7 +174,8 @@ link-small net laws phases first p rows b a j t small (i, below, into, inr (m, k
 pub starts-small : (a : ℕ) (start : Option ℕ) (old new : List (List (Option ℕ))) (b c : ℕ) → AreUpTo b old → b ≤ c → ((t : ℕ) → start ≡ Some t → t ≤ c) → HasStart a start old new → AreUpTo c new
 starts-small a start old new b c small more one has d j t at = ⊎_elim
     (λ (same : d ≡ a). (
-    let here : slice_index_or (slice_index_or old a [] ++ start ∷ []) j None ≡ Some t = ap (λ (r : List (Option ℕ)). slice_index_or r j None) (sym has.here) ∙ (ap (λ (n : ℕ). start_in new n j) (sym same) ∙ at) in
+    let here : slice_index_or (slice_index_or old a [] ++ start ∷ []) j None ≡ Some t = ap (λ (r : List (Option ℕ)). slice_index_or r j None) (sym has.here) ∙
+    (ap (λ (n : ℕ). start_in new n j) (sym same) ∙ at) in
     ⊎_elim
     (λ (before : j < length (slice_index_or old a [])). (let s : t ≤ b = small a j t (sym (get_or_append_left (slice_index_or old a []) (start ∷ []) None j before) ∙ here) in omega arith))
     (λ (past : length (slice_index_or old a []) ≤ j). (

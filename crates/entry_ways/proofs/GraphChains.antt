@@ -1,16 +1,17 @@
 -- Chains and ways of the net of a scenario's graph, by the numbers of the first shared tokens of its channels.
-use Rattle.std.proofs.Common.{◌≡◌, ℕ, ◌+◌, ◌-◌, ◌≤◌, ◌<◌, false, List, [], length, sym, ap, subst, ◌∙◌, arith}
+use Rattle.std.proofs.Common.{◌≡◌, ℕ, ◌-◌, ◌*◌, ◌≤◌, ◌<◌, false, List, [], length, sum, sym, ap, subst, ◌∙◌, arith, mul-le-mul_right}
 use Rattle.std.specs.Prelude.{slice_index, slice_index_or}
 use Rattle.std.proofs.lemmas.List.{get_or-map, length-map}
+use Rattle.sd_base.specs.declared.limits.TheConstants.{STAMPS}
 use Rattle.sd_base.specs.declared.tables.Kind.TheVariants.{Sdf}
 use Rattle.sd_base.specs.declared.tables.GraphFile.{GraphFile}
 use Rattle.sd_base.specs.declared.tables.ActorRow.{ActorRow}
 use Rattle.sd_base.specs.declared.tables.SharedRow.{SharedRow}
-use Rattle.sd_base.specs.Tables.{KeepsWideRules, IsTimed}
-use Rattle.sd_base.specs.Net.{Net, channel_at}
+use Rattle.sd_base.specs.Tables.{KeepsWideRules, IsTimed, phases_of}
+use Rattle.sd_base.specs.Net.{Net, channel_at, IsRepetitionOf}
 use Rattle.sd_base.specs.Schedules.{phases_at}
 use Rattle.sd_base.specs.FileNet.{net_of}
-use Rattle.sd_base.specs.Scenarios.{Shares}
+use Rattle.sd_base.specs.Scenarios.{Shares, shared_count}
 use Rattle.firing.specs.Wiring.{IsWiringOf}
 use Rattle.firing.specs.declared.wiring.Wiring.{Wiring}
 use Rattle.token_matrix.specs.Stamps.{first_of, no_row}
@@ -20,11 +21,22 @@ use Rattle.entry_ways.specs.declared.marking.EntryPlace.{EntryPlace}
 use Rattle.entry_ways.specs.WayMarks.{HasWay, IsLongestWay}
 use Rattle.entry_ways.specs.inside.Columns.{IsTraceable}
 use Rattle.entry_ways.specs.inside.Firsts.{AreFirsts}
-use Rattle.entry_ways.specs.inside.Traces.{AreApart, IsOnChannel}
+use Rattle.entry_ways.specs.inside.Traces.{AreApart}
+use Rattle.entry_ways.proofs.ColumnSteps.{part-sum}
 use Rattle.entry_ways.proofs.Apartness.{channels-apart}
 use Rattle.entry_ways.proofs.SameNumbers.{same-way, same-longest}
 
-module _ (shared : List SharedRow) (g : GraphFile) (gamma : List ℕ) (rules : KeepsWideRules g) (kind : g.kind ≡ Sdf) (firsts : List ℕ) (are : AreFirsts shared g firsts) (net : Net) (is : net ≡ net_of g gamma false) where
+-- shared tokens have numbers below their limit, since some actor fires in a round
+pub few-shared : (shared : List SharedRow) (g : GraphFile) (gamma : List ℕ) → KeepsWideRules g → IsRepetitionOf g gamma → sum gamma * shared_count shared ≤ STAMPS → shared_count shared ≤ STAMPS
+few-shared shared g gamma rules gives within =
+    let first : 1 ≤ slice_index gamma 0 = gives.balances.fires 0 (let f : 0 < length (phases_of g) = omega (arith, rules.some_actor, length-map g.actors (λ (r : ActorRow). r.phases)) in f) in
+    let part : slice_index gamma 0 ≤ sum gamma = part-sum gamma 0 (let f : 0 < length gamma =
+    omega (arith, gives.balances.actors, rules.some_actor, length-map g.actors (λ (r : ActorRow). r.phases)) in f) in
+    let up : 1 * shared_count shared ≤ sum gamma * shared_count shared = mul-le-mul_right (shared_count shared) (let f : 1 ≤ sum gamma = omega arith in f) in
+    omega arith
+
+module _ (shared : List SharedRow) (g : GraphFile) (gamma : List ℕ) (rules : KeepsWideRules g) (kind : g.kind ≡ Sdf) (firsts : List ℕ) (are : AreFirsts shared g firsts) (net : Net)
+    (is : net ≡ net_of g gamma false) where
   many : length net.channels ≡ length g.channels
   many = subst (λ (n : Net). length n.channels ≡ length g.channels) (sym is) (channels-many g gamma rules kind)
 
@@ -57,8 +69,12 @@ module _ (shared : List SharedRow) (g : GraphFile) (gamma : List ℕ) (rules : K
 
   -- an entry has a way by these numbers
   pub way-by : (entry : EntryPlace) → HasWay (net_of g gamma false) (first_of shared g) entry → (e : ℕ) × (cs : List ℕ) × IsWay net (slice_index firsts) entry.column entry.row e cs
-  way-by entry (e, cs, way) = (e, cs, same-way net (first_of shared g) (slice_index firsts) (λ i below. sym (numbers i below)) entry.column entry.row e cs
-      (subst (λ (n : Net). IsWay n (first_of shared g) entry.column entry.row e cs) (sym is) way))
+  way-by entry (e, cs, way) = (
+    e,
+    cs,
+    same-way net (first_of shared g) (slice_index firsts) (λ i below. sym (numbers i below)) entry.column entry.row e cs
+        (subst (λ (n : Net). IsWay n (first_of shared g) entry.column entry.row e cs) (sym is) way),
+  )
 
   -- and a longest way by them is one
   pub longest-by : (p q : ℕ) (cs : List ℕ) → IsLongestWay net (slice_index firsts) p q cs → IsLongestWay (net_of g gamma false) (first_of shared g) p q cs

@@ -54,9 +54,11 @@ module _ (net : Net) (first : ℕ → ℕ) (p q c : ℕ) (apart : AreApart net f
         let low : (channel_at net c).tokens + total (channel_at net c).made n ≤ left_token net c (q - first c) = puts.0 in let no : ⊥ = omega (arith, soon) in no)
     last-of _ _ (put i k l t cs below there is puts' chain) =
         let here = place-of i k below there is in
-        let moved : IsPutBy (channel_at net c) (left_token net c (q - first c)) l = subst (λ (m : ℕ). IsPutBy (channel_at net c) (left_token net c m) l) here.1 (subst (λ (j : ℕ). IsPutBy (channel_at net j) (left_token net j k) l) here.0 puts') in
+        let moved : IsPutBy (channel_at net c) (left_token net c (q - first c)) l = subst (λ (m : ℕ). IsPutBy (channel_at net c) (left_token net c m) l) here.1
+        (subst (λ (j : ℕ). IsPutBy (channel_at net j) (left_token net j k) l) here.0 puts') in
         let same : l ≡ n = one_putter net c (left_token net c (q - first c)) l n moved puts in
-        let chain' : IsChain net first p (channel_at net c).source n t cs = subst (λ (m : ℕ). IsChain net first p (channel_at net c).source m t cs) same (subst (λ (j : ℕ). IsChain net first p (channel_at net j).source l t cs) here.0 chain) in
+        let chain' : IsChain net first p (channel_at net c).source n t cs = subst (λ (m : ℕ). IsChain net first p (channel_at net c).source m t cs) same
+        (subst (λ (j : ℕ). IsChain net first p (channel_at net j).source l t cs) here.0 chain) in
         (t, chain', ap (λ (j : ℕ). t + time_of net (channel_at net j).source l) here.0 ∙ ap (λ (m : ℕ). t + time_of net (channel_at net c).source m) same)
 
     module _ (rows : List (List (Option ℕ))) (column : IsColumn net first p (slice_index net.round) rows) where
@@ -66,7 +68,8 @@ module _ (net : Net) (first : ℕ → ℕ) (p q c : ℕ) (apart : AreApart net f
       -- that firing is one of the round, and has a start where there is a way
       pub last-early : n < slice_index net.round (channel_at net c).source
       last-early =
-          let kept : total (channel_at net c).made (slice_index net.round (channel_at net c).source) ≡ total (channel_at net c).taken (slice_index net.round (channel_at net c).target) = laws.repetition.balances.kept c on.place in
+          let kept : total (channel_at net c).made (slice_index net.round (channel_at net c).source) ≡ total (channel_at net c).taken (slice_index net.round (channel_at net c).target) =
+          laws.repetition.balances.kept c on.place in
           let place : q - first c < (channel_at net c).tokens = omega (arith, on.past, on.there) in
           put_earlier net (slice_index net.round) c (left_token net c (q - first c)) n (omega arith) puts
 

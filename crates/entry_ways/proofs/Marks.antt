@@ -12,7 +12,14 @@ use Rattle.entry_ways.specs.inside.Traces.{AreMarked}
 
 -- no channel is in an empty list
 pub none-marked : (old : List Bool) → AreMarked [] old old
-none-marked old = record { long = refl; marked = λ i below. (λ at. inl at, λ has. ⊎_elim (λ (at : slice_index_or old i false ≡ true). at) (λ ((k, low, at) : Contains [] i). absurd (let no : ⊥ = omega arith in no)) has) }
+none-marked old = record {
+  long = refl;
+  marked = λ i below. (
+    λ at. inl at,
+    λ has. ⊎_elim (λ (at : slice_index_or old i false ≡ true). at)
+        (λ ((k, low, at) : Contains [] i). absurd (let no : ⊥ = omega arith in no)) has,
+  );
+}
 
 -- the marks of one list and then of another
 pub more-marked : (cs ds : List ℕ) (old mid new : List Bool) → AreMarked cs old mid → AreMarked ds mid new → AreMarked (cs ++ ds) old new
@@ -49,12 +56,14 @@ module _ (net : Net) (first : ℕ → ℕ) where
     each-longest : (k : ℕ) (e : EntryPlace) → slice_get (entries ++ entry ∷ []) k ≡ Some e → IsLongestWay net first e.column e.row (slice_index_or (before.ways ++ cs ∷ []) k [])
     each-longest k e at = ⊎_elim
         (λ (less : k < length entries). (
-        let there : slice_get entries k ≡ Some e = slice_get-get_or entries k e less ∙ ap Some (sym (get_or_append_left entries (entry ∷ []) e k less) ∙ get_or_from_slice_get (entries ++ entry ∷ []) k e e at) in
+        let there : slice_get entries k ≡ Some e = slice_get-get_or entries k e less ∙ ap Some
+        (sym (get_or_append_left entries (entry ∷ []) e k less) ∙ get_or_from_slice_get (entries ++ entry ∷ []) k e e at) in
         subst (λ (ds : List ℕ). IsLongestWay net first e.column e.row ds) (sym (get_or_append_left before.ways (cs ∷ []) [] k (omega (arith, before.each)))) (before.longest k e there)))
         (λ (past : length entries ≤ k). (
         let within : k < length (entries ++ entry ∷ []) = slice_get_within (entries ++ entry ∷ []) k e at in
         let last : k ≡ length entries + 0 = omega (arith, length-append entries (entry ∷ [])) in
-        let is : entry ≡ e = sym (get_or-append-add entries (entry ∷ []) 0 e) ∙ (ap (λ (n : ℕ). slice_index_or (entries ++ entry ∷ []) n e) (sym last) ∙ get_or_from_slice_get (entries ++ entry ∷ []) k e e at) in
+        let is : entry ≡ e = sym (get_or-append-add entries (entry ∷ []) 0 e) ∙ (ap (λ (n : ℕ). slice_index_or (entries ++ entry ∷ []) n e) (sym last) ∙ get_or_from_slice_get
+        (entries ++ entry ∷ []) k e e at) in
         let same : k ≡ length before.ways + 0 = omega (arith, before.each) in
         let here : slice_index_or (before.ways ++ cs ∷ []) k [] ≡ cs = ap (λ (n : ℕ). slice_index_or (before.ways ++ cs ∷ []) n []) same ∙ get_or-append-add before.ways (cs ∷ []) 0 [] in
         subst (λ (ds : List ℕ). IsLongestWay net first e.column e.row ds) (sym here) (subst (λ (f : EntryPlace). IsLongestWay net first f.column f.row cs) is way)))

@@ -17,7 +17,8 @@ module _ (net : Net) (first other : ℕ → ℕ) (same : (i : ℕ) → i < lengt
   same-way q _ _ (put i k n t cs below there is puts chain) = put i k n t cs below there (is ∙ ap (λ (m : ℕ). m + k) (same i below)) puts (same-chain (channel_at net i).source n t cs chain)
 
 -- and longest ways
-pub same-longest : (net : Net) (first other : ℕ → ℕ) → ((i : ℕ) → i < length net.channels → first i ≡ other i) → (p q : ℕ) (cs : List ℕ) → IsLongestWay net first p q cs → IsLongestWay net other p q cs
+pub same-longest : (net : Net) (first other : ℕ → ℕ) → ((i : ℕ) → i < length net.channels → first i ≡ other i) → (p q : ℕ) (cs : List ℕ) → IsLongestWay net first p q cs
+    → IsLongestWay net other p q cs
 same-longest net first other same p q cs is = record {
   time = is.time;
   way = same-way net first other same p q is.time cs is.way;

@@ -1,5 +1,5 @@
 -- A chain followed backwards.
-use Rattle.std.proofs.Common.{◌≡◌, ℕ, zero, suc, ◌+◌, ◌≤◌, ◌<◌, ◌⊎◌, Bool, true, false, List, [], ◌∷◌, ◌++◌, length, Option, None, Some, inl, inr, ⊎_elim, subst, sym, ap, ◌∙◌, refl, arith}
+use Rattle.std.proofs.Common.{◌≡◌, ℕ, ◌+◌, ◌≤◌, ◌<◌, Bool, List, [], ◌∷◌, length, Option, None, Some, inl, inr, subst, sym, ap, ◌∙◌, refl, arith}
 use Rattle.std.specs.Prelude.{IsTrue, MatchOption, slice_index, slice_index_or}
 use Rattle.sd_base.specs.Net.{Net, channel_at, total}
 use Rattle.sd_base.specs.Lawful.{Lawful}
@@ -36,10 +36,13 @@ module _ (net : Net) (laws : Lawful net) (first : ℕ → ℕ) (p : ℕ) (rows :
   -- what a firing of the round takes is put by firings that have starts
   pub round-fed : (i j : ℕ) → i < length net.channels → j < slice_index net.round (channel_at net i).target → IsFedBy net rows i j
   round-fed i j below early =
-      let kept : total (channel_at net i).made (slice_index net.round (channel_at net i).source) ≡ total (channel_at net i).taken (slice_index net.round (channel_at net i).target) = laws.repetition.balances.kept i below in
-      let rises : total (channel_at net i).taken (j + 1) ≤ total (channel_at net i).taken (slice_index net.round (channel_at net i).target) = total-le (channel_at net i).taken (let f : j + 1 ≤ slice_index net.round (channel_at net i).target = omega arith in f) in
+      let kept : total (channel_at net i).made (slice_index net.round (channel_at net i).source) ≡ total (channel_at net i).taken (slice_index net.round (channel_at net i).target) =
+      laws.repetition.balances.kept i below in
+      let rises : total (channel_at net i).taken (j + 1) ≤ total (channel_at net i).taken (slice_index net.round (channel_at net i).target) =
+      total-le (channel_at net i).taken (let f : j + 1 ≤ slice_index net.round (channel_at net i).target = omega arith in f) in
       let row : length (slice_index_or rows (channel_at net i).source []) ≡ slice_index net.round (channel_at net i).source = column.whole (channel_at net i).source (laws.sources i below) in
-      let made : total (channel_at net i).made (length (slice_index_or rows (channel_at net i).source [])) ≡ total (channel_at net i).made (slice_index net.round (channel_at net i).source) = ap (λ (n : ℕ). total (channel_at net i).made n) row in
+      let made : total (channel_at net i).made (length (slice_index_or rows (channel_at net i).source [])) ≡ total (channel_at net i).made
+      (slice_index net.round (channel_at net i).source) = ap (λ (n : ℕ). total (channel_at net i).made n) row in
       (let f : total (channel_at net i).taken (j + 1) ≤ (channel_at net i).tokens + total (channel_at net i).made (length (slice_index_or rows (channel_at net i).source [])) = omega arith in f)
 
   -- a firing with a start is one of the round
@@ -47,12 +50,14 @@ module _ (net : Net) (laws : Lawful net) (first : ℕ → ℕ) (p : ℕ) (rows :
   in-round a j t known at = subst (λ (n : ℕ). j < n) (column.whole a known) (start-below (slice_index_or rows a []) j t at)
 
   -- the chain goes on from a link
-  pub chain-on : (a j t i k d m : ℕ) (rest : List ℕ) → i < length net.channels → (channel_at net i).target ≡ a → j < slice_index net.round a → IsTakenBy (channel_at net i) m j → IsPutBy (channel_at net i) m k →
+  pub chain-on : (a j t i k d m : ℕ) (rest : List ℕ) → i < length net.channels → (channel_at net i).target ≡ a → j < slice_index net.round a → IsTakenBy (channel_at net i) m j
+      → IsPutBy (channel_at net i) m k →
       t ≡ d + time_of net (channel_at net i).source k → IsChain net first p (channel_at net i).source k d rest → IsChain net first p a j t (i ∷ rest)
   chain-on a j t i k d m rest below into early takes puts is chain = subst (λ (n : ℕ). IsChain net first p a j n (i ∷ rest)) (sym is) (goes a j i m k d rest below into early takes puts chain)
 
   -- and begins with one
-  pub chain-from : (a j t i m : ℕ) → i < length net.channels → (channel_at net i).target ≡ a → j < slice_index net.round a → IsTakenBy (channel_at net i) m j → m < (channel_at net i).tokens → p ≡ first i + m → t ≡ 0 →
+  pub chain-from : (a j t i m : ℕ) → i < length net.channels → (channel_at net i).target ≡ a → j < slice_index net.round a → IsTakenBy (channel_at net i) m j
+      → m < (channel_at net i).tokens → p ≡ first i + m → t ≡ 0 →
       IsChain net first p a j t (i ∷ [])
   chain-from a j t i m below into early takes there at is = subst (λ (n : ℕ). IsChain net first p a j n (i ∷ [])) (sym is) (begins a j i m below into early takes there at)
 

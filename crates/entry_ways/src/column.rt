@@ -1,29 +1,20 @@
 //! How long after one shared token each firing of a round starts at the least.
-ghost use Rattle.std.specs.Prelude.{◌≡◌, ◌+◌, ◌*◌, ◌≤◌, ◌<◌, ◌↔◌, ◌^◌, ◌⊎◌, ℕ, [], None, Some, IfOk, IsTrue, OnOk, length, slice_index, slice_index_or, take};
+ghost use Rattle.std.specs.Prelude.{◌≡◌, ◌+◌, ◌*◌, ◌≤◌, ◌<◌, ℕ, [], None, Some, IfOk, OnOk, length, slice_index, slice_index_or, take};
 ghost use Rattle.sd_base.specs.declared.limits.TheConstants.{ROUND, TIME};
 ghost use Rattle.sd_base.specs.Net.{channel_at};
 ghost use Rattle.sd_base.specs.Schedules.{time_of};
 ghost use Rattle.sd_base.specs.Untimed.{IsRoundOrder, counts_after, none_fired};
-ghost use Rattle.entry_ways.specs.inside.Columns.{ArePutters, AreSmall, AreUpTo, HasStart, IsAmong, IsColumn, IsTraceable, IsEndIn, IsFedBy, IsLink, IsLinkInto, IsLongest, later, later_by, start_in};
+ghost use Rattle.entry_ways.specs.inside.Columns.{AreSmall, AreUpTo, HasStart, IsColumn, IsEndIn, IsFedBy, IsLink, IsLinkInto, IsLongest, IsTraceable, later, later_by, start_in};
 
 use crate::chains::Chains;
+use crate::putters::putters_of;
 use firing::{Firing, know_laws, know_wiring};
 use sd_base::{NoMemory, Rows};
 use std::alloc::Global;
-use std::cmp::max;
-
-/// The firings of a channel's source that put the tokens of a firing of its target, from the first to one past the last,
-/// and whether the shared token is among those that it takes.
-#[derive(Clone, Copy, Debug)]
-pub(crate) struct Putters {
-    pub(crate) has_token: bool,
-    pub(crate) first: u64,
-    pub(crate) end: u64,
-}
 
 /// By actor and firing the greatest time of a chain of firings from a shared token to its start; none where no chain leads
 /// to it. Cost: the firings of a round, times the channels of the actors fired, and a step for each firing of which a
-/// firing takes tokens.
+/// firing takes tokens; memory of four words for each firing.
 pub(crate) fn column_of<F: Firing>(
     alloc: Global,
     chains: &Chains<F>,
@@ -171,7 +162,8 @@ fn end_of<F: Firing>(
     requires long { length rows.now ≡ length (F.net chains.now.net.now).times }
     requires there { putter < length (slice_index_or rows.now (channel_at (F.net chains.now.net.now) channel).source []) }
     requires small { AreSmall rows.now }
-    ensures { result ≡ later_by (time_of (F.net chains.now.net.now) (channel_at (F.net chains.now.net.now) channel).source putter) (start_in rows.now (channel_at (F.net chains.now.net.now) channel).source putter) }
+    ensures { result ≡ later_by (time_of (F.net chains.now.net.now) (channel_at (F.net chains.now.net.now) channel).source putter)
+        (start_in rows.now (channel_at (F.net chains.now.net.now) channel).source putter) }
 {
     know_laws(chains.net);
     let source = chains.net.source(channel);
@@ -190,51 +182,6 @@ pub(crate) fn start_at(rows: &[Rows<Option<u128>>], actor: u32, firing: u64) -> 
     rows[actor as usize].as_slice()[firing as usize]
 }
 
-/// Which firings put the tokens that a firing takes from a channel.
-pub(crate) fn putters_of<F: Firing>(chains: &Chains<F>, channel: u32, firing: u64) -> Putters
-    requires chains { IsTraceable (F.net chains.now.net.now) chains.now.wiring.now chains.now.firsts.now }
-    requires channel { channel < length (F.net chains.now.net.now).channels }
-    requires few { firing ≤ ROUND }
-    ensures { ArePutters (F.net chains.now.net.now) (slice_index chains.now.firsts.now) chains.now.token channel firing result.has_token result.first result.end }
-{
-    know_laws(chains.net);
-    let tokens = chains.net.tokens(channel);
-    let made = chains.net.made(channel, 0);
-    let taken = chains.net.taken(channel, 0);
-    let from = firing * taken;
-    let end = from + taken;
-    let first = chains.firsts.as_slice()[channel as usize];
-    let has_token = is_among(first, chains.token, from, end, tokens);
-    if end <= tokens {
-        return Putters {
-            has_token,
-            first: 0,
-            end: 0,
-        };
-    }
-    Putters {
-        has_token,
-        first: (first_put(from, tokens) - tokens) / made,
-        end: (end - 1 - tokens) / made + 1,
-    }
-}
-
-/// The first token from a number on that isn't there before the round.
-fn first_put(from: u64, tokens: u64) -> u64
-    ensures above { tokens ≤ result }
-    ensures low { from ≤ result }
-    ensures which { (result ≡ from) ⊎ (result ≡ tokens) }
-{
-    if from < tokens { tokens } else { from }
-}
-
-/// Whether the shared token is one of those that are there and taken.
-fn is_among(first: u64, token: u64, from: u64, end: u64, tokens: u64) -> bool
-    ensures { IsTrue result ↔ IsAmong first token from end tokens }
-{
-    first <= token && from <= token - first && token - first < end && token - first < tokens
-}
-
 /// The later of two starts.
 fn later(first: Option<u128>, second: Option<u128>) -> Option<u128>
     ensures { result ≡ later first second }
@@ -242,6 +189,6 @@ fn later(first: Option<u128>, second: Option<u128>) -> Option<u128>
     match (first, second) {
         (None, other) => other,
         (Some(start), None) => Some(start),
-        (Some(start), Some(other)) => Some(max(start, other)),
+        (Some(start), Some(other)) => Some(start.max(other)),
     }
 }

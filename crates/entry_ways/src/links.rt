@@ -7,7 +7,8 @@ ghost use Rattle.entry_ways.specs.inside.Columns.{AreSmall, IsColumn, IsEndIn, I
 ghost use Rattle.entry_ways.specs.inside.Traces.{AreMarked, IsEndOf, IsLinkOn, IsLinkTo};
 
 use crate::chains::Chains;
-use crate::column::{putters_of, start_at};
+use crate::column::start_at;
+use crate::putters::putters_of;
 use firing::{Firing, know_laws, know_wiring};
 use sd_base::Rows;
 

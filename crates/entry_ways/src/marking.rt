@@ -31,9 +31,9 @@ pub struct EntryPlace {
 }
 
 /// Marks the channels of a scenario's graph from which tokens are taken along one longest way of each of some entries of
-/// its matrix; what is marked already stays so. Cost: for each entry the firings of a round, times the channels of the
-/// actors fired, and a step for each firing of which a firing takes tokens; memory of two words for each firing of a
-/// round, given back before the next entry.
+/// its matrix; what is marked already stays so. Cost: once that of a round, and the channels times the shared rows; for
+/// each entry the firings of a round times the channels of the actors fired, and a step for each firing of which a firing
+/// takes tokens. Memory of a word for each channel and of four for each firing of a round, whatever the number of entries.
 pub fn mark_ways(
     alloc: Global,
     graph: &GraphFile,

@@ -1,8 +1,7 @@
 //! A way of an entry of a scenario's matrix.
-ghost use Rattle.std.specs.Prelude.{◌≡◌, ◌≤◌, ◌<◌, ◌↔◌, ℕ, List, IsTrue, length, slice_index};
+ghost use Rattle.std.specs.Prelude.{◌≡◌, ◌-◌, ◌≤◌, ◌<◌, ◌↔◌, ℕ, List, IsTrue, length, slice_index};
 ghost use Rattle.sd_base.specs.declared.limits.TheConstants.{ROUND};
-ghost use Rattle.sd_base.specs.Net.{channel_at};
-ghost use Rattle.token_matrix.specs.Stamps.{IsPutBy, left_token};
+ghost use Rattle.token_matrix.specs.Stamps.{left_token};
 ghost use Rattle.token_matrix.specs.Ways.{IsWay};
 ghost use Rattle.entry_ways.specs.WayMarks.{IsLongestWay};
 ghost use Rattle.entry_ways.specs.inside.Columns.{AreSmall, IsColumn, IsTraceable};
@@ -11,11 +10,12 @@ ghost use Rattle.entry_ways.specs.inside.Traces.{AreApart, AreMarked, IsOnChanne
 use crate::chains::Chains;
 use crate::column::start_at;
 use crate::links::mark_chain;
+use crate::putters::{putter_of, taken_rate};
 use firing::{Firing, know_laws};
 use sd_base::Rows;
 
-/// Marks the channels from which tokens are taken on one way from the shared token of a column to the one that is left as
-/// another shared token. Cost: that of `mark_chain`, and linear in the channels.
+/// Marks the channels from which tokens are taken on one longest way from the shared token of a column to the one that is
+/// left as another shared token. Cost: that of `mark_chain`, and linear in the channels.
 pub(crate) fn mark_way<F: Firing>(
     chains: &Chains<F>,
     rows: &[Rows<Option<u128>>],
@@ -32,8 +32,7 @@ pub(crate) fn mark_way<F: Firing>(
 {
     know_laws(chains.net);
     let channel = channel_of(chains, left);
-    let place = left - chains.firsts.as_slice()[channel as usize];
-    let last = left_token(chains, channel, place);
+    let last = left_token(chains, channel, left);
     if last < chains.net.tokens(channel) {
         return;
     }
@@ -69,15 +68,15 @@ fn is_on<F: Firing>(chains: &Chains<F>, token: u64, channel: u32) -> bool
     first <= token && token - first < chains.net.tokens(channel)
 }
 
-/// The token of a channel that is left in a place after a round.
-fn left_token<F: Firing>(chains: &Chains<F>, channel: u32, place: u64) -> u64
+/// The token of a channel that is left as a shared token of it after a round.
+fn left_token<F: Firing>(chains: &Chains<F>, channel: u32, left: u64) -> u64
     requires chains { IsTraceable (F.net chains.now.net.now) chains.now.wiring.now chains.now.firsts.now }
-    requires channel { channel < length (F.net chains.now.net.now).channels }
-    requires place { place < (channel_at (F.net chains.now.net.now) channel).tokens }
-    ensures { result ≡ left_token (F.net chains.now.net.now) channel place }
+    requires on { IsOnChannel (F.net chains.now.net.now) (slice_index chains.now.firsts.now) left channel }
+    ensures { result ≡ left_token (F.net chains.now.net.now) channel (left - slice_index chains.now.firsts.now channel) }
 {
     know_laws(chains.net);
-    chains.net.taken(channel, 0) * round_of(chains.net, chains.net.target(channel)) + place
+    let place = left - chains.firsts.as_slice()[channel as usize];
+    round_of(chains.net, chains.net.target(channel)) * taken_rate(chains, channel) + place
 }
 
 /// The firings of an actor in a round.
@@ -88,15 +87,4 @@ fn round_of<F: Firing>(net: &F, actor: u32) -> u64
 {
     know_laws(net);
     net.round(actor)
-}
-
-/// The firing that puts a token on a channel.
-fn putter_of<F: Firing>(chains: &Chains<F>, channel: u32, token: u64) -> u64
-    requires chains { IsTraceable (F.net chains.now.net.now) chains.now.wiring.now chains.now.firsts.now }
-    requires channel { channel < length (F.net chains.now.net.now).channels }
-    requires late { (channel_at (F.net chains.now.net.now) channel).tokens ≤ token }
-    ensures { IsPutBy (channel_at (F.net chains.now.net.now) channel) token result }
-{
-    know_laws(chains.net);
-    (token - chains.net.tokens(channel)) / chains.net.made(channel, 0)
 }

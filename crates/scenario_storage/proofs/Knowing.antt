@@ -1,10 +1,16 @@
 -- What is known of distributions that were rated, with one more.
-use Rattle.std.proofs.Common.{◌≡◌, ℕ, ◌+◌, ◌*◌, ◌≤◌, ◌<◌, ◌⊎◌, true, false, Option, List, [], ◌∷◌, ◌++◌, length, inl, inr, ⊎_elim, refl, sym, ap, ◌∙◌, subst, arith, mul-le-mul_left, mul-le-mul_right}
-use Rattle.std.specs.Prelude.{Contains}
+use Rattle.std.proofs.Common.{◌≡◌, ℕ, ◌+◌, ◌*◌, ◌≤◌, ◌<◌, ◌⊎◌, true, false, Option, None, Some, List, [], ◌∷◌, ◌++◌, length, inl, inr, ⊎_elim, refl, sym, ap, ◌∙◌, subst, arith, mul-le-mul_left, mul-le-mul_right}
+use Rattle.std.specs.Prelude.{All, Contains, MatchOption, OnOk, Result, Ok, Err, slice_index_or}
 use Rattle.std.proofs.lemmas.Bool.{cases_lt, true≢false}
-use Rattle.std.proofs.lemmas.List.Elements.{Contains-append_left, Contains-push, Contains-push_cases}
+use Rattle.std.proofs.lemmas.List.Elements.{Contains-append_left, Contains-get_or, Contains-push, Contains-push_cases}
+use Rattle.sd_base.specs.declared.memory.NoMemory.{NoMemory}
 use Rattle.sd_base.specs.declared.numbers.Fraction.{Fraction}
 use Rattle.sd_base.specs.declared.tables.ScenarioFile.{ScenarioFile}
+use Rattle.sd_base.specs.declared.tables.SharedRow.{SharedRow}
+use Rattle.automaton.specs.CriticalCycles.{weights}
+use Rattle.automaton.specs.declared.graph.TimedGraph.{TimedGraph}
+use Rattle.scenario_rate.specs.declared.answer.Worst.{Worst}
+use Rattle.storage.specs.declared.distribution.Distribution.{Distribution}
 use Rattle.storage.specs.CapacityOrder.{no_later}
 use Rattle.storage.specs.ClosedLists.{Entry}
 use Rattle.storage.specs.Distributions.{storage_of}
@@ -13,10 +19,13 @@ use Rattle.storage.proofs.CapacityOrder.{no_later-refl, no_later-total}
 use Rattle.storage.proofs.FrontsFromMembers.{no_less}
 use Rattle.bounded_scenarios.specs.SharedChannels.{shared_channels}
 use Rattle.scenario_storage.specs.declared.point.ScenarioPoint.{ScenarioPoint}
+use Rattle.scenario_storage.specs.declared.rated.Evidence.{Evidence}
 use Rattle.scenario_storage.specs.declared.rated.Rated.{Rated}
+use Rattle.scenario_storage.specs.ScenarioPoints.{IsShownBy}
+use Rattle.scenario_storage.specs.inside.Levels.{Shows}
 use Rattle.scenario_storage.specs.inside.Points.{AreRising, HasNoSlower, IsPut, IsSlower, IsTaken}
-use Rattle.scenario_storage.specs.inside.Searches.{AreKnown, Covers, IsBest, IsCoveredBy, IsNoted, IsOffered, IsPointFor, IsPointOf, KeepsEarlier, entry_of}
-use Rattle.scenario_storage.proofs.Rising.{put-rising}
+use Rattle.scenario_storage.specs.inside.Searches.{AreKnown, Covers, IsBest, IsCoveredBy, IsNoted, IsOffered, IsPointFor, IsPointOf, IsPointWith, KeepsEarlier, entry_of}
+use Rattle.scenario_storage.proofs.PointOrder.{put-rising}
 
 -- of fractions: no more than what is less than a third one
 pub below_less : (a b c d e f : ℕ) → 1 ≤ b → a * d ≤ c * b → c * f < e * d → a * f < e * b
@@ -50,9 +59,6 @@ offered-noted file limit es best total ds r ps is = record {
 }
 
 module _ (file : ScenarioFile) (limit : ℕ) (es : List Entry) (best : Fraction) (total : ℕ) (ds : List (Option ℕ)) (r : Rated) (ps : List ScenarioPoint) (is : IsOffered file limit es best total ds r ps) where
-  its : Entry
-  its = entry_of ds r
-
   -- points so far need no more storage
   pub offered-late : (p : ScenarioPoint) → Contains ps p → p.total ≤ total
   offered-late p one =
@@ -60,7 +66,7 @@ module _ (file : ScenarioFile) (limit : ℕ) (es : List Entry) (best : Fraction)
       let before : storage_of (shared_channels file) of.0.capacities ≤ storage_of (shared_channels file) ds = before-le file of.0.capacities ds (is.after of.0 of.1) in
       omega (arith, before, is.storage, of.2.total)
 
-  noted-more : (x : Entry) → Contains (es ++ entry_of ds r ∷ []) x → IsNoted file limit x
+  pub noted-more : (x : Entry) → Contains (es ++ entry_of ds r ∷ []) x → IsNoted file limit x
   noted-more x one =
       ⊎_elim
       (λ (h : Contains es x). is.known.noted x h)
@@ -176,3 +182,58 @@ taken-keeps point old new (inr (same, slow)) p one less = subst (λ (xs : List S
 pub best-kept : (best : Fraction) (total : ℕ) (old new : List ScenarioPoint) → KeepsEarlier total old new → IsBest best total old → IsBest best total new
 best-kept best total old new keeps (inl none) = inl none
 best-kept best total old new keeps (inr (p, one, rate, less)) = inr (p, keeps p one less, rate, less)
+
+pub keeps-on : (total : ℕ) (old mid new : List ScenarioPoint) → KeepsEarlier total old mid → KeepsEarlier total mid new → KeepsEarlier total old new
+keeps-on total old mid new first second p one less = second p (first p one less) less
+
+-- a rate that a critical cycle shows is above 0
+shown-runs : (file : ScenarioFile) (ds : List (Option ℕ)) (rate : Fraction) (e : Evidence) → Shows file ds rate e → 1 ≤ rate.num
+shown-runs file ds rate e shows =
+    ⊎_elim
+    (λ (none : rate.num < 1). absurd (
+    let zero_here : rate.num ≡ 0 = omega (arith, none) in
+    let nothing : weights e.graph.edges e.worst.cycle * rate.num ≡ weights e.graph.edges e.worst.cycle * 0 = ap (λ (n : ℕ). weights e.graph.edges e.worst.cycle * n) zero_here in
+    let long : rate.den * 1 ≤ rate.den * length e.worst.cycle = mul-le-mul_left rate.den shows.critical.some in
+    omega (arith, shows.critical.rate, nothing, long, rate.positive)))
+    (λ (some : 1 ≤ rate.num). some)
+    (cases_lt rate.num 1)
+
+module _ (file : ScenarioFile) (limit : ℕ) (es : List Entry) (best : Fraction) (total : ℕ) (d : Distribution) (r : Rated) (ps : List ScenarioPoint) (is : IsOffered file limit es best total d.capacities r ps) where
+  pub late-all : All (λ (p : ScenarioPoint). p.total ≤ total) ps
+  late-all = λ k x below. offered-late file limit es best total d.capacities r ps is (slice_index_or ps k x) (Contains-get_or ps k x below)
+
+  -- the point of a distribution whose evidence was kept
+  pub kept-known : (e : Evidence) → r.evidence ≡ Some e → (point : ScenarioPoint) → IsPointWith total r.rate d e point → (new : List ScenarioPoint) → IsTaken point ps new → AreKnown file limit (es ++ entry_of d.capacities r ∷ []) new
+  kept-known e some point with new taken = taken-known file limit es best total d.capacities r ps is point new (record {
+    capacities = ap (λ (x : Distribution). x.capacities) (sym with.capacities_are);
+    num = ap (λ (f : Fraction). f.num) (sym with.rate_is);
+    den = ap (λ (f : Fraction). f.den) (sym with.rate_is);
+    total = with.total_is ∙ sym is.storage;
+    runs = subst (λ (f : Fraction). 1 ≤ f.num) (sym with.rate_is) (shown-runs file d.capacities r.rate e shows);
+    shown = moved;
+  }) taken
+    where
+      shows : Shows file d.capacities r.rate e
+      shows = subst (λ (o : Option Evidence). MatchOption o (r.rate.num * best.den ≤ best.num * r.rate.den) (Shows file d.capacities r.rate)) some is.rated.evidence
+
+      moved : IsShownBy file point.capacities.capacities point.rate point.shared point.graph point.worst
+      moved =
+          subst (λ (x : Distribution). IsShownBy file x.capacities point.rate point.shared point.graph point.worst) (sym with.capacities_are)
+          (subst (λ (x : Fraction). IsShownBy file d.capacities x point.shared point.graph point.worst) (sym with.rate_is)
+          (subst (λ (x : List SharedRow). IsShownBy file d.capacities r.rate x point.graph point.worst) (sym with.shared_is)
+          (subst (λ (x : TimedGraph). IsShownBy file d.capacities r.rate e.shared x point.worst) (sym with.graph_is)
+          (subst (λ (x : Worst). IsShownBy file d.capacities r.rate e.shared e.graph x) (sym with.worst_is) shows))))
+
+  -- without evidence the rate is no more than the best
+  pub none-known : r.evidence ≡ None → (new : List ScenarioPoint) → new ≡ ps → AreKnown file limit (es ++ entry_of d.capacities r ∷ []) new
+  none-known none new same =
+      left-known file limit es best total d.capacities r ps is new same
+      (subst (λ (o : Option Evidence). MatchOption o (r.rate.num * best.den ≤ best.num * r.rate.den) (Shows file d.capacities r.rate)) none is.rated.evidence)
+
+pub keeps-as : (total : ℕ) (point : ScenarioPoint) (old new : List ScenarioPoint) → point.total ≡ total → IsTaken point old new → KeepsEarlier total old new
+keeps-as total point old new same taken = subst (λ (n : ℕ). KeepsEarlier n old new) same (taken-keeps point old new taken)
+
+-- what follows where a call returns
+pub ok-then : (r : Result (Unit {0}) NoMemory) (P Q : Type 0) → (P → Q) → OnOk r P → OnOk r Q
+ok-then (Ok done) P Q more is = more is
+ok-then (Err e) P Q more is = tt

@@ -1,4 +1,6 @@
 pub mod Errors
 pub mod Points
 pub mod Levels
+pub mod Ratings
+pub mod Shown
 pub mod Searches

@@ -10,6 +10,7 @@ mod point;
 mod rated;
 mod rating;
 mod rising;
+mod scenario;
 mod search;
 mod shown;
 mod task;

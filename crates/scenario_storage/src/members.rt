@@ -1,14 +1,15 @@
 //! How the answers of a level are taken in.
-ghost use Rattle.std.specs.Prelude.{◌≡◌, ◌+◌, [], ◌∷◌, ℕ, All, IfErr, List, OnOk, Option};
+ghost use Rattle.std.specs.Prelude.{◌≡◌, ◌+◌, ◌++◌, [], ◌∷◌, ℕ, All, IfErr, List, OnOk, Option};
 ghost use Rattle.sd_base.specs.declared.numbers.Fraction.{Fraction as AFraction};
 ghost use Rattle.sd_base.specs.declared.tables.ScenarioFile.{ScenarioFile as AFile};
+ghost use Rattle.storage.specs.ClosedLists.{Entry};
 ghost use Rattle.storage.specs.Distributions.{storage_of};
 ghost use Rattle.bounded_scenarios.specs.SharedChannels.{shared_channels};
 ghost use Rattle.bounded_scenarios.specs.ScenarioGuides.{IsReachable};
 ghost use Rattle.scenario_storage.specs.declared.point.ScenarioLimits.{ScenarioLimits as SomeLimits};
 ghost use Rattle.scenario_storage.specs.ScenarioPoints.{IsRefusal};
 ghost use Rattle.scenario_storage.specs.inside.Levels.{IsPlan, IsRateRefusal, IsRated};
-ghost use Rattle.scenario_storage.specs.inside.Searches.{AreKnown, IsAnswerOf, IsBest, IsSearch, answered_of, entry_of};
+ghost use Rattle.scenario_storage.specs.inside.Searches.{AreKnown, IsAnswerOf, IsBest, IsOffered, IsPointWith, IsSearch, KeepsEarlier, answered_of, entry_of, taken_off};
 
 use crate::error::ScenarioStorageError;
 use crate::level::Answered;
@@ -31,6 +32,7 @@ pub(crate) fn take_in_all(
     requires answers { (best : AFraction) × IsBest best total search.old.points.items × All (IsAnswerOf plan.now.file.now plan.now.limits total best) answers.items }
     requires search { IsSearch plan.now.file.now plan.now.limits (total + 1) (answered_of answers.items) search.old }
     ensures search { OnOk result (IsSearch plan.now.file.now plan.now.limits (total + 1) [] search.new) }
+    ensures off { OnOk result (taken_off search.new ≡ taken_off search.old) }
     ensures refused { IfErr result (IsRefusal plan.now.file.now plan.now.limits) }
 {
     for answered in answers {
@@ -51,7 +53,8 @@ fn take_answer(
     requires search { (rest : List (List (Option ℕ))) × IsSearch plan.now.file.now plan.now.limits (total + 1) (answered.capacities.capacities ∷ rest) search.old }
     ensures search { OnOk result ((rest : List (List (Option ℕ))) → IsSearch plan.now.file.now plan.now.limits (total + 1) (answered.capacities.capacities ∷ rest) search.old →
         IsSearch plan.now.file.now plan.now.limits (total + 1) rest search.new) }
-    ensures best { OnOk result ((best : AFraction) → IsBest best total search.old.points.items → IsBest best total search.new.points.items) }
+    ensures keeps { OnOk result (KeepsEarlier total search.old.points.items search.new.points.items) }
+    ensures off { OnOk result (taken_off search.new ≡ taken_off search.old) }
     ensures refused { IfErr result (IsRefusal plan.now.file.now plan.now.limits) }
 {
     let Answered { capacities, answer } = answered;
@@ -88,11 +91,17 @@ fn take_in(
     requires search { (rest : List (List (Option ℕ))) × IsSearch plan.now.file.now plan.now.limits (total + 1) (capacities.capacities ∷ rest) search.old }
     ensures search { OnOk result ((rest : List (List (Option ℕ))) → IsSearch plan.now.file.now plan.now.limits (total + 1) (capacities.capacities ∷ rest) search.old →
         IsSearch plan.now.file.now plan.now.limits (total + 1) rest search.new) }
-    ensures best { OnOk result ((best : AFraction) → IsBest best total search.old.points.items → IsBest best total search.new.points.items) }
+    ensures keeps { OnOk result (KeepsEarlier total search.old.points.items search.new.points.items) }
+    ensures off { OnOk result (taken_off search.new ≡ taken_off search.old) }
     ensures refused { IfErr result (IsRefusal plan.now.file.now plan.now.limits) }
 {
-    let enlarge = rated.enlarge.as_slice();
-    search.levels.lead_on(plan.alloc, &capacities, total, enlarge, ())?;
+    search.levels.lead_on(
+        plan.alloc,
+        &capacities,
+        total,
+        rated.enlarge.as_slice(),
+        (),
+    )?;
     offer(total, capacities, rated, &mut search.points)?;
     Ok(())
 }
@@ -104,6 +113,10 @@ fn offer(
     rated: Rated,
     points: &mut Vec<ScenarioPoint>,
 ) -> Result<(), NoMemory>
+    requires { (file : AFile) × (limit : ℕ) × (es : List Entry) × (best : AFraction) × IsOffered file limit es best total capacities.capacities rated points.old.items }
+    ensures known { OnOk result ((file : AFile) (limit : ℕ) (es : List Entry) (best : AFraction) → IsOffered file limit es best total capacities.capacities rated points.old.items →
+        AreKnown file limit (es ++ entry_of capacities.capacities rated ∷ []) points.new.items) }
+    ensures keeps { OnOk result (KeepsEarlier total points.old.items points.new.items) }
 {
     let Rated {
         rate,
@@ -117,7 +130,13 @@ fn offer(
 }
 
 /// A point with its evidence.
-fn point_of(total: u64, rate: Fraction, capacities: Distribution, evidence: Evidence) -> ScenarioPoint
+fn point_of(
+    total: u64,
+    rate: Fraction,
+    capacities: Distribution,
+    evidence: Evidence,
+) -> ScenarioPoint
+    ensures { IsPointWith total rate capacities evidence result }
 {
     let Evidence {
         shared,

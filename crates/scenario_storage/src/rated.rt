@@ -2,6 +2,7 @@
 ghost use Rattle.std.specs.Prelude.{◌≡◌, ◌*◌, ◌≤◌, MatchOption};
 ghost use Rattle.scenario_storage.specs.declared.rated.RateError.TheVariants.{NoMemory as no_memory};
 
+use crate::rising::is_slower;
 use automaton::TimedGraph;
 use scenario_rate::Worst;
 use sd_base::{Fraction, NoMemory, Rows, SharedRow};
@@ -61,8 +62,7 @@ impl<T: Drop> From<AllocFailed<T>> for RateError {
 pub(crate) fn if_above(evidence: Evidence, rate: Fraction, best: Fraction) -> Option<Evidence>
     ensures { MatchOption result (rate.num * best.den ≤ best.num * rate.den) (λ e. e ≡ evidence) }
 {
-    let own = u128::from(rate.num) * u128::from(best.den);
-    if own > u128::from(best.num) * u128::from(rate.den) {
+    if is_slower(best, rate) {
         Some(evidence)
     } else {
         None

@@ -1,14 +1,13 @@
 //! The worst rate of a distribution.
-ghost use Rattle.std.specs.Prelude.{◌≡◌, ◌<◌, ◌≤◌, Contains, IfErr, IfOk, OnErr, length};
+ghost use Rattle.std.specs.Prelude.{◌≡◌, ◌<◌, IfErr, IfOk, length};
+ghost use Rattle.sd_base.specs.declared.numbers.Fraction.{Fraction as AFraction};
 ghost use Rattle.bounded_scenarios.specs.BoundedFiles.{bounded_file};
-ghost use Rattle.bounded_scenarios.specs.Boundings.{CanBeMeasured};
-ghost use Rattle.scenario_storage.specs.declared.rated.RateError.TheVariants.{NoMemory as no_memory};
-ghost use Rattle.scenario_storage.specs.ScenarioPoints.{HasTooManyEdges};
-ghost use Rattle.scenario_storage.specs.inside.Levels.{IsAnswer, IsPlan, IsRateRefusal, IsRated, IsWithin};
-ghost use Rattle.scenario_storage.specs.inside.Ratings.{AreAllMatrices, AreTimed, IsBlockedAt, IsGraphOf, IsMeasured, IsMatrixAnswer};
+ghost use Rattle.scenario_storage.specs.inside.Levels.{IsAnswer, IsPlan, IsRateRefusal, IsWithin};
+ghost use Rattle.scenario_storage.specs.inside.Ratings.{AreAllMatrices, IsBlockedAt, IsGraphOf, IsMatrixAnswer, IsMeasured};
 
 use crate::plan::Plan;
 use crate::rated::{Evidence, RateError, Rated, if_above};
+use crate::scenario::{gamma_at, graph_at};
 use crate::shown::{shown_by_counts, shown_by_cycle};
 use automaton::{GraphError, TimedGraph, product};
 use bounded_scenarios::bounded_file;
@@ -37,7 +36,7 @@ pub(crate) fn rate(
     ensures { IsAnswer plan.now.file.now plan.now.limits best capacities.now.capacities result }
 {
     let bounded = bounded_file(plan.alloc, plan.file, capacities)?;
-    match measured(plan, capacities, &bounded)? {
+    match measure(plan, capacities, &bounded)? {
         Measured::Blocked { scenario, counts } => {
             rate_blocked(plan, capacities, &bounded, scenario, counts.as_slice())
         },
@@ -48,7 +47,7 @@ pub(crate) fn rate(
 }
 
 /// The matrices of the scenarios, or the first that is blocked.
-fn measured(
+fn measure(
     plan: &Plan,
     capacities: &Distribution,
     bounded: &ScenarioFile,
@@ -85,9 +84,9 @@ fn matrix_at(
     requires scenario { scenario < length plan.now.file.now.scenarios }
     ensures { IsMatrixAnswer plan.now.file.now plan.now.gammas.now capacities.now.capacities scenario result }
 {
-    let row = &bounded.scenarios.as_slice()[scenario];
-    let gamma = plan.gammas.as_slice()[scenario].as_slice();
-    matrix_of(plan.alloc, &row.graph, gamma, bounded.shared.as_slice())
+    let graph = graph_at(bounded, scenario);
+    let gamma = gamma_at(plan.gammas, scenario);
+    matrix_of(plan.alloc, graph, gamma, bounded.shared.as_slice())
 }
 
 /// The rate 0 of a distribution of which a scenario can't complete its round.

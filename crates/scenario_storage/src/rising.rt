@@ -1,10 +1,9 @@
 //! Points by rising storage and rate, from distributions that come by rising storage.
-ghost use Rattle.std.specs.Prelude.{◌≡◌, ◌≤◌, All, MatchBool, OnOk};
-ghost use Rattle.scenario_storage.specs.inside.Points.{AreRising, AreSlower, HasNoSlower, IsLeftOut, IsTaken};
+ghost use Rattle.std.specs.Prelude.{◌*◌, ◌≤◌, All, MatchBool, OnOk};
+ghost use Rattle.scenario_storage.specs.inside.Points.{AreEarlier, AreRising, AreSlower, EndsAt, HasNoSlower, IsLeftOut, IsSlower, IsTaken};
 
 use crate::point::ScenarioPoint;
 use sd_base::{Fraction, NoMemory};
-use std::cmp::Ordering;
 
 /// Takes in a point of no less storage than those so far, if its rate is above theirs: it stands last, in the place of the
 /// last one if that has the same storage.
@@ -31,8 +30,15 @@ fn is_above(rate: Fraction, points: &[ScenarioPoint]) -> bool
 {
     match points.last() {
         None => true,
-        Some(last) => matches!(last.rate.compare(&rate), Ordering::Less),
+        Some(last) => is_slower(last.rate, rate),
     }
+}
+
+/// Whether the first rate is less than the second.
+pub(crate) fn is_slower(first: Fraction, second: Fraction) -> bool
+    ensures { MatchBool result (IsSlower first second) (second.num * first.den ≤ first.num * second.den) }
+{
+    u128::from(first.num) * u128::from(second.den) < u128::from(second.num) * u128::from(first.den)
 }
 
 /// Takes the last point off, if it has this storage.
@@ -41,9 +47,19 @@ fn leave_out(total: u64, points: &mut Vec<ScenarioPoint>)
     requires late { All (λ p. p.total ≤ total) points.old.items }
     ensures { IsLeftOut total points.old.items points.new.items }
 {
-    if let Some(last) = points.last()
-        && last.total == total
-    {
+    if ends_at(total, points.as_slice()) {
         points.pop();
+    }
+}
+
+/// Whether the last point has this storage, if there is one.
+fn ends_at(total: u64, points: &[ScenarioPoint]) -> bool
+    requires rising { AreRising points.now }
+    requires late { All (λ p. p.total ≤ total) points.now }
+    ensures { MatchBool result (EndsAt total points.now) (AreEarlier total points.now) }
+{
+    match points.last() {
+        None => false,
+        Some(last) => last.total == total,
     }
 }

@@ -1,24 +1,27 @@
-ghost use Rattle.std.specs.Prelude.{◌≡◌, ◌+◌, ◌≤◌, ◌<◌, ℕ, [], IfErr, IfOk, MatchOption, OnOk};
+ghost use Rattle.std.specs.Prelude.{◌≡◌, ◌≤◌, ◌<◌, ℕ, IfErr, IfOk, List, MatchOption, OnOk};
 ghost use Rattle.sd_base.specs.declared.limits.TheConstants.{DISTRIBUTIONS, LEAST_DISTRIBUTIONS, STORAGE};
+ghost use Rattle.sd_base.specs.Scenarios.{FileKeepsRules};
+ghost use Rattle.sd_base.specs.Tables.{KeepsRules};
+ghost use Rattle.balance.specs.Repetition.{IsRound};
 ghost use Rattle.storage.specs.Distributions.{storage_of};
 ghost use Rattle.storage.specs.Steps.{IsCorner};
 ghost use Rattle.bounded_scenarios.specs.Boundings.{CanBeBounded};
 ghost use Rattle.bounded_scenarios.specs.SharedChannels.{shared_channels};
 ghost use Rattle.scenario_storage.specs.ScenarioPoints.{AreScenarioPoints, IsRefusal};
-ghost use Rattle.scenario_storage.specs.inside.Levels.{AreRounds, IsPlan};
+ghost use Rattle.scenario_storage.specs.inside.Levels.{AreRounds, HaveRounds, IsPlan};
 ghost use Rattle.scenario_storage.specs.inside.Points.{IsBestOf};
-ghost use Rattle.scenario_storage.specs.inside.Searches.{IsEnded, IsSearch, IsStanding, IsTurn};
+ghost use Rattle.scenario_storage.specs.inside.Searches.{IsEnded, IsStanding, IsTurn, taken_off};
 
 use crate::error::ScenarioStorageError;
 use crate::level::run_level;
 use crate::members::take_in_all;
 use crate::plan::Plan;
 use crate::point::{ScenarioLimits, ScenarioPoint};
-use balance::{BalanceError, repetition};
+use balance::{BalanceError, one_answer, repetition};
 use bounded_scenarios::{channel_steps, corner_of};
 use fanout::Gate;
 use levels::{Bounds, Level, Levels};
-use sd_base::{Fraction, NoMemory, Rows, ScenarioFile};
+use sd_base::{Fraction, GraphFile, NoMemory, Rows, ScenarioFile};
 use std::alloc::Global;
 use std::thread::Threads;
 use storage::Distribution;
@@ -66,18 +69,29 @@ pub fn scenario_points<R: Threads + Sync, G: Gate + Sync>(
 
 /// By scenario its repetition vector. Cost: that of `repetition` for each.
 fn gammas_of(alloc: Global, file: &ScenarioFile) -> Result<Rows<Rows<u64>>, NoMemory>
-    requires { (total : ℕ) × CanBeBounded file.now total }
+    requires rules { FileKeepsRules file.now }
+    requires rounds { HaveRounds file.now }
     ensures { IfOk result (AreRounds file.now) }
 {
     let mut gammas = Rows::new(alloc);
     for scenario in file.scenarios.as_slice() {
-        match repetition(alloc, &scenario.graph) {
-            Ok(gamma) => gammas.push(gamma)?,
-            Err(BalanceError::NoMemory) => return Err(NoMemory),
-            Err(_) => unreachable!(),
-        }
+        gammas.push(gamma_of(alloc, &scenario.graph)?)?;
     }
     Ok(gammas)
+}
+
+/// The repetition vector of a graph that has one.
+fn gamma_of(alloc: Global, graph: &GraphFile) -> Result<Rows<u64>, NoMemory>
+    requires rules { KeepsRules graph.now }
+    requires round { (gamma : List ℕ) × IsRound graph.now gamma }
+    ensures { IfOk result (IsRound graph.now) }
+{
+    one_answer();
+    match repetition(alloc, graph) {
+        Ok(gamma) => Ok(gamma),
+        Err(BalanceError::NoMemory) => Err(NoMemory),
+        Err(_) => unreachable!(),
+    }
 }
 
 /// The corner waits, if it is within the limit.
@@ -124,6 +138,7 @@ fn next_level(plan: &Plan, search: &mut Search) -> Result<Option<Level<()>>, NoM
     ensures level { IfOk result (λ found. MatchOption found (IsEnded plan.now.file.now plan.now.limits search.old.points.items)
         (λ level. IsTurn plan.now.file.now plan.now.limits level search.new)) }
     ensures points { search.new.points ≡ search.old.points }
+    ensures off { IfOk result (λ found. MatchOption found Unit (λ _. taken_off search.old < taken_off search.new)) }
 {
     let found = search.levels.next(plan.alloc)?;
     Ok(found)
@@ -140,6 +155,7 @@ fn take_turn<R: Threads + Sync, G: Gate + Sync>(
     requires plan { IsPlan plan.now.file.now plan.now.gammas.now plan.now.limits }
     requires turn { IsTurn plan.now.file.now plan.now.limits level search.old }
     ensures stands { OnOk result (IsStanding plan.now.file.now plan.now.limits search.new) }
+    ensures off { OnOk result (taken_off search.new ≡ taken_off search.old) }
     ensures refused { IfErr result (IsRefusal plan.now.file.now plan.now.limits) }
 {
     let total = level.total;

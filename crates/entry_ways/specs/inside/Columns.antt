@@ -76,7 +76,7 @@ pub record IsTraceable (net : Net) (wiring : Wiring) (firsts : List ℕ) : Type 
 abbrev pub AreUpTo : ℕ → List (List (Option ℕ)) → Type 0
 AreUpTo b rows = (a j t : ℕ) → start_in rows a j ≡ Some t → t ≤ b
 
--- no start is near the bound of a number, so that none plus a time passes it
+-- each start leaves room for the time of a firing in a number of 128 bits
 abbrev pub AreSmall : List (List (Option ℕ)) → Type 0
 AreSmall rows = (a j t : ℕ) → start_in rows a j ≡ Some t → t < 2 ^ 100
 

@@ -20,6 +20,10 @@ use Rattle.scenario_storage.specs.declared.rated.RateError.{RateError}
 use Rattle.scenario_storage.specs.declared.rated.RateError.TheVariants.{Edges, NoMemory}
 use Rattle.scenario_storage.specs.ScenarioPoints.{HasTooManyEdges, IsShownBy}
 
+-- each scenario has a repetition vector
+abbrev pub HaveRounds : ScenarioFile → Type 0
+HaveRounds file = (s : ℕ) (row : ScenarioRow) → slice_get file.scenarios s ≡ Some row → (gamma : List ℕ) × IsRound row.graph gamma
+
 -- by scenario its repetition vector
 pub record AreRounds (file : ScenarioFile) (gammas : List (List ℕ)) : Type 0 where
   pub all : length gammas ≡ length file.scenarios

@@ -1,5 +1,5 @@
 -- Points that rise in storage and rate.
-use Rattle.std.specs.Prelude.{◌≡◌, ℕ, ◌*◌, ◌≤◌, ◌<◌, ◌⊎◌, Contains, List, [], ◌∷◌, ◌++◌}
+use Rattle.std.specs.Prelude.{◌≡◌, ℕ, ◌-◌, ◌*◌, ◌≤◌, ◌<◌, ◌⊎◌, Contains, List, [], ◌∷◌, ◌++◌, length, slice_index_or}
 use Rattle.std.specs.List.{AllPairs}
 use Rattle.sd_base.specs.declared.numbers.Fraction.{Fraction}
 use Rattle.scenario_storage.specs.declared.point.ScenarioPoint.{ScenarioPoint}
@@ -24,10 +24,18 @@ AreSlower rate ps = (p : ScenarioPoint) → Contains ps p → IsSlower p.rate ra
 abbrev pub HasNoSlower : Fraction → List ScenarioPoint → Type 0
 HasNoSlower rate ps = (p : ScenarioPoint) × Contains ps p × (rate.num * p.rate.den ≤ p.rate.num * rate.den)
 
+-- the last point has this storage
+abbrev pub EndsAt : ℕ → List ScenarioPoint → Type 0
+EndsAt total ps = (1 ≤ length ps) × ((p : ScenarioPoint) → slice_index_or ps (length ps - 1) p ≡ p → p.total ≡ total)
+
+-- all points have less storage
+abbrev pub AreEarlier : ℕ → List ScenarioPoint → Type 0
+AreEarlier total ps = (p : ScenarioPoint) → Contains ps p → p.total < total
+
 -- the points of less storage are left
 pub record IsLeftOut (total : ℕ) (old new : List ScenarioPoint) : Type 0 where
   pub rising : AreRising new
-  pub early : (p : ScenarioPoint) → Contains new p → p.total < total
+  pub early : AreEarlier total new
   pub among : (p : ScenarioPoint) → Contains new p → Contains old p
   pub left : (p : ScenarioPoint) → Contains old p → Contains new p ⊎ (p.total ≡ total)
 

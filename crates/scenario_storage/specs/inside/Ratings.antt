@@ -33,7 +33,7 @@ pub record IsBlockedIn (file : ScenarioFile) (gammas : List (List ℕ)) (ds : Li
 pub record IsMatrixOf (file : ScenarioFile) (gammas : List (List ℕ)) (ds : List (Option ℕ)) (s : ℕ) (matrix : List (List (Option ℕ))) : Type 0 where
   pub scenario : IsScenarioAt file gammas s
   pub live : IsLive (bounded_net file.shared ds scenario.row.graph scenario.gamma)
-  pub matrix : IsMatrix (bounded_file file ds).shared (bounded_graph file.shared ds scenario.row.graph) scenario.gamma matrix
+  pub carries : IsMatrix (bounded_file file ds).shared (bounded_graph file.shared ds scenario.row.graph) scenario.gamma matrix
 
 -- the matrix of scenario s, or it is blocked
 abbrev pub IsMatrixAnswer : ScenarioFile → List (List ℕ) → List (Option ℕ) → ℕ → Result (List (List (Option ℕ))) MatrixError → Type 0

@@ -1,5 +1,5 @@
 -- Where a search for points stands: the distributions that were rated, those that are being rated, and those that wait.
-use Rattle.std.specs.Prelude.{◌≡◌, ℕ, ◌+◌, ◌-◌, ◌*◌, ◌≤◌, ◌<◌, ◌⊎◌, All, Contains, Option, List, [], ◌∷◌, length, map}
+use Rattle.std.specs.Prelude.{◌≡◌, ℕ, ◌+◌, ◌-◌, ◌*◌, ◌≤◌, ◌<◌, ◌⊎◌, true, All, Contains, Option, List, [], ◌∷◌, length, map}
 use Rattle.sd_base.specs.declared.numbers.Fraction.{Fraction}
 use Rattle.sd_base.specs.declared.tables.ScenarioFile.{ScenarioFile}
 use Rattle.storage.specs.Distributions.{IsDistribution, storage_of}
@@ -7,6 +7,7 @@ use Rattle.storage.specs.Steps.{IsCorner, IsOnGrid}
 use Rattle.storage.specs.CapacityOrder.{no_later}
 use Rattle.storage.specs.ClosedLists.{Entry}
 use Rattle.storage.specs.StorageOrder.{IsBefore}
+use Rattle.storage.specs.declared.distribution.Distribution.{Distribution}
 use Rattle.levels.specs.declared.found.Level.{Level}
 use Rattle.levels.specs.Visits.{AreVisits, Visit, led_by}
 use Rattle.levels.specs.Frontiers.{IsFrontier, distributions_of}
@@ -16,6 +17,7 @@ use Rattle.bounded_scenarios.specs.ScenarioGuides.{IsReachable}
 use Rattle.scenario_storage.specs.declared.level.Answered.{Answered}
 use Rattle.scenario_storage.specs.declared.point.ScenarioLimits.{ScenarioLimits}
 use Rattle.scenario_storage.specs.declared.point.ScenarioPoint.{ScenarioPoint}
+use Rattle.scenario_storage.specs.declared.rated.Evidence.{Evidence}
 use Rattle.scenario_storage.specs.declared.rated.Rated.{Rated}
 use Rattle.scenario_storage.specs.declared.search.Search.{Search}
 use Rattle.scenario_storage.specs.ScenarioPoints.{IsShownBy}
@@ -125,6 +127,15 @@ pub record IsOffered (file : ScenarioFile) (limit : ℕ) (es : List Entry) (best
   pub storage : storage_of (shared_channels file) ds ≡ total
   pub after : (x : Entry) → Contains es x → IsBefore (shared_channels file) x.capacities ds
   pub fastest : IsBest best total ps
+
+-- the point has these parts
+pub record IsPointWith (total : ℕ) (rate : Fraction) (capacities : Distribution) (e : Evidence) (p : ScenarioPoint) : Type 0 where
+  pub total_is : p.total ≡ total
+  pub rate_is : p.rate ≡ rate
+  pub capacities_are : p.capacities ≡ capacities
+  pub shared_is : p.shared ≡ e.shared
+  pub graph_is : p.graph ≡ e.graph
+  pub worst_is : p.worst ≡ e.worst
 
 -- points of less storage stay
 abbrev pub KeepsEarlier : ℕ → List ScenarioPoint → List ScenarioPoint → Type 0

@@ -1,6 +1,6 @@
-use Rattle.std.proofs.Common.{◌≡◌, ◌<◌, ◌-◌, ℕ, List, [], length, Option, None, Some, ap, sym, subst, ◌∙◌, arith}
+use Rattle.std.proofs.Common.{◌≡◌, ◌<◌, ◌-◌, ℕ, [], length, Option, None, Some, ap, sym, subst, ◌∙◌, arith}
 use Rattle.std.specs.Prelude.{slice_index, slice_index_or}
-use Rattle.sd_base.specs.Net.{channel_at}
+use Rattle.sd_base.specs.Net.{Channel, Net, channel_at}
 use Rattle.token_matrix.specs.Stamps.{IsPutBy, left_token}
 use Rattle.token_matrix.specs.Ways.{IsChain}
 use Rattle.entry_ways.specs.inside.Columns.{start_in}
@@ -9,36 +9,62 @@ use Rattle.entry_ways.proofs.LastSteps.{last-early, last-started, put-way, stays
 use Rattle.entry_ways.proofs.way.mark_way.Goals as goal
 
 pub channel_of-channel-requires-clause-there : goal.channel_of-channel-requires-clause-there
-channel_of-channel-requires-clause-there g c = way-on (g.F.Firing.net c.args.chains.now.net.now) (slice_index c.args.chains.now.firsts.now) c.args.chains.now.token c.args.left c.requires.way.0 c.requires.way.1 c.requires.way.2
+channel_of-channel-requires-clause-there g c =
+    way-on (g.F.Firing.net c.args.chains.now.net.now) (slice_index c.args.chains.now.firsts.now) c.args.chains.now.token c.args.left c.requires.way.0 c.requires.way.1 c.requires.way.2
 
 pub returns-then-last-tokens : goal.returns-then-last-tokens
 returns-then-last-tokens g c =
-    let last : c.left_token-last.result ≡ left_token (g.F.Firing.net c.args.chains.now.net.now) c.channel_of-channel.result (c.args.left - slice_index c.args.chains.now.firsts.now c.channel_of-channel.result) = c.left_token-last.ensures ∙ ap (λ (l : List ℕ). left_token (g.F.Firing.net c.args.chains.now.net.now) c.channel_of-channel.result (c.args.left - slice_index l c.channel_of-channel.result)) c.as_slice.ensures in
-    ([], stays-way (g.F.Firing.net c.args.chains.now.net.now) (slice_index c.args.chains.now.firsts.now) c.args.chains.now.token c.args.left c.channel_of-channel.result c.requires.apart c.channel_of-channel.ensures (omega (arith, c.if-last-tokens.true, c.tokens.ensures, last)) c.requires.way.0 c.requires.way.1 c.requires.way.2, none-marked c.args.marks.now)
+    let net : Net = g.F.Firing.net c.args.chains.now.net.now in
+    let number : ℕ → ℕ = slice_index c.args.chains.now.firsts.now in
+    let early : left_token net c.channel_of-channel.result (c.args.left - number c.channel_of-channel.result) < (channel_at net c.channel_of-channel.result).tokens =
+    omega (arith, c.if-last-tokens.true, c.tokens.ensures, c.left_token-last.ensures) in
+    let way = c.requires.way in
+    ([], stays-way net number c.args.chains.now.token c.args.left c.channel_of-channel.result c.requires.apart c.channel_of-channel.ensures early way.0 way.1 way.2, none-marked c.args.marks.now)
 
 pub start_at-requires-clause-firing : goal.start_at-requires-clause-firing
 start_at-requires-clause-firing g c =
-    let last : c.left_token-last.result ≡ left_token (g.F.Firing.net c.args.chains.now.net.now) c.channel_of-channel.result (c.args.left - slice_index c.args.chains.now.firsts.now c.channel_of-channel.result) = c.left_token-last.ensures ∙ ap (λ (l : List ℕ). left_token (g.F.Firing.net c.args.chains.now.net.now) c.channel_of-channel.result (c.args.left - slice_index l c.channel_of-channel.result)) c.as_slice.ensures in
-    let puts : IsPutBy (channel_at (g.F.Firing.net c.args.chains.now.net.now) c.channel_of-channel.result) (left_token (g.F.Firing.net c.args.chains.now.net.now) c.channel_of-channel.result (c.args.left - slice_index c.args.chains.now.firsts.now c.channel_of-channel.result)) c.putter_of-putter.result = subst (λ (m : ℕ). IsPutBy (channel_at (g.F.Firing.net c.args.chains.now.net.now) c.channel_of-channel.result) m c.putter_of-putter.result) last c.putter_of-putter.ensures in
-    let early : c.putter_of-putter.result < slice_index (g.F.Firing.net c.args.chains.now.net.now).round (channel_at (g.F.Firing.net c.args.chains.now.net.now) c.channel_of-channel.result).source = last-early (g.F.Firing.net c.args.chains.now.net.now) (slice_index c.args.chains.now.firsts.now) c.args.chains.now.token c.args.left c.channel_of-channel.result c.requires.apart c.channel_of-channel.ensures c.know_laws.ensures c.putter_of-putter.result puts c.args.rows.now c.requires.column in
-    let whole : length (slice_index_or c.args.rows.now (channel_at (g.F.Firing.net c.args.chains.now.net.now) c.channel_of-channel.result).source []) ≡ slice_index (g.F.Firing.net c.args.chains.now.net.now).round (channel_at (g.F.Firing.net c.args.chains.now.net.now) c.channel_of-channel.result).source = c.requires.column.whole (channel_at (g.F.Firing.net c.args.chains.now.net.now) c.channel_of-channel.result).source (c.know_laws.ensures.sources c.channel_of-channel.result c.channel_of-channel.ensures.place) in
-    subst (λ (a : ℕ). c.putter_of-putter.result < length (slice_index_or c.args.rows.now a [])) (sym c.source-actor.ensures) (omega (arith, early, whole))
+    let net : Net = g.F.Firing.net c.args.chains.now.net.now in
+    let number : ℕ → ℕ = slice_index c.args.chains.now.firsts.now in
+    let p : ℕ = c.args.chains.now.token in
+    let i : ℕ = c.channel_of-channel.result in
+    let on : Channel = channel_at net i in
+    let n : ℕ = c.putter_of-putter.result in
+    let puts : IsPutBy on (left_token net i (c.args.left - number i)) n = subst (λ (m : ℕ). IsPutBy on m n) {y = left_token net i (c.args.left - number i)} c.left_token-last.ensures
+    c.putter_of-putter.ensures.put in
+    let early : n < slice_index net.round on.source = last-early net number p c.args.left i c.requires.apart c.channel_of-channel.ensures c.know_laws.ensures n puts c.args.rows.now
+    c.requires.column in
+    let whole : length (slice_index_or c.args.rows.now on.source []) ≡ slice_index net.round on.source =
+    c.requires.column.whole on.source (c.know_laws.ensures.sources i c.channel_of-channel.ensures.place) in
+    subst (λ (a : ℕ). n < length (slice_index_or c.args.rows.now a [])) (sym c.source-actor.ensures) (omega (arith, early, whole))
 
 pub unreachable-requires : goal.unreachable-requires
 unreachable-requires g c =
-    let last : c.left_token-last.result ≡ left_token (g.F.Firing.net c.args.chains.now.net.now) c.channel_of-channel.result (c.args.left - slice_index c.args.chains.now.firsts.now c.channel_of-channel.result) = c.left_token-last.ensures ∙ ap (λ (l : List ℕ). left_token (g.F.Firing.net c.args.chains.now.net.now) c.channel_of-channel.result (c.args.left - slice_index l c.channel_of-channel.result)) c.as_slice.ensures in
-    let puts : IsPutBy (channel_at (g.F.Firing.net c.args.chains.now.net.now) c.channel_of-channel.result) (left_token (g.F.Firing.net c.args.chains.now.net.now) c.channel_of-channel.result (c.args.left - slice_index c.args.chains.now.firsts.now c.channel_of-channel.result)) c.putter_of-putter.result = subst (λ (m : ℕ). IsPutBy (channel_at (g.F.Firing.net c.args.chains.now.net.now) c.channel_of-channel.result) m c.putter_of-putter.result) last c.putter_of-putter.ensures in
-    let start = last-started (g.F.Firing.net c.args.chains.now.net.now) (slice_index c.args.chains.now.firsts.now) c.args.chains.now.token c.args.left c.channel_of-channel.result c.requires.apart c.channel_of-channel.ensures c.know_laws.ensures c.putter_of-putter.result puts c.args.rows.now c.requires.column c.requires.way.0 c.requires.way.1 c.requires.way.2 in
-    let there : start_in c.args.rows.now c.source-actor.result c.putter_of-putter.result ≡ Some start.0 = ap (λ (a : ℕ). start_in c.args.rows.now a c.putter_of-putter.result) c.source-actor.ensures ∙ start.1 in
+    let net : Net = g.F.Firing.net c.args.chains.now.net.now in
+    let number : ℕ → ℕ = slice_index c.args.chains.now.firsts.now in
+    let p : ℕ = c.args.chains.now.token in
+    let i : ℕ = c.channel_of-channel.result in
+    let on : Channel = channel_at net i in
+    let n : ℕ = c.putter_of-putter.result in
+    let way = c.requires.way in
+    let puts : IsPutBy on (left_token net i (c.args.left - number i)) n = subst (λ (m : ℕ). IsPutBy on m n) {y = left_token net i (c.args.left - number i)} c.left_token-last.ensures
+    c.putter_of-putter.ensures.put in
+    let start = last-started net number p c.args.left i c.requires.apart c.channel_of-channel.ensures c.know_laws.ensures n puts c.args.rows.now c.requires.column way.0 way.1 way.2 in
+    let there : start_in c.args.rows.now c.source-actor.result n ≡ Some start.0 = ap (λ (a : ℕ). start_in c.args.rows.now a n) c.source-actor.ensures ∙ start.1 in
     let none : ◌≡◌ {A = Option ℕ} None (Some start.0) = sym c.in-None.is ∙ (c.start_at.ensures ∙ there) in
     (cc)
 
 pub returns : goal.returns
 returns g c =
-    let last : c.left_token-last.result ≡ left_token (g.F.Firing.net c.args.chains.now.net.now) c.channel_of-channel.result (c.args.left - slice_index c.args.chains.now.firsts.now c.channel_of-channel.result) = c.left_token-last.ensures ∙ ap (λ (l : List ℕ). left_token (g.F.Firing.net c.args.chains.now.net.now) c.channel_of-channel.result (c.args.left - slice_index l c.channel_of-channel.result)) c.as_slice.ensures in
-    let puts : IsPutBy (channel_at (g.F.Firing.net c.args.chains.now.net.now) c.channel_of-channel.result) (left_token (g.F.Firing.net c.args.chains.now.net.now) c.channel_of-channel.result (c.args.left - slice_index c.args.chains.now.firsts.now c.channel_of-channel.result)) c.putter_of-putter.result = subst (λ (m : ℕ). IsPutBy (channel_at (g.F.Firing.net c.args.chains.now.net.now) c.channel_of-channel.result) m c.putter_of-putter.result) last c.putter_of-putter.ensures in
-    let at : start_in c.args.rows.now (channel_at (g.F.Firing.net c.args.chains.now.net.now) c.channel_of-channel.result).source c.putter_of-putter.result ≡ Some c.in-Some.start =
-    ap (λ (a : ℕ). start_in c.args.rows.now a c.putter_of-putter.result) (sym c.source-actor.ensures) ∙ (sym c.start_at.ensures ∙ c.in-Some.is) in
-    let chain : IsChain (g.F.Firing.net c.args.chains.now.net.now) (slice_index c.args.chains.now.firsts.now) c.args.chains.now.token (channel_at (g.F.Firing.net c.args.chains.now.net.now) c.channel_of-channel.result).source c.putter_of-putter.result c.in-Some.start c.mark_chain.ensures.0 =
-    subst (λ (a : ℕ). IsChain (g.F.Firing.net c.args.chains.now.net.now) (slice_index c.args.chains.now.firsts.now) c.args.chains.now.token a c.putter_of-putter.result c.in-Some.start c.mark_chain.ensures.0) c.source-actor.ensures c.mark_chain.ensures.1 in
-    (c.mark_chain.ensures.0, put-way (g.F.Firing.net c.args.chains.now.net.now) (slice_index c.args.chains.now.firsts.now) c.args.chains.now.token c.args.left c.channel_of-channel.result c.requires.apart c.channel_of-channel.ensures c.know_laws.ensures c.putter_of-putter.result puts c.args.rows.now c.requires.column c.in-Some.start c.mark_chain.ensures.0 at chain, c.mark_chain.ensures.2)
+    let net : Net = g.F.Firing.net c.args.chains.now.net.now in
+    let number : ℕ → ℕ = slice_index c.args.chains.now.firsts.now in
+    let p : ℕ = c.args.chains.now.token in
+    let i : ℕ = c.channel_of-channel.result in
+    let on : Channel = channel_at net i in
+    let n : ℕ = c.putter_of-putter.result in
+    let start : ℕ = c.in-Some.start in
+    let marked = c.mark_chain.ensures in
+    let puts : IsPutBy on (left_token net i (c.args.left - number i)) n = subst (λ (m : ℕ). IsPutBy on m n) {y = left_token net i (c.args.left - number i)} c.left_token-last.ensures
+    c.putter_of-putter.ensures.put in
+    let at : start_in c.args.rows.now on.source n ≡ Some start = ap (λ (a : ℕ). start_in c.args.rows.now a n) (sym c.source-actor.ensures) ∙ (sym c.start_at.ensures ∙ c.in-Some.is) in
+    let chain : IsChain net number p on.source n start marked.0 = subst (λ (a : ℕ). IsChain net number p a n start marked.0) c.source-actor.ensures marked.1 in
+    (marked.0, put-way net number p c.args.left i c.requires.apart c.channel_of-channel.ensures c.know_laws.ensures n puts c.args.rows.now c.requires.column start marked.0 at chain, marked.2)

@@ -1,0 +1,182 @@
+-- A search that has ended: its points are the front.
+use Rattle.std.proofs.Common.{◌≡◌, ℕ, ◌+◌, ◌*◌, ◌≤◌, ◌<◌, ◌⊎◌, true, Option, List, [], ◌∷◌, length, map, inl, inr, ⊎_elim, refl, sym, ap, ◌∙◌, subst, arith, mul-le-mul_right}
+use Rattle.std.specs.List.{AllPairs}
+use Rattle.std.specs.Prelude.{All, Contains, slice_index, slice_index_or}
+use Rattle.std.proofs.lemmas.Bool.{cases_lt, cases_order}
+use Rattle.std.proofs.lemmas.List.{get_or-map, get_or_default, length-map}
+use Rattle.std.proofs.lemmas.List.Elements.{Contains-get_or}
+use Rattle.sd_base.specs.declared.tables.ScenarioFile.{ScenarioFile}
+use Rattle.storage.specs.CapacityOrder.{no_later}
+use Rattle.storage.specs.ClosedLists.{Entry, HasEntry, IsClosedBy, IsCovered, IsFrontOverBy, entry_at, no_entry}
+use Rattle.storage.specs.Distributions.{AtMost, IsDistribution, storage_of}
+use Rattle.storage.specs.ParetoPoints.{IsFrontBy, IsReachedBy, Pair, no_pair}
+use Rattle.storage.specs.StorageOrder.{stepped}
+use Rattle.storage.proofs.Climbs.{HasSteps, storage-le}
+use Rattle.storage.proofs.Covers.{covered-by}
+use Rattle.storage.proofs.FrontsFromMembers.{front-by, no_less, same-storage}
+use Rattle.levels.specs.Visits.{led_by}
+use Rattle.bounded_scenarios.specs.SharedChannels.{shared_channels}
+use Rattle.bounded_scenarios.specs.StorageRates.{HasWorstRate}
+use Rattle.bounded_scenarios.specs.ScenarioGuides.{IsReachable}
+use Rattle.scenario_storage.specs.declared.point.ScenarioLimits.{ScenarioLimits}
+use Rattle.scenario_storage.specs.declared.point.ScenarioPoint.{ScenarioPoint}
+use Rattle.scenario_storage.specs.ScenarioPoints.{AreScenarioPoints, IsPoint, ReachesPoint, pair_of}
+use Rattle.scenario_storage.specs.inside.Points.{AreRising, IsBelow}
+use Rattle.scenario_storage.specs.inside.Searches.{Covers, IsEnded, IsNoted}
+use Rattle.scenario_storage.proofs.Searchable.{IsSearchable}
+use Rattle.scenario_storage.proofs.Stepping.{entry-visit, has-entry}
+
+-- two elements of a list are one, or one stands before the other
+pub one-or-apart : {A : Type 0} (R : A → A → Type 0) (xs : List A) (x y : A) → AllPairs R xs → Contains xs x → Contains xs y → (x ≡ y) ⊎ (R x y ⊎ R y x)
+one-or-apart {A} R xs x y pairs (i, low, is) (j, other, same) =
+    let mine : slice_index_or xs j x ≡ y = get_or_default xs j x y other ∙ same in
+    ⊎_elim
+    (λ (equal : i ≡ j). inl (sym is ∙ (ap (λ (k : ℕ). slice_index_or xs k x) equal ∙ mine)))
+    (λ (apart : (i < j) ⊎ (j < i)). inr (⊎_elim
+    (λ (less : i < j). inl (subst (λ (b : A). R x b) mine (subst (λ (a : A). R a (slice_index_or xs j x)) is (pairs i j x less other))))
+    (λ (more : j < i). inr (subst (λ (a : A). R a x) mine (subst (λ (b : A). R (slice_index_or xs j x) b) is (pairs j i x more low))))
+    apart))
+    (cases_order i j)
+
+-- the pairs of points
+abbrev at : List ScenarioPoint → ℕ → Pair
+at ps i = slice_index_or (map pair_of ps) i no_pair
+
+pair-at : (ps : List ScenarioPoint) (i : ℕ) → i < length (map pair_of ps) → (p : ScenarioPoint) × Contains ps p × (at ps i ≡ pair_of p)
+pair-at [] i below = absurd (omega (arith, below))
+pair-at (x ∷ ps) i below =
+    let here : i < length (x ∷ ps) = omega (arith, below, length-map (x ∷ ps) pair_of) in
+    (slice_index_or (x ∷ ps) i x, Contains-get_or (x ∷ ps) i x here, get_or-map pair_of (x ∷ ps) i x no_pair here)
+
+pairs-rise : (ps : List ScenarioPoint) → AreRising ps → (i j : ℕ) → i < j → j < length (map pair_of ps) → ((at ps i).storage < (at ps j).storage) × ((at ps i).num * (at ps j).den < (at ps j).num * (at ps i).den)
+pairs-rise [] rising i j less below = absurd (omega (arith, below))
+pairs-rise (x ∷ ps) rising i j less below =
+    let there : j < length (x ∷ ps) = omega (arith, below, length-map (x ∷ ps) pair_of) in
+    let up : IsBelow (slice_index_or (x ∷ ps) i x) (slice_index_or (x ∷ ps) j x) = rising i j x less there in
+    let first : pair_of (slice_index_or (x ∷ ps) i x) ≡ at (x ∷ ps) i = sym (get_or-map pair_of (x ∷ ps) i x no_pair (omega (arith, less, there))) in
+    let second : pair_of (slice_index_or (x ∷ ps) j x) ≡ at (x ∷ ps) j = sym (get_or-map pair_of (x ∷ ps) j x no_pair there) in
+    let P : Pair → Pair → Type 0 = λ a b. (a.storage < b.storage) × (a.num * b.den < b.num * a.den) in
+    subst (λ (a : Pair). P a (at (x ∷ ps) j)) first (subst (λ (b : Pair). P (pair_of (slice_index_or (x ∷ ps) i x)) b) second (up.0, up.1))
+
+point-pair : (ps : List ScenarioPoint) (p : ScenarioPoint) → Contains ps p → (k : ℕ) × (k < length (map pair_of ps)) × (at ps k ≡ pair_of p)
+point-pair ps p (k, below, is) = (k, omega (arith, below, length-map ps pair_of), get_or-map pair_of ps k p no_pair below ∙ ap pair_of is)
+
+positive-on : (p q x y : ℕ) → 1 ≤ p → 1 ≤ y → p * y ≤ x * q → 1 ≤ x
+positive-on p q x y some there le =
+    ⊎_elim
+    (λ (none : x < 1). absurd (
+    let zero_here : x ≡ 0 = omega (arith, none) in
+    let nothing : x * q ≡ 0 * q = ap (λ (z : ℕ). z * q) zero_here in
+    let scaled : 1 * y ≤ p * y = mul-le-mul_right y some in
+    omega (arith, le, nothing, scaled, there)))
+    (λ (h : 1 ≤ x). h)
+    (cases_lt x 1)
+
+-- points that don't lie apart are one
+one-point : (q p : ScenarioPoint) → (q ≡ p) ⊎ (IsBelow q p ⊎ IsBelow p q) → q.total ≤ p.total → p.rate.num * q.rate.den ≤ q.rate.num * p.rate.den → q ≡ p
+one-point q p (inl same) early fast = same
+one-point q p (inr (inl under)) early fast = absurd (omega (arith, under.1, fast))
+one-point q p (inr (inr above)) early fast = absurd (omega (arith, above.0, early))
+
+-- where a point covers an entry that has no less rate and is at most a distribution of the point's storage, that one is the entry's
+least-by : (file : ScenarioFile) (e : Entry) (p : ScenarioPoint) (ds : List (Option ℕ)) → HasSteps (shared_channels file) → Covers file p e → p.rate.num * e.den ≤ e.num * p.rate.den → AtMost e.capacities ds → IsDistribution (shared_channels file) e.capacities → storage_of (shared_channels file) ds ≡ p.total → no_later p.capacities.capacities ds ≡ true
+least-by file e p ds steps covers bounds most dist total =
+    let low : storage_of (shared_channels file) e.capacities ≤ storage_of (shared_channels file) ds = storage-le (shared_channels file) e.capacities ds most in
+    let equal : p.total ≡ storage_of (shared_channels file) e.capacities = omega (arith, low, covers.storage, total) in
+    let cross : e.num * p.rate.den ≡ p.rate.num * e.den = omega (arith, covers.rate, bounds) in
+    let same : e.capacities ≡ ds = same-storage (shared_channels file) e.capacities ds steps.size dist most (omega (arith, equal, total)) in
+    subst (λ (xs : List (Option ℕ)). no_later p.capacities.capacities xs ≡ true) same (covers.tie equal cross)
+
+module _ (file : ScenarioFile) (limits : ScenarioLimits) (can : IsSearchable file limits.total) (ps : List ScenarioPoint) (ended : IsEnded file limits ps) where
+  there : (i : ℕ) → i < length ended.entries → Contains ended.entries (entry_at ended.entries i)
+  there i below = Contains-get_or ended.entries i no_entry below
+
+  noted : (i : ℕ) → i < length ended.entries → IsNoted file limits.total (entry_at ended.entries i)
+  noted i below = ended.known.noted (entry_at ended.entries i) (there i below)
+
+  nexts : (i j : ℕ) → i < length ended.entries → j < length (entry_at ended.entries i).shown →
+      storage_of (shared_channels file) (stepped (shared_channels file) (entry_at ended.entries i).capacities (slice_index (entry_at ended.entries i).shown j)) ≤ limits.total →
+      HasEntry ended.entries (stepped (shared_channels file) (entry_at ended.entries i).capacities (slice_index (entry_at ended.entries i).shown j))
+  nexts i j below shown within =
+      let e : Entry = entry_at ended.entries i in
+      let c : ℕ = slice_index (entry_at ended.entries i).shown j in
+      has-entry ended.entries (stepped (shared_channels file) e.capacities c)
+      (ended.visits.next (led_by e.capacities e.shown) (stepped (shared_channels file) e.capacities c) (entry-visit ended.entries e (there i below)) (c, Contains-get_or (entry_at ended.entries i).shown j 0 shown, refl) within)
+
+  closed : IsClosedBy (shared_channels file) (HasWorstRate file) limits.total ended.entries
+  closed = record {
+    corner = ended.corner;
+    is_corner = ended.is_corner;
+    start = λ fits. has-entry ended.entries ended.corner (ended.visits.begins fits);
+    distributions = λ i below. (noted i below).candidate.distribution;
+    grid = λ i below. (noted i below).candidate.grid;
+    within = λ i below. (noted i below).candidate.within;
+    next = nexts;
+    positive = λ i below. (noted i below).positive;
+    above = λ ds p q dist within rate runs. can.above ended.corner ds p q ended.is_corner dist within rate runs;
+    bounds = λ i below ds dist within most agrees p q rate runs. (noted i below).bounds ds dist within most agrees p q rate runs;
+  }
+
+  reaches : (p : ScenarioPoint) → Contains ps p → ReachesPoint file limits.total p p.capacities.capacities
+  reaches p one =
+      let of = ended.known.among p one in
+      let n = ended.known.noted of.0 of.1 in
+      let mine : ReachesPoint file limits.total p of.0.capacities = record {
+        distribution = n.candidate.distribution;
+        total = sym of.2.total;
+        within = (let fits = n.candidate.within in omega (arith, fits, of.2.total));
+        rate = subst (λ (d : ℕ). HasWorstRate file of.0.capacities p.rate.num d) of.2.den (subst (λ (m : ℕ). HasWorstRate file of.0.capacities m of.0.den) of.2.num n.rate);
+        runs = of.2.runs;
+      } in
+      subst (ReachesPoint file limits.total p) of.2.capacities mine
+
+  reached : (i : ℕ) → i < length (map pair_of ps) → IsReachedBy (shared_channels file) (HasWorstRate file) limits.total (at ps i)
+  reached i below =
+      let p = pair-at ps i below in
+      subst (IsReachedBy (shared_channels file) (HasWorstRate file) limits.total) (sym p.2) (p.0.capacities.capacities, reaches p.0 p.1)
+
+  over : IsFrontOverBy (shared_channels file) (HasWorstRate file) limits.total ended.entries (map pair_of ps)
+  over = record {
+    storage = λ i j less below. (pairs-rise ps ended.known.rising i j less below).0;
+    rate = λ i j less below. (pairs-rise ps ended.known.rising i j less below).1;
+    reached = reached;
+    covers = λ i below runs.
+        let c = ended.known.covers (entry_at ended.entries i) (there i below) runs in
+        let k = point-pair ps c.0 c.1 in
+        (k.0, k.1,
+          subst (λ (x : Pair). x.storage ≤ storage_of (shared_channels file) (entry_at ended.entries i).capacities) (sym k.2) c.2.storage,
+          subst (λ (x : Pair). (entry_at ended.entries i).num * x.den ≤ x.num * (entry_at ended.entries i).den) (sym k.2) c.2.rate);
+  }
+
+  front : IsFrontBy (shared_channels file) (HasWorstRate file) limits.total (map pair_of ps)
+  front = front-by (shared_channels file) (HasWorstRate file) can.lowest can.steps limits.total ended.entries (map pair_of ps) closed over
+
+  -- a distribution that reaches what a point does is a member that the point covers, and no other point does
+  least : (p : ScenarioPoint) → Contains ps p → (ds : List (Option ℕ)) → ReachesPoint file limits.total p ds → no_later p.capacities.capacities ds ≡ true
+  least p one ds is =
+      let cover : IsCovered ended.entries ds p.rate.num p.rate.den = covered-by (shared_channels file) (HasWorstRate file) can.steps limits.total ended.entries closed p.total p.rate.num p.rate.den ds is in
+      let n = noted cover.place cover.below in
+      let runs : 1 ≤ (entry_at ended.entries cover.place).num = positive-on p.rate.num p.rate.den (entry_at ended.entries cover.place).num (entry_at ended.entries cover.place).den is.runs n.positive cover.bounds in
+      let c = ended.known.covers (entry_at ended.entries cover.place) (there cover.place cover.below) runs in
+      let low : storage_of (shared_channels file) (entry_at ended.entries cover.place).capacities ≤ storage_of (shared_channels file) ds = storage-le (shared_channels file) (entry_at ended.entries cover.place).capacities ds cover.most in
+      let fast : p.rate.num * c.0.rate.den ≤ c.0.rate.num * p.rate.den = no_less p.rate.num p.rate.den (entry_at ended.entries cover.place).num (entry_at ended.entries cover.place).den c.0.rate.num c.0.rate.den n.positive cover.bounds c.2.rate in
+      let early : c.0.total ≤ p.total = omega (arith, low, is.total, c.2.storage) in
+      let same : c.0 ≡ p = one-point c.0 p (one-or-apart IsBelow ps c.0 p ended.known.rising c.1 one) early fast in
+      least-by file (entry_at ended.entries cover.place) p ds can.steps (subst (λ (x : ScenarioPoint). Covers file x (entry_at ended.entries cover.place)) same c.2) cover.bounds cover.most n.candidate.distribution is.total
+
+  point-is : (p : ScenarioPoint) → Contains ps p → IsPoint file limits.total p
+  point-is p one =
+      let of = ended.known.among p one in
+      let n = ended.known.noted of.0 of.1 in
+      record {
+        reaches = reaches p one;
+        least = least p one;
+        reachable = subst (λ (ds : List (Option ℕ)). IsReachable file limits.total ds) of.2.capacities n.candidate.reachable;
+        shown = of.2.shown;
+      }
+
+  pub points-are : AreScenarioPoints file limits ps
+  points-are = record {
+    front = front;
+    reached = λ k d below. point-is (slice_index_or ps k d) (Contains-get_or ps k d below);
+  }

@@ -1,0 +1,34 @@
+-- What a search rests on: laws of the shared channels of a file and of their worst rates.
+use Rattle.std.proofs.Common.{◌≡◌, ℕ, ◌≤◌, ◌<◌, true, Option, List, length}
+use Rattle.std.specs.Prelude.{slice_index_or}
+use Rattle.sd_base.specs.declared.tables.ScenarioFile.{ScenarioFile}
+use Rattle.sd_base.specs.Lawful.{is_token_role}
+use Rattle.sd_base.specs.Net.{nowhere}
+use Rattle.storage.specs.Distributions.{AtMost, IsDistribution, storage_of}
+use Rattle.storage.specs.Steps.{IsCorner, rounded}
+use Rattle.storage.proofs.Climbs.{HasSteps}
+use Rattle.storage.proofs.FrontsFromMembers.{AreLowest}
+use Rattle.bounded_scenarios.specs.Boundings.{CanBeBounded, CanBeMeasured}
+use Rattle.bounded_scenarios.specs.SharedChannels.{shared_channels}
+use Rattle.bounded_scenarios.specs.StorageRates.{HasWorstRate}
+use Rattle.scenario_storage.specs.inside.Levels.{IsWithin}
+
+-- what runs within the limit is, rounded down, at least the corner
+abbrev pub IsAboveCorner : ScenarioFile → ℕ → Type 0
+IsAboveCorner file limit =
+    (corner ds : List (Option ℕ)) (p q : ℕ) → IsCorner (shared_channels file) corner → IsDistribution (shared_channels file) ds → storage_of (shared_channels file) ds ≤ limit →
+    HasWorstRate file ds p q → 1 ≤ p → AtMost corner (rounded (shared_channels file) ds)
+
+pub record IsSearchable (file : ScenarioFile) (limit : ℕ) : Type 0 where
+  pub steps : HasSteps (shared_channels file)
+  pub lowest : AreLowest (HasWorstRate file)
+  pub above : IsAboveCorner file limit
+  pub roles : (i : ℕ) → i < length (shared_channels file) → is_token_role (slice_index_or (shared_channels file) i nowhere).role ≡ true
+
+-- a file that can be bounded is searchable
+pub searchable : (file : ScenarioFile) (limit : ℕ) → CanBeBounded file limit → IsSearchable file limit
+searchable file limit can = ?
+
+-- and its bounded files can be measured
+pub can-measure : (file : ScenarioFile) (limit : ℕ) → CanBeBounded file limit → (ds : List (Option ℕ)) → IsWithin file limit ds → CanBeMeasured file ds
+can-measure file limit can ds fits = ?

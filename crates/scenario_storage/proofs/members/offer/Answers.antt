@@ -1,0 +1,30 @@
+use Rattle.std.proofs.Common.{◌≤◌, ℕ, List, refl, subst, sym}
+use Rattle.std.specs.Prelude.{All}
+use Rattle.scenario_storage.specs.declared.point.ScenarioPoint.{ScenarioPoint}
+use Rattle.scenario_storage.specs.inside.Points.{IsTaken}
+use Rattle.scenario_storage.proofs.Knowing.{keeps-as, kept-known, late-all, none-known, ok-then}
+use Rattle.scenario_storage.proofs.members.offer.Goals as goal
+
+pub take_point-requires-clause-rising : goal.take_point-requires-clause-rising
+take_point-requires-clause-rising c = c.requires.4.known.rising
+
+pub take_point-requires-clause-late : goal.take_point-requires-clause-late
+take_point-requires-clause-late c =
+    subst (λ (n : ℕ). All (λ (p : ScenarioPoint). p.total ≤ n) c.args.points.now.items) (sym c.point_of.ensures.total_is)
+    (late-all c.requires.0 c.requires.1 c.requires.2 c.requires.3 c.args.total c.args.capacities c.args.rated c.args.points.now.items c.requires.4)
+
+pub returns-in-Some-clause-known : goal.returns-in-Some-clause-known
+returns-in-Some-clause-known c =
+    ok-then c.take_point.result (IsTaken c.point_of.result c.args.points.now.items c.take_point.new.points.items) _
+    (λ taken file limit es best is.
+    kept-known file limit es best c.args.total c.args.capacities c.args.rated c.args.points.now.items is c.in-Some.evidence c.in-Some.is c.point_of.result c.point_of.ensures c.take_point.new.points.items taken)
+    c.take_point.ensures
+
+pub returns-in-Some-clause-keeps : goal.returns-in-Some-clause-keeps
+returns-in-Some-clause-keeps c =
+    ok-then c.take_point.result (IsTaken c.point_of.result c.args.points.now.items c.take_point.new.points.items) _
+    (λ taken. keeps-as c.args.total c.point_of.result c.args.points.now.items c.take_point.new.points.items c.point_of.ensures.total_is taken)
+    c.take_point.ensures
+
+pub returns-in-None-clause-known : goal.returns-in-None-clause-known
+returns-in-None-clause-known c = λ file limit es best is. none-known file limit es best c.args.total c.args.capacities c.args.rated c.args.points.now.items is c.in-None.is c.args.points.now.items refl

@@ -1,0 +1,22 @@
+use Rattle.std.proofs.Common.{◌≡◌, ◌*◌, ◌≤◌, ℕ, List, length, sym, subst}
+use Rattle.sd_base.specs.declared.limits.TheConstants.{NODES}
+use Rattle.sd_base.specs.declared.tables.ScenarioFile.{ScenarioFile}
+use Rattle.sd_base.specs.Scenarios.{LeadsOn, shared_count}
+use Rattle.automaton.specs.TimedGraphs.{AreSized}
+use Rattle.scenario_storage.proofs.Measuring.{are-sized}
+use Rattle.scenario_storage.proofs.Searchable.{can-measure}
+use Rattle.scenario_storage.proofs.rating.timed_graph.Goals as goal
+
+pub product-requires-clause-sized : goal.product-requires-clause-sized
+product-requires-clause-sized c =
+    subst (λ (f : ScenarioFile). AreSized (shared_count f.shared) c.args.matrices.now) (sym c.requires.bounded) (are-sized _ c.args.matrices.now c.requires.live.are)
+
+pub product-requires-clause-nodes : goal.product-requires-clause-nodes
+product-requires-clause-nodes c =
+    subst (λ (f : ScenarioFile). length f.states * shared_count f.shared ≤ NODES) (sym c.requires.bounded)
+    (can-measure c.args.plan.now.file.now c.args.plan.now.limits.total c.requires.plan.bounded c.args.capacities.now.capacities c.requires.fits).few_nodes
+
+pub product-requires-clause-leads_on : goal.product-requires-clause-leads_on
+product-requires-clause-leads_on c =
+    subst LeadsOn (sym c.requires.bounded)
+    (can-measure c.args.plan.now.file.now c.args.plan.now.limits.total c.requires.plan.bounded c.args.capacities.now.capacities c.requires.fits).leads_on

@@ -1,0 +1,21 @@
+use Rattle.scenario_storage.proofs.Ending.{points-are}
+use Rattle.scenario_storage.proofs.Searchable.{searchable}
+use Rattle.scenario_storage.proofs.search.scenario_points.Goals as goal
+
+pub gammas_of-requires-clause-rules : goal.gammas_of-requires-clause-rules
+gammas_of-requires-clause-rules c = c.requires.bounded.rules
+
+pub gammas_of-requires-clause-rounds : goal.gammas_of-requires-clause-rounds
+gammas_of-requires-clause-rounds c = λ s row at. let r = c.requires.bounded.runs s row at in (r.gamma, r.round)
+
+pub corner_of-requires : goal.corner_of-requires
+corner_of-requires c = λ κs outlive. c.requires.bounded.rules
+
+pub begin-requires-clause-plan : goal.begin-requires-clause-plan
+begin-requires-clause-plan c = λ κs outlive. record { bounded = c.requires.bounded; rounds = c.in_ok-gammas.ensures; total = c.requires.total }
+
+pub take_turns-requires-clause-plan : goal.take_turns-requires-clause-plan
+take_turns-requires-clause-plan g c = λ κs outlive. record { bounded = c.requires.bounded; rounds = c.in_ok-gammas.ensures; total = c.requires.total }
+
+pub returns-clause-points : goal.returns-clause-points
+returns-clause-points g c = points-are c.args.file.now c.args.limits (searchable c.args.file.now c.args.limits.total c.requires.bounded) c.take_turns.new.search.points.items c.in_ok-take_turns.ensures.ended

@@ -1,0 +1,5 @@
+use Rattle.scenario_storage.proofs.Marking.{AreMarkedTo}
+use Rattle.scenario_storage.proofs.shown.shown_by_cycle.Given as goal
+
+abbrev pub invariant-loop-scenario : goal.invariant-loop-scenario
+invariant-loop-scenario l = AreMarkedTo l.plan.file.now l.capacities.capacities l.graph l.cycle l.scenario l.marks.items
