@@ -40,6 +40,9 @@ contains-get xs x (k, below, same) =
 pub get-contains : {A : Type 0} (xs : List A) (k : ℕ) (x : A) → slice_get xs k ≡ Some x → Contains xs x
 get-contains xs k x at = (k, slice_get_within xs k x at, get_or_from_slice_get xs k x x at)
 
+pub there-or : {A : Type 0} (xs : List A) (k : ℕ) (d : A) → k < length xs → slice_get xs k ≡ Some (slice_index_or xs k d)
+there-or xs k d below = let there = get_there xs k below in there.1 ∙ ap Some (sym (get_or_from_slice_get xs k there.0 d there.1))
+
 pub marked-within : (marks : List Bool) (c : ℕ) → slice_index_or marks c false ≡ true → c < length marks
 marked-within marks c is =
     ⊎_elim
@@ -47,7 +50,7 @@ marked-within marks c is =
     (λ (past : length marks ≤ c). absurd (true≢false (sym is ∙ get_or_past marks c false past)))
     (cases_lt c (length marks))
 
-get-map : {A B : Type 0} (f : A → B) (xs : List A) (k : ℕ) (x : A) → slice_get xs k ≡ Some x → slice_get (map f xs) k ≡ Some (f x)
+pub get-map : {A B : Type 0} (f : A → B) (xs : List A) (k : ℕ) (x : A) → slice_get xs k ≡ Some x → slice_get (map f xs) k ≡ Some (f x)
 get-map f xs k x at = slice_get-map f xs k ∙ ap (option_map f) at
 
 -- the free spaces that are taken on these channels of a scenario are marked

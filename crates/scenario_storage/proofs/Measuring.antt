@@ -1,5 +1,5 @@
 -- The matrices of the scenarios of a bounded file, one after another.
-use Rattle.std.proofs.Common.{◌≡◌, ℕ, ◌+◌, ◌*◌, ◌≤◌, ◌<◌, Option, Some, List, [], ◌∷◌, ◌++◌, length, map, ⊎_elim, refl, sym, ap, ◌∙◌, subst, arith}
+use Rattle.std.proofs.Common.{◌≡◌, false, ℕ, ◌+◌, ◌*◌, ◌≤◌, ◌<◌, Option, Some, List, [], ◌∷◌, ◌++◌, length, map, ⊎_elim, refl, sym, ap, ◌∙◌, subst, arith}
 use Rattle.std.specs.Prelude.{Result, Ok, Err, IfErr, IfOk, OnOk, slice_get, slice_index_or, sum}
 use Rattle.std.proofs.lemmas.Bool.{cases_lt}
 use Rattle.std.proofs.lemmas.List.{get_or_append_left, get_or-append-add, get_or_default, length-append, length-map}
@@ -91,6 +91,12 @@ module _ (file : ScenarioFile) (gammas : List (List ℕ)) (ds : List (Option ℕ
 
 -- what a scenario of the bounded file gives, and what is answered on it, by other names
 module _ (shared other : List SharedRow) (g h : GraphFile) (gamma delta : List ℕ) (rows : other ≡ shared) (graphs : h ≡ g) (rounds : delta ≡ gamma) where
+  pub moved-to : (P : List SharedRow → GraphFile → List ℕ → Type 0) → P shared g gamma → P other h delta
+  moved-to P is = subst (λ (s : List SharedRow). P s h delta) (sym rows) (subst (λ (x : GraphFile). P shared x delta) (sym graphs) (subst (λ (v : List ℕ). P shared g v) (sym rounds) is))
+
+  pub moved-back : (P : List SharedRow → GraphFile → List ℕ → Type 0) → P other h delta → P shared g gamma
+  moved-back P is = subst (λ (s : List SharedRow). P s g gamma) rows (subst (λ (x : GraphFile). P other x gamma) graphs (subst (λ (v : List ℕ). P other h v) rounds is))
+
   pub gives-as : GivesMatrix shared g gamma → GivesMatrix other h delta
   gives-as is =
       subst (λ (s : List SharedRow). GivesMatrix s h delta) (sym rows)

@@ -1,13 +1,15 @@
 -- What the evaluation of a distribution comes to.
-use Rattle.std.proofs.Common.{◌≡◌, ℕ, ◌*◌, ◌≤◌, ◌<◌, Option, None, Some, List, length, refl, sym, ap, ◌∙◌, subst, arith}
-use Rattle.std.specs.Prelude.{◌↔◌, Contains, MatchOption, slice_get, slice_index, slice_index_or}
+use Rattle.std.proofs.Common.{◌≡◌, false, ℕ, ◌*◌, ◌≤◌, ◌<◌, Option, None, Some, List, length, refl, sym, ap, ◌∙◌, subst, arith}
+use Rattle.std.specs.Prelude.{◌↔◌, Contains, IfOk, MatchOption, Result, Ok, Err, slice_get, slice_index, slice_index_or}
 use Rattle.std.proofs.lemmas.Option.{slice_get_within}
+use Rattle.sd_base.specs.declared.memory.NoMemory.{NoMemory}
 use Rattle.sd_base.specs.declared.numbers.Fraction.{Fraction}
 use Rattle.sd_base.specs.declared.tables.ScenarioFile.{ScenarioFile}
 use Rattle.sd_base.specs.declared.tables.ScenarioRow.{ScenarioRow}
 use Rattle.sd_base.specs.declared.tables.SharedRow.{SharedRow}
 use Rattle.sd_base.specs.FileNet.{net_of}
 use Rattle.sd_base.specs.Lawful.{Lawful}
+use Rattle.sd_base.specs.Net.{Net}
 use Rattle.sd_base.specs.Scenarios.{Shares}
 use Rattle.sd_base.specs.Untimed.{IsLive}
 use Rattle.sd_base.proofs.Blocking.{live-unblocked}
@@ -76,6 +78,18 @@ module _ (file : ScenarioFile) (gammas : List (List ℕ)) (ds : List (Option ℕ
         live-unblocked (bounded_net file.shared ds at.is.scenario.row.graph at.is.scenario.gamma) (wired (bounded_net file.shared ds at.is.scenario.row.graph at.is.scenario.gamma) laws)
         (subst (λ (v : List ℕ). IsLive (bounded_net file.shared ds at.is.scenario.row.graph v)) same runs.2) (slice_index counts) at.is.blocked.blocks;
   }
+
+-- the same of what the code has by other names
+pub shown-as : (file : ScenarioFile) (gammas : List (List ℕ)) (ds : List (Option ℕ)) (s : ℕ) (counts : List ℕ) (at : IsBlockedAt file gammas ds s counts) → Shares file.shared at.is.scenario.row.graph → length ds ≡ length file.shared → (net bounded : Net) (spaces : List (Option ℕ)) →
+    net ≡ net_of at.is.scenario.row.graph at.is.scenario.gamma false → bounded ≡ bounded_net file.shared ds at.is.scenario.row.graph at.is.scenario.gamma → spaces ≡ spaces_from (length at.is.scenario.row.graph.channels) ds → Lawful bounded →
+    (r : Result (List ℕ) NoMemory) → IfOk r (λ (shown : List ℕ). (c : ℕ) → Contains shown c ↔ IsWaitedFor net bounded spaces (slice_index counts) c) → IfOk r (AreShownBlocked file ds)
+shown-as file gammas ds s counts at shares long net bounded spaces net_is bounded_is spaces_are laws (Err e) listed = tt
+shown-as file gammas ds s counts at shares long net bounded spaces net_is bounded_is spaces_are laws (Ok shown) listed =
+    let P : Net → Net → List (Option ℕ) → Type 0 = λ n b xs. (c : ℕ) → Contains shown c ↔ IsWaitedFor n b xs (slice_index counts) c in
+    shown-blocked file gammas ds s counts at shares long shown
+    (subst (λ (n : Net). P n (bounded_net file.shared ds at.is.scenario.row.graph at.is.scenario.gamma) (spaces_from (length at.is.scenario.row.graph.channels) ds)) net_is
+    (subst (λ (b : Net). P net b (spaces_from (length at.is.scenario.row.graph.channels) ds)) bounded_is (subst (P net bounded) spaces_are listed)))
+    (subst Lawful bounded_is laws)
 
 module _ (file : ScenarioFile) (total : ℕ) (can : CanBeBounded file total) (ds : List (Option ℕ)) (fits : IsWithin file total ds) (best : Fraction) (r : Rated) where
   -- a blocked distribution

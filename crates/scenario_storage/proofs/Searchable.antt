@@ -1,7 +1,9 @@
 -- What a search rests on: laws of the shared channels of a file and of their worst rates.
-use Rattle.std.proofs.Common.{◌≡◌, ℕ, ◌≤◌, ◌<◌, true, Option, List, length}
+use Rattle.std.proofs.Common.{◌≡◌, ℕ, zero, suc, ◌≤◌, ◌<◌, true, Option, List, [], ◌∷◌, length, refl, arith}
 use Rattle.std.specs.Prelude.{slice_index_or}
 use Rattle.sd_base.specs.declared.tables.ScenarioFile.{ScenarioFile}
+use Rattle.sd_base.specs.declared.tables.ScenarioRow.{ScenarioRow}
+use Rattle.sd_base.specs.declared.tables.SharedRow.{SharedRow}
 use Rattle.sd_base.specs.Lawful.{is_token_role}
 use Rattle.sd_base.specs.Net.{nowhere}
 use Rattle.storage.specs.Distributions.{AtMost, IsDistribution, storage_of}
@@ -9,8 +11,11 @@ use Rattle.storage.specs.Steps.{IsCorner, rounded}
 use Rattle.storage.proofs.Climbs.{HasSteps}
 use Rattle.storage.proofs.FrontsFromMembers.{AreLowest}
 use Rattle.bounded_scenarios.specs.Boundings.{CanBeBounded, CanBeMeasured}
-use Rattle.bounded_scenarios.specs.SharedChannels.{shared_channels}
+use Rattle.bounded_scenarios.specs.SharedChannels.{shared_channels, shared_channels_from}
 use Rattle.bounded_scenarios.specs.StorageRates.{HasWorstRate}
+use Rattle.bounded_scenarios.proofs.AboveCorner.{above-corner, rates-are-lowest}
+use Rattle.bounded_scenarios.proofs.Measurable.{measurable}
+use Rattle.bounded_scenarios.proofs.SharedSteps.{shared-steps}
 use Rattle.scenario_storage.specs.inside.Levels.{IsWithin}
 
 -- what runs within the limit is, rounded down, at least the corner
@@ -25,10 +30,21 @@ pub record IsSearchable (file : ScenarioFile) (limit : ℕ) : Type 0 where
   pub above : IsAboveCorner file limit
   pub roles : (i : ℕ) → i < length (shared_channels file) → is_token_role (slice_index_or (shared_channels file) i nowhere).role ≡ true
 
+-- shared channels are those of a file
+token-roles : (ss : List ScenarioRow) (p : ℕ) (rows : List SharedRow) (i : ℕ) → i < length (shared_channels_from ss p rows) → is_token_role (slice_index_or (shared_channels_from ss p rows) i nowhere).role ≡ true
+token-roles ss p [] i below = absurd (omega (arith, below))
+token-roles ss p (row ∷ rows) zero below = refl
+token-roles ss p (row ∷ rows) (suc i) below = token-roles ss (suc p) rows i (omega (arith, below))
+
 -- a file that can be bounded is searchable
 pub searchable : (file : ScenarioFile) (limit : ℕ) → CanBeBounded file limit → IsSearchable file limit
-searchable file limit can = ?
+searchable file limit can = record {
+  steps = shared-steps file can.rules;
+  lowest = rates-are-lowest file;
+  above = λ corner ds p q is dist within rate runs. above-corner file limit can corner ds p q is dist within rate runs;
+  roles = λ i below. token-roles file.scenarios 0 file.shared i below;
+}
 
 -- and its bounded files can be measured
 pub can-measure : (file : ScenarioFile) (limit : ℕ) → CanBeBounded file limit → (ds : List (Option ℕ)) → IsWithin file limit ds → CanBeMeasured file ds
-can-measure file limit can ds fits = ?
+can-measure file limit can ds fits = measurable file limit can ds fits.distribution fits.within

@@ -101,7 +101,7 @@ fn rate_blocked(
     requires fits { IsWithin plan.now.file.now plan.now.limits.total capacities.now.capacities }
     requires bounded { bounded.now ≡ bounded_file plan.now.file.now capacities.now.capacities }
     requires blocked { IsBlockedAt plan.now.file.now plan.now.gammas.now capacities.now.capacities scenario counts.now }
-    ensures rated { (best : AFraction) → IsAnswer plan.now.file.now plan.now.limits best capacities.now.capacities result }
+    ensures { (best : AFraction) → IsAnswer plan.now.file.now plan.now.limits best capacities.now.capacities result }
 {
     let enlarge = shown_by_counts(plan, capacities, bounded, scenario, counts)?;
     Ok(Rated {

@@ -2,7 +2,8 @@ ghost use Rattle.std.specs.Prelude.{◌≡◌, ◌≤◌, ◌<◌, ℕ, IfErr, I
 ghost use Rattle.sd_base.specs.declared.limits.TheConstants.{DISTRIBUTIONS, LEAST_DISTRIBUTIONS, STORAGE};
 ghost use Rattle.sd_base.specs.Scenarios.{FileKeepsRules};
 ghost use Rattle.sd_base.specs.Tables.{KeepsRules};
-ghost use Rattle.balance.specs.Repetition.{IsRound};
+ghost use Rattle.sd_base.specs.declared.tables.GraphFile.{GraphFile as AGraph};
+ghost use Rattle.balance.specs.Repetition.{IsRefusal as IsBalanceRefusal, IsRound};
 ghost use Rattle.storage.specs.Distributions.{storage_of};
 ghost use Rattle.storage.specs.Steps.{IsCorner};
 ghost use Rattle.bounded_scenarios.specs.Boundings.{CanBeBounded};
@@ -86,11 +87,20 @@ fn gamma_of(alloc: Global, graph: &GraphFile) -> Result<Rows<u64>, NoMemory>
     requires round { (gamma : List ℕ) × IsRound graph.now gamma }
     ensures { IfOk result (IsRound graph.now) }
 {
-    one_answer();
     match repetition(alloc, graph) {
         Ok(gamma) => Ok(gamma),
-        Err(BalanceError::NoMemory) => Err(NoMemory),
-        Err(_) => unreachable!(),
+        Err(error) => Err(lack_of(error)),
+    }
+}
+
+/// The error of a graph that has a repetition vector: memory lacks.
+fn lack_of(error: BalanceError) -> NoMemory
+    requires { (graph : AGraph) × KeepsRules graph × ((gamma : List ℕ) × IsRound graph gamma) × IsBalanceRefusal graph error }
+{
+    one_answer();
+    match error {
+        BalanceError::NoMemory => NoMemory,
+        _ => unreachable!(),
     }
 }
 

@@ -143,8 +143,8 @@ fn needs<F: Firing>(net: &F, channel: u32, later: u64, made: u64) -> bool
     ensures { IsTrue result ↔ Needs (channel_at (F.net net.now) channel) later made }
 {
     know_laws(net);
-    u128::from(net.tokens(channel)) + made_sum(net, channel, u128::from(made))
-        < taken_sum(net, channel, u128::from(later) + 1)
+    net.tokens(channel) as u128 + made_sum(net, channel, made as u128)
+        < taken_sum(net, channel, later as u128 + 1)
 }
 
 /// The shared channels whose free space is taken on one way of each edge of a cycle. Cost: that of a round for each

@@ -3,16 +3,16 @@ use Rattle.scenario_storage.proofs.Searchable.{searchable}
 use Rattle.scenario_storage.proofs.search.scenario_points.Goals as goal
 
 pub gammas_of-requires-clause-rules : goal.gammas_of-requires-clause-rules
-gammas_of-requires-clause-rules c = c.requires.bounded.rules
+gammas_of-requires-clause-rules g c = c.requires.bounded.rules
 
 pub gammas_of-requires-clause-rounds : goal.gammas_of-requires-clause-rounds
-gammas_of-requires-clause-rounds c = λ s row at. let r = c.requires.bounded.runs s row at in (r.gamma, r.round)
+gammas_of-requires-clause-rounds g c = λ s row at. let r = c.requires.bounded.runs s row at in (r.gamma, r.round)
 
 pub corner_of-requires : goal.corner_of-requires
-corner_of-requires c = λ κs outlive. c.requires.bounded.rules
+corner_of-requires g c = c.requires.bounded.rules
 
 pub begin-requires-clause-plan : goal.begin-requires-clause-plan
-begin-requires-clause-plan c = λ κs outlive. record { bounded = c.requires.bounded; rounds = c.in_ok-gammas.ensures; total = c.requires.total }
+begin-requires-clause-plan g c = record { bounded = c.requires.bounded; rounds = c.in_ok-gammas.ensures; total = c.requires.total }
 
 pub take_turns-requires-clause-plan : goal.take_turns-requires-clause-plan
 take_turns-requires-clause-plan g c = λ κs outlive. record { bounded = c.requires.bounded; rounds = c.in_ok-gammas.ensures; total = c.requires.total }

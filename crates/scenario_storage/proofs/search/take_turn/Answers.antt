@@ -6,7 +6,7 @@ use Rattle.scenario_storage.proofs.Turning.{all-within, answered-level, best-bef
 use Rattle.scenario_storage.proofs.search.take_turn.Goals as goal
 
 pub run_level-requires-clause-fits : goal.run_level-requires-clause-fits
-run_level-requires-clause-fits g c = all-within c.args.plan.now.file.now c.args.plan.now.limits c.args.level.visits.items c.requires.turn.candidates
+run_level-requires-clause-fits g c = λ κs outlive. all-within c.args.plan.now.file.now c.args.plan.now.limits c.args.level.visits.items c.requires.turn.candidates
 
 pub take_in_all-requires-clause-answers : goal.take_in_all-requires-clause-answers
 take_in_all-requires-clause-answers g c =
