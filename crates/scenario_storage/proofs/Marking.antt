@@ -43,6 +43,11 @@ get-contains xs k x at = (k, slice_get_within xs k x at, get_or_from_slice_get x
 pub there-or : {A : Type 0} (xs : List A) (k : ℕ) (d : A) → k < length xs → slice_get xs k ≡ Some (slice_index_or xs k d)
 there-or xs k d below = let there = get_there xs k below in there.1 ∙ ap Some (sym (get_or_from_slice_get xs k there.0 d there.1))
 
+-- an element that was taken from a list by its place
+pub item-at : {A : Type 0} (xs ys : List A) (k : ℕ) (x : A) → ys ≡ xs → k < length ys → x ≡ slice_index_or ys k x → slice_get xs k ≡ Some x
+item-at {A = A} xs ys k x same below is =
+    subst (λ (zs : List A). slice_get zs k ≡ Some x) same (there-or ys k x below ∙ ap Some (sym is))
+
 pub marked-within : (marks : List Bool) (c : ℕ) → slice_index_or marks c false ≡ true → c < length marks
 marked-within marks c is =
     ⊎_elim
