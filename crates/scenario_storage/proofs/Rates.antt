@@ -1,12 +1,9 @@
 -- What the evaluation of a distribution comes to.
-use Rattle.std.proofs.Common.{◌≡◌, false, ℕ, ◌*◌, ◌≤◌, ◌<◌, Option, None, Some, List, length, refl, sym, ap, ◌∙◌, subst, arith}
-use Rattle.std.specs.Prelude.{◌↔◌, Contains, IfOk, MatchOption, Result, Ok, Err, slice_get, slice_index, slice_index_or}
-use Rattle.std.proofs.lemmas.Option.{slice_get_within}
+use Rattle.std.proofs.Common.{◌≡◌, false, ℕ, ◌*◌, ◌≤◌, ◌<◌, Option, None, Some, List, length, sym, subst, arith}
+use Rattle.std.specs.Prelude.{◌↔◌, Contains, IfOk, MatchOption, Result, Ok, Err, slice_index}
 use Rattle.sd_base.specs.declared.memory.NoMemory.{NoMemory}
 use Rattle.sd_base.specs.declared.numbers.Fraction.{Fraction}
 use Rattle.sd_base.specs.declared.tables.ScenarioFile.{ScenarioFile}
-use Rattle.sd_base.specs.declared.tables.ScenarioRow.{ScenarioRow}
-use Rattle.sd_base.specs.declared.tables.SharedRow.{SharedRow}
 use Rattle.sd_base.specs.FileNet.{net_of}
 use Rattle.sd_base.specs.Lawful.{Lawful}
 use Rattle.sd_base.specs.Net.{Net}
@@ -14,7 +11,6 @@ use Rattle.sd_base.specs.Scenarios.{Shares}
 use Rattle.sd_base.specs.Untimed.{IsLive}
 use Rattle.sd_base.proofs.Blocking.{live-unblocked}
 use Rattle.sd_base.proofs.Parts.{wired}
-use Rattle.storage.specs.Distributions.{IsDistribution}
 use Rattle.token_matrix.proofs.Rows.{get_there, one-repetition}
 use Rattle.automaton.specs.declared.graph.TimedGraph.{TimedGraph}
 use Rattle.automaton.specs.CriticalCycles.{IsCritical}
@@ -22,15 +18,14 @@ use Rattle.automaton.specs.TimedGraphs.{IsTimedGraph}
 use Rattle.automaton.specs.WorstRates.{IsWorst}
 use Rattle.bounded_scenarios.specs.BoundedFiles.{bounded_file}
 use Rattle.bounded_scenarios.specs.Boundings.{CanBeBounded}
-use Rattle.bounded_scenarios.specs.SharedChannels.{shared_channels}
-use Rattle.bounded_scenarios.specs.StorageRates.{AllRun, HasWorstRate, RunsOn, bounded_net, blocked, runs}
+use Rattle.bounded_scenarios.specs.StorageRates.{AllRun, HasWorstRate, bounded_net, blocked, runs}
 use Rattle.bounded_scenarios.specs.ScenarioGuides.{blocked as held_by, runs as on_way}
-use Rattle.bounded_scenarios.specs.ShownSpaces.{BlockedBounds, LiveBounds, ShowsWays}
+use Rattle.bounded_scenarios.specs.ShownSpaces.{BlockedBounds, LiveBounds}
 use Rattle.scenario_storage.specs.declared.rated.Evidence.{Evidence}
 use Rattle.scenario_storage.specs.declared.rated.Rated.{Rated}
 use Rattle.scenario_storage.specs.inside.Levels.{IsGuided, IsRated, IsWithin, Shows}
 use Rattle.scenario_storage.specs.inside.Ratings.{IsBlockedAt}
-use Rattle.scenario_storage.specs.inside.Shown.{AreShownBlocked, AreShownLive, HasSpace, IsTakenOn, IsWaitedFor, WaitsFor, spaces_from}
+use Rattle.scenario_storage.specs.inside.Shown.{AreShownBlocked, AreShownLive, IsTakenOn, IsWaitedFor, spaces_from}
 use Rattle.scenario_storage.proofs.SpaceNumbers.{has-place, numbered-space, space-capped, space-number, spaces-long}
 
 -- the channels for whose space an actor of the blocked scenario waits are shown

@@ -2,7 +2,7 @@
 use Rattle.std.proofs.Common.{◌≡◌, ℕ, ◌+◌, ◌-◌, ◌≤◌, ◌<◌, Option, None, Some, List, [], ◌∷◌, ◌++◌, drop, length, map, ⊎_elim, refl, sym, ap, ◌∙◌, subst, arith, inl, inr}
 use Rattle.std.specs.Prelude.{All, Contains, MatchOption, slice_index_or}
 use Rattle.std.proofs.lemmas.List.{drop_more, get_or-map, length-append, length-map}
-use Rattle.std.proofs.lemmas.List.Elements.{All-append, All-contains, All-map, Contains-append_left, Contains-append_right, Contains-get_or, Contains-push_cases}
+use Rattle.std.proofs.lemmas.List.Elements.{All-contains, All-map, Contains-append_left, Contains-append_right, Contains-get_or}
 use Rattle.sd_base.specs.declared.numbers.Fraction.{Fraction}
 use Rattle.sd_base.specs.declared.tables.ScenarioFile.{ScenarioFile}
 use Rattle.sd_base.specs.Net.{Channel}
@@ -32,7 +32,7 @@ use Rattle.scenario_storage.specs.ScenarioPoints.{IsRefusal}
 use Rattle.scenario_storage.specs.inside.Errors.{error_of}
 use Rattle.scenario_storage.specs.inside.Levels.{IsAnswer, IsRated, IsWithin}
 use Rattle.scenario_storage.specs.inside.Points.{IsBestOf}
-use Rattle.scenario_storage.specs.inside.Searches.{AreKnown, IsAnswerOf, IsBest, IsCandidate, IsEnded, IsNoted, IsOffered, IsSearch, IsStanding, IsTurn, answered_of, entry_of, taken_off, visits_of}
+use Rattle.scenario_storage.specs.inside.Searches.{AreKnown, IsAnswerOf, IsBest, IsCandidate, IsEnded, IsOffered, IsSearch, IsStanding, IsTurn, answered_of, entry_of, taken_off, visits_of}
 use Rattle.scenario_storage.proofs.Knowing.{noted-more}
 use Rattle.scenario_storage.proofs.Searchable.{IsSearchable}
 use Rattle.scenario_storage.proofs.Stepping.{capped-place, entry-visited, guided-rises, led-candidate, visits-more}

@@ -1,5 +1,5 @@
 -- What the evaluation of distributions comes to.
-use Rattle.std.specs.Prelude.{◌≡◌, ℕ, ◌*◌, ◌≤◌, Contains, MatchOption, Option, None, Some, List, Result, Ok, Err, length, slice_get, slice_index_or}
+use Rattle.std.specs.Prelude.{◌≡◌, ℕ, ◌*◌, ◌≤◌, Contains, MatchOption, Option, None, Some, List, Result, Ok, Err, length, slice_get}
 use Rattle.sd_base.specs.declared.limits.TheConstants.{STORAGE}
 use Rattle.sd_base.specs.declared.numbers.Fraction.{Fraction}
 use Rattle.sd_base.specs.declared.tables.ScenarioFile.{ScenarioFile}

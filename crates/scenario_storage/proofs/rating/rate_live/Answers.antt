@@ -1,6 +1,5 @@
-use Rattle.std.proofs.Common.{◌≡◌, List, ℕ, refl, ap, subst, sym}
+use Rattle.std.proofs.Common.{List, ℕ, refl, ap, subst}
 use Rattle.std.specs.Prelude.{Contains}
-use Rattle.sd_base.specs.declared.numbers.Fraction.{Fraction}
 use Rattle.sd_base.specs.declared.tables.ScenarioFile.{ScenarioFile}
 use Rattle.bounded_scenarios.specs.BoundedFiles.{bounded_file}
 use Rattle.bounded_scenarios.proofs.LiveMembers.{live-bounds}
