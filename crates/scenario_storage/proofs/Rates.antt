@@ -20,7 +20,7 @@ use Rattle.bounded_scenarios.specs.BoundedFiles.{bounded_file}
 use Rattle.bounded_scenarios.specs.Boundings.{CanBeBounded}
 use Rattle.bounded_scenarios.specs.StorageRates.{AllRun, HasWorstRate, bounded_net, blocked, runs}
 use Rattle.bounded_scenarios.specs.ScenarioGuides.{blocked as held_by, runs as on_way}
-use Rattle.bounded_scenarios.specs.ShownSpaces.{BlockedBounds, LiveBounds}
+use Rattle.bounded_scenarios.specs.ShownSpaces.{BlockedBounds, LiveBounds, ShowsWays, SpacelessBounds}
 use Rattle.scenario_storage.specs.declared.rated.Evidence.{Evidence}
 use Rattle.scenario_storage.specs.declared.rated.Rated.{Rated}
 use Rattle.scenario_storage.specs.inside.Levels.{IsGuided, IsRated, IsWithin, Shows}
@@ -97,21 +97,26 @@ module _ (file : ScenarioFile) (total : ℕ) (can : CanBeBounded file total) (ds
     bounds = λ es dist within most agrees p q rate runs. absurd (
         law file total ds r.enlarge es p q can is.shows
         (record { member = fits.distribution; distribution = dist; within = within; most = most; agrees = agrees }) rate runs);
+    top = λ empty some. absurd (omega (arith, some, zero));
     evidence =
         subst (λ (e : Option Evidence). MatchOption e (r.rate.num * best.den ≤ best.num * r.rate.den) (Shows file ds r.rate)) (sym none)
         (subst (λ (n : ℕ). n * best.den ≤ best.num * r.rate.den) (sym zero) (omega arith));
   }
 
   -- a live one
-  pub live-rated : LiveBounds → AllRun file ds → (graph : TimedGraph) → IsTimedGraph (bounded_file file ds) graph → (cycle : List ℕ) → IsWorst (bounded_file file ds) r.rate.num r.rate.den → IsCritical graph r.rate.num r.rate.den cycle → AreShownLive file ds graph cycle r.enlarge
+  pub live-rated : LiveBounds → SpacelessBounds → AllRun file ds → (graph : TimedGraph) → IsTimedGraph (bounded_file file ds) graph → (cycle : List ℕ) → IsWorst (bounded_file file ds) r.rate.num r.rate.den → IsCritical graph r.rate.num r.rate.den cycle → AreShownLive file ds graph cycle r.enlarge
       → MatchOption r.evidence (r.rate.num * best.den ≤ best.num * r.rate.den) (Shows file ds r.rate) → IsRated file total best ds r
-  live-rated law all graph timed cycle worst critical is evidence = record {
+  live-rated law over all graph timed cycle worst critical is evidence = record {
     rate = runs r.rate.num r.rate.den all worst;
     guided = guided;
     bounds = λ es dist within most agrees p q rate goes.
         law file total ds r.rate.num r.rate.den r.enlarge es p q can
         (record { runs = all; graph = graph; timed = timed; cycle = cycle; critical = critical; shows = is.shows })
         (record { member = fits.distribution; distribution = dist; within = within; most = most; agrees = agrees }) rate goes;
+    top = λ empty some es dist within p q rate goes.
+        over file total ds r.rate.num r.rate.den es p q can fits.distribution fits.within
+        (record { runs = all; graph = graph; timed = timed; cycle = cycle; critical = critical; shows = subst (ShowsWays file ds graph cycle) empty is.shows })
+        dist within rate;
     evidence = evidence;
   }
     where
