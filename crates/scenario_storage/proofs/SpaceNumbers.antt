@@ -1,5 +1,5 @@
 -- The numbers of free spaces: by shared channel that of its free space in a scenario's bounded graph.
-use Rattle.std.proofs.Common.{◌≡◌, ℕ, zero, suc, ◌+◌, ◌≤◌, ◌<◌, ◌⊎◌, Option, None, Some, List, [], ◌∷◌, ◌++◌, length, inl, inr, ⊎_elim, refl, sym, ap, ◌∙◌, subst, arith}
+use Rattle.std.proofs.Common.{◌≡◌, ℕ, zero, suc, ◌+◌, ◌≤◌, ◌<◌, Option, None, Some, List, [], ◌∷◌, ◌++◌, length, ⊎_elim, refl, sym, ap, ◌∙◌, subst, arith}
 use Rattle.std.specs.Prelude.{slice_get, slice_index_or}
 use Rattle.std.proofs.lemmas.Bool.{cases_lt}
 use Rattle.std.proofs.lemmas.List.{get_or_past}
@@ -10,7 +10,7 @@ use Rattle.sd_base.specs.declared.tables.ScenarioFile.{ScenarioFile}
 use Rattle.sd_base.specs.declared.tables.SharedRow.{SharedRow}
 use Rattle.sd_base.specs.Scenarios.{Shares}
 use Rattle.storage.specs.Distributions.{capacity_at}
-use Rattle.bounded_scenarios.specs.BoundedFiles.{bounded_graph, space_name, space_row, space_rows}
+use Rattle.bounded_scenarios.specs.BoundedFiles.{space_name, space_row, space_rows}
 use Rattle.bounded_scenarios.specs.ScenarioGuides.{IsSpaceFor}
 use Rattle.bounded_scenarios.specs.SharedChannels.{channel_named}
 use Rattle.bounded_scenarios.proofs.Lists.{at-either, at-right}
@@ -105,12 +105,15 @@ module _ (file : ScenarioFile) (ds : List (Option ℕ)) (g : GraphFile) (shares 
 
   pub numbered-space : (c i : ℕ) (row : SharedRow) → slice_get file.shared c ≡ Some row → HasSpace (spaces_from (length g.channels) ds) c i → IsSpaceFor file ds g row.name i
   numbered-space c i row at has =
-      let of = space-of g.channels file.shared ds (length g.channels) c i has in
-      (omega (arith, of.is),
-        (space_row (channel_named g.channels row.name) of.room,
+      let of = space-of g.channels file.shared ds (length g.channels) c i has in (
+        omega (arith, of.is),
+        (
+          space_row (channel_named g.channels row.name) of.room,
           subst (λ (k : ℕ). slice_get (g.channels ++ space_rows g.channels file.shared ds) k ≡ Some (space_row (channel_named g.channels row.name) of.room)) (sym of.is)
               (at-right g.channels (space_rows g.channels file.shared ds) of.place (space_row (channel_named g.channels row.name) of.room) (of.row row at)),
-          ap space_name (name-is c row at)))
+          ap space_name (name-is c row at),
+        ),
+      )
 
   pub space-number : (c i : ℕ) (row : SharedRow) → slice_get file.shared c ≡ Some row → IsSpaceFor file ds g row.name i → HasSpace (spaces_from (length g.channels) ds) c i
   space-number c i row at (past, (s, there, named)) =

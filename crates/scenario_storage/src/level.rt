@@ -42,12 +42,7 @@ pub(crate) fn run_level<R: Threads + Sync, G: Gate + Sync>(
 }
 
 /// Makes a task of each distribution.
-fn fill<'a>(
-    plan: &Plan<'a>,
-    best: Fraction,
-    visits: Vec<Found<()>>,
-    tasks: &mut Vec<Task<'a>>,
-)
+fn fill<'a>(plan: &Plan<'a>, best: Fraction, visits: Vec<Found<()>>, tasks: &mut Vec<Task<'a>>)
     requires fits { All (λ f. IsWithin plan.now.file.now plan.now.limits.total f.capacities.capacities) visits.items }
     requires empty { tasks.old.items ≡ [] }
     requires room { vec_len visits ≤ vec_capacity tasks.old }

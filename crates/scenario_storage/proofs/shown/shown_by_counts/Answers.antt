@@ -1,4 +1,4 @@
-use Rattle.std.proofs.Common.{◌≡◌, ◌+◌, ◌<◌, false, ℕ, Option, List, length, refl, sym, ap, ◌∙◌, subst, arith}
+use Rattle.std.proofs.Common.{◌≡◌, false, ℕ, Option, List, length, refl, sym, ap, ◌∙◌, subst, arith}
 use Rattle.std.proofs.lemmas.List.{length-map}
 use Rattle.std.proofs.lemmas.Option.{slice_get_within}
 use Rattle.sd_base.specs.declared.tables.GraphFile.{GraphFile}
@@ -69,8 +69,13 @@ graph_at-requires c =
 pub held_up-requires-clause-few : goal.held_up-requires-clause-few
 held_up-requires-clause-few c =
     let same : length c.as_slice.result.now ≡ length (spaces_from c.len.result c.args.capacities.now.capacities) = ap (λ (xs : List (Option ℕ)). length xs) (c.as_slice.ensures ∙ c.in_ok-spaces.ensures) in
-    omega (arith, same, spaces-long c.len.result c.args.capacities.now.capacities, shared-few c.args.plan.now.file.now c.args.plan.now.limits.total c.requires.plan.bounded,
-        long-as c.args.plan.now.file.now c.args.plan.now.limits.total c.requires.plan.bounded c.args.capacities.now.capacities c.requires.fits)
+    omega (
+      arith,
+      same,
+      spaces-long c.len.result c.args.capacities.now.capacities,
+      shared-few c.args.plan.now.file.now c.args.plan.now.limits.total c.requires.plan.bounded,
+      long-as c.args.plan.now.file.now c.args.plan.now.limits.total c.requires.plan.bounded c.args.capacities.now.capacities c.requires.fits,
+    )
 
 pub held_up-requires-clause-spaces : goal.held_up-requires-clause-spaces
 held_up-requires-clause-spaces c =
