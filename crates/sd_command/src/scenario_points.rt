@@ -135,5 +135,10 @@ fn lines_of_point(
         graph: &point.graph,
         worst: &point.worst,
     };
-    scenario_point_text(alloc, file.states.as_slice(), file.shared.as_slice(), &shown)
+    scenario_point_text(
+        alloc,
+        file.states.as_slice(),
+        file.shared.as_slice(),
+        &shown,
+    )
 }

@@ -61,7 +61,7 @@ fits : (file : ScenarioFile) (limits : ScenarioLimits) (n : ℕ) → n ≡ loope
 fits file limits n is few = subst (λ (m : ℕ). (fitting_nodes file (limits.total + m)).passes tt) is few
 
 pub search-requires-clause-bounded : goal.search-requires-clause-bounded
-search-requires-clause-bounded g c =
+search-requires-clause-bounded g c κs within =
     let file = c.args.file.now in
     let limits = c.args.limits in
     can-be-bounded file limits.total c.requires.rules c.requires.names (passed file limits c.looped_tokens.result c.looped_tokens.ensures c.in_ok-bound_all.ensures)
@@ -78,7 +78,7 @@ pub returns-in_err-points : goal.returns-in_err-points
 returns-in_err-points g c = λ faults.
     let p = err_from_is_err_and c.from_residual-in_err-points.result c.from_residual-in_err-points.ensures.1 in
     rw (p.1, p.2) (searched c.args.file.now c.args.limits c.looped_tokens.result faults (Err c.in_err-points.field-0.0) c.looped_tokens.ensures c.in_ok-bound_all.ensures c.in_ok-fit_nodes.ensures
-    (search_stops c.args.file.now c.args.limits faults _ c.in_err-points.field-0.0 c.in_err-points.ensures.does))
+    (search_stops c.args.file.now c.args.limits faults c.in_err-points.field-0.0 c.in_err-points.ensures.does))
 
 pub returns : goal.returns
 returns g c = λ faults.
