@@ -43,6 +43,11 @@ get-contains xs k x at = (k, slice_get_within xs k x at, get_or_from_slice_get x
 pub there-or : {A : Type 0} (xs : List A) (k : ℕ) (d : A) → k < length xs → slice_get xs k ≡ Some (slice_index_or xs k d)
 there-or xs k d below = let there = get_there xs k below in there.1 ∙ ap Some (sym (get_or_from_slice_get xs k there.0 d there.1))
 
+-- an element that was taken from a list by its place
+pub item-at : {A : Type 0} (xs ys : List A) (k : ℕ) (x : A) → ys ≡ xs → k < length ys → x ≡ slice_index_or ys k x → slice_get xs k ≡ Some x
+item-at {A = A} xs ys k x same below is =
+    subst (λ (zs : List A). slice_get zs k ≡ Some x) same (there-or ys k x below ∙ ap Some (sym is))
+
 pub marked-within : (marks : List Bool) (c : ℕ) → slice_index_or marks c false ≡ true → c < length marks
 marked-within marks c is =
     ⊎_elim
@@ -205,14 +210,15 @@ module _ (file : ScenarioFile) (gammas : List (List ℕ)) (ds : List (Option ℕ
         let there : Contains entries (place_of graph.tokens e) = (listed (place_of graph.tokens e)).1 (record { number = k; on = on; edge = e; is = at; scenario = same; place = refl }) in
         let place = contains-get entries (place_of graph.tokens e) there in
         let low : place.0 < length more.ways = (let b = slice_get_within entries place.0 (place_of graph.tokens e) place.1 in omega (arith, b, more.each)) in
-        let cs : List ℕ = slice_index_or more.ways place.0 [] in
-        (more.scenario.row,
+        let cs : List ℕ = slice_index_or more.ways place.0 [] in (
+          more.scenario.row,
           slice_index_or more.ways place.0 [],
           way-of k e at (entry-from k e at) s more.scenario same (slice_index_or more.ways place.0 []) (more.longest place.0 (place_of graph.tokens e) place.1),
           λ c i row row_at one is_space.
               let has : HasSpace (spaces_from (length more.scenario.row.graph.channels) ds) c i = space-number file ds more.scenario.row.graph (shares s more.scenario.row more.scenario.at) c i row row_at is_space in
               let below : c < length old = (let b = slice_get_within file.shared c row row_at in omega (arith, b, was.long)) in
-              (more.marked c below).1 (inr (i, has, (slice_index_or more.ways place.0 [], Contains-get_or more.ways place.0 [] low, one))))
+              (more.marked c below).1 (inr (i, has, (slice_index_or more.ways place.0 [], Contains-get_or more.ways place.0 [] low, one))),
+        )
 
     -- a channel that is marked now
     taken-new : (c i : ℕ) → c < length old → HasSpace (spaces_from (length more.scenario.row.graph.channels) ds) c i → IsOnSome more.ways i → IsTakenOn file ds graph cycle c

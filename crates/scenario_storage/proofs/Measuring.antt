@@ -24,7 +24,7 @@ use Rattle.bounded_scenarios.specs.Boundings.{CanBeMeasured, GivesMatrix}
 use Rattle.bounded_scenarios.specs.StorageRates.{AllRun, RunsOn, bounded_net}
 use Rattle.scenario_storage.specs.declared.point.ScenarioLimits.{ScenarioLimits}
 use Rattle.scenario_storage.specs.inside.Levels.{AreRounds, IsPlan}
-use Rattle.scenario_storage.specs.inside.Ratings.{AreAllMatrices, IsBlockedAt, IsBlockedIn, IsMatrixAnswer, IsMatrixOf, IsScenarioAt}
+use Rattle.scenario_storage.specs.inside.Ratings.{AreAllMatrices, IsMatrixAnswer, IsMatrixOf, IsScenarioAt}
 use Rattle.scenario_storage.proofs.Marking.{get-map}
 
 pub scenario-of : (file : ScenarioFile) (gammas : List (List ℕ)) → AreRounds file gammas → (s : ℕ) → s < length file.scenarios → IsScenarioAt file gammas s
@@ -61,15 +61,12 @@ matrices-more file gammas ds n matrices m are is = record {
 }
 
 module _ (file : ScenarioFile) (gammas : List (List ℕ)) (ds : List (Option ℕ)) (n : ℕ) (matrices : List (List (List (Option ℕ)))) (are : AreMatricesTo file gammas ds n matrices) where
-  runs-before : (t : ℕ) (row : ScenarioRow) → t < n → slice_get file.scenarios t ≡ Some row → RunsOn file ds row
+  pub runs-before : (t : ℕ) (row : ScenarioRow) → t < n → slice_get file.scenarios t ≡ Some row → RunsOn file ds row
   runs-before t row below at =
       let m = are.each t below in
       let there : slice_get file.scenarios t ≡ Some m.scenario.row = m.scenario.at in
       let same : m.scenario.row ≡ row = cc in
       subst (RunsOn file ds) same (m.scenario.gamma, m.scenario.gives, m.live)
-
-  pub blocked-at : (counts : List ℕ) → IsBlockedIn file gammas ds n counts → IsBlockedAt file gammas ds n counts
-  blocked-at counts is = record { is = is; first = runs-before }
 
   pub all-matrices : CanBeMeasured file ds → n ≡ length file.scenarios → AreAllMatrices file ds matrices
   all-matrices can past = record { runs = λ s row at. runs-before s row (below s row at) at; are = record { all = omega (arith, many, are.all, past); each = each } }

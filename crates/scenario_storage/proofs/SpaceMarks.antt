@@ -1,6 +1,8 @@
 -- The shared channels whose free space is among channels that are marked for longest ways.
 use Rattle.std.proofs.Common.{◌≡◌, false, ℕ, ◌+◌, ◌≤◌, ◌<◌, ◌⊎◌, Bool, true, Option, None, Some, List, [], ◌∷◌, length, inl, inr, ⊎_elim, refl, sym, ap, ◌∙◌, subst, arith}
-use Rattle.std.specs.Prelude.{◌↔◌, Contains, slice_get, slice_index_or}
+use Rattle.std.specs.Prelude.{◌↔◌, Contains, replicate, slice_get, slice_index_or}
+use Rattle.std.proofs.lemmas.Bool.{cases_lt, true≢false}
+use Rattle.std.proofs.lemmas.List.{get_or_past, get_or-replicate, length-replicate}
 use Rattle.std.proofs.lemmas.Option.{slice_get_within}
 use Rattle.sd_base.specs.declared.tables.ScenarioFile.{ScenarioFile}
 use Rattle.sd_base.specs.Untimed.{IsLive}
@@ -22,8 +24,8 @@ module _ (file : ScenarioFile) (gammas : List (List ℕ)) (ds : List (Option ℕ
     longest = λ k x at. absurd (let low = slice_get_within entries k x at in omega (arith, low, none));
     long = refl;
     marked = λ c below. (
-        λ is. inl is,
-        λ either. ⊎_elim (λ (h : slice_index_or old c false ≡ true). h) (λ (h : IsSpaceOn (spaces_from (length sc.row.graph.channels) ds) [] c). absurd (let low = h.2.1.1 in omega (arith, low))) either,
+      λ is. inl is,
+      λ either. ⊎_elim (λ (h : slice_index_or old c false ≡ true). h) (λ (h : IsSpaceOn (spaces_from (length sc.row.graph.channels) ds) [] c). absurd (let low = h.2.1.1 in omega (arith, low))) either,
     );
   }
 
@@ -37,16 +39,25 @@ module _ (file : ScenarioFile) (gammas : List (List ℕ)) (ds : List (Option ℕ
     longest = ways.longest;
     long = long;
     marked = λ c below. (
-        λ now. ⊎_elim
-            (λ (h : slice_index_or old c false ≡ true). inl h)
-            (λ (h : (i : ℕ) × HasSpace spaces c i × (slice_index_or end i false ≡ true)).
-            inr (h.0, subst (λ (xs : List (Option ℕ)). HasSpace xs c h.0) is h.1, ⊎_elim (λ (b : slice_index_or start h.0 false ≡ true). absurd (none h.0 b)) (λ (b : IsOnSome ways.ways h.0). b) ((ways.marked h.0 (within c h.0 h.1)).0 h.2)))
-            ((marks c below).0 now),
-        λ either. (marks c below).1 (⊎_elim
-            (λ (h : slice_index_or old c false ≡ true). inl h)
-            (λ (h : IsSpaceOn (spaces_from (length sc.row.graph.channels) ds) ways.ways c).
-            let has : HasSpace spaces c h.0 = subst (λ (xs : List (Option ℕ)). HasSpace xs c h.0) (sym is) h.1 in
-            inr (h.0, has, (ways.marked h.0 (within c h.0 has)).1 (inr h.2)))
-            either),
+      λ now. ⊎_elim
+          (λ (h : slice_index_or old c false ≡ true). inl h)
+          (λ (h : (i : ℕ) × HasSpace spaces c i × (slice_index_or end i false ≡ true)).
+          inr (h.0, subst (λ (xs : List (Option ℕ)). HasSpace xs c h.0) is h.1, ⊎_elim (λ (b : slice_index_or start h.0 false ≡ true). absurd (none h.0 b)) (λ (b : IsOnSome ways.ways h.0). b) ((ways.marked h.0 (within c h.0 h.1)).0 h.2)))
+          ((marks c below).0 now),
+      λ either. (marks c below).1 (⊎_elim
+          (λ (h : slice_index_or old c false ≡ true). inl h)
+          (λ (h : IsSpaceOn (spaces_from (length sc.row.graph.channels) ds) ways.ways c).
+          let has : HasSpace spaces c h.0 = subst (λ (xs : List (Option ℕ)). HasSpace xs c h.0) (sym is) h.1 in
+          inr (h.0, has, (ways.marked h.0 (within c h.0 has)).1 (inr h.2)))
+          either),
     );
   }
+
+-- of a list of false nothing is true
+pub none-true : (n i : ℕ) (marks : List Bool) → marks ≡ replicate n false → slice_index_or marks i false ≡ true → ⊥
+none-true n i marks is one =
+    let no : slice_index_or (replicate n false) i false ≡ false = ⊎_elim
+    (λ (below : i < n). get_or-replicate n i false false below)
+    (λ (past : n ≤ i). get_or_past (replicate n false) i false (let long = length-replicate n false in omega (arith, long, past)))
+    (cases_lt i n) in
+    true≢false (sym one ∙ (ap (λ (xs : List Bool). slice_index_or xs i false) is ∙ no))

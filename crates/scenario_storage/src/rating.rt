@@ -1,9 +1,10 @@
 //! The worst rate of a distribution.
-ghost use Rattle.std.specs.Prelude.{◌≡◌, ◌<◌, IfErr, IfOk, length};
+ghost use Rattle.std.specs.Prelude.{◌≡◌, ◌<◌, ℕ, Err, IfErr, IfOk, List, Option, length};
 ghost use Rattle.sd_base.specs.declared.numbers.Fraction.{Fraction as AFraction};
+ghost use Rattle.sd_base.specs.declared.tables.ScenarioFile.{ScenarioFile as AFile};
 ghost use Rattle.bounded_scenarios.specs.BoundedFiles.{bounded_file};
 ghost use Rattle.scenario_storage.specs.inside.Levels.{IsAnswer, IsPlan, IsRateRefusal, IsWithin};
-ghost use Rattle.scenario_storage.specs.inside.Ratings.{AreAllMatrices, IsBlockedAt, IsGraphOf, IsMatrixAnswer, IsMeasured};
+ghost use Rattle.scenario_storage.specs.inside.Ratings.{AreAllMatrices, IsBlockedAt, IsGraphOf, IsMatrixAnswer, IsMeasured, RunBefore};
 
 use crate::plan::Plan;
 use crate::rated::{Evidence, RateError, Rated, if_above};
@@ -61,14 +62,22 @@ fn measure(
     for scenario in 0..bounded.scenarios.len() {
         match matrix_at(plan, capacities, bounded, scenario) {
             Ok(matrix) => matrices.push(matrix)?,
-            Err(MatrixError::Blocked { counts, lacks: _ }) => {
-                return Ok(Measured::Blocked { scenario, counts });
-            },
-            Err(MatrixError::NoMemory) => return Err(NoMemory),
-            Err(MatrixError::Limit) => unreachable!(),
+            Err(error) => return stopped_by(scenario, error),
         }
     }
     Ok(Measured::Live { matrices })
+}
+
+/// What a scenario without a matrix comes to: it is blocked, or memory lacks.
+fn stopped_by(scenario: usize, error: MatrixError) -> Result<Measured, NoMemory>
+    requires { (file : AFile) × (gammas : List (List ℕ)) × (ds : List (Option ℕ)) × IsMatrixAnswer file gammas ds scenario (Err error) }
+    ensures { (file : AFile) (gammas : List (List ℕ)) (ds : List (Option ℕ)) → IsMatrixAnswer file gammas ds scenario (Err error) → RunBefore file ds scenario → IfOk result (IsMeasured file gammas ds) }
+{
+    match error {
+        MatrixError::Blocked { counts, lacks: _ } => Ok(Measured::Blocked { scenario, counts }),
+        MatrixError::NoMemory => Err(NoMemory),
+        MatrixError::Limit => unreachable!(),
+    }
 }
 
 /// The matrix of a scenario of a bounded file; its limit isn't passed.

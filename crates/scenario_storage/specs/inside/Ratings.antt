@@ -42,10 +42,14 @@ IsMatrixAnswer file gammas ds s (Err Limit) = ⊥
 IsMatrixAnswer file gammas ds s (Err (Blocked counts lacks)) = IsBlockedIn file gammas ds s counts
 IsMatrixAnswer file gammas ds s (Err NoMemory) = Unit {0}
 
+-- the scenarios before s run
+abbrev pub RunBefore : ScenarioFile → List (Option ℕ) → ℕ → Type 0
+RunBefore file ds s = (t : ℕ) (row : ScenarioRow) → t < s → slice_get file.scenarios t ≡ Some row → RunsOn file ds row
+
 -- scenario s is the first that is blocked, and it is so in these counts
 pub record IsBlockedAt (file : ScenarioFile) (gammas : List (List ℕ)) (ds : List (Option ℕ)) (s : ℕ) (counts : List ℕ) : Type 0 where
   pub is : IsBlockedIn file gammas ds s counts
-  pub first : (t : ℕ) (row : ScenarioRow) → t < s → slice_get file.scenarios t ≡ Some row → RunsOn file ds row
+  pub first : RunBefore file ds s
 
 -- each scenario runs, and these are the matrices of the bounded file
 pub record AreAllMatrices (file : ScenarioFile) (ds : List (Option ℕ)) (matrices : List (List (List (Option ℕ)))) : Type 0 where
