@@ -1,5 +1,5 @@
 -- What a file of scenarios is tested for before capacities are looked for: each scenario in order, and the states of the automaton.
-use Rattle.std.specs.Prelude.{◌≡◌, ℕ, ◌*◌, ◌≤◌, ◌<◌, false, List, length, sum, slice_get, Some, None}
+use Rattle.std.specs.Prelude.{◌≡◌, ℕ, ◌*◌, ◌≤◌, ◌<◌, false, length, sum, slice_get, Some, None}
 use Rattle.sd_base.specs.declared.limits.Quantity.{Quantity}
 use Rattle.sd_base.specs.declared.limits.Quantity.TheVariants as quantities
 use Rattle.sd_base.specs.declared.tables.GraphFile.{GraphFile}

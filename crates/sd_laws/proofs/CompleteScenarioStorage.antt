@@ -1,5 +1,5 @@
 -- A run of `scenario-storage` whose limits are enough is done.
-use Rattle.std.proofs.Common.{◌≡◌, ◌≤◌, ℕ, ◌+◌, ◌×◌, true, List, Some, Ok, arith}
+use Rattle.std.proofs.Common.{◌≡◌, ℕ, ◌+◌, true, List, Some, Ok, arith}
 use Rattle.sd_base.specs.declared.tables.ScenarioFile.{ScenarioFile}
 use Rattle.sd_words.specs.declared.request.Request.TheVariants.{ScenarioStorage}
 use Rattle.sd_words.specs.Asked.{request_of}

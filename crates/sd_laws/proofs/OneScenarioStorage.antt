@@ -1,8 +1,8 @@
 -- The words and files decide the command `scenario-storage`.
-use Rattle.std.proofs.Common.{◌≡◌, ℕ, ◌+◌, ◌*◌, false, List, Some, sum, refl, sym, ◌∙◌, arith}
+use Rattle.std.proofs.Common.{◌≡◌, ℕ, ◌+◌, ◌*◌, false, List, Some, length, sum, refl, sym, ◌∙◌, arith}
 use Rattle.std.specs.Prelude.{slice_get}
 use Rattle.sd_base.specs.declared.limits.Quantity.{Quantity}
-use Rattle.sd_base.specs.declared.limits.Quantity.TheVariants.{Stamps}
+use Rattle.sd_base.specs.declared.limits.Quantity.TheVariants.{Nodes, Stamps}
 use Rattle.sd_base.specs.declared.tables.GraphFile.{GraphFile}
 use Rattle.sd_base.specs.declared.tables.ScenarioFile.{ScenarioFile}
 use Rattle.sd_base.specs.declared.tables.ScenarioRow.{ScenarioRow}
@@ -70,5 +70,5 @@ module _ (laws : FileLaws) where
     search_decides limits =
         let tokens : ℕ = limits.total + looped_tokens file.scenarios file.shared in
         after_decides (bounding_all file tokens) _ (bounding_determines tokens) (λ a bounded.
-        after_decides (fitting_nodes file tokens) _ (fitting_determines _ _) (λ b few.
+        after_decides (fitting_nodes file tokens) _ (fitting_determines Nodes (length file.states * tokens)) (λ b few.
         last_decides (searching file limits) (searches limits)))

@@ -1,4 +1,4 @@
-use Rattle.std.proofs.Common.{◌≡◌, ◌∙◌, ◌*◌, ◌≤◌, ℕ, List, Err, false, ap, sum, subst, sym}
+use Rattle.std.proofs.Common.{◌∙◌, ◌*◌, ◌≤◌, ℕ, List, Err, false, ap, sum, subst, sym}
 use Rattle.std.proofs.lemmas.Result.{err_from_is_err_and}
 use Rattle.sd_base.specs.declared.limits.Quantity.TheVariants.{Stamps}
 use Rattle.sd_base.specs.declared.limits.TheConstants.{ROUND}

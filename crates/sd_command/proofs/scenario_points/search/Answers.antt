@@ -1,4 +1,4 @@
-use Rattle.std.proofs.Common.{◌≡◌, ◌≤◌, ◌∙◌, ℕ, List, length, ap, sym, subst}
+use Rattle.std.proofs.Common.{◌≤◌, ◌∙◌, ℕ, List, length, ap, sym, subst}
 use Rattle.sd_base.specs.declared.tables.SharedRow.{SharedRow}
 use Rattle.scenario_storage.specs.ScenarioPoints.{IsRefusal}
 use Rattle.report.specs.declared.refusal.Refusal.TheVariants.{EdgesAt}
