@@ -5,6 +5,7 @@ use Rattle.std.specs.Option.{unwrap_or}
 use Rattle.std.proofs.Math.Nat.{mul-le-mul_right}
 use Rattle.std.proofs.lemmas.Bool.{cases_lt}
 use Rattle.std.proofs.lemmas.List.{get_or_past, length-append, take_more}
+use Rattle.std.proofs.lemmas.Option.{get_or_from_slice_get, slice_get-get_or, slice_get_within}
 use Rattle.std.proofs.lemmas.List.Sums.{sum_by-append}
 use Rattle.sd_base.specs.declared.limits.TheConstants.{NODES, RATE, TOKENS}
 use Rattle.sd_base.specs.declared.tables.ChannelRow.{ChannelRow}
@@ -95,6 +96,13 @@ module _ (file : ScenarioFile) (rules : FileKeepsRules file) where
 
 -- ---- one row after another
 
+-- the row that a loop over the shared rows is at
+pub row-at : (shared items : List SharedRow) (i : ℕ) (row : SharedRow) → items ≡ shared → i < length items → row ≡ slice_index_or items i row → slice_get shared i ≡ Some row
+row-at shared items i row same below is = subst (λ (l : List SharedRow). slice_get l i ≡ Some row) same (slice_get-get_or items i row below ∙ ap Some (sym is))
+
+take-row : (rows : List SharedRow) (i : ℕ) (row : SharedRow) → slice_get rows i ≡ Some row → take (i + 1) rows ≡ take i rows ++ row ∷ []
+take-row rows i row there = take_more rows i row (slice_get_within rows i row there) ∙ ap (λ (r : SharedRow). take i rows ++ r ∷ []) (get_or_from_slice_get rows i row row there)
+
 channels-push : (ss : List ScenarioRow) (p : ℕ) (rows : List SharedRow) (r : SharedRow) →
     shared_channels_from ss p (rows ++ r ∷ []) ≡ shared_channels_from ss p rows ++ shared_channel ss (p + length rows) r ∷ []
 channels-push ss p [] r = ap (λ (n : ℕ). shared_channel ss n r ∷ []) (let e : p ≡ p + 0 = omega arith in e)
@@ -112,11 +120,11 @@ same-step c d made taken = ap (λ (xs : List ℕ). divisor_of (xs ++ c.taken)) m
 joint-step : (ss : List ScenarioRow) (p : ℕ) (row : SharedRow) (j : Joint) → IsJoint ss row j → step_of (joint_channel j) ≡ step_of (shared_channel ss p row)
 joint-step ss p row j is = same-step (joint_channel j) (shared_channel ss p row) is.made is.taken
 
-pub steps-more : (ss : List ScenarioRow) (rows : List SharedRow) (i : ℕ) (row : SharedRow) (j : Joint) (n : ℕ) (old new : List ChannelStep) → i < length rows → row ≡ slice_index_or rows i row →
+pub steps-more : (ss : List ScenarioRow) (rows : List SharedRow) (i : ℕ) (row : SharedRow) (j : Joint) (n : ℕ) (old new : List ChannelStep) → slice_get rows i ≡ Some row →
     IsJoint ss row j → n ≡ step_of (joint_channel j) →
     new ≡ old ++ record { size = 1; step = n } ∷ [] → old ≡ map channel_step (shared_channels_from ss 0 (take i rows)) → new ≡ map channel_step (shared_channels_from ss 0 (take (i + 1) rows))
-steps-more ss rows i row j n old new below is joint step added before =
-    let rows_are : take (i + 1) rows ≡ take i rows ++ row ∷ [] = take_more rows i row below ∙ ap (λ (r : SharedRow). take i rows ++ r ∷ []) (sym is) in
+steps-more ss rows i row j n old new there joint step added before =
+    let rows_are = take-row rows i row there in
     let last : ◌≡◌ {A = ChannelStep} (record { size = 1; step = n }) (channel_step (shared_channel ss (0 + length (take i rows)) row)) = ap (λ (x : ℕ). record { size = 1; step = x })
     (step ∙ joint-step ss (0 + length (take i rows)) row j joint) in
     added ∙ (ap (λ (l : List ChannelStep). l ++ record { size = 1; step = n } ∷ []) before
@@ -194,11 +202,11 @@ pub record CornerSoFar (ss : List ScenarioRow) (rows : List SharedRow) (i : ℕ)
 pub corner-none : (ss : List ScenarioRow) (rows : List SharedRow) → CornerSoFar ss rows 0 [] 0
 corner-none ss rows = record { corner = tt; long = refl; total = refl; small = omega arith }
 
-pub corner-more : (ss : List ScenarioRow) (rows : List SharedRow) (i : ℕ) (row : SharedRow) (j : Joint) (e : Option ℕ) (old new : List (Option ℕ)) (total sum : ℕ) → i < length rows →
-    row ≡ slice_index_or rows i row → IsJoint ss row j → IsEntryFor j e →
+pub corner-more : (ss : List ScenarioRow) (rows : List SharedRow) (i : ℕ) (row : SharedRow) (j : Joint) (e : Option ℕ) (old new : List (Option ℕ)) (total sum : ℕ) → slice_get rows i ≡ Some row →
+    IsJoint ss row j → IsEntryFor j e →
     room_of e ≤ TOKENS + 2 * RATE → new ≡ old ++ e ∷ [] → sum ≡ total + room_of e → CornerSoFar ss rows i old total → CornerSoFar ss rows (i + 1) new sum
-corner-more ss rows i row j e old new total sum below is joint entry few added more before =
-    let rows_are : take (i + 1) rows ≡ take i rows ++ row ∷ [] = take_more rows i row below ∙ ap (λ (r : SharedRow). take i rows ++ r ∷ []) (sym is) in
+corner-more ss rows i row j e old new total sum there joint entry few added more before =
+    let rows_are = take-row rows i row there in
     let one : IsCorner (shared_channels_from ss 0 (take i rows ++ row ∷ [])) (old ++ e ∷ []) = corner-push ss row j joint 0 (take i rows) old e before.corner entry in
     let two = storage-push ss 0 (take i rows) row old e before.long in
     record {

@@ -30,3 +30,5 @@ pub mod CycleTours
 pub mod LiveMembers
 pub mod Scanning
 pub mod JointChannels
+pub mod SpacelessWays
+pub mod SpacelessCycles

@@ -29,7 +29,7 @@ use Rattle.bounded_scenarios.proofs.TourMaps.{StandsFor, lead-maps, tour-maps}
 use Rattle.bounded_scenarios.proofs.Tours.{tour-bounds}
 
 -- of two equal ratios and one that is no greater than the first
-cross : (v l w len p q : ℕ) → 1 ≤ len → v * l ≡ w * len → p * v ≤ q * len → p * w ≤ l * q
+pub cross : (v l w len p q : ℕ) → 1 ≤ len → v * l ≡ w * len → p * v ≤ q * len → p * w ≤ l * q
 cross v l w len p q some rate bound = le_of_mul-le-mul_right (
     let scaled : p * v * l ≤ q * len * l = mul-le-mul_right l bound in
     let one : p * (v * l) ≡ p * (w * len) = ap (λ (n : ℕ). p * n) rate in
@@ -121,7 +121,8 @@ module _ (file : ScenarioFile) (total : ℕ) (can : CanBeBounded file total) (m 
   live-above l w p q live all worst =
       let front : LeadsAt file m shown live.graph file.initial live.critical.node = reached-leads file m shown live.graph live.timed live.critical.node live.critical.reached in
       let turn = path-tour file m shown live.graph
-      (λ row k gamma at gives. (member-carries file total can m shown ds above k row at gamma gives).gives) live.cycle live.critical.node live.critical.node front.r front.s front.end front.inside live.shows live.critical.closed in
+      (λ row k gamma at gives. (member-carries file total can m shown ds above k row at gamma gives).gives)
+      live.cycle live.critical.node live.critical.node front.r front.s front.end front.inside live.shows live.critical.closed in
       let place = same-place live.graph.tokens turn.r turn.s front.r front.s live.critical.node turn.inside front.inside turn.end front.end in
       let tour : IsTour Shown member_file front.r front.s turn.states front.r front.s (weights live.graph.edges live.cycle) =
       subst (λ (n : ℕ). IsTour Shown member_file front.r front.s turn.states front.r n (weights live.graph.edges live.cycle)) place.1

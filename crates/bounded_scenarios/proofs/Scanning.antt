@@ -4,6 +4,7 @@ use Rattle.std.specs.Prelude.{◌||◌, ◌==◌, flat_map, slice_get, slice_ind
 use Rattle.std.specs.Str.{bytes_eq}
 use Rattle.std.proofs.lemmas.Bool.{cases_Bool, cases_lt}
 use Rattle.std.proofs.lemmas.List.{append_assoc, at_drop_more, drop_more, take_more}
+use Rattle.std.proofs.lemmas.Option.{get_or_from_slice_get, slice_get_within}
 use Rattle.std.proofs.lemmas.Slice.Eq.{bytes_eq-Decides}
 use Rattle.sd_base.specs.declared.tables.ChannelRow.{ChannelRow}
 use Rattle.sd_base.specs.declared.tables.ScenarioRow.{ScenarioRow}
@@ -59,15 +60,15 @@ looped-here ss name i sc c below is named =
     ∙ (ap (λ (s : ScenarioRow). ((channel_named s.graph.channels name).source == (channel_named s.graph.channels name).target) || is_looped (channels_named (drop (i + 1) ss) name)) (sym is)
     ∙ ap (λ (x : ChannelRow). (x.source == x.target) || is_looped (channels_named (drop (i + 1) ss) name)) (sym named))
 
-pub looped-on : (rows : List SharedRow) (ss : List ScenarioRow) (i : ℕ) (row : SharedRow) → i < length rows → row ≡ slice_index_or rows i row →
+looped-on : (rows : List SharedRow) (ss : List ScenarioRow) (i : ℕ) (row : SharedRow) → slice_get rows i ≡ Some row →
     looped_tokens ss (drop i rows) ≡ (if is_looped (channels_named ss row.name) then row.tokens else 0) + looped_tokens ss (drop (i + 1) rows)
-looped-on rows ss i row below is = at_drop_more (λ (l : List SharedRow). looped_tokens ss l) rows i row below
-    ∙ ap (λ (r : SharedRow). (if is_looped (channels_named ss r.name) then r.tokens else 0) + looped_tokens ss (drop (i + 1) rows)) (sym is)
+looped-on rows ss i row there = at_drop_more (λ (l : List SharedRow). looped_tokens ss l) rows i row (slice_get_within rows i row there)
+    ∙ ap (λ (r : SharedRow). (if is_looped (channels_named ss r.name) then r.tokens else 0) + looped_tokens ss (drop (i + 1) rows)) (get_or_from_slice_get rows i row row there)
 
-pub looped-row : (rows : List SharedRow) (ss : List ScenarioRow) (i : ℕ) (row : SharedRow) → i < length rows → row ≡ slice_index_or rows i row → is_looped (channels_named ss row.name) ≡ true →
+pub looped-row : (rows : List SharedRow) (ss : List ScenarioRow) (i : ℕ) (row : SharedRow) → slice_get rows i ≡ Some row → is_looped (channels_named ss row.name) ≡ true →
     row.tokens ≤ looped_tokens ss (drop i rows)
-looped-row rows ss i row below is looped =
-    let on = looped-on rows ss i row below is in
+looped-row rows ss i row there looped =
+    let on = looped-on rows ss i row there in
     let tokens : (if is_looped (channels_named ss row.name) then row.tokens else 0) ≡ row.tokens = ap (λ (b : Bool). if b then row.tokens else 0) looped in
     omega (arith, on, tokens)
 

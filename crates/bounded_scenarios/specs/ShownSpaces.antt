@@ -1,6 +1,6 @@
 -- Shared channels that show a bound of the worst rate: of a distribution that agrees on their capacities, and has no less of the
 -- others, the worst rate is no greater.
-use Rattle.std.specs.Prelude.{◌≡◌, ℕ, ◌*◌, ◌≤◌, Contains, Option, Some, List, slice_get}
+use Rattle.std.specs.Prelude.{◌≡◌, ℕ, ◌*◌, ◌≤◌, Contains, Option, Some, List, [], slice_get}
 use Rattle.sd_base.specs.declared.tables.GraphFile.{GraphFile}
 use Rattle.sd_base.specs.declared.tables.ScenarioFile.{ScenarioFile}
 use Rattle.sd_base.specs.declared.tables.ScenarioRow.{ScenarioRow}
@@ -71,3 +71,9 @@ BlockedBounds = (file : ScenarioFile) (total : ℕ) (m : List (Option ℕ)) (sho
 abbrev pub LiveBounds : Type 0
 LiveBounds = (file : ScenarioFile) (total : ℕ) (m : List (Option ℕ)) (l w : ℕ) (shown : List ℕ) (ds : List (Option ℕ)) (p q : ℕ) → CanBeBounded file total →
     IsShownLive file m l w shown → IsAbove file total m shown ds → HasWorstRate file ds p q → 1 ≤ p → p * w ≤ l * q
+
+-- no distribution at all has a worst rate above that of a critical cycle whose ways take no free space
+abbrev pub SpacelessBounds : Type 0
+SpacelessBounds = (file : ScenarioFile) (total : ℕ) (m : List (Option ℕ)) (l w : ℕ) (ds : List (Option ℕ)) (p q : ℕ) → CanBeBounded file total → IsDistribution (shared_channels file) m →
+    storage_of (shared_channels file) m ≤ total → IsShownLive file m l w [] → IsDistribution (shared_channels file) ds → storage_of (shared_channels file) ds ≤ total → HasWorstRate file ds p q →
+    p * w ≤ l * q

@@ -7,7 +7,7 @@ ghost use Rattle.storage.specs.Steps.{IsCorner, rounded};
 ghost use Rattle.bounded_scenarios.specs.SharedChannels.{shared_channels};
 ghost use Rattle.bounded_scenarios.specs.StorageRates.{HasWorstRate};
 ghost use Rattle.bounded_scenarios.specs.Boundings.{CanBeBounded, CanBeMeasured};
-ghost use Rattle.bounded_scenarios.specs.ShownSpaces.{BlockedBounds, LiveBounds};
+ghost use Rattle.bounded_scenarios.specs.ShownSpaces.{BlockedBounds, LiveBounds, SpacelessBounds};
 
 /// Of a file that can be bounded within a limit of storage, the file bounded by each distribution within it gives matrices,
 /// a timed graph and a worst rate: no limit on stamps and nodes is passed.
@@ -37,4 +37,10 @@ pub fn blocked_spaces_bound()
 /// one way of each of its edges takes, and has no less room elsewhere: the ways are there too, and as long.
 pub fn critical_spaces_bound()
     ensures { LiveBounds }
+{}
+
+/// Where no way of a critical cycle takes free space, its rate bounds the worst rate of every distribution within the limit:
+/// these ways are there at each capacity.
+pub fn spaceless_cycles_bound_all()
+    ensures { SpacelessBounds }
 {}

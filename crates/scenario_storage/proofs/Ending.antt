@@ -142,10 +142,12 @@ module _ (file : ScenarioFile) (limits : ScenarioLimits) (can : IsSearchable fil
     reached = reached;
     covers = λ i below runs.
         let c = ended.known.covers (entry_at ended.entries i) (there i below) runs in
-        let k = point-pair ps c.0 c.1 in
-        (k.0, k.1,
+        let k = point-pair ps c.0 c.1 in (
+          k.0,
+          k.1,
           subst (λ (x : Pair). x.storage ≤ storage_of (shared_channels file) (entry_at ended.entries i).capacities) (sym k.2) c.2.storage,
-          subst (λ (x : Pair). (entry_at ended.entries i).num * x.den ≤ x.num * (entry_at ended.entries i).den) (sym k.2) c.2.rate);
+          subst (λ (x : Pair). (entry_at ended.entries i).num * x.den ≤ x.num * (entry_at ended.entries i).den) (sym k.2) c.2.rate,
+        );
   }
 
   front : IsFrontBy (shared_channels file) (HasWorstRate file) limits.total (map pair_of ps)

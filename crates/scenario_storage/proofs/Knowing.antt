@@ -96,13 +96,17 @@ module _ (file : ScenarioFile) (limit : ℕ) (es : List Entry) (best : Fraction)
   covered-by : HasNoSlower r.rate ps → IsCoveredBy file ps (entry_of ds r)
   covered-by (p, one, rate) =
       let of = is.known.among p one in
-      let late : p.total ≤ total = offered-late p one in (p, one, record {
-        storage = omega (arith, late, is.storage);
-        rate = rate;
-        tie = λ equal cross.
-            subst (λ (xs : List (Option ℕ)). no_later xs ds ≡ true) of.2.capacities
-            (before-no_later file of.0.capacities ds (is.after of.0 of.1) (omega (arith, equal, of.2.total)));
-      })
+      let late : p.total ≤ total = offered-late p one in (
+        p,
+        one,
+        record {
+          storage = omega (arith, late, is.storage);
+          rate = rate;
+          tie = λ equal cross.
+              subst (λ (xs : List (Option ℕ)). no_later xs ds ≡ true) of.2.capacities
+              (before-no_later file of.0.capacities ds (is.after of.0 of.1) (omega (arith, equal, of.2.total)));
+        },
+      )
 
   -- the best rate of less storage is no less
   pub left-known : (new : List ScenarioPoint) → new ≡ ps → r.rate.num * best.den ≤ best.num * r.rate.den → AreKnown file limit (es ++ entry_of ds r ∷ []) new
@@ -113,11 +117,15 @@ module _ (file : ScenarioFile) (limit : ℕ) (es : List Entry) (best : Fraction)
           let nothing : best.num * r.rate.den ≡ 0 * r.rate.den = ap (λ (n : ℕ). n * r.rate.den) none in
           let least : 1 * best.den ≤ r.rate.num * best.den = mul-le-mul_right best.den runs in
           omega (arith, slow, nothing, least, best.positive))
-      by runs (inr (p, one, rate, less)) = (p, one, record {
-        storage = omega (arith, less, is.storage);
-        rate = subst (λ (f : Fraction). r.rate.num * f.den ≤ f.num * r.rate.den) (sym rate) slow;
-        tie = λ equal cross. absurd (omega (arith, less, is.storage, equal));
-      })
+      by runs (inr (p, one, rate, less)) = (
+        p,
+        one,
+        record {
+          storage = omega (arith, less, is.storage);
+          rate = subst (λ (f : Fraction). r.rate.num * f.den ≤ f.num * r.rate.den) (sym rate) slow;
+          tie = λ equal cross. absurd (omega (arith, less, is.storage, equal));
+        },
+      )
 
   module _ (point : ScenarioPoint) (new : List ScenarioPoint) (for : IsPointFor file (entry_of ds r) point) where
     put-covers : IsPut point ps new → (x : Entry) → Contains es x → 1 ≤ x.num → IsCoveredBy file new x
@@ -130,22 +138,29 @@ module _ (file : ScenarioFile) (limit : ℕ) (es : List Entry) (best : Fraction)
         let rate : x.num * c.0.rate.den ≤ c.0.rate.num * x.den = c.2.rate in
         let positive : 1 ≤ x.den = (is.known.noted x one).positive in
         let slow : c.0.rate.num * point.rate.den < point.rate.num * c.0.rate.den = put.slower c.0 c.1 in
-        let slower : x.num * point.rate.den < point.rate.num * x.den = below_less x.num x.den c.0.rate.num c.0.rate.den point.rate.num point.rate.den positive rate slow in
-        (point, subst (λ (xs : List ScenarioPoint). Contains xs point) (sym put.is) (Contains-push put.front point), record {
-          storage = omega (arith, h, low);
-          rate = omega (arith, slower);
-          tie = λ equal cross. absurd (omega (arith, slower, cross));
-        }))
+        let slower : x.num * point.rate.den < point.rate.num * x.den = below_less x.num x.den c.0.rate.num c.0.rate.den point.rate.num point.rate.den positive rate slow in (
+          point,
+          subst (λ (xs : List ScenarioPoint). Contains xs point) (sym put.is) (Contains-push put.front point),
+          record {
+            storage = omega (arith, h, low);
+            rate = omega (arith, slower);
+            tie = λ equal cross. absurd (omega (arith, slower, cross));
+          },
+        ))
         (put.left.left c.0 c.1)
 
     put-mine : IsPut point ps new → IsCoveredBy file new (entry_of ds r)
-    put-mine put = (point, subst (λ (xs : List ScenarioPoint). Contains xs point) (sym put.is) (Contains-push put.front point), record {
-      storage = omega (arith, for.total);
-      rate =
-          subst (λ (n : ℕ). n * point.rate.den ≤ point.rate.num * r.rate.den) (sym for.num)
-          (subst (λ (n : ℕ). point.rate.num * point.rate.den ≤ point.rate.num * n) (sym for.den) (omega arith));
-      tie = λ equal cross. subst (λ (xs : List (Option ℕ)). no_later xs ds ≡ true) for.capacities (no_later-refl ds);
-    })
+    put-mine put = (
+      point,
+      subst (λ (xs : List ScenarioPoint). Contains xs point) (sym put.is) (Contains-push put.front point),
+      record {
+        storage = omega (arith, for.total);
+        rate =
+            subst (λ (n : ℕ). n * point.rate.den ≤ point.rate.num * r.rate.den) (sym for.num)
+            (subst (λ (n : ℕ). point.rate.num * point.rate.den ≤ point.rate.num * n) (sym for.den) (omega arith));
+        tie = λ equal cross. subst (λ (xs : List (Option ℕ)). no_later xs ds ≡ true) for.capacities (no_later-refl ds);
+      },
+    )
 
     put-among : IsPut point ps new → (p : ScenarioPoint) → Contains new p → IsPointOf file (es ++ entry_of ds r ∷ []) p
     put-among put p one =

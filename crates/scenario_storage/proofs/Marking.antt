@@ -210,14 +210,15 @@ module _ (file : ScenarioFile) (gammas : List (List ℕ)) (ds : List (Option ℕ
         let there : Contains entries (place_of graph.tokens e) = (listed (place_of graph.tokens e)).1 (record { number = k; on = on; edge = e; is = at; scenario = same; place = refl }) in
         let place = contains-get entries (place_of graph.tokens e) there in
         let low : place.0 < length more.ways = (let b = slice_get_within entries place.0 (place_of graph.tokens e) place.1 in omega (arith, b, more.each)) in
-        let cs : List ℕ = slice_index_or more.ways place.0 [] in
-        (more.scenario.row,
+        let cs : List ℕ = slice_index_or more.ways place.0 [] in (
+          more.scenario.row,
           slice_index_or more.ways place.0 [],
           way-of k e at (entry-from k e at) s more.scenario same (slice_index_or more.ways place.0 []) (more.longest place.0 (place_of graph.tokens e) place.1),
           λ c i row row_at one is_space.
               let has : HasSpace (spaces_from (length more.scenario.row.graph.channels) ds) c i = space-number file ds more.scenario.row.graph (shares s more.scenario.row more.scenario.at) c i row row_at is_space in
               let below : c < length old = (let b = slice_get_within file.shared c row row_at in omega (arith, b, was.long)) in
-              (more.marked c below).1 (inr (i, has, (slice_index_or more.ways place.0 [], Contains-get_or more.ways place.0 [] low, one))))
+              (more.marked c below).1 (inr (i, has, (slice_index_or more.ways place.0 [], Contains-get_or more.ways place.0 [] low, one))),
+        )
 
     -- a channel that is marked now
     taken-new : (c i : ℕ) → c < length old → HasSpace (spaces_from (length more.scenario.row.graph.channels) ds) c i → IsOnSome more.ways i → IsTakenOn file ds graph cycle c

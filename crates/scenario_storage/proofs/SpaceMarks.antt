@@ -24,8 +24,8 @@ module _ (file : ScenarioFile) (gammas : List (List ℕ)) (ds : List (Option ℕ
     longest = λ k x at. absurd (let low = slice_get_within entries k x at in omega (arith, low, none));
     long = refl;
     marked = λ c below. (
-        λ is. inl is,
-        λ either. ⊎_elim (λ (h : slice_index_or old c false ≡ true). h) (λ (h : IsSpaceOn (spaces_from (length sc.row.graph.channels) ds) [] c). absurd (let low = h.2.1.1 in omega (arith, low))) either,
+      λ is. inl is,
+      λ either. ⊎_elim (λ (h : slice_index_or old c false ≡ true). h) (λ (h : IsSpaceOn (spaces_from (length sc.row.graph.channels) ds) [] c). absurd (let low = h.2.1.1 in omega (arith, low))) either,
     );
   }
 
@@ -39,17 +39,17 @@ module _ (file : ScenarioFile) (gammas : List (List ℕ)) (ds : List (Option ℕ
     longest = ways.longest;
     long = long;
     marked = λ c below. (
-        λ now. ⊎_elim
-            (λ (h : slice_index_or old c false ≡ true). inl h)
-            (λ (h : (i : ℕ) × HasSpace spaces c i × (slice_index_or end i false ≡ true)).
-            inr (h.0, subst (λ (xs : List (Option ℕ)). HasSpace xs c h.0) is h.1, ⊎_elim (λ (b : slice_index_or start h.0 false ≡ true). absurd (none h.0 b)) (λ (b : IsOnSome ways.ways h.0). b) ((ways.marked h.0 (within c h.0 h.1)).0 h.2)))
-            ((marks c below).0 now),
-        λ either. (marks c below).1 (⊎_elim
-            (λ (h : slice_index_or old c false ≡ true). inl h)
-            (λ (h : IsSpaceOn (spaces_from (length sc.row.graph.channels) ds) ways.ways c).
-            let has : HasSpace spaces c h.0 = subst (λ (xs : List (Option ℕ)). HasSpace xs c h.0) (sym is) h.1 in
-            inr (h.0, has, (ways.marked h.0 (within c h.0 has)).1 (inr h.2)))
-            either),
+      λ now. ⊎_elim
+          (λ (h : slice_index_or old c false ≡ true). inl h)
+          (λ (h : (i : ℕ) × HasSpace spaces c i × (slice_index_or end i false ≡ true)).
+          inr (h.0, subst (λ (xs : List (Option ℕ)). HasSpace xs c h.0) is h.1, ⊎_elim (λ (b : slice_index_or start h.0 false ≡ true). absurd (none h.0 b)) (λ (b : IsOnSome ways.ways h.0). b) ((ways.marked h.0 (within c h.0 h.1)).0 h.2)))
+          ((marks c below).0 now),
+      λ either. (marks c below).1 (⊎_elim
+          (λ (h : slice_index_or old c false ≡ true). inl h)
+          (λ (h : IsSpaceOn (spaces_from (length sc.row.graph.channels) ds) ways.ways c).
+          let has : HasSpace spaces c h.0 = subst (λ (xs : List (Option ℕ)). HasSpace xs c h.0) (sym is) h.1 in
+          inr (h.0, has, (ways.marked h.0 (within c h.0 has)).1 (inr h.2)))
+          either),
     );
   }
 

@@ -105,12 +105,15 @@ module _ (file : ScenarioFile) (ds : List (Option ℕ)) (g : GraphFile) (shares 
 
   pub numbered-space : (c i : ℕ) (row : SharedRow) → slice_get file.shared c ≡ Some row → HasSpace (spaces_from (length g.channels) ds) c i → IsSpaceFor file ds g row.name i
   numbered-space c i row at has =
-      let of = space-of g.channels file.shared ds (length g.channels) c i has in
-      (omega (arith, of.is),
-        (space_row (channel_named g.channels row.name) of.room,
+      let of = space-of g.channels file.shared ds (length g.channels) c i has in (
+        omega (arith, of.is),
+        (
+          space_row (channel_named g.channels row.name) of.room,
           subst (λ (k : ℕ). slice_get (g.channels ++ space_rows g.channels file.shared ds) k ≡ Some (space_row (channel_named g.channels row.name) of.room)) (sym of.is)
               (at-right g.channels (space_rows g.channels file.shared ds) of.place (space_row (channel_named g.channels row.name) of.room) (of.row row at)),
-          ap space_name (name-is c row at)))
+          ap space_name (name-is c row at),
+        ),
+      )
 
   pub space-number : (c i : ℕ) (row : SharedRow) → slice_get file.shared c ≡ Some row → IsSpaceFor file ds g row.name i → HasSpace (spaces_from (length g.channels) ds) c i
   space-number c i row at (past, (s, there, named)) =

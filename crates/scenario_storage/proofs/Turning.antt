@@ -258,16 +258,19 @@ module _ (file : ScenarioFile) (limits : ScenarioLimits) (can : IsSearchable fil
 
 -- the corner waits
 pub begun : (file : ScenarioFile) (limits : ScenarioLimits) (corner : List (Option ℕ)) (s : Search) → IsCorner (shared_channels file) corner → s.points.items ≡ [] → s.levels.bounds ≡ record { total = limits.total; distributions = limits.distributions } → IsFrontier (shared_channels file) corner 0 [] [] s.levels → IsStanding file limits s
-begun file limits corner s is points bounds frontier = (0, record {
-  entries = [];
-  known = subst (AreKnown file limits.total []) (sym points) (record {
-    noted = λ e one. absurd (contains-none e one);
-    rising = λ i j d less below. absurd (omega (arith, below));
-    among = λ p one. absurd (contains-none p one);
-    covers = λ e one. absurd (contains-none e one);
-  });
-  corner = corner;
-  is_corner = is;
-  bounds = bounds;
-  frontier = frontier;
-})
+begun file limits corner s is points bounds frontier = (
+  0,
+  record {
+    entries = [];
+    known = subst (AreKnown file limits.total []) (sym points) (record {
+      noted = λ e one. absurd (contains-none e one);
+      rising = λ i j d less below. absurd (omega (arith, below));
+      among = λ p one. absurd (contains-none p one);
+      covers = λ e one. absurd (contains-none e one);
+    });
+    corner = corner;
+    is_corner = is;
+    bounds = bounds;
+    frontier = frontier;
+  },
+)

@@ -42,17 +42,20 @@ pub(crate) fn run_level<R: Threads + Sync, G: Gate + Sync>(
 }
 
 /// Makes a task of each distribution.
-fn fill<'a>(plan: &'a Plan<'a>, best: Fraction, visits: Vec<Found<()>>, tasks: &mut Vec<Task<'a>>)
+fn fill<'a>(plan: &Plan<'a>, best: Fraction, visits: Vec<Found<()>>, tasks: &mut Vec<Task<'a>>)
     requires fits { All (λ f. IsWithin plan.now.file.now plan.now.limits.total f.capacities.capacities) visits.items }
     requires empty { tasks.old.items ≡ [] }
     requires room { vec_len visits ≤ vec_capacity tasks.old }
-    ensures fresh { All (λ t. IsFresh plan.now.file.now plan.now.gammas.now plan.now.limits best t.plan.now.file.now t.plan.now.gammas.now t.plan.now.limits t.best t.capacities) tasks.new.items }
+    ensures fresh { All (λ t. IsFresh plan.now.file.now plan.now.gammas.now plan.now.limits best t.file.now t.gammas.now t.limits t.best t.capacities) tasks.new.items }
     ensures order { map (λ t. t.capacities) tasks.new.items ≡ map (λ f. f.capacities) visits.items }
     ensures many { vec_len tasks.new ≡ vec_len visits }
 {
     for found in visits {
         tasks.push_reserved(Task {
-            plan,
+            alloc: plan.alloc,
+            file: plan.file,
+            gammas: plan.gammas,
+            limits: plan.limits,
             capacities: found.into_capacities(),
             best,
             answer: None,
@@ -71,7 +74,10 @@ fn drain(plan: &Plan, best: Fraction, tasks: Vec<Task<'_>>, answers: &mut Vec<An
     let mut tasks = tasks;
     for _task in 0..tasks.len() {
         let Task {
-            plan: _,
+            alloc: _,
+            file: _,
+            gammas: _,
+            limits: _,
             capacities,
             best: _,
             answer,

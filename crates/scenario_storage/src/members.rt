@@ -95,13 +95,7 @@ fn take_in(
     ensures off { OnOk result (taken_off search.new ≡ taken_off search.old) }
     ensures refused { IfErr result (IsRefusal plan.now.file.now plan.now.limits) }
 {
-    search.levels.lead_on(
-        plan.alloc,
-        &capacities,
-        total,
-        rated.enlarge.as_slice(),
-        (),
-    )?;
+    search.levels.lead_on(plan.alloc, &capacities, total, rated.enlarge.as_slice(), ())?;
     offer(total, capacities, rated, &mut search.points)?;
     Ok(())
 }

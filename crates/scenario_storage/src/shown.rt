@@ -44,7 +44,11 @@ pub(crate) fn shown_by_counts(
 }
 
 /// By shared channel the number of its free space among the channels of a scenario, whose first one has this number.
-fn spaces_of(alloc: Global, first: u32, capacities: &Distribution) -> Result<Rows<Option<u32>>, NoMemory>
+fn spaces_of(
+    alloc: Global,
+    first: u32,
+    capacities: &Distribution,
+) -> Result<Rows<Option<u32>>, NoMemory>
     requires { first + length capacities.now.capacities < 2 ^ 32 }
     ensures { IfOk result (λ spaces. spaces ≡ spaces_from first capacities.now.capacities) }
 {
@@ -166,8 +170,21 @@ pub(crate) fn shown_by_cycle(
 {
     let mut marks = vec![in plan.alloc; false; plan.file.shared.len()]?;
     for scenario in 0..plan.file.scenarios.len() {
-        let entries = entries_of(plan.alloc, bounded.states.as_slice(), graph, cycle, scenario)?;
-        mark_scenario(plan, capacities, bounded, scenario, entries.as_slice(), marks.as_mut_slice())?;
+        let entries = entries_of(
+            plan.alloc,
+            bounded.states.as_slice(),
+            graph,
+            cycle,
+            scenario,
+        )?;
+        mark_scenario(
+            plan,
+            capacities,
+            bounded,
+            scenario,
+            entries.as_slice(),
+            marks.as_mut_slice(),
+        )?;
     }
     listed(plan.alloc, marks.as_slice())
 }
@@ -239,7 +256,14 @@ fn mark_scenario(
     let first = graph_at(plan.file, scenario).channels.len();
     let spaces = spaces_of(plan.alloc, first as u32, capacities)?;
     let mut taken = vec![in plan.alloc; false; graph.channels.len()]?;
-    mark_ways(plan.alloc, graph, gamma, bounded.shared.as_slice(), entries, taken.as_mut_slice())?;
+    mark_ways(
+        plan.alloc,
+        graph,
+        gamma,
+        bounded.shared.as_slice(),
+        entries,
+        taken.as_mut_slice(),
+    )?;
     mark_spaces(spaces.as_slice(), taken.as_slice(), marks);
     Ok(())
 }

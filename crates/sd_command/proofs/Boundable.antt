@@ -48,7 +48,7 @@ tokens-few file total rules small =
 -- ---- names that begin with no U+0001
 
 no_space : (name : List ℕ) → All (λ b. IsTrue (is_character b)) (space_name name) → ⊥
-no_space name all = all 0 0 (omega arith)
+no_space name all = let no : false ≡ true = all 0 0 (omega arith) in absurd (cc)
 
 file_names : (cs : List ChannelRow) → All (λ (c : ChannelRow). IsWritableName c.name) cs → AreFileNames cs
 file_names cs all i c name at same =

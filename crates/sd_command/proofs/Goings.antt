@@ -131,12 +131,13 @@ worst_told file certificate graph (Err stop.OutOfMemory) faults is = record { en
 
 -- the search for the points of a file stops, or they are told
 module _ (file : ScenarioFile) (limits : ScenarioLimits) (faults : ℕ) where
-  pub search_stops : {A : Type 0} (shows : A → Type 0) (why : Stop) → Does (deciding shows (IsSearchEnd file limits)) (Err why) → Goes (ends_by (searching file limits)) (Err why) 0 faults faults
-  search_stops shows (stop.Refused refusal) is = record { ending = Ended refusal; is = refl; came = (refl, is); counted = refl }
-  search_stops shows stop.OutOfMemory is = record { ending = Lacking; is = refl; came = refl; counted = refl }
+  abbrev StopsSearch : Stop → Type 0
+  StopsSearch (stop.Refused refusal) = IsSearchEnd file limits refusal
+  StopsSearch stop.OutOfMemory = Unit {0}
 
-  pub search_lacks : Goes (ends_by (searching file limits)) (Err stop.OutOfMemory) 0 faults faults
-  search_lacks = record { ending = Lacking; is = refl; came = refl; counted = refl }
+  pub search_stops : (why : Stop) → StopsSearch why → Goes (ends_by (searching file limits)) (Err why) 0 faults faults
+  search_stops (stop.Refused refusal) is = record { ending = Ended refusal; is = refl; came = (refl, is); counted = refl }
+  search_stops stop.OutOfMemory is = record { ending = Lacking; is = refl; came = refl; counted = refl }
 
   pub search_answers : (answer : Answer) → IsSearchAnswer file limits answer 0 → Goes (ends_by (searching file limits)) (Ok answer) 0 faults faults
   search_answers answer is = record { ending = Answered answer; is = refl; came = is; counted = refl }

@@ -52,7 +52,11 @@ fn bound_graph(alloc: Global, graph: &GraphFile, tokens: u64) -> Result<(), Stop
     let gamma = balanced(alloc, graph)?;
     let net = SdfNet::new(alloc, graph, gamma.as_slice(), false)?;
     feed(alloc, &net, graph)?;
-    fit(alloc, Quantity::Stamps, firings_of(gamma.as_slice()) * tokens)?;
+    fit(
+        alloc,
+        Quantity::Stamps,
+        firings_of(gamma.as_slice()) * tokens,
+    )?;
     complete(alloc, &net, graph)
 }
 

@@ -17,6 +17,7 @@ use crate::stop::Stop;
 use bounded_scenarios::looped_tokens;
 use fanout::Gate;
 use report::{Refusal, WorstPoint, points_header, scenario_point_text, shared_buffers_text};
+use scenario_rate::files_are_sound;
 use scenario_storage::{ScenarioLimits, ScenarioPoint, ScenarioStorageError, scenario_points};
 use sd_base::{NoMemory, Quantity, Rows, ScenarioFile};
 use sd_io::Shelf;
@@ -85,6 +86,7 @@ fn search<R: Threads + Sync, G: Gate + Sync>(
     ensures does { Does (deciding (λ points. AreScenarioPoints file.now limits points.items) (IsSearchEnd file.now limits)) result }
     ensures told { IfOk result (λ points. All (CanBeTold file.now) points.items) }
 {
+    files_are_sound();
     match scenario_points(rt, alloc, file, limits, gate) {
         Ok(points) => Ok(points),
         Err(ScenarioStorageError::Edges { at }) => Err(Stop::Refused(Refusal::EdgesAt {
@@ -133,5 +135,10 @@ fn lines_of_point(
         graph: &point.graph,
         worst: &point.worst,
     };
-    scenario_point_text(alloc, file.states.as_slice(), file.shared.as_slice(), &shown)
+    scenario_point_text(
+        alloc,
+        file.states.as_slice(),
+        file.shared.as_slice(),
+        &shown,
+    )
 }

@@ -13,7 +13,7 @@ use Rattle.scenario_storage.proofs.level.fill.Goals as goal
 pub loop-found-preserved : goal.loop-found-preserved
 loop-found-preserved c =
     let plan = c.args.plan.now in
-    let P : Task → Type 0 = λ t. IsFresh plan.file.now plan.gammas.now plan.limits c.args.best t.plan.now.file.now t.plan.now.gammas.now t.plan.now.limits t.best t.capacities in
+    let P : Task → Type 0 = λ t. IsFresh plan.file.now plan.gammas.now plan.limits c.args.best t.file.now t.gammas.now t.limits t.best t.capacities in
     let f : Task → Distribution = λ t. t.capacities in
     let k : Found Unit → Distribution = λ x. x.capacities in
     let found = c.in-Some.found in
@@ -22,7 +22,7 @@ loop-found-preserved c =
     let fits : IsWithin c.args.plan.now.file.now c.args.plan.now.limits.total c.in-Some.found.capacities.capacities =
     subst (λ (x : Found Unit). IsWithin plan.file.now plan.limits.total x.capacities.capacities) (sym turn.1) (c.requires.fits (length c.loop-found.yielded) c.in-Some.found turn.0) in
     let fits_it : IsWithin c.args.plan.now.file.now c.args.plan.now.limits.total c.into_capacities.result.capacities = subst (λ (d : Distribution). IsWithin plan.file.now plan.limits.total d.capacities) (sym c.into_capacities.ensures) fits in
-    let pushed : Task = record { plan = c.args.plan; capacities = c.into_capacities.result; best = c.args.best; answer = None } in (
+    let pushed : Task = record { alloc = plan.alloc; file = plan.file; gammas = plan.gammas; limits = plan.limits; capacities = c.into_capacities.result; best = c.args.best; answer = None } in (
       omega (arith, c.push_reserved.ensures.len, c.loop-found.invariant.0, length_push c.loop-found.yielded c.in-Some.found),
       c.push_reserved.ensures.capacity ∙ c.loop-found.invariant.1,
       subst (All P) (sym c.push_reserved.ensures.items) (All-push P c.loop-found.tasks.items pushed c.loop-found.invariant.2

@@ -55,8 +55,13 @@ mark_ways-requires c =
 pub mark_spaces-requires-clause-long : goal.mark_spaces-requires-clause-long
 mark_spaces-requires-clause-long c =
     let same : length c.as_slice-2.result.now ≡ length (spaces_from c.len-first.result c.args.capacities.now.capacities) = ap (λ (xs : List (Option ℕ)). length xs) (c.as_slice-2.ensures ∙ c.in_ok-spaces.ensures) in
-    omega (arith, same, spaces-long c.len-first.result c.args.capacities.now.capacities, c.requires.long,
-        long-as c.args.plan.now.file.now c.args.plan.now.limits.total c.requires.plan.bounded c.args.capacities.now.capacities c.requires.fits)
+    omega (
+      arith,
+      same,
+      spaces-long c.len-first.result c.args.capacities.now.capacities,
+      c.requires.long,
+      long-as c.args.plan.now.file.now c.args.plan.now.limits.total c.requires.plan.bounded c.args.capacities.now.capacities c.requires.fits,
+    )
 
 pub mark_spaces-requires-clause-spaces : goal.mark_spaces-requires-clause-spaces
 mark_spaces-requires-clause-spaces c =

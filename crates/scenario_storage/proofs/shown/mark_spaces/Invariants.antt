@@ -7,4 +7,4 @@ abbrev pub invariant-loop-place : goal.invariant-loop-place
 invariant-loop-place l =
     (length l.marks ≡ length l.initial.marks)
     × ((c : ℕ) → c < length l.initial.marks → (slice_index_or l.marks c false ≡ true) ↔
-        ((slice_index_or l.initial.marks c false ≡ true) ⊎ ((c < l.place) × ((i : ℕ) × HasSpace l.spaces c i × (slice_index_or l.taken i false ≡ true)))))
+    ((slice_index_or l.initial.marks c false ≡ true) ⊎ ((c < l.place) × ((i : ℕ) × HasSpace l.spaces c i × (slice_index_or l.taken i false ≡ true)))))

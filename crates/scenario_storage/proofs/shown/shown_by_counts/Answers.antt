@@ -69,8 +69,13 @@ graph_at-requires c =
 pub held_up-requires-clause-few : goal.held_up-requires-clause-few
 held_up-requires-clause-few c =
     let same : length c.as_slice.result.now ≡ length (spaces_from c.len.result c.args.capacities.now.capacities) = ap (λ (xs : List (Option ℕ)). length xs) (c.as_slice.ensures ∙ c.in_ok-spaces.ensures) in
-    omega (arith, same, spaces-long c.len.result c.args.capacities.now.capacities, shared-few c.args.plan.now.file.now c.args.plan.now.limits.total c.requires.plan.bounded,
-        long-as c.args.plan.now.file.now c.args.plan.now.limits.total c.requires.plan.bounded c.args.capacities.now.capacities c.requires.fits)
+    omega (
+      arith,
+      same,
+      spaces-long c.len.result c.args.capacities.now.capacities,
+      shared-few c.args.plan.now.file.now c.args.plan.now.limits.total c.requires.plan.bounded,
+      long-as c.args.plan.now.file.now c.args.plan.now.limits.total c.requires.plan.bounded c.args.capacities.now.capacities c.requires.fits,
+    )
 
 pub held_up-requires-clause-spaces : goal.held_up-requires-clause-spaces
 held_up-requires-clause-spaces c =
