@@ -1,12 +1,12 @@
-ghost use Rattle.std.specs.Prelude.{◌≡◌, ◌+◌, ◌≤◌, IfOk, IsTrue, sum};
-ghost use Rattle.sd_base.specs.declared.limits.TheConstants.{NODES, STORAGE};
+ghost use Rattle.std.specs.Prelude.{◌≡◌, ◌+◌, ◌≤◌, IfOk, IsTrue, sum, true};
+ghost use Rattle.sd_base.specs.declared.limits.TheConstants.{NODES, ROUND, STORAGE};
 ghost use Rattle.sd_base.specs.declared.tables.Kind.TheVariants.{Sdf};
-ghost use Rattle.sd_base.specs.Net.{channel_at};
 ghost use Rattle.sd_base.specs.Scenarios.{FileKeepsRules};
 ghost use Rattle.sd_base.specs.Schedules.{HasInputs};
 ghost use Rattle.sd_base.specs.Tables.{IsTimed, KeepsRules};
 ghost use Rattle.balance.specs.Repetition.{IsRound};
 ghost use Rattle.scenario_reader.specs.ScenarioNames.{FileHasWritableNames};
+ghost use Rattle.bounded_scenarios.specs.Boundings.{CanBeBounded};
 ghost use Rattle.test_scenario_storage.specs.Running.{AllRun, IsEntered, Runs};
 
 use crate::outline::{Outline, text_of};
@@ -51,12 +51,29 @@ fn points_in<R: Threads + Abort + Sync, G: Gate + Sync>(
     assert!(rt;
         LEAST_DISTRIBUTIONS <= limits.distributions && limits.distributions <= DISTRIBUTIONS
     );
-    let looped = looped_tokens(file);
-    assert!(rt; limits.total <= STORAGE && looped <= NODES);
-    let tokens = limits.total + looped;
-    assert!(rt; file.states.len() as u64 * tokens <= NODES);
-    assert!(rt; all_run(alloc, file, tokens)?);
+    assert!(rt; limits.total <= STORAGE);
+    let boundable = is_boundable(alloc, file, limits.total)?;
+    assert!(rt; boundable);
     scenario_points(rt, alloc, file, limits, gate)
+}
+
+/// Whether the file can be bounded by each distribution within a limit.
+fn is_boundable(alloc: Global, file: &ScenarioFile, total: u64) -> Result<bool, NoMemory>
+    requires rules { FileKeepsRules file.now }
+    requires names { FileHasWritableNames file.now }
+    requires total { total ≤ STORAGE }
+    ensures { IfOk result (λ b. IsTrue b → CanBeBounded file.now total) }
+{
+    let looped = looped_tokens(file);
+    if looped > NODES {
+        return Ok(false);
+    }
+    let tokens = total + looped;
+    if file.states.len() as u64 * tokens > NODES {
+        return Ok(false);
+    }
+    let run = all_run(alloc, file, tokens)?;
+    Ok(run)
 }
 
 /// Whether each scenario runs without bounds, and the stamps of its round with so many shared tokens are within their limit.
@@ -101,14 +118,21 @@ fn runs_rounds(
     ensures { IfOk result (λ b. IsTrue b → Runs tokens graph.now) }
 {
     let net = SdfNet::new(alloc, graph, gamma, false)?;
-    let firings: u64 = gamma.iter().sum();
-    if firings * tokens > STAMPS || !is_fed(&net) {
+    if firings_of(gamma) * tokens > STAMPS || !is_fed(&net) {
         return Ok(false);
     }
     match one_round(alloc, &net)? {
         Round::Live { .. } => Ok(true),
         Round::Blocked { .. } => Ok(false),
     }
+}
+
+/// The firings of a round.
+fn firings_of(gamma: &[u64]) -> u64
+    requires { sum gamma.now ≤ ROUND }
+    ensures { result ≡ sum gamma.now }
+{
+    gamma.iter().sum()
 }
 
 /// Whether a channel leads into each actor.

@@ -182,21 +182,23 @@ fn a_state_that_is_not_reached_does_not_count(rt: HostRuntime) -> Result<(), Fai
 fn a_self_loop_in_one_scenario_alone_has_no_capacity(rt: HostRuntime) -> Result<(), Fail> {
     let [o, p, s] = sending();
     let t = ("t", channel(0, 1, 1, 1, 1));
+    let first = [o, p, s, t];
+    let second = [o, p, ("s", channel(0, 1, 1, 0, 1)), t];
     let scenarios = [
         Scenario {
             times: &[1, 2],
-            channels: &[o, p, s, t],
+            channels: &first,
         },
         Scenario {
             times: &[2, 2],
-            channels: &[o, p, ("s", channel(0, 1, 1, 0, 1)), t],
+            channels: &second,
         },
     ];
     let file = Outline {
         scenarios: &scenarios,
         states: &[(0, &[1]), (1, &[0])],
     };
-    let first = Row {
+    let slow = Row {
         total: 1,
         rate: (2, 7),
         capacities: &[None, None, None, Some(1)],
@@ -204,7 +206,7 @@ fn a_self_loop_in_one_scenario_alone_has_no_capacity(rt: HostRuntime) -> Result<
         cycle: &[2, 7],
         time: 7,
     };
-    let second = Row {
+    let fast = Row {
         total: 2,
         rate: (1, 2),
         capacities: &[None, None, None, Some(2)],
@@ -212,21 +214,23 @@ fn a_self_loop_in_one_scenario_alone_has_no_capacity(rt: HostRuntime) -> Result<
         cycle: &[1, 6],
         time: 4,
     };
-    check(&rt, rt.alloc(), &file, 3, &[first, second])
+    check(&rt, rt.alloc(), &file, 3, &[slow, fast])
 }
 
 // Steps are of two tokens, the greatest common divisor of the rates 2, 2, 4 and 2.
 #[test]
 fn rates_may_differ_between_scenarios(rt: HostRuntime) -> Result<(), Fail> {
     let [o, p, _] = sending();
+    let first = [o, p, ("s", channel(0, 2, 2, 1, 2))];
+    let second = [o, p, ("s", channel(0, 4, 2, 1, 2))];
     let scenarios = [
         Scenario {
             times: &[1, 2],
-            channels: &[o, p, ("s", channel(0, 2, 2, 1, 2))],
+            channels: &first,
         },
         Scenario {
             times: &[3, 1],
-            channels: &[o, p, ("s", channel(0, 4, 2, 1, 2))],
+            channels: &second,
         },
     ];
     let file = Outline {
