@@ -1,6 +1,6 @@
 #!/usr/bin/env python3
-"""How long the worst rate of scenarios takes on files that could be slow in ways of their own: draws the files, runs the
-built program on each, and prints a table.
+"""How long the worst rate of scenarios takes, and the trade-off of what they share, on files that could be slow in ways of their
+own: draws the files, runs the built program on each, and prints a table.
 
     bench/scenario.py
 
@@ -52,27 +52,50 @@ def falling(path, dense):
     return file({"f": graph({"x": 3}, [("s", "x", 1, 1, "x", 1)])}, states, f"q{path - 1}")
 
 
+def kinds(number):
+    """So many kinds of frames that are read, decoded and shown over two shared buffers. A state for each; two may follow it."""
+    channels = [("r", "read", 1, 1, "read", 1), ("d", "decode", 1, 1, "decode", 1), ("w", "show", 1, 1, "show", 1),
+                ("bits", "read", 1, 1, "decode", 1), ("pictures", "decode", 1, 1, "show", 1)]
+    scenarios = {f"f{k}": graph({"read": 2 + k % 7, "decode": 3 + 5 * k % 11, "show": 8}, channels) for k in range(number)}
+    states = {f"q{k}": (f"f{k}", [f"q{later}" for later in sorted({(k + 1) % number, (3 * k + 2) % number})]) for k in range(number)}
+    return file(scenarios, states, "q0")
+
+
+def example(name):
+    with open(os.path.join(ROOT, "examples", name), encoding="utf-8") as text:
+        return text.read()
+
+
 def cases():
-    with open(os.path.join(ROOT, "examples", "video_modes.xml"), encoding="utf-8") as text:
-        yield "the modes of a video decoder", text.read()
-    yield "20,000 firings, 16 channels", fan(20_000, 16, 199)
-    yield "a falling path of 64 to 64 states", falling(64, 64)
-    yield "a falling path of 128 to 128", falling(128, 128)
-    yield "a falling path of 192 to 64", falling(192, 64)
+    yield "the modes of a video decoder", example("video_modes.xml"), None
+    yield "20,000 firings, 16 channels", fan(20_000, 16, 199), None
+    yield "a falling path of 64 to 64 states", falling(64, 64), None
+    yield "a falling path of 128 to 128", falling(128, 128), None
+    yield "a falling path of 192 to 64", falling(192, 64), None
+    yield "the buffers of a video decoder, to 9", example("video_buffers.xml"), 9
+    # Three tokens have no capacity: 64 states times 13 + 3 are the 1,024 nodes that are allowed.
+    yield "64 kinds of frames, to 13", kinds(64), 13
+
+
+def asked(path, limit):
+    """The words that ask for the worst rate, or for the trade-off up to a limit."""
+    if limit is None:
+        return ["--algo", "scenario", "--graph", path]
+    return ["--algo", "scenario-storage", "--graph", path, "--limit", str(limit)]
 
 
 def main():
     built = program("sdf3analysis")
-    print(f"{'scenarios':34} {'bytes':>9} {'ms':>8} {'MB':>6} {'M instr.':>8}")
+    print(f"{'scenarios':36} {'bytes':>9} {'ms':>8} {'MB':>6} {'M instr.':>8}")
     with tempfile.TemporaryDirectory() as folder:
-        for name, text in cases():
+        for name, text, limit in cases():
             path = os.path.join(folder, "scenarios.xml")
             with open(path, "w", encoding="utf-8") as out:
                 out.write(text)
-            words = [built, "--algo", "scenario", "--graph", path]
+            words = [built, *asked(path, limit)]
             seconds, done = least_time(words)
             done.check_returncode()
-            print(f"{name:34} {len(text):9} {seconds * 1e3:8.1f} {memory(words):6.0f} {counted(words, seconds):>8}")
+            print(f"{name:36} {len(text):9} {seconds * 1e3:8.1f} {memory(words):6.0f} {counted(words, seconds):>8}")
 
 
 if __name__ == "__main__":

@@ -9,7 +9,7 @@ use Rattle.sd_base.specs.Net.{Net, channel_at}
 use Rattle.sd_base.specs.declared.role.Role.{Role}
 use Rattle.report.specs.ListTexts.{joined, piece_of, pieces_of}
 use Rattle.report.specs.LackTexts.{lack_text, lack_on, lacks_list}
-use Rattle.report.specs.StorageTexts.{buffer_on, buffers_list, listed}
+use Rattle.report.specs.StorageTexts.{buffer_on, capacities_list, listed}
 
 -- what stands before the next piece
 abbrev pub between : List ℕ → List (List ℕ) → List ℕ
@@ -95,12 +95,12 @@ unfolding listed
 listed-some [] before start text is some kept = absurd (some is)
 listed-some (piece ∷ pieces) before start text is some kept = kept
 
-module _ (g : GraphFile) (ds : List (Option ℕ)) (n : ℕ) (all : length ds ≡ n) (before start text : List ℕ) where
-  pub buffers-none : (new : List ℕ) → before ≡ between (codes ",") (pieces_of (buffer_on g) ds n) → before ≡ [] → text ≡ start ++ joined (codes ",") (pieces_of (buffer_on g) ds n) → new ≡ text ++ codes "-"
-      → new ≡ start ++ buffers_list g ds
-  unfolding buffers_list
-  buffers-none new is none kept more = listed-none (pieces_of (buffer_on g) ds n) before start text new is none kept more ∙ ap (λ (k : ℕ). start ++ listed (pieces_of (buffer_on g) ds k)) (sym all)
+module _ (names : List (List ℕ)) (ds : List (Option ℕ)) (n : ℕ) (all : length ds ≡ n) (before start text : List ℕ) where
+  pub buffers-none : (new : List ℕ) → before ≡ between (codes ",") (pieces_of (buffer_on names) ds n) → before ≡ [] → text ≡ start ++ joined (codes ",") (pieces_of (buffer_on names) ds n) → new ≡ text ++ codes "-"
+      → new ≡ start ++ capacities_list names ds
+  unfolding capacities_list
+  buffers-none new is none kept more = listed-none (pieces_of (buffer_on names) ds n) before start text new is none kept more ∙ ap (λ (k : ℕ). start ++ listed (pieces_of (buffer_on names) ds k)) (sym all)
 
-  pub buffers-some : before ≡ between (codes ",") (pieces_of (buffer_on g) ds n) → (before ≡ [] → ⊥) → text ≡ start ++ joined (codes ",") (pieces_of (buffer_on g) ds n) → text ≡ start ++ buffers_list g ds
-  unfolding buffers_list
-  buffers-some is some kept = listed-some (pieces_of (buffer_on g) ds n) before start text is some kept ∙ ap (λ (k : ℕ). start ++ listed (pieces_of (buffer_on g) ds k)) (sym all)
+  pub buffers-some : before ≡ between (codes ",") (pieces_of (buffer_on names) ds n) → (before ≡ [] → ⊥) → text ≡ start ++ joined (codes ",") (pieces_of (buffer_on names) ds n) → text ≡ start ++ capacities_list names ds
+  unfolding capacities_list
+  buffers-some is some kept = listed-some (pieces_of (buffer_on names) ds n) before start text is some kept ∙ ap (λ (k : ℕ). start ++ listed (pieces_of (buffer_on names) ds k)) (sym all)

@@ -1,5 +1,5 @@
 -- The text of a worst rate, piece by piece.
-use Rattle.std.proofs.Common.{◌≡◌, ℕ, ◌+◌, ◌<◌, ◌≤◌, List, [], ◌∷◌, ◌++◌, length, take, drop, get_or, sym, ap, ap₂, ◌∙◌, add-one, arith}
+use Rattle.std.proofs.Common.{◌≡◌, ℕ, ◌+◌, ◌<◌, ◌≤◌, List, ◌∷◌, ◌++◌, length, take, drop, get_or, sym, ap, ap₂, ◌∙◌, add-one, arith}
 use Rattle.std.specs.Prelude.{slice_get}
 use Rattle.std.specs.List.{flat_map}
 use Rattle.std.proofs.Math.Seq.{drop-cons}
@@ -10,7 +10,7 @@ use Rattle.automaton.specs.declared.graph.Edge.{Edge}
 use Rattle.automaton.specs.declared.graph.TimedGraph.{TimedGraph}
 use Rattle.automaton.specs.CriticalCycles.{weight_in, weights}
 use Rattle.scenario_rate.specs.declared.answer.Worst.{Worst}
-use Rattle.report.specs.WorstTexts.{no_edge, edge_at, edge_on, worst_header, worst_cycle_lines, worst_rate_line, potential_count, potentials_header, potential_lines, worst_lines}
+use Rattle.report.specs.WorstTexts.{no_edge, edge_at, edge_on, worst_header, worst_cycle_lines, potential_count, potentials_header, potential_lines, shown_lines}
 use Rattle.report.proofs.OneMoreElement.{flat_end}
 
 -- one more edge of a cycle
@@ -33,16 +33,14 @@ cycle-end states shared graph cycle es time i start headed text same time_is pas
     ∙ ap (λ l. l ++ lines) (is ∙ ap (λ h. start ++ h) header)
     ∙ append_assoc start (worst_header states shared graph (weights graph.edges cycle) (length cycle) (edge_at graph (get_or cycle 0 0))) lines
 
--- four pieces one after another
-four : (empty a b c d one two three text : List ℕ) → empty ≡ [] → one ≡ empty ++ a → two ≡ one ++ b → three ≡ two ++ c → text ≡ three ++ d → text ≡ a ++ (b ++ (c ++ d))
-four empty a b c d one two three text none first second third fourth =
-    fourth ∙ ap (λ l. l ++ d) (third ∙ ap (λ l. l ++ c) (second ∙ ap (λ l. l ++ b) (first ∙ ap (λ l. l ++ a) none)))
-    ∙ append_assoc (a ++ b) c d ∙ append_assoc a b (c ++ d)
-
-pub worst-end : (states : List StateRow) (shared : List SharedRow) (graph : TimedGraph) (worst : Worst) (empty rated cycled counted text : List ℕ) (count : ℕ) → empty ≡ [] → rated ≡ empty ++ worst_rate_line worst.rate.num worst.rate.den
-    → cycled ≡ rated ++ worst_cycle_lines states shared graph worst.cycle → counted ≡ cycled ++ potentials_header count → count ≡ potential_count worst.potentials
-    → text ≡ counted ++ potential_lines states shared graph.tokens 0 worst.potentials → text ≡ worst_lines states shared graph worst
-unfolding worst_lines
-worst-end states shared graph worst empty rated cycled counted text count none first second third count_is fourth =
-    four empty (worst_rate_line worst.rate.num worst.rate.den) (worst_cycle_lines states shared graph worst.cycle) (potentials_header (potential_count worst.potentials)) (potential_lines states shared graph.tokens 0 worst.potentials)
-    rated cycled counted text none first second (third ∙ ap (λ n. cycled ++ potentials_header n) count_is) fourth
+-- what shows a worst rate, piece by piece
+pub shown-end : (states : List StateRow) (shared : List SharedRow) (graph : TimedGraph) (worst : Worst) (start cycled counted text : List ℕ) (count : ℕ)
+    → cycled ≡ start ++ worst_cycle_lines states shared graph worst.cycle → counted ≡ cycled ++ potentials_header count → count ≡ potential_count worst.potentials
+    → text ≡ counted ++ potential_lines states shared graph.tokens 0 worst.potentials → text ≡ start ++ shown_lines states shared graph worst
+unfolding shown_lines
+shown-end states shared graph worst start cycled counted text count first second count_is third =
+    let cycle = worst_cycle_lines states shared graph worst.cycle in
+    let header = potentials_header (potential_count worst.potentials) in
+    let rest = potential_lines states shared graph.tokens 0 worst.potentials in
+    third ∙ ap (λ l. l ++ rest) (second ∙ ap₂ (λ l n. l ++ potentials_header n) first count_is)
+    ∙ (append_assoc (start ++ cycle) header rest ∙ append_assoc start cycle (header ++ rest))

@@ -10,6 +10,7 @@ pub mod AnswerTexts
 pub mod QuantityWords
 pub mod RefusalLines
 pub mod WorstTexts
+pub mod ScenarioPointTexts
 pub mod SummaryTexts
 pub mod ClaimTexts
 pub mod ExpansionTexts

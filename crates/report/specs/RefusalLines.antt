@@ -4,7 +4,7 @@ use Rattle.std.specs.Fmt.{decimal}
 use Rattle.report.specs.declared.refusal.Refusal.{Refusal}
 use Rattle.report.specs.declared.refusal.Class.{Class}
 use Rattle.report.specs.declared.refusal.Class.TheVariants as class
-use Rattle.report.specs.declared.refusal.Refusal.TheVariants.{UsageWords, UsageMissing, UsageNotFor, UsageBadValue, Text, DocumentType, CdataSection, Instruction, CharReference, Encoding, WrongKind, Missing, Unknown, Twice, BadWord, BadNumber, PhasesDiffer, SharedDiffers, NoSuccessor, UnknownChannel, SelfLoopBuffer, BelowTokens, UnknownActor, TwoProcessors, OrderCount, Above, Ratio, Inconsistent, Apart, OneWay, NoInput, Deadlock, StatesSpent, DistributionsSpent, CertificateLine, CertificateNumber, Rejected, ShelfGraph, ShelfCertificate, ShelfOutput}
+use Rattle.report.specs.declared.refusal.Refusal.TheVariants.{UsageWords, UsageMissing, UsageNotFor, UsageBadValue, Text, DocumentType, CdataSection, Instruction, CharReference, Encoding, WrongKind, Missing, Unknown, Twice, BadWord, BadNumber, PhasesDiffer, SharedDiffers, NoSuccessor, UnknownChannel, SelfLoopBuffer, BelowTokens, UnknownActor, TwoProcessors, OrderCount, Above, EdgesAt, Ratio, Inconsistent, Apart, OneWay, NoInput, Deadlock, StatesSpent, DistributionsSpent, CertificateLine, CertificateNumber, Rejected, ShelfGraph, ShelfCertificate, ShelfOutput}
 
 -- the scenario that a refusal speaks of
 unfoldable pub scenario_prefix : Option (List ℕ) → List ℕ
@@ -13,6 +13,9 @@ scenario_prefix (Some name) = codes "scenario " ++ (name ++ codes ": ")
 
 unfoldable pub above_reason : List ℕ → List ℕ → ℕ → List ℕ
 above_reason prefix quantity number = prefix ++ (quantity ++ (codes " above " ++ decimal number))
+
+unfoldable pub edges_reason : ℕ → List ℕ → List ℕ
+edges_reason number at = codes "edges above " ++ (decimal number ++ (codes " at " ++ at))
 
 unfoldable pub ratio_reason : List ℕ → ℕ → List ℕ → List ℕ
 ratio_reason prefix number path = prefix ++ (codes "ratio above " ++ (decimal number ++ (codes " along " ++ path)))
@@ -132,6 +135,7 @@ cause_of (OrderCount name found gamma) = because class.Form (count_reason name f
 cause_of (CertificateLine line) = because class.Form (certificate_reason line)
 cause_of CertificateNumber = because class.Limit (codes "certificate number too large")
 cause_of (Above scenario quantity number) = because class.Limit (above_reason (scenario_prefix scenario) quantity number)
+cause_of (EdgesAt number at) = because class.Limit (edges_reason number at)
 cause_of (Ratio scenario number path) = because class.Limit (ratio_reason (scenario_prefix scenario) number path)
 cause_of (Inconsistent scenario walk num den) = because class.Inconsistent (inconsistent_reason (scenario_prefix scenario) walk num den)
 cause_of (Apart scenario a b) = because class.Connection (apart_reason (scenario_prefix scenario) a b)

@@ -84,11 +84,14 @@ potential_lines states shared tokens v (Some x ∷ rest) = potential_line states
 unfoldable pub worst_rate_line : ℕ → ℕ → List ℕ
 worst_rate_line num den = codes "rate " ++ (fraction_text num den ++ 10 ∷ [])
 
--- the text of a worst rate: the rate, the cycle, and the potentials of the nodes that have one
+-- what shows a worst rate: the cycle, and the potentials of the nodes that have one
+unfoldable pub shown_lines : List StateRow → List SharedRow → TimedGraph → Worst → List ℕ
+shown_lines states shared graph worst =
+    worst_cycle_lines states shared graph worst.cycle ++ (potentials_header (potential_count worst.potentials) ++ potential_lines states shared graph.tokens 0 worst.potentials)
+
+-- the text of a worst rate: the rate, and what shows it
 unfoldable pub worst_lines : List StateRow → List SharedRow → TimedGraph → Worst → List ℕ
-worst_lines states shared graph worst =
-    worst_rate_line worst.rate.num worst.rate.den
-    ++ (worst_cycle_lines states shared graph worst.cycle ++ (potentials_header (potential_count worst.potentials) ++ potential_lines states shared graph.tokens 0 worst.potentials))
+worst_lines states shared graph worst = worst_rate_line worst.rate.num worst.rate.den ++ shown_lines states shared graph worst
 
 -- the ends of an edge are nodes of a graph of so many
 pub record JoinsNodes (nodes : ℕ) (e : Edge) : Type 0 where

@@ -1,10 +1,10 @@
-ghost use Rattle.std.specs.Prelude.{◌≡◌, ◌≤◌, ◌++◌, All, IfOk, OnOk, length};
+ghost use Rattle.std.specs.Prelude.{◌≡◌, ◌≤◌, ◌++◌, All, IfOk, OnOk, length, map};
 ghost use Rattle.std.specs.String.{string_bytes};
 ghost use Rattle.report.specs.LinkTexts.{IsNamed};
-ghost use Rattle.report.specs.StorageTexts.{buffers_line, point_line, point_text, points_header, points_lines};
+ghost use Rattle.report.specs.StorageTexts.{buffers_line, buffers_list, capacities_list, point_line, point_text, points_header, points_lines};
 
 use crate::answers::bytes_of;
-use crate::buffers::put_buffers;
+use crate::buffers::{Named, put_buffers};
 use crate::fractions::put_fraction;
 use crate::schedules::put_schedule;
 use firing::Firing;
@@ -69,7 +69,7 @@ pub fn point_text(
 }
 
 /// Puts a point, its distribution and a schedule at the end of a text.
-#[tactic(auto, unfolding(crate::specs::StorageTexts::point_text))]
+#[tactic(auto, unfolding(crate::specs::StorageTexts::point_text, crate::specs::StorageTexts::buffers_list))]
 pub(crate) fn put_point(
     text: &mut String,
     graph: &GraphFile,
@@ -81,12 +81,13 @@ pub(crate) fn put_point(
     ensures { OnOk result (string_bytes text.new ≡ string_bytes text.old ++ point_text graph.now point.now schedule.now) }
 {
     put_header(text, point.total, point.rate)?;
-    put_distribution(text, graph, &point.capacities)?;
+    put_distribution(text, graph.channels.as_slice(), &point.capacities)?;
     put_schedule(text, graph, schedule)
 }
 
+/// Puts the line of a point at the end of a text.
 #[tactic(auto, unfolding(crate::specs::StorageTexts::point_line))]
-fn put_header(text: &mut String, total: u64, rate: Fraction) -> Result<(), AllocError>
+pub(crate) fn put_header(text: &mut String, total: u64, rate: Fraction) -> Result<(), AllocError>
     ensures { OnOk result (string_bytes text.new ≡ string_bytes text.old ++ point_line total rate) }
 {
     write!(text, "point {total} ")?;
@@ -94,16 +95,17 @@ fn put_header(text: &mut String, total: u64, rate: Fraction) -> Result<(), Alloc
     text.push_str("\n")
 }
 
+/// Puts the line of a distribution, of the channels of these rows, at the end of a text.
 #[tactic(auto, unfolding(crate::specs::StorageTexts::buffers_line))]
-fn put_distribution(
+pub(crate) fn put_distribution<R: Named>(
     text: &mut String,
-    graph: &GraphFile,
+    rows: &[R],
     capacities: &Distribution,
 ) -> Result<(), AllocError>
-    requires { length capacities.now.capacities ≤ length graph.now.channels }
-    ensures { OnOk result (string_bytes text.new ≡ string_bytes text.old ++ buffers_line graph.now capacities.now.capacities) }
+    requires { length capacities.now.capacities ≤ length rows.now }
+    ensures { OnOk result (string_bytes text.new ≡ string_bytes text.old ++ buffers_line (capacities_list (map R.name_of rows.now) capacities.now.capacities)) }
 {
     text.push_str("buffers ")?;
-    put_buffers(text, graph, capacities.capacities.as_slice())?;
+    put_buffers(text, rows, capacities.capacities.as_slice())?;
     text.push_str("\n")
 }

@@ -166,6 +166,11 @@ pub enum Refusal {
         quantity: Text,
         number: u64,
     },
+    /// The timed graph of scenarios has more edges than so many, under the distribution of storage in the list `at`.
+    EdgesAt {
+        number: u64,
+        at: Text,
+    },
     /// A part of the ratio along a path passes its greatest number.
     Ratio {
         scenario: Option<Text>,

@@ -1,6 +1,6 @@
 ghost use Rattle.std.specs.Prelude.{◌≡◌, IfOk};
 ghost use Rattle.std.specs.String.{string_bytes};
-ghost use Rattle.report.specs.RefusalLines.{above_reason, apart_reason, at_list, bad_value_reason, below_tokens_reason, cause_line, cause_of, certificate_reason, count_reason, deadlock_reason, distributions_reason, inconsistent_reason, line_of, memory_line, missing_reason, no_input_reason, not_for_reason, one_way_reason, phases_reason, place_reason, processors_reason, ratio_reason, rejected_reason, scenario_prefix, self_loop_reason, shared_reason, states_reason, successor_reason, twice_reason, unknown_reason, within_reason};
+ghost use Rattle.report.specs.RefusalLines.{above_reason, apart_reason, at_list, bad_value_reason, below_tokens_reason, cause_line, cause_of, certificate_reason, count_reason, deadlock_reason, distributions_reason, edges_reason, inconsistent_reason, line_of, memory_line, missing_reason, no_input_reason, not_for_reason, one_way_reason, phases_reason, place_reason, processors_reason, ratio_reason, rejected_reason, scenario_prefix, self_loop_reason, shared_reason, states_reason, successor_reason, twice_reason, unknown_reason, within_reason};
 
 use crate::answers::bytes_of;
 use crate::{Class, Refusal};
@@ -138,6 +138,10 @@ fn cause(alloc: Global, refusal: &Refusal) -> Result<(Class, String), AllocError
         } => Ok((
             Class::Limit,
             above_text(alloc, scenario, quantity.as_str(), *number)?,
+        )),
+        Refusal::EdgesAt { number, at } => Ok((
+            Class::Limit,
+            edges_text(alloc, *number, at.as_str())?,
         )),
         Refusal::Ratio {
             scenario,
@@ -300,6 +304,13 @@ fn above_text(
     let prefix = prefix_text(alloc, scenario)?;
     let prefix = prefix.as_str();
     format!(in alloc; "{prefix}{quantity} above {number}")
+}
+
+#[tactic(auto, unfolding(crate::specs::RefusalLines::edges_reason))]
+fn edges_text(alloc: Global, number: u64, at: &str) -> Result<String, AllocError>
+    ensures { IfOk result (λ t. string_bytes t ≡ edges_reason number at.now) }
+{
+    format!(in alloc; "edges above {number} at {at}")
 }
 
 #[tactic(auto, unfolding(crate::specs::RefusalLines::ratio_reason))]

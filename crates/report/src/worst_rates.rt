@@ -1,7 +1,7 @@
 ghost use Rattle.std.specs.Prelude.{◌≡◌, ◌≤◌, ◌<◌, ◌*◌, ◌+◌, ◌++◌, All, IfOk, OnOk, length, slice_get};
 ghost use Rattle.std.specs.String.{string_bytes};
 ghost use Rattle.automaton.specs.CriticalCycles.{weight_in, weights};
-ghost use Rattle.report.specs.WorstTexts.{IsWorstIn, JoinsNodes, edge_line, edge_on, node_text, potential_count, potential_line, potential_lines, potentials_header, shared_name, state_name, token_on, token_text, worst_cycle_lines, worst_header, worst_lines, worst_rate_line};
+ghost use Rattle.report.specs.WorstTexts.{IsWorstIn, JoinsNodes, edge_line, edge_on, node_text, potential_count, potential_line, potential_lines, potentials_header, shared_name, shown_lines, state_name, token_on, token_text, worst_cycle_lines, worst_header, worst_lines, worst_rate_line};
 
 use crate::answers::bytes_of;
 use crate::fractions::put_fraction;
@@ -13,9 +13,9 @@ use std::alloc::{AllocError, Global};
 
 /// What the nodes of a timed graph are named by: its states, and the channels of its shared tokens.
 #[derive(Clone, Copy)]
-struct Nodes<'a> {
-    states: &'a [StateRow],
-    shared: &'a [SharedRow],
+pub(crate) struct Nodes<'a> {
+    pub(crate) states: &'a [StateRow],
+    pub(crate) shared: &'a [SharedRow],
 }
 
 /// The text of a worst rate: a line `rate X`; `cycle W L` with the time and the rounds of a critical cycle and the node
@@ -23,6 +23,7 @@ struct Nodes<'a> {
 /// its potential. A node is its state, the channel of its token, and the token's number there; a channel whose name begins
 /// with U+0001 is the free space of the channel with the rest of the name, and shown as `NAME/space`. Cost: linear in the
 /// text and in the nodes, times the shared channels.
+#[tactic(auto, unfolding(crate::specs::WorstTexts::worst_lines))]
 pub fn worst_text(
     alloc: Global,
     states: &[StateRow],
@@ -36,10 +37,24 @@ pub fn worst_text(
     let nodes = Nodes { states, shared };
     let mut text = String::new(alloc);
     put_rate(&mut text, worst.rate)?;
-    put_cycle(&mut text, &nodes, graph, worst.cycle.as_slice())?;
-    put_count(&mut text, count_potentials(worst.potentials.as_slice()))?;
-    put_potentials(&mut text, &nodes, graph, worst.potentials.as_slice())?;
+    put_shown(&mut text, &nodes, graph, worst)?;
     Ok(bytes_of(text))
+}
+
+/// Puts what shows a worst rate at the end of a text.
+pub(crate) fn put_shown(
+    text: &mut String,
+    nodes: &Nodes,
+    graph: &TimedGraph,
+    worst: &Worst,
+) -> Result<(), AllocError>
+    requires { IsWorstIn nodes.now.states.now graph.now worst.now }
+    ensures { OnOk result (string_bytes text.new ≡ string_bytes text.old ++ shown_lines nodes.now.states.now nodes.now.shared.now graph.now worst.now) }
+{
+    put_cycle(text, nodes, graph, worst.cycle.as_slice())?;
+    put_count(text, count_potentials(worst.potentials.as_slice()))?;
+    put_potentials(text, nodes, graph, worst.potentials.as_slice())?;
+    Ok(())
 }
 
 #[tactic(auto, unfolding(crate::specs::WorstTexts::worst_rate_line))]

@@ -1,6 +1,6 @@
 -- The edges of a cycle, scenario by scenario.
-use Rattle.std.proofs.Common.{◌≡◌, true, false, ℕ, ◌+◌, ◌*◌, ◌≤◌, ◌<◌, Bool, Option, Some, List, length, refl, sym, ap, ◌∙◌, subst, arith}
-use Rattle.std.specs.Prelude.{◌↔◌, All, Contains, IfOk, Result, Ok, Err, slice_get, slice_index_or}
+use Rattle.std.proofs.Common.{◌≡◌, true, false, ℕ, ◌*◌, ◌≤◌, Bool, Option, Some, List, length, sym, subst, arith}
+use Rattle.std.specs.Prelude.{◌↔◌, Contains, IfOk, Result, Ok, Err, slice_get, slice_index_or}
 use Rattle.std.proofs.lemmas.List.Elements.{Contains-get_or}
 use Rattle.sd_base.specs.declared.limits.TheConstants.{NODES}
 use Rattle.sd_base.specs.declared.memory.NoMemory.{NoMemory}
@@ -9,14 +9,13 @@ use Rattle.sd_base.specs.declared.tables.ScenarioRow.{ScenarioRow}
 use Rattle.sd_base.specs.Scenarios.{Shares}
 use Rattle.sd_base.specs.Untimed.{IsLive}
 use Rattle.token_matrix.proofs.Rows.{one-repetition}
-use Rattle.automaton.specs.declared.graph.Edge.{Edge}
 use Rattle.automaton.specs.declared.graph.TimedGraph.{TimedGraph}
 use Rattle.automaton.specs.TimedGraphs.{IsTimedGraph}
 use Rattle.entry_ways.specs.declared.marking.EntryPlace.{EntryPlace}
 use Rattle.bounded_scenarios.specs.BoundedFiles.{bounded_file}
 use Rattle.bounded_scenarios.specs.Boundings.{CanBeMeasured}
 use Rattle.bounded_scenarios.specs.StorageRates.{AllRun, bounded_net}
-use Rattle.scenario_storage.specs.inside.Ratings.{IsGraphOf, IsScenarioAt}
+use Rattle.scenario_storage.specs.inside.Ratings.{IsScenarioAt}
 use Rattle.scenario_storage.specs.inside.Shown.{AreShownLive, HaveWays, IsEntryIn}
 use Rattle.scenario_storage.proofs.Marking.{AreMarkedTo, have-ways, scenario-below}
 

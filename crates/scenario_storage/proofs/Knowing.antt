@@ -1,5 +1,5 @@
 -- What is known of distributions that were rated, with one more.
-use Rattle.std.proofs.Common.{◌≡◌, ℕ, ◌+◌, ◌*◌, ◌≤◌, ◌<◌, ◌⊎◌, true, false, Option, None, Some, List, [], ◌∷◌, ◌++◌, length, inl, inr, ⊎_elim, refl, sym, ap, ◌∙◌, subst, arith, mul-le-mul_left, mul-le-mul_right}
+use Rattle.std.proofs.Common.{◌≡◌, ℕ, ◌*◌, ◌≤◌, ◌<◌, true, Option, None, Some, List, [], ◌∷◌, ◌++◌, length, inl, inr, ⊎_elim, sym, ap, ◌∙◌, subst, arith, mul-le-mul_left, mul-le-mul_right}
 use Rattle.std.specs.Prelude.{All, Contains, MatchOption, OnOk, Result, Ok, Err, slice_index_or}
 use Rattle.std.proofs.lemmas.Bool.{cases_lt, true≢false}
 use Rattle.std.proofs.lemmas.List.Elements.{Contains-append_left, Contains-get_or, Contains-push, Contains-push_cases}
@@ -23,8 +23,8 @@ use Rattle.scenario_storage.specs.declared.rated.Evidence.{Evidence}
 use Rattle.scenario_storage.specs.declared.rated.Rated.{Rated}
 use Rattle.scenario_storage.specs.ScenarioPoints.{IsShownBy}
 use Rattle.scenario_storage.specs.inside.Levels.{Shows}
-use Rattle.scenario_storage.specs.inside.Points.{AreRising, HasNoSlower, IsPut, IsSlower, IsTaken}
-use Rattle.scenario_storage.specs.inside.Searches.{AreKnown, Covers, IsBest, IsCoveredBy, IsNoted, IsOffered, IsPointFor, IsPointOf, IsPointWith, KeepsEarlier, entry_of}
+use Rattle.scenario_storage.specs.inside.Points.{HasNoSlower, IsPut, IsTaken}
+use Rattle.scenario_storage.specs.inside.Searches.{AreKnown, IsBest, IsCoveredBy, IsNoted, IsOffered, IsPointFor, IsPointOf, IsPointWith, KeepsEarlier, entry_of}
 use Rattle.scenario_storage.proofs.PointOrder.{put-rising}
 
 -- of fractions: no more than what is less than a third one

@@ -1,5 +1,5 @@
 -- The matrices of the scenarios of a bounded file, one after another.
-use Rattle.std.proofs.Common.{◌≡◌, false, ℕ, ◌+◌, ◌*◌, ◌≤◌, ◌<◌, Option, Some, List, [], ◌∷◌, ◌++◌, length, map, ⊎_elim, refl, sym, ap, ◌∙◌, subst, arith}
+use Rattle.std.proofs.Common.{◌≡◌, false, ℕ, ◌+◌, ◌*◌, ◌≤◌, ◌<◌, Option, Some, List, [], ◌∷◌, ◌++◌, length, ⊎_elim, sym, subst, arith}
 use Rattle.std.specs.Prelude.{Result, Ok, Err, IfErr, IfOk, OnOk, slice_get, slice_index_or, sum}
 use Rattle.std.proofs.lemmas.Bool.{cases_lt}
 use Rattle.std.proofs.lemmas.List.{get_or_append_left, get_or-append-add, get_or_default, length-append, length-map}
@@ -21,9 +21,8 @@ use Rattle.token_matrix.proofs.Rows.{get_there}
 use Rattle.automaton.specs.TimedGraphs.{AreMatrices, AreSized}
 use Rattle.bounded_scenarios.specs.BoundedFiles.{bounded_file, bounded_graph, bounded_scenario}
 use Rattle.bounded_scenarios.specs.Boundings.{CanBeMeasured, GivesMatrix}
-use Rattle.bounded_scenarios.specs.StorageRates.{AllRun, RunsOn, bounded_net}
-use Rattle.scenario_storage.specs.declared.point.ScenarioLimits.{ScenarioLimits}
-use Rattle.scenario_storage.specs.inside.Levels.{AreRounds, IsPlan}
+use Rattle.bounded_scenarios.specs.StorageRates.{RunsOn, bounded_net}
+use Rattle.scenario_storage.specs.inside.Levels.{AreRounds}
 use Rattle.scenario_storage.specs.inside.Ratings.{AreAllMatrices, IsMatrixAnswer, IsMatrixOf, IsScenarioAt}
 use Rattle.scenario_storage.proofs.Marking.{get-map}
 

@@ -1,12 +1,9 @@
 -- What the evaluation of a distribution comes to.
-use Rattle.std.proofs.Common.{◌≡◌, false, ℕ, ◌*◌, ◌≤◌, ◌<◌, Option, None, Some, List, length, refl, sym, ap, ◌∙◌, subst, arith}
-use Rattle.std.specs.Prelude.{◌↔◌, Contains, IfOk, MatchOption, Result, Ok, Err, slice_get, slice_index, slice_index_or}
-use Rattle.std.proofs.lemmas.Option.{slice_get_within}
+use Rattle.std.proofs.Common.{◌≡◌, false, ℕ, ◌*◌, ◌≤◌, ◌<◌, Option, None, Some, List, length, sym, subst, arith}
+use Rattle.std.specs.Prelude.{◌↔◌, Contains, IfOk, MatchOption, Result, Ok, Err, slice_index}
 use Rattle.sd_base.specs.declared.memory.NoMemory.{NoMemory}
 use Rattle.sd_base.specs.declared.numbers.Fraction.{Fraction}
 use Rattle.sd_base.specs.declared.tables.ScenarioFile.{ScenarioFile}
-use Rattle.sd_base.specs.declared.tables.ScenarioRow.{ScenarioRow}
-use Rattle.sd_base.specs.declared.tables.SharedRow.{SharedRow}
 use Rattle.sd_base.specs.FileNet.{net_of}
 use Rattle.sd_base.specs.Lawful.{Lawful}
 use Rattle.sd_base.specs.Net.{Net}
@@ -14,7 +11,6 @@ use Rattle.sd_base.specs.Scenarios.{Shares}
 use Rattle.sd_base.specs.Untimed.{IsLive}
 use Rattle.sd_base.proofs.Blocking.{live-unblocked}
 use Rattle.sd_base.proofs.Parts.{wired}
-use Rattle.storage.specs.Distributions.{IsDistribution}
 use Rattle.token_matrix.proofs.Rows.{get_there, one-repetition}
 use Rattle.automaton.specs.declared.graph.TimedGraph.{TimedGraph}
 use Rattle.automaton.specs.CriticalCycles.{IsCritical}
@@ -22,15 +18,14 @@ use Rattle.automaton.specs.TimedGraphs.{IsTimedGraph}
 use Rattle.automaton.specs.WorstRates.{IsWorst}
 use Rattle.bounded_scenarios.specs.BoundedFiles.{bounded_file}
 use Rattle.bounded_scenarios.specs.Boundings.{CanBeBounded}
-use Rattle.bounded_scenarios.specs.SharedChannels.{shared_channels}
-use Rattle.bounded_scenarios.specs.StorageRates.{AllRun, HasWorstRate, RunsOn, bounded_net, blocked, runs}
+use Rattle.bounded_scenarios.specs.StorageRates.{AllRun, HasWorstRate, bounded_net, blocked, runs}
 use Rattle.bounded_scenarios.specs.ScenarioGuides.{blocked as held_by, runs as on_way}
-use Rattle.bounded_scenarios.specs.ShownSpaces.{BlockedBounds, LiveBounds, ShowsWays}
+use Rattle.bounded_scenarios.specs.ShownSpaces.{BlockedBounds, LiveBounds, ShowsWays, SpacelessBounds}
 use Rattle.scenario_storage.specs.declared.rated.Evidence.{Evidence}
 use Rattle.scenario_storage.specs.declared.rated.Rated.{Rated}
 use Rattle.scenario_storage.specs.inside.Levels.{IsGuided, IsRated, IsWithin, Shows}
 use Rattle.scenario_storage.specs.inside.Ratings.{IsBlockedAt}
-use Rattle.scenario_storage.specs.inside.Shown.{AreShownBlocked, AreShownLive, HasSpace, IsTakenOn, IsWaitedFor, WaitsFor, spaces_from}
+use Rattle.scenario_storage.specs.inside.Shown.{AreShownBlocked, AreShownLive, IsTakenOn, IsWaitedFor, spaces_from}
 use Rattle.scenario_storage.proofs.SpaceNumbers.{has-place, numbered-space, space-capped, space-number, spaces-long}
 
 -- the channels for whose space an actor of the blocked scenario waits are shown
@@ -102,21 +97,26 @@ module _ (file : ScenarioFile) (total : ℕ) (can : CanBeBounded file total) (ds
     bounds = λ es dist within most agrees p q rate runs. absurd (
         law file total ds r.enlarge es p q can is.shows
         (record { member = fits.distribution; distribution = dist; within = within; most = most; agrees = agrees }) rate runs);
+    top = λ empty some. absurd (omega (arith, some, zero));
     evidence =
         subst (λ (e : Option Evidence). MatchOption e (r.rate.num * best.den ≤ best.num * r.rate.den) (Shows file ds r.rate)) (sym none)
         (subst (λ (n : ℕ). n * best.den ≤ best.num * r.rate.den) (sym zero) (omega arith));
   }
 
   -- a live one
-  pub live-rated : LiveBounds → AllRun file ds → (graph : TimedGraph) → IsTimedGraph (bounded_file file ds) graph → (cycle : List ℕ) → IsWorst (bounded_file file ds) r.rate.num r.rate.den → IsCritical graph r.rate.num r.rate.den cycle → AreShownLive file ds graph cycle r.enlarge
+  pub live-rated : LiveBounds → SpacelessBounds → AllRun file ds → (graph : TimedGraph) → IsTimedGraph (bounded_file file ds) graph → (cycle : List ℕ) → IsWorst (bounded_file file ds) r.rate.num r.rate.den → IsCritical graph r.rate.num r.rate.den cycle → AreShownLive file ds graph cycle r.enlarge
       → MatchOption r.evidence (r.rate.num * best.den ≤ best.num * r.rate.den) (Shows file ds r.rate) → IsRated file total best ds r
-  live-rated law all graph timed cycle worst critical is evidence = record {
+  live-rated law over all graph timed cycle worst critical is evidence = record {
     rate = runs r.rate.num r.rate.den all worst;
     guided = guided;
     bounds = λ es dist within most agrees p q rate goes.
         law file total ds r.rate.num r.rate.den r.enlarge es p q can
         (record { runs = all; graph = graph; timed = timed; cycle = cycle; critical = critical; shows = is.shows })
         (record { member = fits.distribution; distribution = dist; within = within; most = most; agrees = agrees }) rate goes;
+    top = λ empty some es dist within p q rate goes.
+        over file total ds r.rate.num r.rate.den es p q can fits.distribution fits.within
+        (record { runs = all; graph = graph; timed = timed; cycle = cycle; critical = critical; shows = subst (ShowsWays file ds graph cycle) empty is.shows })
+        dist within rate;
     evidence = evidence;
   }
     where

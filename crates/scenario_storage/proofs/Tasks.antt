@@ -9,7 +9,7 @@ use Rattle.storage.specs.declared.distribution.Distribution.{Distribution}
 use Rattle.scenario_storage.specs.declared.point.ScenarioLimits.{ScenarioLimits}
 use Rattle.scenario_storage.specs.declared.rated.RateError.{RateError}
 use Rattle.scenario_storage.specs.declared.rated.Rated.{Rated}
-use Rattle.scenario_storage.specs.inside.Levels.{HasRun, IsAnswered, IsFresh, IsPlan, IsReady, IsWithin}
+use Rattle.scenario_storage.specs.inside.Levels.{HasRun, IsAnswered, IsFresh, IsPlan, IsReady}
 
 pub ready-from : (file own : ScenarioFile) (gammas its : List (List ℕ)) (limits other : ScenarioLimits) (best known : Fraction) (d : Distribution) → IsPlan file gammas limits → IsFresh file gammas limits best own its other known d → IsReady own its other d
 ready-from file own gammas its limits other best known d plan fresh =

@@ -1,8 +1,9 @@
 -- A level is taken off those that wait, and each of its answers is taken in.
-use Rattle.std.proofs.Common.{◌≡◌, ℕ, ◌+◌, ◌-◌, ◌≤◌, ◌<◌, Option, None, Some, List, [], ◌∷◌, ◌++◌, drop, length, map, ⊎_elim, refl, sym, ap, ◌∙◌, subst, arith, inl, inr}
+use Rattle.std.proofs.Common.{◌≡◌, ℕ, ◌+◌, ◌-◌, ◌≤◌, ◌<◌, ◌⊎◌, true, false, Option, None, Some, List, [], ◌∷◌, ◌++◌, drop, length, map, ⊎_elim, refl, sym, ap, ◌∙◌, subst, arith, inl, inr}
 use Rattle.std.specs.Prelude.{All, Contains, MatchOption, slice_index_or}
+use Rattle.std.proofs.lemmas.Bool.{true≢false}
 use Rattle.std.proofs.lemmas.List.{drop_more, get_or-map, length-append, length-map}
-use Rattle.std.proofs.lemmas.List.Elements.{All-append, All-contains, All-map, Contains-append_left, Contains-append_right, Contains-get_or, Contains-push_cases}
+use Rattle.std.proofs.lemmas.List.Elements.{All-contains, All-map, Contains-append_left, Contains-append_right, Contains-get_or}
 use Rattle.sd_base.specs.declared.numbers.Fraction.{Fraction}
 use Rattle.sd_base.specs.declared.tables.ScenarioFile.{ScenarioFile}
 use Rattle.sd_base.specs.Net.{Channel}
@@ -21,6 +22,7 @@ use Rattle.levels.specs.Visits.{AreVisits, IsLedTo, Visit, led_by, visited}
 use Rattle.levels.specs.Frontiers.{IsFrontier, IsLevelTaken, IsSame, IsSpent, Rises, Waits, distributions_of}
 use Rattle.levels.proofs.Elements.{contains-cases, contains-here, contains-map, contains-none}
 use Rattle.levels.proofs.LedOn.{known-long}
+use Rattle.levels.proofs.Spreading.{frontier-up_to}
 use Rattle.bounded_scenarios.specs.SharedChannels.{shared_channels}
 use Rattle.bounded_scenarios.specs.ScenarioGuides.{IsReachable}
 use Rattle.scenario_storage.specs.declared.level.Answered.{Answered}
@@ -32,7 +34,7 @@ use Rattle.scenario_storage.specs.ScenarioPoints.{IsRefusal}
 use Rattle.scenario_storage.specs.inside.Errors.{error_of}
 use Rattle.scenario_storage.specs.inside.Levels.{IsAnswer, IsRated, IsWithin}
 use Rattle.scenario_storage.specs.inside.Points.{IsBestOf}
-use Rattle.scenario_storage.specs.inside.Searches.{AreKnown, IsAnswerOf, IsBest, IsCandidate, IsEnded, IsNoted, IsOffered, IsSearch, IsStanding, IsTurn, answered_of, entry_of, taken_off, visits_of}
+use Rattle.scenario_storage.specs.inside.Searches.{AreKnown, HasTop, IsAnswerOf, IsBest, IsCandidate, IsEnded, IsOffered, IsSearch, IsStanding, IsTurn, ShowsNone, answered_of, entry_of, taken_off, visits_of}
 use Rattle.scenario_storage.proofs.Knowing.{noted-more}
 use Rattle.scenario_storage.proofs.Searchable.{IsSearchable}
 use Rattle.scenario_storage.proofs.Stepping.{capped-place, entry-visited, guided-rises, led-candidate, visits-more}
@@ -78,7 +80,7 @@ module _ (file : ScenarioFile) (limits : ScenarioLimits) (can : IsSearchable fil
   off-few = omega (arith, search.frontier.few, search-most)
 
 -- a level that is taken off
-module _ (file : ScenarioFile) (limits : ScenarioLimits) (can : IsSearchable file limits.total) (floor : ℕ) (old new : Search) (search : IsSearch file limits floor [] old) (points : new.points ≡ old.points) (level : Level Unit) (off : IsLevelTaken level.total level.visits.items old.levels.waiting.keys new.levels.waiting.keys) (same : IsSame old.levels new.levels) (frontier : IsFrontier (shared_channels file) search.corner (level.total + 1) (visits_of search.entries) (distributions_of level.visits.items) new.levels) where
+module _ (file : ScenarioFile) (limits : ScenarioLimits) (can : IsSearchable file limits.total) (floor : ℕ) (old new : Search) (search : IsSearch file limits floor [] old) (points : new.points ≡ old.points) (tops : new.topped ≡ old.topped) (level : Level Unit) (off : IsLevelTaken level.total level.visits.items old.levels.waiting.keys new.levels.waiting.keys) (same : IsSame old.levels new.levels) (frontier : IsFrontier (shared_channels file) search.corner (level.total + 1) (visits_of search.entries) (distributions_of level.visits.items) new.levels) where
   same-points : new.points.items ≡ old.points.items
   same-points = ap (λ v. v.items) points
 
@@ -90,6 +92,7 @@ module _ (file : ScenarioFile) (limits : ScenarioLimits) (can : IsSearchable fil
     is_corner = search.is_corner;
     bounds = same.bounds ∙ search.bounds;
     frontier = frontier;
+    top = λ h. search.top (sym tops ∙ h);
   }
 
   waits-of : (f : Found Unit) → Contains level.visits.items f → Waits (shared_channels file) old.levels.bounds.total floor f
@@ -107,6 +110,7 @@ module _ (file : ScenarioFile) (limits : ScenarioLimits) (can : IsSearchable fil
     search = turned;
     totals = λ k d below. (total-of (slice_index_or level.visits.items k d) (Contains-get_or level.visits.items k d below)).0;
     before = λ p one. let low = point-low file limits can floor [] old search p (subst (λ (ps : List ScenarioPoint). Contains ps p) same-points one) in omega (arith, low, first level.visits.items off.some (λ f here. here));
+    within = level-within level.visits.items off.some (λ f here. here);
     candidates = λ k d below.
         search-candidate file limits can (level.total + 1) (distributions_of level.visits.items) new turned (slice_index_or level.visits.items k d).capacities.capacities
         (contains-map (λ (x : Found Unit). x.capacities.capacities) level.visits.items (slice_index_or level.visits.items k d) (Contains-get_or level.visits.items k d below));
@@ -115,6 +119,14 @@ module _ (file : ScenarioFile) (limits : ScenarioLimits) (can : IsSearchable fil
       first : (fs : List (Found Unit)) → 1 ≤ length fs → ((f : Found Unit) → Contains fs f → Contains level.visits.items f) → floor ≤ level.total
       first [] some holds = absurd (omega (arith, some))
       first (f ∷ fs) some holds = (total-of f (holds f (contains-here f fs))).1
+
+      level-within : (fs : List (Found Unit)) → 1 ≤ length fs → ((f : Found Unit) → Contains fs f → Contains level.visits.items f) → level.total ≤ limits.total
+      level-within [] some holds = absurd (omega (arith, some))
+      level-within (f ∷ fs) some holds =
+          let one = holds f (contains-here f fs) in
+          let waits = waits-of f one in
+          let here : f.total ≡ level.total = All-contains (λ (x : Found Unit). x.total ≡ level.total) level.visits.items f off.totals one in
+          omega (arith, waits.within, here, search-limit file limits can floor [] old search)
 
   -- more are taken off
   pub off-more : taken_off old < taken_off new
@@ -132,7 +144,23 @@ ended-of file limits can floor s search visits = record {
   known = search.known;
   corner = search.corner;
   is_corner = search.is_corner;
+  storage = limits.total;
+  low = omega (arith);
   visits = subst (λ (n : ℕ). AreVisits (shared_channels file) search.corner n (visits_of search.entries)) (search-limit file limits can floor [] s search) visits;
+  rest = inl (omega (arith));
+}
+
+-- or no rate is greater than one that was met
+pub topped-of : (file : ScenarioFile) (limits : ScenarioLimits) (can : IsSearchable file limits.total) (total : ℕ) (s : Search) → IsSearch file limits (total + 1) [] s → total ≤ limits.total → s.topped ≡ true → IsEnded file limits s.points.items
+topped-of file limits can total s search low is = record {
+  entries = search.entries;
+  known = search.known;
+  corner = search.corner;
+  is_corner = search.is_corner;
+  storage = total;
+  low = low;
+  visits = frontier-up_to (shared_channels file) search.corner total (visits_of search.entries) s.levels search.frontier (omega (arith, low, search-limit file limits can (total + 1) [] s search));
+  rest = inr (search.top is);
 }
 
 -- what was rated is to be taken in
@@ -164,15 +192,22 @@ module _ (file : ScenarioFile) (limits : ScenarioLimits) (can : IsSearchable fil
   visits-with : visits_of (search.entries ++ entry_of ds r ∷ []) ≡ visits_of search.entries ++ led_by ds r.enlarge ∷ []
   visits-with = visits-more search.entries (entry_of ds r)
 
+  top-before : old.topped ≡ true → HasTop file limits.total (search.entries ++ entry_of ds r ∷ [])
+  top-before h = let t = search.top h in (t.0, Contains-append_left search.entries (entry_of ds r ∷ []) t.0 t.1, t.2, t.3)
+
+  top-here : ShowsNone r → HasTop file limits.total (search.entries ++ entry_of ds r ∷ [])
+  top-here (empty, some) = (entry_of ds r, Contains-append_right search.entries (entry_of ds r ∷ []) (entry_of ds r) (contains-here (entry_of ds r) []), some, rated.top empty some)
+
   -- the search with one more entry
-  pub taken-in : (new : Search) (points : List ScenarioPoint) → new.points.items ≡ points → IsSame old.levels new.levels → IsFrontier (shared_channels file) search.corner (total + 1) (visits_of search.entries ++ led_by ds r.enlarge ∷ []) rest new.levels → AreKnown file limits.total (search.entries ++ entry_of ds r ∷ []) points → IsSearch file limits (total + 1) rest new
-  taken-in new points is same frontier known = record {
+  pub taken-in : (new : Search) (points : List ScenarioPoint) → new.points.items ≡ points → IsSame old.levels new.levels → IsFrontier (shared_channels file) search.corner (total + 1) (visits_of search.entries ++ led_by ds r.enlarge ∷ []) rest new.levels → AreKnown file limits.total (search.entries ++ entry_of ds r ∷ []) points → (new.topped ≡ true → (old.topped ≡ true) ⊎ ShowsNone r) → IsSearch file limits (total + 1) rest new
+  taken-in new points is same frontier known tops = record {
     entries = search.entries ++ entry_of ds r ∷ [];
     known = subst (AreKnown file limits.total (search.entries ++ entry_of ds r ∷ [])) (sym is) known;
     corner = search.corner;
     is_corner = search.is_corner;
     bounds = same.bounds ∙ search.bounds;
     frontier = subst (λ (vs : List Visit). IsFrontier (shared_channels file) search.corner (total + 1) vs rest new.levels) (sym visits-with) frontier;
+    top = λ h. ⊎_elim top-before top-here (tops h);
   }
 
   pub off-same : (levels : Levels Unit) → IsFrontier (shared_channels file) search.corner (total + 1) (visits_of search.entries ++ led_by ds r.enlarge ∷ []) rest levels → levels.found - length levels.waiting.keys ≡ taken_off old
@@ -247,18 +282,18 @@ abbrev IsNextFrontier : Search → Search → Option (Level Unit) → Type 0
 IsNextFrontier old new found = (cs : List Channel) (start : List (Option ℕ)) (floor : ℕ) (visits : List Visit) → IsFrontier cs start floor visits [] old.levels →
     MatchOption found (AreVisits cs start old.levels.bounds.total visits) (λ (level : Level Unit). IsFrontier cs start (level.total + 1) visits (distributions_of level.visits.items) new.levels)
 
-module _ (file : ScenarioFile) (limits : ScenarioLimits) (can : IsSearchable file limits.total) (floor : ℕ) (old new : Search) (search : IsSearch file limits floor [] old) (points : new.points ≡ old.points) (same : IsSame old.levels new.levels) where
+module _ (file : ScenarioFile) (limits : ScenarioLimits) (can : IsSearchable file limits.total) (floor : ℕ) (old new : Search) (search : IsSearch file limits floor [] old) (points : new.points ≡ old.points) (tops : new.topped ≡ old.topped) (same : IsSame old.levels new.levels) where
   pub next-turn : (found : Option (Level Unit)) → IsNextLevel old new found → IsNextFrontier old new found → MatchOption found (IsEnded file limits old.points.items) (λ (level : Level Unit). IsTurn file limits level new)
   next-turn None off frontier = ended-of file limits can floor old search (frontier (shared_channels file) search.corner floor (visits_of search.entries) search.frontier)
-  next-turn (Some level) off frontier = turn-of file limits can floor old new search points level off same (frontier (shared_channels file) search.corner floor (visits_of search.entries) search.frontier)
+  next-turn (Some level) off frontier = turn-of file limits can floor old new search points tops level off same (frontier (shared_channels file) search.corner floor (visits_of search.entries) search.frontier)
 
   pub next-more : (found : Option (Level Unit)) → IsNextLevel old new found → IsNextFrontier old new found → MatchOption found Unit (λ (level : Level Unit). taken_off old < taken_off new)
   next-more None off frontier = tt
-  next-more (Some level) off frontier = off-more file limits can floor old new search points level off same (frontier (shared_channels file) search.corner floor (visits_of search.entries) search.frontier)
+  next-more (Some level) off frontier = off-more file limits can floor old new search points tops level off same (frontier (shared_channels file) search.corner floor (visits_of search.entries) search.frontier)
 
 -- the corner waits
-pub begun : (file : ScenarioFile) (limits : ScenarioLimits) (corner : List (Option ℕ)) (s : Search) → IsCorner (shared_channels file) corner → s.points.items ≡ [] → s.levels.bounds ≡ record { total = limits.total; distributions = limits.distributions } → IsFrontier (shared_channels file) corner 0 [] [] s.levels → IsStanding file limits s
-begun file limits corner s is points bounds frontier = (
+pub begun : (file : ScenarioFile) (limits : ScenarioLimits) (corner : List (Option ℕ)) (s : Search) → IsCorner (shared_channels file) corner → s.points.items ≡ [] → s.levels.bounds ≡ record { total = limits.total; distributions = limits.distributions } → IsFrontier (shared_channels file) corner 0 [] [] s.levels → s.topped ≡ false → IsStanding file limits s
+begun file limits corner s is points bounds frontier none = (
   0,
   record {
     entries = [];
@@ -272,5 +307,6 @@ begun file limits corner s is points bounds frontier = (
     is_corner = is;
     bounds = bounds;
     frontier = frontier;
+    top = λ h. absurd (true≢false (sym h ∙ none));
   },
 )

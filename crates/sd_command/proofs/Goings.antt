@@ -24,6 +24,8 @@ use Rattle.sd_command.specs.PointAnswers.{ArePointsTooLong, IsExplorationEnd, Is
 use Rattle.automaton.specs.declared.graph.TimedGraph.{TimedGraph}
 use Rattle.sd_command.specs.WorstAnswers.{IsWorstAnswer, IsWorstTooLong, telling_worst}
 use Rattle.sd_base.specs.declared.tables.ScenarioFile.{ScenarioFile}
+use Rattle.scenario_storage.specs.declared.point.ScenarioLimits.{ScenarioLimits}
+use Rattle.sd_command.specs.ScenarioStorages.{IsSearchAnswer, IsSearchEnd, searching}
 use Rattle.sd_command.specs.Runs.{Counted}
 use Rattle.sd_command.specs.inside.Going.{Does, Takes, Goes}
 
@@ -126,3 +128,16 @@ pub worst_told : (file : ScenarioFile) (certificate : Option (List ℕ)) (graph 
 worst_told file certificate graph (Ok answer) faults is = record { ending = Answered answer; is = refl; came = is; counted = refl }
 worst_told file certificate graph (Err (stop.Refused refusal)) faults is = record { ending = Ended refusal; is = refl; came = is; counted = refl }
 worst_told file certificate graph (Err stop.OutOfMemory) faults is = record { ending = Lacking; is = refl; came = refl; counted = refl }
+
+-- the search for the points of a file stops, or they are told
+module _ (file : ScenarioFile) (limits : ScenarioLimits) (faults : ℕ) where
+  abbrev StopsSearch : Stop → Type 0
+  StopsSearch (stop.Refused refusal) = IsSearchEnd file limits refusal
+  StopsSearch stop.OutOfMemory = Unit {0}
+
+  pub search_stops : (why : Stop) → StopsSearch why → Goes (ends_by (searching file limits)) (Err why) 0 faults faults
+  search_stops (stop.Refused refusal) is = record { ending = Ended refusal; is = refl; came = (refl, is); counted = refl }
+  search_stops stop.OutOfMemory is = record { ending = Lacking; is = refl; came = refl; counted = refl }
+
+  pub search_answers : (answer : Answer) → IsSearchAnswer file limits answer 0 → Goes (ends_by (searching file limits)) (Ok answer) 0 faults faults
+  search_answers answer is = record { ending = Answered answer; is = refl; came = is; counted = refl }

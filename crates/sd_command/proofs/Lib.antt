@@ -16,5 +16,8 @@ pub mod PointSchedules
 mod PointTasks
 mod Summaries
 mod Throughs
+mod ScenarioWalks
 mod Measured
+mod Boundable
+mod ToldPoints
 mod TimedFiles

@@ -22,10 +22,10 @@ use Rattle.token_matrix.proofs.OfGraph.{inside}
 use Rattle.automaton.specs.TimedGraphs.{AreMatrices, AreSized}
 use Rattle.balance.specs.Repetition.{IsRound}
 use Rattle.sd_command.specs.declared.stop.Stop.{Stop}
-use Rattle.sd_command.specs.declared.stop.Stop.TheVariants as stop
 use Rattle.sd_command.specs.ScenarioSteps.{Entries, measuring_one, AreMeasured, measuring}
 use Rattle.sd_command.specs.inside.Going.{Does}
 use Rattle.sd_command.proofs.Joins.{fed-inputs}
+use Rattle.sd_command.proofs.ScenarioWalks.{first_stops}
 
 -- ---- one scenario after another
 
@@ -65,8 +65,7 @@ module _ (file : ScenarioFile) where
   })
 
   pub stops : (ms : List Entries) (i : ℕ) (row : ScenarioRow) (why : Stop) → AreSoFar file ms i → slice_get file.scenarios i ≡ Some row → Does (measuring_one file.shared row) (Err why) → Does (measuring file) (Err why)
-  stops ms i row (stop.Refused refusal) so_far at is = record { place = i; row = row; at = at; is = is; first = λ s r before here. (slice_index_or ms s [], so_far.each s r before here) }
-  stops ms i row stop.OutOfMemory so_far at is = tt
+  stops ms i row why so_far at = first_stops (measuring_one file.shared) file (λ matrices. AreMeasured file matrices) i row why (λ s r before here. (slice_index_or ms s [], so_far.each s r before here)) at
 
   pub all : (ms : List Entries) (i : ℕ) → i ≡ length file.scenarios → AreSoFar file ms i → AreMeasured file ms
   all ms i whole so_far = record {

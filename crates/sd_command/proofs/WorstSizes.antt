@@ -1,11 +1,11 @@
--- A cycle on which no node stands twice is no longer than there are nodes, so its weight is small.
-use Rattle.std.proofs.Common.{◌≡◌, ℕ, ◌*◌, ◌<◌, ◌≤◌, All, List, length, get_or, Some, ⊎_elim, arith}
+-- The edges of a cycle. One on which no node stands twice is no longer than there are nodes, so its weight is small.
+use Rattle.std.proofs.Common.{◌≡◌, ℕ, zero, suc, ◌*◌, ◌<◌, ◌≤◌, All, List, [], ◌∷◌, length, get_or, Some, ⊎_elim, arith}
 use Rattle.std.specs.Prelude.{slice_get}
 use Rattle.std.proofs.lemmas.Bool.{cases_lt}
-use Rattle.std.proofs.lemmas.Option.{slice_get-get_or}
+use Rattle.std.proofs.lemmas.Option.{slice_get-get_or, slice_get_within}
 use Rattle.automaton.specs.declared.graph.Edge.{Edge}
 use Rattle.automaton.specs.declared.graph.TimedGraph.{TimedGraph}
-use Rattle.automaton.specs.CriticalCycles.{weights}
+use Rattle.automaton.specs.CriticalCycles.{IsPath, weights}
 use Rattle.scenario_rate.specs.Answers.{IsApart}
 use Rattle.scenario_rate.specs.Graphs.{IsSound}
 use Rattle.scenario_rate.proofs.Closing.{pigeons}
@@ -13,6 +13,12 @@ use Rattle.scenario_rate.proofs.Looping.{weights-light}
 
 no-edge : Edge
 no-edge = record { from = 0; to = 0; weight = 0 }
+
+-- the edges of a path are edges
+pub path-edges : (es : List Edge) (ks : List ℕ) (u v : ℕ) → IsPath es u ks v → All (λ k. k < length es) ks
+path-edges es [] u v path i d below = absurd (omega (arith, below))
+path-edges es (k ∷ ks) u v path zero d below = slice_get_within es k path.0 path.1
+path-edges es (k ∷ ks) u v path (suc i) d below = path-edges es ks path.0.to v path.3 i d (omega arith)
 
 module _ (graph : TimedGraph) (ks : List ℕ) (sound : IsSound graph) (edges : All (λ k. k < length graph.edges) ks) (apart : IsApart graph.edges ks) where
   abbrev nodes : ℕ

@@ -25,4 +25,6 @@ pub mod Conversions
 pub mod Checks
 pub mod RateAnswers
 pub mod ScenarioSteps
+pub mod ScenarioBounds
 pub mod WorstAnswers
+pub mod ScenarioStorages

@@ -17,6 +17,7 @@ use Rattle.sd_command.specs.LeastTimes.{complete}
 use Rattle.sd_command.specs.Expandings.{expand}
 use Rattle.sd_command.specs.TradeOffs.{storage}
 use Rattle.sd_command.specs.WorstAnswers.{scenario}
+use Rattle.sd_command.specs.ScenarioStorages.{scenario_storage}
 use Rattle.sd_command.specs.Generations.{generate}
 use Rattle.sd_command.specs.Checks.{check}
 use Rattle.sd_command.specs.Conversions.{convert}
@@ -42,6 +43,7 @@ command_of (requests.Repetition graph) = repetition graph
 command_of (requests.Throughput graph buffers no_overlap states certificate) = throughput graph buffers (record { no_overlap = no_overlap; states = states; certificate = certificate })
 command_of (requests.Storage graph limits no_overlap certificate) = storage graph (record { limits = limits; no_overlap = no_overlap; certificate = certificate })
 command_of (requests.Scenario graph certificate) = scenario graph certificate
+command_of (requests.ScenarioStorage graph limit distributions) = scenario_storage graph (record { total = limit; distributions = distributions })
 command_of (requests.Check graph certificate) = check graph certificate
 command_of (requests.Generate seed limit actors) = λ files. generate seed limit actors
 command_of (requests.Convert certificate output) = convert certificate output

@@ -94,13 +94,17 @@ pub record AreMeasured (file : ScenarioFile) (matrices : List Entries) : Type 0 
   pub all : length matrices ≡ length file.scenarios
   pub each : (s : ℕ) (row : ScenarioRow) → slice_get file.scenarios s ≡ Some row → (measuring_one file.shared row).passes (slice_index_or matrices s [])
 
--- a scenario has none, and it is the first
-pub record IsUnmeasured (file : ScenarioFile) (refusal : Refusal) : Type 0 where
+-- a step refuses a scenario, and it is the first
+pub record IsFirstWithout {A : Type 0} (one : ScenarioRow → Step A) (file : ScenarioFile) (refusal : Refusal) : Type 0 where
   pub place : ℕ
   pub row : ScenarioRow
   pub at : slice_get file.scenarios place ≡ Some row
-  pub is : (measuring_one file.shared row).refuses refusal
-  pub first : (s : ℕ) (r : ScenarioRow) → s < place → slice_get file.scenarios s ≡ Some r → (m : Entries) × (measuring_one file.shared r).passes m
+  pub is : (one row).refuses refusal
+  pub first : (s : ℕ) (r : ScenarioRow) → s < place → slice_get file.scenarios s ≡ Some r → (a : A) × (one r).passes a
+
+-- a scenario has no matrix, and it is the first
+abbrev pub IsUnmeasured : ScenarioFile → Refusal → Type 0
+IsUnmeasured file refusal = IsFirstWithout (measuring_one file.shared) file refusal
 
 -- the matrices of the scenarios of a file, one after another
 abbrev pub measuring : ScenarioFile → Step (List Entries)

@@ -28,6 +28,8 @@ mod reading;
 mod repetition;
 mod requests;
 mod scenario;
+mod scenario_bounds;
+mod scenario_points;
 mod scenario_steps;
 mod shown_points;
 mod status;

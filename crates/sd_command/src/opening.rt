@@ -4,6 +4,7 @@ ghost use Rattle.cert_text.specs.Orderly.{IsOrderly};
 ghost use Rattle.cert_text.specs.Spellable.{IsSpellable};
 ghost use Rattle.sd_base.specs.Scenarios.{FileKeepsRules};
 ghost use Rattle.sd_base.specs.Tables.{IsTimed, KeepsRules};
+ghost use Rattle.scenario_reader.specs.ScenarioNames.{FileHasWritableNames};
 ghost use Rattle.sd_command.specs.CertificateReadings.{opening_certificate};
 ghost use Rattle.sd_command.specs.Readings.{opening_graph};
 ghost use Rattle.sd_command.specs.ScenarioSteps.{opening_scenarios};
@@ -49,6 +50,7 @@ pub(crate) fn open_scenarios<S: Shelf>(
     ensures takes { let files : Files = record { tells = S.tells shelf.old; named = S.file shelf.old } in
         Takes (opening_scenarios files name.now) result (S.faults shelf.old) (S.faults shelf.new) }
     ensures keeps { IfOk result FileKeepsRules }
+    ensures names { IfOk result FileHasWritableNames }
     ensures stays { (n : List ℕ) → S.file shelf.new n ≡ S.file shelf.old n }
     ensures telling { S.tells shelf.new ≡ S.tells shelf.old }
     ensures grows { S.faults shelf.old ≤ S.faults shelf.new }

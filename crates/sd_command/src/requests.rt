@@ -8,8 +8,11 @@ use crate::answer::Answer;
 use crate::asking::ask;
 use crate::stop::Stop;
 use crate::wanted::{Wanted, WantedPoints, WantedRate, WantedRounds};
-use crate::{bounded_course, check, convert, generate, repetition, scenario, trade_off};
+use crate::{
+    bounded_course, check, convert, generate, repetition, scenario, scenario_points, trade_off,
+};
 use fanout::Gate;
+use scenario_storage::ScenarioLimits;
 use sd_base::{Ledger, Steps, Text};
 use sd_io::Shelf;
 use sd_words::Request;
@@ -96,6 +99,21 @@ fn command_answer<R: Threads + Sync, S: Shelf, G: Gate + Sync, L: Ledger + Send>
         Request::Scenario { graph, certificate } => {
             scenario::answer(alloc, shelf, graph.as_str(), &certificate)
         }
+        Request::ScenarioStorage {
+            graph,
+            limit,
+            distributions,
+        } => scenario_points::answer(
+            rt,
+            alloc,
+            shelf,
+            graph.as_str(),
+            ScenarioLimits {
+                total: limit,
+                distributions,
+            },
+            gate,
+        ),
         Request::Check { graph, certificate } => {
             check::answer(alloc, shelf, graph.as_str(), certificate.as_str())
         }

@@ -4,14 +4,16 @@ ghost use Rattle.sd_base.specs.FileNet.{net_of};
 ghost use Rattle.balance.specs.Repetition.{IsRound};
 ghost use Rattle.automaton.specs.TimedGraphs.{AreSized, IsTimedGraph};
 ghost use Rattle.scenario_rate.specs.Graphs.{IsSound};
+ghost use Rattle.escapes.specs.EscapedNames.{escaped_name};
 ghost use Rattle.report.specs.LinkTexts.{IsNamed};
+ghost use Rattle.scenario_reader.specs.ScenarioNames.{FileHasWritableNames};
 ghost use Rattle.sd_command.specs.Nets.{IsFed};
 ghost use Rattle.sd_base.specs.Scenarios.{FileKeepsRules, ScenarioKeepsRules, Shares, shared_count};
 ghost use Rattle.sd_base.specs.Tables.{IsTimed, KeepsRules};
 ghost use Rattle.sd_base.specs.Untimed.{IsBlockedBy};
 ghost use Rattle.sd_command.specs.Nets.{IsDeadlocked};
 ghost use Rattle.sd_command.specs.ScenarioSteps.{linking, making_matrix, measuring, measuring_graph, measuring_one, of_scenario, reading_scenarios, timing};
-ghost use Rattle.sd_command.specs.inside.Going.{Does};
+ghost use Rattle.sd_command.specs.inside.Going.{Does, IsStopOf};
 
 use crate::balancing::balanced;
 use crate::nets::feed;
@@ -31,6 +33,7 @@ use token_matrix::{Matrix, MatrixError, matrix_of};
 pub(crate) fn read_file(alloc: Global, bytes: &[u8]) -> Result<ScenarioFile, Stop>
     ensures does { Does (reading_scenarios bytes.now) result }
     ensures keeps { IfOk result FileKeepsRules }
+    ensures names { IfOk result FileHasWritableNames }
 {
     match read_scenarios(alloc, bytes) {
         Ok(file) => Ok(file),
@@ -65,11 +68,20 @@ fn measure_one(alloc: Global, shared: &[SharedRow], scenario: &ScenarioRow) -> R
 {
     match measure_graph(alloc, shared, &scenario.graph) {
         Ok(matrix) => Ok(matrix),
-        Err(Stop::Refused(refusal)) => {
-            let name = escaped(alloc, scenario.name.as_str())?;
-            Err(Stop::Refused(of_scenario(name, refusal)))
-        }
-        Err(Stop::OutOfMemory) => Err(Stop::OutOfMemory),
+        Err(stop) => Err(stop_of(alloc, scenario, stop)),
+    }
+}
+
+/// A stop of a scenario's graph, as that of the scenario: a refusal names it.
+pub(crate) fn stop_of(alloc: Global, scenario: &ScenarioRow, stop: Stop) -> Stop
+    ensures { IsStopOf (escaped_name scenario.now.name) stop result }
+{
+    match stop {
+        Stop::Refused(refusal) => match escaped(alloc, scenario.name.as_str()) {
+            Ok(name) => Stop::Refused(of_scenario(name, refusal)),
+            Err(_) => Stop::OutOfMemory,
+        },
+        Stop::OutOfMemory => Stop::OutOfMemory,
     }
 }
 

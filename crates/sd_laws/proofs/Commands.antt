@@ -39,6 +39,9 @@ use Rattle.sd_laws.proofs.OneTradeOff.{points_decide}
 use Rattle.sd_laws.proofs.SummariesDecide.{generate_decides}
 use Rattle.sd_command.specs.ScenarioSteps.{opening_scenarios, reading_scenarios, timing}
 use Rattle.sd_command.specs.WorstAnswers.{scenario}
+use Rattle.scenario_storage.specs.declared.point.ScenarioLimits.{ScenarioLimits}
+use Rattle.sd_command.specs.ScenarioStorages.{scenario_storage}
+use Rattle.sd_laws.proofs.OneScenarioStorage.{search_decides}
 use Rattle.sd_laws.proofs.OneWorst.{ScenarioLaws, opening_file_determines, reading_file_determines, timing_determines, worst_decides}
 use Rattle.cert_text.specs.declared.certificates.Certificate.{Certificate as ACertificate}
 use Rattle.cert_text.specs.declared.certificates.Certificate.TheVariants as certificates
@@ -81,6 +84,11 @@ module _ (laws : FileLaws) (scenarios : ScenarioLaws) (orders : OrderLaws) (shel
   scenario_decides name certificate =
       after_decides (opening_scenarios shelf name) _ (opening_file_determines laws scenarios shelf tells name) (λ file opened.
       worst_decides laws scenarios file (scenarios.keeps opened.0 file opened.2) certificate)
+
+  scenario_storage_decides : (name : List ℕ) (limits : ScenarioLimits) → Decides (scenario_storage name limits shelf)
+  scenario_storage_decides name limits =
+      after_decides (opening_scenarios shelf name) _ (opening_file_determines laws scenarios shelf tells name) (λ file opened.
+      search_decides laws file (scenarios.keeps opened.0 file opened.2) limits)
 
   graph_check_decides : (version : ℕ) (c : ACertificate) (bytes : List ℕ) → Decides (graph_checked version c bytes)
   graph_check_decides version c bytes =
@@ -136,6 +144,7 @@ module _ (laws : FileLaws) (scenarios : ScenarioLaws) (orders : OrderLaws) (shel
   command_decides (requests.Throughput name buffers no_overlap states certificate) within = throughput_decides name buffers (record { no_overlap = no_overlap; states = states; certificate = certificate }) within.0
   command_decides (requests.Storage name limits no_overlap certificate) within = storage_decides name (record { limits = limits; no_overlap = no_overlap; certificate = certificate })
   command_decides (requests.Scenario name certificate) within = scenario_decides name certificate
+  command_decides (requests.ScenarioStorage name total distributions) within = scenario_storage_decides name (record { total = total; distributions = distributions })
   command_decides (requests.Check graph certificate) within = check_decides graph certificate
   command_decides (requests.Generate seed limit actors) within = generate_decides laws seed limit actors within.1
   command_decides (requests.Convert certificate output) within = convert_decides certificate output

@@ -19,7 +19,10 @@ mod AcceptedPuts
 mod CompleteGenerate
 mod CommandsDecide
 mod SharedSteps
+mod FirstWithouts
 mod OneWorst
+mod OneScenarioStorage
+mod CompleteScenarioStorage
 mod CertificatesDecide
 mod SummariesDecide
 mod ReadExpansions

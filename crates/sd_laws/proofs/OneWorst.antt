@@ -1,6 +1,5 @@
 -- The words and files decide the command `scenario`.
-use Rattle.std.proofs.Common.{◌≡◌, ℕ, zero, suc, ◌<◌, inl, inr, true, false, List, [], ◌∷◌, length, Option, Some, refl, sym, ap, ap₂, subst, ◌∙◌, arith}
-use Rattle.std.proofs.lemmas.Bool.{cases_lt}
+use Rattle.std.proofs.Common.{◌≡◌, ℕ, zero, suc, ◌<◌, true, false, List, [], ◌∷◌, length, Option, Some, refl, sym, ap, ap₂, subst, ◌∙◌, arith}
 use Rattle.std.specs.Prelude.{slice_get, slice_index_or}
 use Rattle.sd_base.specs.declared.tables.GraphFile.{GraphFile}
 use Rattle.sd_base.specs.declared.tables.ScenarioFile.{ScenarioFile}
@@ -19,11 +18,12 @@ use Rattle.report.specs.declared.refusal.Refusal.{Refusal}
 use Rattle.sd_command.specs.Readings.{reading_refusal}
 use Rattle.sd_command.specs.Balances.{balancing}
 use Rattle.sd_command.specs.Nets.{feeding}
-use Rattle.sd_command.specs.ScenarioSteps.{Entries, IsMade, IsUnmade, stamps, blocked, making_matrix, measuring_graph, measuring_one, AreMeasured, IsUnmeasured, measuring, linking, timing, opening_scenarios, reading_scenarios}
+use Rattle.sd_command.specs.ScenarioSteps.{Entries, IsMade, IsUnmade, stamps, blocked, making_matrix, measuring_graph, measuring_one, AreMeasured, measuring, linking, timing, opening_scenarios, reading_scenarios}
 use Rattle.sd_command.specs.declared.file_kind.FileKind.TheVariants.{Graph}
 use Rattle.sd_command.specs.Takings.{Files, taking}
 use Rattle.sd_command.specs.WorstAnswers.{telling_worst, worst_of}
 use Rattle.sd_laws.proofs.CommandsDecide.{Determines, Decides, DecidesLast, after_decides, last_decides, through_determines, naming_determines}
+use Rattle.sd_laws.proofs.FirstWithouts.{one_first}
 use Rattle.sd_laws.proofs.OneRate.{feeding_determines, completing_determines}
 use Rattle.sd_laws.proofs.SharedSteps.{FileLaws, balancing_determines, taking_determines}
 use Rattle.escapes.specs.EscapedNames.{escaped_name}
@@ -94,31 +94,10 @@ module _ (facts : FileLaws) (laws : ScenarioLaws) where
         let row = there file.scenarios k (subst (λ n. k < n) is.all below) in
         (each k row.0 row.1).one (slice_index_or ms k []) (slice_index_or ns k []) (is.each k row.0 row.1) (also.each k row.0 row.1))
 
-    one_row : (o : Option ScenarioRow) (a b : ScenarioRow) → o ≡ Some a → o ≡ Some b → a ≡ b
-    one_row o a b p q = let e : ◌≡◌ {A = Option ScenarioRow} (Some a) (Some b) = sym p ∙ q in (cc)
-
-    -- a scenario that is refused is no later than another one that is
-    no_earlier : (r s : Refusal) (is : IsUnmeasured file r) (also : IsUnmeasured file s) → is.place < also.place → ⊥
-    no_earlier r s is also before =
-        let passed = also.first is.place is.row before is.at in
-        (each is.place is.row is.at).never r passed.0 is.is passed.1
-
-    one_unmeasured : (r s : Refusal) → IsUnmeasured file r → IsUnmeasured file s → r ≡ s
-    one_unmeasured r s is also = elim (cases_lt is.place also.place) [
-      | inl before ↦ absurd (no_earlier r s is also before)
-      | inr not_before ↦ elim (cases_lt also.place is.place) [
-        | inl before ↦ absurd (no_earlier s r also is before)
-        | inr not_after ↦
-            let same : is.place ≡ also.place = omega arith in
-            let row : also.row ≡ is.row = one_row (slice_get file.scenarios is.place) also.row is.row (subst (λ k. slice_get file.scenarios k ≡ Some also.row) (sym same) also.at) is.at in
-            (each is.place is.row is.at).refusal r s is.is (subst (λ x. (measuring_one file.shared x).refuses s) row also.is)
-      ]
-    ]
-
     measuring_determines : Determines (measuring file)
     measuring_determines = record {
       one = one_measure;
-      refusal = one_unmeasured;
+      refusal = one_first (measuring_one file.shared) file each;
       never = λ r ms is measured. (each is.place is.row is.at).never r (slice_index_or ms is.place []) is.is (measured.each is.place is.row is.at);
     }
 

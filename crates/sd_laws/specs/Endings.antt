@@ -3,13 +3,14 @@ use Rattle.std.specs.Prelude.{◌≡◌, ℕ, ◌+◌, ◌≤◌, ◌⊎◌, Boo
 use Rattle.sd_base.specs.declared.tables.GraphFile.{GraphFile}
 use Rattle.sd_base.specs.declared.tables.ScenarioFile.{ScenarioFile}
 use Rattle.sd_base.specs.declared.limits.Limits.{Limits}
-use Rattle.sd_base.specs.declared.limits.TheConstants.{STARTS}
+use Rattle.sd_base.specs.declared.limits.TheConstants.{EDGES, STARTS}
 use Rattle.sd_base.specs.Net.{Net}
 use Rattle.sd_base.specs.FileNet.{net_of}
+use Rattle.sd_base.specs.Scenarios.{shared_count}
 use Rattle.sd_base.specs.SelfTimed.{events_by, starts_by}
 use Rattle.sd_base.specs.Rates.{IsLoop}
 use Rattle.sd_base.specs.Untimed.{IsLive}
-use Rattle.sd_words.specs.declared.request.Request.TheVariants.{Check, Complete, Convert, Expand, Generate, Ordered, Repetition, Scenario, Storage, Throughput}
+use Rattle.sd_words.specs.declared.request.Request.TheVariants.{Check, Complete, Convert, Expand, Generate, Ordered, Repetition, Scenario, ScenarioStorage, Storage, Throughput}
 use Rattle.sd_words.specs.Asked.{request_of}
 use Rattle.storage.specs.BoundedNets.{bound}
 use Rattle.storage.specs.NamedBuffers.{Buffer, capacities_of}
@@ -24,6 +25,12 @@ use Rattle.explore.specs.Reachable.{IsReachable}
 use Rattle.graph_reader.specs.Laws.{Gives}
 use Rattle.scenario_reader.specs.ScenarioFiles.{GivesFile}
 use Rattle.automaton.specs.declared.graph.TimedGraph.{TimedGraph}
+use Rattle.automaton.specs.TimedGraphs.{AreMatrices, edges_from}
+use Rattle.bounded_scenarios.specs.BoundedFiles.{bounded_file}
+use Rattle.bounded_scenarios.specs.ScenarioGuides.{IsReachable as IsReachableIn}
+use Rattle.bounded_scenarios.specs.StorageRates.{AllRun}
+use Rattle.scenario_storage.specs.declared.point.ScenarioLimits.{ScenarioLimits}
+use Rattle.scenario_storage.specs.ScenarioPoints.{AreFound as AreFoundIn}
 use Rattle.scenario_rate.specs.declared.answer.Worst.{Worst}
 use Rattle.gen_graph.specs.MadeGraphs.{made_graph}
 use Rattle.balance.specs.Repetition.{IsRound}
@@ -37,7 +44,7 @@ use Rattle.sd_command.specs.Certifyings.{AreShort}
 use Rattle.sd_command.specs.Orderings.{NamedOrders}
 use Rattle.sd_command.specs.PointAnswers.{ArePointsShown, IsOfPoints}
 use Rattle.sd_command.specs.RateAnswers.{IsOfRate, IsRateShown}
-use Rattle.sd_command.specs.ScenarioSteps.{timing}
+use Rattle.sd_command.specs.ScenarioSteps.{Entries, timing}
 use Rattle.sd_command.specs.WorstAnswers.{IsOfWorst, IsShown}
 use Rattle.sd_command.specs.Courses.{Ending, Refused, Ended, IsCutOff}
 use Rattle.sd_command.specs.Takings.{Files}
@@ -157,6 +164,21 @@ ScenarioIsComplete = (run : Run) (cut : Bool) (name : List ℕ) (certificate : O
     → request_of run.words ≡ Ok (Scenario name certificate)
     → ((refusal : Refusal) (n : ℕ) → course_of run.words run.outside.shelf.files (Refused refusal) n → ⊥)
     → ((bytes : List ℕ) (file : ScenarioFile) → run.outside.shelf.files.named name ≡ Some bytes → GivesFile bytes file → WorstCertificatesFit file certificate)
+    → Shows run cut → (run.status ≡ statuses.Done) ⊎ (run.status ≡ statuses.Memory)
+
+-- the limits are enough for a search for the points of a file: no distribution that can be reached, and with which each scenario
+-- runs, gives a timed graph with too many edges, and there are no more of them than may be found
+pub record SearchSuffices (file : ScenarioFile) (limits : ScenarioLimits) : Type 0 where
+  pub edges : (ds : List (Option ℕ)) → IsReachableIn file limits.total ds → AllRun file ds → (matrices : List Entries) → AreMatrices (bounded_file file ds) matrices
+      → length (edges_from (shared_count (bounded_file file ds).shared) 0 matrices file.states) ≤ EDGES
+  pub few : (dss : List (List (Option ℕ))) → AreFoundIn file limits.total dss → length dss ≤ limits.distributions
+
+-- such a run of `scenario-storage` is done, or ends for want of memory, where no refusal is due and the limits are enough
+abbrev pub ScenarioStorageIsComplete : Type 0
+ScenarioStorageIsComplete = (run : Run) (cut : Bool) (name : List ℕ) (limits : ScenarioLimits) → IsFaultless run
+    → request_of run.words ≡ Ok (ScenarioStorage name limits.total limits.distributions)
+    → ((refusal : Refusal) (n : ℕ) → course_of run.words run.outside.shelf.files (Refused refusal) n → ⊥)
+    → ((bytes : List ℕ) (file : ScenarioFile) → run.outside.shelf.files.named name ≡ Some bytes → GivesFile bytes file → SearchSuffices file limits)
     → Shows run cut → (run.status ≡ statuses.Done) ⊎ (run.status ≡ statuses.Memory)
 
 -- such a run of `repetition` is, where no refusal is due

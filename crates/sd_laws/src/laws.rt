@@ -2,7 +2,7 @@ ghost use Rattle.sd_laws.specs.AcceptedCertificates.{PutsAreAccepted};
 ghost use Rattle.sd_laws.specs.KeptOrders.{OrdersAreKept};
 ghost use Rattle.sd_laws.specs.PutCertificates.{PutsAreValid};
 ghost use Rattle.sd_laws.specs.PutExpansions.{ExpansionsAreRead};
-ghost use Rattle.sd_laws.specs.Endings.{CheckIsComplete, CompleteIsComplete, ConvertIsComplete, DueIsAnswered, DueIsOne, ElseIsDone, ExpandIsComplete, GenerateIsComplete, OrderedIsComplete, RepetitionIsComplete, ScenarioIsComplete, StorageIsComplete, ThroughputIsComplete};
+ghost use Rattle.sd_laws.specs.Endings.{CheckIsComplete, CompleteIsComplete, ConvertIsComplete, DueIsAnswered, DueIsOne, ElseIsDone, ExpandIsComplete, GenerateIsComplete, OrderedIsComplete, RepetitionIsComplete, ScenarioIsComplete, ScenarioStorageIsComplete, StorageIsComplete, ThroughputIsComplete};
 
 use balance::one_answer;
 use cert_maker::laws::storage_certificates_are_valid;
@@ -28,6 +28,7 @@ pub fn know_endings()
     ensures throughput { ThroughputIsComplete }
     ensures storage { StorageIsComplete }
     ensures scenario { ScenarioIsComplete }
+    ensures scenario_storage { ScenarioStorageIsComplete }
     ensures generate { GenerateIsComplete }
     ensures valid { PutsAreValid }
     ensures accepted { PutsAreAccepted }

@@ -216,6 +216,7 @@ named-word algorithm.Convert = refl
 named-word algorithm.Ordered = refl
 named-word algorithm.Expand = refl
 named-word algorithm.Complete = refl
+named-word algorithm.ScenarioStorage = refl
 
 found-first : (b : Bool) (x a : Algorithm) (w : List ℕ) (r : Option Algorithm) → bytes_eq (algorithm_word x) w ≡ b → cond b (Some x) r ≡ Some a → (w ≡ algorithm_word a) ⊎ (r ≡ Some a)
 found-first true x a w r e h =

@@ -17,7 +17,7 @@ use Rattle.sd_words.specs.declared.names.Algorithm.{Algorithm}
 use Rattle.sd_words.specs.declared.names.Algorithm.TheVariants as algorithm
 use Rattle.sd_words.specs.Values.{is_decimal, number as value, number_within}
 use Rattle.sd_words.specs.Forms.{read}
-use Rattle.sd_words.specs.Asked.{AreLimits, AreMadeActors, AreRead, AreRounds, AreStates, IsWithinLimits, Readings, Values, actors_of, buffers_in, limits_of, number_or, read_as, readings, request_for, standing}
+use Rattle.sd_words.specs.Asked.{AreDistributions, AreLimits, AreMadeActors, AreRead, AreRounds, AreStates, IsWithinLimits, Readings, Values, actors_of, buffers_in, limits_of, number_or, read_as, readings, request_for, standing}
 use Rattle.sd_words.specs.Buffers.{Buffer, buffer_of, buffers_of, named_number, with_buffer, with_parts}
 use Rattle.escapes.specs.SpelledNames.{unescaped}
 
@@ -50,6 +50,9 @@ rounds-read text = given LEAST_ROUNDS ROUNDS LEAST_ROUNDS (lit≤ tt) (lit≤ tt
 limit-read : (text : Option (List ℕ)) → number_or 0 (By (form.Number 0 STORAGE) text) ≤ STORAGE
 limit-read text = (given 0 STORAGE 0 (lit≤ tt) (lit≤ tt) text).1
 
+distributions-read : (text : Option (List ℕ)) → AreDistributions (number_or USUAL_DISTRIBUTIONS (By (form.Number LEAST_DISTRIBUTIONS DISTRIBUTIONS) text))
+distributions-read text = given LEAST_DISTRIBUTIONS DISTRIBUTIONS USUAL_DISTRIBUTIONS (lit≤ tt) (lit≤ tt) text
+
 made-actors : (text : Option (List ℕ)) → AreMadeActors (number_or USUAL_ACTORS (By (form.Number LEAST_ACTORS ACTORS) text))
 made-actors text = given LEAST_ACTORS ACTORS USUAL_ACTORS (lit≤ tt) (lit≤ tt) text
 
@@ -62,7 +65,7 @@ unfolding standing read_as
 limits-read values = record {
   total = limit-read (values option.Limit);
   states = states-read (values option.States);
-  distributions = given LEAST_DISTRIBUTIONS DISTRIBUTIONS USUAL_DISTRIBUTIONS (lit≤ tt) (lit≤ tt) (values option.Distributions);
+  distributions = distributions-read (values option.Distributions);
 }
 
 -- ---- buffers
@@ -148,3 +151,4 @@ request-within algorithm.Convert values = tt
 request-within algorithm.Expand values = buffers-small (values option.Buffers)
 request-within algorithm.Ordered values = (buffers-small (values option.Buffers), states-read (values option.States))
 request-within algorithm.Complete values = (buffers-small (values option.Buffers), states-read (values option.States), rounds-read (values option.Rounds))
+request-within algorithm.ScenarioStorage values = (limit-read (values option.Limit), distributions-read (values option.Distributions))

@@ -94,6 +94,9 @@ standing algorithm.Complete option.Buffers = Allowed form.Buffers
 standing algorithm.Complete option.States = Allowed (form.Number LEAST_STATES STATES)
 standing algorithm.Complete option.Rounds = Required (form.Number LEAST_ROUNDS ROUNDS)
 standing algorithm.Complete option.NoOverlap = Allowed form.Flag
+standing algorithm.ScenarioStorage option.Graph = Required form.Text
+standing algorithm.ScenarioStorage option.Distributions = Allowed (form.Number LEAST_DISTRIBUTIONS DISTRIBUTIONS)
+standing algorithm.ScenarioStorage option.Limit = Required (form.Number 0 STORAGE)
 standing a o = Foreign
 
 -- the form that an algorithm asks of an option that it has
@@ -205,12 +208,20 @@ number_or usual v = unwrap_or (number_in v) usual
 abbrev pub states_of : Readings → ℕ
 states_of r = number_or USUAL_STATES (r option.States)
 
+-- the greatest total of a distribution, a required option
+abbrev pub total_of : Readings → ℕ
+total_of r = number_or 0 (r option.Limit)
+
+-- the bound on the distributions of an exploration
+abbrev pub distributions_of : Readings → ℕ
+distributions_of r = number_or USUAL_DISTRIBUTIONS (r option.Distributions)
+
 -- what an exploration may use
 abbrev pub limits_of : Readings → Limits
 limits_of r = record {
-  total = number_or 0 (r option.Limit);
+  total = total_of r;
   states = states_of r;
-  distributions = number_or USUAL_DISTRIBUTIONS (r option.Distributions);
+  distributions = distributions_of r;
 }
 
 -- the actors of a graph that is made
@@ -224,21 +235,26 @@ request_for algorithm.Throughput r = request.Throughput (name_in (r option.Graph
 request_for algorithm.Storage r = request.Storage (name_in (r option.Graph)) (limits_of r) (is_some (r option.NoOverlap)) (text_in (r option.Certificate))
 request_for algorithm.Scenario r = request.Scenario (name_in (r option.Graph)) (text_in (r option.Certificate))
 request_for algorithm.Check r = request.Check (name_in (r option.Graph)) (name_in (r option.Certificate))
-request_for algorithm.Generate r = request.Generate (number_or 0 (r option.Seed)) (number_or 0 (r option.Limit)) (actors_of r)
+request_for algorithm.Generate r = request.Generate (number_or 0 (r option.Seed)) (total_of r) (actors_of r)
 request_for algorithm.Convert r = request.Convert (name_in (r option.Certificate)) (name_in (r option.Output))
 request_for algorithm.Expand r = request.Expand (name_in (r option.Graph)) (name_in (r option.Output)) (buffers_in (r option.Buffers)) (is_some (r option.NoOverlap))
 request_for algorithm.Ordered r = request.Ordered (name_in (r option.Graph)) (orders_in (r option.Order)) (buffers_in (r option.Buffers)) (is_some (r option.NoOverlap)) (states_of r)
 request_for algorithm.Complete r = request.Complete (name_in (r option.Graph)) (number_or LEAST_ROUNDS (r option.Rounds)) (buffers_in (r option.Buffers)) (is_some (r option.NoOverlap)) (states_of r)
+request_for algorithm.ScenarioStorage r = request.ScenarioStorage (name_in (r option.Graph)) (total_of r) (distributions_of r)
 
 -- a number of states is within its range
 abbrev pub AreStates : ℕ → Type 0
 AreStates states = (LEAST_STATES ≤ states) × (states ≤ STATES)
 
+-- a number of distributions is within its range
+abbrev pub AreDistributions : ℕ → Type 0
+AreDistributions distributions = (LEAST_DISTRIBUTIONS ≤ distributions) × (distributions ≤ DISTRIBUTIONS)
+
 -- the numbers that bound an exploration are within their ranges
 pub record AreLimits (limits : Limits) : Type 0 where
   pub total : limits.total ≤ STORAGE
   pub states : AreStates limits.states
-  pub distributions : (LEAST_DISTRIBUTIONS ≤ limits.distributions) × (limits.distributions ≤ DISTRIBUTIONS)
+  pub distributions : AreDistributions limits.distributions
 
 -- a number of actors of a graph that is made is within its range
 abbrev pub AreMadeActors : ℕ → Type 0
@@ -260,6 +276,7 @@ IsWithinLimits (request.Convert certificate output) = Unit {0}
 IsWithinLimits (request.Ordered graph order buffers no_overlap states) = All (λ (b : Buffer). b.1 ≤ CAPACITY) buffers × AreStates states
 IsWithinLimits (request.Expand graph output buffers no_overlap) = All (λ (b : Buffer). b.1 ≤ CAPACITY) buffers
 IsWithinLimits (request.Complete graph rounds buffers no_overlap states) = All (λ (b : Buffer). b.1 ≤ CAPACITY) buffers × AreStates states × AreRounds rounds
+IsWithinLimits (request.ScenarioStorage graph limit distributions) = (limit ≤ STORAGE) × AreDistributions distributions
 
 -- what values ask for
 unfoldable pub request_from : Values → Result Request UsageCause

@@ -52,10 +52,11 @@ algorithm_word algorithm.Convert = codes "convert"
 algorithm_word algorithm.Expand = codes "expand"
 algorithm_word algorithm.Ordered = codes "ordered"
 algorithm_word algorithm.Complete = codes "complete"
+algorithm_word algorithm.ScenarioStorage = codes "scenario-storage"
 
 -- the algorithms
 abbrev pub algorithms : List Algorithm
-algorithms = algorithm.Repetition ∷ algorithm.Throughput ∷ algorithm.Storage ∷ algorithm.Scenario ∷ algorithm.Check ∷ algorithm.Generate ∷ algorithm.Convert ∷ algorithm.Expand ∷ algorithm.Ordered ∷ algorithm.Complete ∷ []
+algorithms = algorithm.Repetition ∷ algorithm.Throughput ∷ algorithm.Storage ∷ algorithm.Scenario ∷ algorithm.Check ∷ algorithm.Generate ∷ algorithm.Convert ∷ algorithm.Expand ∷ algorithm.Ordered ∷ algorithm.Complete ∷ algorithm.ScenarioStorage ∷ []
 
 -- the algorithm of a word
 unfoldable pub algorithm_named : List ℕ → Option Algorithm

@@ -2,7 +2,7 @@
 
 ghost use Rattle.std.specs.Prelude.{◌≡◌, IfOk};
 ghost use Rattle.sd_words.specs.declared.names.Algorithm.TheVariants.{Generate};
-ghost use Rattle.sd_words.specs.Asked.{AreRead, actors_of, limits_of, request_for, states_of};
+ghost use Rattle.sd_words.specs.Asked.{AreRead, actors_of, distributions_of, limits_of, request_for, states_of, total_of};
 ghost use Rattle.sd_words.specs.Readings.{seen};
 
 use crate::readings::Readings;
@@ -19,14 +19,28 @@ fn states_of(values: &Readings) -> u64
     values.number_or(OptionName::States, USUAL_STATES)
 }
 
-/// What an exploration may use. Its total is a required option, for which no other number stands.
+/// The greatest total of a distribution: a required option, for which no other number stands.
+fn total_of(values: &Readings) -> u64
+    ensures { result ≡ total_of (seen values.now) }
+{
+    values.number_or(OptionName::Limit, 0)
+}
+
+/// The bound on the distributions of an exploration.
+fn distributions_of(values: &Readings) -> u64
+    ensures { result ≡ distributions_of (seen values.now) }
+{
+    values.number_or(OptionName::Distributions, USUAL_DISTRIBUTIONS)
+}
+
+/// What an exploration may use.
 fn limits_of(values: &Readings) -> Limits
     ensures { result ≡ limits_of (seen values.now) }
 {
     Limits {
-        total: values.number_or(OptionName::Limit, 0),
+        total: total_of(values),
         states: states_of(values),
-        distributions: values.number_or(OptionName::Distributions, USUAL_DISTRIBUTIONS),
+        distributions: distributions_of(values),
     }
 }
 
@@ -76,7 +90,7 @@ pub(crate) fn request_for(
         }),
         Algorithm::Generate => Ok(Request::Generate {
             seed: values.number_or(OptionName::Seed, 0),
-            limit: values.number_or(OptionName::Limit, 0),
+            limit: total_of(&values),
             actors: actors_of(&values),
         }),
         Algorithm::Convert => Ok(Request::Convert {
@@ -102,6 +116,11 @@ pub(crate) fn request_for(
             no_overlap: values.has(OptionName::NoOverlap),
             states: states_of(&values),
             buffers: values.take_buffers(alloc, OptionName::Buffers),
+        }),
+        Algorithm::ScenarioStorage => Ok(Request::ScenarioStorage {
+            graph: values.name(alloc, OptionName::Graph)?,
+            limit: total_of(&values),
+            distributions: distributions_of(&values),
         }),
     }
 }

@@ -104,9 +104,10 @@ pub enum Algorithm {
     Expand,
     Ordered,
     Complete,
+    ScenarioStorage,
 }
 
-const ALGORITHMS: [Algorithm; 10] = [
+const ALGORITHMS: [Algorithm; 11] = [
     Algorithm::Repetition,
     Algorithm::Throughput,
     Algorithm::Storage,
@@ -117,6 +118,7 @@ const ALGORITHMS: [Algorithm; 10] = [
     Algorithm::Expand,
     Algorithm::Ordered,
     Algorithm::Complete,
+    Algorithm::ScenarioStorage,
 ];
 
 impl Algorithm {
@@ -136,6 +138,7 @@ impl Algorithm {
             Algorithm::Expand => "expand",
             Algorithm::Ordered => "ordered",
             Algorithm::Complete => "complete",
+            Algorithm::ScenarioStorage => "scenario-storage",
         }
     }
 

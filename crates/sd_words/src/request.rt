@@ -82,6 +82,13 @@ pub enum Request {
         no_overlap: bool,
         states: u64,
     },
+    /// The Pareto points of storage and worst rate of the scenarios of the file: up to the total `limit`, in tokens on the
+    /// channels that scenarios share, and within a number of distributions.
+    ScenarioStorage {
+        graph: Text,
+        limit: u64,
+        distributions: u64,
+    },
 }
 
 /// Why the words ask for nothing: the first cause in the order in which they are tested.

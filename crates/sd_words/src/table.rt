@@ -162,6 +162,12 @@ pub(crate) fn standing_of(algo: Algorithm, option: OptionName) -> Standing
                 OptionName::NoOverlap => Standing::Allowed(Form::Flag),
                 _ => Standing::Foreign,
             },
+            Algorithm::ScenarioStorage => match option {
+                OptionName::Graph => Standing::Required(Form::Text),
+                OptionName::Distributions => Standing::Allowed(OF_DISTRIBUTIONS),
+                OptionName::Limit => Standing::Required(OF_STORAGE),
+                _ => Standing::Foreign,
+            },
         },
     }
 }

@@ -6,3 +6,5 @@
 mod graph_tests;
 #[cfg(test)]
 mod point_tests;
+#[cfg(test)]
+mod scenario_point_tests;

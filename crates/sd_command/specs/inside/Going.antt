@@ -12,6 +12,7 @@ use Rattle.sd_command.specs.declared.delivering.Unput.TheVariants as unput
 use Rattle.sd_command.specs.declared.status.Status.{Status}
 use Rattle.sd_command.specs.declared.status.Status.TheVariants as statuses
 use Rattle.sd_command.specs.Statuses.{status_of}
+use Rattle.sd_command.specs.ScenarioSteps.{of_scenario}
 use Rattle.sd_command.specs.Takings.{shelf_refusal}
 use Rattle.sd_command.specs.Runs.{Sending, GetsWhole, GetsPart, Shelving, FilesStay, HasPut, HasNotPut, Counted, IsRefusedBy}
 
@@ -26,6 +27,12 @@ abbrev pub Takes : {A : Type 0} → Step A → Result A Stop → ℕ → ℕ →
 Takes step (Ok a) faults faults' = step.passes a × (faults' ≡ faults)
 Takes step (Err (Refused refusal)) faults faults' = (step.refuses refusal × (faults' ≡ faults)) ⊎ (step.fails refusal × Rose faults faults')
 Takes step (Err OutOfMemory) faults faults' = faults' ≡ faults
+
+-- a stop of a scenario's graph, as that of the scenario of this printed name
+abbrev pub IsStopOf : List ℕ → Stop → Stop → Type 0
+IsStopOf name (Refused refusal) (Refused told) = told ≡ of_scenario name refusal
+IsStopOf name OutOfMemory (Refused told) = ⊥
+IsStopOf name stop OutOfMemory = Unit {0}
 
 -- a call's result is this end of a command
 abbrev pub IsEnd : Result Answer Stop → Ending → Type 0

@@ -1,4 +1,4 @@
-use Rattle.std.proofs.Common.{◌≡◌, ◌++◌}
+use Rattle.std.proofs.Common.{◌≡◌, ◌++◌, map}
 use denote.Text.{Utf8}
 use denote.Shadow.{shadow}
 use Rattle.std.specs.Prelude.{codes}
@@ -9,8 +9,8 @@ use Rattle.report.proofs.Pieces.{between}
 use Rattle.report.proofs.buffers.put_buffers.Given as goal
 
 abbrev pub invariant-loop-channel : goal.invariant-loop-channel
-invariant-loop-channel l =
-    let pieces = pieces_of (buffer_on l.graph) l.capacities l.channel in
+invariant-loop-channel g l =
+    let pieces = pieces_of (buffer_on (map g.R.Named.name_of l.rows)) l.capacities l.channel in
     record {
       utf8 : shadow (Utf8 l.between);
       text : string_bytes l.text ≡ string_bytes l.initial.text ++ joined (codes ",") pieces;

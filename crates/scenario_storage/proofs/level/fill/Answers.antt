@@ -1,5 +1,4 @@
-use Rattle.std.proofs.Common.{◌≡◌, ◌++◌, ◌∷◌, [], All, None, List, length, map, map-id, subst, sym, refl, ap, ◌∙◌, arith, rules}
-use Rattle.std.specs.Prelude.{Option, ℕ}
+use Rattle.std.proofs.Common.{◌≡◌, ◌++◌, ◌∷◌, [], All, None, length, map, map-id, subst, sym, refl, ap, ◌∙◌, arith, rules}
 use Rattle.std.proofs.lemmas.List.{length_push, map-append}
 use Rattle.std.proofs.lemmas.List.Elements.{All-push}
 use Rattle.std.proofs.lemmas.Iterator.Consumers.{YieldsList-end, YieldsList-turn}

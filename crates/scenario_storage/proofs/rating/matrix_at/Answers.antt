@@ -1,6 +1,5 @@
-use Rattle.std.proofs.Common.{◌≡◌, ℕ, Option, List, sym, ap, ◌∙◌}
+use Rattle.std.proofs.Common.{◌≡◌, ap, ◌∙◌}
 use Rattle.sd_base.specs.declared.tables.ScenarioFile.{ScenarioFile}
-use Rattle.sd_base.specs.declared.tables.SharedRow.{SharedRow}
 use Rattle.bounded_scenarios.specs.BoundedFiles.{bounded_file, bounded_graph}
 use Rattle.scenario_storage.proofs.Measuring.{answers-as, gives-as, matrix-answer, scenario-of}
 use Rattle.scenario_storage.proofs.Searchable.{can-measure}

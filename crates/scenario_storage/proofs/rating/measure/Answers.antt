@@ -1,7 +1,7 @@
-use Rattle.std.proofs.Common.{◌≡◌, ◌+◌, List, length, sym, ap, ◌∙◌, subst, arith, rules}
+use Rattle.std.proofs.Common.{◌≡◌, ◌+◌, length, sym, ap, ◌∙◌, subst, arith}
 use Rattle.std.proofs.lemmas.List.{length-map}
 use Rattle.sd_base.specs.declared.tables.ScenarioFile.{ScenarioFile}
-use Rattle.bounded_scenarios.specs.BoundedFiles.{bounded_file, bounded_scenario}
+use Rattle.bounded_scenarios.specs.BoundedFiles.{bounded_scenario}
 use Rattle.scenario_storage.proofs.Measuring.{AreMatricesTo, all-matrices, matrices-more, runs-before}
 use Rattle.scenario_storage.proofs.Searchable.{can-measure}
 use Rattle.scenario_storage.proofs.rating.measure.Goals as goal

@@ -1,19 +1,11 @@
-use Rattle.std.proofs.Common.{◌≡◌, ◌<◌, ℕ, List, [], ◌∷◌, length, get_or, Some, Ok, refl, suc, zero, arith}
-use Rattle.std.specs.Prelude.{All, slice_get}
-use Rattle.std.proofs.lemmas.Option.{slice_get-get_or, slice_get_within}
-use Rattle.automaton.specs.declared.graph.Edge.{Edge}
-use Rattle.automaton.specs.CriticalCycles.{IsPath}
+use Rattle.std.proofs.Common.{◌≡◌, get_or, Some, Ok, refl}
+use Rattle.std.specs.Prelude.{slice_get}
+use Rattle.std.proofs.lemmas.Option.{slice_get-get_or}
 use Rattle.std.proofs.lemmas.Result.{err_from_is_err_and}
 use Rattle.sd_command.proofs.Certified.{worst-stops}
 use Rattle.sd_command.proofs.Goings.{worst_told}
-use Rattle.sd_command.proofs.WorstSizes.{cycle-light}
+use Rattle.sd_command.proofs.WorstSizes.{cycle-light, path-edges}
 use Rattle.sd_command.proofs.scenario.tell.Goals as goal
-
--- the edges of a path are edges
-path-edges : (es : List Edge) (ks : List ℕ) (u v : ℕ) → IsPath es u ks v → All (λ k. k < length es) ks
-path-edges es [] u v path i d below = absurd (omega (arith, below))
-path-edges es (k ∷ ks) u v path zero d below = slice_get_within es k path.0 path.1
-path-edges es (k ∷ ks) u v path (suc i) d below = path-edges es ks path.0.to v path.3 i d (omega arith)
 
 pub worst-requires-clause-grows : goal.worst-requires-clause-grows
 worst-requires-clause-grows c = c.files_grow.ensures c.args.file.now c.args.graph.now c.requires.timed c.requires.sound.some_token

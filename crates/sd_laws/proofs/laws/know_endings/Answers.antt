@@ -17,6 +17,7 @@ use Rattle.sd_laws.proofs.CompleteOrdered.{ordered_is_complete, orders_are_kept}
 use Rattle.sd_laws.proofs.OneOrder.{OrderLaws}
 use Rattle.sd_laws.proofs.ReadExpansions.{expansions_are_read}
 use Rattle.sd_laws.proofs.CompleteOthers.{repetition_is_complete, scenario_is_complete}
+use Rattle.sd_laws.proofs.CompleteScenarioStorage.{scenario_storage_is_complete}
 use Rattle.sd_laws.proofs.laws.know_endings.Goals as goal
 
 -- what the calls tell
@@ -97,6 +98,9 @@ returns-clause-repetition c = repetition_is_complete
 
 pub returns-clause-scenario : goal.returns-clause-scenario
 returns-clause-scenario c = scenario_is_complete
+
+pub returns-clause-scenario_storage : goal.returns-clause-scenario_storage
+returns-clause-scenario_storage c = scenario_storage_is_complete
 
 pub returns-clause-expand : goal.returns-clause-expand
 returns-clause-expand c = expand_is_complete
