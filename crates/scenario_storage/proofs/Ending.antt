@@ -48,7 +48,8 @@ pair-at (x ∷ ps) i below =
     let here : i < length (x ∷ ps) = omega (arith, below, length-map (x ∷ ps) pair_of) in
     (slice_index_or (x ∷ ps) i x, Contains-get_or (x ∷ ps) i x here, get_or-map pair_of (x ∷ ps) i x no_pair here)
 
-pairs-rise : (ps : List ScenarioPoint) → AreRising ps → (i j : ℕ) → i < j → j < length (map pair_of ps) → ((at ps i).storage < (at ps j).storage) × ((at ps i).num * (at ps j).den < (at ps j).num * (at ps i).den)
+pairs-rise : (ps : List ScenarioPoint) → AreRising ps → (i j : ℕ) → i < j → j < length (map pair_of ps) →
+    ((at ps i).storage < (at ps j).storage) × ((at ps i).num * (at ps j).den < (at ps j).num * (at ps i).den)
 pairs-rise [] rising i j less below = absurd (omega (arith, below))
 pairs-rise (x ∷ ps) rising i j less below =
     let there : j < length (x ∷ ps) = omega (arith, below, length-map (x ∷ ps) pair_of) in
@@ -79,7 +80,9 @@ one-point q p (inr (inl under)) early fast = absurd (omega (arith, under.1, fast
 one-point q p (inr (inr above)) early fast = absurd (omega (arith, above.0, early))
 
 -- where a point covers an entry that has no less rate and is at most a distribution of the point's storage, that one is the entry's
-least-by : (file : ScenarioFile) (e : Entry) (p : ScenarioPoint) (ds : List (Option ℕ)) → HasSteps (shared_channels file) → Covers file p e → p.rate.num * e.den ≤ e.num * p.rate.den → AtMost e.capacities ds → IsDistribution (shared_channels file) e.capacities → storage_of (shared_channels file) ds ≡ p.total → no_later p.capacities.capacities ds ≡ true
+least-by : (file : ScenarioFile) (e : Entry) (p : ScenarioPoint) (ds : List (Option ℕ)) → HasSteps (shared_channels file) → Covers file p e →
+    p.rate.num * e.den ≤ e.num * p.rate.den → AtMost e.capacities ds → IsDistribution (shared_channels file) e.capacities →
+    storage_of (shared_channels file) ds ≡ p.total → no_later p.capacities.capacities ds ≡ true
 least-by file e p ds steps covers bounds most dist total =
     let low : storage_of (shared_channels file) e.capacities ≤ storage_of (shared_channels file) ds = storage-le (shared_channels file) e.capacities ds most in
     let equal : p.total ≡ storage_of (shared_channels file) e.capacities = omega (arith, low, covers.storage, total) in
@@ -101,7 +104,8 @@ module _ (file : ScenarioFile) (limits : ScenarioLimits) (can : IsSearchable fil
   -- entries need no more than the storage up to which the search went
   entry-low : (e : Entry) → Contains ended.entries e → storage_of (shared_channels file) e.capacities ≤ ended.storage
   entry-low e one =
-      All-contains (λ (ds : List (Option ℕ)). storage_of (shared_channels file) ds ≤ ended.storage) (visited (visits_of ended.entries)) e.capacities ended.visits.within (entry-visited ended.entries e one)
+      All-contains (λ (ds : List (Option ℕ)). storage_of (shared_channels file) ds ≤ ended.storage)
+      (visited (visits_of ended.entries)) e.capacities ended.visits.within (entry-visited ended.entries e one)
 
   nexts : (i j : ℕ) → i < length ended.entries → j < length (entry_at ended.entries i).shown →
       storage_of (shared_channels file) (stepped (shared_channels file) (entry_at ended.entries i).capacities (slice_index (entry_at ended.entries i).shown j)) ≤ ended.storage →
@@ -201,13 +205,17 @@ module _ (file : ScenarioFile) (limits : ScenarioLimits) (can : IsSearchable fil
   least p one ds is =
       let cover : IsCovered ended.entries ds p.rate.num p.rate.den = within-met p.total p.rate.num p.rate.den ds is (point-low p one) in
       let n = noted cover.place cover.below in
-      let runs : 1 ≤ (entry_at ended.entries cover.place).num = positive-on p.rate.num p.rate.den (entry_at ended.entries cover.place).num (entry_at ended.entries cover.place).den is.runs n.positive cover.bounds in
+      let runs : 1 ≤ (entry_at ended.entries cover.place).num =
+      positive-on p.rate.num p.rate.den (entry_at ended.entries cover.place).num (entry_at ended.entries cover.place).den is.runs n.positive cover.bounds in
       let c = ended.known.covers (entry_at ended.entries cover.place) (there cover.place cover.below) runs in
-      let low : storage_of (shared_channels file) (entry_at ended.entries cover.place).capacities ≤ storage_of (shared_channels file) ds = storage-le (shared_channels file) (entry_at ended.entries cover.place).capacities ds cover.most in
-      let fast : p.rate.num * c.0.rate.den ≤ c.0.rate.num * p.rate.den = no_less p.rate.num p.rate.den (entry_at ended.entries cover.place).num (entry_at ended.entries cover.place).den c.0.rate.num c.0.rate.den n.positive cover.bounds c.2.rate in
+      let low : storage_of (shared_channels file) (entry_at ended.entries cover.place).capacities ≤ storage_of (shared_channels file) ds =
+      storage-le (shared_channels file) (entry_at ended.entries cover.place).capacities ds cover.most in
+      let fast : p.rate.num * c.0.rate.den ≤ c.0.rate.num * p.rate.den =
+      no_less p.rate.num p.rate.den (entry_at ended.entries cover.place).num (entry_at ended.entries cover.place).den c.0.rate.num c.0.rate.den n.positive cover.bounds c.2.rate in
       let early : c.0.total ≤ p.total = omega (arith, low, is.total, c.2.storage) in
       let same : c.0 ≡ p = one-point c.0 p (one-or-apart IsBelow ps c.0 p ended.known.rising c.1 one) early fast in
-      least-by file (entry_at ended.entries cover.place) p ds can.steps (subst (λ (x : ScenarioPoint). Covers file x (entry_at ended.entries cover.place)) same c.2) cover.bounds cover.most n.candidate.distribution is.total
+      least-by file (entry_at ended.entries cover.place) p ds can.steps
+      (subst (λ (x : ScenarioPoint). Covers file x (entry_at ended.entries cover.place)) same c.2) cover.bounds cover.most n.candidate.distribution is.total
 
   point-is : (p : ScenarioPoint) → Contains ps p → IsPoint file limits.total p
   point-is p one =

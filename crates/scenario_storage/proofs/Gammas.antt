@@ -18,7 +18,8 @@ pub record AreRoundsTo (file : ScenarioFile) (n : ℕ) (gammas : List (List ℕ)
   pub all : length gammas ≡ n
   pub each : (s : ℕ) (row : ScenarioRow) → s < n → slice_get file.scenarios s ≡ Some row → (gamma : List ℕ) × (slice_get gammas s ≡ Some gamma) × IsRound row.graph gamma
 
-pub rounds-more : (file : ScenarioFile) (n : ℕ) (gammas : List (List ℕ)) (row : ScenarioRow) (gamma : List ℕ) → AreRoundsTo file n gammas → slice_get file.scenarios n ≡ Some row → IsRound row.graph gamma → AreRoundsTo file (n + 1) (gammas ++ gamma ∷ [])
+pub rounds-more : (file : ScenarioFile) (n : ℕ) (gammas : List (List ℕ)) (row : ScenarioRow) (gamma : List ℕ) → AreRoundsTo file n gammas →
+    slice_get file.scenarios n ≡ Some row → IsRound row.graph gamma → AreRoundsTo file (n + 1) (gammas ++ gamma ∷ [])
 rounds-more file n gammas row gamma are at is = record {
   all = omega (arith, are.all, length-append gammas (gamma ∷ []));
   each = λ s other below there.

@@ -29,13 +29,15 @@ use Rattle.scenario_storage.specs.inside.Shown.{AreShownBlocked, AreShownLive, I
 use Rattle.scenario_storage.proofs.SpaceNumbers.{has-place, numbered-space, space-capped, space-number, spaces-long}
 
 -- the channels for whose space an actor of the blocked scenario waits are shown
-module _ (file : ScenarioFile) (gammas : List (List ℕ)) (ds : List (Option ℕ)) (s : ℕ) (counts : List ℕ) (at : IsBlockedAt file gammas ds s counts) (shares : Shares file.shared at.is.scenario.row.graph) (long : length ds ≡ length file.shared) (shown : List ℕ)
+module _ (file : ScenarioFile) (gammas : List (List ℕ)) (ds : List (Option ℕ)) (s : ℕ) (counts : List ℕ) (at : IsBlockedAt file gammas ds s counts)
+    (shares : Shares file.shared at.is.scenario.row.graph) (long : length ds ≡ length file.shared) (shown : List ℕ)
     (listed : (c : ℕ) → Contains shown c ↔ IsWaitedFor (net_of at.is.scenario.row.graph at.is.scenario.gamma false) (bounded_net file.shared ds at.is.scenario.row.graph at.is.scenario.gamma) (spaces_from (length at.is.scenario.row.graph.channels) ds) (slice_index counts) c) where
   held-guided : (c : ℕ) → Contains shown c → IsGuided file ds c
   held-guided c one =
       let w = (listed c).0 one in
       let capped = space-capped file ds at.is.scenario.row.graph shares c w.0 w.1 in
-      let low : c < length file.shared = omega (arith, long, has-place (spaces_from (length at.is.scenario.row.graph.channels) ds) c w.0 w.1, spaces-long (length at.is.scenario.row.graph.channels) ds) in
+      let low : c < length file.shared =
+      omega (arith, long, has-place (spaces_from (length at.is.scenario.row.graph.channels) ds) c w.0 w.1, spaces-long (length at.is.scenario.row.graph.channels) ds) in
       let shared = get_there file.shared c low in (
         held_by shared.0 s at.is.scenario.row shared.1 at.is.scenario.at at.first (record {
           gamma = at.is.scenario.gamma;
@@ -75,7 +77,8 @@ module _ (file : ScenarioFile) (gammas : List (List ℕ)) (ds : List (Option ℕ
   }
 
 -- the same of what the code has by other names
-pub shown-as : (file : ScenarioFile) (gammas : List (List ℕ)) (ds : List (Option ℕ)) (s : ℕ) (counts : List ℕ) (at : IsBlockedAt file gammas ds s counts) → Shares file.shared at.is.scenario.row.graph → length ds ≡ length file.shared → (net bounded : Net) (spaces : List (Option ℕ)) →
+pub shown-as : (file : ScenarioFile) (gammas : List (List ℕ)) (ds : List (Option ℕ)) (s : ℕ) (counts : List ℕ) (at : IsBlockedAt file gammas ds s counts) →
+    Shares file.shared at.is.scenario.row.graph → length ds ≡ length file.shared → (net bounded : Net) (spaces : List (Option ℕ)) →
     net ≡ net_of at.is.scenario.row.graph at.is.scenario.gamma false → bounded ≡ bounded_net file.shared ds at.is.scenario.row.graph at.is.scenario.gamma → spaces ≡ spaces_from (length at.is.scenario.row.graph.channels) ds → Lawful bounded →
     (r : Result (List ℕ) NoMemory) → IfOk r (λ (shown : List ℕ). (c : ℕ) → Contains shown c ↔ IsWaitedFor net bounded spaces (slice_index counts) c) → IfOk r (AreShownBlocked file ds)
 shown-as file gammas ds s counts at shares long net bounded spaces net_is bounded_is spaces_are laws (Err e) listed = tt
@@ -104,7 +107,8 @@ module _ (file : ScenarioFile) (total : ℕ) (can : CanBeBounded file total) (ds
   }
 
   -- a live one
-  pub live-rated : LiveBounds → SpacelessBounds → AllRun file ds → (graph : TimedGraph) → IsTimedGraph (bounded_file file ds) graph → (cycle : List ℕ) → IsWorst (bounded_file file ds) r.rate.num r.rate.den → IsCritical graph r.rate.num r.rate.den cycle → AreShownLive file ds graph cycle r.enlarge
+  pub live-rated : LiveBounds → SpacelessBounds → AllRun file ds → (graph : TimedGraph) → IsTimedGraph (bounded_file file ds) graph → (cycle : List ℕ) →
+      IsWorst (bounded_file file ds) r.rate.num r.rate.den → IsCritical graph r.rate.num r.rate.den cycle → AreShownLive file ds graph cycle r.enlarge
       → MatchOption r.evidence (r.rate.num * best.den ≤ best.num * r.rate.den) (Shows file ds r.rate) → IsRated file total best ds r
   live-rated law over all graph timed cycle worst critical is evidence = record {
     rate = runs r.rate.num r.rate.den all worst;
@@ -144,6 +148,7 @@ module _ (file : ScenarioFile) (total : ℕ) (can : CanBeBounded file total) (ds
           )
 
 -- what was kept of the evidence
-pub kept-shows : (file : ScenarioFile) (ds : List (Option ℕ)) (rate best : Fraction) (e : Evidence) (kept : Option Evidence) → Shows file ds rate e → MatchOption kept (rate.num * best.den ≤ best.num * rate.den) (λ (x : Evidence). x ≡ e) → MatchOption kept (rate.num * best.den ≤ best.num * rate.den) (Shows file ds rate)
+pub kept-shows : (file : ScenarioFile) (ds : List (Option ℕ)) (rate best : Fraction) (e : Evidence) (kept : Option Evidence) → Shows file ds rate e →
+    MatchOption kept (rate.num * best.den ≤ best.num * rate.den) (λ (x : Evidence). x ≡ e) → MatchOption kept (rate.num * best.den ≤ best.num * rate.den) (Shows file ds rate)
 kept-shows file ds rate best e None shows is = is
 kept-shows file ds rate best e (Some x) shows is = subst (Shows file ds rate) (sym is) shows

@@ -28,7 +28,9 @@ module _ (file : ScenarioFile) (gammas : List (List ℕ)) (ds : List (Option ℕ
     );
   }
 
-  pub space-marks : (start end : List Bool) → AreWayMarks (bounded_net file.shared ds sc.row.graph sc.gamma) (first_of (bounded_file file ds).shared (bounded_graph file.shared ds sc.row.graph)) entries start end → ((i : ℕ) → slice_index_or start i false ≡ true → ⊥) →
+  pub space-marks : (start end : List Bool) →
+      AreWayMarks (bounded_net file.shared ds sc.row.graph sc.gamma) (first_of (bounded_file file ds).shared (bounded_graph file.shared ds sc.row.graph)) entries start end →
+      ((i : ℕ) → slice_index_or start i false ≡ true → ⊥) →
       (spaces : List (Option ℕ)) → spaces ≡ spaces_from (length sc.row.graph.channels) ds → AreSpacesWithin (length start) spaces → (old new : List Bool) → length new ≡ length old →
       ((c : ℕ) → c < length old → (slice_index_or new c false ≡ true) ↔ ((slice_index_or old c false ≡ true) ⊎ ((i : ℕ) × HasSpace spaces c i × (slice_index_or end i false ≡ true)))) → AreSpaceMarks file gammas ds s entries old new
   space-marks start end ways none spaces is within old new long marks = record {

@@ -74,7 +74,8 @@ pub record NumberOf (cs : List ChannelRow) (rows : List SharedRow) (ds : List (O
   pub is : s ≡ space_row (channel_named cs row.name) room
   pub number : HasSpace (spaces_from n ds) place (n + j)
 
-number-more : (cs : List ChannelRow) (x : SharedRow) (rows : List SharedRow) (d : Option ℕ) (ds : List (Option ℕ)) (n m j k : ℕ) (s : ChannelRow) → ((c i : ℕ) → HasSpace (spaces_from m ds) c i → HasSpace (spaces_from n (d ∷ ds)) (suc c) i) → m + j ≡ n + k → NumberOf cs rows ds m j s → NumberOf cs (x ∷ rows) (d ∷ ds) n k s
+number-more : (cs : List ChannelRow) (x : SharedRow) (rows : List SharedRow) (d : Option ℕ) (ds : List (Option ℕ)) (n m j k : ℕ) (s : ChannelRow) →
+    ((c i : ℕ) → HasSpace (spaces_from m ds) c i → HasSpace (spaces_from n (d ∷ ds)) (suc c) i) → m + j ≡ n + k → NumberOf cs rows ds m j s → NumberOf cs (x ∷ rows) (d ∷ ds) n k s
 number-more cs x rows d ds n m j k s further same of = record {
   place = suc of.place;
   row = of.row;

@@ -40,7 +40,8 @@ use Rattle.scenario_storage.proofs.Searchable.{IsSearchable}
 use Rattle.scenario_storage.proofs.Stepping.{capped-place, entry-visited, guided-rises, led-candidate, visits-more}
 
 -- what stands in order before the first one that is taken off
-order-before : (file : ScenarioFile) (dss rest : List (List (Option ℕ))) (ds : List (Option ℕ)) → AreInOrder (shared_channels file) (dss ++ ds ∷ rest) → (es : List (Option ℕ)) → Contains dss es → IsBefore (shared_channels file) es ds
+order-before : (file : ScenarioFile) (dss rest : List (List (Option ℕ))) (ds : List (Option ℕ)) → AreInOrder (shared_channels file) (dss ++ ds ∷ rest) →
+    (es : List (Option ℕ)) → Contains dss es → IsBefore (shared_channels file) es ds
 order-before file [] rest ds order es one = absurd (let low = one.1 in omega (arith, low))
 order-before file (x ∷ dss) rest ds order es one =
     ⊎_elim
@@ -48,7 +49,8 @@ order-before file (x ∷ dss) rest ds order es one =
     (λ (h : Contains dss es). order-before file dss rest ds order.1 es h)
     (contains-cases x dss es one)
 
-module _ (file : ScenarioFile) (limits : ScenarioLimits) (can : IsSearchable file limits.total) (floor : ℕ) (taken : List (List (Option ℕ))) (s : Search) (search : IsSearch file limits floor taken s) where
+module _ (file : ScenarioFile) (limits : ScenarioLimits) (can : IsSearchable file limits.total) (floor : ℕ) (taken : List (List (Option ℕ))) (s : Search)
+    (search : IsSearch file limits floor taken s) where
   pub search-limit : s.levels.bounds.total ≡ limits.total
   search-limit = ap (λ (b : Bounds). b.total) search.bounds
 
@@ -80,7 +82,10 @@ module _ (file : ScenarioFile) (limits : ScenarioLimits) (can : IsSearchable fil
   off-few = omega (arith, search.frontier.few, search-most)
 
 -- a level that is taken off
-module _ (file : ScenarioFile) (limits : ScenarioLimits) (can : IsSearchable file limits.total) (floor : ℕ) (old new : Search) (search : IsSearch file limits floor [] old) (points : new.points ≡ old.points) (tops : new.topped ≡ old.topped) (level : Level Unit) (off : IsLevelTaken level.total level.visits.items old.levels.waiting.keys new.levels.waiting.keys) (same : IsSame old.levels new.levels) (frontier : IsFrontier (shared_channels file) search.corner (level.total + 1) (visits_of search.entries) (distributions_of level.visits.items) new.levels) where
+module _ (file : ScenarioFile) (limits : ScenarioLimits) (can : IsSearchable file limits.total) (floor : ℕ) (old new : Search)
+    (search : IsSearch file limits floor [] old) (points : new.points ≡ old.points) (tops : new.topped ≡ old.topped) (level : Level Unit)
+    (off : IsLevelTaken level.total level.visits.items old.levels.waiting.keys new.levels.waiting.keys) (same : IsSame old.levels new.levels)
+    (frontier : IsFrontier (shared_channels file) search.corner (level.total + 1) (visits_of search.entries) (distributions_of level.visits.items) new.levels) where
   same-points : new.points.items ≡ old.points.items
   same-points = ap (λ v. v.items) points
 
@@ -109,7 +114,8 @@ module _ (file : ScenarioFile) (limits : ScenarioLimits) (can : IsSearchable fil
   turn-of = record {
     search = turned;
     totals = λ k d below. (total-of (slice_index_or level.visits.items k d) (Contains-get_or level.visits.items k d below)).0;
-    before = λ p one. let low = point-low file limits can floor [] old search p (subst (λ (ps : List ScenarioPoint). Contains ps p) same-points one) in omega (arith, low, first level.visits.items off.some (λ f here. here));
+    before = λ p one. let low = point-low file limits can floor [] old search p (subst (λ (ps : List ScenarioPoint). Contains ps p) same-points one) in omega
+        (arith, low, first level.visits.items off.some (λ f here. here));
     within = level-within level.visits.items off.some (λ f here. here);
     candidates = λ k d below.
         search-candidate file limits can (level.total + 1) (distributions_of level.visits.items) new turned (slice_index_or level.visits.items k d).capacities.capacities
@@ -138,7 +144,8 @@ module _ (file : ScenarioFile) (limits : ScenarioLimits) (can : IsSearchable fil
       omega (arith, before, after, long, off.some)
 
 -- none waits any more
-pub ended-of : (file : ScenarioFile) (limits : ScenarioLimits) (can : IsSearchable file limits.total) (floor : ℕ) (s : Search) (search : IsSearch file limits floor [] s) → AreVisits (shared_channels file) search.corner s.levels.bounds.total (visits_of search.entries) → IsEnded file limits s.points.items
+pub ended-of : (file : ScenarioFile) (limits : ScenarioLimits) (can : IsSearchable file limits.total) (floor : ℕ) (s : Search) (search : IsSearch file limits floor [] s) →
+    AreVisits (shared_channels file) search.corner s.levels.bounds.total (visits_of search.entries) → IsEnded file limits s.points.items
 ended-of file limits can floor s search visits = record {
   entries = search.entries;
   known = search.known;
@@ -151,7 +158,8 @@ ended-of file limits can floor s search visits = record {
 }
 
 -- or no rate is greater than one that was met
-pub topped-of : (file : ScenarioFile) (limits : ScenarioLimits) (can : IsSearchable file limits.total) (total : ℕ) (s : Search) → IsSearch file limits (total + 1) [] s → total ≤ limits.total → s.topped ≡ true → IsEnded file limits s.points.items
+pub topped-of : (file : ScenarioFile) (limits : ScenarioLimits) (can : IsSearchable file limits.total) (total : ℕ) (s : Search) → IsSearch file limits (total + 1) [] s →
+    total ≤ limits.total → s.topped ≡ true → IsEnded file limits s.points.items
 topped-of file limits can total s search low is = record {
   entries = search.entries;
   known = search.known;
@@ -164,7 +172,9 @@ topped-of file limits can total s search low is = record {
 }
 
 -- what was rated is to be taken in
-module _ (file : ScenarioFile) (limits : ScenarioLimits) (can : IsSearchable file limits.total) (total : ℕ) (ds : List (Option ℕ)) (r : Rated) (best : Fraction) (rated : IsRated file limits.total best ds r) (is_total : storage_of (shared_channels file) ds ≡ total) (rest : List (List (Option ℕ))) (old : Search) (search : IsSearch file limits (total + 1) (ds ∷ rest) old) (fastest : IsBest best total old.points.items) where
+module _ (file : ScenarioFile) (limits : ScenarioLimits) (can : IsSearchable file limits.total) (total : ℕ) (ds : List (Option ℕ)) (r : Rated) (best : Fraction)
+    (rated : IsRated file limits.total best ds r) (is_total : storage_of (shared_channels file) ds ≡ total) (rest : List (List (Option ℕ))) (old : Search)
+    (search : IsSearch file limits (total + 1) (ds ∷ rest) old) (fastest : IsBest best total old.points.items) where
   pub offered : IsOffered file limits.total search.entries best total ds r old.points.items
   offered = record {
     known = search.known;
@@ -181,7 +191,9 @@ module _ (file : ScenarioFile) (limits : ScenarioLimits) (can : IsSearchable fil
   pub its-known : All (λ (c : ℕ). c < length old.levels.channels) r.enlarge
   its-known = λ k z below.
       let capped = (rated.guided (slice_index_or r.enlarge k z) (Contains-get_or r.enlarge k z below)).1 in
-      let place = capped-place (shared_channels file) ds (slice_index_or r.enlarge k z) capped.0 (search-candidate file limits can (total + 1) (ds ∷ rest) old search ds (contains-here ds rest)).distribution capped.1 in
+      let place =
+      capped-place (shared_channels file) ds (slice_index_or r.enlarge k z) capped.0
+      (search-candidate file limits can (total + 1) (ds ∷ rest) old search ds (contains-here ds rest)).distribution capped.1 in
       omega (arith, place, known-long (shared_channels file) old.levels.channels search.frontier.over)
 
   pub its-within : total ≤ old.levels.bounds.total
@@ -199,7 +211,9 @@ module _ (file : ScenarioFile) (limits : ScenarioLimits) (can : IsSearchable fil
   top-here (empty, some) = (entry_of ds r, Contains-append_right search.entries (entry_of ds r ∷ []) (entry_of ds r) (contains-here (entry_of ds r) []), some, rated.top empty some)
 
   -- the search with one more entry
-  pub taken-in : (new : Search) (points : List ScenarioPoint) → new.points.items ≡ points → IsSame old.levels new.levels → IsFrontier (shared_channels file) search.corner (total + 1) (visits_of search.entries ++ led_by ds r.enlarge ∷ []) rest new.levels → AreKnown file limits.total (search.entries ++ entry_of ds r ∷ []) points → (new.topped ≡ true → (old.topped ≡ true) ⊎ ShowsNone r) → IsSearch file limits (total + 1) rest new
+  pub taken-in : (new : Search) (points : List ScenarioPoint) → new.points.items ≡ points → IsSame old.levels new.levels →
+      IsFrontier (shared_channels file) search.corner (total + 1) (visits_of search.entries ++ led_by ds r.enlarge ∷ []) rest new.levels →
+      AreKnown file limits.total (search.entries ++ entry_of ds r ∷ []) points → (new.topped ≡ true → (old.topped ≡ true) ⊎ ShowsNone r) → IsSearch file limits (total + 1) rest new
   taken-in new points is same frontier known tops = record {
     entries = search.entries ++ entry_of ds r ∷ [];
     known = subst (AreKnown file limits.total (search.entries ++ entry_of ds r ∷ [])) (sym is) known;
@@ -210,7 +224,8 @@ module _ (file : ScenarioFile) (limits : ScenarioLimits) (can : IsSearchable fil
     top = λ h. ⊎_elim top-before top-here (tops h);
   }
 
-  pub off-same : (levels : Levels Unit) → IsFrontier (shared_channels file) search.corner (total + 1) (visits_of search.entries ++ led_by ds r.enlarge ∷ []) rest levels → levels.found - length levels.waiting.keys ≡ taken_off old
+  pub off-same : (levels : Levels Unit) → IsFrontier (shared_channels file) search.corner (total + 1) (visits_of search.entries ++ led_by ds r.enlarge ∷ []) rest levels →
+      levels.found - length levels.waiting.keys ≡ taken_off old
   off-same levels frontier =
       let before = off-is file limits can (total + 1) (ds ∷ rest) old search in
       let long = length-append (visits_of search.entries) (led_by ds r.enlarge ∷ []) in
@@ -243,7 +258,10 @@ module _ (file : ScenarioFile) (limits : ScenarioLimits) (can : IsSearchable fil
 all-unmap : {A B : Type 0} (P : B → Type 0) (f : A → B) (xs : List A) → All P (map f xs) → All (λ (x : A). P (f x)) xs
 all-unmap P f xs all = λ k d below. subst P (get_or-map f xs k d (f d) below) (all k (f d) (omega (arith, below, length-map xs f)))
 
-pub level-answers : (file : ScenarioFile) (limits : ScenarioLimits) (total : ℕ) (best : Fraction) (answers : List Answered) (fs : List (Found Unit)) → map (λ (a : Answered). a.capacities) answers ≡ map (λ (f : Found Unit). f.capacities) fs → All (λ (f : Found Unit). storage_of (shared_channels file) f.capacities.capacities ≡ total) fs → All (λ (a : Answered). IsAnswer file limits best a.capacities.capacities a.answer) answers → All (IsAnswerOf file limits total best) answers
+pub level-answers : (file : ScenarioFile) (limits : ScenarioLimits) (total : ℕ) (best : Fraction) (answers : List Answered) (fs : List (Found Unit)) →
+    map (λ (a : Answered). a.capacities) answers ≡ map (λ (f : Found Unit). f.capacities) fs →
+    All (λ (f : Found Unit). storage_of (shared_channels file) f.capacities.capacities ≡ total) fs →
+    All (λ (a : Answered). IsAnswer file limits best a.capacities.capacities a.answer) answers → All (IsAnswerOf file limits total best) answers
 level-answers file limits total best answers fs order totals all = λ k d below.
     let P : Distribution → Type 0 = λ (x : Distribution). storage_of (shared_channels file) x.capacities ≡ total in
     let of : All P (map (λ (a : Answered). a.capacities) answers) = subst (All P) (sym order) (All-map P (λ (f : Found Unit). f.capacities) fs totals) in
@@ -253,7 +271,8 @@ map-map : {A B C : Type 0} (f : B → C) (g : A → B) (xs : List A) → map f (
 map-map f g [] = refl
 map-map f g (x ∷ xs) = ap (λ ys. f (g x) ∷ ys) (map-map f g xs)
 
-pub answered-level : (answers : List Answered) (fs : List (Found Unit)) → map (λ (a : Answered). a.capacities) answers ≡ map (λ (f : Found Unit). f.capacities) fs → answered_of answers ≡ distributions_of fs
+pub answered-level : (answers : List Answered) (fs : List (Found Unit)) → map (λ (a : Answered). a.capacities) answers ≡ map (λ (f : Found Unit). f.capacities) fs →
+    answered_of answers ≡ distributions_of fs
 answered-level answers fs order =
     sym (map-map (λ (d : Distribution). d.capacities) (λ (a : Answered). a.capacities) answers)
     ∙ (ap (λ (ds : List Distribution). map (λ (d : Distribution). d.capacities) ds) order
@@ -265,13 +284,15 @@ best-before best total ps before (inl none) = inl none
 best-before best total ps before (inr (p, one, same)) = inr (p, one, same, before p one)
 
 -- the distributions of the answers that are left begin with that of the next one
-pub rest-more : (answers : List Answered) (n : ℕ) (a : Answered) → n < length answers → a ≡ slice_index_or answers n a → answered_of (drop n answers) ≡ a.capacities.capacities ∷ answered_of (drop (n + 1) answers)
+pub rest-more : (answers : List Answered) (n : ℕ) (a : Answered) → n < length answers → a ≡ slice_index_or answers n a →
+    answered_of (drop n answers) ≡ a.capacities.capacities ∷ answered_of (drop (n + 1) answers)
 rest-more answers n a below is =
     ap answered_of (drop_more answers n a below)
     ∙ ap (λ (x : Answered). x.capacities.capacities ∷ answered_of (drop (n + 1) answers)) (sym is)
 
 module _ (file : ScenarioFile) (limits : ScenarioLimits) where
-  pub all-within : (fs : List (Found Unit)) → All (λ (f : Found Unit). IsCandidate file limits.total f.capacities.capacities) fs → All (λ (f : Found Unit). IsWithin file limits.total f.capacities.capacities) fs
+  pub all-within : (fs : List (Found Unit)) → All (λ (f : Found Unit). IsCandidate file limits.total f.capacities.capacities) fs →
+      All (λ (f : Found Unit). IsWithin file limits.total f.capacities.capacities) fs
   all-within fs all = λ k d below. record { distribution = (all k d below).distribution; within = (all k d below).within }
 
 -- what taking a level off comes to
@@ -282,8 +303,10 @@ abbrev IsNextFrontier : Search → Search → Option (Level Unit) → Type 0
 IsNextFrontier old new found = (cs : List Channel) (start : List (Option ℕ)) (floor : ℕ) (visits : List Visit) → IsFrontier cs start floor visits [] old.levels →
     MatchOption found (AreVisits cs start old.levels.bounds.total visits) (λ (level : Level Unit). IsFrontier cs start (level.total + 1) visits (distributions_of level.visits.items) new.levels)
 
-module _ (file : ScenarioFile) (limits : ScenarioLimits) (can : IsSearchable file limits.total) (floor : ℕ) (old new : Search) (search : IsSearch file limits floor [] old) (points : new.points ≡ old.points) (tops : new.topped ≡ old.topped) (same : IsSame old.levels new.levels) where
-  pub next-turn : (found : Option (Level Unit)) → IsNextLevel old new found → IsNextFrontier old new found → MatchOption found (IsEnded file limits old.points.items) (λ (level : Level Unit). IsTurn file limits level new)
+module _ (file : ScenarioFile) (limits : ScenarioLimits) (can : IsSearchable file limits.total) (floor : ℕ) (old new : Search)
+    (search : IsSearch file limits floor [] old) (points : new.points ≡ old.points) (tops : new.topped ≡ old.topped) (same : IsSame old.levels new.levels) where
+  pub next-turn : (found : Option (Level Unit)) → IsNextLevel old new found → IsNextFrontier old new found →
+      MatchOption found (IsEnded file limits old.points.items) (λ (level : Level Unit). IsTurn file limits level new)
   next-turn None off frontier = ended-of file limits can floor old search (frontier (shared_channels file) search.corner floor (visits_of search.entries) search.frontier)
   next-turn (Some level) off frontier = turn-of file limits can floor old new search points tops level off same (frontier (shared_channels file) search.corner floor (visits_of search.entries) search.frontier)
 
@@ -292,7 +315,9 @@ module _ (file : ScenarioFile) (limits : ScenarioLimits) (can : IsSearchable fil
   next-more (Some level) off frontier = off-more file limits can floor old new search points tops level off same (frontier (shared_channels file) search.corner floor (visits_of search.entries) search.frontier)
 
 -- the corner waits
-pub begun : (file : ScenarioFile) (limits : ScenarioLimits) (corner : List (Option ℕ)) (s : Search) → IsCorner (shared_channels file) corner → s.points.items ≡ [] → s.levels.bounds ≡ record { total = limits.total; distributions = limits.distributions } → IsFrontier (shared_channels file) corner 0 [] [] s.levels → s.topped ≡ false → IsStanding file limits s
+pub begun : (file : ScenarioFile) (limits : ScenarioLimits) (corner : List (Option ℕ)) (s : Search) → IsCorner (shared_channels file) corner → s.points.items ≡ [] →
+    s.levels.bounds ≡ record { total = limits.total; distributions = limits.distributions } → IsFrontier (shared_channels file) corner 0 [] [] s.levels →
+    s.topped ≡ false → IsStanding file limits s
 begun file limits corner s is points bounds frontier none = (
   0,
   record {

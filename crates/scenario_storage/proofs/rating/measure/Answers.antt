@@ -10,7 +10,8 @@ pub matrix_at-requires-clause-scenario : goal.matrix_at-requires-clause-scenario
 matrix_at-requires-clause-scenario c =
     let file = c.args.plan.now.file.now in
     let ds = c.args.capacities.now.capacities in
-    let many : c.len-scenario-end.result ≡ length file.scenarios = c.len-scenario-end.ensures ∙ (ap (λ (f : ScenarioFile). length f.scenarios) c.requires.bounded ∙ length-map file.scenarios (bounded_scenario file.shared ds)) in
+    let many : c.len-scenario-end.result ≡ length file.scenarios =
+    c.len-scenario-end.ensures ∙ (ap (λ (f : ScenarioFile). length f.scenarios) c.requires.bounded ∙ length-map file.scenarios (bounded_scenario file.shared ds)) in
     omega (arith, many, c.loop-scenario-test.true)
 
 pub stopped_by-requires : goal.stopped_by-requires
@@ -33,6 +34,7 @@ pub returns : goal.returns
 returns c =
     let file = c.args.plan.now.file.now in
     let ds = c.args.capacities.now.capacities in
-    let many : c.len-scenario-end.result ≡ length file.scenarios = c.len-scenario-end.ensures ∙ (ap (λ (f : ScenarioFile). length f.scenarios) c.requires.bounded ∙ length-map file.scenarios (bounded_scenario file.shared ds)) in
+    let many : c.len-scenario-end.result ≡ length file.scenarios =
+    c.len-scenario-end.ensures ∙ (ap (λ (f : ScenarioFile). length f.scenarios) c.requires.bounded ∙ length-map file.scenarios (bounded_scenario file.shared ds)) in
     all-matrices file c.args.plan.now.gammas.now ds c.loop-scenario.scenario c.loop-scenario.matrices.items c.loop-scenario.invariant
     (can-measure file c.args.plan.now.limits.total c.requires.plan.bounded ds c.requires.fits) (omega (arith, many, c.loop-scenario-test.false, c.loop-scenario.auto.scenario-end))
