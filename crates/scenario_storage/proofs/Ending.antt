@@ -1,20 +1,20 @@
 -- A search that has ended: its points are the front.
-use Rattle.std.proofs.Common.{◌≡◌, ℕ, ◌+◌, ◌*◌, ◌≤◌, ◌<◌, ◌⊎◌, true, Option, List, [], ◌∷◌, length, map, inl, inr, ⊎_elim, refl, sym, ap, ◌∙◌, subst, arith, mul-le-mul_right}
+use Rattle.std.proofs.Common.{◌≡◌, ℕ, ◌*◌, ◌≤◌, ◌<◌, ◌⊎◌, true, Option, List, [], ◌∷◌, length, map, inl, inr, ⊎_elim, refl, sym, ap, ◌∙◌, subst, arith, mul-le-mul_right}
 use Rattle.std.specs.List.{AllPairs}
-use Rattle.std.specs.Prelude.{All, Contains, slice_index, slice_index_or}
+use Rattle.std.specs.Prelude.{Contains, slice_index, slice_index_or}
 use Rattle.std.proofs.lemmas.Bool.{cases_lt, cases_order}
 use Rattle.std.proofs.lemmas.List.{get_or-map, get_or_default, length-map}
-use Rattle.std.proofs.lemmas.List.Elements.{Contains-get_or}
+use Rattle.std.proofs.lemmas.List.Elements.{All-contains, Contains-get_or}
 use Rattle.sd_base.specs.declared.tables.ScenarioFile.{ScenarioFile}
 use Rattle.storage.specs.CapacityOrder.{no_later}
-use Rattle.storage.specs.ClosedLists.{Entry, HasEntry, IsClosedBy, IsCovered, IsFrontOverBy, entry_at, no_entry}
+use Rattle.storage.specs.ClosedLists.{Entry, HasEntry, IsClosedBy, IsCovered, entry_at, no_entry}
 use Rattle.storage.specs.Distributions.{AtMost, IsDistribution, storage_of}
-use Rattle.storage.specs.ParetoPoints.{IsFrontBy, IsReachedBy, Pair, no_pair}
+use Rattle.storage.specs.ParetoPoints.{IsFrontBy, IsReachedBy, Pair, ReachesBy, no_pair}
 use Rattle.storage.specs.StorageOrder.{stepped}
 use Rattle.storage.proofs.Climbs.{HasSteps, storage-le}
 use Rattle.storage.proofs.Covers.{covered-by}
-use Rattle.storage.proofs.FrontsFromMembers.{front-by, no_less, same-storage}
-use Rattle.levels.specs.Visits.{led_by}
+use Rattle.storage.proofs.FrontsFromMembers.{front-from, no_less, same-storage}
+use Rattle.levels.specs.Visits.{led_by, visited}
 use Rattle.bounded_scenarios.specs.SharedChannels.{shared_channels}
 use Rattle.bounded_scenarios.specs.StorageRates.{HasWorstRate}
 use Rattle.bounded_scenarios.specs.ScenarioGuides.{IsReachable}
@@ -22,9 +22,9 @@ use Rattle.scenario_storage.specs.declared.point.ScenarioLimits.{ScenarioLimits}
 use Rattle.scenario_storage.specs.declared.point.ScenarioPoint.{ScenarioPoint}
 use Rattle.scenario_storage.specs.ScenarioPoints.{AreScenarioPoints, IsPoint, ReachesPoint, pair_of}
 use Rattle.scenario_storage.specs.inside.Points.{AreRising, IsBelow}
-use Rattle.scenario_storage.specs.inside.Searches.{Covers, IsEnded, IsNoted}
+use Rattle.scenario_storage.specs.inside.Searches.{Covers, HasTop, IsEnded, IsNoted, visits_of}
 use Rattle.scenario_storage.proofs.Searchable.{IsSearchable}
-use Rattle.scenario_storage.proofs.Stepping.{entry-visit, has-entry}
+use Rattle.scenario_storage.proofs.Stepping.{entry-visit, entry-visited, has-entry}
 
 -- two elements of a list are one, or one stands before the other
 pub one-or-apart : {A : Type 0} (R : A → A → Type 0) (xs : List A) (x y : A) → AllPairs R xs → Contains xs x → Contains xs y → (x ≡ y) ⊎ (R x y ⊎ R y x)
@@ -48,7 +48,8 @@ pair-at (x ∷ ps) i below =
     let here : i < length (x ∷ ps) = omega (arith, below, length-map (x ∷ ps) pair_of) in
     (slice_index_or (x ∷ ps) i x, Contains-get_or (x ∷ ps) i x here, get_or-map pair_of (x ∷ ps) i x no_pair here)
 
-pairs-rise : (ps : List ScenarioPoint) → AreRising ps → (i j : ℕ) → i < j → j < length (map pair_of ps) → ((at ps i).storage < (at ps j).storage) × ((at ps i).num * (at ps j).den < (at ps j).num * (at ps i).den)
+pairs-rise : (ps : List ScenarioPoint) → AreRising ps → (i j : ℕ) → i < j → j < length (map pair_of ps) →
+    ((at ps i).storage < (at ps j).storage) × ((at ps i).num * (at ps j).den < (at ps j).num * (at ps i).den)
 pairs-rise [] rising i j less below = absurd (omega (arith, below))
 pairs-rise (x ∷ ps) rising i j less below =
     let there : j < length (x ∷ ps) = omega (arith, below, length-map (x ∷ ps) pair_of) in
@@ -79,13 +80,19 @@ one-point q p (inr (inl under)) early fast = absurd (omega (arith, under.1, fast
 one-point q p (inr (inr above)) early fast = absurd (omega (arith, above.0, early))
 
 -- where a point covers an entry that has no less rate and is at most a distribution of the point's storage, that one is the entry's
-least-by : (file : ScenarioFile) (e : Entry) (p : ScenarioPoint) (ds : List (Option ℕ)) → HasSteps (shared_channels file) → Covers file p e → p.rate.num * e.den ≤ e.num * p.rate.den → AtMost e.capacities ds → IsDistribution (shared_channels file) e.capacities → storage_of (shared_channels file) ds ≡ p.total → no_later p.capacities.capacities ds ≡ true
+least-by : (file : ScenarioFile) (e : Entry) (p : ScenarioPoint) (ds : List (Option ℕ)) → HasSteps (shared_channels file) → Covers file p e →
+    p.rate.num * e.den ≤ e.num * p.rate.den → AtMost e.capacities ds → IsDistribution (shared_channels file) e.capacities →
+    storage_of (shared_channels file) ds ≡ p.total → no_later p.capacities.capacities ds ≡ true
 least-by file e p ds steps covers bounds most dist total =
     let low : storage_of (shared_channels file) e.capacities ≤ storage_of (shared_channels file) ds = storage-le (shared_channels file) e.capacities ds most in
     let equal : p.total ≡ storage_of (shared_channels file) e.capacities = omega (arith, low, covers.storage, total) in
     let cross : e.num * p.rate.den ≡ p.rate.num * e.den = omega (arith, covers.rate, bounds) in
     let same : e.capacities ≡ ds = same-storage (shared_channels file) e.capacities ds steps.size dist most (omega (arith, equal, total)) in
     subst (λ (xs : List (Option ℕ)). no_later p.capacities.capacities xs ≡ true) same (covers.tie equal cross)
+
+-- an entry has a rate above 0, needs no more storage and has no lesser rate
+abbrev Meets : ScenarioFile → List Entry → Pair → Entry → Type 0
+Meets file es p e = Contains es e × (1 ≤ e.num) × (storage_of (shared_channels file) e.capacities ≤ p.storage) × (p.num * e.den ≤ e.num * p.den)
 
 module _ (file : ScenarioFile) (limits : ScenarioLimits) (can : IsSearchable file limits.total) (ps : List ScenarioPoint) (ended : IsEnded file limits ps) where
   there : (i : ℕ) → i < length ended.entries → Contains ended.entries (entry_at ended.entries i)
@@ -94,8 +101,14 @@ module _ (file : ScenarioFile) (limits : ScenarioLimits) (can : IsSearchable fil
   noted : (i : ℕ) → i < length ended.entries → IsNoted file limits.total (entry_at ended.entries i)
   noted i below = ended.known.noted (entry_at ended.entries i) (there i below)
 
+  -- entries need no more than the storage up to which the search went
+  entry-low : (e : Entry) → Contains ended.entries e → storage_of (shared_channels file) e.capacities ≤ ended.storage
+  entry-low e one =
+      All-contains (λ (ds : List (Option ℕ)). storage_of (shared_channels file) ds ≤ ended.storage)
+      (visited (visits_of ended.entries)) e.capacities ended.visits.within (entry-visited ended.entries e one)
+
   nexts : (i j : ℕ) → i < length ended.entries → j < length (entry_at ended.entries i).shown →
-      storage_of (shared_channels file) (stepped (shared_channels file) (entry_at ended.entries i).capacities (slice_index (entry_at ended.entries i).shown j)) ≤ limits.total →
+      storage_of (shared_channels file) (stepped (shared_channels file) (entry_at ended.entries i).capacities (slice_index (entry_at ended.entries i).shown j)) ≤ ended.storage →
       HasEntry ended.entries (stepped (shared_channels file) (entry_at ended.entries i).capacities (slice_index (entry_at ended.entries i).shown j))
   nexts i j below shown within =
       let e : Entry = entry_at ended.entries i in
@@ -103,18 +116,18 @@ module _ (file : ScenarioFile) (limits : ScenarioLimits) (can : IsSearchable fil
       has-entry ended.entries (stepped (shared_channels file) e.capacities c)
       (ended.visits.next (led_by e.capacities e.shown) (stepped (shared_channels file) e.capacities c) (entry-visit ended.entries e (there i below)) (c, Contains-get_or (entry_at ended.entries i).shown j 0 shown, refl) within)
 
-  closed : IsClosedBy (shared_channels file) (HasWorstRate file) limits.total ended.entries
+  closed : IsClosedBy (shared_channels file) (HasWorstRate file) ended.storage ended.entries
   closed = record {
     corner = ended.corner;
     is_corner = ended.is_corner;
     start = λ fits. has-entry ended.entries ended.corner (ended.visits.begins fits);
     distributions = λ i below. (noted i below).candidate.distribution;
     grid = λ i below. (noted i below).candidate.grid;
-    within = λ i below. (noted i below).candidate.within;
+    within = λ i below. entry-low (entry_at ended.entries i) (there i below);
     next = nexts;
     positive = λ i below. (noted i below).positive;
-    above = λ ds p q dist within rate runs. can.above ended.corner ds p q ended.is_corner dist within rate runs;
-    bounds = λ i below ds dist within most agrees p q rate runs. (noted i below).bounds ds dist within most agrees p q rate runs;
+    above = λ ds p q dist within rate runs. can.above ended.corner ds p q ended.is_corner dist (omega (arith, within, ended.low)) rate runs;
+    bounds = λ i below ds dist within most agrees p q rate runs. (noted i below).bounds ds dist (omega (arith, within, ended.low)) most agrees p q rate runs;
   }
 
   reaches : (p : ScenarioPoint) → Contains ps p → ReachesPoint file limits.total p p.capacities.capacities
@@ -135,36 +148,74 @@ module _ (file : ScenarioFile) (limits : ScenarioLimits) (can : IsSearchable fil
       let p = pair-at ps i below in
       subst (IsReachedBy (shared_channels file) (HasWorstRate file) limits.total) (sym p.2) (p.0.capacities.capacities, reaches p.0 p.1)
 
-  over : IsFrontOverBy (shared_channels file) (HasWorstRate file) limits.total ended.entries (map pair_of ps)
-  over = record {
-    storage = λ i j less below. (pairs-rise ps ended.known.rising i j less below).0;
-    rate = λ i j less below. (pairs-rise ps ended.known.rising i j less below).1;
-    reached = reached;
-    covers = λ i below runs.
-        let c = ended.known.covers (entry_at ended.entries i) (there i below) runs in
-        let k = point-pair ps c.0 c.1 in (
-          k.0,
-          k.1,
-          subst (λ (x : Pair). x.storage ≤ storage_of (shared_channels file) (entry_at ended.entries i).capacities) (sym k.2) c.2.storage,
-          subst (λ (x : Pair). (entry_at ended.entries i).num * x.den ≤ x.num * (entry_at ended.entries i).den) (sym k.2) c.2.rate,
-        );
-  }
+  -- what is reached up to that storage is covered by an entry
+  within-met : (t p q : ℕ) (ds : List (Option ℕ)) → ReachesBy (shared_channels file) (HasWorstRate file) limits.total t p q ds → t ≤ ended.storage → IsCovered ended.entries ds p q
+  within-met t p q ds is low =
+      covered-by (shared_channels file) (HasWorstRate file) can.steps ended.storage ended.entries closed t p q ds
+      (record { distribution = is.distribution; total = is.total; within = low; rate = is.rate; runs = is.runs })
+
+  met : (p : Pair) → IsReachedBy (shared_channels file) (HasWorstRate file) limits.total p → (e : Entry) × Meets file ended.entries p e
+  met p (ds, is) = ⊎_elim beyond near (cases_lt ended.storage p.storage)
+    where
+      beyond : ended.storage < p.storage → (e : Entry) × Meets file ended.entries p e
+      beyond past = ⊎_elim
+          (λ (all : limits.total ≤ ended.storage). absurd (let fits = is.within in omega (arith, all, past, fits)))
+          (λ (top : HasTop file limits.total ended.entries). (
+            top.0,
+            (top.1, top.2, omega (arith, entry-low top.0 top.1, past), top.3 ds is.distribution (let fits = is.within in omega (arith, fits, is.total)) p.num p.den is.rate is.runs),
+          ))
+          ended.rest
+
+      near : p.storage ≤ ended.storage → (e : Entry) × Meets file ended.entries p e
+      near low =
+          let cover : IsCovered ended.entries ds p.num p.den = within-met p.storage p.num p.den ds is low in
+          let e : Entry = entry_at ended.entries cover.place in
+          let small : storage_of (shared_channels file) (entry_at ended.entries cover.place).capacities ≤ storage_of (shared_channels file) ds = storage-le (shared_channels file) e.capacities ds cover.most in (
+            entry_at ended.entries cover.place,
+            (
+              there cover.place cover.below,
+              positive-on p.num p.den e.num e.den is.runs (noted cover.place cover.below).positive cover.bounds,
+              omega (arith, small, is.total),
+              cover.bounds,
+            ),
+          )
 
   front : IsFrontBy (shared_channels file) (HasWorstRate file) limits.total (map pair_of ps)
-  front = front-by (shared_channels file) (HasWorstRate file) can.lowest can.steps limits.total ended.entries (map pair_of ps) closed over
+  front = front-from (shared_channels file) (HasWorstRate file) can.lowest limits.total (map pair_of ps)
+      (record { storage = λ i j less below. (pairs-rise ps ended.known.rising i j less below).0; rate = λ i j less below. (pairs-rise ps ended.known.rising i j less below).1 })
+      reached
+      (λ p is.
+      let m = met p is in
+      let c = ended.known.covers m.0 m.1.0 m.1.1 in
+      let k = point-pair ps c.0 c.1 in
+      let storage : (at ps k.0).storage ≤ storage_of (shared_channels file) m.0.capacities = subst (λ (x : Pair). x.storage ≤ storage_of (shared_channels file) m.0.capacities) (sym k.2) c.2.storage in
+      let rate : m.0.num * (at ps k.0).den ≤ (at ps k.0).num * m.0.den = subst (λ (x : Pair). m.0.num * x.den ≤ x.num * m.0.den) (sym k.2) c.2.rate in
+      record {
+        place = k.0;
+        below = k.1;
+        storage = omega (arith, storage, m.1.2);
+        rate = no_less p.num p.den m.0.num m.0.den (at ps k.0).num (at ps k.0).den (ended.known.noted m.0 m.1.0).positive m.1.3 rate;
+      })
+
+  point-low : (p : ScenarioPoint) → Contains ps p → p.total ≤ ended.storage
+  point-low p one = let of = ended.known.among p one in omega (arith, entry-low of.0 of.1, of.2.total)
 
   -- a distribution that reaches what a point does is a member that the point covers, and no other point does
   least : (p : ScenarioPoint) → Contains ps p → (ds : List (Option ℕ)) → ReachesPoint file limits.total p ds → no_later p.capacities.capacities ds ≡ true
   least p one ds is =
-      let cover : IsCovered ended.entries ds p.rate.num p.rate.den = covered-by (shared_channels file) (HasWorstRate file) can.steps limits.total ended.entries closed p.total p.rate.num p.rate.den ds is in
+      let cover : IsCovered ended.entries ds p.rate.num p.rate.den = within-met p.total p.rate.num p.rate.den ds is (point-low p one) in
       let n = noted cover.place cover.below in
-      let runs : 1 ≤ (entry_at ended.entries cover.place).num = positive-on p.rate.num p.rate.den (entry_at ended.entries cover.place).num (entry_at ended.entries cover.place).den is.runs n.positive cover.bounds in
+      let runs : 1 ≤ (entry_at ended.entries cover.place).num =
+      positive-on p.rate.num p.rate.den (entry_at ended.entries cover.place).num (entry_at ended.entries cover.place).den is.runs n.positive cover.bounds in
       let c = ended.known.covers (entry_at ended.entries cover.place) (there cover.place cover.below) runs in
-      let low : storage_of (shared_channels file) (entry_at ended.entries cover.place).capacities ≤ storage_of (shared_channels file) ds = storage-le (shared_channels file) (entry_at ended.entries cover.place).capacities ds cover.most in
-      let fast : p.rate.num * c.0.rate.den ≤ c.0.rate.num * p.rate.den = no_less p.rate.num p.rate.den (entry_at ended.entries cover.place).num (entry_at ended.entries cover.place).den c.0.rate.num c.0.rate.den n.positive cover.bounds c.2.rate in
+      let low : storage_of (shared_channels file) (entry_at ended.entries cover.place).capacities ≤ storage_of (shared_channels file) ds =
+      storage-le (shared_channels file) (entry_at ended.entries cover.place).capacities ds cover.most in
+      let fast : p.rate.num * c.0.rate.den ≤ c.0.rate.num * p.rate.den =
+      no_less p.rate.num p.rate.den (entry_at ended.entries cover.place).num (entry_at ended.entries cover.place).den c.0.rate.num c.0.rate.den n.positive cover.bounds c.2.rate in
       let early : c.0.total ≤ p.total = omega (arith, low, is.total, c.2.storage) in
       let same : c.0 ≡ p = one-point c.0 p (one-or-apart IsBelow ps c.0 p ended.known.rising c.1 one) early fast in
-      least-by file (entry_at ended.entries cover.place) p ds can.steps (subst (λ (x : ScenarioPoint). Covers file x (entry_at ended.entries cover.place)) same c.2) cover.bounds cover.most n.candidate.distribution is.total
+      least-by file (entry_at ended.entries cover.place) p ds can.steps
+      (subst (λ (x : ScenarioPoint). Covers file x (entry_at ended.entries cover.place)) same c.2) cover.bounds cover.most n.candidate.distribution is.total
 
   point-is : (p : ScenarioPoint) → Contains ps p → IsPoint file limits.total p
   point-is p one =

@@ -1,5 +1,5 @@
 -- The repetition vectors of scenarios, one after another.
-use Rattle.std.proofs.Common.{◌≡◌, ℕ, ◌+◌, ◌≤◌, ◌<◌, Some, List, [], ◌∷◌, ◌++◌, length, ⊎_elim, refl, sym, ap, ◌∙◌, subst, arith}
+use Rattle.std.proofs.Common.{◌≡◌, ℕ, ◌+◌, ◌≤◌, ◌<◌, Some, List, [], ◌∷◌, ◌++◌, length, ⊎_elim, refl, subst, arith}
 use Rattle.std.specs.Prelude.{Result, Ok, Err, slice_get}
 use Rattle.std.proofs.lemmas.Bool.{cases_lt}
 use Rattle.std.proofs.lemmas.List.{length-append}
@@ -18,7 +18,8 @@ pub record AreRoundsTo (file : ScenarioFile) (n : ℕ) (gammas : List (List ℕ)
   pub all : length gammas ≡ n
   pub each : (s : ℕ) (row : ScenarioRow) → s < n → slice_get file.scenarios s ≡ Some row → (gamma : List ℕ) × (slice_get gammas s ≡ Some gamma) × IsRound row.graph gamma
 
-pub rounds-more : (file : ScenarioFile) (n : ℕ) (gammas : List (List ℕ)) (row : ScenarioRow) (gamma : List ℕ) → AreRoundsTo file n gammas → slice_get file.scenarios n ≡ Some row → IsRound row.graph gamma → AreRoundsTo file (n + 1) (gammas ++ gamma ∷ [])
+pub rounds-more : (file : ScenarioFile) (n : ℕ) (gammas : List (List ℕ)) (row : ScenarioRow) (gamma : List ℕ) → AreRoundsTo file n gammas →
+    slice_get file.scenarios n ≡ Some row → IsRound row.graph gamma → AreRoundsTo file (n + 1) (gammas ++ gamma ∷ [])
 rounds-more file n gammas row gamma are at is = record {
   all = omega (arith, are.all, length-append gammas (gamma ∷ []));
   each = λ s other below there.

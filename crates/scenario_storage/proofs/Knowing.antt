@@ -1,5 +1,5 @@
 -- What is known of distributions that were rated, with one more.
-use Rattle.std.proofs.Common.{◌≡◌, ℕ, ◌+◌, ◌*◌, ◌≤◌, ◌<◌, ◌⊎◌, true, false, Option, None, Some, List, [], ◌∷◌, ◌++◌, length, inl, inr, ⊎_elim, refl, sym, ap, ◌∙◌, subst, arith, mul-le-mul_left, mul-le-mul_right}
+use Rattle.std.proofs.Common.{◌≡◌, ℕ, ◌*◌, ◌≤◌, ◌<◌, true, Option, None, Some, List, [], ◌∷◌, ◌++◌, length, inl, inr, ⊎_elim, sym, ap, ◌∙◌, subst, arith, mul-le-mul_left, mul-le-mul_right}
 use Rattle.std.specs.Prelude.{All, Contains, MatchOption, OnOk, Result, Ok, Err, slice_index_or}
 use Rattle.std.proofs.lemmas.Bool.{cases_lt, true≢false}
 use Rattle.std.proofs.lemmas.List.Elements.{Contains-append_left, Contains-get_or, Contains-push, Contains-push_cases}
@@ -23,8 +23,8 @@ use Rattle.scenario_storage.specs.declared.rated.Evidence.{Evidence}
 use Rattle.scenario_storage.specs.declared.rated.Rated.{Rated}
 use Rattle.scenario_storage.specs.ScenarioPoints.{IsShownBy}
 use Rattle.scenario_storage.specs.inside.Levels.{Shows}
-use Rattle.scenario_storage.specs.inside.Points.{AreRising, HasNoSlower, IsPut, IsSlower, IsTaken}
-use Rattle.scenario_storage.specs.inside.Searches.{AreKnown, Covers, IsBest, IsCoveredBy, IsNoted, IsOffered, IsPointFor, IsPointOf, IsPointWith, KeepsEarlier, entry_of}
+use Rattle.scenario_storage.specs.inside.Points.{HasNoSlower, IsPut, IsTaken}
+use Rattle.scenario_storage.specs.inside.Searches.{AreKnown, IsBest, IsCoveredBy, IsNoted, IsOffered, IsPointFor, IsPointOf, IsPointWith, KeepsEarlier, entry_of}
 use Rattle.scenario_storage.proofs.PointOrder.{put-rising}
 
 -- of fractions: no more than what is less than a third one
@@ -36,7 +36,8 @@ below_less a b c d e f some one other =
     (cases_lt (a * f) (e * b))
 
 -- what stands before in order and needs as much is no later
-pub before-no_later : (file : ScenarioFile) (ds es : List (Option ℕ)) → IsBefore (shared_channels file) ds es → storage_of (shared_channels file) ds ≡ storage_of (shared_channels file) es → no_later ds es ≡ true
+pub before-no_later : (file : ScenarioFile) (ds es : List (Option ℕ)) → IsBefore (shared_channels file) ds es →
+    storage_of (shared_channels file) ds ≡ storage_of (shared_channels file) es → no_later ds es ≡ true
 before-no_later file ds es (inl less) same = absurd (omega (arith, less, same))
 before-no_later file ds es (inr (equal, not)) same =
     ⊎_elim
@@ -49,7 +50,8 @@ before-le file ds es (inl less) = omega (arith, less)
 before-le file ds es (inr (equal, not)) = omega (arith, equal)
 
 -- the entry that a rating makes is noted
-pub offered-noted : (file : ScenarioFile) (limit : ℕ) (es : List Entry) (best : Fraction) (total : ℕ) (ds : List (Option ℕ)) (r : Rated) (ps : List ScenarioPoint) → IsOffered file limit es best total ds r ps → IsNoted file limit (entry_of ds r)
+pub offered-noted : (file : ScenarioFile) (limit : ℕ) (es : List Entry) (best : Fraction) (total : ℕ) (ds : List (Option ℕ)) (r : Rated) (ps : List ScenarioPoint) →
+    IsOffered file limit es best total ds r ps → IsNoted file limit (entry_of ds r)
 offered-noted file limit es best total ds r ps is = record {
   candidate = is.candidate;
   rate = is.rated.rate;
@@ -58,7 +60,8 @@ offered-noted file limit es best total ds r ps is = record {
   bounds = is.rated.bounds;
 }
 
-module _ (file : ScenarioFile) (limit : ℕ) (es : List Entry) (best : Fraction) (total : ℕ) (ds : List (Option ℕ)) (r : Rated) (ps : List ScenarioPoint) (is : IsOffered file limit es best total ds r ps) where
+module _ (file : ScenarioFile) (limit : ℕ) (es : List Entry) (best : Fraction) (total : ℕ) (ds : List (Option ℕ)) (r : Rated) (ps : List ScenarioPoint)
+    (is : IsOffered file limit es best total ds r ps) where
   -- points so far need no more storage
   pub offered-late : (p : ScenarioPoint) → Contains ps p → p.total ≤ total
   offered-late p one =
@@ -76,7 +79,8 @@ module _ (file : ScenarioFile) (limit : ℕ) (es : List Entry) (best : Fraction)
   among-old : (p : ScenarioPoint) → Contains ps p → IsPointOf file (es ++ entry_of ds r ∷ []) p
   among-old p one = let of = is.known.among p one in (of.0, Contains-append_left es (entry_of ds r ∷ []) of.0 of.1, of.2)
 
-  covers-more : (new : List ScenarioPoint) → ((x : Entry) → Contains es x → 1 ≤ x.num → IsCoveredBy file new x) → (1 ≤ r.rate.num → IsCoveredBy file new (entry_of ds r)) → (x : Entry) → Contains (es ++ entry_of ds r ∷ []) x → 1 ≤ x.num → IsCoveredBy file new x
+  covers-more : (new : List ScenarioPoint) → ((x : Entry) → Contains es x → 1 ≤ x.num → IsCoveredBy file new x) →
+      (1 ≤ r.rate.num → IsCoveredBy file new (entry_of ds r)) → (x : Entry) → Contains (es ++ entry_of ds r ∷ []) x → 1 ≤ x.num → IsCoveredBy file new x
   covers-more new old mine x one runs =
       ⊎_elim
       (λ (h : Contains es x). old x h runs)
@@ -213,12 +217,14 @@ shown-runs file ds rate e shows =
     (λ (some : 1 ≤ rate.num). some)
     (cases_lt rate.num 1)
 
-module _ (file : ScenarioFile) (limit : ℕ) (es : List Entry) (best : Fraction) (total : ℕ) (d : Distribution) (r : Rated) (ps : List ScenarioPoint) (is : IsOffered file limit es best total d.capacities r ps) where
+module _ (file : ScenarioFile) (limit : ℕ) (es : List Entry) (best : Fraction) (total : ℕ) (d : Distribution) (r : Rated) (ps : List ScenarioPoint)
+    (is : IsOffered file limit es best total d.capacities r ps) where
   pub late-all : All (λ (p : ScenarioPoint). p.total ≤ total) ps
   late-all = λ k x below. offered-late file limit es best total d.capacities r ps is (slice_index_or ps k x) (Contains-get_or ps k x below)
 
   -- the point of a distribution whose evidence was kept
-  pub kept-known : (e : Evidence) → r.evidence ≡ Some e → (point : ScenarioPoint) → IsPointWith total r.rate d e point → (new : List ScenarioPoint) → IsTaken point ps new → AreKnown file limit (es ++ entry_of d.capacities r ∷ []) new
+  pub kept-known : (e : Evidence) → r.evidence ≡ Some e → (point : ScenarioPoint) → IsPointWith total r.rate d e point → (new : List ScenarioPoint) →
+      IsTaken point ps new → AreKnown file limit (es ++ entry_of d.capacities r ∷ []) new
   kept-known e some point with new taken = taken-known file limit es best total d.capacities r ps is point new (record {
     capacities = ap (λ (x : Distribution). x.capacities) (sym with.capacities_are);
     num = ap (λ (f : Fraction). f.num) (sym with.rate_is);

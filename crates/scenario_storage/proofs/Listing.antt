@@ -1,5 +1,5 @@
 -- Lists of the numbers that are told, one after another.
-use Rattle.std.proofs.Common.{◌≡◌, ℕ, zero, suc, ◌+◌, ◌*◌, ◌≤◌, ◌<◌, ◌⊎◌, Some, List, [], ◌∷◌, ◌++◌, length, inl, inr, ⊎_elim, subst, sym, arith}
+use Rattle.std.proofs.Common.{◌≡◌, ℕ, zero, suc, ◌+◌, ◌*◌, ◌≤◌, ◌<◌, ◌⊎◌, Some, List, [], ◌∷◌, ◌++◌, length, inl, inr, ⊎_elim, subst, arith}
 use Rattle.std.specs.Prelude.{◌↔◌, Contains, slice_get}
 use Rattle.std.proofs.lemmas.Bool.{cases_lt}
 use Rattle.std.proofs.lemmas.List.Elements.{Contains-append_left, Contains-push, Contains-push_cases}
@@ -16,7 +16,8 @@ use Rattle.scenario_storage.specs.inside.Shown.{IsEntryIn, place_of, scenario_at
 pub listed-more : (P : ℕ → Type 0) (xs : List ℕ) (n : ℕ) → ((c : ℕ) → Contains xs c ↔ ((c < n) × P c)) → P n → (c : ℕ) → Contains (xs ++ n ∷ []) c ↔ ((c < n + 1) × P c)
 listed-more P xs n listed here c = (
   λ has. ⊎_elim (λ (h : Contains xs c). let old = (listed c).0 h in (omega (arith, old.0), old.1)) (λ (h : n ≡ c). (omega (arith, h), subst P h here)) (Contains-push_cases xs n c has),
-  λ both. ⊎_elim (λ (less : c < n). Contains-append_left xs (n ∷ []) c ((listed c).1 (less, both.1))) (λ (past : n ≤ c). let same : n ≡ c = omega (arith, past, both.0) in subst (Contains (xs ++ n ∷ [])) same (Contains-push xs n)) (cases_lt c n),
+  λ both. ⊎_elim (λ (less : c < n). Contains-append_left xs (n ∷ []) c ((listed c).1 (less, both.1)))
+      (λ (past : n ≤ c). let same : n ≡ c = omega (arith, past, both.0) in subst (Contains (xs ++ n ∷ [])) same (Contains-push xs n)) (cases_lt c n),
 )
 
 pub listed-other : (P : ℕ → Type 0) (xs : List ℕ) (n : ℕ) → ((c : ℕ) → Contains xs c ↔ ((c < n) × P c)) → (P n → ⊥) → (c : ℕ) → Contains xs c ↔ ((c < n + 1) × P c)
@@ -31,7 +32,8 @@ listed-all P xs n listed below c = (λ has. ((listed c).0 has).1, λ here. (list
 
 -- entries of edges of a cycle, one edge after another
 
-module _ (states : List StateRow) (graph : TimedGraph) (cycle : List ℕ) (n s : ℕ) (entries : List EntryPlace) (e : Edge) (at : slice_get graph.edges n ≡ Some e) (listed : (x : EntryPlace) → Contains entries x ↔ IsEntryIn states graph cycle s x) where
+module _ (states : List StateRow) (graph : TimedGraph) (cycle : List ℕ) (n s : ℕ) (entries : List EntryPlace) (e : Edge) (at : slice_get graph.edges n ≡ Some e)
+    (listed : (x : EntryPlace) → Contains entries x ↔ IsEntryIn states graph cycle s x) where
   older : (x : EntryPlace) → IsEntryIn states graph cycle s x → IsEntryIn states graph (cycle ++ n ∷ []) s x
   older x is = record { number = is.number; on = Contains-append_left cycle (n ∷ []) is.number is.on; edge = is.edge; is = is.is; scenario = is.scenario; place = is.place }
 

@@ -1,5 +1,5 @@
 -- Longest ways of the edges of a cycle, and the shared channels whose free space is taken on them.
-use Rattle.std.proofs.Common.{◌≡◌, ℕ, ◌+◌, ◌*◌, ◌/◌, ◌%◌, ◌≤◌, ◌<◌, ◌⊎◌, Bool, true, false, Option, None, Some, List, [], length, map, inl, inr, ⊎_elim, refl, sym, ap, ◌∙◌, subst, arith}
+use Rattle.std.proofs.Common.{◌≡◌, ℕ, ◌+◌, ◌*◌, ◌/◌, ◌%◌, ◌≤◌, ◌<◌, Bool, true, false, Option, Some, List, [], length, map, inl, inr, ⊎_elim, refl, sym, ap, ◌∙◌, subst, arith}
 use Rattle.std.specs.Prelude.{◌↔◌, Contains, option_map, slice_get, slice_index_or}
 use Rattle.std.proofs.lemmas.Bool.{cases_lt, true≢false}
 use Rattle.std.proofs.lemmas.List.{get_or_default, get_or_past, length-map}
@@ -72,7 +72,8 @@ pub record AreMarkedTo (file : ScenarioFile) (ds : List (Option ℕ)) (graph : T
   pub taken : (c : ℕ) → slice_index_or marks c false ≡ true → IsTakenOn file ds graph cycle c
   pub shows : (k : ℕ) (e : Edge) → Contains cycle k → slice_get graph.edges k ≡ Some e → scenario_at file.states graph.tokens e < n → HasMarkedWay file ds graph.tokens e marks
 
-module _ (file : ScenarioFile) (gammas : List (List ℕ)) (ds : List (Option ℕ)) (can : CanBeMeasured file ds) (shares : (k : ℕ) (row : ScenarioRow) → slice_get file.scenarios k ≡ Some row → Shares file.shared row.graph) (graph : TimedGraph) (is : IsTimedGraph (bounded_file file ds) graph) where
+module _ (file : ScenarioFile) (gammas : List (List ℕ)) (ds : List (Option ℕ)) (can : CanBeMeasured file ds)
+    (shares : (k : ℕ) (row : ScenarioRow) → slice_get file.scenarios k ≡ Some row → Shares file.shared row.graph) (graph : TimedGraph) (is : IsTimedGraph (bounded_file file ds) graph) where
   module _ (k : ℕ) (e : Edge) (at : slice_get graph.edges k ≡ Some e) where
     abbrev Entry : Type 0
     Entry = FromEntry (bounded_file file ds) graph is e
@@ -137,7 +138,8 @@ module _ (file : ScenarioFile) (gammas : List (List ℕ)) (ds : List (Option ℕ
         )
 
         -- a longest way takes the time of the edge
-        module _ (cs : List ℕ) (longest : IsLongestWay (bounded_net file.shared ds sc.row.graph sc.gamma) (first_of (bounded_file file ds).shared (bounded_graph file.shared ds sc.row.graph)) (place_of graph.tokens e).column (place_of graph.tokens e).row cs) where
+        module _ (cs : List ℕ)
+            (longest : IsLongestWay (bounded_net file.shared ds sc.row.graph sc.gamma) (first_of (bounded_file file ds).shared (bounded_graph file.shared ds sc.row.graph)) (place_of graph.tokens e).column (place_of graph.tokens e).row cs) where
           time-way : IsWay (bounded_net file.shared ds sc.row.graph sc.gamma) (first_of (bounded_file file ds).shared (bounded_graph file.shared ds sc.row.graph)) f.i f.j longest.time cs
           time-way =
               subst (λ (p : ℕ). IsWay (bounded_net file.shared ds sc.row.graph sc.gamma) (first_of (bounded_file file ds).shared (bounded_graph file.shared ds sc.row.graph)) p f.j longest.time cs) column-is
@@ -193,14 +195,16 @@ module _ (file : ScenarioFile) (gammas : List (List ℕ)) (ds : List (Option ℕ
 
   module _ (s : ℕ) (sc : IsScenarioAt file gammas s) (cycle : List ℕ) (entries : List EntryPlace) (listed : (x : EntryPlace) → Contains entries x ↔ IsEntryIn file.states graph cycle s x) where
     -- each entry has a way
-    pub have-ways : (x : EntryPlace) → Contains entries x → HasWay (bounded_net file.shared ds sc.row.graph sc.gamma) (first_of (bounded_file file ds).shared (bounded_graph file.shared ds sc.row.graph)) x
+    pub have-ways : (x : EntryPlace) → Contains entries x →
+        HasWay (bounded_net file.shared ds sc.row.graph sc.gamma) (first_of (bounded_file file ds).shared (bounded_graph file.shared ds sc.row.graph)) x
     have-ways x one =
         let it = (listed x).0 one in
         subst (HasWay (bounded_net file.shared ds sc.row.graph sc.gamma) (first_of (bounded_file file ds).shared (bounded_graph file.shared ds sc.row.graph))) it.place
         (has-way it.number it.edge it.is (entry-from it.number it.edge it.is) s sc it.scenario)
 
   -- one more scenario
-  module _ (s : ℕ) (cycle : List ℕ) (entries : List EntryPlace) (listed : (x : EntryPlace) → Contains entries x ↔ IsEntryIn file.states graph cycle s x) (old new : List Bool) (more : AreSpaceMarks file gammas ds s entries old new) (was : AreMarkedTo file ds graph cycle s old) where
+  module _ (s : ℕ) (cycle : List ℕ) (entries : List EntryPlace) (listed : (x : EntryPlace) → Contains entries x ↔ IsEntryIn file.states graph cycle s x)
+      (old new : List Bool) (more : AreSpaceMarks file gammas ds s entries old new) (was : AreMarkedTo file ds graph cycle s old) where
     kept : (c : ℕ) → slice_index_or old c false ≡ true → slice_index_or new c false ≡ true
     kept c is_old = (more.marked c (marked-within old c is_old)).1 (inl is_old)
 
@@ -215,7 +219,8 @@ module _ (file : ScenarioFile) (gammas : List (List ℕ)) (ds : List (Option ℕ
           slice_index_or more.ways place.0 [],
           way-of k e at (entry-from k e at) s more.scenario same (slice_index_or more.ways place.0 []) (more.longest place.0 (place_of graph.tokens e) place.1),
           λ c i row row_at one is_space.
-              let has : HasSpace (spaces_from (length more.scenario.row.graph.channels) ds) c i = space-number file ds more.scenario.row.graph (shares s more.scenario.row more.scenario.at) c i row row_at is_space in
+              let has : HasSpace (spaces_from (length more.scenario.row.graph.channels) ds) c i =
+              space-number file ds more.scenario.row.graph (shares s more.scenario.row more.scenario.at) c i row row_at is_space in
               let below : c < length old = (let b = slice_get_within file.shared c row row_at in omega (arith, b, was.long)) in
               (more.marked c below).1 (inr (i, has, (slice_index_or more.ways place.0 [], Contains-get_or more.ways place.0 [] low, one))),
         )
@@ -254,7 +259,8 @@ module _ (file : ScenarioFile) (gammas : List (List ℕ)) (ds : List (Option ℕ
       long = more.long ∙ was.long;
       taken = λ c is_new.
           let below : c < length old = (let b = marked-within new c is_new in omega (arith, b, more.long)) in
-          ⊎_elim (λ (h : slice_index_or old c false ≡ true). was.taken c h) (λ (h : (i : ℕ) × HasSpace (spaces_from (length more.scenario.row.graph.channels) ds) c i × IsOnSome more.ways i). taken-new c h.0 below h.1 h.2) ((more.marked c below).0 is_new);
+          ⊎_elim (λ (h : slice_index_or old c false ≡ true). was.taken c h)
+          (λ (h : (i : ℕ) × HasSpace (spaces_from (length more.scenario.row.graph.channels) ds) c i × IsOnSome more.ways i). taken-new c h.0 below h.1 h.2) ((more.marked c below).0 is_new);
       shows = λ k e on at low.
           ⊎_elim
           (λ (before : scenario_at file.states graph.tokens e < s). let w = was.shows k e on at before in (w.0, w.1, w.2, λ c i row row_at one is_space. kept c (w.3 c i row row_at one is_space)))

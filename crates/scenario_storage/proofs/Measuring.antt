@@ -1,5 +1,5 @@
 -- The matrices of the scenarios of a bounded file, one after another.
-use Rattle.std.proofs.Common.{◌≡◌, false, ℕ, ◌+◌, ◌*◌, ◌≤◌, ◌<◌, Option, Some, List, [], ◌∷◌, ◌++◌, length, map, ⊎_elim, refl, sym, ap, ◌∙◌, subst, arith}
+use Rattle.std.proofs.Common.{◌≡◌, false, ℕ, ◌+◌, ◌*◌, ◌≤◌, ◌<◌, Option, Some, List, [], ◌∷◌, ◌++◌, length, ⊎_elim, sym, subst, arith}
 use Rattle.std.specs.Prelude.{Result, Ok, Err, IfErr, IfOk, OnOk, slice_get, slice_index_or, sum}
 use Rattle.std.proofs.lemmas.Bool.{cases_lt}
 use Rattle.std.proofs.lemmas.List.{get_or_append_left, get_or-append-add, get_or_default, length-append, length-map}
@@ -21,9 +21,8 @@ use Rattle.token_matrix.proofs.Rows.{get_there}
 use Rattle.automaton.specs.TimedGraphs.{AreMatrices, AreSized}
 use Rattle.bounded_scenarios.specs.BoundedFiles.{bounded_file, bounded_graph, bounded_scenario}
 use Rattle.bounded_scenarios.specs.Boundings.{CanBeMeasured, GivesMatrix}
-use Rattle.bounded_scenarios.specs.StorageRates.{AllRun, RunsOn, bounded_net}
-use Rattle.scenario_storage.specs.declared.point.ScenarioLimits.{ScenarioLimits}
-use Rattle.scenario_storage.specs.inside.Levels.{AreRounds, IsPlan}
+use Rattle.bounded_scenarios.specs.StorageRates.{RunsOn, bounded_net}
+use Rattle.scenario_storage.specs.inside.Levels.{AreRounds}
 use Rattle.scenario_storage.specs.inside.Ratings.{AreAllMatrices, IsMatrixAnswer, IsMatrixOf, IsScenarioAt}
 use Rattle.scenario_storage.proofs.Marking.{get-map}
 
@@ -34,8 +33,11 @@ scenario-of file gammas rounds s below =
     record { row = row.0; at = row.1; gamma = r.0; its = r.1; gives = r.2.least }
 
 -- what `matrix_of` answers
-pub matrix-answer : (file : ScenarioFile) (gammas : List (List ℕ)) (ds : List (Option ℕ)) (s : ℕ) (sc : IsScenarioAt file gammas s) → sum sc.gamma * shared_count (bounded_file file ds).shared ≤ STAMPS → (r : Result (List (List (Option ℕ))) MatrixError) →
-    IfOk r (IsMatrix (bounded_file file ds).shared (bounded_graph file.shared ds sc.row.graph) sc.gamma) → OnOk r (IsLive (bounded_net file.shared ds sc.row.graph sc.gamma)) → IfErr r (IsMatrixRefusal (bounded_file file ds).shared (bounded_graph file.shared ds sc.row.graph) sc.gamma) → IsMatrixAnswer file gammas ds s r
+pub matrix-answer : (file : ScenarioFile) (gammas : List (List ℕ)) (ds : List (Option ℕ)) (s : ℕ) (sc : IsScenarioAt file gammas s) →
+    sum sc.gamma * shared_count (bounded_file file ds).shared ≤ STAMPS → (r : Result (List (List (Option ℕ))) MatrixError) →
+    IfOk r (IsMatrix (bounded_file file ds).shared (bounded_graph file.shared ds sc.row.graph) sc.gamma) → OnOk r
+    (IsLive (bounded_net file.shared ds sc.row.graph sc.gamma)) → IfErr r
+    (IsMatrixRefusal (bounded_file file ds).shared (bounded_graph file.shared ds sc.row.graph) sc.gamma) → IsMatrixAnswer file gammas ds s r
 matrix-answer file gammas ds s sc few (Ok m) matrix live refused = record { scenario = sc; live = live; carries = matrix }
 matrix-answer file gammas ds s sc few (Err Limit) matrix live refused = omega (arith, few, refused)
 matrix-answer file gammas ds s sc few (Err (Blocked counts lacks)) matrix live refused = record { scenario = sc; lacks = lacks; blocked = refused.1 }
@@ -46,7 +48,8 @@ pub record AreMatricesTo (file : ScenarioFile) (gammas : List (List ℕ)) (ds : 
   pub all : length matrices ≡ n
   pub each : (s : ℕ) → s < n → IsMatrixOf file gammas ds s (slice_index_or matrices s [])
 
-pub matrices-more : (file : ScenarioFile) (gammas : List (List ℕ)) (ds : List (Option ℕ)) (n : ℕ) (matrices : List (List (List (Option ℕ)))) (m : List (List (Option ℕ))) → AreMatricesTo file gammas ds n matrices → IsMatrixOf file gammas ds n m → AreMatricesTo file gammas ds (n + 1) (matrices ++ m ∷ [])
+pub matrices-more : (file : ScenarioFile) (gammas : List (List ℕ)) (ds : List (Option ℕ)) (n : ℕ) (matrices : List (List (List (Option ℕ)))) (m : List (List (Option ℕ))) →
+    AreMatricesTo file gammas ds n matrices → IsMatrixOf file gammas ds n m → AreMatricesTo file gammas ds (n + 1) (matrices ++ m ∷ [])
 matrices-more file gammas ds n matrices m are is = record {
   all = omega (arith, are.all, length-append matrices (m ∷ []));
   each = λ s below.
@@ -77,11 +80,13 @@ module _ (file : ScenarioFile) (gammas : List (List ℕ)) (ds : List (Option ℕ
       below : (s : ℕ) (row : ScenarioRow) → slice_get file.scenarios s ≡ Some row → s < n
       below s row at = let low = slice_get_within file.scenarios s row at in omega (arith, low, past)
 
-      each : (s : ℕ) (row : ScenarioRow) → slice_get (bounded_file file ds).scenarios s ≡ Some row → (gamma : List ℕ) × IsRepetitionOf row.graph gamma × IsMatrix (bounded_file file ds).shared row.graph gamma (slice_index_or matrices s [])
+      each : (s : ℕ) (row : ScenarioRow) → slice_get (bounded_file file ds).scenarios s ≡ Some row →
+          (gamma : List ℕ) × IsRepetitionOf row.graph gamma × IsMatrix (bounded_file file ds).shared row.graph gamma (slice_index_or matrices s [])
       each s row at =
           let low : s < length file.scenarios = (let b = slice_get_within (bounded_file file ds).scenarios s row at in omega (arith, b, many)) in
           let m = are.each s (omega (arith, low, past)) in
-          let there : slice_get (bounded_file file ds).scenarios s ≡ Some (bounded_scenario file.shared ds m.scenario.row) = get-map (bounded_scenario file.shared ds) file.scenarios s m.scenario.row m.scenario.at in
+          let there : slice_get (bounded_file file ds).scenarios s ≡ Some (bounded_scenario file.shared ds m.scenario.row) =
+          get-map (bounded_scenario file.shared ds) file.scenarios s m.scenario.row m.scenario.at in
           let same : bounded_scenario file.shared ds m.scenario.row ≡ row = cc in
           subst (λ (r : ScenarioRow). (gamma : List ℕ) × IsRepetitionOf r.graph gamma × IsMatrix (bounded_file file ds).shared r.graph gamma (slice_index_or matrices s [])) same
           (m.scenario.gamma, (can.scenarios s m.scenario.row m.scenario.gamma m.scenario.at m.scenario.gives).carries.gives, m.carries)

@@ -1,11 +1,11 @@
 -- Points that rise, with one more at the end.
-use Rattle.std.proofs.Common.{◌≡◌, Bool, true, false, Option, None, Some, ℕ, ◌+◌, ◌-◌, ◌*◌, ◌≤◌, ◌<◌, ◌⊎◌, List, [], ◌∷◌, ◌++◌, length, inl, inr, ⊎_elim, refl, sym, ap, ◌∙◌, subst, arith}
+use Rattle.std.proofs.Common.{◌≡◌, Bool, true, false, Option, None, Some, ℕ, ◌+◌, ◌-◌, ◌*◌, ◌≤◌, ◌<◌, ◌⊎◌, List, [], ◌∷◌, ◌++◌, length, inl, inr, ⊎_elim, sym, ap, ◌∙◌, subst, arith}
 use Rattle.std.specs.List.{AllPairs}
 use Rattle.std.specs.Prelude.{◌==◌, All, Contains, MatchBool, option_to_list, slice_index_or}
 use Rattle.std.proofs.lemmas.Bool.{cases_lt, true≢false}
 use Rattle.std.proofs.lemmas.Bool.Decides.{Decides-eqb}
 use Rattle.std.proofs.lemmas.List.{get_or_append_left, get_or-append-add, get_or_default, length-append}
-use Rattle.std.proofs.lemmas.List.Elements.{All-contains, Contains-get_or, Contains-push, Contains-push_cases, Contains-append_left}
+use Rattle.std.proofs.lemmas.List.Elements.{All-contains, Contains-get_or, Contains-push_cases, Contains-append_left}
 use Rattle.storage.proofs.FrontsFromMembers.{less_on}
 use Rattle.sd_base.specs.declared.numbers.Fraction.{Fraction}
 use Rattle.scenario_storage.specs.declared.point.ScenarioPoint.{ScenarioPoint}
@@ -91,11 +91,14 @@ put-rising point old new put =
     (pairs-push IsBelow put.front point put.left.rising (λ p one. (put.left.early p one, put.slower p (put.left.among p one))))
 
 -- what is said of the last point is said of all
-pub above-by : (b : Bool) (rate : Fraction) (ps : List ScenarioPoint) (last : ScenarioPoint) → AreRising ps → 1 ≤ length ps → last ≡ slice_index_or ps (length ps - 1) last → MatchBool b (IsSlower last.rate rate) (rate.num * last.rate.den ≤ last.rate.num * rate.den) → MatchBool b (AreSlower rate ps) (HasNoSlower rate ps)
+pub above-by : (b : Bool) (rate : Fraction) (ps : List ScenarioPoint) (last : ScenarioPoint) → AreRising ps → 1 ≤ length ps →
+    last ≡ slice_index_or ps (length ps - 1) last → MatchBool b (IsSlower last.rate rate) (rate.num * last.rate.den ≤ last.rate.num * rate.den) →
+    MatchBool b (AreSlower rate ps) (HasNoSlower rate ps)
 above-by true rate ps last rising some is slower = slower-all ps last rising is rate slower
 above-by false rate ps last rising some is fast = (last, last-there ps last some is, fast)
 
-pub ends-by : (b : Bool) (total : ℕ) (ps : List ScenarioPoint) (last : ScenarioPoint) → AreRising ps → All (λ (p : ScenarioPoint). p.total ≤ total) ps → 1 ≤ length ps → last ≡ slice_index_or ps (length ps - 1) last → (b ≡ (last.total == total)) → MatchBool b (EndsAt total ps) (AreEarlier total ps)
+pub ends-by : (b : Bool) (total : ℕ) (ps : List ScenarioPoint) (last : ScenarioPoint) → AreRising ps → All (λ (p : ScenarioPoint). p.total ≤ total) ps → 1 ≤ length ps →
+    last ≡ slice_index_or ps (length ps - 1) last → (b ≡ (last.total == total)) → MatchBool b (EndsAt total ps) (AreEarlier total ps)
 ends-by true total ps last rising late some is test =
     let same : last.total ≡ total = (Decides-eqb last.total total).0 (sym test) in
     (some, λ p end. let one : p ≡ last = sym end ∙ (get_or_default ps (length ps - 1) p last (omega (arith, some)) ∙ sym is) in ap (λ (x : ScenarioPoint). x.total) one ∙ same)
@@ -105,14 +108,17 @@ ends-by false total ps last rising late some is test =
     early-all ps last rising is total (⊎_elim (λ (h : last.total < total). h) (λ (h : total ≤ last.total). absurd (apart (omega (arith, most, h)))) (cases_lt last.total total))
 
 -- the last point was taken off
-pub left-popped : (total : ℕ) (old new : List ScenarioPoint) (taken : Option ScenarioPoint) (long : ℕ) → long ≡ length old → AreRising old → EndsAt total old → old ≡ new ++ option_to_list taken → ((d : ScenarioPoint) → 0 < long → taken ≡ Some (slice_index_or old (long - 1) d)) → IsLeftOut total old new
-left-popped total old new None long many rising ends is value = absurd (by old new is ends (λ d some. subst (λ (n : ℕ). None ≡ Some (slice_index_or old (n - 1) d)) many (value d (omega (arith, some, many)))))
+pub left-popped : (total : ℕ) (old new : List ScenarioPoint) (taken : Option ScenarioPoint) (long : ℕ) → long ≡ length old → AreRising old → EndsAt total old →
+    old ≡ new ++ option_to_list taken → ((d : ScenarioPoint) → 0 < long → taken ≡ Some (slice_index_or old (long - 1) d)) → IsLeftOut total old new
+left-popped total old new None long many rising ends is value =
+    absurd (by old new is ends (λ d some. subst (λ (n : ℕ). None ≡ Some (slice_index_or old (n - 1) d)) many (value d (omega (arith, some, many)))))
   where
     by : (xs ys : List ScenarioPoint) → xs ≡ ys ++ [] → EndsAt total xs → ((d : ScenarioPoint) → 0 < length xs → None ≡ Some (slice_index_or xs (length xs - 1) d)) → ⊥
     by [] ys same end none = omega (arith, end.0)
     by (x ∷ xs) ys same end none = let no = none x (omega arith) in cc
 left-popped total old new (Some last) long many rising ends is value =
     let low : 0 < long = omega (arith, ends.0, many) in
-    let got : ◌≡◌ {A = Option ScenarioPoint} (Some last) (Some (slice_index_or old (length old - 1) last)) = subst (λ (n : ℕ). Some last ≡ Some (slice_index_or old (n - 1) last)) many (value last low) in
+    let got : ◌≡◌ {A = Option ScenarioPoint} (Some last) (Some (slice_index_or old (length old - 1) last)) =
+    subst (λ (n : ℕ). Some last ≡ Some (slice_index_or old (n - 1) last)) many (value last low) in
     let same : slice_index_or old (length old - 1) last ≡ last = cc in
     left-last total old new last is rising (ends.1 last same)

@@ -1,12 +1,9 @@
 -- What the evaluation of a distribution comes to.
-use Rattle.std.proofs.Common.{◌≡◌, false, ℕ, ◌*◌, ◌≤◌, ◌<◌, Option, None, Some, List, length, refl, sym, ap, ◌∙◌, subst, arith}
-use Rattle.std.specs.Prelude.{◌↔◌, Contains, IfOk, MatchOption, Result, Ok, Err, slice_get, slice_index, slice_index_or}
-use Rattle.std.proofs.lemmas.Option.{slice_get_within}
+use Rattle.std.proofs.Common.{◌≡◌, false, ℕ, ◌*◌, ◌≤◌, ◌<◌, Option, None, Some, List, length, sym, subst, arith}
+use Rattle.std.specs.Prelude.{◌↔◌, Contains, IfOk, MatchOption, Result, Ok, Err, slice_index}
 use Rattle.sd_base.specs.declared.memory.NoMemory.{NoMemory}
 use Rattle.sd_base.specs.declared.numbers.Fraction.{Fraction}
 use Rattle.sd_base.specs.declared.tables.ScenarioFile.{ScenarioFile}
-use Rattle.sd_base.specs.declared.tables.ScenarioRow.{ScenarioRow}
-use Rattle.sd_base.specs.declared.tables.SharedRow.{SharedRow}
 use Rattle.sd_base.specs.FileNet.{net_of}
 use Rattle.sd_base.specs.Lawful.{Lawful}
 use Rattle.sd_base.specs.Net.{Net}
@@ -14,7 +11,6 @@ use Rattle.sd_base.specs.Scenarios.{Shares}
 use Rattle.sd_base.specs.Untimed.{IsLive}
 use Rattle.sd_base.proofs.Blocking.{live-unblocked}
 use Rattle.sd_base.proofs.Parts.{wired}
-use Rattle.storage.specs.Distributions.{IsDistribution}
 use Rattle.token_matrix.proofs.Rows.{get_there, one-repetition}
 use Rattle.automaton.specs.declared.graph.TimedGraph.{TimedGraph}
 use Rattle.automaton.specs.CriticalCycles.{IsCritical}
@@ -22,25 +18,26 @@ use Rattle.automaton.specs.TimedGraphs.{IsTimedGraph}
 use Rattle.automaton.specs.WorstRates.{IsWorst}
 use Rattle.bounded_scenarios.specs.BoundedFiles.{bounded_file}
 use Rattle.bounded_scenarios.specs.Boundings.{CanBeBounded}
-use Rattle.bounded_scenarios.specs.SharedChannels.{shared_channels}
-use Rattle.bounded_scenarios.specs.StorageRates.{AllRun, HasWorstRate, RunsOn, bounded_net, blocked, runs}
+use Rattle.bounded_scenarios.specs.StorageRates.{AllRun, HasWorstRate, bounded_net, blocked, runs}
 use Rattle.bounded_scenarios.specs.ScenarioGuides.{blocked as held_by, runs as on_way}
-use Rattle.bounded_scenarios.specs.ShownSpaces.{BlockedBounds, LiveBounds, ShowsWays}
+use Rattle.bounded_scenarios.specs.ShownSpaces.{BlockedBounds, LiveBounds, ShowsWays, SpacelessBounds}
 use Rattle.scenario_storage.specs.declared.rated.Evidence.{Evidence}
 use Rattle.scenario_storage.specs.declared.rated.Rated.{Rated}
 use Rattle.scenario_storage.specs.inside.Levels.{IsGuided, IsRated, IsWithin, Shows}
 use Rattle.scenario_storage.specs.inside.Ratings.{IsBlockedAt}
-use Rattle.scenario_storage.specs.inside.Shown.{AreShownBlocked, AreShownLive, HasSpace, IsTakenOn, IsWaitedFor, WaitsFor, spaces_from}
+use Rattle.scenario_storage.specs.inside.Shown.{AreShownBlocked, AreShownLive, IsTakenOn, IsWaitedFor, spaces_from}
 use Rattle.scenario_storage.proofs.SpaceNumbers.{has-place, numbered-space, space-capped, space-number, spaces-long}
 
 -- the channels for whose space an actor of the blocked scenario waits are shown
-module _ (file : ScenarioFile) (gammas : List (List ℕ)) (ds : List (Option ℕ)) (s : ℕ) (counts : List ℕ) (at : IsBlockedAt file gammas ds s counts) (shares : Shares file.shared at.is.scenario.row.graph) (long : length ds ≡ length file.shared) (shown : List ℕ)
+module _ (file : ScenarioFile) (gammas : List (List ℕ)) (ds : List (Option ℕ)) (s : ℕ) (counts : List ℕ) (at : IsBlockedAt file gammas ds s counts)
+    (shares : Shares file.shared at.is.scenario.row.graph) (long : length ds ≡ length file.shared) (shown : List ℕ)
     (listed : (c : ℕ) → Contains shown c ↔ IsWaitedFor (net_of at.is.scenario.row.graph at.is.scenario.gamma false) (bounded_net file.shared ds at.is.scenario.row.graph at.is.scenario.gamma) (spaces_from (length at.is.scenario.row.graph.channels) ds) (slice_index counts) c) where
   held-guided : (c : ℕ) → Contains shown c → IsGuided file ds c
   held-guided c one =
       let w = (listed c).0 one in
       let capped = space-capped file ds at.is.scenario.row.graph shares c w.0 w.1 in
-      let low : c < length file.shared = omega (arith, long, has-place (spaces_from (length at.is.scenario.row.graph.channels) ds) c w.0 w.1, spaces-long (length at.is.scenario.row.graph.channels) ds) in
+      let low : c < length file.shared =
+      omega (arith, long, has-place (spaces_from (length at.is.scenario.row.graph.channels) ds) c w.0 w.1, spaces-long (length at.is.scenario.row.graph.channels) ds) in
       let shared = get_there file.shared c low in (
         held_by shared.0 s at.is.scenario.row shared.1 at.is.scenario.at at.first (record {
           gamma = at.is.scenario.gamma;
@@ -80,7 +77,8 @@ module _ (file : ScenarioFile) (gammas : List (List ℕ)) (ds : List (Option ℕ
   }
 
 -- the same of what the code has by other names
-pub shown-as : (file : ScenarioFile) (gammas : List (List ℕ)) (ds : List (Option ℕ)) (s : ℕ) (counts : List ℕ) (at : IsBlockedAt file gammas ds s counts) → Shares file.shared at.is.scenario.row.graph → length ds ≡ length file.shared → (net bounded : Net) (spaces : List (Option ℕ)) →
+pub shown-as : (file : ScenarioFile) (gammas : List (List ℕ)) (ds : List (Option ℕ)) (s : ℕ) (counts : List ℕ) (at : IsBlockedAt file gammas ds s counts) →
+    Shares file.shared at.is.scenario.row.graph → length ds ≡ length file.shared → (net bounded : Net) (spaces : List (Option ℕ)) →
     net ≡ net_of at.is.scenario.row.graph at.is.scenario.gamma false → bounded ≡ bounded_net file.shared ds at.is.scenario.row.graph at.is.scenario.gamma → spaces ≡ spaces_from (length at.is.scenario.row.graph.channels) ds → Lawful bounded →
     (r : Result (List ℕ) NoMemory) → IfOk r (λ (shown : List ℕ). (c : ℕ) → Contains shown c ↔ IsWaitedFor net bounded spaces (slice_index counts) c) → IfOk r (AreShownBlocked file ds)
 shown-as file gammas ds s counts at shares long net bounded spaces net_is bounded_is spaces_are laws (Err e) listed = tt
@@ -102,21 +100,27 @@ module _ (file : ScenarioFile) (total : ℕ) (can : CanBeBounded file total) (ds
     bounds = λ es dist within most agrees p q rate runs. absurd (
         law file total ds r.enlarge es p q can is.shows
         (record { member = fits.distribution; distribution = dist; within = within; most = most; agrees = agrees }) rate runs);
+    top = λ empty some. absurd (omega (arith, some, zero));
     evidence =
         subst (λ (e : Option Evidence). MatchOption e (r.rate.num * best.den ≤ best.num * r.rate.den) (Shows file ds r.rate)) (sym none)
         (subst (λ (n : ℕ). n * best.den ≤ best.num * r.rate.den) (sym zero) (omega arith));
   }
 
   -- a live one
-  pub live-rated : LiveBounds → AllRun file ds → (graph : TimedGraph) → IsTimedGraph (bounded_file file ds) graph → (cycle : List ℕ) → IsWorst (bounded_file file ds) r.rate.num r.rate.den → IsCritical graph r.rate.num r.rate.den cycle → AreShownLive file ds graph cycle r.enlarge
+  pub live-rated : LiveBounds → SpacelessBounds → AllRun file ds → (graph : TimedGraph) → IsTimedGraph (bounded_file file ds) graph → (cycle : List ℕ) →
+      IsWorst (bounded_file file ds) r.rate.num r.rate.den → IsCritical graph r.rate.num r.rate.den cycle → AreShownLive file ds graph cycle r.enlarge
       → MatchOption r.evidence (r.rate.num * best.den ≤ best.num * r.rate.den) (Shows file ds r.rate) → IsRated file total best ds r
-  live-rated law all graph timed cycle worst critical is evidence = record {
+  live-rated law over all graph timed cycle worst critical is evidence = record {
     rate = runs r.rate.num r.rate.den all worst;
     guided = guided;
     bounds = λ es dist within most agrees p q rate goes.
         law file total ds r.rate.num r.rate.den r.enlarge es p q can
         (record { runs = all; graph = graph; timed = timed; cycle = cycle; critical = critical; shows = is.shows })
         (record { member = fits.distribution; distribution = dist; within = within; most = most; agrees = agrees }) rate goes;
+    top = λ empty some es dist within p q rate goes.
+        over file total ds r.rate.num r.rate.den es p q can fits.distribution fits.within
+        (record { runs = all; graph = graph; timed = timed; cycle = cycle; critical = critical; shows = subst (ShowsWays file ds graph cycle) empty is.shows })
+        dist within rate;
     evidence = evidence;
   }
     where
@@ -144,6 +148,7 @@ module _ (file : ScenarioFile) (total : ℕ) (can : CanBeBounded file total) (ds
           )
 
 -- what was kept of the evidence
-pub kept-shows : (file : ScenarioFile) (ds : List (Option ℕ)) (rate best : Fraction) (e : Evidence) (kept : Option Evidence) → Shows file ds rate e → MatchOption kept (rate.num * best.den ≤ best.num * rate.den) (λ (x : Evidence). x ≡ e) → MatchOption kept (rate.num * best.den ≤ best.num * rate.den) (Shows file ds rate)
+pub kept-shows : (file : ScenarioFile) (ds : List (Option ℕ)) (rate best : Fraction) (e : Evidence) (kept : Option Evidence) → Shows file ds rate e →
+    MatchOption kept (rate.num * best.den ≤ best.num * rate.den) (λ (x : Evidence). x ≡ e) → MatchOption kept (rate.num * best.den ≤ best.num * rate.den) (Shows file ds rate)
 kept-shows file ds rate best e None shows is = is
 kept-shows file ds rate best e (Some x) shows is = subst (Shows file ds rate) (sym is) shows

@@ -1,18 +1,17 @@
 -- The shared channels whose free space is among channels that are marked for longest ways.
-use Rattle.std.proofs.Common.{◌≡◌, false, ℕ, ◌+◌, ◌≤◌, ◌<◌, ◌⊎◌, Bool, true, Option, None, Some, List, [], ◌∷◌, length, inl, inr, ⊎_elim, refl, sym, ap, ◌∙◌, subst, arith}
-use Rattle.std.specs.Prelude.{◌↔◌, Contains, replicate, slice_get, slice_index_or}
+use Rattle.std.proofs.Common.{◌≡◌, false, ℕ, ◌≤◌, ◌<◌, ◌⊎◌, Bool, true, Option, List, [], length, inl, inr, ⊎_elim, refl, sym, ap, ◌∙◌, subst, arith}
+use Rattle.std.specs.Prelude.{◌↔◌, replicate, slice_index_or}
 use Rattle.std.proofs.lemmas.Bool.{cases_lt, true≢false}
 use Rattle.std.proofs.lemmas.List.{get_or_past, get_or-replicate, length-replicate}
 use Rattle.std.proofs.lemmas.Option.{slice_get_within}
 use Rattle.sd_base.specs.declared.tables.ScenarioFile.{ScenarioFile}
-use Rattle.sd_base.specs.Untimed.{IsLive}
 use Rattle.token_matrix.specs.Stamps.{first_of}
 use Rattle.entry_ways.specs.declared.marking.EntryPlace.{EntryPlace}
 use Rattle.entry_ways.specs.WayMarks.{AreWayMarks, IsOnSome}
 use Rattle.bounded_scenarios.specs.BoundedFiles.{bounded_file, bounded_graph}
 use Rattle.bounded_scenarios.specs.StorageRates.{bounded_net}
 use Rattle.scenario_storage.specs.inside.Ratings.{IsScenarioAt}
-use Rattle.scenario_storage.specs.inside.Shown.{AreSpaceMarks, AreSpacesWithin, HasSpace, HaveWays, IsSpaceOn, spaces_from}
+use Rattle.scenario_storage.specs.inside.Shown.{AreSpaceMarks, AreSpacesWithin, HasSpace, IsSpaceOn, spaces_from}
 
 module _ (file : ScenarioFile) (gammas : List (List ℕ)) (ds : List (Option ℕ)) (s : ℕ) (entries : List EntryPlace) (sc : IsScenarioAt file gammas s) where
   -- no entries
@@ -29,7 +28,9 @@ module _ (file : ScenarioFile) (gammas : List (List ℕ)) (ds : List (Option ℕ
     );
   }
 
-  pub space-marks : (start end : List Bool) → AreWayMarks (bounded_net file.shared ds sc.row.graph sc.gamma) (first_of (bounded_file file ds).shared (bounded_graph file.shared ds sc.row.graph)) entries start end → ((i : ℕ) → slice_index_or start i false ≡ true → ⊥) →
+  pub space-marks : (start end : List Bool) →
+      AreWayMarks (bounded_net file.shared ds sc.row.graph sc.gamma) (first_of (bounded_file file ds).shared (bounded_graph file.shared ds sc.row.graph)) entries start end →
+      ((i : ℕ) → slice_index_or start i false ≡ true → ⊥) →
       (spaces : List (Option ℕ)) → spaces ≡ spaces_from (length sc.row.graph.channels) ds → AreSpacesWithin (length start) spaces → (old new : List Bool) → length new ≡ length old →
       ((c : ℕ) → c < length old → (slice_index_or new c false ≡ true) ↔ ((slice_index_or old c false ≡ true) ⊎ ((i : ℕ) × HasSpace spaces c i × (slice_index_or end i false ≡ true)))) → AreSpaceMarks file gammas ds s entries old new
   space-marks start end ways none spaces is within old new long marks = record {

@@ -1,5 +1,5 @@
 -- The numbers of free spaces: by shared channel that of its free space in a scenario's bounded graph.
-use Rattle.std.proofs.Common.{◌≡◌, ℕ, zero, suc, ◌+◌, ◌≤◌, ◌<◌, ◌⊎◌, Option, None, Some, List, [], ◌∷◌, ◌++◌, length, inl, inr, ⊎_elim, refl, sym, ap, ◌∙◌, subst, arith}
+use Rattle.std.proofs.Common.{◌≡◌, ℕ, zero, suc, ◌+◌, ◌≤◌, ◌<◌, Option, None, Some, List, [], ◌∷◌, ◌++◌, length, ⊎_elim, refl, sym, ap, ◌∙◌, subst, arith}
 use Rattle.std.specs.Prelude.{slice_get, slice_index_or}
 use Rattle.std.proofs.lemmas.Bool.{cases_lt}
 use Rattle.std.proofs.lemmas.List.{get_or_past}
@@ -10,7 +10,7 @@ use Rattle.sd_base.specs.declared.tables.ScenarioFile.{ScenarioFile}
 use Rattle.sd_base.specs.declared.tables.SharedRow.{SharedRow}
 use Rattle.sd_base.specs.Scenarios.{Shares}
 use Rattle.storage.specs.Distributions.{capacity_at}
-use Rattle.bounded_scenarios.specs.BoundedFiles.{bounded_graph, space_name, space_row, space_rows}
+use Rattle.bounded_scenarios.specs.BoundedFiles.{space_name, space_row, space_rows}
 use Rattle.bounded_scenarios.specs.ScenarioGuides.{IsSpaceFor}
 use Rattle.bounded_scenarios.specs.SharedChannels.{channel_named}
 use Rattle.bounded_scenarios.proofs.Lists.{at-either, at-right}
@@ -74,7 +74,8 @@ pub record NumberOf (cs : List ChannelRow) (rows : List SharedRow) (ds : List (O
   pub is : s ≡ space_row (channel_named cs row.name) room
   pub number : HasSpace (spaces_from n ds) place (n + j)
 
-number-more : (cs : List ChannelRow) (x : SharedRow) (rows : List SharedRow) (d : Option ℕ) (ds : List (Option ℕ)) (n m j k : ℕ) (s : ChannelRow) → ((c i : ℕ) → HasSpace (spaces_from m ds) c i → HasSpace (spaces_from n (d ∷ ds)) (suc c) i) → m + j ≡ n + k → NumberOf cs rows ds m j s → NumberOf cs (x ∷ rows) (d ∷ ds) n k s
+number-more : (cs : List ChannelRow) (x : SharedRow) (rows : List SharedRow) (d : Option ℕ) (ds : List (Option ℕ)) (n m j k : ℕ) (s : ChannelRow) →
+    ((c i : ℕ) → HasSpace (spaces_from m ds) c i → HasSpace (spaces_from n (d ∷ ds)) (suc c) i) → m + j ≡ n + k → NumberOf cs rows ds m j s → NumberOf cs (x ∷ rows) (d ∷ ds) n k s
 number-more cs x rows d ds n m j k s further same of = record {
   place = suc of.place;
   row = of.row;

@@ -1,9 +1,8 @@
 -- Distributions with a step more room, and what the visits of a search say of them.
-use Rattle.std.proofs.Common.{◌≡◌, ℕ, ◌+◌, ◌≤◌, ◌<◌, ◌⊎◌, Option, None, Some, List, [], ◌∷◌, ◌++◌, length, map, inl, inr, ⊎_elim, refl, sym, ap, ◌∙◌, subst, arith}
-use Rattle.std.specs.Prelude.{All, Contains, slice_index_or}
+use Rattle.std.proofs.Common.{◌≡◌, ℕ, ◌≤◌, ◌<◌, Option, None, Some, List, [], ◌∷◌, ◌++◌, length, inl, inr, ⊎_elim, sym, ap, ◌∙◌, subst, arith}
+use Rattle.std.specs.Prelude.{Contains, slice_index_or}
 use Rattle.std.proofs.lemmas.Bool.{cases_lt}
 use Rattle.std.proofs.lemmas.List.{get_or_default, get_or_past, map-append}
-use Rattle.std.proofs.lemmas.List.Elements.{All-contains}
 use Rattle.sd_base.specs.declared.tables.ScenarioFile.{ScenarioFile}
 use Rattle.sd_base.specs.Net.{Channel, nowhere}
 use Rattle.storage.specs.ClosedLists.{Entry, HasEntry, no_entry}
@@ -56,12 +55,14 @@ capped-place cs ds c k dist has =
 
 module _ (file : ScenarioFile) (limit : ℕ) (can : IsSearchable file limit) where
   -- a step more room on a channel with a capacity needs more storage
-  pub child-above : (ds : List (Option ℕ)) (c k : ℕ) → IsDistribution (shared_channels file) ds → capacity_at ds c ≡ Some k → storage_of (shared_channels file) ds < storage_of (shared_channels file) (stepped (shared_channels file) ds c)
+  pub child-above : (ds : List (Option ℕ)) (c k : ℕ) → IsDistribution (shared_channels file) ds → capacity_at ds c ≡ Some k →
+      storage_of (shared_channels file) ds < storage_of (shared_channels file) (stepped (shared_channels file) ds c)
   child-above ds c k dist has =
       let place : c < length (shared_channels file) = capped-place (shared_channels file) ds c k dist has in
       enlarged-storage (shared_channels file) ds c k (step_of (slice_index_or (shared_channels file) c nowhere)) can.steps.size place has (can.steps.step c place)
 
-  pub guided-rises : (ds : List (Option ℕ)) (shown : List ℕ) → IsDistribution (shared_channels file) ds → ((c : ℕ) → Contains shown c → IsGuided file ds c) → Rises (shared_channels file) (led_by ds shown)
+  pub guided-rises : (ds : List (Option ℕ)) (shown : List ℕ) → IsDistribution (shared_channels file) ds → ((c : ℕ) → Contains shown c → IsGuided file ds c) →
+      Rises (shared_channels file) (led_by ds shown)
   guided-rises ds shown dist guided es (c, one, same) =
       let capped = (guided c one).1 in
       subst (λ (x : List (Option ℕ)). storage_of (shared_channels file) ds < storage_of (shared_channels file) x) (sym same) (child-above ds c capped.0 dist capped.1)
@@ -74,7 +75,8 @@ module _ (file : ScenarioFile) (limit : ℕ) (can : IsSearchable file limit) whe
     reachable = corner ds is within;
   }
 
-  child-candidate : (ds : List (Option ℕ)) (c : ℕ) → IsCandidate file limit ds → IsGuided file ds c → storage_of (shared_channels file) (stepped (shared_channels file) ds c) ≤ limit → IsCandidate file limit (stepped (shared_channels file) ds c)
+  child-candidate : (ds : List (Option ℕ)) (c : ℕ) → IsCandidate file limit ds → IsGuided file ds c →
+      storage_of (shared_channels file) (stepped (shared_channels file) ds c) ≤ limit → IsCandidate file limit (stepped (shared_channels file) ds c)
   child-candidate ds c fits guided within = record {
     distribution = enlarged-distribution (shared_channels file) ds c (step_of (slice_index_or (shared_channels file) c nowhere)) fits.distribution;
     grid = enlarged-grid (shared_channels file) ds c fits.grid;
@@ -83,7 +85,8 @@ module _ (file : ScenarioFile) (limit : ℕ) (can : IsSearchable file limit) whe
   }
 
   -- what is led to within the limit is a candidate
-  pub led-candidate : (es : List Entry) (start ds : List (Option ℕ)) → IsCorner (shared_channels file) start → ((e : Entry) → Contains es e → IsNoted file limit e) → IsLedTo (shared_channels file) start (visits_of es) ds → storage_of (shared_channels file) ds ≤ limit → IsCandidate file limit ds
+  pub led-candidate : (es : List Entry) (start ds : List (Option ℕ)) → IsCorner (shared_channels file) start → ((e : Entry) → Contains es e → IsNoted file limit e) →
+      IsLedTo (shared_channels file) start (visits_of es) ds → storage_of (shared_channels file) ds ≤ limit → IsCandidate file limit ds
   led-candidate es start ds is noted (inl same) within = subst (IsCandidate file limit) (sym same) (corner-candidate start is (subst (λ (x : List (Option ℕ)). storage_of (shared_channels file) x ≤ limit) same within))
   led-candidate es start ds is noted (inr (v, one, leads)) within =
       let e = visit-entry es v one in

@@ -9,15 +9,17 @@ use Rattle.storage.specs.declared.distribution.Distribution.{Distribution}
 use Rattle.scenario_storage.specs.declared.point.ScenarioLimits.{ScenarioLimits}
 use Rattle.scenario_storage.specs.declared.rated.RateError.{RateError}
 use Rattle.scenario_storage.specs.declared.rated.Rated.{Rated}
-use Rattle.scenario_storage.specs.inside.Levels.{HasRun, IsAnswered, IsFresh, IsPlan, IsReady, IsWithin}
+use Rattle.scenario_storage.specs.inside.Levels.{HasRun, IsAnswered, IsFresh, IsPlan, IsReady}
 
-pub ready-from : (file own : ScenarioFile) (gammas its : List (List ℕ)) (limits other : ScenarioLimits) (best known : Fraction) (d : Distribution) → IsPlan file gammas limits → IsFresh file gammas limits best own its other known d → IsReady own its other d
+pub ready-from : (file own : ScenarioFile) (gammas its : List (List ℕ)) (limits other : ScenarioLimits) (best known : Fraction) (d : Distribution) →
+    IsPlan file gammas limits → IsFresh file gammas limits best own its other known d → IsReady own its other d
 ready-from file own gammas its limits other best known d plan fresh =
     subst (λ (f : ScenarioFile). IsReady f its other d) (sym fresh.file_is)
     (subst (λ (gs : List (List ℕ)). IsReady file gs other d) (sym fresh.gammas_are)
     (subst (λ (l : ScenarioLimits). IsReady file gammas l d) (sym fresh.limits_are) (record { plan = plan; fits = fresh.fits })))
 
-pub done-from : (file own : ScenarioFile) (gammas its : List (List ℕ)) (limits other : ScenarioLimits) (best known : Fraction) (was now : Distribution) (answer : Option (Result Rated RateError)) → IsFresh file gammas limits best own its other known was → HasRun own other known was now answer → IsAnswered file limits best now.capacities answer
+pub done-from : (file own : ScenarioFile) (gammas its : List (List ℕ)) (limits other : ScenarioLimits) (best known : Fraction) (was now : Distribution) (answer : Option (Result Rated RateError)) →
+    IsFresh file gammas limits best own its other known was → HasRun own other known was now answer → IsAnswered file limits best now.capacities answer
 done-from file own gammas its limits other best known was now answer fresh ran =
     subst (λ (d : Distribution). IsAnswered file limits best d.capacities answer) (sym ran.same)
     (subst (λ (b : Fraction). IsAnswered file limits b was.capacities answer) fresh.best_is
@@ -58,7 +60,8 @@ pub all-last : {A : Type 0} (P : A → Type 0) (xs : List A) (x : A) → All P (
 all-last P xs x all = subst P (get_or-append-add xs (x ∷ []) 0 x) (all (length xs + 0) x (omega (arith, length-append xs (x ∷ []))))
 
 -- one more task is taken off the end, and its answer put last
-pub drained-more : {A B C : Type 0} (f : A → C) (h : B → C) (tasks rest : List A) (t : A) (answers new : List B) (a : B) → tasks ≡ rest ++ t ∷ [] → new ≡ answers ++ a ∷ [] → f t ≡ h a → map h answers ++ reverse (map f tasks) ≡ map h new ++ reverse (map f rest)
+pub drained-more : {A B C : Type 0} (f : A → C) (h : B → C) (tasks rest : List A) (t : A) (answers new : List B) (a : B) → tasks ≡ rest ++ t ∷ [] →
+    new ≡ answers ++ a ∷ [] → f t ≡ h a → map h answers ++ reverse (map f tasks) ≡ map h new ++ reverse (map f rest)
 drained-more f h tasks rest t answers new a taken pushed same =
     ap (λ xs. map h answers ++ reverse (map f xs)) taken
     ∙ (ap (λ ys. map h answers ++ reverse ys) (map-append f rest (t ∷ []))

@@ -1,8 +1,9 @@
 -- A level is taken off those that wait, and each of its answers is taken in.
-use Rattle.std.proofs.Common.{◌≡◌, ℕ, ◌+◌, ◌-◌, ◌≤◌, ◌<◌, Option, None, Some, List, [], ◌∷◌, ◌++◌, drop, length, map, ⊎_elim, refl, sym, ap, ◌∙◌, subst, arith, inl, inr}
+use Rattle.std.proofs.Common.{◌≡◌, ℕ, ◌+◌, ◌-◌, ◌≤◌, ◌<◌, ◌⊎◌, true, false, Option, None, Some, List, [], ◌∷◌, ◌++◌, drop, length, map, ⊎_elim, refl, sym, ap, ◌∙◌, subst, arith, inl, inr}
 use Rattle.std.specs.Prelude.{All, Contains, MatchOption, slice_index_or}
+use Rattle.std.proofs.lemmas.Bool.{true≢false}
 use Rattle.std.proofs.lemmas.List.{drop_more, get_or-map, length-append, length-map}
-use Rattle.std.proofs.lemmas.List.Elements.{All-append, All-contains, All-map, Contains-append_left, Contains-append_right, Contains-get_or, Contains-push_cases}
+use Rattle.std.proofs.lemmas.List.Elements.{All-contains, All-map, Contains-append_left, Contains-append_right, Contains-get_or}
 use Rattle.sd_base.specs.declared.numbers.Fraction.{Fraction}
 use Rattle.sd_base.specs.declared.tables.ScenarioFile.{ScenarioFile}
 use Rattle.sd_base.specs.Net.{Channel}
@@ -21,6 +22,7 @@ use Rattle.levels.specs.Visits.{AreVisits, IsLedTo, Visit, led_by, visited}
 use Rattle.levels.specs.Frontiers.{IsFrontier, IsLevelTaken, IsSame, IsSpent, Rises, Waits, distributions_of}
 use Rattle.levels.proofs.Elements.{contains-cases, contains-here, contains-map, contains-none}
 use Rattle.levels.proofs.LedOn.{known-long}
+use Rattle.levels.proofs.Spreading.{frontier-up_to}
 use Rattle.bounded_scenarios.specs.SharedChannels.{shared_channels}
 use Rattle.bounded_scenarios.specs.ScenarioGuides.{IsReachable}
 use Rattle.scenario_storage.specs.declared.level.Answered.{Answered}
@@ -32,13 +34,14 @@ use Rattle.scenario_storage.specs.ScenarioPoints.{IsRefusal}
 use Rattle.scenario_storage.specs.inside.Errors.{error_of}
 use Rattle.scenario_storage.specs.inside.Levels.{IsAnswer, IsRated, IsWithin}
 use Rattle.scenario_storage.specs.inside.Points.{IsBestOf}
-use Rattle.scenario_storage.specs.inside.Searches.{AreKnown, IsAnswerOf, IsBest, IsCandidate, IsEnded, IsNoted, IsOffered, IsSearch, IsStanding, IsTurn, answered_of, entry_of, taken_off, visits_of}
+use Rattle.scenario_storage.specs.inside.Searches.{AreKnown, HasTop, IsAnswerOf, IsBest, IsCandidate, IsEnded, IsOffered, IsSearch, IsStanding, IsTurn, ShowsNone, answered_of, entry_of, taken_off, visits_of}
 use Rattle.scenario_storage.proofs.Knowing.{noted-more}
 use Rattle.scenario_storage.proofs.Searchable.{IsSearchable}
 use Rattle.scenario_storage.proofs.Stepping.{capped-place, entry-visited, guided-rises, led-candidate, visits-more}
 
 -- what stands in order before the first one that is taken off
-order-before : (file : ScenarioFile) (dss rest : List (List (Option ℕ))) (ds : List (Option ℕ)) → AreInOrder (shared_channels file) (dss ++ ds ∷ rest) → (es : List (Option ℕ)) → Contains dss es → IsBefore (shared_channels file) es ds
+order-before : (file : ScenarioFile) (dss rest : List (List (Option ℕ))) (ds : List (Option ℕ)) → AreInOrder (shared_channels file) (dss ++ ds ∷ rest) →
+    (es : List (Option ℕ)) → Contains dss es → IsBefore (shared_channels file) es ds
 order-before file [] rest ds order es one = absurd (let low = one.1 in omega (arith, low))
 order-before file (x ∷ dss) rest ds order es one =
     ⊎_elim
@@ -46,7 +49,8 @@ order-before file (x ∷ dss) rest ds order es one =
     (λ (h : Contains dss es). order-before file dss rest ds order.1 es h)
     (contains-cases x dss es one)
 
-module _ (file : ScenarioFile) (limits : ScenarioLimits) (can : IsSearchable file limits.total) (floor : ℕ) (taken : List (List (Option ℕ))) (s : Search) (search : IsSearch file limits floor taken s) where
+module _ (file : ScenarioFile) (limits : ScenarioLimits) (can : IsSearchable file limits.total) (floor : ℕ) (taken : List (List (Option ℕ))) (s : Search)
+    (search : IsSearch file limits floor taken s) where
   pub search-limit : s.levels.bounds.total ≡ limits.total
   search-limit = ap (λ (b : Bounds). b.total) search.bounds
 
@@ -78,7 +82,10 @@ module _ (file : ScenarioFile) (limits : ScenarioLimits) (can : IsSearchable fil
   off-few = omega (arith, search.frontier.few, search-most)
 
 -- a level that is taken off
-module _ (file : ScenarioFile) (limits : ScenarioLimits) (can : IsSearchable file limits.total) (floor : ℕ) (old new : Search) (search : IsSearch file limits floor [] old) (points : new.points ≡ old.points) (level : Level Unit) (off : IsLevelTaken level.total level.visits.items old.levels.waiting.keys new.levels.waiting.keys) (same : IsSame old.levels new.levels) (frontier : IsFrontier (shared_channels file) search.corner (level.total + 1) (visits_of search.entries) (distributions_of level.visits.items) new.levels) where
+module _ (file : ScenarioFile) (limits : ScenarioLimits) (can : IsSearchable file limits.total) (floor : ℕ) (old new : Search)
+    (search : IsSearch file limits floor [] old) (points : new.points ≡ old.points) (tops : new.topped ≡ old.topped) (level : Level Unit)
+    (off : IsLevelTaken level.total level.visits.items old.levels.waiting.keys new.levels.waiting.keys) (same : IsSame old.levels new.levels)
+    (frontier : IsFrontier (shared_channels file) search.corner (level.total + 1) (visits_of search.entries) (distributions_of level.visits.items) new.levels) where
   same-points : new.points.items ≡ old.points.items
   same-points = ap (λ v. v.items) points
 
@@ -90,6 +97,7 @@ module _ (file : ScenarioFile) (limits : ScenarioLimits) (can : IsSearchable fil
     is_corner = search.is_corner;
     bounds = same.bounds ∙ search.bounds;
     frontier = frontier;
+    top = λ h. search.top (sym tops ∙ h);
   }
 
   waits-of : (f : Found Unit) → Contains level.visits.items f → Waits (shared_channels file) old.levels.bounds.total floor f
@@ -106,7 +114,9 @@ module _ (file : ScenarioFile) (limits : ScenarioLimits) (can : IsSearchable fil
   turn-of = record {
     search = turned;
     totals = λ k d below. (total-of (slice_index_or level.visits.items k d) (Contains-get_or level.visits.items k d below)).0;
-    before = λ p one. let low = point-low file limits can floor [] old search p (subst (λ (ps : List ScenarioPoint). Contains ps p) same-points one) in omega (arith, low, first level.visits.items off.some (λ f here. here));
+    before = λ p one. let low = point-low file limits can floor [] old search p (subst (λ (ps : List ScenarioPoint). Contains ps p) same-points one) in omega
+        (arith, low, first level.visits.items off.some (λ f here. here));
+    within = level-within level.visits.items off.some (λ f here. here);
     candidates = λ k d below.
         search-candidate file limits can (level.total + 1) (distributions_of level.visits.items) new turned (slice_index_or level.visits.items k d).capacities.capacities
         (contains-map (λ (x : Found Unit). x.capacities.capacities) level.visits.items (slice_index_or level.visits.items k d) (Contains-get_or level.visits.items k d below));
@@ -115,6 +125,14 @@ module _ (file : ScenarioFile) (limits : ScenarioLimits) (can : IsSearchable fil
       first : (fs : List (Found Unit)) → 1 ≤ length fs → ((f : Found Unit) → Contains fs f → Contains level.visits.items f) → floor ≤ level.total
       first [] some holds = absurd (omega (arith, some))
       first (f ∷ fs) some holds = (total-of f (holds f (contains-here f fs))).1
+
+      level-within : (fs : List (Found Unit)) → 1 ≤ length fs → ((f : Found Unit) → Contains fs f → Contains level.visits.items f) → level.total ≤ limits.total
+      level-within [] some holds = absurd (omega (arith, some))
+      level-within (f ∷ fs) some holds =
+          let one = holds f (contains-here f fs) in
+          let waits = waits-of f one in
+          let here : f.total ≡ level.total = All-contains (λ (x : Found Unit). x.total ≡ level.total) level.visits.items f off.totals one in
+          omega (arith, waits.within, here, search-limit file limits can floor [] old search)
 
   -- more are taken off
   pub off-more : taken_off old < taken_off new
@@ -126,17 +144,37 @@ module _ (file : ScenarioFile) (limits : ScenarioLimits) (can : IsSearchable fil
       omega (arith, before, after, long, off.some)
 
 -- none waits any more
-pub ended-of : (file : ScenarioFile) (limits : ScenarioLimits) (can : IsSearchable file limits.total) (floor : ℕ) (s : Search) (search : IsSearch file limits floor [] s) → AreVisits (shared_channels file) search.corner s.levels.bounds.total (visits_of search.entries) → IsEnded file limits s.points.items
+pub ended-of : (file : ScenarioFile) (limits : ScenarioLimits) (can : IsSearchable file limits.total) (floor : ℕ) (s : Search) (search : IsSearch file limits floor [] s) →
+    AreVisits (shared_channels file) search.corner s.levels.bounds.total (visits_of search.entries) → IsEnded file limits s.points.items
 ended-of file limits can floor s search visits = record {
   entries = search.entries;
   known = search.known;
   corner = search.corner;
   is_corner = search.is_corner;
+  storage = limits.total;
+  low = omega (arith);
   visits = subst (λ (n : ℕ). AreVisits (shared_channels file) search.corner n (visits_of search.entries)) (search-limit file limits can floor [] s search) visits;
+  rest = inl (omega (arith));
+}
+
+-- or no rate is greater than one that was met
+pub topped-of : (file : ScenarioFile) (limits : ScenarioLimits) (can : IsSearchable file limits.total) (total : ℕ) (s : Search) → IsSearch file limits (total + 1) [] s →
+    total ≤ limits.total → s.topped ≡ true → IsEnded file limits s.points.items
+topped-of file limits can total s search low is = record {
+  entries = search.entries;
+  known = search.known;
+  corner = search.corner;
+  is_corner = search.is_corner;
+  storage = total;
+  low = low;
+  visits = frontier-up_to (shared_channels file) search.corner total (visits_of search.entries) s.levels search.frontier (omega (arith, low, search-limit file limits can (total + 1) [] s search));
+  rest = inr (search.top is);
 }
 
 -- what was rated is to be taken in
-module _ (file : ScenarioFile) (limits : ScenarioLimits) (can : IsSearchable file limits.total) (total : ℕ) (ds : List (Option ℕ)) (r : Rated) (best : Fraction) (rated : IsRated file limits.total best ds r) (is_total : storage_of (shared_channels file) ds ≡ total) (rest : List (List (Option ℕ))) (old : Search) (search : IsSearch file limits (total + 1) (ds ∷ rest) old) (fastest : IsBest best total old.points.items) where
+module _ (file : ScenarioFile) (limits : ScenarioLimits) (can : IsSearchable file limits.total) (total : ℕ) (ds : List (Option ℕ)) (r : Rated) (best : Fraction)
+    (rated : IsRated file limits.total best ds r) (is_total : storage_of (shared_channels file) ds ≡ total) (rest : List (List (Option ℕ))) (old : Search)
+    (search : IsSearch file limits (total + 1) (ds ∷ rest) old) (fastest : IsBest best total old.points.items) where
   pub offered : IsOffered file limits.total search.entries best total ds r old.points.items
   offered = record {
     known = search.known;
@@ -153,7 +191,9 @@ module _ (file : ScenarioFile) (limits : ScenarioLimits) (can : IsSearchable fil
   pub its-known : All (λ (c : ℕ). c < length old.levels.channels) r.enlarge
   its-known = λ k z below.
       let capped = (rated.guided (slice_index_or r.enlarge k z) (Contains-get_or r.enlarge k z below)).1 in
-      let place = capped-place (shared_channels file) ds (slice_index_or r.enlarge k z) capped.0 (search-candidate file limits can (total + 1) (ds ∷ rest) old search ds (contains-here ds rest)).distribution capped.1 in
+      let place =
+      capped-place (shared_channels file) ds (slice_index_or r.enlarge k z) capped.0
+      (search-candidate file limits can (total + 1) (ds ∷ rest) old search ds (contains-here ds rest)).distribution capped.1 in
       omega (arith, place, known-long (shared_channels file) old.levels.channels search.frontier.over)
 
   pub its-within : total ≤ old.levels.bounds.total
@@ -164,18 +204,28 @@ module _ (file : ScenarioFile) (limits : ScenarioLimits) (can : IsSearchable fil
   visits-with : visits_of (search.entries ++ entry_of ds r ∷ []) ≡ visits_of search.entries ++ led_by ds r.enlarge ∷ []
   visits-with = visits-more search.entries (entry_of ds r)
 
+  top-before : old.topped ≡ true → HasTop file limits.total (search.entries ++ entry_of ds r ∷ [])
+  top-before h = let t = search.top h in (t.0, Contains-append_left search.entries (entry_of ds r ∷ []) t.0 t.1, t.2, t.3)
+
+  top-here : ShowsNone r → HasTop file limits.total (search.entries ++ entry_of ds r ∷ [])
+  top-here (empty, some) = (entry_of ds r, Contains-append_right search.entries (entry_of ds r ∷ []) (entry_of ds r) (contains-here (entry_of ds r) []), some, rated.top empty some)
+
   -- the search with one more entry
-  pub taken-in : (new : Search) (points : List ScenarioPoint) → new.points.items ≡ points → IsSame old.levels new.levels → IsFrontier (shared_channels file) search.corner (total + 1) (visits_of search.entries ++ led_by ds r.enlarge ∷ []) rest new.levels → AreKnown file limits.total (search.entries ++ entry_of ds r ∷ []) points → IsSearch file limits (total + 1) rest new
-  taken-in new points is same frontier known = record {
+  pub taken-in : (new : Search) (points : List ScenarioPoint) → new.points.items ≡ points → IsSame old.levels new.levels →
+      IsFrontier (shared_channels file) search.corner (total + 1) (visits_of search.entries ++ led_by ds r.enlarge ∷ []) rest new.levels →
+      AreKnown file limits.total (search.entries ++ entry_of ds r ∷ []) points → (new.topped ≡ true → (old.topped ≡ true) ⊎ ShowsNone r) → IsSearch file limits (total + 1) rest new
+  taken-in new points is same frontier known tops = record {
     entries = search.entries ++ entry_of ds r ∷ [];
     known = subst (AreKnown file limits.total (search.entries ++ entry_of ds r ∷ [])) (sym is) known;
     corner = search.corner;
     is_corner = search.is_corner;
     bounds = same.bounds ∙ search.bounds;
     frontier = subst (λ (vs : List Visit). IsFrontier (shared_channels file) search.corner (total + 1) vs rest new.levels) (sym visits-with) frontier;
+    top = λ h. ⊎_elim top-before top-here (tops h);
   }
 
-  pub off-same : (levels : Levels Unit) → IsFrontier (shared_channels file) search.corner (total + 1) (visits_of search.entries ++ led_by ds r.enlarge ∷ []) rest levels → levels.found - length levels.waiting.keys ≡ taken_off old
+  pub off-same : (levels : Levels Unit) → IsFrontier (shared_channels file) search.corner (total + 1) (visits_of search.entries ++ led_by ds r.enlarge ∷ []) rest levels →
+      levels.found - length levels.waiting.keys ≡ taken_off old
   off-same levels frontier =
       let before = off-is file limits can (total + 1) (ds ∷ rest) old search in
       let long = length-append (visits_of search.entries) (led_by ds r.enlarge ∷ []) in
@@ -208,7 +258,10 @@ module _ (file : ScenarioFile) (limits : ScenarioLimits) (can : IsSearchable fil
 all-unmap : {A B : Type 0} (P : B → Type 0) (f : A → B) (xs : List A) → All P (map f xs) → All (λ (x : A). P (f x)) xs
 all-unmap P f xs all = λ k d below. subst P (get_or-map f xs k d (f d) below) (all k (f d) (omega (arith, below, length-map xs f)))
 
-pub level-answers : (file : ScenarioFile) (limits : ScenarioLimits) (total : ℕ) (best : Fraction) (answers : List Answered) (fs : List (Found Unit)) → map (λ (a : Answered). a.capacities) answers ≡ map (λ (f : Found Unit). f.capacities) fs → All (λ (f : Found Unit). storage_of (shared_channels file) f.capacities.capacities ≡ total) fs → All (λ (a : Answered). IsAnswer file limits best a.capacities.capacities a.answer) answers → All (IsAnswerOf file limits total best) answers
+pub level-answers : (file : ScenarioFile) (limits : ScenarioLimits) (total : ℕ) (best : Fraction) (answers : List Answered) (fs : List (Found Unit)) →
+    map (λ (a : Answered). a.capacities) answers ≡ map (λ (f : Found Unit). f.capacities) fs →
+    All (λ (f : Found Unit). storage_of (shared_channels file) f.capacities.capacities ≡ total) fs →
+    All (λ (a : Answered). IsAnswer file limits best a.capacities.capacities a.answer) answers → All (IsAnswerOf file limits total best) answers
 level-answers file limits total best answers fs order totals all = λ k d below.
     let P : Distribution → Type 0 = λ (x : Distribution). storage_of (shared_channels file) x.capacities ≡ total in
     let of : All P (map (λ (a : Answered). a.capacities) answers) = subst (All P) (sym order) (All-map P (λ (f : Found Unit). f.capacities) fs totals) in
@@ -218,7 +271,8 @@ map-map : {A B C : Type 0} (f : B → C) (g : A → B) (xs : List A) → map f (
 map-map f g [] = refl
 map-map f g (x ∷ xs) = ap (λ ys. f (g x) ∷ ys) (map-map f g xs)
 
-pub answered-level : (answers : List Answered) (fs : List (Found Unit)) → map (λ (a : Answered). a.capacities) answers ≡ map (λ (f : Found Unit). f.capacities) fs → answered_of answers ≡ distributions_of fs
+pub answered-level : (answers : List Answered) (fs : List (Found Unit)) → map (λ (a : Answered). a.capacities) answers ≡ map (λ (f : Found Unit). f.capacities) fs →
+    answered_of answers ≡ distributions_of fs
 answered-level answers fs order =
     sym (map-map (λ (d : Distribution). d.capacities) (λ (a : Answered). a.capacities) answers)
     ∙ (ap (λ (ds : List Distribution). map (λ (d : Distribution). d.capacities) ds) order
@@ -230,13 +284,15 @@ best-before best total ps before (inl none) = inl none
 best-before best total ps before (inr (p, one, same)) = inr (p, one, same, before p one)
 
 -- the distributions of the answers that are left begin with that of the next one
-pub rest-more : (answers : List Answered) (n : ℕ) (a : Answered) → n < length answers → a ≡ slice_index_or answers n a → answered_of (drop n answers) ≡ a.capacities.capacities ∷ answered_of (drop (n + 1) answers)
+pub rest-more : (answers : List Answered) (n : ℕ) (a : Answered) → n < length answers → a ≡ slice_index_or answers n a →
+    answered_of (drop n answers) ≡ a.capacities.capacities ∷ answered_of (drop (n + 1) answers)
 rest-more answers n a below is =
     ap answered_of (drop_more answers n a below)
     ∙ ap (λ (x : Answered). x.capacities.capacities ∷ answered_of (drop (n + 1) answers)) (sym is)
 
 module _ (file : ScenarioFile) (limits : ScenarioLimits) where
-  pub all-within : (fs : List (Found Unit)) → All (λ (f : Found Unit). IsCandidate file limits.total f.capacities.capacities) fs → All (λ (f : Found Unit). IsWithin file limits.total f.capacities.capacities) fs
+  pub all-within : (fs : List (Found Unit)) → All (λ (f : Found Unit). IsCandidate file limits.total f.capacities.capacities) fs →
+      All (λ (f : Found Unit). IsWithin file limits.total f.capacities.capacities) fs
   all-within fs all = λ k d below. record { distribution = (all k d below).distribution; within = (all k d below).within }
 
 -- what taking a level off comes to
@@ -247,18 +303,22 @@ abbrev IsNextFrontier : Search → Search → Option (Level Unit) → Type 0
 IsNextFrontier old new found = (cs : List Channel) (start : List (Option ℕ)) (floor : ℕ) (visits : List Visit) → IsFrontier cs start floor visits [] old.levels →
     MatchOption found (AreVisits cs start old.levels.bounds.total visits) (λ (level : Level Unit). IsFrontier cs start (level.total + 1) visits (distributions_of level.visits.items) new.levels)
 
-module _ (file : ScenarioFile) (limits : ScenarioLimits) (can : IsSearchable file limits.total) (floor : ℕ) (old new : Search) (search : IsSearch file limits floor [] old) (points : new.points ≡ old.points) (same : IsSame old.levels new.levels) where
-  pub next-turn : (found : Option (Level Unit)) → IsNextLevel old new found → IsNextFrontier old new found → MatchOption found (IsEnded file limits old.points.items) (λ (level : Level Unit). IsTurn file limits level new)
+module _ (file : ScenarioFile) (limits : ScenarioLimits) (can : IsSearchable file limits.total) (floor : ℕ) (old new : Search)
+    (search : IsSearch file limits floor [] old) (points : new.points ≡ old.points) (tops : new.topped ≡ old.topped) (same : IsSame old.levels new.levels) where
+  pub next-turn : (found : Option (Level Unit)) → IsNextLevel old new found → IsNextFrontier old new found →
+      MatchOption found (IsEnded file limits old.points.items) (λ (level : Level Unit). IsTurn file limits level new)
   next-turn None off frontier = ended-of file limits can floor old search (frontier (shared_channels file) search.corner floor (visits_of search.entries) search.frontier)
-  next-turn (Some level) off frontier = turn-of file limits can floor old new search points level off same (frontier (shared_channels file) search.corner floor (visits_of search.entries) search.frontier)
+  next-turn (Some level) off frontier = turn-of file limits can floor old new search points tops level off same (frontier (shared_channels file) search.corner floor (visits_of search.entries) search.frontier)
 
   pub next-more : (found : Option (Level Unit)) → IsNextLevel old new found → IsNextFrontier old new found → MatchOption found Unit (λ (level : Level Unit). taken_off old < taken_off new)
   next-more None off frontier = tt
-  next-more (Some level) off frontier = off-more file limits can floor old new search points level off same (frontier (shared_channels file) search.corner floor (visits_of search.entries) search.frontier)
+  next-more (Some level) off frontier = off-more file limits can floor old new search points tops level off same (frontier (shared_channels file) search.corner floor (visits_of search.entries) search.frontier)
 
 -- the corner waits
-pub begun : (file : ScenarioFile) (limits : ScenarioLimits) (corner : List (Option ℕ)) (s : Search) → IsCorner (shared_channels file) corner → s.points.items ≡ [] → s.levels.bounds ≡ record { total = limits.total; distributions = limits.distributions } → IsFrontier (shared_channels file) corner 0 [] [] s.levels → IsStanding file limits s
-begun file limits corner s is points bounds frontier = (
+pub begun : (file : ScenarioFile) (limits : ScenarioLimits) (corner : List (Option ℕ)) (s : Search) → IsCorner (shared_channels file) corner → s.points.items ≡ [] →
+    s.levels.bounds ≡ record { total = limits.total; distributions = limits.distributions } → IsFrontier (shared_channels file) corner 0 [] [] s.levels →
+    s.topped ≡ false → IsStanding file limits s
+begun file limits corner s is points bounds frontier none = (
   0,
   record {
     entries = [];
@@ -272,5 +332,6 @@ begun file limits corner s is points bounds frontier = (
     is_corner = is;
     bounds = bounds;
     frontier = frontier;
+    top = λ h. absurd (true≢false (sym h ∙ none));
   },
 )

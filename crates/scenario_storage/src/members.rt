@@ -1,5 +1,5 @@
 //! How the answers of a level are taken in.
-ghost use Rattle.std.specs.Prelude.{◌≡◌, ◌+◌, ◌++◌, [], ◌∷◌, ℕ, All, IfErr, List, OnOk, Option};
+ghost use Rattle.std.specs.Prelude.{◌≡◌, ◌+◌, ◌++◌, [], ◌∷◌, ℕ, All, IfErr, List, OnOk, Option, ◌⊎◌, true};
 ghost use Rattle.sd_base.specs.declared.numbers.Fraction.{Fraction as AFraction};
 ghost use Rattle.sd_base.specs.declared.tables.ScenarioFile.{ScenarioFile as AFile};
 ghost use Rattle.storage.specs.ClosedLists.{Entry};
@@ -9,7 +9,7 @@ ghost use Rattle.bounded_scenarios.specs.ScenarioGuides.{IsReachable};
 ghost use Rattle.scenario_storage.specs.declared.point.ScenarioLimits.{ScenarioLimits as SomeLimits};
 ghost use Rattle.scenario_storage.specs.ScenarioPoints.{IsRefusal};
 ghost use Rattle.scenario_storage.specs.inside.Levels.{IsPlan, IsRateRefusal, IsRated};
-ghost use Rattle.scenario_storage.specs.inside.Searches.{AreKnown, IsAnswerOf, IsBest, IsOffered, IsPointWith, IsSearch, KeepsEarlier, answered_of, entry_of, taken_off};
+ghost use Rattle.scenario_storage.specs.inside.Searches.{AreKnown, IsAnswerOf, IsBest, IsOffered, IsPointWith, IsSearch, KeepsEarlier, ShowsNone, answered_of, entry_of, taken_off};
 
 use crate::error::ScenarioStorageError;
 use crate::level::Answered;
@@ -96,8 +96,16 @@ fn take_in(
     ensures refused { IfErr result (IsRefusal plan.now.file.now plan.now.limits) }
 {
     search.levels.lead_on(plan.alloc, &capacities, total, rated.enlarge.as_slice(), ())?;
+    search.topped = is_topped(search.topped, &rated);
     offer(total, capacities, rated, &mut search.points)?;
     Ok(())
+}
+
+/// Whether a rate was met that bounds all: one so far, or that of a distribution that runs and shows no channel.
+fn is_topped(so_far: bool, rated: &Rated) -> bool
+    ensures { result ≡ true → (so_far ≡ true) ⊎ ShowsNone rated.now }
+{
+    so_far || (rated.enlarge.is_empty() && rated.rate.num > 0)
 }
 
 /// Takes in the point of a distribution, if its evidence was kept.

@@ -1,4 +1,4 @@
-ghost use Rattle.std.specs.Prelude.{◌≡◌, ◌≤◌, ◌<◌, ℕ, IfErr, IfOk, List, MatchOption, OnOk};
+ghost use Rattle.std.specs.Prelude.{◌≡◌, ◌+◌, ◌≤◌, ◌<◌, ℕ, [], IfErr, IfOk, List, MatchOption, OnOk};
 ghost use Rattle.sd_base.specs.declared.limits.TheConstants.{DISTRIBUTIONS, LEAST_DISTRIBUTIONS, STORAGE};
 ghost use Rattle.sd_base.specs.Scenarios.{FileKeepsRules};
 ghost use Rattle.sd_base.specs.Tables.{KeepsRules};
@@ -11,7 +11,7 @@ ghost use Rattle.bounded_scenarios.specs.SharedChannels.{shared_channels};
 ghost use Rattle.scenario_storage.specs.ScenarioPoints.{AreScenarioPoints, IsRefusal};
 ghost use Rattle.scenario_storage.specs.inside.Levels.{AreRounds, HaveRounds, IsPlan};
 ghost use Rattle.scenario_storage.specs.inside.Points.{IsBestOf};
-ghost use Rattle.scenario_storage.specs.inside.Searches.{IsEnded, IsStanding, IsTurn, taken_off};
+ghost use Rattle.scenario_storage.specs.inside.Searches.{IsEnded, IsSearch, IsStanding, IsTurn, taken_off};
 
 use crate::error::ScenarioStorageError;
 use crate::level::run_level;
@@ -27,16 +27,19 @@ use std::alloc::Global;
 use std::thread::Threads;
 use storage::Distribution;
 
-/// Where the search stands: the distributions that wait, and the points among those that were rated.
+/// Where the search stands: the distributions that wait, the points among those that were rated, and whether one of these has
+/// a rate that bounds those of all.
 #[derive(Drop)]
 pub(crate) struct Search {
     pub(crate) levels: Levels<()>,
     pub(crate) points: Vec<ScenarioPoint>,
+    pub(crate) topped: bool,
 }
 
 /// The Pareto points of the storage of shared channels and the worst rate (Geilen 2010; Stuijk, Geilen and Basten 2008):
 /// the corner is rated and, with each distribution, those that have a step more room on a shared channel which it shows.
 /// The distributions of one storage are one level: the gate is entered with that storage, and they are rated side by side.
+/// The search ends with the level of a rate that no distribution exceeds: one that runs and shows no shared channel.
 /// Cost: for each distribution that of the matrices of its scenarios, of their timed graph's worst rate, and of a way for
 /// each edge of a critical cycle; memory of the points with their graphs, of the distributions that wait, and of the
 /// evaluations that run at one time.
@@ -64,7 +67,11 @@ pub fn scenario_points<R: Threads + Sync, G: Gate + Sync>(
     let corner = corner_of(alloc, file)?;
     let mut search = begin(&plan, corner.capacities, corner.total)?;
     take_turns(rt, &plan, gate, &mut search)?;
-    let Search { levels: _, points } = search;
+    let Search {
+        levels: _,
+        points,
+        topped: _,
+    } = search;
     Ok(points)
 }
 
@@ -120,10 +127,11 @@ fn begin(plan: &Plan, corner: Distribution, total: u64) -> Result<Search, NoMemo
     Ok(Search {
         levels: Levels::begin(plan.alloc, channels, bounds, corner, total, ())?,
         points: Vec::new(plan.alloc),
+        topped: false,
     })
 }
 
-/// Takes level after level in, until none waits.
+/// Takes level after level in, until none waits or no greater rate is left.
 fn take_turns<R: Threads + Sync, G: Gate + Sync>(
     rt: &R,
     plan: &Plan,
@@ -137,6 +145,10 @@ fn take_turns<R: Threads + Sync, G: Gate + Sync>(
 {
     while let Some(level) = next_level(plan, search)? {
         take_turn(rt, plan, level, gate, search)?;
+        let last = search.topped;
+        if last {
+            return Ok(());
+        }
     }
     Ok(())
 }
@@ -164,7 +176,7 @@ fn take_turn<R: Threads + Sync, G: Gate + Sync>(
 ) -> Result<(), ScenarioStorageError>
     requires plan { IsPlan plan.now.file.now plan.now.gammas.now plan.now.limits }
     requires turn { IsTurn plan.now.file.now plan.now.limits level search.old }
-    ensures stands { OnOk result (IsStanding plan.now.file.now plan.now.limits search.new) }
+    ensures stands { OnOk result (IsSearch plan.now.file.now plan.now.limits (level.total + 1) [] search.new) }
     ensures off { OnOk result (taken_off search.new ≡ taken_off search.old) }
     ensures refused { IfErr result (IsRefusal plan.now.file.now plan.now.limits) }
 {

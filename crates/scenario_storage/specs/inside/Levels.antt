@@ -1,5 +1,5 @@
 -- What the evaluation of distributions comes to.
-use Rattle.std.specs.Prelude.{◌≡◌, ℕ, ◌*◌, ◌≤◌, Contains, MatchOption, Option, None, Some, List, Result, Ok, Err, length, slice_get, slice_index_or}
+use Rattle.std.specs.Prelude.{◌≡◌, ℕ, ◌*◌, ◌≤◌, Contains, MatchOption, Option, None, Some, List, [], Result, Ok, Err, length, slice_get}
 use Rattle.sd_base.specs.declared.limits.TheConstants.{STORAGE}
 use Rattle.sd_base.specs.declared.numbers.Fraction.{Fraction}
 use Rattle.sd_base.specs.declared.tables.ScenarioFile.{ScenarioFile}
@@ -47,6 +47,11 @@ BoundsRates file limit ds shown num den =
     (es : List (Option ℕ)) → IsDistribution (shared_channels file) es → storage_of (shared_channels file) es ≤ limit → AtMost ds (rounded (shared_channels file) es) →
     AgreesOn shown ds (rounded (shared_channels file) es) → (p q : ℕ) → HasWorstRate file es p q → 1 ≤ p → p * den ≤ num * q
 
+-- a rate bounds those of all distributions within the limit
+abbrev pub BoundsAll : ScenarioFile → ℕ → ℕ → ℕ → Type 0
+BoundsAll file limit num den =
+    (es : List (Option ℕ)) → IsDistribution (shared_channels file) es → storage_of (shared_channels file) es ≤ limit → (p q : ℕ) → HasWorstRate file es p q → 1 ≤ p → p * den ≤ num * q
+
 -- channel c is in the guide of a distribution, and has a capacity
 abbrev pub IsGuided : ScenarioFile → List (Option ℕ) → ℕ → Type 0
 IsGuided file ds c = IsInGuide file ds c × ((k : ℕ) × (capacity_at ds c ≡ Some k))
@@ -55,12 +60,13 @@ IsGuided file ds c = IsInGuide file ds c × ((k : ℕ) × (capacity_at ds c ≡ 
 abbrev pub Shows : ScenarioFile → List (Option ℕ) → Fraction → Evidence → Type 0
 Shows file ds rate e = IsShownBy file ds rate e.shared e.graph e.worst
 
--- the worst rate of a distribution, with channels that hold it back and bound it; and the evidence, or the rate is no more
--- than the best
+-- the worst rate of a distribution, with channels that hold it back and bound it, or none and it bounds all; and the evidence,
+-- or the rate is no more than the best
 pub record IsRated (file : ScenarioFile) (limit : ℕ) (best : Fraction) (ds : List (Option ℕ)) (r : Rated) : Type 0 where
   pub rate : HasWorstRate file ds r.rate.num r.rate.den
   pub guided : (c : ℕ) → Contains r.enlarge c → IsGuided file ds c
   pub bounds : BoundsRates file limit ds r.enlarge r.rate.num r.rate.den
+  pub top : r.enlarge ≡ [] → 1 ≤ r.rate.num → BoundsAll file limit r.rate.num r.rate.den
   pub evidence : MatchOption r.evidence (r.rate.num * best.den ≤ best.num * r.rate.den) (Shows file ds r.rate)
 
 -- why a distribution isn't rated

@@ -1,6 +1,6 @@
 -- What the scenarios of a bounded file come to.
-use Rattle.std.specs.Prelude.{◌≡◌, ℕ, ◌*◌, ◌≤◌, ◌<◌, Option, Some, List, Result, Ok, Err, length, slice_get}
-use Rattle.sd_base.specs.declared.limits.TheConstants.{EDGES, NODES}
+use Rattle.std.specs.Prelude.{◌≡◌, ℕ, ◌≤◌, ◌<◌, Option, Some, List, Result, Ok, Err, length, slice_get}
+use Rattle.sd_base.specs.declared.limits.TheConstants.{EDGES}
 use Rattle.sd_base.specs.declared.tables.ScenarioFile.{ScenarioFile}
 use Rattle.sd_base.specs.declared.tables.ScenarioRow.{ScenarioRow}
 use Rattle.sd_base.specs.Net.{IsRepetitionOf}

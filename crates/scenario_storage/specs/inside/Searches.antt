@@ -1,5 +1,5 @@
 -- Where a search for points stands: the distributions that were rated, those that are being rated, and those that wait.
-use Rattle.std.specs.Prelude.{◌≡◌, ℕ, ◌+◌, ◌-◌, ◌*◌, ◌≤◌, ◌<◌, ◌⊎◌, true, All, Contains, Option, List, [], ◌∷◌, length, map}
+use Rattle.std.specs.Prelude.{◌≡◌, ℕ, ◌+◌, ◌-◌, ◌*◌, ◌≤◌, ◌<◌, ◌⊎◌, true, All, Contains, Option, List, [], length, map}
 use Rattle.sd_base.specs.declared.numbers.Fraction.{Fraction}
 use Rattle.sd_base.specs.declared.tables.ScenarioFile.{ScenarioFile}
 use Rattle.storage.specs.Distributions.{IsDistribution, storage_of}
@@ -21,7 +21,7 @@ use Rattle.scenario_storage.specs.declared.rated.Evidence.{Evidence}
 use Rattle.scenario_storage.specs.declared.rated.Rated.{Rated}
 use Rattle.scenario_storage.specs.declared.search.Search.{Search}
 use Rattle.scenario_storage.specs.ScenarioPoints.{IsShownBy}
-use Rattle.scenario_storage.specs.inside.Levels.{BoundsRates, IsAnswer, IsGuided, IsRated}
+use Rattle.scenario_storage.specs.inside.Levels.{BoundsAll, BoundsRates, IsAnswer, IsGuided, IsRated}
 use Rattle.scenario_storage.specs.inside.Points.{AreRising}
 
 -- a distribution on the grid and within the limit that can be reached
@@ -77,6 +77,10 @@ pub record AreKnown (file : ScenarioFile) (limit : ℕ) (es : List Entry) (ps : 
 abbrev pub visits_of : List Entry → List Visit
 visits_of es = map (λ (e : Entry). led_by e.capacities e.shown) es
 
+-- some entry has a rate above 0 that bounds those of all distributions within the limit
+abbrev pub HasTop : ScenarioFile → ℕ → List Entry → Type 0
+HasTop file limit es = (e : Entry) × Contains es e × (1 ≤ e.num) × BoundsAll file limit e.num e.den
+
 -- where a search stands that has these distributions taken off, and whose levels before the floor are taken in: from the
 -- corner it has made the visits that its entries are
 pub record IsSearch (file : ScenarioFile) (limits : ScenarioLimits) (floor : ℕ) (taken : List (List (Option ℕ))) (s : Search) : Type 0 where
@@ -86,6 +90,7 @@ pub record IsSearch (file : ScenarioFile) (limits : ScenarioLimits) (floor : ℕ
   pub is_corner : IsCorner (shared_channels file) corner
   pub bounds : s.levels.bounds ≡ record { total = limits.total; distributions = limits.distributions }
   pub frontier : IsFrontier (shared_channels file) corner floor (visits_of entries) taken s.levels
+  pub top : s.topped ≡ true → HasTop file limits.total entries
 
 -- where a search stands between two levels
 abbrev pub IsStanding : ScenarioFile → ScenarioLimits → Search → Type 0
@@ -97,14 +102,18 @@ pub record IsTurn (file : ScenarioFile) (limits : ScenarioLimits) (level : Level
   pub totals : All (λ f. storage_of (shared_channels file) f.capacities.capacities ≡ level.total) level.visits.items
   pub before : (p : ScenarioPoint) → Contains s.points.items p → p.total < level.total
   pub candidates : All (λ f. IsCandidate file limits.total f.capacities.capacities) level.visits.items
+  pub within : level.total ≤ limits.total
 
--- the entries are all visits from the corner within the limit
+-- the entries are all visits from the corner within a storage: the limit, or one after which no rate is greater
 pub record IsEnded (file : ScenarioFile) (limits : ScenarioLimits) (ps : List ScenarioPoint) : Type 0 where
   pub entries : List Entry
   pub known : AreKnown file limits.total entries ps
   pub corner : List (Option ℕ)
   pub is_corner : IsCorner (shared_channels file) corner
-  pub visits : AreVisits (shared_channels file) corner limits.total (visits_of entries)
+  pub storage : ℕ
+  pub low : storage ≤ limits.total
+  pub visits : AreVisits (shared_channels file) corner storage (visits_of entries)
+  pub rest : (limits.total ≤ storage) ⊎ HasTop file limits.total entries
 
 -- the distributions of answers
 abbrev pub answered_of : List Answered → List (List (Option ℕ))
@@ -127,6 +136,10 @@ pub record IsOffered (file : ScenarioFile) (limit : ℕ) (es : List Entry) (best
   pub storage : storage_of (shared_channels file) ds ≡ total
   pub after : (x : Entry) → Contains es x → IsBefore (shared_channels file) x.capacities ds
   pub fastest : IsBest best total ps
+
+-- what was rated has a rate above 0 and shows no channel
+abbrev pub ShowsNone : Rated → Type 0
+ShowsNone r = (r.enlarge ≡ []) × (1 ≤ r.rate.num)
 
 -- the point has these parts
 pub record IsPointWith (total : ℕ) (rate : Fraction) (capacities : Distribution) (e : Evidence) (p : ScenarioPoint) : Type 0 where

@@ -1,6 +1,5 @@
 -- The shared channels that an evaluation shows.
-use Rattle.std.specs.Prelude.{◌≡◌, ℕ, suc, ◌≤◌, ◌<◌, ◌/◌, ◌%◌, ◌⊎◌, ◌↔◌, All, Contains, Bool, true, false, Option, None, Some, List, [], ◌∷◌, length, slice_get, slice_index, slice_index_or}
-use Rattle.sd_base.specs.declared.tables.GraphFile.{GraphFile}
+use Rattle.std.specs.Prelude.{◌≡◌, ℕ, suc, ◌<◌, ◌/◌, ◌%◌, ◌⊎◌, ◌↔◌, All, Contains, Bool, true, false, Option, None, Some, List, [], ◌∷◌, length, slice_get, slice_index, slice_index_or}
 use Rattle.sd_base.specs.declared.tables.ScenarioFile.{ScenarioFile}
 use Rattle.sd_base.specs.declared.tables.ScenarioRow.{ScenarioRow}
 use Rattle.sd_base.specs.declared.tables.SharedRow.{SharedRow}

@@ -1,10 +1,7 @@
-use Rattle.std.proofs.Common.{◌≡◌, ◌++◌, ◌∷◌, [], ℕ, ◌+◌, All, Result, Some, List, refl, ap, subst, sym, ◌∙◌, arith}
-use Rattle.std.specs.Prelude.{Option}
+use Rattle.std.proofs.Common.{◌++◌, ◌∷◌, [], All, Some, refl, subst, sym, ◌∙◌, arith}
 use Rattle.std.proofs.lemmas.List.Elements.{All-push}
 use Rattle.scenario_storage.specs.declared.task.Task.{Task}
 use Rattle.scenario_storage.specs.declared.level.Answered.{Answered}
-use Rattle.scenario_storage.specs.declared.rated.RateError.{RateError}
-use Rattle.scenario_storage.specs.declared.rated.Rated.{Rated}
 use Rattle.scenario_storage.specs.inside.Levels.{IsAnswer, IsAnswered}
 use Rattle.storage.specs.declared.distribution.Distribution.{Distribution}
 use Rattle.scenario_storage.proofs.Tasks.{all-front, all-last, drained-more}

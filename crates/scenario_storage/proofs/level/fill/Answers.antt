@@ -1,5 +1,4 @@
-use Rattle.std.proofs.Common.{◌≡◌, ◌++◌, ◌∷◌, [], All, None, List, length, map, map-id, subst, sym, refl, ap, ◌∙◌, arith, rules}
-use Rattle.std.specs.Prelude.{Option, ℕ}
+use Rattle.std.proofs.Common.{◌≡◌, ◌++◌, ◌∷◌, [], All, None, length, map, map-id, subst, sym, refl, ap, ◌∙◌, arith, rules}
 use Rattle.std.proofs.lemmas.List.{length_push, map-append}
 use Rattle.std.proofs.lemmas.List.Elements.{All-push}
 use Rattle.std.proofs.lemmas.Iterator.Consumers.{YieldsList-end, YieldsList-turn}
@@ -21,7 +20,8 @@ loop-found-preserved c =
     c.loop-found.yielded c.loop-found.found-iterator c.loop-found.yielded_by c.next.result c.next.new.self c.in-Some.found c.in-Some.is c.next.ensures.steps in
     let fits : IsWithin c.args.plan.now.file.now c.args.plan.now.limits.total c.in-Some.found.capacities.capacities =
     subst (λ (x : Found Unit). IsWithin plan.file.now plan.limits.total x.capacities.capacities) (sym turn.1) (c.requires.fits (length c.loop-found.yielded) c.in-Some.found turn.0) in
-    let fits_it : IsWithin c.args.plan.now.file.now c.args.plan.now.limits.total c.into_capacities.result.capacities = subst (λ (d : Distribution). IsWithin plan.file.now plan.limits.total d.capacities) (sym c.into_capacities.ensures) fits in
+    let fits_it : IsWithin c.args.plan.now.file.now c.args.plan.now.limits.total c.into_capacities.result.capacities =
+    subst (λ (d : Distribution). IsWithin plan.file.now plan.limits.total d.capacities) (sym c.into_capacities.ensures) fits in
     let pushed : Task = record { alloc = plan.alloc; file = plan.file; gammas = plan.gammas; limits = plan.limits; capacities = c.into_capacities.result; best = c.args.best; answer = None } in (
       omega (arith, c.push_reserved.ensures.len, c.loop-found.invariant.0, length_push c.loop-found.yielded c.in-Some.found),
       c.push_reserved.ensures.capacity ∙ c.loop-found.invariant.1,

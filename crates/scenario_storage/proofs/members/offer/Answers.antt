@@ -1,4 +1,4 @@
-use Rattle.std.proofs.Common.{◌≤◌, ℕ, List, refl, subst, sym}
+use Rattle.std.proofs.Common.{◌≤◌, ℕ, refl, subst, sym}
 use Rattle.std.specs.Prelude.{All}
 use Rattle.scenario_storage.specs.declared.point.ScenarioPoint.{ScenarioPoint}
 use Rattle.scenario_storage.specs.inside.Points.{IsTaken}

@@ -1,8 +1,7 @@
-use Rattle.std.proofs.Common.{◌≡◌, ◌+◌, ◌∷◌, [], ℕ, List, Option, drop, length, map-id, subst, sym, ap, ◌∙◌, arith, rules}
+use Rattle.std.proofs.Common.{◌≡◌, ◌+◌, ◌∷◌, [], ℕ, List, Option, drop, length, subst, sym, ap, ◌∙◌, arith, rules}
 use Rattle.std.proofs.lemmas.List.{drop_all, length_push}
 use Rattle.std.proofs.lemmas.Iterator.Consumers.{YieldsList-end, YieldsList-turn}
 use Rattle.std.proofs.lemmas.Iterator.Adapters.{YieldsList-from_vec}
-use Rattle.scenario_storage.specs.declared.level.Answered.{Answered}
 use Rattle.scenario_storage.specs.inside.Searches.{IsAnswerOf, IsSearch, answered_of}
 use Rattle.scenario_storage.proofs.Knowing.{best-kept, keeps-on}
 use Rattle.scenario_storage.proofs.Turning.{rest-more}

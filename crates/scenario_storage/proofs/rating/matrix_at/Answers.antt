@@ -1,6 +1,5 @@
-use Rattle.std.proofs.Common.{◌≡◌, ℕ, Option, List, sym, ap, ◌∙◌}
+use Rattle.std.proofs.Common.{◌≡◌, ap, ◌∙◌}
 use Rattle.sd_base.specs.declared.tables.ScenarioFile.{ScenarioFile}
-use Rattle.sd_base.specs.declared.tables.SharedRow.{SharedRow}
 use Rattle.bounded_scenarios.specs.BoundedFiles.{bounded_file, bounded_graph}
 use Rattle.scenario_storage.proofs.Measuring.{answers-as, gives-as, matrix-answer, scenario-of}
 use Rattle.scenario_storage.proofs.Searchable.{can-measure}
@@ -33,5 +32,6 @@ returns c =
     let shared : c.as_slice.result.now ≡ (bounded_file file ds).shared = c.as_slice.ensures ∙ ap (λ (f : ScenarioFile). f.shared) c.requires.bounded in
     let gives = (can-measure file c.args.plan.now.limits.total c.requires.plan.bounded ds c.requires.fits).scenarios c.args.scenario sc.row sc.gamma sc.at sc.gives in
     let a = answers-as (bounded_file file ds).shared c.as_slice.result.now (bounded_graph file.shared ds sc.row.graph) c.graph_at-graph.result.now sc.gamma c.gamma_at-gamma.result.now
-    shared (c.graph_at-graph.ensures.bounded file ds sc.row c.requires.bounded sc.at) (c.gamma_at-gamma.ensures sc.gamma sc.its) c.matrix_of.result c.matrix_of.ensures.matrix c.matrix_of.ensures.live c.matrix_of.ensures.stopped in
+    shared (c.graph_at-graph.ensures.bounded file ds sc.row c.requires.bounded sc.at)
+    (c.gamma_at-gamma.ensures sc.gamma sc.its) c.matrix_of.result c.matrix_of.ensures.matrix c.matrix_of.ensures.live c.matrix_of.ensures.stopped in
     matrix-answer file c.args.plan.now.gammas.now ds c.args.scenario sc gives.stamps c.matrix_of.result a.0 a.1 a.2

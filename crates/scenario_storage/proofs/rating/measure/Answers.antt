@@ -1,7 +1,7 @@
-use Rattle.std.proofs.Common.{◌≡◌, ◌+◌, List, length, sym, ap, ◌∙◌, subst, arith, rules}
+use Rattle.std.proofs.Common.{◌≡◌, ◌+◌, length, sym, ap, ◌∙◌, subst, arith}
 use Rattle.std.proofs.lemmas.List.{length-map}
 use Rattle.sd_base.specs.declared.tables.ScenarioFile.{ScenarioFile}
-use Rattle.bounded_scenarios.specs.BoundedFiles.{bounded_file, bounded_scenario}
+use Rattle.bounded_scenarios.specs.BoundedFiles.{bounded_scenario}
 use Rattle.scenario_storage.proofs.Measuring.{AreMatricesTo, all-matrices, matrices-more, runs-before}
 use Rattle.scenario_storage.proofs.Searchable.{can-measure}
 use Rattle.scenario_storage.proofs.rating.measure.Goals as goal
@@ -10,7 +10,8 @@ pub matrix_at-requires-clause-scenario : goal.matrix_at-requires-clause-scenario
 matrix_at-requires-clause-scenario c =
     let file = c.args.plan.now.file.now in
     let ds = c.args.capacities.now.capacities in
-    let many : c.len-scenario-end.result ≡ length file.scenarios = c.len-scenario-end.ensures ∙ (ap (λ (f : ScenarioFile). length f.scenarios) c.requires.bounded ∙ length-map file.scenarios (bounded_scenario file.shared ds)) in
+    let many : c.len-scenario-end.result ≡ length file.scenarios =
+    c.len-scenario-end.ensures ∙ (ap (λ (f : ScenarioFile). length f.scenarios) c.requires.bounded ∙ length-map file.scenarios (bounded_scenario file.shared ds)) in
     omega (arith, many, c.loop-scenario-test.true)
 
 pub stopped_by-requires : goal.stopped_by-requires
@@ -33,6 +34,7 @@ pub returns : goal.returns
 returns c =
     let file = c.args.plan.now.file.now in
     let ds = c.args.capacities.now.capacities in
-    let many : c.len-scenario-end.result ≡ length file.scenarios = c.len-scenario-end.ensures ∙ (ap (λ (f : ScenarioFile). length f.scenarios) c.requires.bounded ∙ length-map file.scenarios (bounded_scenario file.shared ds)) in
+    let many : c.len-scenario-end.result ≡ length file.scenarios =
+    c.len-scenario-end.ensures ∙ (ap (λ (f : ScenarioFile). length f.scenarios) c.requires.bounded ∙ length-map file.scenarios (bounded_scenario file.shared ds)) in
     all-matrices file c.args.plan.now.gammas.now ds c.loop-scenario.scenario c.loop-scenario.matrices.items c.loop-scenario.invariant
     (can-measure file c.args.plan.now.limits.total c.requires.plan.bounded ds c.requires.fits) (omega (arith, many, c.loop-scenario-test.false, c.loop-scenario.auto.scenario-end))

@@ -1,4 +1,4 @@
-use Rattle.std.proofs.Common.{◌≡◌, ◌*◌, refl, arith}
+use Rattle.std.proofs.Common.{refl, arith}
 use Rattle.bounded_scenarios.proofs.BlockedMembers.{blocked-bounds}
 use Rattle.scenario_storage.proofs.Listing.{one-factor}
 use Rattle.scenario_storage.proofs.Rates.{blocked-rated}

@@ -1,9 +1,9 @@
-use Rattle.std.proofs.Common.{◌≡◌, List, ℕ, refl, ap, subst, sym}
+use Rattle.std.proofs.Common.{List, ℕ, refl, ap, subst}
 use Rattle.std.specs.Prelude.{Contains}
-use Rattle.sd_base.specs.declared.numbers.Fraction.{Fraction}
 use Rattle.sd_base.specs.declared.tables.ScenarioFile.{ScenarioFile}
 use Rattle.bounded_scenarios.specs.BoundedFiles.{bounded_file}
 use Rattle.bounded_scenarios.proofs.LiveMembers.{live-bounds}
+use Rattle.bounded_scenarios.proofs.SpacelessCycles.{spaceless-bounds}
 use Rattle.scenario_storage.specs.declared.rated.Evidence.{Evidence}
 use Rattle.scenario_storage.specs.inside.Levels.{Shows}
 use Rattle.scenario_storage.specs.inside.Shown.{AreShownLive}
@@ -56,6 +56,6 @@ returns c =
       there = w.reached;
       lowest = w.least;
     } in
-    live-rated file c.args.plan.now.limits.total c.requires.plan.bounded ds c.requires.fits c.args.best _ live-bounds c.requires.live.runs graph g.timed worst.cycle (w.shows (bounded_file file ds) g.timed) w.critical
+    live-rated file c.args.plan.now.limits.total c.requires.plan.bounded ds c.requires.fits c.args.best _ live-bounds spaceless-bounds c.requires.live.runs graph g.timed worst.cycle (w.shows (bounded_file file ds) g.timed) w.critical
     (subst (λ (ks : List ℕ). AreShownLive file ds graph ks c.in_ok-enlarge.enlarge) c.as_slice.ensures c.in_ok-enlarge.ensures)
     (kept-shows file ds worst.rate c.args.best kept c.if_above.result shows c.if_above.ensures)

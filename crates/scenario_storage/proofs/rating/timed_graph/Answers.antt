@@ -1,4 +1,4 @@
-use Rattle.std.proofs.Common.{◌≡◌, ◌*◌, ◌≤◌, ℕ, List, length, sym, subst}
+use Rattle.std.proofs.Common.{◌*◌, ◌≤◌, length, sym, subst}
 use Rattle.sd_base.specs.declared.limits.TheConstants.{NODES}
 use Rattle.sd_base.specs.declared.tables.ScenarioFile.{ScenarioFile}
 use Rattle.sd_base.specs.Scenarios.{LeadsOn, shared_count}

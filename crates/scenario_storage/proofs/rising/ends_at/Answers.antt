@@ -1,4 +1,4 @@
-use Rattle.std.proofs.Common.{◌-◌, length, sym, arith, rules}
+use Rattle.std.proofs.Common.{arith, rules}
 use Rattle.scenario_storage.proofs.PointOrder.{ends-by}
 use Rattle.scenario_storage.proofs.rising.ends_at.Goals as goal
 

@@ -1,7 +1,5 @@
-use Rattle.std.proofs.Common.{◌≡◌, ◌-◌, length, Bool, true, false, sym, subst, arith}
-use Rattle.std.specs.Prelude.{MatchBool, slice_index_or}
-use Rattle.scenario_storage.specs.inside.Points.{AreSlower, HasNoSlower, IsSlower}
-use Rattle.scenario_storage.proofs.PointOrder.{above-by, last-there}
+use Rattle.std.proofs.Common.{arith}
+use Rattle.scenario_storage.proofs.PointOrder.{above-by}
 use Rattle.scenario_storage.proofs.rising.is_above.Goals as goal
 
 pub returns-in-Some : goal.returns-in-Some

@@ -1,3 +1,4 @@
+use Rattle.std.proofs.Common.{refl}
 use Rattle.bounded_scenarios.specs.SharedChannels.{shared_channels}
 use Rattle.scenario_storage.proofs.Turning.{begun}
 use Rattle.scenario_storage.proofs.search.begin.Goals as goal
@@ -8,4 +9,4 @@ channel_steps-requires c = c.requires.plan.bounded.rules
 pub returns : goal.returns
 returns c =
     begun c.args.plan.now.file.now c.args.plan.now.limits c.args.corner.capacities _ c.requires.corner c.new.ensures.items c.in_ok-begin.ensures.bounds
-    (c.in_ok-begin.ensures.frontier (shared_channels c.args.plan.now.file.now) c.in_ok-channels.ensures c.requires.total)
+    (c.in_ok-begin.ensures.frontier (shared_channels c.args.plan.now.file.now) c.in_ok-channels.ensures c.requires.total) refl

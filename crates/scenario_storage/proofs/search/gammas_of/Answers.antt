@@ -1,5 +1,4 @@
-use Rattle.std.proofs.Common.{◌≡◌, ◌+◌, ◌<◌, List, ℕ, length, sym, ap, ◌∙◌, subst, arith}
-use Rattle.std.specs.Prelude.{Some, slice_get, slice_index_or}
+use Rattle.std.proofs.Common.{◌≡◌, ◌+◌, List, length, sym, ap, subst, arith}
 use Rattle.sd_base.specs.declared.tables.ScenarioRow.{ScenarioRow}
 use Rattle.scenario_storage.proofs.Gammas.{AreRoundsTo, rounds-all, rounds-more}
 use Rattle.scenario_storage.proofs.Marking.{item-at}
@@ -11,7 +10,8 @@ gamma_of-requires-clause-rules c =
 
 pub gamma_of-requires-clause-round : goal.gamma_of-requires-clause-round
 gamma_of-requires-clause-round c =
-    c.requires.rounds c.loop-scenario.scenario-index c.scenario-item.result (item-at c.args.file.now.scenarios c.as_slice-scenario-items.result.now c.loop-scenario.scenario-index c.scenario-item.result c.as_slice-scenario-items.ensures c.loop-scenario-test.true c.scenario-item.is)
+    c.requires.rounds c.loop-scenario.scenario-index c.scenario-item.result
+    (item-at c.args.file.now.scenarios c.as_slice-scenario-items.result.now c.loop-scenario.scenario-index c.scenario-item.result c.as_slice-scenario-items.ensures c.loop-scenario-test.true c.scenario-item.is)
 
 pub loop-scenario-preserved : goal.loop-scenario-preserved
 loop-scenario-preserved c =
@@ -23,4 +23,5 @@ loop-scenario-preserved c =
 pub returns : goal.returns
 returns c =
     let same : length c.as_slice-scenario-items.result.now ≡ length c.args.file.now.scenarios = ap (λ (xs : List ScenarioRow). length xs) c.as_slice-scenario-items.ensures in
-    rounds-all c.args.file.now c.loop-scenario.scenario-index c.loop-scenario.gammas (omega (arith, same, c.loop-scenario-test.false)) (omega (arith, same, c.loop-scenario.auto.scenario-index-end)) c.loop-scenario.invariant
+    rounds-all c.args.file.now c.loop-scenario.scenario-index c.loop-scenario.gammas (omega (arith, same, c.loop-scenario-test.false))
+    (omega (arith, same, c.loop-scenario.auto.scenario-index-end)) c.loop-scenario.invariant

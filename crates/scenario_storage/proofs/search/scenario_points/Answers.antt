@@ -18,4 +18,5 @@ pub take_turns-requires-clause-plan : goal.take_turns-requires-clause-plan
 take_turns-requires-clause-plan g c = λ κs outlive. record { bounded = c.requires.bounded; rounds = c.in_ok-gammas.ensures; total = c.requires.total }
 
 pub returns-clause-points : goal.returns-clause-points
-returns-clause-points g c = points-are c.args.file.now c.args.limits (searchable c.args.file.now c.args.limits.total c.requires.bounded) c.take_turns.new.search.points.items c.in_ok-take_turns.ensures.ended
+returns-clause-points g c =
+    points-are c.args.file.now c.args.limits (searchable c.args.file.now c.args.limits.total c.requires.bounded) c.take_turns.new.search.points.items c.in_ok-take_turns.ensures.ended

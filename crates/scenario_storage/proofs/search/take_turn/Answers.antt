@@ -12,7 +12,8 @@ pub take_in_all-requires-clause-answers : goal.take_in_all-requires-clause-answe
 take_in_all-requires-clause-answers g c =
     let plan = c.args.plan.now in (
       c.best_rate-best.result,
-      best-before c.best_rate-best.result c.args.level.total c.args.search.now.points.items c.requires.turn.before (subst (λ (ps : List ScenarioPoint). IsBestOf ps c.best_rate-best.result) c.as_slice.ensures.value c.best_rate-best.ensures),
+      best-before c.best_rate-best.result c.args.level.total c.args.search.now.points.items c.requires.turn.before
+          (subst (λ (ps : List ScenarioPoint). IsBestOf ps c.best_rate-best.result) c.as_slice.ensures.value c.best_rate-best.ensures),
       level-answers plan.file.now plan.limits c.args.level.total c.best_rate-best.result c.in_ok-answers.answers.items c.args.level.visits.items c.in_ok-answers.ensures.order c.requires.turn.totals c.in_ok-answers.ensures.answers,
     )
 
@@ -22,4 +23,4 @@ take_in_all-requires-clause-search g c =
     (sym (answered-level c.in_ok-answers.answers.items c.args.level.visits.items c.in_ok-answers.ensures.order)) c.requires.turn.search
 
 pub returns-clause-stands : goal.returns-clause-stands
-returns-clause-stands g c = (c.args.level.total + 1, c.in_ok-take_in_all.ensures.search)
+returns-clause-stands g c = c.in_ok-take_in_all.ensures.search

@@ -33,7 +33,8 @@ loop-number-preserved c =
     let e : Edge = slice_index_or c.args.graph.now.edges n d in
     let at : slice_get c.args.graph.now.edges n ≡ Some (slice_index_or c.args.graph.now.edges n d) = there-or c.args.graph.now.edges n d (c.requires.cycle n (Contains-get_or cycle k 0 low)) in
     let own : slice_index_or c.as_slice.result.now n d ≡ slice_index_or c.args.graph.now.edges n d = ap (λ (es : List Edge). slice_index_or es n d) c.as_slice.ensures in
-    let its : c.scenario_of.result ≡ scenario_at c.args.states.now c.args.graph.now.tokens (slice_index_or c.args.graph.now.edges n d) = c.scenario_of.ensures ∙ ap (scenario_at c.args.states.now c.args.graph.now.tokens) own in
+    let its : c.scenario_of.result ≡ scenario_at c.args.states.now c.args.graph.now.tokens (slice_index_or c.args.graph.now.edges n d) =
+    c.scenario_of.ensures ∙ ap (scenario_at c.args.states.now c.args.graph.now.tokens) own in
     let xs = c.loop-number.entries.items in
     let longer : take k cycle ++ n ∷ [] ≡ take (k + 1) cycle = sym (take_more cycle k 0 low) in
     let Q : List ℕ → List EntryPlace → Type 0 = λ ks es. (x : EntryPlace) → Contains es x ↔ IsEntryIn c.args.states.now c.args.graph.now ks c.args.scenario x in

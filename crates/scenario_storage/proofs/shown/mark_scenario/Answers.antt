@@ -1,9 +1,8 @@
-use Rattle.std.proofs.Common.{◌≡◌, ◌++◌, false, true, ◌+◌, ◌≤◌, ℕ, Bool, Option, List, [], All, length, refl, sym, ap, ◌∙◌, subst, true≢false, arith, rules}
+use Rattle.std.proofs.Common.{◌≡◌, ◌++◌, false, true, ℕ, Bool, Option, List, All, length, sym, ap, ◌∙◌, subst, arith, rules}
 use Rattle.std.specs.Prelude.{◌↔◌, ◌⊎◌, drop, slice_index_or, take}
 use Rattle.std.proofs.lemmas.List.{length-replicate}
 use Rattle.sd_base.specs.declared.tables.GraphFile.{GraphFile}
 use Rattle.sd_base.specs.declared.tables.ScenarioFile.{ScenarioFile}
-use Rattle.sd_base.specs.declared.tables.SharedRow.{SharedRow}
 use Rattle.sd_base.specs.FileNet.{net_of}
 use Rattle.sd_base.specs.Untimed.{IsLive}
 use Rattle.token_matrix.specs.Stamps.{first_of}
@@ -54,7 +53,8 @@ mark_ways-requires c =
 
 pub mark_spaces-requires-clause-long : goal.mark_spaces-requires-clause-long
 mark_spaces-requires-clause-long c =
-    let same : length c.as_slice-2.result.now ≡ length (spaces_from c.len-first.result c.args.capacities.now.capacities) = ap (λ (xs : List (Option ℕ)). length xs) (c.as_slice-2.ensures ∙ c.in_ok-spaces.ensures) in
+    let same : length c.as_slice-2.result.now ≡ length (spaces_from c.len-first.result c.args.capacities.now.capacities) =
+    ap (λ (xs : List (Option ℕ)). length xs) (c.as_slice-2.ensures ∙ c.in_ok-spaces.ensures) in
     omega (
       arith,
       same,
@@ -117,4 +117,5 @@ returns c =
     (λ k below. subst (λ (xs : List Bool). (slice_index_or c.mark_spaces.new.marks k false ≡ true) ↔ ((slice_index_or c.args.marks.now k false ≡ true) ⊎ ((i : ℕ) × HasSpace c.as_slice-2.result.now k i × (slice_index_or xs i false ≡ true)))) back (c.mark_spaces.ensures.marked k below))
 
 pub returns-then-is_empty : goal.returns-then-is_empty
-returns-then-is_empty c = empty-marks c.args.plan.now.file.now c.args.plan.now.gammas.now c.args.capacities.now.capacities c.args.scenario c.args.entries.now c.requires.ways.scenario (search rules) c.args.marks.now
+returns-then-is_empty c =
+    empty-marks c.args.plan.now.file.now c.args.plan.now.gammas.now c.args.capacities.now.capacities c.args.scenario c.args.entries.now c.requires.ways.scenario (search rules) c.args.marks.now

@@ -1,4 +1,4 @@
-use Rattle.std.proofs.Common.{◌≡◌, ◌≤◌, ◌<◌, ℕ, true, false, length}
+use Rattle.std.proofs.Common.{◌≡◌, ◌<◌, ℕ, true, false, length}
 use Rattle.std.specs.Prelude.{◌↔◌, ◌⊎◌, slice_index_or}
 use Rattle.scenario_storage.specs.inside.Shown.{HasSpace}
 use Rattle.scenario_storage.proofs.shown.mark_spaces.Given as goal

@@ -1,4 +1,4 @@
-use Rattle.std.proofs.Common.{◌≡◌, ◌+◌, ◌<◌, false, ℕ, Option, List, length, refl, sym, ap, ◌∙◌, subst, arith}
+use Rattle.std.proofs.Common.{◌≡◌, false, ℕ, Option, List, length, refl, sym, ap, ◌∙◌, subst, arith}
 use Rattle.std.proofs.lemmas.List.{length-map}
 use Rattle.std.proofs.lemmas.Option.{slice_get_within}
 use Rattle.sd_base.specs.declared.tables.GraphFile.{GraphFile}
@@ -63,12 +63,14 @@ graph_at-requires c =
     let ds = c.args.capacities.now.capacities in
     let sc = c.requires.blocked.is.scenario in
     let low = slice_get_within file.scenarios c.args.scenario sc.row sc.at in
-    let many : length c.args.bounded.now.scenarios ≡ length file.scenarios = ap (λ (f : ScenarioFile). length f.scenarios) c.requires.bounded ∙ length-map file.scenarios (bounded_scenario file.shared ds) in
+    let many : length c.args.bounded.now.scenarios ≡ length file.scenarios =
+    ap (λ (f : ScenarioFile). length f.scenarios) c.requires.bounded ∙ length-map file.scenarios (bounded_scenario file.shared ds) in
     omega (arith, low, many)
 
 pub held_up-requires-clause-few : goal.held_up-requires-clause-few
 held_up-requires-clause-few c =
-    let same : length c.as_slice.result.now ≡ length (spaces_from c.len.result c.args.capacities.now.capacities) = ap (λ (xs : List (Option ℕ)). length xs) (c.as_slice.ensures ∙ c.in_ok-spaces.ensures) in
+    let same : length c.as_slice.result.now ≡ length (spaces_from c.len.result c.args.capacities.now.capacities) =
+    ap (λ (xs : List (Option ℕ)). length xs) (c.as_slice.ensures ∙ c.in_ok-spaces.ensures) in
     omega (
       arith,
       same,

@@ -1,4 +1,4 @@
-use Rattle.std.proofs.Common.{◌≡◌, ◌+◌, ◌++◌, ◌≤◌, drop, length}
+use Rattle.std.proofs.Common.{◌≡◌, ◌+◌, ◌++◌, ◌≤◌, drop}
 use Rattle.scenario_storage.specs.inside.Shown.{spaces_from}
 use Rattle.scenario_storage.proofs.shown.spaces_of.Given as goal
 
