@@ -65,7 +65,8 @@ module _ (file : ScenarioFile) where
   })
 
   pub stops : (ms : List Entries) (i : ℕ) (row : ScenarioRow) (why : Stop) → AreSoFar file ms i → slice_get file.scenarios i ≡ Some row → Does (measuring_one file.shared row) (Err why) → Does (measuring file) (Err why)
-  stops ms i row why so_far at = first_stops (measuring_one file.shared) file (λ matrices. AreMeasured file matrices) i row why (λ s r before here. (slice_index_or ms s [], so_far.each s r before here)) at
+  stops ms i row why so_far at =
+      first_stops (measuring_one file.shared) file (λ matrices. AreMeasured file matrices) i row why (λ s r before here. (slice_index_or ms s [], so_far.each s r before here)) at
 
   pub all : (ms : List Entries) (i : ℕ) → i ≡ length file.scenarios → AreSoFar file ms i → AreMeasured file ms
   all ms i whole so_far = record {

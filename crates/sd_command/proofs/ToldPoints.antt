@@ -29,7 +29,8 @@ shared-many : (ss : List ScenarioRow) (p : ℕ) (rows : List SharedRow) → leng
 shared-many ss p [] = refl
 shared-many ss p (row ∷ rows) = ap suc (shared-many ss (suc p) rows)
 
-are-tokens : (ss : List ScenarioRow) (p : ℕ) (rows : List SharedRow) (i : ℕ) → i < length (shared_channels_from ss p rows) → is_token_role (slice_index_or (shared_channels_from ss p rows) i nowhere).role ≡ true
+are-tokens : (ss : List ScenarioRow) (p : ℕ) (rows : List SharedRow) (i : ℕ) → i < length (shared_channels_from ss p rows)
+    → is_token_role (slice_index_or (shared_channels_from ss p rows) i nowhere).role ≡ true
 are-tokens ss p [] i below = absurd (omega (arith, below))
 are-tokens ss p (row ∷ rows) zero below = refl
 are-tokens ss p (row ∷ rows) (suc i) below = are-tokens ss (suc p) rows i (omega arith)
@@ -50,7 +51,8 @@ module _ (file : ScenarioFile) where
 
   module _ (sound : (f : ScenarioFile) (graph : TimedGraph) → IsTimedGraph f graph → 1 ≤ graph.tokens → graph.states * graph.tokens ≤ NODES → length graph.edges ≤ EDGES → IsSound graph)
       (total : ℕ) (can : CanBeBounded file total) where
-    graph-sound : (ds : List (Option ℕ)) → IsDistribution (shared_channels file) ds → storage_of (shared_channels file) ds ≤ total → (graph : TimedGraph) → IsTimedGraph (bounded_file file ds) graph → length graph.edges ≤ EDGES → IsSound graph
+    graph-sound : (ds : List (Option ℕ)) → IsDistribution (shared_channels file) ds → storage_of (shared_channels file) ds ≤ total
+        → (graph : TimedGraph) → IsTimedGraph (bounded_file file ds) graph → length graph.edges ≤ EDGES → IsSound graph
     graph-sound ds is within graph timed few =
         let can_measure : CanBeMeasured file ds = measurable file total can ds is within in
         let some : 1 ≤ graph.tokens = rw timed.tokens can_measure.some_token in

@@ -79,6 +79,11 @@ pub(crate) fn sending() -> [(&'static str, Line); 3] {
     ]
 }
 
+/// The channel s as a self-loop of actor 0, and t by which it sends.
+fn turned() -> [(&'static str, Line); 2] {
+    [("s", channel(0, 1, 1, 0, 1)), ("t", channel(0, 1, 1, 1, 1))]
+}
+
 /// The points of actors that send so: in a space of one token one waits for the other, in two actor 1 is busy all along.
 const SENDING_POINTS: [Row<'static>; 2] = [
     Row {
@@ -181,9 +186,9 @@ fn a_state_that_is_not_reached_does_not_count(rt: HostRuntime) -> Result<(), Fai
 #[test]
 fn a_self_loop_in_one_scenario_alone_has_no_capacity(rt: HostRuntime) -> Result<(), Fail> {
     let [o, p, s] = sending();
-    let t = ("t", channel(0, 1, 1, 1, 1));
+    let [looped, t] = turned();
     let first = [o, p, s, t];
-    let second = [o, p, ("s", channel(0, 1, 1, 0, 1)), t];
+    let second = [o, p, looped, t];
     let scenarios = [
         Scenario {
             times: &[1, 2],

@@ -52,12 +52,14 @@ returns-in_err-fit_nodes g c = λ faults.
     let file = c.args.file.now in
     let limits = c.args.limits in
     let p = err_from_is_err_and c.from_residual-in_err-fit_nodes.result c.from_residual-in_err-fit_nodes.ensures.1 in
-    rw (p.1, p.2) (goes_on (bounding_all file (tokens file limits)) (bounded_on file limits) tt _ 0 faults faults (passed file limits c.looped_tokens.result c.looped_tokens.ensures c.in_ok-bound_all.ensures)
+    rw (p.1, p.2) (goes_on (bounding_all file (tokens file limits)) (bounded_on file limits) tt _ 0 faults faults
+    (passed file limits c.looped_tokens.result c.looped_tokens.ensures c.in_ok-bound_all.ensures)
     (step_stops (fitting_nodes file (tokens file limits)) _ 0 refl _ faults
     (subst (λ (n : ℕ). Does (fitting_nodes file (limits.total + n)) (Err c.in_err-fit_nodes.field-0.0)) c.looped_tokens.ensures c.in_err-fit_nodes.ensures)))
 
 -- and the nodes fit
-fits : (file : ScenarioFile) (limits : ScenarioLimits) (n : ℕ) → n ≡ looped_tokens file.scenarios file.shared → (fitting_nodes file (limits.total + n)).passes tt → (fitting_nodes file (tokens file limits)).passes tt
+fits : (file : ScenarioFile) (limits : ScenarioLimits) (n : ℕ) → n ≡ looped_tokens file.scenarios file.shared → (fitting_nodes file (limits.total + n)).passes tt
+    → (fitting_nodes file (tokens file limits)).passes tt
 fits file limits n is few = subst (λ (m : ℕ). (fitting_nodes file (limits.total + m)).passes tt) is few
 
 pub search-requires-clause-bounded : goal.search-requires-clause-bounded
@@ -68,7 +70,8 @@ search-requires-clause-bounded g c κs within =
     (fits file limits c.looped_tokens.result c.looped_tokens.ensures c.in_ok-fit_nodes.ensures)
 
 -- past the tests the command goes as the search
-searched : (file : ScenarioFile) (limits : ScenarioLimits) (n faults : ℕ) (result : Result Answer Stop) → n ≡ looped_tokens file.scenarios file.shared → ArePassed file (limits.total + n) → (fitting_nodes file (limits.total + n)).passes tt
+searched : (file : ScenarioFile) (limits : ScenarioLimits) (n faults : ℕ) (result : Result Answer Stop) → n ≡ looped_tokens file.scenarios file.shared
+    → ArePassed file (limits.total + n) → (fitting_nodes file (limits.total + n)).passes tt
     → Goes (ends_by (searching file limits)) result 0 faults faults → Goes (points_in limits file) result 0 faults faults
 searched file limits n faults result is all few goes =
     goes_on (bounding_all file (tokens file limits)) (bounded_on file limits) tt result 0 faults faults (passed file limits n is all)

@@ -21,4 +21,5 @@ pub returns-in_ok-shared_buffers_text-in-Err-Edges-clause-does :
 returns-in_ok-shared_buffers_text-in-Err-Edges-clause-does g c =
     let at = c.in-Err-Edges.at in
     let text = c.in_ok-shared_buffers_text-in-Err-Edges.ensures ∙ ap (λ (rows : List SharedRow). shared_buffers_list rows at.capacities) c.as_slice.ensures in
-    edges at (subst (IsRefusal c.args.file.now c.args.limits) c.in-Err-Edges.field-0-is c.in-Err-Edges.ensures.refused) (ap (λ (n : ℕ). EdgesAt n c.in_ok-shared_buffers_text-in-Err-Edges.field-0) c.greatest.ensures ∙ ap (λ (t : List ℕ). EdgesAt _ t) text)
+    edges at (subst (IsRefusal c.args.file.now c.args.limits) c.in-Err-Edges.field-0-is c.in-Err-Edges.ensures.refused)
+    (ap (λ (n : ℕ). EdgesAt n c.in_ok-shared_buffers_text-in-Err-Edges.field-0) c.greatest.ensures ∙ ap (λ (t : List ℕ). EdgesAt _ t) text)
