@@ -23,8 +23,8 @@ SOURCES = ("src", "specs", "proofs")
 # What a program is made of: its code with the contracts, and the definitions that these name.
 MADE_OF = ("src", "specs")
 # By estimate: processor minutes from nothing, and the minutes of the longest chain of crates, each proved by one process.
-MINUTES_OF_ONE_CORE = 90
-MINUTES_OF_THE_CHAIN = 25
+MINUTES_OF_ONE_CORE = 160
+MINUTES_OF_THE_CHAIN = 35
 
 
 def say(line):
@@ -184,9 +184,9 @@ def build(program):
             os.makedirs(copy)
             copy_sources(copy, crates)
         good = prove_libraries(crates, program, copies)
-        # a run without words ends with the program's own status
-        text = run(ROOT, program, ["rt", "run"])[1] if good else ""
         keep_work(crates, copies)
+    # a run without words ends with the program's own status
+    text = run(ROOT, program, ["rt", "run"])[1] if good else ""
     if good and not os.path.exists(built):
         print(text, file=sys.stderr)
         say(f"{program} isn't proved")

@@ -4,3 +4,5 @@ pub mod Stamping
 pub mod Shown
 pub mod Adding
 pub mod Onward
+pub mod Pigeons
+pub mod Kept

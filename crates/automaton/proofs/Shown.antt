@@ -12,7 +12,7 @@ use Rattle.sd_base.specs.Scenarios.{shared_count}
 use Rattle.token_matrix.specs.Matrices.{greatest}
 use Rattle.automaton.specs.WorstRates.{IsWorst, IsStatePath, RunsTo, zeros}
 use Rattle.automaton.specs.TimedGraphs.{IsTimedGraph}
-use Rattle.automaton.specs.CriticalCycles.{IsPath, weights, IsStart, IsReached, Fit, IsCritical}
+use Rattle.automaton.specs.CriticalCycles.{IsPath, weights, IsStart, IsReachedNode, Fit, IsCritical}
 use Rattle.token_matrix.proofs.Rows.{greatest-least, greatest-there}
 use Rattle.automaton.proofs.Walks.{along, long_walk, slack}
 use Rattle.automaton.proofs.Stamping.{from_stamps, to_stamps, Origin, Reach, edge-to}
@@ -76,7 +76,7 @@ module _ (file : ScenarioFile) (graph : TimedGraph) (is : IsTimedGraph file grap
       → weights graph.edges (k ∷ ks) * l ≤ w * suc (length ks) + top p nodes
   heaviest ks k i v below path =
       let start = starts_at i below in
-      let reached : IsReached graph (file.initial * shared_count file.shared + i) = (file.initial * shared_count file.shared + i, [], start, refl) in
+      let reached : IsReachedNode graph (file.initial * shared_count file.shared + i) = (file.initial * shared_count file.shared + i, [], start, refl) in
       let x = fit.there (file.initial * shared_count file.shared + i) reached in
       let a = along graph l w p fit (k ∷ ks) (file.initial * shared_count file.shared + i) v x.0 reached x.1 path in
       bound x.0 a.0 (weights graph.edges (k ∷ ks) * l) (w * suc (length ks)) (top p nodes) (fit.starts (file.initial * shared_count file.shared + i) x.0 start x.1) a.2
@@ -164,7 +164,7 @@ module _ (file : ScenarioFile) (graph : TimedGraph) (is : IsTimedGraph file grap
           let k = long_walk graph.edges (file.initial * shared_count file.shared + i) critical.node l w front cycle path critical.closed critical.some critical.rate (suc m) in
           of_long k.walk i k.end m (slack graph.edges (file.initial * shared_count file.shared + i) critical.node l w front cycle path critical.closed critical.some critical.rate) inside k.path k.long k.heavy
 
-      of_start : IsReached graph critical.node → (b : ℕ) × ((n : ℕ) → Reaches b n)
+      of_start : IsReachedNode graph critical.node → (b : ℕ) × ((n : ℕ) → Reaches b n)
       of_start (s, front, (i, below, at), to) =
           let path : IsPath graph.edges (file.initial * shared_count file.shared + i) front critical.node =
           subst (λ (u : ℕ). IsPath graph.edges u front critical.node) (at ∙ ap (λ (n : ℕ). graph.initial * n + i) is.tokens ∙ ap (λ (q : ℕ). q * shared_count file.shared + i) is.initial) to in

@@ -7,7 +7,7 @@ use Rattle.std.proofs.lemmas.Bool.{cases_lt}
 use Rattle.std.proofs.lemmas.List.{length-take-le}
 use Rattle.automaton.specs.declared.graph.Edge.{Edge}
 use Rattle.automaton.specs.declared.graph.TimedGraph.{TimedGraph}
-use Rattle.automaton.specs.CriticalCycles.{IsPath, weights, weight_in, IsReached, Fit}
+use Rattle.automaton.specs.CriticalCycles.{IsPath, weights, weight_in, IsReachedNode, Fit}
 
 pub path-append : (es : List Edge) (ks ls : List ℕ) (u v x : ℕ) → IsPath es u ks v → IsPath es v ls x → IsPath es u (ks ++ ls) x
 path-append es [] ls u v x h g = subst (λ n. IsPath es n ls x) (sym h) g
@@ -130,19 +130,19 @@ step x y z a b w c h g = omega (arith, ints)
 none : (x : ℤ) → (x +ℤ pos 0) ≤ℤ (x +ℤ pos 0)
 none x = omega (arith, ints)
 
-reached-more : (graph : TimedGraph) (u : ℕ) (k : ℕ) (e : Edge) → IsReached graph u → slice_get graph.edges k ≡ Some e → u ≡ e.from → IsReached graph e.to
+reached-more : (graph : TimedGraph) (u : ℕ) (k : ℕ) (e : Edge) → IsReachedNode graph u → slice_get graph.edges k ≡ Some e → u ≡ e.from → IsReachedNode graph e.to
 reached-more graph u k e (s, ks, start, path) is from = (s, ks ++ k ∷ [], start, path-append graph.edges ks (k ∷ []) s u e.to path (e, is, from, refl))
 
 -- potentials that fit bound the weights along a walk
-pub along : (graph : TimedGraph) (l w : ℕ) (p : ℕ → Option ℤ) → Fit graph l w p → (ks : List ℕ) (u v : ℕ) (x : ℤ) → IsReached graph u → p u ≡ Some x → IsPath graph.edges u ks v
+pub along : (graph : TimedGraph) (l w : ℕ) (p : ℕ → Option ℤ) → Fit graph l w p → (ks : List ℕ) (u v : ℕ) (x : ℤ) → IsReachedNode graph u → p u ≡ Some x → IsPath graph.edges u ks v
     → (y : ℤ) × (p v ≡ Some y) × ((x +ℤ pos (weights graph.edges ks * l)) ≤ℤ (y +ℤ pos (w * length ks)))
 along graph l w p fit [] u v x reached at h = (x, ap p (sym h) ∙ at, (let z : (x +ℤ pos 0) ≤ℤ (x +ℤ pos 0) = none x in nothing x l w z))
   where
     nothing : (x : ℤ) (l w : ℕ) → (x +ℤ pos 0) ≤ℤ (x +ℤ pos 0) → (x +ℤ pos (0 * l)) ≤ℤ (x +ℤ pos (w * 0))
     nothing x l w h = omega (arith, ints)
 along graph l w p fit (k ∷ ks) u v x reached at (e, is, from, rest) =
-    let here : IsReached graph e.from = subst (λ (n : ℕ). IsReached graph n) from reached in
-    let next : IsReached graph e.to = reached-more graph u k e reached is from in
+    let here : IsReachedNode graph e.from = subst (λ (n : ℕ). IsReachedNode graph n) from reached in
+    let next : IsReachedNode graph e.to = reached-more graph u k e reached is from in
     let y = fit.there e.to next in
     let r = along graph l w p fit ks e.to v y.0 next y.1 rest in
     let one : (x +ℤ pos (e.weight * l)) ≤ℤ (y.0 +ℤ pos w) = fit.steps k e x y.0 here is (ap p (sym from) ∙ at) y.1 in

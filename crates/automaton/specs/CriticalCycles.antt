@@ -23,20 +23,20 @@ abbrev pub IsStart : TimedGraph → ℕ → Type 0
 IsStart graph v = (i : ℕ) × (i < graph.tokens) × (v ≡ graph.initial * graph.tokens + i)
 
 -- a node to which a walk from a node of the initial state leads
-abbrev pub IsReached : TimedGraph → ℕ → Type 0
-IsReached graph v = (u : ℕ) × (ks : List ℕ) × IsStart graph u × IsPath graph.edges u ks v
+abbrev pub IsReachedNode : TimedGraph → ℕ → Type 0
+IsReachedNode graph v = (u : ℕ) × (ks : List ℕ) × IsStart graph u × IsPath graph.edges u ks v
 
 -- potentials fit the rate l/w
 pub record Fit (graph : TimedGraph) (l w : ℕ) (p : ℕ → Option ℤ) : Type 0 where
-  pub there : (v : ℕ) → IsReached graph v → (x : ℤ) × (p v ≡ Some x)
+  pub there : (v : ℕ) → IsReachedNode graph v → (x : ℤ) × (p v ≡ Some x)
   pub starts : (v : ℕ) (x : ℤ) → IsStart graph v → p v ≡ Some x → pos 0 ≤ℤ x
-  pub steps : (k : ℕ) (e : Edge) (x y : ℤ) → IsReached graph e.from → slice_get graph.edges k ≡ Some e → p e.from ≡ Some x → p e.to ≡ Some y
+  pub steps : (k : ℕ) (e : Edge) (x y : ℤ) → IsReachedNode graph e.from → slice_get graph.edges k ≡ Some e → p e.from ≡ Some x → p e.to ≡ Some y
       → (x +ℤ pos (e.weight * l)) ≤ℤ (y +ℤ pos w)
 
 -- a closed walk through reached nodes with as many edges for its weights as l for w
 pub record IsCritical (graph : TimedGraph) (l w : ℕ) (cycle : List ℕ) : Type 0 where
   pub node : ℕ
-  pub reached : IsReached graph node
+  pub reached : IsReachedNode graph node
   pub closed : IsPath graph.edges node cycle node
   pub some : 1 ≤ length cycle
   pub rate : weights graph.edges cycle * l ≡ w * length cycle

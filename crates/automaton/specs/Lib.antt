@@ -1,4 +1,5 @@
 pub mod TimedGraphs
 pub mod CriticalCycles
+pub mod SoundGraphs
 pub mod WorstRates
 pub mod inside

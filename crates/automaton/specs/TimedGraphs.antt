@@ -1,5 +1,5 @@
 -- The timed graph of a file of scenarios: node q * n + i stands for token i of n when state q is about to run.
-use Rattle.std.specs.Prelude.{◌≡◌, ℕ, ◌+◌, ◌*◌, All, List, [], ◌∷◌, ◌++◌, length, slice_get, slice_index_or, Option, Some, None}
+use Rattle.std.specs.Prelude.{◌≡◌, ℕ, ◌+◌, ◌*◌, List, [], ◌∷◌, ◌++◌, length, slice_get, slice_index_or, Option, Some, None}
 use Rattle.sd_base.specs.Net.{IsRepetitionOf}
 use Rattle.sd_base.specs.declared.tables.ScenarioFile.{ScenarioFile}
 use Rattle.sd_base.specs.declared.tables.ScenarioRow.{ScenarioRow}
@@ -46,14 +46,23 @@ pub record IsTimedGraph (file : ScenarioFile) (graph : TimedGraph) : Type 0 wher
   pub states : graph.states ≡ length file.states
   pub edges : graph.edges ≡ edges_from (shared_count file.shared) 0 matrices file.states
 
--- rows and columns are as many as n, in each matrix
-abbrev pub AreSized : ℕ → List (List (List (Option ℕ))) → Type 0
-AreSized n matrices = All (λ (m : List (List (Option ℕ))). length m ≡ n) matrices
+-- a state of the file runs scenario s
+abbrev pub IsRun : ScenarioFile → ℕ → Type 0
+IsRun file s = (q : ℕ) × (state : StateRow) × (slice_get file.states q ≡ Some state) × (state.scenario ≡ s)
 
--- the graph of a file by these matrices; if they are those of its scenarios, it is the file's timed graph
+-- of all matrices those of the scenarios that states run are kept; what stands in place of the others is left open
+pub record AreKept (file : ScenarioFile) (all kept : List (List (List (Option ℕ)))) : Type 0 where
+  pub long : length kept ≡ length all
+  pub same : (s : ℕ) → IsRun file s → slice_index_or kept s [] ≡ slice_index_or all s []
+
+-- the matrix of each scenario that one of the states runs has n rows
+abbrev pub AreSized : ℕ → List (List (List (Option ℕ))) → List StateRow → Type 0
+AreSized n matrices states = (q : ℕ) (s : StateRow) → slice_get states q ≡ Some s → length (slice_index_or matrices s.scenario []) ≡ n
+
+-- the graph of a file by these matrices; if those of the scenarios that states run are theirs, it is the file's timed graph
 pub record IsProduct (file : ScenarioFile) (matrices : List (List (List (Option ℕ)))) (graph : TimedGraph) : Type 0 where
   pub tokens : graph.tokens ≡ shared_count file.shared
   pub initial : graph.initial ≡ file.initial
   pub states : graph.states ≡ length file.states
   pub edges : graph.edges ≡ edges_from (shared_count file.shared) 0 matrices file.states
-  pub timed : AreMatrices file matrices → IsTimedGraph file graph
+  pub timed : (all : List (List (List (Option ℕ)))) → AreKept file all matrices → AreMatrices file all → IsTimedGraph file graph

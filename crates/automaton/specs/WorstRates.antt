@@ -10,13 +10,13 @@ use Rattle.token_matrix.specs.Stamps.{AreStampsOf}
 use Rattle.token_matrix.specs.Matrices.{greatest}
 
 -- r is a successor of state q
-abbrev pub IsNext : List StateRow → ℕ → ℕ → Type 0
-IsNext states q r = (s : StateRow) × (slice_get states q ≡ Some s) × (p : ℕ) × (slice_get s.next p ≡ Some r)
+abbrev pub IsSuccessor : List StateRow → ℕ → ℕ → Type 0
+IsSuccessor states q r = (s : StateRow) × (slice_get states q ≡ Some s) × (p : ℕ) × (slice_get s.next p ≡ Some r)
 
 -- after state q these states follow, each a successor of the one before
 abbrev pub Follow : List StateRow → ℕ → List ℕ → Type 0
 Follow states q [] = Unit {0}
-Follow states q (r ∷ rs) = IsNext states q r × Follow states r rs
+Follow states q (r ∷ rs) = IsSuccessor states q r × Follow states r rs
 
 -- a path: the first state is the initial one, and each next one is a successor
 abbrev pub IsStatePath : ScenarioFile → List ℕ → Type 0

@@ -7,7 +7,7 @@ ghost use Rattle.automaton.specs.inside.Adding.{one_edge, AreWide};
 
 use crate::graph::Edge;
 use sd_base::{NoMemory, Rows, StateRow};
-use token_matrix::Matrix;
+use token_matrix::{Entry, Matrix};
 
 /// Adds the edges out of all states.
 pub fn add_states(
@@ -18,7 +18,7 @@ pub fn add_states(
 ) -> Result<(), NoMemory>
     requires scenarios { (q : ℕ) → (s : StateRow) → slice_get states.now q ≡ Some s → s.scenario < length matrices.now }
     requires known { (q : ℕ) → (p : ℕ) → (r : ℕ) → (s : StateRow) → slice_get states.now q ≡ Some s → slice_get s.next p ≡ Some r → r < length states.now }
-    requires sized { AreSized tokens matrices.now }
+    requires sized { AreSized tokens matrices.now states.now }
     requires nodes { length states.now * tokens ≤ NODES }
     requires tokens { tokens ≤ NODES }
     requires states { length states.now ≤ AUTOMATON_STATES }
@@ -42,7 +42,7 @@ fn add_state(
     requires place { place < states }
     requires scenario { state.now.scenario < length matrices.now }
     requires known { (p : ℕ) → (r : ℕ) → slice_get state.now.next p ≡ Some r → r < states }
-    requires sized { AreSized tokens matrices.now }
+    requires sized { length (slice_index_or matrices.now state.now.scenario []) ≡ tokens }
     requires nodes { states * tokens ≤ NODES }
     requires tokens { tokens ≤ NODES }
     requires states { states ≤ AUTOMATON_STATES }
@@ -65,9 +65,9 @@ fn first_node(state: u32, tokens: u32, states: usize) -> u32
 }
 
 /// The rows of a scenario's matrix.
-fn rows_at(matrices: &[Matrix], tokens: u32, scenario: u32) -> &[Rows<Option<u64>>]
+fn rows_at(matrices: &[Matrix], tokens: u32, scenario: u32) -> &[Rows<Entry>]
     requires scenario { scenario < length matrices.now }
-    requires sized { AreSized tokens matrices.now }
+    requires sized { length (slice_index_or matrices.now scenario []) ≡ tokens }
     ensures is { result.now ≡ slice_index_or matrices.now scenario [] }
     ensures wide { AreWide tokens result.now }
 {
@@ -79,7 +79,7 @@ fn add_successors(
     edges: &mut Vec<Edge>,
     tokens: u32,
     from: u32,
-    rows: &[Rows<Option<u64>>],
+    rows: &[Rows<Entry>],
     next: &[u32],
     states: usize,
 ) -> Result<(), NoMemory>
@@ -102,7 +102,7 @@ fn add_rows(
     edges: &mut Vec<Edge>,
     from: u32,
     to: u32,
-    rows: &[Rows<Option<u64>>],
+    rows: &[Rows<Entry>],
     tokens: u32,
 ) -> Result<(), NoMemory>
     requires wide { AreWide tokens rows.now }
@@ -122,7 +122,7 @@ fn add_row(
     edges: &mut Vec<Edge>,
     from: u32,
     to: u32,
-    row: &[Option<u64>],
+    row: &[Entry],
     tokens: u32,
 ) -> Result<(), NoMemory>
     requires wide { length row.now ≤ tokens }
@@ -131,7 +131,7 @@ fn add_row(
     ensures { OnOk result (edges.new.items ≡ edges.old.items ++ edges_into from to row.now) }
 {
     for column in 0..row.len() {
-        add_entry(edges, from + column as u32, to, row[column])?;
+        add_entry(edges, from + column as u32, to, row[column].get())?;
     }
     Ok(())
 }

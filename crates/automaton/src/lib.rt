@@ -3,11 +3,13 @@
 
 mod edges;
 mod graph;
+mod keeping;
 mod laws;
 mod leading;
 mod making;
 
 pub use graph::{Edge, TimedGraph};
+pub use keeping::{is_run, needed};
 pub use laws::worst_is_shown;
 pub use leading::leads_on;
 pub use making::{GraphError, product};

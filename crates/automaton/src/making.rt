@@ -31,8 +31,9 @@ impl From<NoMemory> for GraphError {
     }
 }
 
-/// The timed graph of a file by the matrices of its scenarios, one for each, in order. Cost: linear in the entries of
-/// the matrices over all pairs of a state and its successor; the edges are made before their number is tested.
+/// The timed graph of a file by the matrices of its scenarios, one for each, in order; that of a scenario that no state
+/// runs isn't looked at. Cost: linear in the entries of the matrices over all pairs of a state and its successor; the
+/// edges are made before their number is tested.
 pub fn product(
     alloc: Global,
     file: &ScenarioFile,
@@ -40,7 +41,7 @@ pub fn product(
 ) -> Result<TimedGraph, GraphError>
     requires leads_on { LeadsOn file.now }
     requires all { length matrices.now ≡ length file.now.scenarios }
-    requires sized { AreSized (shared_count file.now.shared) matrices.now }
+    requires sized { AreSized (shared_count file.now.shared) matrices.now file.now.states }
     requires states { length file.now.states ≤ AUTOMATON_STATES }
     requires nodes { length file.now.states * shared_count file.now.shared ≤ NODES }
     ensures product { IfOk result (IsProduct file.now matrices.now) }
@@ -61,14 +62,15 @@ pub fn product(
     })
 }
 
-/// How many tokens the scenarios share: as many as the rows of each matrix.
+/// How many tokens the scenarios share: as many as the rows of the matrix of the initial state's scenario.
 fn token_count(file: &ScenarioFile, matrices: &[Matrix]) -> u32
     requires leads_on { LeadsOn file.now }
     requires all { length matrices.now ≡ length file.now.scenarios }
-    requires sized { AreSized (shared_count file.now.shared) matrices.now }
+    requires sized { AreSized (shared_count file.now.shared) matrices.now file.now.states }
     requires nodes { length file.now.states * shared_count file.now.shared ≤ NODES }
     ensures is { result ≡ shared_count file.now.shared }
     ensures few { result ≤ NODES }
 {
-    matrices[0].size()
+    let initial = &file.states.as_slice()[file.initial as usize];
+    matrices[initial.scenario as usize].size()
 }

@@ -1,5 +1,5 @@
 -- Sums over whole cycles of phases: a net is balanced by firings where its links are by cycles.
-use Rattle.std.proofs.Common.{◌≡◌, ℕ, zero, suc, ◌+◌, ◌*◌, ◌/◌, ◌%◌, ◌<◌, ◌≤◌, Some, List, [], ◌∷◌, length, take, sum, sym, refl, ap, subst, ◌∙◌, arith}
+use Rattle.std.proofs.Common.{◌≡◌, ℕ, zero, suc, ◌+◌, ◌*◌, ◌/◌, ◌%◌, ◌<◌, ◌≤◌, Some, List, [], ◌∷◌, length, take, sum, sym, ap, subst, ◌∙◌, arith}
 use Rattle.std.specs.Prelude.{slice_get, slice_index_or, slice_index}
 use Rattle.std.proofs.Math.Nat.{div-add-mod', mul-mod_left, mul-pos}
 use Rattle.std.proofs.lemmas.Nat.{mod-mul-add}
@@ -11,18 +11,12 @@ use Rattle.sd_base.specs.declared.tables.GraphFile.{GraphFile}
 use Rattle.sd_base.specs.declared.tables.ChannelRow.{ChannelRow}
 use Rattle.sd_base.specs.Tables.{KeepsRules, ChannelKeepsRules, phases_of}
 use Rattle.sd_base.specs.Net.{total, phase_entry, Channel, nowhere, file_channel, file_channels_from, file_channels, Balances}
+use Rattle.sd_base.proofs.Sums.{total-suc, total-zero}
+use Rattle.sd_base.proofs.FileNets.{file-length}
 use Rattle.balance.specs.declared.walk.Link.{Link}
 use Rattle.balance.specs.Walks.{links_of, link_of}
 use Rattle.balance.proofs.WalkLemmas.{Balanced}
 use Rattle.balance.proofs.TableLemmas.{rules_at, at_place}
-
-total-suc : (xs : List ℕ) (n : ℕ) → total xs (suc n) ≡ total xs n + phase_entry xs n
-unfolding total
-total-suc xs n = refl
-
-total-zero : (xs : List ℕ) → total xs 0 ≡ 0
-unfolding total
-total-zero xs = refl
 
 total_front : (xs : List ℕ) (k j : ℕ) → j ≤ length xs → total xs (k * length xs + j) ≡ total xs (k * length xs) + sum (take j xs)
 total_front xs k zero le =
@@ -68,17 +62,13 @@ file_at i (d ∷ cs) (suc k) c is =
     let e : i + 1 + k ≡ i + suc k = omega arith in
     file_at (i + 1) cs k c is ∙ ap (λ n. file_channel n c) e
 
-length-files : (i : ℕ) (cs : List ChannelRow) → length (file_channels_from i cs) ≡ length cs
-length-files i [] = refl
-length-files i (c ∷ cs) = ap suc (length-files (i + 1) cs)
-
 -- what balances a graph's channels by firings balances its links by cycles
 pub balanced_cycles : (g : GraphFile) → KeepsRules g → (w : List ℕ) → Balances (phases_of g) (file_channels g) w
     → Balanced (links_of g) (λ a. slice_index w a / slice_index (phases_of g) a)
 balanced_cycles g rules w b k l is =
     let (c, at, same, keeps) = rules_at g rules k l is in
     let lt : k < length (file_channels g) =
-    (let e = length-files 0 g.channels in let in_list = slice_get_within g.channels k c at in omega (arith, e, in_list)) in
+    (let e = file-length 0 g.channels in let in_list = slice_get_within g.channels k c at in omega (arith, e, in_list)) in
     let ch : slice_index_or (file_channels g) k nowhere ≡ file_channel (0 + k) c = file_at 0 g.channels k c at in
     let kept : total c.made (slice_index w c.source) ≡ total c.taken (slice_index w c.target) =
     subst (λ (x : Channel). total x.made (slice_index w x.source) ≡ total x.taken (slice_index w x.target)) ch (b.kept k lt) in
@@ -104,7 +94,7 @@ balances_firings g rules q v size some pos is even = record {
       omega (arith, e, p));
   cycles = λ a lt. ap (λ n. n % slice_index (phases_of g) a) (is a lt) ∙ mul-mod_left (q a) (slice_index (phases_of g) a);
   kept = λ k lt.
-      (let in_list : k < length g.channels = (let e = length-files 0 g.channels in omega (arith, e, lt)) in
+      (let in_list : k < length g.channels = (let e = file-length 0 g.channels in omega (arith, e, lt)) in
       let (c, at) = at_place g.channels k in_list in
       let link : slice_get (links_of g) k ≡ Some (link_of c) = slice_get-map link_of g.channels k ∙ ap (option_map link_of) at in
       let (c', at', same, keeps') = rules_at g rules k (link_of c) link in

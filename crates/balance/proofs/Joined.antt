@@ -31,19 +31,19 @@ pair_at (c ∷ cs) zero l is =
 pair_at (c ∷ cs) (suc k) l is = pair_at cs k l is
 
 -- a walk over ends, step by step
-pub with_steps : (g : GraphFile) (a : ℕ) (ks : List ℕ) (b : ℕ) → IsWalk (graph_ends g) a ks b → (ss : List WalkStep) × steps.IsWalk (links_of g) a ss b
+pub with_steps : (g : GraphFile) (a : ℕ) (ks : List ℕ) (b : ℕ) → IsWalk (graph_ends g) a ks b → (ss : List WalkStep) × steps.IsLinkWalk (links_of g) a ss b
 with_steps g a [] b same = ([], same)
 with_steps g a (k ∷ ks) b (e, is, inl (from, rest)) =
     let (l, at, (source, target)) = link_at g.channels k e is in
     let (ss, walk) = with_steps g e.1 ks b rest in
-    (record { channel = k; forward = true } ∷ ss, (l, at, from ∙ sym source, subst (λ (x : ℕ). steps.IsWalk (links_of g) x ss b) (sym target) walk))
+    (record { channel = k; forward = true } ∷ ss, (l, at, from ∙ sym source, subst (λ (x : ℕ). steps.IsLinkWalk (links_of g) x ss b) (sym target) walk))
 with_steps g a (k ∷ ks) b (e, is, inr (from, rest)) =
     let (l, at, (source, target)) = link_at g.channels k e is in
     let (ss, walk) = with_steps g e.0 ks b rest in
-    (record { channel = k; forward = false } ∷ ss, (l, at, from ∙ sym target, subst (λ (x : ℕ). steps.IsWalk (links_of g) x ss b) (sym source) walk))
+    (record { channel = k; forward = false } ∷ ss, (l, at, from ∙ sym target, subst (λ (x : ℕ). steps.IsLinkWalk (links_of g) x ss b) (sym source) walk))
 
 -- steps as a walk over ends
-pub without_steps : (g : GraphFile) (a b : ℕ) (ss : List WalkStep) → steps.IsWalk (links_of g) a ss b → Meets (graph_ends g) a b
+pub without_steps : (g : GraphFile) (a b : ℕ) (ss : List WalkStep) → steps.IsLinkWalk (links_of g) a ss b → Meets (graph_ends g) a b
 without_steps g a b [] same = ([], same)
 without_steps g a b (s ∷ ss) (l, is, from, rest) =
     let (e, at, (source, target)) = pair_at g.channels s.channel l is in

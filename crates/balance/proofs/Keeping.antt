@@ -8,7 +8,7 @@ use Rattle.balance.specs.declared.search.Found.{Found}
 use Rattle.balance.specs.declared.ratio.Ratio.{Ratio}
 use Rattle.balance.specs.declared.refusal.BalanceError.{BalanceError}
 use Rattle.balance.specs.declared.refusal.BalanceError.TheVariants.{Apart, RatioTooLarge, Unbalanced, RoundTooLarge, NoMemory}
-use Rattle.balance.specs.Walks.{IsWay, IsWalk, IsLowest, walk_num, walk_den, turned}
+use Rattle.balance.specs.Walks.{IsWay, IsLinkWalk, IsLowest, walk_num, walk_den, turned}
 use Rattle.balance.specs.Repetition.{IsTreePath, IsClosedOver}
 use Rattle.balance.specs.inside.Search.{HasSums, HasEnds, IsSearched, IsFound, IsWayTo, IsClosedBetween, mark_at}
 use Rattle.balance.specs.inside.Ratios.{ratio_at, IsSummed, AreRatios, Keeps, IsClosedRefusal, IsKeptRefusal}
@@ -83,7 +83,7 @@ closed_over ls actors found seen rs sums ends tree are c l is fails walk num den
       path = path;
       tree = path_of;
       walk_is = walk_is;
-      closed = subst (λ (t : List WalkStep). IsWalk ls l.source t l.source) (sym walk_is) (closed_walk ls c l path is path_of);
+      closed = subst (λ (t : List WalkStep). IsLinkWalk ls l.source t l.source) (sym walk_is) (closed_walk ls c l path is path_of);
       ratio = subst (λ (t : List WalkStep). IsLowest num den (walk_num ls t) (walk_den ls t)) (sym walk_is) ratio;
       not_one = λ same. fails (sym (parts_equal num den ((ratio_at rs l.source).num * l.made * (ratio_at rs l.target).den)
           ((ratio_at rs l.target).num * l.taken * (ratio_at rs l.source).den) low same));

@@ -20,7 +20,7 @@ use Rattle.sd_base.specs.Net.{IsRepetitionOf}
 use Rattle.balance.specs.declared.walk.WalkStep.{WalkStep}
 use Rattle.balance.specs.declared.walk.Link.{Link}
 use Rattle.balance.specs.declared.ratio.Ratio.{Ratio}
-use Rattle.balance.specs.Walks.{links_of, IsWalk, IsLowest, step_to, walk_num, walk_den}
+use Rattle.balance.specs.Walks.{links_of, IsLinkWalk, IsLowest, step_to, walk_num, walk_den}
 use Rattle.balance.specs.Repetition.{IsConsistent, IsKept, HasRatioWithinLimit, WaysAreWithinLimit}
 use Rattle.balance.specs.inside.Search.{HasEnds}
 use Rattle.balance.specs.inside.Ratios.{one, ratio_at, IsSmall, IsRatio, AreRatios, Keeps, DivideAll, IsCommon, IsRoundBy}
@@ -117,7 +117,7 @@ den_divides_common rs m all b = elim (cases_lt b (length rs)) [
   | inr ge ↦ subst (λ (r : Ratio). r.den ∣ m) (sym (get_or_past rs b one ge)) (one-dvd m)
 ]
 
-pub walk_end : (ls : List Link) (actors : ℕ) → HasEnds actors ls → (ss : List WalkStep) (a b : ℕ) → a < actors → IsWalk ls a ss b → b < actors
+pub walk_end : (ls : List Link) (actors : ℕ) → HasEnds actors ls → (ss : List WalkStep) (a b : ℕ) → a < actors → IsLinkWalk ls a ss b → b < actors
 walk_end ls actors ends [] a b lt h = subst (λ n. n < actors) h lt
 walk_end ls actors ends (s ∷ ss) a b lt (l, is, from, rest) = walk_end ls actors ends ss (step_to l s.forward) b (to l s.channel is s.forward) rest
   where

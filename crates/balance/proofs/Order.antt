@@ -6,7 +6,7 @@ use Rattle.std.proofs.lemmas.Option.{slice_get_within}
 use Rattle.balance.specs.declared.walk.WalkStep.{WalkStep}
 use Rattle.balance.specs.declared.walk.Link.{Link}
 use Rattle.balance.specs.inside.Search.{key_from}
-use Rattle.balance.specs.Walks.{IsWalk, LexLe, Precedes, step_to}
+use Rattle.balance.specs.Walks.{IsLinkWalk, LexLe, Precedes, step_to}
 
 abbrev pub key : ℕ → List WalkStep → ℕ
 key m ss = key_from m 0 ss
@@ -15,7 +15,7 @@ abbrev pub AllBelow : ℕ → List WalkStep → Type 0
 AllBelow m [] = Unit {0}
 AllBelow m (s ∷ ss) = (s.channel < m) × AllBelow m ss
 
-pub walk_below : (ls : List Link) (m : ℕ) → length ls ≤ m → (ss : List WalkStep) (a b : ℕ) → IsWalk ls a ss b → AllBelow m ss
+pub walk_below : (ls : List Link) (m : ℕ) → length ls ≤ m → (ss : List WalkStep) (a b : ℕ) → IsLinkWalk ls a ss b → AllBelow m ss
 walk_below ls m le [] a b h = tt
 walk_below ls m le (s ∷ ss) a b (l, is, from, rest) = (
   (let lt : s.channel < length ls = slice_get_within ls s.channel l is in omega arith),

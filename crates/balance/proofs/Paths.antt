@@ -13,7 +13,7 @@ use Rattle.balance.specs.inside.Lists.{list_at, appended}
 use Rattle.balance.specs.inside.Reaching.{pair_from, pair_to, Leads, AreLed, AreClosed, AreFollowers, IsQueue, IsMarked, AreMarked}
 use Rattle.balance.proofs.TableLemmas.{at_All, at_place}
 use Rattle.balance.proofs.Searching.{push_cases, push_old, push_new, trues_le, trues-set, trues-replicate, mark-replicate, mark_set, mark_kept, mark_only}
-use Rattle.balance.proofs.Joints.{appended_here, appended_other, length-appended, list_at-replicate}
+use Rattle.balance.proofs.Joints.{appended_here, appended_other, length-appended}
 
 pub path-append : (ends : List (ℕ × ℕ)) (xs ys : List ℕ) (a b c : ℕ) → IsPath ends a xs b → IsPath ends b ys c → IsPath ends a (xs ++ ys) c
 path-append ends [] ys a b c h k = subst (λ n. IsPath ends n ys c) (sym h) k
@@ -53,13 +53,6 @@ pair_within Along actors ends k e are is = at_All (λ (p : ℕ × ℕ). (p.0 < a
 pair_within Against actors ends k e are is = (let h = at_All (λ (p : ℕ × ℕ). (p.0 < actors) × (p.1 < actors)) ends k e are is in (h.1, h.0))
 
 -- ---- where the pairs lead, by actor
-pub followers_none : (d : Direction) (ends : List (ℕ × ℕ)) (actors : ℕ) → AreFollowers d ends 0 actors (replicate actors [])
-followers_none d ends actors = record {
-  size = length-replicate actors [];
-  only = λ a p u is. absurd (none-some u (subst (λ (t : List ℕ). slice_get t p ≡ Some u) (list_at-replicate actors a) is));
-  whole = λ k e lt is. absurd (let none : ⊥ = omega arith in none);
-}
-
 pub followers_more : (d : Direction) (ends : List (ℕ × ℕ)) (n actors : ℕ) (rows : List (List ℕ)) (e : ℕ × ℕ) → slice_get ends n ≡ Some e → pair_from d e < length rows
     → AreFollowers d ends n actors rows → AreFollowers d ends (n + 1) actors (appended rows (pair_from d e) (pair_to d e))
 followers_more d ends n actors rows e here low f =
@@ -123,16 +116,6 @@ queue_start actors some =
       count = trues-replicate actors;
     } in
     queue_more 0 [] bs lt (mark-replicate actors 0) empty
-
-pub marked_none : (next queue : List ℕ) (marks : List Bool) → IsQueue queue marks → AreMarked next 0 queue marks queue marks
-marked_none next queue marks f = record {
-  is_queue = f;
-  size = refl;
-  kept = λ v on. on;
-  stays = λ j v at. at;
-  all = λ q u lt at. absurd (let none : ⊥ = omega arith in none);
-  only = λ v on. inl on;
-}
 
 -- one actor more was marked
 pub marked_more : (next : List ℕ) (n u : ℕ) (queue queue' queue'' : List ℕ) (marks marks' marks'' : List Bool) → slice_get next n ≡ Some u → u < length marks'

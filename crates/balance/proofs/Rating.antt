@@ -10,7 +10,7 @@ use Rattle.balance.specs.declared.walk.Link.{Link}
 use Rattle.balance.specs.declared.search.Found.{Found}
 use Rattle.balance.specs.declared.search.Reach.{Reach}
 use Rattle.balance.specs.declared.ratio.Ratio.{Ratio}
-use Rattle.balance.specs.Walks.{IsWalk, IsWay, IsLowest, Precedes, step_from, step_num, step_den, num_at, den_at, walk_num, walk_den}
+use Rattle.balance.specs.Walks.{IsLinkWalk, IsWay, IsLowest, Precedes, step_from, step_num, step_den, num_at, den_at, walk_num, walk_den}
 use Rattle.balance.specs.Repetition.{IsFirstAboveLimit, HasRatioAboveLimit, HasRatioWithinLimit}
 use Rattle.balance.specs.inside.Search.{HasSums, Entry, AreEntries, IsTree, IsSearched, IsWayAt, mark_at}
 use Rattle.balance.specs.inside.Ratios.{one, ratio_at, IsSmall, IsRatio, AreRated, AreRatios, IsRatedStep}
@@ -34,7 +34,7 @@ grown_at : (ls : List Link) (actors : ℕ) (found : List Found) (es : List Entry
     → (j : ℕ) (y : Found) (x : Entry) (r : Reach) → slice_get found j ≡ Some y → slice_get es j ≡ Some x → y.reach ≡ Some r → IsGrown ls es j x r
 grown_at ls actors found es seen read tree j y x r here at some =
     let (lt, d, at', way) = read.reached j y x r here at some in
-    let walk : IsWalk ls 0 (d.way ++ r.step ∷ []) x.actor = subst (λ (w : List WalkStep). IsWalk ls 0 w x.actor) way (tree.ways j x at).0 in
+    let walk : IsLinkWalk ls 0 (d.way ++ r.step ∷ []) x.actor = subst (λ (w : List WalkStep). IsLinkWalk ls 0 w x.actor) way (tree.ways j x at).0 in
     let (v, front, (l, over, from, end)) = walk_split ls d.way (r.step ∷ []) 0 x.actor walk in
     let same : v ≡ d.actor = same_end ls d.way 0 v d.actor front (tree.ways r.place d at').0 in
     record { entry = d; link = l; before = lt; at = at'; over = over; from = sym same ∙ from; way = way }

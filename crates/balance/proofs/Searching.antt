@@ -9,8 +9,8 @@ use Rattle.balance.specs.declared.walk.WalkStep.{WalkStep}
 use Rattle.balance.specs.declared.walk.Link.{Link}
 use Rattle.balance.specs.declared.search.Found.{Found}
 use Rattle.balance.specs.declared.search.Reach.{Reach}
-use Rattle.balance.specs.Walks.{IsWalk, IsWay, step_to, step_from}
-use Rattle.balance.specs.inside.Search.{key_from, trues, mark_at, HasEnds, Entry, IsReached, AreEntries, IsSearch, IsSearching, IsLooked, IsTree, IsSearched}
+use Rattle.balance.specs.Walks.{IsLinkWalk, IsWay, step_to, step_from}
+use Rattle.balance.specs.inside.Search.{key_from, trues, mark_at, HasEnds, Entry, IsReachedEntry, AreEntries, IsSearch, IsSearching, IsLooked, IsTree, IsSearched}
 use Rattle.balance.proofs.Order.{key-append, walk_below, precedes_from_key}
 use Rattle.balance.proofs.WalkLemmas.{walk-append, crossing_by}
 use Rattle.balance.proofs.TableLemmas.{at_place}
@@ -33,14 +33,14 @@ push_new (z ∷ xs) y = push_new xs y
 
 -- no walk to an actor that isn't seen has a lower number than the next step has
 next_is_least : (ls : List Link) (m : ℕ) (es : List Entry) (seen : ℕ → Bool) (i c : ℕ) (y : Entry) → IsSearch ls m es seen i c → 0 < m → c < m
-    → slice_get es i ≡ Some y → seen 0 ≡ true → (u : ℕ) → seen u ≡ false → (ss : List WalkStep) → IsWalk ls 0 ss u
+    → slice_get es i ≡ Some y → seen 0 ≡ true → (u : ℕ) → seen u ≡ false → (ss : List WalkStep) → IsLinkWalk ls 0 ss u
     → key_from m 0 y.way * m + c + 1 ≤ key_from m 0 ss
 next_is_least ls m es seen i c y f some low at root u free ss walk =
     crossing_by ls m 0 seen (key_from m 0 y.way * m + c + 1) some
     (λ s l is on off.
     let (j, x, here, end) = f.marked (step_from l s.forward) on in (
       key_from m 0 x.way,
-      (λ ts h. f.least j x ts here (subst (λ n. IsWalk ls 0 ts n) (sym end) h)),
+      (λ ts h. f.least j x ts here (subst (λ n. IsLinkWalk ls 0 ts n) (sym end) h)),
       elim (f.looked s l j x is here end off) [
         | inl later ↦
             let up : key_from m 0 y.way < key_from m 0 x.way = f.rising i j y x at here later in
@@ -98,16 +98,16 @@ added' ls m es seen seen' i s l y new some low root t f =
       walks = λ j x at. elim (push_cases es new x j at) [
         | inl old ↦ f.walks j x old
         | inr e ↦
-            let step : IsWalk ls y.actor (s ∷ []) u = (l, t.over, t.from, refl) in
-            let long : IsWalk ls 0 (y.way ++ s ∷ []) u = walk-append ls y.way (s ∷ []) 0 y.actor u (f.walks i y t.here) step in
-            let here : IsWalk ls 0 new.way new.actor =
-            subst (λ n. IsWalk ls 0 new.way n) (sym t.to) (subst (λ (w : List WalkStep). IsWalk ls 0 w u) (sym t.way) long) in
-            subst (λ (z : Entry). IsWalk ls 0 z.way z.actor) (sym e.1) here
+            let step : IsLinkWalk ls y.actor (s ∷ []) u = (l, t.over, t.from, refl) in
+            let long : IsLinkWalk ls 0 (y.way ++ s ∷ []) u = walk-append ls y.way (s ∷ []) 0 y.actor u (f.walks i y t.here) step in
+            let here : IsLinkWalk ls 0 new.way new.actor =
+            subst (λ n. IsLinkWalk ls 0 new.way n) (sym t.to) (subst (λ (w : List WalkStep). IsLinkWalk ls 0 w u) (sym t.way) long) in
+            subst (λ (z : Entry). IsLinkWalk ls 0 z.way z.actor) (sym e.1) here
       ];
       least = λ j x ss at walk. elim (push_cases es new x j at) [
         | inl old ↦ f.least j x ss old walk
         | inr e ↦
-            let walk' : IsWalk ls 0 ss u = subst (λ n. IsWalk ls 0 ss n) (ap (λ (z : Entry). z.actor) e.1 ∙ t.to) walk in
+            let walk' : IsLinkWalk ls 0 ss u = subst (λ n. IsLinkWalk ls 0 ss n) (ap (λ (z : Entry). z.actor) e.1 ∙ t.to) walk in
             let bound : key_from m 0 y.way * m + s.channel + 1 ≤ key_from m 0 ss = next_is_least ls m es seen i s.channel y f some low t.here root u t.free ss walk' in
             let e' : key_from m 0 x.way ≡ key_from m 0 new.way = ap (λ (z : Entry). key_from m 0 z.way) e.1 in
             omega arith
@@ -226,7 +226,7 @@ past ls m es seen i c c' none f = record {
 
 -- once each place was looked at, no walk leaves what is seen
 closed : (ls : List Link) (m : ℕ) (es : List Entry) (seen : ℕ → Bool) (i c : ℕ) → length es ≤ i → IsSearch ls m es seen i c
-    → (ss : List WalkStep) (a b : ℕ) → seen a ≡ true → IsWalk ls a ss b → seen b ≡ true
+    → (ss : List WalkStep) (a b : ℕ) → seen a ≡ true → IsLinkWalk ls a ss b → seen b ≡ true
 closed ls m es seen i c all f [] a b on h = ap seen (sym h) ∙ on
 closed ls m es seen i c all f (s ∷ ss) a b on (l, is, from, rest) =
     elim (cases_Bool (seen (step_to l s.forward))) [
@@ -346,8 +346,8 @@ read_more found es x e d r read reach same at way = record {
     | inr new ↦
         let step : r ≡ q = same_Some r q (sym reach ∙ sym (ap (λ (z : Found). z.reach) new.1) ∙ some) in
         let lt : r.place < j = (let w = slice_get_within es r.place d at in let n = new.0 in let s = read.size in omega arith) in
-        let now : IsReached (es ++ e ∷ []) j g r = (lt, d, push_old es (e ∷ []) d r.place at, ap (λ (z : Entry). z.way) new.2 ∙ way) in
-        subst (λ (z : Reach). IsReached (es ++ e ∷ []) j g z) step now
+        let now : IsReachedEntry (es ++ e ∷ []) j g r = (lt, d, push_old es (e ∷ []) d r.place at, ap (λ (z : Entry). z.way) new.2 ∙ way) in
+        subst (λ (z : Reach). IsReachedEntry (es ++ e ∷ []) j g z) step now
   ];
 }
 
@@ -414,7 +414,7 @@ looked_more ls actors found found' seen seen' i c l ends over look f = elim look
       (subst (λ (xs : List Found). IsSearching ls actors xs seen i (c + 1)) (sym pass.same) next)
 ]
 
-loop_back : (l : Link) (f : Bool) → l.source ≡ l.target → step_to l f ≡ step_from l f
+pub loop_back : (l : Link) (f : Bool) → l.source ≡ l.target → step_to l f ≡ step_from l f
 loop_back l true e = sym e
 loop_back l false e = e
 
@@ -479,8 +479,8 @@ started_by ls actors x some root none =
       listed = λ j y at. (let e = single x y j at in
           subst (λ n. mark_at (slice_set bs 0 true) n ≡ true) (sym root ∙ sym (ap (λ (z : Entry). z.actor) e.1)) (mark_set bs 0 lt));
       walks = λ j y at. (let e = single x y j at in
-          subst (λ (z : Entry). IsWalk ls 0 z.way z.actor) (sym e.1)
-          (subst (λ (w : List WalkStep). IsWalk ls 0 w x.actor) (sym none) (sym root)));
+          subst (λ (z : Entry). IsLinkWalk ls 0 z.way z.actor) (sym e.1)
+          (subst (λ (w : List WalkStep). IsLinkWalk ls 0 w x.actor) (sym none) (sym root)));
       least = λ j y ss at walk. (let e = single x y j at in
           let same : key_from (length ls + 1) 0 y.way ≡ key_from (length ls + 1) 0 x.way = ap (λ (z : Entry). key_from (length ls + 1) 0 z.way) e.1 in
           omega (arith, same, empty));
@@ -530,12 +530,12 @@ finished ls actors found seen i c end f =
       ways = way;
       rising = λ j k x y at at' le. elim (cases_eq j k) [
         | inl e ↦ (let same : x ≡ y = same_Some x y (sym at ∙ ap (slice_get es) e ∙ at') in
-            (way j x at).1 y.way (subst (λ (z : Entry). IsWalk ls 0 y.way z.actor) (sym same) (s.walks k y at')))
+            (way j x at).1 y.way (subst (λ (z : Entry). IsLinkWalk ls 0 y.way z.actor) (sym same) (s.walks k y at')))
         | inr ne ↦ (let lt = s.rising j k x y at at' (omega arith) in
             precedes_from_key m (omega arith) x.way y.way (walk_below ls m (omega arith) y.way 0 y.actor (s.walks k y at')) (omega arith))
       ];
       apart = λ j k x y at at' lt e.
-          (let le = s.least k y x.way at' (subst (λ n. IsWalk ls 0 x.way n) e (s.walks j x at)) in
+          (let le = s.least k y x.way at' (subst (λ n. IsLinkWalk ls 0 x.way n) e (s.walks j x at)) in
           let up = s.rising j k x y at at' lt in
           omega arith);
       whole = λ ss v walk. closed ls m es (mark_at seen) i c all s ss 0 v f.root walk;

@@ -4,32 +4,29 @@ use Rattle.std.specs.Prelude.{slice_get}
 use Rattle.std.proofs.lemmas.Option.{same_Some}
 use Rattle.balance.specs.declared.walk.WalkStep.{WalkStep}
 use Rattle.balance.specs.declared.walk.Link.{Link}
-use Rattle.balance.specs.Walks.{IsWalk, IsWay, Precedes, step_to, step_from}
+use Rattle.balance.specs.Walks.{IsLinkWalk, IsWay, Precedes, step_to, step_from}
 use Rattle.balance.proofs.Order.{no_longer, same_channels}
 use Rattle.balance.proofs.WalkLemmas.{walk-append, walk_split}
+use Rattle.balance.proofs.Searching.{loop_back}
 
 abbrev pub NoLoops : List Link → List WalkStep → Type 0
 NoLoops ls [] = Unit {0}
 NoLoops ls (s ∷ ss) = ((l : Link) → slice_get ls s.channel ≡ Some l → l.source ≡ l.target → ⊥) × NoLoops ls ss
 
-self_step : (l : Link) (f : Bool) → l.source ≡ l.target → step_to l f ≡ step_from l f
-self_step l true e = sym e
-self_step l false e = e
-
-loops_cut : (ls : List Link) (front rest : List WalkStep) (b : ℕ) → IsWalk ls 0 (front ++ rest) b
-    → ((q : List WalkStep) → IsWalk ls 0 q b → length (front ++ rest) ≤ length q) → NoLoops ls rest
+loops_cut : (ls : List Link) (front rest : List WalkStep) (b : ℕ) → IsLinkWalk ls 0 (front ++ rest) b
+    → ((q : List WalkStep) → IsLinkWalk ls 0 q b → length (front ++ rest) ≤ length q) → NoLoops ls rest
 loops_cut ls front [] b h short = tt
 loops_cut ls front (s ∷ rest) b h short = (
   (λ l is self.
       let (v, before, (l', is', from, after)) = walk_split ls front (s ∷ rest) 0 b h in
       let same : l ≡ l' = same_Some l l' (sym is ∙ is') in
       let loop : l'.source ≡ l'.target = subst (λ (x : Link). x.source ≡ x.target) same self in
-      let back : v ≡ step_to l' s.forward = from ∙ sym (self_step l' s.forward loop) in
-      let cut : IsWalk ls 0 (front ++ rest) b = walk-append ls front rest 0 v b before (subst (λ n. IsWalk ls n rest b) (sym back) after) in
+      let back : v ≡ step_to l' s.forward = from ∙ sym (loop_back l' s.forward loop) in
+      let cut : IsLinkWalk ls 0 (front ++ rest) b = walk-append ls front rest 0 v b before (subst (λ n. IsLinkWalk ls n rest b) (sym back) after) in
       let le : length (front ++ (s ∷ rest)) ≤ length (front ++ rest) = short (front ++ rest) cut in
       absurd (omega (arith, le, length-append front (s ∷ rest), length-append front rest))),
   (let e : (front ++ s ∷ []) ++ rest ≡ front ++ (s ∷ rest) = append_assoc front (s ∷ []) rest in
-      loops_cut ls (front ++ s ∷ []) rest b (subst (λ (t : List WalkStep). IsWalk ls 0 t b) (sym e) h)
+      loops_cut ls (front ++ s ∷ []) rest b (subst (λ (t : List WalkStep). IsLinkWalk ls 0 t b) (sym e) h)
       (λ q k. subst (λ (t : List WalkStep). length t ≤ length q) (sym e) (short q k))),
 )
 
@@ -48,7 +45,7 @@ same_step s t e f =
     ap (λ c. step c s.forward) e ∙ ap (λ g. step t.channel g) f
 
 -- walks from one actor over the same channels are the same
-pub same_walk : (ls : List Link) (p q : List WalkStep) (a b c : ℕ) → NoLoops ls p → IsWalk ls a p b → IsWalk ls a q c
+pub same_walk : (ls : List Link) (p q : List WalkStep) (a b c : ℕ) → NoLoops ls p → IsLinkWalk ls a p b → IsLinkWalk ls a q c
     → map (λ (s : WalkStep). s.channel) p ≡ map (λ (s : WalkStep). s.channel) q → p ≡ q
 same_walk ls [] [] a b c none h k e = refl
 same_walk ls [] (y ∷ q) a b c none h k e = cc
@@ -59,8 +56,8 @@ same_walk ls (x ∷ p) (y ∷ q) a b c (here, none) (l, is, from, rest) (l', is'
     let link : l' ≡ l = same_Some l' l (sym is' ∙ ap (slice_get ls) (sym ch) ∙ is) in
     let from'' : a ≡ step_from l y.forward = subst (λ (t : Link). a ≡ step_from t y.forward) link from' in
     let fwd : x.forward ≡ y.forward = same_direction l x.forward y.forward (here l is) (sym from ∙ from'') in
-    let rest'' : IsWalk ls (step_to l x.forward) q c =
-    subst (λ (f : Bool). IsWalk ls (step_to l f) q c) (sym fwd) (subst (λ (t : Link). IsWalk ls (step_to t y.forward) q c) link rest') in
+    let rest'' : IsLinkWalk ls (step_to l x.forward) q c =
+    subst (λ (f : Bool). IsLinkWalk ls (step_to l f) q c) (sym fwd) (subst (λ (t : Link). IsLinkWalk ls (step_to t y.forward) q c) link rest') in
     let tail : p ≡ q = same_walk ls p q (step_to l x.forward) b c none rest rest'' more in
     let head : x ≡ y = same_step x y ch fwd in
     cc

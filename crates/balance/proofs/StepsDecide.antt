@@ -8,14 +8,14 @@ use Rattle.balance.specs.declared.search.Found.{Found}
 use Rattle.balance.specs.declared.refusal.BalanceError.{BalanceError}
 use Rattle.balance.specs.declared.refusal.BalanceError.TheVariants.{Apart, RatioTooLarge, Unbalanced, RoundTooLarge, NoMemory}
 use Rattle.sd_base.specs.Connection.{Meets, graph_ends}
-use Rattle.balance.specs.Walks.{links_of, IsWalk}
+use Rattle.balance.specs.Walks.{links_of, IsLinkWalk}
 use Rattle.balance.proofs.Joined.{with_steps, without_steps}
 use Rattle.balance.specs.Repetition.{IsConnected, IsApart, IsBalanced, WaysAreWithinLimit, IsRefusal}
 use Rattle.balance.specs.inside.Search.{IsSearched, mark_at}
 use Rattle.balance.specs.inside.Ratios.{IsLimitRefusal, IsKeptRefusal, IsRoundRefusal}
 
 walk_to : (g : GraphFile) (actors : ℕ) (found : List Found) (seen : List Bool) → IsSearched (links_of g) actors found seen → (b : ℕ) → mark_at seen b ≡ true → Meets (graph_ends g) 0 b
-walk_to g actors found seen tree b on = (let (j, x, at, end) = tree.tree.marked b on in without_steps g 0 b x.way (subst (λ n. IsWalk (links_of g) 0 x.way n) end (tree.tree.ways j x at).0))
+walk_to g actors found seen tree b on = (let (j, x, at, end) = tree.tree.marked b on in without_steps g 0 b x.way (subst (λ n. IsLinkWalk (links_of g) 0 x.way n) end (tree.tree.ways j x at).0))
 
 pub connected_from : (g : GraphFile) (found : List Found) (seen : List Bool) → IsSearched (links_of g) (length g.actors) found seen
     → ((b : ℕ) → b < length seen → mark_at seen b ≡ true) → IsConnected g

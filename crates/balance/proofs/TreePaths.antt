@@ -4,23 +4,23 @@ use Rattle.std.specs.Prelude.{slice_get}
 use Rattle.std.proofs.Math.Nat.{eq_of_mul-eq-mul_right, mul-pos}
 use Rattle.balance.specs.declared.walk.WalkStep.{WalkStep}
 use Rattle.balance.specs.declared.walk.Link.{Link}
-use Rattle.balance.specs.Walks.{IsWalk, IsLowest, walk_num, walk_den, turned}
+use Rattle.balance.specs.Walks.{IsLinkWalk, IsLowest, walk_num, walk_den, turned}
 use Rattle.balance.specs.Repetition.{IsTreePath}
 use Rattle.balance.specs.inside.Search.{HasSums}
 use Rattle.balance.proofs.WalkLemmas.{parts_pos, walk-append, walk_split, same_end, walk-turned, num-append, den-append, num-turned, den-turned}
 
 -- a tree path is a walk
-pub tree_walk : (ls : List Link) (a b : ℕ) (path : List WalkStep) → IsTreePath ls a b path → IsWalk ls a path b
+pub tree_walk : (ls : List Link) (a b : ℕ) (path : List WalkStep) → IsTreePath ls a b path → IsLinkWalk ls a path b
 tree_walk ls a b path t =
     let (v, to_v, back) = walk_split ls t.common t.back 0 a t.from.0 in
     let (u, to_u, on) = walk_split ls t.common t.on 0 b t.to.0 in
     let same : v ≡ u = same_end ls t.common 0 v u to_v to_u in
-    let whole : IsWalk ls a (turned t.back ++ t.on) b =
-    walk-append ls (turned t.back) t.on a v b (walk-turned ls t.back v a back) (subst (λ n. IsWalk ls n t.on b) (sym same) on) in
-    subst (λ (p : List WalkStep). IsWalk ls a p b) (sym t.path_is) whole
+    let whole : IsLinkWalk ls a (turned t.back ++ t.on) b =
+    walk-append ls (turned t.back) t.on a v b (walk-turned ls t.back v a back) (subst (λ n. IsLinkWalk ls n t.on b) (sym same) on) in
+    subst (λ (p : List WalkStep). IsLinkWalk ls a p b) (sym t.path_is) whole
 
 pub closed_walk : (ls : List Link) (c : ℕ) (l : Link) (path : List WalkStep) → slice_get ls c ≡ Some l → IsTreePath ls l.target l.source path
-    → IsWalk ls l.source (record { channel = c; forward = true } ∷ path) l.source
+    → IsLinkWalk ls l.source (record { channel = c; forward = true } ∷ path) l.source
 closed_walk ls c l path is tree = (l, is, refl, tree_walk ls l.target l.source path tree)
 
 -- the parts of the closed walk's ratio, against those of its ends' ratios

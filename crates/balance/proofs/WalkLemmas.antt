@@ -6,27 +6,27 @@ use Rattle.std.proofs.lemmas.Bool.{cases_Bool, false≢true}
 use Rattle.std.proofs.lemmas.Option.{same_Some}
 use Rattle.balance.specs.declared.walk.WalkStep.{WalkStep}
 use Rattle.balance.specs.declared.walk.Link.{Link}
-use Rattle.balance.specs.Walks.{IsWalk, step_to, step_from, step_num, step_den, num_at, den_at, walk_num, walk_den, turned}
+use Rattle.balance.specs.Walks.{IsLinkWalk, step_to, step_from, step_num, step_den, num_at, den_at, walk_num, walk_den, turned}
 use Rattle.balance.specs.inside.Search.{key_from, HasSums}
 use Rattle.balance.proofs.Order.{key-append, key_grows}
 
-pub walk-append : (ls : List Link) (xs ys : List WalkStep) (a b c : ℕ) → IsWalk ls a xs b → IsWalk ls b ys c → IsWalk ls a (xs ++ ys) c
-walk-append ls [] ys a b c h k = subst (λ n. IsWalk ls n ys c) (sym h) k
+pub walk-append : (ls : List Link) (xs ys : List WalkStep) (a b c : ℕ) → IsLinkWalk ls a xs b → IsLinkWalk ls b ys c → IsLinkWalk ls a (xs ++ ys) c
+walk-append ls [] ys a b c h k = subst (λ n. IsLinkWalk ls n ys c) (sym h) k
 walk-append ls (x ∷ xs) ys a b c (l, is, from, rest) k = (l, is, from, walk-append ls xs ys (step_to l x.forward) b c rest k)
 
 -- the actor at which a walk's front ends
-pub walk_split : (ls : List Link) (xs ys : List WalkStep) (a c : ℕ) → IsWalk ls a (xs ++ ys) c → (b : ℕ) × IsWalk ls a xs b × IsWalk ls b ys c
+pub walk_split : (ls : List Link) (xs ys : List WalkStep) (a c : ℕ) → IsLinkWalk ls a (xs ++ ys) c → (b : ℕ) × IsLinkWalk ls a xs b × IsLinkWalk ls b ys c
 walk_split ls [] ys a c h = (a, refl, h)
 walk_split ls (x ∷ xs) ys a c (l, is, from, rest) =
     let low = walk_split ls xs ys (step_to l x.forward) c rest in
     (low.0, (l, is, from, low.1), low.2)
 
 -- a walk over given steps has one end
-pub same_end : (ls : List Link) (ss : List WalkStep) (a b c : ℕ) → IsWalk ls a ss b → IsWalk ls a ss c → b ≡ c
+pub same_end : (ls : List Link) (ss : List WalkStep) (a b c : ℕ) → IsLinkWalk ls a ss b → IsLinkWalk ls a ss c → b ≡ c
 same_end ls [] a b c h k = sym h ∙ k
 same_end ls (s ∷ ss) a b c (l, is, from, rest) (l', is', from', rest') =
     let e : l ≡ l' = same_Some l l' (sym is ∙ is') in
-    same_end ls ss (step_to l s.forward) b c rest (subst (λ (x : Link). IsWalk ls (step_to x s.forward) ss c) (sym e) rest')
+    same_end ls ss (step_to l s.forward) b c rest (subst (λ (x : Link). IsLinkWalk ls (step_to x s.forward) ss c) (sym e) rest')
 
 num_assoc : (a b c : ℕ) → a * (b * c) ≡ a * b * c
 num_assoc a b c = omega arith
@@ -67,7 +67,7 @@ one_step ls q even k l is false = even k l is
 joined : (x y z n d n' d' : ℕ) → y * d ≡ x * n → z * d' ≡ y * n' → z * (d * d') ≡ x * (n * n')
 joined x y z n d n' d' h k = omega (arith, ap (λ t. t * n') h, ap (λ t. t * d) k)
 
-pub carried : (ls : List Link) (q : ℕ → ℕ) → Balanced ls q → (ss : List WalkStep) (a b : ℕ) → IsWalk ls a ss b
+pub carried : (ls : List Link) (q : ℕ → ℕ) → Balanced ls q → (ss : List WalkStep) (a b : ℕ) → IsLinkWalk ls a ss b
     → q b * walk_den ls ss ≡ q a * walk_num ls ss
 carried ls q even [] a b h = omega (arith, ap q h)
 carried ls q even (s ∷ ss) a b (l, is, from, rest) =
@@ -94,7 +94,7 @@ not_den (Some l) true = refl
 not_den (Some l) false = refl
 not_den None f = refl
 
-pub walk-turned : (ls : List Link) (ss : List WalkStep) (a b : ℕ) → IsWalk ls a ss b → IsWalk ls b (turned ss) a
+pub walk-turned : (ls : List Link) (ss : List WalkStep) (a b : ℕ) → IsLinkWalk ls a ss b → IsLinkWalk ls b (turned ss) a
 walk-turned ls [] a b h = sym h
 walk-turned ls (s ∷ ss) a b (l, is, from, rest) =
     walk-append ls (turned ss) (record { channel = s.channel; forward = not s.forward } ∷ []) b (step_to l s.forward) a
@@ -122,22 +122,22 @@ den-turned ls (s ∷ ss) =
 -- the first step out of what was seen, where each such step's start has a number that no walk to it undercuts
 pub crossing_by : (ls : List Link) (m root : ℕ) (seen : ℕ → Bool) (bound : ℕ) → 0 < m
     → ((s : WalkStep) (l : Link) → slice_get ls s.channel ≡ Some l → seen (step_from l s.forward) ≡ true → seen (step_to l s.forward) ≡ false
-    → (w : ℕ) × ((ss : List WalkStep) → IsWalk ls root ss (step_from l s.forward) → w ≤ key_from m 0 ss) × (bound ≤ w * m + s.channel + 1))
-    → (ss front : List WalkStep) (v u : ℕ) → IsWalk ls root front v → seen v ≡ true → IsWalk ls v ss u → seen u ≡ false
+    → (w : ℕ) × ((ss : List WalkStep) → IsLinkWalk ls root ss (step_from l s.forward) → w ≤ key_from m 0 ss) × (bound ≤ w * m + s.channel + 1))
+    → (ss front : List WalkStep) (v u : ℕ) → IsLinkWalk ls root front v → seen v ≡ true → IsLinkWalk ls v ss u → seen u ≡ false
     → bound ≤ key_from m (key_from m 0 front) ss
 crossing_by ls m root seen bound some out [] front v u before was h free = absurd (false≢true (sym free ∙ ap seen (sym h) ∙ was))
 crossing_by ls m root seen bound some out (s ∷ ss) front v u before was (l, is, from, rest) free =
     elim (cases_Bool (seen (step_to l s.forward))) [
       | inl on ↦
           let front' : List WalkStep = front ++ s ∷ [] in
-          let reach : IsWalk ls root front' (step_to l s.forward) = walk-append ls front (s ∷ []) root v (step_to l s.forward) before (l, is, from, refl) in
+          let reach : IsLinkWalk ls root front' (step_to l s.forward) = walk-append ls front (s ∷ []) root v (step_to l s.forward) before (l, is, from, refl) in
           let same : key_from m (key_from m 0 front') ss ≡ key_from m (key_from m 0 front * m + s.channel + 1) ss =
           ap (λ n. key_from m n ss) (key-append m 0 front (s ∷ [])) in
           let back = crossing_by ls m root seen bound some out ss front' (step_to l s.forward) u reach on rest free in
           subst (λ n. bound ≤ n) same back
       | inr off ↦
           let low = out s l is (ap seen (sym from) ∙ was) off in
-          let here : low.0 ≤ key_from m 0 front = low.1 front (subst (λ n. IsWalk ls root front n) from before) in
+          let here : low.0 ≤ key_from m 0 front = low.1 front (subst (λ n. IsLinkWalk ls root front n) from before) in
           let up : low.0 * m ≤ key_from m 0 front * m = mul-le-mul_right m here in
           let more : key_from m 0 front * m + s.channel + 1 ≤ key_from m (key_from m 0 front * m + s.channel + 1) ss =
           key_grows m some ss (key_from m 0 front * m + s.channel + 1) in

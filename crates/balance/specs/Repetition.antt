@@ -9,7 +9,7 @@ use Rattle.balance.specs.declared.walk.WalkStep.{WalkStep}
 use Rattle.balance.specs.declared.walk.Link.{Link}
 use Rattle.balance.specs.declared.refusal.BalanceError.{BalanceError}
 use Rattle.balance.specs.declared.refusal.BalanceError.TheVariants.{Apart, RatioTooLarge, Unbalanced, RoundTooLarge, NoMemory}
-use Rattle.balance.specs.Walks.{links_of, IsWalk, IsWay, Precedes, walk_num, walk_den, IsLowest, turned}
+use Rattle.balance.specs.Walks.{links_of, IsLinkWalk, IsWay, Precedes, walk_num, walk_den, IsLowest, turned}
 
 -- a walk leads from actor 0 to each actor
 abbrev pub IsConnected : GraphFile → Type 0
@@ -29,7 +29,7 @@ WaysAreWithinLimit ls = (b : ℕ) (p : List WalkStep) → IsWay ls b p → HasRa
 
 -- no walk is unbalanced: each closed one has the ratio 1
 abbrev pub IsConsistent : List Link → Type 0
-IsConsistent ls = (a : ℕ) (ss : List WalkStep) → IsWalk ls a ss a → walk_num ls ss ≡ walk_den ls ss
+IsConsistent ls = (a : ℕ) (ss : List WalkStep) → IsLinkWalk ls a ss a → walk_num ls ss ≡ walk_den ls ss
 
 -- where a repetition vector is looked for: a connected graph whose ways are within the limit and that has no unbalanced
 -- walk
@@ -100,7 +100,7 @@ pub record IsClosedOver (ls : List Link) (channel : ℕ) (walk : List WalkStep) 
   pub path : List WalkStep
   pub tree : IsTreePath ls link.target link.source path
   pub walk_is : walk ≡ record { channel = channel; forward = true } ∷ path
-  pub closed : IsWalk ls link.source walk link.source
+  pub closed : IsLinkWalk ls link.source walk link.source
   pub ratio : IsLowest num den (walk_num ls walk) (walk_den ls walk)
   pub not_one : num ≢ den
 
@@ -122,11 +122,11 @@ IsRefusal g RoundTooLarge = IsRoundTooLarge g
 IsRefusal g NoMemory = Unit {0}
 
 -- an answer that fits the graph
-abbrev pub IsAnswer : GraphFile → Result (List ℕ) BalanceError → Type 0
-IsAnswer g (Ok v) = IsRound g v
-IsAnswer g (Err e) = IsRefusal g e
+abbrev pub IsBalanceAnswer : GraphFile → Result (List ℕ) BalanceError → Type 0
+IsBalanceAnswer g (Ok v) = IsRound g v
+IsBalanceAnswer g (Err e) = IsRefusal g e
 
 -- at most one answer but want of memory fits a graph
 abbrev pub HasOneAnswer : Type 0
-HasOneAnswer = (g : GraphFile) → KeepsRules g → (x y : Result (List ℕ) BalanceError) → IsAnswer g x → IsAnswer g y →
+HasOneAnswer = (g : GraphFile) → KeepsRules g → (x y : Result (List ℕ) BalanceError) → IsBalanceAnswer g x → IsBalanceAnswer g y →
     x ≢ Err NoMemory → y ≢ Err NoMemory → x ≡ y

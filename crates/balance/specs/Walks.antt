@@ -34,10 +34,10 @@ step_den l true = l.taken
 step_den l false = l.made
 
 -- the steps lead from actor a to actor b, each from where the one before ends
-abbrev pub IsWalk : List Link → ℕ → List WalkStep → ℕ → Type 0
-IsWalk ls a [] b = a ≡ b
-IsWalk ls a (s ∷ ss) b =
-    (l : Link) × (slice_get ls s.channel ≡ Some l) × (a ≡ step_from l s.forward) × IsWalk ls (step_to l s.forward) ss b
+abbrev pub IsLinkWalk : List Link → ℕ → List WalkStep → ℕ → Type 0
+IsLinkWalk ls a [] b = a ≡ b
+IsLinkWalk ls a (s ∷ ss) b =
+    (l : Link) × (slice_get ls s.channel ≡ Some l) × (a ≡ step_from l s.forward) × IsLinkWalk ls (step_to l s.forward) ss b
 
 -- a step's part at a channel of the list; 1 past its end
 abbrev pub num_at : Option Link → Bool → ℕ
@@ -73,7 +73,7 @@ Precedes p q = (length p < length q) ⊎ ((length p ≡ length q) × LexLe p q)
 
 -- the way to b: of all walks from actor 0 to b one that precedes each
 abbrev pub IsWay : List Link → ℕ → List WalkStep → Type 0
-IsWay ls b p = IsWalk ls 0 p b × ((q : List WalkStep) → IsWalk ls 0 q b → Precedes p q)
+IsWay ls b p = IsLinkWalk ls 0 p b × ((q : List WalkStep) → IsLinkWalk ls 0 q b → Precedes p q)
 
 -- a walk back over the same channels
 abbrev pub turned : List WalkStep → List WalkStep

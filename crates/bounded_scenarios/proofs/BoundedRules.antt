@@ -16,7 +16,7 @@ use Rattle.sd_base.specs.Scenarios.{Shares}
 use Rattle.sd_base.specs.Schedules.{HasInputs}
 use Rattle.sd_base.specs.Tables.{ChannelKeepsRules, KeepsRules, KeepsWideRules, phases_of}
 use Rattle.sd_base.proofs.FileNets.{file-at, widened}
-use Rattle.scenario_rate.proofs.Closing.{pigeons}
+use Rattle.automaton.proofs.Pigeons.{pigeons}
 use Rattle.token_matrix.specs.Stamps.{no_row}
 use Rattle.token_matrix.proofs.OfGraph.{channels-are, channels-many}
 use Rattle.token_matrix.proofs.Rows.{get_there}

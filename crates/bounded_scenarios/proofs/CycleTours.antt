@@ -7,9 +7,9 @@ use Rattle.sd_base.specs.declared.tables.ScenarioRow.{ScenarioRow}
 use Rattle.sd_base.specs.Net.{IsRepetitionOf}
 use Rattle.automaton.specs.declared.graph.Edge.{Edge}
 use Rattle.automaton.specs.declared.graph.TimedGraph.{TimedGraph}
-use Rattle.automaton.specs.CriticalCycles.{IsPath, IsReached, weight_in, weights}
+use Rattle.automaton.specs.CriticalCycles.{IsPath, IsReachedNode, weight_in, weights}
 use Rattle.automaton.specs.TimedGraphs.{IsTimedGraph}
-use Rattle.automaton.specs.WorstRates.{IsNext}
+use Rattle.automaton.specs.WorstRates.{IsSuccessor}
 use Rattle.automaton.proofs.Stamping.{edge_from}
 use Rattle.bounded_scenarios.specs.BoundedFiles.{bounded_file, bounded_graph, bounded_scenario}
 use Rattle.bounded_scenarios.specs.ScenarioGuides.{IsEntryOf, IsWayOf}
@@ -54,7 +54,7 @@ module _ (file : ScenarioFile) (m : List (Option ℕ)) (shown : List ℕ) (graph
           let entry : IsEntryOf file graph.tokens e row way.p way.q = way.entry in
           let place = same-place graph.tokens entry.state way.p q p e.from entry.column inside entry.from (sym starts ∙ from) in
           let rest = further entry.next way.q entry.to entry.line in
-          let next : IsNext (bounded_file file m).states q entry.next = subst (λ (n : ℕ). IsNext file.states n entry.next) place.0 (entry.at, entry.runs, entry.place, entry.goes_on) in
+          let next : IsSuccessor (bounded_file file m).states q entry.next = subst (λ (n : ℕ). IsSuccessor file.states n entry.next) place.0 (entry.at, entry.runs, entry.place, entry.goes_on) in
           let leg : IsLeg (AreShown file m shown) (bounded_file file m) entry.state way.p way.q e.weight = record {
             state = entry.at;
             at = entry.runs;
@@ -101,9 +101,9 @@ module _ (file : ScenarioFile) (m : List (Option ℕ)) (shown : List ℕ) (graph
       let into : e.to ≡ entry.r * graph.tokens + entry.j = entry.to ∙ ap (λ (n : ℕ). entry.r * n + entry.j) (sym timed.tokens) in
       let place = same-place graph.tokens entry.q entry.i q p e.from column inside out (sym starts ∙ from) in
       let rest = path-leads timed ks e.to v entry.r entry.j into line path in
-      let next : IsNext (bounded_file file m).states q entry.r = subst (λ (n : ℕ). IsNext file.states n entry.r) place.0 (entry.s, entry.there, entry.p, entry.next) in
+      let next : IsSuccessor (bounded_file file m).states q entry.r = subst (λ (n : ℕ). IsSuccessor file.states n entry.r) place.0 (entry.s, entry.there, entry.p, entry.next) in
       record { states = entry.r ∷ rest.states; r = rest.r; s = rest.s; end = rest.end; inside = rest.inside; leads = (next, rest.leads) }
 
-  pub reached-leads : IsTimedGraph (bounded_file file m) graph → (v : ℕ) → IsReached graph v → LeadsAt file.initial v
+  pub reached-leads : IsTimedGraph (bounded_file file m) graph → (v : ℕ) → IsReachedNode graph v → LeadsAt file.initial v
   reached-leads timed v (u, ks, (i, below, start), path) =
       path-leads timed ks u v file.initial i (start ∙ ap (λ (n : ℕ). n * graph.tokens + i) timed.initial) below path

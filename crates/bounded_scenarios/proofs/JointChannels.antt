@@ -199,9 +199,6 @@ pub record CornerSoFar (ss : List ScenarioRow) (rows : List SharedRow) (i : ℕ)
   pub total : stored ≡ storage_of (shared_channels_from ss 0 (take i rows)) capacities
   pub small : stored ≤ i * (TOKENS + 2 * RATE)
 
-pub corner-none : (ss : List ScenarioRow) (rows : List SharedRow) → CornerSoFar ss rows 0 [] 0
-corner-none ss rows = record { corner = tt; long = refl; total = refl; small = omega arith }
-
 pub corner-more : (ss : List ScenarioRow) (rows : List SharedRow) (i : ℕ) (row : SharedRow) (j : Joint) (e : Option ℕ) (old new : List (Option ℕ)) (total sum : ℕ) → slice_get rows i ≡ Some row →
     IsJoint ss row j → IsEntryFor j e →
     room_of e ≤ TOKENS + 2 * RATE → new ≡ old ++ e ∷ [] → sum ≡ total + room_of e → CornerSoFar ss rows i old total → CornerSoFar ss rows (i + 1) new sum

@@ -1,5 +1,5 @@
 -- The shared channels as channels: their steps, their roles, and the rates of their scenarios.
-use Rattle.std.proofs.Common.{◌≡◌, ℕ, zero, suc, ◌+◌, ◌-◌, ◌≤◌, ◌<◌, true, Option, Some, List, [], ◌∷◌, ◌++◌, length, inl, ⊎_elim, subst, sym, ap, ◌∙◌, refl, arith}
+use Rattle.std.proofs.Common.{◌≡◌, ℕ, zero, suc, ◌+◌, ◌-◌, ◌≤◌, ◌<◌, Some, List, [], ◌∷◌, ◌++◌, length, ⊎_elim, subst, sym, ap, ◌∙◌, refl, arith}
 use Rattle.std.specs.Prelude.{flat_map, slice_get, slice_index, slice_index_or}
 use Rattle.std.proofs.lemmas.Bool.{cases_lt}
 use Rattle.std.proofs.lemmas.List.{get_or_append_left, get_or-append_right, get_or_past}
@@ -9,10 +9,7 @@ use Rattle.sd_base.specs.declared.tables.ScenarioRow.{ScenarioRow}
 use Rattle.sd_base.specs.declared.tables.SharedRow.{SharedRow}
 use Rattle.sd_base.specs.Net.{Channel, nowhere}
 use Rattle.sd_base.specs.Scenarios.{FileKeepsRules}
-use Rattle.sd_base.specs.Lawful.{is_token_role}
-use Rattle.storage.specs.Distributions.{IsDistribution}
-use Rattle.storage.specs.Steps.{IsCorner, step_of}
-use Rattle.storage.proofs.CornerLists.{corner-distribution}
+use Rattle.storage.specs.Steps.{step_of}
 use Rattle.storage.proofs.Climbs.{HasSteps}
 use Rattle.token_matrix.proofs.Rows.{get_there}
 use Rattle.bounded_scenarios.specs.SharedChannels.{channel_named, channels_named, shared_channel, shared_channels, shared_channels_from}
@@ -58,12 +55,3 @@ bound-named f (s ∷ ss) name k each p =
 pub bound-single : (xs : List ℕ) (k : ℕ) → length xs ≡ 1 → slice_index xs 0 ≤ k → (p : ℕ) → slice_index xs p ≤ k
 bound-single xs k one small zero = small
 bound-single xs k one small (suc p) = subst (λ (n : ℕ). n ≤ k) (sym (get_or_past xs (suc p) 0 (omega (arith, one)))) (let f : 0 ≤ k = omega arith in f)
-
--- ---- the corner is a distribution on the grid
-
-token-role : (ss : List ScenarioRow) (p : ℕ) (rows : List SharedRow) (i : ℕ) → i < length (shared_channels_from ss p rows) →
-    is_token_role (slice_index_or (shared_channels_from ss p rows) i nowhere).role ≡ true
-token-role ss p rows i below = let one = shared-there ss p rows i below in ap (λ (c : Channel). is_token_role c.role) one.2
-
-pub corner-distributed : (file : ScenarioFile) (ds : List (Option ℕ)) → IsCorner (shared_channels file) ds → IsDistribution (shared_channels file) ds
-corner-distributed file ds is = corner-distribution (shared_channels file) ds (λ i below. inl (token-role file.scenarios 0 file.shared i below)) is

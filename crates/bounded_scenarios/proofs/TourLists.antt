@@ -7,7 +7,7 @@ use Rattle.sd_base.specs.Net.{IsRepetitionOf}
 use Rattle.sd_base.specs.FileNet.{net_of}
 use Rattle.sd_base.specs.Scenarios.{shared_count}
 use Rattle.token_matrix.specs.Stamps.{AreStampsOf, first_of}
-use Rattle.automaton.specs.WorstRates.{IsNext}
+use Rattle.automaton.specs.WorstRates.{IsSuccessor}
 use Rattle.token_matrix.specs.Ways.{IsWay}
 
 -- a round of state q's scenario has a way from token p to token s that takes so long, and P holds of the scenario's number and of
@@ -27,12 +27,12 @@ pub record IsLeg (P : ℕ → List ℕ → Type 0) (file : ScenarioFile) (q p s 
 abbrev pub IsTour : (ℕ → List ℕ → Type 0) → ScenarioFile → ℕ → ℕ → List ℕ → ℕ → ℕ → ℕ → Type 0
 IsTour P file q p [] r s w = (q ≡ r) × (p ≡ s) × (w ≡ 0)
 IsTour P file q p (next ∷ rs) r s w =
-    (m : ℕ) × (e : ℕ) × (v : ℕ) × IsNext file.states q next × IsLeg P file q p m e × IsTour P file next m rs r s v × (w ≡ e + v)
+    (m : ℕ) × (e : ℕ) × (v : ℕ) × IsSuccessor file.states q next × IsLeg P file q p m e × IsTour P file next m rs r s v × (w ≡ e + v)
 
 -- the states that come next after q lead to r
 abbrev pub LeadTo : ScenarioFile → ℕ → List ℕ → ℕ → Type 0
 LeadTo file q [] r = q ≡ r
-LeadTo file q (next ∷ rs) r = IsNext file.states q next × LeadTo file next rs r
+LeadTo file q (next ∷ rs) r = IsSuccessor file.states q next × LeadTo file next rs r
 
 -- the states that run from q on, with these that come next
 abbrev pub run_from : ℕ → List ℕ → List ℕ

@@ -7,7 +7,7 @@ use Rattle.sd_base.specs.declared.tables.StateRow.{StateRow}
 use Rattle.sd_base.specs.Net.{IsRepetitionOf}
 use Rattle.sd_base.specs.FileNet.{net_of}
 use Rattle.token_matrix.specs.Stamps.{first_of}
-use Rattle.automaton.specs.WorstRates.{IsNext}
+use Rattle.automaton.specs.WorstRates.{IsSuccessor}
 use Rattle.token_matrix.specs.Ways.{IsWay}
 use Rattle.bounded_scenarios.proofs.TourLists.{IsLeg, IsTour, LeadTo}
 
@@ -39,8 +39,8 @@ module _ (P : ℕ → List ℕ → Type 0) (file other : ScenarioFile) (to : ℕ
   pub tour-maps : (rs : List ℕ) (q p r s w : ℕ) → IsTour P file q p rs r s w → IsTour P other q (to p) rs r (to s) w
   tour-maps [] q p r s w (same, also, none) = (same, ap to also, none)
   tour-maps (next ∷ rs) q p r s w (m, e, v, goes, leg, more, is) =
-      (to m, e, v, subst (λ (ss : List StateRow). IsNext ss q next) states goes, leg-maps q p m e leg, tour-maps rs next m r s v more, is)
+      (to m, e, v, subst (λ (ss : List StateRow). IsSuccessor ss q next) states goes, leg-maps q p m e leg, tour-maps rs next m r s v more, is)
 
   pub lead-maps : (rs : List ℕ) (q r : ℕ) → LeadTo file q rs r → LeadTo other q rs r
   lead-maps [] q r same = same
-  lead-maps (next ∷ rs) q r (goes, more) = (subst (λ (ss : List StateRow). IsNext ss q next) states goes, lead-maps rs next r more)
+  lead-maps (next ∷ rs) q r (goes, more) = (subst (λ (ss : List StateRow). IsSuccessor ss q next) states goes, lead-maps rs next r more)

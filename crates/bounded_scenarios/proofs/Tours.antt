@@ -12,7 +12,7 @@ use Rattle.sd_base.specs.Scenarios.{shared_count}
 use Rattle.sd_base.proofs.LoopRates.{slopes}
 use Rattle.token_matrix.specs.Stamps.{first_of}
 use Rattle.token_matrix.specs.Matrices.{greatest}
-use Rattle.automaton.specs.WorstRates.{IsNext, Follow, IsStatePath, Carries, RunsTo, zeros, IsWorst}
+use Rattle.automaton.specs.WorstRates.{IsSuccessor, Follow, IsStatePath, Carries, RunsTo, zeros, IsWorst}
 use Rattle.token_matrix.specs.Ways.{IsWay}
 use Rattle.bounded_scenarios.proofs.TourLists.{IsLeg, IsTour, LeadTo, run_from, HaveStamps}
 use Rattle.token_matrix.proofs.Rows.{one-repetition, greatest-least}
@@ -109,7 +109,7 @@ module _ (file : ScenarioFile) (lawful : (k : ℕ) (row : ScenarioRow) (gamma : 
     known-run (next ∷ rs) q r (goes, more) t zero at = let same : q ≡ t = (cc) in (goes.0, subst (λ (n : ℕ). slice_get file.states n ≡ Some goes.0) same goes.1)
     known-run (next ∷ rs) q r (goes, more) t (suc i) at = known-run rs next r more t i at
 
-    follow-run : (rs : List ℕ) (q r : ℕ) → LeadTo file q rs r → (t : ℕ) → IsNext file.states t q → Follow file.states t (run_from q rs)
+    follow-run : (rs : List ℕ) (q r : ℕ) → LeadTo file q rs r → (t : ℕ) → IsSuccessor file.states t q → Follow file.states t (run_from q rs)
     follow-run [] q r leads t before = tt
     follow-run (next ∷ rs) q r (goes, more) t before = (before, follow-run rs next r more q goes)
 

@@ -5,6 +5,7 @@ use Rattle.std.specs.List.{find, range_with_len}
 use Rattle.std.specs.Option.{option_map}
 use Rattle.std.proofs.lemmas.Bool.{eqb-true}
 use Rattle.std.proofs.lemmas.List.FromFn.{length-map-range_with_len, map-range_with_len_more}
+use Rattle.std.proofs.lemmas.Option.{same_Some}
 use Rattle.sd_base.specs.declared.limits.TheConstants.{CAPACITY, NET_CHANNELS}
 use Rattle.sd_base.specs.declared.tables.GraphFile.{GraphFile}
 use Rattle.sd_base.specs.declared.tables.ChannelRow.{ChannelRow}
@@ -22,9 +23,6 @@ record Holds (r : ChannelRow) (k : ℕ) : Type 0 where
   covers : r.tokens ≤ k
   small : k ≤ CAPACITY
 
-some-is : {X : Type 0} (a b : X) → Some a ≡ Some b → a ≡ b
-some-is a b e = cc
-
 -- the capacity of a channel is that of a buffer
 of-buffer : (channels : List ChannelRow) (bs : List (ℕ × ℕ)) (i k : ℕ) (r : ChannelRow) → AreBuffers channels bs → slice_get channels i ≡ Some r → capacity_in bs i ≡ Some k → Holds r k
 of-buffer channels [] i k r all there is = absurd (cc)
@@ -34,8 +32,8 @@ of-buffer channels (b ∷ bs) i k r all there is = go (of-buffer channels bs i k
     go later true e h =
         let one : IsBuffer channels b = all 0 b (omega arith) in
         let number : b.0 ≡ i = eqb-true b.0 i e in
-        let room : b.1 ≡ k = some-is b.1 k h in
-        let row : one.channel ≡ r = some-is one.channel r (sym one.there ∙ (ap (slice_get channels) number ∙ there)) in
+        let room : b.1 ≡ k = same_Some b.1 k h in
+        let row : one.channel ≡ r = same_Some one.channel r (sym one.there ∙ (ap (slice_get channels) number ∙ there)) in
         subst (λ (x : ChannelRow). Holds x k) row (subst (Holds one.channel) room (record { apart = one.apart; covers = one.covers; small = one.limited }))
     go later false e h = later h
 

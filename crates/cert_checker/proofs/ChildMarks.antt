@@ -1,8 +1,8 @@
 -- The marks of members that are children of others.
-use Rattle.std.proofs.Common.{◌≡◌, ◌≢◌, ℕ, zero, suc, ◌+◌, ◌≤◌, ◌<◌, ◌↔◌, ◌⊎◌, Bool, true, false, Option, Some, List, length, set, inl, inr, ⊎_elim, sym, refl, subst, ap, ◌∙◌, true≢false, arith}
+use Rattle.std.proofs.Common.{◌≡◌, ◌≢◌, ℕ, zero, suc, ◌+◌, ◌≤◌, ◌<◌, ◌↔◌, ◌⊎◌, Bool, true, false, Option, Some, List, length, inl, inr, ⊎_elim, sym, refl, subst, ap, ◌∙◌, true≢false, arith}
 use Rattle.std.proofs.Math.ListN.{replicate}
 use Rattle.std.proofs.lemmas.Bool.{cases_lt}
-use Rattle.std.proofs.lemmas.List.{get_or-set_other, get_or-set_same, length-replicate, length-set}
+use Rattle.std.proofs.lemmas.List.{length-replicate}
 use Rattle.sd_base.specs.Net.{Net}
 use Rattle.storage.specs.Distributions.{storage_of}
 use Rattle.cert_text.specs.declared.certificates.MemberLine.{MemberLine}
@@ -13,28 +13,11 @@ use Rattle.cert_checker.specs.inside.KnownSets.{AreMembers, IsChild, IsChildOfFi
 use Rattle.cert_checker.specs.inside.Marks.{mark_at}
 use Rattle.cert_checker.proofs.Glue.{no-child, one-child}
 use Rattle.cert_checker.proofs.KnownLists.{number-tells}
-use Rattle.cert_checker.proofs.Marking.{cases-eq, stays-marked}
 
 abbrev Caps : Type 0
 Caps = List (Option ℕ)
 
 -- ---- marks
-
--- the mark of a number is set
-pub marks-set : (marks new : List Bool) (n : ℕ) → n < length marks → new ≡ set marks n true → (length new ≡ length marks) × ((i : ℕ) → (mark_at new i ≡ true) ↔ ((mark_at marks i ≡ true) ⊎ (n ≡ i)))
-marks-set marks new n below is = (
-  ap length is ∙ length-set marks n true,
-  λ i. (
-    λ on. ⊎_elim
-        (λ (same : n ≡ i). inr same)
-        (λ (other : n ≢ i). inl (sym (get_or-set_other marks n i true false (λ e. other (sym e))) ∙ (ap (λ (ms : List Bool). mark_at ms i) (sym is) ∙ on)))
-        (cases-eq n i),
-    λ both. ap (λ (ms : List Bool). mark_at ms i) is ∙ ⊎_elim
-        (λ (on : mark_at marks i ≡ true). stays-marked marks n i below on)
-        (λ (same : n ≡ i). subst (λ (j : ℕ). mark_at (set marks n true) j ≡ true) same (get_or-set_same marks n true false below))
-        both,
-  ),
-)
 
 -- those that were marked stay so, and besides those that are children of a member on some channel below n
 abbrev pub AreMarked : Net → StorageCertificate → Known → MemberLine → List Bool → ℕ → List Bool → Type 0

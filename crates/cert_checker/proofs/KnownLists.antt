@@ -50,7 +50,7 @@ list-decides xs ys = slice_eq-Decides entry-decides xs ys (pointwise (option_eq 
 caps-same : (xs ys : Caps) → xs ≡ ys → slice_cmp (option_cmp nat_cmp) xs ys ≡ Equal
 caps-same xs ys e = subst (λ (zs : Caps). slice_cmp (option_cmp nat_cmp) xs zs ≡ Equal) e (tied_itself (lists_total (options_total nat_cmp_total)) xs)
 
-is-equal : (o : Ordering) → is_eq o ≡ true → o ≡ Equal
+pub is-equal : (o : Ordering) → is_eq o ≡ true → o ≡ Equal
 is-equal Less e = absurd (true≢false (sym e))
 is-equal Equal e = refl
 is-equal Greater e = absurd (true≢false (sym e))

@@ -12,6 +12,7 @@ use Rattle.sd_base.specs.declared.role.Role.TheVariants.{Token, Own, Space, Orde
 use Rattle.sd_base.specs.Net.{Net, channel_at}
 use Rattle.cert_checker.specs.declared.links.Links.{Links}
 use Rattle.cert_checker.specs.inside.Links.{AreLinks, IsLink, channel_in, key_cmp, key_of}
+use Rattle.cert_checker.proofs.KnownLists.{is-equal}
 
 -- ---- keys
 
@@ -47,11 +48,6 @@ key-role (Order a b) (Token d) same = absurd (omega (arith, same.0))
 key-role (Order a b) (Own d) same = absurd (omega (arith, same.0))
 key-role (Order a b) (Space d) same = absurd (omega (arith, same.0))
 key-role (Order a b) (Order c d) same = ap (λ (x : ℕ). Order x b) same.1 ∙ ap (λ (x : ℕ). Order c x) same.2
-
-is-equal : (o : Ordering) → is_eq o ≡ true → o ≡ Equal
-is-equal Less e = absurd (true≢false (sym e))
-is-equal Equal e = refl
-is-equal Greater e = absurd (true≢false (sym e))
 
 -- ---- the map
 

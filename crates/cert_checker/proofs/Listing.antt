@@ -1,24 +1,16 @@
 -- Potentials that are listed by node, in order.
-use Rattle.std.proofs.Common.{◌≡◌, ℕ, zero, suc, ◌+◌, ◌-◌, ◌*◌, ◌≤◌, ◌<◌, ◌↔◌, Bool, true, false, cond, true≢false, eq-eqb, Some, List, [], ◌∷◌, length, refl, sym, ap, subst, ◌∙◌, ⊎_elim, arith}
+use Rattle.std.proofs.Common.{◌≡◌, ℕ, zero, suc, ◌+◌, ◌-◌, ◌*◌, ◌≤◌, ◌<◌, ◌↔◌, Bool, true, false, cond, true≢false, eq-eqb, Some, List, [], ◌∷◌, length, refl, sym, subst, ◌∙◌, ⊎_elim, arith}
 use Rattle.std.specs.Prelude.{slice_index_or, ℤ, pos, ◌+ℤ◌, ◌≤ℤ◌, ◌==◌, nat_eq, IsTrue}
 use Rattle.std.specs.List.{find}
 use Rattle.std.specs.Option.{option_map}
 use Rattle.std.proofs.lemmas.Bool.{cases_lt, eqb-true, eqb-false}
 use Rattle.std.proofs.lemmas.List.{get_or_past}
-use Rattle.std.proofs.lemmas.Option.{slice_get_within, get_or_from_slice_get, slice_get-get_or}
-use Rattle.automaton.specs.declared.graph.Edge.{Edge}
+use Rattle.std.proofs.lemmas.Option.{same_Some}
 use Rattle.automaton.specs.declared.graph.TimedGraph.{TimedGraph}
-use Rattle.automaton.specs.CriticalCycles.{IsReached, IsStart, Fit}
-use Rattle.cert_checker.specs.ListedNodes.{IsNode, node_at, ListsNodes, potential_of, IsFitting, FitsAt}
-use Rattle.cert_checker.specs.inside.Listed.{UpTo, IsNext, IsKeptTo, AreKeptTo}
+use Rattle.automaton.specs.CriticalCycles.{IsReachedNode, IsStart, Fit}
+use Rattle.cert_checker.specs.ListedNodes.{IsNode, node_at, ListsNodes, potential_of, FitsAt}
+use Rattle.cert_checker.specs.inside.Listed.{UpTo, IsNextPotential}
 use Rattle.cert_checker.specs.inside.Marks.{AreReached}
-
--- an entry past the end
-abbrev nothing : ℕ × ℕ × ℤ
-nothing = (0, 0, pos 0)
-
-some-is : {X : Type 0} (a b : X) → Some a ≡ Some b → a ≡ b
-some-is a b e = cc
 
 -- what is found is listed
 pub record Listed (graph : TimedGraph) (ps : List (ℕ × ℕ × ℤ)) (v : ℕ) (y : ℤ) : Type 0 where
@@ -33,7 +25,7 @@ listed graph (p ∷ ps) v y is = go (listed graph ps v y) ((p.0 * graph.tokens +
   where
     go : (potential_of graph ps v ≡ Some y → Listed graph ps v y) → (b : Bool) → ((p.0 * graph.tokens + p.1) == v) ≡ b
         → option_map (λ (x : ℕ × ℕ × ℤ). x.2) (cond b (Some p) (find (λ (x : ℕ × ℕ × ℤ). (x.0 * graph.tokens + x.1) == v) ps)) ≡ Some y → Listed graph (p ∷ ps) v y
-    go later true test h = record { place = 0; below = omega arith; node = eqb-true (p.0 * graph.tokens + p.1) v test; value = some-is p.2 y h }
+    go later true test h = record { place = 0; below = omega arith; node = eqb-true (p.0 * graph.tokens + p.1) v test; value = same_Some p.2 y h }
     go later false test h = let l = later h in record { place = suc l.place; below = omega (arith, l.below); node = l.node; value = l.value }
 
 -- what is listed is found
@@ -80,38 +72,14 @@ module _ (graph : TimedGraph) (ps : List (ℕ × ℕ × ℤ)) where
       let e : i + suc (j - suc i) ≡ j = omega arith in
       subst (λ (x : ℕ). node_at graph ps i < node_at graph ps x) e (rising rise i (j - suc i) (omega arith))
 
-  pub none-yet : UpTo graph ps 0 0
-  none-yet = record {
-    within = omega arith;
-    known = λ i less. absurd (omega arith);
-    reached = λ i less. absurd (omega arith);
-    below = λ i less. absurd (omega arith);
-    rise = λ i less. absurd (omega arith);
-    all = λ u less r. absurd (omega arith);
-  }
-
-  -- a node that isn't reachable is passed over
-  pub pass-over : (v k : ℕ) → UpTo graph ps v k → (IsReached graph v → ⊥) → UpTo graph ps (v + 1) k
-  pass-over v k so_far off = record {
-    within = so_far.within;
-    known = so_far.known;
-    reached = so_far.reached;
-    rise = so_far.rise;
-    below = λ i less. omega (arith, so_far.below i less);
-    all = λ u less r. ⊎_elim
-        (λ (early : u < v). so_far.all u early r)
-        (λ (last : v ≤ u). absurd (off (subst (IsReached graph) (let e : u ≡ v = omega arith in e) r)))
-        (cases_lt u v);
-  }
-
   -- one that is has the next place
-  pub take-next : (v k : ℕ) → UpTo graph ps v k → IsReached graph v → IsNext graph ps v k → UpTo graph ps (v + 1) (k + 1)
+  pub take-next : (v k : ℕ) → UpTo graph ps v k → IsReachedNode graph v → IsNextPotential graph ps v k → UpTo graph ps (v + 1) (k + 1)
   take-next v k so_far on next = record {
     within = omega (arith, next.below);
     known = λ i below. ⊎_elim (λ (early : i < k). so_far.known i early)
         (λ (last : k ≤ i). subst (λ (j : ℕ). IsNode graph ((slice_index_or ps j (0, 0, pos 0)).0, (slice_index_or ps j (0, 0, pos 0)).1)) (let e : k ≡ i = omega arith in e) next.known) (cases_lt i k);
     reached = λ i below. ⊎_elim (λ (early : i < k). so_far.reached i early)
-        (λ (last : k ≤ i). subst (λ (j : ℕ). IsReached graph (node_at graph ps j)) (let e : k ≡ i = omega arith in e) (subst (IsReached graph) (sym next.node) on)) (cases_lt i k);
+        (λ (last : k ≤ i). subst (λ (j : ℕ). IsReachedNode graph (node_at graph ps j)) (let e : k ≡ i = omega arith in e) (subst (IsReachedNode graph) (sym next.node) on)) (cases_lt i k);
     below = λ i below. ⊎_elim (λ (early : i < k). omega (arith, so_far.below i early))
         (λ (last : k ≤ i). let e : i ≡ k = omega arith in rw e (omega arith)) (cases_lt i k);
     rise = λ i below. ⊎_elim (λ (early : i + 1 < k). so_far.rise i early)
@@ -123,7 +91,7 @@ module _ (graph : TimedGraph) (ps : List (ℕ × ℕ × ℤ)) where
   }
 
   -- where a reachable node doesn't have the next place, the list isn't right
-  pub miss : (v k : ℕ) → UpTo graph ps v k → IsReached graph v → ListsNodes graph ps → IsNext graph ps v k
+  pub miss : (v k : ℕ) → UpTo graph ps v k → IsReachedNode graph v → ListsNodes graph ps → IsNextPotential graph ps v k
   miss v k so_far on lists =
       let one = lists.all v on in
       let late : k ≤ one.0 = ⊎_elim (λ (early : one.0 < k). absurd (let less = so_far.below one.0 early in omega (arith, one.2))) (λ (h : k ≤ one.0). h) (cases_lt one.0 k) in
@@ -138,7 +106,7 @@ module _ (graph : TimedGraph) (ps : List (ℕ × ℕ × ℤ)) where
       (cases_lt k one.0)
 
   -- all nodes are passed: the list is right exactly where it ends
-  pub at-end : (n k : ℕ) → UpTo graph ps n k → ((v : ℕ) → IsReached graph v → v < n) → (k ≡ length ps) ↔ ListsNodes graph ps
+  pub at-end : (n k : ℕ) → UpTo graph ps n k → ((v : ℕ) → IsReachedNode graph v → v < n) → (k ≡ length ps) ↔ ListsNodes graph ps
   at-end n k so_far inside = (to, from)
     where
       to : k ≡ length ps → ListsNodes graph ps
@@ -160,25 +128,10 @@ module _ (graph : TimedGraph) (ps : List (ℕ × ℕ × ℤ)) where
           (cases_lt k (length ps))
 
 -- reachable nodes are marked, so they are nodes
-pub reached-inside : (graph : TimedGraph) (marks : List Bool) → AreReached graph marks → (v : ℕ) → IsReached graph v → v < length marks
+pub reached-inside : (graph : TimedGraph) (marks : List Bool) → AreReached graph marks → (v : ℕ) → IsReachedNode graph v → v < length marks
 reached-inside graph marks is v r = ⊎_elim (λ (h : v < length marks). h)
     (λ (past : length marks ≤ v). absurd (true≢false (sym ((is.exact v).1 r) ∙ get_or_past marks v false past)))
     (cases_lt v (length marks))
-
--- an edge that is kept or leads elsewhere
-pub fitting-of : (graph : TimedGraph) (rate : ℕ × ℕ) (ps : List (ℕ × ℕ × ℤ)) (v : ℕ) (y : ℤ) → (IsStart graph v → pos 0 ≤ℤ y) → AreKeptTo graph rate ps v y (length graph.edges) → IsFitting graph rate ps v y
-fitting-of graph rate ps v y start kept = record {
-  start = start;
-  steps = λ k e x is to before.
-      (let within : k < length graph.edges = slice_get_within graph.edges k e is in
-      let same : slice_index_or graph.edges k e ≡ e = get_or_from_slice_get graph.edges k e e is in
-      subst (λ (z : Edge). (x +ℤ pos (z.weight * rate.0)) ≤ℤ (y +ℤ pos rate.1)) same
-      (kept k e within (ap (λ (z : Edge). z.to) same ∙ to) x (ap (λ (z : Edge). potential_of graph ps z.from) same ∙ before)));
-}
-
--- and back
-pub of-fitting : (graph : TimedGraph) (rate : ℕ × ℕ) (ps : List (ℕ × ℕ × ℤ)) (v : ℕ) (y : ℤ) → IsFitting graph rate ps v y → (k : ℕ) (d : Edge) → k < length graph.edges → IsKeptTo graph rate ps v y (slice_index_or graph.edges k d)
-of-fitting graph rate ps v y is k d within to x before = is.steps k (slice_index_or graph.edges k d) x (slice_get-get_or graph.edges k d within) to before
 
 -- what the end of the walk over all nodes decides
 pub end-decides : (graph : TimedGraph) (ps : List (ℕ × ℕ × ℤ)) (marks : List Bool) (n k : ℕ) → AreReached graph marks → length marks ≤ n → UpTo graph ps n k → IsTrue (nat_eq k (length ps)) ↔ ListsNodes graph ps

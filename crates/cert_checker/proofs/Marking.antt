@@ -3,12 +3,12 @@ use Rattle.std.proofs.Common.{◌≡◌, ◌≢◌, ℕ, zero, suc, ◌+◌, ◌
 use Rattle.std.specs.Prelude.{slice_get, slice_index_or, Some, IsTrue, nat_lt}
 use Rattle.std.proofs.lemmas.Bool.{cases_lt}
 use Rattle.std.proofs.lemmas.Option.{slice_get_within, slice_get-get_or}
-use Rattle.std.proofs.lemmas.List.{get_or-set_other, get_or-set_same, get_or_past, get_or_append_left, get_or_push, length-append}
+use Rattle.std.proofs.lemmas.List.{get_or-set_other, get_or_past, get_or_append_left, get_or_push, length-append}
 use Rattle.automaton.specs.declared.graph.Edge.{Edge}
 use Rattle.automaton.specs.declared.graph.TimedGraph.{TimedGraph}
-use Rattle.automaton.specs.CriticalCycles.{IsPath, IsReached, IsStart}
+use Rattle.automaton.specs.CriticalCycles.{IsPath, IsReachedNode, IsStart}
 use Rattle.automaton.proofs.Walks.{path-append}
-use Rattle.scenario_rate.specs.Graphs.{IsSound}
+use Rattle.automaton.specs.SoundGraphs.{IsSound}
 use Rattle.cert_checker.specs.inside.Marks.{mark_at, unmarked, AreSoundMarks, AreKept, IsKept, HasStarts, AreReached}
 
 pub unmarked-set : (marks : List Bool) (i : ℕ) → i < length marks → mark_at marks i ≡ false → suc (unmarked (set marks i true)) ≡ unmarked marks
@@ -22,21 +22,14 @@ unmarked-set (false ∷ ms) (suc i) below off = ap suc (unmarked-set ms i (omega
 pub cases-eq : (i j : ℕ) → (i ≡ j) ⊎ (i ≢ j)
 cases-eq i j = ⊎_elim (λ (less : i < j). inr (λ e. omega arith)) (λ (more : j ≤ i). ⊎_elim (λ (less : j < i). inr (λ e. omega arith)) (λ (no_more : i ≤ j). inl (omega arith)) (cases_lt j i)) (cases_lt i j)
 
--- what is marked stays marked
-pub stays-marked : (marks : List Bool) (i v : ℕ) → i < length marks → mark_at marks v ≡ true → mark_at (set marks i true) v ≡ true
-stays-marked marks i v below on = ⊎_elim
-    (λ (same : v ≡ i). subst (λ (x : ℕ). mark_at (set marks i true) x ≡ true) (sym same) (get_or-set_same marks i true false below))
-    (λ (other : v ≢ i). get_or-set_other marks i v true false other ∙ on)
-    (cases-eq v i)
-
 -- one more node that is reached
-pub sound-more : (graph : TimedGraph) (marks : List Bool) (i : ℕ) → i < length marks → IsReached graph i → AreSoundMarks graph marks → AreSoundMarks graph (set marks i true)
+pub sound-more : (graph : TimedGraph) (marks : List Bool) (i : ℕ) → i < length marks → IsReachedNode graph i → AreSoundMarks graph marks → AreSoundMarks graph (set marks i true)
 sound-more graph marks i below reached sound v on = ⊎_elim
-    (λ (same : v ≡ i). subst (IsReached graph) (sym same) reached)
+    (λ (same : v ≡ i). subst (IsReachedNode graph) (sym same) reached)
     (λ (other : v ≢ i). sound v (sym (get_or-set_other marks i v true false other) ∙ on))
     (cases-eq v i)
 
-pub reached-on : (graph : TimedGraph) (k : ℕ) (e : Edge) → slice_get graph.edges k ≡ Some e → IsReached graph e.from → IsReached graph e.to
+pub reached-on : (graph : TimedGraph) (k : ℕ) (e : Edge) → slice_get graph.edges k ≡ Some e → IsReachedNode graph e.from → IsReachedNode graph e.to
 reached-on graph k e is (u, ks, start, path) = (u, ks ++ k ∷ [], start, path-append graph.edges ks (k ∷ []) u e.from e.to path (e, is, refl, refl))
 
 -- the marks along a walk

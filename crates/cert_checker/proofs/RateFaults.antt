@@ -18,10 +18,10 @@ use Rattle.cert_checker.specs.Schedules.{IsRateLine, IsScheduleLine, IsFirstFaul
 use Rattle.cert_checker.specs.RateCertificates.{IsJoined, IsLineFault, joined, rate, schedule, starts, cycle, IsRateFault, buffers, of_line, IsRateClaim, net_by}
 
 -- no earlier than itself
-abbrev NotBefore : ℕ → Reason → ℕ → Reason → Type 0
+abbrev pub NotBefore : ℕ → Reason → ℕ → Reason → Type 0
 NotBefore line reason l r = (line < l) ⊎ ((line ≡ l) × (rank_of reason ≤ rank_of r))
 
-same : (line l : ℕ) (reason r : Reason) → l ≡ line → r ≡ reason → NotBefore line reason l r
+pub same : (line l : ℕ) (reason r : Reason) → l ≡ line → r ≡ reason → NotBefore line reason l r
 same line l reason r il ir = inr (sym il, subst (λ (x : Reason). rank_of reason ≤ rank_of x) (sym ir) (omega arith))
 
 module _ (net : Net) (c : RateCertificate) (is_joined : IsJoined net) (is_rate : IsRateLine c.rate) (is_schedule : IsScheduleLine net c.rate c.schedule) where

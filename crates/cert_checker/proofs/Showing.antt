@@ -1,25 +1,14 @@
 -- A schedule and a need cycle show the rate.
-use Rattle.std.proofs.Common.{◌≡◌, ℕ, zero, suc, ◌+◌, ◌*◌, ◌/◌, ◌≤◌, [], sym, ap, ◌∙◌, inl, inr, arith}
+use Rattle.std.proofs.Common.{◌≡◌, ℕ, zero, suc, ◌+◌, ◌*◌, ◌/◌, ◌≤◌, [], sym, ap, ◌∙◌, arith}
 use Rattle.std.specs.Prelude.{slice_index, slice_index_or, count_by, nat_lt}
 use Rattle.std.specs.Int.{IsGcd, ◌∣◌}
-use Rattle.std.proofs.lemmas.Bool.{cases_lt}
-use Rattle.std.proofs.Math.Nat.{eq_of_mul-eq-mul_right, mul-div_cancel', mul-le-mul_left}
+use Rattle.std.proofs.Math.Nat.{eq_of_mul-eq-mul_right, mul-div_cancel'}
 use Rattle.sd_base.proofs.Divisors.{root_divides}
 use Rattle.sd_base.specs.Schedules.{count_of}
+use Rattle.sd_base.proofs.LoopRates.{factor-out}
 use Rattle.periodic.specs.Periods.{RoundsBelow}
 use Rattle.critical.specs.Bounds.{CyclesMeetTheUpperSide}
 use Rattle.cert_checker.specs.RateCertificates.{RateIsShown}
-
--- a common factor of both sides is dropped
-lowered : (g x y b : ℕ) → 1 ≤ g → g * x ≤ g * y + b → x ≤ y + b
-lowered g x y b some h = elim (cases_lt (y + b) x) [
-  | inl more ↦ absurd (let k : g * suc (y + b) ≤ g * x = mul-le-mul_left g more in let m : b ≤ g * b = factor g b some in let no : ⊥ = omega arith in no)
-  | inr fine ↦ fine
-]
-  where
-    factor : (g b : ℕ) → 1 ≤ g → b ≤ g * b
-    factor (suc g) b some = omega arith
-    factor zero b some = absurd (let no : ⊥ = omega arith in no)
 
 -- a number of rounds and a time of this ratio are a multiple of it in lowest terms
 pub record Multiple (n d p q : ℕ) : Type 0 where
@@ -69,5 +58,5 @@ module _ (schedules : RoundsBelow) (cycles : CyclesMeetTheUpperSide) where
           let a : n * r * t ≡ g * (p * r * t) = ap (λ (k : ℕ). k * r * t) above ∙ (let z : g * p * r * t ≡ g * (p * r * t) = omega arith in z) in
           let k : d * c ≡ g * (q * c) = ap (λ (k : ℕ). k * c) below ∙ (let z : g * q * c ≡ g * (q * c) = omega arith in z) in
           let f : g * (p * r * t) ≤ g * (q * c) + b = omega arith in
-          let l : p * r * t ≤ q * c + b = lowered g (p * r * t) (q * c) b some f in
+          let l : p * r * t ≤ q * c + b = factor-out g (p * r * t) (q * c) b some f in
           omega arith

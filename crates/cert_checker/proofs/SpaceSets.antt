@@ -18,6 +18,7 @@ use Rattle.cert_checker.specs.ShownChannels.{no_link}
 use Rattle.cert_checker.specs.inside.ShownAt.{HasSpaceLink}
 use Rattle.cert_checker.specs.inside.Spaces.{pair_cmp}
 use Rattle.cert_checker.proofs.Glue.{any-default}
+use Rattle.cert_checker.proofs.KnownLists.{is-equal}
 
 -- ---- the order of pairs
 
@@ -34,11 +35,6 @@ pair-same n d k c e f =
     let one : nat_cmp n k ≡ Equal = subst (λ (x : ℕ). nat_cmp n x ≡ Equal) e (tied_itself nat_cmp_total n) in
     let two : nat_cmp d c ≡ Equal = subst (λ (x : ℕ). nat_cmp d x ≡ Equal) f (tied_itself nat_cmp_total d) in
     ap₂ ordering_then one two
-
-is-equal : (o : Ordering) → is_eq o ≡ true → o ≡ Equal
-is-equal Less e = absurd (true≢false (sym e))
-is-equal Equal e = refl
-is-equal Greater e = absurd (true≢false (sym e))
 
 -- ---- one more pair
 

@@ -1,38 +1,21 @@
 -- The first fault of a certificate of a trade-off, where the lines before it are right.
-use Rattle.std.proofs.Common.{◌≡◌, ℕ, ◌≤◌, ◌<◌, ◌⊎◌, length, inl, inr, sym, refl, subst, arith}
+use Rattle.std.proofs.Common.{ℕ, ◌≤◌, ◌<◌, length, inl, refl, arith}
 use Rattle.sd_base.specs.declared.limits.TheConstants.{STORAGE}
 use Rattle.sd_base.specs.Net.{Net}
 use Rattle.storage.specs.TouchedActors.{AreTouched}
 use Rattle.cert_text.specs.declared.certificates.StorageCertificate.{StorageCertificate}
 use Rattle.cert_checker.specs.declared.verdict.Reason.{Reason}
 use Rattle.cert_checker.specs.declared.verdict.Reason.TheVariants as reasons
-use Rattle.cert_checker.specs.Verdicts.{IsFirst, rank_of}
+use Rattle.cert_checker.specs.Verdicts.{IsFirst}
 use Rattle.cert_checker.specs.StorageLines.{members_line, points_line}
 use Rattle.cert_checker.specs.StorageCertificates.{AreBelow, BeginsAtCorner}
 use Rattle.cert_checker.specs.StorageFaults.{IsTradeOffFault, touched, limit, corner, of_member, covered, of_point}
 use Rattle.cert_checker.specs.inside.FirstFaults.{AreMembersRight, IsFaultOfMembers, IsFaultOfPoints, at_member, at_point}
 use Rattle.cert_checker.proofs.TradeOffFaults.{no-member}
 use Rattle.cert_checker.proofs.StorageFirsts.{member-place, next-member}
-
--- no earlier than itself
-abbrev NotBefore : ℕ → Reason → ℕ → Reason → Type 0
-NotBefore line reason l r = (line < l) ⊎ ((line ≡ l) × (rank_of reason ≤ rank_of r))
-
-same : (line l : ℕ) (reason r : Reason) → l ≡ line → r ≡ reason → NotBefore line reason l r
-same line l reason r il ir = inr (sym il, subst (λ (x : Reason). rank_of reason ≤ rank_of x) (sym ir) (omega arith))
+use Rattle.cert_checker.proofs.RateFaults.{NotBefore, same}
 
 module _ (net : Net) (version : ℕ) (c : StorageCertificate) where
-  pub untouched-first : (AreTouched net → ⊥) → IsFirst (IsTradeOffFault net version c) 2 reasons.Connection
-  untouched-first none = record { is = touched none refl refl; least = least }
-    where
-      least : (l : ℕ) (r : Reason) → IsTradeOffFault net version c l r → NotBefore 2 reasons.Connection l r
-      least l r (touched h il ir) = same 2 l reasons.Connection r il ir
-      least l r (limit h il ir) = inl (omega (arith, il))
-      least l r (corner h il ir) = inl (omega (arith, il))
-      least l r (of_member i place low fault il) = inl (omega (arith, il))
-      least l r (covered h il ir) = inl (omega (arith, il))
-      least l r (of_point i place low fault il) = inl (omega (arith, il))
-
   pub limit-first : AreTouched net → STORAGE < c.limit → IsFirst (IsTradeOffFault net version c) 4 reasons.Limit
   limit-first is_touched over = record { is = limit over refl refl; least = least }
     where

@@ -10,7 +10,7 @@ use Rattle.periodic.proofs.Lines.{lines_decide}
 use Rattle.storage.specs.BoundedNets.{HasNoSpaces, bound}
 use Rattle.storage.specs.ClosedLists.{Entry, HasEntry, IsClosed, IsFrontOver, entry_at}
 use Rattle.storage.specs.Distributions.{capacity_at, storage_of}
-use Rattle.storage.specs.ParetoPoints.{IsFront, IsReached, Pair, no_pair}
+use Rattle.storage.specs.ParetoPoints.{IsFront, IsReachedPair, no_pair}
 use Rattle.storage.specs.Steps.{IsCorner, IsOnGrid, step_of}
 use Rattle.storage.proofs.ChannelSteps.{some-step}
 use Rattle.storage.proofs.CornerLists.{corner-grid}
@@ -65,9 +65,6 @@ shown-room net cycles ds (Blocked counts) c by = (by.shows.room, by.shows.has)
 module _ (cycles_bound : CyclesBoundTheRate) (rates : RateIsShown) (net : Net) (c : StorageCertificate) (corner : List (Option ℕ)) (file : IsFileNet net) (is_corner : IsCorner net.channels corner) (is : IsTradeOff net c) where
   none : HasNoSpaces net
   none = no-spaces net file
-
-  caps : ℕ → List (Option ℕ)
-  caps i = capacities_at c.members i
 
   -- the nets of distributions within the limit keep the laws
   lawful : (es : List (Option ℕ)) → IsWithin net c.limit es → Lawful (bound net es)
@@ -153,9 +150,6 @@ module _ (cycles_bound : CyclesBoundTheRate) (rates : RateIsShown) (net : Net) (
 
     -- ---- the points over it
 
-    pairs : List Pair
-    pairs = map pair_of c.points
-
     pair-at : (i : ℕ) → i < length c.points → slice_index_or (map pair_of c.points) i no_pair ≡ pair_of (point_at c.points i)
     pair-at i below = get_or-map pair_of c.points i no_point no_pair below
 
@@ -172,7 +166,7 @@ module _ (cycles_bound : CyclesBoundTheRate) (rates : RateIsShown) (net : Net) (
     den-some : (i : ℕ) → i < length c.points → 1 ≤ (point_at c.points i).rate.1
     den-some i below = let l = line-at i below in omega (arith, l.4, l.5.positive)
 
-    reached : (i : ℕ) → i < length c.points → IsReached net c.limit (pair_of (point_at c.points i))
+    reached : (i : ℕ) → i < length c.points → IsReachedPair net c.limit (pair_of (point_at c.points i))
     reached i below =
         let l = line-at i below in
         let p = (is.points i below).point in

@@ -4,13 +4,11 @@ use Rattle.std.specs.Prelude.{slice_get, slice_index_or, ◌==◌}
 use Rattle.std.specs.List.{find}
 use Rattle.std.specs.Option.{option_map}
 use Rattle.std.proofs.lemmas.Bool.{eqb-true}
+use Rattle.std.proofs.lemmas.Option.{same_Some}
 use Rattle.automaton.specs.declared.graph.Edge.{Edge}
 use Rattle.automaton.specs.declared.graph.TimedGraph.{TimedGraph}
 use Rattle.automaton.specs.CriticalCycles.{IsPath, weights, weight_in, IsCritical}
-use Rattle.cert_checker.specs.ListedNodes.{node_of, weight_between, time_on, end_of, IsWalk}
-
-some-is : {X : Type 0} (a b : X) → Some a ≡ Some b → a ≡ b
-some-is a b e = cc
+use Rattle.cert_checker.specs.ListedNodes.{node_of, weight_between, time_on, end_of, IsListedWalk}
 
 and-both : (a b : Bool) → (a && b) ≡ true → (a ≡ true) × (b ≡ true)
 and-both true b e = (refl, e)
@@ -33,7 +31,7 @@ between (e ∷ es) u v w is = go (between es u v w) ((e.from == u) && (e.to == v
         → option_map (λ (x : Edge). x.weight) (cond b (Some e) (find (λ (x : Edge). (x.from == u) && (x.to == v)) es)) ≡ Some w → Between (e ∷ es) u v w
     go later true test h =
         let both = and-both (e.from == u) (e.to == v) test in
-        record { number = 0; edge = e; there = refl; from = eqb-true e.from u both.0; to = eqb-true e.to v both.1; weight = some-is e.weight w h }
+        record { number = 0; edge = e; there = refl; from = eqb-true e.from u both.0; to = eqb-true e.to v both.1; weight = same_Some e.weight w h }
     go later false test h = let b = later h in record { number = suc b.number; edge = b.edge; there = b.there; from = b.from; to = b.to; weight = b.weight }
 
 -- the edges of a walk
@@ -44,7 +42,7 @@ pub record Walked (graph : TimedGraph) (u : ℕ × ℕ) (nodes : List (ℕ × �
   pub takes : time + weights graph.edges edges ≡ z
 
 pub walked : (graph : TimedGraph) (time : ℕ) (u : ℕ × ℕ) (nodes : List (ℕ × ℕ)) (z : ℕ) → time_on graph time u nodes ≡ Some z → Walked graph u nodes time z
-walked graph time u [] z is = record { edges = []; path = refl; long = refl; takes = (let e : time ≡ z = some-is time z is in omega arith) }
+walked graph time u [] z is = record { edges = []; path = refl; long = refl; takes = (let e : time ≡ z = same_Some time z is in omega arith) }
 walked graph time u (x ∷ xs) z is = go (weight_between graph.edges (node_of graph u) (node_of graph x)) refl (λ w. walked graph (time + w) x xs z) is
   where
     go : (o : Option ℕ) → weight_between graph.edges (node_of graph u) (node_of graph x) ≡ o → ((w : ℕ) → time_on graph (time + w) x xs ≡ Some z → Walked graph x xs (time + w) z)
@@ -67,7 +65,7 @@ pub time-grows : (graph : TimedGraph) (time : ℕ) (u : ℕ × ℕ) (nodes : Lis
 time-grows graph time u nodes z is = let w = walked graph time u nodes z is in omega (arith, w.takes)
 
 -- a walk that is valid is a critical cycle of the rate
-pub critical-walk : (graph : TimedGraph) (rate : ℕ × ℕ) (time : ℕ) (u : ℕ × ℕ) (nodes : List (ℕ × ℕ)) (walk : IsWalk graph rate time u nodes)
+pub critical-walk : (graph : TimedGraph) (rate : ℕ × ℕ) (time : ℕ) (u : ℕ × ℕ) (nodes : List (ℕ × ℕ)) (walk : IsListedWalk graph rate time u nodes)
     → IsCritical graph rate.0 rate.1 (walked graph 0 u nodes time walk.joined).edges
 critical-walk graph rate time u nodes walk =
     let w = walked graph 0 u nodes time walk.joined in

@@ -4,7 +4,7 @@ use Rattle.std.specs.List.{find}
 use Rattle.std.specs.Option.{option_map}
 use Rattle.automaton.specs.declared.graph.Edge.{Edge}
 use Rattle.automaton.specs.declared.graph.TimedGraph.{TimedGraph}
-use Rattle.automaton.specs.CriticalCycles.{IsReached, IsStart}
+use Rattle.automaton.specs.CriticalCycles.{IsReachedNode, IsStart}
 
 abbrev pub node_of : TimedGraph → ℕ × ℕ → ℕ
 node_of graph x = x.0 * graph.tokens + x.1
@@ -31,19 +31,19 @@ end_of u (x ∷ xs) = end_of x xs
 
 -- from u along these nodes, of which there are some, a closed walk of reachable nodes leads in the time, with as many edges for
 -- it as the rate has rounds for its time
-pub record IsWalk (graph : TimedGraph) (rate : ℕ × ℕ) (time : ℕ) (u : ℕ × ℕ) (nodes : List (ℕ × ℕ)) : Type 0 where
+pub record IsListedWalk (graph : TimedGraph) (rate : ℕ × ℕ) (time : ℕ) (u : ℕ × ℕ) (nodes : List (ℕ × ℕ)) : Type 0 where
   pub some : 1 ≤ length nodes
   pub first : IsNode graph u
   pub known : All (IsNode graph) nodes
   pub closed : end_of u nodes ≡ u
-  pub reached : IsReached graph (node_of graph u)
+  pub reached : IsReachedNode graph (node_of graph u)
   pub joined : time_on graph 0 u nodes ≡ Some time
   pub ratio : length nodes * rate.1 ≡ rate.0 * time
 
 -- the nodes of a line and of those after it, the first one first
 abbrev pub IsClosedWalk : TimedGraph → ℕ × ℕ → ℕ → List (ℕ × ℕ) → Type 0
 IsClosedWalk graph rate time [] = ⊥
-IsClosedWalk graph rate time (u ∷ nodes) = IsWalk graph rate time u nodes
+IsClosedWalk graph rate time (u ∷ nodes) = IsListedWalk graph rate time u nodes
 
 -- ---- potentials
 
@@ -54,9 +54,9 @@ node_at graph ps i = node_of graph ((slice_index_or ps i (0, 0, pos 0)).0, (slic
 -- the potentials are of the reachable nodes, each once, in order
 pub record ListsNodes (graph : TimedGraph) (ps : List (ℕ × ℕ × ℤ)) : Type 0 where
   pub known : (i : ℕ) → i < length ps → IsNode graph ((slice_index_or ps i (0, 0, pos 0)).0, (slice_index_or ps i (0, 0, pos 0)).1)
-  pub reached : (i : ℕ) → i < length ps → IsReached graph (node_at graph ps i)
+  pub reached : (i : ℕ) → i < length ps → IsReachedNode graph (node_at graph ps i)
   pub rise : (i : ℕ) → i + 1 < length ps → node_at graph ps i < node_at graph ps (i + 1)
-  pub all : (v : ℕ) → IsReached graph v → (i : ℕ) × (i < length ps) × (node_at graph ps i ≡ v)
+  pub all : (v : ℕ) → IsReachedNode graph v → (i : ℕ) × (i < length ps) × (node_at graph ps i ≡ v)
 
 -- the potential that is listed of a node, if there is one
 abbrev pub potential_of : TimedGraph → List (ℕ × ℕ × ℤ) → ℕ → Option ℤ

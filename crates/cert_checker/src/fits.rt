@@ -1,14 +1,12 @@
 //! Distributions within a limit.
-ghost use Rattle.std.specs.Prelude.{◌≡◌, ◌≢◌, ◌↔◌, ℕ, ◌≤◌, ◌<◌, IsTrue, Some, length, slice_get};
+ghost use Rattle.std.specs.Prelude.{◌↔◌, ℕ, ◌≤◌, ◌<◌, IsTrue, Some, length, slice_get};
 ghost use Rattle.sd_base.specs.Net.{channel_at};
-ghost use Rattle.sd_base.specs.Lawful.{is_token_role};
 ghost use Rattle.storage.specs.Distributions.{IsDistribution, storage_of};
 ghost use Rattle.cert_checker.specs.ShownChannels.{IsWithin};
 ghost use Rattle.cert_checker.specs.inside.Entries.{Fits};
 
 use firing::{Firing, know_laws};
-use sd_base::Role;
-use storage::Distribution;
+use storage::{Distribution, is_in_file};
 
 /// Whether a distribution has a capacity for each channel but self-loops, that covers its tokens, and needs no more storage
 /// than a limit.
@@ -52,15 +50,5 @@ fn entry_fits<F: Firing>(net: &F, channel: u32, entry: Option<u64>) -> bool
     match entry {
         None => is_in_file(net, channel) && is_loop,
         Some(room) => is_in_file(net, channel) && !is_loop && net.tokens(channel) <= room,
-    }
-}
-
-fn is_in_file<F: Firing>(net: &F, channel: u32) -> bool
-    requires channel { channel < length (F.net net.now).channels }
-    ensures { result ≡ is_token_role (channel_at (F.net net.now) channel).role }
-{
-    match net.role(channel) {
-        Role::Token(_) => true,
-        Role::Own(_) | Role::Space(_) | Role::Order(_, _) => false,
     }
 }

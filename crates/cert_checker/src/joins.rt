@@ -1,12 +1,12 @@
 //! Connection of a net.
 ghost use Rattle.std.specs.Prelude.{◌≡◌, ◌↔◌, ℕ, ◌<◌, IfOk, IsTrue, length};
 ghost use Rattle.sd_base.specs.Net.{channel_at};
-ghost use Rattle.sd_base.specs.Connection.{IsStronglyConnected, ends_of};
+ghost use Rattle.sd_base.specs.Connection.{IsStronglyConnected};
 ghost use Rattle.sd_base.specs.Schedules.{HasInputs};
 ghost use Rattle.cert_checker.specs.RateCertificates.{IsJoined};
 
 use balance::{ConnectError, strongly_connected};
-use firing::{Firing, know_laws};
+use firing::{Firing, ends, know_laws};
 use sd_base::NoMemory;
 use std::alloc::Global;
 
@@ -28,17 +28,6 @@ fn is_strongly_connected<F: Firing>(alloc: Global, net: &F) -> Result<bool, NoMe
         Err(ConnectError::OneWay { .. }) => Ok(false),
         Err(ConnectError::NoMemory) => Err(NoMemory),
     }
-}
-
-/// The source and the target of each channel.
-fn ends<F: Firing>(alloc: Global, net: &F) -> Result<Vec<(u32, u32)>, NoMemory>
-    ensures { IfOk result (λ v. v.items ≡ ends_of (F.net net.now)) }
-{
-    let mut ends = Vec::new(alloc);
-    for channel in 0..net.channels() {
-        ends.push((net.source(channel), net.target(channel)))?;
-    }
-    Ok(ends)
 }
 
 /// Whether a channel leads into each actor.

@@ -1,9 +1,9 @@
 //! Potentials of listed nodes.
 ghost use Rattle.std.specs.Prelude.{◌≡◌, ◌↔◌, ℕ, ◌+◌, ◌*◌, ◌<◌, ◌≤◌, ◌^◌, pos, ◌+ℤ◌, ◌≤ℤ◌, ℤ, Some, IsTrue, MatchOption, length, slice_get, slice_index_or};
 ghost use Rattle.automaton.specs.declared.graph.Edge.{Edge};
-ghost use Rattle.scenario_rate.specs.Graphs.{IsSound};
+ghost use Rattle.automaton.specs.SoundGraphs.{IsSound};
 ghost use Rattle.cert_checker.specs.inside.Marks.{AreReached};
-ghost use Rattle.cert_checker.specs.inside.Listed.{IsKeptTo, IsNext, UpTo};
+ghost use Rattle.cert_checker.specs.inside.Listed.{IsKeptTo, IsNextPotential, UpTo};
 ghost use Rattle.cert_checker.specs.ListedNodes.{FitsAt, IsFitting, IsNode, ListsNodes, node_at, node_of, potential_of};
 
 use crate::reaching::is_start;
@@ -55,7 +55,7 @@ fn next_after(
 
 /// Whether the next potential is that of a node.
 fn is_next(graph: &TimedGraph, potentials: &[(u32, u32, i128)], node: usize, next: usize) -> bool
-    ensures { IsTrue result ↔ IsNext graph.now potentials.now node next }
+    ensures { IsTrue result ↔ IsNextPotential graph.now potentials.now node next }
 {
     next < potentials.len() && is_of(graph, node, potentials[next])
 }

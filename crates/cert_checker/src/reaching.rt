@@ -1,6 +1,6 @@
 //! The nodes of a timed graph that walks from the initial state reach.
 ghost use Rattle.std.specs.Prelude.{◌≡◌, ◌↔◌, ℕ, ◌*◌, ◌<◌, ◌≤◌, Bool, true, false, IfOk, IsTrue, length};
-ghost use Rattle.scenario_rate.specs.Graphs.{IsSound};
+ghost use Rattle.automaton.specs.SoundGraphs.{IsSound};
 ghost use Rattle.automaton.specs.CriticalCycles.{IsStart};
 ghost use Rattle.cert_checker.specs.inside.Marks.{AreKept, AreReached, IsKept, AreSoundMarks, HasStarts, mark_at, unmarked};
 

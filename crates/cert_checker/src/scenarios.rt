@@ -1,6 +1,6 @@
 //! Certificates of worst-case rates of scenarios.
 ghost use Rattle.std.specs.Prelude.{◌≡◌, ◌<◌, IfOk, length};
-ghost use Rattle.scenario_rate.specs.Graphs.{IsSound};
+ghost use Rattle.automaton.specs.SoundGraphs.{IsSound};
 ghost use Rattle.cert_checker.specs.Verdicts.{IsVerdict};
 ghost use Rattle.cert_checker.specs.ScenarioCertificates.{IsWorstClaim, IsWorstFault};
 

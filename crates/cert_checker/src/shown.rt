@@ -1,19 +1,16 @@
 //! The channels that members show.
-ghost use Rattle.std.specs.Prelude.{◌≡◌, ◌↔◌, ◌<◌, List, IsTrue, length};
+ghost use Rattle.std.specs.Prelude.{◌↔◌, ◌<◌, List, IsTrue, length};
 ghost use Rattle.sd_base.specs.Net.{channel_at};
 ghost use Rattle.sd_base.specs.Schedules.{Needs};
 ghost use Rattle.storage.specs.BoundedNets.{space_of};
-ghost use Rattle.storage.specs.Distributions.{capacity_at};
 ghost use Rattle.cert_text.specs.declared.certificates.LinkCycle.{LinkCycle};
 ghost use Rattle.cert_checker.specs.ShownChannels.{IsShownBy};
 ghost use Rattle.cert_checker.specs.inside.ShownAt.{IsFullAt};
 ghost use Rattle.cert_checker.specs.inside.Spaces.{AreSpaces};
 
-use crate::blocking::can_fire;
 use crate::spaces::Spaces;
 use cert_text::{MemberLine, MemberShown};
-use firing::{Firing, know_laws, made_sum, taken_sum};
-use storage::Distribution;
+use firing::{Firing, can_fire, know_laws, made_sum, taken_sum};
 
 /// Whether a member shows a channel, where its capacities are right. Cost: a search among the spaces, or the channels.
 pub(crate) fn is_shown<F: Firing>(
@@ -25,22 +22,12 @@ pub(crate) fn is_shown<F: Firing>(
     requires channel { channel < length (F.net net.now).channels }
     ensures { (cycles : List LinkCycle) → AreSpaces cycles spaces.now → IsTrue result ↔ IsShownBy (F.net net.now) cycles member.now.capacities.capacities member.now.shown channel }
 {
-    let Some(room) = capacity_of(&member.capacities, channel) else {
+    let Some(room) = member.capacities.capacity_of(channel) else {
         return false;
     };
     match &member.shown {
         MemberShown::Cycle { cycle, .. } => spaces.has(*cycle, channel),
         MemberShown::Blocked { counts } => { is_full(net, counts.as_slice(), channel, room) }
-    }
-}
-
-/// The capacity of a channel, if it is bounded.
-fn capacity_of(capacities: &Distribution, channel: u32) -> Option<u64>
-    ensures { result ≡ capacity_at capacities.now.capacities channel }
-{
-    match capacities.capacities.as_slice().get(channel as usize) {
-        Some(entry) => *entry,
-        None => None,
     }
 }
 

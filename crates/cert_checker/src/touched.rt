@@ -1,29 +1,17 @@
 //! Actors at which channels begin or end.
-ghost use Rattle.std.specs.Prelude.{◌≡◌, ◌↔◌, ◌<◌, IsTrue, length};
-ghost use Rattle.storage.specs.TouchedActors.{AreTouched, IsTouched};
+ghost use Rattle.std.specs.Prelude.{◌↔◌, IsTrue};
+ghost use Rattle.storage.specs.TouchedActors.{AreTouched};
 
 use firing::Firing;
+use storage::first_untouched;
 
 /// Whether some channel begins or ends at each actor, so that each has an input once all channels have a free space. Cost: the
 /// actors times the channels.
 pub(crate) fn are_touched<F: Firing>(net: &F) -> bool
     ensures { IsTrue result ↔ AreTouched (F.net net.now) }
 {
-    for actor in 0..net.actors() {
-        if !is_touched(net, actor) {
-            return false;
-        }
+    match first_untouched(net) {
+        None => true,
+        Some(_first) => false,
     }
-    true
-}
-
-fn is_touched<F: Firing>(net: &F, actor: u32) -> bool
-    ensures { IsTrue result ↔ IsTouched (F.net net.now) actor }
-{
-    for channel in 0..net.channels() {
-        if net.source(channel) == actor || net.target(channel) == actor {
-            return true;
-        }
-    }
-    false
 }

@@ -1,9 +1,9 @@
 //! Closed walks of a timed graph along listed nodes.
 ghost use Rattle.std.specs.Prelude.{◌≡◌, ◌↔◌, ℕ, ◌*◌, ◌<◌, ◌≤◌, ◌^◌, All, IfOk, Some, IsTrue, length};
-ghost use Rattle.scenario_rate.specs.Graphs.{IsSound};
+ghost use Rattle.automaton.specs.SoundGraphs.{IsSound};
 ghost use Rattle.cert_checker.specs.inside.Marks.{AreReached};
 ghost use Rattle.cert_checker.specs.inside.Weights.{AreWeights};
-ghost use Rattle.cert_checker.specs.ListedNodes.{IsClosedWalk, IsNode, IsWalk, end_of, node_of, time_on};
+ghost use Rattle.cert_checker.specs.ListedNodes.{IsClosedWalk, IsNode, IsListedWalk, end_of, node_of, time_on};
 
 use crate::weights::Weights;
 use automaton::TimedGraph;
@@ -43,7 +43,7 @@ fn is_walk(
     requires sound { IsSound graph.now }
     requires weights { AreWeights graph.now.edges weights.now }
     requires marks { AreReached graph.now marks.now }
-    ensures { IsTrue result ↔ IsWalk graph.now rate time first nodes.now }
+    ensures { IsTrue result ↔ IsListedWalk graph.now rate time first nodes.now }
 {
     if nodes.is_empty() || !is_node(graph, first) || !are_nodes(graph, nodes) {
         return false;

@@ -15,9 +15,11 @@ use Rattle.storage.specs.Distributions.{IsDistribution, storage_of}
 use Rattle.storage.specs.Steps.{IsOnGrid}
 use Rattle.storage.proofs.Covers.{BoundsRoomier, net-above, net-bounds}
 use Rattle.storage.proofs.Lawfulness.{bound-lawful}
+use Rattle.storage.proofs.FrontsFromMembers.{positive-on}
 use Rattle.pareto_front.specs.declared.point.Point.{Point}
 use Rattle.explore.specs.declared.exploration.Member.{Member}
-use Rattle.explore.specs.Explorations.{IsExploration, IsOneOf, ShowsChannel, capacities_of}
+use Rattle.pareto_front.specs.Offers.{IsOneOf}
+use Rattle.explore.specs.Explorations.{IsExploration, ShowsChannel, capacities_of}
 use Rattle.explore.proofs.Elements.{one-unmap}
 use Rattle.cert_text.specs.declared.certificates.StorageCertificate.{StorageCertificate}
 use Rattle.cert_checker.specs.ShownChannels.{IsWithin, member_at, no_member, stepped}
@@ -27,7 +29,7 @@ use Rattle.cert_checker.proofs.ShownLists.{HasBound, shown-bound}
 use Rattle.cert_maker.specs.StorageCertificates.{IsMemberLine, IsShownBy, IsStorageCertificate}
 use Rattle.cert_maker.proofs.MemberLines.{line-of}
 use Rattle.cert_maker.proofs.MemberOrder.{member-fits, member-grid, none}
-use Rattle.cert_maker.proofs.ShownLines.{line-shows, listed-rate, shown-right, some-rate}
+use Rattle.cert_maker.proofs.ShownLines.{line-shows, listed-rate, shown-right}
 use Rattle.cert_maker.proofs.Zipped.{PlaceOf, zip-at, zip-chosen, zip-one}
 
 -- a bound of 0 allows no other rate
@@ -35,7 +37,7 @@ zero-bound : (p d n q : ℕ) → n < 1 → 1 ≤ d → p * d ≤ n * q → p ≡
 zero-bound p d n q none some le =
     ⊎_elim
     (λ (h : p < 1). omega (arith, h))
-    (λ (runs : 1 ≤ p). let more = some-rate p q n d runs some le in absurd (omega (arith, none, more)))
+    (λ (runs : 1 ≤ p). let more = positive-on p q n d runs some le in absurd (omega (arith, none, more)))
     (cases_lt p 1)
 
 -- the entry is the member with channels that it shows, which bound its rate

@@ -10,19 +10,20 @@ use Rattle.critical.specs.Bounds.{CyclesBoundTheRate}
 use Rattle.periodic.specs.declared.schedule.Periodic.{Periodic}
 use Rattle.storage.specs.ClosedLists.{Entry, entry_at, no_entry}
 use Rattle.storage.specs.Distributions.{storage_of}
-use Rattle.storage.specs.ParetoPoints.{IsPareto, IsReached, Pair, no_pair}
+use Rattle.storage.specs.ParetoPoints.{IsPareto, IsReachedPair, Pair, no_pair}
 use Rattle.storage.proofs.Climbs.{storage-le}
 use Rattle.storage.proofs.Covers.{covered}
+use Rattle.storage.proofs.FrontsFromMembers.{positive-on}
 use Rattle.pareto_front.specs.declared.point.Point.{Point}
 use Rattle.explore.specs.declared.exploration.Member.{Member}
-use Rattle.explore.specs.Explorations.{IsExploration, IsOneOf, pair_of}
+use Rattle.pareto_front.specs.Offers.{IsOneOf}
+use Rattle.explore.specs.Explorations.{IsExploration, pair_of}
 use Rattle.explore.proofs.Elements.{one-map, one-unmap}
 use Rattle.cert_text.specs.declared.certificates.StorageCertificate.{StorageCertificate}
 use Rattle.cert_checker.specs.StorageCertificates.{IsFileNet}
 use Rattle.cert_maker.specs.StorageCertificates.{IsStorageCertificate}
 use Rattle.cert_maker.proofs.ClosedMembers.{IsEntryOf, closed-members, entries}
 use Rattle.cert_maker.proofs.MemberOrder.{member-fits}
-use Rattle.cert_maker.proofs.ShownLines.{some-rate}
 use Rattle.cert_maker.proofs.Summits.{IsSummit, NoWorse, beats-under, climb}
 use Rattle.cert_maker.proofs.Zipped.{zip-at}
 
@@ -32,19 +33,19 @@ member-pair net m = record { storage = storage_of net.channels m.capacities.capa
 
 module _ (cycles_bound : CyclesBoundTheRate) (net : Net) (file : IsFileNet net) (limits : Limits) (small : limits.total ≤ STORAGE) (ms : List Member) (ps : List Point) (is : IsExploration net limits ms ps)
     (no_overlap : Bool) (schedules : List Periodic) (c : StorageCertificate) (put : IsStorageCertificate net no_overlap limits.total ms ps schedules c) where
-  pub member-reached : (m : Member) → IsOneOf ms m → 1 ≤ m.rate.num → IsReached net limits.total (member-pair net m)
+  pub member-reached : (m : Member) → IsOneOf ms m → 1 ≤ m.rate.num → IsReachedPair net limits.total (member-pair net m)
   member-reached m one runs =
       let fits = member-fits net file limits ms ps is m one in
       (m.capacities.capacities, record { distribution = fits.0; total = refl; within = fits.1; rate = (is.evaluated m one).rate; runs = runs })
 
-  reach : (x : Pair) → IsOneOf (map (member-pair net) ms) x → 1 ≤ x.num → IsReached net limits.total x
+  reach : (x : Pair) → IsOneOf (map (member-pair net) ms) x → 1 ≤ x.num → IsReachedPair net limits.total x
   reach x one runs =
       let m = one-unmap (member-pair net) ms x one in
-      subst (λ (y : Pair). 1 ≤ y.num → IsReached net limits.total y) m.2 (λ some. member-reached m.0 m.1 some) runs
+      subst (λ (y : Pair). 1 ≤ y.num → IsReachedPair net limits.total y) m.2 (λ some. member-reached m.0 m.1 some) runs
 
   module _ (es : List Entry) (are : AllZip (IsEntryOf net limits.total) ms es) where
     -- each reached pair has a member that is no worse
-    below-reached : (o : Pair) → IsReached net limits.total o → (m : Member) × IsOneOf ms m × (1 ≤ m.rate.num) × NoWorse (member-pair net m) o
+    below-reached : (o : Pair) → IsReachedPair net limits.total o → (m : Member) × IsOneOf ms m × (1 ≤ m.rate.num) × NoWorse (member-pair net m) o
     below-reached o reached =
         let cover = covered net file.laws limits.total es (closed-members cycles_bound net file limits small ms ps is no_overlap schedules c put es are) o.storage o.num o.den reached.0 reached.1 in
         let n = zip-at (IsEntryOf net limits.total) ms es cover.place no_entry are cover.below in
@@ -55,7 +56,7 @@ module _ (cycles_bound : CyclesBoundTheRate) (net : Net) (file : IsFileNet net) 
         let total = reached.1.total in (
           n.item,
           n.one,
-          some-rate o.num o.den n.item.rate.num n.item.rate.den reached.1.runs (is.evaluated n.item n.one).rate.positive rate,
+          positive-on o.num o.den n.item.rate.num n.item.rate.den reached.1.runs (is.evaluated n.item n.one).rate.positive rate,
           record { storage = omega (arith, few, same, total); rate = rate },
         )
 

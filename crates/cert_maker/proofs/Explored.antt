@@ -2,13 +2,11 @@
 use Rattle.std.proofs.Common.{◌≡◌, ℕ, zero, suc, ◌<◌, ◌≤◌, Option, Some, List, [], ◌∷◌, All, length, map, drop, slice_get, inl, inr, refl, ap, arith}
 use Rattle.std.specs.Prelude.{slice_index_or}
 use Rattle.std.proofs.lemmas.List.{length-map}
-use Rattle.std.proofs.lemmas.List.Elements.{All-cons, All-contains, All-nil}
+use Rattle.std.proofs.lemmas.List.Elements.{All-contains}
 use Rattle.sd_base.specs.declared.limits.Limits.{Limits}
 use Rattle.sd_base.specs.declared.limits.TheConstants.{STORAGE}
 use Rattle.sd_base.specs.Net.{Net}
-use Rattle.critical.specs.declared.cycle.CycleStep.{CycleStep}
-use Rattle.critical.specs.declared.cycle.FiringNo.{FiringNo}
-use Rattle.critical.specs.Cycles.{IsChain}
+use Rattle.critical.proofs.Storage.{chain-places}
 use Rattle.storage.specs.BoundedNets.{bound}
 use Rattle.storage.specs.Distributions.{IsPlain, storage_of}
 use Rattle.storage.specs.ParetoPoints.{no_pair}
@@ -16,16 +14,12 @@ use Rattle.pareto_front.specs.declared.point.Point.{Point}
 use Rattle.explore.specs.declared.exploration.Member.{Member}
 use Rattle.explore.specs.declared.exploration.Shown.{Shown}
 use Rattle.explore.specs.declared.exploration.Shown.TheVariants.{Cycle, Blocked}
-use Rattle.explore.specs.Explorations.{AreInOrder, IsBefore, IsExploration, IsOneOf, ShowsRate, capacities_of, pair_of}
+use Rattle.pareto_front.specs.Offers.{IsOneOf}
+use Rattle.explore.specs.Explorations.{AreInOrder, IsBefore, IsExploration, ShowsRate, capacities_of, pair_of}
 use Rattle.explore.proofs.Elements.{one-at, one-contains, one-map}
 use Rattle.explore.proofs.Explorable.{reachable-fits}
 use Rattle.sd_base.specs.declared.numbers.Fraction.{Fraction}
 use Rattle.cert_maker.specs.inside.Lines.{ArePlaced, HasLine, HasText}
-
--- the steps of a chain are along channels of the net
-pub chain-places : (net : Net) (from : FiringNo) (steps : List CycleStep) → IsChain net from steps → All (λ (s : CycleStep). s.channel < length net.channels) steps
-chain-places net from [] chain = All-nil (λ (s : CycleStep). s.channel < length net.channels)
-chain-places net from (step ∷ steps) chain = All-cons (λ (s : CycleStep). s.channel < length net.channels) step steps chain.0.place (chain-places net step.to steps chain.1)
 
 shown-text : (net : Net) (ds : List (Option ℕ)) (states : ℕ) (rate : Fraction) (shown : Shown) → ShowsRate net ds states rate shown → HasText (bound net ds) shown
 shown-text net ds states rate (Cycle cycle) is = chain-places (bound net ds) cycle.first cycle.steps is.2.holds.chain

@@ -1,5 +1,5 @@
 -- Lines one after another.
-use Rattle.std.proofs.Common.{◌≡◌, ℕ, zero, suc, ◌<◌, Option, Some, None, List, [], ◌∷◌, ◌++◌, All, length, get_or, slice_get, inl, inr, refl, sym, ap, subst, ◌∙◌, append-nil, arith}
+use Rattle.std.proofs.Common.{◌≡◌, ℕ, zero, suc, ◌<◌, Some, List, [], ◌∷◌, ◌++◌, All, length, get_or, slice_get, inl, inr, sym, ap, subst, ◌∙◌, append-nil, arith}
 use Rattle.std.specs.List.{AllZip}
 use Rattle.std.proofs.lemmas.List.{length-append}
 use Rattle.std.proofs.lemmas.List.Elements.{All-nil, All-append}
@@ -16,10 +16,10 @@ use Rattle.cert_text.specs.declared.certificates.MemberLine.{MemberLine}
 use Rattle.cert_text.specs.declared.certificates.MemberShown.{MemberShown}
 use Rattle.cert_text.specs.declared.certificates.MemberShown.TheVariants.{Cycle, Blocked}
 use Rattle.cert_text.specs.declared.certificates.PointLine.{PointLine}
-use Rattle.cert_text.specs.Orderly.{used_by, used_with}
+use Rattle.cert_text.specs.Orderly.{used_by}
 use Rattle.cert_text.specs.Spellable.{AreShown, AreStarts, IsCycleText}
 use Rattle.cert_maker.specs.StorageCertificates.{IsMemberLine, IsShownBy, schedules_of}
-use Rattle.cert_maker.specs.inside.Lines.{HasLine, HasText, IsNext}
+use Rattle.cert_maker.specs.inside.Lines.{HasLine, HasText, AddsCycles}
 use Rattle.cert_maker.specs.inside.Listing.{IsEntered}
 
 -- ---- cycles
@@ -46,7 +46,7 @@ lines-left net cycles more (m ∷ ms) [] all = all
 lines-left net cycles more (m ∷ ms) (l ∷ ls) all = (line-left net cycles more m l all.0, lines-left net cycles more ms ls all.1)
 
 -- a cycle that is entered makes its line the next
-pub entered-next : (old new : List LinkCycle) (cycle : LinkCycle) (rate : ℕ × ℕ) (i : ℕ) → IsEntered old cycle i new → IsCycleText cycle → IsNext old new (Cycle rate i)
+pub entered-next : (old new : List LinkCycle) (cycle : LinkCycle) (rate : ℕ × ℕ) (i : ℕ) → IsEntered old cycle i new → IsCycleText cycle → AddsCycles old new (Cycle rate i)
 entered-next old new cycle rate i (inl known) text = record {
   used = (let less = known.0 in let many = ap length known.1 in grind (arith, nat_tests, less, many));
   more = [];
@@ -64,31 +64,14 @@ entered-next old new cycle rate i (inr fresh) text = record {
     one zero d within = text
     one (suc k) d within = absurd (omega arith)
 
-pub blocked-next : (old : List LinkCycle) (counts : List ℕ) → IsNext old old (Blocked counts)
-blocked-next old counts = record { used = refl; more = []; begins = sym (append-nil old); text = All-nil IsCycleText }
-
--- one more line
-pub used-push : (lines : List MemberLine) (line : MemberLine) (used some more : ℕ) → used_by used lines ≡ Some some → used_with some line.shown ≡ Some more → used_by used (lines ++ line ∷ []) ≡ Some more
-unfolding used_by
-used-push [] line used some more all next = by all
-  where
-    by : Some used ≡ Some some → elim (used_with used line.shown) [ Some m ↦ Some m | None ↦ None ] ≡ Some more
-    by same = let e : used ≡ some = cc in subst (λ (u : ℕ). elim (used_with u line.shown) [ Some m ↦ Some m | None ↦ None ] ≡ Some more) (sym e) (ap (λ (o : Option ℕ). elim o [ Some m ↦ Some m | None ↦ None ]) next)
-used-push (l ∷ lines) line used some more all next = by (used_with used l.shown) (λ m rest. used-push lines line m some more rest next) all
-  where
-    by : (o : Option ℕ) → ((m : ℕ) → used_by m lines ≡ Some some → used_by m (lines ++ line ∷ []) ≡ Some more) → elim o [ Some m ↦ used_by m lines | None ↦ None ] ≡ Some some
-        → elim o [ Some m ↦ used_by m (lines ++ line ∷ []) | None ↦ None ] ≡ Some more
-    by (Some m) rest here = rest m here
-    by None rest here = absurd (cc)
-
 pub used-none : (lines : List MemberLine) (cycles : List LinkCycle) → lines ≡ [] → cycles ≡ [] → used_by 0 lines ≡ Some (length cycles)
 unfolding used_by
 used-none lines cycles none empty = ap (λ (ls : List MemberLine). used_by 0 ls) none ∙ ap (λ (cs : List LinkCycle). Some (length cs)) (sym empty)
 
-pub text-push : (old new : List LinkCycle) (line : MemberShown) → IsNext old new line → All IsCycleText old → All IsCycleText new
+pub text-push : (old new : List LinkCycle) (line : MemberShown) → AddsCycles old new line → All IsCycleText old → All IsCycleText new
 text-push old new line next all = subst (λ (cs : List LinkCycle). All IsCycleText cs) (sym next.begins) (All-append IsCycleText old next.more all next.text)
 
-pub lines-push : (net : Net) (old new : List LinkCycle) (s : MemberShown) → IsNext old new s → (ms : List Member) (lines : List MemberLine) → AllZip (IsMemberLine net old) ms lines → AllZip (IsMemberLine net new) ms lines
+pub lines-push : (net : Net) (old new : List LinkCycle) (s : MemberShown) → AddsCycles old new s → (ms : List Member) (lines : List MemberLine) → AllZip (IsMemberLine net old) ms lines → AllZip (IsMemberLine net new) ms lines
 lines-push net old new s next ms lines all = subst (λ (cs : List LinkCycle). AllZip (IsMemberLine net cs) ms lines) (sym next.begins) (lines-left net old next.more ms lines all)
 
 -- ---- texts

@@ -6,7 +6,7 @@ use Rattle.std.proofs.lemmas.Option.{get_or_from_slice_get}
 use Rattle.sd_base.specs.declared.tables.ScenarioFile.{ScenarioFile}
 use Rattle.automaton.specs.declared.graph.TimedGraph.{TimedGraph}
 use Rattle.automaton.specs.TimedGraphs.{IsTimedGraph}
-use Rattle.automaton.specs.CriticalCycles.{Fit, IsReached}
+use Rattle.automaton.specs.CriticalCycles.{Fit, IsReachedNode}
 use Rattle.scenario_rate.specs.Answers.{potential_at}
 use Rattle.cert_checker.specs.ListedNodes.{FitsAt, IsNode, ListsNodes, node_at}
 use Rattle.cert_checker.proofs.Listing.{listed}
@@ -68,7 +68,7 @@ has-entry tokens v (Some y ∷ xs) (suc j) x at =
     let r = has-entry tokens (suc v) xs j x at in
     (suc r.0, (let h = r.1 in omega (arith, h)), r.2 ∙ (let e : suc v + j ≡ v + suc j = omega arith in e))
 
-module _ (file : ScenarioFile) (graph : TimedGraph) (is : IsTimedGraph file graph) (l w : ℕ) (xs : List (Option ℤ)) (fit : Fit graph l w (potential_at xs)) (reached : (v : ℕ) (x : ℤ) → potential_at xs v ≡ Some x → IsReached graph v) where
+module _ (file : ScenarioFile) (graph : TimedGraph) (is : IsTimedGraph file graph) (l w : ℕ) (xs : List (Option ℤ)) (fit : Fit graph l w (potential_at xs)) (reached : (v : ℕ) (x : ℤ) → potential_at xs v ≡ Some x → IsReachedNode graph v) where
   abbrev ps : List (ℕ × ℕ × ℤ)
   ps = potentials_from graph.tokens 0 xs
 
@@ -79,7 +79,7 @@ module _ (file : ScenarioFile) (graph : TimedGraph) (is : IsTimedGraph file grap
       let here : node_at graph ps i ≡ e.place = numbered graph.tokens 0 xs (entry ps i) e ∙ (let f : 0 + e.place ≡ e.place = omega arith in f) in
       subst (λ v. potential_at xs v ≡ Some (entry ps i).2) (sym here) (get_or_from_slice_get xs e.place (Some (entry ps i).2) None e.at)
 
-  there : (i : ℕ) → i < length ps → IsReached graph (node_at graph ps i)
+  there : (i : ℕ) → i < length ps → IsReachedNode graph (node_at graph ps i)
   there i below = reached (node_at graph ps i) (entry ps i).2 (own i below)
 
   node-known : (i : ℕ) → i < length ps → IsNode graph ((entry ps i).0, (entry ps i).1)

@@ -10,7 +10,7 @@ use Rattle.sd_base.specs.declared.tables.ScenarioFile.{ScenarioFile}
 use Rattle.automaton.specs.declared.graph.Edge.{Edge}
 use Rattle.automaton.specs.declared.graph.TimedGraph.{TimedGraph}
 use Rattle.automaton.specs.TimedGraphs.{IsTimedGraph}
-use Rattle.automaton.specs.CriticalCycles.{IsCritical, IsPath, IsReached, weight_in, weights}
+use Rattle.automaton.specs.CriticalCycles.{IsCritical, IsPath, IsReachedNode, weight_in, weights}
 use Rattle.cert_checker.specs.ListedNodes.{IsClosedWalk, IsNode, end_of, time_on, weight_between}
 use Rattle.cert_checker.specs.ListedNodes as listed
 use Rattle.cert_checker.proofs.WalkTimes.{between}
@@ -98,7 +98,7 @@ module _ (file : ScenarioFile) (graph : TimedGraph) (is : IsTimedGraph file grap
         first = is-node graph v (reached-placed file graph is v c.reached);
         known = known (k ∷ ks) v v at;
         closed = ends graph (k ∷ ks) v v at;
-        reached = subst (IsReached graph) (sym (back graph v)) c.reached;
+        reached = subst (IsReachedNode graph) (sym (back graph v)) c.reached;
         joined = takes (k ∷ ks) v v 0 at ∙ ap (λ n. Some n) (let e : 0 + weights graph.edges (k ∷ ks) ≡ weights graph.edges (k ∷ ks) = omega arith in e);
         ratio = ap (λ n. n * w) (long (k ∷ ks)) ∙ turned (weights graph.edges (k ∷ ks)) (length (k ∷ ks)) l w c.rate;
       })

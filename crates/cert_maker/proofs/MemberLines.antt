@@ -12,7 +12,8 @@ use Rattle.storage.specs.Distributions.{storage_of}
 use Rattle.storage.specs.Steps.{IsCorner}
 use Rattle.pareto_front.specs.declared.point.Point.{Point}
 use Rattle.explore.specs.declared.exploration.Member.{Member}
-use Rattle.explore.specs.Explorations.{IsBefore, IsExploration, IsOneOf, ShowsChannel, capacities_of}
+use Rattle.pareto_front.specs.Offers.{IsOneOf}
+use Rattle.explore.specs.Explorations.{IsBefore, IsExploration, ShowsChannel, capacities_of}
 use Rattle.explore.proofs.Elements.{one-unmap}
 use Rattle.cert_text.specs.declared.certificates.MemberLine.{MemberLine}
 use Rattle.cert_text.specs.declared.certificates.StorageCertificate.{StorageCertificate}

@@ -15,7 +15,8 @@ use Rattle.storage.proofs.CornerLists.{corner-grid}
 use Rattle.storage.proofs.Enlarging.{enlarged-grid, enlarged-storage}
 use Rattle.pareto_front.specs.declared.point.Point.{Point}
 use Rattle.explore.specs.declared.exploration.Member.{Member}
-use Rattle.explore.specs.Explorations.{AreInOrder, IsBefore, IsExploration, IsOneOf, ShowsChannel, capacities_of}
+use Rattle.pareto_front.specs.Offers.{IsOneOf}
+use Rattle.explore.specs.Explorations.{AreInOrder, IsBefore, IsExploration, ShowsChannel, capacities_of}
 use Rattle.explore.specs.Reachable.{IsReachable, corner, next, stepped}
 use Rattle.explore.proofs.Elements.{one-contains, one-map}
 use Rattle.explore.proofs.Explorable.{reachable-fits}

@@ -1,16 +1,17 @@
 -- Nodes of a file's timed graph, each a state and a token, and the one weight of its edges between two of them.
-use Rattle.std.proofs.Common.{◌≡◌, ℕ, zero, suc, ◌+◌, ◌*◌, ◌/◌, ◌%◌, ◌<◌, List, [], ◌∷◌, length, Option, Some, None, refl, sym, ap, subst, ◌∙◌, arith}
+use Rattle.std.proofs.Common.{◌≡◌, ℕ, ◌+◌, ◌*◌, ◌/◌, ◌%◌, ◌<◌, List, [], ◌∷◌, length, Option, Some, None, sym, ap, subst, ◌∙◌, arith}
 use Rattle.std.specs.Prelude.{slice_get, slice_index_or}
 use Rattle.std.proofs.lemmas.Nat.{div-mul-add, mod-mul-add}
-use Rattle.std.proofs.lemmas.Option.{slice_get_within}
+use Rattle.std.proofs.lemmas.Option.{slice_get_within, same_Some}
 use Rattle.sd_base.specs.declared.tables.ScenarioFile.{ScenarioFile}
 use Rattle.sd_base.specs.declared.tables.StateRow.{StateRow}
 use Rattle.sd_base.specs.Scenarios.{shared_count}
 use Rattle.automaton.specs.declared.graph.Edge.{Edge}
 use Rattle.automaton.specs.declared.graph.TimedGraph.{TimedGraph}
 use Rattle.automaton.specs.TimedGraphs.{IsTimedGraph}
-use Rattle.automaton.specs.CriticalCycles.{IsPath, IsReached}
+use Rattle.automaton.specs.CriticalCycles.{IsPath, IsReachedNode}
 use Rattle.automaton.proofs.Members.{Has, get-has, from-from, FromStates}
+use Rattle.cert_maker.proofs.Zipped.{get-there}
 
 -- node v is that of a state and a token
 pub record IsPlaced (states n v : ℕ) : Type 0 where
@@ -32,14 +33,6 @@ one-place n q i r j within also same = (
   sym (div-mul-add q n i within) ∙ ap (λ x. x / n) same ∙ div-mul-add r n j also,
   sym (mod-mul-add q n i within) ∙ ap (λ x. x % n) same ∙ mod-mul-add r n j also,
 )
-
-some-is : {X : Type 0} (a b : X) → Some a ≡ Some b → a ≡ b
-some-is a b e = cc
-
-there : {X : Type 0} (xs : List X) (k : ℕ) → k < length xs → (x : X) × (slice_get xs k ≡ Some x)
-there [] k h = absurd (omega (arith, h))
-there (x ∷ xs) zero h = (x, refl)
-there (x ∷ xs) (suc k) h = there xs k (omega arith)
 
 -- the entry of row j and column i
 abbrev entry_in : List (List (Option ℕ)) → ℕ → ℕ → Option ℕ
@@ -68,7 +61,7 @@ module _ (file : ScenarioFile) (graph : TimedGraph) (is : IsTimedGraph file grap
   made : (f t w : ℕ) → FromStates n 0 is.matrices file.states f t w → IsMadeOf file is.matrices f t w
   made f t w h =
       let rows = h.out.rows_of in
-      let scenario = there file.scenarios h.state.scenario (is.leads_on.scenarios h.place h.state h.at) in
+      let scenario = get-there file.scenarios h.state.scenario (is.leads_on.scenarios h.place h.state h.at) in
       let matrix = (is.are_matrices.each h.state.scenario scenario.0 scenario.1).2 in
       let j : rows.j < n = subst (λ m. rows.j < m) matrix.size rows.row in
       let first : 0 + h.place ≡ h.place = omega arith in
@@ -96,8 +89,8 @@ module _ (file : ScenarioFile) (graph : TimedGraph) (is : IsTimedGraph file grap
   same-entry f t v w a b =
       let first = one-place n a.state a.token b.state b.token a.is_token b.is_token (sym a.from ∙ b.from) in
       let last = one-place n a.next a.later b.next b.later a.is_later b.is_later (sym a.to ∙ b.to) in
-      let row : a.row ≡ b.row = some-is a.row b.row (sym a.at ∙ ap (slice_get file.states) first.0 ∙ b.at) in
-      some-is v w (sym a.entry
+      let row : a.row ≡ b.row = same_Some a.row b.row (sym a.at ∙ ap (slice_get file.states) first.0 ∙ b.at) in
+      same_Some v w (sym a.entry
       ∙ ap (λ (s : StateRow). entry_in (slice_index_or is.matrices s.scenario []) a.later a.token) row
       ∙ ap (λ j. entry_in (slice_index_or is.matrices b.row.scenario []) j a.token) last.1
       ∙ ap (λ i. entry_in (slice_index_or is.matrices b.row.scenario []) b.later i) first.1
@@ -120,7 +113,7 @@ module _ (file : ScenarioFile) (graph : TimedGraph) (is : IsTimedGraph file grap
   path-placed (k ∷ ks) u v here path = path-placed ks path.0.to v (entered-placed k path.0 path.1) path.3
 
   -- the nodes that are reached
-  pub reached-placed : (v : ℕ) → IsReached graph v → IsPlaced graph.states graph.tokens v
+  pub reached-placed : (v : ℕ) → IsReachedNode graph v → IsPlaced graph.states graph.tokens v
   reached-placed v (u, ks, (i, token, start), path) = path-placed ks u v (record {
     state = graph.initial;
     token = i;

@@ -7,8 +7,10 @@ use Rattle.std.proofs.lemmas.Slice.Zip.{all_zipped_more}
 use Rattle.periodic.specs.declared.schedule.Periodic.{Periodic}
 use Rattle.pareto_front.specs.declared.point.Point.{Point}
 use Rattle.explore.specs.declared.exploration.Member.{Member}
-use Rattle.explore.specs.Explorations.{IsOneOf, capacities_of}
+use Rattle.pareto_front.specs.Offers.{IsOneOf}
+use Rattle.explore.specs.Explorations.{capacities_of}
 use Rattle.cert_text.specs.declared.certificates.PointLine.{PointLine}
+use Rattle.cert_checker.proofs.Glue.{any-default}
 use Rattle.cert_maker.specs.StorageCertificates.{IsPointLine, schedules_of}
 use Rattle.cert_maker.specs.inside.Lines.{ArePlaced}
 
@@ -20,21 +22,10 @@ one-later (x ∷ xs) zero ds (inl same) other = absurd (other (ap Some same))
 one-later (x ∷ xs) zero ds (inr later) other = later
 one-later (x ∷ xs) (suc i) ds one other = one-later xs i ds one other
 
-pub none-past : (dss : List (List (Option ℕ))) (i : ℕ) (ds : List (Option ℕ)) → length dss ≤ i → IsOneOf (drop i dss) ds → ⊥
-none-past [] zero ds past one = one
-none-past [] (suc i) ds past one = one
-none-past (x ∷ xs) zero ds past one = absurd (omega arith)
-none-past (x ∷ xs) (suc i) ds past one = none-past xs i ds (omega arith) one
-
 pub capacities-at : (ms : List Member) (i : ℕ) (d : Member) → i < length ms → slice_get (capacities_of ms) i ≡ Some (slice_index_or ms i d).capacities.capacities
 capacities-at [] i d below = absurd (omega arith)
 capacities-at (m ∷ ms) zero d below = refl
 capacities-at (m ∷ ms) (suc i) d below = capacities-at ms i d (omega arith)
-
-same-at : {A : Type 0} (xs : List A) (k : ℕ) (d e : A) → k < length xs → slice_index_or xs k d ≡ slice_index_or xs k e
-same-at [] k d e below = absurd (omega arith)
-same-at (x ∷ xs) zero d e below = refl
-same-at (x ∷ xs) (suc k) d e below = same-at xs k d e (omega arith)
 
 -- One more line: after the points of so many schedules comes point p, whose member has a place.
 module _ (members : List Member) (points : List Point) (placed : ArePlaced (capacities_of members) points) (done : List Periodic) (lines : List PointLine)
@@ -60,4 +51,4 @@ module _ (members : List Member) (points : List Point) (placed : ArePlaced (capa
       → (k : ℕ) (d : Point) → length (done ++ s ∷ []) ≤ k → k < length points → IsOneOf (drop place (capacities_of members)) (slice_index_or points k d).capacities.capacities
   more-left place at k d from within =
       placed.later (length done) k place d (omega (arith, from, length_push done s)) within
-      (at ∙ ap (λ (q : Point). Some q.capacities.capacities) (is ∙ same-at points (length done) p d below))
+      (at ∙ ap (λ (q : Point). Some q.capacities.capacities) (is ∙ any-default points (length done) p d below))

@@ -19,7 +19,8 @@ use Rattle.storage.specs.Distributions.{storage_of}
 use Rattle.storage.specs.ParetoPoints.{IsPareto, Pair, no_pair}
 use Rattle.pareto_front.specs.declared.point.Point.{Point}
 use Rattle.explore.specs.declared.exploration.Member.{Member}
-use Rattle.explore.specs.Explorations.{IsExploration, IsOneOf, capacities_of, pair_of}
+use Rattle.pareto_front.specs.Offers.{IsOneOf}
+use Rattle.explore.specs.Explorations.{IsExploration, capacities_of, pair_of}
 use Rattle.cert_text.specs.declared.certificates.MemberShown.TheVariants.{Cycle}
 use Rattle.cert_text.specs.declared.certificates.PointLine.{PointLine}
 use Rattle.cert_text.specs.declared.certificates.StorageCertificate.{StorageCertificate}

@@ -1,5 +1,5 @@
 -- What the line of a member shows is what the member shows.
-use Rattle.std.proofs.Common.{◌≡◌, ℕ, zero, suc, ◌*◌, ◌≤◌, ◌<◌, Option, Some, List, length, slice_get, sym, ap, subst, ◌∙◌, mul-le-mul, arith}
+use Rattle.std.proofs.Common.{◌≡◌, ℕ, ◌≤◌, ◌<◌, Option, Some, List, length, slice_get, sym, ap, subst, ◌∙◌, arith}
 use Rattle.std.specs.Prelude.{slice_index, slice_index_or}
 use Rattle.std.proofs.lemmas.List.{get_or-map, length-map}
 use Rattle.std.proofs.lemmas.Option.{get_or_from_slice_get}
@@ -8,9 +8,11 @@ use Rattle.sd_base.specs.Net.{Net}
 use Rattle.sd_base.specs.Rates.{Rate}
 use Rattle.cert_text.specs.declared.certificates.LinkStep.{LinkStep}
 use Rattle.critical.specs.Spaces.{no_step}
+use Rattle.critical.proofs.Storage.{chain-places}
 use Rattle.storage.specs.BoundedNets.{HasNoSpaces, bound}
 use Rattle.storage.specs.ShownSpaces.{ShowsSpace}
 use Rattle.storage.proofs.BoundedChannels.{IsBounded, space-bounded}
+use Rattle.storage.proofs.FrontsFromMembers.{positive-on}
 use Rattle.explore.specs.declared.exploration.Shown.{Shown}
 use Rattle.explore.specs.declared.exploration.Shown.TheVariants as shown
 use Rattle.explore.specs.Explorations.{ShowsChannel, ShowsRate}
@@ -25,7 +27,6 @@ use Rattle.cert_checker.specs.ShownChannels.{IsAlongSpace, no_link}
 use Rattle.cert_checker.specs.StorageCertificates.{AreBlocking, HasRate, IsShownRight}
 use Rattle.cert_maker.specs.Links.{link_cycle, link_step}
 use Rattle.cert_maker.specs.StorageCertificates.{IsShownBy}
-use Rattle.cert_maker.proofs.Explored.{chain-places}
 use Rattle.cert_maker.proofs.ValidRates.{cycle-line}
 
 -- a channel that a member shows has a capacity
@@ -33,11 +34,6 @@ pub shows-bounded : (net : Net) → HasNoSpaces net → (ds : List (Option ℕ))
 shows-bounded net none ds states rate (shown.Cycle cycle) c is shows =
     space-bounded net none ds (slice_index_or cycle.steps shows.0 no_step).channel c (chain-places (bound net ds) cycle.first cycle.steps is.2.holds.chain shows.0 no_step shows.1) shows.2
 shows-bounded net none ds states rate (shown.Blocked counts) c is shows = record { place = shows.place; room = shows.room; has = shows.has }
-
--- a rate that bounds one above 0 is above 0
-pub some-rate : (p q x y : ℕ) → 1 ≤ p → 1 ≤ y → p * y ≤ x * q → 1 ≤ x
-some-rate p q zero y some there le = absurd (let more : 1 * 1 ≤ p * y = mul-le-mul some there in omega (arith, le, more))
-some-rate p q (suc x) y some there le = omega arith
 
 module _ (net : Net) (ds : List (Option ℕ)) (states : ℕ) (rate : Fraction) (cycles : List LinkCycle) where
   cycle-there : (i : ℕ) (links : LinkCycle) → slice_get cycles i ≡ Some links → links ≡ cycle_at cycles i
@@ -47,7 +43,7 @@ module _ (net : Net) (ds : List (Option ℕ)) (states : ℕ) (rate : Fraction) (
   pub shown-right : (s : Shown) (line : MemberShown) → Rate (bound net ds) rate.num rate.den → ShowsRate net ds states rate s → IsShownBy (bound net ds) cycles rate s line → IsShownRight (bound net ds) cycles line
   shown-right (shown.Cycle cycle) (Cycle r i) of_rate is by =
       let same = is.3 in
-      let runs : 1 ≤ rate.num = some-rate cycle.rounds cycle.time rate.num rate.den is.2.holds.some_round of_rate.positive (omega (arith, same)) in
+      let runs : 1 ≤ rate.num = positive-on cycle.rounds cycle.time rate.num rate.den is.2.holds.some_round of_rate.positive (omega (arith, same)) in
       let at : IsCycleLine (bound net ds) (rate.num, rate.den) (cycle_at cycles i) = subst (IsCycleLine (bound net ds) (rate.num, rate.den)) (cycle-there i (link_cycle (bound net ds) cycle) by.1) (cycle-line (bound net ds) (rate.num, rate.den) cycle is.2.holds is.3) in
       subst (λ (x : ℕ × ℕ). IsRateLine x × IsCycleLine (bound net ds) x (cycle_at cycles i)) (sym by.0) (record { some = runs; positive = of_rate.positive; lowest = of_rate.lowest }, at)
   shown-right (shown.Cycle cycle) (Blocked listed) of_rate is by = absurd by

@@ -2,9 +2,9 @@
 use Rattle.std.proofs.Common.{◌≡◌, ℕ, ◌*◌, ◌≤◌, ◌<◌, ◌⊎◌, List, [], ◌∷◌, inl, inr, ⊎_elim, subst, refl, arith}
 use Rattle.std.proofs.lemmas.Bool.{cases_lt, cases_order}
 use Rattle.sd_base.specs.Net.{Net}
-use Rattle.storage.specs.ParetoPoints.{Beats, IsReached, Pair}
+use Rattle.storage.specs.ParetoPoints.{Beats, IsReachedPair, Pair}
 use Rattle.storage.proofs.FrontsFromMembers.{less_on, no_less}
-use Rattle.explore.specs.Explorations.{IsOneOf}
+use Rattle.pareto_front.specs.Offers.{IsOneOf}
 
 -- no more storage and no less rate
 pub record NoWorse (a b : Pair) : Type 0 where
@@ -90,12 +90,12 @@ beats-test a b = ⊎_elim
 -- a reached pair, no worse than the one below it, that none of the list with a rate beats
 pub record IsSummit (net : Net) (limit : ℕ) (xs : List Pair) (below : Pair) : Type 0 where
   pub top : Pair
-  pub reached : IsReached net limit top
+  pub reached : IsReachedPair net limit top
   pub over : NoWorse top below
   pub best : (x : Pair) → IsOneOf xs x → 1 ≤ x.num → Beats x top → ⊥
 
 -- one more pair of the list
-module _ (net : Net) (limit : ℕ) (x : Pair) (xs : List Pair) (reach : 1 ≤ x.num → IsReached net limit x) (climb-rest : (cur : Pair) → IsReached net limit cur → IsSummit net limit xs cur) (cur : Pair) (is : IsReached net limit cur) where
+module _ (net : Net) (limit : ℕ) (x : Pair) (xs : List Pair) (reach : 1 ≤ x.num → IsReachedPair net limit x) (climb-rest : (cur : Pair) → IsReachedPair net limit cur → IsSummit net limit xs cur) (cur : Pair) (is : IsReachedPair net limit cur) where
   stay : (1 ≤ x.num → Beats x cur → ⊥) → IsSummit net limit (x ∷ xs) cur
   stay not =
       let s = climb-rest cur is in
@@ -129,6 +129,6 @@ module _ (net : Net) (limit : ℕ) (x : Pair) (xs : List Pair) (reach : 1 ≤ x.
       (cases_lt x.num 1)
 
 -- above each reached pair is one
-pub climb : (net : Net) (limit : ℕ) (xs : List Pair) → ((x : Pair) → IsOneOf xs x → 1 ≤ x.num → IsReached net limit x) → (cur : Pair) → IsReached net limit cur → IsSummit net limit xs cur
+pub climb : (net : Net) (limit : ℕ) (xs : List Pair) → ((x : Pair) → IsOneOf xs x → 1 ≤ x.num → IsReachedPair net limit x) → (cur : Pair) → IsReachedPair net limit cur → IsSummit net limit xs cur
 climb net limit [] reach cur is = record { top = cur; reached = is; over = record { storage = omega arith; rate = omega arith }; best = λ x one some beats. absurd one }
 climb net limit (x ∷ xs) reach cur is = summit-more net limit x xs (λ some. reach x (inl refl) some) (λ low here. climb net limit xs (λ y one some. reach y (inr one) some) low here) cur is

@@ -3,7 +3,7 @@ use Rattle.std.specs.Prelude.{◌≡◌, ℕ, ℤ, Some}
 use Rattle.sd_base.specs.declared.tables.ScenarioFile.{ScenarioFile}
 use Rattle.automaton.specs.declared.graph.TimedGraph.{TimedGraph}
 use Rattle.automaton.specs.TimedGraphs.{IsTimedGraph}
-use Rattle.automaton.specs.CriticalCycles.{IsCritical, IsReached, Fit}
+use Rattle.automaton.specs.CriticalCycles.{IsCritical, IsReachedNode, Fit}
 use Rattle.automaton.specs.WorstRates.{IsWorst}
 use Rattle.scenario_rate.specs.declared.answer.Worst.{Worst}
 use Rattle.scenario_rate.specs.Answers.{potential_at}
@@ -19,6 +19,6 @@ WorstRatesAreValid =
     (file : ScenarioFile) (graph : TimedGraph) (worst : Worst) (c : ScenarioCertificate)
     → IsTimedGraph file graph → IsWorst file worst.rate.num worst.rate.den
     → IsCritical graph worst.rate.num worst.rate.den worst.cycle → Fit graph worst.rate.num worst.rate.den (potential_at worst.potentials)
-    → ((v : ℕ) (x : ℤ) → potential_at worst.potentials v ≡ Some x → IsReached graph v)
+    → ((v : ℕ) (x : ℤ) → potential_at worst.potentials v ≡ Some x → IsReachedNode graph v)
     → IsWorstCertificate graph worst c
     → (line : ℕ) (reason : Reason) → IsScenarioFault graph c line reason → ⊥

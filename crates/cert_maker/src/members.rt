@@ -10,7 +10,7 @@ ghost use Rattle.cert_text.specs.Orderly.{Differ, used_by};
 ghost use Rattle.cert_text.specs.Spellable.{IsCycleText};
 ghost use Rattle.cert_maker.specs.Links.{HasNoOrders, link_cycle};
 ghost use Rattle.cert_maker.specs.StorageCertificates.{IsMemberLine, IsShownBy};
-ghost use Rattle.cert_maker.specs.inside.Lines.{HasLine, HasText, IsNext};
+ghost use Rattle.cert_maker.specs.inside.Lines.{HasLine, HasText, AddsCycles};
 ghost use Rattle.cert_maker.specs.inside.Listing.{IsEntered};
 
 use crate::links::linked;
@@ -63,7 +63,7 @@ fn line_of<F: Firing>(
     requires unordered { HasNoOrders (F.net net.now) }
     requires member { HasLine (F.net net.now) member }
     ensures line { IfOk result (IsMemberLine (F.net net.now) cycles.new member) }
-    ensures next { IfOk result (λ line. IsNext cycles.old cycles.new line.shown) }
+    ensures next { IfOk result (λ line. AddsCycles cycles.old cycles.new line.shown) }
 {
     let Member {
         capacities,
@@ -89,7 +89,7 @@ fn shown_by<F: Firing>(
     requires small { storage_of (F.net net.now).channels capacities.now.capacities ≤ STORAGE }
     requires text { HasText (bound (F.net net.now) capacities.now.capacities) shown }
     ensures shown { IfOk result (IsShownBy (bound (F.net net.now) capacities.now.capacities) cycles.new rate shown) }
-    ensures next { IfOk result (IsNext cycles.old cycles.new) }
+    ensures next { IfOk result (AddsCycles cycles.old cycles.new) }
 {
     match shown {
         Shown::Cycle(cycle) => {

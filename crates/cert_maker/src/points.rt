@@ -1,7 +1,8 @@
 //! The lines of points.
 ghost use Rattle.std.specs.Prelude.{◌≡◌, ◌↔◌, IfOk, IsTrue, Some, drop, length, slice_get};
 ghost use Rattle.std.specs.List.{AllZip};
-ghost use Rattle.explore.specs.Explorations.{IsOneOf, capacities_of};
+ghost use Rattle.pareto_front.specs.Offers.{IsOneOf};
+ghost use Rattle.explore.specs.Explorations.{capacities_of};
 ghost use Rattle.cert_maker.specs.StorageCertificates.{IsPointLine, schedules_of};
 ghost use Rattle.cert_maker.specs.inside.Lines.{ArePlaced};
 

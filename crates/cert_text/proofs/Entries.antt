@@ -228,9 +228,6 @@ unfolding hyphen_or_number_in capacity_text spaced
 hyphen-sound [] c left read small = absurd cc
 hyphen-sound (b ∷ text) c left read small = by_test (b == 45) refl read
   where
-    pair : Option ℕ → List ℕ → Result (Option ℕ × List ℕ) Fault
-    pair x y = Ok (x, y)
-
     by_test : (same : Bool) → (b == 45) ≡ same → (if same then fine (let p : Option ℕ × List ℕ = (None, text) in p) else (number_in (b ∷ text) >>= λ n. Ok (Some n.0, n.1))) ≡ Ok (c, left) → 32 ∷ b ∷ text ≡ capacity_text c ++ left
     by_test true e found =
         let both : (let p : Option ℕ × List ℕ = (None, text) in p) ≡ (c, left) = ok-is (let p : Option ℕ × List ℕ = (None, text) in p) (c, left) found in

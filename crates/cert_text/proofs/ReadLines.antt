@@ -17,7 +17,6 @@ use Rattle.cert_text.specs.NumberLines.{rate_line, overlap_line, version_line}
 use Rattle.cert_text.specs.Reads.{lines_of, onto, next_by}
 use Rattle.cert_text.specs.ScenarioLines.{node_line, nodes_header, potential_line}
 use Rattle.cert_text.specs.ScheduleLines.{schedule_header}
-use Rattle.cert_text.specs.Spelling.{end_line}
 use Rattle.cert_text.proofs.ReadNumbers.{behind-front, number-front, long-front, digits-of, not-hyphen, all_digits}
 use Rattle.cert_text.proofs.Texts.{version-small}
 
@@ -100,10 +99,6 @@ pub overlap-read : (b : Bool) → overlap_due (overlap_line b) ≡ Ok b
 unfolding overlap_due overlap_line
 overlap-read true = refl
 overlap-read false = refl
-
-pub end-closes : Closes end_line
-unfolding end_line
-end-closes = closes-word (codes "end") refl (10 ∷ []) closes-end
 
 pub blocked-closes : Closes blocked_line
 unfolding blocked_line

@@ -9,6 +9,7 @@ use Rattle.std.proofs.lemmas.List.Sums.{position_or_len_is}
 use Rattle.std.proofs.lemmas.Slice.Eq.{bytes_eq-Decides}
 use Rattle.std.proofs.Math.ListN.{get_or-append}
 use Rattle.std.proofs.Math.Seq.{get_or-append_seam}
+use Rattle.std.proofs.lemmas.Option.{same_Some}
 use Rattle.cert_text.specs.declared.certificates.LinkCycle.{LinkCycle}
 use Rattle.cert_text.specs.declared.certificates.MemberLine.{MemberLine}
 use Rattle.cert_text.specs.declared.certificates.MemberShown.{MemberShown}
@@ -95,15 +96,12 @@ pub record IsGoodMember (m : MemberLine) : Type 0 where
   pub within : IsMemberWithin m
   pub shown : AreShown m.shown
 
-pub some-is : (a b : ℕ) → Some a ≡ Some b → a ≡ b
-some-is a b e = grind (arith, e)
-
 -- members that are read with something known, which goes by how many cycles are named
 module _ {S : Type 0} (f : S → List (List ℕ) → Reads (S × MemberLine)) (spell : MemberLine → List ℕ) (state : ℕ → S) (n : ℕ)
     (reads : (u v : ℕ) (m : MemberLine) (rest : List ℕ) → used_with u m.shown ≡ Some v → v ≤ n → IsGoodMember m → f (state u) (lines_of (spell m ++ rest)) ≡ Ok ((state v, m), lines_of rest)) where
   pub handing-back : (ms : List MemberLine) (u : ℕ) (rest : List ℕ) → used_by u ms ≡ Some n → AllByRecursion IsGoodMember ms → handing f (length ms) (state u) (lines_of (flat_map spell ms ++ rest)) ≡ Ok ((state n, ms), lines_of rest)
   unfolding handing used_by
-  handing-back [] u rest used all = let same : u ≡ n = some-is u n used in rw same refl
+  handing-back [] u rest used all = let same : u ≡ n = same_Some u n used in rw same refl
   handing-back (m ∷ ms) u rest used all = split (used_with u m.shown) refl used (λ v e. handing-back ms v rest e all.1)
     where
       split : (o : Option ℕ) → used_with u m.shown ≡ o → elim o [ Some more ↦ used_by more ms | None ↦ None ] ≡ Some n
@@ -145,7 +143,7 @@ module _ (u v i : ℕ) (rate : ℕ × ℕ) (named : used_with u (Cycle rate i) �
       split false l false s = let h : (let o : Option ℕ = None in o) ≡ Some v = rw (l, s) at named in absurd (cc h)
 
   pub named-then : (if i == u then u + 1 else u) ≡ v
-  named-then = some-is (if i == u then u + 1 else u) v (sym (used_next u i rate named-below) ∙ named)
+  named-then = same_Some (if i == u then u + 1 else u) v (sym (used_next u i rate named-below) ∙ named)
 
   pub named-within : i < v
   named-within = split (i == u) refl named-then
@@ -164,7 +162,7 @@ numbered-back : (cycles : List LinkCycle) (n : ℕ) → IsLong n → (u v : ℕ)
     → numbered_from n u (lines_of (shown_lines 2 cycles what ++ rest)) ≡ Ok ((v, what), lines_of rest)
 unfolding numbered_from shown_lines
 numbered-back cycles n many u v (Blocked counts) rest named most within shown =
-    let equal = some-is u v named in
+    let equal = same_Some u v named in
     rw (append_assoc blocked_line (numbers_line counts) rest, blocked-closes (numbers_line counts ++ rest), same-text blocked_line, blocked-back u counts rest shown within, equal) refl
 numbered-back cycles n many u v (Cycle rate i) rest named most within shown =
     let below = named-within u v i rate named in
@@ -231,7 +229,7 @@ module _ (cycles : List LinkCycle) (good : All IsGoodCycle cycles) (differ : Dif
       → listed_from (take u cycles) (lines_of (shown_lines 1 cycles what ++ rest)) ≡ Ok ((take v cycles, what), lines_of rest)
   unfolding listed_from shown_lines
   listed-back u v (Blocked counts) rest named most within shown =
-      let equal = some-is u v named in
+      let equal = same_Some u v named in
       rw (append_assoc blocked_line (numbers_line counts) rest, blocked-closes (numbers_line counts ++ rest), same-text blocked_line, blocked-back (take u cycles) counts rest shown within, equal) refl
   listed-back u v (Cycle rate i) rest named most within shown =
       let c : LinkCycle = cycle_at cycles i in

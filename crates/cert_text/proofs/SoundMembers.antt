@@ -4,6 +4,7 @@ use Rattle.std.specs.Prelude.{◌==◌, if◌then◌else◌, codes, nat_lt}
 use Rattle.std.specs.List.{flat_map, list_any, AllByRecursion}
 use Rattle.std.proofs.lemmas.Bool.{eqb-true, ltb-false}
 use Rattle.std.proofs.lemmas.List.Elements.{All-from_recursion, All-nil}
+use Rattle.std.proofs.lemmas.Option.{same_Some}
 use Rattle.cert_text.specs.declared.certificates.LinkCycle.{LinkCycle}
 use Rattle.cert_text.specs.declared.certificates.MemberLine.{MemberLine}
 use Rattle.cert_text.specs.declared.certificates.MemberShown.{MemberShown}
@@ -25,7 +26,7 @@ use Rattle.cert_text.specs.Spelling.{cycle_list, member_list, point_list, end_li
 use Rattle.cert_text.proofs.Entries.{numbers-sound}
 use Rattle.cert_text.proofs.FoundCycles.{differ-more}
 use Rattle.cert_text.proofs.ListedCycles.{listed-text, listed-cycle, listed-blocked}
-use Rattle.cert_text.proofs.ReadMembers.{IsGoodMember, AreGood, some-is}
+use Rattle.cert_text.proofs.ReadMembers.{IsGoodMember, AreGood}
 use Rattle.cert_text.proofs.ReadSections.{IsGoodCycle}
 use Rattle.cert_text.proofs.SoundEntries.{capacities-line-sound}
 use Rattle.cert_text.proofs.SoundLines.{rate-sound, numbered-sound, same-is}
@@ -350,15 +351,15 @@ used-one : (used more : ℕ) (what : MemberShown) → used_with used what ≡ So
 used-one used more (Cycle rate cycle) e = split (nat_lt cycle used) (cycle == used) e
   where
     split : (less same : Bool) → (if less then Some used else if same then Some (suc used) else None) ≡ Some more → more ≤ used + 1
-    split true same h = let is = some-is used more h in omega (arith, is)
-    split false true h = let is = some-is (suc used) more h in omega (arith, is)
+    split true same h = let is = same_Some used more h in omega (arith, is)
+    split false true h = let is = same_Some (suc used) more h in omega (arith, is)
     split false false h = absurd cc
-used-one used more (Blocked counts) e = let is = some-is used more e in omega (arith, is)
+used-one used more (Blocked counts) e = let is = same_Some used more e in omega (arith, is)
 
 -- each member names one more cycle at most
 pub used-most : (ms : List MemberLine) (used next : ℕ) → used_by used ms ≡ Some next → next ≤ used + length ms
 unfolding used_by
-used-most [] used next e = let is = some-is used next e in omega (arith, is)
+used-most [] used next e = let is = same_Some used next e in omega (arith, is)
 used-most (m ∷ ms) used next e = split (used_with used m.shown) refl e (λ more h. used-most ms more next h)
   where
     split : (o : Option ℕ) → used_with used m.shown ≡ o → elim o [ Some more ↦ used_by more ms | None ↦ None ] ≡ Some next → ((more : ℕ) → used_by more ms ≡ Some next → next ≤ more + length ms) → next ≤ used + length (m ∷ ms)

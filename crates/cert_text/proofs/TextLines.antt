@@ -1,10 +1,8 @@
 -- Texts as lines.
-use Rattle.std.proofs.Common.{◌≡◌, ◌≢◌, ℕ, zero, suc, ◌+◌, ◌-◌, ◌<◌, ◌≤◌, Bool, true, false, List, [], ◌∷◌, length, take, drop, Result, Ok, Err, refl, sym, ap, arith, inr}
+use Rattle.std.proofs.Common.{◌≡◌, ◌≢◌, ℕ, zero, suc, ◌+◌, ◌-◌, ◌<◌, ◌≤◌, Bool, true, false, List, [], ◌∷◌, length, take, drop, refl, sym, ap, arith}
 use Rattle.std.specs.Prelude.{slice_index, ◌==◌, if◌then◌else◌}
 use Rattle.std.proofs.lemmas.Bool.{eq-eqb, eqb-true}
-use Rattle.cert_text.specs.declared.reading.fault.Fault.{Fault}
-use Rattle.cert_text.specs.declared.reading.fault.Fault.TheVariants.{Form}
-use Rattle.cert_text.specs.Reads.{onto, lines_of, next_by, Gives}
+use Rattle.cert_text.specs.Reads.{onto, lines_of}
 
 ne-eqb : (a b : ℕ) → a ≢ b → (a == b) ≡ false
 ne-eqb a b ne = step (a == b) refl
@@ -53,11 +51,3 @@ lines-some (b ∷ bs) some none = by_test (b == 10) none
     by_test : (feed : Bool) → (if feed then (b ∷ []) ∷ lines_of bs else onto b (lines_of bs)) ≡ [] → ⊥
     by_test true e = cc
     by_test false e = by_lines (lines_of bs) e
-
--- what is read of the next line
-pub next-gives : {A : Type 0} (f : List ℕ → Result A Fault) (old new line : List ℕ) (r : Result A Fault) → lines_of old ≡ line ∷ lines_of new → r ≡ f line → Gives r new (next_by f (lines_of old))
-next-gives f old new line (Ok x) is read = rw (is, ← read) refl
-next-gives f old new line (Err e) is read = inr (rw (is, ← read) refl)
-
-pub next-none : {A : Type 0} (f : List ℕ → Result A Fault) (old new : List ℕ) (e : Fault) → (e ≡ Form) × (lines_of old ≡ []) × (lines_of new ≡ []) → next_by f (lines_of old) ≡ Err (e, lines_of new)
-next-none f old new e none = rw (none.0, none.1, none.2) refl

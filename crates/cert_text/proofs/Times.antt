@@ -5,7 +5,7 @@ use Rattle.std.proofs.lemmas.List.{append-nil}
 use Rattle.sd_base.specs.declared.limits.TheConstants.{START}
 use Rattle.cert_text.specs.declared.reading.fault.Fault.{Fault}
 use Rattle.cert_text.specs.declared.reading.fault.Fault.TheVariants.{Memory}
-use Rattle.cert_text.specs.Reads.{Reads, ◌>>=◌, in_front, next_by, times_by, lines_of, onto, Gives, GivesLine}
+use Rattle.cert_text.specs.Reads.{Reads, ◌>>=◌, in_front, next_by, times_by, lines_of, onto}
 use Rattle.cert_text.specs.LineForms.{numbers_due}
 use Rattle.cert_text.specs.Sections.{actors_from, at_digit, begins_with_digit}
 
@@ -17,10 +17,6 @@ module _ {A : Type 0} where
   regroup : (front : List A) (x : A) (read : Reads (List A)) → with_front front (read >>= λ r. Ok (x ∷ r.0, r.1)) ≡ with_front (front ++ x ∷ []) read
   regroup front x (Ok r) = ap (λ (xs : List A). let y : Reads (List A) = Ok (xs, r.1) in y) (sym (append_assoc front (x ∷ []) r.0))
   regroup front x (Err e) = refl
-
-  pub front-none : (read : Reads (List A)) → with_front [] read ≡ read
-  front-none (Ok r) = refl
-  front-none (Err e) = refl
 
 module _ {A : Type 0} (f : List (List ℕ) → Reads A) where
   pub times-more : (front all : List A) (count i : ℕ) (lines : List (List ℕ)) (x : A) (left : List (List ℕ)) (total : Reads (List A)) → i < count → f lines ≡ Ok (x, left) → all ≡ front ++ x ∷ []
@@ -108,9 +104,3 @@ actors-ends front [] total digit so_far = sym so_far ∙ ap (λ (xs : List (List
 actors-ends front (l ∷ ls) total digit so_far =
     let one : with_front front (actors_from (l ∷ ls)) ≡ Ok (front, l ∷ ls) = rw (← digit) (ap (λ (xs : List (List ℕ)). fine xs (l ∷ ls)) (append-nil front)) in
     sym so_far ∙ one
-
--- what is read of the next line, where memory may run out
-pub next-reads : {A : Type 0} (f : List ℕ → Result A Fault) (old new line : List ℕ) (r : Result A Fault) → lines_of old ≡ line ∷ lines_of new → GivesLine r (f line) → Gives r new (next_by f (lines_of old))
-next-reads f old new line (Ok x) is read = rw (is, read) refl
-next-reads f old new line (Err e) is (inl memory) = inl memory
-next-reads f old new line (Err e) is (inr read) = inr (rw (is, read) refl)

@@ -1,7 +1,8 @@
 -- Members name cycles in order.
-use Rattle.std.proofs.Common.{◌≡◌, ℕ, zero, suc, ◌+◌, ◌<◌, ◌≤◌, Bool, true, false, List, [], ◌∷◌, ◌++◌, Option, Some, None, All, refl, ap, ◌∙◌, arith}
+use Rattle.std.proofs.Common.{◌≡◌, ℕ, suc, ◌+◌, ◌<◌, ◌≤◌, Bool, true, false, List, [], ◌∷◌, ◌++◌, Option, Some, None, refl, ap, ◌∙◌, arith}
 use Rattle.std.specs.Prelude.{nat_lt, ◌==◌, if◌then◌else◌}
 use Rattle.std.proofs.lemmas.Bool.{ltb-true, ltb-false, eqb-true, eqb-false}
+use Rattle.std.proofs.lemmas.List.Elements.{All-cons}
 use Rattle.cert_text.specs.declared.certificates.MemberLine.{MemberLine}
 use Rattle.cert_text.specs.declared.certificates.MemberShown.{MemberShown}
 use Rattle.cert_text.specs.declared.certificates.MemberShown.TheVariants.{Cycle, Blocked}
@@ -21,10 +22,6 @@ names-more : (n m : ℕ) (s : MemberShown) → n ≤ m → NamesOneOf n s → Na
 names-more n m (Cycle rate cycle) le named = omega arith
 names-more n m (Blocked counts) le named = tt
 
-all-cons : {X : Type 0} (P : X → Type 0) (x : X) (xs : List X) → P x → All P xs → All P (x ∷ xs)
-all-cons P x xs first others zero d within = first
-all-cons P x xs first others (suc k) d within = others k d (omega arith)
-
 -- the members name no cycle past those that are named in the end
 pub names : (ms : List MemberLine) (used n : ℕ) → used_by used ms ≡ Some n → (used ≤ n) × NameOnes n ms
 unfolding used_by
@@ -36,7 +33,7 @@ names (m ∷ ms) used n e = after (used_with used m.shown) refl e (λ more. name
     after (Some more) with e others =
         let rest = others more e in
         let here = used-more used more m.shown with in
-        (omega arith, all-cons (λ (x : MemberLine). NamesOneOf n x.shown) m ms (names-more more n m.shown rest.0 here.1) rest.1)
+        (omega arith, All-cons (λ (x : MemberLine). NamesOneOf n x.shown) m ms (names-more more n m.shown rest.0 here.1) rest.1)
     after None with e others = absurd (cc e)
 
 -- the cycle of a member is one of those named or the next one
@@ -50,7 +47,7 @@ used_next used cycle rate le = split (nat_lt cycle used) refl (cycle == used) re
     split false l false s = let ge = ltb-false cycle used l in absurd (eqb-false cycle used s (omega (arith, ge, le)))
 
 -- and so on
-used-end : (xs : List MemberLine) (m : MemberLine) (u now next : ℕ) → used_by u xs ≡ Some now → used_with now m.shown ≡ Some next → used_by u (xs ++ m ∷ []) ≡ Some next
+pub used-end : (xs : List MemberLine) (m : MemberLine) (u now next : ℕ) → used_by u xs ≡ Some now → used_with now m.shown ≡ Some next → used_by u (xs ++ m ∷ []) ≡ Some next
 unfolding used_by
 used-end [] m u now next is named = let same : u ≡ now = grind (arith, is) in one (used_with u m.shown) (ap (λ (k : ℕ). used_with k m.shown) same ∙ named)
   where

@@ -5,6 +5,7 @@ use Rattle.std.specs.List.{AllByRecursion}
 use Rattle.std.proofs.lemmas.Bool.{cases_lt, eqb-true}
 use Rattle.std.proofs.lemmas.List.{get_or_default}
 use Rattle.std.proofs.lemmas.List.Elements.{recursion_from_All}
+use Rattle.std.proofs.lemmas.Option.{same_Some}
 use Rattle.cert_text.specs.declared.certificates.LinkCycle.{LinkCycle}
 use Rattle.cert_text.specs.declared.certificates.MemberLine.{MemberLine}
 use Rattle.cert_text.specs.declared.certificates.MemberShown.{MemberShown}
@@ -14,18 +15,17 @@ use Rattle.cert_text.specs.declared.certificates.StorageCertificate.{StorageCert
 use Rattle.cert_text.specs.Limits.{IsCycleWithin, IsLong, IsMemberWithin, IsPointWithin, IsStorageWithin, NamesWithin, NameWithin}
 use Rattle.cert_text.specs.MemberLines.{cycle_at, no_cycle}
 use Rattle.cert_text.specs.Orderly.{IsStorageOrderly, used_by, used_with}
-use Rattle.cert_text.proofs.ReadMembers.{some-is}
 use Rattle.cert_text.proofs.SoundMembers.{used-most}
 
 -- the cycle that a member is the first to name
 named-one : (cycles : List LinkCycle) (u v : ℕ) (what : MemberShown) → used_with u what ≡ Some v → NamesWithin cycles what → (k : ℕ) → u ≤ k → k < v → IsCycleWithin (cycle_at cycles k)
-named-one cycles u v (Blocked counts) e named k le less = let is = some-is u v e in absurd (omega (arith, is, le, less))
+named-one cycles u v (Blocked counts) e named k le less = let is = same_Some u v e in absurd (omega (arith, is, le, less))
 named-one cycles u v (Cycle rate i) e named k le less = split (nat_lt i u) (i == u) refl e
   where
     split : (low same : Bool) → (i == u) ≡ same → (if low then Some u else if same then Some (suc u) else None) ≡ Some v → IsCycleWithin (cycle_at cycles k)
-    split true same test h = let is = some-is u v h in absurd (omega (arith, is, le, less))
+    split true same test h = let is = same_Some u v h in absurd (omega (arith, is, le, less))
     split false true test h =
-        let is = some-is (suc u) v h in
+        let is = same_Some (suc u) v h in
         let at = eqb-true i u test in
         let this : i ≡ k = omega (arith, is, at, le, less) in
         subst (λ (j : ℕ). IsCycleWithin (cycle_at cycles j)) this named
@@ -34,7 +34,7 @@ named-one cycles u v (Cycle rate i) e named k le less = split (nat_lt i u) (i ==
 -- each cycle is named
 named-cycles : (cycles : List LinkCycle) (ms : List MemberLine) (u n : ℕ) → used_by u ms ≡ Some n → AllByRecursion (λ (m : MemberLine). NamesWithin cycles m.shown) ms → (k : ℕ) → u ≤ k → k < n → IsCycleWithin (cycle_at cycles k)
 unfolding used_by
-named-cycles cycles [] u n e all k le less = let is = some-is u n e in absurd (omega (arith, is, le, less))
+named-cycles cycles [] u n e all k le less = let is = same_Some u n e in absurd (omega (arith, is, le, less))
 named-cycles cycles (m ∷ ms) u n e all k le less = split (used_with u m.shown) refl e (λ v h low. named-cycles cycles ms v n h all.1 k low less)
   where
     split : (o : Option ℕ) → used_with u m.shown ≡ o → elim o [ Some more ↦ used_by more ms | None ↦ None ] ≡ Some n → ((v : ℕ) → used_by v ms ≡ Some n → v ≤ k → IsCycleWithin (cycle_at cycles k)) → IsCycleWithin (cycle_at cycles k)

@@ -8,11 +8,11 @@ use Rattle.critical.specs.declared.cycle.FiringNo.{FiringNo}
 use Rattle.sd_base.specs.Net.{Net}
 use Rattle.completion.specs.Ways.{HasWay, InRounds, part_at}
 use Rattle.completion.specs.inside.Timetables.{IsLastOf, IsTimetable, end_at, firing_of}
-use Rattle.completion.specs.inside.Walks.{IsWalk, IsWayTo}
+use Rattle.completion.specs.inside.Walks.{IsWalkBack, IsWayTo}
 use Rattle.completion.proofs.Within.{chain-within}
 use Rattle.completion.proofs.WalkSteps.{last-within, way-few}
 
-module _ (net : Net) (times : Timetable) (is : IsTimetable net times) (n : ℕ) (few : n ≤ ROUNDS) (last : Start) (is_last : IsLastOf net times n last) (walk : Walk) (same : walk.last ≡ last) (w : IsWalk net times walk) where
+module _ (net : Net) (times : Timetable) (is : IsTimetable net times) (n : ℕ) (few : n ≤ ROUNDS) (last : Start) (is_last : IsLastOf net times n last) (walk : Walk) (same : walk.last ≡ last) (w : IsWalkBack net times walk) where
   way : IsWayTo net last walk.here walk.parts.items
   way = subst (λ (x : Start). IsWayTo net x walk.here walk.parts.items) same w.way
 

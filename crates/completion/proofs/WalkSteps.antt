@@ -9,11 +9,10 @@ use Rattle.completion.specs.declared.timetable.Start.{Start}
 use Rattle.completion.specs.declared.timetable.Timetable.{Timetable}
 use Rattle.completion.specs.declared.walk.Walk.{Walk}
 use Rattle.sd_base.specs.Net.{Net}
-use Rattle.sd_base.proofs.Parts.{timed}
 use Rattle.critical.specs.Cycles.{IsStep, IsChain, last_of}
 use Rattle.completion.specs.Ways.{InRounds, firing_time, no_part, one_in, part_at, sum_along, time_in}
 use Rattle.completion.specs.inside.Timetables.{IsLastOf, IsStart, IsTimetable, StartsAt, end_at, firing_of, moment_of, pass_of}
-use Rattle.completion.specs.inside.Walks.{FitsTimes, IsLap, IsTightNeed, IsWalk, IsWayTo, sum_before}
+use Rattle.completion.specs.inside.Walks.{FitsTimes, IsLap, IsTightNeed, IsWalkBack, IsWayTo, sum_before}
 use Rattle.completion.proofs.Along.{along-last, part-le}
 use Rattle.completion.proofs.Starts.{start-order}
 use Rattle.completion.proofs.Within.{head-within}
@@ -26,9 +25,6 @@ use Rattle.completion.proofs.Counted.{counted-more, more}
 module _ (net : Net) (times : Timetable) (is : IsTimetable net times) where
   pub short-time : (x : FiringNo) → x.actor < length net.times → firing_time net x ≤ TIME
   short-time x actor = is.laws.short_times x.actor _ actor (mod-lt x.number (is.laws.some_phase x.actor actor))
-
-  pub some-time : (x : FiringNo) → x.actor < length net.times → 1 ≤ firing_time net x
-  some-time x actor = (timed net is.laws).some x.actor x.number actor
 
   -- a firing of an actor that starts sooner has the lesser number
   pub numbers-order : (here kept : Start) → IsStart net times here → IsStart net times kept → here.moment < kept.moment → kept.actor ≡ here.actor → here.number < kept.number
@@ -107,9 +103,6 @@ module _ (net : Net) (times : Timetable) (is : IsTimetable net times) where
   -- ---- a step back
 
   module _ (here needed : Start) (need : IsTightNeed net here needed) where
-    step : CycleStep
-    step = record { channel = need.channel; to = firing_of here }
-
     steps-on : IsStep net (firing_of needed) (record { channel = need.channel; to = firing_of here })
     steps-on = record { place = need.place; source = need.source; target = need.target; last = need.last }
 
@@ -142,7 +135,7 @@ module _ (net : Net) (times : Timetable) (is : IsTimetable net times) where
         }
 
   -- the firings of a lap are no more than there are up to the last of the rounds
-  pub lap-few : (walk : Walk) → IsWalk net times walk → (a : ℕ) → a < length net.times → (part_at walk.lap.items a).firings ≤ 8000000000000
+  pub lap-few : (walk : Walk) → IsWalkBack net times walk → (a : ℕ) → a < length net.times → (part_at walk.lap.items a).firings ≤ 8000000000000
   lap-few walk w a actor =
       let turn = w.lap in
       let at_kept : StartsAt net walk.kept.actor walk.kept.number walk.kept.moment = starts net times is walk.kept w.kept in
@@ -152,7 +145,7 @@ module _ (net : Net) (times : Timetable) (is : IsTimetable net times) where
       let most = few-counts net times is w.rounds walk.last.actor a walk.last.number walk.last.moment w.last.start.actor actor w.few (starts net times is walk.last w.last.start) (omega (arith, w.last.number)) in
       omega (arith, turn.firings a actor, count, rise, most)
 
-  pub lap-soon : (walk : Walk) → IsWalk net times walk → (a : ℕ) → a < length net.times → (part_at walk.lap.items a).time ≤ walk.last.moment
+  pub lap-soon : (walk : Walk) → IsWalkBack net times walk → (a : ℕ) → a < length net.times → (part_at walk.lap.items a).time ≤ walk.last.moment
   lap-soon walk w a actor =
       let turn = w.lap in
       let part : sum_along (time_in net a) (firing_of walk.here) turn.steps ≤ sum_along (firing_time net) (firing_of walk.here) turn.steps = part-le net a (firing_of walk.here) turn.steps in
@@ -164,7 +157,7 @@ module _ (net : Net) (times : Timetable) (is : IsTimetable net times) where
 
   -- the firing here is kept
   pub kept-walk : (last here : Start) (parts : List Part) (n : ℕ) → n ≤ ROUNDS → IsLastOf net times n last → last.moment ≤ 2 ^ 105 → IsStart net times here → IsWayTo net last here parts →
-      (new : Walk) → new.last ≡ last → new.here ≡ here → new.parts.items ≡ parts → new.kept ≡ here → length new.lap.items ≡ length net.times → ((a : ℕ) → a < length net.times → part_at new.lap.items a ≡ no_part) → IsWalk net times new
+      (new : Walk) → new.last ≡ last → new.here ≡ here → new.parts.items ≡ parts → new.kept ≡ here → length new.lap.items ≡ length net.times → ((a : ℕ) → a < length net.times → part_at new.lap.items a ≡ no_part) → IsWalkBack net times new
   kept-walk last here parts n few is_last soon start way new same_last same_here same_parts same_kept actors none = record {
     rounds = n;
     few = few;
@@ -177,14 +170,14 @@ module _ (net : Net) (times : Timetable) (is : IsTimetable net times) where
     lap = subst (λ (x : Start). IsLap net x new.kept new.lap.items) (sym same_here) (subst (λ (x : Start). IsLap net here x new.lap.items) (sym same_kept) (fresh-lap here new.lap.items actors none));
   }
 
-  pub jump-number : (walk : Walk) → IsWalk net times walk → walk.here.number ≤ 1099511627776
+  pub jump-number : (walk : Walk) → IsWalkBack net times walk → walk.here.number ≤ 1099511627776
   jump-number walk w =
       let within = way-within w.rounds w.few walk.last w.last walk.here walk.parts.items w.way in
       omega (arith, within.1, few-firings net is.laws w.rounds walk.here.actor w.few)
 
   -- ---- a jump
 
-  module _ (walk : Walk) (w : IsWalk net times walk) (laps : ℕ) (fits : FitsTimes times walk.here walk.kept laps) where
+  module _ (walk : Walk) (w : IsWalkBack net times walk) (laps : ℕ) (fits : FitsTimes times walk.here walk.kept laps) where
     -- the firing so many laps before the one here, and the way from it
     abbrev earlier : Start
     earlier = record { actor = walk.here.actor; number = walk.here.number - laps * (fits.passes * pass_of times walk.here.actor); moment = moment_of times walk.here.actor (walk.here.number - laps * (fits.passes * pass_of times walk.here.actor)) }

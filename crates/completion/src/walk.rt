@@ -14,7 +14,7 @@ ghost use Rattle.firing.specs.declared.sums.Port.TheVariants.{Taken};
 ghost use Rattle.firing.specs.Wiring.{AreListed, IsListed};
 ghost use Rattle.completion.specs.Ways.{HasWay, InRounds, no_part, part_at};
 ghost use Rattle.completion.specs.inside.Timetables.{IsLastOf, IsStart, IsTimetable, end_at};
-ghost use Rattle.completion.specs.inside.Walks.{FitsTimes, IsSlackOn, IsTightNeed, IsWalk};
+ghost use Rattle.completion.specs.inside.Walks.{FitsTimes, IsSlackOn, IsTightNeed, IsWalkBack};
 
 use crate::counts::{Part, clear, count, count_laps, no_parts};
 use crate::timetable::{Start, Timetable, end, time_at};
@@ -79,7 +79,7 @@ impl Walk {
         requires last { IsLastOf (F.net net.now) times.now rounds last }
         requires soon { last.moment ≤ 2 ^ 105 }
         ensures last { IfOk result (λ walk. walk.last ≡ last) }
-        ensures walk { IfOk result (IsWalk (F.net net.now) times.now) }
+        ensures walk { IfOk result (IsWalkBack (F.net net.now) times.now) }
     {
         let mut parts = no_parts(alloc, net.actors())?;
         count(
@@ -103,10 +103,10 @@ impl Walk {
     fn step_back<F: Firing>(&mut self, net: &F, wiring: &Wiring, times: &Timetable)
         requires wired { AreListed (F.net net.now) Taken wiring.now.inputs }
         requires times { IsTimetable (F.net net.now) times.now }
-        requires walk { IsWalk (F.net net.now) times.now self.old }
+        requires walk { IsWalkBack (F.net net.now) times.now self.old }
         requires later { self.old.here.moment ≢ 0 }
         ensures last { self.new.last ≡ self.old.last }
-        ensures walk { IsWalk (F.net net.now) times.now self.new }
+        ensures walk { IsWalkBack (F.net net.now) times.now self.new }
         ensures back { self.new.here.moment < self.old.here.moment }
         ensures order { self.new.here.moment < self.new.kept.moment }
     {
@@ -121,10 +121,10 @@ impl Walk {
     /// entry; else keeps this one if the other has been kept for long (Brent 1980).
     fn look_back<F: Firing>(&mut self, net: &F, times: &Timetable)
         requires times { IsTimetable (F.net net.now) times.now }
-        requires walk { IsWalk (F.net net.now) times.now self.old }
+        requires walk { IsWalkBack (F.net net.now) times.now self.old }
         requires order { self.old.here.moment < self.old.kept.moment }
         ensures last { self.new.last ≡ self.old.last }
-        ensures walk { IsWalk (F.net net.now) times.now self.new }
+        ensures walk { IsWalkBack (F.net net.now) times.now self.new }
         ensures back { self.new.here.moment ≤ self.old.here.moment }
     {
         know_laws(net);
@@ -141,11 +141,11 @@ impl Walk {
     /// Goes back so many laps more, each like that back from the kept firing.
     fn jump<F: Firing>(&mut self, net: &F, times: &Timetable, laps: u64)
         requires times { IsTimetable (F.net net.now) times.now }
-        requires walk { IsWalk (F.net net.now) times.now self.old }
+        requires walk { IsWalkBack (F.net net.now) times.now self.old }
         requires order { self.old.here.moment < self.old.kept.moment }
         requires fits { FitsTimes times.now self.old.here self.old.kept laps }
         ensures last { self.new.last ≡ self.old.last }
-        ensures walk { IsWalk (F.net net.now) times.now self.new }
+        ensures walk { IsWalkBack (F.net net.now) times.now self.new }
         ensures back { self.new.here.moment ≤ self.old.here.moment }
     {
         let apart = self.kept.number - self.here.number;

@@ -15,9 +15,6 @@ pub record Follows (net : Net) (from : FiringNo) (steps : List CycleStep) (i : �
   pub all : time_along net from steps ≡ time + time_along net at (drop i steps)
   pub small : time ≤ i * 1000000000
 
-pub follows-none : (net : Net) (from : FiringNo) (steps : List CycleStep) → Follows net from steps 0 from 0
-follows-none net from steps = record { chain = λ c. c; back = λ c. c; last = refl; all = omega arith; small = omega arith }
-
 -- the step at place i comes first among those from i on
 pub step-split : (steps : List CycleStep) (i : ℕ) (none : CycleStep) → i < length steps → drop i steps ≡ slice_index_or steps i none ∷ drop (i + 1) steps
 step-split steps i none below = rw add-one (drop-cons steps i none below)

@@ -13,7 +13,6 @@ mod Stretches
 mod StretchSpaces
 pub mod TightCycles
 pub mod TightNeeds
-pub mod TightTests
 mod Spans
 mod Turning
 mod UpperSides

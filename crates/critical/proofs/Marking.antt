@@ -1,12 +1,12 @@
 -- Places of the firings of a pass in one list, actor by actor.
-use Rattle.std.proofs.Common.{◌≡◌, ℕ, zero, suc, ◌+◌, ◌-◌, ◌≤◌, ◌<◌, List, [], ◌∷◌, ◌++◌, length, ⊎_elim, subst, sym, refl, ap, ◌∙◌, arith, add-one}
+use Rattle.std.proofs.Common.{◌≡◌, ℕ, zero, suc, ◌+◌, ◌-◌, ◌≤◌, ◌<◌, List, [], length, ⊎_elim, subst, sym, refl, ap, ◌∙◌, arith, add-one}
 use Rattle.std.specs.Prelude.{slice_index, slice_index_or}
 use Rattle.std.proofs.lemmas.Bool.{cases_lt}
-use Rattle.std.proofs.lemmas.List.{get_or_append_left, get_or_default, get_or_push, length_push}
+use Rattle.std.proofs.lemmas.List.{get_or_default}
 use Rattle.firing.specs.declared.table.LoopTable.{LoopTable}
 use Rattle.critical.specs.declared.cycle.FiringNo.{FiringNo}
 use Rattle.sd_base.specs.Schedules.{count_of}
-use Rattle.critical.specs.inside.Trails.{offset_of, AreOffsets, IsShort, IsSecond, second_of, class_at}
+use Rattle.critical.specs.inside.Trails.{offset_of, IsShort, IsSecond, second_of, class_at}
 
 pub offset-next : (rows : List (List ℕ)) (n : ℕ) → offset_of rows (n + 1) ≡ offset_of rows n + count_of rows n
 offset-next rows n = rw add-one refl
@@ -22,21 +22,6 @@ offset-rise rows m n le = let e : (n - m) + m ≡ n = omega arith in subst (λ (
 pub record OffsetsBelow (rows : List (List ℕ)) (offsets : List ℕ) (n : ℕ) : Type 0 where
   pub long : length offsets ≡ n
   pub each : (a : ℕ) → a < n → slice_index offsets a ≡ offset_of rows a
-
-pub offsets-none : (rows : List (List ℕ)) → OffsetsBelow rows [] 0
-offsets-none rows = record { long = refl; each = λ a below. absurd (omega arith) }
-
-pub offsets-push : (rows : List (List ℕ)) (old new : List ℕ) (n sum : ℕ) → OffsetsBelow rows old n → sum ≡ offset_of rows n → new ≡ old ++ sum ∷ [] → OffsetsBelow rows new (n + 1)
-offsets-push rows old new n sum below is pushed = subst (λ (xs : List ℕ). OffsetsBelow rows xs (n + 1)) (sym pushed) (record {
-  long = omega (arith, below.long, length_push old sum);
-  each = λ a less. ⊎_elim
-      (λ (h : a < n). get_or_append_left old (sum ∷ []) 0 a (omega (arith, below.long)) ∙ below.each a h)
-      (λ (h : n ≤ a). let last : a ≡ n = omega arith in get_or_push old sum 0 a (below.long ∙ sym last) ∙ (is ∙ ap (offset_of rows) (sym last)))
-      (cases_lt a n);
-})
-
-pub offsets-all : (rows : List (List ℕ)) (offsets : List ℕ) (n : ℕ) → n ≡ length rows → OffsetsBelow rows offsets (n + 1) → AreOffsets rows offsets
-offsets-all rows offsets n whole below = record { long = omega (arith, below.long); each = λ a le. below.each a (omega arith) }
 
 -- a firing has its place within the list
 pub class-below : (table : LoopTable) (x : FiringNo) → IsSecond table x → class_at table x < offset_of table.starts (length table.starts)

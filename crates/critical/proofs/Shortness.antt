@@ -3,7 +3,7 @@ use Rattle.std.proofs.Common.{◌≡◌, ℕ, zero, suc, ◌+◌, ◌≤◌, ◌
 use Rattle.std.proofs.lemmas.List.Sums.{sum_by-cons}
 use Rattle.firing.specs.declared.table.LoopTable.{LoopTable}
 use Rattle.sd_base.specs.Net.{Net}
-use Rattle.sd_base.specs.Schedules.{Schedule, count_of, HasInputs}
+use Rattle.sd_base.specs.Schedules.{count_of, HasInputs}
 use Rattle.sd_base.specs.SelfTimed.{earliest, starts_by}
 use Rattle.sd_base.specs.Lawful.{Lawful}
 use Rattle.sd_base.specs.Rates.{IsLoopTable}
@@ -27,9 +27,6 @@ offset-le rows more (suc n) each = omega (arith, offset-le rows more n (λ a bel
 pub short-loop : (net : Net) (table : LoopTable) → Lawful net → HasInputs net → IsLoopTable net table.entry table.period table.rounds table.before table.starts → starts_by net (table.entry + table.period) ≤ 4000000 → IsShortLoop net table
 short-loop net table laws inputs loop few = record { laws = laws; inputs = inputs; loop = loop; short = record { rows = loop.actors ∙ sym loop.rows; some = some; few = each; all = all } }
   where
-    s : Schedule
-    s = earliest net (table.entry + table.period + 1)
-
     long : length (earliest net (table.entry + table.period + 1)) ≡ length net.times
     long = (early_at net (regular net laws) inputs (table.entry + table.period + 1)).admissible.actors
 

@@ -24,7 +24,7 @@ use Rattle.critical.proofs.LaterCycles.{rounds-whole, last-up, last-down}
 use Rattle.critical.proofs.Trails.{chain-of, last-of_steps}
 use Rattle.critical.proofs.Marking.{firing-same}
 
-entry-le-sum : (xs : List ℕ) (i : ℕ) → slice_index xs i ≤ sum xs
+pub entry-le-sum : (xs : List ℕ) (i : ℕ) → slice_index xs i ≤ sum xs
 entry-le-sum xs i = ⊎_elim
     (λ (below : i < length xs). get_or-le-sum_by (λ (x : ℕ). x) xs i 0 below)
     (λ (past : length xs ≤ i). rw (get_or_past xs i 0 past) (omega arith))

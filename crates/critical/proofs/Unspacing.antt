@@ -1,15 +1,13 @@
 -- A way that is tested, and that it stays in the second pass.
-use Rattle.std.proofs.Common.{◌≡◌, ℕ, zero, suc, ◌≤◌, ◌<◌, List, [], ◌∷◌, ◌++◌, length, ⊎_elim, sym, subst, arith}
+use Rattle.std.proofs.Common.{◌≡◌, ℕ, ◌≤◌, ◌<◌, List, [], ◌∷◌, ◌++◌, length, ⊎_elim, sym, subst, arith}
 use Rattle.std.specs.Prelude.{All}
 use Rattle.std.proofs.lemmas.Bool.{cases_lt}
 use Rattle.std.proofs.lemmas.List.{get_or_append_left, get_or_push, length_push}
 use Rattle.firing.specs.declared.table.LoopTable.{LoopTable}
 use Rattle.sd_base.specs.Net.{Net}
-use Rattle.critical.specs.declared.cycle.FiringNo.{FiringNo}
-use Rattle.critical.specs.declared.cycle.CycleStep.{CycleStep}
 use Rattle.critical.specs.declared.cycle.NeedCycle.{NeedCycle}
 use Rattle.critical.specs.declared.walk.Met.{Met}
-use Rattle.critical.specs.Cycles.{HoldsOn, IsChain}
+use Rattle.critical.specs.Cycles.{HoldsOn}
 use Rattle.critical.specs.Spaces.{AreSpaces}
 use Rattle.critical.specs.Unspaced.{IsUnspaced}
 use Rattle.critical.specs.inside.Trails.{IsSecond}
@@ -20,12 +18,6 @@ seconds-more table old new m all is pushed = subst (λ (xs : List Met). All (λ 
     (λ (less : k < length old). subst (λ (x : Met). IsSecond table x.firing) (sym (get_or_append_left old (m ∷ []) d k less)) (all k d less))
     (λ (past : length old ≤ k). subst (λ (x : Met). IsSecond table x.firing) (sym (get_or_push old m d k (omega (arith, length_push old m)))) is)
     (cases_lt k (length old)))
-
--- the channels of the steps of a chain are those of the net
-pub step-places : (net : Net) (from : FiringNo) (steps : List CycleStep) → IsChain net from steps → All (λ (step : CycleStep). step.channel < length net.channels) steps
-step-places net from [] chain k d below = absurd (omega arith)
-step-places net from (step ∷ steps) chain zero d below = chain.0.place
-step-places net from (step ∷ steps) chain (suc k) d below = step-places net step.to steps chain.1 k d (omega arith)
 
 pub unspaced : (net : Net) (cycle : NeedCycle) (xs : List ℕ) → HoldsOn net cycle → AreSpaces net cycle.steps (length cycle.steps) xs → length xs ≡ 0 → IsUnspaced net cycle
 unspaced net cycle xs holds are none = record { holds = holds; none = λ i c below space. let has = are.all i c below space in absurd (omega (arith, has.1, none)) }

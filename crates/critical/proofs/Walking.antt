@@ -3,6 +3,7 @@ use Rattle.std.proofs.Common.{◌≡◌, ℕ, suc, ◌+◌, ◌-◌, ◌*◌, �
 use Rattle.std.specs.Prelude.{slice_index, slice_index_or, slice_set}
 use Rattle.std.proofs.lemmas.Bool.{cases_lt, cases_eq}
 use Rattle.std.proofs.lemmas.List.{get_or_append_left, get_or_default, get_or_past, get_or_push, length_push, get_or-set_same, get_or-set_other, get_or-replicate, length-replicate}
+use Rattle.std.proofs.lemmas.Option.{same_Some}
 use Rattle.firing.specs.declared.table.LoopTable.{LoopTable}
 use Rattle.critical.specs.declared.cycle.FiringNo.{FiringNo}
 use Rattle.critical.specs.declared.tight.ReadNeed.{ReadNeed}
@@ -32,9 +33,6 @@ pub record AreMarks (table : LoopTable) (at : ℕ → Met) (n : ℕ) (marks : Li
   pub long : length marks ≡ offset_of table.starts (length table.starts)
   pub marked : (i : ℕ) → i < n → slice_index_or marks (class_at table (at i).firing) None ≡ Some i
   pub true : (c i : ℕ) → slice_index_or marks c None ≡ Some i → (i < n) × (class_at table (at i).firing ≡ c)
-
-some-one : (i j : ℕ) → Some i ≡ Some j → i ≡ j
-some-one i j e = cc
 
 none-some : (i : ℕ) → None ≡ Some i → ⊥
 none-some i e = cc
@@ -82,7 +80,7 @@ module _ (table : LoopTable) (at next : ℕ → Met) (n : ℕ) (marks : List (Op
           (λ (mine : c ≡ class_at table (at n).firing).
           let read : slice_index_or (slice_set marks (class_at table (at n).firing) (Some n)) c None ≡ Some n =
           ap (λ (d : ℕ). slice_index_or (slice_set marks (class_at table (at n).firing) (Some n)) d None) mine ∙ get_or-set_same marks (class_at table (at n).firing) (Some n) None below in
-          let last : n ≡ i = some-one n i (sym read ∙ e) in
+          let last : n ≡ i = same_Some n i (sym read ∙ e) in
           (omega arith, ap (λ (m : Met). class_at table m.firing) (same i (omega arith)) ∙ (ap (λ (k : ℕ). class_at table (at k).firing) (sym last) ∙ sym mine)))
           (λ (other : c ≡ class_at table (at n).firing → ⊥).
           let old = are.true c i (sym (get_or-set_other marks (class_at table (at n).firing) c (Some n) None other) ∙ e) in
@@ -151,7 +149,7 @@ module _ (net : Net) (table : LoopTable) (loop : IsShortLoop net table) where
       let found : Agree (λ i. class_at table (at i).firing) pass = agree pass (λ i. class_at table (at i).firing) (λ i below. class-below table (at i).firing (way.second i (omega (arith, are.long)))) in
       let one : slice_index_or marks (class_at table (at found.p).firing) None ≡ Some found.p = are.marked found.p (omega (arith, found.within, are.long)) in
       let other : slice_index_or marks (class_at table (at (found.p + suc found.d)).firing) None ≡ Some (found.p + suc found.d) = are.marked (found.p + suc found.d) (omega (arith, found.within, are.long)) in
-      let both : found.p ≡ found.p + suc found.d = some-one found.p (found.p + suc found.d) (sym one ∙ (ap (λ (c : ℕ). slice_index_or marks c None) found.same ∙ other)) in
+      let both : found.p ≡ found.p + suc found.d = same_Some found.p (found.p + suc found.d) (sym one ∙ (ap (λ (c : ℕ). slice_index_or marks c None) found.same ∙ other)) in
       omega arith
 
   -- a firing with a mark comes again
@@ -196,7 +194,7 @@ module _ (net : Net) (table : LoopTable) (loop : IsShortLoop net table) where
           let other : slice_index_or marks (class_at table (met_then met here j).firing) None ≡ Some j = are.marked j (omega (arith, many)) in
           let both : class_at table (met_then met here i).firing ≡ class_at table (met_then met here j).firing =
           ap (λ (m : Met). class_at table m.firing) (sym (same i (omega (arith, many)))) ∙ (ap (class_at table) is ∙ ap (λ (m : Met). class_at table m.firing) (same j (omega (arith, many)))) in
-          let equal : i ≡ j = some-one i j (sym one ∙ (ap (λ (c : ℕ). slice_index_or marks c None) both ∙ other)) in
+          let equal : i ≡ j = same_Some i j (sym one ∙ (ap (λ (c : ℕ). slice_index_or marks c None) both ∙ other)) in
           omega arith
 
   module _ (met : List Met) (here : Met) (n : ℕ) (long : length met ≡ n) (way : IsTrail net table (met_then met here) n) where

@@ -18,5 +18,4 @@ mod walk;
 pub use cycle::{CycleStep, FiringNo, NeedCycle};
 pub use find::{cycle_of, cycle_of_on};
 pub use steps::CycleSteps;
-pub use tight::is_tight_on;
 pub use unspaced::cycle_without_spaces;

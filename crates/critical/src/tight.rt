@@ -1,11 +1,7 @@
 //! Tight needs: needs that end just when the firing that has them starts.
 ghost use Rattle.std.specs.Prelude.{◌≡◌, ◌↔◌, ◌+◌, ◌*◌, ◌^◌, ◌<◌, ◌≤◌, IfSome, IsTrue, MatchOption, length};
-ghost use Rattle.sd_base.specs.declared.limits.TheConstants.{STARTS};
 ghost use Rattle.sd_base.specs.Net.{channel_at};
-ghost use Rattle.sd_base.specs.Schedules.{count_of, time_of, IsNeed, LastNeed, HasInputs};
-ghost use Rattle.sd_base.specs.SelfTimed.{starts_by};
-ghost use Rattle.sd_base.specs.Rates.{IsLoopTable};
-ghost use Rattle.critical.specs.CriticalCycles.{InSecondPass, HasTightNeed};
+ghost use Rattle.sd_base.specs.Schedules.{count_of, time_of, IsNeed, LastNeed};
 ghost use Rattle.firing.specs.declared.sums.Port.TheVariants.{Taken};
 ghost use Rattle.firing.specs.Wiring.{IsListed};
 ghost use Rattle.critical.specs.inside.Trails.{IsShort, IsShortLoop, IsSecond, IsTightNeed, IsReadFrom, IsSlackOn, IsSlackBefore, listed_at};
@@ -138,22 +134,4 @@ fn is_tight<F: Firing>(net: &F, table: &LoopTable, need: ReadNeed, later: Firing
 {
     let end = listed(table, need.firing) as u128 + time_at(net, need.firing) as u128;
     end == listed(table, later) as u128 + need.passes as u128 * table.period as u128
-}
-
-/// Whether firing `number` of the target of a channel, one of the second pass round the loop, starts just when its last
-/// need on the channel ends. Cost: linear in the phases of both ends.
-pub fn is_tight_on<F: Firing>(net: &F, table: &LoopTable, channel: u32, number: u64) -> bool
-    requires inputs { HasInputs (F.net net.now) }
-    requires table { IsLoopTable (F.net net.now) table.now.entry table.now.period table.now.rounds table.now.before table.now.starts }
-    requires few { starts_by (F.net net.now) (table.now.entry + table.now.period) ≤ STARTS }
-    requires place { channel < length (F.net net.now).channels }
-    requires second { InSecondPass (F.net net.now) table.now.entry table.now.period (channel_at (F.net net.now) channel).target number }
-    ensures { IsTrue result ↔ HasTightNeed (F.net net.now) table.now.entry table.now.period channel number }
-{
-    know_laws(net);
-    let later = FiringNo {
-        actor: net.target(channel),
-        number,
-    };
-    tight_on(net, table, channel, later).is_some()
 }

@@ -10,7 +10,7 @@ use Rattle.sd_base.specs.Lawful.{Lawful}
 use Rattle.sd_base.specs.declared.limits.TheConstants.{ROUND, TIME}
 use Rattle.sd_base.specs.declared.memory.NoMemory.{NoMemory}
 use Rattle.sd_base.specs.Schedules.{phases_at, time_of}
-use Rattle.sd_base.specs.Untimed.{one_more, CanFire, none_fired}
+use Rattle.sd_base.specs.Untimed.{one_more, CanFire}
 use Rattle.sd_base.proofs.Parts.{balanced}
 use Rattle.sd_base.proofs.Blocking.{bump-same, bump-other}
 use Rattle.token_matrix.specs.Stamps.{IsTakenBy}
@@ -28,15 +28,6 @@ start-below (x ∷ xs) (suc j) t at = let h = start-below xs j t at in omega ari
 last-at : (xs : List (Option ℕ)) (s : Option ℕ) → slice_index_or (xs ++ s ∷ []) (length xs) None ≡ s
 last-at [] s = refl
 last-at (x ∷ xs) s = last-at xs s
-
-pub none-start : (first : ℕ → ℕ) (net : Net) (p : ℕ) (rows : List (List (Option ℕ))) → length rows ≡ length net.times → ((a : ℕ) → slice_index_or rows a [] ≡ [])
-    → IsColumn net first p none_fired rows
-none-start first net p rows long empty = record {
-  actors = long;
-  whole = λ a actor. ap (λ (r : List (Option ℕ)). length r) (empty a);
-  just = λ a j t actor early at. absurd (omega arith);
-  top = λ a j t cs actor early chain. absurd (omega arith);
-}
 
 module _ (net : Net) (laws : Lawful net) (first : ℕ → ℕ) (p : ℕ) (v : ℕ → ℕ) (a : ℕ) (start : Option ℕ) (old new : List (List (Option ℕ))) (column : IsColumn net first p v old)
     (actor : a < length net.times) (early : v a < slice_index net.round a) (can : CanFire net v a) (longest : IsLongest (IsLinkInto net first p old a (v a)) start)

@@ -18,12 +18,6 @@ longest-one P s is most = record {
 pub longest-same : (P Q : ℕ → Type 0) (s : Option ℕ) → ((t : ℕ) → P t → Q t) → ((t : ℕ) → Q t → P t) → IsLongest P s → IsLongest Q s
 longest-same P Q s to back is = record { just = λ t at. to t (is.just t at); top = λ t has. is.top t (back t has) }
 
-max-left : (x y : ℕ) → x ≤ max x y
-max-left x y = omega arith
-
-max-right : (x y : ℕ) → y ≤ max x y
-max-right x y = omega arith
-
 -- those of two kinds
 pub longest-both : (P Q : ℕ → Type 0) (s e : Option ℕ) → IsLongest P s → IsLongest Q e → IsLongest (λ t. P t ⊎ Q t) (later s e)
 longest-both P Q None e first second = record {

@@ -40,16 +40,6 @@ snoc-on [] i rest = refl
 snoc-on (c ∷ cs) i rest = ap (λ (l : List ℕ). c ∷ l) (snoc-on cs i rest)
 
 module _ (net : Net) (first : ℕ → ℕ) where
-  -- before the first entry
-  pub no-entries : (old : List Bool) → AreWayMarks net first [] old old
-  no-entries old = record {
-    ways = [];
-    each = refl;
-    longest = λ k entry at. absurd (cc);
-    long = refl;
-    marked = λ i below. (λ at. inl at, λ has. ⊎_elim (λ (at : slice_index_or old i false ≡ true). at) (λ ((cs, (k, low, at), here) : IsOnSome [] i). absurd (let no : ⊥ = omega arith in no)) has);
-  }
-
   module _ (entries : List EntryPlace) (entry : EntryPlace) (cs : List ℕ) (old mid new : List Bool) (before : AreWayMarks net first entries old mid)
       (way : IsLongestWay net first entry.column entry.row cs) (more : AreMarked cs mid new) where
     -- the ways of the entries before, and that of the last one

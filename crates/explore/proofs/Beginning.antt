@@ -11,7 +11,7 @@ use Rattle.explore.specs.declared.exploration.Member.{Member}
 use Rattle.levels.specs.declared.found.Found.{Found}
 use Rattle.levels.specs.Frontiers.{IsFrontier}
 use Rattle.explore.specs.declared.search.Search.{Search}
-use Rattle.explore.specs.Explorations.{IsOneOf}
+use Rattle.pareto_front.specs.Offers.{IsOneOf}
 use Rattle.explore.specs.inside.Searches.{AreKnown, IsEnded, IsSearch}
 use Rattle.explore.specs.inside.Starts.{IsHinted}
 

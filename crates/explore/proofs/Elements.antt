@@ -1,16 +1,12 @@
 -- Elements of lists.
 use Rattle.std.proofs.Common.{◌≡◌, ℕ, zero, suc, ◌<◌, List, [], ◌∷◌, ◌++◌, length, map, ◌⊎◌, inl, inr, ⊎_elim, refl, ap, subst, arith}
-use Rattle.std.specs.Prelude.{All, Contains, slice_index_or}
-use Rattle.explore.specs.Explorations.{IsOneOf}
+use Rattle.std.specs.Prelude.{Contains, slice_index_or}
+use Rattle.pareto_front.specs.Offers.{IsOneOf}
 
 pub one-left : {A : Type 0} (xs ys : List A) (x : A) → IsOneOf xs x → IsOneOf (xs ++ ys) x
 one-left [] ys x is = absurd is
 one-left (z ∷ xs) ys x (inl same) = inl same
 one-left (z ∷ xs) ys x (inr later) = inr (one-left xs ys x later)
-
-pub one-right : {A : Type 0} (xs ys : List A) (x : A) → IsOneOf ys x → IsOneOf (xs ++ ys) x
-one-right [] ys x is = is
-one-right (z ∷ xs) ys x is = inr (one-right xs ys x is)
 
 pub one-split : {A : Type 0} (xs ys : List A) (x : A) → IsOneOf (xs ++ ys) x → IsOneOf xs x ⊎ IsOneOf ys x
 one-split [] ys x is = inr is
@@ -44,9 +40,6 @@ one-contains xs x one = at-one xs x x one
 
 pub contains-one : {A : Type 0} (xs : List A) (x : A) → Contains xs x → IsOneOf xs x
 contains-one xs x (k, below, same) = subst (IsOneOf xs) same (one-at xs k x below)
-
-pub one-all : {A : Type 0} (P : A → Type 0) (xs : List A) → ((x : A) → IsOneOf xs x → P x) → All P xs
-one-all P xs holds = λ k d below. holds (slice_index_or xs k d) (one-at xs k d below)
 
 pub map-map : {A B C : Type 0} (f : B → C) (g : A → B) (xs : List A) → map f (map g xs) ≡ map (λ (x : A). f (g x)) xs
 map-map f g [] = refl

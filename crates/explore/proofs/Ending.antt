@@ -13,7 +13,7 @@ use Rattle.sd_base.proofs.LoopRates.{one-rate}
 use Rattle.storage.specs.BoundedNets.{bound}
 use Rattle.storage.specs.CapacityOrder.{no_later}
 use Rattle.storage.specs.Distributions.{AtMost, IsDistribution, storage_of}
-use Rattle.storage.specs.ParetoPoints.{IsFront, IsPareto, IsReached, Reaches, no_pair}
+use Rattle.storage.specs.ParetoPoints.{IsFront, IsPareto, IsReachedPair, Reaches, no_pair}
 use Rattle.storage.specs.ClosedLists.{AgreesOn, Entry, HasEntry, IsClosed, IsFrontOver, entry_at, no_entry}
 use Rattle.storage.specs.Steps.{IsOnGrid}
 use Rattle.storage.proofs.Covers.{net-above, net-bounds}
@@ -21,12 +21,12 @@ use Rattle.storage.proofs.Fits.{within-lawful}
 use Rattle.storage.proofs.FileChannels.{plain-no_spaces}
 use Rattle.storage.proofs.FrontsFromMembers.{AreExact, front-over, less_on, no_less, pareto-listed}
 use Rattle.pareto_front.specs.declared.point.Point.{Point}
-use Rattle.pareto_front.specs.Offers.{AreAbove, AreInOrder as AreRising, Covers, IsCoveredBy, IsOneOf as IsOffer, Offer}
+use Rattle.pareto_front.specs.Offers.{AreAbove, AreInOrder as AreRising, Covers, IsCoveredBy, IsOneOf, Offer}
 use Rattle.pareto_front.specs.Points.{offer_of}
 use Rattle.explore.specs.declared.exploration.Member.{Member}
 use Rattle.levels.specs.Visits.{led_by, visited}
 use Rattle.explore.specs.Reachable.{IsExplorable, IsReachable, stepped}
-use Rattle.explore.specs.Explorations.{AreInOrder, IsExploration, IsOneOf, ShowsChannel, capacities_of, pair_of}
+use Rattle.explore.specs.Explorations.{AreInOrder, IsExploration, ShowsChannel, capacities_of, pair_of}
 use Rattle.explore.specs.inside.Searches.{IsEnded, IsNoted, offer_for, offers_of, visits_of}
 use Rattle.explore.proofs.Elements.{at-one, contains-one, map-map, one-at, one-contains, one-map, one-unmap}
 use Rattle.explore.proofs.Searching.{entry-of, entry-visit, has-contains, led-member, noted-at, noted-of, visited-members}
@@ -39,43 +39,43 @@ zero-test n =
     (λ (h : (n == 0) ≡ false). inr (h, ⊎_elim (λ (less : n < 1). absurd (true≢false (sym ((Decides-eqb n 0).1 (omega arith)) ∙ h))) (λ (some : 1 ≤ n). some) (cases_lt n 1)))
     (cases_Bool (n == 0))
 
-pub offer-there : (net : Net) (ms : List Member) (m : Member) → IsOneOf ms m → 1 ≤ m.rate.num → IsOffer (offers_of net ms) (offer_for net m)
+pub offer-there : (net : Net) (ms : List Member) (m : Member) → IsOneOf ms m → 1 ≤ m.rate.num → IsOneOf (offers_of net ms) (offer_for net m)
 offer-there net [] m is some = absurd is
 offer-there net (x ∷ ms) m is some = at (zero-test x.rate.num) (λ later. offer-there net ms m later some)
   where
-    at : (((x.rate.num == 0) ≡ true) × (x.rate.num ≡ 0)) ⊎ (((x.rate.num == 0) ≡ false) × (1 ≤ x.rate.num)) → (IsOneOf ms m → IsOffer (offers_of net ms) (offer_for net m)) → IsOffer (offers_of net (x ∷ ms)) (offer_for net m)
+    at : (((x.rate.num == 0) ≡ true) × (x.rate.num ≡ 0)) ⊎ (((x.rate.num == 0) ≡ false) × (1 ≤ x.rate.num)) → (IsOneOf ms m → IsOneOf (offers_of net ms) (offer_for net m)) → IsOneOf (offers_of net (x ∷ ms)) (offer_for net m)
     at (inl test) rest = rw test.0 (⊎_elim (λ (same : x ≡ m). absurd (let none : m.rate.num ≡ 0 = subst (λ (y : Member). y.rate.num ≡ 0) same test.1 in omega arith)) rest is)
     at (inr test) rest = rw test.0 (⊎_elim (λ (same : x ≡ m). inl (ap (offer_for net) same)) (λ (later : IsOneOf ms m). inr (rest later)) is)
 
 abbrev pub IsOfferOf : Net → List Member → Offer → Type 0
 IsOfferOf net ms o = (m : Member) × IsOneOf ms m × (offer_for net m ≡ o) × (1 ≤ m.rate.num)
 
-pub offer-from : (net : Net) (ms : List Member) (o : Offer) → IsOffer (offers_of net ms) o → IsOfferOf net ms o
+pub offer-from : (net : Net) (ms : List Member) (o : Offer) → IsOneOf (offers_of net ms) o → IsOfferOf net ms o
 offer-from net [] o is = absurd is
 offer-from net (x ∷ ms) o is = at (zero-test x.rate.num) (λ later. offer-from net ms o later)
   where
     further : IsOfferOf net ms o → IsOfferOf net (x ∷ ms) o
     further found = (found.0, inr found.1, found.2, found.3)
 
-    at : (((x.rate.num == 0) ≡ true) × (x.rate.num ≡ 0)) ⊎ (((x.rate.num == 0) ≡ false) × (1 ≤ x.rate.num)) → (IsOffer (offers_of net ms) o → IsOfferOf net ms o) → IsOfferOf net (x ∷ ms) o
+    at : (((x.rate.num == 0) ≡ true) × (x.rate.num ≡ 0)) ⊎ (((x.rate.num == 0) ≡ false) × (1 ≤ x.rate.num)) → (IsOneOf (offers_of net ms) o → IsOfferOf net ms o) → IsOfferOf net (x ∷ ms) o
     at (inl test) rest = further (rest (rw test.0 at is))
-    at (inr test) rest = ⊎_elim (λ (same : offer_for net x ≡ o). (x, inl refl, same, test.1)) (λ (later : IsOffer (offers_of net ms) o). further (rest later)) (rw test.0 at is)
+    at (inr test) rest = ⊎_elim (λ (same : offer_for net x ≡ o). (x, inl refl, same, test.1)) (λ (later : IsOneOf (offers_of net ms) o). further (rest later)) (rw test.0 at is)
 
-pub to-offer : (os : List Offer) (o : Offer) → IsOneOf os o → IsOffer os o
+pub to-offer : (os : List Offer) (o : Offer) → IsOneOf os o → IsOneOf os o
 to-offer [] o is = is
 to-offer (p ∷ os) o (inl same) = inl same
 to-offer (p ∷ os) o (inr later) = inr (to-offer os o later)
 
 -- of offers in order, the one with the storage and the rate of another one is the one that covers it
 
-above-one : (p : Offer) (ps : List Offer) (q : Offer) → AreAbove p ps → IsOffer ps q → (p.storage < q.storage) × (p.rate.num * q.rate.den < q.rate.num * p.rate.den)
+above-one : (p : Offer) (ps : List Offer) (q : Offer) → AreAbove p ps → IsOneOf ps q → (p.storage < q.storage) × (p.rate.num * q.rate.den < q.rate.num * p.rate.den)
 above-one p [] q above is = absurd is
 above-one p (r ∷ ps) q above (inl same) = subst (λ (x : Offer). (p.storage < x.storage) × (p.rate.num * x.rate.den < x.rate.num * p.rate.den)) same (above.0, above.1)
 above-one p (r ∷ ps) q above (inr later) =
     let next = above-one r ps q above.2 later in
     (omega (arith, above.0, next.0), less_on p.rate.num p.rate.den r.rate.num r.rate.den q.rate.num q.rate.den p.rate.positive r.rate.positive q.rate.positive above.1 (omega (arith, next.1)))
 
-covering-one : (ps : List Offer) (o : Offer) → IsCoveredBy ps o → (q : Offer) × IsOffer ps q × Covers q o
+covering-one : (ps : List Offer) (o : Offer) → IsCoveredBy ps o → (q : Offer) × IsOneOf ps q × Covers q o
 covering-one [] o covered = absurd covered
 covering-one (p ∷ ps) o (inl covers) = (p, inl refl, covers)
 covering-one (p ∷ ps) o (inr later) = let found = covering-one ps o later in (found.0, inr found.1, found.2)
@@ -84,7 +84,7 @@ rest-rising : (p : Offer) (ps : List Offer) → AreAbove p ps → AreRising ps
 rest-rising p [] above = tt
 rest-rising p (q ∷ ps) above = above.2
 
-same-covers : (ps : List Offer) (p o : Offer) → AreRising ps → IsOffer ps p → IsCoveredBy ps o → o.storage ≡ p.storage → o.rate.num * p.rate.den ≡ p.rate.num * o.rate.den → Covers p o
+same-covers : (ps : List Offer) (p o : Offer) → AreRising ps → IsOneOf ps p → IsCoveredBy ps o → o.storage ≡ p.storage → o.rate.num * p.rate.den ≡ p.rate.num * o.rate.den → Covers p o
 same-covers [] p o order is covered storage rate = absurd is
 same-covers (q ∷ ps) p o order (inl same) (inl covers) storage rate = subst (λ (x : Offer). Covers x o) same covers
 same-covers (q ∷ ps) p o order (inl same) (inr later) storage rate =
@@ -141,10 +141,7 @@ module _ (net : Net) (laws : Lawful net) (can : IsExplorable net) (limits : Limi
   member-rate : (m : Member) → IsOneOf members m → Rate (bound net m.capacities.capacities) m.rate.num m.rate.den
   member-rate m one = (noted-of net limits.states members ended.entries m ended.known.noted one).2.member.rate
 
-  offers : List Offer
-  offers = map offer_of points
-
-  reached-offer : (o : Offer) → IsOffer (map offer_of points) o → (m : Member) × IsOneOf members m × (offer_for net m ≡ o) × Reaches net limits.total o.storage o.rate.num o.rate.den o.capacities
+  reached-offer : (o : Offer) → IsOneOf (map offer_of points) o → (m : Member) × IsOneOf members m × (offer_for net m ≡ o) × Reaches net limits.total o.storage o.rate.num o.rate.den o.capacities
   reached-offer o one =
       let from = offer-from net members o (ended.known.front.among o one) in
       let mine = ended.candidates from.0 from.1 in
@@ -155,7 +152,7 @@ module _ (net : Net) (laws : Lawful net) (can : IsExplorable net) (limits : Limi
       (λ i below.
       let o = one-unmap offer_pair (map offer_of points) (slice_index_or (map offer_pair (map offer_of points)) i no_pair) (one-at (map offer_pair (map offer_of points)) i no_pair below) in
       let reaches = reached-offer o.0 (to-offer (map offer_of points) o.0 o.1) in
-      subst (IsReached net limits.total) o.2 (o.0.capacities, reaches.3))
+      subst (IsReachedPair net limits.total) o.2 (o.0.capacities, reaches.3))
       (λ i below runs.
       let n = noted i below in
       let some : 1 ≤ n.0.rate.num = subst (λ (x : Entry). 1 ≤ x.num) n.2.is runs in

@@ -8,13 +8,14 @@ use Rattle.sd_base.specs.declared.limits.TheConstants.{STORAGE}
 use Rattle.sd_base.specs.Net.{Channel, Net}
 use Rattle.sd_base.specs.Lawful.{Lawful}
 use Rattle.storage.specs.Distributions.{enlarged, storage_of}
-use Rattle.storage.specs.ParetoPoints.{Beats, IsFront, IsPareto, IsReached, Pair, Reaches, no_pair}
+use Rattle.storage.specs.ParetoPoints.{Beats, IsFront, IsPareto, IsReachedPair, Pair, Reaches, no_pair}
 use Rattle.storage.proofs.Fits.{within-lawful}
 use Rattle.storage.proofs.FileChannels.{plain-no_spaces}
 use Rattle.pareto_front.specs.declared.point.Point.{Point}
 use Rattle.explore.specs.declared.exploration.Member.{Member}
 use Rattle.explore.specs.Reachable.{IsExplorable, IsReachable, corner, next, stepped}
-use Rattle.explore.specs.Explorations.{IsExploration, IsOneOf, IsPoint, capacities_of, pair_of}
+use Rattle.pareto_front.specs.Offers.{IsOneOf}
+use Rattle.explore.specs.Explorations.{IsExploration, IsPoint, capacities_of, pair_of}
 use Rattle.explore.specs.declared.extent.Extent.{Extent}
 use Rattle.explore.specs.declared.extent.Extent.TheVariants.{Limit, Fastest}
 use Rattle.explore.specs.declared.search.Search.{Search}
@@ -52,7 +53,7 @@ reaches-down net storage limit t p q ds low is = record { distribution = is.dist
 
 -- the front within a storage is that within a limit above it, if one of its pairs has a rate that none passes
 module _ (net : Net) (storage limit : ℕ) (low : storage ≤ limit) (pairs : List Pair) (front : IsFront net storage pairs) (k : ℕ) (below : k < length pairs)
-    (top : (p : Pair) → IsReached net limit p → p.num * (slice_index_or pairs k no_pair).den ≤ (slice_index_or pairs k no_pair).num * p.den) where
+    (top : (p : Pair) → IsReachedPair net limit p → p.num * (slice_index_or pairs k no_pair).den ≤ (slice_index_or pairs k no_pair).num * p.den) where
   beaten-late : (a p : Pair) → Beats a p → a.storage ≤ p.storage
   beaten-late a p (inl (less, rate)) = omega (arith, less)
   beaten-late a p (inr (same, rate)) = omega (arith, same)
@@ -92,7 +93,7 @@ module _ (net : Net) (laws : Lawful net) (can : IsExplorable net) (limits : Limi
   }
 
   -- a rate that no lawful net passes is passed by none that is reached
-  top-reached : (p : Point) → IsPoint net (up_to storage limits) p → BoundsAll net p.rate → (other : Pair) → IsReached net limits.total other → other.num * p.rate.den ≤ p.rate.num * other.den
+  top-reached : (p : Point) → IsPoint net (up_to storage limits) p → BoundsAll net p.rate → (other : Pair) → IsReachedPair net limits.total other → other.num * p.rate.den ≤ p.rate.num * other.den
   top-reached p is bounds other reached =
       let mine = is.reaches.distribution in
       bounds reached.0 other.num other.den

@@ -12,8 +12,9 @@ use Rattle.storage.specs.BoundedNets.{bound}
 use Rattle.storage.specs.Distributions.{storage_of}
 use Rattle.storage.specs.ClosedLists.{Entry}
 use Rattle.pareto_front.specs.declared.point.Point.{Point}
-use Rattle.pareto_front.specs.Offers.{Covers, IsCoveredBy, IsOneOf as IsOffer, Offer, is_slower}
+use Rattle.pareto_front.specs.Offers.{Covers, IsCoveredBy, IsOneOf, Offer, is_slower}
 use Rattle.pareto_front.specs.Points.{IsFrontOf, IsOffered, left_points, offer_of, put_point}
+use Rattle.pareto_front.proofs.Putting.{one-more}
 use Rattle.guide.specs.declared.rating.Evaluation.{Evaluation}
 use Rattle.guide.specs.declared.rating.Outcome.{Outcome}
 use Rattle.guide.specs.declared.rating.Outcome.TheVariants as outcomes
@@ -24,7 +25,7 @@ use Rattle.storage.proofs.FrontsFromMembers.{no_less}
 use Rattle.std.proofs.lemmas.Bool.{cases_lt}
 use Rattle.explore.proofs.Elements.{one-left}
 use Rattle.explore.proofs.Ending.{offer-there}
-use Rattle.explore.specs.Explorations.{IsOneOf, ShowsChannel, ShowsRate, cycles_in, shows_cycle}
+use Rattle.explore.specs.Explorations.{ShowsChannel, ShowsRate, cycles_in, shows_cycle}
 use Rattle.explore.specs.inside.Searches.{AreKnown, AreNoted, HasTable, IsNoted, entry_of, offer_for, offers_at, offers_of}
 use Rattle.explore.specs.inside.Rated.{IsBest, IsRated, KeepsTable, evaluated_member, member_of, shown_by}
 use Rattle.explore.specs.declared.rated.Rated.{Rated}
@@ -158,31 +159,22 @@ record_of d rate shown = record { capacities = d; rate = rate; shown = shown }
 
 -- a member whose loop wasn't kept is covered: one of less storage has no less rate
 
-covering : (ps : List Offer) (o : Offer) → IsCoveredBy ps o → (p : Offer) × IsOffer ps p × Covers p o
+covering : (ps : List Offer) (o : Offer) → IsCoveredBy ps o → (p : Offer) × IsOneOf ps p × Covers p o
 covering [] o covered = absurd covered
 covering (p ∷ ps) o (inl covers) = (p, inl refl, covers)
 covering (p ∷ ps) o (inr later) = let found = covering ps o later in (found.0, inr found.1, found.2)
 
-covered-by : (ps : List Offer) (p o : Offer) → IsOffer ps p → Covers p o → IsCoveredBy ps o
+covered-by : (ps : List Offer) (p o : Offer) → IsOneOf ps p → Covers p o → IsCoveredBy ps o
 covered-by [] p o is covers = absurd is
 covered-by (q ∷ ps) p o (inl same) covers = inl (subst (λ (x : Offer). Covers x o) (sym same) covers)
 covered-by (q ∷ ps) p o (inr later) covers = inr (covered-by ps p o later covers)
 
-offer-split : (os : List Offer) (o x : Offer) → IsOffer (os ++ o ∷ []) x → IsOffer os x ⊎ (o ≡ x)
-offer-split [] o x (inl same) = inr same
-offer-split [] o x (inr none) = absurd none
-offer-split (y ∷ os) o x (inl same) = inl (inl same)
-offer-split (y ∷ os) o x (inr later) = ⊎_elim (λ (h : IsOffer os x). inl (inr h)) (λ (h : o ≡ x). inr h) (offer-split os o x later)
-
-offer-left : (os more : List Offer) (x : Offer) → IsOffer os x → IsOffer (os ++ more) x
+offer-left : (os more : List Offer) (x : Offer) → IsOneOf os x → IsOneOf (os ++ more) x
 offer-left [] more x is = absurd is
 offer-left (y ∷ os) more x (inl same) = inl same
 offer-left (y ∷ os) more x (inr later) = inr (offer-left os more x later)
 
 module _ (net : Net) (d : Distribution) (e : Evaluation) (total : ℕ) (best : Fraction) (points : List Point) (storage : storage_of net.channels d.capacities ≡ total) (slow : e.rate.num * best.den ≤ best.num * e.rate.den) (ms : List Member) where
-  its-offer : Offer
-  its-offer = offer_for net (evaluated_member d e)
-
   without : e.rate.num ≡ 0 → IsFrontOf (offers_of net ms) (map offer_of points) → IsFrontOf (offers_of net ms ++ offers_of net (evaluated_member d e ∷ [])) (map offer_of points)
   without zero was = subst (λ (xs : List Offer). IsFrontOf (offers_of net ms ++ xs) (map offer_of points)) (sym (no-offer net (evaluated_member d e) (eq-eqb e.rate.num 0 zero))) (subst (λ (xs : List Offer). IsFrontOf xs (map offer_of points)) (sym (append-nil (offers_of net ms))) was)
 
@@ -210,7 +202,7 @@ module _ (net : Net) (d : Distribution) (e : Evaluation) (total : ℕ) (best : F
       more : IsFrontOf (offers_of net ms ++ offer_for net (evaluated_member d e) ∷ []) (map offer_of points)
       more = record {
         order = was.order;
-        covers = λ x is. ⊎_elim (λ (h : IsOffer (offers_of net ms) x). was.covers x h) (λ (h : offer_for net (evaluated_member d e) ≡ x). subst (IsCoveredBy (map offer_of points)) h by) (offer-split (offers_of net ms) (offer_for net (evaluated_member d e)) x is);
+        covers = λ x is. ⊎_elim (λ (h : IsOneOf (offers_of net ms) x). was.covers x h) (λ (h : offer_for net (evaluated_member d e) ≡ x). subst (IsCoveredBy (map offer_of points)) h by) (one-more (offers_of net ms) (offer_for net (evaluated_member d e)) x is);
         among = λ p is. offer-left (offers_of net ms) (offer_for net (evaluated_member d e) ∷ []) p (was.among p is);
       }
 

@@ -2,7 +2,7 @@
 use Rattle.std.proofs.Common.{◌≡◌, ℕ, ◌+◌, ◌<◌, List, [], ◌∷◌, ◌++◌, Result, drop, length, sym, ap, ◌∙◌, arith}
 use Rattle.std.specs.Prelude.{slice_index_or}
 use Rattle.std.proofs.lemmas.List.{drop_more, length-append}
-use Rattle.lasso.specs.declared.error.RunError.{RunError}
+use Rattle.lasso.specs.RunError.{RunError}
 use Rattle.explore.specs.declared.exploration.Member.{Member}
 use Rattle.explore.specs.declared.level.Answered.{Answered}
 use Rattle.explore.specs.declared.rated.Rated.{Rated}

@@ -3,20 +3,17 @@ use Rattle.std.proofs.Common.{◌≡◌, ℕ, zero, suc, ◌*◌, ◌≤◌, ◌
 use Rattle.std.specs.Prelude.{slice_index_or}
 use Rattle.sd_base.specs.Net.{Net}
 use Rattle.storage.specs.Distributions.{storage_of}
-use Rattle.storage.specs.ParetoPoints.{Pair, IsReached, no_pair}
+use Rattle.storage.specs.ParetoPoints.{Pair, IsReachedPair, no_pair}
 use Rattle.storage.specs.ClosedLists.{Entry, entry_at, IsFrontOver}
 use Rattle.storage.proofs.FrontsFromMembers.{less_on}
 use Rattle.pareto_front.specs.Offers.{Offer, Covers, IsCoveredBy, AreAbove, AreInOrder}
+use Rattle.pareto_front.proofs.Offers.{rest-order}
 
 abbrev pub pair_of : Offer → Pair
 pair_of o = record { storage = o.storage; num = o.rate.num; den = o.rate.den }
 
 abbrev at : List Offer → ℕ → Pair
 at ps i = slice_index_or (map pair_of ps) i no_pair
-
-order-rest : (p : Offer) (ps : List Offer) → AreAbove p ps → AreInOrder ps
-order-rest p [] above = tt
-order-rest p (q ∷ qs) above = above.2
 
 pub den-at : (ps : List Offer) (j : ℕ) → j < length (map pair_of ps) → 1 ≤ (at ps j).den
 den-at [] j below = absurd (omega arith)
@@ -32,7 +29,7 @@ rises : (ps : List Offer) → AreInOrder ps → (i j : ℕ) → i < j → j < le
 rises [] order i j less below = absurd (omega arith)
 rises (p ∷ ps) order i zero less below = absurd (omega arith)
 rises (p ∷ ps) order zero (suc j) less below = above-at p ps order j (omega arith)
-rises (p ∷ ps) order (suc i) (suc j) less below = rises ps (order-rest p ps order) i j (omega arith) (omega arith)
+rises (p ∷ ps) order (suc i) (suc j) less below = rises ps (rest-order p ps order) i j (omega arith) (omega arith)
 
 covering-at : (ps : List Offer) (o : Offer) → IsCoveredBy ps o → (k : ℕ) × (k < length (map pair_of ps)) × ((at ps k).storage ≤ o.storage) × (o.rate.num * (at ps k).den ≤ (at ps k).num * o.rate.den)
 covering-at [] o covered = absurd covered
@@ -45,7 +42,7 @@ pub record IsOffered (net : Net) (e : Entry) (ps : List Offer) : Type 0 where
   pub den : offer.rate.den ≡ e.den
   pub covered : IsCoveredBy ps offer
 
-pub front-of_offers : (net : Net) (limit : ℕ) (es : List Entry) (ps : List Offer) → AreInOrder ps → ((i : ℕ) → i < length (map pair_of ps) → IsReached net limit (at ps i)) → ((i : ℕ) → i < length es → 1 ≤ (entry_at es i).num → IsOffered net (entry_at es i) ps) → IsFrontOver net limit es (map pair_of ps)
+pub front-of_offers : (net : Net) (limit : ℕ) (es : List Entry) (ps : List Offer) → AreInOrder ps → ((i : ℕ) → i < length (map pair_of ps) → IsReachedPair net limit (at ps i)) → ((i : ℕ) → i < length es → 1 ≤ (entry_at es i).num → IsOffered net (entry_at es i) ps) → IsFrontOver net limit es (map pair_of ps)
 front-of_offers net limit es ps order reached offered = record {
   storage = λ i j less below. (rises ps order i j less below).0;
   rate = λ i j less below. (rises ps order i j less below).1;

@@ -16,7 +16,8 @@ use Rattle.levels.proofs.Elements.{contains-cases, contains-map, contains-none, 
 use Rattle.explore.specs.declared.exploration.Member.{Member}
 use Rattle.explore.specs.declared.search.Search.{Search}
 use Rattle.explore.specs.Reachable.{IsExplorable, corner, stepped}
-use Rattle.explore.specs.Explorations.{CountsFew, IsLedTo, IsOneOf, capacities_of}
+use Rattle.pareto_front.specs.Offers.{IsOneOf}
+use Rattle.explore.specs.Explorations.{CountsFew, IsLedTo, capacities_of}
 use Rattle.explore.specs.inside.Searches.{AreNoted, IsCandidate, IsNoted, IsSearch, visits_of}
 use Rattle.explore.proofs.Elements.{contains-one, one-contains}
 use Rattle.explore.proofs.Stepping.{child-candidate}
@@ -102,9 +103,6 @@ module _ (net : Net) (states : ℕ) (ms : List Member) (es : List Entry) (are : 
 module _ (net : Net) (can : IsExplorable net) (limits : Limits) (floor : ℕ) (taken : List (List (Option ℕ))) (s : Search) (search : IsSearch net limits floor taken s) where
   pub search-limit : s.levels.bounds.total ≡ limits.total
   search-limit = ap (λ (b : Bounds). b.total) search.bounds
-
-  pub search-done : List (List (Option ℕ))
-  search-done = visited (visits_of search.entries) ++ taken
 
   pub search-candidate : (ds : List (Option ℕ)) → Contains (visited (visits_of search.entries) ++ taken) ds → IsCandidate net limits.total ds
   search-candidate ds one =

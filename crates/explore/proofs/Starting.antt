@@ -4,7 +4,7 @@ use Rattle.std.specs.Prelude.{slice_get, slice_index_or}
 use Rattle.sd_base.specs.Net.{Net}
 use Rattle.sd_base.specs.Lawful.{Lawful}
 use Rattle.sd_base.specs.Untimed.{IsBlockedBy, IsLive}
-use Rattle.liveness.specs.RoundAnswers.{IsReached}
+use Rattle.liveness.specs.RoundAnswers.{AreReachedCounts}
 use Rattle.storage.specs.BoundedNets.{bound}
 use Rattle.storage.specs.Distributions.{AtMost}
 use Rattle.explore.specs.declared.exploration.Member.{Member}
@@ -15,15 +15,15 @@ use Rattle.explore.specs.Explorations.{IsMember, ShowsRate}
 use Rattle.explore.specs.inside.Starts.{AreStarts, IsHinted, counts_at}
 use Rattle.explore.proofs.Reaching.{looped-live}
 
-blocked-reached : (net : Net) (counts : List ℕ) (lacks : List (Option ℕ)) → IsBlockedBy net counts lacks → IsReached net counts
+blocked-reached : (net : Net) (counts : List ℕ) (lacks : List (Option ℕ)) → IsBlockedBy net counts lacks → AreReachedCounts net counts
 blocked-reached net counts lacks is = record { actors = is.actors; order = is.ends.order; fires = is.ends.fires; reached = is.ends.counts }
 
 module _ (net : Net) (laws : Lawful net) (starts : Starts) (are : AreStarts net starts) (ds : List (Option ℕ)) (lawful : Lawful (bound net ds))
-    (more : (es : List (Option ℕ)) (counts : List ℕ) → AtMost es ds → IsReached (bound net es) counts → IsReached (bound net ds) counts) (live : (es : List (Option ℕ)) → AtMost es ds → IsLive (bound net es) → IsLive (bound net ds)) where
-  pub member-reached : (states : ℕ) (m : Member) → IsMember net states m → AtMost m.capacities.capacities ds → IsReached (bound net ds) (counts_at starts m.shown)
+    (more : (es : List (Option ℕ)) (counts : List ℕ) → AtMost es ds → AreReachedCounts (bound net es) counts → AreReachedCounts (bound net ds) counts) (live : (es : List (Option ℕ)) → AtMost es ds → IsLive (bound net es) → IsLive (bound net ds)) where
+  pub member-reached : (states : ℕ) (m : Member) → IsMember net states m → AtMost m.capacities.capacities ds → AreReachedCounts (bound net ds) (counts_at starts m.shown)
   member-reached states m is most = at m.shown is.shown
     where
-      at : (shown : Shown) → ShowsRate net m.capacities.capacities states m.rate shown → IsReached (bound net ds) (counts_at starts shown)
+      at : (shown : Shown) → ShowsRate net m.capacities.capacities states m.rate shown → AreReachedCounts (bound net ds) (counts_at starts shown)
       at (Cycle cycle) (table, found, critical, same) =
           are.whole (bound net ds) lawful refl (live m.capacities.capacities most (looped-live net laws m.capacities.capacities m.rate table cycle is.rate critical same))
       at (Blocked counts) (lacks, blocked, none) = more m.capacities.capacities counts most (blocked-reached (bound net m.capacities.capacities) counts lacks blocked)

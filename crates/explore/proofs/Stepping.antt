@@ -6,6 +6,7 @@ use Rattle.sd_base.specs.Net.{Net, channel_at}
 use Rattle.sd_base.specs.Lawful.{Lawful}
 use Rattle.sd_base.specs.declared.numbers.Fraction.{Fraction}
 use Rattle.critical.specs.Spaces.{Has, IsSpaceAt, no_step}
+use Rattle.critical.proofs.Storage.{chain-places}
 use Rattle.storage.specs.BoundedNets.{HasNoSpaces, bound}
 use Rattle.storage.specs.Distributions.{storage_of}
 use Rattle.storage.specs.ShownSpaces.{ShowsSpace}
@@ -20,7 +21,6 @@ use Rattle.guide.specs.declared.rating.Outcome.{Outcome}
 use Rattle.guide.specs.declared.rating.Outcome.TheVariants as outcomes
 use Rattle.guide.specs.Evaluations.{IsEvaluable, IsEvaluated, IsOutcome}
 use Rattle.guide.specs.Guides.{IsInGuide}
-use Rattle.guide.proofs.Evaluating.{chain-places}
 use Rattle.explore.specs.Reachable.{IsExplorable, next, stepped}
 use Rattle.explore.specs.inside.Searches.{IsCandidate}
 

@@ -4,10 +4,9 @@ use Rattle.std.specs.Prelude.{IfOk, Result, Ok, Err, map}
 use Rattle.sd_base.specs.Net.{Net}
 use Rattle.storage.specs.ClosedLists.{Entry}
 use Rattle.pareto_front.specs.declared.point.Point.{Point}
-use Rattle.pareto_front.specs.Offers.{Offer}
+use Rattle.pareto_front.specs.Offers.{IsOneOf, Offer}
 use Rattle.pareto_front.specs.Points.{offer_of}
 use Rattle.explore.specs.declared.exploration.Member.{Member}
-use Rattle.explore.specs.Explorations.{IsOneOf}
 use Rattle.explore.specs.inside.Searches.{AreKnown, IsCandidate}
 use Rattle.explore.proofs.Elements.{one-map}
 use Rattle.explore.proofs.Ending.{offer-from, to-offer}

@@ -7,7 +7,7 @@ use Rattle.sd_base.specs.declared.limits.Limits.{Limits}
 use Rattle.sd_base.specs.declared.limits.TheConstants.{STORAGE}
 use Rattle.sd_base.specs.Net.{Channel, Net, nowhere}
 use Rattle.sd_base.specs.Lawful.{Lawful}
-use Rattle.lasso.specs.declared.error.RunError.{RunError}
+use Rattle.lasso.specs.RunError.{RunError}
 use Rattle.storage.specs.declared.distribution.Distribution.{Distribution}
 use Rattle.storage.specs.ClosedLists.{Entry}
 use Rattle.storage.specs.Distributions.{AtMost, storage_of}
@@ -30,7 +30,7 @@ use Rattle.explore.specs.declared.exploration.Shown.TheVariants.{Cycle, Blocked}
 use Rattle.explore.specs.declared.level.Answered.{Answered}
 use Rattle.explore.specs.declared.search.Search.{Search}
 use Rattle.explore.specs.Reachable.{IsExplorable}
-use Rattle.explore.specs.Explorations.{IsOneOf, IsRefusal, capacities_of, cycles_in, shows_cycle}
+use Rattle.explore.specs.Explorations.{IsRefusal, capacities_of, cycles_in, shows_cycle}
 use Rattle.explore.specs.inside.Errors.{error_of}
 use Rattle.explore.specs.inside.Levels.{IsEvaluation, IsVisitable, most_loops, sum_of}
 use Rattle.explore.specs.inside.Searches.{AreKnown, IsAnswerOf, IsCandidate, IsEnded, IsSearch, IsTurn, answered_of, entry_of, visits_of}
@@ -38,7 +38,7 @@ use Rattle.explore.specs.inside.Rated.{IsBest, IsBestOf, evaluated_member}
 use Rattle.explore.specs.declared.rated.Rated.{Rated}
 use Rattle.sd_base.specs.declared.numbers.Fraction.{Fraction}
 use Rattle.pareto_front.specs.Points.{offer_of}
-use Rattle.pareto_front.specs.Offers.{Offer}
+use Rattle.pareto_front.specs.Offers.{IsOneOf, Offer}
 use Rattle.explore.specs.inside.Starts.{IsHinted}
 use Rattle.explore.proofs.Elements.{map-map, one-contains, one-map, one-split}
 use Rattle.explore.proofs.Ending.{offer-from, to-offer}

@@ -7,7 +7,7 @@ use Rattle.sd_base.specs.Rates.{Rate}
 use Rattle.sd_base.specs.Untimed.{IsBlockedBy, IsLive}
 use Rattle.firing.specs.declared.table.LoopTable.{LoopTable}
 use Rattle.lasso.specs.LoopAnswers.{IsFound, IsRunRefusal}
-use Rattle.lasso.specs.declared.error.RunError.TheVariants as causes
+use Rattle.lasso.specs.RunError.TheVariants as causes
 use Rattle.critical.specs.CriticalCycles.{IsCriticalCycleOf}
 use Rattle.critical.specs.Spaces.{IsSpaceAt}
 use Rattle.storage.specs.BoundedNets.{bound}
@@ -17,6 +17,7 @@ use Rattle.storage.specs.ParetoPoints.{IsFront, Pair, Reaches}
 use Rattle.storage.specs.ShownSpaces.{ShowsSpace}
 use Rattle.storage.specs.StorageOrder as storage_order
 use Rattle.storage.specs.Steps.{IsCorner}
+use Rattle.pareto_front.specs.Offers.{IsOneOf}
 use Rattle.pareto_front.specs.declared.point.Point.{Point}
 use Rattle.explore.specs.declared.error.ExploreError.{ExploreError}
 use Rattle.explore.specs.declared.error.ExploreError.TheVariants.{StatesSpent, TooManyStarts, DistributionsSpent, NoMemory}
@@ -43,11 +44,6 @@ ShowsChannel net ds (Blocked counts) c = ShowsSpace net ds (slice_index counts) 
 pub record IsMember (net : Net) (states : ℕ) (m : Member) : Type 0 where
   pub rate : Rate (bound net m.capacities.capacities) m.rate.num m.rate.den
   pub shown : ShowsRate net m.capacities.capacities states m.rate m.shown
-
--- x is one of the list
-abbrev pub IsOneOf : {A : Type 0} → List A → A → Type 0
-IsOneOf [] x = ⊥
-IsOneOf (y ∷ ys) x = (y ≡ x) ⊎ IsOneOf ys x
 
 -- the distributions of members
 abbrev pub capacities_of : List Member → List (List (Option ℕ))

@@ -7,7 +7,8 @@ use Rattle.pareto_front.specs.declared.point.Point.{Point}
 use Rattle.explore.specs.declared.exploration.Member.{Member}
 use Rattle.explore.specs.declared.extent.Extent.{Extent}
 use Rattle.explore.specs.declared.extent.Extent.TheVariants.{Limit, Fastest}
-use Rattle.explore.specs.Explorations.{IsExploration, IsOneOf, IsPoint, pair_of}
+use Rattle.pareto_front.specs.Offers.{IsOneOf}
+use Rattle.explore.specs.Explorations.{IsExploration, IsPoint, pair_of}
 
 -- the limits with another total
 abbrev pub up_to : ℕ → Limits → Limits

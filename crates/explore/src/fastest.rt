@@ -2,7 +2,7 @@
 ghost use Rattle.std.specs.Prelude.{◌≡◌, ◌*◌, ◌≤◌, ℕ, true, IfOk};
 ghost use Rattle.sd_base.specs.declared.limits.TheConstants.{STORAGE};
 ghost use Rattle.pareto_front.specs.declared.point.Point.{Point as APoint};
-ghost use Rattle.explore.specs.Explorations.{IsOneOf};
+ghost use Rattle.pareto_front.specs.Offers.{IsOneOf};
 ghost use Rattle.explore.specs.Reachable.{IsExplorable};
 ghost use Rattle.explore.specs.Ceilings.{BoundsAll};
 ghost use Rattle.explore.specs.inside.Levels.{WiresAll};

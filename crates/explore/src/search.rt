@@ -3,7 +3,8 @@ ghost use Rattle.sd_base.specs.declared.limits.TheConstants.{DISTRIBUTIONS, LEAS
 ghost use Rattle.storage.specs.Distributions.{storage_of};
 ghost use Rattle.storage.specs.Steps.{IsCorner};
 ghost use Rattle.levels.specs.Frontiers.{channel_step};
-ghost use Rattle.explore.specs.Explorations.{CountsFew, IsExploration, IsOneOf, IsRefusal, cycles_in};
+ghost use Rattle.pareto_front.specs.Offers.{IsOneOf};
+ghost use Rattle.explore.specs.Explorations.{CountsFew, IsExploration, IsRefusal, cycles_in};
 ghost use Rattle.explore.specs.Extents.{Explores};
 ghost use Rattle.explore.specs.Reachable.{IsExplorable};
 ghost use Rattle.pareto_front.specs.declared.point.Point.{Point as APoint};

@@ -1,5 +1,5 @@
 ghost use Rattle.std.specs.Prelude.{◌≡◌, ℕ, IfOk};
-ghost use Rattle.liveness.specs.RoundAnswers.{IsReached};
+ghost use Rattle.liveness.specs.RoundAnswers.{AreReachedCounts};
 ghost use Rattle.storage.specs.BoundedNets.{bound};
 ghost use Rattle.guide.specs.Evaluations.{IsEvaluable};
 ghost use Rattle.explore.specs.inside.Starts.{AreStarts, IsHinted, counts_at};
@@ -39,7 +39,7 @@ impl Starts {
         requires starts { AreStarts (F.net net.now) self.now }
         requires fits { IsEvaluable (F.net net.now) found.now.capacities.capacities }
         requires hinted { (states : ℕ) × IsHinted (F.net net.now) states members.now found.now.hint found.now.capacities.capacities }
-        ensures { IsReached (bound (F.net net.now) found.now.capacities.capacities) result.now }
+        ensures { AreReachedCounts (bound (F.net net.now) found.now.capacities.capacities) result.now }
     {
         know_laws(net);
         counts_are_reached_with_more_room();

@@ -4,7 +4,7 @@ ghost use Rattle.explore.specs.inside.Levels.{HasRun, IsReady};
 use crate::rated::{Rated, keep};
 use fanout::Job;
 use firing::{Firing, Wiring};
-use guide::evaluate_from;
+use guide::{Trial, evaluate_from};
 use lasso::RunError;
 use sd_base::{Fraction, Ledger, Steps};
 use std::alloc::Global;
@@ -30,15 +30,13 @@ impl<'a, F: Firing + Sync, L: Ledger + Send> Job for Task<'a, F, L> {
     ghost ran = { λ old new. HasRun (F.net old.net.now) old.capacities old.states old.best old.steps new.capacities new.steps new.answer };
 
     fn run(&mut self) {
-        let answer = evaluate_from(
-            self.alloc,
-            self.net,
-            &self.capacities,
-            self.wiring,
-            self.counts,
-            self.states,
-            &mut self.steps,
-        );
+        let trial = Trial {
+            net: self.net,
+            capacities: &self.capacities,
+            wiring: self.wiring,
+            counts: self.counts,
+        };
+        let answer = evaluate_from(self.alloc, &trial, self.states, &mut self.steps);
         self.answer = Some(keep(answer, self.best));
     }
 }

@@ -1,6 +1,5 @@
 -- What the machine has read begins some text of the grammar.
 use Rattle.std.proofs.Common.{◌≡◌, ℕ, zero, suc, ◌≤◌, refl, sym, ◌∙◌, ap, subst, false, List, [], ◌∷◌, ◌++◌, append_assoc, append-nil, Some, IsTrue, codes, arith}
-use Rattle.std.proofs.lemmas.Bool.{le-leb}
 use Rattle.file_text.specs.declared.tree.Attribute.{Attribute}
 use Rattle.file_text.specs.declared.class.Class.TheVariants.{Wide}
 use Rattle.file_text.specs.declared.mode.Mark.{Mark}
@@ -16,13 +15,14 @@ use Rattle.file_text.specs.declared.due.Due.TheVariants.{Nothing, Byte}
 use Rattle.file_text.specs.Node.{node, no_node}
 use Rattle.file_text.specs.Grammar.{Each, is_name_byte, IsName}
 use Rattle.file_text.specs.inside.Utf8.{due_behind, due_along}
-use Rattle.file_text.specs.inside.Machine.{class_of, Around, prolog, within, epilog, Opened, open_of, ended, node_of, Holder, declaration, tag, Shape, at_start, in_mark, at_first, in_declaring, at_between, at_markup, in_comment, in_name, at_gap, in_attribute, at_named, at_equals, in_value, in_value_reference, at_valued, at_slash, at_ending, in_text_reference, in_closing, table, follow, walk, IsTidyBetween, IsTidyComment, IsTidyShape, IsProper, IsTidy}
+use Rattle.file_text.specs.inside.Machine.{Around, prolog, within, epilog, Opened, open_of, ended, node_of, Holder, declaration, tag, Shape, at_start, in_mark, at_first, in_declaring, at_between, at_markup, in_comment, in_name, at_gap, in_attribute, at_named, at_equals, in_value, in_value_reference, at_valued, at_slash, at_ending, in_text_reference, in_closing, table, follow, walk, IsTidyBetween, IsTidyComment, IsTidyShape, IsProper, IsTidy}
 use Rattle.file_text.proofs.Utf8Laws.{byte_due}
 use Rattle.file_text.proofs.MachineWalks.{Along}
 use Rattle.file_text.proofs.Names.{each_right}
 use Rattle.file_text.proofs.OverElements.{name_bytes, over_matched}
 use Rattle.file_text.proofs.ReadSoFar.{IsOpen, Reached, IsHolder, Tagged, IsClosing, Has}
 use Rattle.file_text.proofs.TextsEnd.{Finishes, by_way, Env, finish_between, finish_ended, finish_name, finish_gap, finish_valued, finish_value, finish_equals, finish_named, finish_attribute}
+use Rattle.file_text.proofs.WholeCharacters.{wide-class}
 
 -- the rest of a character
 continued : ℕ → List ℕ
@@ -57,15 +57,12 @@ unfolding fill
 fill_wide Nothing proper = tt
 fill_wide (Byte low high more) proper = (proper.0, continued_wide more)
 
-wide : (b : ℕ) → 128 ≤ b → class_of b ≡ Wide
-wide b high = rw (le-leb 128 b high) refl
-
 -- bytes of characters from U+0080 up, in a shape that collects them, and in one that they leave as it is
 over_growing : (a : Around) (f : List ℕ → Shape) → ((n : List ℕ) (b : ℕ) → follow false (table a (f n) Wide b) ≡ Some (a, f (n ++ b ∷ [])))
     → (n t : List ℕ) → AreWide t → Along false a (f n) t a (f (n ++ t))
 over_growing a f grows n [] h rest = rw append-nil refl
 over_growing a f grows n (b ∷ t) h rest =
-    ap (λ c. walk false (follow false (table a (f n) c b)) (t ++ rest)) (wide b h.0)
+    ap (λ c. walk false (follow false (table a (f n) c b)) (t ++ rest)) (wide-class b h.0)
     ∙ ap (λ o. walk false o (t ++ rest)) (grows n b)
     ∙ over_growing a f grows (n ++ b ∷ []) t h.1 rest
     ∙ ap (λ m. walk false (Some (a, f m)) rest) (append_assoc n (b ∷ []) t)
@@ -73,7 +70,7 @@ over_growing a f grows n (b ∷ t) h rest =
 over_same : (a : Around) (x : Shape) → ((b : ℕ) → follow false (table a x Wide b) ≡ Some (a, x)) → (t : List ℕ) → AreWide t → Along false a x t a x
 over_same a x keeps [] h rest = refl
 over_same a x keeps (b ∷ t) h rest =
-    ap (λ c. walk false (follow false (table a x c b)) (t ++ rest)) (wide b h.0) ∙ ap (λ o. walk false o (t ++ rest)) (keeps b) ∙ over_same a x keeps t h.1 rest
+    ap (λ c. walk false (follow false (table a x c b)) (t ++ rest)) (wide-class b h.0) ∙ ap (λ o. walk false o (t ++ rest)) (keeps b) ∙ over_same a x keeps t h.1 rest
 
 -- a text that grows, with what is due of it
 fill_growing : (d : Due) (a : Around) (f : List ℕ → Shape) (n : List ℕ) → IsProper d → ((m : List ℕ) (b : ℕ) → follow false (table a (f m) Wide b) ≡ Some (a, f (m ++ b ∷ [])))

@@ -14,8 +14,9 @@ use Rattle.file_text.specs.inside.Machine.{class_of, Around, prolog, within, epi
 use Rattle.file_text.proofs.Classes.{Known, known}
 use Rattle.file_text.proofs.ReadSoFar.{IsOpen, Reached, reference_text, Tagged, Valued, IsClosing, Has, Holds}
 use Rattle.file_text.proofs.OneMore.{white_more, open_item, closes}
-use Rattle.file_text.proofs.KeepsText.{After, when_same, keeps_start, keeps_mark, keeps_first, keeps_declaring, keeps_between, keeps_markup, keeps_comment}
+use Rattle.file_text.proofs.KeepsText.{After, keeps_start, keeps_mark, keeps_first, keeps_declaring, keeps_between, keeps_markup, keeps_comment}
 use Rattle.file_text.proofs.KeepsTags.{empties, value_entity, keeps_name, keeps_gap, keeps_valued, keeps_attribute, keeps_named, keeps_equals, keeps_value}
+use Rattle.file_text.proofs.Tidy.{when_tidy}
 
 -- what a further byte makes of an entity's text
 abbrev pub Refers : Reference → ℕ → Referred → Type 0
@@ -128,7 +129,7 @@ leaves_element strict o os u p w t (front, opening, before, (tag_text, inner, is
 matches : (strict : Bool) (o : Opened) (os : List Opened) (x : ℕ) (left t : List ℕ) (b : ℕ) → IsClosing strict (within o os) (x ∷ left) t
     → After strict (cond (eqb x b) (goes (within o os) (in_closing left)) leaves) (t ++ b ∷ [])
 matches strict o os x left t b (u, p, w, before, same, white, inl none, spelled) =
-    when_same (λ s. After strict s (t ++ b ∷ [])) x b (goes (within o os) (in_closing left)) leaves
+    when_tidy (λ s. After strict s (t ++ b ∷ [])) x b (goes (within o os) (in_closing left)) leaves
     (λ e. (u, p ++ x ∷ [], [], before, append_assoc p (x ∷ []) left ∙ same, tt, inl refl, rw (spelled, none, ← e) (simp append_assoc))) tt
 matches strict o os x left t b (u, p, w, before, same, white, inr none, spelled) = cc
 

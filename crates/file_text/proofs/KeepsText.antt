@@ -1,6 +1,6 @@
 -- One more byte between tags or in a comment: what the machine says has been read is still so.
-use Rattle.std.proofs.Common.{◌≡◌, ℕ, suc, inl, inr, refl, sym, ◌∙◌, subst, Bool, true, false, cond, eqb, ltb, List, [], ◌∷◌, ◌++◌, append_assoc, append-nil, length, codes}
-use Rattle.std.proofs.lemmas.Bool.{cases_Bool, eqb-true, eqb-false, ltb-true}
+use Rattle.std.proofs.Common.{◌≡◌, ℕ, suc, inl, inr, refl, sym, ◌∙◌, subst, Bool, true, false, eqb, ltb, List, [], ◌∷◌, ◌++◌, append_assoc, append-nil, length, codes}
+use Rattle.std.proofs.lemmas.Bool.{cases_Bool, eqb-false, ltb-true}
 use Rattle.file_text.specs.declared.class.Class.{Class}
 use Rattle.file_text.specs.declared.class.Class.TheVariants.{Wide, White, Control, Letter, Hyphen, Less, Greater, Slash, Bang, Question, Ampersand}
 use Rattle.file_text.specs.declared.mode.Mark.{Mark}
@@ -15,13 +15,11 @@ use Rattle.file_text.proofs.Classes.{Known}
 use Rattle.file_text.proofs.OverElements.{HasRoom}
 use Rattle.file_text.proofs.ReadSoFar.{Reached, IsStartText, Clean, NoHyphen, Has, Holds}
 use Rattle.file_text.proofs.OneMore.{gap_one, reached_item, open_item, clean_more, body_from_clean, last_same}
+use Rattle.file_text.proofs.Tidy.{when_tidy}
 
 -- what holds where a step leads
 abbrev pub After : Bool → Step → List ℕ → Type 0
 After strict s t = Holds strict (follow strict s) t
-
-pub when_same : (P : Step → Type 0) (b k : ℕ) (s u : Step) → (b ≡ k → P s) → P u → P (cond (eqb b k) s u)
-when_same P b k s u p q = elim (cases_Bool (eqb b k)) [ inl e ↦ rw e (p (eqb-true b k e)) | inr e ↦ rw e q ]
 
 pub from_prolog : (strict : Bool) (a : Around) (t : List ℕ) → a ≡ prolog → Reached strict prolog t → Reached strict a t
 from_prolog strict a t e reached = subst (λ (d : Around). Reached strict d t) (sym e) reached
@@ -50,14 +48,14 @@ keeps_start strict a t White b k (is, none) =
     reached_white strict a t White b k (from_prolog strict a t is (reached_start strict t (inl none))) k.white k.plain
 keeps_start strict a t Less b k (is, none) = (is, ([], inl refl, rw (none, k.code) refl))
 keeps_start strict a t Wide b k (is, none) =
-    when_same (λ s. After strict s (t ++ b ∷ [])) b 0xEF (goes a (in_mark mark_read.First)) leaves (λ e. (is, rw (none, e) refl)) tt
+    when_tidy (λ s. After strict s (t ++ b ∷ [])) b 0xEF (goes a (in_mark mark_read.First)) leaves (λ e. (is, rw (none, e) refl)) tt
 keeps_start strict a t c b k has = tt
 
 pub keeps_mark : (strict : Bool) (a : Around) (m : Mark) (t : List ℕ) (c : Class) (b : ℕ) → Known c b → Has strict a (in_mark m) t → After strict (mark_step a m c b) (t ++ b ∷ [])
 keeps_mark strict a mark_read.First t Wide b k (is, read) =
-    when_same (λ s. After strict s (t ++ b ∷ [])) b 0xBB (goes a (in_mark mark_read.Second)) leaves (λ e. (is, rw (read, e) refl)) tt
+    when_tidy (λ s. After strict s (t ++ b ∷ [])) b 0xBB (goes a (in_mark mark_read.Second)) leaves (λ e. (is, rw (read, e) refl)) tt
 keeps_mark strict a mark_read.Second t Wide b k (is, read) =
-    when_same (λ s. After strict s (t ++ b ∷ [])) b 0xBF (goes a (in_mark mark_read.Whole)) leaves (λ e. (is, rw (read, e) refl)) tt
+    when_tidy (λ s. After strict s (t ++ b ∷ [])) b 0xBF (goes a (in_mark mark_read.Whole)) leaves (λ e. (is, rw (read, e) refl)) tt
 keeps_mark strict a mark_read.Whole t White b k (is, read) =
     reached_white strict a t White b k (from_prolog strict a t is (reached_start strict t (inr read))) k.white k.plain
 keeps_mark strict a mark_read.Whole t Less b k (is, read) = (is, (mark, inr refl, rw (read, k.code) refl))
@@ -75,11 +73,11 @@ keeps_first strict a t c b k has = tt
 
 pub keeps_declaring : (strict : Bool) (a : Around) (d : Declaring) (t : List ℕ) (c : Class) (b : ℕ) → Known c b → Has strict a (in_declaring d) t → After strict (declaring_step a d c b) (t ++ b ∷ [])
 keeps_declaring strict a declaring.Question t Letter b k (is, (u, start, spelled)) =
-    when_same (λ s. After strict s (t ++ b ∷ [])) b 120 (goes a (in_declaring declaring.X)) leaves (λ e. (is, (u, start, rw (spelled, e) (simp append_assoc)))) tt
+    when_tidy (λ s. After strict s (t ++ b ∷ [])) b 120 (goes a (in_declaring declaring.X)) leaves (λ e. (is, (u, start, rw (spelled, e) (simp append_assoc)))) tt
 keeps_declaring strict a declaring.X t Letter b k (is, (u, start, spelled)) =
-    when_same (λ s. After strict s (t ++ b ∷ [])) b 109 (goes a (in_declaring declaring.Xm)) leaves (λ e. (is, (u, start, rw (spelled, e) (simp append_assoc)))) tt
+    when_tidy (λ s. After strict s (t ++ b ∷ [])) b 109 (goes a (in_declaring declaring.Xm)) leaves (λ e. (is, (u, start, rw (spelled, e) (simp append_assoc)))) tt
 keeps_declaring strict a declaring.Xm t Letter b k (is, (u, start, spelled)) =
-    when_same (λ s. After strict s (t ++ b ∷ [])) b 108 (goes a (in_declaring declaring.Xml)) leaves (λ e. (is, (u, start, rw (spelled, e) (simp append_assoc)))) tt
+    when_tidy (λ s. After strict s (t ++ b ∷ [])) b 108 (goes a (in_declaring declaring.Xml)) leaves (λ e. (is, (u, start, rw (spelled, e) (simp append_assoc)))) tt
 keeps_declaring strict a declaring.Xml t White b k (is, (u, start, spelled)) = (
   t,
   b ∷ [],

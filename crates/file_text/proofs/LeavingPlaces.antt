@@ -38,7 +38,7 @@ spelled_stays bytes e n (xs, is) p = elim (cases_order n (length bytes)) [
   | inr (inr gt) ↦ absurd (let within = p.within in omega arith)
 ]
 
-run_one : (strict : Bool) (o : Option State) → run strict o [] ≡ o
+pub run_one : (strict : Bool) (o : Option State) → run strict o [] ≡ o
 run_one strict None = refl
 run_one strict (Some s) = refl
 

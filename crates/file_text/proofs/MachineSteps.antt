@@ -45,7 +45,7 @@ weaken a x b leaves plain = tt
 weaken a x b too_deep plain = absurd plain
 weaken a x b (other_encoding c y) plain = absurd plain
 
-either : (P : Step → Type 0) (t : Bool) (s u : Step) → P s → P u → P (cond t s u)
+pub either : (P : Step → Type 0) (t : Bool) (s u : Step) → P s → P u → P (cond t s u)
 either P true s u p q = p
 either P false s u p q = q
 

@@ -22,10 +22,6 @@ Along strict a x t b y = (rest : List ℕ) → walk strict (Some (a, x)) (t ++ r
 pub stay : (strict : Bool) (a : Around) (x : Shape) → Along strict a x [] a x
 stay strict a x rest = refl
 
--- one byte of a class
-pub one : (strict : Bool) (a : Around) (x : Shape) (d : Around) (y : Shape) (b : ℕ) → follow strict (table a x (class_of b) b) ≡ Some (d, y) → Along strict a x (b ∷ []) d y
-one strict a x d y b e rest = ap (λ o. walk strict o rest) e
-
 -- one piece after another
 pub then : (strict : Bool) (a : Around) (x : Shape) (t : List ℕ) (c : Around) (y : Shape) (u : List ℕ) (d : Around) (z : Shape)
     → Along strict a x t c y → Along strict c y u d z → Along strict a x (t ++ u) d z

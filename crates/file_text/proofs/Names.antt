@@ -1,5 +1,5 @@
 -- Names of attributes that differ, and tests of them.
-use Rattle.std.proofs.Common.{◌≡◌, ◌≢◌, ℕ, inl, inr, refl, sym, ◌∙◌, ap, Bool, true, false, ◌||◌, List, [], ◌∷◌, ◌++◌, bytes_eq, cond}
+use Rattle.std.proofs.Common.{◌≡◌, ◌≢◌, ℕ, inl, inr, refl, sym, ◌∙◌, Bool, true, false, ◌||◌, List, [], ◌∷◌, ◌++◌, bytes_eq}
 use Rattle.std.proofs.lemmas.Slice.Eq.{bytes_eq-Decides}
 use Rattle.std.proofs.lemmas.Bool.{false≢true, cases_Bool}
 use Rattle.file_text.specs.declared.tree.Attribute.{Attribute}
@@ -38,10 +38,6 @@ pub each-append : {X : Type 0} (P : X → Type 0) (xs ys : List X) → Each P xs
 each-append P [] ys p q = q
 each-append P (x ∷ xs) ys p q = (p.0, each-append P xs ys p.1 q)
 
-pub each_left : {X : Type 0} (P : X → Type 0) (xs ys : List X) → Each P (xs ++ ys) → Each P xs
-each_left P [] ys p = tt
-each_left P (x ∷ xs) ys p = (p.0, each_left P xs ys p.1)
-
 pub each_right : {X : Type 0} (P : X → Type 0) (xs ys : List X) → Each P (xs ++ ys) → Each P ys
 each_right P [] ys p = p
 each_right P (x ∷ xs) ys p = each_right P xs ys p.1
@@ -52,35 +48,8 @@ distinct_new [] a rest h = tt
 distinct_new (d ∷ done) a rest h =
     ((λ e. (each_right (λ x. x.name ≢ d.name) done (a ∷ rest) h.0).0 (sym e)), distinct_new done a rest h.1)
 
-pub distinct_left : (xs ys : List Attribute) → AreDistinct (xs ++ ys) → AreDistinct xs
-distinct_left [] ys h = tt
-distinct_left (x ∷ xs) ys h = (each_left (λ z. z.name ≢ x.name) xs ys h.0, distinct_left xs ys h.1)
-
 -- and an attribute that is new among distinct ones is distinct behind them
 pub distinct_one_more : (done : List Attribute) (a : Attribute) → AreDistinct done → IsNew a.name done → AreDistinct (done ++ a ∷ [])
 distinct_one_more [] a h new = (tt, tt)
 distinct_one_more (d ∷ done) a h new =
     (each-append (λ x. x.name ≢ d.name) done (a ∷ []) h.0 (λ e. new.0 (sym e), tt), distinct_one_more done a h.1 new.1)
-
-or_nothing : (x : Bool) → (x || false) ≡ x
-or_nothing true = refl
-or_nothing false = refl
-
-or_assoc : (x y z : Bool) → ((x || y) || z) ≡ (x || (y || z))
-or_assoc true y z = refl
-or_assoc false y z = refl
-
-cond_or : (x y : Bool) → cond x true y ≡ (y || x)
-cond_or true true = refl
-cond_or true false = refl
-cond_or false true = refl
-cond_or false false = refl
-
-any_more : (name : List ℕ) (xs : List Attribute) (x : Attribute) → has_name name (xs ++ x ∷ []) ≡ (has_name name xs || bytes_eq x.name name)
-any_more name [] x = or_nothing (bytes_eq x.name name)
-any_more name (y ∷ xs) x = ap (λ b. bytes_eq y.name name || b) (any_more name xs x) ∙ sym (or_assoc (bytes_eq y.name name) (has_name name xs) (bytes_eq x.name name))
-
--- the names of attributes and one more
-pub has_name_more : (name n : List ℕ) (xs : List Attribute) (x : Attribute) (before : Bool) → x.name ≡ n → before ≡ has_name name xs
-    → cond (bytes_eq n name) true before ≡ has_name name (xs ++ x ∷ [])
-has_name_more name n xs x before same known = rw (known, ← same) (cond_or (bytes_eq x.name name) (has_name name xs) ∙ sym (any_more name xs x))

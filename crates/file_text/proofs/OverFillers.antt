@@ -72,7 +72,7 @@ unfolding table
 over_comment strict a body h rest = over_plain body strict a h rest
 
 -- a plain character between tags
-plain_between : (o : Opened) (os : List Opened) (c : Class) → plain_class c ≡ true → between_step (within o os) c ≡ goes (within o os) at_between
+pub plain_between : (o : Opened) (os : List Opened) (c : Class) → plain_class c ≡ true → between_step (within o os) c ≡ goes (within o os) at_between
 plain_between o os Less e = cc
 plain_between o os Control e = cc
 plain_between o os Ampersand e = cc

@@ -16,22 +16,16 @@ use Rattle.file_text.specs.declared.characters.Run.TheVariants as run_of
 use Rattle.file_text.specs.declared.scanner.Frame.{Frame}
 use Rattle.file_text.specs.declared.scanner.Scanner.{Scanner}
 use Rattle.file_text.specs.Grammar.{Each, is_white, is_plain, is_name_byte}
-use Rattle.file_text.specs.inside.Machine.{class_of, Around, within, Opened, Holder, Shape, at_between, in_comment, in_name, at_gap, in_attribute, at_named, at_equals, in_value, in_value_reference, in_text_reference, in_closing, Step, goes, between_step, name_step, attribute_step, value_step, match_step, table, follow, walk, State, run, start, IsDue}
+use Rattle.file_text.specs.inside.Machine.{class_of, Around, within, Opened, Holder, Shape, at_between, in_comment, in_name, at_gap, in_attribute, at_named, at_equals, in_value, in_value_reference, in_text_reference, in_closing, Step, goes, name_step, attribute_step, value_step, match_step, table, follow, walk, State, run, start, IsDue}
 use Rattle.file_text.specs.inside.Runs.{takes, IsRun, IsPartOfBody, IsPartOfEntity}
 use Rattle.file_text.specs.inside.Seen.{opened_of, stack_on, around_in, around_of}
 use Rattle.file_text.proofs.Classes.{plain_class, name_class, Known, known, by_name}
 use Rattle.file_text.proofs.MachineWalks.{at_white}
 use Rattle.file_text.proofs.TidyRuns.{run_both}
 use Rattle.file_text.proofs.Exact.{run-append}
+use Rattle.file_text.proofs.OverFillers.{plain_between}
 
 -- ---- what the bytes of a run do
-
-text-stays : (o : Opened) (os : List Opened) (c : Class) → plain_class c ≡ true → between_step (within o os) c ≡ goes (within o os) at_between
-text-stays o os White plain = refl
-text-stays o os Control plain = cc
-text-stays o os Less plain = cc
-text-stays o os Ampersand plain = cc
-text-stays o os c plain = refl
 
 -- a byte of a value is plain, and not its quote
 in-value-plain : (quote b : ℕ) → takes (run_of.Value quote) b ≡ true → is_plain b ≡ true
@@ -99,7 +93,7 @@ pub in-text : (a : Around) (o : Opened) (os : List Opened) (bytes : List ℕ) (n
 unfolding at table
 in-text a o os bytes n there is =
     subst (λ (x : Around). run true (Some (at x at_between)) (take n bytes) ≡ Some (at x at_between)) (sym there)
-    (whole (within o os) at_between at_between (take n bytes) is.whole (passes is_plain (within o os) at_between (λ b plain. text-stays o os (class_of b) (sym (known b).plain ∙ plain)) (take n bytes) is.taken))
+    (whole (within o os) at_between at_between (take n bytes) is.whole (passes is_plain (within o os) at_between (λ b plain. plain_between o os (class_of b) (sym (known b).plain ∙ plain)) (take n bytes) is.taken))
 
 -- white in a shape that it leaves as it is
 abbrev pub StaysAtWhite : Shape → Type 0

@@ -1,5 +1,5 @@
 -- The fault that is recognised first: where each one comes, and that it is one.
-use Rattle.std.proofs.Common.{◌≡◌, ℕ, suc, ◌+◌, ◌-◌, ◌<◌, ◌≤◌, ◌⊎◌, inl, inr, refl, sym, ◌∙◌, ap, subst, Bool, true, false, cond, ltb, List, [], ◌∷◌, ◌++◌, length, length-append, take, slice_index, Option, Some, None, codes, arith}
+use Rattle.std.proofs.Common.{◌≡◌, ℕ, suc, ◌+◌, ◌-◌, ◌<◌, ◌≤◌, ◌⊎◌, inl, inr, refl, sym, ◌∙◌, ap, subst, Bool, true, false, ltb, List, [], ◌∷◌, ◌++◌, length, length-append, take, slice_index, Option, Some, None, codes, arith}
 use Rattle.std.proofs.lemmas.Bool.Decides.{nat_tests}
 use Rattle.std.proofs.Math.Seq.{drop-cons}
 use Rattle.std.proofs.lemmas.List.{take_all, take_more, length-take-le, get_or-take, get_or_push}
@@ -19,9 +19,9 @@ use Rattle.file_text.specs.inside.Exits.{IsLiteral, FaultAt, BehindQuote}
 use Rattle.file_text.proofs.MachineWalks.{at_begin}
 use Rattle.file_text.proofs.Tidy.{ascii_after}
 use Rattle.file_text.proofs.ReadSoFar.{Has}
-use Rattle.file_text.proofs.MachineSteps.{IsDeep, Shows, shows, IsBehindLess, LeadsBehind, behind_less}
+use Rattle.file_text.proofs.MachineSteps.{IsDeep, Shows, shows, IsBehindLess, LeadsBehind, behind_less, either}
 use Rattle.file_text.proofs.Exact.{both_parts, tidy_at, has_at, run-append, alive, loose}
-use Rattle.file_text.proofs.LeavingPlaces.{run_more, leaves_at, one_place, spelled_stays}
+use Rattle.file_text.proofs.LeavingPlaces.{run_more, leaves_at, one_place, spelled_stays, run_one}
 use Rattle.file_text.proofs.Encodings.{encoding_in, viable_run, no_encoding, spelled_no_encoding, encoding_same}
 use Rattle.file_text.proofs.Known.{stands_at, known_same}
 
@@ -119,10 +119,6 @@ both-none_spot : (d : Option Due) (o : Option Spot) → o ≡ None → both d o 
 both-none_spot None o e = refl
 both-none_spot (Some d) o e = rw e refl
 
-either_step : (P : Step → Type 0) (t : Bool) (s u : Step) → P s → P u → P (cond t s u)
-either_step P true s u p q = p
-either_step P false s u p q = q
-
 -- the machine refuses a byte
 abbrev pub Refuses : State → ℕ → Type 0
 Refuses s b = (due_after s.due b ≡ None) ⊎ (table s.spot.0 s.spot.1 (class_of b) b ≡ leaves)
@@ -136,10 +132,6 @@ record Before (bytes : List ℕ) (p : ℕ) (s : State) : Type 0 where
   state : State
   here : run true (Some start) (take p bytes) ≡ Some state
   moves : move true state (slice_index bytes p) ≡ Some s
-
-run_one : (strict : Bool) (o : Option State) → run strict o [] ≡ o
-run_one strict None = refl
-run_one strict (Some s) = refl
 
 before_last : (bytes : List ℕ) (p : ℕ) (s : State) (o : Option State) → p < length bytes → run true (Some start) (take (p + 1) bytes) ≡ Some s → run true (Some start) (take p bytes) ≡ o → Before bytes p s
 before_last bytes p s None lt here e =
@@ -166,7 +158,7 @@ slash_refused a at_first b behind slash begins e = slash refl
 slash_refused prolog at_markup b behind slash begins e = slash refl
 slash_refused (epilog r) at_markup b behind slash begins e = slash refl
 slash_refused (within o os) at_markup b behind slash begins e =
-    let opens : open_step (within o os) b ≡ leaves → ⊥ = either_step (λ s. s ≡ leaves → ⊥) (ltb (suc (length os)) 32) (goes (within o os) (in_name (b ∷ []))) too_deep (λ f. cc) (λ f. cc) in
+    let opens : open_step (within o os) b ≡ leaves → ⊥ = either (λ s. s ≡ leaves → ⊥) (ltb (suc (length os)) 32) (goes (within o os) (in_name (b ∷ []))) too_deep (λ f. cc) (λ f. cc) in
     at_begin (λ c. table (within o os) at_markup c b ≡ leaves → ⊥) b begins opens opens e
 slash_refused a (in_comment part.Body) b behind slash begins e = at_begin (λ c. table a (in_comment part.Body) c b ≡ leaves → ⊥) b begins (λ f. cc) (λ f. cc) e
 slash_refused a x b behind slash begins e = absurd behind

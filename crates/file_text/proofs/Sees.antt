@@ -1,5 +1,5 @@
 -- The reader's own values, seen as the machine's.
-use Rattle.std.proofs.Common.{◌≡◌, ℕ, zero, suc, ◌+◌, ◌-◌, ◌<◌, ◌≤◌, refl, sym, ◌∙◌, ap, true, false, ◌==◌, List, [], ◌∷◌, ◌++◌, length, drop, slice_get, slice_index_or, slice_set, Option, Some, None, arith}
+use Rattle.std.proofs.Common.{◌≡◌, ℕ, zero, suc, ◌+◌, ◌-◌, ◌<◌, ◌≤◌, refl, sym, ◌∙◌, ap, false, ◌==◌, List, [], ◌∷◌, ◌++◌, length, drop, slice_get, slice_index_or, slice_set, Option, Some, None, arith}
 use Rattle.std.proofs.lemmas.Bool.{eqb-false, lt-ltb, le-ltb}
 use Rattle.file_text.specs.declared.tree.Element.{Element}
 use Rattle.file_text.specs.declared.scanner.Frame.{Frame}
@@ -65,11 +65,6 @@ opens_deep fs root b n size deep = deep_in (stack_on [] fs) root b (let stack = 
 pub opens_here : (fs : List Frame) (root : Option Element) (b n : ℕ) → n ≡ length fs → n < 32 → false ≡ is_closed (around_in (stack_on [] fs) root)
     → open_step (around_in (stack_on [] fs) root) b ≡ goes (around_in (stack_on [] fs) root) (in_name (b ∷ []))
 opens_here fs root b n size room still = room_in (stack_on [] fs) root b (let stack = length-stack_on [] fs in omega arith) still
-
-pub opens_closed : (a : Around) (b : ℕ) → true ≡ is_closed a → open_step a b ≡ leaves
-opens_closed prolog b e = cc
-opens_closed (within o os) b e = cc
-opens_closed (epilog x) b e = refl
 
 -- an end tag that begins
 pub closes_inside : (a : Around) → IsInside a → close_step a ≡ goes a (in_closing (drop 0 (name_in a)))

@@ -69,19 +69,8 @@ finish_declared : (a : Around) (y : Shape) (xs : List Attribute) → Env a → x
 finish_declared a y xs env some ready =
     by_way Nothing Nothing a y (codes "?>") a at_between (declaration_ends false a y xs some ready) refl (finish_between a env)
 
-some_more : (xs : List Attribute) (x : Attribute) → xs ++ x ∷ [] ≢ []
-some_more [] x e = cc
-some_more (y ∷ xs) x e = cc
-
-finish_ready : (a : Around) (y : Shape) (h : Holder) (xs : List Attribute) → Env a → xs ≢ [] → Ready a y h xs → Finishes Nothing a y
-finish_ready a y (tag n) xs env some ready = finish_tag a y n xs env ready
-finish_ready a y declaration xs env some ready = finish_declared a y xs env some ready
-
 pub finish_name : (a : Around) (n : List ℕ) → Env a → Finishes Nothing a (in_name n)
 finish_name a n env = finish_tag a (in_name n) n [] env (ready_name a n)
-
-one_attribute : Attribute
-one_attribute = record { name = 97 ∷ []; value = [] }
 
 pub finish_gap : (a : Around) (h : Holder) (xs : List Attribute) → Env a → Finishes Nothing a (at_gap h xs)
 unfolding table

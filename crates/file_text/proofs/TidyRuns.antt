@@ -21,9 +21,6 @@ abbrev pub IsAsciiRead : ℕ → Referred → Type 0
 IsAsciiRead b Leaves = Unit {0}
 IsAsciiRead b s = b < 128
 
-ascii_code : (b k : ℕ) → b ≡ k → k < 128 → b < 128
-ascii_code b k e low = omega arith
-
 pub ascii_read : (r : Reference) (b : ℕ) → IsAsciiRead b (referred r b)
 ascii_read reference.Ampersand b =
     when_byte (λ s. IsAsciiRead b s) b 108 _ _ (λ e. omega arith)

@@ -1,7 +1,6 @@
 -- Whole characters in front of some bytes, and where in a comment they lead.
 use Rattle.std.proofs.Common.{◌≡◌, ◌≢◌, ℕ, zero, suc, ◌+◌, ◌-◌, ◌<◌, ◌≤◌, Bool, true, false, List, [], ◌∷◌, ◌++◌, length, take, drop, slice_index, Option, Some, None, refl, sym, ap, ◌∙◌, subst, arith, add-zero}
 use Rattle.std.specs.Prelude.{IsTrue, if◌then◌else◌, ◌==◌}
-use Rattle.std.specs.Str.Lossy.{second_byte_min, second_byte_max}
 use Rattle.std.proofs.Math.Seq.{take-add, take-suc}
 use Rattle.std.proofs.lemmas.Bool.Decides.{nat_tests}
 use Rattle.std.proofs.lemmas.Bool.{ne_eqb}
@@ -16,56 +15,17 @@ use Rattle.file_text.specs.declared.characters.Run.TheVariants as run_of
 use Rattle.file_text.specs.Grammar.{Each, is_character}
 use Rattle.file_text.specs.inside.Utf8.{due_along}
 use Rattle.file_text.specs.inside.Machine.{class_of, Around, in_comment, Step, goes, comment_step, table, Spot, follow, walk, IsDue}
-use Rattle.file_text.specs.inside.Runs.{takes, HasSecond, HasFurther, IsCharacter, IsRun, is_in_body, after_byte, hyphened, behind, place_behind, IsPartOfBody}
+use Rattle.file_text.specs.inside.Runs.{takes, IsCharacter, IsRun, is_in_body, after_byte, hyphened, behind, place_behind, IsPartOfBody}
 use Rattle.file_text.proofs.Classes.{character_class, hyphen_class, greater_class, Known, known}
 use Rattle.file_text.proofs.Names.{each-append}
 use Rattle.file_text.proofs.MachineWalks.{walk-append}
-use Rattle.file_text.proofs.Utf8Laws.{due_along-append, ascii_along, two_along, three_along, four_along}
+use Rattle.file_text.proofs.Utf8Laws.{due_along-append, ascii_along}
 
 -- ---- one character
-
-pub no-character : (bs : List ℕ) → IsCharacter bs 0
-no-character bs = record { within = omega arith; whole = refl; wide = λ more. absurd (omega arith) }
 
 one-character : (bs : List ℕ) → 0 < length bs → slice_index bs 0 < 128 → IsCharacter bs 1
 one-character [] some low = absurd (omega arith)
 one-character (b ∷ bs) some low = record { within = omega arith; whole = ascii_along b [] low; wide = λ more. absurd (omega arith) }
-
-least : (f : ℕ) → 0x80 ≤ second_byte_min f
-least f = grind (arith, nat_tests)
-
-two-bounds : (f : ℕ) → 0xC2 ≤ f → f ≤ 0xDF → (second_byte_min f ≡ 0x80) × (second_byte_max f ≡ 0xBF)
-two-bounds f low high = (grind (arith, nat_tests), grind (arith, nat_tests))
-
-pub two-character : (bs : List ℕ) → 0xC2 ≤ slice_index bs 0 → slice_index bs 0 ≤ 0xDF → HasSecond bs → IsCharacter bs 2
-two-character [] low high second = absurd (omega (arith, second.0))
-two-character (f ∷ []) low high second = absurd (omega (arith, second.0))
-two-character (f ∷ (s ∷ rest)) low high second =
-    let bounds = two-bounds f low high in
-    let from : 0x80 ≤ s = omega (arith, bounds.0, second.1) in
-    let to : s ≤ 0xBF = omega (arith, bounds.1, second.2) in
-    record { within = omega arith; whole = two_along f s [] low (omega arith) from to; wide = λ more. (omega arith, (from, tt)) }
-
-pub three-character : (bs : List ℕ) → 0xE0 ≤ slice_index bs 0 → slice_index bs 0 ≤ 0xEF → HasSecond bs → HasFurther bs 2 → IsCharacter bs 3
-three-character [] low high second third = absurd (omega (arith, third.0))
-three-character (f ∷ []) low high second third = absurd (omega (arith, third.0))
-three-character (f ∷ (s ∷ [])) low high second third = absurd (omega (arith, third.0))
-three-character (f ∷ (s ∷ (t ∷ rest))) low high second third =
-    let from : 0x80 ≤ s = omega (arith, least f, second.1) in
-    record { within = omega arith; whole = three_along f s t [] low (omega arith) second.1 second.2 third.1 third.2; wide = λ more. (omega arith, (from, (third.1, tt))) }
-
-pub four-character : (bs : List ℕ) → 0xF0 ≤ slice_index bs 0 → slice_index bs 0 ≤ 0xF4 → HasSecond bs → HasFurther bs 2 → HasFurther bs 3 → IsCharacter bs 4
-four-character [] low high second third fourth = absurd (omega (arith, fourth.0))
-four-character (f ∷ []) low high second third fourth = absurd (omega (arith, fourth.0))
-four-character (f ∷ (s ∷ [])) low high second third fourth = absurd (omega (arith, fourth.0))
-four-character (f ∷ (s ∷ (t ∷ []))) low high second third fourth = absurd (omega (arith, fourth.0))
-four-character (f ∷ (s ∷ (t ∷ (u ∷ rest)))) low high second third fourth =
-    let from : 0x80 ≤ s = omega (arith, least f, second.1) in
-    record {
-      within = omega arith;
-      whole = four_along f s t u [] low (omega arith) second.1 second.2 third.1 third.2 fourth.1 fourth.2;
-      wide = λ more. (omega arith, (from, (third.1, (fourth.1, tt))));
-    }
 
 -- ---- characters one after another
 
@@ -99,9 +59,6 @@ taken r (b ∷ bs) (suc (suc k)) took wide = let high = wide (omega arith) in (t
 
 pub ascii-here : (bs : List ℕ) (n : ℕ) → n < length bs → slice_index bs n < 128 → IsCharacter (drop n bs) 1
 ascii-here bs n some low = one-character (drop n bs) (omega (arith, length-drop n bs)) (omega (arith, low, at-front bs n))
-
-pub run-begins : (r : Run) (bs : List ℕ) → IsRun r bs 0
-run-begins r bs = record { within = omega arith; whole = refl; taken = tt }
 
 pub run-more : (r : Run) (bs : List ℕ) (n k : ℕ) → IsRun r bs n → takes r (slice_index bs n) ≡ true → IsCharacter (drop n bs) k → IsRun r bs (n + k)
 run-more r bs n k front took more = record {
@@ -174,7 +131,7 @@ stays-inside k l false g false inside is = cc
 stays-inside k l false g true inside is = let same : part.Body ≡ l = cc in ap is_in_body (sym same)
 
 -- a character from U+0080 up is one of the body
-wide-class : (b : ℕ) → 128 ≤ b → class_of b ≡ Wide
+pub wide-class : (b : ℕ) → 128 ≤ b → class_of b ≡ Wide
 wide-class b high = grind (arith, nat_tests)
 
 wide-step : (a : Around) (k : Comment) → is_in_body k ≡ true → comment_step a k Wide ≡ goes a (in_comment part.Body)
@@ -206,9 +163,6 @@ character-walk a k l (b ∷ bs) (suc zero) inside is some within wide = stepped 
 character-walk a k l (b ∷ bs) (suc (suc n)) inside is some within wide =
     let high = wide (omega arith) in
     wide-walk a k b (take (suc n) bs) inside high.0 high.1 ∙ ap (λ (p : Comment). Some (a, in_comment p)) (wide-after a k l b inside high.0 is)
-
-pub body-begins : (k : Comment) (bs : List ℕ) → is_in_body k ≡ true → IsPartOfBody k k bs 0
-body-begins k bs inside = record { within = omega arith; whole = refl; inside = inside; leads = λ a. refl }
 
 pub body-more : (j k l : Comment) (bs : List ℕ) (n m : ℕ) → IsPartOfBody j k bs n → after_byte k (slice_index bs n) ≡ Some l → IsCharacter (drop n bs) m → 0 < m → IsPartOfBody j l bs (n + m)
 body-more j k l bs n m front is more some = record {

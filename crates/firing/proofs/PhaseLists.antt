@@ -5,7 +5,6 @@ use Rattle.std.proofs.lemmas.Bool.{cases_lt}
 use Rattle.std.proofs.lemmas.List.{get_or_append_left, get_or_push, length_push}
 use Rattle.sd_base.specs.Net.{total}
 use Rattle.firing.specs.Csdf.{AreRates}
-use Rattle.firing.specs.inside.PhaseSums.{AreSums}
 use Rattle.firing.proofs.PortSums.{turn-none, turn-more}
 
 -- number k of the sums is that of the first k numbers, up to n
@@ -44,6 +43,3 @@ sums-more numbers n sum rate sums more rates below here push so_far =
       last = next;
       small = omega arith;
     })
-
-pub sums-all : (numbers : List ℕ) (n sum : ℕ) (sums : List ℕ) → n ≡ length numbers → AreSumsTo numbers n sum sums → AreSums numbers sums
-sums-all numbers n sum sums whole so_far = record { many = so_far.many ∙ ap (λ (k : ℕ). k + 1) whole; each = λ k h. so_far.each k (omega arith) }

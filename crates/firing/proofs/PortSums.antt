@@ -83,9 +83,6 @@ need-fits net laws i j n place few need =
     let le : (j / slice_index net.round target + 1) * slice_index net.round source ≤ (2 ^ 40 + 1) * 100000 = mul-le-mul {n₁ = j / slice_index net.round target + 1} {m₁ = slice_index net.round source} {n₂ = 2 ^ 40 + 1} {m₂ = 100000} (omega arith) (omega arith) in
     omega arith
 
-pub product-le : (q f p n : ℕ) → n ≡ q * f + p → q * f ≤ n
-product-le q f p n e = omega arith
-
 pub at_length : (xs : List ℕ) (f turn n : ℕ) → f ≡ length xs → turn ≡ total xs f → n ≤ turn → n ≤ total xs (length xs)
 at_length xs f turn n phases at_turn small = rw (← phases) (rw (← at_turn) small)
 

@@ -6,7 +6,7 @@ use Rattle.std.proofs.lemmas.List.{get_or-set_same, get_or-set_other, length-set
 use Rattle.sd_base.specs.Net.{Net, channel_at, phase_entry, total}
 use Rattle.sd_base.specs.Schedules.{Needs}
 use Rattle.sd_base.specs.Lawful.{Lawful}
-use Rattle.sd_base.proofs.Sums.{total-le, total-more, total-turn, total-turns, total-bound}
+use Rattle.sd_base.proofs.Sums.{total-more, total-turn, total-turns, total-bound}
 use Rattle.firing.specs.declared.sums.Port.{Port}
 use Rattle.firing.specs.declared.sums.Port.TheVariants.{Made, Taken}
 use Rattle.firing.proofs.Listings.{place_of}
@@ -38,9 +38,6 @@ span-one xs from n f rate phases one here =
     rw (one_rate xs f rate from phases one here, one_rate xs f rate (from + n) phases one here) (omega arith)
 
 -- ---- the first channel that lacks
-
-pub first-none : (net : Net) (xs tokens : List ℕ) (a k : ℕ) → (j : ℕ) → j < 0 → phase_entry (channel_at net (slice_index xs j)).taken k ≤ slice_index tokens (slice_index xs j)
-first-none net xs tokens a k j below = absurd (omega arith)
 
 -- the place of an earlier channel in an ascending list
 earlier : (net : Net) (port : Port) (a : ℕ) (xs : List ℕ) → IsListed net port a xs → (j n : ℕ) → n < length xs → j < length xs → slice_index xs j < slice_index xs n → j < n
@@ -76,9 +73,6 @@ pub record Changed (xs old new : List ℕ) (lost gained : ℕ → ℕ) (n : ℕ)
   pub length_kept : length new ≡ length old
   pub done : (j : ℕ) → j < n → slice_index new (slice_index xs j) + lost (slice_index xs j) ≡ slice_index old (slice_index xs j) + gained (slice_index xs j)
   pub rest : (i : ℕ) → ((j : ℕ) → j < n → slice_index xs j ≢ i) → slice_index new i ≡ slice_index old i
-
-pub changed-none : (xs old : List ℕ) (lost gained : ℕ → ℕ) → Changed xs old old lost gained 0
-changed-none xs old lost gained = record { length_kept = refl; done = λ j h. absurd (omega arith); rest = λ i h. refl }
 
 -- the channels of the list are apart
 apart : (net : Net) (port : Port) (a : ℕ) (xs : List ℕ) → IsListed net port a xs → (j n : ℕ) → j < n → n < length xs → slice_index xs j ≢ slice_index xs n
@@ -235,16 +229,6 @@ more-set counts a n below = record {
   here = get_or-set_same counts a (slice_index counts a + n) 0 below;
   others = λ b away. get_or-set_other counts a b (slice_index counts a + n) 0 away;
 }
-
--- taking leaves no more
-pub takes-le : (net : Net) (a k n : ℕ) (old new : List ℕ) → TakesTokens net a k n old new → (i : ℕ) → i < length net.channels → slice_index new i ≤ slice_index old i
-takes-le net a k n old new takes i place = ⊎_elim
-    (λ (into : (channel_at net i).target ≡ a).
-    let moved : slice_index new i + total (channel_at net i).taken (k + n) ≡ slice_index old i + total (channel_at net i).taken k = takes.taken i place into in
-    let le : total (channel_at net i).taken k ≤ total (channel_at net i).taken (k + n) = total-le (channel_at net i).taken (omega arith) in
-    omega arith)
-    (λ (away : (channel_at net i).target ≢ a). let same : slice_index new i ≡ slice_index old i = takes.others i place away in omega arith)
-    (cases_eq (channel_at net i).target a)
 
 -- ---- whole lists of channels
 

@@ -2,6 +2,7 @@
 #![tactic(auto)]
 
 mod csdf;
+mod enabled;
 mod graph_channels;
 mod groups;
 mod net;
@@ -14,6 +15,7 @@ mod tokens;
 mod wiring;
 
 pub use csdf::CsdfNet;
+pub use enabled::{can_fire, lacks};
 pub use groups::Groups;
 pub use net::{Firing, know_laws};
 pub use phases::{PhaseRates, ones};
@@ -22,4 +24,4 @@ pub use single::{is_single_phase, single_phase_copy};
 pub use sums::{Port, made_sum, need, port_phases, port_rate, taken_sum};
 pub use table::LoopTable;
 pub use tokens::{first_lack, initial_tokens, put_tokens, span_sum, take_tokens};
-pub use wiring::{Wiring, know_wiring};
+pub use wiring::{Wiring, ends, know_wiring};

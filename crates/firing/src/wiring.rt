@@ -1,5 +1,6 @@
 ghost use Rattle.std.specs.Prelude.{◌≡◌, ◌<◌, [], IfOk, length, map, slice_index_or};
 ghost use Rattle.sd_base.specs.Net.{channel_at};
+ghost use Rattle.sd_base.specs.Connection.{ends_of};
 ghost use Rattle.firing.specs.declared.sums.Port.TheVariants.{Made, Taken};
 ghost use Rattle.firing.specs.Groups.{AreGroups};
 ghost use Rattle.firing.specs.Wiring.{actor_at, AreListed, IsWiringOf};
@@ -56,6 +57,17 @@ pub fn know_wiring<F: Firing>(net: &F, wiring: &Wiring)
     ensures inputs { AreListed (F.net net.now) Taken wiring.now.inputs }
     ensures outputs { AreListed (F.net net.now) Made wiring.now.outputs }
 {}
+
+/// By channel its source and its target. Cost: linear in the channels.
+pub fn ends<F: Firing>(alloc: Global, net: &F) -> Result<Vec<(u32, u32)>, NoMemory>
+    ensures { IfOk result (λ v. v.items ≡ ends_of (F.net net.now)) }
+{
+    let mut ends = Vec::new(alloc);
+    for channel in 0..net.channels() {
+        ends.push((net.source(channel), net.target(channel)))?;
+    }
+    Ok(ends)
+}
 
 /// By actor the channels with an end at it.
 fn channels_by_actor<F: Firing>(alloc: Global, net: &F, port: Port) -> Result<Groups, NoMemory>

@@ -10,7 +10,6 @@ use Rattle.sd_base.specs.declared.tables.ActorRow.{ActorRow}
 use Rattle.sd_base.specs.declared.tables.ChannelRow.{ChannelRow}
 use Rattle.file_text.specs.Node.{Node}
 use Rattle.file_text.specs.Grammar.{Each}
-use Rattle.graph_reader.specs.declared.field.Field.TheVariants as field
 use Rattle.graph_reader.specs.declared.actors.Direction.{Direction as ReadDirection}
 use Rattle.graph_reader.specs.declared.actors.Direction.TheVariants as read
 use Rattle.graph_reader.specs.declared.actors.Port.{Port}
@@ -23,7 +22,7 @@ use Rattle.graph_reader.specs.Sections.{numbered, port_count}
 use Rattle.graph_reader.specs.Spelled.{Pairwise, EachTwo, ArePhased, IsPort, IsActor}
 use Rattle.gen_graph.specs.declared.direction.Direction.{Direction}
 use Rattle.gen_graph.specs.declared.direction.Direction.TheVariants.{Out, In}
-use Rattle.gen_graph.specs.GraphTrees.{port_name, direction_word, port_node, ports_on, ports_from, actor_node, actor_nodes, no_actor, numbers_text}
+use Rattle.gen_graph.specs.GraphTrees.{port_name, port_node, ports_on, ports_from, actor_node, actor_nodes, no_actor, numbers_text}
 use Rattle.graph_reader.specs.WritableNames.{IsWritableName}
 use Rattle.gen_graph.proofs.TreeTexts.{AreSmall, each_both, each_weaker}
 use Rattle.gen_graph.proofs.NumbersBack.{spelled_back}
@@ -143,10 +142,6 @@ pub record AreRates (k : Kind) (rates : List ℕ) : Type 0 where
 pub record IsRated (k : Kind) (c : ChannelRow) : Type 0 where
   pub made : AreRates k c.made
   pub taken : AreRates k c.taken
-
-word_back : (d : Direction) (i : ℕ) (rates : List ℕ) → TreeSteps.attribute (word_of field.TypeWord) (port_node d i rates) ≡ Some (direction_word d)
-unfolding port_node TreeSteps.attribute word_of
-word_back d i rates = refl
 
 port_back : (k : Kind) (d : Direction) (i : ℕ) (rates : List ℕ) → i < 256 → AreRates k rates → IsPort k (port_node d i rates) (port_read d i rates)
 unfolding port_node TreeSteps.attribute word_of

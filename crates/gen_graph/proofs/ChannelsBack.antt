@@ -20,7 +20,7 @@ use Rattle.graph_reader.specs.WritableNames.{IsWritableName}
 use Rattle.gen_graph.proofs.TreeTexts.{each_both}
 use Rattle.gen_graph.proofs.NumbersBack.{number_back}
 use Rattle.gen_graph.proofs.Listed.{same_bytes, other_bytes, each_perhaps, find_skip, find_here}
-use Rattle.gen_graph.proofs.ActorsBack.{IsFrom, actor_read, actors_read, as_read, channel_read, channels_read, end_read, numbered_back, port_read, ports_at, ports_read, same_place}
+use Rattle.gen_graph.proofs.ActorsBack.{actor_read, actors_read, as_read, channel_read, channels_read, end_read, numbered_back, port_read, ports_at, ports_read, same_place}
 
 -- ---- channels
 
@@ -31,9 +31,6 @@ at_end In c = c.target
 abbrev pub rates_at : Direction → ChannelRow → List ℕ
 rates_at Out c = c.made
 rates_at In c = c.taken
-
-other_port : (d : Direction) (i : ℕ) (p : Port) (j : ℕ) → i < 256 → IsFrom j p → (p.name ≡ port_name d i → ⊥) → is_port (as_read d) (port_name d i) p ≡ false
-other_port d i p j lt from differ = rw (other_bytes p.name (port_name d i) differ) refl
 
 own_port : (d : Direction) (i : ℕ) (rates : List ℕ) → is_port (as_read d) (port_name d i) (port_read d i rates) ≡ true
 own_port Out i rates = rw (same_bytes (port_name Out i)) refl

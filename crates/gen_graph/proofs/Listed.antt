@@ -7,10 +7,11 @@ use Rattle.std.proofs.lemmas.List.{append-nil}
 use Rattle.std.proofs.lemmas.List.Elements.{filter-append}
 use Rattle.std.proofs.lemmas.Slice.Eq.{bytes_eq-Decides}
 use Rattle.file_text.specs.declared.tree.Attribute.{Attribute}
-use Rattle.file_text.specs.Node.{Node, name_of, list_of, nodes}
+use Rattle.file_text.specs.Node.{Node, name_of}
 use Rattle.file_text.specs.Grammar.{Each}
 use Rattle.graph_reader.specs.TreeSteps.{children, named}
 use Rattle.graph_reader.specs.Spelled.{Pairwise, EachTwo}
+use Rattle.graph_reader.proofs.Trees.{list_of_nodes}
 use Rattle.gen_graph.specs.GraphTrees.{element}
 
 -- ---- texts
@@ -35,13 +36,9 @@ pub dropped : (word : List ℕ) (es : List Node) → Each (IsCalled word false) 
 dropped word [] are = refl
 dropped word (e ∷ es) are = rw are.0 (dropped word es are.1)
 
-listed : (es : List Node) → list_of (nodes es) ≡ es
-listed [] = refl
-listed (e ∷ es) = ap (λ (l : List Node). e ∷ l) (listed es)
-
 pub children_are : (word name : List ℕ) (given : List Attribute) (es : List Node) → children word (element name given es) ≡ named word es
 unfolding children
-children_are word name given es = ap (named word) (listed es)
+children_are word name given es = ap (named word) (list_of_nodes es)
 
 -- the first of two lists is found by a name, or the second
 pub first_kept : (word : List ℕ) (xs ys : List Node) → Each (IsCalled word true) xs → Each (IsCalled word false) ys → named word (xs ++ ys) ≡ xs

@@ -9,11 +9,12 @@ use Rattle.sd_base.specs.declared.tables.Kind.TheVariants.{Sdf}
 use Rattle.sd_base.specs.declared.tables.ActorRow.{ActorRow}
 use Rattle.sd_base.specs.declared.tables.ChannelRow.{ChannelRow}
 use Rattle.sd_base.specs.Tables.{KeepsRules, ActorKeepsRules, PortKeepsRules, ChannelKeepsRules, IsTimed}
-use Rattle.file_text.specs.Grammar.{Each, is_character}
+use Rattle.file_text.specs.Grammar.{is_character}
 use Rattle.gen_graph.specs.declared.made.Drawn.{Drawn}
 use Rattle.gen_graph.specs.MadeGraphs.{modulus, IsDrawn, drawn_after, drawn_for, next, number_below, made_actor, made_actors, common_multiple, made_channel, made_channels, chain_of, made_graph}
 use Rattle.gen_graph.specs.GraphTrees.{no_actor}
 use Rattle.graph_reader.specs.WritableNames.{IsWritableName}
+use Rattle.graph_reader.proofs.ReadNames.{all-from_each}
 use Rattle.gen_graph.specs.Writable.{IsWritable}
 use Rattle.gen_graph.proofs.ElementTexts.{IsGoodValue, good_word}
 use Rattle.gen_graph.proofs.TreeTexts.{both_good, number_good}
@@ -162,10 +163,6 @@ made_timed seed n = actors_timed 0 (drawn_for (seed % modulus) n)
 
 -- ---- its names
 
-all_from_each : {X : Type 0} (P : X → Type 0) (xs : List X) → Each P xs → All P xs
-all_from_each P [] each = All-nil P
-all_from_each P (x ∷ xs) each = All-cons P x xs each.0 (all_from_each P xs each.1)
-
 name_written : (letter i : ℕ) → IsGoodValue (letter ∷ []) → i < 128 → IsWritableName (letter ∷ decimal i)
 name_written letter i good lt =
     let value = both_good (letter ∷ []) (decimal i) good (number_good i (omega arith)) in
@@ -173,7 +170,7 @@ name_written letter i good lt =
     record {
       some = omega arith;
       short = omega arith;
-      characters = all_from_each (λ b. IsTrue (is_character b)) (letter ∷ decimal i) value.0;
+      characters = all-from_each (λ b. IsTrue (is_character b)) (letter ∷ decimal i) value.0;
       utf8 = value.1;
     }
 

@@ -44,13 +44,6 @@ longest_is p (xs ∷ lists) some (inr long, are) = elim (longest_is p lists some
 abbrev pub HasPhases : ℕ → ℕ → ChannelRow → Type 0
 HasPhases a p c = (c.source ≡ a → length c.made ≡ p) × (c.target ≡ a → length c.taken ≡ p)
 
-abbrev rates_read : ℕ → ℕ → List ChannelRow → List (List ℕ)
-rates_read a i cs = map (λ (q : Port). q.rates) (ports_read a i cs)
-
-map_both : (ps qs : List Port) → map (λ (q : Port). q.rates) (ps ++ qs) ≡ map (λ (q : Port). q.rates) ps ++ map (λ (q : Port). q.rates) qs
-map_both [] qs = refl
-map_both (p ∷ ps) qs = ap (λ (l : List (List ℕ)). p.rates ∷ l) (map_both ps qs)
-
 ports_long : (a i p : ℕ) (cs : List ChannelRow) → Each (HasPhases a p) cs → Each (λ (q : Port). length q.rates ≡ p) (ports_read a i cs)
 ports_long a i p [] have = tt
 ports_long a i p (c ∷ cs) have =

@@ -2,7 +2,7 @@
 use Rattle.std.proofs.Common.{◌≡◌, ◌≢◌, ◌⊎◌, ℕ, ◌+◌, ◌≤◌, List, [], ◌∷◌, ◌++◌, length, inl, inr, refl, sym, ap, ◌∙◌, subst, arith}
 use Rattle.std.specs.Prelude.{codes}
 use Rattle.std.specs.List.{All}
-use Rattle.std.proofs.lemmas.List.Elements.{All-head, All-tail}
+use Rattle.std.proofs.lemmas.List.Elements.{All-head}
 use Rattle.std.proofs.lemmas.List.Sums.{sum_by-cons}
 use Rattle.sd_base.specs.declared.tables.Kind.{Kind}
 use Rattle.sd_base.specs.declared.tables.Kind.TheVariants.{Sdf}
@@ -18,7 +18,7 @@ use Rattle.graph_reader.specs.TreeSteps
 use Rattle.graph_reader.specs.Sections.{execution_of, counting_processor, is_default, times_at}
 use Rattle.graph_reader.specs.Spelled.{Pairwise, EachTwo, HasNumbers, IsTimeEntry}
 use Rattle.gen_graph.specs.GraphTrees.{numbers_text, ports_on, actor_node, actor_nodes, no_actor, channel_node, channel_nodes, processor_node, times_node, times_of, times_nodes, size_node, kind_word, properties_word, section_node, properties_node, application_node, graph_tree, written}
-use Rattle.gen_graph.proofs.TreeTexts.{AreSmall, each_both, each_weaker}
+use Rattle.gen_graph.proofs.TreeTexts.{each_both, each_weaker, times_small}
 use Rattle.gen_graph.proofs.NumbersBack.{spelled_back}
 use Rattle.gen_graph.proofs.Listed.{same_bytes, other_bytes, pair_both}
 use Rattle.gen_graph.proofs.ActorsBack.{actors_read}
@@ -41,10 +41,6 @@ pub all_known : (cs : List ChannelRow) (a : ℕ) (rows : List ActorRow) → Each
 all_known cs a [] = tt
 all_known cs a (row ∷ rows) = ((λ none. none.0 refl), each_weaker (IsKnown (actors_read cs (a + 1) rows)) (IsKnown (actors_read cs a (row ∷ rows))) (λ r known none. known none.1) rows (all_known cs (a + 1) rows))
 
-small_times : (ts : List ℕ) → All (λ t. (1 ≤ t) × (t ≤ 1000000000)) ts → AreSmall ts
-small_times [] all = tt
-small_times (t ∷ ts) all = let first = All-head (λ t. (1 ≤ t) × (t ≤ 1000000000)) t ts all in (omega (arith, first.1), small_times ts (All-tail (λ t. (1 ≤ t) × (t ≤ 1000000000)) t ts all))
-
 -- times that an actor has
 times_numbers : (k : Kind) (phases t : ℕ) (ts : List ℕ) → length (t ∷ ts) ≡ phases → phases ≤ 4096 → (k ≡ Sdf → phases ≡ 1) → All (λ t. (1 ≤ t) × (t ≤ 1000000000)) (t ∷ ts)
     → HasNumbers k field.Time 1 1000000000 (Rattle.gen_graph.specs.GraphTrees.leaf (codes "executionTime") (codes "time") (numbers_text (t ∷ ts))) (t ∷ ts)
@@ -54,7 +50,7 @@ times_numbers k phases t ts long few one all =
     let moves = sum_by-cons (λ (x : ℕ). x) t ts in (
       numbers_text (t ∷ ts),
       refl,
-      spelled_back k (t ∷ ts) (omega arith) (λ e. long ∙ one e) (small_times (t ∷ ts) all),
+      spelled_back k (t ∷ ts) (omega arith) (λ e. long ∙ one e) (times_small (t ∷ ts) all),
       record { within = all; few = omega (arith, long); moves = omega (arith, first.0, moves) },
     )
 

@@ -247,7 +247,7 @@ tree_fine g few rows channels =
 small_from : (most : ℕ) → most < 2 ^ 64 → (ns : List ℕ) → All (λ n. n ≤ most) ns → AreSmall ns
 small_from most bound ns all = each_weaker (λ n. n ≤ most) (λ n. n < 2 ^ 64) (λ n le. omega arith) ns (each_from_All (λ n. n ≤ most) ns all)
 
-times_small : (ns : List ℕ) → All (λ t. (1 ≤ t) × (t ≤ 1000000000)) ns → AreSmall ns
+pub times_small : (ns : List ℕ) → All (λ t. (1 ≤ t) × (t ≤ 1000000000)) ns → AreSmall ns
 times_small ns all = each_weaker (λ t. (1 ≤ t) × (t ≤ 1000000000)) (λ n. n < 2 ^ 64) (λ n le. omega (arith, le.1)) ns (each_from_All (λ t. (1 ≤ t) × (t ≤ 1000000000)) ns all)
 
 name_good : (name : List ℕ) → IsWritableName name → IsGoodValue name

@@ -5,6 +5,7 @@ use Rattle.std.specs.List.{All, list_any, list_all, find}
 use Rattle.std.specs.Option.{option_to_list}
 use Rattle.std.proofs.lemmas.Bool.{le-ltb, eq-eqb, le-leb, or_left, or_right}
 use Rattle.std.proofs.lemmas.Slice.Eq.{bytes_eq-Decides}
+use Rattle.std.proofs.lemmas.List.{length_push}
 use Rattle.sd_base.specs.declared.limits.Quantity.TheVariants as quantity
 use Rattle.sd_base.specs.declared.tables.Kind.{Kind}
 use Rattle.sd_base.specs.declared.tables.Kind.TheVariants.{Sdf, Csdf}
@@ -33,7 +34,8 @@ use Rattle.graph_reader.specs.Spelled.{Pairwise, EachTwo, Has, HasName}
 use Rattle.graph_reader.proofs.ReaderSteps.{then-ok}
 use Rattle.graph_reader.proofs.NumberLists.{within-again, number-again, not-zero, again}
 use Rattle.graph_reader.proofs.PhaseLists.{longest-some}
-use Rattle.graph_reader.proofs.ElementPlaces.{AfterEach, each-given, Related, after-from_two, Counted, counted-from_few, no-count, none-from_Each, Each-weaker, not-among, among, length-push, port_count-cons, port_count-push}
+use Rattle.graph_reader.proofs.ElementPlaces.{AfterEach, each-given, Related, after-from_two, Counted, counted-from_few, no-count, none-from_Each, Each-weaker, not-among, among, port_count-cons, port_count-push}
+use Rattle.graph_reader.proofs.Found.{TimesDiffer, ActorCounted, NoCount, SizesDiffer}
 
 pub required : (what : Field) (of : List ℕ) (e : Node) (value : List ℕ) → Has what e value → TreeSteps.required what of e ≡ Ok value
 unfolding TreeSteps.required
@@ -87,9 +89,6 @@ counted-ports before (p ∷ ports) fit =
 abbrev ActorsDiffer : Actor → Actor → Type 0
 ActorsDiffer a b = a.name ≢ b.name
 
-abbrev ActorCounted : List Actor → Actor → Type 0
-ActorCounted done a = (length done + 1 ≤ 128) × PortsFit (Sections.port_count done) a.ports
-
 actor_of : (kind : Kind) (of : List ℕ) (done : List Actor) (e : Node) (a : Actor) → Spelled.IsActor kind e a → Related ActorsDiffer ActorCounted done a → Sections.actor_of kind of done e ≡ Ok a
 unfolding Sections.actor_of
 actor_of kind of done e a is new =
@@ -103,7 +102,7 @@ actor_of kind of done e a is new =
 counted-actors : (done actors : List Actor) → length done + length actors ≤ 128 → Sections.port_count done + Sections.port_count actors ≤ 1024 → AfterEach ActorCounted done actors
 counted-actors done [] few few_ports = tt
 counted-actors done (a ∷ actors) few few_ports =
-    let push = length-push done a in
+    let push = length_push done a in
     let count = port_count-push done a in
     let first = port_count-cons a actors in
     let fit : Sections.port_count done + length a.ports ≤ 1024 = omega arith in
@@ -175,12 +174,6 @@ times_in : (kind : Kind) (of : List ℕ) (e : Node) (times : List ℕ) → Spell
 unfolding Sections.times_in
 times_in kind of e times is = times_by kind of (Sections.execution_of e) times is
 
-abbrev NoCount : {X : Type 0} → List X → X → Type 0
-NoCount done x = Unit {0}
-
-abbrev TimesDiffer : TimeEntry → TimeEntry → Type 0
-TimesDiffer s t = s.actor ≢ t.actor
-
 time_entry : (kind : Kind) (of : List ℕ) (actors : List Actor) (done : List TimeEntry) (e : Node) (t : TimeEntry) → Spelled.IsTimeEntry kind actors e t → Related TimesDiffer NoCount done t → Sections.time_entry kind of actors done e ≡ Ok t
 unfolding Sections.time_entry
 time_entry kind of actors done e t is new =
@@ -202,9 +195,6 @@ size_in of (Some text) size is = then-ok (NumberTexts.number field.Sz of quantit
 size_of : (of : List ℕ) (e : Node) (size : ℕ) → Spelled.IsSize (Sections.size_text e) size → Sections.size_of of e ≡ Ok size
 unfolding Sections.size_of
 size_of of e size is = size_in of (Sections.size_text e) size is
-
-abbrev SizesDiffer : SizeEntry → SizeEntry → Type 0
-SizesDiffer s t = s.channel ≢ t.channel
 
 size_entry : (of : List ℕ) (channels : List Channel) (done : List SizeEntry) (e : Node) (s : SizeEntry) → Spelled.IsSizeEntry channels e s → Related SizesDiffer NoCount done s → Sections.size_entry of channels done e ≡ Ok s
 unfolding Sections.size_entry

@@ -5,7 +5,7 @@ use Rattle.std.specs.List.{list_any}
 use Rattle.std.specs.Str.{bytes_eq}
 use Rattle.std.proofs.lemmas.Bool.{or_parts, false_from_ne_true, true_from_ne_false}
 use Rattle.std.proofs.lemmas.Bool.Decides.{not_from_Decides}
-use Rattle.std.proofs.lemmas.List.{append-nil}
+use Rattle.std.proofs.lemmas.List.{append-nil, length_push}
 use Rattle.std.proofs.lemmas.List.Sums.{sum_by-cons, sum_by_push}
 use Rattle.std.proofs.lemmas.Slice.Eq.{bytes_eq-Decides}
 use Rattle.file_text.specs.Node.{Node}
@@ -105,10 +105,6 @@ after-from_two R N xs two after = join R N [] xs two tt after
 
 -- ---- counts
 
-pub length-push : {X : Type 0} (done : List X) (x : X) → length (done ++ x ∷ []) ≡ length done + 1
-length-push [] x = refl
-length-push (y ∷ done) x = omega (arith, length-push done x)
-
 -- a count from a start on is within a limit
 abbrev pub Counted : {X : Type 0} → ℕ → ℕ → List X → X → Type 0
 Counted start limit done x = start + length done + 1 ≤ limit
@@ -117,7 +113,7 @@ pub few-from_counted : {X : Type 0} (start limit : ℕ) (done xs : List X) → s
 few-from_counted start limit done [] few after = omega arith
 few-from_counted start limit done (x ∷ xs) few after =
     let here : start + length done + 1 ≤ limit = after.0 in
-    let push = length-push done x in
+    let push = length_push done x in
     let next : start + length (done ++ x ∷ []) ≤ limit = omega arith in
     let rest = few-from_counted start limit (done ++ x ∷ []) xs next after.1 in
     omega arith
@@ -125,7 +121,7 @@ few-from_counted start limit done (x ∷ xs) few after =
 pub counted-from_few : {X : Type 0} (start limit : ℕ) (done xs : List X) → start + length done + length xs ≤ limit → AfterEach (Counted start limit) done xs
 counted-from_few start limit done [] few = tt
 counted-from_few start limit done (x ∷ xs) few =
-    let push = length-push done x in
+    let push = length_push done x in
     let next : start + length (done ++ x ∷ []) + length xs ≤ limit = omega arith in
     (omega arith, counted-from_few start limit (done ++ x ∷ []) xs next)
 

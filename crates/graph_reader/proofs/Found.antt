@@ -4,8 +4,9 @@ use Rattle.std.specs.Prelude.{IfOk, IsTrue, codes}
 use Rattle.std.specs.List.{list_any, list_all, find}
 use Rattle.std.specs.Option.{option_to_list}
 use Rattle.std.specs.Str.{bytes_eq}
-use Rattle.std.proofs.lemmas.Bool.{cases_lt, ltb-false, eqb-false, eqb-true, leb-true, and_parts, or_cases}
+use Rattle.std.proofs.lemmas.Bool.{cases_lt, ltb-false, eqb-false, eqb-true, leb-true, and_parts, or_cases, not-false}
 use Rattle.std.proofs.lemmas.Slice.Eq.{bytes_eq-Decides}
+use Rattle.std.proofs.lemmas.List.{length_push}
 use Rattle.sd_base.specs.declared.limits.Quantity.TheVariants as quantity
 use Rattle.sd_base.specs.declared.tables.Kind.{Kind}
 use Rattle.sd_base.specs.declared.tables.Kind.TheVariants.{Sdf, Csdf}
@@ -34,7 +35,7 @@ use Rattle.graph_reader.specs.Spelled
 use Rattle.graph_reader.specs.Spelled.{Pairwise, EachTwo, Has, IsNumber, Spells, ArePhased, HasName}
 use Rattle.graph_reader.proofs.ReaderSteps.{then, weaker, choice}
 use Rattle.graph_reader.proofs.NumberLists.{within, number, found}
-use Rattle.graph_reader.proofs.ElementPlaces.{AfterEach, Follows, each-gives, Related, two-from_after, count-from_after, Counted, few-from_counted, Each-from_none, Each-both, differ, length-push, port_count-cons, port_count-push}
+use Rattle.graph_reader.proofs.ElementPlaces.{AfterEach, Follows, each-gives, Related, two-from_after, count-from_after, Counted, few-from_counted, Each-from_none, Each-both, differ, port_count-cons, port_count-push}
 
 pub required : (what : Field) (of : List ℕ) (e : Node) → IfOk (TreeSteps.required what of e) (Has what e)
 unfolding TreeSteps.required
@@ -59,10 +60,6 @@ new_name f of earlier e =
     let short : length name ≤ 128 = ltb-false 128 (length name) short_test in
     (record { has = has; some = omega arith; short = short }, differ f name earlier none)))))
 
-not_false : (b : Bool) → not b ≡ false → b ≡ true
-not_false true h = refl
-not_false false h = absurd cc
-
 -- a name that is one of the rows, and none of the earlier ones
 abbrev IsMention : {X Y : Type 0} → (X → List ℕ) → (Y → List ℕ) → Field → List X → List Y → Node → List ℕ → Type 0
 IsMention f g what rows earlier e name = Has what e name × (Each (λ x. f x ≢ name) rows → ⊥) × Each (λ y. g y ≢ name) earlier
@@ -83,7 +80,7 @@ mention f g what of rows earlier e =
     then (Has what e) (IsMention f g what rows earlier e) (TreeSteps.required what of e) (Sections.tested_mention what (map f rows) (map g earlier)) (required what of e) (λ name has.
     choice (IsMention f g what rows earlier e) (not (Sections.is_among name (map f rows))) _ _ (λ h. tt) (λ known.
     choice (IsMention f g what rows earlier e) (Sections.is_among name (map g earlier)) _ (Ok name) (λ h. tt) (λ none.
-    (has, (λ all. is-among-none f name rows all (not_false _ known)), differ g name earlier none))))
+    (has, (λ all. is-among-none f name rows all (not-false _ known)), differ g name earlier none))))
 
 -- ---- actors
 
@@ -121,7 +118,7 @@ few-from_counted-ports before (p ∷ ports) after some =
 abbrev ActorsDiffer : Actor → Actor → Type 0
 ActorsDiffer a b = a.name ≢ b.name
 
-abbrev ActorCounted : List Actor → Actor → Type 0
+abbrev pub ActorCounted : List Actor → Actor → Type 0
 ActorCounted done a = (length done + 1 ≤ 128) × PortsFit (Sections.port_count done) a.ports
 
 actor_of : (kind : Kind) (of : List ℕ) (done : List Actor) (e : Node) → IfOk (Sections.actor_of kind of done e) (λ a. Spelled.IsActor kind e a × Related ActorsDiffer ActorCounted done a)
@@ -144,7 +141,7 @@ are_few : (done actors : List Actor) → length done ≤ 128 → Sections.port_c
 are_few done [] few few_ports after = record { few = omega arith; few_ports = omega arith }
 are_few done (a ∷ actors) few few_ports after =
     let here : length done + 1 ≤ 128 = after.0.0 in
-    let push = length-push done a in
+    let push = length_push done a in
     let count = port_count-push done a in
     let first = port_count-cons a actors in
     let ports : Sections.port_count done + length a.ports ≤ 1024 = elim (cases_lt 0 (length a.ports)) [ inl some ↦ after.0.1 some | inr none ↦ omega arith ] in
@@ -175,7 +172,7 @@ actors_of kind of section =
 
 -- ---- channels
 
-known : {A : Type 0} (what : Field) (name : List ℕ) (o : Option A) → IfOk (Sections.known what name o) (λ x. o ≡ Some x)
+pub known : {A : Type 0} (what : Field) (name : List ℕ) (o : Option A) → IfOk (Sections.known what name o) (λ x. o ≡ Some x)
 known what name None = tt
 known what name (Some x) = refl
 
@@ -246,10 +243,10 @@ times_in : (kind : Kind) (of : List ℕ) (e : Node) → IfOk (Sections.times_in 
 unfolding Sections.times_in
 times_in kind of e = times_by kind of (Sections.execution_of e)
 
-abbrev NoCount : {X : Type 0} → List X → X → Type 0
+abbrev pub NoCount : {X : Type 0} → List X → X → Type 0
 NoCount done x = Unit {0}
 
-abbrev TimesDiffer : TimeEntry → TimeEntry → Type 0
+abbrev pub TimesDiffer : TimeEntry → TimeEntry → Type 0
 TimesDiffer s t = s.actor ≢ t.actor
 
 time_entry : (kind : Kind) (of : List ℕ) (actors : List Actor) (done : List TimeEntry) (e : Node) → IfOk (Sections.time_entry kind of actors done e) (λ t. Spelled.IsTimeEntry kind actors e t × Related TimesDiffer NoCount done t)
@@ -279,7 +276,7 @@ size_of : (of : List ℕ) (e : Node) → IfOk (Sections.size_of of e) (Spelled.I
 unfolding Sections.size_of
 size_of of e = size_in of (Sections.size_text e)
 
-abbrev SizesDiffer : SizeEntry → SizeEntry → Type 0
+abbrev pub SizesDiffer : SizeEntry → SizeEntry → Type 0
 SizesDiffer s t = s.channel ≢ t.channel
 
 size_entry : (of : List ℕ) (channels : List Channel) (done : List SizeEntry) (e : Node) → IfOk (Sections.size_entry of channels done e) (λ s. Spelled.IsSizeEntry channels e s × Related SizesDiffer NoCount done s)

@@ -1,5 +1,5 @@
 -- Lists by phase: the phases of an actor, and lists that are widened to them.
-use Rattle.std.proofs.Common.{◌≡◌, ◌⊎◌, ℕ, suc, ◌+◌, ◌≤◌, ◌<◌, Bool, List, [], ◌∷◌, length, map, max, drop, replicate, get_or, sum, inl, inr, refl, sym, ap, ◌∙◌, arith}
+use Rattle.std.proofs.Common.{◌≡◌, ◌⊎◌, ℕ, suc, ◌+◌, ◌≤◌, ◌<◌, Bool, List, [], ◌∷◌, length, map, max, drop, replicate, get_or, sum, inl, inr, sym, ap, ◌∙◌, arith}
 use Rattle.std.specs.List.{All, AllByRecursion, list_all}
 use Rattle.std.proofs.lemmas.List.{length-replicate, length-map, get_or-replicate, get_or-map, at_drop_more}
 use Rattle.std.proofs.lemmas.List.Folds.{list_all-map}
@@ -19,10 +19,6 @@ longest-few most (xs ∷ lists) some all = omega (arith, all.0, longest-few most
 -- what a list has by phase, if it is of so many phases
 abbrev pub Fits : ℕ → List ℕ → Type 0
 Fits phases xs = (length xs ≡ phases) ⊎ (length xs ≤ 1)
-
-pub widened-none : (phases : ℕ) (xs : List ℕ) → length xs ≡ 0 → widened phases xs ≡ []
-widened-none phases [] none = refl
-widened-none phases (x ∷ xs) none = absurd (omega (arith, none))
 
 -- a list with a number at least is widened to a number for each phase
 pub widened-long : (phases : ℕ) (xs : List ℕ) → Fits phases xs → 1 ≤ length xs → length (widened phases xs) ≡ phases

@@ -6,7 +6,7 @@ use Rattle.std.specs.Option.{option_map_or}
 use Rattle.std.specs.Str.{bytes_eq}
 use Rattle.std.proofs.lemmas.Bool.{eqb-false}
 use Rattle.std.proofs.lemmas.List.Elements.{All-from_recursion, recursion_from_All}
-use Rattle.std.proofs.lemmas.List.{get_or-map, length-map}
+use Rattle.std.proofs.lemmas.List.{get_or-map, length-map, length_push}
 use Rattle.sd_base.specs.declared.limits.Quantity.{Quantity}
 use Rattle.sd_base.specs.declared.limits.Quantity.TheVariants as quantity
 use Rattle.sd_base.specs.declared.tables.Kind.{Kind}
@@ -29,7 +29,7 @@ use Rattle.graph_reader.specs.declared.properties.TimeEntry.{TimeEntry}
 use Rattle.graph_reader.specs.declared.properties.SizeEntry.{SizeEntry}
 use Rattle.graph_reader.specs.Field.{word_of}
 use Rattle.graph_reader.specs.TreeSteps
-use Rattle.graph_reader.specs.TreeSteps.{◌>>=◌, file, Gives}
+use Rattle.graph_reader.specs.TreeSteps.{file, Gives}
 use Rattle.graph_reader.specs.NumberTexts
 use Rattle.graph_reader.specs.Sections
 use Rattle.graph_reader.specs.Spelled.{IsNumber, Spells, ArePhased, IsEven}
@@ -40,7 +40,7 @@ use Rattle.graph_reader.proofs.NumberLists
 use Rattle.graph_reader.proofs.PhaseLists.{Fits, longest-some, longest-few, widened-long, widened-all, widened-moves, some-long}
 use Rattle.graph_reader.proofs.Found.{even_phases}
 
-push-all : {A : Type 0} (P : A → Type 0) (done : List A) (a : A) → AllByRecursion P done → P a → AllByRecursion P (done ++ a ∷ [])
+pub push-all : {A : Type 0} (P : A → Type 0) (done : List A) (a : A) → AllByRecursion P done → P a → AllByRecursion P (done ++ a ∷ [])
 push-all P [] a p q = (q, tt)
 push-all P (x ∷ done) a p q = (p.0, push-all P done a p.1 q)
 
@@ -49,14 +49,10 @@ each-all : {A : Type 0} (P : A → Type 0) (read : List A → Node → Result A 
 each-all P read each done [] so_far = so_far
 each-all P read each done (e ∷ es) so_far = then P _ (read done e) (λ a. TreeSteps.each read (done ++ a ∷ []) es) (each done e) (λ a p. each-all P read each (done ++ a ∷ []) es (push-all P done a so_far p))
 
-length-push : {A : Type 0} (done : List A) (a : A) → length (done ++ a ∷ []) ≡ length done + 1
-length-push [] a = refl
-length-push (x ∷ done) a = omega (arith, length-push done a)
-
 -- where each one is counted, there are no more than the limit
 each-few : {A : Type 0} (limit : ℕ) (read : List A → Node → Result A ReadError) → ((done : List A) (e : Node) → IfOk (read done e) (λ _. length done + 1 ≤ limit)) → (done : List A) (es : List Node) → length done ≤ limit → IfOk (TreeSteps.each read done es) (λ xs. length xs ≤ limit)
 each-few limit read each done [] so_far = so_far
-each-few limit read each done (e ∷ es) so_far = then (λ _. length done + 1 ≤ limit) _ (read done e) (λ a. TreeSteps.each read (done ++ a ∷ []) es) (each done e) (λ a p. each-few limit read each (done ++ a ∷ []) es (omega (arith, length-push done a)))
+each-few limit read each done (e ∷ es) so_far = then (λ _. length done + 1 ≤ limit) _ (read done e) (λ a. TreeSteps.each read (done ++ a ∷ []) es) (each done e) (λ a p. each-few limit read each (done ++ a ∷ []) es (omega (arith, length_push done a)))
 
 -- ---- numbers
 
@@ -354,10 +350,6 @@ phases times actors = map (λ (a : ActorRow). a.phases) (map (Sections.actor_row
 phases-same : (times : List TimeEntry) (actors : List Actor) → phases times actors ≡ map (Sections.phases_in times) actors
 phases-same times [] = refl
 phases-same times (a ∷ actors) = ap (λ (ps : List ℕ). Sections.phases_in times a ∷ ps) (phases-same times actors)
-
-length-phases : (times : List TimeEntry) (actors : List Actor) → length (phases times actors) ≡ length actors
-length-phases times [] = refl
-length-phases times (a ∷ actors) = ap suc (length-phases times actors)
 
 length-rows : (times : List TimeEntry) (actors : List Actor) → length (map (Sections.actor_row times) actors) ≡ length actors
 length-rows times [] = refl

@@ -1,6 +1,6 @@
 -- The loop of a live bounded net and its critical cycle are what is promised of its distribution.
-use Rattle.std.proofs.Common.{◌≡◌, ℕ, zero, suc, ◌*◌, ◌≤◌, ◌<◌, Option, Some, List, [], ◌∷◌, length, inl, inr, ⊎_elim, subst, ap, arith, mul-le-mul_left}
-use Rattle.std.specs.Prelude.{All, slice_get}
+use Rattle.std.proofs.Common.{◌≡◌, ℕ, ◌*◌, ◌≤◌, ◌<◌, Option, Some, List, [], ◌∷◌, length, inl, inr, ⊎_elim, subst, ap, arith, mul-le-mul_left}
+use Rattle.std.specs.Prelude.{slice_get}
 use Rattle.std.proofs.Math.Nat.{eq_of_mul-eq-mul_left, le_of_mul-le-mul_left}
 use Rattle.std.proofs.lemmas.Bool.{cases_lt}
 use Rattle.sd_base.specs.declared.numbers.Fraction.{Fraction}
@@ -9,10 +9,7 @@ use Rattle.sd_base.specs.Connection.{IsWalk, IsConnected, ends_of}
 use Rattle.sd_base.proofs.Connections.{IsChannel, channel-of, pair-of}
 use Rattle.firing.specs.declared.table.LoopTable.{LoopTable}
 use Rattle.lasso.specs.LoopAnswers.{IsFound}
-use Rattle.critical.specs.declared.cycle.FiringNo.{FiringNo}
-use Rattle.critical.specs.declared.cycle.CycleStep.{CycleStep}
 use Rattle.critical.specs.declared.cycle.NeedCycle.{NeedCycle}
-use Rattle.critical.specs.Cycles.{IsChain}
 use Rattle.critical.specs.CriticalCycles.{IsCriticalCycleOf}
 use Rattle.critical.specs.Spaces.{AreSpaces}
 use Rattle.storage.specs.BoundedNets.{bound}
@@ -36,12 +33,6 @@ walk-on net ds a (k ∷ walk) b (e, is, step) = (e, pair, ⊎_elim (λ (on : (a 
 
 pub bound-connected : (net : Net) (ds : List (Option ℕ)) → IsConnected net → IsConnected (bound net ds)
 bound-connected net ds connected a actor = let way = connected a actor in (way.0, walk-on net ds 0 way.0 a way.1)
-
--- the channels of the steps of a chain are those of the net
-pub chain-places : (net : Net) (from : FiringNo) (steps : List CycleStep) → IsChain net from steps → All (λ (step : CycleStep). step.channel < length net.channels) steps
-chain-places net from [] chain k d below = absurd (omega arith)
-chain-places net from (step ∷ steps) chain zero d below = chain.0.place
-chain-places net from (step ∷ steps) chain (suc k) d below = chain-places net step.to steps chain.1 k d (omega arith)
 
 module _ (net : Net) (ds : List (Option ℕ)) (states : ℕ) (table : LoopTable) (cycle : NeedCycle) (rate : Fraction) (enlarge : List ℕ) (found : IsFound (bound net ds) states table) (critical : IsCriticalCycleOf (bound net ds) table cycle) (factor : (g : ℕ) × (table.rounds ≡ g * rate.num) × (table.period ≡ g * rate.den)) (spaces : AreSpaces (bound net ds) cycle.steps (length cycle.steps) enlarge) (facts : CyclesBoundRoomierNets) where
   some-factor : 1 ≤ factor.0

@@ -7,7 +7,7 @@ use Rattle.sd_base.specs.Connection.{ends_of}
 use Rattle.sd_base.specs.Untimed.{none_fired, IsLive}
 use Rattle.firing.specs.Wiring.{IsWiring, IsWiringOf}
 use Rattle.firing.specs.declared.wiring.Wiring.{Wiring}
-use Rattle.liveness.specs.RoundAnswers.{IsReached}
+use Rattle.liveness.specs.RoundAnswers.{AreReachedCounts}
 use Rattle.storage.specs.BoundedNets.{bound, spaces_from}
 use Rattle.storage.specs.Distributions.{AtMost, IsDistribution}
 use Rattle.storage.specs.inside.Easing.{Eases}
@@ -17,7 +17,7 @@ use Rattle.storage.proofs.Roundings.{bound-eases, more-eases}
 more-room : (net : Net) (ds es : List (Option ℕ)) → AtMost ds es → Eases (bound net ds) (bound net es)
 more-room net ds es most = bound-eases net ds es (more-eases 0 net.channels ds es most)
 
-pub more-reached : (net : Net) (ds es : List (Option ℕ)) (counts : List ℕ) → AtMost ds es → IsReached (bound net ds) counts → IsReached (bound net es) counts
+pub more-reached : (net : Net) (ds es : List (Option ℕ)) (counts : List ℕ) → AtMost ds es → AreReachedCounts (bound net ds) counts → AreReachedCounts (bound net es) counts
 more-reached net ds es counts most reached = record {
   actors = reached.actors;
   order = reached.order;

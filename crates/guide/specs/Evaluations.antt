@@ -10,8 +10,8 @@ use Rattle.sd_base.specs.Rates.{Rate}
 use Rattle.sd_base.specs.Untimed.{IsBlockedBy, IsLive}
 use Rattle.firing.specs.declared.table.LoopTable.{LoopTable}
 use Rattle.lasso.specs.LoopAnswers.{IsFound, IsRunRefusal}
-use Rattle.lasso.specs.declared.error.RunError.{RunError}
-use Rattle.lasso.specs.declared.error.RunError.TheVariants.{StatesSpent, TooManyStarts, NoMemory}
+use Rattle.lasso.specs.RunError.{RunError}
+use Rattle.lasso.specs.RunError.TheVariants.{StatesSpent, TooManyStarts, NoMemory}
 use Rattle.critical.specs.declared.cycle.NeedCycle.{NeedCycle}
 use Rattle.critical.specs.CriticalCycles.{IsCriticalCycleOf}
 use Rattle.critical.specs.Spaces.{IsRising, Has, AreSpaces}

@@ -8,7 +8,7 @@ ghost use Rattle.storage.specs.ShownSpaces.{ShowsSpace};
 ghost use Rattle.storage.specs.BoundedNets.{bound, space_of};
 
 use firing::{Firing, Port, know_laws, made_sum};
-use liveness::moved_by;
+use liveness::moved_sum;
 use sd_base::{NoMemory, Rows};
 use std::alloc::Global;
 use storage::Distribution;
@@ -89,17 +89,17 @@ fn lacks_space<F: Firing>(net: &F, counts: &[u64], channel: u32, room: u64) -> b
     let made = counts[net.source(channel) as usize];
     let taken = counts[net.target(channel) as usize];
     let free = u128::from(room.saturating_sub(net.tokens(channel)));
-    free + moved_by(net, channel, Port::Taken, taken) < made_with_next(net, channel, made)
+    free + moved_sum(net, channel, Port::Taken, taken) < made_with_next(net, channel, made)
 }
 
 /// The tokens that the first firings of the source make on a channel, so many of them and one more. Cost: that of
-/// `moved_by`.
+/// `moved_sum`.
 fn made_with_next<F: Firing>(net: &F, channel: u32, firings: u64) -> u128
     requires { channel < length (F.net net.now).channels }
     ensures { result ≡ total (channel_at (F.net net.now) channel).made (firings + 1) }
 {
     if firings < u64::MAX {
-        moved_by(net, channel, Port::Made, firings + 1)
+        moved_sum(net, channel, Port::Made, firings + 1)
     } else {
         made_sum(net, channel, u128::from(firings) + 1)
     }

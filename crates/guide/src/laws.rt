@@ -12,7 +12,7 @@ ghost use Rattle.sd_base.specs.Schedules.{HasInputs};
 ghost use Rattle.sd_base.specs.Untimed.{Blocks, IsLive};
 ghost use Rattle.firing.specs.Wiring.{IsWiringOf};
 ghost use Rattle.firing.specs.declared.wiring.Wiring.{Wiring as Wires};
-ghost use Rattle.liveness.specs.RoundAnswers.{IsReached};
+ghost use Rattle.liveness.specs.RoundAnswers.{AreReachedCounts};
 ghost use Rattle.storage.specs.BoundedNets.{bound};
 ghost use Rattle.storage.specs.Distributions.{AtMost, IsDistribution, capacity_at};
 ghost use Rattle.storage.specs.ShownSpaces.{ShowsSpace};
@@ -31,7 +31,7 @@ pub fn enlarged_channels_are_in_the_guide()
 /// Ending counts rise with room: counts that some order of firings reaches in a bounded net are reached in each with no
 /// less room too; and so a net with no less room than a live one is live.
 pub fn counts_are_reached_with_more_room()
-    ensures reached { (net : Net) (ds es : List (Option ℕ)) (counts : List ℕ) → AtMost ds es → IsReached (bound net ds) counts → IsReached (bound net es) counts }
+    ensures reached { (net : Net) (ds es : List (Option ℕ)) (counts : List ℕ) → AtMost ds es → AreReachedCounts (bound net ds) counts → AreReachedCounts (bound net es) counts }
     ensures live { (net : Net) (ds es : List (Option ℕ)) → AtMost ds es → IsLive (bound net ds) → IsLive (bound net es) }
 {}
 

@@ -5,7 +5,7 @@ ghost use Rattle.sd_base.specs.Schedules.{HasInputs};
 ghost use Rattle.sd_base.specs.Connection.{IsConnected};
 ghost use Rattle.sd_base.specs.Untimed.{IsBlockedBy, IsLive};
 ghost use Rattle.firing.specs.Wiring.{IsWiringOf};
-ghost use Rattle.liveness.specs.RoundAnswers.{IsEnding, IsReached};
+ghost use Rattle.liveness.specs.RoundAnswers.{IsEnding, AreReachedCounts};
 ghost use Rattle.lasso.specs.LoopAnswers.{IsRunRefusal};
 ghost use Rattle.storage.specs.BoundedNets.{bound};
 ghost use Rattle.guide.specs.Evaluations.{IsEvaluable, IsEvaluated, IsRefused, loops_run};
@@ -45,6 +45,18 @@ pub struct Evaluation {
     pub outcome: Outcome,
 }
 
+/// A distribution of a net, with what is known of the net that it bounds.
+#[derive(Drop)]
+pub struct Trial<'a, F: Firing> {
+    pub net: &'a F,
+    pub capacities: &'a Distribution,
+    /// By actor the channels of the bounded net.
+    pub wiring: &'a Wiring,
+    /// By actor firings that some order of firings of the bounded net reaches: none, those at which a net with less room is
+    /// blocked, or those of a whole round where one with less room is live.
+    pub counts: &'a [u64],
+}
+
 /// The rate of the net bounded by a distribution: by the loop of its self-timed execution, or 0 where a round can't be
 /// completed. More room can raise it on the channels alone whose free space is on the critical cycle, or whose free space
 /// holds up an actor of the blocked net (Stuijk, Geilen and Basten 2008, narrowed to one cycle). It counts a step where a
@@ -69,77 +81,65 @@ pub fn evaluate<F: Firing, L: Ledger>(
     let bounded = Bounded::new(alloc, net, capacities)?;
     let wiring = Wiring::new(alloc, &bounded)?;
     let counts = no_counts(alloc, net)?;
-    evaluate_on(
-        alloc,
+    let trial = Trial {
         net,
         capacities,
-        &bounded,
-        &wiring,
-        counts.as_slice(),
-        states,
-        steps,
-    )
+        wiring: &wiring,
+        counts: counts.as_slice(),
+    };
+    evaluate_on(alloc, &trial, &bounded, states, steps)
 }
 
-/// What `evaluate` answers, where the wiring of the bounded net is there already, and with counts by actor that some
-/// order of firings of it reaches, from which the test for a round begins: those at which a net with less room is blocked,
-/// or those of a whole round where one with less room is live. Cost: that of `one_round_from`, unless they are those of a
-/// whole round, and, where the net is live, of a copy of it, `run_loop` and `cycle_of`.
+/// What `evaluate` answers, where the wiring of the bounded net is there already, and the test for a round begins from counts
+/// that are. Cost: that of `one_round_from`, unless they are those of a whole round, and, where the net is live, of
+/// `run_loop` and `cycle_of`.
 pub fn evaluate_from<F: Firing, L: Ledger>(
     alloc: Global,
-    net: &F,
-    capacities: &Distribution,
-    wiring: &Wiring,
-    counts: &[u64],
+    trial: &Trial<F>,
     states: u64,
     steps: &mut Steps<L>,
 ) -> Result<Evaluation, RunError>
-    requires fits { IsEvaluable (F.net net.now) capacities.now.capacities }
-    requires wired { IsWiringOf (bound (F.net net.now) capacities.now.capacities) wiring.now }
-    requires reached { IsReached (bound (F.net net.now) capacities.now.capacities) counts.now }
+    requires fits { IsEvaluable (F.net trial.now.net.now) trial.now.capacities.now.capacities }
+    requires wired { IsWiringOf (bound (F.net trial.now.net.now) trial.now.capacities.now.capacities) trial.now.wiring.now }
+    requires reached { AreReachedCounts (bound (F.net trial.now.net.now) trial.now.capacities.now.capacities) trial.now.counts.now }
     requires some { LEAST_STATES ≤ states }
     requires few { states ≤ STATES }
-    ensures evaluated { IfOk result (IsEvaluated (F.net net.now) capacities.now.capacities states) }
-    ensures refused { IfErr result (IsRefused (F.net net.now) capacities.now.capacities states) }
+    ensures evaluated { IfOk result (IsEvaluated (F.net trial.now.net.now) trial.now.capacities.now.capacities states) }
+    ensures refused { IfErr result (IsRefused (F.net trial.now.net.now) trial.now.capacities.now.capacities states) }
     ensures count { IfOk result (λ e. steps.new.count ≡ steps.old.count + loops_run e.outcome) }
     ensures most { steps.new.count ≤ steps.old.count + 1 }
     ensures rises { steps.old.count ≤ steps.new.count }
     ensures share { steps.new.share ≡ steps.old.share }
 {
-    let bounded = Bounded::new(alloc, net, capacities)?;
-    evaluate_on(
-        alloc, net, capacities, &bounded, wiring, counts, states, steps,
-    )
+    let bounded = Bounded::new(alloc, trial.net, trial.capacities)?;
+    evaluate_on(alloc, trial, &bounded, states, steps)
 }
 
 /// The same on the net that the distribution bounds.
 fn evaluate_on<F: Firing, B: Firing, L: Ledger>(
     alloc: Global,
-    net: &F,
-    capacities: &Distribution,
+    trial: &Trial<F>,
     bounded: &B,
-    wiring: &Wiring,
-    counts: &[u64],
     states: u64,
     steps: &mut Steps<L>,
 ) -> Result<Evaluation, RunError>
-    requires fits { IsEvaluable (F.net net.now) capacities.now.capacities }
-    requires bounded { B.net bounded.now ≡ bound (F.net net.now) capacities.now.capacities }
-    requires wired { IsWiringOf (B.net bounded.now) wiring.now }
-    requires reached { IsReached (B.net bounded.now) counts.now }
+    requires fits { IsEvaluable (F.net trial.now.net.now) trial.now.capacities.now.capacities }
+    requires bounded { B.net bounded.now ≡ bound (F.net trial.now.net.now) trial.now.capacities.now.capacities }
+    requires wired { IsWiringOf (B.net bounded.now) trial.now.wiring.now }
+    requires reached { AreReachedCounts (B.net bounded.now) trial.now.counts.now }
     requires some { LEAST_STATES ≤ states }
     requires few { states ≤ STATES }
-    ensures evaluated { IfOk result (IsEvaluated (F.net net.now) capacities.now.capacities states) }
-    ensures refused { IfErr result (IsRefused (F.net net.now) capacities.now.capacities states) }
+    ensures evaluated { IfOk result (IsEvaluated (F.net trial.now.net.now) trial.now.capacities.now.capacities states) }
+    ensures refused { IfErr result (IsRefused (F.net trial.now.net.now) trial.now.capacities.now.capacities states) }
     ensures count { IfOk result (λ e. steps.new.count ≡ steps.old.count + loops_run e.outcome) }
     ensures most { steps.new.count ≤ steps.old.count + 1 }
     ensures rises { steps.old.count ≤ steps.new.count }
     ensures share { steps.new.share ≡ steps.old.share }
 {
-    match ending_from(alloc, bounded, wiring, counts)? {
-        Ending::Whole => evaluate_whole(alloc, bounded, wiring, states, steps),
+    match ending_from(alloc, bounded, trial.wiring, trial.counts)? {
+        Ending::Whole => evaluate_whole(alloc, bounded, trial.wiring, states, steps),
         Ending::Blocked { counts, lacks } => {
-            Ok(evaluate_blocked(alloc, net, capacities, counts, lacks)?)
+            Ok(evaluate_blocked(alloc, trial.net, trial.capacities, counts, lacks)?)
         }
     }
 }
@@ -153,7 +153,7 @@ fn ending_from<B: Firing>(
     counts: &[u64],
 ) -> Result<Ending, NoMemory>
     requires wired { IsWiringOf (B.net bounded.now) wiring.now }
-    requires reached { IsReached (B.net bounded.now) counts.now }
+    requires reached { AreReachedCounts (B.net bounded.now) counts.now }
     ensures { IfOk result (IsEnding (B.net bounded.now)) }
 {
     if are_whole(bounded, counts) {

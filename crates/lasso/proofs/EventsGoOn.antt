@@ -12,10 +12,10 @@ use Rattle.sd_base.proofs.Counts.{early_at, ended_at, ended-at-is, full-along, f
 use Rattle.sd_base.proofs.Events.{event-tells}
 use Rattle.sd_base.proofs.Liveness.{live-never-stuck}
 use Rattle.sd_base.proofs.Tight.{earliest-within}
-use Rattle.selftimed.specs.Moves.{IsNext}
+use Rattle.selftimed.specs.Moves.{IsNextEvent}
 use Rattle.selftimed.specs.declared.shape.Shape.{Shape}
-use Rattle.lasso.specs.LoopAnswers.{FirstDiffer, IsTooManyStarts, PassesStarts}
-use Rattle.lasso.proofs.Ranks.{event-test, rank-first, rank-rises, rank-grows, rank-orders, rank-after, starts-rise}
+use Rattle.loops.specs.LoopAnswers.{FirstDiffer, IsTooManyStarts, PassesStarts}
+use Rattle.loops.proofs.Ranks.{event-test, rank-first, rank-rises, rank-grows, rank-orders, rank-after, starts-rise}
 use Rattle.lasso.proofs.Keys.{alike, alike-tells, alike-holds}
 
 below_apart : (x y : ℕ) → x ≤ y → (x ≡ y → ⊥) → x < y
@@ -70,7 +70,7 @@ module _ (net : Net) (laws : Lawful net) (fed : HasInputs net) (live : IsLive ne
 
   -- the next event is among j moments, or none of them is an event
   Next : ℕ → ℕ → Type 0
-  Next m j = ((t : ℕ) × IsNext net m t) ⊎ ((x : ℕ) → m < x → x ≤ j + m → IsEvent net x → ⊥)
+  Next m j = ((t : ℕ) × IsNextEvent net m t) ⊎ ((x : ℕ) → m < x → x ≤ j + m → IsEvent net x → ⊥)
 
   next-among : (m j : ℕ) → Next m j
   unfolding Next
@@ -85,13 +85,13 @@ module _ (net : Net) (laws : Lawful net) (fed : HasInputs net) (live : IsLive ne
           (λ (apart : x ≡ suc j + m → ⊥). quiet x after (omega arith) event)
           (cases_eq x (suc j + m)))
 
-  next-event : (m : ℕ) → (t : ℕ) × IsNext net m t
+  next-event : (m : ℕ) → (t : ℕ) × IsNextEvent net m t
   unfolding Next
   next-event m = step (event-ahead m)
     where
-      step : (t : ℕ) × (m < t) × IsEvent net t → (t : ℕ) × IsNext net m t
+      step : (t : ℕ) × (m < t) × IsEvent net t → (t : ℕ) × IsNextEvent net m t
       step (t, later, event) = ⊎_elim
-          (λ (found : (u : ℕ) × IsNext net m u). found)
+          (λ (found : (u : ℕ) × IsNextEvent net m u). found)
           (λ (none : (x : ℕ) → m < x → x ≤ (t - m) + m → IsEvent net x → ⊥). absurd (none t later (omega arith) event))
           (next-among m (t - m))
 

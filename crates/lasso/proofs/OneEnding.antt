@@ -11,8 +11,8 @@ use Rattle.sd_base.specs.Lawful.{Lawful}
 use Rattle.sd_base.specs.Rates.{IsLoop, IsLoopTable}
 use Rattle.sd_base.proofs.Parts.{balanced}
 use Rattle.firing.specs.declared.table.LoopTable.{LoopTable}
-use Rattle.lasso.specs.LoopAnswers.{IsFound, IsStatesSpent, IsTooManyStarts}
-use Rattle.lasso.proofs.Ranks.{rank-orders, starts-rise}
+use Rattle.loops.specs.LoopAnswers.{IsFound, IsStatesSpent, IsTooManyStarts}
+use Rattle.loops.proofs.Ranks.{rank-orders, starts-rise}
 
 -- a loop ends no later than another one
 ends-first : (net : Net) (e p f q : ℕ) → IsLoop net e p → IsLoop net f q → f + q ≤ e + p

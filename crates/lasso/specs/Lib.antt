@@ -1,2 +1,2 @@
-pub mod LoopAnswers
-pub mod inside
+pub use Rattle.loops.specs.LoopAnswers
+pub use Rattle.loops.specs.declared.error.RunError

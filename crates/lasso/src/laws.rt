@@ -8,7 +8,7 @@ ghost use Rattle.sd_base.specs.Untimed.{IsLive};
 ghost use Rattle.sd_base.specs.Lawful.{Lawful};
 ghost use Rattle.sd_base.specs.Rates.{IsLoop};
 ghost use Rattle.firing.specs.declared.table.LoopTable.{LoopTable};
-ghost use Rattle.lasso.specs.LoopAnswers.{IsFound, IsStatesSpent, IsTooManyStarts, PassesStarts};
+ghost use Rattle.loops.specs.LoopAnswers.{IsFound, IsStatesSpent, IsTooManyStarts, PassesStarts};
 
 /// At most one ending fits a net and a number of shapes, and a net has one loop with one table. A loop
 /// within the shapes and starts that are allowed leaves no refusal.

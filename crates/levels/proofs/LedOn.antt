@@ -108,9 +108,6 @@ rises-part cs ds xs ys all rises es leads = rises es (leads-part cs ds xs ys all
 found-part : {H : Type 0} (cs : List Channel) (limit : ℕ) (ds : List (Option ℕ)) (xs ys : List ℕ) (hint : H) (f : Found H) → ((c : ℕ) → Contains xs c → Contains ys c) → IsFoundBy cs limit (led_by ds xs) hint f → IsFoundBy cs limit (led_by ds ys) hint f
 found-part cs limit ds xs ys hint f all is = record { leads = leads-part cs ds xs ys all f.capacities.capacities is.leads; total = is.total; within = is.within; hinted = is.hinted }
 
-pub led-none : {H : Type 0} (cs : List Channel) (limit : ℕ) (ds : List (Option ℕ)) (hint : H) (old : List (Found H)) → AreLedOn cs limit (led_by ds []) hint old old
-led-none cs limit ds hint old = record { kept = λ f one. one; only = λ f one. inl one; there = λ es leads within. absurd (contains-none leads.0 leads.1) }
-
 pub led-append : {H : Type 0} (cs : List Channel) (limit : ℕ) (ds : List (Option ℕ)) (xs ys : List ℕ) (hint : H) (old now new : List (Found H)) → AreLedOn cs limit (led_by ds xs) hint old now → AreLedOn cs limit (led_by ds ys) hint now new → AreLedOn cs limit (led_by ds (xs ++ ys)) hint old new
 led-append cs limit ds xs ys hint old now new first second = record {
   kept = λ f one. second.kept f (first.kept f one);

@@ -1,6 +1,5 @@
 pub mod Elements
 pub mod WaitingOrder
-pub mod Heads
 pub mod Inserts
 pub mod Growing
 pub mod TakenOff

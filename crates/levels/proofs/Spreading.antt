@@ -16,7 +16,7 @@ use Rattle.levels.specs.declared.levels.Bounds.{Bounds}
 use Rattle.levels.specs.declared.levels.Levels.{Levels}
 use Rattle.levels.specs.Visits.{AreVisits, IsLedTo, LeadsTo, Visit, visited}
 use Rattle.levels.specs.Frontiers.{AreLedOn, AreTooMany, IsFoundBy, IsFrontier, IsLevelTaken, IsOver, IsSame, IsSpent, IsSpread, Rises, StandsIn, StopsAt, Waits, WasFound, distributions_of, found_order}
-use Rattle.levels.specs.inside.Waiting.{AreTooManyLed, EndsWaiting, IsNext}
+use Rattle.levels.specs.inside.Waiting.{AreTooManyLed, EndsWaiting, IsNextTotal}
 use Rattle.levels.proofs.Elements.{contains-cases, contains-here, contains-map, contains-none, contains-unmap, order-append}
 use Rattle.levels.proofs.Inserts.{least-first, sorted-left, sorted-order, sorted-right}
 
@@ -33,22 +33,7 @@ led-here : (cs : List Channel) (start : List (Option ℕ)) (visits : List Visit)
 led-here cs start visits v ds leads = inr (v, Contains-push visits v, leads)
 
 module _ {H : Type 0} where
-  abbrev pub none_found : List (Found H)
-  none_found = []
-
   -- from the start
-
-  pub spread-none : (cs : List Channel) (start : List (Option ℕ)) (limit : ℕ) → limit < storage_of cs start → IsSpread cs start limit 0 [] [] none_found
-  spread-none cs start limit past = record {
-    order = tt;
-    within = All-nil (λ (ds : List (Option ℕ)). storage_of cs ds ≤ limit);
-    low = All-nil (λ (ds : List (Option ℕ)). storage_of cs ds < 0);
-    waits = All-nil (Waits cs limit 0);
-    begins = λ within. absurd (omega (arith, past, within));
-    next = λ v ds one leads within. absurd (contains-none v one);
-    rises = λ v one. absurd (contains-none v one);
-    led = λ ds found. ⊎_elim (λ (none : Contains [] ds). absurd (contains-none ds none)) (λ (f : StandsIn [] ds). absurd (contains-none f.0 f.1)) found;
-  }
 
   pub spread-one : (cs : List Channel) (start : List (Option ℕ)) (limit : ℕ) (f : Found H) → f.capacities.capacities ≡ start → f.total ≡ storage_of cs start → storage_of cs start ≤ limit → IsSpread cs start limit 0 [] [] (f ∷ [])
   spread-one cs start limit f same total within = record {
@@ -91,7 +76,7 @@ module _ {H : Type 0} where
       let first : total < x.total = ⊎_elim (λ (less : total < x.total). less) (λ (no_less : x.total ≤ total). absurd (stops (omega (arith, least x (contains-here x fs))))) (cases_lt total x.total) in
       omega (arith, first, least-first x f fs sorted is)
 
-  module _ (cs : List Channel) (start : List (Option ℕ)) (limit floor : ℕ) (visits : List Visit) (total : ℕ) (level old new : List (Found H)) (next : IsNext total old) (off : IsLevelTaken total level old new) (s : IsSpread cs start limit floor visits [] old) where
+  module _ (cs : List Channel) (start : List (Option ℕ)) (limit floor : ℕ) (visits : List Visit) (total : ℕ) (level old new : List (Found H)) (next : IsNextTotal total old) (off : IsLevelTaken total level old new) (s : IsSpread cs start limit floor visits [] old) where
     sorted : IsStrictlySortedBy found_order (level ++ new)
     sorted = subst (IsStrictlySortedBy found_order) off.parts next.sorted
 
@@ -165,7 +150,7 @@ module _ {H : Type 0} where
       led = λ ds found. s.led ds (found-back ds found);
     }
 
-  pub frontier-level : (cs : List Channel) (start : List (Option ℕ)) (floor : ℕ) (visits : List Visit) (total : ℕ) (level : List (Found H)) (old new : Levels H) → IsNext total old.waiting.keys → IsLevelTaken total level old.waiting.keys new.waiting.keys → new.found ≡ old.found → IsSame old new → IsFrontier cs start floor visits [] old → IsFrontier cs start (total + 1) visits (distributions_of level) new
+  pub frontier-level : (cs : List Channel) (start : List (Option ℕ)) (floor : ℕ) (visits : List Visit) (total : ℕ) (level : List (Found H)) (old new : Levels H) → IsNextTotal total old.waiting.keys → IsLevelTaken total level old.waiting.keys new.waiting.keys → new.found ≡ old.found → IsSame old new → IsFrontier cs start floor visits [] old → IsFrontier cs start (total + 1) visits (distributions_of level) new
   frontier-level cs start floor visits total level old new next off found same f = record {
     over = subst (IsOver cs) (sym same.channels) f.over;
     spread = subst (λ (b : Bounds). IsSpread cs start b.total (total + 1) visits (distributions_of level) new.waiting.keys) (sym same.bounds) (spread-level cs start old.bounds.total floor visits total level old.waiting.keys new.waiting.keys next off f.spread);

@@ -5,7 +5,7 @@ ghost use Rattle.storage.specs.Distributions.{storage_of};
 ghost use Rattle.storage.specs.StorageOrder.{stepped};
 ghost use Rattle.levels.specs.Visits.{AreVisits, Visit, led_by};
 ghost use Rattle.levels.specs.Frontiers.{AreLedOn, IsFrontier, IsOver, IsLevelTaken, IsSame, IsSpent, Rises, StopsAt, distributions_of, found_order};
-ghost use Rattle.levels.specs.inside.Waiting.{EndsAdding, EndsWaiting, IsAdded, IsNext, IsTakenOff};
+ghost use Rattle.levels.specs.inside.Waiting.{EndsAdding, EndsWaiting, IsAdded, IsNextTotal, IsTakenOff};
 
 use crate::channel::ChannelStep;
 use crate::error::LevelsError;
@@ -209,7 +209,7 @@ impl<H: Copy + Drop> Levels<H> {
 
     /// The least storage of those that wait.
     fn next_total(&self) -> Option<u64>
-        ensures { MatchOption result (self.now.waiting.keys ≡ []) (λ t. IsNext t self.now.waiting.keys) }
+        ensures { MatchOption result (self.now.waiting.keys ≡ []) (λ t. IsNextTotal t self.now.waiting.keys) }
     {
         if self.waiting.len() == 0 {
             return None;

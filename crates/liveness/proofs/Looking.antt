@@ -9,7 +9,6 @@ use Rattle.std.proofs.lemmas.List.FromFn.{length-range_with_len, get_or-range_wi
 use Rattle.std.proofs.lemmas.List.Elements.{All-push, All-pop, All-contains, Contains-push, Contains-push_cases, Contains-append_left}
 use Rattle.sd_base.specs.Net.{Net, channel_at}
 use Rattle.sd_base.specs.Schedules.{Needs, Lacks}
-use Rattle.sd_base.specs.Untimed.{Closed}
 use Rattle.sd_base.proofs.Ends.{left_of}
 use Rattle.firing.specs.declared.sums.Port.{Port}
 use Rattle.firing.specs.declared.sums.Port.TheVariants.{Made}
@@ -67,9 +66,6 @@ pub record TargetsSoFar (net : Net) (t : ℕ) (channels : List ℕ) (old now : L
   pub kept : (a : ℕ) → flag_of old a ≡ true → flag_of now a ≡ true
   pub there : (j : ℕ) → j < n → (channel_at net (slice_index channels j)).target ≢ t → flag_of now (channel_at net (slice_index channels j)).target ≡ true
 
-pub targets-none : (net : Net) (t : ℕ) (channels : List ℕ) (old : List Bool) → TargetsSoFar net t channels old old 0
-targets-none net t channels old = record { kept = λ a is. is; there = λ j h. absurd (omega arith) }
-
 pub targets-more : (net : Net) (t : ℕ) (channels : List ℕ) (old now : List Bool) (n b : ℕ) → b < length now → b ≡ (channel_at net (slice_index channels n)).target → TargetsSoFar net t channels old now n →
     TargetsSoFar net t channels old (set now b true) (n + 1)
 targets-more net t channels old now n b place into so_far = record {
@@ -89,9 +85,6 @@ targets-skip net t channels old now n into so_far = record {
       (λ (here : n ≤ j). let same : n ≡ j = omega arith in absurd (apart (subst (λ (k : ℕ). (channel_at net (slice_index channels k)).target ≡ t) same into)))
       (cases_lt j n);
 }
-
-pub targets-all : (net : Net) (t : ℕ) (channels : List ℕ) (old now : List Bool) (n : ℕ) → length channels ≤ n → TargetsSoFar net t channels old now n → FlagsTargets net t channels old now
-targets-all net t channels old now n past so_far = record { kept = so_far.kept; there = λ j h. so_far.there j (omega arith) }
 
 -- ---- an actor is looked at
 
@@ -123,17 +116,6 @@ all-flagged net counts flagged stack n is trues range = record {
       let on : flag_of flagged a ≡ true = rw trues (Rattle.std.proofs.lemmas.List.get_or-replicate n a true false (omega arith)) in
       absurd (false≢true (sym off ∙ on));
 }
-
--- where no actor is flagged none can go on
-pub none-flagged : (net : Net) (counts : List ℕ) (flagged : List Bool) (stack : List ℕ) → stack ≡ [] → LeavesFlags net counts flagged stack → Closed net (slice_index counts)
-none-flagged net counts flagged stack none leaves a actor = ⊎_elim
-    (λ (on : flag_of flagged a ≡ true).
-    let has : Contains stack a = leaves.flags.listed a on in
-    let below : has.0 < length stack = has.1 in
-    let short : length stack ≡ 0 = ap length none in
-    absurd (omega arith))
-    (λ (off : flag_of flagged a ≡ false). leaves.stopped a actor off)
-    (cases_Bool (flag_of flagged a))
 
 module _ (net : Net) (counts : List ℕ) (flagged : List Bool) (rest : List ℕ) (t : ℕ) (leaves : LeavesFlags net counts flagged (rest ++ t ∷ [])) where
   pub next-actor : t < length net.times

@@ -1,14 +1,12 @@
 -- The first lacking channels of the actors below their round.
-use Rattle.std.proofs.Common.{◌≡◌, ℕ, ◌+◌, ◌≤◌, ◌<◌, List, [], ◌∷◌, ◌++◌, Option, Some, None, MatchOption, length, ⊎_elim, subst, sym, refl, ◌∙◌, arith}
+use Rattle.std.proofs.Common.{◌≡◌, ℕ, ◌+◌, ◌≤◌, ◌<◌, List, Option, Some, None, MatchOption, length, arith}
 use Rattle.std.specs.Prelude.{slice_index, slice_index_or}
-use Rattle.std.proofs.lemmas.Bool.{cases_lt}
-use Rattle.std.proofs.lemmas.List.{get_or_append_left, get_or_push, length_push}
 use Rattle.sd_base.specs.Net.{Net, channel_at, total}
 use Rattle.sd_base.specs.Schedules.{Needs, Lacks}
 use Rattle.sd_base.specs.Untimed.{Closed}
 use Rattle.firing.specs.Wiring.{SufficesBefore, IsFirstLack, IsLevel}
 use Rattle.firing.proofs.TokenMoves.{level-needs, level-feeds}
-use Rattle.sd_base.specs.Untimed.{IsFirstLacking, NamesLacks}
+use Rattle.sd_base.specs.Untimed.{IsFirstLacking}
 
 -- what is named of one actor
 abbrev pub Named : Net → (ℕ → ℕ) → ℕ → Option ℕ → Type 0
@@ -41,21 +39,3 @@ name-lack net counts tokens a (Some i) level closed actor less first = (
 pub record NamesBelow (net : Net) (v : ℕ → ℕ) (n : ℕ) (lacks : List (Option ℕ)) : Type 0 where
   pub many : length lacks ≡ n
   pub named : (a : ℕ) → a < n → Named net v a (slice_index_or lacks a None)
-
-pub names-none : (net : Net) (v : ℕ → ℕ) → NamesBelow net v 0 []
-names-none net v = record { many = refl; named = λ a h. absurd (omega arith) }
-
-pub names-push : (net : Net) (v : ℕ → ℕ) (n : ℕ) (lacks more : List (Option ℕ)) (o : Option ℕ) → more ≡ lacks ++ o ∷ [] → NamesBelow net v n lacks → Named net v n o → NamesBelow net v (n + 1) more
-names-push net v n lacks more o push below here = subst (NamesBelow net v (n + 1)) (sym push) (record {
-  many = length_push lacks o ∙ omega (arith, below.many);
-  named = λ a h. ⊎_elim
-      (λ (old : a < n). subst (Named net v a) (sym (get_or_append_left lacks (o ∷ []) None a (omega (arith, below.many)))) (below.named a old))
-      (λ (new : n ≤ a).
-      let at : length lacks ≡ a = omega (arith, below.many) in
-      let same : n ≡ a = omega arith in
-      subst (Named net v a) (sym (get_or_push lacks o None a at)) (subst (λ (b : ℕ). Named net v b o) same here))
-      (cases_lt a n);
-})
-
-pub names-all : (net : Net) (v : ℕ → ℕ) (n : ℕ) (lacks : List (Option ℕ)) → NamesBelow net v n lacks → n ≡ length net.times → NamesLacks net v lacks
-names-all net v n lacks below whole = record { actors = below.many ∙ whole; named = λ a h. below.named a (omega arith) }

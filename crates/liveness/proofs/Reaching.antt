@@ -1,17 +1,15 @@
 -- Counts that some order of firings reaches, and the tokens there.
-use Rattle.std.proofs.Common.{◌≡◌, ℕ, ◌+◌, ◌≤◌, ◌<◌, List, [], ◌∷◌, ◌++◌, length, replicate, ⊎_elim, subst, sym, refl, ap, ◌∙◌, arith}
+use Rattle.std.proofs.Common.{◌≡◌, ℕ, ◌+◌, ◌≤◌, ◌<◌, List, [], ◌∷◌, length, replicate, ⊎_elim, sym, ap, ◌∙◌, arith}
 use Rattle.std.specs.Prelude.{slice_index}
-use Rattle.std.proofs.lemmas.Bool.{cases_lt, cases_eq}
-use Rattle.std.proofs.lemmas.List.{get_or-replicate, get_or_append_left, get_or_push, length-replicate, length_push}
+use Rattle.std.proofs.lemmas.Bool.{cases_eq}
+use Rattle.std.proofs.lemmas.List.{get_or-replicate, length-replicate}
 use Rattle.sd_base.specs.Net.{Net, channel_at, total}
 use Rattle.sd_base.specs.Lawful.{Lawful}
 use Rattle.sd_base.specs.Untimed.{none_fired, one_more, CanFire, Fires, counts_after, IsLive}
 use Rattle.sd_base.proofs.Parts.{balanced}
 use Rattle.sd_base.proofs.Sums.{total-zero, total-le}
 use Rattle.sd_base.proofs.Blocking.{bump-same, bump-other}
-use Rattle.firing.specs.Wiring.{IsLevel}
-use Rattle.liveness.specs.RoundAnswers.{IsReached}
-use Rattle.liveness.specs.inside.UntimedRuns.{IsRun}
+use Rattle.liveness.specs.RoundAnswers.{AreReachedCounts}
 
 -- no channel has given more tokens than it had
 abbrev pub IsPaidAt : Net → (ℕ → ℕ) → ℕ → Type 0
@@ -38,7 +36,7 @@ paid-after : (net : Net) (order : List ℕ) (v : ℕ → ℕ) (i : ℕ) → i < 
 paid-after net [] v i below fires paid = paid
 paid-after net (a ∷ order) v i below fires paid = paid-after net order (one_more v a) i below fires.3 (paid-more net v a i below paid fires.2)
 
-pub reached-paid : (net : Net) → Lawful net → (counts : List ℕ) → IsReached net counts → (i : ℕ) → i < length net.channels → IsPaidAt net (slice_index counts) i
+pub reached-paid : (net : Net) → Lawful net → (counts : List ℕ) → AreReachedCounts net counts → (i : ℕ) → i < length net.channels → IsPaidAt net (slice_index counts) i
 reached-paid net laws counts reached i below =
     let none : IsPaidAt net none_fired i = rw total-zero (omega arith) in
     let paid : IsPaidAt net (counts_after none_fired reached.order) i = paid-after net reached.order none_fired i below reached.fires none in
@@ -55,32 +53,9 @@ pub record LevelsBelow (net : Net) (v : ℕ → ℕ) (n : ℕ) (tokens : List �
   pub many : length tokens ≡ n
   pub each : (i : ℕ) → i < n → IsLevelAt net v i (slice_index tokens i)
 
-pub levels-none : (net : Net) (v : ℕ → ℕ) → LevelsBelow net v 0 []
-levels-none net v = record { many = refl; each = λ i h. absurd (omega arith) }
-
-pub levels-push : (net : Net) (v : ℕ → ℕ) (n : ℕ) (tokens more : List ℕ) (x : ℕ) → more ≡ tokens ++ x ∷ [] → LevelsBelow net v n tokens → IsLevelAt net v n x → LevelsBelow net v (n + 1) more
-levels-push net v n tokens more x push below here = subst (LevelsBelow net v (n + 1)) (sym push) (record {
-  many = length_push tokens x ∙ omega (arith, below.many);
-  each = λ i h. ⊎_elim
-      (λ (old : i < n). subst (IsLevelAt net v i) (sym (get_or_append_left tokens (x ∷ []) 0 i (omega (arith, below.many)))) (below.each i old))
-      (λ (new : n ≤ i).
-      let at : length tokens ≡ i = omega (arith, below.many) in
-      let same : n ≡ i = omega arith in
-      subst (IsLevelAt net v i) (sym (get_or_push tokens x 0 i at)) (subst (λ (j : ℕ). IsLevelAt net v j x) same here))
-      (cases_lt i n);
-})
-
-pub levels-all : (net : Net) (v : ℕ → ℕ) (n : ℕ) (tokens : List ℕ) → LevelsBelow net v n tokens → n ≡ length net.channels → IsLevel net v v tokens
-levels-all net v n tokens below whole = record { long = below.many ∙ whole; each = λ i h. below.each i (omega arith) }
-
--- ---- a run from there
-
-pub reached-run : (net : Net) (counts tokens : List ℕ) (reached : IsReached net counts) → IsLevel net (slice_index counts) (slice_index counts) tokens → IsRun net counts tokens reached.order
-reached-run net counts tokens reached level = record { actors = reached.actors; fires = reached.fires; reached = reached.reached; level = level }
-
 -- ---- where nothing has fired, and where a whole round has
 
-pub none-reached : (net : Net) (counts : List ℕ) (n : ℕ) → counts ≡ replicate n 0 → length net.times ≡ n → IsReached net counts
+pub none-reached : (net : Net) (counts : List ℕ) (n : ℕ) → counts ≡ replicate n 0 → length net.times ≡ n → AreReachedCounts net counts
 none-reached net counts n zeros many = record {
   actors = ap length zeros ∙ (length-replicate {A = ℕ} n 0 ∙ sym many);
   order = [];
@@ -88,7 +63,7 @@ none-reached net counts n zeros many = record {
   reached = λ a is. sym (rw zeros (get_or-replicate {A = ℕ} n a 0 0 (omega (arith, many))));
 }
 
-pub whole-reached : (net : Net) (counts : List ℕ) → Lawful net → counts ≡ net.round → IsLive net → IsReached net counts
+pub whole-reached : (net : Net) (counts : List ℕ) → Lawful net → counts ≡ net.round → IsLive net → AreReachedCounts net counts
 whole-reached net counts laws whole live = record {
   actors = ap length whole ∙ (balanced net laws).actors;
   order = live.0;

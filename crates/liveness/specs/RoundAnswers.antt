@@ -7,16 +7,16 @@ use Rattle.liveness.specs.declared.round.Round.TheVariants.{Live, Blocked}
 use Rattle.liveness.specs.declared.ending.Ending.{Ending}
 use Rattle.liveness.specs.declared.ending.Ending.TheVariants as endings
 
-abbrev pub IsAnswer : Net → Round → Type 0
-IsAnswer net (Live order) = IsRoundOrder net order
-IsAnswer net (Blocked counts lacks) = IsBlockedBy net counts lacks
+abbrev pub IsRoundAnswer : Net → Round → Type 0
+IsRoundAnswer net (Live order) = IsRoundOrder net order
+IsRoundAnswer net (Blocked counts lacks) = IsBlockedBy net counts lacks
 
 abbrev pub is_live : Round → Bool
 is_live (Live order) = true
 is_live (Blocked counts lacks) = false
 
 -- these are the counts after some order of firings, none more often than in a round
-pub record IsReached (net : Net) (counts : List ℕ) : Type 0 where
+pub record AreReachedCounts (net : Net) (counts : List ℕ) : Type 0 where
   pub actors : length counts ≡ length net.times
   pub order : List ℕ
   pub fires : Fires net none_fired order

@@ -5,7 +5,7 @@ ghost use Rattle.sd_base.specs.Lawful.{Lawful};
 ghost use Rattle.sd_base.specs.Untimed.{IsLive};
 ghost use Rattle.firing.specs.Ports.{rates_at};
 ghost use Rattle.firing.specs.Wiring.{IsLevel, IsWiringOf};
-ghost use Rattle.liveness.specs.RoundAnswers.{IsEnding, IsReached};
+ghost use Rattle.liveness.specs.RoundAnswers.{IsEnding, AreReachedCounts};
 
 use crate::note::NoNote;
 use crate::round::{is_whole, lacking_channels};
@@ -39,7 +39,7 @@ pub fn one_round_from<F: Firing>(
     counts: &[u64],
 ) -> Result<Ending, NoMemory>
     requires wired { IsWiringOf (F.net net.now) wiring.now }
-    requires reached { IsReached (F.net net.now) counts.now }
+    requires reached { AreReachedCounts (F.net net.now) counts.now }
     ensures { IfOk result (IsEnding (F.net net.now)) }
 {
     know_laws(net);
@@ -66,7 +66,7 @@ pub fn one_round_from<F: Firing>(
 
 /// The counts by actor with which a round begins: none has fired. They are reached in each net of so many actors.
 pub fn no_counts<F: Firing>(alloc: Global, net: &F) -> Result<Rows<u64>, NoMemory>
-    ensures { IfOk result (λ v. (other : Net) → length other.times ≡ length (F.net net.now).times → IsReached other v) }
+    ensures { IfOk result (λ v. (other : Net) → length other.times ≡ length (F.net net.now).times → AreReachedCounts other v) }
 {
     let counts = vec![in alloc; 0u64; net.actors() as usize]?;
     Ok(Rows::from_vec(counts))
@@ -74,7 +74,7 @@ pub fn no_counts<F: Firing>(alloc: Global, net: &F) -> Result<Rows<u64>, NoMemor
 
 /// The counts by actor with which a round ends. They are reached in each live net of that round.
 pub fn whole_counts<F: Firing>(alloc: Global, net: &F) -> Result<Rows<u64>, NoMemory>
-    ensures { IfOk result (λ v. (other : Net) → Lawful other → other.round ≡ (F.net net.now).round → IsLive other → IsReached other v) }
+    ensures { IfOk result (λ v. (other : Net) → Lawful other → other.round ≡ (F.net net.now).round → IsLive other → AreReachedCounts other v) }
 {
     know_laws(net);
     let mut counts = Vec::with_capacity(alloc, net.actors() as usize)?;
@@ -86,7 +86,7 @@ pub fn whole_counts<F: Firing>(alloc: Global, net: &F) -> Result<Rows<u64>, NoMe
 
 /// By channel the tokens after so many firings of each actor.
 fn tokens_after<F: Firing>(alloc: Global, net: &F, counts: &[u64]) -> Result<Vec<u128>, NoMemory>
-    requires { IsReached (F.net net.now) counts.now }
+    requires { AreReachedCounts (F.net net.now) counts.now }
     ensures { IfOk result (λ v. IsLevel (F.net net.now) (slice_index counts.now) (slice_index counts.now) v.items) }
 {
     let mut tokens = Vec::with_capacity(alloc, net.channels() as usize)?;
@@ -99,20 +99,20 @@ fn tokens_after<F: Firing>(alloc: Global, net: &F, counts: &[u64]) -> Result<Vec
 /// The tokens on a channel after so many firings of each actor.
 fn tokens_at<F: Firing>(net: &F, channel: u32, counts: &[u64]) -> u128
     requires channel { channel < length (F.net net.now).channels }
-    requires reached { IsReached (F.net net.now) counts.now }
+    requires reached { AreReachedCounts (F.net net.now) counts.now }
     ensures { result + total (channel_at (F.net net.now) channel).taken (slice_index counts.now (channel_at (F.net net.now) channel).target)
         ≡ (channel_at (F.net net.now) channel).tokens + total (channel_at (F.net net.now) channel).made (slice_index counts.now (channel_at (F.net net.now) channel).source) }
 {
     know_laws(net);
     let made = counts[net.source(channel) as usize];
     let taken = counts[net.target(channel) as usize];
-    u128::from(net.tokens(channel)) + moved_by(net, channel, Port::Made, made)
-        - moved_by(net, channel, Port::Taken, taken)
+    u128::from(net.tokens(channel)) + moved_sum(net, channel, Port::Made, made)
+        - moved_sum(net, channel, Port::Taken, taken)
 }
 
 /// The tokens that so many firings of the actor at an end of a channel make or take there. Cost: constant where the actor
 /// has one phase, else that of `made_sum`.
-pub fn moved_by<F: Firing>(net: &F, channel: u32, port: Port, firings: u64) -> u128
+pub fn moved_sum<F: Firing>(net: &F, channel: u32, port: Port, firings: u64) -> u128
     requires { channel < length (F.net net.now).channels }
     ensures sum { result ≡ total (rates_at port (channel_at (F.net net.now) channel)) firings }
     ensures small { result ≤ firings * RATE }

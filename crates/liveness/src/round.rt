@@ -24,12 +24,12 @@ pub enum Round {
 }
 
 ghost use Rattle.sd_base.specs.Untimed.{IsFirstLacking, NamesLacks};
-ghost use Rattle.liveness.specs.RoundAnswers.{IsAnswer, is_live};
+ghost use Rattle.liveness.specs.RoundAnswers.{IsRoundAnswer, is_live};
 
 /// Fires a round, or as much of it as can fire. Cost: linear in the actors and channels, and for each firing in
 /// the channels of its actor and of those that it makes tokens for.
 pub fn one_round<F: Firing>(alloc: Global, net: &F) -> Result<Round, NoMemory>
-    ensures answer { IfOk result (IsAnswer (F.net net.now)) }
+    ensures answer { IfOk result (IsRoundAnswer (F.net net.now)) }
     ensures exact { IfOk result (λ round. IsTrue (is_live round) ↔ IsLive (F.net net.now)) }
 {
     let wiring = Wiring::new(alloc, net)?;
@@ -39,7 +39,7 @@ pub fn one_round<F: Firing>(alloc: Global, net: &F) -> Result<Round, NoMemory>
 /// A round of a net whose wiring is there already, as `one_round` fires it.
 pub fn one_round_on<F: Firing>(alloc: Global, net: &F, wiring: &Wiring) -> Result<Round, NoMemory>
     requires wired { IsWiringOf (F.net net.now) wiring.now }
-    ensures answer { IfOk result (IsAnswer (F.net net.now)) }
+    ensures answer { IfOk result (IsRoundAnswer (F.net net.now)) }
     ensures exact { IfOk result (λ round. IsTrue (is_live round) ↔ IsLive (F.net net.now)) }
 {
     know_wiring(net, wiring);

@@ -1,20 +1,20 @@
 -- Orders by name are tested from the first entry to the last one.
-use Rattle.std.proofs.Common.{◌≡◌, ℕ, zero, suc, ◌+◌, ◌-◌, ◌≤◌, ◌<◌, Bool, true, false, List, [], ◌∷◌, ◌++◌, length, map, take, drop, Option, Some, None, ⊎_elim, subst, sym, refl, ap, ◌∙◌, arith, add-one, eqb-true, eq-eqb, lt-ltb}
+use Rattle.std.proofs.Common.{◌≡◌, ℕ, zero, suc, ◌+◌, ◌-◌, ◌≤◌, ◌<◌, Bool, true, false, List, [], ◌∷◌, ◌++◌, length, take, drop, Option, Some, None, subst, sym, refl, ap, ◌∙◌, arith, add-one, eqb-true, eq-eqb, lt-ltb}
 use Rattle.std.specs.Prelude.{◌≢◌, ◌||◌, not, slice_set, slice_index, slice_index_or, ◌==◌, ◌&&◌, nat_lt, count_by, if◌then◌else◌}
 use Rattle.std.specs.List.{list_any}
 use Rattle.std.specs.Option.{option_or}
 use Rattle.std.specs.Str.{bytes_eq}
 use Rattle.std.proofs.lemmas.List.Sums.{position_or_len_is}
 use Rattle.std.proofs.Math.Seq.{drop-cons}
-use Rattle.std.proofs.lemmas.Bool.{cases_lt, ltb-true}
-use Rattle.std.proofs.lemmas.List.{at_drop_all, take_all, take_more, map-append, length-append, get_or_default, get_or-set_same, get_or-set_other, length-map}
+use Rattle.std.proofs.lemmas.Bool.{ltb-true}
+use Rattle.std.proofs.lemmas.List.{at_drop_all, take_more, map-append, length-append, get_or_default, get_or-set_same, get_or-set_other, length-map}
 use Rattle.std.proofs.lemmas.List.Folds.{list_any-append}
 use Rattle.sd_base.specs.declared.limits.TheConstants.{ORDER_PAIRS}
 use Rattle.sd_base.specs.declared.tables.ActorRow.{ActorRow}
 use Rattle.ordered.specs.declared.orders.OrderError.{OrderError}
 use Rattle.ordered.specs.declared.orders.OrderError.TheVariants.{Unknown, Elsewhere, Count, TooManyPairs, NoMemory}
 use Rattle.ordered.specs.OrderedNets.{is_named, order_channel, order_channels, order_channels_from}
-use Rattle.ordered.specs.NamedOrders.{Tells, actor_named, count_fault, entries_fault, entry_fault, first_fault, lists_of, order_fault, order_of, pairs_fault, standing}
+use Rattle.ordered.specs.NamedOrders.{Tells, actor_named, count_fault, entries_fault, entry_fault, lists_of, order_fault, order_of, pairs_fault, standing}
 use Rattle.ordered.proofs.Filling.{orders-more}
 use Rattle.ordered.proofs.Sides.{channels-of-pairs}
 use Rattle.ordered.specs.inside.Marks.{is_marked}
@@ -27,9 +27,6 @@ tells-first (Unknown n) f g tells = ap (λ (x : Option OrderError). option_or x 
 tells-first (Elsewhere n) f g tells = ap (λ (x : Option OrderError). option_or x g) tells
 tells-first (Count a n) f g tells = ap (λ (x : Option OrderError). option_or x g) tells
 tells-first TooManyPairs f g tells = ap (λ (x : Option OrderError). option_or x g) tells
-
-pub tells-next : (e : OrderError) (f g : Option OrderError) → f ≡ None → Tells e g → Tells e (option_or f g)
-tells-next e f g none tells = subst (λ (x : Option OrderError). Tells e (option_or x g)) (sym none) tells
 
 cons : {X : Type 0} (xs : List X) (i : ℕ) (x : X) → i < length xs → x ≡ slice_index_or xs i x → drop i xs ≡ x ∷ drop (i + 1) xs
 cons xs i x below is = rw add-one (drop-cons xs i x below) ∙ ap (λ y. y ∷ drop (i + 1) xs) (sym is)
@@ -159,9 +156,6 @@ module _ (orders : List (List ℕ)) (a i : ℕ) (order : List ℕ) (below : i < 
 
   pub standing-next : list_any (λ b. b == a) order ≡ false → standing (drop (i + 1) orders) a ≡ standing (drop i orders) a
   standing-next none = sym (ap (λ (os : List (List ℕ)). standing os a) (cons orders i order below is) ∙ ap (λ (b : Bool). if b then count_by (λ b. b == a) order else standing (drop (i + 1) orders) a) none)
-
-pub standing-over : (orders : List (List ℕ)) (a i : ℕ) → length orders ≤ i → standing (drop i orders) a ≡ 0
-standing-over orders a i past = at_drop_all (λ (os : List (List ℕ)). standing os a) orders i past
 
 module _ (orders : List (List ℕ)) (gamma : List ℕ) (a : ℕ) (below : a < length gamma) where
   count-step : count_fault orders gamma a (length gamma - a) ≡ (if is_named orders a && not (standing orders a == slice_index gamma a) then Some (Count a (standing orders a)) else count_fault orders gamma (a + 1) (length gamma - (a + 1)))

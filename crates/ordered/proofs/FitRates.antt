@@ -1,16 +1,15 @@
 -- The rates of new channels are within their limits.
-use Rattle.std.proofs.Common.{◌≡◌, ℕ, zero, suc, ◌+◌, ◌≤◌, ◌<◌, List, [], ◌∷◌, length, ⊎_elim, sym, ap, ◌∙◌, arith}
-use Rattle.std.specs.Prelude.{slice_index, slice_index_or, sum, All, replicate}
-use Rattle.std.proofs.lemmas.List.{length-replicate, get_or-replicate, get_or_past}
+use Rattle.std.proofs.Common.{◌≡◌, ℕ, suc, ◌≤◌, ◌<◌, List, [], length, ⊎_elim, ap, ◌∙◌, arith}
+use Rattle.std.specs.Prelude.{slice_index, slice_index_or, sum}
+use Rattle.std.proofs.lemmas.List.{get_or_past}
 use Rattle.std.proofs.lemmas.List.Sums.{get_or-le-sum_by}
 use Rattle.std.proofs.lemmas.Bool.{cases_lt}
 use Rattle.sd_base.specs.declared.limits.TheConstants.{RATE, ROUND}
 use Rattle.sd_base.specs.Net.{Net}
-use Rattle.sd_base.specs.FileNet.{own_channel}
 use Rattle.sd_base.specs.Lawful.{Lawful}
 use Rattle.firing.specs.Csdf.{AreRates}
 use Rattle.ordered.specs.Orders.{entry_at, AreOrders}
-use Rattle.ordered.specs.OrderedNets.{phases_in, order_channel, ordered}
+use Rattle.ordered.specs.OrderedNets.{order_channel, ordered}
 use Rattle.ordered.specs.inside.Steps.{FitRates, pairs_from}
 use Rattle.ordered.proofs.Sides.{PairAt, pair-at}
 use Rattle.ordered.proofs.GoodChannels.{Good, step-good, entry-actor, entry-named, named-phases, phases-here}
@@ -24,12 +23,6 @@ entry-le-sum xs i = ⊎_elim
 
 pub round-few : (net : Net) → Lawful net → (a : ℕ) → slice_index net.round a ≤ ROUND
 round-few net laws a = omega (arith, entry-le-sum net.round a, laws.small_round)
-
-pub ones-fit : (n : ℕ) → n ≤ ROUND → AreRates (replicate n 1)
-ones-fit n few = record {
-  few = omega (arith, length-replicate {A = ℕ} n 1);
-  small = λ k d below. rw (get_or-replicate {A = ℕ} n k 1 d (omega (arith, length-replicate {A = ℕ} n 1))) (omega arith);
-}
 
 listed-fit : (xs : List ℕ) (n : ℕ) → length xs ≡ n → n ≤ ROUND → ((p : ℕ) → slice_index xs p ≤ RATE) → AreRates xs
 listed-fit xs n long few small = record { few = omega (arith, long); small = λ k d below. rw (Rattle.std.proofs.lemmas.List.get_or_default xs k d 0 below) (small k) }

@@ -1,5 +1,5 @@
 -- The channels of an ordered net: those of the net, the own channels that it gets, and the order channels.
-use Rattle.std.proofs.Common.{◌≡◌, ℕ, zero, suc, ◌+◌, ◌-◌, ◌*◌, ◌%◌, ◌/◌, ◌≤◌, ◌<◌, ◌⊎◌, Bool, true, false, List, [], ◌∷◌, ◌++◌, length, map, inl, inr, ⊎_elim, subst, sym, refl, ap, ◌∙◌, arith, eq-eqb, eqb-true}
+use Rattle.std.proofs.Common.{◌≡◌, ℕ, zero, suc, ◌+◌, ◌-◌, ◌≤◌, ◌<◌, ◌⊎◌, Bool, true, false, List, [], ◌∷◌, ◌++◌, length, map, inl, inr, ⊎_elim, subst, sym, refl, ap, ◌∙◌, arith, eq-eqb, eqb-true}
 use Rattle.std.specs.Cmp.{first_so, second_so}
 use Rattle.std.specs.Prelude.{slice_index, slice_index_or, ◌==◌, if◌then◌else◌}
 use Rattle.std.proofs.lemmas.Bool.{cases_lt}
@@ -9,7 +9,7 @@ use Rattle.sd_base.specs.declared.role.Role.TheVariants.{Token, Own, Space, Orde
 use Rattle.sd_base.specs.Net.{Channel, Net, nowhere, channel_at}
 use Rattle.sd_base.specs.FileNet.{own_channel}
 use Rattle.sd_base.specs.Lawful.{is_token_role, is_own_role, is_space_role, is_order_role}
-use Rattle.ordered.specs.Orders.{entry_at, how_many, fired}
+use Rattle.ordered.specs.Orders.{entry_at}
 use Rattle.ordered.proofs.Counting.{many-miss}
 use Rattle.ordered.specs.OrderedNets.{CanBeOrdered, is_named, phases_in, rephased, with_role, leads, led, order_channel, order_channels_from, order_channels, own_or_new, owns_from, ordered}
 
@@ -117,9 +117,6 @@ pub order-there : (order : List ℕ) (x y m n r : ℕ) → led order x y m ≡ 0
 order-there order x y m zero r none below one other = absurd (omega arith)
 order-there order x y m (suc n) r none below one other = step r (leads order x y m) refl below one other (order-there order x y (suc m) n)
   where
-    all : ℕ → ℕ → List Channel
-    all a b = if led order a b m == 0 then order_channel order a b ∷ order_channels_from order (suc m) n else order_channels_from order (suc m) n
-
     here : entry_at order m ≡ x → entry_at order (suc m) ≡ y → Among (order_channels_from order m (suc n)) (order_channel order x y)
     here p q =
         let zero' : (led order x y m == 0) ≡ true = eq-eqb (led order x y m) 0 none in

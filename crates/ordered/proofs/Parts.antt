@@ -1,11 +1,11 @@
 -- What the parts of an ordered net give of its plain net.
-use Rattle.std.proofs.Common.{◌≡◌, ℕ, zero, suc, ◌+◌, ◌*◌, ◌%◌, ◌^◌, ◌≤◌, ◌<◌, List, [], ◌∷◌, length, map, subst, sym, refl, ap, ◌∙◌, arith}
+use Rattle.std.proofs.Common.{◌≡◌, ℕ, suc, ◌%◌, ◌^◌, ◌<◌, List, [], ◌∷◌, length, map, subst, sym, refl, ap, ◌∙◌, arith}
 use Rattle.std.specs.Prelude.{slice_index, slice_index_or, All}
 use Rattle.std.specs.List.{range_with_len}
-use Rattle.std.proofs.lemmas.List.{get_or-map, get_or_default, length-map}
+use Rattle.std.proofs.lemmas.List.{get_or-map, length-map}
 use Rattle.std.proofs.lemmas.List.FromFn.{length-map-range_with_len, get_or-map-range_with_len, fill_by_all}
 use Rattle.sd_base.specs.declared.limits.TheConstants.{RATE}
-use Rattle.sd_base.specs.Net.{Channel, Net, nowhere, channel_at, phase_entry, total}
+use Rattle.sd_base.specs.Net.{Channel, Net, nowhere, channel_at, total}
 use Rattle.sd_base.specs.Schedules.{phases_at}
 use Rattle.sd_base.specs.Lawful.{Lawful}
 use Rattle.sd_base.proofs.Sums.{total-bound}
@@ -25,10 +25,6 @@ module _ (net : Net) (laws : Lawful net) (phases : List ℕ) (places : List Plac
   pub times-long : length (with_places net phases places).times ≡ length net.times
   unfolding with_places
   times-long = length-map-range_with_len (λ a. unrolled (slice_index phases a) (slice_index_or net.times a [])) 0 (length net.times)
-
-  pub channels-long : length (with_places net phases places).channels ≡ length places
-  unfolding with_places
-  channels-long = length-map places (place_in net (slice_index phases))
 
   pub phases-is : (a : ℕ) → a < length (with_places net phases places).times → phases_at (with_places net phases places) a ≡ slice_index phases a
   phases-is a below = ap length (times-at a (rw times-long at below)) ∙ unrolled-long (slice_index phases a) (slice_index_or net.times a [])

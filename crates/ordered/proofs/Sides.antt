@@ -1,6 +1,5 @@
 -- The neighbours of an entry, and the pairs of neighbours, as they are gone through.
-use Rattle.std.proofs.Common.{◌≡◌, ℕ, zero, suc, ◌+◌, ◌-◌, ◌*◌, ◌%◌, ◌≤◌, ◌<◌, Bool, true, false, List, [], ◌∷◌, ◌++◌, length, map, take, ⊎_elim, subst, sym, refl, ap, ◌∙◌, arith, eq-eqb, eqb-true, append-nil}
-use Rattle.std.proofs.Math.Nat.{mod-eq_of_lt}
+use Rattle.std.proofs.Common.{◌≡◌, ℕ, zero, suc, ◌+◌, ◌-◌, ◌*◌, ◌≤◌, ◌<◌, Bool, true, false, List, [], ◌∷◌, ◌++◌, length, map, take, sym, refl, ap, ◌∙◌, arith, eq-eqb, eqb-true, append-nil}
 use Rattle.std.proofs.Math.Seq.{take-append_seam}
 use Rattle.std.specs.Prelude.{pred, not, slice_index, slice_index_or, ◌==◌, ◌&&◌, ◌||◌, if◌then◌else◌}
 use Rattle.std.specs.List.{list_any}
@@ -9,10 +8,10 @@ use Rattle.std.proofs.lemmas.List.{take_all}
 use Rattle.std.proofs.lemmas.List.Folds.{list_any-append}
 use Rattle.sd_base.specs.declared.role.Role.TheVariants.{Order}
 use Rattle.sd_base.specs.Net.{Channel}
-use Rattle.ordered.specs.Orders.{entry_at, one_if, how_many}
+use Rattle.ordered.specs.Orders.{entry_at, one_if}
 use Rattle.ordered.specs.OrderedNets.{picked, before, leads, led, order_channel, order_channels_from}
 use Rattle.ordered.specs.inside.Steps.{pairs_from}
-use Rattle.ordered.proofs.Counting.{many-zero, many-suc, many-hit, many-miss}
+use Rattle.ordered.proofs.Counting.{many-zero, many-hit, many-miss}
 use Rattle.ordered.proofs.Picks.{entry-turns}
 use Rattle.ordered.proofs.Entries.{entry-here}
 
@@ -220,14 +219,6 @@ module _ (order : List ℕ) (place : ℕ) (below : place < length order) where
       → b ≡ list_any (λ (p : ℕ × ℕ). (p.0 == x) && (p.1 == y)) pairs → b ≡ true → pairs_from order 0 (place + 1) ≡ pairs_from order 0 place
   pairs-same x y b pairs first second so test came =
       known x y b pairs first second so test ∙ (ap (λ (c : Bool). pairs_from order 0 place ++ (if not c then (x, y) ∷ [] else [])) came ∙ append-nil (pairs_from order 0 place))
-
--- the step from the last entry to the first
-pub wraps-leads : (order : List ℕ) (x y : ℕ) → 1 ≤ length order → ((slice_index order (length order - 1) == x) && (slice_index order 0 == y)) ≡ leads order x y (before order 0)
-wraps-leads order x y some =
-    let last : slice_index order (length order - 1) ≡ entry_at order (before order 0) = before-first order 0 (omega arith) refl in
-    let e : suc (0 + pred (length order)) ≡ 0 + 1 * length order = omega arith in
-    let first : entry_at order (suc (before order 0)) ≡ slice_index order 0 = ap (entry_at order) e ∙ (entry-turns order 0 1 ∙ entry-here order 0 (omega arith)) in
-    ap (λ (a : ℕ). (a == x) && (slice_index order 0 == y)) last ∙ ap (λ (a : ℕ). (entry_at order (before order 0) == x) && (a == y)) (sym first)
 
 -- an order channel by its parts
 pub step-is : (order : List ℕ) (x y : ℕ) (made taken : List ℕ) (tokens : ℕ) → made ≡ (order_channel order x y).made → taken ≡ (order_channel order x y).taken → tokens ≡ (order_channel order x y).tokens

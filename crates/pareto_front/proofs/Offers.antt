@@ -19,11 +19,6 @@ covers-trans p o m one other = record {
       no_later-trans p.capacities o.capacities m.capacities (one.tie first (omega (arith, one.rate))) (other.tie second (omega (arith, other.rate)));
 }
 
-covered-on : (ps : List Offer) (o m : Offer) → IsCoveredBy ps o → Covers o m → IsCoveredBy ps m
-covered-on [] o m covered covers = absurd covered
-covered-on (p ∷ ps) o m (inl here) covers = inl (covers-trans p o m here covers)
-covered-on (p ∷ ps) o m (inr later) covers = inr (covered-on ps o m later covers)
-
 back-covers : (n p : Offer) → (Covers p n → ⊥) → n.storage ≤ p.storage → p.rate.num * n.rate.den ≤ n.rate.num * p.rate.den → Covers n p
 back-covers n p not storage rate = record {
   storage = storage;
@@ -48,7 +43,7 @@ rest-low : (n p : Offer) (ps : List Offer) → AreAbove p ps → n.storage ≤ p
 rest-low n p [] above low = tt
 rest-low n p (q ∷ qs) above low = omega (arith, above.0)
 
-rest-order : (p : Offer) (ps : List Offer) → AreAbove p ps → AreInOrder ps
+pub rest-order : (p : Offer) (ps : List Offer) → AreAbove p ps → AreInOrder ps
 rest-order p [] above = tt
 rest-order p (q ∷ qs) above = above.2
 

@@ -18,24 +18,6 @@ pub none-covers : (ps : List Point) (o : Offer) → ((k : ℕ) (d : Point) → k
 none-covers [] o none covered = covered
 none-covers (p ∷ ps) o none covered = ⊎_elim (λ (here : Covers (offer_of p) o). none 0 p (omega arith) here) (λ (later : IsCoveredBy (map offer_of ps) o). none-covers ps o (λ k d below covers. none (suc k) d (omega arith) covers) later) covered
 
--- what is left from a place on
-
-pub left-step : (n : Point) (ps : List Point) (i : ℕ) (d : Point) → i < length ps → is_slower (offer_of (slice_index_or ps i d)) (offer_of n) ≡ true → left_points n (drop i ps) ≡ left_points n (drop (suc i) ps)
-left-step n [] i d below slower = absurd (omega arith)
-left-step n (p ∷ ps) zero d below slower = rw slower refl
-left-step n (p ∷ ps) (suc i) d below slower = left-step n ps i d (omega arith) slower
-
-pub left-stop : (n : Point) (ps : List Point) (i : ℕ) (d : Point) → i < length ps → is_slower (offer_of (slice_index_or ps i d)) (offer_of n) ≡ false → left_points n (drop i ps) ≡ drop i ps
-left-stop n [] i d below faster = absurd (omega arith)
-left-stop n (p ∷ ps) zero d below faster = rw faster refl
-left-stop n (p ∷ ps) (suc i) d below faster = left-stop n ps i d (omega arith) faster
-
-pub left-end : (n : Point) (ps : List Point) (i : ℕ) → length ps ≤ i → left_points n (drop i ps) ≡ drop i ps
-left-end n [] zero past = refl
-left-end n [] (suc i) past = refl
-left-end n (p ∷ ps) zero past = absurd (omega arith)
-left-end n (p ∷ ps) (suc i) past = left-end n ps i (omega arith)
-
 -- the point in its place
 
 pub put-parts : (n : Point) (ps : List Point) (place : ℕ) → place ≤ length ps → ((k : ℕ) (d : Point) → k < place → (slice_index_or ps k d).total < n.total) → ((d : Point) → place < length ps → n.total ≤ (slice_index_or ps place d).total) → put_point n ps ≡ take place ps ++ n ∷ left_points n (drop place ps)
@@ -45,31 +27,6 @@ put-parts n (p ∷ ps) zero within below here = ⊎_elim (λ (low : (nat_le n.to
 put-parts n (p ∷ ps) (suc place) within below here = ⊎_elim (λ (low : (nat_le n.total p.total ≡ true) × (n.total ≤ p.total)). let at : p.total < n.total = below 0 p (omega arith) in absurd (omega (arith, low.1))) (λ (high : (nat_le n.total p.total ≡ false) × (p.total < n.total)). rw high.0 (ap (λ (xs : List Point). p ∷ xs) (put-parts n ps place (omega arith) (λ k d less. below (suc k) d (omega arith)) (λ d less. here d (omega arith))))) (leb_tells n.total p.total)
 
 -- a part removed point by point
-
-drop-one : (i : ℕ) (xs : List Point) → drop 1 (drop i xs) ≡ drop (suc i) xs
-drop-one zero xs = refl
-drop-one (suc i) [] = refl
-drop-one (suc i) (x ∷ xs) = drop-one i xs
-
-pub cut : (xs : List Point) (from i : ℕ) → from ≤ i → i < length xs → take from (take from xs ++ drop i xs) ++ drop (suc from) (take from xs ++ drop i xs) ≡ take from xs ++ drop (suc i) xs
-cut [] from i order below = absurd (omega arith)
-cut (x ∷ xs) zero zero order below = refl
-cut (x ∷ xs) zero (suc i) order below = drop-one i xs
-cut (x ∷ xs) (suc from) zero order below = absurd (omega arith)
-cut (x ∷ xs) (suc from) (suc i) order below = ap (λ (ys : List Point). x ∷ ys) (cut xs from i (omega arith) (omega arith))
-
-pub cut-length : (xs : List Point) (from i : ℕ) → from ≤ i → i < length xs → from < length (take from xs ++ drop i xs)
-cut-length [] from i order below = absurd (omega arith)
-cut-length (x ∷ xs) zero zero order below = omega arith
-cut-length (x ∷ xs) zero (suc i) order below = cut-length xs zero i (omega arith) (omega arith)
-cut-length (x ∷ xs) (suc from) zero order below = absurd (omega arith)
-cut-length (x ∷ xs) (suc from) (suc i) order below = let later = cut-length xs from i (omega arith) (omega arith) in omega (arith, later)
-
-pub cut-none : (xs : List Point) (from : ℕ) → take from xs ++ drop from xs ≡ xs
-cut-none [] zero = refl
-cut-none [] (suc from) = refl
-cut-none (x ∷ xs) zero = refl
-cut-none (x ∷ xs) (suc from) = ap (λ (ys : List Point). x ∷ ys) (cut-none xs from)
 
 pub cut-inserted : (n : Point) (ps : List Point) (place end : ℕ) → place ≤ end → end ≤ length ps → take (suc place) (insert ps place n) ++ drop (suc end) (insert ps place n) ≡ take place ps ++ n ∷ drop end ps
 cut-inserted n [] zero zero order within = refl
@@ -96,7 +53,7 @@ put-map n (p ∷ ps) =
     ∙ (ap (λ (xs : List Offer). if nat_le n.total p.total then offer_of n ∷ xs else offer_of p ∷ map offer_of (put_point n ps)) (left-map n (p ∷ ps))
     ∙ ap (λ (xs : List Offer). if nat_le n.total p.total then offer_of n ∷ left_of (offer_of n) (offer_of p ∷ map offer_of ps) else offer_of p ∷ xs) (put-map n ps))
 
-one-more : (os : List Offer) (n o : Offer) → IsOneOf (os ++ n ∷ []) o → IsOneOf os o ⊎ (n ≡ o)
+pub one-more : (os : List Offer) (n o : Offer) → IsOneOf (os ++ n ∷ []) o → IsOneOf os o ⊎ (n ≡ o)
 one-more [] n o is = ⊎_elim (λ (same : n ≡ o). inr same) (λ (none : ⊥). absurd none) is
 one-more (p ∷ os) n o is = ⊎_elim (λ (same : p ≡ o). inl (inl same)) (λ (later : IsOneOf (os ++ n ∷ []) o). ⊎_elim (λ (h : IsOneOf os o). inl (inr h)) (λ (h : n ≡ o). inr h) (one-more os n o later)) is
 

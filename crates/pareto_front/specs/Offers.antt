@@ -44,7 +44,7 @@ abbrev pub put : Offer → List Offer → List Offer
 put n [] = n ∷ []
 put n (p ∷ ps) = if nat_le n.storage p.storage then n ∷ left_of n (p ∷ ps) else p ∷ put n ps
 
--- the offer is one of the list
-abbrev pub IsOneOf : List Offer → Offer → Type 0
-IsOneOf [] o = ⊥
-IsOneOf (p ∷ ps) o = (p ≡ o) ⊎ IsOneOf ps o
+-- x is one of the list
+abbrev pub IsOneOf : {A : Type 0} → List A → A → Type 0
+IsOneOf [] x = ⊥
+IsOneOf (y ∷ ys) x = (y ≡ x) ⊎ IsOneOf ys x

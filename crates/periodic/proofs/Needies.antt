@@ -1,6 +1,6 @@
 -- The needs that the tests look at, as the code finds them.
 use Rattle.std.proofs.Common.{◌≡◌, ℕ, ◌+◌, ◌-◌, ◌*◌, ◌/◌, ◌%◌, ◌^◌, ◌≤◌, ◌<◌, ◌↔◌, true, leb-true, le-leb, List, [], length, sum, ⊎_elim, subst, sym, refl, ap, ◌∙◌, arith, mod-lt, div-add-mod', div-le_self, mul-le-mul, mul-le-mul_right}
-use Rattle.std.proofs.Math.Nat.{div-lt_iff_lt-mul, add-mul-div_right, div-eq_of_lt}
+use Rattle.std.proofs.Math.Nat.{div-lt_iff_lt-mul}
 use Rattle.std.specs.Prelude.{slice_index, slice_index_or, nat_le, IsTrue}
 use Rattle.std.proofs.lemmas.Bool.{cases_lt}
 use Rattle.std.proofs.lemmas.List.Sums.{get_or-le-sum_by}
@@ -208,21 +208,6 @@ in-time-decides net period starts i k q n source target phases left time right f
         let le : start_at period starts (channel_at net i).source n + time_of net (channel_at net i).source n ≤ start_at period starts (channel_at net i).target (k + q * count_of starts (channel_at net i).target) = test.ends q n there need in
         let here : left + time ≤ right = omega (arith, left-is, right-is, time-is) in
         le-leb _ _ here
-
--- the firing is within the numbers that sums are taken of
-pub firing-fits : (k q turn : ℕ) → k < turn → turn < 2 ^ 64 → q ≤ 2000000001 → (q * turn < 2 ^ 95) × (k + q * turn < 2 ^ 96)
-firing-fits k q turn below few near =
-    let le : q * turn ≤ 2000000001 * turn = mul-le-mul_right turn near in
-    (omega arith, omega arith)
-
-pub firing-near : (k q turn : ℕ) → k < turn → q ≤ 2000000001 → (k + q * turn) / turn ≤ 2 ^ 32
-firing-near k q turn below near =
-    let turns : (k + q * turn) / turn ≡ k / turn + q = add-mul-div_right k q (omega arith) in
-    let none : k / turn ≡ 0 = div-eq_of_lt below in
-    omega arith
-
-pub turns-fit : (t period : ℕ) → t ≤ 2 ^ 32 → period < 2 ^ 64 → t * period ≤ 2 ^ 96
-turns-fit t period few small = mul-le-mul {n₁ = t} {m₁ = period} {n₂ = 2 ^ 32} {m₂ = 2 ^ 64} few (omega arith)
 
 -- one more of what holds so far
 pub each-more : (P : ℕ → Type 0) (n : ℕ) → ((k : ℕ) → k < n → P k) → P n → (k : ℕ) → k < n + 1 → P k

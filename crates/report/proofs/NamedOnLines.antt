@@ -8,17 +8,11 @@ use Rattle.sd_base.specs.declared.role.Role.TheVariants.{Token, Own}
 use Rattle.sd_base.specs.declared.tables.GraphFile.{GraphFile}
 use Rattle.sd_base.specs.declared.tables.ActorRow.{ActorRow}
 use Rattle.sd_base.specs.declared.tables.ChannelRow.{ChannelRow}
-use Rattle.sd_base.specs.Net.{Channel, Net, nowhere, channel_at, file_channels}
-use Rattle.sd_base.specs.Lawful.{Lawful}
+use Rattle.sd_base.specs.Net.{Channel, nowhere, channel_at, file_channels}
 use Rattle.sd_base.specs.FileNet.{own_channel, gets_own, own_channels_from, net_of}
 use Rattle.sd_base.proofs.FileNets.{file-length, file-at}
-use Rattle.critical.specs.declared.cycle.FiringNo.{FiringNo}
-use Rattle.critical.specs.declared.cycle.CycleStep.{CycleStep}
-use Rattle.critical.specs.declared.cycle.NeedCycle.{NeedCycle}
-use Rattle.critical.specs.Cycles.{IsChain, HoldsOn}
 use Rattle.report.specs.WalkTexts.{no_channel}
 use Rattle.report.specs.LinkTexts.{IsRoleIn, IsNamed}
-use Rattle.report.specs.CycleTexts.{IsStepIn, IsCycleIn}
 
 -- ---- the net of a graph file
 
@@ -69,24 +63,3 @@ module _ (g : GraphFile) (gamma : List ℕ) (apart : Bool) where
     actors = length-map g.actors (λ (a : ActorRow). a.times);
     roles = role-in;
   }
-
--- ---- a need cycle
-
-chain-in : (g : GraphFile) (net : Net) → IsNamed g net → Lawful net → (first : FiringNo) (steps : List CycleStep) → IsChain net first steps → (k : ℕ) (d : CycleStep) → k < length steps → IsStepIn g net (slice_index_or steps k d)
-chain-in g net named laws first [] chain k d below = absurd (omega arith)
-chain-in g net named laws first (step ∷ steps) (is, rest) zero d below = record {
-  channel = is.place;
-  actor = omega (arith, is.target, laws.targets step.channel is.place, named.actors);
-}
-chain-in g net named laws first (step ∷ steps) (is, rest) (suc k) d below = chain-in g net named laws step.to steps rest k d (omega arith)
-
-first-in : (g : GraphFile) (net : Net) → IsNamed g net → Lawful net → (first : FiringNo) (steps : List CycleStep) → 1 ≤ length steps → IsChain net first steps → first.actor < length g.actors
-first-in g net named laws first [] some chain = absurd (omega arith)
-first-in g net named laws first (step ∷ steps) some (is, rest) = omega (arith, is.source, laws.sources step.channel is.place, named.actors)
-
--- the firings and channels of a cycle that holds are in range
-pub cycle-in : (g : GraphFile) (net : Net) (cycle : NeedCycle) → IsNamed g net → Lawful net → HoldsOn net cycle → IsCycleIn g net cycle
-cycle-in g net cycle named laws holds = record {
-  first = first-in g net named laws cycle.first cycle.steps holds.some_step holds.chain;
-  steps = chain-in g net named laws cycle.first cycle.steps holds.chain;
-}

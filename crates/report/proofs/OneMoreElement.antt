@@ -1,7 +1,7 @@
 -- One more element of a text that is written element by element.
 use Rattle.std.proofs.Common.{◌≡◌, ℕ, ◌+◌, ◌<◌, ◌≤◌, List, [], ◌∷◌, ◌++◌, length, take, drop, get_or, refl, sym, ap, ◌∙◌, add-one}
 use Rattle.std.proofs.Math.Seq.{drop-cons}
-use Rattle.std.proofs.lemmas.List.{append_assoc, append-nil, at_drop_all, flat_map_more, take_more, take_all}
+use Rattle.std.proofs.lemmas.List.{append_assoc, append-nil, at_drop_all, take_all}
 use Rattle.std.specs.List.{flat_map}
 use Rattle.sd_base.specs.declared.tables.ActorRow.{ActorRow}
 use Rattle.sd_base.specs.declared.tables.GraphFile.{GraphFile}
@@ -23,12 +23,6 @@ use Rattle.report.specs.AnswerTexts.{number_line, repetition_header, repetition_
 next : (text piece left rest whole new : List ℕ) → left ≡ piece ++ rest → text ++ left ≡ whole → new ≡ text ++ piece → new ++ rest ≡ whole
 next text piece left rest whole new split kept is =
     ap (λ (l : List ℕ). l ++ rest) is ∙ append_assoc text piece rest ∙ ap (λ (l : List ℕ). text ++ l) (sym split) ∙ kept
-
--- a piece more for each element of a list
-pub flat_next : {X : Type 0} (f : X → List ℕ) (start text new : List ℕ) (xs : List X) (i : ℕ) (d : X) → i < length xs → text ≡ start ++ flat_map f (take i xs)
-    → new ≡ text ++ f (get_or xs i d) → new ≡ start ++ flat_map f (take (i + 1) xs)
-flat_next f start text new xs i d h kept is =
-    is ∙ (ap (λ (l : List ℕ). l ++ f (get_or xs i d)) kept ∙ (flat_map_more f start (take i xs) (get_or xs i d) ∙ ap (λ ys. start ++ flat_map f ys) (sym (take_more xs i d h))))
 
 pub flat_end : {X : Type 0} (f : X → List ℕ) (start text : List ℕ) (xs : List X) (i : ℕ) → length xs ≤ i → text ≡ start ++ flat_map f (take i xs) → text ≡ start ++ flat_map f xs
 flat_end f start text xs i past kept = kept ∙ ap (λ ys. start ++ flat_map f ys) (take_all i xs past)

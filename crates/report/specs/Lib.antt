@@ -15,3 +15,4 @@ pub mod SummaryTexts
 pub mod ClaimTexts
 pub mod ExpansionTexts
 pub mod CompletionTexts
+pub mod inside

@@ -13,6 +13,7 @@ mod links;
 mod numbers;
 mod points;
 mod quantities;
+mod reasons;
 mod refusal;
 mod refusals;
 mod scenario_points;

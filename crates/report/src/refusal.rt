@@ -1,5 +1,5 @@
 ghost use Rattle.std.specs.Prelude.{◌≡◌};
-ghost use Rattle.report.specs.RefusalLines.{class_word};
+ghost use Rattle.report.specs.RefusalLines.{cause_of, class_word};
 
 use sd_base::Text;
 
@@ -226,4 +226,35 @@ pub enum Refusal {
     ShelfCertificate,
     /// The output can't be put.
     ShelfOutput,
+}
+
+impl Refusal {
+    /// What kind of cause it has. All that isn't listed is of a file or a name that isn't of its form.
+    #[tactic(auto, unfolding(crate::specs::RefusalLines::cause_of))]
+    pub(crate) fn class(&self) -> Class
+        ensures { result ≡ (cause_of self.now).class }
+    {
+        match self {
+            Refusal::UsageWords => Class::Usage,
+            Refusal::UsageMissing { .. } => Class::Usage,
+            Refusal::UsageNotFor { .. } => Class::Usage,
+            Refusal::UsageBadValue { .. } => Class::Usage,
+            Refusal::CertificateNumber => Class::Limit,
+            Refusal::Above { .. } => Class::Limit,
+            Refusal::EdgesAt { .. } => Class::Limit,
+            Refusal::Ratio { .. } => Class::Limit,
+            Refusal::Inconsistent { .. } => Class::Inconsistent,
+            Refusal::Apart { .. } => Class::Connection,
+            Refusal::OneWay { .. } => Class::Connection,
+            Refusal::NoInput { .. } => Class::Connection,
+            Refusal::Deadlock { .. } => Class::Deadlock,
+            Refusal::StatesSpent { .. } => Class::Budget,
+            Refusal::DistributionsSpent { .. } => Class::Budget,
+            Refusal::Rejected { .. } => Class::Rejected,
+            Refusal::ShelfGraph => Class::Shelf,
+            Refusal::ShelfCertificate => Class::Shelf,
+            Refusal::ShelfOutput => Class::Shelf,
+            _ => Class::Form,
+        }
+    }
 }

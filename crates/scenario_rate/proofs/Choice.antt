@@ -2,24 +2,24 @@
 use Rattle.std.proofs.Common.{◌≡◌, ℕ, ◌+◌, ◌≤◌, ◌<◌, List, length, Option, sym, subst, ◌∙◌, ⊎_elim, arith}
 use Rattle.std.proofs.lemmas.Bool.{cases_lt}
 use Rattle.automaton.specs.declared.graph.Edge.{Edge}
-use Rattle.scenario_rate.specs.Graphs.{AreInside}
+use Rattle.automaton.specs.SoundGraphs.{AreInside}
 use Rattle.scenario_rate.specs.declared.by_node.End.TheVariants.{From, To}
 use Rattle.scenario_rate.specs.inside.ByNode.{list_at, AreByNode}
-use Rattle.scenario_rate.specs.inside.Choosing.{IsWalk, IsChosenOf, IsDistance, NoneBack, IsFewest, IsOnWay, IsLeastWay}
+use Rattle.scenario_rate.specs.inside.Choosing.{IsWalkAmong, IsChosenOf, IsDistance, NoneBack, IsFewest, IsOnWay, IsLeastWay}
 use Rattle.scenario_rate.proofs.Listing.{listed_as, listed_long}
 use Rattle.scenario_rate.proofs.Choosing.{none_short, on_way_back}
 use Rattle.scenario_rate.proofs.Shortening.{shorten}
 
 -- no closed walk leads through a node before the root
 abbrev pub NoneBefore : List Edge → List ℕ → ℕ → Type 0
-NoneBefore es ts root = (v : ℕ) → v < root → (ks : List ℕ) → 1 ≤ length ks → IsWalk es ts v ks v → ⊥
+NoneBefore es ts root = (v : ℕ) → v < root → (ks : List ℕ) → 1 ≤ length ks → IsWalkAmong es ts v ks v → ⊥
 
 pub none_more : (es : List Edge) (ts : List ℕ) (lists : List (List ℕ)) (nodes root : ℕ) (steps : List (Option ℕ)) → AreInside es nodes → AreByNode From es ts nodes lists → root < nodes → IsDistance es ts nodes root steps → NoneBack es (list_at lists root) steps (length (list_at lists root)) → NoneBefore es ts root → NoneBefore es ts (root + 1)
 none_more es ts lists nodes root steps inside listed below distance none before v less ks some walk = ⊎_elim
     (λ (old : v < root). before v old ks some walk)
     (λ (last : root ≤ v).
     let same : v ≡ root = omega arith in
-    let here : IsWalk es ts root ks root = subst (λ (n : ℕ). IsWalk es ts n ks n) same walk in
+    let here : IsWalkAmong es ts root ks root = subst (λ (n : ℕ). IsWalkAmong es ts n ks n) same walk in
     let s = shorten es ts nodes inside (length ks) root ks (omega arith) below some here in
     none_short es ts lists steps nodes root listed distance none s.walk s.some (let h : length s.walk ≤ nodes = s.short in omega arith) s.closed)
     (cases_lt v root)

@@ -6,7 +6,7 @@ use Rattle.std.proofs.lemmas.Option.{slice_get_within}
 use Rattle.automaton.specs.declared.graph.Edge.{Edge}
 use Rattle.scenario_rate.specs.declared.by_node.End.TheVariants.{From}
 use Rattle.scenario_rate.specs.ChosenCycles.{end_in, nodes_of, IsNoLater}
-use Rattle.scenario_rate.specs.inside.Choosing.{IsAmong, IsWalk, steps_at, IsDistance, NoneBack, IsFewest, fewer_of, NoneNext, IsNext, IsNearer, IsOnWay, IsLeastWay}
+use Rattle.scenario_rate.specs.inside.Choosing.{IsAmong, IsWalkAmong, steps_at, IsDistance, NoneBack, IsFewest, fewer_of, NoneNext, IsNextEdge, IsNearer, IsOnWay, IsLeastWay}
 use Rattle.scenario_rate.specs.inside.ByNode.{list_at, AreByNode}
 use Rattle.scenario_rate.proofs.Listing.{listed_at, listed_in, listed_from}
 
@@ -17,7 +17,7 @@ module _ (es : List Edge) (ts : List ℕ) (lists : List (List ℕ)) (steps : Lis
   out = list_at lists node
 
   -- the first edge of a walk of so many edges ends as near as it may
-  first_near : (k : ℕ) (e : Edge) (ks : List ℕ) → slice_get es k ≡ Some e → node ≡ e.from → IsAmong ts k → IsWalk es ts e.to ks root → length ks ≡ left → steps_at steps e.to ≡ Some left
+  first_near : (k : ℕ) (e : Edge) (ks : List ℕ) → slice_get es k ≡ Some e → node ≡ e.from → IsAmong ts k → IsWalkAmong es ts e.to ks root → length ks ≡ left → steps_at steps e.to ≡ Some left
   first_near k e ks at from among rest long =
       let m = way.distance.near e.to ks rest (let s : suc left ≤ nodes + 1 = way.small in omega arith) in
       let w = way.distance.walked e.to m.0 m.1 in
@@ -29,13 +29,13 @@ module _ (es : List Edge) (ts : List ℕ) (lists : List (List ℕ)) (steps : Lis
   pub some_next : NoneNext es out steps left (length out) → ⊥
   some_next none = go way.here
     where
-      go : (ks : List ℕ) × IsWalk es ts node ks root × (length ks ≡ suc left) → ⊥
+      go : (ks : List ℕ) × IsWalkAmong es ts node ks root × (length ks ≡ suc left) → ⊥
       go ([], walk, long) = absurd (omega arith)
       go (k ∷ ks, (e, at, from, among, rest), long) =
           let a = listed_at From es ts nodes lists listed node k e among at (sym from) in
           none a.0 k e (slice_get_within out a.0 k a.1) a.1 at (first_near k e ks at from among rest (omega arith))
 
-  module _ (k : ℕ) (next : IsNext es out steps left (length out) k) where
+  module _ (k : ℕ) (next : IsNextEdge es out steps left (length out) k) where
     from : node ≡ next.edge.from
     from = sym (listed_from From es ts nodes lists listed node k next.edge next.among next.is)
 
@@ -60,7 +60,7 @@ module _ (es : List Edge) (ts : List ℕ) (lists : List (List ℕ)) (steps : Lis
         mine : end_in (slice_get es k) ≡ next.edge.to
         mine = ap end_in next.is
 
-        go : (others : List ℕ) → length others ≡ suc left → IsWalk es ts node others root → IsNoLater (nodes_of es (k ∷ ks)) (nodes_of es others)
+        go : (others : List ℕ) → length others ≡ suc left → IsWalkAmong es ts node others root → IsNoLater (nodes_of es (k ∷ ks)) (nodes_of es others)
         go [] long walk = absurd (omega arith)
         go (j ∷ js) long (e, at, back, of_list, after) =
             let near : steps_at steps e.to ≡ Some left = first_near j e js at back of_list after (omega arith) in
@@ -70,15 +70,8 @@ module _ (es : List Edge) (ts : List ℕ) (lists : List (List ℕ)) (steps : Lis
             elim (cases_lt next.edge.to e.to) [
               | inl less ↦ inl (let h : end_in (slice_get es k) < end_in (slice_get es j) = omega (arith, mine) in h)
               | inr more ↦ (let same : next.edge.to ≡ e.to = omega arith in
-                  inr (mine ∙ same ∙ sym theirs, rest.least js (omega arith) (subst (λ (n : ℕ). IsWalk es ts n js root) (sym same) after)))
+                  inr (mine ∙ same ∙ sym theirs, rest.least js (omega arith) (subst (λ (n : ℕ). IsWalkAmong es ts n js root) (sym same) after)))
             ]
-
-pub least_none : (es : List Edge) (ts : List ℕ) (steps : List (Option ℕ)) (nodes root node : ℕ) → IsOnWay es ts steps nodes root node 0 → IsLeastWay es ts root node 0 []
-least_none es ts steps nodes root node way = record { walk = go way.here; long = refl; least = λ others long walk. (let u : Unit {0} = tt in u) }
-  where
-    go : (ks : List ℕ) × IsWalk es ts node ks root × (length ks ≡ 0) → node ≡ root
-    go ([], walk, long) = walk
-    go (k ∷ ks, walk, long) = absurd (omega arith)
 
 -- ---- from a node back to itself
 
@@ -87,7 +80,7 @@ module _ (es : List Edge) (ts : List ℕ) (lists : List (List ℕ)) (steps : Lis
   out_of_root = list_at lists root
 
   -- no short walk leads back
-  pub none_short : NoneBack es out_of_root steps (length out_of_root) → (ks : List ℕ) → 1 ≤ length ks → length ks ≤ nodes + 1 → IsWalk es ts root ks root → ⊥
+  pub none_short : NoneBack es out_of_root steps (length out_of_root) → (ks : List ℕ) → 1 ≤ length ks → length ks ≤ nodes + 1 → IsWalkAmong es ts root ks root → ⊥
   none_short none [] some short walk = absurd (omega arith)
   none_short none (k ∷ ks) some short (e, at, from, among, rest) =
       let m = distance.near e.to ks rest (omega arith) in
@@ -106,7 +99,7 @@ module _ (es : List Edge) (ts : List ℕ) (lists : List (List ℕ)) (steps : Lis
         fewest = go low;
       }
     where
-      go : few.steps_there ≤ nodes → (ks : List ℕ) → 1 ≤ length ks → IsWalk es ts root ks root → r ≤ length ks
+      go : few.steps_there ≤ nodes → (ks : List ℕ) → 1 ≤ length ks → IsWalkAmong es ts root ks root → r ≤ length ks
       go low [] some walk = absurd (omega arith)
       go low (k ∷ ks) some (e, at, from, among, rest) = ⊎_elim
           (λ (short : length ks < nodes + 1).
@@ -192,9 +185,9 @@ module _ (es : List Edge) (ts : List ℕ) (steps : List (Option ℕ)) (n k : ℕ
   ]
 
   module _ (left : ℕ) where
-    pub next_more : (o r : Option ℕ) → steps_at steps e.to ≡ Some left → IsNearer es o k r → MatchOption o (NoneNext es ts steps left n) (IsNext es ts steps left n)
-        → MatchOption r (NoneNext es ts steps left (n + 1)) (IsNext es ts steps left (n + 1))
-    next_more None r there nearer none = subst (λ (o : Option ℕ). MatchOption o (NoneNext es ts steps left (n + 1)) (IsNext es ts steps left (n + 1))) (sym nearer) (record {
+    pub next_more : (o r : Option ℕ) → steps_at steps e.to ≡ Some left → IsNearer es o k r → MatchOption o (NoneNext es ts steps left n) (IsNextEdge es ts steps left n)
+        → MatchOption r (NoneNext es ts steps left (n + 1)) (IsNextEdge es ts steps left (n + 1))
+    next_more None r there nearer none = subst (λ (o : Option ℕ). MatchOption o (NoneNext es ts steps left (n + 1)) (IsNextEdge es ts steps left (n + 1))) (sym nearer) (record {
       among = (n, at);
       edge = e;
       is = is;
@@ -205,7 +198,7 @@ module _ (es : List Edge) (ts : List ℕ) (steps : List (Option ℕ)) (n k : ℕ
           (cases_lt i n);
     })
     next_more (Some old) r there nearer next = elim nearer [
-      | inl (less, new) ↦ subst (λ (o : Option ℕ). MatchOption o (NoneNext es ts steps left (n + 1)) (IsNext es ts steps left (n + 1))) (sym new) (record {
+      | inl (less, new) ↦ subst (λ (o : Option ℕ). MatchOption o (NoneNext es ts steps left (n + 1)) (IsNextEdge es ts steps left (n + 1))) (sym new) (record {
         among = (n, at);
         edge = e;
         is = is;
@@ -215,7 +208,7 @@ module _ (es : List Edge) (ts : List ℕ) (steps : List (Option ℕ)) (n k : ℕ
             (λ (last : n ≤ i). let same : e ≡ f = same_place es ts n i k j e f at is (omega arith) at_j is_j in let h : e.to ≡ f.to = ap (λ (g : Edge). g.to) same in omega arith)
             (cases_lt i n);
       })
-      | inr (more, kept) ↦ subst (λ (o : Option ℕ). MatchOption o (NoneNext es ts steps left (n + 1)) (IsNext es ts steps left (n + 1))) (sym kept) (record {
+      | inr (more, kept) ↦ subst (λ (o : Option ℕ). MatchOption o (NoneNext es ts steps left (n + 1)) (IsNextEdge es ts steps left (n + 1))) (sym kept) (record {
         among = next.among;
         edge = next.edge;
         is = next.is;
@@ -228,8 +221,8 @@ module _ (es : List Edge) (ts : List ℕ) (steps : List (Option ℕ)) (n k : ℕ
       })
     ]
 
-    pub next_pass : (o : Option ℕ) → (steps_at steps e.to ≡ Some left → ⊥) → MatchOption o (NoneNext es ts steps left n) (IsNext es ts steps left n)
-        → MatchOption o (NoneNext es ts steps left (n + 1)) (IsNext es ts steps left (n + 1))
+    pub next_pass : (o : Option ℕ) → (steps_at steps e.to ≡ Some left → ⊥) → MatchOption o (NoneNext es ts steps left n) (IsNextEdge es ts steps left n)
+        → MatchOption o (NoneNext es ts steps left (n + 1)) (IsNextEdge es ts steps left (n + 1))
     next_pass None away none = λ i j f below at_j is_j to. ⊎_elim
         (λ (old : i < n). none i j f old at_j is_j to)
         (λ (last : n ≤ i). let same : e ≡ f = same_place es ts n i k j e f at is (omega arith) at_j is_j in away (ap (λ (g : Edge). steps_at steps g.to) same ∙ to))
@@ -246,6 +239,6 @@ module _ (es : List Edge) (ts : List ℕ) (steps : List (Option ℕ)) (n k : ℕ
     }
 
 -- the edges that are named are edges
-pub next-known : (es : List Edge) (ts : List ℕ) (steps : List (Option ℕ)) (left n : ℕ) (o : Option ℕ) → MatchOption o (NoneNext es ts steps left n) (IsNext es ts steps left n) → MatchOption o (Unit {0}) (λ k. k < length es)
+pub next-known : (es : List Edge) (ts : List ℕ) (steps : List (Option ℕ)) (left n : ℕ) (o : Option ℕ) → MatchOption o (NoneNext es ts steps left n) (IsNextEdge es ts steps left n) → MatchOption o (Unit {0}) (λ k. k < length es)
 next-known es ts steps left n None none = tt
 next-known es ts steps left n (Some k) next = slice_get_within es k next.edge next.is

@@ -1,41 +1,19 @@
 -- A walk of as many edges as there are nodes comes back to a node, and what it closes gains on the rate of its search.
-use Rattle.std.proofs.Common.{◌≡◌, ◌≢◌, ℕ, zero, suc, ◌+◌, ◌*◌, ◌-◌, ◌≤◌, ◌<◌, ◌⊎◌, List, [], ◌∷◌, ◌++◌, length, take, drop, Option, Some, None, refl, sym, ap, subst, ◌∙◌, inl, inr, arith, length-append, length-drop}
+use Rattle.std.proofs.Common.{◌≡◌, ℕ, zero, suc, ◌+◌, ◌*◌, ◌-◌, ◌≤◌, ◌<◌, List, [], ◌∷◌, ◌++◌, length, take, drop, Option, Some, None, refl, sym, ap, subst, ◌∙◌, inl, inr, arith, length-append, length-drop}
 use Rattle.std.specs.Prelude.{slice_get}
-use Rattle.std.proofs.lemmas.Bool.{cases_eq, cases_lt}
+use Rattle.std.proofs.lemmas.Bool.{cases_lt}
 use Rattle.std.proofs.lemmas.List.{length-take-le, take-append-drop}
 use Rattle.automaton.specs.declared.graph.Edge.{Edge}
 use Rattle.automaton.specs.declared.graph.TimedGraph.{TimedGraph}
-use Rattle.automaton.specs.CriticalCycles.{IsPath, weights, IsStart, IsReached}
+use Rattle.automaton.specs.CriticalCycles.{IsPath, weights, IsStart, IsReachedNode}
+use Rattle.automaton.specs.SoundGraphs.{AreInside}
+use Rattle.automaton.proofs.Pigeons.{pigeons}
 use Rattle.automaton.proofs.Walks.{path-append, weights-append}
 use Rattle.scenario_rate.specs.declared.levels.Cell.{Cell}
-use Rattle.scenario_rate.specs.Graphs.{AreInside}
 use Rattle.scenario_rate.specs.inside.Levels.{cell_at}
 use Rattle.scenario_rate.specs.inside.Searches.{IsScored, AreLevels, node_after, from_in, from_of, AreNumbers, DifferBelow}
 use Rattle.scenario_rate.specs.Answers.{IsApart}
 use Rattle.scenario_rate.proofs.Scoring.{edge-inside, before, upper}
-
--- ---- of n + 1 numbers below n two are the same
-
-pick : (m x y : ℕ) → (y ≡ m) ⊎ (y ≢ m) → ℕ
-pick m x y (inl h) = x
-pick m x y (inr h) = y
-
-pub pigeons : (n : ℕ) (f : ℕ → ℕ) → ((i : ℕ) → i < suc n → f i < n) → ((i j : ℕ) → i < j → j < suc n → f i ≢ f j) → ⊥
-unfolding pick
-pigeons zero f below differ = let h : f 0 < 0 = below 0 (let g : 0 < suc 0 = omega arith in g) in let no : ⊥ = omega arith in no
-pigeons (suc m) f below differ = pigeons m (λ i. pick m (f (suc m)) (f i) (cases_eq (f i) m)) (λ i h. lower i h (cases_eq (f i) m))
-    (λ i j h g. apart i j h g (cases_eq (f i) m) (cases_eq (f j) m))
-  where
-    lower : (i : ℕ) → i < suc m → (o : (f i ≡ m) ⊎ (f i ≢ m)) → pick m (f (suc m)) (f i) o < m
-    lower i h (inl e) = let d : f i ≢ f (suc m) = differ i (suc m) h (let g : suc m < suc (suc m) = omega arith in g) in
-        let b : f (suc m) < suc m = below (suc m) (let g : suc m < suc (suc m) = omega arith in g) in omega arith
-    lower i h (inr e) = let b : f i < suc m = below i (omega arith) in omega arith
-
-    apart : (i j : ℕ) → i < j → j < suc m → (o : (f i ≡ m) ⊎ (f i ≢ m)) (q : (f j ≡ m) ⊎ (f j ≢ m)) → pick m (f (suc m)) (f i) o ≢ pick m (f (suc m)) (f j) q
-    apart i j h g (inl a) (inl b) = λ s. differ i j h (omega arith) (a ∙ sym b)
-    apart i j h g (inl a) (inr b) = λ s. differ j (suc m) g (let k : suc m < suc (suc m) = omega arith in k) (sym s)
-    apart i j h g (inr a) (inl b) = λ s. differ i (suc m) (omega arith) (let k : suc m < suc (suc m) = omega arith in k) s
-    apart i j h g (inr a) (inr b) = λ s. differ i j h (omega arith) s
 
 -- ---- a walk cut at a place
 
@@ -158,7 +136,7 @@ module _ (graph : TimedGraph) (l w : ℕ) (rows : List (List (Option Cell))) (le
   pub gains : (walk : List ℕ) (i j : ℕ) → IsScored graph l w (suc k) walk v c.score → i < j → j ≤ length walk
       → node_after graph.edges walk v i ≡ node_after graph.edges walk v j
       → (w * length (take (j - i) (drop i walk)) < weights graph.edges (take (j - i) (drop i walk)) * l)
-      × IsReached graph (node_after graph.edges walk v i) × IsPath graph.edges (node_after graph.edges walk v i) (take (j - i) (drop i walk)) (node_after graph.edges walk v i)
+      × IsReachedNode graph (node_after graph.edges walk v i) × IsPath graph.edges (node_after graph.edges walk v i) (take (j - i) (drop i walk)) (node_after graph.edges walk v i)
   gains walk i j (s, m, start, path, long, sum) order within same =
       let p = part graph.edges walk i j s v path order within in
       let f : length walk ≡ suc k = full walk (s, m, start, path, long, sum) in

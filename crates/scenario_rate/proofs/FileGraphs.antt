@@ -1,15 +1,16 @@
 -- The timed graph of a file is within its limits.
-use Rattle.std.proofs.Common.{◌≡◌, ℕ, zero, suc, ◌+◌, ◌*◌, ◌<◌, ◌≤◌, List, [], ◌∷◌, length, refl, ap, ◌∙◌, subst, arith}
+use Rattle.std.proofs.Common.{◌≡◌, ℕ, suc, ◌+◌, ◌*◌, ◌<◌, ◌≤◌, length, ap, ◌∙◌, subst, arith}
 use Rattle.std.specs.Prelude.{slice_get, Some}
 use Rattle.std.proofs.Math.Nat.{mul-le-mul_right, suc-mul}
 use Rattle.std.proofs.lemmas.Option.{slice_get_within}
 use Rattle.sd_base.specs.declared.tables.ScenarioFile.{ScenarioFile}
 use Rattle.sd_base.specs.Scenarios.{shared_count}
+use Rattle.token_matrix.proofs.Rows.{get_there}
 use Rattle.automaton.specs.declared.graph.Edge.{Edge}
 use Rattle.automaton.specs.declared.graph.TimedGraph.{TimedGraph}
 use Rattle.automaton.specs.TimedGraphs.{IsTimedGraph}
 use Rattle.automaton.proofs.Members.{Has, get-has, from-from, FromStates}
-use Rattle.scenario_rate.specs.Graphs.{IsSound}
+use Rattle.automaton.specs.SoundGraphs.{IsSound}
 
 -- a place in rows of n
 below : (q i n states : ℕ) → q < states → i < n → q * n + i < states * n
@@ -17,11 +18,6 @@ below q i n states inside column =
     let rows : suc q * n ≤ states * n = mul-le-mul_right n (let g : suc q ≤ states = omega arith in g) in
     let more = suc-mul q n in
     omega (arith, rows, more, column)
-
-there : {X : Type 0} (xs : List X) (k : ℕ) → k < length xs → (x : X) × (slice_get xs k ≡ Some x)
-there [] k h = absurd (omega (arith, h))
-there (x ∷ xs) zero h = (x, refl)
-there (x ∷ xs) (suc k) h = there xs k (omega arith)
 
 -- the ends and the weight of an edge
 record IsWithin (n states : ℕ) (f t w : ℕ) : Type 0 where
@@ -37,7 +33,7 @@ module _ (file : ScenarioFile) (graph : TimedGraph) (is : IsTimedGraph file grap
   within f t w h =
       let state = slice_get_within file.states h.place h.state h.at in
       let next = is.leads_on.known h.place h.out.p h.out.r h.state h.at h.out.to in
-      let row = there file.scenarios h.state.scenario (is.leads_on.scenarios h.place h.state h.at) in
+      let row = get_there file.scenarios h.state.scenario (is.leads_on.scenarios h.place h.state h.at) in
       let matrix = (is.are_matrices.each h.state.scenario row.0 row.1).2 in
       let rows = h.out.rows_of in
       let j : rows.j < n = subst (λ m. rows.j < m) matrix.size rows.row in

@@ -11,10 +11,10 @@ use Rattle.scenario_rate.specs.declared.answer.Worst.{Worst}
 use Rattle.scenario_rate.specs.inside.Levels.{cell_at}
 use Rattle.scenario_rate.specs.inside.Searches.{AreLevels, IsLastOf, potential_of}
 use Rattle.scenario_rate.specs.Answers.{IsApart, potential_at}
-use Rattle.scenario_rate.specs.Graphs.{IsSound, node_count}
+use Rattle.automaton.specs.SoundGraphs.{IsSound, node_count}
 use Rattle.scenario_rate.specs.ChosenCycles.{IsChosen}
 use Rattle.scenario_rate.specs.inside.Choosing.{HasCycle, IsChosenOf, AreTight}
-use Rattle.scenario_rate.specs.inside.Bests.{IsBest, IsAnswer}
+use Rattle.scenario_rate.specs.inside.Bests.{IsBest, ShowsWorst}
 use Rattle.scenario_rate.proofs.Tightness.{has_cycle, chosen_critical, chosen_apart, is_chosen}
 use Rattle.scenario_rate.proofs.Scoring.{fit, only-reached, least}
 
@@ -36,7 +36,7 @@ fit-same graph l w p q same f = record {
 
 pub answered : (graph : TimedGraph) (b : Best) (r : Worst) (rows : List (List (Option Cell))) (level time : ℕ) (row : List (Option Cell)) (ts cycle : List ℕ) → IsSound graph → IsBest graph b
     → AreLevels graph b.rate.num b.rate.den rows → IsLastOf graph b.rate.num b.rate.den rows → level + 1 ≡ length rows → time ≡ b.rate.den → row ≡ slice_index_or rows level []
-    → AreTight graph.edges row b.rate.num time (length graph.edges) ts → IsChosenOf graph.edges ts cycle → r.rate ≡ b.rate → r.cycle ≡ cycle → r.potentials ≡ map (potential_of (level * time)) row → IsAnswer graph r
+    → AreTight graph.edges row b.rate.num time (length graph.edges) ts → IsChosenOf graph.edges ts cycle → r.rate ≡ b.rate → r.cycle ≡ cycle → r.potentials ≡ map (potential_of (level * time)) row → ShowsWorst graph r
 answered graph b r rows level time row ts cycle sound best levels (k, last_row, few, last) count time_is row_is tight chosen rate cycle_is list =
     let n : length rows ≡ k + 1 = last.count in
     let level_is : level ≡ k = omega arith in

@@ -7,7 +7,7 @@ use Rattle.std.proofs.lemmas.Option.{slice_get_within, get_or_from_slice_get}
 use Rattle.automaton.specs.declared.graph.Edge.{Edge}
 use Rattle.scenario_rate.specs.declared.by_node.End.{End}
 use Rattle.scenario_rate.specs.declared.by_node.End.TheVariants.{From, To}
-use Rattle.scenario_rate.specs.Graphs.{AreInside}
+use Rattle.automaton.specs.SoundGraphs.{AreInside}
 use Rattle.scenario_rate.specs.inside.Choosing.{IsAmong, AreKnown}
 use Rattle.scenario_rate.specs.inside.ByNode.{node_at, list_at, AreByNode}
 

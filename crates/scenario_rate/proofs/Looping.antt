@@ -10,10 +10,10 @@ use Rattle.std.proofs.lemmas.List.{length-take-le, length-drop}
 use Rattle.sd_base.proofs.Divisors.{root_divides}
 use Rattle.automaton.specs.declared.graph.Edge.{Edge}
 use Rattle.automaton.specs.declared.graph.TimedGraph.{TimedGraph}
-use Rattle.automaton.specs.CriticalCycles.{IsPath, weights, weight_in, IsReached, IsCritical}
+use Rattle.automaton.specs.CriticalCycles.{IsPath, weights, weight_in, IsReachedNode, IsCritical}
 use Rattle.scenario_rate.specs.declared.levels.Cell.{Cell}
 use Rattle.scenario_rate.specs.declared.passes.Best.{Best}
-use Rattle.scenario_rate.specs.Graphs.{IsSound, AreInside, node_count}
+use Rattle.automaton.specs.SoundGraphs.{IsSound, AreInside, node_count}
 use Rattle.scenario_rate.specs.inside.Levels.{cell_at}
 use Rattle.scenario_rate.specs.inside.Searches.{IsScored, IsScoredAt, IsRaisedAt, AreLevels, node_after, AreNumbers, DifferBelow}
 use Rattle.scenario_rate.specs.Answers.{IsApart}
@@ -23,7 +23,7 @@ use Rattle.scenario_rate.proofs.Closing.{numbers, comes-back, part-apart, full, 
 -- a cycle that gains on the rate l/w
 pub record IsLoop (graph : TimedGraph) (l w : ℕ) (cycle : List ℕ) : Type 0 where
   pub node : ℕ
-  pub reached : IsReached graph node
+  pub reached : IsReachedNode graph node
   pub closed : IsPath graph.edges node cycle node
   pub apart : IsApart graph.edges cycle
   pub some : 1 ≤ length cycle

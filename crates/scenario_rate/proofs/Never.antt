@@ -5,7 +5,7 @@ use Rattle.std.specs.Prelude.{slice_get}
 use Rattle.automaton.specs.declared.graph.TimedGraph.{TimedGraph}
 use Rattle.automaton.specs.CriticalCycles.{IsPath, weights, weight_in}
 use Rattle.scenario_rate.specs.declared.levels.Cell.{Cell}
-use Rattle.scenario_rate.specs.Graphs.{IsSound, Grows}
+use Rattle.automaton.specs.SoundGraphs.{IsSound, Grows}
 use Rattle.scenario_rate.specs.inside.Levels.{cell_at}
 use Rattle.scenario_rate.specs.inside.Searches.{AreLevels, IsLast, IsScored}
 use Rattle.scenario_rate.proofs.Scoring.{edge-inside, upper, scored, over}

@@ -6,8 +6,8 @@ use Rattle.std.proofs.lemmas.Option.{slice_get-get_or, get_or_from_slice_get}
 use Rattle.automaton.specs.declared.graph.Edge.{Edge}
 use Rattle.automaton.specs.declared.graph.TimedGraph.{TimedGraph}
 use Rattle.scenario_rate.specs.declared.levels.Cell.{Cell}
-use Rattle.scenario_rate.specs.Graphs.{IsSound, node_count}
-use Rattle.scenario_rate.specs.inside.Levels.{cell_at, IsFirst, IsRaised, AreSmall, AreSettled}
+use Rattle.automaton.specs.SoundGraphs.{IsSound, node_count}
+use Rattle.scenario_rate.specs.inside.Levels.{cell_at, IsRaised, AreSmall, AreSettled}
 use Rattle.scenario_rate.specs.inside.Searches.{AreLevels, IsLast, IsRaisedAt}
 use Rattle.scenario_rate.proofs.Raising.{raised-small}
 
@@ -82,23 +82,6 @@ go-on graph l w rows rows' level v v' number c next sound low time on raised wid
       wide = ap (λ (z : List (Option Cell)). length z) here ∙ whole;
       top = inr ((let i : v' < length next = inside in omega arith), (next, c, number, last, is, edge));
     })
-
-pub begun : (graph : TimedGraph) (l w : ℕ) (rows : List (List (Option Cell))) (row : List (Option Cell)) → IsFirst graph (cell_at row) → length row ≡ node_count graph
-    → rows ≡ row ∷ [] → IsGoingOn graph l w rows 0 0
-begun graph l w rows row first wide same = subst (λ (z : List (List (Option Cell))). IsGoingOn graph l w z 0 0) (sym same) (record {
-  levels = record {
-    first = λ x h. (let e : row ≡ x = (cc) in subst (λ (z : List (Option Cell)). IsFirst graph (cell_at z)) e first);
-    more = λ k x y h g. absurd (let i : k + 1 < length (row ∷ []) = get-inside (row ∷ []) (k + 1) y g in let no : ⊥ = omega arith in no);
-    wide = λ k x h. (elim (get-pushed [] row k x h) [
-      | inl a ↦ absurd (let no : ◌≡◌ {A = Option (List (Option Cell))} None (Some x) = a in (cc))
-      | inr b ↦ ap (λ (z : List (Option Cell)). length z) (sym b.1) ∙ wide
-    ]);
-  };
-  count = (let g : suc 0 ≡ 0 + 1 = omega arith in g);
-  small = λ v c is. (let z : c.score ≡ 0 = first.zero_score v c is in omega arith);
-  wide = wide;
-  top = inl refl;
-})
 
 pub ended : (graph : TimedGraph) (l w : ℕ) (rows : List (List (Option Cell))) (level v : ℕ) (next : List (Option Cell)) → IsGoingOn graph l w rows level v
     → IsRaised graph.edges (length graph.edges) l w (cell_at (slice_index_or rows level [])) (cell_at next) → AreSettled (cell_at next) → level ≤ 1024

@@ -6,24 +6,11 @@ use Rattle.std.proofs.lemmas.Bool.{cases_lt, cases_eq}
 use Rattle.std.proofs.lemmas.List.{get_or-set_same, get_or-set_other}
 use Rattle.automaton.specs.declared.graph.Edge.{Edge}
 use Rattle.scenario_rate.specs.declared.levels.Cell.{Cell}
-use Rattle.scenario_rate.specs.Graphs.{AreInside}
-use Rattle.scenario_rate.specs.inside.Levels.{cell_at, IsBelow, IsAtLeast, IsBrought, IsAged, IsRaised, aged_of, AreSmall}
-
-aged-some : (w : ℕ) (o : Option Cell) (c' : Cell) → aged_of w o ≡ Some c' → (c : Cell) × (o ≡ Some c) × (c'.score ≡ c.score + w) × (c'.edge ≡ None)
-aged-some w None c' h = absurd (cc)
-aged-some w (Some c) c' h = let e : record { score = c.score + w; edge = None } ≡ c' = (cc) in (c, refl, ap (λ (x : Cell). x.score) (sym e), ap (λ (x : Cell). x.edge) (sym e))
+use Rattle.automaton.specs.SoundGraphs.{AreInside}
+use Rattle.scenario_rate.specs.inside.Levels.{cell_at, IsBelow, IsAtLeast, IsBrought, IsRaised, AreSmall}
 
 no-edge : (o : Option ℕ) (k : ℕ) → o ≡ None → o ≡ Some k → ⊥
 no-edge o k h g = cc
-
-pub raised-none : (es : List Edge) (l w : ℕ) (d d' : ℕ → Option Cell) → IsAged w d d' → IsRaised es 0 l w d d'
-raised-none es l w d d' aged = record {
-  kept = λ v c at. (record { score = c.score + w; edge = None }, aged v ∙ ap (aged_of w) at, (let g : c.score + w ≤ c.score + w = omega arith in g));
-  over = λ k e c below is at. absurd (let no : ⊥ = omega arith in no);
-  stayed = λ v c' at none. (let a = aged-some w (d v) c' (sym (aged v) ∙ at) in (a.0, a.1, a.2));
-  came = λ v c' k at edge. (let a = aged-some w (d v) c' (sym (aged v) ∙ at) in absurd (no-edge c'.edge k a.3 edge));
-  more = λ v c' c k at edge had. (let a = aged-some w (d v) c' (sym (aged v) ∙ at) in absurd (no-edge c'.edge k a.3 edge));
-}
 
 same-edge : (es : List Edge) (k n : ℕ) (e f : Edge) → k ≡ n → slice_get es k ≡ Some f → slice_get es n ≡ Some e → e ≡ f
 same-edge es k n e f h a b = let c : ◌≡◌ {A = Option Edge} (Some e) (Some f) = sym b ∙ ap (λ (m : ℕ). slice_get es m) (sym h) ∙ a in (cc)
@@ -44,9 +31,6 @@ module _ (es : List Edge) (n l w : ℕ) (d : ℕ → Option Cell) (xs ys : List 
     came = raised.came;
     more = raised.more;
   })
-
-  new : Cell → Cell
-  new c = record { score = c.score + e.weight * l; edge = Some n }
 
   module _ (c : Cell) (from : d e.from ≡ Some c) (below : IsBelow (cell_at xs e.to) (c.score + e.weight * l))
       (set : ys ≡ slice_set xs e.to (Some (record { score = c.score + e.weight * l; edge = Some n }))) where

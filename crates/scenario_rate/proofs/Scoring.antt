@@ -2,18 +2,14 @@
 use Rattle.std.proofs.Common.{◌≡◌, ℕ, zero, suc, ◌+◌, ◌*◌, ◌≤◌, ◌<◌, List, [], ◌∷◌, ◌++◌, length, Option, Some, None, refl, sym, ap, subst, ◌∙◌, arith, length-append}
 use Rattle.std.specs.Prelude.{slice_get, ℤ, pos, ◌+ℤ◌, ◌-ℤ◌, ◌≤ℤ◌}
 use Rattle.std.proofs.lemmas.Int.{ints}
+use Rattle.token_matrix.proofs.Rows.{get_there}
 use Rattle.automaton.specs.declared.graph.Edge.{Edge}
 use Rattle.automaton.specs.declared.graph.TimedGraph.{TimedGraph}
-use Rattle.automaton.specs.CriticalCycles.{IsPath, weights, weight_in, IsStart, IsReached, Fit}
+use Rattle.automaton.specs.CriticalCycles.{IsPath, weights, weight_in, IsStart, IsReachedNode, Fit}
 use Rattle.automaton.proofs.Walks.{path-append, weights-append, along}
 use Rattle.scenario_rate.specs.declared.levels.Cell.{Cell}
 use Rattle.scenario_rate.specs.inside.Levels.{cell_at, IsRaised}
 use Rattle.scenario_rate.specs.inside.Searches.{IsScored, AreLevels, IsLast, potential_of}
-
-pub get_there : {X : Type 0} → (xs : List X) (i : ℕ) → i < length xs → (x : X) × (slice_get xs i ≡ Some x)
-get_there [] i h = absurd (let no : ⊥ = omega arith in no)
-get_there (x ∷ xs) zero h = (x, refl)
-get_there (x ∷ xs) (suc i) h = get_there xs i (omega arith)
 
 -- a walk of some edges, and its last one
 pub record LastEdge (es : List Edge) (u : ℕ) (ks : List ℕ) (v : ℕ) : Type 0 where
@@ -179,11 +175,11 @@ module _ (graph : TimedGraph) (l w : ℕ) (rows : List (List (Option Cell))) (le
   }
 
   -- a potential is there at reached nodes alone
-  pub only-reached : (v : ℕ) (x : ℤ) → potential_of (k * w) (cell_at row v) ≡ Some x → IsReached graph v
+  pub only-reached : (v : ℕ) (x : ℤ) → potential_of (k * w) (cell_at row v) ≡ Some x → IsReachedNode graph v
   only-reached v x at = let p = some-potential (cell_at row v) x at in
       let s = scored graph l w rows levels k row v p.0 last.at p.1 in go s.0 s.1
     where
-      go : (walk : List ℕ) {s : ℕ} → IsScored graph l w k walk v s → IsReached graph v
+      go : (walk : List ℕ) {s : ℕ} → IsScored graph l w k walk v s → IsReachedNode graph v
       go walk (u, m, start, path, long, is) = (u, walk, start, path)
 
   lowest : (x y z : ℤ) (s a n m l w k : ℕ) → x ≡ pos s -ℤ pos (k * w) → s ≡ a * l + w * m → n + m ≡ k → pos 0 ≤ℤ z → (z +ℤ pos (a * l)) ≤ℤ (y +ℤ pos (w * n)) → x ≤ℤ y

@@ -4,11 +4,12 @@ use Rattle.std.proofs.lemmas.Bool.{cases_lt, cases_eq}
 use Rattle.std.proofs.lemmas.List.{length-take-le}
 use Rattle.automaton.specs.declared.graph.Edge.{Edge}
 use Rattle.automaton.specs.CriticalCycles.{IsPath}
+use Rattle.automaton.specs.SoundGraphs.{AreInside}
+use Rattle.automaton.proofs.Pigeons.{pigeons}
 use Rattle.automaton.proofs.Walks.{path-append}
-use Rattle.scenario_rate.specs.Graphs.{AreInside}
 use Rattle.scenario_rate.specs.inside.Searches.{node_after}
-use Rattle.scenario_rate.specs.inside.Choosing.{IsAmong, IsWalk}
-use Rattle.scenario_rate.proofs.Closing.{pigeons, node-inside, cut-front, cut-back}
+use Rattle.scenario_rate.specs.inside.Choosing.{IsAmong, IsWalkAmong}
+use Rattle.scenario_rate.proofs.Closing.{node-inside, cut-front, cut-back}
 
 -- ---- two of some numbers are the same, or all differ
 
@@ -38,16 +39,16 @@ AllAmong : List ℕ → List ℕ → Type 0
 AllAmong ts [] = Unit {0}
 AllAmong ts (k ∷ ks) = IsAmong ts k × AllAmong ts ks
 
-path_of : (es : List Edge) (ts ks : List ℕ) (u v : ℕ) → IsWalk es ts u ks v → IsPath es u ks v
+path_of : (es : List Edge) (ts ks : List ℕ) (u v : ℕ) → IsWalkAmong es ts u ks v → IsPath es u ks v
 path_of es ts [] u v walk = walk
 path_of es ts (k ∷ ks) u v (e, is, from, among, rest) = (e, is, from, path_of es ts ks e.to v rest)
 
-among_of : (es : List Edge) (ts ks : List ℕ) (u v : ℕ) → IsWalk es ts u ks v → AllAmong ts ks
+among_of : (es : List Edge) (ts ks : List ℕ) (u v : ℕ) → IsWalkAmong es ts u ks v → AllAmong ts ks
 unfolding AllAmong
 among_of es ts [] u v walk = tt
 among_of es ts (k ∷ ks) u v (e, is, from, among, rest) = (among, among_of es ts ks e.to v rest)
 
-walk_of : (es : List Edge) (ts ks : List ℕ) (u v : ℕ) → IsPath es u ks v → AllAmong ts ks → IsWalk es ts u ks v
+walk_of : (es : List Edge) (ts ks : List ℕ) (u v : ℕ) → IsPath es u ks v → AllAmong ts ks → IsWalkAmong es ts u ks v
 unfolding AllAmong
 walk_of es ts [] u v path all = path
 walk_of es ts (k ∷ ks) u v (e, is, from, rest) (among, all) = (e, is, from, among, walk_of es ts ks e.to v rest all)
@@ -70,7 +71,7 @@ all-append ts [] ls all more = more
 all-append ts (k ∷ ks) ls (among, all) more = (among, all-append ts ks ls all more)
 
 -- a walk without what it closes between two places of one node
-pub cut : (es : List Edge) (ts ks : List ℕ) (u v i j : ℕ) → IsWalk es ts u ks v → i < j → j ≤ length ks → node_after es ks v i ≡ node_after es ks v j → IsWalk es ts u (take i ks ++ drop j ks) v
+pub cut : (es : List Edge) (ts ks : List ℕ) (u v i j : ℕ) → IsWalkAmong es ts u ks v → i < j → j ≤ length ks → node_after es ks v i ≡ node_after es ks v j → IsWalkAmong es ts u (take i ks ++ drop j ks) v
 cut es ts ks u v i j walk order within same =
     let path : IsPath es u ks v = path_of es ts ks u v walk in
     let all : AllAmong ts ks = among_of es ts ks u v walk in
@@ -86,9 +87,9 @@ pub record IsShort (es : List Edge) (ts : List ℕ) (n v : ℕ) : Type 0 where
   pub walk : List ℕ
   pub some : 1 ≤ length walk
   pub short : length walk ≤ n
-  pub closed : IsWalk es ts v walk v
+  pub closed : IsWalkAmong es ts v walk v
 
-pub shorten : (es : List Edge) (ts : List ℕ) (n : ℕ) → AreInside es n → (fuel v : ℕ) (ks : List ℕ) → length ks ≤ fuel → v < n → 1 ≤ length ks → IsWalk es ts v ks v → IsShort es ts n v
+pub shorten : (es : List Edge) (ts : List ℕ) (n : ℕ) → AreInside es n → (fuel v : ℕ) (ks : List ℕ) → length ks ≤ fuel → v < n → 1 ≤ length ks → IsWalkAmong es ts v ks v → IsShort es ts n v
 shorten es ts n inside zero v ks few below some walk = absurd (omega arith)
 shorten es ts n inside (suc fuel) v ks few below some walk = ⊎_elim
     (λ (short : length ks < n + 1). record { walk = ks; some = some; short = omega arith; closed = walk })

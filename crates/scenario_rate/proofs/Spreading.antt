@@ -6,7 +6,7 @@ use Rattle.std.proofs.lemmas.List.{length-set, length-replicate, get_or-set_same
 use Rattle.std.proofs.lemmas.Option.{slice_get_within}
 use Rattle.automaton.specs.declared.graph.Edge.{Edge}
 use Rattle.scenario_rate.specs.declared.by_node.End.TheVariants.{To}
-use Rattle.scenario_rate.specs.inside.Choosing.{IsAmong, IsWalk, steps_at, IsWithin, AreWalked, AreFew, IsDistance, IsFarther, IsBrought}
+use Rattle.scenario_rate.specs.inside.Choosing.{IsAmong, IsWalkAmong, steps_at, IsWithin, AreWalked, AreFew, IsDistance, IsFarther, IsBrought}
 use Rattle.scenario_rate.specs.inside.ByNode.{list_at, AreByNode}
 use Rattle.scenario_rate.specs.inside.Spreading.{room_of, room, AreBrought, IsSpread}
 use Rattle.scenario_rate.proofs.Listing.{among_pushed, among_old, among_last, among_first, among_none, listed_at, listed_in}
@@ -29,11 +29,6 @@ module _ (es : List Edge) (ts : List ℕ) (e : Edge) (now new : List (Option ℕ
       (λ (apart : v ≡ e.from → ⊥). (d, set-there s v is apart ∙ here, omega arith))
       (cases_eq v e.from)
   brought_kept false (same, enough) v d here = (d, ap (λ (l : List (Option ℕ)). steps_at l v) same ∙ here, omega arith)
-
-  brought_over : (b : Bool) → IsBrought e now new b → (d : ℕ) → steps_at now e.to ≡ Some d → d < length now → IsWithin new e.from (d + 1)
-  brought_over true (s, at, few, farther, is) d here below =
-      let same : s ≡ d = (let h : Some s ≡ Some d = sym at ∙ here in cc) in (s + 1, set-here s is, omega arith)
-  brought_over false (same, enough) d here below = let w = enough d here below in (w.0, ap (λ (l : List (Option ℕ)). steps_at l e.from) same ∙ w.1, w.2)
 
   brought_long : (b : Bool) → IsBrought e now new b → length new ≡ length now
   brought_long true (s, at, few, farther, is) = ap (λ (l : List (Option ℕ)). length l) is ∙ length-set now e.from (Some (s + 1))
@@ -206,7 +201,7 @@ spread_more es ts nodes root node lists now new rest after listed spread brought
 pub spread_done : (es : List Edge) (ts : List ℕ) (nodes root : ℕ) (steps : List (Option ℕ)) → IsSpread es ts nodes root steps [] → IsDistance es ts nodes root steps
 spread_done es ts nodes root steps spread = record { long = spread.long; walked = spread.walked; few = spread.few; near = go }
   where
-    go : (v : ℕ) (ks : List ℕ) → IsWalk es ts v ks root → length ks ≤ nodes → IsWithin steps v (length ks)
+    go : (v : ℕ) (ks : List ℕ) → IsWalkAmong es ts v ks root → length ks ≤ nodes → IsWithin steps v (length ks)
     go v [] walk short = subst (λ (n : ℕ). IsWithin steps n 0) (sym walk) spread.here
     go v (x ∷ ks) (e, at, from, among, rest) short =
         let m = go e.to ks rest (omega arith) in

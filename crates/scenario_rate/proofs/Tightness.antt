@@ -6,21 +6,18 @@ use Rattle.std.proofs.lemmas.Bool.{cases_lt}
 use Rattle.std.proofs.lemmas.Option.{slice_get_within}
 use Rattle.automaton.specs.declared.graph.Edge.{Edge}
 use Rattle.automaton.specs.declared.graph.TimedGraph.{TimedGraph}
-use Rattle.automaton.specs.CriticalCycles.{IsPath, IsReached, IsCritical, weights, weight_in}
+use Rattle.automaton.specs.CriticalCycles.{IsPath, IsReachedNode, IsCritical, weights, weight_in}
 use Rattle.scenario_rate.specs.declared.levels.Cell.{Cell}
-use Rattle.scenario_rate.specs.Graphs.{IsSound, node_count}
+use Rattle.automaton.specs.SoundGraphs.{IsSound, node_count}
 use Rattle.scenario_rate.specs.Answers.{IsApart}
 use Rattle.scenario_rate.specs.ChosenCycles.{IsTight, IsTightPath, IsChosen}
 use Rattle.scenario_rate.specs.inside.Levels.{cell_at}
 use Rattle.scenario_rate.specs.inside.Searches.{AreLevels, IsLast, potential_of, node_after, from_in, from_of}
-use Rattle.scenario_rate.specs.inside.Choosing.{IsAmong, AreKnown, IsWalk, HasCycle, IsChosenOf, IsEven, IsTightIn, AreTight}
+use Rattle.scenario_rate.specs.inside.Choosing.{IsAmong, AreKnown, IsWalkAmong, HasCycle, IsChosenOf, IsEven, IsTightIn, AreTight}
 use Rattle.scenario_rate.proofs.Scoring.{edge-inside, over, only-reached, fit}
 use Rattle.scenario_rate.proofs.Shortening.{cut, length-cut}
 
 -- ---- edge by edge
-
-pub tight_none : (es : List Edge) (row : List (Option Cell)) (l w : ℕ) → AreTight es row l w 0 []
-tight_none es row l w = record { each = λ k among. absurd (let no : ◌≡◌ {A = Option ℕ} None (Some k) = among.1 in cc); all = λ k below tight. absurd (omega arith) }
 
 get-pushed : (xs : List ℕ) (x i k : ℕ) → slice_get (xs ++ x ∷ []) i ≡ Some k → IsAmong xs k ⊎ (k ≡ x)
 get-pushed [] x zero k at = inr (let e : x ≡ k = cc in sym e)
@@ -101,7 +98,7 @@ module _ (graph : TimedGraph) (l w : ℕ) (rows : List (List (Option Cell))) (le
       (r.0, r.1, (let h : c.score + weights graph.edges (x ∷ ks) * l ≤ r.0.score + w * suc (length ks) = omega (arith, sums e ks x is, longer (length ks), o.2, r.2) in h))
 
   -- a walk that is as heavy as they allow is tight
-  tight_along : (ks : List ℕ) (u v : ℕ) (c d : Cell) → cell_at row u ≡ Some c → cell_at row v ≡ Some d → IsPath graph.edges u ks v → d.score + w * length ks ≤ c.score + weights graph.edges ks * l → IsWalk graph.edges ts u ks v
+  tight_along : (ks : List ℕ) (u v : ℕ) (c d : Cell) → cell_at row u ≡ Some c → cell_at row v ≡ Some d → IsPath graph.edges u ks v → d.score + w * length ks ≤ c.score + weights graph.edges ks * l → IsWalkAmong graph.edges ts u ks v
   tight_along [] u v c d at to path heavy = path
   tight_along (x ∷ ks) u v c d at to (e, is, from, rest) heavy =
       let o = over graph l w rows levels k row last x e c (edge-inside graph.edges x e is) is (ap (cell_at row) (sym from) ∙ at) in
@@ -112,11 +109,11 @@ module _ (graph : TimedGraph) (l w : ℕ) (rows : List (List (Option Cell))) (le
       let here : IsTightIn graph.edges row l w x = (e, is, subst (λ (z : Option Cell). IsEven l w e z (cell_at row e.to)) (sym (ap (cell_at row) (sym from) ∙ at)) (subst (λ (z : Option Cell). IsEven l w e (Some c) z) (sym o.1) even)) in
       (e, is, from, tight.all x (edge-inside graph.edges x e is) here, tight_along ks e.to v o.0 d o.1 to rest (omega (arith, sums e ks x is, longer (length ks), o.2, heavy)))
 
-  reached_cell : (v : ℕ) (c : Cell) → cell_at row v ≡ Some c → IsReached graph v
+  reached_cell : (v : ℕ) (c : Cell) → cell_at row v ≡ Some c → IsReachedNode graph v
   reached_cell v c at = only-reached graph l w rows levels k row last v (pos c.score -ℤ pos (k * w)) (ap (potential_of (k * w)) at)
 
   -- a reached node has a score
-  some_cell : (v : ℕ) → IsReached graph v → (c : Cell) × (cell_at row v ≡ Some c)
+  some_cell : (v : ℕ) → IsReachedNode graph v → (c : Cell) × (cell_at row v ≡ Some c)
   some_cell v reached = of_potential (cell_at row v) refl
     where
       of_potential : (o : Option Cell) → cell_at row v ≡ o → (c : Cell) × (cell_at row v ≡ Some c)
@@ -151,7 +148,7 @@ module _ (graph : TimedGraph) (l w : ℕ) (rows : List (List (Option Cell))) (le
       next (Some d) to even = (d, to, even)
 
   -- the weights of a walk of tight edges
-  walk_sum : (ks : List ℕ) (u v : ℕ) (c : Cell) → cell_at row u ≡ Some c → IsWalk graph.edges ts u ks v → (d : Cell) × (cell_at row v ≡ Some d) × (c.score + weights graph.edges ks * l ≡ d.score + w * length ks) × IsPath graph.edges u ks v
+  walk_sum : (ks : List ℕ) (u v : ℕ) (c : Cell) → cell_at row u ≡ Some c → IsWalkAmong graph.edges ts u ks v → (d : Cell) × (cell_at row v ≡ Some d) × (c.score + weights graph.edges ks * l ≡ d.score + w * length ks) × IsPath graph.edges u ks v
   walk_sum [] u v c at walk = (c, ap (cell_at row) (sym walk) ∙ at, omega arith, walk)
   walk_sum (x ∷ ks) u v c at (e, is, from, among, rest) =
       let o = even_end x e c is (ap (cell_at row) (sym from) ∙ at) (tight.each x among) in
@@ -176,7 +173,7 @@ module _ (graph : TimedGraph) (l w : ℕ) (rows : List (List (Option Cell))) (le
       cell_of_even l w e None d even = absurd even
       cell_of_even l w e (Some c) d even = (c, refl)
 
-      first_cell : (ks : List ℕ) (u v : ℕ) → 1 ≤ length ks → IsWalk graph.edges ts u ks v → (c : Cell) × (cell_at row u ≡ Some c)
+      first_cell : (ks : List ℕ) (u v : ℕ) → 1 ≤ length ks → IsWalkAmong graph.edges ts u ks v → (c : Cell) × (cell_at row u ≡ Some c)
       first_cell [] u v some walk = absurd (omega arith)
       first_cell (x ∷ ks) u v some (e, is, from, among, rest) =
           let t = tight.each x among in
@@ -208,11 +205,11 @@ module _ (graph : TimedGraph) (l w : ℕ) (rows : List (List (Option Cell))) (le
             let y_is : pos d.score -ℤ pos (k * w) ≡ b = cc in
             (plain c.score (e.weight * l) d.score w (k * w)).0 (ap (λ (z : ℤ). z +ℤ pos (e.weight * l)) x_is ∙ sum ∙ sym (ap (λ (z : ℤ). z +ℤ pos w) y_is))
 
-    to_path : (ks : List ℕ) (u v : ℕ) → IsWalk graph.edges ts u ks v → IsTightPath graph l w p u ks v
+    to_path : (ks : List ℕ) (u v : ℕ) → IsWalkAmong graph.edges ts u ks v → IsTightPath graph l w p u ks v
     to_path [] u v walk = walk
     to_path (x ∷ ks) u v (e, is, from, among, rest) = (e, is, from, to_tight x (tight.each x among), to_path ks e.to v rest)
 
-    from_path : (ks : List ℕ) (u v : ℕ) → IsTightPath graph l w p u ks v → IsWalk graph.edges ts u ks v
+    from_path : (ks : List ℕ) (u v : ℕ) → IsTightPath graph l w p u ks v → IsWalkAmong graph.edges ts u ks v
     from_path [] u v walk = walk
     from_path (x ∷ ks) u v (e, is, from, t, rest) = (e, is, from, tight.all x (edge-inside graph.edges x e is) (from_tight x t), from_path ks e.to v rest)
 

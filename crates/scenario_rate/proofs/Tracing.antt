@@ -5,14 +5,11 @@ use Rattle.std.proofs.lemmas.Option.{slice_get-get_or, get_or_from_slice_get}
 use Rattle.automaton.specs.declared.graph.Edge.{Edge}
 use Rattle.automaton.specs.declared.graph.TimedGraph.{TimedGraph}
 use Rattle.scenario_rate.specs.declared.levels.Cell.{Cell}
-use Rattle.scenario_rate.specs.Graphs.{node_count}
+use Rattle.automaton.specs.SoundGraphs.{node_count}
 use Rattle.scenario_rate.specs.inside.Levels.{cell_at, IsRaised, edge_in}
 use Rattle.scenario_rate.specs.inside.Searches.{AreLevels, IsScored, IsScoredAt, HasCell, cell_of}
 use Rattle.scenario_rate.proofs.Cells.{cell-inside}
 use Rattle.scenario_rate.proofs.Scoring.{scored-stayed, scored-came, edge-inside, before}
-
-no_edge : Edge
-no_edge = record { from = 0; to = 0; weight = 0 }
 
 module _ (graph : TimedGraph) (l w : ℕ) (rows : List (List (Option Cell))) (levels : AreLevels graph l w rows) where
   row-there : (k : ℕ) → k < length rows → slice_get rows k ≡ Some (slice_index_or rows k [])

@@ -1,4 +1,3 @@
-pub mod Graphs
 pub mod Answers
 pub mod inside
 pub mod ChosenCycles

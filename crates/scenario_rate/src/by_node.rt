@@ -1,6 +1,6 @@
 //! The edges of a list by node.
 ghost use Rattle.std.specs.Prelude.{◌≡◌, ◌<◌, [], IfOk, length, replicate};
-ghost use Rattle.scenario_rate.specs.Graphs.{AreInside};
+ghost use Rattle.automaton.specs.SoundGraphs.{AreInside};
 ghost use Rattle.scenario_rate.specs.inside.Choosing.{AreKnown};
 ghost use Rattle.scenario_rate.specs.inside.ByNode.{node_at, list_at, AreByNode};
 

@@ -2,10 +2,10 @@
 //! edges, and of these the one with the least list of nodes.
 ghost use Rattle.std.specs.Prelude.{◌≡◌, ◌≤◌, ◌<◌, ◌↔◌, ℕ, List, IsTrue, IfOk, MatchOption, Some, length};
 ghost use Rattle.sd_base.specs.declared.limits.TheConstants.{NODES};
-ghost use Rattle.scenario_rate.specs.Graphs.{AreInside};
+ghost use Rattle.automaton.specs.SoundGraphs.{AreInside};
 ghost use Rattle.scenario_rate.specs.declared.by_node.End.TheVariants.{From};
 ghost use Rattle.scenario_rate.specs.inside.ByNode.{AreByNode};
-ghost use Rattle.scenario_rate.specs.inside.Choosing.{AreKnown, AreFew, HasCycle, IsChosenOf, NoneBack, IsFewest, fewer_of, NoneNext, IsNext, IsNearer, steps_at, IsOnWay, IsLeastWay};
+ghost use Rattle.scenario_rate.specs.inside.Choosing.{AreKnown, AreFew, HasCycle, IsChosenOf, NoneBack, IsFewest, fewer_of, NoneNext, IsNextEdge, IsNearer, steps_at, IsOnWay, IsLeastWay};
 
 use crate::by_node::{End, edges_at, edges_by_node};
 use crate::distances::distances;
@@ -110,7 +110,7 @@ fn next_edge(edges: &[Edge], out: &[u32], steps: &[Option<u32>], left: u32) -> O
     requires inside { AreInside edges.now (length steps.now) }
     requires known { AreKnown edges.now out.now }
     ensures { MatchOption result (NoneNext edges.now out.now steps.now left (length out.now))
-        (IsNext edges.now out.now steps.now left (length out.now)) }
+        (IsNextEdge edges.now out.now steps.now left (length out.now)) }
 {
     let mut best = None;
     for number in out {

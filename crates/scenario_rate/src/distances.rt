@@ -1,7 +1,7 @@
 //! How many edges of a list lead at the least from each node to one.
 ghost use Rattle.std.specs.Prelude.{◌≡◌, ◌<◌, ◌≤◌, ℕ, List, IfOk, OnOk, MatchBool, None, length, replicate};
 ghost use Rattle.sd_base.specs.declared.limits.TheConstants.{NODES};
-ghost use Rattle.scenario_rate.specs.Graphs.{AreInside};
+ghost use Rattle.automaton.specs.SoundGraphs.{AreInside};
 ghost use Rattle.scenario_rate.specs.declared.by_node.End.TheVariants.{To};
 ghost use Rattle.scenario_rate.specs.inside.ByNode.{AreByNode};
 ghost use Rattle.scenario_rate.specs.inside.Choosing.{AreKnown, IsDistance, IsBrought, IsFarther, IsWithinOf};

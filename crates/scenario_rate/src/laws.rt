@@ -4,7 +4,7 @@ ghost use Rattle.sd_base.specs.declared.limits.TheConstants.{EDGES, NODES};
 ghost use Rattle.sd_base.specs.declared.tables.ScenarioFile.{ScenarioFile};
 ghost use Rattle.automaton.specs.declared.graph.TimedGraph.{TimedGraph};
 ghost use Rattle.automaton.specs.TimedGraphs.{IsTimedGraph};
-ghost use Rattle.scenario_rate.specs.Graphs.{Grows, IsSound};
+ghost use Rattle.automaton.specs.SoundGraphs.{Grows, IsSound};
 
 /// In the timed graph of a file whose scenarios share some token, walks from the initial state get heavier than any
 /// number: its states lead on, each token that is left depends on one that was there, and an entry of 0 leads to an

@@ -2,7 +2,7 @@
 //! The score of such a walk is its weights times the rounds, and the time for each edge that it has fewer than k.
 
 ghost use Rattle.std.specs.Prelude.{◌≡◌, ◌*◌, ◌+◌, ◌≤◌, ◌<◌, IfOk, MatchBool, MatchOption, length, slice_get};
-ghost use Rattle.scenario_rate.specs.Graphs.{IsSound, AreInside, node_count};
+ghost use Rattle.automaton.specs.SoundGraphs.{IsSound, AreInside, node_count};
 ghost use Rattle.scenario_rate.specs.inside.Levels.{cell_at, IsBelow, IsAtLeast, IsBrought, IsAged, IsRaised, IsFirst, IsFirstCell, aged_of, AreSmall, AreSettled, edge_in, IsNoHigher, WasRaised};
 
 use automaton::{Edge, TimedGraph};

@@ -4,13 +4,13 @@ ghost use Rattle.std.specs.Prelude.{◌≡◌, ◌*◌, ◌+◌, ◌-◌, ◌≤
 ghost use Rattle.sd_base.specs.declared.tables.ScenarioFile.{ScenarioFile};
 ghost use Rattle.automaton.specs.WorstRates.{IsWorst};
 ghost use Rattle.automaton.specs.TimedGraphs.{IsTimedGraph};
-ghost use Rattle.automaton.specs.CriticalCycles.{IsCritical, IsReached, Fit, weights};
-ghost use Rattle.scenario_rate.specs.Graphs.{Grows, IsSound, AreInside, node_count};
+ghost use Rattle.automaton.specs.CriticalCycles.{IsCritical, IsReachedNode, Fit, weights};
+ghost use Rattle.automaton.specs.SoundGraphs.{Grows, IsSound, AreInside, node_count};
 ghost use Rattle.scenario_rate.specs.inside.Levels.{cell_at, AreSmall};
 ghost use Rattle.scenario_rate.specs.inside.Searches.{AreLevels, IsRaisedAt, AreNumbers, IsLastOf, potential_of};
 ghost use Rattle.scenario_rate.specs.ChosenCycles.{IsChosen};
 ghost use Rattle.scenario_rate.specs.Answers.{IsApart, potential_at};
-ghost use Rattle.scenario_rate.specs.inside.Bests.{IsBest, IsAnswer, IsTurn};
+ghost use Rattle.scenario_rate.specs.inside.Bests.{IsBest, ShowsWorst, IsTurn};
 
 use crate::answer::Worst;
 use crate::chosen::chosen_cycle;
@@ -54,7 +54,7 @@ pub fn worst(alloc: Global, graph: &TimedGraph) -> Result<Worst, NoMemory>
     ensures apart { IfOk result (λ r. IsApart graph.now.edges r.cycle) }
     ensures fit { IfOk result (λ r. Fit graph.now r.rate.num r.rate.den (potential_at r.potentials)) }
     ensures count { IfOk result (λ r. length r.potentials ≡ node_count graph.now) }
-    ensures reached { IfOk result (λ r. (v : ℕ) → (x : ℤ) → potential_at r.potentials v ≡ Some x → IsReached graph.now v) }
+    ensures reached { IfOk result (λ r. (v : ℕ) → (x : ℤ) → potential_at r.potentials v ≡ Some x → IsReachedNode graph.now v) }
     ensures least { IfOk result (λ r. (q : (ℕ → Option ℤ)) → Fit graph.now r.rate.num r.rate.den q → (v : ℕ) → (x : ℤ) → (y : ℤ)
         → potential_at r.potentials v ≡ Some x → q v ≡ Some y → x ≤ℤ y) }
     ensures shows { IfOk result (λ r. (file : ScenarioFile) → IsTimedGraph file graph.now → IsWorst file r.rate.num r.rate.den) }
@@ -174,7 +174,7 @@ fn finish(alloc: Global, graph: &TimedGraph, best: Best, levels: &Levels) -> Res
     requires levels { AreLevels graph.now best.rate.num best.rate.den levels.now.rows.items }
     requires time { levels.now.time ≡ best.rate.den }
     requires last { IsLastOf graph.now best.rate.num best.rate.den levels.now.rows.items }
-    ensures { IfOk result (IsAnswer graph.now) }
+    ensures { IfOk result (ShowsWorst graph.now) }
 {
     let level = levels.rows.len() - 1;
     let row = row_at(levels.rows.as_slice(), level);

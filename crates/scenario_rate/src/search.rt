@@ -1,7 +1,7 @@
 //! A search by levels: either no edge raises a node any more, or the walks get as long as they may.
 
 ghost use Rattle.std.specs.Prelude.{◌≡◌, ◌*◌, ◌+◌, ◌≤◌, ◌<◌, ℕ, IfOk, length, slice_index_or, []};
-ghost use Rattle.scenario_rate.specs.Graphs.{IsSound, node_count};
+ghost use Rattle.automaton.specs.SoundGraphs.{IsSound, node_count};
 ghost use Rattle.scenario_rate.specs.inside.Searches.{IsOutcome};
 
 use crate::levels::{Cell, first_row, next_row, raised_node};

@@ -1,6 +1,6 @@
 //! The edges on which the condition on potentials holds with equality.
 ghost use Rattle.std.specs.Prelude.{◌≡◌, ◌≤◌, ◌↔◌, IsTrue, IfOk, MatchOption, length};
-ghost use Rattle.scenario_rate.specs.Graphs.{AreInside};
+ghost use Rattle.automaton.specs.SoundGraphs.{AreInside};
 ghost use Rattle.scenario_rate.specs.inside.Levels.{cell_at, AreSmall};
 ghost use Rattle.scenario_rate.specs.inside.Choosing.{IsEven, AreTight};
 

@@ -1,7 +1,7 @@
 //! The walk that gave a node its score at a level.
 
 ghost use Rattle.std.specs.Prelude.{◌≡◌, ◌*◌, ◌+◌, ◌≤◌, ◌<◌, ℕ, IfOk, length, Option, Some, slice_get, slice_index_or, List};
-ghost use Rattle.scenario_rate.specs.Graphs.{IsSound, node_count};
+ghost use Rattle.automaton.specs.SoundGraphs.{IsSound, node_count};
 ghost use Rattle.scenario_rate.specs.inside.Levels.{cell_at, edge_in};
 ghost use Rattle.scenario_rate.specs.inside.Searches.{AreLevels, IsScored, HasCell, IsScoredAt, cell_of};
 ghost use Rattle.scenario_rate.specs.declared.levels.Cell.{Cell};

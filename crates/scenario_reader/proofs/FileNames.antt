@@ -1,5 +1,5 @@
 -- The names of a file of scenarios that is read can be written.
-use Rattle.std.proofs.Common.{◌≡◌, ℕ, Bool, true, false, ◌==◌, List, [], ◌∷◌, Result, Ok, Err, All, sym, subst}
+use Rattle.std.proofs.Common.{◌≡◌, Bool, true, false, ◌==◌, List, [], ◌∷◌, Result, Ok, Err, All, sym, subst}
 use Rattle.std.specs.Prelude.{IfOk, cond}
 use Rattle.std.proofs.lemmas.List.Elements.{All-nil, All-cons, All-head, All-tail, All-same}
 use Rattle.sd_base.specs.declared.tables.Kind.TheVariants.{Sdf}

@@ -5,6 +5,7 @@ use Rattle.std.specs.List.{AllByRecursion, list_any, position}
 use Rattle.std.specs.Str.{bytes_eq}
 use Rattle.std.proofs.lemmas.Bool.{eqb-false}
 use Rattle.std.proofs.lemmas.List.Quantifiers.{position-Some}
+use Rattle.std.proofs.lemmas.List.{length_push}
 use Rattle.sd_base.specs.declared.limits.Quantity.TheVariants as quantity
 use Rattle.sd_base.specs.declared.tables.Kind.TheVariants.{Sdf}
 use Rattle.sd_base.specs.declared.tables.GraphFile.{GraphFile}
@@ -29,7 +30,7 @@ use Rattle.graph_reader.proofs.NumberLists.{within}
 use Rattle.graph_reader.proofs.ElementPlaces.{AfterEach, Follows, each-gives, Related, two-from_after, Counted, few-from_counted, Each-from_none, Each-weaker}
 use Rattle.graph_reader.proofs.Found.{NamesDiffer, graph-kind, names-apart}
 use Rattle.graph_reader.proofs.Found
-use Rattle.graph_reader.proofs.Rules.{Keeps}
+use Rattle.graph_reader.proofs.Rules.{Keeps, push-all}
 use Rattle.graph_reader.proofs.Rules
 use Rattle.scenario_reader.specs.declared.states.State.{State}
 use Rattle.scenario_reader.specs.ScenarioSections as files
@@ -61,7 +62,7 @@ each-read P C read gives es =
     let pairs : Pairwise (λ e x. P x) es xs = subst (Pairwise (λ e x. P x) es) (sym f.1) f.2 in
     record { long = pairs-long P es xs pairs; all = pairs-all P es xs pairs; after = subst (AfterEach C []) (sym f.1) f.3 })
 
-few : {X : Type 0} (limit : ℕ) (xs : List X) → AfterEach (Counted 0 limit) [] xs → length xs ≤ limit
+pub few : {X : Type 0} (limit : ℕ) (xs : List X) → AfterEach (Counted 0 limit) [] xs → length xs ≤ limit
 few limit xs after = let counted = few-from_counted 0 limit [] xs (omega arith) after in omega arith
 
 -- ---- scenarios
@@ -221,14 +222,6 @@ record RowsFit (scenarios states count : ℕ) (rows : List StateRow) : Type 0 wh
   long : length rows ≡ count
   fit : AllByRecursion (RowFits scenarios states) rows
 
-push-all : {X : Type 0} (P : X → Type 0) (done : List X) (x : X) → AllByRecursion P done → P x → AllByRecursion P (done ++ x ∷ [])
-push-all P [] x all last = (last, tt)
-push-all P (y ∷ done) x all last = (all.0, push-all P done x all.1 last)
-
-length-push : {X : Type 0} (done : List X) (x : X) → length (done ++ x ∷ []) ≡ length done + 1
-length-push [] x = refl
-length-push (y ∷ done) x = omega (arith, length-push done x)
-
 rows_from : (scenarios : ℕ) (states : List State) (done : List StateRow) (rest : List State) (es : List Node) → length es ≡ length rest → AllByRecursion (RunsOneOf scenarios) rest → AllByRecursion (RowFits scenarios (length states)) done →
     IfOk (files.rows_from states done rest es) (RowsFit scenarios (length states) (length done + length rest))
 rows_from scenarios states done [] es long run fit = record { long = omega arith; fit = fit }
@@ -238,7 +231,7 @@ rows_from scenarios states done (s ∷ rest) (e ∷ es) long run fit =
     then (RowFits scenarios (length states)) (RowsFit scenarios (length states) (length done + length (s ∷ rest))) (files.state_row states s e) (λ row. files.rows_from states (done ++ row ∷ []) rest es) (state_row scenarios states s e run.0) (λ row fits.
     weaker (RowsFit scenarios (length states) (length (done ++ row ∷ []) + length rest)) (RowsFit scenarios (length states) (length done + length (s ∷ rest))) (files.rows_from states (done ++ row ∷ []) rest es)
     (rows_from scenarios states (done ++ row ∷ []) rest es long' run.1 (push-all (RowFits scenarios (length states)) done row fit fits)) (λ rows h.
-    let push = length-push done row in
+    let push = length_push done row in
     let same = h.long in
     record { long = omega arith; fit = h.fit }))
 

@@ -25,7 +25,7 @@ use Rattle.graph_reader.proofs.ElementPlaces.{each-given, Related, after-from_tw
 use Rattle.graph_reader.proofs.Again.{required, new_name, one, root_of, graph_in}
 use Rattle.scenario_reader.specs.declared.states.State.{State}
 use Rattle.scenario_reader.specs.ScenarioSections as files
-use Rattle.scenario_reader.specs.ScenarioSpelled.{IsScenario, AreScenarios, AreSame, AreShared, IsState, AreStates, IsInitial, IsNext, IsStateRow, AreRows, IsScenarioFile}
+use Rattle.scenario_reader.specs.ScenarioSpelled.{IsScenario, AreScenarios, AreSame, AreShared, IsState, AreStates, IsInitial, NamesSuccessor, IsStateRow, AreRows, IsScenarioFile}
 use Rattle.scenario_reader.proofs.SharedRows.{share-again}
 use Rattle.scenario_reader.proofs.ScenarioFound.{ScenariosDiffer, StatesDiffer, Differ, NoCount}
 
@@ -101,7 +101,7 @@ new_next done name n new =
     let none : list_any (λ other. other == n) done ≡ false = none-from_Each (λ other. other == n) done (Each-weaker (λ m. m ≢ n) (λ m. (m == n) ≡ false) done new (λ m differ. false_from_ne_true (m == n) (λ same. differ (eqb-true m n same)))) in
     rw none refl
 
-next_of : (states : List State) (of : List ℕ) (done : List ℕ) (e : Node) (n : ℕ) → IsNext states e n → Related Differ NoCount done n → files.next_of states of done e ≡ Ok n
+next_of : (states : List State) (of : List ℕ) (done : List ℕ) (e : Node) (n : ℕ) → NamesSuccessor states e n → Related Differ NoCount done n → files.next_of states of done e ≡ Ok n
 unfolding files.next_of
 next_of states of done e n (name, has, is) new =
     then-ok (TreeSteps.required field.State of e) _ name (Ok n) (required field.State of e name has) (
@@ -117,7 +117,7 @@ state_row states s e row is =
     let es = TreeSteps.children (codes "next") e in
     let after = after-from_two Differ NoCount row.next is.apart (no-count [] row.next) in
     let next : files.successors_of states s.name e ≡ Ok row.next =
-    then-ok (TreeSteps.each (files.next_of states s.name) [] es) (files.some_next s.name) row.next (Ok row.next) (each-given (IsNext states) (Related Differ NoCount) (files.next_of states s.name) (next_of states s.name) [] es row.next is.next after) (some_next s.name row.next is.some) in
+    then-ok (TreeSteps.each (files.next_of states s.name) [] es) (files.some_next s.name) row.next (Ok row.next) (each-given (NamesSuccessor states) (Related Differ NoCount) (files.next_of states s.name) (next_of states s.name) [] es row.next is.next after) (some_next s.name row.next is.some) in
     let made : List ℕ → ℕ → StateRow = λ name scenario. record { name = name; scenario = scenario; next = row.next } in
     then-ok (files.successors_of states s.name e) (λ rows. Ok (record { name = s.name; scenario = s.scenario; next = rows })) row.next (Ok row) next
     (ap (λ name. Ok (made name s.scenario)) (sym is.name) ∙ ap (λ scenario. Ok (made row.name scenario)) (sym is.scenario))

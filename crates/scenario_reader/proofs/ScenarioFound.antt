@@ -1,5 +1,5 @@
 -- What is read of a tree is what the tree spells.
-use Rattle.std.proofs.Common.{◌≡◌, ◌≢◌, ℕ, suc, ◌+◌, ◌*◌, ◌≤◌, true, false, ◌==◌, List, [], ◌∷◌, ◌++◌, length, map, Option, Some, None, Result, Ok, refl, sym, ap, ◌∙◌, subst, append_assoc, arith}
+use Rattle.std.proofs.Common.{◌≡◌, ◌≢◌, ℕ, suc, ◌+◌, ◌*◌, ◌≤◌, true, false, ◌==◌, List, [], ◌∷◌, ◌++◌, length, map, Some, Result, Ok, refl, sym, ap, ◌∙◌, subst, append_assoc, arith}
 use Rattle.std.specs.Prelude.{IfOk, IsTrue, codes}
 use Rattle.std.specs.List.{list_any}
 use Rattle.std.specs.Str.{bytes_eq}
@@ -15,7 +15,6 @@ use Rattle.sd_base.specs.Tables.{IsTimed}
 use Rattle.sd_base.specs.Scenarios.{shared_count}
 use Rattle.file_text.specs.Node.{Node, name_of}
 use Rattle.file_text.specs.Grammar.{Each}
-use Rattle.graph_reader.specs.declared.field.Field.{Field}
 use Rattle.graph_reader.specs.declared.field.Field.TheVariants as field
 use Rattle.graph_reader.specs.declared.error.ReadError.{ReadError}
 use Rattle.graph_reader.specs.Field.{word_of}
@@ -26,15 +25,16 @@ use Rattle.graph_reader.specs.Sections
 use Rattle.graph_reader.specs.Spelled.{Pairwise, EachTwo, Has, IsGraph}
 use Rattle.graph_reader.proofs.ReaderSteps.{then, weaker, both, choice}
 use Rattle.graph_reader.proofs.NumberLists.{within}
-use Rattle.graph_reader.proofs.ElementPlaces.{AfterEach, Follows, each-gives, Related, two-from_after, count-from_after, Counted, few-from_counted, Each-from_none, Each-weaker}
-use Rattle.graph_reader.proofs.Found.{required, new_name, IsNew, one, root_of}
+use Rattle.graph_reader.proofs.ElementPlaces.{AfterEach, Follows, each-gives, Related, two-from_after, count-from_after, Counted, Each-from_none, Each-weaker}
+use Rattle.graph_reader.proofs.Found.{required, new_name, IsNew, one, root_of, known}
 use Rattle.graph_reader.proofs.Found
 use Rattle.graph_reader.proofs.Rules.{Keeps}
 use Rattle.graph_reader.proofs.Rules
 use Rattle.scenario_reader.specs.declared.states.State.{State}
 use Rattle.scenario_reader.specs.ScenarioSections as files
-use Rattle.scenario_reader.specs.ScenarioSpelled.{IsScenario, AreScenarios, AreSame, AreShared, IsState, AreStates, IsInitial, IsNext, IsStateRow, AreRows, IsScenarioFile}
+use Rattle.scenario_reader.specs.ScenarioSpelled.{IsScenario, AreScenarios, AreSame, AreShared, IsState, AreStates, IsInitial, NamesSuccessor, IsStateRow, AreRows, IsScenarioFile}
 use Rattle.scenario_reader.proofs.SharedRows.{all-share}
+use Rattle.scenario_reader.proofs.FileRules.{few}
 
 -- values that are read of elements: one each, related to each other, and counted
 record AreRead {X : Type 0} (P : Node → X → Type 0) (R : X → X → Type 0) (N : List X → X → Type 0) (es : List Node) (xs : List X) : Type 0 where
@@ -50,18 +50,11 @@ each-read P R N read gives es =
     let after : AfterEach (Related R N) [] xs = subst (AfterEach (Related R N) []) (sym f.1) f.3 in
     record { pairs = pairs; apart = two-from_after R N xs after; after = count-from_after R N xs after })
 
-few : {X : Type 0} (limit : ℕ) (xs : List X) → AfterEach (Counted 0 limit) [] xs → length xs ≤ limit
-few limit xs after = let counted = few-from_counted 0 limit [] xs (omega arith) after in omega arith
-
 pairs-long : {X : Type 0} (P : Node → X → Type 0) (es : List Node) (xs : List X) → Pairwise P es xs → length es ≡ length xs
 pairs-long P [] [] pairs = refl
 pairs-long P [] (x ∷ xs) pairs = absurd pairs
 pairs-long P (e ∷ es) [] pairs = absurd pairs
 pairs-long P (e ∷ es) (x ∷ xs) pairs = ap suc (pairs-long P es xs pairs.1)
-
-known : {A : Type 0} (what : Field) (name : List ℕ) (o : Option A) → IfOk (Sections.known what name o) (λ x. o ≡ Some x)
-known what name None = tt
-known what name (Some x) = refl
 
 scenario_kind : (word : List ℕ) → IfOk (files.scenario_kind word) (λ w. word ≡ word_of field.Fsmsadf)
 unfolding files.scenario_kind
@@ -142,21 +135,21 @@ Differ m n = m ≢ n
 abbrev pub NoCount : List ℕ → ℕ → Type 0
 NoCount done n = Unit {0}
 
-next_of : (states : List State) (of : List ℕ) (done : List ℕ) (e : Node) → IfOk (files.next_of states of done e) (λ n. IsNext states e n × Related Differ NoCount done n)
+next_of : (states : List State) (of : List ℕ) (done : List ℕ) (e : Node) → IfOk (files.next_of states of done e) (λ n. NamesSuccessor states e n × Related Differ NoCount done n)
 unfolding files.next_of
 next_of states of done e =
     then (Has field.State e) _ (TreeSteps.required field.State of e) _ (required field.State of e) (λ name has.
     then (λ n. files.state_number states name ≡ Some n) _ (Sections.known field.State name (files.state_number states name)) _ (known field.State name (files.state_number states name)) (λ next is.
-    choice (λ n. IsNext states e n × Related Differ NoCount done n) (list_any (λ other. other == next) done) _ (Ok next) (λ h. tt) (λ none.
+    choice (λ n. NamesSuccessor states e n × Related Differ NoCount done n) (list_any (λ other. other == next) done) _ (Ok next) (λ h. tt) (λ none.
     ((name, has, is), (Each-weaker (λ other. (other == next) ≡ false) (λ other. other ≢ next) done (Each-from_none (λ other. other == next) done none) (λ other h. eqb-false other next h), tt)))))
 
 -- the successors of a state
 pub record AreNext (states : List State) (e : Node) (next : List ℕ) : Type 0 where
-  pub rows : Pairwise (IsNext states) (TreeSteps.children (codes "next") e) next
+  pub rows : Pairwise (NamesSuccessor states) (TreeSteps.children (codes "next") e) next
   pub apart : EachTwo Differ next
   pub some : 1 ≤ length next
 
-some_next : (states : List State) (of : List ℕ) (e : Node) (next : List ℕ) → AreRead (IsNext states) Differ NoCount (TreeSteps.children (codes "next") e) next → IfOk (files.some_next of next) (AreNext states e)
+some_next : (states : List State) (of : List ℕ) (e : Node) (next : List ℕ) → AreRead (NamesSuccessor states) Differ NoCount (TreeSteps.children (codes "next") e) next → IfOk (files.some_next of next) (AreNext states e)
 some_next states of e [] are = tt
 some_next states of e (r ∷ rest) are = record { rows = are.pairs; apart = are.apart; some = omega arith }
 
@@ -164,7 +157,7 @@ successors_of : (states : List State) (of : List ℕ) (e : Node) → IfOk (files
 unfolding files.successors_of
 successors_of states of e =
     let es = TreeSteps.children (codes "next") e in
-    then (AreRead (IsNext states) Differ NoCount es) (AreNext states e) (TreeSteps.each (files.next_of states of) [] es) (files.some_next of) (each-read (IsNext states) Differ NoCount (files.next_of states of) (next_of states of) es) (λ next are.
+    then (AreRead (NamesSuccessor states) Differ NoCount es) (AreNext states e) (TreeSteps.each (files.next_of states of) [] es) (files.some_next of) (each-read (NamesSuccessor states) Differ NoCount (files.next_of states of) (next_of states of) es) (λ next are.
     some_next states of e next are)
 
 state_row : (states : List State) (s : State) (e : Node) → IfOk (files.state_row states s e) (IsStateRow states s e)

@@ -69,14 +69,14 @@ abbrev pub IsInitial : List State → Node → ℕ → Type 0
 IsInitial states fsm n = (name : List ℕ) × Has field.InitialState fsm name × (state_number states name ≡ Some n)
 
 -- an element names a successor
-abbrev pub IsNext : List State → Node → ℕ → Type 0
-IsNext states e n = (name : List ℕ) × Has field.State e name × (state_number states name ≡ Some n)
+abbrev pub NamesSuccessor : List State → Node → ℕ → Type 0
+NamesSuccessor states e n = (name : List ℕ) × Has field.State e name × (state_number states name ≡ Some n)
 
 -- a state with its successors, which are different states, and one at least
 pub record IsStateRow (states : List State) (s : State) (e : Node) (row : StateRow) : Type 0 where
   pub name : row.name ≡ s.name
   pub scenario : row.scenario ≡ s.scenario
-  pub next : Pairwise (IsNext states) (children (codes "next") e) row.next
+  pub next : Pairwise (NamesSuccessor states) (children (codes "next") e) row.next
   pub apart : EachTwo (λ (m n : ℕ). m ≢ n) row.next
   pub some : 1 ≤ length row.next
 

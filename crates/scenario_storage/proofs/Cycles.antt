@@ -59,11 +59,3 @@ module _ (file : ScenarioFile) (gammas : List (List ℕ)) (ds : List (Option ℕ
       IfOk r (λ (shown : List ℕ). (c : ℕ) → Contains shown c ↔ (slice_index_or marks c false ≡ true)) → IfOk r (AreShownLive file ds graph cycle)
   shown-all cycle n marks past are (Ok shown) listed = shown-live cycle n marks past are shown listed
   shown-all cycle n marks past are (Err e) listed = tt
-
-  -- no mark for no scenario
-  pub marked-none : (cycle : List ℕ) (marks : List Bool) → length marks ≡ length file.shared → ((c : ℕ) → slice_index_or marks c false ≡ false) → AreMarkedTo file ds graph cycle 0 marks
-  marked-none cycle marks long none = record {
-    long = long;
-    taken = λ c one. absurd (let not = none c in cc);
-    shows = λ k e on at low. absurd (omega (arith, low));
-  }

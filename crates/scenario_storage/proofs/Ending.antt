@@ -1,5 +1,5 @@
 -- A search that has ended: its points are the front.
-use Rattle.std.proofs.Common.{◌≡◌, ℕ, ◌*◌, ◌≤◌, ◌<◌, ◌⊎◌, true, Option, List, [], ◌∷◌, length, map, inl, inr, ⊎_elim, refl, sym, ap, ◌∙◌, subst, arith, mul-le-mul_right}
+use Rattle.std.proofs.Common.{◌≡◌, ℕ, ◌*◌, ◌≤◌, ◌<◌, ◌⊎◌, true, Option, List, [], ◌∷◌, length, map, inl, inr, ⊎_elim, refl, sym, ap, ◌∙◌, subst, arith}
 use Rattle.std.specs.List.{AllPairs}
 use Rattle.std.specs.Prelude.{Contains, slice_index, slice_index_or}
 use Rattle.std.proofs.lemmas.Bool.{cases_lt, cases_order}
@@ -13,7 +13,7 @@ use Rattle.storage.specs.ParetoPoints.{IsFrontBy, IsReachedBy, Pair, ReachesBy, 
 use Rattle.storage.specs.StorageOrder.{stepped}
 use Rattle.storage.proofs.Climbs.{HasSteps, storage-le}
 use Rattle.storage.proofs.Covers.{covered-by}
-use Rattle.storage.proofs.FrontsFromMembers.{front-from, no_less, same-storage}
+use Rattle.storage.proofs.FrontsFromMembers.{front-from, no_less, same-storage, positive-on}
 use Rattle.levels.specs.Visits.{led_by, visited}
 use Rattle.bounded_scenarios.specs.SharedChannels.{shared_channels}
 use Rattle.bounded_scenarios.specs.StorageRates.{HasWorstRate}
@@ -61,17 +61,6 @@ pairs-rise (x ∷ ps) rising i j less below =
 
 point-pair : (ps : List ScenarioPoint) (p : ScenarioPoint) → Contains ps p → (k : ℕ) × (k < length (map pair_of ps)) × (at ps k ≡ pair_of p)
 point-pair ps p (k, below, is) = (k, omega (arith, below, length-map ps pair_of), get_or-map pair_of ps k p no_pair below ∙ ap pair_of is)
-
-positive-on : (p q x y : ℕ) → 1 ≤ p → 1 ≤ y → p * y ≤ x * q → 1 ≤ x
-positive-on p q x y some there le =
-    ⊎_elim
-    (λ (none : x < 1). absurd (
-    let zero_here : x ≡ 0 = omega (arith, none) in
-    let nothing : x * q ≡ 0 * q = ap (λ (z : ℕ). z * q) zero_here in
-    let scaled : 1 * y ≤ p * y = mul-le-mul_right y some in
-    omega (arith, le, nothing, scaled, there)))
-    (λ (h : 1 ≤ x). h)
-    (cases_lt x 1)
 
 -- points that don't lie apart are one
 one-point : (q p : ScenarioPoint) → (q ≡ p) ⊎ (IsBelow q p ⊎ IsBelow p q) → q.total ≤ p.total → p.rate.num * q.rate.den ≤ q.rate.num * p.rate.den → q ≡ p

@@ -75,9 +75,6 @@ pub record AreMarkedTo (file : ScenarioFile) (ds : List (Option ℕ)) (graph : T
 module _ (file : ScenarioFile) (gammas : List (List ℕ)) (ds : List (Option ℕ)) (can : CanBeMeasured file ds)
     (shares : (k : ℕ) (row : ScenarioRow) → slice_get file.scenarios k ≡ Some row → Shares file.shared row.graph) (graph : TimedGraph) (is : IsTimedGraph (bounded_file file ds) graph) where
   module _ (k : ℕ) (e : Edge) (at : slice_get graph.edges k ≡ Some e) where
-    abbrev Entry : Type 0
-    Entry = FromEntry (bounded_file file ds) graph is e
-
     entry-from : FromEntry (bounded_file file ds) graph is e
     entry-from = edge_from (bounded_file file ds) graph is k e at
 

@@ -2,28 +2,31 @@
 use Rattle.std.proofs.Common.{◌≡◌, false, ℕ, ◌+◌, ◌*◌, ◌≤◌, ◌<◌, Option, Some, List, [], ◌∷◌, ◌++◌, length, ⊎_elim, sym, subst, arith}
 use Rattle.std.specs.Prelude.{Result, Ok, Err, IfErr, IfOk, OnOk, slice_get, slice_index_or, sum}
 use Rattle.std.proofs.lemmas.Bool.{cases_lt}
-use Rattle.std.proofs.lemmas.List.{get_or_append_left, get_or-append-add, get_or_default, length-append, length-map}
+use Rattle.std.proofs.lemmas.List.{get_or_append_left, get_or-append-add, length-append, length-map}
 use Rattle.std.proofs.lemmas.Option.{slice_get_within}
-use Rattle.sd_base.specs.declared.limits.TheConstants.{STAMPS}
+use Rattle.sd_base.specs.declared.limits.TheConstants.{EDGES, STAMPS}
 use Rattle.sd_base.specs.declared.tables.GraphFile.{GraphFile}
 use Rattle.sd_base.specs.declared.tables.ScenarioFile.{ScenarioFile}
 use Rattle.sd_base.specs.declared.tables.ScenarioRow.{ScenarioRow}
 use Rattle.sd_base.specs.declared.tables.SharedRow.{SharedRow}
 use Rattle.sd_base.specs.FileNet.{net_of}
 use Rattle.sd_base.specs.Net.{IsRepetitionOf}
-use Rattle.sd_base.specs.Scenarios.{shared_count}
+use Rattle.sd_base.specs.Scenarios.{LeadsOn, shared_count}
 use Rattle.sd_base.specs.Untimed.{IsLive}
 use Rattle.token_matrix.specs.Matrices.{IsMatrix}
 use Rattle.token_matrix.specs.MatrixRefusals.{IsMatrixRefusal}
 use Rattle.token_matrix.specs.declared.making.MatrixError.{MatrixError}
 use Rattle.token_matrix.specs.declared.making.MatrixError.TheVariants.{Limit, Blocked, NoMemory}
 use Rattle.token_matrix.proofs.Rows.{get_there}
-use Rattle.automaton.specs.TimedGraphs.{AreMatrices, AreSized}
+use Rattle.automaton.specs.declared.graph.Edge.{Edge}
+use Rattle.automaton.specs.TimedGraphs.{AreKept, AreSized, IsRun, edges_from}
+use Rattle.automaton.proofs.Kept.{kept-edges, kept-more, kept-sized, matrices-sized}
 use Rattle.bounded_scenarios.specs.BoundedFiles.{bounded_file, bounded_graph, bounded_scenario}
 use Rattle.bounded_scenarios.specs.Boundings.{CanBeMeasured, GivesMatrix}
 use Rattle.bounded_scenarios.specs.StorageRates.{RunsOn, bounded_net}
+use Rattle.scenario_storage.specs.ScenarioPoints.{HasTooManyEdges}
 use Rattle.scenario_storage.specs.inside.Levels.{AreRounds}
-use Rattle.scenario_storage.specs.inside.Ratings.{AreAllMatrices, IsMatrixAnswer, IsMatrixOf, IsScenarioAt}
+use Rattle.scenario_storage.specs.inside.Ratings.{AreAllMatrices, AreKeptMatrices, IsMatrixAnswer, IsMatrixOf, IsScenarioAt}
 use Rattle.scenario_storage.proofs.Marking.{get-map}
 
 pub scenario-of : (file : ScenarioFile) (gammas : List (List ℕ)) → AreRounds file gammas → (s : ℕ) → s < length file.scenarios → IsScenarioAt file gammas s
@@ -91,6 +94,24 @@ module _ (file : ScenarioFile) (gammas : List (List ℕ)) (ds : List (Option ℕ
           subst (λ (r : ScenarioRow). (gamma : List ℕ) × IsRepetitionOf r.graph gamma × IsMatrix (bounded_file file ds).shared r.graph gamma (slice_index_or matrices s [])) same
           (m.scenario.gamma, (can.scenarios s m.scenario.row m.scenario.gamma m.scenario.at m.scenario.gives).carries.gives, m.carries)
 
+-- those of them that are kept
+pub record AreKeptTo (file : ScenarioFile) (gammas : List (List ℕ)) (ds : List (Option ℕ)) (n : ℕ) (kept : List (List (List (Option ℕ)))) : Type 0 where
+  pub matrices : List (List (List (Option ℕ)))
+  pub to : AreMatricesTo file gammas ds n matrices
+  pub are : AreKept (bounded_file file ds) matrices kept
+
+pub kept-next : (file : ScenarioFile) (gammas : List (List ℕ)) (ds : List (Option ℕ)) (n : ℕ) (kept : List (List (List (Option ℕ)))) (m k : List (List (Option ℕ))) →
+    AreKeptTo file gammas ds n kept → IsMatrixOf file gammas ds n m → (IsRun (bounded_file file ds) n → k ≡ m) → AreKeptTo file gammas ds (n + 1) (kept ++ k ∷ [])
+kept-next file gammas ds n kept m k are is run = record {
+  matrices = are.matrices ++ m ∷ [];
+  to = matrices-more file gammas ds n are.matrices m are.to is;
+  are = kept-more (bounded_file file ds) are.matrices kept m k are.are (λ its. run (subst (IsRun (bounded_file file ds)) are.to.all its));
+}
+
+pub kept-all : (file : ScenarioFile) (gammas : List (List ℕ)) (ds : List (Option ℕ)) (n : ℕ) (kept : List (List (List (Option ℕ)))) → AreKeptTo file gammas ds n kept →
+    CanBeMeasured file ds → n ≡ length file.scenarios → AreKeptMatrices file ds kept
+kept-all file gammas ds n kept are can past = record { matrices = are.matrices; all = all-matrices file gammas ds n are.matrices are.to can past; are = are.are }
+
 -- what a scenario of the bounded file gives, and what is answered on it, by other names
 module _ (shared other : List SharedRow) (g h : GraphFile) (gamma delta : List ℕ) (rows : other ≡ shared) (graphs : h ≡ g) (rounds : delta ≡ gamma) where
   pub moved-to : (P : List SharedRow → GraphFile → List ℕ → Type 0) → P shared g gamma → P other h delta
@@ -111,9 +132,17 @@ module _ (shared other : List SharedRow) (g h : GraphFile) (gamma delta : List �
       subst (λ (s : List SharedRow). P s g gamma) rows
       (subst (λ (x : GraphFile). P other x gamma) graphs (subst (λ (v : List ℕ). P other h v) rounds (matrix, live, refused)))
 
--- each matrix has a row for each shared token
-pub are-sized : (file : ScenarioFile) (matrices : List (List (List (Option ℕ)))) → AreMatrices file matrices → AreSized (shared_count file.shared) matrices
-are-sized file matrices are = λ k d below.
-    let row = get_there file.scenarios k (omega (arith, below, are.all)) in
-    let m = are.each k row.0 row.1 in
-    subst (λ (x : List (List (Option ℕ))). length x ≡ shared_count file.shared) (get_or_default matrices k [] d below) m.2.size
+-- each matrix that is kept has a row for each shared token
+pub are-sized : (file : ScenarioFile) (ds : List (Option ℕ)) (kept : List (List (List (Option ℕ)))) → LeadsOn (bounded_file file ds) → AreKeptMatrices file ds kept →
+    AreSized (shared_count (bounded_file file ds).shared) kept (bounded_file file ds).states
+are-sized file ds kept leads are =
+    kept-sized (bounded_file file ds) are.matrices kept (shared_count (bounded_file file ds).shared) are.are (matrices-sized (bounded_file file ds) are.matrices leads are.all.are)
+
+-- the edges by the matrices that are kept are those by all
+pub too-many : (file : ScenarioFile) (ds : List (Option ℕ)) (kept : List (List (List (Option ℕ)))) → AreKeptMatrices file ds kept → (bounded : ScenarioFile) →
+    bounded ≡ bounded_file file ds → EDGES < length (edges_from (shared_count bounded.shared) 0 kept bounded.states) → HasTooManyEdges file ds
+too-many file ds kept are bounded same many =
+    let here : EDGES < length (edges_from (shared_count (bounded_file file ds).shared) 0 kept (bounded_file file ds).states) =
+    subst (λ (f : ScenarioFile). EDGES < length (edges_from (shared_count f.shared) 0 kept f.states)) same many in
+    let by-all = kept-edges (bounded_file file ds) are.matrices kept are.are (shared_count (bounded_file file ds).shared) 0 in
+    (are.all.runs, (are.matrices, are.all.are, subst (λ (es : List Edge). EDGES < length es) by-all here))

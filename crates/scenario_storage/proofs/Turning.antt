@@ -32,7 +32,7 @@ use Rattle.scenario_storage.specs.declared.rated.Rated.{Rated}
 use Rattle.scenario_storage.specs.declared.search.Search.{Search}
 use Rattle.scenario_storage.specs.ScenarioPoints.{IsRefusal}
 use Rattle.scenario_storage.specs.inside.Errors.{error_of}
-use Rattle.scenario_storage.specs.inside.Levels.{IsAnswer, IsRated, IsWithin}
+use Rattle.scenario_storage.specs.inside.Levels.{IsRatingAnswer, IsRated, IsWithin}
 use Rattle.scenario_storage.specs.inside.Points.{IsBestOf}
 use Rattle.scenario_storage.specs.inside.Searches.{AreKnown, HasTop, IsAnswerOf, IsBest, IsCandidate, IsEnded, IsOffered, IsSearch, IsStanding, IsTurn, ShowsNone, answered_of, entry_of, taken_off, visits_of}
 use Rattle.scenario_storage.proofs.Knowing.{noted-more}
@@ -77,9 +77,6 @@ module _ (file : ScenarioFile) (limits : ScenarioLimits) (can : IsSearchable fil
   off-is =
       let long = length-map search.entries (λ (e : Entry). led_by e.capacities e.shown) in
       omega (arith, search.frontier.found, long)
-
-  pub off-few : taken_off s ≤ limits.distributions
-  off-few = omega (arith, search.frontier.few, search-most)
 
 -- a level that is taken off
 module _ (file : ScenarioFile) (limits : ScenarioLimits) (can : IsSearchable file limits.total) (floor : ℕ) (old new : Search)
@@ -261,7 +258,7 @@ all-unmap P f xs all = λ k d below. subst P (get_or-map f xs k d (f d) below) (
 pub level-answers : (file : ScenarioFile) (limits : ScenarioLimits) (total : ℕ) (best : Fraction) (answers : List Answered) (fs : List (Found Unit)) →
     map (λ (a : Answered). a.capacities) answers ≡ map (λ (f : Found Unit). f.capacities) fs →
     All (λ (f : Found Unit). storage_of (shared_channels file) f.capacities.capacities ≡ total) fs →
-    All (λ (a : Answered). IsAnswer file limits best a.capacities.capacities a.answer) answers → All (IsAnswerOf file limits total best) answers
+    All (λ (a : Answered). IsRatingAnswer file limits best a.capacities.capacities a.answer) answers → All (IsAnswerOf file limits total best) answers
 level-answers file limits total best answers fs order totals all = λ k d below.
     let P : Distribution → Type 0 = λ (x : Distribution). storage_of (shared_channels file) x.capacities ≡ total in
     let of : All P (map (λ (a : Answered). a.capacities) answers) = subst (All P) (sym order) (All-map P (λ (f : Found Unit). f.capacities) fs totals) in

@@ -7,7 +7,7 @@ use Rattle.sd_base.specs.declared.tables.SharedRow.{SharedRow}
 use Rattle.sd_base.specs.Scenarios.{shared_count}
 use Rattle.automaton.specs.declared.graph.TimedGraph.{TimedGraph}
 use Rattle.automaton.specs.TimedGraphs.{AreMatrices, IsTimedGraph, edges_from}
-use Rattle.automaton.specs.CriticalCycles.{Fit, IsCritical, IsReached}
+use Rattle.automaton.specs.CriticalCycles.{Fit, IsCritical, IsReachedNode}
 use Rattle.scenario_rate.specs.declared.answer.Worst.{Worst}
 use Rattle.scenario_rate.specs.Answers.{IsApart, potential_at}
 use Rattle.scenario_rate.specs.ChosenCycles.{IsChosen}
@@ -43,7 +43,7 @@ pub record IsShownBy (file : ScenarioFile) (ds : List (Option ℕ)) (rate : Frac
   pub chosen : IsChosen graph rate.num rate.den (potential_at worst.potentials) worst.cycle
   pub fit : Fit graph rate.num rate.den (potential_at worst.potentials)
   pub count : length worst.potentials ≡ graph.states * graph.tokens
-  pub there : (v : ℕ) (x : ℤ) → potential_at worst.potentials v ≡ Some x → IsReached graph v
+  pub there : (v : ℕ) (x : ℤ) → potential_at worst.potentials v ≡ Some x → IsReachedNode graph v
   pub lowest : (q : ℕ → Option ℤ) → Fit graph rate.num rate.den q → (v : ℕ) (x y : ℤ) → potential_at worst.potentials v ≡ Some x → q v ≡ Some y → x ≤ℤ y
 
 -- a point's distribution is reachable, reaches its storage and its rate within the limit, and is the least that does; and the

@@ -1,6 +1,6 @@
 //! How the distributions of a level are evaluated.
 ghost use Rattle.std.specs.Prelude.{◌≡◌, ◌≤◌, [], All, IfOk, map, reverse, vec_capacity, vec_len};
-ghost use Rattle.scenario_storage.specs.inside.Levels.{IsAnswer, IsAnswered, IsFresh, IsPlan, IsWithin};
+ghost use Rattle.scenario_storage.specs.inside.Levels.{IsRatingAnswer, IsAnswered, IsFresh, IsPlan, IsWithin};
 
 use crate::plan::Plan;
 use crate::rated::{RateError, Rated};
@@ -28,7 +28,7 @@ pub(crate) fn run_level<R: Threads + Sync, G: Gate + Sync>(
 ) -> Result<Vec<Answered>, NoMemory>
     requires plan { IsPlan plan.now.file.now plan.now.gammas.now plan.now.limits }
     requires fits { All (λ f. IsWithin plan.now.file.now plan.now.limits.total f.capacities.capacities) level.visits.items }
-    ensures answers { IfOk result (λ v. All (λ a. IsAnswer plan.now.file.now plan.now.limits best a.capacities.capacities a.answer) v.items) }
+    ensures answers { IfOk result (λ v. All (λ a. IsRatingAnswer plan.now.file.now plan.now.limits best a.capacities.capacities a.answer) v.items) }
     ensures order { IfOk result (λ v. map (λ a. a.capacities) v.items ≡ map (λ f. f.capacities) level.visits.items) }
 {
     let Level { total, visits } = level;
@@ -68,7 +68,7 @@ fn drain(plan: &Plan, best: Fraction, tasks: Vec<Task<'_>>, answers: &mut Vec<An
     requires done { All (λ t. IsAnswered plan.now.file.now plan.now.limits best t.capacities.capacities t.answer) tasks.items }
     requires empty { answers.old.items ≡ [] }
     requires room { vec_len tasks ≤ vec_capacity answers.old }
-    ensures answers { All (λ a. IsAnswer plan.now.file.now plan.now.limits best a.capacities.capacities a.answer) answers.new.items }
+    ensures answers { All (λ a. IsRatingAnswer plan.now.file.now plan.now.limits best a.capacities.capacities a.answer) answers.new.items }
     ensures order { map (λ a. a.capacities) answers.new.items ≡ reverse (map (λ t. t.capacities) tasks.entry.items) }
 {
     let mut tasks = tasks;

@@ -3,14 +3,14 @@ ghost use Rattle.std.specs.Prelude.{◌≡◌, ◌<◌, ℕ, Err, IfErr, IfOk, L
 ghost use Rattle.sd_base.specs.declared.numbers.Fraction.{Fraction as AFraction};
 ghost use Rattle.sd_base.specs.declared.tables.ScenarioFile.{ScenarioFile as AFile};
 ghost use Rattle.bounded_scenarios.specs.BoundedFiles.{bounded_file};
-ghost use Rattle.scenario_storage.specs.inside.Levels.{IsAnswer, IsPlan, IsRateRefusal, IsWithin};
-ghost use Rattle.scenario_storage.specs.inside.Ratings.{AreAllMatrices, IsBlockedAt, IsGraphOf, IsMatrixAnswer, IsMeasured, RunBefore};
+ghost use Rattle.scenario_storage.specs.inside.Levels.{IsRatingAnswer, IsPlan, IsRateRefusal, IsWithin};
+ghost use Rattle.scenario_storage.specs.inside.Ratings.{AreKeptMatrices, IsBlockedAt, IsGraphOf, IsMatrixAnswer, IsMeasured, RunBefore};
 
 use crate::plan::Plan;
 use crate::rated::{Evidence, RateError, Rated, if_above};
 use crate::scenario::{gamma_at, graph_at};
 use crate::shown::{shown_by_counts, shown_by_cycle};
-use automaton::{GraphError, TimedGraph, product};
+use automaton::{GraphError, TimedGraph, needed, product};
 use bounded_scenarios::bounded_file;
 use scenario_rate::{files_are_sound, files_grow, worst};
 use sd_base::{Fraction, NoMemory, Rows, ScenarioFile};
@@ -22,6 +22,7 @@ use token_matrix::{Matrix, MatrixError, matrix_of};
 pub(crate) enum Measured {
     /// The first scenario that can't complete its round, with its ending counts.
     Blocked { scenario: usize, counts: Rows<u64> },
+    /// The matrices of the scenarios, of which those that the timed graph doesn't need aren't kept.
     Live { matrices: Vec<Matrix> },
 }
 
@@ -34,7 +35,7 @@ pub(crate) fn rate(
 ) -> Result<Rated, RateError>
     requires plan { IsPlan plan.now.file.now plan.now.gammas.now plan.now.limits }
     requires fits { IsWithin plan.now.file.now plan.now.limits.total capacities.now.capacities }
-    ensures { IsAnswer plan.now.file.now plan.now.limits best capacities.now.capacities result }
+    ensures { IsRatingAnswer plan.now.file.now plan.now.limits best capacities.now.capacities result }
 {
     let bounded = bounded_file(plan.alloc, plan.file, capacities)?;
     match measure(plan, capacities, &bounded)? {
@@ -61,7 +62,7 @@ fn measure(
     let mut matrices = Vec::with_capacity(plan.alloc, bounded.scenarios.len())?;
     for scenario in 0..bounded.scenarios.len() {
         match matrix_at(plan, capacities, bounded, scenario) {
-            Ok(matrix) => matrices.push(matrix)?,
+            Ok(matrix) => matrices.push(needed(plan.alloc, bounded, scenario, matrix))?,
             Err(error) => return stopped_by(scenario, error),
         }
     }
@@ -110,7 +111,7 @@ fn rate_blocked(
     requires fits { IsWithin plan.now.file.now plan.now.limits.total capacities.now.capacities }
     requires bounded { bounded.now ≡ bounded_file plan.now.file.now capacities.now.capacities }
     requires blocked { IsBlockedAt plan.now.file.now plan.now.gammas.now capacities.now.capacities scenario counts.now }
-    ensures { (best : AFraction) → IsAnswer plan.now.file.now plan.now.limits best capacities.now.capacities result }
+    ensures { (best : AFraction) → IsRatingAnswer plan.now.file.now plan.now.limits best capacities.now.capacities result }
 {
     let enlarge = shown_by_counts(plan, capacities, bounded, scenario, counts)?;
     Ok(Rated {
@@ -131,8 +132,8 @@ fn rate_live(
     requires plan { IsPlan plan.now.file.now plan.now.gammas.now plan.now.limits }
     requires fits { IsWithin plan.now.file.now plan.now.limits.total capacities.now.capacities }
     requires bounded { bounded ≡ bounded_file plan.now.file.now capacities.now.capacities }
-    requires live { AreAllMatrices plan.now.file.now capacities.now.capacities matrices.now }
-    ensures { IsAnswer plan.now.file.now plan.now.limits best capacities.now.capacities result }
+    requires live { AreKeptMatrices plan.now.file.now capacities.now.capacities matrices.now }
+    ensures { IsRatingAnswer plan.now.file.now plan.now.limits best capacities.now.capacities result }
 {
     let graph = timed_graph(plan, capacities, &bounded, matrices)?;
     files_grow();
@@ -168,7 +169,7 @@ fn timed_graph(
     requires plan { IsPlan plan.now.file.now plan.now.gammas.now plan.now.limits }
     requires fits { IsWithin plan.now.file.now plan.now.limits.total capacities.now.capacities }
     requires bounded { bounded.now ≡ bounded_file plan.now.file.now capacities.now.capacities }
-    requires live { AreAllMatrices plan.now.file.now capacities.now.capacities matrices.now }
+    requires live { AreKeptMatrices plan.now.file.now capacities.now.capacities matrices.now }
     ensures graph { IfOk result (IsGraphOf plan.now.file.now capacities.now.capacities) }
     ensures refused { IfErr result (IsRateRefusal plan.now.file.now capacities.now.capacities) }
 {

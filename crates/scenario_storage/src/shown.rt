@@ -1,8 +1,5 @@
 //! The shared channels on which more room could raise the worst rate.
 ghost use Rattle.std.specs.Prelude.{◌≡◌, ◌↔◌, ◌+◌, ◌/◌, ◌^◌, ◌<◌, ◌≤◌, ◌⊎◌, ℕ, Some, true, false, Contains, IfOk, IsTrue, OnOk, length, slice_index, slice_index_or};
-ghost use Rattle.sd_base.specs.Net.{channel_at};
-ghost use Rattle.sd_base.specs.Schedules.{Needs};
-ghost use Rattle.sd_base.specs.Untimed.{CanFire};
 ghost use Rattle.bounded_scenarios.specs.BoundedFiles.{bounded_file};
 ghost use Rattle.bounded_scenarios.specs.StorageRates.{AllRun};
 ghost use Rattle.entry_ways.specs.declared.marking.EntryPlace.{EntryPlace as SomeEntry};
@@ -14,7 +11,7 @@ use crate::plan::Plan;
 use crate::scenario::{gamma_at, graph_at};
 use automaton::{Edge, TimedGraph};
 use entry_ways::{EntryPlace, mark_ways};
-use firing::{Firing, SdfNet, know_laws, made_sum, taken_sum};
+use firing::{Firing, SdfNet, can_fire, know_laws, lacks};
 use sd_base::{NoMemory, Rows, ScenarioFile, StateRow};
 use std::alloc::Global;
 use storage::Distribution;
@@ -113,42 +110,6 @@ fn waits_at<F: Firing>(net: &F, bounded: &F, space: u32, counts: &[u64]) -> bool
     counts[actor as usize] < net.round(actor)
         && can_fire(net, counts, actor)
         && lacks(bounded, counts, space)
-}
-
-/// Whether an actor lacks tokens on no channel for its next firing. Cost: the channels.
-fn can_fire<F: Firing>(net: &F, counts: &[u64], actor: u32) -> bool
-    requires actors { length counts.now ≡ length (F.net net.now).times }
-    requires actor { actor < length (F.net net.now).times }
-    ensures { IsTrue result ↔ CanFire (F.net net.now) (slice_index counts.now) actor }
-{
-    for channel in 0..net.channels() {
-        if net.target(channel) == actor && lacks(net, counts, channel) {
-            return false;
-        }
-    }
-    true
-}
-
-/// Whether a channel lacks tokens for the next firing of its target.
-fn lacks<F: Firing>(net: &F, counts: &[u64], channel: u32) -> bool
-    requires channel { channel < length (F.net net.now).channels }
-    requires actors { length counts.now ≡ length (F.net net.now).times }
-    ensures { IsTrue result ↔ Needs (channel_at (F.net net.now) channel) (slice_index counts.now (channel_at (F.net net.now) channel).target) (slice_index counts.now (channel_at (F.net net.now) channel).source) }
-{
-    know_laws(net);
-    let later = counts[net.target(channel) as usize];
-    let made = counts[net.source(channel) as usize];
-    needs(net, channel, later, made)
-}
-
-/// Whether a channel has too few tokens for a firing of its target after so many firings of its source.
-fn needs<F: Firing>(net: &F, channel: u32, later: u64, made: u64) -> bool
-    requires { channel < length (F.net net.now).channels }
-    ensures { IsTrue result ↔ Needs (channel_at (F.net net.now) channel) later made }
-{
-    know_laws(net);
-    net.tokens(channel) as u128 + made_sum(net, channel, made as u128)
-        < taken_sum(net, channel, later as u128 + 1)
 }
 
 /// The shared channels whose free space is taken on one way of each edge of a cycle. Cost: that of a round for each

@@ -7,12 +7,13 @@ use Rattle.sd_command.specs.declared.status.Status.TheVariants as statuses
 use Rattle.sd_command.specs.declared.stop.Stop.{Stop}
 use Rattle.sd_command.specs.declared.stop.Stop.TheVariants as stop
 use Rattle.sd_command.specs.Statuses.{status_of}
-use Rattle.sd_command.specs.Courses.{Ending, Answered}
-use Rattle.sd_command.specs.Takings.{Files}
+use Rattle.sd_command.specs.steps.Courses.{Ending, Answered, Counted}
+use Rattle.sd_command.specs.steps.Takings.{Files}
 use Rattle.sd_command.specs.Requests.{course_of}
-use Rattle.sd_command.specs.Runs.{Sending, GetsNothing, HasPut, Counted, HasTaken, HasLine, of_refusal, of_memory, Outside, Ends, done, told, out_fault, err_fault, Run, Shows}
-use Rattle.sd_command.specs.inside.Going.{IsEnd, Sends, SendsStop, Goes}
-use Rattle.sd_command.proofs.Goings.{same_shelf}
+use Rattle.sd_command.specs.Runs.{Sending, GetsNothing, HasPut, HasTaken, HasLine, of_refusal, of_memory, Outside, Ends, done, told, out_fault, err_fault, Run, Shows}
+use Rattle.sd_command.specs.inside.Goings.{IsEnd, Goes}
+use Rattle.sd_command.specs.inside.Deliveries.{Sends, SendsStop}
+use Rattle.sd_command.proofs.step_lemmas.Goings.{same_shelf}
 
 module _ (o : Outside) (status : Status) where
   -- the text of an answer was sent

@@ -1,41 +1,21 @@
--- What the words ask for, and the command of each request.
-use Rattle.std.specs.Prelude.{◌≡◌, ℕ, List, None, Ok, Err}
+-- The command of each request, and the course of words.
+use Rattle.std.specs.Prelude.{ℕ, List, None}
 use Rattle.sd_words.specs.declared.request.Request.{Request}
 use Rattle.sd_words.specs.declared.request.Request.TheVariants as requests
-use Rattle.sd_words.specs.declared.request.UsageCause.{UsageCause}
-use Rattle.sd_words.specs.declared.request.UsageCause.TheVariants as causes
-use Rattle.sd_words.specs.OptionWords.{algorithm_word, option_word}
-use Rattle.sd_words.specs.Asked.{request_of}
-use Rattle.report.specs.declared.refusal.Refusal.{Refusal}
-use Rattle.report.specs.declared.refusal.Refusal.TheVariants.{UsageWords, UsageMissing, UsageNotFor, UsageBadValue}
-use Rattle.sd_command.specs.Courses.{Step, deciding, Ending, After}
-use Rattle.sd_command.specs.Takings.{Files}
-use Rattle.sd_command.specs.Repetitions.{repetition}
-use Rattle.sd_command.specs.Throughputs.{throughput}
-use Rattle.sd_command.specs.InOrders.{ordered}
-use Rattle.sd_command.specs.LeastTimes.{complete}
-use Rattle.sd_command.specs.Expandings.{expand}
-use Rattle.sd_command.specs.TradeOffs.{storage}
-use Rattle.sd_command.specs.WorstAnswers.{scenario}
-use Rattle.sd_command.specs.ScenarioStorages.{scenario_storage}
-use Rattle.sd_command.specs.Generations.{generate}
-use Rattle.sd_command.specs.Checks.{check}
-use Rattle.sd_command.specs.Conversions.{convert}
-
--- the refusal of words that aren't those of a command
-abbrev pub usage_refusal : UsageCause → Refusal
-usage_refusal causes.Words = UsageWords
-usage_refusal (causes.Missing option) = UsageMissing (option_word option)
-usage_refusal (causes.NotFor option algo) = UsageNotFor (option_word option) (algorithm_word algo)
-usage_refusal (causes.BadValue option) = UsageBadValue (option_word option)
-
-pub record IsUsageRefusal (words : List (List ℕ)) (refusal : Refusal) : Type 0 where
-  pub cause : UsageCause
-  pub asked : request_of words ≡ Err cause
-  pub told : refusal ≡ usage_refusal cause
-
-abbrev pub asking : List (List ℕ) → Step Request
-asking words = deciding (λ request. request_of words ≡ Ok request) (λ refusal. IsUsageRefusal words refusal)
+use Rattle.sd_command.specs.steps.Courses.{Ending, After}
+use Rattle.sd_command.specs.steps.Takings.{Files}
+use Rattle.sd_command.specs.commands.Repetitions.{repetition}
+use Rattle.sd_command.specs.commands.Throughputs.{throughput}
+use Rattle.sd_command.specs.commands.InOrders.{ordered}
+use Rattle.sd_command.specs.commands.LeastTimes.{complete}
+use Rattle.sd_command.specs.commands.Expansions.{expand}
+use Rattle.sd_command.specs.commands.TradeOffs.{storage}
+use Rattle.sd_command.specs.commands.WorstRates.{scenario}
+use Rattle.sd_command.specs.commands.ScenarioPoints.{scenario_storage}
+use Rattle.sd_command.specs.commands.Generations.{generate}
+use Rattle.sd_command.specs.commands.Checks.{check}
+use Rattle.sd_command.specs.commands.Conversions.{convert}
+use Rattle.sd_command.specs.steps.Askings.{asking}
 
 -- the command of each request
 abbrev pub command_of : Request → Files → Ending → ℕ → Type 0

@@ -8,8 +8,8 @@ use Rattle.sd_command.specs.declared.answer.Put.{Put}
 use Rattle.sd_command.specs.declared.status.Status.{Status}
 use Rattle.sd_command.specs.declared.status.Status.TheVariants as statuses
 use Rattle.sd_command.specs.Statuses.{status_of}
-use Rattle.sd_command.specs.Courses.{Ending, Answered, Refused, Ended, Failed}
-use Rattle.sd_command.specs.Takings.{Files, shelf_refusal}
+use Rattle.sd_command.specs.steps.Courses.{Ending, Answered, Counted, IsRefusedBy}
+use Rattle.sd_command.specs.steps.Takings.{Files, shelf_refusal}
 use Rattle.sd_command.specs.Requests.{course_of}
 
 -- a sink before and after a run: what it was sent, where it tells that, and its count of faults
@@ -28,11 +28,6 @@ GetsPart text sink = SentPart text sink.sent sink.sent_after × Rose sink.faults
 
 abbrev pub GetsNothing : Sending → Type 0
 GetsNothing sink = (sink.sent_after ≡ sink.sent) × (sink.faults_after ≡ sink.faults)
-
--- a count of faults is one more where taking a file failed, and else the same
-abbrev pub Counted : Ending → ℕ → ℕ → Type 0
-Counted (Failed refusal) faults faults' = Rose faults faults'
-Counted _ faults faults' = faults' ≡ faults
 
 -- the shelf before and after a run: its files by name, and its count of faults
 pub record Shelving : Type 0 where
@@ -65,13 +60,6 @@ pub record HasNotPut (file : Option Put) (put : Put) (shelf : Shelving) : Type 0
 pub record HasTaken (ending : Ending) (shelf : Shelving) : Type 0 where
   pub stay : FilesStay shelf
   pub counted : Counted ending shelf.faults shelf.faults_after
-
--- the refusal by which a command ended
-abbrev pub IsRefusedBy : Ending → Refusal → Type 0
-IsRefusedBy (Refused refusal) told = refusal ≡ told
-IsRefusedBy (Ended refusal) told = refusal ≡ told
-IsRefusedBy (Failed refusal) told = refusal ≡ told
-IsRefusedBy _ told = ⊥
 
 -- a line for `err`, with the status of a run that sends it: that of the refusal by which the command ended; of the one for a
 -- file that couldn't be put; or for want of memory, which may come until anything is put or sent

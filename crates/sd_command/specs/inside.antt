@@ -1,5 +1,9 @@
-pub mod Going
+pub mod Deliveries
+pub mod Goings
+pub mod Groups
+pub mod Measuring
 pub mod PointTasks
+pub mod Steps
+pub mod ToldPoints
 pub mod Verdicts
 pub mod Wants
-pub mod ScenarioPoints

@@ -1,10 +1,10 @@
 ghost use Rattle.std.specs.Prelude.{◌≡◌, ◌≤◌, Bool, IfOk, Some};
 ghost use Rattle.report.specs.RefusalLines.{line_of, memory_line};
 ghost use Rattle.sd_command.specs.Statuses.{status_of};
-ghost use Rattle.sd_command.specs.Courses.{Answered};
-ghost use Rattle.sd_command.specs.Takings.{shelf_refusal};
+ghost use Rattle.sd_command.specs.steps.Courses.{Answered};
+ghost use Rattle.sd_command.specs.steps.Takings.{shelf_refusal};
 ghost use Rattle.sd_command.specs.Runs.{Ends, Outside, Sending, Shelving};
-ghost use Rattle.sd_command.specs.inside.Going.{Puts, Sends, SendsStop};
+ghost use Rattle.sd_command.specs.inside.Deliveries.{Puts, Sends, SendsStop};
 ghost use Rattle.sd_command.specs.declared.stop.Stop.TheVariants.{Refused};
 ghost use Rattle.sd_command.specs.declared.status.Status.TheVariants as statuses;
 

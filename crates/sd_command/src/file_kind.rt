@@ -1,5 +1,5 @@
 ghost use Rattle.std.specs.Prelude.{◌≡◌};
-ghost use Rattle.sd_command.specs.Takings.{bytes_of, shelf_refusal};
+ghost use Rattle.sd_command.specs.steps.Takings.{bytes_of, shelf_refusal};
 
 use report::Refusal;
 use sd_base::Quantity;

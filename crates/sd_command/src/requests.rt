@@ -1,16 +1,19 @@
 ghost use Rattle.std.specs.Prelude.{◌≡◌, ℕ, ◌-◌, ◌≤◌, List};
 ghost use Rattle.sd_words.specs.Asked.{IsWithinLimits};
-ghost use Rattle.sd_command.specs.Takings.{Files};
+ghost use Rattle.sd_command.specs.steps.Takings.{Files};
 ghost use Rattle.sd_command.specs.Requests.{command_of, course_of};
-ghost use Rattle.sd_command.specs.inside.Going.{Goes};
+ghost use Rattle.sd_command.specs.inside.Goings.{Goes};
+ghost use Rattle.sd_command.specs.inside.Groups.{AsksForNoPoints, AsksForNoRate};
 
 use crate::answer::Answer;
-use crate::asking::ask;
-use crate::stop::Stop;
-use crate::wanted::{Wanted, WantedPoints, WantedRate, WantedRounds};
-use crate::{
-    bounded_course, check, convert, generate, repetition, scenario, scenario_points, trade_off,
+use crate::commands::parallel::Parallel;
+use crate::commands::wanted::{Wanted, WantedPoints, WantedRate, WantedRounds};
+use crate::commands::{
+    bounded_course, check, conversion, generation, repetition, scenario_points, trade_off,
+    worst_rate,
 };
+use crate::steps::asking::ask;
+use crate::stop::Stop;
 use fanout::Gate;
 use scenario_storage::ScenarioLimits;
 use sd_base::{Ledger, Steps, Text};
@@ -40,7 +43,7 @@ pub(crate) fn answer_of<R: Threads + Sync, S: Shelf, G: Gate + Sync, L: Ledger +
     command_answer(rt, alloc, request, shelf, gate, steps)
 }
 
-// What answers a request.
+// What answers a request: here one for points.
 fn command_answer<R: Threads + Sync, S: Shelf, G: Gate + Sync, L: Ledger + Send>(
     rt: &R,
     alloc: Global,
@@ -58,125 +61,172 @@ fn command_answer<R: Threads + Sync, S: Shelf, G: Gate + Sync, L: Ledger + Send>
     ensures rises { steps.old.count ≤ steps.new.count }
     ensures share { steps.new.share ≡ steps.old.share }
 {
+    let parallel = Parallel { rt, gate };
     match request {
-        Request::Repetition { graph } => repetition::answer(alloc, shelf, graph.as_str()),
+        Request::Storage {
+            graph,
+            limits,
+            no_overlap,
+            certificate,
+        } => {
+            let wanted = WantedPoints {
+                limits,
+                no_overlap,
+                certificate,
+            };
+            trade_off::answer(&parallel, alloc, shelf, graph.as_str(), &wanted, steps)
+        }
+        Request::ScenarioStorage {
+            graph,
+            limit,
+            distributions,
+        } => {
+            let limits = ScenarioLimits {
+                total: limit,
+                distributions,
+            };
+            scenario_points::answer(&parallel, alloc, shelf, graph.as_str(), limits)
+        }
+        Request::Generate {
+            seed,
+            limit,
+            actors,
+        } => generation::answer(&parallel, alloc, seed, limit, actors, steps),
+        other => answer_alone(alloc, other, shelf, steps),
+    }
+}
+
+// What answers a request that asks for no points, and so needs no other thread: here one for a rate.
+fn answer_alone<S: Shelf, L: Ledger>(
+    alloc: Global,
+    request: Request,
+    shelf: &mut S,
+    steps: &mut Steps<L>,
+) -> Result<Answer, Stop>
+    requires within { IsWithinLimits request }
+    requires alone { AsksForNoPoints request }
+    ensures goes { let files : Files = record { tells = S.tells shelf.old; named = S.file shelf.old } in
+        Goes (command_of request files) result (steps.new.count - steps.old.count) (S.faults shelf.old) (S.faults shelf.new) }
+    ensures stays { (n : List ℕ) → S.file shelf.new n ≡ S.file shelf.old n }
+    ensures telling { S.tells shelf.new ≡ S.tells shelf.old }
+    ensures grows { S.faults shelf.old ≤ S.faults shelf.new }
+    ensures rises { steps.old.count ≤ steps.new.count }
+    ensures share { steps.new.share ≡ steps.old.share }
+{
+    match request {
         Request::Throughput {
             graph,
             buffers,
             no_overlap,
             states,
             certificate,
-        } => bounded_course::answer(
-            alloc,
-            shelf,
-            graph.as_str(),
-            buffers.as_slice(),
-            &Wanted::Rate(WantedRate {
+        } => {
+            let wanted = Wanted::Rate(WantedRate {
                 no_overlap,
                 states,
                 certificate,
-            }),
-            steps,
-        ),
-        Request::Storage {
-            graph,
-            limits,
-            no_overlap,
-            certificate,
-        } => trade_off::answer(
-            rt,
-            alloc,
-            shelf,
-            graph.as_str(),
-            &WantedPoints {
-                limits,
-                no_overlap,
-                certificate,
-            },
-            gate,
-            steps,
-        ),
-        Request::Scenario { graph, certificate } => {
-            scenario::answer(alloc, shelf, graph.as_str(), &certificate)
+            });
+            bounded_course::answer(
+                alloc,
+                shelf,
+                graph.as_str(),
+                buffers.as_slice(),
+                &wanted,
+                steps,
+            )
         }
-        Request::ScenarioStorage {
-            graph,
-            limit,
-            distributions,
-        } => scenario_points::answer(
-            rt,
-            alloc,
-            shelf,
-            graph.as_str(),
-            ScenarioLimits {
-                total: limit,
-                distributions,
-            },
-            gate,
-        ),
-        Request::Check { graph, certificate } => {
-            check::answer(alloc, shelf, graph.as_str(), certificate.as_str())
-        }
-        Request::Generate {
-            seed,
-            limit,
-            actors,
-        } => generate::answer(rt, alloc, seed, limit, actors, gate, steps),
-        Request::Convert {
-            certificate,
-            output,
-        } => convert::answer(alloc, shelf, certificate.as_str(), output.as_str()),
-        Request::Expand {
-            graph,
-            output,
-            buffers,
-            no_overlap,
-        } => bounded_course::answer(
-            alloc,
-            shelf,
-            graph.as_str(),
-            buffers.as_slice(),
-            &Wanted::Expansion { output, no_overlap },
-            steps,
-        ),
         Request::Ordered {
             graph,
             order,
             buffers,
             no_overlap,
             states,
-        } => bounded_course::answer(
-            alloc,
-            shelf,
-            graph.as_str(),
-            buffers.as_slice(),
-            &Wanted::Ordered {
-                lists: order,
-                rate: WantedRate {
-                    no_overlap,
-                    states,
-                    certificate: None,
-                },
-            },
-            steps,
-        ),
+        } => {
+            let rate = WantedRate {
+                no_overlap,
+                states,
+                certificate: None,
+            };
+            let wanted = Wanted::Ordered { lists: order, rate };
+            bounded_course::answer(
+                alloc,
+                shelf,
+                graph.as_str(),
+                buffers.as_slice(),
+                &wanted,
+                steps,
+            )
+        }
+        other => answer_rateless(alloc, other, shelf, steps),
+    }
+}
+
+// What answers a request that asks neither for points nor for the rate of a graph.
+fn answer_rateless<S: Shelf, L: Ledger>(
+    alloc: Global,
+    request: Request,
+    shelf: &mut S,
+    steps: &mut Steps<L>,
+) -> Result<Answer, Stop>
+    requires within { IsWithinLimits request }
+    requires rateless { AsksForNoRate request }
+    ensures goes { let files : Files = record { tells = S.tells shelf.old; named = S.file shelf.old } in
+        Goes (command_of request files) result (steps.new.count - steps.old.count) (S.faults shelf.old) (S.faults shelf.new) }
+    ensures stays { (n : List ℕ) → S.file shelf.new n ≡ S.file shelf.old n }
+    ensures telling { S.tells shelf.new ≡ S.tells shelf.old }
+    ensures grows { S.faults shelf.old ≤ S.faults shelf.new }
+    ensures rises { steps.old.count ≤ steps.new.count }
+    ensures share { steps.new.share ≡ steps.old.share }
+{
+    match request {
+        Request::Repetition { graph } => repetition::answer(alloc, shelf, graph.as_str()),
         Request::Complete {
             graph,
             rounds,
             buffers,
             no_overlap,
             states,
-        } => bounded_course::answer(
-            alloc,
-            shelf,
-            graph.as_str(),
-            buffers.as_slice(),
-            &Wanted::Rounds(WantedRounds {
+        } => {
+            let wanted = Wanted::Rounds(WantedRounds {
                 no_overlap,
                 states,
                 rounds,
-            }),
-            steps,
-        ),
+            });
+            bounded_course::answer(
+                alloc,
+                shelf,
+                graph.as_str(),
+                buffers.as_slice(),
+                &wanted,
+                steps,
+            )
+        }
+        Request::Expand {
+            graph,
+            output,
+            buffers,
+            no_overlap,
+        } => {
+            let wanted = Wanted::Expansion { output, no_overlap };
+            bounded_course::answer(
+                alloc,
+                shelf,
+                graph.as_str(),
+                buffers.as_slice(),
+                &wanted,
+                steps,
+            )
+        }
+        Request::Scenario { graph, certificate } => {
+            worst_rate::answer(alloc, shelf, graph.as_str(), &certificate)
+        }
+        Request::Check { graph, certificate } => {
+            check::answer(alloc, shelf, graph.as_str(), certificate.as_str())
+        }
+        Request::Convert {
+            certificate,
+            output,
+        } => conversion::answer(alloc, shelf, certificate.as_str(), output.as_str()),
+        _ => unreachable!(),
     }
 }

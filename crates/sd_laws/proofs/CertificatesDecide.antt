@@ -12,10 +12,10 @@ use Rattle.report.specs.declared.refusal.Refusal.{Refusal}
 use Rattle.report.specs.declared.refusal.Refusal.TheVariants.{Rejected}
 use Rattle.sd_command.specs.declared.file_kind.FileKind.{FileKind}
 use Rattle.sd_command.specs.declared.file_kind.FileKind.TheVariants as kinds
-use Rattle.sd_command.specs.Takings.{Files, taking}
-use Rattle.sd_command.specs.CertificateReadings.{certificate_refusal, opening_certificate, reading_certificate}
-use Rattle.sd_command.specs.Certifyings.{certifying}
-use Rattle.sd_command.specs.Checks.{IsRejected, judging, reason_word}
+use Rattle.sd_command.specs.steps.Takings.{Files, taking}
+use Rattle.sd_command.specs.steps.CertificateReadings.{certificate_refusal, opening_certificate, reading_certificate}
+use Rattle.sd_command.specs.steps.Certifyings.{certifying}
+use Rattle.sd_command.specs.commands.Checks.{IsRejected, judging, reason_word}
 use Rattle.sd_laws.proofs.CommandsDecide.{Determines, DecidesLast, through_determines}
 use Rattle.sd_laws.proofs.SharedSteps.{taking_determines}
 

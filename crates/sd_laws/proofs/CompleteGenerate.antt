@@ -13,11 +13,11 @@ use Rattle.sd_words.specs.declared.request.Request.TheVariants.{Generate}
 use Rattle.sd_words.specs.Asked.{request_of}
 use Rattle.balance.specs.Repetition.{IsRound}
 use Rattle.report.specs.declared.refusal.Refusal.{Refusal}
-use Rattle.sd_command.specs.Courses.{Ended}
-use Rattle.sd_command.specs.Takings.{Files}
-use Rattle.sd_command.specs.Balances.{balancing}
-use Rattle.sd_command.specs.Nets.{touching, completing}
-use Rattle.sd_command.specs.Generations.{usual_limits}
+use Rattle.sd_command.specs.steps.Courses.{Ended}
+use Rattle.sd_command.specs.steps.Takings.{Files}
+use Rattle.sd_command.specs.steps.Balancings.{balancing}
+use Rattle.sd_command.specs.steps.Nets.{touching, completing}
+use Rattle.sd_command.specs.commands.Generations.{usual_limits}
 use Rattle.sd_command.specs.Requests.{course_of}
 use Rattle.sd_laws.specs.Endings.{GenerateIsComplete, Suffice}
 use Rattle.sd_laws.proofs.CommandsDecide.{never_ends}

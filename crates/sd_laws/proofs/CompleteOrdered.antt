@@ -16,24 +16,24 @@ use Rattle.ordered.specs.OrderedNets.{ordered}
 use Rattle.report.specs.declared.refusal.Refusal.{Refusal}
 use Rattle.std.specs.Prelude.{Some}
 use Rattle.sd_command.specs.declared.answer.Answer.{Answer}
-use Rattle.sd_command.specs.declared.wanted.WantedRate.{WantedRate}
-use Rattle.sd_command.specs.Courses.{Answered, Ending, Ended, Refused}
+use Rattle.sd_command.specs.declared.commands.wanted.WantedRate.{WantedRate}
+use Rattle.sd_command.specs.steps.Courses.{Answered, Ending, Ended, Refused}
 use Rattle.sd_laws.specs.Endings.{OrderedIsComplete, Repeats}
-use Rattle.sd_command.specs.InOrders.{ordered_rate_on}
+use Rattle.sd_command.specs.commands.InOrders.{ordered_rate_on}
 use Rattle.sd_laws.specs.KeptOrders.{OrdersAreKept, ShowsRateInOrder}
-use Rattle.sd_command.specs.Nets.{testing}
-use Rattle.sd_command.specs.Orderings.{NamedOrders, ordering}
-use Rattle.sd_command.specs.RateAnswers.{IsRateAnswer}
+use Rattle.sd_command.specs.steps.Nets.{testing}
+use Rattle.sd_command.specs.steps.Orderings.{NamedOrders, ordering}
+use Rattle.sd_command.specs.commands.Rates.{IsRateAnswer}
 use Rattle.sd_command.specs.Requests.{course_of}
-use Rattle.sd_command.specs.Takings.{Files}
+use Rattle.sd_command.specs.steps.Takings.{Files}
 use Rattle.sd_laws.proofs.BoundedPaths.{IsOnNet, lawful_on, lawful_ordered_on, on_the_net}
 use Rattle.sd_laws.proofs.CommandsDecide.{IsPast, goes_past}
 use Rattle.sd_laws.proofs.Ended.{else_is_done}
 use Rattle.sd_laws.proofs.OneOrder.{OrderLaws, are-orders}
 use Rattle.sd_laws.proofs.OneRate.{unrefused}
-use Rattle.sd_command.proofs.OrderedOver.{bound-can}
+use Rattle.sd_command.proofs.command_lemmas.OrderedOver.{bound-can}
 use Rattle.sd_laws.proofs.Requested.{of_request}
-use Rattle.sd_command.proofs.Bounds.{AreSmall}
+use Rattle.sd_command.proofs.command_lemmas.Bounds.{AreSmall}
 use Rattle.sd_laws.proofs.SharedSteps.{FileLaws}
 
 module _ (laws : FileLaws) (orders : OrderLaws) (words : List (List ℕ)) (shelf : Files) (tells : shelf.tells ≡ true) (name : List ℕ) (lists : NamedOrders) (buffers : List Buffer) (no_overlap : Bool) (states : ℕ)

@@ -14,15 +14,15 @@ use Rattle.sd_words.specs.Asked.{request_of}
 use Rattle.graph_reader.specs.Laws as files
 use Rattle.balance.specs.Repetition.{IsRound}
 use Rattle.report.specs.declared.refusal.Refusal.{Refusal}
-use Rattle.sd_command.specs.Courses.{Ended}
-use Rattle.sd_command.specs.Takings.{Files}
-use Rattle.sd_command.specs.Readings.{opening_graph}
-use Rattle.sd_command.specs.Balances.{balancing}
-use Rattle.sd_command.specs.Nets.{touching, completing}
+use Rattle.sd_command.specs.steps.Courses.{Ended}
+use Rattle.sd_command.specs.steps.Takings.{Files}
+use Rattle.sd_command.specs.steps.Readings.{opening_graph}
+use Rattle.sd_command.specs.steps.Balancings.{balancing}
+use Rattle.sd_command.specs.steps.Nets.{touching, completing}
 use Rattle.sd_command.specs.Requests.{course_of}
 use Rattle.sd_laws.specs.Endings.{PointCertificatesFit, StorageIsComplete, Suffice}
-use Rattle.sd_command.specs.PointAnswers.{ArePointsTooLong, IsExplorationEnd}
-use Rattle.sd_command.specs.declared.wanted.WantedPoints.{WantedPoints}
+use Rattle.sd_command.specs.commands.Points.{ArePointsTooLong, IsExplorationEnd}
+use Rattle.sd_command.specs.declared.commands.wanted.WantedPoints.{WantedPoints}
 use Rattle.sd_laws.proofs.CommandsDecide.{never_ends}
 use Rattle.storage.proofs.FileConnections.{file-connected, file-few}
 use Rattle.sd_laws.proofs.Complete.{short-enough}

@@ -5,9 +5,9 @@ use Rattle.sd_io.specs.Outside.{Rose}
 use Rattle.sd_command.specs.declared.status.Status.{Status}
 use Rattle.sd_command.specs.declared.status.Status.TheVariants as statuses
 use Rattle.sd_command.specs.Statuses.{status_of}
-use Rattle.sd_command.specs.Courses.{Ending, Answered, Refused, Ended, Failed, Lacking, IsCutOff}
+use Rattle.sd_command.specs.steps.Courses.{Ending, Answered, Refused, Ended, Failed, Lacking, IsCutOff, IsRefusedBy}
 use Rattle.sd_command.specs.Requests.{course_of}
-use Rattle.sd_command.specs.Runs.{Shelving, HasTaken, HasLine, of_refusal, of_putting, of_memory, IsRefusedBy, Ends, done, told, out_fault, err_fault, Run}
+use Rattle.sd_command.specs.Runs.{Shelving, HasTaken, HasLine, of_refusal, of_putting, of_memory, Ends, done, told, out_fault, err_fault, Run}
 use Rattle.sd_laws.specs.Endings.{IsFaultless, DueIsOne, DueIsAnswered, ElseIsDone}
 
 -- a run without faults ends with the refusal of its command, is done with its answer, or lacks memory

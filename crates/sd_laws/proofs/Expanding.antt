@@ -8,7 +8,7 @@ use Rattle.single_rate.specs.Limits.{excess}
 use Rattle.report.specs.declared.refusal.Refusal.{Refusal}
 use Rattle.report.specs.declared.refusal.Refusal.TheVariants.{Above}
 use Rattle.report.specs.QuantityWords.{quantity_text}
-use Rattle.sd_command.specs.Expandings.{expanding}
+use Rattle.sd_command.specs.commands.Expansions.{expanding}
 use Rattle.sd_laws.proofs.CommandsDecide.{Determines}
 
 told_of : Quantity → Refusal

@@ -5,8 +5,8 @@ use Rattle.std.specs.Prelude.{slice_get}
 use Rattle.sd_base.specs.declared.tables.ScenarioFile.{ScenarioFile}
 use Rattle.sd_base.specs.declared.tables.ScenarioRow.{ScenarioRow}
 use Rattle.report.specs.declared.refusal.Refusal.{Refusal}
-use Rattle.sd_command.specs.Courses.{Step}
-use Rattle.sd_command.specs.ScenarioSteps.{IsFirstWithout}
+use Rattle.sd_command.specs.steps.Courses.{Step}
+use Rattle.sd_command.specs.steps.ScenarioSteps.{IsFirstWithout}
 use Rattle.sd_laws.proofs.CommandsDecide.{Determines}
 
 one_row : (o : Option ScenarioRow) (a b : ScenarioRow) → o ≡ Some a → o ≡ Some b → a ≡ b

@@ -11,14 +11,14 @@ use Rattle.explore.specs.Reachable.{IsExplorable}
 use Rattle.explore.proofs.Explorable.{reachable-fits}
 use Rattle.report.specs.declared.refusal.Refusal.{Refusal}
 use Rattle.report.specs.declared.refusal.Refusal.TheVariants.{NoInput}
-use Rattle.sd_command.specs.declared.wanted.WantedPoints.{WantedPoints}
-use Rattle.sd_command.specs.ActorNames.{actor_shown}
-use Rattle.sd_command.specs.Nets.{touching, completing}
-use Rattle.sd_command.specs.PointAnswers.{IsExplorationEnd, states_spent, too_many_starts, distributions_spent, exploration, points_of}
+use Rattle.sd_command.specs.declared.commands.wanted.WantedPoints.{WantedPoints}
+use Rattle.sd_command.specs.steps.ActorNames.{actor_shown}
+use Rattle.sd_command.specs.steps.Nets.{touching, completing}
+use Rattle.sd_command.specs.commands.Points.{IsExplorationEnd, states_spent, too_many_starts, distributions_spent, exploration, points_of}
 use Rattle.sd_laws.specs.Endings.{Suffice}
 use Rattle.sd_laws.proofs.CommandsDecide.{Determines, Decides, DecidesLast, after_decides, last_decides}
 use Rattle.sd_laws.proofs.OneRate.{NetLaws, completing_determines, one-least}
-use Rattle.sd_command.proofs.PointSchedules.{fits-lawful}
+use Rattle.sd_command.proofs.command_lemmas.PointSchedules.{fits-lawful}
 
 module _ (graph : GraphFile) (net : Net) where
   pub touching_determines : Determines (touching graph net)

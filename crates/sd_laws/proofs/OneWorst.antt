@@ -1,5 +1,5 @@
 -- The words and files decide the command `scenario`.
-use Rattle.std.proofs.Common.{◌≡◌, ℕ, zero, suc, ◌<◌, true, false, List, [], ◌∷◌, length, Option, Some, refl, sym, ap, ap₂, subst, ◌∙◌, arith}
+use Rattle.std.proofs.Common.{◌≡◌, ℕ, suc, ◌<◌, true, false, List, [], ◌∷◌, length, Option, Some, refl, sym, ap, ap₂, subst, ◌∙◌, arith}
 use Rattle.std.specs.Prelude.{slice_get, slice_index_or}
 use Rattle.sd_base.specs.declared.tables.GraphFile.{GraphFile}
 use Rattle.sd_base.specs.declared.tables.ScenarioFile.{ScenarioFile}
@@ -12,22 +12,23 @@ use Rattle.sd_base.specs.Lawful.{Lawful}
 use Rattle.graph_reader.specs.declared.error.ReadError.{ReadError}
 use Rattle.scenario_reader.specs.ScenarioFiles.{HasOneFile, HasOneFileFault, ReadFileHasNoFault, ReadFileKeepsRules}
 use Rattle.token_matrix.specs.Matrices.{IsMatrix}
+use Rattle.token_matrix.proofs.Rows.{get_there}
 use Rattle.automaton.specs.declared.graph.TimedGraph.{TimedGraph}
 use Rattle.balance.specs.Repetition.{IsRound}
 use Rattle.report.specs.declared.refusal.Refusal.{Refusal}
-use Rattle.sd_command.specs.Readings.{reading_refusal}
-use Rattle.sd_command.specs.Balances.{balancing}
-use Rattle.sd_command.specs.Nets.{feeding}
-use Rattle.sd_command.specs.ScenarioSteps.{Entries, IsMade, IsUnmade, stamps, blocked, making_matrix, measuring_graph, measuring_one, AreMeasured, measuring, linking, timing, opening_scenarios, reading_scenarios}
+use Rattle.sd_command.specs.steps.Readings.{reading_refusal}
+use Rattle.sd_command.specs.steps.Balancings.{balancing}
+use Rattle.sd_command.specs.steps.Nets.{feeding}
+use Rattle.sd_command.specs.steps.ScenarioSteps.{Entries, IsMade, IsUnmade, stamps, blocked, making_matrix, measuring_graph, measuring_one, AreMeasured, measuring, linking, timing, opening_scenarios, reading_scenarios}
 use Rattle.sd_command.specs.declared.file_kind.FileKind.TheVariants.{Graph}
-use Rattle.sd_command.specs.Takings.{Files, taking}
-use Rattle.sd_command.specs.WorstAnswers.{telling_worst, worst_of}
+use Rattle.sd_command.specs.steps.Takings.{Files, taking}
+use Rattle.sd_command.specs.commands.WorstRates.{telling_worst, worst_of}
 use Rattle.sd_laws.proofs.CommandsDecide.{Determines, Decides, DecidesLast, after_decides, last_decides, through_determines, naming_determines}
 use Rattle.sd_laws.proofs.FirstWithouts.{one_first}
 use Rattle.sd_laws.proofs.OneRate.{feeding_determines, completing_determines}
 use Rattle.sd_laws.proofs.SharedSteps.{FileLaws, balancing_determines, taking_determines}
 use Rattle.escapes.specs.EscapedNames.{escaped_name}
-use Rattle.sd_command.specs.Courses.{through}
+use Rattle.sd_command.specs.steps.Courses.{through}
 
 -- what is known of files of scenarios and of matrices
 pub record ScenarioLaws : Type 0 where
@@ -42,11 +43,6 @@ same_entries [] [] long same = refl
 same_entries [] (y ∷ ys) long same = absurd (omega (arith, long))
 same_entries (x ∷ xs) [] long same = absurd (omega (arith, long))
 same_entries (x ∷ xs) (y ∷ ys) long same = ap₂ (λ a as'. a ∷ as') (same 0 (omega arith)) (same_entries xs ys (omega (arith, long)) (λ k below. same (suc k) (omega arith)))
-
-there : {X : Type 0} (xs : List X) (k : ℕ) → k < length xs → (x : X) × (slice_get xs k ≡ Some x)
-there [] k h = absurd (omega (arith, h))
-there (x ∷ xs) zero h = (x, refl)
-there (x ∷ xs) (suc k) h = there xs k (omega arith)
 
 module _ (facts : FileLaws) (laws : ScenarioLaws) where
   pub reading_file_determines : (bytes : List ℕ) → Determines (reading_scenarios bytes)
@@ -65,13 +61,13 @@ module _ (facts : FileLaws) (laws : ScenarioLaws) where
       let completing = completing_determines facts.nets (net_of graph gamma false) lawful graph in
       record { one = λ m n is also. laws.one_matrix shared graph gamma m n is.is also.is; refusal = one_unmade completing; never = never_made completing }
     where
-      one_unmade : Determines (Rattle.sd_command.specs.Nets.completing graph (net_of graph gamma false)) → (r s : Refusal) → IsUnmade shared graph gamma r → IsUnmade shared graph gamma s → r ≡ s
+      one_unmade : Determines (Rattle.sd_command.specs.steps.Nets.completing graph (net_of graph gamma false)) → (r s : Refusal) → IsUnmade shared graph gamma r → IsUnmade shared graph gamma s → r ≡ s
       one_unmade d r s (stamps many p) (stamps also q) = p ∙ sym q
       one_unmade d r s (stamps many p) (blocked few is) = absurd (omega (arith, many, few))
       one_unmade d r s (blocked few is) (stamps many p) = absurd (omega (arith, many, few))
       one_unmade d r s (blocked few is) (blocked also is') = d.refusal r s is is'
 
-      never_made : Determines (Rattle.sd_command.specs.Nets.completing graph (net_of graph gamma false)) → (r : Refusal) (m : Entries) → IsUnmade shared graph gamma r → IsMade shared graph gamma m → ⊥
+      never_made : Determines (Rattle.sd_command.specs.steps.Nets.completing graph (net_of graph gamma false)) → (r : Refusal) (m : Entries) → IsUnmade shared graph gamma r → IsMade shared graph gamma m → ⊥
       never_made d r m (stamps many p) made = let few = made.few in omega (arith, many, few)
       never_made d r m (blocked few is) made = d.never r tt is made.live
 
@@ -91,7 +87,7 @@ module _ (facts : FileLaws) (laws : ScenarioLaws) where
 
     one_measure : (ms ns : List Entries) → AreMeasured file ms → AreMeasured file ns → ms ≡ ns
     one_measure ms ns is also = same_entries ms ns (is.all ∙ sym also.all) (λ k below.
-        let row = there file.scenarios k (subst (λ n. k < n) is.all below) in
+        let row = get_there file.scenarios k (subst (λ n. k < n) is.all below) in
         (each k row.0 row.1).one (slice_index_or ms k []) (slice_index_or ns k []) (is.each k row.0 row.1) (also.each k row.0 row.1))
 
     measuring_determines : Determines (measuring file)

@@ -1,12 +1,12 @@
 -- What `expand` puts is read again as the expansion.
-use Rattle.std.proofs.Common.{◌≡◌, ℕ, ◌+◌, ◌^◌, ◌≤◌, ◌<◌, Bool, true, false, List, [], ◌∷◌, ◌++◌, length, sum, All, Option, Some, None, Ok, refl, sym, ap, subst, ◌∙◌, arith}
+use Rattle.std.proofs.Common.{◌≡◌, ℕ, ◌+◌, ◌^◌, ◌≤◌, ◌<◌, Bool, true, false, List, ◌++◌, length, sum, All, Option, Some, None, Ok, refl, sym, ap, subst, ◌∙◌, arith}
 use Rattle.std.specs.Prelude.{IsTrue, slice_index_or, nat_lt, codes, if◌then◌else◌}
 use Rattle.std.specs.List.{list_any}
 use Rattle.std.specs.Fmt.{decimal}
 use Rattle.std.proofs.lemmas.Bool.{ltb-false}
 use Rattle.std.proofs.lemmas.Fmt.{length-decimal-le}
 use Rattle.std.proofs.lemmas.List.{length-append, length-map}
-use Rattle.std.proofs.lemmas.List.Elements.{All-nil, All-cons, All-append}
+use Rattle.std.proofs.lemmas.List.Elements.{All-append}
 use Rattle.std.proofs.lemmas.List.Folds.{list_any_at}
 use Rattle.std.proofs.lemmas.Str.{IsUtf8-append}
 use Rattle.sd_base.specs.declared.limits.TheConstants.{ACTORS, CHANNELS, NAME_BYTES}
@@ -20,9 +20,10 @@ use Rattle.sd_base.specs.Net.{Net}
 use Rattle.sd_base.specs.FileNet.{net_of}
 use Rattle.sd_base.specs.Lawful.{Lawful}
 use Rattle.sd_base.proofs.Parts.{wired, balanced}
-use Rattle.file_text.specs.Grammar.{Each, is_character}
+use Rattle.file_text.specs.Grammar.{is_character}
 use Rattle.graph_reader.specs.Laws.{Gives, ReadIsWritable}
 use Rattle.graph_reader.specs.WritableNames.{HasWritableNames, IsWritableName}
+use Rattle.graph_reader.proofs.ReadNames.{all-from_each}
 use Rattle.gen_graph.specs.GraphTrees.{no_actor, written}
 use Rattle.gen_graph.specs.Writable.{IsWritable}
 use Rattle.gen_graph.proofs.ElementTexts.{good_word}
@@ -43,22 +44,18 @@ use Rattle.sd_words.proofs.Within.{asked_within}
 use Rattle.sd_words.specs.declared.request.Request.TheVariants.{Expand}
 use Rattle.sd_words.specs.Asked.{request_of}
 use Rattle.sd_command.specs.declared.answer.Answer.{Answer}
-use Rattle.sd_command.specs.Courses.{Answered}
-use Rattle.sd_command.specs.Expandings.{IsExpansion, expanding, expansion_on, graph_put}
+use Rattle.sd_command.specs.steps.Courses.{Answered}
+use Rattle.sd_command.specs.commands.Expansions.{IsExpansion, expanding, expansion_on, graph_put}
 use Rattle.sd_laws.specs.PutExpansions.{ExpansionsAreRead, PutsExpansion}
 use Rattle.sd_command.specs.Requests.{course_of}
-use Rattle.sd_command.specs.Takings.{Files}
+use Rattle.sd_command.specs.steps.Takings.{Files}
 use Rattle.sd_laws.proofs.BoundedPaths.{lawful_on, on_the_net}
 use Rattle.sd_laws.proofs.CommandsDecide.{goes_past}
 use Rattle.sd_laws.proofs.Requested.{of_request}
-use Rattle.sd_command.proofs.Bounds.{AreSmall}
+use Rattle.sd_command.proofs.command_lemmas.Bounds.{AreSmall}
 use Rattle.sd_laws.proofs.SharedSteps.{FileLaws}
 
 -- ---- names
-
-all_from_each : {X : Type 0} (P : X → Type 0) (xs : List X) → Each P xs → All P xs
-all_from_each P [] each = All-nil P
-all_from_each P (x ∷ xs) each = All-cons P x xs each.0 (all_from_each P xs each.1)
 
 -- a name with a dot and a number behind it
 copy_writable : (name : List ℕ) (k : ℕ) → IsWritableName name → k < 2 ^ 64 → length (copy_name name k) ≤ NAME_BYTES → IsWritableName (copy_name name k)
@@ -68,7 +65,7 @@ copy_writable name k good small short =
     record {
       some = omega (arith, good.some, length-append name (codes "." ++ decimal k));
       short = short;
-      characters = All-append (λ b. IsTrue (is_character b)) name (codes "." ++ decimal k) good.characters (all_from_each (λ b. IsTrue (is_character b)) (codes "." ++ decimal k) rest.0);
+      characters = All-append (λ b. IsTrue (is_character b)) name (codes "." ++ decimal k) good.characters (all-from_each (λ b. IsTrue (is_character b)) (codes "." ++ decimal k) rest.0);
       utf8 = IsUtf8-append name (codes "." ++ decimal k) good.utf8 rest.1;
     }
 
@@ -80,7 +77,7 @@ link_writable n few =
     record {
       some = omega (arith, length-append (codes "e") (decimal n));
       short = omega (arith, length-append (codes "e") (decimal n));
-      characters = all_from_each (λ b. IsTrue (is_character b)) (codes "e" ++ decimal n) value.0;
+      characters = all-from_each (λ b. IsTrue (is_character b)) (codes "e" ++ decimal n) value.0;
       utf8 = value.1;
     }
 

@@ -1,9 +1,6 @@
 -- What `throughput` puts is a valid certificate.
-use Rattle.std.proofs.Common.{◌≡◌, ℕ, suc, ◌+◌, ◌*◌, ◌/◌, ◌≤◌, ◌<◌, Bool, true, false, cond, Option, None, Some, length, List, [], ◌∷◌, ◌++◌, All, Ok, refl, sym, ap, subst, ◌∙◌, arith}
-use Rattle.std.specs.List.{find}
-use Rattle.std.specs.Option.{option_map}
-use Rattle.std.specs.Str.{bytes_eq}
-use Rattle.std.proofs.Math.Nat.{mul-div_cancel_left}
+use Rattle.std.proofs.Common.{◌≡◌, ℕ, ◌+◌, ◌*◌, ◌≤◌, Bool, true, Option, None, Some, length, List, [], ◌∷◌, ◌++◌, All, Ok, refl, sym, ap, subst, ◌∙◌, arith}
+use Rattle.std.proofs.Math.Nat.{eq_of_mul-eq-mul_left}
 use Rattle.sd_base.specs.declared.limits.TheConstants.{CAPACITY}
 use Rattle.sd_base.specs.declared.tables.ChannelRow.{ChannelRow}
 use Rattle.sd_base.specs.declared.tables.GraphFile.{GraphFile}
@@ -18,37 +15,29 @@ use Rattle.storage.specs.BoundedNets.{bound}
 use Rattle.storage.specs.Distributions.{CanHold}
 use Rattle.storage.specs.NamedBuffers.{Buffer, capacities_of, capacity_named}
 use Rattle.storage.proofs.NamedCapacities.{named-held}
+use Rattle.storage.proofs.SmallSpaces.{named-small}
 use Rattle.cert_text.specs.declared.certificates.Certificate.{Certificate}
 use Rattle.cert_text.specs.Reading.{IsCertText}
 use Rattle.cert_maker.specs.ValidCertificates.{AreGiven}
 use Rattle.cert_maker.proofs.ValidRates.{rates-valid}
 use Rattle.sd_command.specs.declared.answer.Answer.{Answer}
 use Rattle.sd_command.specs.declared.file_kind.FileKind.TheVariants as kinds
-use Rattle.sd_command.specs.Certifyings.{text_of}
-use Rattle.sd_command.specs.Courses.{Answered}
-use Rattle.sd_command.specs.Nets.{testing}
+use Rattle.sd_command.specs.steps.Certifyings.{text_of}
+use Rattle.sd_command.specs.steps.Courses.{Answered}
+use Rattle.sd_command.specs.steps.Nets.{testing}
 use Rattle.sd_laws.specs.PutCertificates.{PutsValidRate, RatesPutAreValid}
-use Rattle.sd_command.specs.RateAnswers.{IsRateAnswer}
+use Rattle.sd_command.specs.commands.Rates.{IsRateAnswer}
 use Rattle.sd_command.specs.Requests.{course_of}
-use Rattle.sd_command.specs.Takings.{Files}
-use Rattle.sd_command.specs.Throughputs.{rate_on}
-use Rattle.sd_command.specs.declared.wanted.WantedRate.{WantedRate}
+use Rattle.sd_command.specs.steps.Takings.{Files}
+use Rattle.sd_command.specs.commands.Throughputs.{rate_on}
+use Rattle.sd_command.specs.declared.commands.wanted.WantedRate.{WantedRate}
 use Rattle.sd_laws.proofs.BoundedPaths.{lawful_on, on_the_net}
 use Rattle.sd_laws.proofs.CommandsDecide.{goes_past}
-use Rattle.sd_command.proofs.Joins.{fed-inputs}
+use Rattle.sd_command.proofs.step_lemmas.Joins.{fed-inputs}
 use Rattle.sd_laws.proofs.Requested.{of_request}
 use Rattle.sd_laws.proofs.SharedSteps.{FileLaws}
 
 -- ---- capacities by names
-
--- a capacity that a name is given is one of those that are listed
-small-named : (bs : List Buffer) (name : List ℕ) (k : ℕ) → All (λ (b : Buffer). b.1 ≤ CAPACITY) bs → capacity_named bs name ≡ Some k → k ≤ CAPACITY
-small-named [] name k small is = absurd (cc)
-small-named (b ∷ bs) name k small is = go (bytes_eq b.0 name) (λ later. small-named bs name k (λ j d within. small (suc j) d (omega arith)) later) is
-  where
-    go : (c : Bool) → (capacity_named bs name ≡ Some k → k ≤ CAPACITY) → option_map (λ (x : Buffer). x.1) (cond c (Some b) (find (λ (x : Buffer). bytes_eq x.0 name) bs)) ≡ Some k → k ≤ CAPACITY
-    go true rest here = let same : b.1 ≡ k = cc in let first = small 0 b (omega arith) in omega (arith, same, first)
-    go false rest later = rest later
 
 given-named : (n : ℕ) (rows : List ChannelRow) (rest : List Channel) (bs : List Buffer) → All (λ (b : Buffer). b.1 ≤ CAPACITY) bs → CanHold (file_channels_from n rows ++ rest) (capacities_of rows bs) → AreGiven rows (capacities_of rows bs)
 given-named n [] rest bs small held = tt
@@ -57,7 +46,7 @@ given-named n (r ∷ rows) rest bs small held = go (capacity_named bs r.name) re
     go : (o : Option ℕ) → capacity_named bs r.name ≡ o → (CanHold (file_channels_from (n + 1) rows ++ rest) (capacities_of rows bs) → AreGiven rows (capacities_of rows bs))
         → CanHold (file_channel n r ∷ (file_channels_from (n + 1) rows ++ rest)) (o ∷ capacities_of rows bs) → AreGiven (r ∷ rows) (o ∷ capacities_of rows bs)
     go None is later more = later more
-    go (Some k) is later more = (more.0, more.1, small-named bs r.name k small is, later more.3)
+    go (Some k) is later more = (more.0, more.1, named-small bs r.name k small is, later more.3)
 
 given-capacities : (g : GraphFile) (gamma : List ℕ) (no_overlap : Bool) (bs : List Buffer) (ds : List (Option ℕ)) → All (λ (b : Buffer). b.1 ≤ CAPACITY) bs → ds ≡ capacities_of g.channels bs
     → CanHold (net_of g gamma no_overlap).channels (capacities_of g.channels bs) → AreGiven g.channels ds
@@ -66,14 +55,11 @@ given-capacities g gamma no_overlap bs ds small same held =
 
 -- ---- what shows a rate has one ratio
 
-cancel : (k a b : ℕ) → 1 ≤ k → k * a ≡ k * b → a ≡ b
-cancel k a b some e = let pos : 0 < k = omega arith in sym (mul-div_cancel_left a pos) ∙ ap (λ (x : ℕ). x / k) e ∙ mul-div_cancel_left b pos
-
 one-ratio : (den num h w rounds period : ℕ) → 1 ≤ den → rounds * den ≡ num * period → h * den ≡ num * w → h * period ≡ rounds * w
 one-ratio den num h w rounds period some reached bounded =
     let a : period * (h * den) ≡ period * (num * w) = ap (λ (x : ℕ). period * x) bounded in
     let b : w * (rounds * den) ≡ w * (num * period) = ap (λ (x : ℕ). w * x) reached in
-    cancel den (h * period) (rounds * w) some (omega arith)
+    eq_of_mul-eq-mul_left den (omega arith) (h * period) (rounds * w) (omega arith)
 
 -- ---- the course of a run
 

@@ -11,11 +11,11 @@ use Rattle.cert_checker.specs.Certificates.{IsCertificateClaim, IsCertificateFau
 use Rattle.cert_checker.specs.ScenarioCertificates.{IsScenarioFault, IsWorstClaim}
 use Rattle.sd_command.specs.declared.answer.Answer.{Answer}
 use Rattle.sd_command.specs.declared.answer.Put.{Put}
-use Rattle.sd_command.specs.Checks.{IsAccepted}
-use Rattle.sd_command.specs.Courses.{Answered, Ending, IsCutOff}
+use Rattle.sd_command.specs.commands.Checks.{IsAccepted}
+use Rattle.sd_command.specs.steps.Courses.{Answered, Ending, IsCutOff}
 use Rattle.sd_laws.specs.PutCertificates.{PutsValidRate, PutsValidTradeOff, PutsValidWorst}
 use Rattle.sd_command.specs.Requests.{course_of}
-use Rattle.sd_command.specs.Takings.{Files}
+use Rattle.sd_command.specs.steps.Takings.{Files}
 
 -- words ask for `check` of a file and of what an answer put, over files that tell: the file is the one that was there before, and
 -- the certificate has the bytes that were put

@@ -16,11 +16,11 @@ use Rattle.periodic.specs.declared.schedule.Periodic.{Periodic}
 use Rattle.critical.specs.declared.cycle.NeedCycle.{NeedCycle}
 use Rattle.report.specs.AnswerTexts.{rate_lines}
 use Rattle.sd_command.specs.declared.answer.Answer.{Answer}
-use Rattle.sd_command.specs.Courses.{Answered}
-use Rattle.sd_command.specs.Orderings.{NamedOrders}
-use Rattle.sd_command.specs.RateAnswers.{IsRateShown}
+use Rattle.sd_command.specs.steps.Courses.{Answered}
+use Rattle.sd_command.specs.steps.Orderings.{NamedOrders}
+use Rattle.sd_command.specs.commands.Rates.{IsRateShown}
 use Rattle.sd_command.specs.Requests.{course_of}
-use Rattle.sd_command.specs.Takings.{Files}
+use Rattle.sd_command.specs.steps.Takings.{Files}
 
 -- the rate that is shown by the net of a graph file, bounded by buffers, whose actors keep the orders, is the greatest of all
 -- schedules of the bounded net that keep them

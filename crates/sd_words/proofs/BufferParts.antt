@@ -7,7 +7,7 @@ use Rattle.std.proofs.Math.Seq.{drop-cons}
 use Rattle.std.proofs.lemmas.List.{at_drop_all, get_or-map, length-map}
 use Rattle.sd_words.specs.Buffers.{Buffer, buffer_of, with_buffer, with_parts}
 
-any-map : {X Y : Type 0} (f : X → Y) (test : Y → Bool) (xs : List X) → list_any (λ x. test (f x)) xs ≡ list_any test (map f xs)
+pub any-map : {X Y : Type 0} (f : X → Y) (test : Y → Bool) (xs : List X) → list_any (λ x. test (f x)) xs ≡ list_any test (map f xs)
 any-map f test [] = refl
 any-map f test (x ∷ xs) = ap (λ b. test (f x) || b) (any-map f test xs)
 
@@ -45,10 +45,6 @@ part-new bs p ps b e new =
 pub parts-end : (bs : List Buffer) (ps : List (List ℕ)) (i : ℕ) → length ps ≤ i → with_parts bs (drop i ps) ≡ Some bs
 unfolding with_parts
 parts-end bs ps i past = at_drop_all (with_parts bs) ps i past
-
-pub taken : (b : Bool) → not b ≡ false → b ≡ true
-taken true e = refl
-taken false e = absurd (cc)
 
 pub free : (b : Bool) → not b ≡ true → b ≡ false
 free false e = refl

@@ -1,7 +1,7 @@
 -- A text cut at its first `=`.
 use Rattle.std.proofs.Common.{◌≡◌, ℕ, ◌+◌, ◌<◌, Bool, true, false, not, cond, ◌&&◌, eqb, ltb, List, [], ◌∷◌, ◌++◌, length, get_or, take, drop, refl, ap, ◌∙◌, arith, add-zero, le_refl}
 use Rattle.std.specs.List.{list_all, position_or_len, before_first, after_first}
-use Rattle.std.proofs.lemmas.Bool.{lt-ltb, le-ltb, ltb-true}
+use Rattle.std.proofs.lemmas.Bool.{lt-ltb, le-ltb, ltb-true, not-false}
 use Rattle.std.proofs.lemmas.Bool.Decides.{Decides-eqb}
 use Rattle.std.proofs.lemmas.List.{length-append, append-nil}
 use Rattle.std.proofs.lemmas.List.Sums.{split_at_first, prefix_len_stops}
@@ -17,10 +17,6 @@ is_whole text = list_all (λ b. not (is_equals b)) text
 both : (x y : Bool) → (not x && y) ≡ true → (x ≡ false) × (y ≡ true)
 both true y e = absurd (cc)
 both false y e = (refl, e)
-
-denied : (x : Bool) → not x ≡ false → x ≡ true
-denied true e = refl
-denied false e = absurd (cc)
 
 -- the first `=` of a text that begins without one
 pub position-whole : (n t : List ℕ) → is_whole n ≡ true → position_or_len is_equals (n ++ t) ≡ length n + position_or_len is_equals t
@@ -61,5 +57,5 @@ pub joined : (t : List ℕ) → ltb (position_or_len is_equals t) (length t) ≡
 joined t h =
     let within : position_or_len is_equals t < length t = ltb-true _ _ h in
     let stops : not (is_equals (get_or t (position_or_len is_equals t) 0)) ≡ false = prefix_len_stops (λ b. not (is_equals b)) t 0 within in
-    let here : get_or t (position_or_len is_equals t) 0 ≡ 61 = (Decides-eqb _ 61).0 (denied _ stops) in
+    let here : get_or t (position_or_len is_equals t) 0 ≡ 61 = (Decides-eqb _ 61).0 (not-false _ stops) in
     split_at_first is_equals t 0 within ∙ ap (λ b. before_first is_equals t ++ b ∷ after_first is_equals t) here

@@ -24,8 +24,8 @@ use Rattle.sd_words.specs.Given.{action_for, argument, argument_of, command_of_o
 use Rattle.sd_words.proofs.TestChains.{bind-ok}
 use Rattle.sd_words.proofs.CutWords.{is_whole, cut-before, cut-after}
 use Rattle.sd_words.proofs.NamedOptions.{names_value-is, names_flag-other, names_flag-of, words_whole}
-use Rattle.sd_words.proofs.Seen.{any-map}
 use Rattle.sd_words.proofs.Spelled.{free, waiting, pair, with_option-ok, with_value-ok, waiting-ok, read-spelled}
+use Rattle.sd_words.proofs.BufferParts.{any-map}
 
 -- ---- the command when it is built
 

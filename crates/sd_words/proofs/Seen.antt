@@ -1,5 +1,5 @@
 -- The reader's names are those of the settings.
-use Rattle.std.proofs.Common.{◌≡◌, ℕ, Bool, true, ◌||◌, List, [], ◌∷◌, ◌++◌, map, Bor, Err, refl, sym, ap, ◌∙◌}
+use Rattle.std.proofs.Common.{◌≡◌, ℕ, true, List, [], ◌∷◌, ◌++◌, map, Bor, Err, sym, ap, ◌∙◌}
 use Rattle.std.specs.List.{list_any}
 use Rattle.std.specs.Str.{bytes_eq}
 use Rattle.std.proofs.lemmas.List.{map-append}
@@ -8,10 +8,7 @@ use Rattle.sd_words.specs.Spelling.{Setting}
 use Rattle.sd_words.specs.Reading.{Progress, is_taken, with_setting}
 use Rattle.sd_words.proofs.TestChains.{told}
 use Rattle.sd_words.proofs.Spelled.{pair}
-
-pub any-map : {X Y : Type 0} (f : X → Y) (test : Y → Bool) (xs : List X) → list_any (λ x. test (f x)) xs ≡ list_any test (map f xs)
-any-map f test [] = refl
-any-map f test (x ∷ xs) = ap (λ b. test (f x) || b) (any-map f test xs)
+use Rattle.sd_words.proofs.BufferParts.{any-map}
 
 -- a name is among the reader's exactly where it is taken
 pub taken-seen : (names : List (Bor (List ℕ))) (settings : List Setting) (name : List ℕ) → map (λ n. n.now) names ≡ map (λ s. s.name) settings

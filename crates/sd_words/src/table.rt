@@ -1,6 +1,7 @@
 //! Which options an algorithm has, and the values that they may have.
 
 ghost use Rattle.std.specs.Prelude.{◌≡◌};
+ghost use Rattle.sd_words.specs.declared.names.Algorithm.TheVariants as algorithms;
 ghost use Rattle.sd_words.specs.Asked.{form_of, standing};
 
 use crate::form::Form;
@@ -89,85 +90,169 @@ impl Standing {
     }
 }
 
-/// The table of the algorithms and their options: a row for each algorithm. Each has `--algo`.
-#[tactic(auto, unfolding(crate::specs::Asked::standing))]
+/// The table of the algorithms and their options: a function for each algorithm. Each has `--algo`.
 pub(crate) fn standing_of(algo: Algorithm, option: OptionName) -> Standing
     ensures { result ≡ standing algo option }
 {
+    match algo {
+        Algorithm::Repetition => repetition_standing(option),
+        Algorithm::Throughput => throughput_standing(option),
+        Algorithm::Storage => storage_standing(option),
+        Algorithm::Scenario => scenario_standing(option),
+        Algorithm::Check => check_standing(option),
+        Algorithm::Generate => generate_standing(option),
+        Algorithm::Convert => convert_standing(option),
+        Algorithm::Expand => expand_standing(option),
+        Algorithm::Ordered => ordered_standing(option),
+        Algorithm::Complete => complete_standing(option),
+        Algorithm::ScenarioStorage => scenario_storage_standing(option),
+    }
+}
+
+#[tactic(auto, unfolding(crate::specs::Asked::standing))]
+fn repetition_standing(option: OptionName) -> Standing
+    ensures { result ≡ standing algorithms.Repetition option }
+{
     match option {
         OptionName::Algo => Standing::Required(Form::Text),
-        _ => match algo {
-            Algorithm::Repetition => match option {
-                OptionName::Graph => Standing::Required(Form::Text),
-                _ => Standing::Foreign,
-            },
-            Algorithm::Throughput => match option {
-                OptionName::Graph => Standing::Required(Form::Text),
-                OptionName::Certificate => Standing::Allowed(OF_CERTIFICATE),
-                OptionName::Buffers => Standing::Allowed(Form::Buffers),
-                OptionName::States => Standing::Allowed(OF_STATES),
-                OptionName::NoOverlap => Standing::Allowed(Form::Flag),
-                _ => Standing::Foreign,
-            },
-            Algorithm::Storage => match option {
-                OptionName::Graph => Standing::Required(Form::Text),
-                OptionName::Certificate => Standing::Allowed(OF_CERTIFICATE),
-                OptionName::States => Standing::Allowed(OF_STATES),
-                OptionName::Distributions => Standing::Allowed(OF_DISTRIBUTIONS),
-                OptionName::Limit => Standing::Required(OF_STORAGE),
-                OptionName::NoOverlap => Standing::Allowed(Form::Flag),
-                _ => Standing::Foreign,
-            },
-            Algorithm::Scenario => match option {
-                OptionName::Graph => Standing::Required(Form::Text),
-                OptionName::Certificate => Standing::Allowed(OF_CERTIFICATE),
-                _ => Standing::Foreign,
-            },
-            Algorithm::Check => match option {
-                OptionName::Graph => Standing::Required(Form::Text),
-                OptionName::Certificate => Standing::Required(Form::Text),
-                _ => Standing::Foreign,
-            },
-            Algorithm::Generate => match option {
-                OptionName::Limit => Standing::Required(OF_STORAGE),
-                OptionName::Seed => Standing::Required(OF_SEED),
-                OptionName::Actors => Standing::Allowed(OF_ACTORS),
-                _ => Standing::Foreign,
-            },
-            Algorithm::Convert => match option {
-                OptionName::Certificate => Standing::Required(Form::Text),
-                OptionName::Output => Standing::Required(OF_CONVERSION),
-                _ => Standing::Foreign,
-            },
-            Algorithm::Expand => match option {
-                OptionName::Graph => Standing::Required(Form::Text),
-                OptionName::Buffers => Standing::Allowed(Form::Buffers),
-                OptionName::Output => Standing::Required(OF_EXPANSION),
-                OptionName::NoOverlap => Standing::Allowed(Form::Flag),
-                _ => Standing::Foreign,
-            },
-            Algorithm::Ordered => match option {
-                OptionName::Graph => Standing::Required(Form::Text),
-                OptionName::Buffers => Standing::Allowed(Form::Buffers),
-                OptionName::States => Standing::Allowed(OF_STATES),
-                OptionName::Order => Standing::Required(Form::Orders),
-                OptionName::NoOverlap => Standing::Allowed(Form::Flag),
-                _ => Standing::Foreign,
-            },
-            Algorithm::Complete => match option {
-                OptionName::Graph => Standing::Required(Form::Text),
-                OptionName::Buffers => Standing::Allowed(Form::Buffers),
-                OptionName::States => Standing::Allowed(OF_STATES),
-                OptionName::Rounds => Standing::Required(OF_ROUNDS),
-                OptionName::NoOverlap => Standing::Allowed(Form::Flag),
-                _ => Standing::Foreign,
-            },
-            Algorithm::ScenarioStorage => match option {
-                OptionName::Graph => Standing::Required(Form::Text),
-                OptionName::Distributions => Standing::Allowed(OF_DISTRIBUTIONS),
-                OptionName::Limit => Standing::Required(OF_STORAGE),
-                _ => Standing::Foreign,
-            },
-        },
+        OptionName::Graph => Standing::Required(Form::Text),
+        _ => Standing::Foreign,
+    }
+}
+
+#[tactic(auto, unfolding(crate::specs::Asked::standing))]
+fn throughput_standing(option: OptionName) -> Standing
+    ensures { result ≡ standing algorithms.Throughput option }
+{
+    match option {
+        OptionName::Algo => Standing::Required(Form::Text),
+        OptionName::Graph => Standing::Required(Form::Text),
+        OptionName::Certificate => Standing::Allowed(OF_CERTIFICATE),
+        OptionName::Buffers => Standing::Allowed(Form::Buffers),
+        OptionName::States => Standing::Allowed(OF_STATES),
+        OptionName::NoOverlap => Standing::Allowed(Form::Flag),
+        _ => Standing::Foreign,
+    }
+}
+
+#[tactic(auto, unfolding(crate::specs::Asked::standing))]
+fn storage_standing(option: OptionName) -> Standing
+    ensures { result ≡ standing algorithms.Storage option }
+{
+    match option {
+        OptionName::Algo => Standing::Required(Form::Text),
+        OptionName::Graph => Standing::Required(Form::Text),
+        OptionName::Certificate => Standing::Allowed(OF_CERTIFICATE),
+        OptionName::States => Standing::Allowed(OF_STATES),
+        OptionName::Distributions => Standing::Allowed(OF_DISTRIBUTIONS),
+        OptionName::Limit => Standing::Required(OF_STORAGE),
+        OptionName::NoOverlap => Standing::Allowed(Form::Flag),
+        _ => Standing::Foreign,
+    }
+}
+
+#[tactic(auto, unfolding(crate::specs::Asked::standing))]
+fn scenario_standing(option: OptionName) -> Standing
+    ensures { result ≡ standing algorithms.Scenario option }
+{
+    match option {
+        OptionName::Algo => Standing::Required(Form::Text),
+        OptionName::Graph => Standing::Required(Form::Text),
+        OptionName::Certificate => Standing::Allowed(OF_CERTIFICATE),
+        _ => Standing::Foreign,
+    }
+}
+
+#[tactic(auto, unfolding(crate::specs::Asked::standing))]
+fn check_standing(option: OptionName) -> Standing
+    ensures { result ≡ standing algorithms.Check option }
+{
+    match option {
+        OptionName::Algo => Standing::Required(Form::Text),
+        OptionName::Graph => Standing::Required(Form::Text),
+        OptionName::Certificate => Standing::Required(Form::Text),
+        _ => Standing::Foreign,
+    }
+}
+
+#[tactic(auto, unfolding(crate::specs::Asked::standing))]
+fn generate_standing(option: OptionName) -> Standing
+    ensures { result ≡ standing algorithms.Generate option }
+{
+    match option {
+        OptionName::Algo => Standing::Required(Form::Text),
+        OptionName::Limit => Standing::Required(OF_STORAGE),
+        OptionName::Seed => Standing::Required(OF_SEED),
+        OptionName::Actors => Standing::Allowed(OF_ACTORS),
+        _ => Standing::Foreign,
+    }
+}
+
+#[tactic(auto, unfolding(crate::specs::Asked::standing))]
+fn convert_standing(option: OptionName) -> Standing
+    ensures { result ≡ standing algorithms.Convert option }
+{
+    match option {
+        OptionName::Algo => Standing::Required(Form::Text),
+        OptionName::Certificate => Standing::Required(Form::Text),
+        OptionName::Output => Standing::Required(OF_CONVERSION),
+        _ => Standing::Foreign,
+    }
+}
+
+#[tactic(auto, unfolding(crate::specs::Asked::standing))]
+fn expand_standing(option: OptionName) -> Standing
+    ensures { result ≡ standing algorithms.Expand option }
+{
+    match option {
+        OptionName::Algo => Standing::Required(Form::Text),
+        OptionName::Graph => Standing::Required(Form::Text),
+        OptionName::Buffers => Standing::Allowed(Form::Buffers),
+        OptionName::Output => Standing::Required(OF_EXPANSION),
+        OptionName::NoOverlap => Standing::Allowed(Form::Flag),
+        _ => Standing::Foreign,
+    }
+}
+
+#[tactic(auto, unfolding(crate::specs::Asked::standing))]
+fn ordered_standing(option: OptionName) -> Standing
+    ensures { result ≡ standing algorithms.Ordered option }
+{
+    match option {
+        OptionName::Algo => Standing::Required(Form::Text),
+        OptionName::Graph => Standing::Required(Form::Text),
+        OptionName::Buffers => Standing::Allowed(Form::Buffers),
+        OptionName::States => Standing::Allowed(OF_STATES),
+        OptionName::Order => Standing::Required(Form::Orders),
+        OptionName::NoOverlap => Standing::Allowed(Form::Flag),
+        _ => Standing::Foreign,
+    }
+}
+
+#[tactic(auto, unfolding(crate::specs::Asked::standing))]
+fn complete_standing(option: OptionName) -> Standing
+    ensures { result ≡ standing algorithms.Complete option }
+{
+    match option {
+        OptionName::Algo => Standing::Required(Form::Text),
+        OptionName::Graph => Standing::Required(Form::Text),
+        OptionName::Buffers => Standing::Allowed(Form::Buffers),
+        OptionName::States => Standing::Allowed(OF_STATES),
+        OptionName::Rounds => Standing::Required(OF_ROUNDS),
+        OptionName::NoOverlap => Standing::Allowed(Form::Flag),
+        _ => Standing::Foreign,
+    }
+}
+
+#[tactic(auto, unfolding(crate::specs::Asked::standing))]
+fn scenario_storage_standing(option: OptionName) -> Standing
+    ensures { result ≡ standing algorithms.ScenarioStorage option }
+{
+    match option {
+        OptionName::Algo => Standing::Required(Form::Text),
+        OptionName::Graph => Standing::Required(Form::Text),
+        OptionName::Distributions => Standing::Allowed(OF_DISTRIBUTIONS),
+        OptionName::Limit => Standing::Required(OF_STORAGE),
+        _ => Standing::Foreign,
     }
 }

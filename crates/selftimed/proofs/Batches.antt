@@ -1,5 +1,5 @@
 -- Firings of one actor that start at one moment.
-use Rattle.std.proofs.Common.{◌≡◌, ℕ, ◌+◌, ◌-◌, ◌*◌, ◌%◌, ◌^◌, ◌≤◌, ◌<◌, List, [], ◌∷◌, ◌++◌, Option, Some, length, replicate, sum, ⊎_elim, subst, sym, refl, ap, ◌∙◌, arith, mul-le-mul_right, zero-add}
+use Rattle.std.proofs.Common.{◌≡◌, ℕ, ◌+◌, ◌-◌, ◌*◌, ◌%◌, ◌^◌, ◌≤◌, ◌<◌, List, [], ◌∷◌, ◌++◌, Option, Some, length, replicate, ⊎_elim, subst, sym, refl, ap, ◌∙◌, arith, mul-le-mul_right}
 use Rattle.std.specs.Prelude.{slice_index, slice_index_or, IfSome}
 use Rattle.std.proofs.lemmas.Bool.{cases_lt}
 use Rattle.std.proofs.lemmas.List.{get_or-append-add, get_or-replicate, get_or_append_left, length-append, length-replicate}
@@ -9,7 +9,7 @@ use Rattle.sd_base.specs.Lawful.{Lawful}
 use Rattle.sd_base.proofs.Sums.{total-more}
 use Rattle.sd_base.proofs.Admissibles.{one_time}
 use Rattle.firing.specs.declared.sums.Port.TheVariants.{Taken}
-use Rattle.firing.specs.Wiring.{SufficesBefore, LacksNow, IsFirstLack, TakesTokens}
+use Rattle.firing.specs.Wiring.{SufficesBefore, LacksNow, TakesTokens}
 use Rattle.firing.proofs.TokenMoves.{span-one}
 use Rattle.selftimed.specs.inside.Ports.{MayOwn, IsOwn, IsOther, IsListedBut}
 use Rattle.selftimed.proofs.OwnChannels.{own-or-other, of-own, if-own, other-place, own-takes}
@@ -28,11 +28,6 @@ one-entry [] k one = absurd (omega arith)
 one-entry (x ∷ []) k one = one_time (x ∷ []) k 0 (omega arith)
 one-entry (x ∷ y ∷ xs) k one = absurd (omega arith)
 
-one-sum : (xs : List ℕ) → length xs ≡ 1 → sum xs ≡ slice_index xs 0
-one-sum [] one = absurd (omega arith)
-one-sum (x ∷ []) one = zero-add x
-one-sum (x ∷ y ∷ xs) one = absurd (omega arith)
-
 -- as many as the channels that were looked at feed, of an actor of one phase
 pub record BatchSoFar (net : Net) (a : ℕ) (own : Option ℕ) (xs tokens : List ℕ) (most best lacking done : ℕ) : Type 0 where
   pub within : best ≤ most
@@ -46,16 +41,6 @@ pub batch-none : (net : Net) (a : ℕ) (own : Option ℕ) (xs tokens : List ℕ)
 batch-none net a own xs tokens most best lacking within mine lacks = record { within = within; mine = mine; fed = λ j h. absurd (omega arith); lacks = lacks }
 
 module _ (net : Net) (laws : Lawful net) (a : ℕ) (own : Option ℕ) (xs tokens : List ℕ) (listed : IsListedBut net Taken a own xs) (one : phases_at net a ≡ 1) where
-  taken-one : (j : ℕ) → j < length xs → length (channel_at net (slice_index xs j)).taken ≡ 1
-  taken-one j below = laws.taken_phases (slice_index xs j) (listed.place j below) ∙ (ap (phases_at net) (listed.there j below) ∙ one)
-
-  pub rate-some : (j : ℕ) → j < length xs → 0 < slice_index (channel_at net (slice_index xs j)).taken 0
-  rate-some j below = rw (one-sum (channel_at net (slice_index xs j)).taken (taken-one j below)) at (laws.some_taken (slice_index xs j) (listed.place j below))
-
-  -- a channel without tokens for one firing
-  pub batch-empty : (most done : ℕ) → done < length xs → slice_index tokens (slice_index xs done) < slice_index (channel_at net (slice_index xs done)).taken 0 → FeedsNoMore net tokens a 0 (slice_index xs done)
-  batch-empty most done below few = (listed.place done below, listed.there done below, omega arith)
-
   pub batch-lower : (most best lacking done feeds : ℕ) → done < length xs → feeds * slice_index (channel_at net (slice_index xs done)).taken 0 ≤ slice_index tokens (slice_index xs done) →
       slice_index tokens (slice_index xs done) < (feeds + 1) * slice_index (channel_at net (slice_index xs done)).taken 0 → slice_index tokens (slice_index xs done) < (best + 1) * slice_index (channel_at net (slice_index xs done)).taken 0 →
       BatchSoFar net a own xs tokens most best lacking done → BatchSoFar net a own xs tokens most feeds (slice_index xs done) (done + 1)
@@ -120,12 +105,6 @@ module _ (net : Net) (laws : Lawful net) (a : ℕ) (own : Option ℕ) (xs tokens
       let here : best * slice_index (channel_at net i).taken 0 ≤ slice_index tokens i = subst (λ (c : ℕ). best * slice_index (channel_at net c).taken 0 ≤ slice_index tokens c) found.2 fed in
       omega arith)
       (own-or-other own i)
-
--- none is always fed
-pub feeds-none : (net : Net) (tokens : List ℕ) (a k : ℕ) → Feeds net tokens a k 0
-feeds-none net tokens a k i place into =
-    let e : k + 0 ≡ k = omega arith in
-    rw e (omega arith)
 
 -- when they have taken their tokens, a channel that feeds no more lacks
 pub lacks-then : (net : Net) (laws : Lawful net) (a k n i : ℕ) (tokens left : List ℕ) → phases_at net a ≡ 1 → FeedsNoMore net tokens a n i → TakesTokens net a k n tokens left → LacksNow net left a (k + n) i
@@ -194,10 +173,6 @@ start-more net a moment k room tokens left after runs more most n m so_far fits 
   takes = takes-then net a k n m tokens left after so_far.takes takes;
   ends = adds-then net a moment k n m runs more most so_far.ends ends;
 }
-
-pub start-all : (net : Net) (a moment k room : ℕ) (tokens left runs more : List ℕ) (n i : ℕ) → StartSoFar net a moment k room tokens left runs more n → IsFirstLack net left a (k + n) i →
-    (n ≤ room) × StartsAll net a moment k n i tokens left runs more
-start-all net a moment k room tokens left runs more n i so_far lack = (so_far.within, record { takes = so_far.takes; ends = so_far.ends; lacks = lack.lacks })
 
 pub start-over : (net : Net) (a moment k room : ℕ) (tokens left runs more : List ℕ) (n m : ℕ) → StartSoFar net a moment k room tokens left runs more n → room - n < m → Feeds net left a (k + n) m → Overfills net tokens a k room
 start-over net a moment k room tokens left runs more n m so_far much feeds = (

@@ -3,17 +3,16 @@ use Rattle.std.proofs.Common.{◌≡◌, ℕ, ◌+◌, ◌≤◌, ◌<◌, Bool,
 use Rattle.std.specs.Prelude.{slice_index, slice_index_or}
 use Rattle.std.specs.List.{range_with_len}
 use Rattle.std.specs.Bool.{MatchBool, OnTrue}
-use Rattle.std.proofs.lemmas.Bool.{cases_lt, cases_Bool}
+use Rattle.std.proofs.lemmas.Bool.{cases_lt}
 use Rattle.std.proofs.lemmas.List.{get_or-map, get_or-replicate, length-replicate, get_or_past}
 use Rattle.std.proofs.lemmas.List.FromFn.{get_or-map-range_with_len, length-map-range_with_len}
 use Rattle.sd_base.specs.Net.{Net, channel_at, total}
-use Rattle.sd_base.specs.Schedules.{time_of, Needs, Lacks, Schedule, count_of, start_of, Admissible, Earliest, HasInputs}
-use Rattle.sd_base.specs.SelfTimed.{allows, earliest}
+use Rattle.sd_base.specs.Schedules.{time_of, Lacks, Schedule, count_of, start_of, Admissible, Earliest, HasInputs}
+use Rattle.sd_base.specs.SelfTimed.{earliest}
 use Rattle.sd_base.specs.Lawful.{Lawful}
 use Rattle.sd_base.proofs.Sums.{total-zero, total-le}
 use Rattle.sd_base.proofs.Parts.{Regular, regular}
 use Rattle.sd_base.proofs.Moment.{Able, Full}
-use Rattle.sd_base.proofs.Existence.{allows-true}
 use Rattle.sd_base.proofs.Counts.{early_at, able-along, full-along, first-counts, first-ended}
 use Rattle.sd_base.proofs.Ends.{sum_to, sum_to-le}
 use Rattle.sd_base.proofs.Events.{is_event-zero}
@@ -75,16 +74,6 @@ zero-within net m s laws able early a actor = ⊎_elim
     (λ (h : m a ≤ count_of s a). h) (cases_lt (count_of s a) (m a))
 
 -- ---- a fresh engine
-
--- a channel on which an actor lacks tokens makes the test fail
-pub allows-none : (net : Net) (e : ℕ → ℕ) (a k : ℕ) → Lacks net e a k → allows net.channels e a k ≡ false
-allows-none net e a k lack = ⊎_elim
-    (λ (holds : allows net.channels e a k ≡ true). absurd (
-    let enough : total (channel_at net lack.0).taken (k + 1) ≤ (channel_at net lack.0).tokens + total (channel_at net lack.0).made (e (channel_at net lack.0).source) = allows-true net.channels e a k holds lack.0 lack.1 lack.2 in
-    let need : Needs (channel_at net lack.0) k (e (channel_at net lack.0).source) = lack.3 in
-    omega arith))
-    (λ (fails : allows net.channels e a k ≡ false). fails)
-    (cases_Bool (allows net.channels e a k))
 
 module _ (net : Net) (laws : Lawful net) (most : ℕ) (old : List ActorState) (tokens : List ℕ) (all : ℕ) (fresh : IsFresh net most old tokens all) where
   ended-none : (a : ℕ) → a < length net.times → ended_in old a ≡ 0

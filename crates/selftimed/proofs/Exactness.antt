@@ -14,14 +14,14 @@ use Rattle.selftimed.specs.declared.engine.Stage.{Stage}
 use Rattle.selftimed.specs.declared.engine.Stage.TheVariants.{Fresh, Running, Spent, OutOfMemory}
 use Rattle.selftimed.specs.declared.engine.Move.{Move}
 use Rattle.selftimed.specs.declared.engine.Move.TheVariants.{Stepped, Stuck}
-use Rattle.selftimed.specs.Moves.{IsNext, ComesNext, IsStuck, IsSpent, Overruns, IsMove}
+use Rattle.selftimed.specs.Moves.{IsNextEvent, ComesNext, IsStuck, IsSpent, Overruns, IsMove}
 use Rattle.selftimed.proofs.Starting.{sum_to-same}
 use Rattle.selftimed.proofs.Moving.{starts-sum}
 use Rattle.selftimed.proofs.Advancing.{lacking-inputs, none-counted, sum_to-none}
 
 -- ---- one next event
 
-next-le : (net : Net) (now t u : ℕ) → IsNext net now t → IsNext net now u → t ≤ u
+next-le : (net : Net) (now t u : ℕ) → IsNextEvent net now t → IsNextEvent net now u → t ≤ u
 next-le net now t u one other = ⊎_elim
     (λ (past : u < t). absurd (one.quiet u other.later past other.event))
     (λ (h : t ≤ u). h) (cases_lt u t)
@@ -47,7 +47,7 @@ module _ (net : Net) (laws : Lawful net) where
 
   -- ---- where nothing runs and nothing can start, no event comes
 
-  no-next : (now u : ℕ) → ((a : ℕ) → a < length net.times → ended_at net now a ≡ count_of (earliest net (suc now)) a) → HasInputs net → IsNext net now u → ⊥
+  no-next : (now u : ℕ) → ((a : ℕ) → a < length net.times → ended_at net now a ≡ count_of (earliest net (suc now)) a) → HasInputs net → IsNextEvent net now u → ⊥
   no-next now u over fed next = ⊎_elim
       (λ (zero_at : u ≡ 0). omega (arith, next.later))
       (λ (found : (a : ℕ) × (k : ℕ) × (k < count_of (earliest net u) a) × (end_of net (earliest net u) a k ≡ u)).
@@ -67,7 +67,7 @@ module _ (net : Net) (laws : Lawful net) where
       same : Same (earliest net (suc now)) (earliest net u)
       same = quiet-until net reg fed now u quiet next.later
 
-  stuck-ends : (now u : ℕ) → IsStuck net Running now → IsNext net now u → ⊥
+  stuck-ends : (now u : ℕ) → IsStuck net Running now → IsNextEvent net now u → ⊥
   stuck-ends now u stuck next =
       let e : now + 1 ≡ suc now = omega arith in
       no-next now u (rw e at stuck.0) (λ a actor. let lack : Lacks net (count_of (earliest net (now + 1))) a (count_of (earliest net (now + 1)) a) = stuck.1 a actor in (lack.0, lack.1, lack.2)) next

@@ -15,7 +15,7 @@ use Rattle.selftimed.specs.inside.Actors.{idle, started_in, ended_in, running_in
 use Rattle.selftimed.specs.inside.Agendas.{Entry, entry, Announces, IsFirst, Lists, IsAgenda}
 use Rattle.selftimed.specs.inside.Ports.{IsOwn, MayOwn, IsOther, IsListedBut}
 use Rattle.selftimed.proofs.OwnChannels.{own-or-other, of-own, not-own, other-place}
-use Rattle.selftimed.proofs.Agendas.{HasFirsts, has-firsts, entries-found, has-number, number-found, runs-place, besides, announced-kept, announced-there, announced-all}
+use Rattle.selftimed.proofs.Agendas.{HasFirsts, has-firsts, has-number, number-found, runs-place, besides, announced-kept, announced-there, announced-all}
 
 at : List ActorState → ℕ → ActorState
 at actors a = slice_index_or actors a idle
@@ -32,20 +32,6 @@ pub record TouchesSoFar (net : Net) (tokens channels : List ℕ) (old new : List
   pub there : (j : ℕ) → j < done → touched_in new (channel_at net (slice_index channels j)).target ≡ false → lacking_in new (channel_at net (slice_index channels j)).target ≡ slice_index channels j →
       slice_index tokens (slice_index channels j) < phase_entry (channel_at net (slice_index channels j)).taken (started_in new (channel_at net (slice_index channels j)).target)
   pub lists : Lists net new touched
-
-pub touches-none : (net : Net) (tokens channels : List ℕ) (old : List ActorState) (touched : List ℕ) → Lists net old touched → TouchesSoFar net tokens channels old old touched 0
-touches-none net tokens channels old touched lists = record { long = refl; started = λ b. refl; ended = λ b. refl; running = λ b. refl; kept = λ b e. e; lacking = λ b. refl; there = λ j h. absurd (omega arith); lists = lists }
-
-pub touches-all : (net : Net) (tokens channels : List ℕ) (old new : List ActorState) (touched : List ℕ) (done : ℕ) → length channels ≤ done → TouchesSoFar net tokens channels old new touched done → Touches net tokens channels old new
-touches-all net tokens channels old new touched done past so_far = record {
-  long = so_far.long;
-  started = so_far.started;
-  ended = so_far.ended;
-  running = so_far.running;
-  kept = so_far.kept;
-  lacking = so_far.lacking;
-  there = λ j h. so_far.there j (omega arith);
-}
 
 -- an actor that lacks tokens on another channel, or still lacks them on this one, isn't touched
 pub touches-skip : (net : Net) (tokens channels : List ℕ) (old now : List ActorState) (touched : List ℕ) (done t : ℕ) → t ≡ (channel_at net (slice_index channels done)).target →
@@ -428,16 +414,6 @@ module _ (net : Net) (moment : ℕ) (first now : List ActorState) (tokens : List
         (λ (short : slice_index tokens i < phase_entry (channel_at net i).taken (started_in now (channel_at net i).target)).
         inr (level-needs net (started_in now) (ended_in now) tokens (channel_at net i).target i so_far.stand.level (record { place = there; into = refl; short = short })))
         (so_far.fed i there off lacks);
-  }
-
-  pub ends-agenda : IsAgenda net now ends touched
-  ends-agenda = record {
-    firsts = λ k d below. ⊎_elim
-        (λ (past : (slice_index_or ends k d).0.0 ≤ moment). absurd (omega (arith, late k d below)))
-        (λ (is : IsFirst now (slice_index_or ends k d)). is)
-        (so_far.near k d below).1;
-    whole = entries-found now ends so_far.whole;
-    lists = so_far.lists;
   }
 
 -- an entry that is taken off is that of an actor

@@ -20,7 +20,7 @@ use Rattle.sd_base.proofs.Events.{is_event-end, event-tells}
 use Rattle.selftimed.specs.declared.actors.ActorState.{ActorState}
 use Rattle.selftimed.specs.inside.Actors.{started_in, ended_in, running_in, touched_in, lacking_in, LacksAt, IsFirstEnd, IsQuiet, EndsAll, Stand, Counted, StartedAll, CanOverrun, HaveStarted}
 use Rattle.selftimed.specs.inside.Stands.{Stands}
-use Rattle.selftimed.specs.Moves.{AreStarters, IsNext, Overruns}
+use Rattle.selftimed.specs.Moves.{AreStarters, IsNextEvent, Overruns}
 use Rattle.selftimed.proofs.Starters.{starters-at}
 use Rattle.selftimed.proofs.Starting.{sum_to-all, sum_to-same}
 
@@ -147,7 +147,7 @@ module _ (net : Net) (laws : Lawful net) (now most : ℕ) (old : List ActorState
         (cases_lt found.1 (ended_in old found.0)))
         at
 
-    pub next-event : IsNext net now t
+    pub next-event : IsNextEvent net now t
     next-event = record { later = later; event = event-tells net t event; quiet = no-event }
 
     -- the moment stays small

@@ -11,7 +11,7 @@ use Rattle.firing.specs.declared.sums.Port.{Port}
 use Rattle.firing.specs.declared.sums.Port.TheVariants.{Made, Taken}
 use Rattle.firing.specs.inside.Cuts.{AreCuts}
 use Rattle.firing.specs.Wiring.{actor_at, IsListed}
-use Rattle.firing.proofs.Listings.{place_of}
+use Rattle.firing.proofs.Listings.{place_of, front, last}
 use Rattle.selftimed.specs.declared.engine.Stage.{Stage}
 use Rattle.selftimed.specs.declared.engine.Stage.TheVariants.{Fresh, Running, OutOfMemory}
 use Rattle.selftimed.specs.declared.ports.ChannelRows.{ChannelRows}
@@ -27,12 +27,6 @@ others-none own row = record {
   others = λ j h. absurd (omega arith);
   all = λ p h is. absurd (omega arith);
 }
-
-front : (xs : List ℕ) (x j : ℕ) → j < length xs → slice_index (xs ++ x ∷ []) j ≡ slice_index xs j
-front xs x j below = get_or_append_left xs (x ∷ []) 0 j below
-
-last : (xs : List ℕ) (x j : ℕ) → j ≡ length xs → slice_index (xs ++ x ∷ []) j ≡ x
-last xs x j at = get_or_push xs x 0 j (sym at)
 
 -- the next one of the row is another one
 pub others-push : (own : Option ℕ) (row xs : List ℕ) (n : ℕ) → IsRising row → n < length row → IsOther own (slice_index row n) → AreOthers own row n xs → AreOthers own row (n + 1) (xs ++ slice_index row n ∷ [])
@@ -208,9 +202,6 @@ module _ (net : Net) (p : Ports) (are : ArePorts net p) (a : ℕ) (actor : a < l
 
   pub out-read : (o : Option ℕ) (xs : List ℕ) → o ≡ slice_index_or p.own.items a o → xs ≡ row_at p.outputs a → IsListedBut net Made a o xs
   out-read o xs read row = rw (own-read o read, row) (are.outputs.each a actor)
-
-  pub into-place : a + 1 < length p.inputs.starts.items
-  into-place = omega (arith, are.inputs.long)
 
   pub out-place : a + 1 < length p.outputs.starts.items
   out-place = omega (arith, are.outputs.long)

@@ -11,9 +11,6 @@ use Rattle.selftimed.specs.inside.PortRates.{no_rates, AreOf}
 abbrev pub AreUpTo : Net → List Rates → ℕ → Type 0
 AreUpTo net rows n = (i : ℕ) → i < n → AreOf i (channel_at net i) (slice_index_or rows i no_rates)
 
-pub rates-none : (net : Net) (rows : List Rates) → AreUpTo net rows 0
-rates-none net rows i below = absurd (omega arith)
-
 pub rates-push : (net : Net) (rows : List Rates) (n : ℕ) (r : Rates) → length rows ≡ n → AreUpTo net rows n → AreOf n (channel_at net n) r → AreUpTo net (rows ++ r ∷ []) (n + 1)
 rates-push net rows n r long old new i below = ⊎_elim
     (λ (h : i < n). rw (get_or_append_left rows (r ∷ []) no_rates i (omega (arith, long))) (old i h))

@@ -51,9 +51,6 @@ remaining-more moment actors a one ends row rows new place read is row_is rows_a
     let pushed : remaining_now moment (take a actors ++ one ∷ []) ≡ remaining_now moment (take a actors) ++ map (λ e. e - moment) one.running ∷ [] = map_push (λ (s : ActorState). map (λ e. e - moment) s.running) (take a actors) one in
     rw (push, rows_are, row_is, is, more) (sym pushed)
 
-pub remaining-length : (moment : ℕ) (actors : List ActorState) (remaining : List (List ℕ)) → remaining_now moment actors ≡ remaining → length remaining ≡ length actors
-remaining-length moment actors remaining same = ap length (sym same) ∙ length-map actors (λ (s : ActorState). map (λ e. e - moment) s.running)
-
 module _ (moment : ℕ) (actors : List ActorState) (remaining : List (List ℕ)) (a : ℕ) (one : ActorState) (ends times : List ℕ) (place : a < length actors) (there : a < length remaining) (read : slice_index_or actors a idle ≡ one) (is : ends ≡ one.running) (row : slice_index_or remaining a [] ≡ times) where
   here : slice_index_or (remaining_now moment actors) a [] ≡ map (λ e. e - moment) ends
   here = get_or-map (λ (s : ActorState). map (λ e. e - moment) s.running) actors a idle [] place ∙ ap (map (λ e. e - moment)) (ap (λ (s : ActorState). s.running) read ∙ sym is)

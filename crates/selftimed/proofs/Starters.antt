@@ -12,9 +12,6 @@ use Rattle.selftimed.specs.inside.Actors.{idle, started_in, HaveStarted}
 use Rattle.selftimed.specs.Moves.{AreStarters}
 use Rattle.selftimed.proofs.Agendas.{has-number, number-found}
 
-pub started-none : (net : Net) (first : List ActorState) → HaveStarted net first first []
-started-none net first = record { actors = λ k d below. absurd (omega arith); listed = λ b is less. absurd (omega arith) }
-
 -- with the firings of one more actor
 module _ (net : Net) (first now : List ActorState) (a n : ℕ) (s : ActorState) (list : List ℕ) (so_far : HaveStarted net first now list) (actor : a < length net.times) (place : a < length now) (count : s.started ≡ started_in now a + n) where
   started-other : (b : ℕ) → b ≢ a → started_in (set now a s) b ≡ started_in now b

@@ -1,8 +1,8 @@
 -- Starts of all actors, actor by actor.
-use Rattle.std.proofs.Common.{◌≡◌, ◌≢◌, ℕ, zero, suc, ◌+◌, ◌-◌, ◌≤◌, ◌<◌, ◌^◌, ◌⊎◌, Bool, true, false, List, [], ◌∷◌, ◌++◌, length, set, take, Some, inl, inr, ⊎_elim, subst, sym, refl, ap, ◌∙◌, arith}
+use Rattle.std.proofs.Common.{◌≡◌, ◌≢◌, ℕ, zero, suc, ◌+◌, ◌-◌, ◌≤◌, ◌<◌, ◌^◌, ◌⊎◌, true, false, List, [], ◌∷◌, ◌++◌, length, set, take, Some, inl, inr, ⊎_elim, subst, sym, refl, ap, ◌∙◌, arith}
 use Rattle.std.specs.Prelude.{slice_index, slice_index_or, if◌then◌else◌, ◌==◌, All, Contains}
 use Rattle.std.specs.List.{sum_by}
-use Rattle.std.proofs.lemmas.Bool.{cases_eq, cases_Bool, false≢true}
+use Rattle.std.proofs.lemmas.Bool.{cases_eq, false≢true}
 use Rattle.std.proofs.lemmas.List.{length-set, get_or-set_same, get_or-set_other, take_all}
 use Rattle.std.proofs.lemmas.List.Elements.{All-contains, All-pop, All-weaker, Contains-push, Contains-push_cases}
 use Rattle.std.proofs.lemmas.List.Sums.{sum_by-set, sum_by_more, get_or-le-sum_by}
@@ -13,9 +13,8 @@ use Rattle.sd_base.proofs.Ends.{sum_to}
 use Rattle.firing.specs.Wiring.{LacksNow, IsLevel}
 use Rattle.firing.proofs.TokenMoves.{MoreBy, level-takes, level-needs}
 use Rattle.selftimed.specs.inside.Starts.{AddsEnds, Overfills}
-use Rattle.selftimed.proofs.Batches.{adds-none}
 use Rattle.selftimed.specs.declared.actors.ActorState.{ActorState}
-use Rattle.selftimed.specs.inside.Actors.{idle, started_in, ended_in, running_in, touched_in, lacking_in, LacksAt, Stand, Counted, StartsOne, StartedAll, CanOverrun}
+use Rattle.selftimed.specs.inside.Actors.{idle, started_in, ended_in, running_in, touched_in, lacking_in, LacksAt, Stand, Counted, StartsOne, CanOverrun}
 use Rattle.selftimed.specs.inside.Agendas.{Entry, entry, Announces, IsFirst, Lists, IsAgenda}
 use Rattle.selftimed.proofs.Agendas.{HasFirsts, has-firsts, entries-found, has-number, number-found, announced-kept, announced-there, announced-all}
 
@@ -63,44 +62,6 @@ pub record StartsSoFar (net : Net) (moment : ℕ) (first now : List ActorState) 
   pub counted : Counted now all most
   pub agenda : IsAgenda net now ends touched
 
-pub starts-none : (net : Net) (moment : ℕ) (first : List ActorState) (tokens : List ℕ) (all most : ℕ) (ends : List Entry) (touched : List ℕ) → Stand net first tokens → Counted first all most → IsAgenda net first ends touched →
-    ((b : ℕ) → b < length net.times → touched_in first b ≡ false → LacksAt net (ended_in first) b (started_in first b) (lacking_in first b)) → StartsSoFar net moment first first tokens all most ends touched
-starts-none net moment first tokens all most ends touched stand counted agenda lacking = record {
-  long = refl;
-  ended = λ b. refl;
-  more = λ b is off. omega arith;
-  adds = λ b is off. rw (none (started_in first b)) (adds-none net b moment (started_in first b) (running_in first b));
-  lacks = lacking;
-  started = λ b on. refl;
-  running = λ b on. refl;
-  stand = stand;
-  counted = counted;
-  agenda = agenda;
-}
-  where
-    none : (n : ℕ) → n - n ≡ 0
-    none n = omega arith
-
--- where no actor is listed none is touched
-pub starts-all : (net : Net) (moment : ℕ) (first now : List ActorState) (tokens : List ℕ) (all most : ℕ) (ends : List Entry) (touched : List ℕ) → touched ≡ [] → StartsSoFar net moment first now tokens all most ends touched → StartedAll net moment first now
-starts-all net moment first now tokens all most ends touched none so_far = record {
-  ended = so_far.ended;
-  more = λ b is. so_far.more b is (calm b);
-  ends = λ b is. so_far.adds b is (calm b);
-  lacks = λ b is. so_far.lacks b is (calm b);
-  calm = λ b is. calm b;
-}
-  where
-    calm : (b : ℕ) → touched_in now b ≡ false
-    calm b = ⊎_elim
-        (λ (on : touched_in now b ≡ true).
-        let has : Contains touched b = has-number touched b (so_far.agenda.lists.listed b on) in
-        let below : has.0 < length touched = has.1 in
-        let short : length touched ≡ 0 = ap length none in
-        absurd (omega arith))
-        (λ (off : touched_in now b ≡ false). off)
-        (cases_Bool (touched_in now b))
-
 -- the entry of an actor is noted where it had none
 abbrev pub Noted : ℕ → List ℕ → List ℕ → List Entry → List Entry → Type 0
 Noted a old runs ends more = Announces a runs ends more ⊎ ((0 < length old) × (more ≡ ends))
@@ -118,31 +79,6 @@ module _ (net : Net) (moment : ℕ) (first now : List ActorState) (tokens : List
 
   within-rest : All (λ (b : ℕ). b < length net.times) rest
   within-rest = (All-pop (λ (b : ℕ). b < length net.times) (rest ++ a ∷ []) rest (Some a) refl so_far.agenda.lists.within).0
-
-  -- an actor that is listed again starts nothing
-  pub starts-skip : touched_in now a ≡ false → StartsSoFar net moment first now tokens all most ends rest
-  starts-skip off = record {
-    long = so_far.long;
-    ended = so_far.ended;
-    more = so_far.more;
-    adds = so_far.adds;
-    lacks = so_far.lacks;
-    started = so_far.started;
-    running = so_far.running;
-    stand = so_far.stand;
-    counted = so_far.counted;
-    agenda = record {
-      firsts = so_far.agenda.firsts;
-      whole = so_far.agenda.whole;
-      lists = record {
-        within = within-rest;
-        listed = λ b on. ⊎_elim
-            (λ (has : Contains rest b). number-found rest b has)
-            (λ (e : a ≡ b). absurd (false≢true (sym off ∙ rw e on)))
-            (Contains-push_cases rest a b (has-number (rest ++ a ∷ []) b (so_far.agenda.lists.listed b on)));
-      };
-    };
-  }
 
   module _ (on : touched_in now a ≡ true) (left : List ℕ) (s : ActorState) (n : ℕ) (fits : n ≤ most - all) (one : StartsOne net a moment n tokens left (slice_index_or now a idle) s) (longer : length left ≡ length tokens) where
     here : slice_index_or (set now a s) a idle ≡ s

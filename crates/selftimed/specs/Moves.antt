@@ -15,7 +15,7 @@ abbrev pub AreAlike : Net → Net → Type 0
 AreAlike net other = (length net.times ≡ length other.times) × (ends_of net ≡ ends_of other)
 
 -- t is the first event after now
-pub record IsNext (net : Net) (now t : ℕ) : Type 0 where
+pub record IsNextEvent (net : Net) (now t : ℕ) : Type 0 where
   pub later : now < t
   pub event : IsEvent net t
   pub quiet : (u : ℕ) → now < u → u < t → ¬ IsEvent net u
@@ -23,7 +23,7 @@ pub record IsNext (net : Net) (now t : ℕ) : Type 0 where
 -- t is the event to which an engine goes next: 0, or the first event after its moment
 abbrev pub ComesNext : Net → Stage → ℕ → ℕ → Type 0
 ComesNext net Fresh now t = t ≡ 0
-ComesNext net Running now t = IsNext net now t
+ComesNext net Running now t = IsNextEvent net now t
 ComesNext net Spent now t = ⊥
 ComesNext net OutOfMemory now t = ⊥
 

@@ -62,7 +62,7 @@ fn channel_rates<F: Firing>(net: &F, channel: u32) -> Rates
 
 /// The tokens that firings of an actor, from number `from` on, take from a channel into it or put on one out of it, which has
 /// this rate in the actor's first phase. Cost: constant where the actor has one phase, else linear in the firings.
-pub(crate) fn moved_by<F: Firing>(
+pub(crate) fn moved_span<F: Firing>(
     net: &F,
     rate: u64,
     channel: u32,

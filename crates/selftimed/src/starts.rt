@@ -217,7 +217,7 @@ impl<F: Firing> Turn<'_, F> {
     {
         let mut count = 0u64;
         'firings: loop {
-            if let Some(lacking) = self.first_lack(tokens.as_slice(), from + count) {
+            if let Some(lacking) = self.lacking_input(tokens.as_slice(), from + count) {
                 return Ok(Some(Begun {
                     firings: count,
                     lacking,
@@ -242,7 +242,7 @@ impl<F: Firing> Turn<'_, F> {
     }
 
     /// The first channel into an actor without an own one that has fewer tokens than a firing of it takes.
-    fn first_lack(&self, tokens: &[u64], firing: u64) -> Option<u32>
+    fn lacking_input(&self, tokens: &[u64], firing: u64) -> Option<u32>
         requires others { self.now.own ≡ None }
         requires tokens { length tokens.now ≡ length (F.net self.now.net.now).channels }
         ensures { MatchOption result (SufficesBefore (F.net self.now.net.now) tokens.now self.now.actor firing (length (F.net self.now.net.now).channels))

@@ -14,7 +14,7 @@ ghost use Rattle.selftimed.specs.Prints.{print_of, weight as weight_in_print};
 ghost use Rattle.selftimed.specs.inside.PortRates.{AreRates};
 ghost use Rattle.selftimed.specs.inside.Ports.{IsListedBut, MayOwn};
 
-use crate::rates::{Rates, moved_by};
+use crate::rates::{Rates, moved_span};
 use firing::{Firing, Port};
 use sd_base::NoMemory;
 use std::alloc::Global;
@@ -152,7 +152,7 @@ pub(crate) fn take_all<F: Firing>(
 {
     for channel in inputs {
         let here = rates[*channel as usize];
-        let all = moved_by(net, here.taken, *channel, Port::Taken, from, firings);
+        let all = moved_span(net, here.taken, *channel, Port::Taken, from, firings);
         tokens.take(*channel, all, here.weight);
     }
     take_own(net, rates, own, tokens, firings);
@@ -201,7 +201,7 @@ pub(crate) fn put_all<F: Firing>(
 {
     for channel in outputs {
         let here = rates[*channel as usize];
-        let all = moved_by(net, here.made, *channel, Port::Made, from, firings);
+        let all = moved_span(net, here.made, *channel, Port::Made, from, firings);
         tokens.put(*channel, all, here.weight);
     }
     put_own(net, rates, own, tokens, firings);

@@ -4,9 +4,9 @@ use Rattle.std.proofs.Math.Nat.{le_of_mul-le-mul_right}
 use Rattle.std.specs.Prelude.{slice_index, slice_index_or, count_by, nat_lt}
 use Rattle.std.proofs.lemmas.Bool.{cases_lt}
 use Rattle.sd_base.specs.Net.{Net, channel_at, phase_entry, total}
-use Rattle.sd_base.specs.Schedules.{Schedule, Needs, Lacks, Admissible, Earliest, count_of, start_of, end_of, time_of}
+use Rattle.sd_base.specs.Schedules.{Schedule, Needs, Admissible, Earliest, count_of, start_of, end_of, time_of}
 use Rattle.sd_base.specs.Rates.{RateBy, Rate}
-use Rattle.sd_base.specs.Untimed.{CanFire, Fires, one_more, none_fired, IsLive, Blocks}
+use Rattle.sd_base.specs.Untimed.{CanFire, Fires, one_more, none_fired, IsLive}
 use Rattle.sd_base.proofs.LoopRates.{count-all, slopes}
 use Rattle.storage.specs.inside.Easing.{EasesChannel, Eases}
 
@@ -42,19 +42,6 @@ eases-rates net easier eases some fires p q x y one other = let scaled : p * y *
     lines : (t : ℕ) → p * y * slice_index net.round 0 * t ≤ x * q * slice_index net.round 0 * t + (q * other.slack + y * one.slack)
     lines t = let found = one.bounds.below t in let n : ℕ = count_of found.0 0 in let all : n ≤ count_by (λ z. nat_lt z t) (slice_index_or found.0 0 []) = count-all t (slice_index_or found.0 0 []) (λ k there. found.1.before 0 k there) in let low : p * slice_index net.round 0 * t ≤ q * n + one.slack = found.2 0 some in let there : 0 < length easier.times = rw (← eases.times) some in let good : Admissible easier found.0 = eases-admissible net easier eases found.0 found.1.admissible in let high : y * count_by (λ z. nat_lt z t) (slice_index_or found.0 0 []) ≤ x * slice_index net.round 0 * t + other.slack = subst (λ (r : List ℕ). y * count_by (λ z. nat_lt z t) (slice_index_or found.0 0 []) ≤ x * slice_index r 0 * t + other.slack) (sym eases.round) (other.bounds.above found.0 t 0 good there) in
         let mine : y * n ≤ y * count_by (λ z. nat_lt z t) (slice_index_or found.0 0 []) = mul-le-mul_left y all in let up : y * (p * slice_index net.round 0 * t) ≤ y * (q * n + one.slack) = mul-le-mul_left y low in let down : q * (y * n) ≤ q * (x * slice_index net.round 0 * t + other.slack) = mul-le-mul_left q (omega arith) in omega arith
-
-pub eases-lacks : (net easier : Net) → Eases net easier → (v : ℕ → ℕ) (a k : ℕ) → Lacks easier v a k → Lacks net v a k
-eases-lacks net easier eases v a k lack = let one : EasesChannel (channel_at net lack.0) (channel_at easier lack.0) = eases.channels lack.0 lack.1 in let need : Needs (channel_at net lack.0) k (v (channel_at easier lack.0).source) = one.needs k (v (channel_at easier lack.0).source) lack.3 in (lack.0, omega (arith, lack.1, eases.many), one.target ∙ lack.2, subst (λ (b : ℕ). Needs (channel_at net lack.0) k (v b)) (sym one.source) need)
-
-pub eases-blocks : (net easier : Net) → Eases net easier → (v : ℕ → ℕ) → Blocks easier v → Blocks net v
-eases-blocks net easier eases v blocks = record {
-  within = λ a actor. subst (λ (r : List ℕ). v a ≤ slice_index r a) (sym eases.round) (blocks.within a (there a actor));
-  short = (blocks.short.0, rw eases.times blocks.short.1, subst (λ (r : List ℕ). v blocks.short.0 < slice_index r blocks.short.0) (sym eases.round) blocks.short.2);
-  closed = λ a actor less. eases-lacks net easier eases v a (v a) (blocks.closed a (there a actor) (subst (λ (r : List ℕ). v a < slice_index r a) eases.round less));
-}
-  where
-    there : (a : ℕ) → a < length net.times → a < length easier.times
-    there a actor = rw (← eases.times) actor
 
 pub eases-fires : (net easier : Net) → Eases net easier → (order : List ℕ) (v : ℕ → ℕ) → Fires net v order → Fires easier v order
 eases-fires net easier eases [] v fires = tt

@@ -30,7 +30,7 @@ walk-on ends more front a [] b same = same
 walk-on ends more front a (k ∷ ks) b (e, is, inl (at, way)) = (e, front k e is, inl (at, walk-on ends more front e.1 ks b way))
 walk-on ends more front a (k ∷ ks) b (e, is, inr (at, way)) = (e, front k e is, inr (at, walk-on ends more front e.0 ks b way))
 
-own-few : (apart : Bool) (channels : List ChannelRow) (a : ℕ) (rows : List ActorRow) → length (own_channels_from apart channels a rows) ≤ length rows
+pub own-few : (apart : Bool) (channels : List ChannelRow) (a : ℕ) (rows : List ActorRow) → length (own_channels_from apart channels a rows) ≤ length rows
 own-few apart channels a [] = omega arith
 own-few apart channels a (r ∷ rows) = step (gets_own apart channels a r.phases) (own-few apart channels (suc a) rows)
   where

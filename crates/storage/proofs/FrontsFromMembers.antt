@@ -72,7 +72,7 @@ module _ (cs : List Channel) (rating : Rating) (lowest : AreLowest rating) (limi
     all = listed;
   }
 
-positive-on : (p q x y : ℕ) → 1 ≤ p → 1 ≤ y → p * y ≤ x * q → 1 ≤ x
+pub positive-on : (p q x y : ℕ) → 1 ≤ p → 1 ≤ y → p * y ≤ x * q → 1 ≤ x
 positive-on p q x y some there le = ⊎_elim (λ (none : x < 1). absurd (let zero_here : x ≡ 0 = omega arith in let nothing : x * q ≡ 0 * q = ap (λ (z : ℕ). z * q) zero_here in let scaled : 1 * y ≤ p * y = mul-le-mul_right y some in omega arith)) (λ (h : 1 ≤ x). h) (cases_lt x 1)
 
 pub front-by : (cs : List Channel) (rating : Rating) (lowest : AreLowest rating) → HasSteps cs → (limit : ℕ) (es : List Entry) (pairs : List Pair) → IsClosedBy cs rating limit es → IsFrontOverBy cs rating limit es pairs → IsFrontBy cs rating limit pairs

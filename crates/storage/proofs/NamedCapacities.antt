@@ -9,11 +9,10 @@ use Rattle.std.proofs.lemmas.Bool.{eqb-false, ltb-false}
 use Rattle.std.proofs.lemmas.Slice.Eq.{bytes_eq-Decides}
 use Rattle.sd_base.specs.declared.limits.TheConstants.{ACTORS, CAPACITY, CHANNELS, NET_CHANNELS, NET_TOKENS}
 use Rattle.sd_base.specs.declared.tables.GraphFile.{GraphFile}
-use Rattle.sd_base.specs.declared.tables.ActorRow.{ActorRow}
 use Rattle.sd_base.specs.declared.tables.ChannelRow.{ChannelRow}
 use Rattle.sd_base.specs.Tables.{KeepsRules}
 use Rattle.sd_base.specs.Net.{Channel, Net, file_channel, file_channels, file_channels_from}
-use Rattle.sd_base.specs.FileNet.{own_channel, gets_own, own_channels_from, net_of}
+use Rattle.sd_base.specs.FileNet.{own_channels_from, net_of}
 use Rattle.sd_base.proofs.FileNets.{file-length}
 use Rattle.storage.specs.declared.buffers.BufferError.{BufferError}
 use Rattle.storage.specs.declared.buffers.BufferError.TheVariants.{Unknown, SelfLoop, BelowTokens}
@@ -21,6 +20,7 @@ use Rattle.storage.specs.Distributions.{CanHold}
 use Rattle.storage.specs.BoundedNets.{bound, spaces_from}
 use Rattle.storage.specs.NamedBuffers.{Buffer, capacities_of, capacity_named, fault_of, first_fault, has_named}
 use Rattle.storage.proofs.SpaceChannels.{bound-long}
+use Rattle.storage.proofs.FileConnections.{own-few}
 
 -- what a row of a channel tells of the capacity that its name is given
 record Holds (r : ChannelRow) (k : ℕ) : Type 0 where
@@ -125,22 +125,13 @@ named-held g gamma no_overlap bs none small =
 
 -- ---- how many channels
 
-spaces-few : (n : ℕ) (cs : List Channel) (ds : List (Option ℕ)) → length (spaces_from n cs ds) ≤ length ds
+pub spaces-few : (n : ℕ) (cs : List Channel) (ds : List (Option ℕ)) → length (spaces_from n cs ds) ≤ length ds
 spaces-few n [] ds = omega arith
 spaces-few n (c ∷ cs) [] = omega arith
 spaces-few n (c ∷ cs) (None ∷ ds) = let rest = spaces-few (suc n) cs ds in omega arith
 spaces-few n (c ∷ cs) (Some k ∷ ds) = let rest = spaces-few (suc n) cs ds in omega arith
 
-owns-few : (apart : Bool) (channels : List ChannelRow) (a : ℕ) (rows : List ActorRow) → length (own_channels_from apart channels a rows) ≤ length rows
-owns-few apart channels a [] = omega arith
-owns-few apart channels a (r ∷ rows) = step (gets_own apart channels a r.phases) (owns-few apart channels (suc a) rows)
-  where
-    step : (b : Bool) → length (own_channels_from apart channels (suc a) rows) ≤ length rows
-        → length (cond b (own_channel a r.phases ∷ own_channels_from apart channels (suc a) rows) (own_channels_from apart channels (suc a) rows)) ≤ suc (length rows)
-    step true rest = omega arith
-    step false rest = omega arith
-
 pub bounded-few : (g : GraphFile) (gamma : List ℕ) (no_overlap : Bool) (ds : List (Option ℕ)) → KeepsRules g → length ds ≤ length g.channels
     → length (bound (net_of g gamma no_overlap) ds).channels ≤ NET_CHANNELS
 bounded-few g gamma no_overlap ds keeps many =
-    omega (arith, bound-long (net_of g gamma no_overlap) ds, spaces-few 0 (net_of g gamma no_overlap).channels ds, length-append (file_channels g) (own_channels_from no_overlap g.channels 0 g.actors), file-length 0 g.channels, owns-few no_overlap g.channels 0 g.actors, keeps.few_actors, keeps.few_channels)
+    omega (arith, bound-long (net_of g gamma no_overlap) ds, spaces-few 0 (net_of g gamma no_overlap).channels ds, length-append (file_channels g) (own_channels_from no_overlap g.channels 0 g.actors), file-length 0 g.channels, own-few no_overlap g.channels 0 g.actors, keeps.few_actors, keeps.few_channels)

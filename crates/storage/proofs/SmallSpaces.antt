@@ -24,7 +24,7 @@ HasFew c = c.tokens ≤ TOKENS
 
 -- ---- the capacities that buffers name
 
-named-small : (bs : List Buffer) (name : List ℕ) (k : ℕ) → All (λ (b : Buffer). b.1 ≤ CAPACITY) bs → capacity_named bs name ≡ Some k → k ≤ CAPACITY
+pub named-small : (bs : List Buffer) (name : List ℕ) (k : ℕ) → All (λ (b : Buffer). b.1 ≤ CAPACITY) bs → capacity_named bs name ≡ Some k → k ≤ CAPACITY
 named-small [] name k small is = absurd (cc)
 named-small (b ∷ bs) name k small is = go (bytes_eq b.0 name) is (named-small bs name k (λ j e within. small (suc j) e (omega arith)))
   where

@@ -56,8 +56,8 @@ abbrev pub Reaches : Net → ℕ → ℕ → ℕ → ℕ → List (Option ℕ) �
 Reaches net limit storage num den ds = ReachesBy net.channels (rating_of net) limit storage num den ds
 
 -- some distribution reaches the pair
-abbrev pub IsReached : Net → ℕ → Pair → Type 0
-IsReached net limit p = IsReachedBy net.channels (rating_of net) limit p
+abbrev pub IsReachedPair : Net → ℕ → Pair → Type 0
+IsReachedPair net limit p = IsReachedBy net.channels (rating_of net) limit p
 
 -- a Pareto point of the net
 abbrev pub IsPareto : Net → ℕ → Pair → Type 0

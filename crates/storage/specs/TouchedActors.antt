@@ -9,3 +9,9 @@ IsTouched net a = (i : ℕ) × (i < length net.channels) × (((channel_at net i)
 -- some channel begins or ends at each actor
 abbrev pub AreTouched : Net → Type 0
 AreTouched net = (a : ℕ) → a < length net.times → IsTouched net a
+
+-- actor a is the first at which no channel begins or ends
+pub record IsFirstUntouched (net : Net) (a : ℕ) : Type 0 where
+  pub place : a < length net.times
+  pub none : IsTouched net a → ⊥
+  pub first : (b : ℕ) → b < a → IsTouched net b

@@ -79,8 +79,8 @@ pub fn corner<F: Firing>(alloc: Global, net: &F) -> Result<Distribution, NoMemor
     Ok(Distribution { capacities })
 }
 
-/// Whether a channel is one of the file.
-fn is_in_file<F: Firing>(net: &F, channel: u32) -> bool
+/// Whether a channel is one of the file, and none that an analysis has added.
+pub fn is_in_file<F: Firing>(net: &F, channel: u32) -> bool
     requires { channel < length (F.net net.now).channels }
     ensures { result ≡ is_token_role (channel_at (F.net net.now) channel).role }
 {

@@ -9,7 +9,6 @@ use Rattle.sd_base.specs.Net.{Net, channel_at}
 use Rattle.sd_base.specs.Schedules.{HasInputs}
 use Rattle.sd_base.specs.Untimed.{IsLive}
 use Rattle.balance.specs.Repetition.{IsRound}
-use Rattle.bounded_scenarios.specs.Boundings.{RunsUnbounded}
 
 -- a channel leads into the actor
 abbrev pub IsEntered : Net → ℕ → Type 0

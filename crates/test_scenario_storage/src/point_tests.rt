@@ -141,7 +141,7 @@ fn one_scenario_has_two_points(rt: HostRuntime) -> Result<(), Fail> {
     }
 }
 
-// The second scenario takes 14 time units in a space of one token, and 9 in two.
+// The second scenario takes 14 time units in a space of one token, and 9 in two: where a state runs it that is reached.
 #[test]
 fn a_state_that_is_not_reached_does_not_count(rt: HostRuntime) -> Result<(), Fail> {
     let scenarios = [
@@ -159,6 +159,11 @@ fn a_state_that_is_not_reached_does_not_count(rt: HostRuntime) -> Result<(), Fai
         states: &[(0, &[0]), (1, &[0, 1])],
     };
     check(&rt, rt.alloc(), &apart, 3, &SENDING_POINTS)?;
+    let not_run = Outline {
+        scenarios: &scenarios,
+        states: &[(0, &[0])],
+    };
+    check(&rt, rt.alloc(), &not_run, 3, &SENDING_POINTS)?;
     let joined = Outline {
         scenarios: &scenarios,
         states: &[(0, &[0, 1]), (1, &[0, 1])],

@@ -8,7 +8,7 @@ use Rattle.sd_base.specs.declared.limits.TheConstants.{EDGES}
 use Rattle.automaton.specs.declared.graph.Edge.{Edge}
 use Rattle.automaton.specs.declared.graph.TimedGraph.{TimedGraph}
 use Rattle.automaton.specs.CriticalCycles.{IsPath, weight_in, weights}
-use Rattle.scenario_rate.specs.Graphs.{AreInside, Grows, IsSound, node_count}
+use Rattle.automaton.specs.SoundGraphs.{AreInside, Grows, IsSound, node_count}
 use Rattle.test_scenarios.specs.Leading.{IsInside, LeadsFrom}
 
 inside-at : (es : List Edge) (n : ℕ) → All (IsInside n) es → (k : ℕ) (e : Edge) → slice_get es k ≡ Some e → IsInside n e

@@ -4,7 +4,7 @@ use std::alloc::Global;
 use std::process::Abort;
 use std::test::Fail;
 use test_nets::{Line, channel};
-use token_matrix::MatrixError;
+use token_matrix::{Entry, MatrixError};
 
 /// Asserts the rows of the matrix of a graph by its times and channels, of which the first are shared.
 fn check(
@@ -21,11 +21,18 @@ fn check(
         Ok(found) => {
             assert_eq!(rt; found.rows().len(), rows.len());
             for (row, wanted) in found.rows().iter().zip(rows) {
-                assert_eq!(rt; row.as_slice(), *wanted);
+                check_row(rt, row.as_slice(), *wanted);
             }
             Ok(())
         }
         Err(_) => panic!(rt; "a graph without a matrix"),
+    }
+}
+
+fn check_row(rt: &impl Abort, row: &[Entry], wanted: &[Option<u64>]) {
+    assert_eq!(rt; row.len(), wanted.len());
+    for (entry, wanted) in row.iter().zip(wanted) {
+        assert_eq!(rt; entry.get(), *wanted);
     }
 }
 

@@ -1,8 +1,9 @@
-ghost use Rattle.std.specs.Prelude.{◌≡◌, true};
+ghost use Rattle.std.specs.Prelude.{◌≡◌, [], true, length, slice_index_or};
 ghost use Rattle.sd_base.specs.Scenarios.{shared_count};
 ghost use Rattle.automaton.specs.TimedGraphs.{AreSized};
 
-use automaton::{Edge, GraphError, TimedGraph, leads_on, product, worst_is_shown};
+use crate::shared::rows_of;
+use automaton::{Edge, GraphError, TimedGraph, is_run, leads_on, needed, product, worst_is_shown};
 use sd_base::{GraphFile, Kind, Rows, ScenarioFile, ScenarioRow, SharedRow, StateRow, Text};
 use std::alloc::{AllocError, Global};
 use std::process::Abort;
@@ -44,12 +45,10 @@ fn file(alloc: Global, states: &[(u32, &[u32])], initial: u32) -> Result<Scenari
 }
 
 /// A matrix of two rows and columns.
-fn matrix(rt: &impl Abort, alloc: Global, entries: [[Option<u64>; 2]; 2]) -> Result<Matrix, Fail> {
-    let mut rows = Rows::new(alloc);
-    for row in entries {
-        rows.push(Rows::from_vec(Vec::from_slice(alloc, &row)?))?;
-    }
-    match Matrix::new(rows) {
+fn matrix(rt: &impl Abort, alloc: Global, entries: [[Option<u32>; 2]; 2]) -> Result<Matrix, Fail> {
+    let [first, second] = entries;
+    let rows: [&[Option<u32>]; 2] = [&first, &second];
+    match Matrix::new(rows_of(alloc, &rows)?) {
         Some(matrix) => Ok(matrix),
         None => panic!(rt; "two rows of two entries"),
     }
@@ -64,10 +63,22 @@ fn share_two(shared: &[SharedRow]) -> bool
     }
 }
 
-fn are_two_by_two(matrices: &[Matrix]) -> bool
-    ensures { result ≡ true → AreSized 2 matrices.now }
+/// Whether each state runs a scenario whose matrix has two rows.
+fn are_two_by_two(matrices: &[Matrix], states: &[StateRow]) -> bool
+    ensures { result ≡ true → AreSized 2 matrices.now states.now }
 {
-    matrices.iter().all(|matrix| matrix.size() == 2)
+    for place in 0..states.len() {
+        if !has_two_rows(matrices, states[place].scenario) {
+            return false;
+        }
+    }
+    true
+}
+
+fn has_two_rows(matrices: &[Matrix], scenario: u32) -> bool
+    ensures { result ≡ true → length (slice_index_or matrices.now scenario []) ≡ 2 }
+{
+    (scenario as usize) < matrices.len() && matrices[scenario as usize].size() == 2
 }
 
 fn graph_of(
@@ -78,7 +89,7 @@ fn graph_of(
 ) -> Result<TimedGraph, GraphError> {
     assert!(rt; leads_on(file));
     assert!(rt; share_two(file.shared.as_slice()));
-    assert!(rt; are_two_by_two(matrices));
+    assert!(rt; are_two_by_two(matrices, file.states.as_slice()));
     assert!(rt; matrices.len() == file.scenarios.len());
     assert!(rt; file.states.len() <= 256);
     product(alloc, file, matrices)
@@ -117,6 +128,29 @@ fn two_states_with_two_tokens(rt: HostRuntime) -> Result<(), Fail> {
         },
     }
     worst_is_shown();
+    Ok(())
+}
+
+/// No state runs the slow scenario, whose matrix isn't kept.
+#[test]
+fn a_scenario_that_is_not_run_has_no_edges(rt: HostRuntime) -> Result<(), Fail> {
+    let file = file(rt.alloc(), &[(0, &[0])], 0)?;
+    assert!(rt; is_run(&file, 0));
+    assert!(rt; !is_run(&file, 1));
+    let fast = matrix(&rt, rt.alloc(), [[None, Some(0)], [Some(3), Some(4)]])?;
+    let slow = matrix(&rt, rt.alloc(), [[Some(7), None], [None, Some(9)]])?;
+    let mut matrices = Vec::new(rt.alloc());
+    let slow = needed(rt.alloc(), &file, 1, slow);
+    assert_eq!(rt; slow.size(), 0);
+    matrices.push(needed(rt.alloc(), &file, 0, fast))?;
+    matrices.push(slow)?;
+    match graph_of(&rt, rt.alloc(), &file, &matrices) {
+        Err(_error) => panic!(rt; "three edges"),
+        Ok(graph) => {
+            assert_eq!(rt; graph.tokens, 2);
+            assert_eq!(rt; graph.edges.len(), 3);
+        },
+    }
     Ok(())
 }
 

@@ -8,11 +8,11 @@ ghost use Rattle.test_scenarios.specs.Sharing.{BeginWith, IsEntered, IsOf};
 
 use balance::repetition;
 use firing::{Firing, SdfNet};
-use sd_base::{ChannelRow, GraphFile, SharedRow};
-use std::alloc::Global;
+use sd_base::{ChannelRow, GraphFile, Rows, SharedRow};
+use std::alloc::{AllocError, Global};
 use std::process::Abort;
 use test_nets::is_lawful;
-use token_matrix::{Matrix, MatrixError, matrix_of};
+use token_matrix::{Entry, Matrix, MatrixError, matrix_of};
 
 /// The matrix of a graph whose first channels are the shared ones, in order.
 pub(crate) fn matrix(
@@ -131,4 +131,31 @@ fn is_new(channels: &[ChannelRow], place: usize, name: &str) -> bool
         }
     }
     true
+}
+
+/// Rows of these entries, as many to a row.
+pub(crate) fn rows_of(
+    alloc: Global,
+    rows: &[&[Option<u32>]],
+) -> Result<Rows<Rows<Entry>>, AllocError> {
+    let mut list = Rows::new(alloc);
+    for row in rows {
+        list.push(row_of(alloc, *row)?)?;
+    }
+    Ok(list)
+}
+
+fn row_of(alloc: Global, entries: &[Option<u32>]) -> Result<Rows<Entry>, AllocError> {
+    let mut row = Rows::new(alloc);
+    for entry in entries {
+        row.push(place_of(*entry))?;
+    }
+    Ok(row)
+}
+
+fn place_of(entry: Option<u32>) -> Entry {
+    match entry {
+        Some(entry) => Entry::new(u64::from(entry)),
+        None => Entry::none(),
+    }
 }

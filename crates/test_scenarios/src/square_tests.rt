@@ -1,16 +1,6 @@
-use sd_base::Rows;
-use std::alloc::{AllocError, Global};
+use crate::shared::rows_of;
 use std::test::Fail;
 use token_matrix::{Matrix, matrices_are_one};
-
-/// Rows of these entries, as many to a row.
-fn rows_of(alloc: Global, rows: &[&[Option<u64>]]) -> Result<Rows<Rows<Option<u64>>>, AllocError> {
-    let mut list = Rows::new(alloc);
-    for row in rows {
-        list.push(Rows::from_vec(Vec::from_slice(alloc, *row)?))?;
-    }
-    Ok(list)
-}
 
 #[test]
 fn a_square_has_its_entries(rt: HostRuntime) -> Result<(), Fail> {
@@ -38,5 +28,13 @@ fn other_rows_make_no_matrix(rt: HostRuntime) -> Result<(), Fail> {
     assert!(rt; Matrix::new(wide).is_none(), "one row of two entries");
     let uneven = rows_of(rt.alloc(), &[&[Some(1), None], &[Some(2)]])?;
     assert!(rt; Matrix::new(uneven).is_none(), "a second row of one entry");
+    Ok(())
+}
+
+#[test]
+fn an_empty_matrix_has_no_rows(rt: HostRuntime) -> Result<(), Fail> {
+    let matrix = Matrix::empty(rt.alloc());
+    assert_eq!(rt; matrix.size(), 0);
+    assert!(rt; matrix.rows().is_empty());
     Ok(())
 }

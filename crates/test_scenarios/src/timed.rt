@@ -1,5 +1,5 @@
 ghost use Rattle.std.specs.Prelude.{◌≡◌, ◌*◌, ◌≤◌, ◌<◌, ℕ, All, true, length};
-ghost use Rattle.scenario_rate.specs.Graphs.{Grows, IsSound, node_count};
+ghost use Rattle.automaton.specs.SoundGraphs.{Grows, IsSound, node_count};
 ghost use Rattle.test_scenarios.specs.Leading.{IsInside, LeadsFrom};
 
 use automaton::{Edge, TimedGraph};

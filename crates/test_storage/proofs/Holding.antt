@@ -3,7 +3,6 @@ use Rattle.std.proofs.Common.{◌≡◌, ℕ, suc, ◌≤◌, ◌<◌, Option, N
 use Rattle.std.specs.Prelude.{slice_index_or, ◌≢◌}
 use Rattle.sd_base.specs.declared.limits.TheConstants.{NET_TOKENS}
 use Rattle.sd_base.specs.Net.{Channel, nowhere}
-use Rattle.storage.specs.BoundedNets.{spaces_from}
 use Rattle.storage.specs.Distributions.{CanHold}
 
 -- the channel can hold the entry
@@ -18,9 +17,3 @@ can-hold (c ∷ cs) (None ∷ ds) few all = can-hold cs ds (omega arith) (λ i b
 can-hold (c ∷ cs) (Some k ∷ ds) few all =
     let here = all 0 (omega arith) k refl in
     (here.0, here.1, here.2, can-hold cs ds (omega arith) (λ i below. all (suc i) (omega arith)))
-
-pub spaces-few : (n : ℕ) (cs : List Channel) (ds : List (Option ℕ)) → length (spaces_from n cs ds) ≤ length ds
-spaces-few n [] ds = omega arith
-spaces-few n (c ∷ cs) [] = omega arith
-spaces-few n (c ∷ cs) (None ∷ ds) = let later = spaces-few (suc n) cs ds in omega (arith, later)
-spaces-few n (c ∷ cs) (Some k ∷ ds) = let later = spaces-few (suc n) cs ds in omega (arith, later)

@@ -1,4 +1,3 @@
-pub mod Words
 pub mod LaterRows
 pub mod Batches
 pub mod Lines

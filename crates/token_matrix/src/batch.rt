@@ -1,7 +1,7 @@
 //! Tokens that have one row.
 ghost use Rattle.std.specs.Prelude.{◌≡◌, ◌≤◌, ◌++◌, OnOk, replicate};
 
-use crate::entries::{Entry, spelled};
+use crate::entries::{Entry, copied};
 use sd_base::{NoMemory, Rows};
 use std::alloc::Global;
 use std::rc::Rc;
@@ -17,15 +17,11 @@ pub(crate) struct Batch {
 
 impl Batch {
     /// Adds the row once for each token.
-    pub(crate) fn spell(
-        &self,
-        alloc: Global,
-        rows: &mut Rows<Rows<Option<u64>>>,
-    ) -> Result<(), NoMemory>
+    pub(crate) fn spell(&self, alloc: Global, rows: &mut Rows<Rows<Entry>>) -> Result<(), NoMemory>
         ensures { OnOk result (rows.new ≡ rows.old ++ replicate self.now.tokens self.now.row.value) }
     {
         for _ in 0..self.tokens {
-            rows.push(spelled(alloc, self.row.as_ref().as_slice())?)?;
+            rows.push(copied(alloc, self.row.as_ref().as_slice())?)?;
         }
         Ok(())
     }

@@ -8,9 +8,10 @@ use sd_base::{NoMemory, Rows};
 use std::alloc::Global;
 use std::marker::Model;
 
-/// A place of a row: an entry, or none. It takes one word, and of two places the later has the greater word.
+/// A place of a row of a matrix: an entry, in time units, or none. It takes one word, and of two places the later has
+/// the greater word. Contracts see it as an option.
 #[derive(Clone, Copy, Debug)]
-pub(crate) struct Entry {
+pub struct Entry {
     /// One more than the entry; 0 where there is none.
     word: u64,
 }
@@ -20,7 +21,7 @@ impl Model for Entry {
 
     ghost Value = { Option ℕ };
 
-    ghost use Rattle.token_matrix.specs.inside.Words.{entry_of, word_of, same_word};
+    ghost use Rattle.token_matrix.specs.Words.{entry_of, word_of, same_word};
 
     ghost view = { λ e. entry_of e.word };
 
@@ -31,13 +32,14 @@ impl Model for Entry {
 
 impl Entry {
     /// No entry.
-    fn none() -> Entry
+    pub fn none() -> Entry
         ensures { result ≡ None }
     {
         Entry { word: 0 }
     }
 
-    fn new(entry: u64) -> Entry
+    /// An entry, in time units. The greatest `u64` has no word; no entry of a scenario's matrix comes near it.
+    pub fn new(entry: u64) -> Entry
         requires { entry + 1 < 2 ^ 64 }
         ensures { result ≡ Some entry }
     {
@@ -45,7 +47,7 @@ impl Entry {
     }
 
     /// The entry, if there is one.
-    pub(crate) fn get(self) -> Option<u64>
+    pub fn get(self) -> Option<u64>
         ensures { result ≡ self }
     {
         if self.word == 0 {
@@ -115,13 +117,10 @@ pub(crate) fn free_row(alloc: Global, size: usize) -> Result<Vec<Entry>, NoMemor
     Ok(row)
 }
 
-/// The entries of a row, place by place.
-pub(crate) fn spelled(alloc: Global, row: &[Entry]) -> Result<Rows<Option<u64>>, NoMemory>
+/// A row with the same entries.
+pub(crate) fn copied(alloc: Global, row: &[Entry]) -> Result<Rows<Entry>, NoMemory>
     ensures { IfOk result (λ list. list ≡ row.now) }
 {
-    let mut list = Vec::with_capacity(alloc, row.len())?;
-    for entry in row {
-        list.push(entry.get())?;
-    }
+    let list = Vec::from_slice(alloc, row)?;
     Ok(Rows::from_vec(list))
 }

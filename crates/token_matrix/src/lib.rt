@@ -9,6 +9,7 @@ mod making;
 mod matrix;
 mod round;
 
+pub use entries::Entry;
 pub use laws::{entries_are_longest_ways, matrices_are_one};
 pub use making::{MatrixError, first_token, matrix_of};
 pub use matrix::Matrix;

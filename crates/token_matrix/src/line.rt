@@ -95,11 +95,7 @@ impl Line {
     }
 
     /// Adds the row of each token, in order.
-    pub(crate) fn spell(
-        &self,
-        alloc: Global,
-        rows: &mut Rows<Rows<Option<u64>>>,
-    ) -> Result<(), NoMemory>
+    pub(crate) fn spell(&self, alloc: Global, rows: &mut Rows<Rows<Entry>>) -> Result<(), NoMemory>
         ensures { OnOk result (rows.new ≡ rows.old ++ self.now) }
     {
         for place in 0..self.batches.len() {

@@ -14,7 +14,7 @@ ghost use Rattle.token_matrix.specs.Stamps.{first_token};
 ghost use Rattle.token_matrix.specs.inside.Tokens.{AreFirstLines, IsFirstLine, IsNumberOf, AreHeld, AreLeftRows};
 ghost use Rattle.token_matrix.specs.declared.making.MatrixError.TheVariants.{NoMemory};
 
-use crate::entries::unit_row;
+use crate::entries::{Entry, unit_row};
 use crate::line::Line;
 use crate::matrix::Matrix;
 use crate::round::run_round;
@@ -54,7 +54,8 @@ impl From<NoMemory> for MatrixError {
 /// The matrix of a scenario's graph with its repetition vector, over the tokens that scenarios share: a round is
 /// carried out once on rows, one for each batch of tokens that is there (Geilen and Stuijk, 2010). Cost: the firings
 /// of a round, times the channels of the actors fired, times the shared tokens; memory of a row, a word for each shared
-/// token, for each firing of which tokens are there at one time, and of two words for each of its channels.
+/// token, for each firing of which tokens are there at one time, and of two words for each of its channels, and of a
+/// word for each entry of the matrix.
 pub fn matrix_of(
     alloc: Global,
     graph: &GraphFile,
@@ -217,7 +218,7 @@ fn left_rows(
     graph: &GraphFile,
     shared: &[SharedRow],
     lines: &[Line],
-) -> Result<Rows<Rows<Option<u64>>>, NoMemory>
+) -> Result<Rows<Rows<Entry>>, NoMemory>
     requires shares { Shares shared.now graph.now }
     requires long { length lines.now ≡ length graph.now.channels }
     requires held { AreHeld graph.now lines.now }

@@ -6,7 +6,7 @@ use Rattle.balance.specs.declared.walk.Link.{Link}
 use Rattle.balance.specs.declared.search.Found.{Found}
 use Rattle.balance.specs.declared.search.Reach.{Reach}
 use Rattle.balance.specs.inside.Lists.{list_at, appended}
-use Rattle.balance.specs.Walks.{IsWalk, IsWay, Precedes, step_to, step_from, turned}
+use Rattle.balance.specs.Walks.{IsLinkWalk, IsWay, Precedes, step_to, step_from, turned}
 use Rattle.balance.specs.Repetition.{IsParted}
 
 -- a channel is put on the lists of both its ends, where these are two
@@ -55,15 +55,15 @@ pub record Entry : Type 0 where
   pub way : List WalkStep
 
 -- an entry's way is that of the place from which it was reached, and the step
-abbrev pub IsReached : List Entry → ℕ → Entry → Reach → Type 0
-IsReached es j e r = (r.place < j) × (d : Entry) × (slice_get es r.place ≡ Some d) × (e.way ≡ d.way ++ r.step ∷ [])
+abbrev pub IsReachedEntry : List Entry → ℕ → Entry → Reach → Type 0
+IsReachedEntry es j e r = (r.place < j) × (d : Entry) × (slice_get es r.place ≡ Some d) × (e.way ≡ d.way ++ r.step ∷ [])
 
 -- the entries of what was found; their ways are read off by the places before them
 pub record AreEntries (found : List Found) (es : List Entry) : Type 0 where
   pub size : length es ≡ length found
   pub actor : (j : ℕ) (x : Found) (e : Entry) → slice_get found j ≡ Some x → slice_get es j ≡ Some e → e.actor ≡ x.actor
   pub root : (j : ℕ) (x : Found) (e : Entry) → slice_get found j ≡ Some x → slice_get es j ≡ Some e → x.reach ≡ None → e.way ≡ []
-  pub reached : (j : ℕ) (x : Found) (e : Entry) (r : Reach) → slice_get found j ≡ Some x → slice_get es j ≡ Some e → x.reach ≡ Some r → IsReached es j e r
+  pub reached : (j : ℕ) (x : Found) (e : Entry) (r : Reach) → slice_get found j ≡ Some x → slice_get es j ≡ Some e → x.reach ≡ Some r → IsReachedEntry es j e r
 
 -- ways can be read off
 abbrev pub HasEntries : List Found → Type 0
@@ -73,8 +73,8 @@ HasEntries found = (es : List Entry) × AreEntries found es
 pub record IsSearch (ls : List Link) (m : ℕ) (es : List Entry) (seen : ℕ → Bool) (i c : ℕ) : Type 0 where
   pub marked : (v : ℕ) → seen v ≡ true → (j : ℕ) × (x : Entry) × (slice_get es j ≡ Some x) × (x.actor ≡ v)
   pub listed : (j : ℕ) (x : Entry) → slice_get es j ≡ Some x → seen x.actor ≡ true
-  pub walks : (j : ℕ) (x : Entry) → slice_get es j ≡ Some x → IsWalk ls 0 x.way x.actor
-  pub least : (j : ℕ) (x : Entry) (ss : List WalkStep) → slice_get es j ≡ Some x → IsWalk ls 0 ss x.actor →
+  pub walks : (j : ℕ) (x : Entry) → slice_get es j ≡ Some x → IsLinkWalk ls 0 x.way x.actor
+  pub least : (j : ℕ) (x : Entry) (ss : List WalkStep) → slice_get es j ≡ Some x → IsLinkWalk ls 0 ss x.actor →
       key_from m 0 x.way ≤ key_from m 0 ss
   pub rising : (j k : ℕ) (x y : Entry) → slice_get es j ≡ Some x → slice_get es k ≡ Some y → j < k →
       key_from m 0 x.way < key_from m 0 y.way
@@ -119,7 +119,7 @@ pub record IsTree (ls : List Link) (actors : ℕ) (es : List Entry) (seen : List
   pub ways : (j : ℕ) (x : Entry) → slice_get es j ≡ Some x → IsWay ls x.actor x.way
   pub rising : (j k : ℕ) (x y : Entry) → slice_get es j ≡ Some x → slice_get es k ≡ Some y → j ≤ k → Precedes x.way y.way
   pub apart : (j k : ℕ) (x y : Entry) → slice_get es j ≡ Some x → slice_get es k ≡ Some y → j < k → x.actor ≡ y.actor → ⊥
-  pub whole : (ss : List WalkStep) (v : ℕ) → IsWalk ls 0 ss v → mark_at seen v ≡ true
+  pub whole : (ss : List WalkStep) (v : ℕ) → IsLinkWalk ls 0 ss v → mark_at seen v ≡ true
   pub marked : (v : ℕ) → mark_at seen v ≡ true → (j : ℕ) × (x : Entry) × (slice_get es j ≡ Some x) × (x.actor ≡ v)
   pub within : (j : ℕ) (x : Entry) → slice_get es j ≡ Some x → x.actor < actors
   pub size : length seen ≡ actors

@@ -2,20 +2,20 @@
 use Rattle.std.specs.Prelude.{◌≡◌, ℕ, ◌+◌, ◌*◌, ◌≤◌, ◌<◌, ℤ, pos, ◌+ℤ◌, ◌≤ℤ◌, List, length, slice_index_or, Some}
 use Rattle.automaton.specs.declared.graph.Edge.{Edge}
 use Rattle.automaton.specs.declared.graph.TimedGraph.{TimedGraph}
-use Rattle.automaton.specs.CriticalCycles.{IsReached}
+use Rattle.automaton.specs.CriticalCycles.{IsReachedNode}
 use Rattle.cert_checker.specs.ListedNodes.{IsNode, node_at, potential_of}
 
 -- the first k potentials are those of the reachable nodes below v
 pub record UpTo (graph : TimedGraph) (ps : List (ℕ × ℕ × ℤ)) (v k : ℕ) : Type 0 where
   pub within : k ≤ length ps
   pub known : (i : ℕ) → i < k → IsNode graph ((slice_index_or ps i (0, 0, pos 0)).0, (slice_index_or ps i (0, 0, pos 0)).1)
-  pub reached : (i : ℕ) → i < k → IsReached graph (node_at graph ps i)
+  pub reached : (i : ℕ) → i < k → IsReachedNode graph (node_at graph ps i)
   pub below : (i : ℕ) → i < k → node_at graph ps i < v
   pub rise : (i : ℕ) → i + 1 < k → node_at graph ps i < node_at graph ps (i + 1)
-  pub all : (u : ℕ) → u < v → IsReached graph u → (i : ℕ) × (i < k) × (node_at graph ps i ≡ u)
+  pub all : (u : ℕ) → u < v → IsReachedNode graph u → (i : ℕ) × (i < k) × (node_at graph ps i ≡ u)
 
 -- potential k is of node v
-pub record IsNext (graph : TimedGraph) (ps : List (ℕ × ℕ × ℤ)) (v k : ℕ) : Type 0 where
+pub record IsNextPotential (graph : TimedGraph) (ps : List (ℕ × ℕ × ℤ)) (v k : ℕ) : Type 0 where
   pub below : k < length ps
   pub known : IsNode graph ((slice_index_or ps k (0, 0, pos 0)).0, (slice_index_or ps k (0, 0, pos 0)).1)
   pub node : node_at graph ps k ≡ v

@@ -2,7 +2,7 @@
 use Rattle.std.specs.Prelude.{◌≡◌, ℕ, suc, ◌*◌, ◌<◌, ◌↔◌, Bool, true, false, List, [], ◌∷◌, length, slice_get, slice_index_or, Some}
 use Rattle.automaton.specs.declared.graph.Edge.{Edge}
 use Rattle.automaton.specs.declared.graph.TimedGraph.{TimedGraph}
-use Rattle.automaton.specs.CriticalCycles.{IsReached, IsStart}
+use Rattle.automaton.specs.CriticalCycles.{IsReachedNode, IsStart}
 
 abbrev pub mark_at : List Bool → ℕ → Bool
 mark_at marks v = slice_index_or marks v false
@@ -20,7 +20,7 @@ left_of false marks = unmarked marks
 
 -- what is marked can be reached
 abbrev pub AreSoundMarks : TimedGraph → List Bool → Type 0
-AreSoundMarks graph marks = (v : ℕ) → mark_at marks v ≡ true → IsReached graph v
+AreSoundMarks graph marks = (v : ℕ) → mark_at marks v ≡ true → IsReachedNode graph v
 
 -- edge k doesn't lead from a marked node to another one
 abbrev pub IsKept : List Edge → ℕ → List Bool → Type 0
@@ -36,4 +36,4 @@ HasStarts graph marks = (v : ℕ) → IsStart graph v → mark_at marks v ≡ tr
 -- just the reachable nodes are marked
 pub record AreReached (graph : TimedGraph) (marks : List Bool) : Type 0 where
   pub size : length marks ≡ graph.states * graph.tokens
-  pub exact : (v : ℕ) → mark_at marks v ≡ true ↔ IsReached graph v
+  pub exact : (v : ℕ) → mark_at marks v ≡ true ↔ IsReachedNode graph v

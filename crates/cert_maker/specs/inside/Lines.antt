@@ -9,7 +9,7 @@ use Rattle.pareto_front.specs.declared.point.Point.{Point}
 use Rattle.explore.specs.declared.exploration.Member.{Member}
 use Rattle.explore.specs.declared.exploration.Shown.{Shown}
 use Rattle.explore.specs.declared.exploration.Shown.TheVariants.{Cycle, Blocked}
-use Rattle.explore.specs.Explorations.{IsOneOf}
+use Rattle.pareto_front.specs.Offers.{IsOneOf}
 use Rattle.cert_text.specs.declared.certificates.LinkCycle.{LinkCycle}
 use Rattle.cert_text.specs.declared.certificates.MemberShown.{MemberShown}
 use Rattle.cert_text.specs.Orderly.{used_with}
@@ -27,7 +27,7 @@ pub record HasLine (net : Net) (m : Member) : Type 0 where
   pub shown : HasText (bound net m.capacities.capacities) m.shown
 
 -- the cycles after a line: those before it, and a new one if the line shows one
-pub record IsNext (old new : List LinkCycle) (line : MemberShown) : Type 0 where
+pub record AddsCycles (old new : List LinkCycle) (line : MemberShown) : Type 0 where
   pub used : used_with (length old) line ≡ Some (length new)
   pub more : List LinkCycle
   pub begins : new ≡ old ++ more

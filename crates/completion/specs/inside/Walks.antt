@@ -58,7 +58,7 @@ IsSlackOn net times later i = (m : ℕ) → LastNeed (channel_at net i) later.nu
     ¬ (moment_of times (channel_at net i).source m + time_of net (channel_at net i).source m ≡ later.moment)
 
 -- how far a walk has come, back from the last firing of its actor in some rounds, of which there are few
-pub record IsWalk (net : Net) (times : Timetable) (walk : Walk) : Type 0 where
+pub record IsWalkBack (net : Net) (times : Timetable) (walk : Walk) : Type 0 where
   pub rounds : ℕ
   pub few : rounds ≤ ROUNDS
   pub last : IsLastOf net times rounds walk.last

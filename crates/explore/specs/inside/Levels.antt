@@ -3,10 +3,10 @@ use Rattle.std.specs.Prelude.{◌≡◌, ℕ, ◌+◌, ◌≤◌, true, Option, 
 use Rattle.sd_base.specs.declared.limits.TheConstants.{LEAST_STATES, STATES}
 use Rattle.sd_base.specs.Net.{Net}
 use Rattle.sd_base.specs.Counter.{Tally}
-use Rattle.lasso.specs.declared.error.RunError.{RunError}
+use Rattle.lasso.specs.RunError.{RunError}
 use Rattle.firing.specs.Wiring.{IsWiringOf}
 use Rattle.firing.specs.declared.wiring.Wiring.{Wiring}
-use Rattle.liveness.specs.RoundAnswers.{IsReached}
+use Rattle.liveness.specs.RoundAnswers.{AreReachedCounts}
 use Rattle.storage.specs.BoundedNets.{bound}
 use Rattle.storage.specs.Distributions.{IsDistribution}
 use Rattle.storage.specs.declared.distribution.Distribution.{Distribution}
@@ -22,13 +22,13 @@ use Rattle.explore.specs.inside.Rated.{IsRated}
 use Rattle.explore.specs.inside.Starts.{IsHinted}
 
 -- the answer is what is kept of that of `evaluate`, and the counter rose as it says
-abbrev pub IsAnswer : Net → List (Option ℕ) → ℕ → Fraction → ℕ → ℕ → Result Rated RunError → Type 0
-IsAnswer net ds states best before after (Ok r) = (e : Evaluation) × IsEvaluated net ds states e × IsRated best e r × (after ≡ before + loops_run e.outcome)
-IsAnswer net ds states best before after (Err error) = IsRefused net ds states error × (after ≤ before + 1)
+abbrev pub IsKeptAnswer : Net → List (Option ℕ) → ℕ → Fraction → ℕ → ℕ → Result Rated RunError → Type 0
+IsKeptAnswer net ds states best before after (Ok r) = (e : Evaluation) × IsEvaluated net ds states e × IsRated best e r × (after ≡ before + loops_run e.outcome)
+IsKeptAnswer net ds states best before after (Err error) = IsRefused net ds states error × (after ≤ before + 1)
 
 abbrev pub IsAnswered : Net → List (Option ℕ) → ℕ → Fraction → ℕ → ℕ → Option (Result Rated RunError) → Type 0
 IsAnswered net ds states best before after None = ⊥
-IsAnswered net ds states best before after (Some answer) = IsAnswer net ds states best before after answer
+IsAnswered net ds states best before after (Some answer) = IsKeptAnswer net ds states best before after answer
 
 -- a task keeps its distribution and has its answer
 pub record HasRun (net : Net) (capacities : Distribution) (states : ℕ) (best : Fraction) (before : Tally) (now : Distribution) (after : Tally) (answer : Option (Result Rated RunError)) : Type 0 where
@@ -44,7 +44,7 @@ WiresAll net wiring = (ds : List (Option ℕ)) → IsDistribution net.channels d
 pub record IsStartable (net : Net) (wiring : Wiring) (capacities : Distribution) (counts : List ℕ) : Type 0 where
   pub fits : IsEvaluable net capacities.capacities
   pub wired : IsWiringOf (bound net capacities.capacities) wiring
-  pub reached : IsReached (bound net capacities.capacities) counts
+  pub reached : AreReachedCounts (bound net capacities.capacities) counts
 
 -- one that was found can be evaluated, and its hint is of it
 pub record IsVisitable (net : Net) (states : ℕ) (ms : List Member) (f : Found (Option ℕ)) : Type 0 where

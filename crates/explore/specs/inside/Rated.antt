@@ -3,7 +3,7 @@ use Rattle.std.specs.Prelude.{◌≡◌, ℕ, ◌*◌, ◌≤◌, ◌<◌, ◌�
 use Rattle.sd_base.specs.declared.numbers.Fraction.{Fraction}
 use Rattle.sd_base.specs.Net.{Net}
 use Rattle.firing.specs.declared.table.LoopTable.{LoopTable}
-use Rattle.lasso.specs.declared.error.RunError.{RunError}
+use Rattle.lasso.specs.RunError.{RunError}
 use Rattle.storage.specs.Distributions.{storage_of}
 use Rattle.storage.specs.declared.distribution.Distribution.{Distribution}
 use Rattle.pareto_front.specs.declared.point.Point.{Point}
@@ -14,7 +14,7 @@ use Rattle.explore.specs.declared.exploration.Member.{Member}
 use Rattle.explore.specs.declared.exploration.Shown.{Shown}
 use Rattle.explore.specs.declared.exploration.Shown.TheVariants as shows
 use Rattle.explore.specs.declared.rated.Rated.{Rated}
-use Rattle.explore.specs.Explorations.{IsOneOf}
+use Rattle.pareto_front.specs.Offers.{IsOneOf}
 
 -- what an outcome shows
 abbrev pub shown_by : Outcome → Shown

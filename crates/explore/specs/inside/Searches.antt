@@ -10,7 +10,7 @@ use Rattle.storage.specs.Distributions.{IsDistribution, storage_of}
 use Rattle.storage.specs.Steps.{IsCorner, IsOnGrid}
 use Rattle.storage.specs.ClosedLists.{Entry}
 use Rattle.pareto_front.specs.declared.point.Point.{Point}
-use Rattle.pareto_front.specs.Offers.{Offer}
+use Rattle.pareto_front.specs.Offers.{IsOneOf, Offer}
 use Rattle.pareto_front.specs.Points.{IsFrontOf, offer_of}
 use Rattle.guide.specs.Evaluations.{Bounds}
 use Rattle.guide.specs.Guides.{IsInGuide}
@@ -27,7 +27,7 @@ use Rattle.explore.specs.Reachable.{IsReachable}
 use Rattle.explore.specs.declared.extent.Extent.{Extent}
 use Rattle.explore.specs.declared.extent.Extent.TheVariants.{Limit, Fastest}
 use Rattle.explore.specs.Ceilings.{BoundsAll}
-use Rattle.explore.specs.Explorations.{IsMember, IsOneOf, ShowsChannel, shows_cycle}
+use Rattle.explore.specs.Explorations.{IsMember, ShowsChannel, shows_cycle}
 
 -- a distribution on the grid and within the limit that can be reached
 pub record IsCandidate (net : Net) (limit : ℕ) (ds : List (Option ℕ)) : Type 0 where

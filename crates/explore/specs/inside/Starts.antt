@@ -3,7 +3,7 @@ use Rattle.std.specs.Prelude.{◌≡◌, ℕ, Option, None, Some, List, length, 
 use Rattle.sd_base.specs.Net.{Net}
 use Rattle.sd_base.specs.Lawful.{Lawful}
 use Rattle.sd_base.specs.Untimed.{IsLive}
-use Rattle.liveness.specs.RoundAnswers.{IsReached}
+use Rattle.liveness.specs.RoundAnswers.{AreReachedCounts}
 use Rattle.storage.specs.Distributions.{AtMost}
 use Rattle.explore.specs.declared.exploration.Member.{Member}
 use Rattle.explore.specs.declared.exploration.Shown.{Shown}
@@ -13,8 +13,8 @@ use Rattle.explore.specs.Explorations.{IsMember}
 
 -- the first counts are reached in each net of so many actors, the others in each live net of the same round
 pub record AreStarts (net : Net) (starts : Starts) : Type 0 where
-  pub none : (other : Net) → length other.times ≡ length net.times → IsReached other starts.none
-  pub whole : (other : Net) → Lawful other → other.round ≡ net.round → IsLive other → IsReached other starts.whole
+  pub none : (other : Net) → length other.times ≡ length net.times → AreReachedCounts other starts.none
+  pub whole : (other : Net) → Lawful other → other.round ≡ net.round → IsLive other → AreReachedCounts other starts.whole
 
 -- the counts that what a member shows gives
 abbrev pub counts_at : Starts → Shown → List ℕ

@@ -13,7 +13,7 @@ use Rattle.levels.specs.Frontiers.{IsFoundBy, IsOver, Rises, StandsIn, StopsAt, 
 
 module _ {H : Type 0} where
   -- those that wait are in order, and the first one needs this storage
-  pub record IsNext (total : ℕ) (fs : List (Found H)) : Type 0 where
+  pub record IsNextTotal (total : ℕ) (fs : List (Found H)) : Type 0 where
     pub first : Found H
     pub rest : List (Found H)
     pub are : fs ≡ first ∷ rest

@@ -1,13 +1,13 @@
 -- What the passes keep of a cycle, and what they end with.
 use Rattle.std.specs.Prelude.{◌≡◌, ℕ, ◌*◌, ◌≤◌, ◌<◌, ℤ, ◌≤ℤ◌, length, Option, Some}
 use Rattle.automaton.specs.declared.graph.TimedGraph.{TimedGraph}
-use Rattle.automaton.specs.CriticalCycles.{IsReached, IsCritical, Fit}
+use Rattle.automaton.specs.CriticalCycles.{IsReachedNode, IsCritical, Fit}
 use Rattle.scenario_rate.specs.declared.passes.Best.{Best}
 use Rattle.scenario_rate.specs.declared.passes.Turn.{Turn}
 use Rattle.scenario_rate.specs.declared.passes.Turn.TheVariants.{Settled, Gains}
 use Rattle.scenario_rate.specs.inside.Searches.{AreLevels, IsLastOf}
 use Rattle.scenario_rate.specs.declared.answer.Worst.{Worst}
-use Rattle.scenario_rate.specs.Graphs.{node_count}
+use Rattle.automaton.specs.SoundGraphs.{node_count}
 use Rattle.scenario_rate.specs.ChosenCycles.{IsChosen}
 use Rattle.scenario_rate.specs.Answers.{potential_at, IsApart}
 
@@ -21,14 +21,14 @@ pub record IsBest (graph : TimedGraph) (best : Best) : Type 0 where
   pub slow : best.rate.den ≤ best.rate.num * 100000000000000
 
 -- a critical cycle, and the least potentials that fit
-pub record IsAnswer (graph : TimedGraph) (r : Worst) : Type 0 where
+pub record ShowsWorst (graph : TimedGraph) (r : Worst) : Type 0 where
   pub critical : IsCritical graph r.rate.num r.rate.den r.cycle
   pub apart : IsApart graph.edges r.cycle
   pub chosen : IsChosen graph r.rate.num r.rate.den (potential_at r.potentials) r.cycle
   pub some_round : 1 ≤ r.rate.num
   pub fit : Fit graph r.rate.num r.rate.den (potential_at r.potentials)
   pub count : length r.potentials ≡ node_count graph
-  pub reached : (v : ℕ) (x : ℤ) → potential_at r.potentials v ≡ Some x → IsReached graph v
+  pub reached : (v : ℕ) (x : ℤ) → potential_at r.potentials v ≡ Some x → IsReachedNode graph v
   pub least : (q : ℕ → Option ℤ) → Fit graph r.rate.num r.rate.den q → (v : ℕ) (x y : ℤ) → potential_at r.potentials v ≡ Some x → q v ≡ Some y → x ≤ℤ y
 
 -- what a rate comes to: levels that settle at it, or a cycle that gains on it

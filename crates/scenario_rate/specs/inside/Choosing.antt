@@ -14,9 +14,9 @@ abbrev pub AreKnown : List Edge → List ℕ → Type 0
 AreKnown es ts = (i k : ℕ) → slice_get ts i ≡ Some k → k < length es
 
 -- a walk over edges of the list
-abbrev pub IsWalk : List Edge → List ℕ → ℕ → List ℕ → ℕ → Type 0
-IsWalk es ts u [] v = u ≡ v
-IsWalk es ts u (k ∷ ks) v = (e : Edge) × (slice_get es k ≡ Some e) × (u ≡ e.from) × IsAmong ts k × IsWalk es ts e.to ks v
+abbrev pub IsWalkAmong : List Edge → List ℕ → ℕ → List ℕ → ℕ → Type 0
+IsWalkAmong es ts u [] v = u ≡ v
+IsWalkAmong es ts u (k ∷ ks) v = (e : Edge) × (slice_get es k ≡ Some e) × (u ≡ e.from) × IsAmong ts k × IsWalkAmong es ts e.to ks v
 
 -- a closed walk over edges of the list
 pub record HasCycle (es : List Edge) (ts : List ℕ) (nodes : ℕ) : Type 0 where
@@ -24,16 +24,16 @@ pub record HasCycle (es : List Edge) (ts : List ℕ) (nodes : ℕ) : Type 0 wher
   pub inside : node < nodes
   pub walk : List ℕ
   pub some : 1 ≤ length walk
-  pub closed : IsWalk es ts node walk node
+  pub closed : IsWalkAmong es ts node walk node
 
 -- the closed walk that is chosen
 pub record IsChosenOf (es : List Edge) (ts : List ℕ) (cycle : List ℕ) : Type 0 where
   pub node : ℕ
-  pub closed : IsWalk es ts node cycle node
+  pub closed : IsWalkAmong es ts node cycle node
   pub some : 1 ≤ length cycle
-  pub least_node : (v : ℕ) (ks : List ℕ) → 1 ≤ length ks → IsWalk es ts v ks v → node ≤ v
-  pub fewest : (ks : List ℕ) → 1 ≤ length ks → IsWalk es ts node ks node → length cycle ≤ length ks
-  pub least : (ks : List ℕ) → length ks ≡ length cycle → IsWalk es ts node ks node → IsNoLater (nodes_of es cycle) (nodes_of es ks)
+  pub least_node : (v : ℕ) (ks : List ℕ) → 1 ≤ length ks → IsWalkAmong es ts v ks v → node ≤ v
+  pub fewest : (ks : List ℕ) → 1 ≤ length ks → IsWalkAmong es ts node ks node → length cycle ≤ length ks
+  pub least : (ks : List ℕ) → length ks ≡ length cycle → IsWalkAmong es ts node ks node → IsNoLater (nodes_of es cycle) (nodes_of es ks)
 
 abbrev pub steps_at : List (Option ℕ) → ℕ → Option ℕ
 steps_at steps v = slice_index_or steps v None
@@ -44,7 +44,7 @@ IsWithin steps v n = (d : ℕ) × (steps_at steps v ≡ Some d) × (d ≤ n)
 
 -- each node's steps are those of a walk to the root
 abbrev pub AreWalked : List Edge → List ℕ → ℕ → List (Option ℕ) → Type 0
-AreWalked es ts root steps = (v d : ℕ) → steps_at steps v ≡ Some d → (ks : List ℕ) × IsWalk es ts v ks root × (length ks ≡ d)
+AreWalked es ts root steps = (v d : ℕ) → steps_at steps v ≡ Some d → (ks : List ℕ) × IsWalkAmong es ts v ks root × (length ks ≡ d)
 
 -- no steps are more than n
 abbrev pub AreFew : ℕ → List (Option ℕ) → Type 0
@@ -55,7 +55,7 @@ pub record IsDistance (es : List Edge) (ts : List ℕ) (nodes root : ℕ) (steps
   pub long : length steps ≡ nodes
   pub walked : AreWalked es ts root steps
   pub few : AreFew nodes steps
-  pub near : (v : ℕ) (ks : List ℕ) → IsWalk es ts v ks root → length ks ≤ nodes → IsWithin steps v (length ks)
+  pub near : (v : ℕ) (ks : List ℕ) → IsWalkAmong es ts v ks root → length ks ≤ nodes → IsWithin steps v (length ks)
 
 -- steps are missing, or more than n
 abbrev pub IsFarther : Option ℕ → ℕ → Type 0
@@ -102,7 +102,7 @@ pub record IsFewest (es : List Edge) (ts : List ℕ) (steps : List (Option ℕ))
   pub count : r ≡ steps_there + 1
 
 -- k is an edge to a node that is so many steps away, with the least end of the first n edges of a list
-pub record IsNext (es : List Edge) (ts : List ℕ) (steps : List (Option ℕ)) (left n number : ℕ) : Type 0 where
+pub record IsNextEdge (es : List Edge) (ts : List ℕ) (steps : List (Option ℕ)) (left n number : ℕ) : Type 0 where
   pub among : IsAmong ts number
   pub edge : Edge
   pub is : slice_get es number ≡ Some edge
@@ -117,14 +117,14 @@ NoneNext es ts steps left n = (i k : ℕ) (e : Edge) → i < n → slice_get ts 
 pub record IsOnWay (es : List Edge) (ts : List ℕ) (steps : List (Option ℕ)) (nodes root node left : ℕ) : Type 0 where
   pub distance : IsDistance es ts nodes root steps
   pub small : left ≤ nodes + 1
-  pub here : (ks : List ℕ) × IsWalk es ts node ks root × (length ks ≡ left)
-  pub fewest : (ks : List ℕ) → 1 ≤ length ks → IsWalk es ts node ks root → left ≤ length ks
+  pub here : (ks : List ℕ) × IsWalkAmong es ts node ks root × (length ks ≡ left)
+  pub fewest : (ks : List ℕ) → 1 ≤ length ks → IsWalkAmong es ts node ks root → left ≤ length ks
 
 -- of the walks of so many edges from a node to the root the one with the least list of nodes
 pub record IsLeastWay (es : List Edge) (ts : List ℕ) (root node left : ℕ) (ks : List ℕ) : Type 0 where
-  pub walk : IsWalk es ts node ks root
+  pub walk : IsWalkAmong es ts node ks root
   pub long : length ks ≡ left
-  pub least : (others : List ℕ) → length others ≡ left → IsWalk es ts node others root → IsNoLater (nodes_of es ks) (nodes_of es others)
+  pub least : (others : List ℕ) → length others ≡ left → IsWalkAmong es ts node others root → IsNoLater (nodes_of es ks) (nodes_of es others)
 
 -- two cells are as far apart as an edge brings them
 abbrev pub IsEven : ℕ → ℕ → Edge → Option Cell → Option Cell → Type 0

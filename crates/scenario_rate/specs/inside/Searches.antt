@@ -6,7 +6,7 @@ use Rattle.automaton.specs.CriticalCycles.{IsPath, IsStart, weights}
 use Rattle.scenario_rate.specs.declared.levels.Cell.{Cell}
 use Rattle.scenario_rate.specs.declared.search.Outcome.{Outcome}
 use Rattle.scenario_rate.specs.declared.search.Outcome.TheVariants.{Settled, Raised}
-use Rattle.scenario_rate.specs.Graphs.{node_count}
+use Rattle.automaton.specs.SoundGraphs.{node_count}
 use Rattle.scenario_rate.specs.inside.Levels.{cell_at, IsFirst, IsRaised, AreSettled, AreSmall}
 
 -- a walk of at most k edges from a node of the initial state to v has this score at level k

@@ -75,13 +75,13 @@ IsRateRefusal file ds Edges = HasTooManyEdges file ds
 IsRateRefusal file ds NoMemory = Unit {0}
 
 -- what the evaluation of a distribution gives
-abbrev pub IsAnswer : ScenarioFile → ScenarioLimits → Fraction → List (Option ℕ) → Result Rated RateError → Type 0
-IsAnswer file limits best ds (Ok r) = IsRated file limits.total best ds r
-IsAnswer file limits best ds (Err e) = IsRateRefusal file ds e
+abbrev pub IsRatingAnswer : ScenarioFile → ScenarioLimits → Fraction → List (Option ℕ) → Result Rated RateError → Type 0
+IsRatingAnswer file limits best ds (Ok r) = IsRated file limits.total best ds r
+IsRatingAnswer file limits best ds (Err e) = IsRateRefusal file ds e
 
 abbrev pub IsAnswered : ScenarioFile → ScenarioLimits → Fraction → List (Option ℕ) → Option (Result Rated RateError) → Type 0
 IsAnswered file limits best ds None = ⊥
-IsAnswered file limits best ds (Some answer) = IsAnswer file limits best ds answer
+IsAnswered file limits best ds (Some answer) = IsRatingAnswer file limits best ds answer
 
 -- a distribution may be evaluated
 pub record IsReady (file : ScenarioFile) (gammas : List (List ℕ)) (limits : ScenarioLimits) (d : Distribution) : Type 0 where

@@ -9,7 +9,7 @@ use Rattle.token_matrix.specs.Matrices.{IsMatrix}
 use Rattle.token_matrix.specs.declared.making.MatrixError.{MatrixError}
 use Rattle.token_matrix.specs.declared.making.MatrixError.TheVariants.{Limit, Blocked, NoMemory}
 use Rattle.automaton.specs.declared.graph.TimedGraph.{TimedGraph}
-use Rattle.automaton.specs.TimedGraphs.{AreMatrices, IsTimedGraph}
+use Rattle.automaton.specs.TimedGraphs.{AreKept, AreMatrices, IsTimedGraph}
 use Rattle.bounded_scenarios.specs.BoundedFiles.{bounded_file, bounded_graph}
 use Rattle.bounded_scenarios.specs.StorageRates.{AllRun, RunsOn, bounded_net}
 use Rattle.scenario_storage.specs.declared.rating.Measured.{Measured}
@@ -56,9 +56,15 @@ pub record AreAllMatrices (file : ScenarioFile) (ds : List (Option ℕ)) (matric
   pub runs : AllRun file ds
   pub are : AreMatrices (bounded_file file ds) matrices
 
+-- of those the matrices that the timed graph needs are kept
+pub record AreKeptMatrices (file : ScenarioFile) (ds : List (Option ℕ)) (kept : List (List (List (Option ℕ)))) : Type 0 where
+  pub matrices : List (List (List (Option ℕ)))
+  pub all : AreAllMatrices file ds matrices
+  pub are : AreKept (bounded_file file ds) matrices kept
+
 abbrev pub IsMeasured : ScenarioFile → List (List ℕ) → List (Option ℕ) → Measured → Type 0
 IsMeasured file gammas ds (measured.Blocked s counts) = IsBlockedAt file gammas ds s counts
-IsMeasured file gammas ds (measured.Live matrices) = AreAllMatrices file ds matrices.items
+IsMeasured file gammas ds (measured.Live matrices) = AreKeptMatrices file ds matrices.items
 
 -- the timed graph of the bounded file, within its limits
 pub record IsGraphOf (file : ScenarioFile) (ds : List (Option ℕ)) (graph : TimedGraph) : Type 0 where

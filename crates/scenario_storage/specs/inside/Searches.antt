@@ -21,7 +21,7 @@ use Rattle.scenario_storage.specs.declared.rated.Evidence.{Evidence}
 use Rattle.scenario_storage.specs.declared.rated.Rated.{Rated}
 use Rattle.scenario_storage.specs.declared.search.Search.{Search}
 use Rattle.scenario_storage.specs.ScenarioPoints.{IsShownBy}
-use Rattle.scenario_storage.specs.inside.Levels.{BoundsAll, BoundsRates, IsAnswer, IsGuided, IsRated}
+use Rattle.scenario_storage.specs.inside.Levels.{BoundsAll, BoundsRates, IsRatingAnswer, IsGuided, IsRated}
 use Rattle.scenario_storage.specs.inside.Points.{AreRising}
 
 -- a distribution on the grid and within the limit that can be reached
@@ -121,7 +121,7 @@ answered_of answers = map (λ (a : Answered). a.capacities.capacities) answers
 
 -- an answer of a distribution of the level with this storage, given the best rate of less
 pub record IsAnswerOf (file : ScenarioFile) (limits : ScenarioLimits) (total : ℕ) (best : Fraction) (a : Answered) : Type 0 where
-  pub answer : IsAnswer file limits best a.capacities.capacities a.answer
+  pub answer : IsRatingAnswer file limits best a.capacities.capacities a.answer
   pub storage : storage_of (shared_channels file) a.capacities.capacities ≡ total
 
 -- the best rate is that of a point of less storage, or 0

@@ -10,8 +10,8 @@ use Rattle.explore.specs.Reachable.{IsExplorable}
 use Rattle.explore.specs.Explorations.{IsPoint}
 use Rattle.report.specs.LinkTexts.{IsNamed}
 use Rattle.report.specs.StorageTexts.{point_text}
-use Rattle.sd_command.specs.declared.shown_points.ShownPoint.{ShownPoint}
-use Rattle.sd_command.specs.PointAnswers.{IsPointSchedule}
+use Rattle.sd_command.specs.declared.commands.shown_points.ShownPoint.{ShownPoint}
+use Rattle.sd_command.specs.commands.Points.{IsPointSchedule}
 
 -- a point of an exploration of a net, whose actors and channels the graph names
 pub record IsShowable (graph : GraphFile) (net : Net) (point : Point) : Type 0 where

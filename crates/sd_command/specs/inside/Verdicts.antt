@@ -9,7 +9,7 @@ use Rattle.report.specs.ClaimTexts.{claim_line}
 use Rattle.sd_command.specs.declared.answer.Answer.{Answer}
 use Rattle.sd_command.specs.declared.stop.Stop.{Stop}
 use Rattle.sd_command.specs.declared.stop.Stop.TheVariants.{Refused, OutOfMemory}
-use Rattle.sd_command.specs.Checks.{claim_shown, reason_word}
+use Rattle.sd_command.specs.commands.Checks.{claim_shown, reason_word}
 
 -- an accepted certificate is told with its claim, and a rejected one is refused with its line and reason
 abbrev pub Tells : Verdict → Result Answer Stop → Type 0

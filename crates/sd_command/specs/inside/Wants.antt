@@ -8,13 +8,13 @@ use Rattle.sd_base.specs.Tables.{IsTimed, KeepsRules}
 use Rattle.storage.specs.BoundedNets.{bound}
 use Rattle.storage.specs.Distributions.{CanHold}
 use Rattle.sd_words.specs.Asked.{AreRounds, AreStates}
-use Rattle.sd_command.specs.declared.wanted.Wanted.{Wanted}
-use Rattle.sd_command.specs.declared.wanted.Wanted.TheVariants as wants
-use Rattle.sd_command.specs.BoundedCourses.{OnNet}
-use Rattle.sd_command.specs.Expandings.{expansion_on}
-use Rattle.sd_command.specs.InOrders.{ordered_rate_on}
-use Rattle.sd_command.specs.LeastTimes.{time_on}
-use Rattle.sd_command.specs.Throughputs.{rate_on}
+use Rattle.sd_command.specs.declared.commands.wanted.Wanted.{Wanted}
+use Rattle.sd_command.specs.declared.commands.wanted.Wanted.TheVariants as wants
+use Rattle.sd_command.specs.commands.BoundedCourses.{OnNet}
+use Rattle.sd_command.specs.commands.Expansions.{expansion_on}
+use Rattle.sd_command.specs.commands.InOrders.{ordered_rate_on}
+use Rattle.sd_command.specs.commands.LeastTimes.{time_on}
+use Rattle.sd_command.specs.commands.Throughputs.{rate_on}
 
 -- what is done with it
 abbrev pub on_net : Wanted → OnNet

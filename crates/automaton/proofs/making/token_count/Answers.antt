@@ -1,35 +1,39 @@
-use Rattle.std.proofs.Common.{◌≡◌, ℕ, ◌*◌, ◌≤◌, ◌<◌, List, Option, length, ap, ◌∙◌, arith}
-use Rattle.std.specs.Prelude.{slice_index_or}
+use Rattle.std.proofs.Common.{◌≡◌, ℕ, ◌*◌, ◌≤◌, ◌<◌, List, [], Option, Some, length, refl, sym, ap, subst, ◌∙◌, arith}
+use Rattle.std.specs.Prelude.{slice_get, slice_index_or}
 use Rattle.std.proofs.Math.Nat.{mul-le-mul_right}
-use Rattle.std.proofs.lemmas.List.Elements.{All-get_or}
+use Rattle.std.proofs.lemmas.List.{get_or_default}
+use Rattle.std.proofs.lemmas.Option.{slice_get_read}
 use Rattle.sd_base.specs.declared.limits.TheConstants.{NODES}
 use Rattle.sd_base.specs.declared.tables.ScenarioFile.{ScenarioFile}
+use Rattle.sd_base.specs.declared.tables.StateRow.{StateRow}
 use Rattle.sd_base.specs.Scenarios.{shared_count, LeadsOn}
-use Rattle.token_matrix.proofs.Rows.{get_there}
-use Rattle.automaton.specs.TimedGraphs.{AreSized}
 use Rattle.automaton.proofs.making.token_count.Goals as goal
 
-some_scenario : (file : ScenarioFile) → LeadsOn file → 0 < length file.scenarios
-some_scenario file leads =
-    let s = get_there file.states file.initial leads.initial in
-    let h : s.0.scenario < length file.scenarios = leads.scenarios file.initial s.0 s.1 in
-    omega arith
+-- the initial state, as it is read
+first : (file : ScenarioFile) (items : List StateRow) (state : StateRow) → LeadsOn file → items ≡ file.states → state ≡ slice_index_or items file.initial state
+    → slice_get file.states file.initial ≡ Some state
+first file items state leads same is =
+    let below : file.initial < length items = subst (λ (xs : List StateRow). file.initial < length xs) (sym same) leads.initial in
+    subst (λ (xs : List StateRow). slice_get xs file.initial ≡ Some state) same (slice_get_read items (length items) file.initial state refl below is)
 
-first_sized : (n : ℕ) (matrices : List (List (List (Option ℕ)))) (m : List (List (Option ℕ))) → 0 < length matrices → AreSized n matrices
-    → m ≡ slice_index_or matrices 0 m → length m ≡ n
-first_sized n matrices m some sized is = ap (λ (x : List (List (Option ℕ))). length x) is
-    ∙ All-get_or (λ (x : List (List (Option ℕ))). length x ≡ n) matrices 0 m some sized
-
-pub bounds-matrices-0 : goal.bounds-matrices-0
-bounds-matrices-0 c =
-    let h : 0 < length c.args.file.now.scenarios = some_scenario c.args.file.now c.requires.leads_on in
-    omega (arith, h, c.requires.all)
+pub bounds-matrices-initial : goal.bounds-matrices-initial
+bounds-matrices-initial c =
+    let file = c.args.file.now in
+    let state = c.index-as_slice-file.result in
+    let below : state.scenario < length file.scenarios =
+    c.requires.leads_on.scenarios file.initial state (first file c.as_slice.result.now state c.requires.leads_on c.as_slice.ensures c.index-as_slice-file.is) in
+    omega (arith, below, c.requires.all)
 
 pub returns-clause-is : goal.returns-clause-is
 returns-clause-is c =
-    let h : 0 < length c.args.file.now.scenarios = some_scenario c.args.file.now c.requires.leads_on in
-    c.size.ensures.is ∙ first_sized (shared_count c.args.file.now.shared) c.args.matrices.now c.index-matrices-0.result (omega (arith, h, c.requires.all))
-    c.requires.sized c.index-matrices-0.is
+    let file = c.args.file.now in
+    let state = c.index-as_slice-file.result in
+    let at = first file c.as_slice.result.now state c.requires.leads_on c.as_slice.ensures c.index-as_slice-file.is in
+    let below : state.scenario < length file.scenarios = c.requires.leads_on.scenarios file.initial state at in
+    let inside : state.scenario < length c.args.matrices.now = omega (arith, below, c.requires.all) in
+    c.size.ensures.is
+    ∙ ap (λ (m : List (List (Option ℕ))). length m) (c.index-matrices-initial.is ∙ get_or_default c.args.matrices.now state.scenario c.index-matrices-initial.result [] inside)
+    ∙ c.requires.sized file.initial state at
 
 pub returns-clause-few : goal.returns-clause-few
 returns-clause-few c =

@@ -1,6 +1,5 @@
-use Rattle.std.proofs.Common.{below_more}
-use Rattle.storage.specs.TouchedActors.{IsTouched}
+use Rattle.std.proofs.Common.{true≢false, sym}
 use Rattle.cert_checker.proofs.touched.are_touched.Goals as goal
 
-pub loop-actor-preserved : goal.loop-actor-preserved
-loop-actor-preserved g c = below_more (IsTouched (g.F.Firing.net c.args.net.now)) c.loop-actor.actor c.loop-actor.invariant (c.is_touched.ensures.0 c.if-not-is_touched.false)
+pub returns-in-Some : goal.returns-in-Some
+returns-in-Some g c = ((λ t. absurd (true≢false (sym t))), λ all. absurd (c.in-Some.ensures.none (all _ c.in-Some.ensures.place)))

@@ -7,8 +7,9 @@ use Rattle.cert_text.specs.declared.certificates.LinkCycle.{LinkCycle}
 use Rattle.cert_text.specs.declared.certificates.MemberLine.{MemberLine}
 use Rattle.cert_text.specs.Orderly.{used_by}
 use Rattle.cert_text.specs.Spellable.{IsCycleText}
+use Rattle.cert_text.proofs.Uses.{used-end}
 use Rattle.cert_maker.specs.StorageCertificates.{IsMemberLine}
-use Rattle.cert_maker.proofs.Lines.{lines-push, text-push, used-none, used-push}
+use Rattle.cert_maker.proofs.Lines.{lines-push, text-push, used-none}
 use Rattle.cert_maker.proofs.members.list.Goals as goal
 
 pub loop-member-init : goal.loop-member-init
@@ -29,7 +30,7 @@ loop-member-preserved g c =
           (all_zipped_more (IsMemberLine net c.line_of.new.cycles) done lines c.in-Some.member line
           (lines-push net c.loop-member.cycles c.line_of.new.cycles line.shown next done lines c.loop-member.invariant.lines) c.in_ok-line_of.ensures.line);
       used = subst (λ (ls : List MemberLine). used_by 0 ls ≡ Some (length c.line_of.new.cycles)) (sym c.in_ok-push.ensures.items)
-          (used-push lines line 0 (length c.loop-member.cycles) (length c.line_of.new.cycles) c.loop-member.invariant.used next.used);
+          (used-end lines line 0 (length c.loop-member.cycles) (length c.line_of.new.cycles) c.loop-member.invariant.used next.used);
       text = text-push c.loop-member.cycles c.line_of.new.cycles line.shown next c.loop-member.invariant.text;
     }
 

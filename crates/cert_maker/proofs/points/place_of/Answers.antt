@@ -1,7 +1,8 @@
 use Rattle.std.proofs.Common.{◌≡◌, ℕ, drop, Option, Some, List, add-one, ap, sym, subst, ◌∙◌, true≢false}
 use Rattle.std.specs.Prelude.{slice_index_or}
 use Rattle.explore.specs.declared.exploration.Member.{Member}
-use Rattle.explore.specs.Explorations.{IsOneOf, capacities_of}
+use Rattle.pareto_front.specs.Offers.{IsOneOf}
+use Rattle.explore.specs.Explorations.{capacities_of}
 use Rattle.cert_maker.proofs.Places.{capacities-at, one-later}
 use Rattle.cert_maker.proofs.points.place_of.Goals as goal
 

@@ -1,5 +1,6 @@
 use Rattle.std.proofs.Common.{drop}
-use Rattle.explore.specs.Explorations.{IsOneOf, capacities_of}
+use Rattle.pareto_front.specs.Offers.{IsOneOf}
+use Rattle.explore.specs.Explorations.{capacities_of}
 use Rattle.cert_maker.proofs.points.place_of.Given as goal
 
 -- a member with these capacities stands from the place on

@@ -2,7 +2,8 @@ use Rattle.std.proofs.Common.{◌≡◌, ℕ, ◌<◌, ◌≤◌, length, take, 
 use Rattle.std.specs.Prelude.{slice_index_or}
 use Rattle.std.specs.List.{AllZip}
 use Rattle.pareto_front.specs.declared.point.Point.{Point}
-use Rattle.explore.specs.Explorations.{IsOneOf, capacities_of}
+use Rattle.pareto_front.specs.Offers.{IsOneOf}
+use Rattle.explore.specs.Explorations.{capacities_of}
 use Rattle.cert_maker.specs.StorageCertificates.{IsPointLine, schedules_of}
 use Rattle.cert_maker.proofs.points.point_lines.Given as goal
 

@@ -1,5 +1,5 @@
 use Rattle.std.proofs.Common.{◌≡◌, ◌-◌, Bool, length, subst, sym, true, arith}
-use Rattle.explore.specs.Explorations.{IsOneOf}
+use Rattle.pareto_front.specs.Offers.{IsOneOf}
 use Rattle.explore.specs.Ceilings.{BoundsAll}
 use Rattle.explore.specs.inside.Searches.{IsTopAmong}
 use Rattle.explore.proofs.Elements.{one-at}

@@ -1,5 +1,5 @@
 use Rattle.std.proofs.Common.{◌-◌, length, inl, inr, refl, subst, sym, arith}
-use Rattle.explore.specs.Explorations.{IsOneOf}
+use Rattle.pareto_front.specs.Offers.{IsOneOf}
 use Rattle.explore.proofs.Elements.{one-at}
 use Rattle.explore.proofs.level.best_rate.Goals as goal
 

@@ -1,12 +1,13 @@
 use Rattle.std.proofs.Common.{◌≡◌, ◌++◌, ◌∷◌, [], ℕ, ◌+◌, All, Result, Some, refl, ap, subst, sym, ◌∙◌, arith}
+use Rattle.fanout.proofs.TaskLists.{drained-more, all-front, all-last}
 use Rattle.explore.specs.declared.task.Task.{Task}
 use Rattle.explore.specs.declared.level.Answered.{Answered}
 use Rattle.explore.specs.inside.Levels.{IsAnswered, IsDone, IsEvaluation, least_loops, most_loops, sum_of}
 use Rattle.storage.specs.declared.distribution.Distribution.{Distribution}
-use Rattle.lasso.specs.declared.error.RunError.{RunError}
+use Rattle.lasso.specs.RunError.{RunError}
 use Rattle.explore.specs.declared.rated.Rated.{Rated}
-use Rattle.explore.proofs.Tasks.{answer-is, counts-least, counts-most, drained-more, sum-more}
-use Rattle.explore.proofs.Ends.{all-front, all-last, all-more}
+use Rattle.explore.proofs.Tasks.{answer-is, counts-least, counts-most, sum-more}
+use Rattle.explore.proofs.Ends.{all-more}
 use Rattle.explore.proofs.level.drain.Goals as goal
 
 pub loop-task-preserved : goal.loop-task-preserved

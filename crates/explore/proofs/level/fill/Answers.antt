@@ -3,7 +3,7 @@ use Rattle.std.specs.Prelude.{Option, ℕ}
 use Rattle.std.proofs.lemmas.List.{length_push, map-append}
 use Rattle.std.proofs.lemmas.Iterator.Consumers.{YieldsList-end, YieldsList-turn}
 use Rattle.std.proofs.lemmas.Iterator.Adapters.{YieldsList-from_vec}
-use Rattle.liveness.specs.RoundAnswers.{IsReached}
+use Rattle.liveness.specs.RoundAnswers.{AreReachedCounts}
 use Rattle.storage.specs.BoundedNets.{bound}
 use Rattle.storage.specs.declared.distribution.Distribution.{Distribution}
 use Rattle.guide.specs.Evaluations.{IsEvaluable}
@@ -25,7 +25,7 @@ loop-found-preserved g c =
     let visitable : IsVisitable (g.F.Firing.net c.args.exploring.now.net.now) c.args.exploring.now.limits.states c.args.members.now c.in-Some.found =
     subst (IsVisitable net c.args.exploring.now.limits.states c.args.members.now) (sym turn.1) (c.requires.fits (length c.loop-found.yielded) c.in-Some.found turn.0) in
     let fits : IsEvaluable (g.F.Firing.net c.args.exploring.now.net.now) c.into_capacities.result.capacities = subst (λ (d : Distribution). IsEvaluable net d.capacities) (sym c.into_capacities.ensures) visitable.fits in
-    let reached : IsReached (bound (g.F.Firing.net c.args.exploring.now.net.now) c.into_capacities.result.capacities) c.led_to-counts.result.now = subst (λ (d : Distribution). IsReached (bound net d.capacities) c.led_to-counts.result.now) (sym c.into_capacities.ensures) c.led_to-counts.ensures in
+    let reached : AreReachedCounts (bound (g.F.Firing.net c.args.exploring.now.net.now) c.into_capacities.result.capacities) c.led_to-counts.result.now = subst (λ (d : Distribution). AreReachedCounts (bound net d.capacities) c.led_to-counts.result.now) (sym c.into_capacities.ensures) c.led_to-counts.ensures in
     let pushed : Task g.row.F.Denot g.row.L.Denot = record { alloc = c.args.exploring.now.alloc; net = c.args.exploring.now.net; wiring = c.args.exploring.now.wiring; capacities = c.into_capacities.result; counts = c.led_to-counts.result; states = c.args.exploring.now.limits.states; best = c.args.best; steps = c.share.result; answer = None } in (
       omega (arith, c.push_reserved.ensures.len, c.loop-found.invariant.0, length_push c.loop-found.yielded c.in-Some.found),
       c.push_reserved.ensures.capacity ∙ c.loop-found.invariant.1,

@@ -3,11 +3,12 @@ use Rattle.std.specs.Prelude.{slice_index_or}
 use Rattle.storage.specs.declared.distribution.Distribution.{Distribution}
 use Rattle.fanout.specs.JobRuns.{EachRan}
 use Rattle.fanout.proofs.Running.{all-ran}
+use Rattle.fanout.proofs.TaskLists.{slice-back, map-same, turned-back, all-reverse}
 use Rattle.pareto_front.specs.declared.point.Point.{Point}
 use Rattle.explore.specs.declared.task.Task.{Task}
 use Rattle.explore.specs.inside.Rated.{IsBestOf}
 use Rattle.explore.specs.inside.Levels.{HasRun, IsDone, IsFresh}
-use Rattle.explore.proofs.Tasks.{all-reverse, done-from, map-same, ready-from, slice-back, turned-back}
+use Rattle.explore.proofs.Tasks.{done-from, ready-from}
 use Rattle.explore.proofs.level.run_level.Goals as goal
 
 pub all-requires-after_bounds : goal.all-requires-after_bounds

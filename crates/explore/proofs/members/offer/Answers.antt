@@ -2,7 +2,7 @@ use Rattle.std.proofs.Common.{◌≡◌, false, inl, inr, ⊎_elim, sym, ap, ◌
 use Rattle.std.specs.Prelude.{◌==◌}
 use Rattle.storage.specs.declared.distribution.Distribution.{Distribution}
 use Rattle.pareto_front.specs.declared.point.Point.{Point}
-use Rattle.explore.specs.Explorations.{IsOneOf}
+use Rattle.pareto_front.specs.Offers.{IsOneOf}
 use Rattle.explore.specs.inside.Searches.{offers_at}
 use Rattle.explore.proofs.Knowing.{front-as, offered-one, offers-some}
 use Rattle.explore.proofs.members.offer.Goals as goal

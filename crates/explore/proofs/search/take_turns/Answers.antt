@@ -1,6 +1,7 @@
 use Rattle.std.proofs.Common.{◌≡◌, ◌+◌, List, [], ap, subst, arith}
 use Rattle.pareto_front.specs.declared.point.Point.{Point}
-use Rattle.explore.specs.Explorations.{IsOneOf, cycles_in}
+use Rattle.pareto_front.specs.Offers.{IsOneOf}
+use Rattle.explore.specs.Explorations.{cycles_in}
 use Rattle.explore.specs.inside.Searches.{IsTopAmong}
 use Rattle.explore.proofs.Halting.{far-top}
 use Rattle.explore.proofs.Searching.{counts-few}

@@ -6,7 +6,7 @@ use Rattle.guide.proofs.rating.evaluate_on.Goals as goal
 
 pub evaluate_whole-requires-clause-connected : goal.evaluate_whole-requires-clause-connected
 evaluate_whole-requires-clause-connected g c =
-    subst IsConnected (sym c.requires.bounded) (bound-connected (g.F.Firing.net c.args.net.now) c.args.capacities.now.capacities c.requires.fits.connected)
+    subst IsConnected (sym c.requires.bounded) (bound-connected (g.F.Firing.net c.args.trial.now.net.now) c.args.trial.now.capacities.now.capacities c.requires.fits.connected)
 
 pub evaluate_whole-requires-clause-inputs : goal.evaluate_whole-requires-clause-inputs
 evaluate_whole-requires-clause-inputs g c = subst HasInputs (sym c.requires.bounded) c.requires.fits.inputs

@@ -2,7 +2,7 @@ use Rattle.std.proofs.Common.{◌≡◌, ◌-◌, ◌<◌, ℕ, List, suc, lengt
 use Rattle.std.specs.Prelude.{slice_index_or}
 use Rattle.std.proofs.lemmas.Option.{get_or_from_slice_get}
 use Rattle.automaton.specs.declared.graph.Edge.{Edge}
-use Rattle.scenario_rate.specs.inside.Choosing.{NoneNext, IsNext, IsOnWay, IsLeastWay}
+use Rattle.scenario_rate.specs.inside.Choosing.{NoneNext, IsNextEdge, IsOnWay, IsLeastWay}
 use Rattle.scenario_rate.proofs.Listing.{known_at}
 use Rattle.scenario_rate.proofs.Choosing.{some_next, on_way, least_more}
 use Rattle.scenario_rate.proofs.chosen.+least_way.Goals as goal
@@ -20,7 +20,7 @@ unreachable-requires t c =
 pub least_way-requires : goal.least_way-requires
 least_way-requires t c =
     let e : c.args.left ≡ suc (c.args.left - 1) = omega (arith, c.if-left-eq0.false) in
-    let n = subst (λ (l : List ℕ). IsNext c.args.edges.now l c.args.steps.now (c.args.left - 1) (length l) c.in-Some.number) c.edges_at.ensures c.in-Some.ensures in
+    let n = subst (λ (l : List ℕ). IsNextEdge c.args.edges.now l c.args.steps.now (c.args.left - 1) (length l) c.in-Some.number) c.edges_at.ensures c.in-Some.ensures in
     let at : slice_index_or c.args.edges.now c.in-Some.number (record { from = 0; to = 0; weight = 0 }) ≡ n.edge = get_or_from_slice_get c.args.edges.now c.in-Some.number n.edge (record { from = 0; to = 0; weight = 0 }) n.is in (
       omega (arith, c.decreases, c.if-left-eq0.false),
       (
@@ -45,7 +45,7 @@ least_way-requires t c =
 pub returns : goal.returns
 returns t c = λ list root listed way.
     (let e : c.args.left ≡ suc (c.args.left - 1) = omega (arith, c.if-left-eq0.false) in
-    let n = subst (λ (l : List ℕ). IsNext c.args.edges.now l c.args.steps.now (c.args.left - 1) (length l) c.in-Some.number) c.edges_at.ensures c.in-Some.ensures in
+    let n = subst (λ (l : List ℕ). IsNextEdge c.args.edges.now l c.args.steps.now (c.args.left - 1) (length l) c.in-Some.number) c.edges_at.ensures c.in-Some.ensures in
     let at : slice_index_or c.args.edges.now c.in-Some.number (record { from = 0; to = 0; weight = 0 }) ≡ n.edge = get_or_from_slice_get c.args.edges.now c.in-Some.number n.edge (record { from = 0; to = 0; weight = 0 }) n.is in
     let more : IsOnWay c.args.edges.now list c.args.steps.now (length c.args.steps.now) root c.args.node (suc (c.args.left - 1)) = subst (IsOnWay c.args.edges.now list c.args.steps.now (length c.args.steps.now) root c.args.node) e way in
     let rest = c.in_ok-way-in-Some.ensures list root listed

@@ -1,7 +1,7 @@
 use Rattle.std.proofs.Common.{◌≡◌, ◌∙◌, ◌++◌, ℕ, List, Option, length, take, drop, ap, sym, subst, arith}
 use Rattle.std.proofs.lemmas.List.{take_at}
 use Rattle.scenario_rate.specs.declared.by_node.End.TheVariants.{To}
-use Rattle.scenario_rate.specs.Graphs.{AreInside}
+use Rattle.automaton.specs.SoundGraphs.{AreInside}
 use Rattle.scenario_rate.proofs.Listing.{known_at}
 use Rattle.scenario_rate.proofs.Spreading.{first_inside, start_long, start_inside, start_spread, end_spread, next_long, next_inside, next_spread, next_smaller}
 use Rattle.scenario_rate.proofs.distances.distances.Goals as goal

@@ -1,17 +1,17 @@
 use Rattle.std.proofs.Common.{◌++◌, ◌∷◌, [], All, Some, refl, subst, sym, ◌∙◌, arith}
 use Rattle.std.proofs.lemmas.List.Elements.{All-push}
+use Rattle.fanout.proofs.TaskLists.{drained-more, all-front, all-last}
 use Rattle.scenario_storage.specs.declared.task.Task.{Task}
 use Rattle.scenario_storage.specs.declared.level.Answered.{Answered}
-use Rattle.scenario_storage.specs.inside.Levels.{IsAnswer, IsAnswered}
+use Rattle.scenario_storage.specs.inside.Levels.{IsRatingAnswer, IsAnswered}
 use Rattle.storage.specs.declared.distribution.Distribution.{Distribution}
-use Rattle.scenario_storage.proofs.Tasks.{all-front, all-last, drained-more}
 use Rattle.scenario_storage.proofs.level.drain.Goals as goal
 
 pub loop-task-preserved : goal.loop-task-preserved
 loop-task-preserved c =
     let plan = c.args.plan.now in
     let P : Task → Type 0 = λ t. IsAnswered plan.file.now plan.limits c.args.best t.capacities.capacities t.answer in
-    let Q : Answered → Type 0 = λ a. IsAnswer plan.file.now plan.limits c.args.best a.capacities.capacities a.answer in
+    let Q : Answered → Type 0 = λ a. IsRatingAnswer plan.file.now plan.limits c.args.best a.capacities.capacities a.answer in
     let t = c.take_last-capacities.result in
     let rest = c.take_last-capacities.new.self.items in
     let both : All P (rest ++ t ∷ []) = subst (All P) c.take_last-capacities.ensures.items c.loop-task.invariant.3 in

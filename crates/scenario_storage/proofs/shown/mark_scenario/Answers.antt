@@ -5,6 +5,7 @@ use Rattle.sd_base.specs.declared.tables.GraphFile.{GraphFile}
 use Rattle.sd_base.specs.declared.tables.ScenarioFile.{ScenarioFile}
 use Rattle.sd_base.specs.FileNet.{net_of}
 use Rattle.sd_base.specs.Untimed.{IsLive}
+use Rattle.fanout.proofs.TaskLists.{slice-back}
 use Rattle.token_matrix.specs.Stamps.{first_of}
 use Rattle.entry_ways.specs.WayMarks.{AreWayMarks, HasWay}
 use Rattle.bounded_scenarios.specs.BoundedFiles.{bounded_file, bounded_graph}
@@ -14,7 +15,6 @@ use Rattle.scenario_storage.proofs.Measuring.{gives-as, moved-back, moved-to}
 use Rattle.scenario_storage.proofs.Searchable.{can-measure}
 use Rattle.scenario_storage.proofs.SpaceMarks.{empty-marks, none-true, space-marks}
 use Rattle.scenario_storage.proofs.SpaceNumbers.{spaces-long}
-use Rattle.scenario_storage.proofs.Tasks.{slice-back}
 use Rattle.scenario_storage.proofs.shown.mark_scenario.Goals as goal
 
 pub spaces_of-requires : goal.spaces_of-requires

@@ -2,6 +2,7 @@ use Rattle.std.proofs.Common.{◌≡◌, ◌++◌, ◌+◌, ℕ, Bool, List, dro
 use Rattle.std.specs.Prelude.{◌↔◌, Contains}
 use Rattle.sd_base.specs.declared.tables.ScenarioFile.{ScenarioFile}
 use Rattle.sd_base.specs.declared.tables.StateRow.{StateRow}
+use Rattle.fanout.proofs.TaskLists.{slice-back}
 use Rattle.entry_ways.specs.declared.marking.EntryPlace.{EntryPlace}
 use Rattle.bounded_scenarios.specs.BoundedFiles.{bounded_file}
 use Rattle.scenario_storage.specs.inside.Shown.{AreSpaceMarks, BeginAtStates, HaveWays, IsEntryIn}
@@ -10,7 +11,6 @@ use Rattle.scenario_storage.proofs.Few.{its-shares, shared-few}
 use Rattle.scenario_storage.proofs.Marking.{AreMarkedTo, begins-at, marked-more}
 use Rattle.scenario_storage.proofs.Measuring.{scenario-of}
 use Rattle.scenario_storage.proofs.Searchable.{can-measure}
-use Rattle.scenario_storage.proofs.Tasks.{slice-back}
 use Rattle.scenario_storage.proofs.shown.shown_by_cycle.Goals as goal
 
 pub entries_of-requires-clause-tokens : goal.entries_of-requires-clause-tokens

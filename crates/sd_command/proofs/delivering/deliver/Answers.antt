@@ -1,7 +1,7 @@
 use Rattle.std.proofs.Common.{refl}
 use Rattle.report.specs.RefusalLines.{memory_line}
 use Rattle.sd_command.specs.declared.status.Status.TheVariants as statuses
-use Rattle.sd_command.specs.Courses.{Answered}
+use Rattle.sd_command.specs.steps.Courses.{Answered}
 use Rattle.sd_command.specs.Runs.{of_memory, of_putting}
 use Rattle.sd_command.proofs.Shown.{ends_answered, ends_told}
 use Rattle.sd_command.proofs.delivering.deliver.Goals as goal

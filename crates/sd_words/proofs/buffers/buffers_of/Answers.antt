@@ -3,8 +3,9 @@ use Rattle.std.proofs.lemmas.List.{map-append, length-map}
 use Rattle.std.specs.List.{list_any}
 use Rattle.std.specs.Str.{bytes_eq}
 use Rattle.std.specs.String.{string_bytes}
+use Rattle.std.proofs.lemmas.Bool.{not-false}
 use Rattle.sd_words.specs.Buffers.{with_parts}
-use Rattle.sd_words.proofs.BufferParts.{next-part, part-none, part-taken, part-new, parts-end, same_names, taken, free}
+use Rattle.sd_words.proofs.BufferParts.{next-part, part-none, part-taken, part-new, parts-end, same_names, free}
 use Rattle.sd_words.proofs.buffers.buffers_of.Goals as goal
 
 pub returns-in_default : goal.returns-in_default
@@ -18,7 +19,7 @@ returns-then-not-branch c =
     let next = next-part (λ (p : Bor (List ℕ)). p.now) c.deref-part-items.result.now c.loop-part.part-index (record { ref_ptr = (0, 0); now = [] }) c.loop-part-test.true in
     let some = sym c.in_ok-buffer.ensures ∙ c.in-Some.is in
     let old : not (list_any (λ k. bytes_eq c.in-Some.buffer.0 (string_bytes k)) c.loop-part.names.keys) ≡ false = search rules in
-    let among = taken _ (ap not (sym (same_names string_bytes c.loop-part.names.keys c.loop-part.buffers.items c.in-Some.buffer.0 c.loop-part.invariant.names)) ∙ old) in
+    let among = not-false _ (ap not (sym (same_names string_bytes c.loop-part.names.keys c.loop-part.buffers.items c.in-Some.buffer.0 c.loop-part.invariant.names)) ∙ old) in
     sym (ap (with_parts c.loop-part.buffers.items) next ∙ part-taken _ _ _ c.in-Some.buffer some among) ∙ c.loop-part.invariant.read
 
 pub loop-part-preserved : goal.loop-part-preserved

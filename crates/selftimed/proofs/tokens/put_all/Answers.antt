@@ -8,7 +8,7 @@ use Rattle.selftimed.proofs.tokens.put_all.Goals as goal
 pub loop-channel-preserved : goal.loop-channel-preserved
 loop-channel-preserved g c = record {
   so_far = rw c.put.ensures (put-next (g.F.Firing.net c.args.net.now) (g.met.F.Firing.lawful c.args.net.now) c.args.actor c.args.own c.requires.own c.args.from c.args.firings c.args.outputs.now c.args.tokens.now c.loop-channel.tokens
-      c.requires.listed c.loop-channel.invariant.long c.loop-channel.channel-index c.moved_by-all.result c.loop-channel-test.true c.loop-channel.invariant.so_far c.moved_by-all.ensures.sum);
+      c.requires.listed c.loop-channel.invariant.long c.loop-channel.channel-index c.moved_span-all.result c.loop-channel-test.true c.loop-channel.invariant.so_far c.moved_span-all.ensures.sum);
   long = rw c.put.ensures (length-set c.loop-channel.tokens (slice_index c.args.outputs.now c.loop-channel.channel-index) _ ∙ c.loop-channel.invariant.long);
 }
 
@@ -19,8 +19,8 @@ pub put-requires-clause-small : goal.put-requires-clause-small
 put-requires-clause-small g c =
     let place = c.requires.listed.place c.loop-channel.channel-index c.loop-channel-test.true in
     let same = put-same (g.F.Firing.net c.args.net.now) (g.met.F.Firing.lawful c.args.net.now) c.args.actor c.args.own c.requires.own c.args.from c.args.firings c.args.outputs.now c.args.tokens.now c.loop-channel.tokens
-    c.requires.listed c.loop-channel.invariant.long c.loop-channel.channel-index c.moved_by-all.result c.loop-channel-test.true c.loop-channel.invariant.so_far in
-    omega (arith, same, c.requires.small (slice_index c.args.outputs.now c.loop-channel.channel-index) place, c.moved_by-all.ensures.small, c.requires.few)
+    c.requires.listed c.loop-channel.invariant.long c.loop-channel.channel-index c.moved_span-all.result c.loop-channel-test.true c.loop-channel.invariant.so_far in
+    omega (arith, same, c.requires.small (slice_index c.args.outputs.now c.loop-channel.channel-index) place, c.moved_span-all.ensures.small, c.requires.few)
 
 pub put_own-requires-clause-own : goal.put_own-requires-clause-own
 put_own-requires-clause-own g c = if-own (IsOwn (g.F.Firing.net c.args.net.now) c.args.actor) (λ i. i < length (g.F.Firing.net c.args.net.now).channels) c.args.own (λ i is mine. mine.place) c.requires.own

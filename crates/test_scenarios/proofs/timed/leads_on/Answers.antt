@@ -1,6 +1,6 @@
 use Rattle.std.proofs.Common.{◌≡◌, ℕ, ◌*◌, ◌≤◌, ◌<◌, ◌∙◌, ap, subst, ⊎_elim, arith, rules}
 use Rattle.std.proofs.lemmas.Bool.{cases_lt}
-use Rattle.scenario_rate.specs.Graphs.{node_count}
+use Rattle.automaton.specs.SoundGraphs.{node_count}
 use Rattle.test_scenarios.specs.Leading.{LeadsFrom}
 use Rattle.test_scenarios.proofs.Onward.{grows}
 use Rattle.test_scenarios.proofs.timed.leads_on.Goals as goal

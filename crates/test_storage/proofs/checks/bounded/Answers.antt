@@ -1,7 +1,7 @@
 use Rattle.std.proofs.Common.{◌+◌, ◌≤◌, length, arith, rules}
 use Rattle.sd_base.specs.declared.limits.TheConstants.{NET_CHANNELS}
 use Rattle.storage.proofs.SpaceChannels.{bound-long}
-use Rattle.test_storage.proofs.Holding.{spaces-few}
+use Rattle.storage.proofs.NamedCapacities.{spaces-few}
 use Rattle.test_storage.proofs.checks.bounded.Goals as goal
 
 pub new-requires-clause-few : goal.new-requires-clause-few

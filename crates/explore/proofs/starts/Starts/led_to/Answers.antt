@@ -1,5 +1,5 @@
 use Rattle.std.proofs.Common.{◌≡◌, sym, subst}
-use Rattle.liveness.specs.RoundAnswers.{IsReached}
+use Rattle.liveness.specs.RoundAnswers.{AreReachedCounts}
 use Rattle.storage.specs.BoundedNets.{bound}
 use Rattle.storage.proofs.Lawfulness.{bound-lawful}
 use Rattle.explore.specs.declared.exploration.Member.{Member}
@@ -16,4 +16,4 @@ returns-in-Some g c =
     let same : c.index-members-place.result ≡ h.member = get-same c.args.members.now c.in-Some.place h.member c.index-members-place.result h.at c.index-members-place.is in
     let reached = member-reached net c.know_laws.ensures c.args.self.now c.requires.starts ds (bound-lawful net c.know_laws.ensures ds fits.none fits.can fits.few)
     (λ es counts most. c.counts_are_reached_with_more_room.ensures.reached net es ds counts most) (λ es most. c.counts_are_reached_with_more_room.ensures.live net es ds most) c.requires.hinted.0 h.member h.evaluated h.most in
-    subst (IsReached (bound net ds)) (sym c.at.ensures) (subst (λ (m : Member). IsReached (bound net ds) (counts_at c.args.self.now m.shown)) (sym same) reached)
+    subst (AreReachedCounts (bound net ds)) (sym c.at.ensures) (subst (λ (m : Member). AreReachedCounts (bound net ds) (counts_at c.args.self.now m.shown)) (sym same) reached)

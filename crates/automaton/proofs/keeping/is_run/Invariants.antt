@@ -1,0 +1,5 @@
+use Rattle.automaton.proofs.Kept.{NoneRuns}
+use Rattle.automaton.proofs.keeping.is_run.Given as goal
+
+abbrev pub invariant-loop-state : goal.invariant-loop-state
+invariant-loop-state l = NoneRuns l.file.states l.scenario l.state-index

@@ -1,0 +1,11 @@
+use Rattle.std.proofs.lemmas.Bool.{false≢true}
+use Rattle.event_loops.proofs.Repeated.{follows-none}
+use Rattle.event_loops.proofs.repeat.meets.Goals as goal
+
+pub follow-requires-clause-inputs : goal.follow-requires-clause-inputs
+follow-requires-clause-inputs g c = rw c.requires.net c.requires.inputs
+
+pub returns-then-not-branch-clause-met : goal.returns-then-not-branch-clause-met
+returns-then-not-branch-clause-met g c =
+    let there = rw c.if-not-branch.true at c.in_ok-follow.ensures.there in
+    rw c.moment.ensures at (follows-none (g.F.Firing.net c.args.lead.now.net.now) c.args.period c.moment.result c.follow.new.trail.moment (rw c.requires.net at c.in_ok-follow.ensures.follows) (λ e. false≢true (there.1 e)) c.in_ok-follow.ensures.reached)

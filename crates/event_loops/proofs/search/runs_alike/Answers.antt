@@ -1,0 +1,17 @@
+use Rattle.std.proofs.Common.{◌∙◌, sym, ap}
+use Rattle.std.proofs.lemmas.Bool.{false≢true}
+use Rattle.sd_base.specs.SelfTimed
+use Rattle.selftimed.specs.Prints.{running_print_of}
+use Rattle.event_loops.proofs.search.runs_alike.Goals as goal
+
+pub returns-then-running_print-checkpoint : goal.returns-then-running_print-checkpoint
+returns-then-running_print-checkpoint g c = (
+  λ not. absurd (false≢true not),
+  λ same. absurd (c.if-running_print-checkpoint.true (c.running_print.ensures ∙ (ap (λ (x : SelfTimed.Shape). running_print_of x.remaining) same ∙ sym c.requires.checkpoint.running_print))),
+)
+
+pub returns : goal.returns
+returns g c = (
+  λ is. c.same_shape.ensures.0 is ∙ c.requires.checkpoint.shape,
+  λ same. c.same_shape.ensures.1 (same ∙ sym c.requires.checkpoint.shape),
+)

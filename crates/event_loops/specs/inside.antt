@@ -1,0 +1,7 @@
+pub mod Going
+pub mod Searching
+pub mod Collecting
+pub mod Entering
+pub mod Tracing
+pub mod Printing
+pub mod Marking

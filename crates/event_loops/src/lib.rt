@@ -1,0 +1,17 @@
+//! The loop of self-timed execution, found by the shapes at its events.
+#![tactic(auto)]
+
+mod again;
+mod beginning;
+mod by_events;
+mod collect;
+mod entry;
+mod marks;
+mod prints;
+mod repeat;
+mod search;
+mod steps;
+mod trace;
+
+pub use beginning::starts_until;
+pub use by_events::loop_by_events;

@@ -1,5 +1,0 @@
-use Rattle.lasso.proofs.Known.{AreByBelow}
-use Rattle.lasso.proofs.by_rounds.starts_by.Given as goal
-
-abbrev pub invariant-loop-row : goal.invariant-loop-row
-invariant-loop-row l = AreByBelow l.starts l.moment l.row-index l.rows.items

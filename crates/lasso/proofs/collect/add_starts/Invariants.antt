@@ -1,5 +1,0 @@
-use Rattle.lasso.proofs.Collected.{AddsSoFar}
-use Rattle.lasso.proofs.collect.add_starts.Given as goal
-
-abbrev pub invariant-loop-actor : goal.invariant-loop-actor
-invariant-loop-actor g l = AddsSoFar (g.F.Firing.net l.engine.net.now) l.engine.moment l.starters l.fn.starts l.starts l.actor-index

@@ -1,5 +1,0 @@
-use Rattle.std.proofs.Common.{◌≡◌, [], replicate}
-use Rattle.lasso.proofs.collect.empty_rows.Given as goal
-
-abbrev pub invariant-loop-actor : goal.invariant-loop-actor
-invariant-loop-actor g l = l.rows.items ≡ replicate l.actor []

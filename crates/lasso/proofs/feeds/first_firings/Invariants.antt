@@ -1,5 +1,0 @@
-use Rattle.lasso.proofs.Fed.{AreNextBelow}
-use Rattle.lasso.proofs.feeds.first_firings.Given as goal
-
-abbrev pub invariant-loop-actor : goal.invariant-loop-actor
-invariant-loop-actor g l = AreNextBelow (g.F.Firing.net l.net) l.actor l.firings.items

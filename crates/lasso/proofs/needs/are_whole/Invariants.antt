@@ -1,6 +1,0 @@
-use Rattle.std.proofs.Common.{ℕ, ◌<◌}
-use Rattle.lasso.proofs.Due.{IsDone}
-use Rattle.lasso.proofs.needs.are_whole.Given as goal
-
-abbrev pub invariant-loop-actor : goal.invariant-loop-actor
-invariant-loop-actor g l = (a : ℕ) → a < l.actor → IsDone (g.F.Firing.net l.net) l.starts l.until a

@@ -1,5 +1,0 @@
-use Rattle.lasso.proofs.Due.{IsGrown}
-use Rattle.lasso.proofs.needs.extend.Given as goal
-
-abbrev pub invariant-loop-firing : goal.invariant-loop-firing
-invariant-loop-firing g l = IsGrown (g.F.Firing.net l.net) l.until l.actor l.fn.starts l.starts l.next l.firing

@@ -1,5 +1,0 @@
-use Rattle.lasso.proofs.RowLoops.{IsFirstOf}
-use Rattle.lasso.proofs.rows.event_from.Given as goal
-
-abbrev pub invariant-loop-actor : goal.invariant-loop-actor
-invariant-loop-actor g l = IsFirstOf (g.F.Firing.net l.net) l.starts l.from l.actor l.first

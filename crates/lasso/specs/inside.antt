@@ -1,9 +1,0 @@
-pub mod Going
-pub mod Searching
-pub mod Collecting
-pub mod Entering
-pub mod Tracing
-pub mod Printing
-pub mod Marking
-pub mod Needing
-pub mod Showing

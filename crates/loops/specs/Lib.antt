@@ -1,0 +1,3 @@
+pub mod LoopAnswers
+pub mod StartRows
+pub mod Settling

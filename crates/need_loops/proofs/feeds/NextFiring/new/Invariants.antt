@@ -1,0 +1,5 @@
+use Rattle.need_loops.proofs.Fed.{AreFirst}
+use Rattle.need_loops.proofs.feeds.NextFiring.new.Given as goal
+
+abbrev pub invariant-loop-channel : goal.invariant-loop-channel
+invariant-loop-channel g l = AreFirst (g.F.Firing.net l.net) l.actor l.inputs l.channel-index l.pause l.feeds.items

@@ -1,0 +1,4 @@
+pub mod Needing
+pub mod Growing
+pub mod Knowing
+pub mod Showing

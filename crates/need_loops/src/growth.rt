@@ -1,0 +1,81 @@
+//! Rows of starts that grow by needs.
+ghost use Rattle.std.specs.Prelude.{◌≡◌, ℕ, ◌^◌, ◌≤◌, ◌<◌, IfOk, OnOk, length};
+ghost use Rattle.sd_base.specs.Schedules.{phases_at};
+ghost use Rattle.firing.specs.Wiring.{IsWiringOf};
+ghost use Rattle.need_loops.specs.inside.Growing.{IsGrowth};
+
+use crate::feeds::{NextFiring, first_firings};
+use crate::needs::{Reach, extend_all};
+use firing::{Firing, Wiring};
+use loops::empty_rows;
+use sd_base::{NoMemory, Rows};
+use std::alloc::Global;
+
+/// Starts of self-timed execution, as far as needs have told them.
+#[derive(Drop)]
+pub(crate) struct Growth {
+    /// By actor its starts, ascending.
+    pub(crate) starts: Vec<Rows<u64>>,
+    /// By actor what the firing after these needs.
+    pub(crate) firings: Vec<NextFiring>,
+    /// By actor whether the rows may tell more of its starts.
+    pub(crate) flags: Vec<bool>,
+}
+
+impl Growth {
+    /// No starts. Cost: linear in the channels, and in the firings that all first firings need.
+    pub(crate) fn new<F: Firing>(
+        alloc: Global,
+        net: &F,
+        wiring: &Wiring,
+    ) -> Result<Growth, NoMemory>
+        requires wired { IsWiringOf (F.net net.now) wiring.now }
+        requires single { (a : ℕ) → a < length (F.net net.now).times → phases_at (F.net net.now) a ≡ 1 }
+        ensures { IfOk result (λ growth. (until : ℕ) → IsGrowth (F.net net.now) until growth) }
+    {
+        let firings = first_firings(alloc, net, wiring)?;
+        let starts = empty_rows(alloc, net)?;
+        let flags = no_flags(alloc, net)?;
+        Ok(Growth {
+            starts,
+            firings,
+            flags,
+        })
+    }
+
+    /// Adds all starts within a reach that the rows tell, as `extend_all` does.
+    #[inline(always)]
+    pub(crate) fn extend<F: Firing>(
+        &mut self,
+        net: &F,
+        wiring: &Wiring,
+        reach: Reach,
+    ) -> Result<(), NoMemory>
+        requires wired { IsWiringOf (F.net net.now) wiring.now }
+        requires grown { IsGrowth (F.net net.now) reach.until self.old }
+        requires soon { reach.until ≤ 2 ^ 62 }
+        requires few { reach.rounds ≤ 2 ^ 20 }
+        ensures { OnOk result (IsGrowth (F.net net.now) reach.until self.new) }
+    {
+        extend_all(
+            net,
+            wiring,
+            self.firings.as_mut_slice(),
+            self.starts.as_mut_slice(),
+            self.flags.as_mut_slice(),
+            reach,
+        )?;
+        Ok(())
+    }
+}
+
+/// By actor no flag.
+fn no_flags<F: Firing>(alloc: Global, net: &F) -> Result<Vec<bool>, NoMemory>
+    ensures { IfOk result (λ flags. length flags.items ≡ length (F.net net.now).times) }
+{
+    let mut flags = Vec::with_capacity(alloc, net.actors() as usize)?;
+    for _actor in 0..net.actors() {
+        flags.push(false)?;
+    }
+    Ok(flags)
+}

@@ -1,0 +1,14 @@
+pub mod Analyses
+pub mod Boundable
+pub mod Bounds
+pub mod Certified
+pub mod OrderedOver
+pub mod Orderless
+pub mod PointSchedules
+pub mod PointTasks
+pub mod Reached
+pub mod Summaries
+pub mod ToldPoints
+pub mod Verdicts
+pub mod Wanting
+pub mod WorstSizes

@@ -1,0 +1,83 @@
+-- From a certificate that is made to the file that an answer puts.
+use Rattle.std.proofs.Common.{◌≡◌, ℕ, ◌*◌, ◌<◌, ◌≤◌, List, [], All, length, Option, Some, None, Err, refl, sym, subst, get_or, mul-le-mul, arith}
+use Rattle.std.specs.Prelude.{slice_index}
+use Rattle.std.proofs.lemmas.List.Elements.{All-from_get_or}
+use Rattle.sd_base.specs.declared.limits.TheConstants.{START}
+use Rattle.sd_base.specs.Net.{Net}
+use Rattle.sd_base.specs.Lawful.{Lawful}
+use Rattle.sd_base.proofs.Parts.{balanced}
+use Rattle.sd_base.specs.Schedules.{count_of}
+use Rattle.firing.specs.declared.table.LoopTable.{LoopTable}
+use Rattle.periodic.specs.declared.schedule.Periodic.{Periodic}
+use Rattle.periodic.specs.LoopSchedules.{IsScheduleOf}
+use Rattle.cert_text.specs.declared.certificates.Certificate.{Certificate}
+use Rattle.cert_text.specs.Spellable.{AreStarts}
+use Rattle.sd_command.specs.declared.answer.Put.{Put}
+use Rattle.sd_command.specs.declared.file_kind.FileKind.TheVariants as kinds
+use Rattle.sd_command.specs.declared.stop.Stop.{Stop}
+use Rattle.sd_command.specs.declared.stop.Stop.TheVariants as stop
+use Rattle.sd_command.specs.steps.Certifyings.{Certifies, IsTooLong, certifying}
+use Rattle.sd_base.specs.declared.tables.GraphFile.{GraphFile}
+use Rattle.sd_base.specs.declared.tables.ScenarioFile.{ScenarioFile}
+use Rattle.critical.specs.declared.cycle.NeedCycle.{NeedCycle}
+use Rattle.automaton.specs.declared.graph.TimedGraph.{TimedGraph}
+use Rattle.scenario_rate.specs.declared.answer.Worst.{Worst}
+use Rattle.sd_command.specs.declared.commands.wanted.WantedRate.{WantedRate}
+use Rattle.sd_command.specs.commands.Rates.{IsOfRate, IsRateAnswer, IsRateShown, IsRateTooLong}
+use Rattle.pareto_front.specs.declared.point.Point.{Point}
+use Rattle.explore.specs.declared.exploration.Member.{Member}
+use Rattle.explore.specs.Explorations.{cycles_in}
+use Rattle.sd_command.specs.declared.commands.wanted.WantedPoints.{WantedPoints}
+use Rattle.sd_command.specs.commands.Points.{ArePointsShown, ArePointsTooLong, IsOfPoints, IsPointsAnswer}
+use Rattle.sd_command.specs.commands.WorstRates.{IsOfWorst, IsShown, IsWorstAnswer, IsWorstTooLong}
+use Rattle.sd_command.specs.steps.Courses.{deciding}
+use Rattle.sd_command.specs.inside.Steps.{Does}
+
+module _ (asked : Option (List ℕ)) (name shown : List ℕ) (is_asked : asked ≡ Some name) (same : shown ≡ name) (shows : Certificate → Type 0) (c : Certificate) (is : shows c) where
+  -- a certificate is put under the name that was asked for
+  pub put-made : (p : Put) → (certifying kinds.Certificate shown c).passes p → Certifies asked shows (Some p)
+  put-made p passes =
+      subst (λ (o : Option (List ℕ)). Certifies o shows (Some p)) (sym is_asked) (c, is, (p, subst (λ (n : List ℕ). (certifying kinds.Certificate n c).passes p) same passes, refl))
+
+  -- or it isn't
+  pub put-stops : (why : Stop) → Does (certifying kinds.Certificate shown c) (Err why) → Does (deciding (Certifies asked shows) (IsTooLong asked shows)) (Err why)
+  put-stops (stop.Refused refusal) refuses = subst (λ (o : Option (List ℕ)). IsTooLong o shows refusal) (sym is_asked) (c, is, refuses)
+  put-stops stop.OutOfMemory nothing = tt
+
+pub put-none : (asked : Option (List ℕ)) (shows : Certificate → Type 0) → asked ≡ None → Certifies asked shows None
+put-none asked shows none = subst (λ (o : Option (List ℕ)). Certifies o shows None) (sym none) refl
+
+-- a schedule of a loop has a text
+pub starts-spelled : (net : Net) (table : LoopTable) (schedule : Periodic) → Lawful net → IsScheduleOf net table schedule → All AreStarts schedule.starts
+starts-spelled net table schedule laws is = All-from_get_or AreStarts schedule.starts [] row
+  where
+    row : (a : ℕ) → a < length schedule.starts → AreStarts (get_or schedule.starts a [])
+    row a below = record {
+      some =
+          let actor : a < length net.times = omega (arith, below, is.holds.listed.actors) in
+          let turn : count_of schedule.starts a ≡ schedule.rounds * slice_index net.round a = is.holds.listed.whole a actor in
+          let some_turn : 1 * 1 ≤ schedule.rounds * slice_index net.round a = mul-le-mul is.holds.turns ((balanced net laws).fires a actor) in
+          omega (arith, turn, some_turn);
+      early = All-from_get_or (λ (s : ℕ). s ≤ START) (get_or schedule.starts a []) 0 (λ k within. is.small a k);
+    }
+
+-- the certificate of a rate that is shown stops its answer
+pub rate-stops : (graph : GraphFile) (net : Net) (ds : List (Option ℕ)) (wanted : WantedRate) (schedule : Periodic) (cycle : NeedCycle) → IsRateShown net wanted.states schedule cycle → (why : Stop)
+    → Does (deciding (Certifies wanted.certificate (IsOfRate net ds wanted schedule cycle)) (IsTooLong wanted.certificate (IsOfRate net ds wanted schedule cycle))) (Err why)
+    → Does (deciding (IsRateAnswer graph net ds wanted) (IsRateTooLong net ds wanted)) (Err why)
+rate-stops graph net ds wanted schedule cycle shown (stop.Refused refusal) long = record { schedule = schedule; cycle = cycle; shown = shown; long = long }
+rate-stops graph net ds wanted schedule cycle shown stop.OutOfMemory nothing = tt
+
+-- that of a worst rate too
+pub worst-stops : (file : ScenarioFile) (graph : TimedGraph) (certificate : Option (List ℕ)) (worst : Worst) → IsShown file graph worst → (why : Stop)
+    → Does (deciding (Certifies certificate (IsOfWorst graph worst)) (IsTooLong certificate (IsOfWorst graph worst))) (Err why)
+    → Does (deciding (λ answer. IsWorstAnswer file graph certificate answer 0) (λ refusal. IsWorstTooLong file graph certificate refusal 0)) (Err why)
+worst-stops file graph certificate worst shown (stop.Refused refusal) long = record { worst = worst; is = shown; long = long; none = refl }
+worst-stops file graph certificate worst shown stop.OutOfMemory nothing = tt
+
+-- that of points too
+pub points-stops : (graph : GraphFile) (net : Net) (wanted : WantedPoints) (members : List Member) (points : List Point) (schedules : List Periodic) → ArePointsShown net wanted members points schedules → (why : Stop)
+    → Does (deciding (Certifies wanted.certificate (IsOfPoints net wanted members points schedules)) (IsTooLong wanted.certificate (IsOfPoints net wanted members points schedules))) (Err why)
+    → Does (deciding (λ answer. IsPointsAnswer graph net wanted answer (cycles_in members)) (λ refusal. ArePointsTooLong net wanted refusal (cycles_in members))) (Err why)
+points-stops graph net wanted members points schedules shown (stop.Refused refusal) long = record { members = members; points = points; schedules = schedules; shown = shown; long = long; counted = refl }
+points-stops graph net wanted members points schedules shown stop.OutOfMemory nothing = tt

@@ -1,0 +1,75 @@
+-- The rate in lowest terms, which the loop's schedule reaches and its need cycle bounds.
+use Rattle.std.proofs.Common.{◌≡◌, ℕ, zero, suc, ◌*◌, ◌/◌, ◌%◌, ◌<◌, refl, sym, ap, ◌∙◌, arith, mod-lt}
+use Rattle.std.specs.Int.{IsGcd}
+use Rattle.std.proofs.lemmas.Nat.Gcd.{IsGcd-from_zero, IsGcd-from_mod}
+use Rattle.sd_base.specs.Net.{Net}
+use Rattle.std.proofs.Math.Nat.{mul-div_cancel', eq_of_mul-eq-mul_left}
+use Rattle.sd_base.proofs.Divisors.{gcd_pos, quotients}
+use Rattle.firing.specs.declared.table.LoopTable.{LoopTable}
+use Rattle.lasso.specs.LoopAnswers.{IsFound}
+use Rattle.periodic.specs.declared.schedule.Periodic.{Periodic}
+use Rattle.periodic.specs.LoopSchedules.{IsScheduleOf}
+use Rattle.critical.specs.declared.cycle.NeedCycle.{NeedCycle}
+use Rattle.critical.specs.CriticalCycles.{IsCriticalCycleOf}
+use Rattle.sd_command.specs.commands.Rates.{IsRateShown}
+
+-- any two numbers have a greatest common divisor
+gcd_of : (fuel a b : ℕ) → b < fuel → (g : ℕ) × IsGcd a b g
+gcd_of zero a b below = absurd (omega arith)
+gcd_of (suc fuel) a zero below = (a, IsGcd-from_zero a 0 refl)
+gcd_of (suc fuel) a (suc b) below =
+    let rest : a % suc b < suc b = mod-lt a (omega arith) in
+    let found = gcd_of fuel (suc b) (a % suc b) (omega arith) in
+    (found.0, IsGcd-from_mod a (suc b) found.0 found.1)
+
+-- two numbers over their greatest common divisor
+pub record Lowest (n d : ℕ) : Type 0 where
+  pub num : ℕ
+  pub den : ℕ
+  pub common : ℕ
+  pub some : 0 < common
+  pub first : n ≡ common * num
+  pub second : d ≡ common * den
+  pub lowest : IsGcd num den 1
+
+pub lowest_of : (n d : ℕ) → 0 < n → Lowest n d
+lowest_of n d positive =
+    let found = gcd_of (suc d) n d (omega arith) in
+    let g : ℕ = found.0 in
+    let some : 0 < g = gcd_pos n d g positive found.1 in
+    record {
+      num = n / g;
+      den = d / g;
+      common = g;
+      some = some;
+      first = sym (mul-div_cancel' g found.1.0);
+      second = sym (mul-div_cancel' g found.1.1);
+      lowest = quotients n d g some found.1;
+    }
+
+-- the rate of a net that runs round this loop, with this schedule and this cycle
+pub rate-shown : (net : Net) (states : ℕ) (table : LoopTable) (schedule : Periodic) (cycle : NeedCycle) → IsFound net states table → IsScheduleOf net table schedule → IsCriticalCycleOf net table cycle → IsRateShown net states schedule cycle
+rate-shown net states table schedule cycle found of_loop critical =
+    let low : Lowest table.rounds table.period = lowest_of table.rounds table.period found.loop.turns in
+    let g : ℕ = low.common in
+    let turns : table.rounds ≡ g * low.num = low.first in
+    let passes : table.period ≡ g * low.den = low.second in
+    record {
+      num = low.num;
+      den = low.den;
+      rate = found.rate low.num low.den g turns passes low.lowest;
+      table = table;
+      found = found;
+      of_loop = of_loop;
+      critical = critical;
+      holds = critical.holds;
+      reached =
+          let a : schedule.rounds * low.den ≡ (g * low.num) * low.den = ap (λ (n : ℕ). n * low.den) (of_loop.rounds ∙ turns) in
+          let b : low.num * schedule.period ≡ low.num * (g * low.den) = ap (λ (n : ℕ). low.num * n) (of_loop.period ∙ passes) in
+          omega arith;
+      bounded =
+          let a : cycle.rounds * table.period ≡ cycle.rounds * (g * low.den) = ap (λ (n : ℕ). cycle.rounds * n) passes in
+          let b : table.rounds * cycle.time ≡ (g * low.num) * cycle.time = ap (λ (n : ℕ). n * cycle.time) turns in
+          let c : g * (cycle.rounds * low.den) ≡ g * (low.num * cycle.time) = omega (arith, critical.rate) in
+          eq_of_mul-eq-mul_left g low.some _ _ c;
+    }

@@ -1,9 +1,0 @@
-use Rattle.std.proofs.Common.{◌∙◌}
-use Rattle.sd_command.proofs.Joins.{are-actors, strongly}
-use Rattle.sd_command.proofs.nets.join.Goals as goal
-
-pub strongly_connected-requires-clause-ends : goal.strongly_connected-requires-clause-ends
-strongly_connected-requires-clause-ends g c = are-actors (g.F.Firing.net c.args.net.now) _ _ c.actors.ensures (c.deref.ensures.value ∙ c.in_ok-ends.ensures) c.know_laws.ensures
-
-pub returns-in-Ok : goal.returns-in-Ok
-returns-in-Ok g c = strongly (g.F.Firing.net c.args.net.now) _ _ c.actors.ensures (c.deref.ensures.value ∙ c.in_ok-ends.ensures) c.in-Ok.ensures.connected

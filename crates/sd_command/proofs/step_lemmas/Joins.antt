@@ -1,0 +1,60 @@
+-- From paths over the ends of channels to connection and inputs of a net.
+use Rattle.std.proofs.Common.{◌≡◌, ℕ, ◌<◌, List, length, ap, sym, subst, ◌∙◌, get_or}
+use Rattle.std.proofs.lemmas.List.{get_or-map, length-map}
+use Rattle.std.proofs.lemmas.Option.{slice_get-get_or}
+use Rattle.std.specs.Prelude.{slice_get, Some}
+use Rattle.sd_base.specs.Net.{Channel, Net, channel_at, nowhere}
+use Rattle.sd_base.specs.Schedules.{HasInputs}
+use Rattle.sd_base.specs.Connection.{AreStronglyConnected, IsConnected, IsStronglyConnected, ends_of}
+use Rattle.sd_base.specs.Lawful.{Lawful}
+use Rattle.sd_base.proofs.Connections.{IsChannel, channel-of, strongly-connected}
+use Rattle.balance.specs.ConnectRefusals.{AreActors, HasInput, IsConnectRefusal, IsFirstWithoutInput}
+use Rattle.balance.specs.declared.connection.ConnectError.{ConnectError}
+use Rattle.balance.specs.declared.connection.ConnectError.TheVariants as connecting
+use Rattle.sd_command.specs.steps.Nets.{IsFed}
+
+-- where paths lead from each actor to each, walks lead from actor 0 to each
+pub joined-connected : (net : Net) → Lawful net → IsStronglyConnected net → IsConnected net
+joined-connected net laws joined = strongly-connected (length net.times) (ends_of net) laws.some_actor joined
+
+has-input : (net : Net) (a : ℕ) → HasInput (ends_of net) a → (i : ℕ) × (i < length net.channels) × ((channel_at net i).target ≡ a)
+has-input net a (k, e, within, is, into) =
+    let here : slice_get (ends_of net) k ≡ Some e = slice_get-get_or (ends_of net) k e within ∙ ap (λ (p : ℕ × ℕ). Some p) is in
+    let at : IsChannel net k e = channel-of net k e here in
+    (k, at.place, at.target ∙ into)
+
+-- inputs over the ends are inputs of the net
+pub fed-inputs : (net : Net) → IsFed net → HasInputs net
+fed-inputs net fed a actor = has-input net a (fed a actor)
+
+-- the ends of a channel
+abbrev ends_at : Channel → ℕ × ℕ
+ends_at c = (c.source, c.target)
+
+-- the ends of a lawful net's channels are actors
+ends-at_actors : (net : Net) → Lawful net → AreActors (length net.times) (ends_of net)
+ends-at_actors net laws k d within =
+    let place : k < length net.channels = subst (λ (n : ℕ). k < n) (length-map net.channels ends_at) within in
+    let same : get_or (ends_of net) k d ≡ ends_at (channel_at net k) = get_or-map ends_at net.channels k nowhere d place in
+    let source : (channel_at net k).source < length net.times = laws.sources k place in
+    let target : (channel_at net k).target < length net.times = laws.targets k place in
+    subst (λ (e : ℕ × ℕ). (e.0 < length net.times) × (e.1 < length net.times)) (sym same) (source, target)
+
+-- a number of actors and pairs of them that are those of a net
+module _ (net : Net) (n : ℕ) (es : List (ℕ × ℕ)) (actors : n ≡ length net.times) (ends : es ≡ ends_of net) where
+  pub are-actors : Lawful net → AreActors n es
+  are-actors laws = subst (λ (m : ℕ). AreActors m es) (sym actors) (subst (λ (xs : List (ℕ × ℕ)). AreActors (length net.times) xs) (sym ends) (ends-at_actors net laws))
+
+  pub strongly : AreStronglyConnected n es → AreStronglyConnected (length net.times) (ends_of net)
+  strongly is = subst (λ (m : ℕ). AreStronglyConnected m (ends_of net)) actors (subst (λ (xs : List (ℕ × ℕ)). AreStronglyConnected n xs) ends is)
+
+  pub one_way-of : (e : ConnectError) (x y : ℕ) → e ≡ connecting.OneWay x y → IsConnectRefusal n es e → IsConnectRefusal (length net.times) (ends_of net) (connecting.OneWay x y)
+  one_way-of e x y is refusal =
+      subst (λ (m : ℕ). IsConnectRefusal m (ends_of net) (connecting.OneWay x y)) actors
+      (subst (λ (xs : List (ℕ × ℕ)). IsConnectRefusal n xs (connecting.OneWay x y)) ends (subst (λ (f : ConnectError). IsConnectRefusal n es f) is refusal))
+
+  pub without-input : (a : ℕ) → IsFirstWithoutInput n es a → IsFirstWithoutInput (length net.times) (ends_of net) a
+  without-input a is = subst (λ (m : ℕ). IsFirstWithoutInput m (ends_of net) a) actors (subst (λ (xs : List (ℕ × ℕ)). IsFirstWithoutInput n xs a) ends is)
+
+  pub with-inputs : ((a : ℕ) → a < n → HasInput es a) → (a : ℕ) → a < length net.times → HasInput (ends_of net) a
+  with-inputs all a below = subst (λ (xs : List (ℕ × ℕ)). HasInput xs a) ends (all a (subst (λ (m : ℕ). a < m) (sym actors) below))

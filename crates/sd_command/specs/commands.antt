@@ -1,0 +1,14 @@
+pub mod BoundedCourses
+pub mod Checks
+pub mod Conversions
+pub mod Expansions
+pub mod Generations
+pub mod InOrders
+pub mod LeastTimes
+pub mod Points
+pub mod Rates
+pub mod Repetitions
+pub mod ScenarioPoints
+pub mod Throughputs
+pub mod TradeOffs
+pub mod WorstRates

@@ -1,0 +1,100 @@
+-- The trade-off between the storage and the rate of a net, with what shows it.
+use Rattle.std.specs.Prelude.{◌≡◌, ℕ, ◌*◌, ◌<◌, ◌⊎◌, List, length, Option, Some, None}
+use Rattle.std.specs.List.{AllZip}
+use Rattle.sd_base.specs.declared.tables.GraphFile.{GraphFile}
+use Rattle.sd_base.specs.declared.limits.Limits.{Limits}
+use Rattle.sd_base.specs.declared.limits.Quantity.TheVariants as quantities
+use Rattle.sd_base.specs.Limits.{greatest_of}
+use Rattle.sd_base.specs.Net.{Net}
+use Rattle.sd_base.specs.Untimed.{IsLive}
+use Rattle.lasso.specs.LoopAnswers.{IsStatesSpent, IsTooManyStarts}
+use Rattle.periodic.specs.declared.schedule.Periodic.{Periodic}
+use Rattle.periodic.specs.LoopSchedules.{IsScheduleOf}
+use Rattle.storage.specs.BoundedNets.{bound}
+use Rattle.pareto_front.specs.declared.point.Point.{Point}
+use Rattle.explore.specs.declared.exploration.Member.{Member}
+use Rattle.explore.specs.Reachable.{IsReachable}
+use Rattle.explore.specs.declared.extent.Extent.{Extent}
+use Rattle.explore.specs.declared.extent.Extent.TheVariants.{Limit, Fastest}
+use Rattle.explore.specs.Explorations.{AreFound, CountsFew, cycles_in}
+use Rattle.explore.specs.Extents.{Explores}
+use Rattle.cert_text.specs.declared.certificates.Certificate.{Certificate}
+use Rattle.cert_text.specs.declared.certificates.Certificate.TheVariants as certificates
+use Rattle.cert_text.specs.declared.certificates.StorageCertificate.{StorageCertificate}
+use Rattle.cert_maker.specs.StorageCertificates.{IsStorageCertificate}
+use Rattle.report.specs.declared.refusal.Refusal.{Refusal}
+use Rattle.report.specs.declared.refusal.Refusal.TheVariants.{Above, DistributionsSpent, StatesSpent}
+use Rattle.report.specs.QuantityWords.{quantity_text}
+use Rattle.report.specs.StorageTexts.{buffers_list, points_lines}
+use Rattle.sd_command.specs.declared.answer.Answer.{Answer}
+use Rattle.sd_command.specs.declared.commands.wanted.WantedPoints.{WantedPoints}
+use Rattle.sd_command.specs.steps.Certifyings.{Certifies, IsTooLong}
+use Rattle.sd_command.specs.steps.Courses.{Analysis, Ending, After, ends_by}
+use Rattle.sd_command.specs.steps.Nets.{touching, completing}
+
+-- an exploration passes the number of shapes or of starts, in the execution of a distribution that it comes to; or more
+-- distributions can be reached than it may find
+pub data IsExplorationEnd (graph : GraphFile) (net : Net) (limits : Limits) (refusal : Refusal) : Type 0 where
+  states_spent : (ds : List (Option ℕ)) → IsReachable net limits.total ds → IsLive (bound net ds) → IsStatesSpent (bound net ds) limits.states
+      → refusal ≡ StatesSpent limits.states (Some (buffers_list graph ds)) → IsExplorationEnd graph net limits refusal
+  too_many_starts : (ds : List (Option ℕ)) → IsReachable net limits.total ds → IsLive (bound net ds) → IsTooManyStarts (bound net ds) limits.states
+      → refusal ≡ Above None (quantity_text quantities.Starts) (greatest_of quantities.Starts) → IsExplorationEnd graph net limits refusal
+  distributions_spent : (dss : List (List (Option ℕ))) → AreFound net limits.total dss → limits.distributions < length dss
+      → refusal ≡ DistributionsSpent limits.distributions → IsExplorationEnd graph net limits refusal
+
+-- the schedule is that of the loop of the point's bounded net, and reaches its rate
+pub record IsPointSchedule (net : Net) (point : Point) (schedule : Periodic) : Type 0 where
+  pub of_loop : IsScheduleOf (bound net point.capacities.capacities) point.table schedule
+  pub reached : schedule.rounds * point.rate.den ≡ point.rate.num * schedule.period
+
+-- how far a net is explored: up to the limit where a certificate has to list all members, else until a point has a rate that
+-- none passes
+abbrev pub extent_for : Option (List ℕ) → Extent
+extent_for None = Fastest
+extent_for (Some name) = Limit
+
+-- the points of an exploration, which are exactly the Pareto points of all distributions within the limit, each with the first
+-- distribution that reaches it, and the schedule of its loop
+pub record ArePointsShown (net : Net) (wanted : WantedPoints) (members : List Member) (points : List Point) (schedules : List Periodic) : Type 0 where
+  pub explored : Explores (extent_for wanted.certificate) net wanted.limits members points
+  pub reached : AllZip (IsPointSchedule net) points schedules
+
+-- a certificate of members, and of points with their schedules
+abbrev pub IsOfPoints : Net → WantedPoints → List Member → List Point → List Periodic → Certificate → Type 0
+IsOfPoints net wanted members points schedules c =
+    (s : StorageCertificate) × (c ≡ certificates.Storage s) × IsStorageCertificate net wanted.no_overlap wanted.limits.total members points schedules s
+
+-- what shows the points is printed, and the certificate is made of it; an execution was counted for each member whose net is live
+pub record IsPointsAnswer (graph : GraphFile) (net : Net) (wanted : WantedPoints) (answer : Answer) (n : ℕ) : Type 0 where
+  pub members : List Member
+  pub points : List Point
+  pub schedules : List Periodic
+  pub shown : ArePointsShown net wanted members points schedules
+  pub text : answer.text ≡ points_lines graph points schedules
+  pub put : Certifies wanted.certificate (IsOfPoints net wanted members points schedules) answer.put
+  pub counted : n ≡ cycles_in members
+
+-- the certificate of what shows the points is too long
+pub record ArePointsTooLong (net : Net) (wanted : WantedPoints) (refusal : Refusal) (n : ℕ) : Type 0 where
+  pub members : List Member
+  pub points : List Point
+  pub schedules : List Periodic
+  pub shown : ArePointsShown net wanted members points schedules
+  pub long : IsTooLong wanted.certificate (IsOfPoints net wanted members points schedules) refusal
+  pub counted : n ≡ cycles_in members
+
+-- one exploration, whose limits words and files need not decide, nor the length of its certificate
+abbrev pub exploration : GraphFile → Net → WantedPoints → Analysis
+exploration graph net wanted = record {
+  answered = λ answer n. IsPointsAnswer graph net wanted answer n;
+  refused = λ refusal n. ⊥;
+  ended = λ refusal n. (CountsFew net wanted.limits 0 n × IsExplorationEnd graph net wanted.limits refusal) ⊎ ArePointsTooLong net wanted refusal n;
+  counted = λ n. CountsFew net wanted.limits 0 n;
+}
+
+-- the points of a net that has a channel at each actor and completes a round
+abbrev pub points_of : GraphFile → Net → WantedPoints → Ending → ℕ → Type 0
+points_of graph net wanted =
+    After (touching graph net) λ touched.
+    After (completing graph net) λ complete.
+    ends_by (exploration graph net wanted)

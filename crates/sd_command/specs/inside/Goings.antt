@@ -1,0 +1,19 @@
+-- What calls promise of commands.
+use Rattle.std.specs.Prelude.{◌≡◌, ℕ, Result, Ok, Err}
+use Rattle.sd_command.specs.declared.answer.Answer.{Answer}
+use Rattle.sd_command.specs.declared.stop.Stop.{Stop}
+use Rattle.sd_command.specs.declared.stop.Stop.TheVariants.{Refused, OutOfMemory}
+use Rattle.sd_command.specs.steps.Courses.{Ending, Answered, Lacking, Counted, IsRefusedBy}
+
+-- a call's result is this end of a command
+abbrev pub IsEnd : Result Answer Stop → Ending → Type 0
+IsEnd (Ok answer) ending = ending ≡ Answered answer
+IsEnd (Err (Refused refusal)) ending = IsRefusedBy ending refusal
+IsEnd (Err OutOfMemory) ending = ending ≡ Lacking
+
+-- a call goes through a command, after so many executions
+pub record Goes (command : Ending → ℕ → Type 0) (result : Result Answer Stop) (n faults faults' : ℕ) : Type 0 where
+  pub ending : Ending
+  pub is : IsEnd result ending
+  pub came : command ending n
+  pub counted : Counted ending faults faults'

@@ -1,0 +1,13 @@
+pub mod ActorNames
+pub mod Askings
+pub mod Balancings
+pub mod Bufferings
+pub mod CertificateReadings
+pub mod Certifyings
+pub mod Courses
+pub mod Nets
+pub mod Orderings
+pub mod Readings
+pub mod ScenarioBounds
+pub mod ScenarioSteps
+pub mod Takings

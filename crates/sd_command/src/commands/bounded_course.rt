@@ -1,0 +1,157 @@
+ghost use Rattle.std.specs.Prelude.{◌≡◌, ℕ, ◌-◌, ◌≤◌, All, List};
+ghost use Rattle.sd_base.specs.declared.limits.TheConstants.{CAPACITY};
+ghost use Rattle.sd_base.specs.FileNet.{net_of};
+ghost use Rattle.sd_base.specs.Tables.{IsTimed, KeepsRules};
+ghost use Rattle.storage.specs.BoundedNets.{bound};
+ghost use Rattle.storage.specs.NamedBuffers.{Buffer};
+ghost use Rattle.sd_command.specs.commands.BoundedCourses.{on_bounded, on_file};
+ghost use Rattle.sd_command.specs.steps.Takings.{Files};
+ghost use Rattle.sd_command.specs.inside.Goings.{Goes};
+ghost use Rattle.sd_command.specs.inside.Wants.{IsBounded, IsWithin, no_overlap_of, on_net};
+
+use crate::answer::Answer;
+use crate::commands::expansion::expansion_of;
+use crate::commands::in_order::rate_in_order;
+use crate::commands::least_time::time_of;
+use crate::commands::rates::rate_of;
+use crate::commands::wanted::Wanted;
+use crate::steps::balancing::balanced;
+use crate::steps::buffering::buffered;
+use crate::steps::opening::open_graph;
+use crate::stop::Stop;
+use firing::{CsdfNet, Firing, SdfNet};
+use sd_base::{GraphFile, Kind, Ledger, Steps, Text};
+use sd_io::Shelf;
+use std::alloc::Global;
+use storage::{Bounded, Distribution};
+
+/// What is wanted of the net of a graph file whose named channels have a capacity.
+pub(crate) fn answer<S: Shelf, L: Ledger>(
+    alloc: Global,
+    shelf: &mut S,
+    name: &str,
+    buffers: &[(Text, u64)],
+    wanted: &Wanted,
+    steps: &mut Steps<L>,
+) -> Result<Answer, Stop>
+    requires small { All (λ (b : Buffer). b.1 ≤ CAPACITY) buffers.now }
+    requires within { IsWithin wanted.now }
+    ensures goes { let files : Files = record { tells = S.tells shelf.old; named = S.file shelf.old } in
+        Goes (on_file name.now buffers.now (no_overlap_of wanted.now) (on_net wanted.now) files) result (steps.new.count - steps.old.count) (S.faults shelf.old) (S.faults shelf.new) }
+    ensures stays { (n : List ℕ) → S.file shelf.new n ≡ S.file shelf.old n }
+    ensures telling { S.tells shelf.new ≡ S.tells shelf.old }
+    ensures grows { S.faults shelf.old ≤ S.faults shelf.new }
+    ensures rises { steps.old.count ≤ steps.new.count }
+    ensures share { steps.new.share ≡ steps.old.share }
+{
+    let graph = open_graph(alloc, shelf, name, true)?;
+    on_bounded(alloc, &graph, buffers, wanted, steps)
+}
+
+// The same of a graph.
+fn on_bounded<L: Ledger>(
+    alloc: Global,
+    graph: &GraphFile,
+    buffers: &[(Text, u64)],
+    wanted: &Wanted,
+    steps: &mut Steps<L>,
+) -> Result<Answer, Stop>
+    requires rules { KeepsRules graph.now }
+    requires timed { IsTimed graph.now }
+    requires small { All (λ (b : Buffer). b.1 ≤ CAPACITY) buffers.now }
+    requires within { IsWithin wanted.now }
+    ensures goes { (faults : ℕ) →
+        Goes (on_bounded graph.now buffers.now (no_overlap_of wanted.now) (on_net wanted.now)) result (steps.new.count - steps.old.count) faults faults }
+    ensures rises { steps.old.count ≤ steps.new.count }
+    ensures share { steps.new.share ≡ steps.old.share }
+{
+    let distribution = buffered(alloc, graph, buffers)?;
+    let gamma = balanced(alloc, graph)?;
+    on_kind(alloc, graph, gamma.as_slice(), &distribution, wanted, steps)
+}
+
+// The same of a graph with its repetition vector and the capacities of its channels. Each kind of graphs has a net of its own,
+// so that the analyses ask nothing of the kind at each event.
+fn on_kind<L: Ledger>(
+    alloc: Global,
+    graph: &GraphFile,
+    gamma: &[u64],
+    distribution: &Distribution,
+    wanted: &Wanted,
+    steps: &mut Steps<L>,
+) -> Result<Answer, Stop>
+    requires bounded { IsBounded graph.now gamma.now (no_overlap_of wanted.now) distribution.now.capacities }
+    requires within { IsWithin wanted.now }
+    ensures goes { (faults : ℕ) →
+        Goes (on_net wanted.now graph.now gamma.now distribution.now (bound (net_of graph.now gamma.now (no_overlap_of wanted.now)) distribution.now.capacities)) result (steps.new.count - steps.old.count) faults faults }
+    ensures rises { steps.old.count ≤ steps.new.count }
+    ensures share { steps.new.share ≡ steps.old.share }
+{
+    match graph.kind {
+        Kind::Sdf => {
+            let net = SdfNet::new(alloc, graph, gamma, wanted.no_overlap())?;
+            within(alloc, &net, graph, gamma, distribution, wanted, steps)
+        }
+        Kind::Csdf => {
+            let net = CsdfNet::new(alloc, graph, gamma, wanted.no_overlap())?;
+            within(alloc, &net, graph, gamma, distribution, wanted, steps)
+        }
+    }
+}
+
+// The same of the net of the graph.
+fn within<F: Firing, L: Ledger>(
+    alloc: Global,
+    net: &F,
+    graph: &GraphFile,
+    gamma: &[u64],
+    distribution: &Distribution,
+    wanted: &Wanted,
+    steps: &mut Steps<L>,
+) -> Result<Answer, Stop>
+    requires net { F.net net.now ≡ net_of graph.now gamma.now (no_overlap_of wanted.now) }
+    requires bounded { IsBounded graph.now gamma.now (no_overlap_of wanted.now) distribution.now.capacities }
+    requires within { IsWithin wanted.now }
+    ensures goes { (faults : ℕ) →
+        Goes (on_net wanted.now graph.now gamma.now distribution.now (bound (net_of graph.now gamma.now (no_overlap_of wanted.now)) distribution.now.capacities)) result (steps.new.count - steps.old.count) faults faults }
+    ensures rises { steps.old.count ≤ steps.new.count }
+    ensures share { steps.new.share ≡ steps.old.share }
+{
+    let bounded = Bounded::new(alloc, net, distribution)?;
+    on_net(alloc, &bounded, graph, gamma, distribution, wanted, steps)
+}
+
+// The same of the bounded net.
+fn on_net<F: Firing, L: Ledger>(
+    alloc: Global,
+    net: &F,
+    graph: &GraphFile,
+    gamma: &[u64],
+    distribution: &Distribution,
+    wanted: &Wanted,
+    steps: &mut Steps<L>,
+) -> Result<Answer, Stop>
+    requires net { F.net net.now ≡ bound (net_of graph.now gamma.now (no_overlap_of wanted.now)) distribution.now.capacities }
+    requires bounded { IsBounded graph.now gamma.now (no_overlap_of wanted.now) distribution.now.capacities }
+    requires within { IsWithin wanted.now }
+    ensures goes { (faults : ℕ) →
+        Goes (on_net wanted.now graph.now gamma.now distribution.now (F.net net.now)) result (steps.new.count - steps.old.count) faults faults }
+    ensures rises { steps.old.count ≤ steps.new.count }
+    ensures share { steps.new.share ≡ steps.old.share }
+{
+    match wanted {
+        Wanted::Rate(rate) => rate_of(alloc, net, graph, distribution, rate, steps),
+        Wanted::Ordered { lists, rate } => rate_in_order(
+            alloc,
+            net,
+            graph,
+            gamma,
+            distribution,
+            lists.as_slice(),
+            rate,
+            steps,
+        ),
+        Wanted::Rounds(rounds) => time_of(alloc, net, graph, rounds, steps),
+        Wanted::Expansion { output, .. } => expansion_of(alloc, net, graph, output.as_str()),
+    }
+}

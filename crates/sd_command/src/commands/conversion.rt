@@ -1,0 +1,57 @@
+ghost use Rattle.std.specs.Prelude.{◌≡◌, ℕ, ◌≤◌, List};
+ghost use Rattle.cert_text.specs.Orderly.{IsOrderly};
+ghost use Rattle.cert_text.specs.Spellable.{IsSpellable};
+ghost use Rattle.sd_command.specs.commands.Conversions.{convert, converted, kind_of};
+ghost use Rattle.sd_command.specs.steps.Takings.{Files};
+ghost use Rattle.sd_command.specs.inside.Goings.{Goes};
+
+use crate::answer::Answer;
+use crate::file_kind::FileKind;
+use crate::steps::certifying::certify;
+use crate::steps::opening::open_certificate;
+use crate::stop::Stop;
+use cert_text::Certificate;
+use report::{CertificateKind, converted_text};
+use sd_io::Shelf;
+use std::alloc::Global;
+
+/// A certificate of either version in the version that is written, put under another name. It isn't asked to be valid.
+pub(crate) fn answer<S: Shelf>(
+    alloc: Global,
+    shelf: &mut S,
+    certificate: &str,
+    output: &str,
+) -> Result<Answer, Stop>
+    ensures goes { let files : Files = record { tells = S.tells shelf.old; named = S.file shelf.old } in
+        Goes (convert certificate.now output.now files) result 0 (S.faults shelf.old) (S.faults shelf.new) }
+    ensures stays { (n : List ℕ) → S.file shelf.new n ≡ S.file shelf.old n }
+    ensures telling { S.tells shelf.new ≡ S.tells shelf.old }
+    ensures grows { S.faults shelf.old ≤ S.faults shelf.new }
+{
+    let read = open_certificate(alloc, shelf, certificate)?;
+    converted(alloc, output, &read.1)
+}
+
+// The certificate under the name of the output.
+fn converted(alloc: Global, output: &str, certificate: &Certificate) -> Result<Answer, Stop>
+    requires spellable { IsSpellable certificate.now }
+    requires orderly { IsOrderly certificate.now }
+    ensures { (faults : ℕ) → Goes (converted output.now certificate.now) result 0 faults faults }
+{
+    let put = certify(alloc, FileKind::Output, output, certificate)?;
+    Ok(Answer {
+        text: converted_text(alloc, kind_of(certificate))?,
+        put: Some(put),
+    })
+}
+
+// What a certificate shows.
+fn kind_of(certificate: &Certificate) -> CertificateKind
+    ensures { result ≡ kind_of certificate.now }
+{
+    match certificate {
+        Certificate::Rate(_) => CertificateKind::Throughput,
+        Certificate::Storage(_) => CertificateKind::Storage,
+        Certificate::Scenario(_) => CertificateKind::Scenario,
+    }
+}

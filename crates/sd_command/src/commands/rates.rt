@@ -1,0 +1,149 @@
+ghost use Rattle.std.specs.Prelude.{◌≡◌, ℕ, ◌+◌, ◌-◌, ◌^◌, ◌<◌, ◌≤◌, All, IfOk, length};
+ghost use Rattle.std.specs.Option.{IsSome};
+ghost use Rattle.sd_base.specs.Net.{Net as ANet};
+ghost use Rattle.sd_base.specs.Untimed.{IsLive};
+ghost use Rattle.lasso.specs.LoopAnswers.{IsFound, IsRunRefusal as IsRunError};
+ghost use Rattle.report.specs.LinkTexts.{IsNamed};
+ghost use Rattle.cert_maker.specs.Links.{HasNoOrders};
+ghost use Rattle.sd_base.specs.Connection.{IsStronglyConnected};
+ghost use Rattle.sd_words.specs.Asked.{AreStates};
+ghost use Rattle.sd_command.specs.steps.Nets.{IsFed, on_live};
+ghost use Rattle.sd_command.specs.commands.Rates.{IsOfRate, IsRateAnswer, IsRateTooLong, IsRunRefusal, execution};
+ghost use Rattle.critical.specs.declared.cycle.CycleStep.{CycleStep as AStep};
+ghost use Rattle.cert_text.specs.declared.certificates.Certificate.{Certificate as ACertificate};
+ghost use Rattle.cert_text.specs.Spellable.{AreStarts};
+ghost use Rattle.sd_command.specs.steps.Certifyings.{Certifies, IsTooLong};
+ghost use Rattle.sd_command.specs.steps.Courses.{deciding};
+ghost use Rattle.sd_command.specs.inside.Steps.{Does};
+ghost use Rattle.sd_command.specs.inside.Goings.{Goes};
+
+use crate::answer::{Answer, Put};
+use crate::commands::wanted::WantedRate;
+use crate::file_kind::FileKind;
+use crate::steps::certifying::certify;
+use crate::steps::nets::test;
+use crate::steps::reading::above;
+use crate::stop::Stop;
+use cert_maker::rate_certificate;
+use critical::{NeedCycle, cycle_of};
+use firing::{Firing, LoopTable, know_laws};
+use lasso::{RunError, run_loop};
+use periodic::{Periodic, from_loop};
+use report::{Refusal, rate_text};
+use sd_base::{GraphFile, Ledger, NoMemory, Quantity, Steps};
+use std::alloc::Global;
+use storage::Distribution;
+
+/// The rate of a net that is bounded by a distribution, with the schedule that reaches it and the need cycle that bounds it.
+/// `graph` has the names of its actors and channels.
+pub(crate) fn rate_of<F: Firing, L: Ledger>(
+    alloc: Global,
+    net: &F,
+    graph: &GraphFile,
+    distribution: &Distribution,
+    wanted: &WantedRate,
+    steps: &mut Steps<L>,
+) -> Result<Answer, Stop>
+    requires named { IsNamed graph.now (F.net net.now) }
+    requires unordered { IsSome wanted.now.certificate → HasNoOrders (F.net net.now) }
+    requires few_channels { length distribution.now.capacities < 2 ^ 32 }
+    requires states { AreStates wanted.now.states }
+    ensures goes { (faults : ℕ) →
+        Goes (on_live graph.now (F.net net.now) (execution graph.now (F.net net.now) distribution.now.capacities wanted.now)) result (steps.new.count - steps.old.count) faults faults }
+    ensures rises { steps.old.count ≤ steps.new.count }
+    ensures share { steps.new.share ≡ steps.old.share }
+{
+    test(alloc, net, graph)?;
+    let table = find_loop(alloc, net, wanted.states, steps)?;
+    shown(alloc, net, graph, distribution, wanted, &table)
+}
+
+// The loop of self-timed execution, or the refusal of one that passes a bound.
+fn find_loop<F: Firing, L: Ledger>(
+    alloc: Global,
+    net: &F,
+    states: u64,
+    steps: &mut Steps<L>,
+) -> Result<LoopTable, Stop>
+    requires joined { IsStronglyConnected (F.net net.now) }
+    requires fed { IsFed (F.net net.now) }
+    requires live { IsLive (F.net net.now) }
+    requires states { AreStates states }
+    ensures does { Does (deciding (IsFound (F.net net.now) states) (IsRunRefusal (F.net net.now) states)) result }
+    ensures counts { steps.new.count ≡ steps.old.count + 1 }
+    ensures share { steps.new.share ≡ steps.old.share }
+{
+    know_laws(net);
+    match run_loop(alloc, net, states, steps) {
+        Ok(table) => Ok(table),
+        Err(error) => Err(Stop::Refused(run_refusal(alloc, error, states)?)),
+    }
+}
+
+/// The refusal of an execution that passes a bound. Want of memory has none.
+pub(crate) fn run_refusal(alloc: Global, error: RunError, states: u64) -> Result<Refusal, NoMemory>
+    ensures { (net : ANet) → IsRunError net states error → IfOk result (IsRunRefusal net states) }
+{
+    match error {
+        RunError::StatesSpent => Ok(Refusal::StatesSpent { states, at: None }),
+        RunError::TooManyStarts => above(alloc, Quantity::Starts),
+        RunError::NoMemory => Err(NoMemory),
+    }
+}
+
+// The answer by the loop of the net: its text, and its certificate where one is asked for.
+fn shown<F: Firing>(
+    alloc: Global,
+    net: &F,
+    graph: &GraphFile,
+    distribution: &Distribution,
+    wanted: &WantedRate,
+    table: &LoopTable,
+) -> Result<Answer, Stop>
+    requires named { IsNamed graph.now (F.net net.now) }
+    requires unordered { IsSome wanted.now.certificate → HasNoOrders (F.net net.now) }
+    requires few { length distribution.now.capacities < 2 ^ 32 }
+    requires fed { IsFed (F.net net.now) }
+    requires found { IsFound (F.net net.now) wanted.now.states table.now }
+    ensures { Does (deciding (IsRateAnswer graph.now (F.net net.now) distribution.now.capacities wanted.now) (IsRateTooLong (F.net net.now) distribution.now.capacities wanted.now)) result }
+{
+    know_laws(net);
+    let schedule = from_loop(alloc, net, table)?;
+    let cycle = cycle_of(alloc, net, table)?;
+    let text = rate_text(alloc, net, graph, &schedule, &cycle)?;
+    let put = put_for(alloc, net, distribution, wanted, schedule, &cycle)?;
+    Ok(Answer { text, put })
+}
+
+// The file of the certificate of a schedule and a need cycle, where one is asked for.
+fn put_for<F: Firing>(
+    alloc: Global,
+    net: &F,
+    distribution: &Distribution,
+    wanted: &WantedRate,
+    schedule: Periodic,
+    cycle: &NeedCycle,
+) -> Result<Option<Put>, Stop>
+    requires unordered { IsSome wanted.now.certificate → HasNoOrders (F.net net.now) }
+    requires few { length distribution.now.capacities < 2 ^ 32 }
+    requires period { 1 ≤ schedule.period }
+    requires starts { All AreStarts schedule.starts }
+    requires channels { All (λ (s : AStep). s.channel < length (F.net net.now).channels) cycle.now.steps }
+    ensures { let shows : ACertificate → Type 0 = IsOfRate (F.net net.now) distribution.now.capacities wanted.now schedule cycle.now in
+        Does (deciding (Certifies wanted.now.certificate shows) (IsTooLong wanted.now.certificate shows)) result }
+{
+    match &wanted.certificate {
+        None => Ok(None),
+        Some(name) => {
+            let made = rate_certificate(
+                alloc,
+                net,
+                wanted.no_overlap,
+                distribution,
+                schedule,
+                cycle,
+            )?;
+            Ok(Some(certify(alloc, FileKind::Certificate, name.as_str(), &made)?))
+        }
+    }
+}

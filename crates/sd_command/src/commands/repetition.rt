@@ -1,0 +1,28 @@
+ghost use Rattle.std.specs.Prelude.{◌≡◌, ℕ, ◌≤◌, List};
+ghost use Rattle.sd_command.specs.steps.Takings.{Files};
+ghost use Rattle.sd_command.specs.commands.Repetitions.{repetition};
+ghost use Rattle.sd_command.specs.inside.Goings.{Goes};
+
+use crate::answer::Answer;
+use crate::steps::balancing::balanced;
+use crate::steps::opening::open_graph;
+use crate::stop::Stop;
+use report::repetition_text;
+use sd_io::Shelf;
+use std::alloc::Global;
+
+/// How often each actor of a graph file fires in a round.
+pub(crate) fn answer<S: Shelf>(alloc: Global, shelf: &mut S, name: &str) -> Result<Answer, Stop>
+    ensures goes { let files : Files = record { tells = S.tells shelf.old; named = S.file shelf.old } in
+        Goes (repetition name.now files) result 0 (S.faults shelf.old) (S.faults shelf.new) }
+    ensures stays { (n : List ℕ) → S.file shelf.new n ≡ S.file shelf.old n }
+    ensures telling { S.tells shelf.new ≡ S.tells shelf.old }
+    ensures grows { S.faults shelf.old ≤ S.faults shelf.new }
+{
+    let graph = open_graph(alloc, shelf, name, false)?;
+    let gamma = balanced(alloc, &graph)?;
+    Ok(Answer {
+        text: repetition_text(alloc, &graph, gamma.as_slice())?,
+        put: None,
+    })
+}

@@ -1,0 +1,143 @@
+ghost use Rattle.std.specs.Prelude.{◌≡◌, ℕ, ◌≤◌, All, IfOk, List, length};
+ghost use Rattle.sd_base.specs.declared.limits.TheConstants.{DISTRIBUTIONS, LEAST_DISTRIBUTIONS, STORAGE};
+ghost use Rattle.sd_base.specs.Scenarios.{FileKeepsRules};
+ghost use Rattle.scenario_reader.specs.ScenarioNames.{FileHasWritableNames};
+ghost use Rattle.bounded_scenarios.specs.Boundings.{CanBeBounded};
+ghost use Rattle.scenario_storage.specs.ScenarioPoints.{AreScenarioPoints};
+ghost use Rattle.sd_command.specs.steps.Courses.{deciding};
+ghost use Rattle.sd_command.specs.commands.ScenarioPoints.{IsSearchEnd, lines_of_point, points_in, scenario_points_lines, scenario_storage};
+ghost use Rattle.sd_command.specs.steps.Takings.{Files};
+ghost use Rattle.sd_command.specs.inside.Steps.{Does};
+ghost use Rattle.sd_command.specs.inside.Goings.{Goes};
+ghost use Rattle.sd_command.specs.inside.ToldPoints.{CanBeTold};
+
+use crate::answer::Answer;
+use crate::commands::parallel::Parallel;
+use crate::steps::opening::open_scenarios;
+use crate::steps::scenario_bounds::{bound_all, fit_nodes};
+use crate::stop::Stop;
+use bounded_scenarios::looped_tokens;
+use fanout::Gate;
+use report::{Refusal, WorstPoint, points_header, scenario_point_text, shared_buffers_text};
+use scenario_rate::files_are_sound;
+use scenario_storage::{ScenarioLimits, ScenarioPoint, ScenarioStorageError, scenario_points};
+use sd_base::{NoMemory, Quantity, Rows, ScenarioFile};
+use sd_io::Shelf;
+use std::alloc::Global;
+use std::thread::Threads;
+
+/// The trade-off between the storage of the channels that scenarios share and the worst rate: its Pareto points within a limit.
+pub(crate) fn answer<R: Threads + Sync, S: Shelf, G: Gate + Sync>(
+    parallel: &Parallel<'_, R, G>,
+    alloc: Global,
+    shelf: &mut S,
+    name: &str,
+    limits: ScenarioLimits,
+) -> Result<Answer, Stop>
+    requires total { limits.total ≤ STORAGE }
+    requires some { LEAST_DISTRIBUTIONS ≤ limits.distributions }
+    requires few { limits.distributions ≤ DISTRIBUTIONS }
+    ensures goes { let files : Files = record { tells = S.tells shelf.old; named = S.file shelf.old } in
+        Goes (scenario_storage name.now limits files) result 0 (S.faults shelf.old) (S.faults shelf.new) }
+    ensures stays { (n : List ℕ) → S.file shelf.new n ≡ S.file shelf.old n }
+    ensures telling { S.tells shelf.new ≡ S.tells shelf.old }
+    ensures grows { S.faults shelf.old ≤ S.faults shelf.new }
+{
+    let file = open_scenarios(alloc, shelf, name)?;
+    points_in(parallel, alloc, &file, limits)
+}
+
+// The points of a file.
+fn points_in<R: Threads + Sync, G: Gate + Sync>(
+    parallel: &Parallel<'_, R, G>,
+    alloc: Global,
+    file: &ScenarioFile,
+    limits: ScenarioLimits,
+) -> Result<Answer, Stop>
+    requires rules { FileKeepsRules file.now }
+    requires names { FileHasWritableNames file.now }
+    requires total { limits.total ≤ STORAGE }
+    requires some { LEAST_DISTRIBUTIONS ≤ limits.distributions }
+    requires few { limits.distributions ≤ DISTRIBUTIONS }
+    ensures { (faults : ℕ) → Goes (points_in limits file.now) result 0 faults faults }
+{
+    let tokens = limits.total + looped_tokens(file);
+    bound_all(alloc, file, tokens)?;
+    fit_nodes(alloc, file, tokens)?;
+    let points = search(parallel, alloc, file, limits)?;
+    Ok(Answer {
+        text: text_of(alloc, file, points.as_slice())?,
+        put: None,
+    })
+}
+
+// The points of a file that can be bounded, or the refusal of a limit that the search passes.
+fn search<R: Threads + Sync, G: Gate + Sync>(
+    parallel: &Parallel<'_, R, G>,
+    alloc: Global,
+    file: &ScenarioFile,
+    limits: ScenarioLimits,
+) -> Result<Vec<ScenarioPoint>, Stop>
+    requires bounded { CanBeBounded file.now limits.total }
+    requires total { limits.total ≤ STORAGE }
+    requires some { LEAST_DISTRIBUTIONS ≤ limits.distributions }
+    requires few { limits.distributions ≤ DISTRIBUTIONS }
+    ensures does { Does (deciding (λ points. AreScenarioPoints file.now limits points.items) (IsSearchEnd file.now limits)) result }
+    ensures told { IfOk result (λ points. All (CanBeTold file.now) points.items) }
+{
+    files_are_sound();
+    match scenario_points(parallel.rt, alloc, file, limits, parallel.gate) {
+        Ok(points) => Ok(points),
+        Err(ScenarioStorageError::Edges { at }) => Err(Stop::Refused(Refusal::EdgesAt {
+            number: Quantity::Edges.greatest(),
+            at: shared_buffers_text(alloc, file.shared.as_slice(), &at)?,
+        })),
+        Err(ScenarioStorageError::DistributionsSpent) => {
+            Err(Stop::Refused(Refusal::DistributionsSpent {
+                number: limits.distributions,
+            }))
+        }
+        Err(ScenarioStorageError::NoMemory) => Err(Stop::OutOfMemory),
+    }
+}
+
+// The text of points.
+fn text_of(
+    alloc: Global,
+    file: &ScenarioFile,
+    points: &[ScenarioPoint],
+) -> Result<Rows<u8>, NoMemory>
+    requires { All (CanBeTold file.now) points.now }
+    ensures { IfOk result (λ t. t ≡ scenario_points_lines file.now points.now) }
+{
+    let mut text = points_header(alloc, points.len())?.into_vec();
+    for point in points {
+        let lines = lines_of_point(alloc, file, point)?;
+        text.extend_from_slice(lines.as_slice())?;
+    }
+    Ok(Rows::from_vec(text))
+}
+
+// The lines of a point.
+fn lines_of_point(
+    alloc: Global,
+    file: &ScenarioFile,
+    point: &ScenarioPoint,
+) -> Result<Rows<u8>, NoMemory>
+    requires { CanBeTold file.now point.now }
+    ensures { IfOk result (λ t. t ≡ lines_of_point file.now point.now) }
+{
+    let shown = WorstPoint {
+        total: point.total,
+        capacities: &point.capacities,
+        shared: point.shared.as_slice(),
+        graph: &point.graph,
+        worst: &point.worst,
+    };
+    scenario_point_text(
+        alloc,
+        file.states.as_slice(),
+        file.shared.as_slice(),
+        &shown,
+    )
+}

@@ -1,0 +1,61 @@
+ghost use Rattle.std.specs.Prelude.{◌≡◌, ℕ, ◌-◌, ◌≤◌, List};
+ghost use Rattle.sd_base.specs.Tables.{IsTimed, KeepsRules};
+ghost use Rattle.sd_words.specs.Asked.{AreLimits};
+ghost use Rattle.sd_command.specs.steps.Takings.{Files};
+ghost use Rattle.sd_command.specs.commands.TradeOffs.{storage, trade_off};
+ghost use Rattle.sd_command.specs.inside.Goings.{Goes};
+
+use crate::answer::Answer;
+use crate::commands::parallel::Parallel;
+use crate::commands::points::points_of_graph;
+use crate::commands::wanted::WantedPoints;
+use crate::steps::balancing::balanced;
+use crate::steps::opening::open_graph;
+use crate::stop::Stop;
+use fanout::Gate;
+use sd_base::{GraphFile, Ledger, Steps};
+use sd_io::Shelf;
+use std::alloc::Global;
+use std::thread::Threads;
+
+/// The trade-off between storage and rate of a graph file: its Pareto points within a limit of storage.
+pub(crate) fn answer<R: Threads + Sync, S: Shelf, G: Gate + Sync, L: Ledger + Send>(
+    parallel: &Parallel<'_, R, G>,
+    alloc: Global,
+    shelf: &mut S,
+    name: &str,
+    wanted: &WantedPoints,
+    steps: &mut Steps<L>,
+) -> Result<Answer, Stop>
+    requires limits { AreLimits wanted.now.limits }
+    ensures goes { let files : Files = record { tells = S.tells shelf.old; named = S.file shelf.old } in
+        Goes (storage name.now wanted.now files) result (steps.new.count - steps.old.count) (S.faults shelf.old) (S.faults shelf.new) }
+    ensures stays { (n : List ℕ) → S.file shelf.new n ≡ S.file shelf.old n }
+    ensures telling { S.tells shelf.new ≡ S.tells shelf.old }
+    ensures grows { S.faults shelf.old ≤ S.faults shelf.new }
+    ensures rises { steps.old.count ≤ steps.new.count }
+    ensures share { steps.new.share ≡ steps.old.share }
+{
+    let graph = open_graph(alloc, shelf, name, true)?;
+    trade_off(parallel, alloc, &graph, wanted, steps)
+}
+
+// The trade-off of a graph.
+fn trade_off<R: Threads + Sync, G: Gate + Sync, L: Ledger + Send>(
+    parallel: &Parallel<'_, R, G>,
+    alloc: Global,
+    graph: &GraphFile,
+    wanted: &WantedPoints,
+    steps: &mut Steps<L>,
+) -> Result<Answer, Stop>
+    requires rules { KeepsRules graph.now }
+    requires timed { IsTimed graph.now }
+    requires limits { AreLimits wanted.now.limits }
+    ensures goes { (faults : ℕ) →
+        Goes (trade_off wanted.now graph.now) result (steps.new.count - steps.old.count) faults faults }
+    ensures rises { steps.old.count ≤ steps.new.count }
+    ensures share { steps.new.share ≡ steps.old.share }
+{
+    let gamma = balanced(alloc, graph)?;
+    points_of_graph(parallel, alloc, graph, gamma.as_slice(), wanted, steps)
+}
