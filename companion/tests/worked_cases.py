@@ -2,7 +2,7 @@
 import os
 import re
 
-FOLDER = os.path.join(os.path.dirname(os.path.abspath(__file__)), "..", "..", "crates", "test_cases")
+FOLDER = os.path.join(os.path.dirname(os.path.abspath(__file__)), "..", "..", "crates", "test_cases", "data")
 ESCAPE = re.compile(r"\\(?:\\|e|x([0-9a-f]{2})|\{([0-9]+) ((?:[^\\}]|\\[^{])*)\})", re.S)
 
 
@@ -44,29 +44,44 @@ class Case:
         self.name, self.words, self.files, self.fails = name, [], {}, False
 
 
+def lines_of(name):
+    """The lines of one of the files of cases."""
+    with open(os.path.join(FOLDER, name), encoding="latin-1", newline="") as file:
+        return file.read().split("\n")
+
+
+def cases_of(name, texts):
+    """The cases of a file, with the texts that it shares with others, and with its own put to them."""
+    found, content = [], None
+    for line in lines_of(f"{name}.cases"):
+        key, _, rest = line.partition(" ")
+        if line[:1] in ("|", ">", "@"):
+            content.add(line)
+        elif key == "case":
+            found.append(Case(rest))
+        elif key == "words":
+            found[-1].words = [plain(word) for word in rest.split(" ")]
+        elif key == "file":
+            content = found[-1].files[plain(rest)] = Content(texts)
+        elif key == "text":
+            content = texts[rest] = Content(texts)
+        elif key in ("shelf-fails", "out-fails", "err-fails", "out-room", "err-room", "most"):
+            found[-1].fails = True
+    return found
+
+
 def cases():
     """Each case with the lines that it has to print."""
-    found, texts, content = [], {}, None
-    with open(os.path.join(FOLDER, "stdin"), encoding="latin-1", newline="") as lines:
-        for line in lines.read().split("\n"):
-            key, _, rest = line.partition(" ")
-            if line[:1] in ("|", ">", "@"):
-                content.add(line)
-            elif key == "case":
-                found.append(Case(rest))
-            elif key == "words":
-                found[-1].words = [plain(word) for word in rest.split(" ")]
-            elif key == "file":
-                content = found[-1].files[plain(rest)] = Content(texts)
-            elif key == "text":
-                content = texts[rest] = Content(texts)
-            elif key in ("shelf-fails", "out-fails", "err-fails", "out-room", "err-room", "most"):
-                found[-1].fails = True
-    shown, said = {}, None
-    with open(os.path.join(FOLDER, "stdout"), encoding="latin-1", newline="") as lines:
-        for line in lines.read().split("\n"):
-            if line.startswith("case "):
-                said = shown[line[5:]] = []
-            elif said is not None:
-                said.append(line)
-    return [(case, shown[case.name]) for case in found]
+    texts, found = {}, []
+    cases_of("texts", texts)
+    for file in sorted(os.listdir(FOLDER)):
+        name, _, kind = file.partition(".")
+        if kind == "shown":
+            shown, said = {}, []
+            for line in lines_of(file):
+                if line.startswith("case "):
+                    said = shown[line[5:]] = []
+                else:
+                    said.append(line)
+            found += [(case, shown[case.name]) for case in cases_of(name, texts)]
+    return found

@@ -17,22 +17,21 @@ impl Block {
     }
 }
 
-/// The blocks of a text of cases. Empty lines and those that begin with `#` are passed over.
-pub(crate) fn blocks_of(alloc: Global, text: &str) -> Result<Vec<Block>> {
-    let mut blocks = Vec::new(alloc);
+/// Puts the blocks of a text of cases. Empty lines and those that begin with `#` are passed over.
+pub(crate) fn put_blocks(alloc: Global, blocks: &mut Vec<Block>, text: &str) -> Result<()> {
     for line in text.lines() {
         if line.is_empty() || line.starts_with('#') {
             continue;
         }
         if line.starts_with(|c: char| c == '|' || c == '>' || c == '@') {
-            put_content(alloc, &mut blocks, line)?;
+            put_content(alloc, blocks, line)?;
         } else {
             let head = String::from_str(alloc, line)?;
             let content = Vec::new(alloc);
             blocks.push(Block { head, content })?;
         }
     }
-    Ok(blocks)
+    Ok(())
 }
 
 // Puts a content line at the end of the last block.

@@ -75,6 +75,31 @@ impl Case {
     }
 }
 
+/// The cases of blocks, among which texts may stand.
+pub(crate) fn cases_of(alloc: Global, blocks: Vec<Block>) -> Result<Vec<Case>> {
+    let mut cases = Vec::new(alloc);
+    for block in blocks {
+        put_block(alloc, &mut cases, block)?;
+    }
+    Ok(cases)
+}
+
+// Begins a case, or puts what a block says into the last one.
+fn put_block(alloc: Global, cases: &mut Vec<Case>, block: Block) -> Result<()> {
+    let (key, rest) = block.key();
+    if key == "text" {
+        return Ok(());
+    }
+    if key == "case" {
+        cases.push(Case::new(alloc, rest)?)?;
+        return Ok(());
+    }
+    match cases.last_mut() {
+        Some(case) => case.put(alloc, block),
+        None => bail!("a line of a case before the first case"),
+    }
+}
+
 // The words of a line, with one space between any two.
 fn words_of(alloc: Global, line: &str) -> Result<Vec<Text>> {
     let mut words = Vec::new(alloc);
