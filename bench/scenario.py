@@ -61,6 +61,12 @@ def kinds(number):
     return file(scenarios, states, "q0")
 
 
+def idle(number, shared):
+    """So many scenarios that share so many tokens of one channel. There is one state, which runs the first of them."""
+    scenarios = {f"f{k}": graph({"x": 3}, [("s", "x", 1, 1, "x", shared)]) for k in range(number)}
+    return file(scenarios, {"q": ("f0", ["q"])}, "q")
+
+
 def example(name):
     with open(os.path.join(ROOT, "examples", name), encoding="utf-8") as text:
         return text.read()
@@ -72,6 +78,7 @@ def cases():
     yield "a falling path of 64 to 64 states", falling(64, 64), None
     yield "a falling path of 128 to 128", falling(128, 128), None
     yield "a falling path of 192 to 64", falling(192, 64), None
+    yield "1,024 tokens, 64 scenarios, 1 is run", idle(64, 1_024), None
     yield "the buffers of a video decoder, to 9", example("video_buffers.xml"), 9
     # Three tokens have no capacity: 64 states times 13 + 3 are the 1,024 nodes that are allowed.
     yield "64 kinds of frames, to 13", kinds(64), 13
