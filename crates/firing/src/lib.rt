@@ -24,4 +24,4 @@ pub use single::{is_single_phase, single_phase_copy};
 pub use sums::{Port, made_sum, need, port_phases, port_rate, taken_sum};
 pub use table::LoopTable;
 pub use tokens::{first_lack, initial_tokens, put_tokens, span_sum, take_tokens};
-pub use wiring::{Wiring, ends, know_wiring};
+pub use wiring::{Wired, Wiring, ends};

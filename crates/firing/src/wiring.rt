@@ -3,7 +3,7 @@ ghost use Rattle.sd_base.specs.Net.{channel_at};
 ghost use Rattle.sd_base.specs.Connection.{ends_of};
 ghost use Rattle.firing.specs.declared.sums.Port.TheVariants.{Made, Taken};
 ghost use Rattle.firing.specs.Groups.{AreGroups};
-ghost use Rattle.firing.specs.Wiring.{actor_at, AreListed, IsWiringOf};
+ghost use Rattle.firing.specs.Wiring.{actor_at, AreListed, IsListed, IsWiringOf};
 
 use crate::groups::Groups;
 use crate::net::{Firing, know_laws};
@@ -51,8 +51,36 @@ impl Wiring {
     }
 }
 
-/// What a wiring lists of each net whose wiring it is, for callers that are passed both. It does nothing.
-pub fn know_wiring<F: Firing>(net: &F, wiring: &Wiring)
+/// A net with its channels by actor, which analyses that go from actor to actor are passed as one.
+#[derive(Drop)]
+pub struct Wired<'a, F: Firing> {
+    pub net: &'a F,
+    pub wiring: &'a Wiring,
+    ghost wired: { IsWiringOf (F.net net.now) wiring.now },
+}
+
+impl<'a, F: Firing> Wired<'a, F> {
+    /// The channels into an actor, ascending.
+    pub fn inputs_of(&self, actor: u32) -> &[u32]
+        requires { actor < length (F.net self.now.net.now).times }
+        ensures { IsListed (F.net self.now.net.now) Taken actor result.now }
+    {
+        know_wiring(self.net, self.wiring);
+        self.wiring.inputs_of(actor)
+    }
+
+    /// The channels out of an actor, ascending.
+    pub fn outputs_of(&self, actor: u32) -> &[u32]
+        requires { actor < length (F.net self.now.net.now).times }
+        ensures { IsListed (F.net self.now.net.now) Made actor result.now }
+    {
+        know_wiring(self.net, self.wiring);
+        self.wiring.outputs_of(actor)
+    }
+}
+
+/// What a wiring lists of each net whose wiring it is. It does nothing.
+fn know_wiring<F: Firing>(net: &F, wiring: &Wiring)
     requires { IsWiringOf (F.net net.now) wiring.now }
     ensures inputs { AreListed (F.net net.now) Taken wiring.now.inputs }
     ensures outputs { AreListed (F.net net.now) Made wiring.now.outputs }
