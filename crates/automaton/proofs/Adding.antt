@@ -2,6 +2,7 @@
 use Rattle.std.proofs.Common.{◌≡◌, ℕ, zero, suc, ◌+◌, ◌*◌, ◌<◌, List, [], ◌∷◌, ◌++◌, length, take, Option, Some, None, refl, sym, ap, subst, ◌∙◌, arith, append_assoc}
 use Rattle.std.specs.Prelude.{slice_get, slice_index_or}
 use Rattle.std.proofs.lemmas.Option.{slice_get-get_or}
+use Rattle.std.proofs.Math.Numerals.{suc-eq-add-one}
 use Rattle.sd_base.specs.declared.tables.StateRow.{StateRow}
 use Rattle.automaton.specs.declared.graph.Edge.{Edge}
 use Rattle.automaton.specs.TimedGraphs.{edges_into, edges_between, edges_out, edges_from}
@@ -62,29 +63,27 @@ from-take n q matrices (x ∷ states) (suc i) s h =
     (edges_out n ((q + suc i) * n) (slice_index_or matrices s.scenario []) s.next))
 
 -- the same with the next place written as code has it
-next : (i : ℕ) → suc i ≡ i + 1
-next i = omega arith
 
 pub added-entry : (a b e : List Edge) (from to : ℕ) (row : List (Option ℕ)) (i : ℕ) → i < length row → b ≡ a ++ edges_into from to (take i row)
     → e ≡ b ++ one_edge (from + i) to (slice_index_or row i None) → e ≡ a ++ edges_into from to (take (i + 1) row)
-added-entry a b e from to row i h is more = subst (λ n. e ≡ a ++ edges_into from to (take n row)) (next i)
+added-entry a b e from to row i h is more = subst (λ n. e ≡ a ++ edges_into from to (take n row)) (suc-eq-add-one i)
     (joined a b (edges_into from to (take i row)) (one_edge (from + i) to (slice_index_or row i None)) e is more
     ∙ ap (λ (z : List Edge). a ++ z) (sym (into-take from to row i (slice_index_or row i None) (slice_get-get_or row i None h))))
 
 pub added-row : (a b e : List Edge) (from to : ℕ) (rows : List (List (Option ℕ))) (i : ℕ) (row : List (Option ℕ)) → slice_get rows i ≡ Some row → b ≡ a ++ edges_between from to (take i rows)
     → e ≡ b ++ edges_into from (to + i) row → e ≡ a ++ edges_between from to (take (i + 1) rows)
-added-row a b e from to rows i row h is more = subst (λ n. e ≡ a ++ edges_between from to (take n rows)) (next i)
+added-row a b e from to rows i row h is more = subst (λ n. e ≡ a ++ edges_between from to (take n rows)) (suc-eq-add-one i)
     (joined a b (edges_between from to (take i rows)) (edges_into from (to + i) row) e is more ∙ ap (λ (z : List Edge). a ++ z) (sym (between-take from to rows i row h)))
 
 pub added-successor : (a b e : List Edge) (n from : ℕ) (rows : List (List (Option ℕ))) (next_states : List ℕ) (i to : ℕ) → i < length next_states → to ≡ slice_index_or next_states i 0 * n
     → b ≡ a ++ edges_out n from rows (take i next_states) → e ≡ b ++ edges_between from to rows → e ≡ a ++ edges_out n from rows (take (i + 1) next_states)
-added-successor a b e n from rows next_states i to h to_is is more = subst (λ m. e ≡ a ++ edges_out n from rows (take m next_states)) (next i)
+added-successor a b e n from rows next_states i to h to_is is more = subst (λ m. e ≡ a ++ edges_out n from rows (take m next_states)) (suc-eq-add-one i)
     (joined a b (edges_out n from rows (take i next_states)) (edges_between from (slice_index_or next_states i 0 * n) rows) e is (more ∙ ap (λ m. b ++ edges_between from m rows) to_is)
     ∙ ap (λ (z : List Edge). a ++ z) (sym (out-take n from rows next_states i (slice_index_or next_states i 0) (slice_get-get_or next_states i 0 h))))
 
 pub added-state : (a b e : List Edge) (n : ℕ) (matrices : List (List (List (Option ℕ)))) (states : List StateRow) (i : ℕ) (s : StateRow) → slice_get states i ≡ Some s
     → b ≡ a ++ edges_from n 0 matrices (take i states) → e ≡ b ++ edges_out n (i * n) (slice_index_or matrices s.scenario []) s.next → e ≡ a ++ edges_from n 0 matrices (take (i + 1) states)
-added-state a b e n matrices states i s h is more = subst (λ m. e ≡ a ++ edges_from n 0 matrices (take m states)) (next i)
+added-state a b e n matrices states i s h is more = subst (λ m. e ≡ a ++ edges_from n 0 matrices (take m states)) (suc-eq-add-one i)
     (joined a b (edges_from n 0 matrices (take i states)) (edges_out n ((0 + i) * n) (slice_index_or matrices s.scenario []) s.next) e is
     (more ∙ ap (λ m. b ++ edges_out n (m * n) (slice_index_or matrices s.scenario []) s.next) (let z : i ≡ 0 + i = omega arith in z))
     ∙ ap (λ (z : List Edge). a ++ z) (sym (from-take n 0 matrices states i s h)))

@@ -2,10 +2,11 @@
 use Rattle.std.proofs.Common.{◌≡◌, ℕ, zero, suc, ◌+◌, ◌*◌, ◌<◌, inl, inr, List, [], ◌∷◌, ◌++◌, length, Option, Some, refl, ap, sym, ◌∙◌, arith}
 use Rattle.std.specs.Prelude.{slice_get, slice_index_or}
 use Rattle.std.proofs.lemmas.Bool.{cases_lt}
+use Rattle.std.proofs.lemmas.List.{length_push}
 use Rattle.sd_base.specs.declared.tables.ScenarioFile.{ScenarioFile}
 use Rattle.sd_base.specs.declared.tables.StateRow.{StateRow}
 use Rattle.sd_base.specs.Scenarios.{shared_count, LeadsOn}
-use Rattle.token_matrix.proofs.Rows.{get_there}
+use Rattle.sd_base.proofs.Lists.{get-there}
 use Rattle.automaton.specs.declared.graph.Edge.{Edge}
 use Rattle.automaton.specs.declared.graph.TimedGraph.{TimedGraph}
 use Rattle.automaton.specs.TimedGraphs.{AreKept, AreMatrices, AreSized, IsProduct, IsRun, edges_from, edges_out}
@@ -44,13 +45,9 @@ more P (x ∷ all) [] m k long same last s run = absurd (omega (arith, long))
 more P (x ∷ all) (y ∷ kept) m k long same last zero run = same 0 run
 more P (x ∷ all) (y ∷ kept) m k long same last (suc s) run = more (λ (t : ℕ). P (suc t)) all kept m k (omega (arith, long)) (λ t there. same (suc t) there) last s run
 
-pushed : (xs : List Entries) (x : Entries) → length (xs ++ x ∷ []) ≡ length xs + 1
-pushed [] x = refl
-pushed (y ∷ xs) x = omega (arith, pushed xs x)
-
 pub kept-more : (file : ScenarioFile) (all kept : List Entries) (m k : Entries) → AreKept file all kept → (IsRun file (length all) → k ≡ m) → AreKept file (all ++ m ∷ []) (kept ++ k ∷ [])
 kept-more file all kept m k are last = record {
-  long = pushed kept k ∙ ap (λ n. n + 1) are.long ∙ sym (pushed all m);
+  long = length_push kept k ∙ ap (λ n. n + 1) are.long ∙ sym (length_push all m);
   same = more (IsRun file) all kept m k are.long are.same last;
 }
 
@@ -100,6 +97,6 @@ kept-product file all kept graph are is = record {
 -- the matrices of a file's scenarios have a row for each shared token
 pub matrices-sized : (file : ScenarioFile) (all : List Entries) → LeadsOn file → AreMatrices file all → AreSized (shared_count file.shared) all file.states
 matrices-sized file all leads are = λ q s at.
-    let row = get_there file.scenarios s.scenario (leads.scenarios q s at) in
+    let row = get-there file.scenarios s.scenario (leads.scenarios q s at) in
     let m = are.each s.scenario row.0 row.1 in
     m.2.size

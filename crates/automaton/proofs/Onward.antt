@@ -1,16 +1,11 @@
 -- Paths go on where each state leads to states.
-use Rattle.std.proofs.Common.{◌≡◌, ℕ, zero, suc, ◌<◌, List, [], ◌∷◌, length, Some, subst, arith}
+use Rattle.std.proofs.Common.{◌≡◌, ℕ, ◌<◌, List, [], length, Some}
 use Rattle.std.specs.Prelude.{All, slice_get}
 use Rattle.std.proofs.lemmas.Option.{slice_get-get_or}
 use Rattle.sd_base.specs.declared.tables.ScenarioFile.{ScenarioFile}
 use Rattle.sd_base.specs.Scenarios.{LeadsOn}
+use Rattle.sd_base.proofs.Lists.{all-get}
 use Rattle.automaton.specs.inside.Leading.{Leads}
-
--- what holds of all holds of the one that is got
-all-get : {X : Type 0} (P : X → Type 0) (xs : List X) (i : ℕ) (x : X) → All P xs → slice_get xs i ≡ Some x → P x
-all-get P [] i x all at = absurd (cc)
-all-get P (y ∷ xs) zero x all at = subst P (let e : y ≡ x = (cc) in e) (all 0 x (omega arith))
-all-get P (y ∷ xs) (suc i) x all at = all-get P xs i x (λ k d below. all (suc k) d (omega arith)) at
 
 get-all : {X : Type 0} (P : X → Type 0) (xs : List X) → ((i : ℕ) (x : X) → slice_get xs i ≡ Some x → P x) → All P xs
 get-all P xs each k d below = each k _ (slice_get-get_or xs k d below)

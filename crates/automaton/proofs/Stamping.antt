@@ -1,7 +1,7 @@
 -- Stamps along paths of states are weights of walks.
 use Rattle.std.proofs.Common.{◌≡◌, ℕ, zero, suc, ◌+◌, ◌*◌, ◌≤◌, ◌<◌, ◌⊎◌, List, [], ◌∷◌, length, map, Option, Some, None, refl, sym, ap, subst, ◌∙◌, inl, inr, arith}
 use Rattle.std.specs.Prelude.{slice_get, slice_index, slice_index_or}
-use Rattle.std.proofs.lemmas.Nat.{div-mul-add, mod-mul-add}
+use Rattle.std.proofs.lemmas.Nat.{same_from_place}
 use Rattle.std.proofs.lemmas.List.{length-map}
 use Rattle.sd_base.specs.Net.{IsRepetitionOf}
 use Rattle.sd_base.specs.declared.tables.ScenarioFile.{ScenarioFile}
@@ -10,13 +10,15 @@ use Rattle.sd_base.specs.declared.tables.StateRow.{StateRow}
 use Rattle.automaton.specs.declared.graph.TimedGraph.{TimedGraph}
 use Rattle.automaton.specs.declared.graph.Edge.{Edge}
 use Rattle.sd_base.specs.Scenarios.{shared_count}
+use Rattle.sd_base.proofs.Lists.{get-there}
+use Rattle.sd_base.proofs.Rounds.{one-repetition}
 use Rattle.token_matrix.specs.Stamps.{AreStampsOf}
 use Rattle.token_matrix.specs.Matrices.{IsMatrix, applied, apply_row, entry_at}
 use Rattle.automaton.specs.WorstRates.{Follow, Carries, RunsTo}
 use Rattle.automaton.specs.TimedGraphs.{IsTimedGraph, edges_from}
 use Rattle.automaton.specs.CriticalCycles.{IsPath, weights, weight_in}
 use Rattle.automaton.proofs.Members.{Has, has-get, get-has, from-there, from-from}
-use Rattle.token_matrix.proofs.Rows.{get_there, row-least, row-gives, Gives, applied-at, one-repetition}
+use Rattle.token_matrix.proofs.Rows.{row-least, row-gives, Gives, applied-at}
 
 module _ (file : ScenarioFile) (graph : TimedGraph) (is : IsTimedGraph file graph) where
   n : ℕ
@@ -36,7 +38,7 @@ module _ (file : ScenarioFile) (graph : TimedGraph) (is : IsTimedGraph file grap
 
   pub at_state : (q : ℕ) (s : StateRow) → slice_get file.states q ≡ Some s → At q s
   at_state q s there =
-      let row = get_there file.scenarios s.scenario (is.leads_on.scenarios q s there) in
+      let row = get-there file.scenarios s.scenario (is.leads_on.scenarios q s there) in
       let m = is.are_matrices.each s.scenario row.0 row.1 in
       record { row = row.0; row_at = row.1; gamma = m.0; least = m.1; matrix = m.2 }
 
@@ -167,8 +169,8 @@ module _ (file : ScenarioFile) (graph : TimedGraph) (is : IsTimedGraph file grap
   pub from_stamps : (qs : List ℕ) (q : ℕ) (x y : List ℕ) → q < length file.states → Follow file.states q qs → RunsTo file x (q ∷ qs) y
       → (j : ℕ) → j < shared_count file.shared → Origin q x (suc (length qs)) (slice_index y j)
   from_stamps [] q x y known follow (z, run, same) j below =
-      let s = get_there file.states q known in
-      let next = get_there s.0.next 0 (is.leads_on.next q s.0 s.1) in
+      let s = get-there file.states q known in
+      let next = get-there s.0.next 0 (is.leads_on.next q s.0 s.1) in
       let c = comes q next.0 0 s.0 x z j s.1 next.1 run below in
       let weight : weights graph.edges (c.k ∷ []) ≡ c.e.weight + 0 = ap (λ (o : Option Edge). weight_in o + 0) c.at in
       record {
@@ -204,12 +206,6 @@ module _ (file : ScenarioFile) (graph : TimedGraph) (is : IsTimedGraph file grap
     pub token : ℕ
     pub above : slice_index x i + sum ≤ slice_index stamps token
 
-  one-node : (m q i a b : ℕ) → i < m → b < m → q * m + i ≡ a * m + b → (q ≡ a) × (i ≡ b)
-  one-node m q i a b h g e = (
-    sym (div-mul-add q m i h) ∙ ap (λ (k : ℕ). Rattle.std.proofs.Common.◌/◌ k m) e ∙ div-mul-add a m b g,
-    sym (mod-mul-add q m i h) ∙ ap (λ (k : ℕ). Rattle.std.proofs.Common.◌%◌ k m) e ∙ mod-mul-add a m b g,
-  )
-
   -- one round along an edge
   record Round (q i : ℕ) (x : List ℕ) (e : Edge) : Type 0 where
     r : ℕ
@@ -229,7 +225,7 @@ module _ (file : ScenarioFile) (graph : TimedGraph) (is : IsTimedGraph file grap
       → slice_get graph.edges k ≡ Some e → q * shared_count file.shared + i ≡ e.from → Round q i x e
   first_round k q i x e below long at from =
       let f = edge_from k e at in
-      let node = one-node (shared_count file.shared) q i f.q f.i below f.column (from ∙ f.from) in
+      let node = same_from_place q i f.q f.i (shared_count file.shared) below f.column (from ∙ f.from) in
       let there : slice_get file.states q ≡ Some f.s = ap (λ (m : ℕ). slice_get file.states m) node.0 ∙ f.there in
       let a = at_state q f.s there in
       let size : length (slice_index_or is.matrices f.s.scenario []) ≡ shared_count file.shared = a.matrix.size in

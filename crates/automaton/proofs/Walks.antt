@@ -24,7 +24,7 @@ path-take es (suc n) [] u v h = (u, refl)
 path-take es (suc n) (k ∷ ks) u v (e, is, from, rest) = let r = path-take es n ks e.to v rest in (r.0, (e, is, from, r.1))
 
 -- a list n times
-pub laps : ℕ → List ℕ → List ℕ
+unfoldable pub laps : ℕ → List ℕ → List ℕ
 laps zero ks = []
 laps (suc n) ks = ks ++ laps n ks
 

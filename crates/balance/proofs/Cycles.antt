@@ -13,10 +13,11 @@ use Rattle.sd_base.specs.Tables.{KeepsRules, ChannelKeepsRules, phases_of}
 use Rattle.sd_base.specs.Net.{total, phase_entry, Channel, nowhere, file_channel, file_channels_from, file_channels, Balances}
 use Rattle.sd_base.proofs.Sums.{total-suc, total-zero}
 use Rattle.sd_base.proofs.FileNets.{file-length}
+use Rattle.sd_base.proofs.Lists.{get-there}
 use Rattle.balance.specs.declared.walk.Link.{Link}
 use Rattle.balance.specs.Walks.{links_of, link_of}
 use Rattle.balance.proofs.WalkLemmas.{Balanced}
-use Rattle.balance.proofs.TableLemmas.{rules_at, at_place}
+use Rattle.balance.proofs.TableLemmas.{rules_at}
 
 total_front : (xs : List ℕ) (k j : ℕ) → j ≤ length xs → total xs (k * length xs + j) ≡ total xs (k * length xs) + sum (take j xs)
 total_front xs k zero le =
@@ -95,7 +96,7 @@ balances_firings g rules q v size some pos is even = record {
   cycles = λ a lt. ap (λ n. n % slice_index (phases_of g) a) (is a lt) ∙ mul-mod_left (q a) (slice_index (phases_of g) a);
   kept = λ k lt.
       (let in_list : k < length g.channels = (let e = file-length 0 g.channels in omega (arith, e, lt)) in
-      let (c, at) = at_place g.channels k in_list in
+      let (c, at) = get-there g.channels k in_list in
       let link : slice_get (links_of g) k ≡ Some (link_of c) = slice_get-map link_of g.channels k ∙ ap (option_map link_of) at in
       let (c', at', same, keeps') = rules_at g rules k (link_of c) link in
       let ce : c' ≡ c = same_Some c' c (sym at' ∙ at) in

@@ -4,12 +4,13 @@ use Rattle.std.specs.Prelude.{slice_get}
 use Rattle.std.proofs.lemmas.Bool.{cases_eq, cases_lt}
 use Rattle.std.proofs.lemmas.List.{get_or-set_same, get_or-set_other, get_or-replicate, get_or_past, length-set, length-replicate}
 use Rattle.std.proofs.lemmas.Option.{same_Some, none-some, slice_get_within}
+use Rattle.sd_base.proofs.Lists.{get-pushed, get-left, get-last}
 use Rattle.balance.specs.declared.walk.Link.{Link}
 use Rattle.balance.specs.declared.search.Found.{Found}
 use Rattle.balance.specs.inside.Lists.{list_at, appended}
 use Rattle.balance.specs.Walks.{step_from}
 use Rattle.balance.specs.inside.Search.{HasEnds, IsJoined, AreJoints, IsLooked, IsSearching}
-use Rattle.balance.proofs.Searching.{push_cases, push_old, push_new, looked_more, looked_past, place_more}
+use Rattle.balance.proofs.Searching.{looked_more, looked_past, place_more}
 
 -- ---- lists with one number more
 pub appended_here : (rows : List (List ℕ)) (a k : ℕ) → a < length rows → list_at (appended rows a k) a ≡ list_at rows a ++ k ∷ []
@@ -56,13 +57,13 @@ row_of rows k l b low high apart =
 row_cases : (rows rows' : List (List ℕ)) (n : ℕ) (l : Link) (b p k : ℕ) → RowOf rows rows' n l b → slice_get (list_at rows' b) p ≡ Some k
     → (slice_get (list_at rows b) p ≡ Some k) ⊎ ((p ≡ length (list_at rows b)) × (k ≡ n))
 row_cases rows rows' n l b p k row is = elim row [
-  | inl more ↦ push_cases (list_at rows b) n k p (subst (λ (t : List ℕ). slice_get t p ≡ Some k) more.1 is)
+  | inl more ↦ get-pushed (list_at rows b) n k p (subst (λ (t : List ℕ). slice_get t p ≡ Some k) more.1 is)
   | inr same ↦ inl (subst (λ (t : List ℕ). slice_get t p ≡ Some k) same.2 is)
 ]
 
 row_old : (rows rows' : List (List ℕ)) (n : ℕ) (l : Link) (b p k : ℕ) → RowOf rows rows' n l b → slice_get (list_at rows b) p ≡ Some k → slice_get (list_at rows' b) p ≡ Some k
 row_old rows rows' n l b p k row is = elim row [
-  | inl more ↦ subst (λ (t : List ℕ). slice_get t p ≡ Some k) (sym more.1) (push_old (list_at rows b) (n ∷ []) k p is)
+  | inl more ↦ subst (λ (t : List ℕ). slice_get t p ≡ Some k) (sym more.1) (get-left (list_at rows b) (n ∷ []) p k is)
   | inr same ↦ subst (λ (t : List ℕ). slice_get t p ≡ Some k) (sym same.2) is
 ]
 
@@ -75,7 +76,7 @@ row_new : (rows rows' : List (List ℕ)) (n : ℕ) (l : Link) (f : Bool) → Row
 row_new rows rows' n l f row = elim row [
   | inl more ↦
       let b : ℕ = step_from l f in
-      subst (λ (t : List ℕ). slice_get t (length (list_at rows b)) ≡ Some n) (sym more.1) (push_new (list_at rows b) n)
+      subst (λ (t : List ℕ). slice_get t (length (list_at rows b)) ≡ Some n) (sym more.1) (get-last (list_at rows b) n)
   | inr same ↦ absurd (neither l f same.0 same.1)
 ]
 

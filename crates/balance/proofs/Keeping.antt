@@ -2,6 +2,7 @@
 use Rattle.std.proofs.Common.{◌≡◌, ℕ, ◌*◌, ◌<◌, Bool, true, Some, List, ◌∷◌, ◌++◌, length, sym, refl, subst, ◌∙◌, arith}
 use Rattle.std.specs.Prelude.{slice_get}
 use Rattle.std.proofs.lemmas.Option.{slice_get_within}
+use Rattle.sd_base.proofs.Lists.{get-there}
 use Rattle.balance.specs.declared.walk.WalkStep.{WalkStep}
 use Rattle.balance.specs.declared.walk.Link.{Link}
 use Rattle.balance.specs.declared.search.Found.{Found}
@@ -14,7 +15,6 @@ use Rattle.balance.specs.inside.Search.{HasSums, HasEnds, IsSearched, IsFound, I
 use Rattle.balance.specs.inside.Ratios.{ratio_at, IsSummed, AreRatios, Keeps, IsClosedRefusal, IsKeptRefusal}
 use Rattle.balance.proofs.Shortest.{one_way}
 use Rattle.balance.proofs.Searching.{entry_of}
-use Rattle.balance.proofs.TableLemmas.{at_place}
 use Rattle.balance.proofs.LeastRounds.{kept_from, keeps_from, num_pos, den_pos}
 use Rattle.balance.proofs.TreePaths.{closed_walk, closed_ratio, parts_equal}
 
@@ -31,7 +31,7 @@ pub record IsReady (actors : ℕ) (found : List Found) (rs : List Ratio) (l : Li
 found_from : (ls : List Link) (actors : ℕ) (found : List Found) (seen : List Bool) (a : ℕ) → IsSearched ls actors found seen → mark_at seen a ≡ true → IsFound found a
 found_from ls actors found seen a t on =
     let (j, e, at, end) = t.tree.marked a on in
-    let (x, here) = at_place found j (let lt = slice_get_within t.entries j e at in let s = t.read.size in omega arith) in
+    let (x, here) = get-there found j (let lt = slice_get_within t.entries j e at in let s = t.read.size in omega arith) in
     (j, x, here, sym (t.read.actor j x e here at) ∙ end)
 
 -- the way that is read off for an actor is its way

@@ -1,18 +1,18 @@
 -- The round of a graph whose channels keep the ratios: it balances, it is the least, and it sums to at least the common
 -- multiple of the denominators.
-use Rattle.std.proofs.Common.{◌≡◌, ℕ, zero, suc, ◌+◌, ◌*◌, ◌/◌, ◌%◌, ◌<◌, ◌≤◌, Bool, true, false, Some, List, [], ◌∷◌, ◌++◌, length, sum, sym, refl, ap, subst, ◌∙◌, inl, inr, arith}
+use Rattle.std.proofs.Common.{◌≡◌, ℕ, zero, suc, ◌+◌, ◌*◌, ◌/◌, ◌<◌, ◌≤◌, Bool, true, false, Some, List, [], ◌∷◌, ◌++◌, length, sum, sym, refl, ap, subst, ◌∙◌, inl, inr, arith}
 use Rattle.std.specs.Prelude.{slice_get, slice_index, All}
-use Rattle.std.specs.Int.{IsGcd, ◌∣◌}
+use Rattle.std.specs.Int.{◌∣◌}
 use Rattle.std.proofs.Math.Nat.{eq_of_mul-eq-mul_right, eq_of_mul-eq-mul_left, mul-pos, mul-div_cancel', mul-le-mul_right, mul-le-mul_left, one-dvd, div-le_self}
-use Rattle.std.proofs.lemmas.Nat.{mod_below, mul-le}
-use Rattle.std.proofs.lemmas.Nat.Gcd.{IsGcd-from_zero, IsGcd-from_mod, dvd_trans, dvd_refl}
+use Rattle.std.proofs.lemmas.Nat.{mul-le}
+use Rattle.std.proofs.lemmas.Nat.Gcd.{dvd_trans, dvd_refl}
 use Rattle.std.proofs.lemmas.Bool.{cases_lt, cases_eq}
 use Rattle.std.proofs.lemmas.List.{nil_from_length, get_or_default, get_or_past, length-map, length_push, get_or_append_left, get_or_push}
 use Rattle.std.proofs.lemmas.List.Sums.{get_or-le-sum_by, sum_by-le}
 use Rattle.std.proofs.lemmas.List.Elements.{All-from_get_or}
 use Rattle.std.proofs.lemmas.Option.{none-some, same_Some, slice_get_within, slice_get-get_or, get_or_from_slice_get}
 use Rattle.sd_base.specs.Numbers.{IsLcm, IsAboveLimit}
-use Rattle.sd_base.proofs.Divisors.{root_divides, quotient_pos, lcm_from_gcd}
+use Rattle.sd_base.proofs.Divisors.{root_divides, quotient_pos, lcm_from_gcd, some_gcd}
 use Rattle.sd_base.specs.declared.tables.GraphFile.{GraphFile}
 use Rattle.sd_base.specs.declared.tables.ActorRow.{ActorRow}
 use Rattle.sd_base.specs.Tables.{KeepsRules, phases_of}
@@ -33,18 +33,9 @@ use Rattle.balance.proofs.TableLemmas.{phases_at, has_sums}
 use Rattle.balance.proofs.Cycles.{balanced_cycles, balances_firings, cycles_of}
 
 -- ---- common multiples
-gcd_exists : (fuel a b : ℕ) → b < fuel → (g : ℕ) × IsGcd a b g
-gcd_exists zero a b lt = absurd (let none : ⊥ = omega arith in none)
-gcd_exists (suc fuel) a b lt = elim (cases_lt 0 b) [
-  | inl some ↦
-      let low : a % b < b = mod_below a b some in
-      let (g, is) = gcd_exists fuel b (a % b) (omega arith) in
-      (g, IsGcd-from_mod a b g is)
-  | inr none ↦ (a, IsGcd-from_zero a b (omega arith))
-]
 
 lcm_exists : (a b : ℕ) → 0 < a → 0 < b → (m : ℕ) × IsLcm a b m
-lcm_exists a b sa sb = (let (g, is) = gcd_exists (suc b) a b (omega arith) in ((a / g) * b, lcm_from_gcd a b g sa sb is))
+lcm_exists a b sa sb = (let (g, is) = some_gcd (suc b) a b (omega arith) in ((a / g) * b, lcm_from_gcd a b g sa sb is))
 
 pub common_exists : (rs : List Ratio) → ((k : ℕ) (r : Ratio) → slice_get rs k ≡ Some r → 0 < r.den) → (m : ℕ) × IsCommon rs m
 common_exists [] pos = (1, record { some = omega arith; all = λ k r is. absurd (none-some r is); least = λ n h. one-dvd n })

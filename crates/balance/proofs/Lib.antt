@@ -15,3 +15,4 @@ pub mod Joined
 pub mod OneAnswer
 pub mod StepsDecide
 pub mod LeastRounds
+pub mod ChannelEnds

@@ -1,13 +1,12 @@
 -- At most one answer fits a graph.
-use Rattle.std.proofs.Common.{◌≡◌, ℕ, ◌*◌, ◌<◌, ◌≤◌, true, Ok, Err, List, [], ◌∷◌, ◌++◌, length, sum, sym, refl, ap, subst, ◌∙◌, inl, inr, arith}
-use Rattle.std.specs.Prelude.{slice_get, slice_index}
+use Rattle.std.proofs.Common.{◌≡◌, ℕ, ◌*◌, true, Ok, Err, List, [], ◌∷◌, ◌++◌, sum, sym, refl, ap, subst, ◌∙◌, inl, inr, arith}
+use Rattle.std.specs.Prelude.{slice_get}
 use Rattle.std.proofs.Math.Nat.{eq_of_mul-eq-mul_right}
 use Rattle.std.proofs.lemmas.Bool.{cases_order}
 use Rattle.std.proofs.lemmas.Option.{same_Some}
-use Rattle.std.proofs.lemmas.List.{ext_get_or}
 use Rattle.sd_base.specs.declared.tables.GraphFile.{GraphFile}
-use Rattle.sd_base.specs.Tables.{KeepsRules, phases_of}
-use Rattle.sd_base.specs.Net.{IsRepetitionOf}
+use Rattle.sd_base.specs.Tables.{KeepsRules}
+use Rattle.sd_base.proofs.Rounds.{one-repetition}
 use Rattle.balance.specs.declared.walk.WalkStep.{WalkStep}
 use Rattle.balance.specs.declared.walk.Link.{Link}
 use Rattle.balance.specs.declared.refusal.BalanceError.TheVariants.{Apart, RatioTooLarge, Unbalanced, RoundTooLarge, NoMemory}
@@ -18,15 +17,6 @@ use Rattle.balance.proofs.WalkLemmas.{parts_pos}
 use Rattle.balance.proofs.Shortest.{same_ways, one_way}
 use Rattle.balance.proofs.Fractions.{one_lowest}
 use Rattle.balance.proofs.TableLemmas.{has_sums}
-
-pub one_round : (g : GraphFile) (v w : List ℕ) → IsRepetitionOf g v → IsRepetitionOf g w → v ≡ w
-one_round g v w h k =
-    ext_get_or 0 v w (h.balances.actors ∙ sym k.balances.actors)
-    (λ i lt.
-    let lt' : i < length (phases_of g) = subst (λ n. i < n) h.balances.actors lt in
-    let le : slice_index v i ≤ slice_index w i = h.least w k.balances i lt' in
-    let ge : slice_index w i ≤ slice_index v i = k.least v h.balances i lt' in
-    omega arith)
 
 -- a walk's ratio isn't within the limit and above it
 pub within_or_above : (ls : List Link) → HasSums ls → (p : List WalkStep) → HasRatioWithinLimit ls p → HasRatioAboveLimit ls p → ⊥
@@ -112,13 +102,13 @@ one_first g p q h k =
 
 round_or_too_large : (g : GraphFile) (v : List ℕ) → IsRound g v → IsRoundTooLarge g → ⊥
 round_or_too_large g v h k =
-    let e : sum v ≡ sum k.round = ap sum (one_round g v k.round h.least k.least) in
+    let e : sum v ≡ sum k.round = ap sum (one-repetition g v k.round h.least k.least) in
     let le = h.fits in
     let gt = k.above in
     omega arith
 
 pub has_one_answer : HasOneAnswer
-has_one_answer g rules (Ok v) (Ok w) h k free free' = ap (λ (t : List ℕ). Ok t) (one_round g v w h.least k.least)
+has_one_answer g rules (Ok v) (Ok w) h k free free' = ap (λ (t : List ℕ). Ok t) (one-repetition g v w h.least k.least)
 has_one_answer g rules (Ok v) (Err (Apart a b)) h k free free' = absurd (connected_or_apart g a b h.balanced.connected k)
 has_one_answer g rules (Ok v) (Err (RatioTooLarge p)) h k free free' = absurd (within_or_first g rules p h.balanced.within k)
 has_one_answer g rules (Ok v) (Err (Unbalanced w n d)) h k free free' = absurd (consistent_or_not g rules w n d h.balanced.consistent k)

@@ -7,12 +7,12 @@ use Rattle.std.proofs.lemmas.Option.{same_Some, none-some, slice_get_within, sli
 use Rattle.balance.specs.declared.connection.Direction.{Direction}
 use Rattle.balance.specs.declared.connection.Direction.TheVariants.{Along, Against}
 use Rattle.sd_base.specs.Connection.{IsPath, Reaches}
+use Rattle.sd_base.proofs.Lists.{get-pushed, get-left, get-last, all-get, get-there}
 use Rattle.balance.specs.ConnectRefusals.{AreActors}
 use Rattle.balance.specs.inside.Search.{mark_at}
 use Rattle.balance.specs.inside.Lists.{list_at, appended}
 use Rattle.balance.specs.inside.Reaching.{pair_from, pair_to, Leads, AreLed, AreClosed, AreFollowers, IsQueue, IsMarked, AreMarked}
-use Rattle.balance.proofs.TableLemmas.{at_All, at_place}
-use Rattle.balance.proofs.Searching.{push_cases, push_old, push_new, trues_le, trues-set, trues-replicate, mark-replicate, mark_set, mark_kept, mark_only}
+use Rattle.balance.proofs.Searching.{trues_le, trues-set, trues-replicate, mark-replicate, mark_set, mark_kept, mark_only}
 use Rattle.balance.proofs.Joints.{appended_here, appended_other, length-appended}
 
 pub path-append : (ends : List (ℕ × ℕ)) (xs ys : List ℕ) (a b c : ℕ) → IsPath ends a xs b → IsPath ends b ys c → IsPath ends a (xs ++ ys) c
@@ -49,8 +49,8 @@ all_marked Against ends marks closed root v (ks, path) = closed_against ends mar
 -- a pair's ends are actors
 pub pair_within : (d : Direction) (actors : ℕ) (ends : List (ℕ × ℕ)) (k : ℕ) (e : ℕ × ℕ) → AreActors actors ends → slice_get ends k ≡ Some e
     → (pair_from d e < actors) × (pair_to d e < actors)
-pair_within Along actors ends k e are is = at_All (λ (p : ℕ × ℕ). (p.0 < actors) × (p.1 < actors)) ends k e are is
-pair_within Against actors ends k e are is = (let h = at_All (λ (p : ℕ × ℕ). (p.0 < actors) × (p.1 < actors)) ends k e are is in (h.1, h.0))
+pair_within Along actors ends k e are is = all-get (λ (p : ℕ × ℕ). (p.0 < actors) × (p.1 < actors)) ends k e are is
+pair_within Against actors ends k e are is = (let h = all-get (λ (p : ℕ × ℕ). (p.0 < actors) × (p.1 < actors)) ends k e are is in (h.1, h.0))
 
 -- ---- where the pairs lead, by actor
 pub followers_more : (d : Direction) (ends : List (ℕ × ℕ)) (n actors : ℕ) (rows : List (List ℕ)) (e : ℕ × ℕ) → slice_get ends n ≡ Some e → pair_from d e < length rows
@@ -65,7 +65,7 @@ followers_more d ends n actors rows e here low f =
         | inl same ↦
             let is' : slice_get (list_at rows from ++ to ∷ []) p ≡ Some u =
             subst (λ (t : List ℕ). slice_get t p ≡ Some u) (ap (λ b. list_at rows' b) same ∙ appended_here rows from to low) is in
-            elim (push_cases (list_at rows from) to u p is') [
+            elim (get-pushed (list_at rows from) to u p is') [
               | inl old ↦ f.only a p u (subst (λ b. slice_get (list_at rows b) p ≡ Some u) (sym same) old)
               | inr new ↦ (n, e, here, sym same, sym new.1)
             ]
@@ -75,7 +75,7 @@ followers_more d ends n actors rows e here low f =
         | inl same ↦
             let pair : e ≡ g = same_Some e g (sym here ∙ ap (slice_get ends) (sym same) ∙ is) in
             let at : slice_get (list_at rows' from) (length (list_at rows from)) ≡ Some to =
-            subst (λ (t : List ℕ). slice_get t (length (list_at rows from)) ≡ Some to) (sym (appended_here rows from to low)) (push_new (list_at rows from) to) in
+            subst (λ (t : List ℕ). slice_get t (length (list_at rows from)) ≡ Some to) (sym (appended_here rows from to low)) (get-last (list_at rows from) to) in
             (length (list_at rows from), subst (λ (z : ℕ × ℕ). slice_get (list_at rows' (pair_from d z)) (length (list_at rows from)) ≡ Some (pair_to d z)) pair at)
         | inr ne ↦
             let (p, at) = f.whole k g (omega arith) is in
@@ -84,7 +84,7 @@ followers_more d ends n actors rows e here low f =
                   let at' : slice_get (list_at rows from) p ≡ Some (pair_to d g) = subst (λ b. slice_get (list_at rows b) p ≡ Some (pair_to d g)) same at in (
                     p,
                     subst (λ (t : List ℕ). slice_get t p ≡ Some (pair_to d g)) (sym (ap (λ b. list_at rows' b) same ∙ appended_here rows from to low))
-                        (push_old (list_at rows from) (to ∷ []) (pair_to d g) p at'),
+                        (get-left (list_at rows from) (to ∷ []) p (pair_to d g) at'),
                   )
               | inr other ↦ (p, subst (λ (t : List ℕ). slice_get t p ≡ Some (pair_to d g)) (sym (appended_other rows from to (pair_from d g) other)) at)
             ]
@@ -95,10 +95,10 @@ followers_more d ends n actors rows e here low f =
 queue_more : (u : ℕ) (queue : List ℕ) (marks : List Bool) → u < length marks → mark_at marks u ≡ false → IsQueue queue marks → IsQueue (queue ++ u ∷ []) (slice_set marks u true)
 queue_more u queue marks lt off f = record {
   queued = λ v on. elim (mark_only marks u v on) [
-    | inl e ↦ (length queue, push_new queue u ∙ ap (λ (x : ℕ). Some x) (sym e))
-    | inr was ↦ (let (j, at) = f.queued v was in (j, push_old queue (u ∷ []) v j at))
+    | inl e ↦ (length queue, get-last queue u ∙ ap (λ (x : ℕ). Some x) (sym e))
+    | inr was ↦ (let (j, at) = f.queued v was in (j, get-left queue (u ∷ []) j v at))
   ];
-  marked = λ j v at. elim (push_cases queue u v j at) [
+  marked = λ j v at. elim (get-pushed queue u v j at) [
     | inl old ↦ mark_kept marks u v (f.marked j v old)
     | inr new ↦ subst (λ n. mark_at (slice_set marks u true) n ≡ true) (sym new.1) (mark_set marks u lt)
   ];
@@ -127,7 +127,7 @@ marked_more next n u queue queue' queue'' marks marks' marks'' here lt step f = 
         is_queue = queue_more u queue' marks' lt new.0 f.is_queue;
         size = length-set marks' u true ∙ f.size;
         kept = λ v on. mark_kept marks' u v (f.kept v on);
-        stays = λ j v at. push_old queue' (u ∷ []) v j (f.stays j v at);
+        stays = λ j v at. get-left queue' (u ∷ []) j v (f.stays j v at);
         all = λ q v low at. elim (cases_eq q n) [
           | inl e ↦ (let same : v ≡ u = same_Some v u (sym at ∙ ap (slice_get next) e ∙ here) in subst (λ x. mark_at bs x ≡ true) (sym same) (mark_set marks' u lt))
           | inr ne ↦ mark_kept marks' u v (f.all q v (omega arith) at)
@@ -200,7 +200,7 @@ reach_more d ends actors rows queue queue' marks marks' i v next here l f = reco
         l.all p (pair_to d e) (slice_get_within (list_at rows v) p (pair_to d e) there') there'
     | inr ne ↦
         let in_list : i < length queue = slice_get_within queue i v here in
-        let (w, at') = at_place queue j (omega arith) in
+        let (w, at') = get-there queue j (omega arith) in
         let same : w ≡ u = same_Some w u (sym (l.stays j w at') ∙ at) in
         l.kept (pair_to d e) (f.left j w k e (omega arith) at' is (from ∙ sym same))
   ];

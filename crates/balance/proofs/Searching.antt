@@ -5,6 +5,7 @@ use Rattle.std.proofs.lemmas.List.{get_or_past, get_or_read, get_or-set_same, ge
 use Rattle.std.proofs.Math.Nat.{mul-le-mul_right}
 use Rattle.std.proofs.lemmas.Bool.{cases_Bool, cases_lt, cases_eq, false≢true}
 use Rattle.std.proofs.lemmas.Option.{same_Some, none-some, slice_get_within}
+use Rattle.sd_base.proofs.Lists.{get-pushed, get-left, get-last, get-there}
 use Rattle.balance.specs.declared.walk.WalkStep.{WalkStep}
 use Rattle.balance.specs.declared.walk.Link.{Link}
 use Rattle.balance.specs.declared.search.Found.{Found}
@@ -13,23 +14,6 @@ use Rattle.balance.specs.Walks.{IsLinkWalk, IsWay, step_to, step_from}
 use Rattle.balance.specs.inside.Search.{key_from, trues, mark_at, HasEnds, Entry, IsReachedEntry, AreEntries, IsSearch, IsSearching, IsLooked, IsTree, IsSearched}
 use Rattle.balance.proofs.Order.{key-append, walk_below, precedes_from_key}
 use Rattle.balance.proofs.WalkLemmas.{walk-append, crossing_by}
-use Rattle.balance.proofs.TableLemmas.{at_place}
-
--- one more element at the end of a list
-pub push_cases : {A : Type 0} (xs : List A) (y x : A) (j : ℕ) → slice_get (xs ++ y ∷ []) j ≡ Some x → (slice_get xs j ≡ Some x) ⊎ ((j ≡ length xs) × (x ≡ y))
-push_cases [] y x zero h = inr (refl, sym (same_Some y x h))
-push_cases [] y x (suc j) h = absurd (none-some x h)
-push_cases (z ∷ xs) y x zero h = inl h
-push_cases (z ∷ xs) y x (suc j) h = elim (push_cases xs y x j h) [ inl old ↦ inl old | inr new ↦ inr (ap suc new.0, new.1) ]
-
-pub push_old : {A : Type 0} (xs ys : List A) (x : A) (j : ℕ) → slice_get xs j ≡ Some x → slice_get (xs ++ ys) j ≡ Some x
-push_old [] ys x j h = absurd (none-some x h)
-push_old (z ∷ xs) ys x zero h = h
-push_old (z ∷ xs) ys x (suc j) h = push_old xs ys x j h
-
-pub push_new : {A : Type 0} (xs : List A) (y : A) → slice_get (xs ++ y ∷ []) (length xs) ≡ Some y
-push_new [] y = refl
-push_new (z ∷ xs) y = push_new xs y
 
 -- no walk to an actor that isn't seen has a lower number than the next step has
 next_is_least : (ls : List Link) (m : ℕ) (es : List Entry) (seen : ℕ → Bool) (i c : ℕ) (y : Entry) → IsSearch ls m es seen i c → 0 < m → c < m
@@ -88,14 +72,14 @@ added' ls m es seen seen' i s l y new some low root t f =
     ap (λ (w : List WalkStep). key_from m 0 w) t.way ∙ key-append m 0 y.way (s ∷ []) in
     record {
       marked = λ v on. elim (t.only v on) [
-        | inl e ↦ (length es, new, push_new es new, t.to ∙ sym e)
-        | inr was ↦ let (j, x, at, end) = f.marked v was in (j, x, push_old es (new ∷ []) x j at, end)
+        | inl e ↦ (length es, new, get-last es new, t.to ∙ sym e)
+        | inr was ↦ let (j, x, at, end) = f.marked v was in (j, x, get-left es (new ∷ []) j x at, end)
       ];
-      listed = λ j x at. elim (push_cases es new x j at) [
+      listed = λ j x at. elim (get-pushed es new x j at) [
         | inl old ↦ t.kept x.actor (f.listed j x old)
         | inr e ↦ subst (λ (z : Entry). seen' z.actor ≡ true) (sym e.1) (subst (λ n. seen' n ≡ true) (sym t.to) t.set)
       ];
-      walks = λ j x at. elim (push_cases es new x j at) [
+      walks = λ j x at. elim (get-pushed es new x j at) [
         | inl old ↦ f.walks j x old
         | inr e ↦
             let step : IsLinkWalk ls y.actor (s ∷ []) u = (l, t.over, t.from, refl) in
@@ -104,7 +88,7 @@ added' ls m es seen seen' i s l y new some low root t f =
             subst (λ n. IsLinkWalk ls 0 new.way n) (sym t.to) (subst (λ (w : List WalkStep). IsLinkWalk ls 0 w u) (sym t.way) long) in
             subst (λ (z : Entry). IsLinkWalk ls 0 z.way z.actor) (sym e.1) here
       ];
-      least = λ j x ss at walk. elim (push_cases es new x j at) [
+      least = λ j x ss at walk. elim (get-pushed es new x j at) [
         | inl old ↦ f.least j x ss old walk
         | inr e ↦
             let walk' : IsLinkWalk ls 0 ss u = subst (λ n. IsLinkWalk ls 0 ss n) (ap (λ (z : Entry). z.actor) e.1 ∙ t.to) walk in
@@ -112,12 +96,12 @@ added' ls m es seen seen' i s l y new some low root t f =
             let e' : key_from m 0 x.way ≡ key_from m 0 new.way = ap (λ (z : Entry). key_from m 0 z.way) e.1 in
             omega arith
       ];
-      rising = λ j k x z at at' lt. elim (push_cases es new z k at') [
-        | inl old' ↦ elim (push_cases es new x j at) [
+      rising = λ j k x z at at' lt. elim (get-pushed es new z k at') [
+        | inl old' ↦ elim (get-pushed es new x j at) [
           | inl old ↦ f.rising j k x z old old' lt
           | inr e ↦ (let in_list : k < length es = slice_get_within es k z old' in let e0 = e.0 in absurd (omega arith))
         ]
-        | inr e' ↦ elim (push_cases es new x j at) [
+        | inr e' ↦ elim (get-pushed es new x j at) [
           | inl old ↦
               let le : key_from m 0 x.way ≤ key_from m 0 y.way * m + s.channel = f.last j x y old t.here in
               let same : key_from m 0 z.way ≡ key_from m 0 new.way = ap (λ (w : Entry). key_from m 0 w.way) e'.1 in
@@ -127,18 +111,18 @@ added' ls m es seen seen' i s l y new some low root t f =
       ];
       last = λ j x z at at'.
           let in_list : i < length es = slice_get_within es i y t.here in
-          let same : z ≡ y = elim (push_cases es new z i at') [
+          let same : z ≡ y = elim (get-pushed es new z i at') [
             | inl old ↦ same_Some z y (sym old ∙ t.here)
             | inr e ↦ (let e0 = e.0 in absurd (omega arith))
           ] in
           let e' : key_from m 0 z.way * m ≡ key_from m 0 y.way * m = ap (λ (w : Entry). key_from m 0 w.way * m) same in
-          elim (push_cases es new x j at) [
+          elim (get-pushed es new x j at) [
             | inl old ↦ (let le : key_from m 0 x.way ≤ key_from m 0 y.way * m + s.channel = f.last j x y old t.here in omega arith)
             | inr e ↦ (let e'' : key_from m 0 x.way ≡ key_from m 0 new.way = ap (λ (w : Entry). key_from m 0 w.way) e.1 in omega arith)
           ];
       looked = λ r k j x is at end off.
           let off' : seen (step_to k r.forward) ≡ false = was_free seen seen' t.kept (step_to k r.forward) off in
-          elim (push_cases es new x j at) [
+          elim (get-pushed es new x j at) [
             | inl old ↦ elim (f.looked r k j x is old end off') [
               | inl later ↦ inl later
               | inr same ↦
@@ -195,7 +179,7 @@ next_place ls m es seen i low in_list f = record {
   least = f.least;
   rising = f.rising;
   last = λ j x y at at'.
-      let (z, here) = at_place es i in_list in
+      let (z, here) = get-there es i in_list in
       let le : key_from m 0 x.way ≤ key_from m 0 z.way * m + length ls = f.last j x z at here in
       let up : key_from m 0 z.way < key_from m 0 y.way = f.rising i (i + 1) z y here at' (omega arith) in
       let wide : (key_from m 0 z.way + 1) * m ≤ key_from m 0 y.way * m = mul-le-mul_right m (omega arith) in
@@ -317,12 +301,12 @@ end_within ls actors ends k l false is = ends.source k l is
 -- both lists have one element more
 push_both : {A B : Type 0} (xs : List A) (ys : List B) (x a : A) (y b : B) (j : ℕ) → length ys ≡ length xs → slice_get (xs ++ x ∷ []) j ≡ Some a → slice_get (ys ++ y ∷ []) j ≡ Some b
     → ((slice_get xs j ≡ Some a) × (slice_get ys j ≡ Some b)) ⊎ ((j ≡ length xs) × (a ≡ x) × (b ≡ y))
-push_both xs ys x a y b j size at at' = elim (push_cases xs x a j at) [
-  | inl old ↦ elim (push_cases ys y b j at') [
+push_both xs ys x a y b j size at at' = elim (get-pushed xs x a j at) [
+  | inl old ↦ elim (get-pushed ys y b j at') [
     | inl old' ↦ inl (old, old')
     | inr new' ↦ (let lt = slice_get_within xs j a old in let e = new'.0 in absurd (omega arith))
   ]
-  | inr new ↦ elim (push_cases ys y b j at') [
+  | inr new ↦ elim (get-pushed ys y b j at') [
     | inl old' ↦ (let lt = slice_get_within ys j b old' in let e = new.0 in absurd (omega arith))
     | inr new' ↦ inr (new.0, new.1, new'.1)
   ]
@@ -342,11 +326,11 @@ read_more found es x e d r read reach same at way = record {
     | inr new ↦ absurd (none-some r (sym none ∙ ap (λ (z : Found). z.reach) new.1 ∙ reach))
   ];
   reached = λ j y g q here here' some. elim (push_both found es x y e g j read.size here here') [
-    | inl old ↦ (let (lt, d', at', way') = read.reached j y g q old.0 old.1 some in (lt, d', push_old es (e ∷ []) d' q.place at', way'))
+    | inl old ↦ (let (lt, d', at', way') = read.reached j y g q old.0 old.1 some in (lt, d', get-left es (e ∷ []) q.place d' at', way'))
     | inr new ↦
         let step : r ≡ q = same_Some r q (sym reach ∙ sym (ap (λ (z : Found). z.reach) new.1) ∙ some) in
         let lt : r.place < j = (let w = slice_get_within es r.place d at in let n = new.0 in let s = read.size in omega arith) in
-        let now : IsReachedEntry (es ++ e ∷ []) j g r = (lt, d, push_old es (e ∷ []) d r.place at, ap (λ (z : Entry). z.way) new.2 ∙ way) in
+        let now : IsReachedEntry (es ++ e ∷ []) j g r = (lt, d, get-left es (e ∷ []) r.place d at, ap (λ (z : Entry). z.way) new.2 ∙ way) in
         subst (λ (z : Reach). IsReachedEntry (es ++ e ∷ []) j g z) step now
   ];
 }
@@ -355,7 +339,7 @@ read_more found es x e d r read reach same at way = record {
 pub entry_of : (found : List Found) (es : List Entry) → AreEntries found es → (j : ℕ) (x : Found) → slice_get found j ≡ Some x
     → (e : Entry) × (slice_get es j ≡ Some e) × (e.actor ≡ x.actor)
 entry_of found es read j x at =
-    let (e, at') = at_place es j (let lt = slice_get_within found j x at in let s = read.size in omega arith) in
+    let (e, at') = get-there es j (let lt = slice_get_within found j x at in let s = read.size in omega arith) in
     (e, at', read.actor j x e at at')
 
 -- one more channel was looked at
@@ -398,7 +382,7 @@ looked_more ls actors found found' seen seen' i c l ends over look f = elim look
       let none : (k : ℕ) (m : Link) (y : Entry) (g : Bool) → c ≤ k → k < c + 1 → slice_get ls k ≡ Some m → slice_get f.entries i ≡ Some y
       → y.actor ≡ step_from m g → mark_at seen (step_to m g) ≡ true =
       λ k m y g low up is at end.
-      let (x, here) = at_place found i (let lt = slice_get_within f.entries i y at in let s = f.read.size in omega arith) in
+      let (x, here) = get-there found i (let lt = slice_get_within f.entries i y at in let s = f.read.size in omega arith) in
       let same : l ≡ m = same_Some l m (sym over ∙ ap (slice_get ls) (let e : c ≡ k = omega arith in e) ∙ is) in
       let from : x.actor ≡ step_from l g = sym (f.read.actor i x y here at) ∙ end ∙ sym (ap (λ (z : Link). step_from z g) same) in
       subst (λ (z : Link). mark_at seen (step_to z g) ≡ true) same (pass.none x g here from) in
@@ -549,7 +533,7 @@ finished ls actors found seen i c end f =
 pub looked_old : (found found' : List Found) (seen seen' : List Bool) (i c : ℕ) (l : Link) → IsLooked found seen found' seen' i c l → (j : ℕ) (x : Found) → slice_get found j ≡ Some x
     → slice_get found' j ≡ Some x
 looked_old found found' seen seen' i c l look j x at = elim look [
-  | inl step ↦ (let t = step.1 in subst (λ (xs : List Found). slice_get xs j ≡ Some x) (sym t.list) (push_old found (t.new ∷ []) x j at))
+  | inl step ↦ (let t = step.1 in subst (λ (xs : List Found). slice_get xs j ≡ Some x) (sym t.list) (get-left found (t.new ∷ []) j x at))
   | inr pass ↦ subst (λ (xs : List Found). slice_get xs j ≡ Some x) (sym pass.same) at
 ]
 

@@ -1,34 +1,25 @@
 -- What the rules of a graph table say of its links.
 use Rattle.std.proofs.Common.{◌≡◌, ℕ, zero, suc, ◌*◌, ◌<◌, ◌≤◌, Some, List, [], ◌∷◌, length, map, sum, sym, refl, ap, subst, ◌∙◌, arith}
-use Rattle.std.specs.Prelude.{slice_get, slice_index, All}
-use Rattle.std.proofs.lemmas.Option.{same_Some, none-some, slice_get_within, get_or_from_slice_get}
+use Rattle.std.specs.Prelude.{slice_get, slice_index}
+use Rattle.std.proofs.lemmas.Option.{same_Some, none-some, get_or_from_slice_get}
 use Rattle.std.proofs.lemmas.List.{length-map, get_or-map}
 use Rattle.std.proofs.lemmas.List.Sums.{sum_by-le}
 use Rattle.sd_base.specs.declared.tables.GraphFile.{GraphFile}
 use Rattle.sd_base.specs.declared.tables.ActorRow.{ActorRow}
 use Rattle.sd_base.specs.declared.tables.ChannelRow.{ChannelRow}
 use Rattle.sd_base.specs.Tables.{KeepsRules, ChannelKeepsRules, PortKeepsRules, phases_of, ActorKeepsRules}
+use Rattle.sd_base.proofs.Lists.{all-get, get-there}
 use Rattle.balance.specs.declared.walk.Link.{Link}
 use Rattle.balance.specs.Walks.{links_of, link_of}
 use Rattle.balance.specs.inside.Search.{HasEnds, HasSums}
-
--- what holds of each element holds of one that a place gives
-pub at_All : {X : Type 0} (P : X → Type 0) (xs : List X) (k : ℕ) (x : X) → All P xs → slice_get xs k ≡ Some x → P x
-at_All P xs k x all is = subst P (get_or_from_slice_get xs k x x is) (all k x (slice_get_within xs k x is))
-
--- the element at a place
-pub at_place : {A : Type 0} (xs : List A) (k : ℕ) → k < length xs → (x : A) × (slice_get xs k ≡ Some x)
-at_place [] k lt = absurd (let none : ⊥ = omega arith in none)
-at_place (x ∷ xs) zero lt = (x, refl)
-at_place (x ∷ xs) (suc k) lt = at_place xs k (omega arith)
 
 -- an actor's phases are 1 to 4,096
 pub phases_at : (g : GraphFile) → KeepsRules g → (a : ℕ) → a < length (phases_of g) → (1 ≤ slice_index (phases_of g) a) × (slice_index (phases_of g) a ≤ 4096)
 phases_at g rules a lt =
     let size : length (phases_of g) ≡ length g.actors = length-map g.actors (λ (x : ActorRow). x.phases) in
     let lt' : a < length g.actors = omega arith in
-    let (x, at) = at_place g.actors a lt' in
-    let keeps : ActorKeepsRules g.kind x = at_All (λ (y : ActorRow). ActorKeepsRules g.kind y) g.actors a x rules.actors at in
+    let (x, at) = get-there g.actors a lt' in
+    let keeps : ActorKeepsRules g.kind x = all-get (λ (y : ActorRow). ActorKeepsRules g.kind y) g.actors a x rules.actors at in
     let e : slice_index (phases_of g) a ≡ x.phases = get_or-map (λ (y : ActorRow). y.phases) g.actors a x 0 lt' ∙ ap (λ (y : ActorRow). y.phases) (get_or_from_slice_get g.actors a x x at) in
     let le = keeps.some_phase in
     let few = keeps.few_phases in
@@ -44,7 +35,7 @@ pub rules_at : (g : GraphFile) → KeepsRules g → (k : ℕ) (l : Link) → sli
     → (c : ChannelRow) × (slice_get g.channels k ≡ Some c) × (l ≡ link_of c) × ChannelKeepsRules (phases_of g) c
 rules_at g rules k l is =
     let (c, at, same) = link_at g.channels k l is in
-    (c, at, same, at_All (λ (x : ChannelRow). ChannelKeepsRules (phases_of g) x) g.channels k c rules.channels at)
+    (c, at, same, all-get (λ (x : ChannelRow). ChannelKeepsRules (phases_of g) x) g.channels k c rules.channels at)
 
 -- a cycle of phases moves at most 4,096 times 1,000,000 tokens
 port_limit : (g : GraphFile) → KeepsRules g → (a : ℕ) (rates : List ℕ) → a < length (phases_of g) → PortKeepsRules (slice_index (phases_of g) a) rates → sum rates ≤ 4096000000
@@ -78,5 +69,5 @@ has_ends g rules =
 -- the sums that the links need
 pub channel_sums : (g : GraphFile) → KeepsRules g → (k : ℕ) (c : ChannelRow) → slice_get g.channels k ≡ Some c → (sum c.made ≤ 4096000000) × (sum c.taken ≤ 4096000000)
 channel_sums g rules k c at =
-    let keeps : ChannelKeepsRules (phases_of g) c = at_All (λ (x : ChannelRow). ChannelKeepsRules (phases_of g) x) g.channels k c rules.channels at in
+    let keeps : ChannelKeepsRules (phases_of g) c = all-get (λ (x : ChannelRow). ChannelKeepsRules (phases_of g) x) g.channels k c rules.channels at in
     (port_limit g rules c.source c.made keeps.source keeps.made, port_limit g rules c.target c.taken keeps.target keeps.taken)

@@ -11,6 +11,7 @@ use Rattle.sd_base.specs.declared.tables.SharedRow.{SharedRow}
 use Rattle.sd_base.specs.Net.{Channel, Net, IsRepetitionOf, channel_at, file_channel, nowhere, total}
 use Rattle.sd_base.specs.Untimed.{IsLive}
 use Rattle.sd_base.proofs.Parts.{balanced}
+use Rattle.sd_base.proofs.Lists.{get-left}
 use Rattle.storage.specs.Distributions.{AtMost, IsDistribution, capacity_at, storage_of}
 use Rattle.storage.specs.Steps.{CoversRates, IsCorner, rounded, rounded_at}
 use Rattle.storage.proofs.Corners.{corner-below, rounded-entry}
@@ -24,7 +25,7 @@ use Rattle.bounded_scenarios.specs.StorageRates.HasWorstRate.{blocked, runs}
 use Rattle.bounded_scenarios.proofs.BoundedRules.{channel-is}
 use Rattle.bounded_scenarios.proofs.Counts.{dist-long, dist-room}
 use Rattle.bounded_scenarios.proofs.FirstTokens.{first-rate, laws, one-phase}
-use Rattle.bounded_scenarios.proofs.Lists.{at-left, at-right}
+use Rattle.bounded_scenarios.proofs.Lists.{at-right}
 use Rattle.bounded_scenarios.proofs.LiveRooms.{IsSpaceOf, made-covered, taken-covered}
 use Rattle.bounded_scenarios.proofs.Measurable.{kept}
 use Rattle.bounded_scenarios.proofs.NamedChannels.{shared-named}
@@ -79,7 +80,7 @@ module _ (file : ScenarioFile) (total_room : ℕ) (can : CanBeBounded file total
         let one = shared-named file.shared row.graph (kept file total_room can s row at).shares t r there in
         let space = space-there row.graph.channels file.shared low t r k there has in
         let here : slice_get low_graph.channels one.0 ≡ Some shared_row =
-        at-left row.graph.channels (space_rows row.graph.channels file.shared low) one.0 shared_row one.1 in
+        get-left row.graph.channels (space_rows row.graph.channels file.shared low) one.0 shared_row one.1 in
         let beside : slice_get low_graph.channels (length row.graph.channels + space.0) ≡ Some (space_row shared_row k) =
         at-right row.graph.channels (space_rows row.graph.channels file.shared low) space.0 (space_row shared_row k) space.1 in
         let many = channels-many low_graph gamma carries.rules carries.kind in

@@ -13,13 +13,14 @@ use Rattle.sd_base.specs.Untimed.{Blocks, CanFire, IsLive}
 use Rattle.sd_base.proofs.Blocking.{live-unblocked}
 use Rattle.sd_base.proofs.FileNets.{widened}
 use Rattle.sd_base.proofs.Parts.{wired}
+use Rattle.sd_base.proofs.Lists.{get-left}
+use Rattle.sd_base.proofs.Rounds.{one-repetition}
 use Rattle.storage.specs.Distributions.{storage_of}
 use Rattle.storage.specs.Steps.{rounded}
 use Rattle.storage.proofs.Climbs.{storage-le}
 use Rattle.storage.proofs.Kept.{can_or_lacks}
 use Rattle.token_matrix.specs.EntryWays.{CarriesStamps}
 use Rattle.token_matrix.proofs.OfGraph.{channels-many}
-use Rattle.token_matrix.proofs.Rows.{one-repetition}
 use Rattle.bounded_scenarios.specs.BoundedFiles.{bounded_file, bounded_graph, space_name, space_row, space_rows}
 use Rattle.bounded_scenarios.specs.Boundings.{CanBeBounded}
 use Rattle.bounded_scenarios.specs.ScenarioGuides.{IsHeldUp, IsSpaceFor}
@@ -30,7 +31,6 @@ use Rattle.bounded_scenarios.specs.StorageRates.HasWorstRate.{blocked, runs}
 use Rattle.bounded_scenarios.proofs.BothNets.{BothAt, IsSpaceOfBoth, both-at, high-is, low-is, same-nets}
 use Rattle.bounded_scenarios.proofs.BoundedRules.{channel-is, channel-there}
 use Rattle.bounded_scenarios.proofs.FirstTokens.{laws}
-use Rattle.bounded_scenarios.proofs.Lists.{at-left}
 use Rattle.bounded_scenarios.proofs.LiveRooms.{blocks-on}
 use Rattle.bounded_scenarios.proofs.Measurable.{gives-matrix, kept}
 use Rattle.bounded_scenarios.proofs.PushedWays.{agreed}
@@ -85,8 +85,8 @@ module _ (file : ScenarioFile) (total : ℕ) (can : CanBeBounded file total) (m 
   on-file : (v : ℕ → ℕ) (a : ℕ) → Lacks plain_net v a (v a) → LacksAbove v a
   on-file v a (i, below, into, needs) =
       let c = channel-there row.graph gamma (widened row.graph (kept file total can k row at).rules) (kept file total can k row at).kind i below in
-      let here : slice_get member_graph.channels i ≡ Some c.0 = at-left row.graph.channels (space_rows row.graph.channels file.shared m) i c.0 c.1 in
-      let there : slice_get above_graph.channels i ≡ Some c.0 = at-left row.graph.channels (space_rows row.graph.channels file.shared floored) i c.0 c.1 in
+      let here : slice_get member_graph.channels i ≡ Some c.0 = get-left row.graph.channels (space_rows row.graph.channels file.shared m) i c.0 c.1 in
+      let there : slice_get above_graph.channels i ≡ Some c.0 = get-left row.graph.channels (space_rows row.graph.channels file.shared floored) i c.0 c.1 in
       let low : channel_at member_net i ≡ file_channel i c.0 = channel-is member_graph gamma member-carries.rules member-carries.kind i c.0 here in
       let high : channel_at above_net i ≡ file_channel i c.0 = channel-is above_graph gamma above-carries.rules above-carries.kind i c.0 there in
       let plain = plain-is i c.0 c.1 in

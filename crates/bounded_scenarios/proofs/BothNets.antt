@@ -8,13 +8,14 @@ use Rattle.sd_base.specs.declared.tables.Kind.TheVariants.{Sdf}
 use Rattle.sd_base.specs.declared.tables.SharedRow.{SharedRow}
 use Rattle.sd_base.specs.Net.{Channel, channel_at, file_channel}
 use Rattle.sd_base.specs.Tables.{KeepsWideRules}
+use Rattle.sd_base.proofs.Lists.{get-left}
 use Rattle.storage.specs.Distributions.{AtMost}
 use Rattle.token_matrix.proofs.OfGraph.{channels-many}
 use Rattle.bounded_scenarios.specs.BoundedFiles.{bounded_graph, space_row, space_rows}
 use Rattle.bounded_scenarios.specs.SharedChannels.{channel_named}
 use Rattle.bounded_scenarios.specs.StorageRates.{bounded_net}
 use Rattle.bounded_scenarios.proofs.BoundedRules.{channel-is, channel-there}
-use Rattle.bounded_scenarios.proofs.Lists.{IsLater, at-either, at-left, at-right}
+use Rattle.bounded_scenarios.proofs.Lists.{IsLater, at-either, at-right}
 use Rattle.bounded_scenarios.proofs.Spaces.{SpacePair, space-pair}
 use Rattle.bounded_scenarios.proofs.TokenMaps.{IsRoomier, SameNets, SameRates}
 
@@ -52,7 +53,7 @@ pub both-rows : (g : GraphFile) (shared : List SharedRow) (ds es : List (Option 
 both-rows g shared ds es most i c at = ⊎_elim file space (at-either g.channels (space_rows g.channels shared ds) i c at)
   where
     file : slice_get g.channels i ≡ Some c → BothAt g shared ds es i
-    file here = record { c = c; d = c; first = at; second = at-left g.channels (space_rows g.channels shared es) i c here; what = inl (here, refl) }
+    file here = record { c = c; d = c; first = at; second = get-left g.channels (space_rows g.channels shared es) i c here; what = inl (here, refl) }
 
     space : IsLater g.channels (space_rows g.channels shared ds) i c → BothAt g shared ds es i
     space later =

@@ -16,13 +16,12 @@ use Rattle.sd_base.specs.Scenarios.{Shares}
 use Rattle.sd_base.specs.Schedules.{HasInputs}
 use Rattle.sd_base.specs.Tables.{ChannelKeepsRules, KeepsRules, KeepsWideRules, phases_of}
 use Rattle.sd_base.proofs.FileNets.{file-at, widened}
+use Rattle.sd_base.proofs.Lists.{get-left, all-get, get-there}
 use Rattle.automaton.proofs.Pigeons.{pigeons}
 use Rattle.token_matrix.specs.Stamps.{no_row}
 use Rattle.token_matrix.proofs.OfGraph.{channels-are, channels-many}
-use Rattle.token_matrix.proofs.Rows.{get_there}
 use Rattle.bounded_scenarios.specs.BoundedFiles.{bounded_graph, space_row, space_rows}
 use Rattle.bounded_scenarios.specs.SharedChannels.{channel_named}
-use Rattle.bounded_scenarios.proofs.Lists.{at-all, at-left}
 use Rattle.bounded_scenarios.proofs.NamedChannels.{shared-named}
 use Rattle.bounded_scenarios.proofs.Spaces.{space-at}
 
@@ -31,7 +30,7 @@ use Rattle.bounded_scenarios.proofs.Spaces.{space-at}
 module _ (shared : List SharedRow) (g : GraphFile) (shares : Shares shared g) where
   -- the number of the channel of a row
   channel-of : (i : ℕ) → (i < length shared) ⊎ (length shared ≤ i) → ℕ
-  channel-of i (inl below) = let row = get_there shared i below in (shares.rows i row.0 row.1).0
+  channel-of i (inl below) = let row = get-there shared i below in (shares.rows i row.0 row.1).0
   channel-of i (inr past) = 0
 
   few-over : length g.channels < length shared → ⊥
@@ -40,15 +39,15 @@ module _ (shared : List SharedRow) (g : GraphFile) (shares : Shares shared g) wh
       (λ i j less h. apart i j less h (cases_lt i (length shared)) (cases_lt j (length shared)))
     where
       inside : (i : ℕ) → i < suc (length g.channels) → (u : (i < length shared) ⊎ (length shared ≤ i)) → channel-of i u < length g.channels
-      inside i h (inl below) = let row = get_there shared i below in let one = shares.rows i row.0 row.1 in slice_get_within g.channels one.0 one.1 one.2
+      inside i h (inl below) = let row = get-there shared i below in let one = shares.rows i row.0 row.1 in slice_get_within g.channels one.0 one.1 one.2
       inside i h (inr past) = absurd (omega arith)
 
       apart : (i j : ℕ) → i < j → j < suc (length g.channels) → (u : (i < length shared) ⊎ (length shared ≤ i)) (v : (j < length shared) ⊎ (length shared ≤ j)) → channel-of i u ≢ channel-of j v
       apart i j less h (inr past) v same = absurd (omega arith)
       apart i j less h (inl below) (inr past) same = absurd (omega arith)
       apart i j less h (inl below) (inl there) same =
-          let x = get_there shared i below in
-          let y = get_there shared j there in
+          let x = get-there shared i below in
+          let y = get-there shared j there in
           let one = shares.rows i x.0 x.1 in
           let two = shares.rows j y.0 y.1 in
           let at : slice_get g.channels two.0 ≡ Some one.1 = subst (λ (n : ℕ). slice_get g.channels n ≡ Some one.1) same one.2 in
@@ -85,7 +84,7 @@ module _ (shared : List SharedRow) (ds : List (Option ℕ)) (g : GraphFile) (rul
   spaces-rules i d below =
       let one = space-at g.channels shared ds i (slice_index_or (space_rows g.channels shared ds) i d) (slice_get-get_or (space_rows g.channels shared ds) i d below) in
       let there = shared-named shared g shares one.0 one.1 one.3 in
-      let keeps : ChannelKeepsRules (phases_of g) (channel_named g.channels one.1.name) = at-all (ChannelKeepsRules (phases_of g)) g.channels there.0
+      let keeps : ChannelKeepsRules (phases_of g) (channel_named g.channels one.1.name) = all-get (ChannelKeepsRules (phases_of g)) g.channels there.0
       (channel_named g.channels one.1.name) rules.channels there.1 in
       subst (ChannelKeepsRules (phases_of g)) (sym one.5) (space-rules (channel_named g.channels one.1.name) one.2 keeps (few one.0 one.2 one.1 one.3 one.4))
 
@@ -112,7 +111,7 @@ channel-is g gamma rules kind i c at =
     ∙ ap (λ (n : ℕ). file_channel n c) (let e : 0 + i ≡ i = omega arith in e)))
 
 pub channel-there : (g : GraphFile) (gamma : List ℕ) → KeepsWideRules g → g.kind ≡ Sdf → (i : ℕ) → i < length (net_of g gamma false).channels → (c : ChannelRow) × (slice_get g.channels i ≡ Some c)
-channel-there g gamma rules kind i below = get_there g.channels i (omega (arith, channels-many g gamma rules kind))
+channel-there g gamma rules kind i below = get-there g.channels i (omega (arith, channels-many g gamma rules kind))
 
 -- each actor that has an input has it in the bounded graph
 pub bounded-inputs : (shared : List SharedRow) (ds : List (Option ℕ)) (g : GraphFile) (gamma : List ℕ) → KeepsRules g → g.kind ≡ Sdf → KeepsWideRules (bounded_graph shared ds g) →
@@ -120,7 +119,7 @@ pub bounded-inputs : (shared : List SharedRow) (ds : List (Option ℕ)) (g : Gra
 bounded-inputs shared ds g gamma rules kind wide inputs a actor =
     let into = inputs a actor in
     let row = channel-there g gamma (widened g rules) kind into.0 into.1 in
-    let at : slice_get (g.channels ++ space_rows g.channels shared ds) into.0 ≡ Some row.0 = at-left g.channels (space_rows g.channels shared ds) into.0 row.0 row.1 in
+    let at : slice_get (g.channels ++ space_rows g.channels shared ds) into.0 ≡ Some row.0 = get-left g.channels (space_rows g.channels shared ds) into.0 row.0 row.1 in
     let inside : into.0 < length (g.channels ++ space_rows g.channels shared ds) = slice_get_within (g.channels ++ space_rows g.channels shared ds) into.0 row.0 at in
     let small : channel_at (net_of g gamma false) into.0 ≡ file_channel into.0 row.0 = channel-is g gamma (widened g rules) kind into.0 row.0 row.1 in
     let large : channel_at (net_of (bounded_graph shared ds g) gamma false) into.0 ≡ file_channel into.0 row.0 = channel-is (bounded_graph shared ds g) gamma wide kind into.0 row.0 at in (

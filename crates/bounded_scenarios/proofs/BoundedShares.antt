@@ -5,10 +5,11 @@ use Rattle.sd_base.specs.declared.tables.GraphFile.{GraphFile}
 use Rattle.sd_base.specs.declared.tables.ChannelRow.{ChannelRow}
 use Rattle.sd_base.specs.declared.tables.SharedRow.{SharedRow}
 use Rattle.sd_base.specs.Scenarios.{Shares}
+use Rattle.sd_base.proofs.Lists.{get-left}
 use Rattle.bounded_scenarios.specs.BoundedFiles.{bounded_graph, space_name, space_row, space_rows, space_shares}
 use Rattle.bounded_scenarios.specs.SharedChannels.{channel_named}
 use Rattle.bounded_scenarios.specs.Boundings.{AreFileNames}
-use Rattle.bounded_scenarios.proofs.Lists.{IsLater, at-either, at-left, at-right}
+use Rattle.bounded_scenarios.proofs.Lists.{IsLater, at-either, at-right}
 use Rattle.bounded_scenarios.proofs.Spaces.{share-at, share-there, share_of, space-at, space-there}
 use Rattle.token_matrix.proofs.Numbering.{RowsDiffer, later_differ}
 use Rattle.bounded_scenarios.proofs.NamedChannels.{named-is, shared-named}
@@ -89,7 +90,7 @@ module _ (shared : List SharedRow) (ds : List (Option ℕ)) (g : GraphFile) (sha
   row-shared s x at = ⊎_elim left right (at-either shared (space_shares shared ds) s x at)
     where
       left : slice_get shared s ≡ Some x → IsShared x
-      left here = let one = shares.rows s x here in (one.0, one.1, at-left g.channels (space_rows g.channels shared ds) one.0 one.1 one.2, one.3, one.4, one.5)
+      left here = let one = shares.rows s x here in (one.0, one.1, get-left g.channels (space_rows g.channels shared ds) one.0 one.1 one.2, one.3, one.4, one.5)
 
       right : IsLater shared (space_shares shared ds) s x → IsShared x
       right later =
@@ -113,7 +114,7 @@ module _ (shared : List SharedRow) (ds : List (Option ℕ)) (g : GraphFile) (sha
   channel-shared i c at some = ⊎_elim left right (at-either g.channels (space_rows g.channels shared ds) i c at)
     where
       left : slice_get g.channels i ≡ Some c → (s : ℕ) × (row : SharedRow) × (slice_get (shared ++ space_shares shared ds) s ≡ Some row) × (row.name ≡ c.name) × (row.tokens ≡ c.tokens)
-      left here = let one = shares.channels i c here some in (one.0, one.1, at-left shared (space_shares shared ds) one.0 one.1 one.2, one.3, one.4)
+      left here = let one = shares.channels i c here some in (one.0, one.1, get-left shared (space_shares shared ds) one.0 one.1 one.2, one.3, one.4)
 
       right : IsLater g.channels (space_rows g.channels shared ds) i c →
           (s : ℕ) × (row : SharedRow) × (slice_get (shared ++ space_shares shared ds) s ≡ Some row) × (row.name ≡ c.name) × (row.tokens ≡ c.tokens)

@@ -14,11 +14,12 @@ use Rattle.sd_base.specs.Scenarios.{shared_count}
 use Rattle.sd_base.specs.Schedules.{HasInputs}
 use Rattle.sd_base.specs.Untimed.{IsLive}
 use Rattle.sd_base.proofs.Sums.{total-turn, total-turns}
+use Rattle.sd_base.proofs.Lists.{get-there}
+use Rattle.sd_base.proofs.Rounds.{one-repetition}
 use Rattle.storage.specs.Distributions.{IsDistribution, storage_of}
 use Rattle.token_matrix.specs.EntryWays.{CarriesStamps}
 use Rattle.token_matrix.specs.Stamps.{AreStampsOf, first_of, first_token, no_row}
 use Rattle.token_matrix.proofs.OfGraph.{covers, inside}
-use Rattle.token_matrix.proofs.Rows.{get_there, one-repetition}
 use Rattle.token_matrix.proofs.StampsExist.{stamps}
 use Rattle.bounded_scenarios.specs.BoundedFiles.{bounded_file, bounded_graph, bounded_scenario}
 use Rattle.bounded_scenarios.specs.Boundings.{CanBeBounded}
@@ -91,7 +92,7 @@ module _ (file : ScenarioFile) (room : ℕ) (can : CanBeBounded file room) (ds :
 
   pub have-stamps : AllRun file ds → HaveStamps (bounded_file file ds)
   have-stamps all = record {
-    row_of = λ q s at. get_there (bounded_file file ds).scenarios s.scenario ((measurable file room can ds is within).leads_on.scenarios q s at);
+    row_of = λ q s at. get-there (bounded_file file ds).scenarios s.scenario ((measurable file room can ds is within).leads_on.scenarios q s at);
     stamps = λ k row at. (
         let from = row-from file.scenarios (bounded_scenario file.shared ds) k row at in
         let run = all k from.0 from.1 in

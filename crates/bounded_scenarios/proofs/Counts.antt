@@ -1,10 +1,11 @@
 -- What a distribution of shared channels says row by row, and how many tokens the bounded file shares.
-use Rattle.std.proofs.Common.{◌≡◌, ℕ, zero, suc, ◌+◌, ◌-◌, ◌*◌, ◌≤◌, ◌<◌, Bool, true, false, Option, None, Some, List, [], ◌∷◌, ◌++◌, length, ⊎_elim, subst, sym, ap, refl, arith}
+use Rattle.std.proofs.Common.{◌≡◌, ℕ, zero, suc, ◌+◌, ◌-◌, ◌*◌, ◌≤◌, ◌<◌, Bool, true, false, Option, None, Some, List, [], ◌∷◌, length, ⊎_elim, subst, sym, ap, refl, arith}
 use Rattle.std.specs.Prelude.{slice_get, if◌then◌else◌, nat_lt}
 use Rattle.std.proofs.lemmas.Bool.{cases_lt, lt-ltb, le-ltb}
 use Rattle.sd_base.specs.declared.tables.ScenarioRow.{ScenarioRow}
 use Rattle.sd_base.specs.declared.tables.SharedRow.{SharedRow}
 use Rattle.sd_base.specs.Scenarios.{shared_count}
+use Rattle.sd_base.proofs.Truths.{if-le}
 use Rattle.storage.specs.Distributions.{IsDistribution, storage_of}
 use Rattle.bounded_scenarios.specs.BoundedFiles.{space_shares}
 use Rattle.bounded_scenarios.specs.Boundings.{looped_tokens}
@@ -49,10 +50,6 @@ space-count row k rest = ⊎_elim
     (λ (more : k ≤ row.tokens). subst (λ (b : Bool). shared_count (if b then share_of row k ∷ rest else rest) ≡ (k - row.tokens) + shared_count rest) (sym (le-ltb row.tokens k more)) (omega arith))
     (cases_lt row.tokens k)
 
-pub count-append : (rows more : List SharedRow) → shared_count (rows ++ more) ≡ shared_count rows + shared_count more
-count-append [] more = omega arith
-count-append (row ∷ rows) more = let rest = count-append rows more in omega (arith, rest)
-
 -- those of the rows and of their free spaces are the storage, and the tokens of the rows without a capacity
 pub bounded-count : (ss : List ScenarioRow) (p : ℕ) (rows : List SharedRow) (ds : List (Option ℕ)) → IsDistribution (shared_channels_from ss p rows) ds →
     shared_count rows + shared_count (space_shares rows ds) ≡ storage_of (shared_channels_from ss p rows) ds + looped_tokens ss rows
@@ -78,8 +75,4 @@ rows-few (row ∷ rows) some = let rest = rows-few rows (λ t r at. some (suc t)
 -- the tokens of the rows without a capacity are no more than all
 pub looped-few : (ss : List ScenarioRow) (rows : List SharedRow) → looped_tokens ss rows ≤ shared_count rows
 looped-few ss [] = omega arith
-looped-few ss (row ∷ rows) = let rest = looped-few ss rows in let one = if-few (is_looped (channels_named ss row.name)) row.tokens in omega (arith, rest, one)
-  where
-    if-few : (b : Bool) (n : ℕ) → (if b then n else 0) ≤ n
-    if-few true n = omega arith
-    if-few false n = omega arith
+looped-few ss (row ∷ rows) = let rest = looped-few ss rows in let one = if-le (is_looped (channels_named ss row.name)) row.tokens in omega (arith, rest, one)

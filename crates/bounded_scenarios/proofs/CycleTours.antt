@@ -1,10 +1,10 @@
 -- Walks in the timed graph of a bounded file as walks of ways through its states.
-use Rattle.std.proofs.Common.{◌≡◌, ℕ, suc, ◌+◌, ◌*◌, ◌/◌, ◌%◌, ◌<◌, Option, Some, List, [], ◌∷◌, length, subst, sym, ap, ◌∙◌, refl}
+use Rattle.std.proofs.Common.{◌≡◌, ℕ, suc, ◌+◌, ◌*◌, ◌<◌, Option, Some, List, [], ◌∷◌, length, subst, sym, ap, ◌∙◌, refl}
 use Rattle.std.specs.Prelude.{slice_get}
-use Rattle.std.proofs.lemmas.Nat.{div-mul-add, mod-mul-add}
 use Rattle.sd_base.specs.declared.tables.ScenarioFile.{ScenarioFile}
 use Rattle.sd_base.specs.declared.tables.ScenarioRow.{ScenarioRow}
 use Rattle.sd_base.specs.Net.{IsRepetitionOf}
+use Rattle.sd_base.proofs.Lists.{get-map}
 use Rattle.automaton.specs.declared.graph.Edge.{Edge}
 use Rattle.automaton.specs.declared.graph.TimedGraph.{TimedGraph}
 use Rattle.automaton.specs.CriticalCycles.{IsPath, IsReachedNode, weight_in, weights}
@@ -15,18 +15,11 @@ use Rattle.bounded_scenarios.specs.BoundedFiles.{bounded_file, bounded_graph, bo
 use Rattle.bounded_scenarios.specs.ScenarioGuides.{IsEntryOf, IsWayOf}
 use Rattle.bounded_scenarios.specs.ShownSpaces.{ShowsTaken, ShowsWays}
 use Rattle.bounded_scenarios.proofs.Chains.{has-here, has-more}
-use Rattle.bounded_scenarios.proofs.Measurable.{bounded-row}
 use Rattle.bounded_scenarios.proofs.TourLists.{IsLeg, IsTour, LeadTo}
 
 -- the spaces that are taken on channels of a scenario are shown
 abbrev pub AreShown : ScenarioFile → List (Option ℕ) → List ℕ → ℕ → List ℕ → Type 0
 AreShown file m shown k channels = (row : ScenarioRow) → slice_get file.scenarios k ≡ Some row → ShowsTaken file m row.graph channels shown
-
--- one number has one place in rows of n
-pub same-place : (n q p r s v : ℕ) → p < n → s < n → v ≡ q * n + p → v ≡ r * n + s → (q ≡ r) × (p ≡ s)
-same-place n q p r s v low high one two =
-    let same : q * n + p ≡ r * n + s = sym one ∙ two in
-    (sym (div-mul-add q n p low) ∙ (ap (λ (x : ℕ). x / n) same ∙ div-mul-add r n s high), sym (mod-mul-add q n p low) ∙ (ap (λ (x : ℕ). x % n) same ∙ mod-mul-add r n s high))
 
 module _ (file : ScenarioFile) (m : List (Option ℕ)) (shown : List ℕ) (graph : TimedGraph) where
   -- the end of a walk of ways
@@ -59,7 +52,7 @@ module _ (file : ScenarioFile) (m : List (Option ℕ)) (shown : List ℕ) (graph
             state = entry.at;
             at = entry.runs;
             row = bounded_scenario file.shared m row;
-            runs = bounded-row file.scenarios (bounded_scenario file.shared m) entry.at.scenario row entry.scenario;
+            runs = get-map (bounded_scenario file.shared m) file.scenarios entry.at.scenario row entry.scenario;
             gamma = way.gamma;
             gives = bounded row entry.at.scenario way.gamma entry.scenario way.gives;
             channels = channels;

@@ -10,10 +10,10 @@ use Rattle.sd_base.specs.Net.{Channel, total}
 use Rattle.sd_base.specs.Tables.{ChannelKeepsRules, phases_of}
 use Rattle.sd_base.specs.Scenarios.{ScenarioKeepsRules}
 use Rattle.sd_base.proofs.Sums.{total-turn, total-bound}
+use Rattle.sd_base.proofs.Lists.{all-get}
 use Rattle.storage.specs.Steps.{step_of}
 use Rattle.storage.proofs.ChannelSteps.{AreWhole, made-whole, taken-whole}
 use Rattle.bounded_scenarios.specs.SharedChannels.{channel_named, channels_named, shared_channel}
-use Rattle.bounded_scenarios.proofs.Lists.{at-all}
 use Rattle.bounded_scenarios.proofs.NamedChannels.{shared-named}
 
 -- ---- parts of a list of whole numbers
@@ -56,7 +56,7 @@ pub fits : (ss : List ScenarioRow) (s : ℕ) (sc : ScenarioRow) → slice_get ss
     FitsShared (channel_named sc.graph.channels row.name) (shared_channel ss p row)
 fits ss s sc at shared keeps p t row there =
     let one = shared-named shared sc.graph keeps.shares t row there in
-    let rules : ChannelKeepsRules (phases_of sc.graph) (channel_named sc.graph.channels row.name) = at-all (ChannelKeepsRules (phases_of sc.graph)) sc.graph.channels one.0
+    let rules : ChannelKeepsRules (phases_of sc.graph) (channel_named sc.graph.channels row.name) = all-get (ChannelKeepsRules (phases_of sc.graph)) sc.graph.channels one.0
     (channel_named sc.graph.channels row.name) keeps.rules.channels one.1 in
     let made : AreWhole (step_of (shared_channel ss p row)) (channel_named sc.graph.channels row.name).made = whole-named (step_of (shared_channel ss p row))
     (λ (c : ChannelRow). c.made) ss row.name (made-whole (shared_channel ss p row)) s sc at in

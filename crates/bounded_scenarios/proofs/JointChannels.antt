@@ -15,17 +15,16 @@ use Rattle.sd_base.specs.declared.tables.SharedRow.{SharedRow}
 use Rattle.sd_base.specs.Net.{Channel}
 use Rattle.sd_base.specs.Scenarios.{FileKeepsRules, shared_count}
 use Rattle.sd_base.specs.Tables.{ChannelKeepsRules, phases_of}
+use Rattle.sd_base.proofs.Lists.{all-get, get-there}
 use Rattle.levels.specs.declared.channel.ChannelStep.{ChannelStep}
 use Rattle.levels.specs.Frontiers.{channel_step}
 use Rattle.storage.specs.Distributions.{IsDistribution, storage_of}
 use Rattle.storage.specs.Steps.{CoversRates, IsCorner, IsCornerAt, divisor_of, step_of}
-use Rattle.token_matrix.proofs.Rows.{get_there}
 use Rattle.bounded_scenarios.specs.SharedChannels.{channel_named, channels_named, is_looped, shared_channel, shared_channels, shared_channels_from}
 use Rattle.bounded_scenarios.specs.inside.Joints.{IsJoint, IsLimited, joint_channel}
 use Rattle.bounded_scenarios.specs.inside.Naming.{CoverAll, NameAll}
 use Rattle.bounded_scenarios.specs.declared.joint.Joint.{Joint}
 use Rattle.bounded_scenarios.proofs.Counts.{dist-long, dist-room, rows-few}
-use Rattle.bounded_scenarios.proofs.Lists.{at-all}
 use Rattle.bounded_scenarios.proofs.NamedChannels.{shared-named}
 use Rattle.bounded_scenarios.proofs.SharedSteps.{bound-named}
 
@@ -48,7 +47,7 @@ module _ (file : ScenarioFile) (rules : FileKeepsRules file) where
       ChannelKeepsRules (phases_of sc.graph) (channel_named sc.graph.channels row.name)
   row-rules s sc at t row there =
       let one = shared-named file.shared sc.graph (rules.scenarios s sc at).shares t row there in
-      at-all (ChannelKeepsRules (phases_of sc.graph)) sc.graph.channels one.0 (channel_named sc.graph.channels row.name) (rules.scenarios s sc at).rules.channels one.1
+      all-get (ChannelKeepsRules (phases_of sc.graph)) sc.graph.channels one.0 (channel_named sc.graph.channels row.name) (rules.scenarios s sc at).rules.channels one.1
 
   few-rates : (xs : List ℕ) → All (λ r. r ≤ RATE) xs → (p : ℕ) → slice_index xs p ≤ RATE
   few-rates xs all p = ⊎_elim
@@ -68,7 +67,7 @@ module _ (file : ScenarioFile) (rules : FileKeepsRules file) where
 
   pub limited : (t : ℕ) (row : SharedRow) (j : Joint) → slice_get file.shared t ≡ Some row → IsJoint file.scenarios row j → IsLimited j
   limited t row j there is =
-      let first = get_there file.scenarios 0 (let f : 0 < length file.scenarios = omega (arith, rules.some_scenario) in f) in
+      let first = get-there file.scenarios 0 (let f : 0 < length file.scenarios = omega (arith, rules.some_scenario) in f) in
       let one = shared-named file.shared first.0.graph (rules.scenarios 0 first.0 first.1).shares t row there in
       let kept = row-rules 0 first.0 first.1 t row there in
       record {
@@ -90,7 +89,7 @@ module _ (file : ScenarioFile) (rules : FileKeepsRules file) where
 
   pub few-shared : length file.shared ≤ NODES
   few-shared =
-      let first = get_there file.scenarios 0 (let f : 0 < length file.scenarios = omega (arith, rules.some_scenario) in f) in
+      let first = get-there file.scenarios 0 (let f : 0 < length file.scenarios = omega (arith, rules.some_scenario) in f) in
       let few = rows-few file.shared (λ t row there. (let one = (rules.scenarios 0 first.0 first.1).shares.rows t row there in one.5)) in
       omega (arith, few, few-tokens)
 

@@ -2,9 +2,11 @@
 use Rattle.std.proofs.Common.{◌≡◌, ℕ, ◌*◌, ◌≤◌, Option, Some, List, length, subst, sym, ap, refl, arith}
 use Rattle.std.specs.Prelude.{slice_get}
 use Rattle.std.proofs.Math.Nat.{le_of_mul-le-mul_right, mul-le-mul_right}
+use Rattle.std.proofs.lemmas.Nat.{same_from_place}
 use Rattle.sd_base.specs.declared.tables.ScenarioFile.{ScenarioFile}
 use Rattle.sd_base.specs.declared.tables.ScenarioRow.{ScenarioRow}
 use Rattle.sd_base.specs.Net.{IsRepetitionOf}
+use Rattle.sd_base.proofs.Lists.{get-map}
 use Rattle.automaton.specs.CriticalCycles.{weights}
 use Rattle.automaton.specs.WorstRates.{IsWorst}
 use Rattle.storage.specs.Distributions.{storage_of}
@@ -18,8 +20,8 @@ use Rattle.bounded_scenarios.specs.StorageRates.{AllRun}
 use Rattle.bounded_scenarios.specs.StorageRates.HasWorstRate.{blocked, runs}
 use Rattle.bounded_scenarios.proofs.BlockedMembers.{above-carries, member-carries}
 use Rattle.bounded_scenarios.proofs.BoundedStamps.{all-lawful, gives-back, have-stamps, row-from}
-use Rattle.bounded_scenarios.proofs.CycleTours.{AreShown, LeadsAt, path-tour, reached-leads, same-place}
-use Rattle.bounded_scenarios.proofs.Measurable.{bounded-row, kept}
+use Rattle.bounded_scenarios.proofs.CycleTours.{AreShown, LeadsAt, path-tour, reached-leads}
+use Rattle.bounded_scenarios.proofs.Measurable.{kept}
 use Rattle.bounded_scenarios.proofs.Numbers.{renumbered}
 use Rattle.bounded_scenarios.proofs.PushedWays.{pushed_named, way-pushed}
 use Rattle.bounded_scenarios.proofs.RunningRooms.{fit, high-carries, low-dist, low-within, named}
@@ -70,7 +72,7 @@ module _ (file : ScenarioFile) (total : ℕ) (can : CanBeBounded file total) (m 
     unfolding up
     one-up = record {
       row' = bounded_scenario file.shared floored s;
-      at = bounded-row file.scenarios (bounded_scenario file.shared floored) k s at;
+      at = get-map (bounded_scenario file.shared floored) file.scenarios k s at;
       gives = (above-carries file total can m shown ds above k s at gamma gives).gives;
       way = λ p q e cs good way. way-pushed file m floored s.graph gamma above.most (member-carries file total can m shown ds above k s at gamma gives)
           (above-carries file total can m shown ds above k s at gamma gives)
@@ -81,7 +83,7 @@ module _ (file : ScenarioFile) (total : ℕ) (can : CanBeBounded file total) (m 
     unfolding on
     one-on = record {
       row' = bounded_scenario file.shared ds s;
-      at = bounded-row file.scenarios (bounded_scenario file.shared ds) k s at;
+      at = get-map (bounded_scenario file.shared ds) file.scenarios k s at;
       gives = (high-carries file total can ds above.distribution above.within k s at gamma gives).gives;
       way = λ p q e cs good way. way-spared file ds s.graph gamma above.distribution (can.names k s at) (kept file total can k s at).shares.rows_differ
           (named file total can ds above.distribution above.within k s at gamma gives)
@@ -123,7 +125,7 @@ module _ (file : ScenarioFile) (total : ℕ) (can : CanBeBounded file total) (m 
       let turn = path-tour file m shown live.graph
       (λ row k gamma at gives. (member-carries file total can m shown ds above k row at gamma gives).gives)
       live.cycle live.critical.node live.critical.node front.r front.s front.end front.inside live.shows live.critical.closed in
-      let place = same-place live.graph.tokens turn.r turn.s front.r front.s live.critical.node turn.inside front.inside turn.end front.end in
+      let place = same_from_place turn.r turn.s front.r front.s live.graph.tokens turn.inside front.inside (sym turn.end ∙ front.end) in
       let tour : IsTour Shown member_file front.r front.s turn.states front.r front.s (weights live.graph.edges live.cycle) =
       subst (λ (n : ℕ). IsTour Shown member_file front.r front.s turn.states front.r n (weights live.graph.edges live.cycle)) place.1
       (subst (λ (n : ℕ). IsTour Shown member_file front.r front.s turn.states n turn.s (weights live.graph.edges live.cycle)) place.0 turn.tour) in

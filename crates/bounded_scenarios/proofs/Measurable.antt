@@ -1,5 +1,5 @@
 -- A bounded file within the limit of storage has a timed graph and a worst rate, where its scenarios run.
-use Rattle.std.proofs.Common.{◌≡◌, ℕ, zero, suc, ◌+◌, ◌*◌, ◌≤◌, ◌<◌, Option, Some, List, [], ◌∷◌, length, map, sum, subst, ap, ◌∙◌, arith, mul-le-mul_left}
+use Rattle.std.proofs.Common.{◌≡◌, ℕ, ◌+◌, ◌*◌, ◌≤◌, ◌<◌, Option, Some, List, [], length, sum, subst, ◌∙◌, arith, mul-le-mul_left}
 use Rattle.std.specs.Prelude.{slice_get}
 use Rattle.std.proofs.lemmas.List.{length-map}
 use Rattle.std.proofs.Math.Nat.{mul-le-mul_right}
@@ -11,22 +11,19 @@ use Rattle.sd_base.specs.Net.{IsRepetitionOf}
 use Rattle.sd_base.specs.Scenarios.{ScenarioKeepsRules, shared_count}
 use Rattle.sd_base.specs.Tables.{KeepsWideRules}
 use Rattle.sd_base.proofs.FileNets.{widened}
+use Rattle.sd_base.proofs.Lists.{get-there}
+use Rattle.sd_base.proofs.Rounds.{one-repetition}
 use Rattle.storage.specs.Distributions.{IsDistribution, storage_of}
 use Rattle.token_matrix.specs.EntryWays.{CarriesStamps}
-use Rattle.token_matrix.proofs.Rows.{get_there, one-repetition}
+use Rattle.token_matrix.proofs.LeftTokens.{count-append}
 use Rattle.bounded_scenarios.specs.BoundedFiles.{bounded_file, bounded_graph, bounded_scenario, space_shares}
 use Rattle.bounded_scenarios.specs.Boundings.{CanBeBounded, CanBeMeasured, GivesMatrix, RunsUnbounded, looped_tokens}
 use Rattle.bounded_scenarios.specs.SharedChannels.{shared_channels}
 use Rattle.bounded_scenarios.proofs.BoundedRepetitions.{bounded-repetition}
 use Rattle.bounded_scenarios.proofs.BoundedRules.{bounded-inputs, bounded-rules}
 use Rattle.bounded_scenarios.proofs.BoundedShares.{bounded-shares}
-use Rattle.bounded_scenarios.proofs.Counts.{bounded-count, count-append, dist-room}
+use Rattle.bounded_scenarios.proofs.Counts.{bounded-count, dist-room}
 use Rattle.bounded_scenarios.proofs.FirstTokens.{some-shared}
-
-pub bounded-row : (ss : List ScenarioRow) (f : ScenarioRow → ScenarioRow) (k : ℕ) (row : ScenarioRow) → slice_get ss k ≡ Some row → slice_get (map f ss) k ≡ Some (f row)
-bounded-row [] f k row at = absurd (cc)
-bounded-row (s ∷ ss) f zero row at = let e : s ≡ row = cc in ap (λ (r : ScenarioRow). Some (f r)) e
-bounded-row (s ∷ ss) f (suc k) row at = bounded-row ss f k row at
 
 module _ (file : ScenarioFile) (total : ℕ) (can : CanBeBounded file total) where
   pub kept : (k : ℕ) (row : ScenarioRow) → slice_get file.scenarios k ≡ Some row → ScenarioKeepsRules file.shared row
@@ -45,7 +42,7 @@ module _ (file : ScenarioFile) (total : ℕ) (can : CanBeBounded file total) whe
 
   pub some-shared-token : 1 ≤ shared_count file.shared
   some-shared-token =
-      let first = get_there file.scenarios 0 (let f : 0 < length file.scenarios = omega (arith, can.rules.some_scenario) in f) in
+      let first = get-there file.scenarios 0 (let f : 0 < length file.scenarios = omega (arith, can.rules.some_scenario) in f) in
       let run = can.runs 0 first.0 first.1 in
       some-shared file.shared first.0.graph run.gamma (plain 0 first.0 first.1) run.live run.inputs
 

@@ -9,9 +9,9 @@ use Rattle.sd_base.specs.declared.tables.ScenarioRow.{ScenarioRow}
 use Rattle.sd_base.specs.declared.tables.SharedRow.{SharedRow}
 use Rattle.sd_base.specs.Net.{Channel, nowhere}
 use Rattle.sd_base.specs.Scenarios.{FileKeepsRules}
+use Rattle.sd_base.proofs.Lists.{get-there}
 use Rattle.storage.specs.Steps.{step_of}
 use Rattle.storage.proofs.Climbs.{HasSteps}
-use Rattle.token_matrix.proofs.Rows.{get_there}
 use Rattle.bounded_scenarios.specs.SharedChannels.{channel_named, channels_named, shared_channel, shared_channels, shared_channels_from}
 use Rattle.bounded_scenarios.proofs.Fitting.{fits}
 
@@ -31,7 +31,7 @@ shared-steps file rules = record { step = step; size = size }
     step : (i : ℕ) → i < length (shared_channels file) → 1 ≤ step_of (slice_index_or (shared_channels file) i nowhere)
     step i below =
         let one = shared-there file.scenarios 0 file.shared i below in
-        let first = get_there file.scenarios 0 (let f : 0 < length file.scenarios = omega (arith, rules.some_scenario) in f) in
+        let first = get-there file.scenarios 0 (let f : 0 < length file.scenarios = omega (arith, rules.some_scenario) in f) in
         let fit = fits file.scenarios 0 first.0 first.1 file.shared (rules.scenarios 0 first.0 first.1) (0 + i) i one.0 one.1 in
         subst (λ (c : Channel). 1 ≤ step_of c) (sym one.2) fit.some
 

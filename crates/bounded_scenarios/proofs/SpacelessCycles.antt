@@ -3,11 +3,13 @@ use Rattle.std.proofs.Common.{◌≡◌, ℕ, zero, suc, ◌*◌, ◌≤◌, ◌
 use Rattle.std.specs.Prelude.{false, slice_get}
 use Rattle.std.proofs.Math.Nat.{mul-le-mul_right}
 use Rattle.std.proofs.lemmas.Bool.{cases_lt}
+use Rattle.std.proofs.lemmas.Nat.{same_from_place}
 use Rattle.sd_base.specs.declared.tables.ScenarioFile.{ScenarioFile}
 use Rattle.sd_base.specs.declared.tables.ScenarioRow.{ScenarioRow}
 use Rattle.sd_base.specs.FileNet.{net_of}
 use Rattle.sd_base.specs.Net.{IsRepetitionOf}
 use Rattle.sd_base.specs.Scenarios.{shared_count}
+use Rattle.sd_base.proofs.Lists.{get-map}
 use Rattle.automaton.specs.CriticalCycles.{weights}
 use Rattle.automaton.specs.WorstRates.{IsWorst}
 use Rattle.storage.specs.Distributions.{IsDistribution, storage_of}
@@ -21,9 +23,9 @@ use Rattle.bounded_scenarios.specs.ShownSpaces.{IsShownLive, SpacelessBounds}
 use Rattle.bounded_scenarios.specs.StorageRates.{AllRun, bounded_net}
 use Rattle.bounded_scenarios.specs.StorageRates.HasWorstRate.{blocked, runs}
 use Rattle.bounded_scenarios.proofs.BoundedStamps.{all-lawful, gives-back, have-stamps, row-from}
-use Rattle.bounded_scenarios.proofs.CycleTours.{AreShown, LeadsAt, path-tour, reached-leads, same-place}
+use Rattle.bounded_scenarios.proofs.CycleTours.{AreShown, LeadsAt, path-tour, reached-leads}
 use Rattle.bounded_scenarios.proofs.LiveMembers.{cross}
-use Rattle.bounded_scenarios.proofs.Measurable.{bounded-row, gives-matrix, kept}
+use Rattle.bounded_scenarios.proofs.Measurable.{gives-matrix, kept}
 use Rattle.bounded_scenarios.proofs.SpacelessWays.{way-begins, way-same}
 use Rattle.bounded_scenarios.proofs.TourLists.{IsLeg, IsTour, LeadTo}
 use Rattle.bounded_scenarios.proofs.Tours.{tour-bounds}
@@ -76,7 +78,7 @@ module _ (file : ScenarioFile) (total : ℕ) (can : CanBeBounded file total) (m 
           state = leg.state;
           at = leg.at;
           row = bounded_scenario file.shared ds one.row;
-          runs = bounded-row file.scenarios (bounded_scenario file.shared ds) leg.state.scenario one.row one.at;
+          runs = get-map (bounded_scenario file.shared ds) file.scenarios leg.state.scenario one.row one.at;
           gamma = leg.gamma;
           gives = one.high.gives;
           channels = leg.channels;
@@ -122,7 +124,7 @@ module _ (file : ScenarioFile) (total : ℕ) (can : CanBeBounded file total) (m 
       let turn = path-tour file m [] live.graph
       (λ row k gamma at gives. (gives-matrix file total can m member small k row gamma at gives).carries.gives) live.cycle live.critical.node live.critical.node
       front.r front.s front.end front.inside live.shows live.critical.closed in
-      let place = same-place live.graph.tokens turn.r turn.s front.r front.s live.critical.node turn.inside front.inside turn.end front.end in
+      let place = same_from_place turn.r turn.s front.r front.s live.graph.tokens turn.inside front.inside (sym turn.end ∙ front.end) in
       let tour : IsTour Spaceless low_file front.r front.s turn.states front.r front.s (weights live.graph.edges live.cycle) =
       subst (λ (n : ℕ). IsTour Spaceless low_file front.r front.s turn.states front.r n (weights live.graph.edges live.cycle)) place.1
       (subst (λ (n : ℕ). IsTour Spaceless low_file front.r front.s turn.states n turn.s (weights live.graph.edges live.cycle)) place.0 turn.tour) in

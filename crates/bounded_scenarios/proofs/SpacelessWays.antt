@@ -11,6 +11,7 @@ use Rattle.sd_base.specs.declared.tables.SharedRow.{SharedRow}
 use Rattle.sd_base.specs.Net.{Channel, Net, channel_at, file_channel, total}
 use Rattle.sd_base.specs.Scenarios.{Shares, shared_count}
 use Rattle.sd_base.specs.Schedules.{time_of}
+use Rattle.sd_base.proofs.Lists.{get-left}
 use Rattle.token_matrix.specs.EntryWays.{CarriesStamps}
 use Rattle.token_matrix.specs.Stamps.{IsPutBy, IsTakenBy, first_of, first_token, left_token, no_row}
 use Rattle.token_matrix.specs.Ways.{IsChain, IsWay}
@@ -26,7 +27,7 @@ use Rattle.bounded_scenarios.specs.ShownSpaces.{ShowsTaken}
 use Rattle.bounded_scenarios.specs.StorageRates.{bounded_net}
 use Rattle.bounded_scenarios.proofs.BoundedRules.{channel-is, channel-there}
 use Rattle.bounded_scenarios.proofs.Chains.{has-here, has-more}
-use Rattle.bounded_scenarios.proofs.Lists.{IsLater, at-either, at-left}
+use Rattle.bounded_scenarios.proofs.Lists.{IsLater, at-either}
 use Rattle.bounded_scenarios.proofs.NamedChannels.{named-is}
 use Rattle.bounded_scenarios.proofs.Spaces.{space-at}
 
@@ -83,8 +84,8 @@ module _ (file : ScenarioFile) (m ds : List (Option ℕ)) (g : GraphFile) (gamma
 
   plain-in : (i : ℕ) (c : ChannelRow) → slice_get g.channels i ≡ Some c → IsPlainIn i
   plain-in i c at =
-      let first : slice_get (bounded_graph file.shared m g).channels i ≡ Some c = at-left g.channels (space_rows g.channels file.shared m) i c at in
-      let second : slice_get (bounded_graph file.shared ds g).channels i ≡ Some c = at-left g.channels (space_rows g.channels file.shared ds) i c at in
+      let first : slice_get (bounded_graph file.shared m g).channels i ≡ Some c = get-left g.channels (space_rows g.channels file.shared m) i c at in
+      let second : slice_get (bounded_graph file.shared ds g).channels i ≡ Some c = get-left g.channels (space_rows g.channels file.shared ds) i c at in
       record {
         c = c;
         at = at;
@@ -139,9 +140,9 @@ module _ (file : ScenarioFile) (m ds : List (Option ℕ)) (g : GraphFile) (gamma
       let tokens : k < plain.c.tokens = subst (λ (x : Channel). k < x.tokens) plain.low_is there in
       let share = shares.channels i plain.c plain.at (omega (arith, tokens)) in
       let lows : low_first i ≡ first_token (file.shared ++ space_shares file.shared m) plain.c.name = ap (λ (x : ChannelRow). first_token (file.shared ++ space_shares file.shared m) x.name)
-      (get_or_from_slice_get (bounded_graph file.shared m g).channels i plain.c no_row (at-left g.channels (space_rows g.channels file.shared m) i plain.c plain.at)) in
+      (get_or_from_slice_get (bounded_graph file.shared m g).channels i plain.c no_row (get-left g.channels (space_rows g.channels file.shared m) i plain.c plain.at)) in
       let highs : high_first i ≡ first_token (file.shared ++ space_shares file.shared ds) plain.c.name = ap (λ (x : ChannelRow). first_token (file.shared ++ space_shares file.shared ds) x.name)
-      (get_or_from_slice_get (bounded_graph file.shared ds g).channels i plain.c no_row (at-left g.channels (space_rows g.channels file.shared ds) i plain.c plain.at)) in
+      (get_or_from_slice_get (bounded_graph file.shared ds g).channels i plain.c no_row (get-left g.channels (space_rows g.channels file.shared ds) i plain.c plain.at)) in
       let one = first-front file.shared (space_shares file.shared m) share.0 share.1 plain.c.name share.2 share.3 in
       let two = first-front file.shared (space_shares file.shared ds) share.0 share.1 plain.c.name share.2 share.3 in
       let inside = first_inside file.shared share.0 k share.1 plain.c.name shares.rows_differ share.2 share.3 (omega (arith, tokens, share.4)) in

@@ -10,12 +10,14 @@ use Rattle.sd_base.specs.FileNet.{net_of}
 use Rattle.sd_base.specs.Lawful.{Lawful}
 use Rattle.sd_base.specs.Scenarios.{shared_count}
 use Rattle.sd_base.proofs.LoopRates.{slopes}
+use Rattle.sd_base.proofs.Rounds.{one-repetition}
 use Rattle.token_matrix.specs.Stamps.{first_of}
 use Rattle.token_matrix.specs.Matrices.{greatest}
 use Rattle.automaton.specs.WorstRates.{IsSuccessor, Follow, IsStatePath, Carries, RunsTo, zeros, IsWorst}
+use Rattle.automaton.proofs.Walks.{laps, length-laps}
 use Rattle.token_matrix.specs.Ways.{IsWay}
 use Rattle.bounded_scenarios.proofs.TourLists.{IsLeg, IsTour, LeadTo, run_from, HaveStamps}
-use Rattle.token_matrix.proofs.Rows.{one-repetition, greatest-least}
+use Rattle.token_matrix.proofs.Rows.{greatest-least}
 use Rattle.token_matrix.proofs.WayStamps.{way_stamp}
 
 -- ---- tours one after another
@@ -45,21 +47,11 @@ length-run [] q = refl
 length-run (next ∷ rs) q = ap (λ (n : ℕ). suc n) (length-run rs next)
 
 -- a closed tour n times
-pub laps : ℕ → List ℕ → List ℕ
-laps zero rs = []
-laps (suc n) rs = rs ++ laps n rs
-
 pub tour-laps : (P : ℕ → List ℕ → Type 0) (file : ScenarioFile) (rs : List ℕ) (q p w : ℕ) → IsTour P file q p rs q p w → (n : ℕ) → IsTour P file q p (laps n rs) q p (n * w)
 unfolding laps
 tour-laps P file rs q p w tour zero = (refl, refl, omega arith)
 tour-laps P file rs q p w tour (suc n) = subst (λ (x : ℕ). IsTour P file q p (rs ++ laps n rs) q p x) (let e : w + n * w ≡ suc n * w = omega arith in e)
     (tour-append P file rs (laps n rs) q p q p q p w (n * w) tour (tour-laps P file rs q p w tour n))
-
-pub length-laps : (n : ℕ) (rs : List ℕ) → length (laps n rs) ≡ n * length rs
-unfolding laps
-length-laps zero rs = omega arith
-length-laps (suc n) rs = let h : length (laps n rs) ≡ n * length rs = length-laps n rs in let a : length (rs ++ laps n rs) ≡ length rs + length (laps n rs) = length-append rs (laps n rs) in
-    omega arith
 
 -- ---- stamps along them
 

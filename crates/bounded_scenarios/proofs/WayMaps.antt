@@ -1,8 +1,9 @@
 -- Ways are ways where tokens stand for tokens: with more room elsewhere, and with spare room.
-use Rattle.std.proofs.Common.{◌≡◌, ℕ, ◌+◌, ◌-◌, ◌*◌, ◌/◌, ◌%◌, ◌≤◌, ◌<◌, List, [], length, subst, sym, ap, ◌∙◌, arith, ⊎_elim, mod-lt, mul-le-mul_right, div-add-mod'}
+use Rattle.std.proofs.Common.{◌≡◌, ℕ, ◌+◌, ◌-◌, ◌*◌, ◌/◌, ◌≤◌, ◌<◌, List, [], length, subst, sym, ap, ◌∙◌, arith, ⊎_elim, mul-le-mul_right}
 use Rattle.std.proofs.Math.Nat.{mul-add-div_right}
 use Rattle.std.specs.Prelude.{Contains, slice_index, slice_index_or}
 use Rattle.std.proofs.lemmas.Bool.{cases_lt}
+use Rattle.std.proofs.lemmas.Nat.{le-div, div_below}
 use Rattle.sd_base.specs.Net.{Net, Channel, channel_at, phase_entry, total}
 use Rattle.sd_base.specs.Schedules.{time_of}
 use Rattle.token_matrix.specs.Stamps.{IsTakenBy, IsPutBy, left_token}
@@ -86,22 +87,11 @@ module _ (net other : Net) (room : IsRoomier net other) where
 
 -- ---- with spare room it stands for the last spare token of its step
 
-floor-above : (g a m : ℕ) → a * g ≤ m → 1 ≤ g → a ≤ m / g
-floor-above g a m low some = ⊎_elim
-    (λ (less : m / g < a). absurd (let parts : m / g * g + m % g ≡ m = div-add-mod' m g in let rest : m % g < g = mod-lt m some in
-    let up : (m / g + 1) * g ≤ a * g = mul-le-mul_right g (omega arith) in let no : ⊥ = omega arith in no))
-    (λ (h : a ≤ m / g). h) (cases_lt (m / g) a)
-
-floor-below : (g b m : ℕ) → m < b * g → m / g < b
-floor-below g b m high = ⊎_elim
-    (λ (h : m / g < b). h)
-    (λ (more : b ≤ m / g). absurd (let parts : m / g * g + m % g ≡ m = div-add-mod' m g in let up : b * g ≤ m / g * g = mul-le-mul_right g more in let no : ⊥ = omega arith in no)) (cases_lt (m / g) b)
-
 above : (g r a m : ℕ) → 1 ≤ g → a * g ≤ m → a * g + r ≤ m / g * g + r
-above g r a m some low = let up : a * g ≤ m / g * g = mul-le-mul_right g (floor-above g a m low some) in omega arith
+above g r a m some low = let up : a * g ≤ m / g * g = mul-le-mul_right g (le-div a m g some low) in omega arith
 
 under : (g r b m : ℕ) → r < g → m < b * g → m / g * g + r < b * g
-under g r b m small high = let up : (m / g + 1) * g ≤ b * g = mul-le-mul_right g (let f : m / g + 1 ≤ b = omega (arith, floor-below g b m high) in f) in omega arith
+under g r b m small high = let up : (m / g + 1) * g ≤ b * g = mul-le-mul_right g (let f : m / g + 1 ≤ b = omega (arith, div_below m g b (omega arith) high) in f) in omega arith
 
 pub spare-under : (g r a b : ℕ) → r < g → a * g < b * g → a * g + r < b * g
 spare-under g r a b small less = ⊎_elim

@@ -8,13 +8,13 @@ use Rattle.std.proofs.lemmas.List.Sorted.{Contains-permutation, IsPermutation-sy
 use Rattle.std.proofs.Math.ListN.{get_or-append}
 use Rattle.std.proofs.Math.Nat.{le_of_mul-le-mul_left}
 use Rattle.std.proofs.Math.Seq.{get_or-append_seam}
+use Rattle.std.proofs.lemmas.List.{get_or_default}
 use Rattle.cert_text.specs.declared.certificates.PointLine.{PointLine}
 use Rattle.cert_checker.specs.declared.best_rates.Best.{Best}
 use Rattle.cert_checker.specs.declared.best_rates.BestRates.{BestRates}
 use Rattle.cert_checker.specs.StorageCertificates.{point_at}
 use Rattle.cert_checker.specs.inside.BelowPoints.{HasBelow}
 use Rattle.cert_checker.specs.inside.Bests.{AreBest, AreBestRates, ArePositive, HasUpTo, IsAtMost, IsBestAt, IsSplit, best_at, no_best}
-use Rattle.cert_checker.proofs.Glue.{any-default}
 
 -- ---- rates in order
 
@@ -118,9 +118,9 @@ rates-push points n rates new b is some pushed before = subst (AreRates points (
 
 moved : (xs ys : List Best) → IsPermutation xs ys → (k : ℕ) → k < length xs → (j : ℕ) × (j < length ys) × (best_at ys j ≡ best_at xs k)
 moved xs ys permutation k below =
-    let has : Contains xs (best_at xs k) = (k, below, any-default xs k (best_at xs k) no_best below) in
+    let has : Contains xs (best_at xs k) = (k, below, get_or_default xs k (best_at xs k) no_best below) in
     let at = Contains-permutation xs ys (best_at xs k) permutation has in
-    (at.0, at.1, any-default ys at.0 no_best (best_at xs k) at.1 ∙ at.2)
+    (at.0, at.1, get_or_default ys at.0 no_best (best_at xs k) at.1 ∙ at.2)
 
 pub moved-up-to : (xs ys : List Best) → IsPermutation xs ys → (storage : ℕ) (rate : ℕ × ℕ) → HasUpTo xs storage rate → HasUpTo ys storage rate
 moved-up-to xs ys permutation storage rate (k, below, small, fast) =
@@ -217,7 +217,7 @@ pub best-more-at : (list : List Best) (n : ℕ) (d : Best) (steps new : List Bes
     → (IsAtMost old (slice_index_or list n d).rate × (greatest ≡ (slice_index_or list n d).rate)) ⊎ ((IsAtMost old (slice_index_or list n d).rate → ⊥) × (greatest ≡ old))
     → new ≡ steps ++ record { storage = (slice_index_or list n d).storage; rate = greatest } ∷ [] → AreBestBelow list (n + 1) new greatest
 best-more-at list n d steps new old greatest below positive before up here choice pushed =
-    let same : slice_index_or list n d ≡ best_at list n = any-default list n d no_best below in
+    let same : slice_index_or list n d ≡ best_at list n = get_or_default list n d no_best below in
     best-more list n steps new old greatest below positive before up (subst (λ (x : Best). IsAtMost x.rate greatest) same here)
     (subst (λ (x : Best). (IsAtMost old x.rate × (greatest ≡ x.rate)) ⊎ ((IsAtMost old x.rate → ⊥) × (greatest ≡ old))) same choice)
     (subst (λ (x : Best). new ≡ steps ++ record { storage = x.storage; rate = greatest } ∷ []) same pushed)
@@ -228,8 +228,8 @@ best-more-at list n d steps new old greatest below positive before up here choic
 pub steps-in-order : (list steps : List Best) → AreBest list steps → IsNonDecreasingBy (λ (b : Best). b.storage) list → IsNonDecreasingBy (λ (b : Best). b.storage) steps
 steps-in-order list steps are order i j d small below =
     let one : (best_at list i).storage ≤ (best_at list j).storage = order i j no_best small (omega (arith, below, are.size)) in
-    let first = any-default steps i d no_best (omega (arith, small, below)) in
-    let second = any-default steps j d no_best below in
+    let first = get_or_default steps i d no_best (omega (arith, small, below)) in
+    let second = get_or_default steps j d no_best below in
     let a = (are.each i (omega (arith, small, below))).storage in
     let b = (are.each j below).storage in
     let c : (best_at steps i).storage ≤ (best_at steps j).storage = omega (arith, one, a, b) in
@@ -239,7 +239,7 @@ steps-in-order list steps are order i j d small below =
 pub split-few : (steps : List Best) (storage few enough middle : ℕ) (d : Best) → IsNonDecreasingBy (λ (b : Best). b.storage) steps → middle < length steps → (slice_index_or steps middle d).storage ≤ storage
     → IsSplit steps storage few enough → IsSplit steps storage (middle + 1) enough
 split-few steps storage few enough middle d order below small before =
-    let here : (best_at steps middle).storage ≤ storage = subst (λ (x : Best). x.storage ≤ storage) (any-default steps middle d no_best below) small in record {
+    let here : (best_at steps middle).storage ≤ storage = subst (λ (x : Best). x.storage ≤ storage) (get_or_default steps middle d no_best below) small in record {
       below = λ k within. (let up : (best_at steps k).storage ≤ (best_at steps middle).storage = order k middle no_best (omega (arith, within)) below in omega (arith, up, here));
       above = before.above;
     }
@@ -247,7 +247,7 @@ split-few steps storage few enough middle d order below small before =
 pub split-enough : (steps : List Best) (storage few enough middle : ℕ) (d : Best) → IsNonDecreasingBy (λ (b : Best). b.storage) steps → middle < length steps → storage < (slice_index_or steps middle d).storage
     → IsSplit steps storage few enough → IsSplit steps storage few middle
 split-enough steps storage few enough middle d order inside more before =
-    let here : storage < (best_at steps middle).storage = subst (λ (x : Best). storage < x.storage) (any-default steps middle d no_best inside) more in record {
+    let here : storage < (best_at steps middle).storage = subst (λ (x : Best). storage < x.storage) (get_or_default steps middle d no_best inside) more in record {
       below = before.below;
       above = λ k past below. (let up : (best_at steps middle).storage ≤ (best_at steps k).storage = order middle k no_best past below in omega (arith, up, here));
     }

@@ -1,24 +1,18 @@
 -- The net of a file can be bounded by distributions within the limit.
-use Rattle.std.proofs.Common.{ℕ, suc, ◌≤◌, Option, None, Some, List, [], ◌∷◌, length, arith}
+use Rattle.std.proofs.Common.{ℕ, ◌≤◌, Option, List, [], length, arith}
 use Rattle.sd_base.specs.declared.limits.TheConstants.{NET_CHANNELS, STORAGE}
-use Rattle.sd_base.specs.Net.{Channel, Net}
-use Rattle.storage.specs.BoundedNets.{HasNoSpaces, bound, spaces_from}
+use Rattle.sd_base.specs.Net.{Net}
+use Rattle.storage.specs.BoundedNets.{HasNoSpaces, bound}
 use Rattle.storage.specs.Distributions.{CanHold}
 use Rattle.storage.proofs.Enlarging.{distribution-length}
 use Rattle.storage.proofs.FileChannels.{plain-no_spaces}
 use Rattle.storage.proofs.Fits.{can-hold}
-use Rattle.storage.proofs.SpaceChannels.{bound-long}
+use Rattle.storage.proofs.SpaceChannels.{bound-long, few-spaces}
 use Rattle.cert_checker.specs.ShownChannels.{IsWithin}
 use Rattle.cert_checker.specs.StorageCertificates.{IsFileNet}
 
-spaces-few : (n : ℕ) (cs : List Channel) (ds : List (Option ℕ)) → length (spaces_from n cs ds) ≤ length cs
-spaces-few n [] ds = omega arith
-spaces-few n (c ∷ cs) [] = omega arith
-spaces-few n (c ∷ cs) (None ∷ ds) = let later = spaces-few (suc n) cs ds in omega (arith, later)
-spaces-few n (c ∷ cs) (Some k ∷ ds) = let later = spaces-few (suc n) cs ds in omega (arith, later)
-
 pub bounded-few : (net : Net) → IsFileNet net → (ds : List (Option ℕ)) → length (bound net ds).channels ≤ NET_CHANNELS
-bounded-few net file ds = omega (arith, bound-long net ds, spaces-few 0 net.channels ds, file.few)
+bounded-few net file ds = omega (arith, bound-long net ds, few-spaces 0 net.channels ds, file.few)
 
 pub no-spaces : (net : Net) → IsFileNet net → HasNoSpaces net
 no-spaces net file = plain-no_spaces net file.plain

@@ -1,11 +1,13 @@
 -- From what functions answer to what is asked of lines.
-use Rattle.std.proofs.Common.{◌≡◌, ℕ, zero, suc, ◌+◌, ◌-◌, ◌≤◌, ◌<◌, ◌⊎◌, ◌↔◌, Bool, false, Option, None, Some, List, [], ◌∷◌, length, inl, inr, ⊎_elim, sym, refl, subst, ap, ap₂, ◌∙◌, true≢false, eq-eqb, arith}
+use Rattle.std.proofs.Common.{◌≡◌, ℕ, zero, suc, ◌+◌, ◌-◌, ◌≤◌, ◌<◌, ◌⊎◌, ◌↔◌, Bool, false, Option, None, Some, List, [], ◌∷◌, length, inl, inr, ⊎_elim, sym, refl, subst, ap, ap₂, ◌∙◌, true≢false, eq-eqb, arith, pos_of_ne-zero}
 use Rattle.std.specs.Prelude.{IsTrue, IfOk, Result, Ok, Err, nat_eq, slice_index_or, ◌==◌}
 use Rattle.std.specs.Cmp.Lexicographic.{pointwise}
 use Rattle.std.specs.Option.{option_eq}
 use Rattle.std.proofs.lemmas.Bool.{cases_lt, eqb-true}
+use Rattle.std.proofs.lemmas.List.{get_or_default}
 use Rattle.sd_base.specs.declared.memory.NoMemory.{NoMemory}
 use Rattle.sd_base.specs.Net.{Channel, Net}
+use Rattle.sd_base.proofs.Lists.{some-within}
 use Rattle.storage.specs.BoundedNets.{bound}
 use Rattle.storage.specs.Distributions.{storage_of}
 use Rattle.storage.specs.Steps.{IsCorner, IsCornerAt}
@@ -30,18 +32,12 @@ use Rattle.cert_checker.specs.inside.FirstFaults.{Judges}
 use Rattle.cert_checker.specs.inside.BelowPoints.{IsMemberBelow, IsShownBelow}
 use Rattle.cert_checker.specs.inside.KnownSets.{IsChild, IsChildOfFirst}
 use Rattle.cert_checker.proofs.KnownLists.{list-decides}
-use Rattle.cert_checker.proofs.TradeOffs.{capacity-below, shown-room}
+use Rattle.cert_checker.proofs.TradeOffs.{shown-room}
 
 -- ---- elements of lists
 
--- an element doesn't rest on what stands for one past the last
-pub any-default : {A : Type 0} (xs : List A) (i : ℕ) (d e : A) → i < length xs → slice_index_or xs i d ≡ slice_index_or xs i e
-any-default [] i d e below = absurd (omega arith)
-any-default (x ∷ xs) zero d e below = refl
-any-default (x ∷ xs) (suc i) d e below = any-default xs i d e (omega arith)
-
 pub item-of : {A : Type 0} (xs ys : List A) (i : ℕ) (x d : A) → xs ≡ ys → i < length ys → x ≡ slice_index_or xs i x → x ≡ slice_index_or ys i d
-item-of xs ys i x d same below is = is ∙ (ap (λ (zs : List _). slice_index_or zs i x) same ∙ any-default ys i x d below)
+item-of xs ys i x d same below is = is ∙ (ap (λ (zs : List _). slice_index_or zs i x) same ∙ get_or_default ys i x d below)
 
 -- ---- cycles of members
 
@@ -80,7 +76,7 @@ module _ (net : Net) (version : ℕ) (c : StorageCertificate) (i : ℕ) where
 pub shown-channel : (net : Net) (limit : ℕ) (cs : List LinkCycle) (m : MemberLine) (channel : ℕ) → Shows net limit cs m channel → channel < length net.channels
 shown-channel net limit cs m channel shows =
     let room = shown-room net cs m.capacities.capacities m.shown channel shows.by in
-    omega (arith, capacity-below m.capacities.capacities channel room.0 room.1, distribution-length net.channels m.capacities.capacities shows.within.distribution)
+    omega (arith, some-within m.capacities.capacities channel room.0 room.1, distribution-length net.channels m.capacities.capacities shows.within.distribution)
 
 pub closed-all : (net : Net) (c : StorageCertificate) (i n : ℕ) → length net.channels ≤ n
     → ((k : ℕ) → k < n → Shows net c.limit c.cycles (member_at c.members i) k → storage_of net.channels (stepped net (capacities_at c.members i) k) ≤ c.limit → IsMember c.members (stepped net (capacities_at c.members i) k)) → IsClosedAt net c i
@@ -108,12 +104,8 @@ pub later-place : (net : Net) (c : StorageCertificate) (i : ℕ) → (i ≡ 0 �
     → (b : Bool) → IsTrue b ↔ IsChildOfFirst net c (length c.members) (capacities_at c.members i) → IsTrue b ↔ IsInPlace net c i
 later-place net c i later fit after b tests = (
   λ yes. record { within = fit; after = λ some. after; parent = λ some. parent-of net c (capacities_at c.members i) (tests.0 yes) },
-  λ in_place. tests.1 (child-of net c (capacities_at c.members i) fit (in_place.parent (some i later))),
+  λ in_place. tests.1 (child-of net c (capacities_at c.members i) fit (in_place.parent (pos_of_ne-zero later))),
 )
-  where
-    some : (n : ℕ) → (n ≡ 0 → ⊥) → 1 ≤ n
-    some zero none = absurd (none refl)
-    some (suc n) none = omega arith
 
 module _ (net : Net) (c : StorageCertificate) (m : MemberLine) (n : ℕ) (ds : List (Option ℕ)) (first old : Type 0) (before : old ↔ (first ⊎ IsChild net c m n ds)) where
   later : IsChild net c m n ds → IsChild net c m (n + 1) ds

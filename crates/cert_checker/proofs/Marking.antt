@@ -3,7 +3,7 @@ use Rattle.std.proofs.Common.{◌≡◌, ◌≢◌, ℕ, zero, suc, ◌+◌, ◌
 use Rattle.std.specs.Prelude.{slice_get, slice_index_or, Some, IsTrue, nat_lt}
 use Rattle.std.proofs.lemmas.Bool.{cases_lt}
 use Rattle.std.proofs.lemmas.Option.{slice_get_within, slice_get-get_or}
-use Rattle.std.proofs.lemmas.List.{get_or-set_other, get_or_past, get_or_append_left, get_or_push, length-append}
+use Rattle.std.proofs.lemmas.List.{get_or-set_other, get_or_past, get_or_append_left, get_or_push}
 use Rattle.automaton.specs.declared.graph.Edge.{Edge}
 use Rattle.automaton.specs.declared.graph.TimedGraph.{TimedGraph}
 use Rattle.automaton.specs.CriticalCycles.{IsPath, IsReachedNode, IsStart}
@@ -101,9 +101,6 @@ kept-more es n old new same kept last k below = ⊎_elim
     (λ (early : k < n). subst (IsKept es k) (sym same) (kept k early))
     (λ (late : n ≤ k). subst (λ (j : ℕ). IsKept es j new) (let e : n ≡ k = omega arith in e) last)
     (cases_lt k n)
-
-pub size-more : (old new : List Bool) (n : ℕ) (b : Bool) → length old ≡ n → new ≡ old ++ b ∷ [] → length new ≡ n + 1
-size-more old new n b long pushed = let e : length new ≡ length (old ++ b ∷ []) = ap length pushed in omega (arith, length-append old (b ∷ []))
 
 -- the ends of edges are nodes
 pub ends-inside : (graph : TimedGraph) (es : List Edge) (n : ℕ) (d : Edge) (size : ℕ) → IsSound graph → es ≡ graph.edges → n < length graph.edges → size ≡ graph.states * graph.tokens

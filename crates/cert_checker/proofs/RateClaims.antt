@@ -1,5 +1,5 @@
 -- What a valid certificate of a rate shows.
-use Rattle.std.proofs.Common.{◌≡◌, ℕ, zero, suc, ◌*◌, ◌≤◌, ◌<◌, ◌↔◌, length, eq-eqb, refl, subst, arith}
+use Rattle.std.proofs.Common.{◌≡◌, ℕ, zero, suc, ◌*◌, ◌≤◌, ◌<◌, ◌↔◌, length, eq-eqb, subst, arith, pos_of_ne-zero}
 use Rattle.std.specs.Int.{IsGcd, ◌∣◌}
 use Rattle.std.proofs.lemmas.Nat.Gcd.{le_from_IsGcd, same_from_IsGcd}
 use Rattle.std.proofs.lemmas.Bool.{eqb-true}
@@ -31,13 +31,9 @@ lowest-stays n d x y some lowest (g, num, den) =
 -- what is left to test of parts above 0
 pub rate-line : (rate : ℕ × ℕ) (g : ℕ) → (rate.0 ≡ 0 → ⊥) → (rate.1 ≡ 0 → ⊥) → IsGcd rate.0 rate.1 g → IsTrue (nat_eq g 1) ↔ IsRateLine rate
 rate-line rate g some positive is = (
-  (λ yes. record { some = above rate.0 some; positive = above rate.1 positive; lowest = subst (λ (x : ℕ). IsGcd rate.0 rate.1 x) (eqb-true g 1 yes) is }),
+  (λ yes. record { some = pos_of_ne-zero some; positive = pos_of_ne-zero positive; lowest = subst (λ (x : ℕ). IsGcd rate.0 rate.1 x) (eqb-true g 1 yes) is }),
   (λ line. eq-eqb g 1 (same_from_IsGcd rate.0 rate.1 g 1 is line.lowest)),
 )
-  where
-    above : (n : ℕ) → (n ≡ 0 → ⊥) → 1 ≤ n
-    above zero none = absurd (none refl)
-    above (suc n) none = omega arith
 
 pub shown : RateIsShown → (net : Net) → Lawful net → (c : RateCertificate) → IsJoined net → IsRateLine c.rate → IsScheduleLine net c.rate c.schedule
     → ((a : ℕ) → a < length net.times → LineHolds net c.schedule.period c.schedule.rounds c.schedule.starts a) → IsCycleLine net c.rate c.cycle → Rate net c.rate.0 c.rate.1

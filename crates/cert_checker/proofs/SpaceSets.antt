@@ -7,7 +7,7 @@ use Rattle.std.specs.declared.cmp.Ordering.TheVariants.{Less, Equal, Greater}
 use Rattle.std.specs.Ordering.{nat_cmp, is_eq, ordering_then}
 use Rattle.std.proofs.lemmas.Bool.{cases_lt}
 use Rattle.std.proofs.lemmas.Cmp.{nat_cmp_total, tied_itself}
-use Rattle.std.proofs.lemmas.List.{get_or_past}
+use Rattle.std.proofs.lemmas.List.{get_or_past, get_or_default}
 use Rattle.std.proofs.lemmas.Map.Lookups.{exact_unsigned}
 use Rattle.sd_base.specs.declared.role.Role.{Role}
 use Rattle.sd_base.specs.declared.role.Role.TheVariants.{Space}
@@ -17,7 +17,6 @@ use Rattle.cert_text.specs.MemberLines.{cycle_at, no_cycle}
 use Rattle.cert_checker.specs.ShownChannels.{no_link}
 use Rattle.cert_checker.specs.inside.ShownAt.{HasSpaceLink}
 use Rattle.cert_checker.specs.inside.Spaces.{pair_cmp}
-use Rattle.cert_checker.proofs.Glue.{any-default}
 use Rattle.cert_checker.proofs.KnownLists.{is-equal}
 
 -- ---- the order of pairs
@@ -87,7 +86,7 @@ link-more steps n number k c d first old new within before given = (
 )
   where
     added : new ↔ (old ⊎ ((number ≡ k) × ((slice_index_or steps n no_link).link ≡ Space c)))
-    added = subst (λ (l : LinkStep). new ↔ (old ⊎ ((number ≡ k) × (l.link ≡ Space c)))) (any-default steps n d no_link within) given
+    added = subst (λ (l : LinkStep). new ↔ (old ⊎ ((number ≡ k) × (l.link ≡ Space c)))) (get_or_default steps n d no_link within) given
 
 -- ---- the cycles
 

@@ -5,6 +5,7 @@ use Rattle.std.proofs.lemmas.List.{get_or-map, length-map}
 use Rattle.sd_base.specs.Net.{Net, channel_at}
 use Rattle.sd_base.specs.Lawful.{Lawful}
 use Rattle.sd_base.specs.Rates.{Rate}
+use Rattle.sd_base.proofs.Lists.{some-within}
 use Rattle.critical.specs.Bounds.{CyclesBoundTheRate}
 use Rattle.periodic.proofs.Lines.{lines_decide}
 use Rattle.storage.specs.BoundedNets.{HasNoSpaces, bound}
@@ -52,11 +53,6 @@ choose P (suc n) all =
     at e one es later zero below = one
     at e one es later (suc i) below = later i (omega arith)
 
-pub capacity-below : (ds : List (Option ℕ)) (c k : ℕ) → capacity_at ds c ≡ Some k → c < length ds
-capacity-below [] c k has = absurd (cc)
-capacity-below (d ∷ ds) zero k has = omega arith
-capacity-below (d ∷ ds) (suc c) k has = let later = capacity-below ds c k has in omega (arith, later)
-
 -- what is shown has a capacity
 pub shown-room : (net : Net) (cycles : List LinkCycle) (ds : List (Option ℕ)) (shown : MemberShown) (c : ℕ) → IsShownBy net cycles ds shown c → (k : ℕ) × (capacity_at ds c ≡ Some k)
 shown-room net cycles ds (Cycle rate cycle) c by = (by.room, by.has)
@@ -86,7 +82,7 @@ module _ (cycles_bound : CyclesBoundTheRate) (rates : RateIsShown) (net : Net) (
   grid (suc n) (suc i) below few =
       let parent = (is.members (suc i) below).place.parent (omega arith) in
       let room = shown-room net c.cycles (capacities_at c.members parent.place) (member_at c.members parent.place).shown parent.channel parent.shows.by in
-      let place : parent.channel < length net.channels = omega (arith, capacity-below (capacities_at c.members parent.place) parent.channel room.0 room.1, distribution-length net.channels (capacities_at c.members parent.place) parent.shows.within.distribution) in
+      let place : parent.channel < length net.channels = omega (arith, some-within (capacities_at c.members parent.place) parent.channel room.0 room.1, distribution-length net.channels (capacities_at c.members parent.place) parent.shows.within.distribution) in
       let less : storage_of net.channels (capacities_at c.members parent.place) < storage_of net.channels (stepped net (capacities_at c.members parent.place) parent.channel) =
       enlarged-storage net.channels (capacities_at c.members parent.place) parent.channel room.0 (step_of (channel_at net parent.channel)) file.laws.some_size place room.1 (some-step (channel_at net parent.channel) (file.laws.some_made parent.channel place)) in
       let less_here : storage_of net.channels (capacities_at c.members parent.place) < storage_of net.channels (capacities_at c.members (suc i)) = subst (λ (ds : List (Option ℕ)). storage_of net.channels (capacities_at c.members parent.place) < storage_of net.channels ds) parent.is less in

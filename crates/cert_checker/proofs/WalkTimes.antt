@@ -3,16 +3,12 @@ use Rattle.std.proofs.Common.{◌≡◌, ℕ, suc, ◌+◌, ◌*◌, ◌≤◌, 
 use Rattle.std.specs.Prelude.{slice_get, slice_index_or, ◌==◌}
 use Rattle.std.specs.List.{find}
 use Rattle.std.specs.Option.{option_map}
-use Rattle.std.proofs.lemmas.Bool.{eqb-true}
+use Rattle.std.proofs.lemmas.Bool.{eqb-true, and_parts}
 use Rattle.std.proofs.lemmas.Option.{same_Some}
 use Rattle.automaton.specs.declared.graph.Edge.{Edge}
 use Rattle.automaton.specs.declared.graph.TimedGraph.{TimedGraph}
 use Rattle.automaton.specs.CriticalCycles.{IsPath, weights, weight_in, IsCritical}
 use Rattle.cert_checker.specs.ListedNodes.{node_of, weight_between, time_on, end_of, IsListedWalk}
-
-and-both : (a b : Bool) → (a && b) ≡ true → (a ≡ true) × (b ≡ true)
-and-both true b e = (refl, e)
-and-both false b e = absurd (cc)
 
 -- an edge between two nodes, by its number
 pub record Between (es : List Edge) (u v w : ℕ) : Type 0 where
@@ -30,7 +26,7 @@ between (e ∷ es) u v w is = go (between es u v w) ((e.from == u) && (e.to == v
     go : (weight_between es u v ≡ Some w → Between es u v w) → (b : Bool) → ((e.from == u) && (e.to == v)) ≡ b
         → option_map (λ (x : Edge). x.weight) (cond b (Some e) (find (λ (x : Edge). (x.from == u) && (x.to == v)) es)) ≡ Some w → Between (e ∷ es) u v w
     go later true test h =
-        let both = and-both (e.from == u) (e.to == v) test in
+        let both = and_parts (e.from == u) (e.to == v) test in
         record { number = 0; edge = e; there = refl; from = eqb-true e.from u both.0; to = eqb-true e.to v both.1; weight = same_Some e.weight w h }
     go later false test h = let b = later h in record { number = suc b.number; edge = b.edge; there = b.there; from = b.from; to = b.to; weight = b.weight }
 

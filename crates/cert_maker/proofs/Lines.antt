@@ -1,11 +1,12 @@
 -- Lines one after another.
-use Rattle.std.proofs.Common.{◌≡◌, ℕ, zero, suc, ◌<◌, Some, List, [], ◌∷◌, ◌++◌, All, length, get_or, slice_get, inl, inr, sym, ap, subst, ◌∙◌, append-nil, arith}
+use Rattle.std.proofs.Common.{◌≡◌, ℕ, zero, suc, ◌<◌, Some, List, [], ◌∷◌, ◌++◌, All, length, get_or, inl, inr, sym, ap, subst, ◌∙◌, append-nil, arith}
 use Rattle.std.specs.List.{AllZip}
 use Rattle.std.proofs.lemmas.List.{length-append}
 use Rattle.std.proofs.lemmas.List.Elements.{All-nil, All-append}
 use Rattle.std.proofs.lemmas.Bool.Decides.{nat_tests}
 use Rattle.sd_base.specs.Net.{Net}
 use Rattle.sd_base.specs.declared.numbers.Fraction.{Fraction}
+use Rattle.sd_base.proofs.Lists.{get-left}
 use Rattle.periodic.specs.declared.schedule.Periodic.{Periodic}
 use Rattle.storage.specs.BoundedNets.{bound}
 use Rattle.explore.specs.declared.exploration.Member.{Member}
@@ -23,11 +24,6 @@ use Rattle.cert_maker.specs.inside.Lines.{HasLine, HasText, AddsCycles}
 use Rattle.cert_maker.specs.inside.Listing.{IsEntered}
 
 -- ---- cycles
-
-pub get-left : {A : Type 0} (xs ys : List A) (i : ℕ) (x : A) → slice_get xs i ≡ Some x → slice_get (xs ++ ys) i ≡ Some x
-get-left [] ys i x at = absurd (cc)
-get-left (z ∷ xs) ys zero x at = at
-get-left (z ∷ xs) ys (suc i) x at = get-left xs ys i x at
 
 shown-left : (net : Net) (cycles more : List LinkCycle) (r : Fraction) (s : Shown) (line : MemberShown) → IsShownBy net cycles r s line → IsShownBy net (cycles ++ more) r s line
 shown-left net cycles more r (shown.Cycle cycle) (Cycle rate i) is = (is.0, get-left cycles more i _ is.1)

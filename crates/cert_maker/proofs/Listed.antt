@@ -6,13 +6,12 @@ use Rattle.std.specs.List.{IsDistinct, list_any, position_or_len}
 use Rattle.std.specs.Option.{option_map}
 use Rattle.std.proofs.lemmas.Bool.{eqb-true}
 use Rattle.std.proofs.lemmas.List.{length-map, map-append}
-use Rattle.std.proofs.lemmas.List.Folds.{list_any_at}
-use Rattle.std.proofs.lemmas.List.Sums.{position_or_len_is}
 use Rattle.std.proofs.lemmas.Map.Keys.{apart_from_distinct}
 use Rattle.std.proofs.lemmas.Option.{slice_get-map}
 use Rattle.sd_base.specs.declared.role.Role.{Role}
 use Rattle.sd_base.specs.declared.role.Role.TheVariants.{Token, Own, Space, Order}
 use Rattle.sd_base.specs.contracts.role.RolePartialEq.TheImpl as roles
+use Rattle.sd_base.proofs.Lists.{place-none}
 use Rattle.cert_text.specs.contracts.certificates.LinkStepPartialEq.TheImpl as steps
 use Rattle.cert_maker.specs.contracts.listing.ListedCyclePartialEq.TheImpl as cycles
 use Rattle.cert_text.specs.declared.certificates.LinkStep.{LinkStep}
@@ -98,13 +97,6 @@ pub listed-there : (ks : List ListedCycle) (i : ℕ) (value k : ListedCycle) →
 listed-there ks i value k there same =
     slice_get-map cycle_of ks i ∙ ap (option_map cycle_of) there ∙ ap (λ (c : ListedCycle). Some (cycle_of c)) (sym (listed-same value k same))
 
-none-found : (p : ListedCycle → Bool) (ks : List ListedCycle) → list_any p ks ≡ false → position_or_len p ks ≡ length ks
-none-found p ks none = position_or_len_is p ks (length ks) (listed_of no_cycle) (omega arith) (λ k below. fails k below (p (get_or ks k (listed_of no_cycle))) refl) (λ below. absurd (omega arith))
-  where
-    fails : (k : ℕ) → k < length ks → (b : Bool) → p (get_or ks k (listed_of no_cycle)) ≡ b → p (get_or ks k (listed_of no_cycle)) ≡ false
-    fails k below true is = absurd (true≢false (sym (list_any_at p ks k (listed_of no_cycle) below is) ∙ none))
-    fails k below false is = is
-
 -- a cycle that is entered has its number
 pub listed-entered : (old new : List ListedCycle) (value : ListedCycle) (i : ℕ) → new ≡ (if list_any ((cycles.ghosts).eq value) old then old else old ++ value ∷ []) → i ≡ position_or_len ((cycles.ghosts).eq value) old
     → i < length new → IsEntered (map cycle_of old) (cycle_of value) i (map cycle_of new)
@@ -116,4 +108,4 @@ listed-entered old new value i keys index within = by (list_any ((cycles.ghosts)
         inl (omega (arith, within, ap length same, length-map old cycle_of), ap (map cycle_of) same)
     by false is =
         let more : new ≡ old ++ value ∷ [] = keys ∙ ap (λ (b : Bool). if b then old else old ++ value ∷ []) is in
-        inr (index ∙ none-found ((cycles.ghosts).eq value) old is ∙ sym (length-map old cycle_of), ap (map cycle_of) more ∙ map-append cycle_of old (value ∷ []))
+        inr (index ∙ place-none ((cycles.ghosts).eq value) old is ∙ sym (length-map old cycle_of), ap (map cycle_of) more ∙ map-append cycle_of old (value ∷ []))

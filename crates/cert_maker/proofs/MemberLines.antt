@@ -5,6 +5,8 @@ use Rattle.std.proofs.lemmas.List.{length-map}
 use Rattle.std.proofs.lemmas.Option.{slice_get_within}
 use Rattle.sd_base.specs.declared.limits.Limits.{Limits}
 use Rattle.sd_base.specs.Net.{Net}
+use Rattle.sd_base.proofs.Lists.{get-map}
+use Rattle.sd_base.proofs.Truths.{one-some}
 use Rattle.periodic.specs.declared.schedule.Periodic.{Periodic}
 use Rattle.storage.specs.declared.distribution.Distribution.{Distribution}
 use Rattle.storage.specs.BoundedNets.{bound}
@@ -24,7 +26,7 @@ use Rattle.cert_checker.proofs.Glue.{corner-one}
 use Rattle.cert_maker.specs.StorageCertificates.{IsMemberLine, IsStorageCertificate}
 use Rattle.cert_maker.proofs.MemberOrder.{corner-first, first-is-corner, member-fits, none, none-below, order-at}
 use Rattle.cert_maker.proofs.ShownLines.{line-shows, shown-right, shows-line}
-use Rattle.cert_maker.proofs.Zipped.{PlaceOf, ZipAt, get-map, get-one, get-same, zip-at, zip-long, zip-one}
+use Rattle.cert_maker.proofs.Zipped.{PlaceOf, ZipAt, get-one, zip-at, zip-long, zip-one}
 
 module _ (net : Net) (file : IsFileNet net) (limits : Limits) (ms : List Member) (ps : List Point) (is : IsExploration net limits ms ps)
     (no_overlap : Bool) (schedules : List Periodic) (c : StorageCertificate) (put : IsStorageCertificate net no_overlap limits.total ms ps schedules c) where
@@ -143,4 +145,4 @@ module _ (net : Net) (file : IsFileNet net) (limits : Limits) (ms : List Member)
           first-below at = let within = slice_get_within (capacities_of ms) 0 is.start.corner at in omega (arith, within, many, length-map ms (λ (x : Member). x.capacities.capacities))
 
           some-one : (m : Member) → slice_get ms 0 ≡ Some m → slice_get (capacities_of ms) 0 ≡ Some is.start.corner → m.capacities.capacities ≡ is.start.corner
-          some-one m one at = get-same (capacities_of ms) 0 m.capacities.capacities is.start.corner (place-of 0 m one) at
+          some-one m one at = one-some (slice_get (capacities_of ms) 0) m.capacities.capacities is.start.corner (place-of 0 m one) at

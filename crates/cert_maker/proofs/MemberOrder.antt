@@ -5,6 +5,7 @@ use Rattle.std.proofs.lemmas.List.Elements.{All-contains}
 use Rattle.std.proofs.lemmas.Option.{slice_get_within}
 use Rattle.sd_base.specs.declared.limits.Limits.{Limits}
 use Rattle.sd_base.specs.Net.{Net, channel_at}
+use Rattle.sd_base.proofs.Lists.{get-there}
 use Rattle.storage.specs.BoundedNets.{HasNoSpaces}
 use Rattle.storage.specs.CapacityOrder.{no_later}
 use Rattle.storage.specs.Distributions.{IsDistribution, storage_of}
@@ -24,7 +25,7 @@ use Rattle.cert_checker.specs.StorageCertificates.{IsFileNet}
 use Rattle.cert_checker.proofs.FileNets.{no-spaces}
 use Rattle.cert_checker.proofs.Glue.{corner-one}
 use Rattle.cert_maker.proofs.ShownLines.{shows-bounded}
-use Rattle.cert_maker.proofs.Zipped.{get-one, get-there, one-get}
+use Rattle.cert_maker.proofs.Zipped.{get-one, one-get}
 
 -- what stands earlier is before what stands later
 pub order-at : (net : Net) (dss : List (List (Option ℕ))) (i j : ℕ) (ds es : List (Option ℕ)) → AreInOrder net dss → i < j → slice_get dss i ≡ Some ds → slice_get dss j ≡ Some es → IsBefore net ds es

@@ -1,17 +1,17 @@
 -- Nodes of a file's timed graph, each a state and a token, and the one weight of its edges between two of them.
 use Rattle.std.proofs.Common.{◌≡◌, ℕ, ◌+◌, ◌*◌, ◌/◌, ◌%◌, ◌<◌, List, [], ◌∷◌, length, Option, Some, None, sym, ap, subst, ◌∙◌, arith}
 use Rattle.std.specs.Prelude.{slice_get, slice_index_or}
-use Rattle.std.proofs.lemmas.Nat.{div-mul-add, mod-mul-add}
+use Rattle.std.proofs.lemmas.Nat.{div-mul-add, mod-mul-add, same_from_place}
 use Rattle.std.proofs.lemmas.Option.{slice_get_within, same_Some}
 use Rattle.sd_base.specs.declared.tables.ScenarioFile.{ScenarioFile}
 use Rattle.sd_base.specs.declared.tables.StateRow.{StateRow}
 use Rattle.sd_base.specs.Scenarios.{shared_count}
+use Rattle.sd_base.proofs.Lists.{get-there}
 use Rattle.automaton.specs.declared.graph.Edge.{Edge}
 use Rattle.automaton.specs.declared.graph.TimedGraph.{TimedGraph}
 use Rattle.automaton.specs.TimedGraphs.{IsTimedGraph}
 use Rattle.automaton.specs.CriticalCycles.{IsPath, IsReachedNode}
 use Rattle.automaton.proofs.Members.{Has, get-has, from-from, FromStates}
-use Rattle.cert_maker.proofs.Zipped.{get-there}
 
 -- node v is that of a state and a token
 pub record IsPlaced (states n v : ℕ) : Type 0 where
@@ -26,13 +26,6 @@ by-parts states n v p =
     let state : v / n ≡ p.state = ap (λ x. x / n) p.at ∙ div-mul-add p.state n p.token p.is_token in
     let token : v % n ≡ p.token = ap (λ x. x % n) p.at ∙ mod-mul-add p.state n p.token p.is_token in
     (rw state p.is_state, rw token p.is_token)
-
--- a number has one state and one token
-one-place : (n q i r j : ℕ) → i < n → j < n → q * n + i ≡ r * n + j → (q ≡ r) × (i ≡ j)
-one-place n q i r j within also same = (
-  sym (div-mul-add q n i within) ∙ ap (λ x. x / n) same ∙ div-mul-add r n j also,
-  sym (mod-mul-add q n i within) ∙ ap (λ x. x % n) same ∙ mod-mul-add r n j also,
-)
 
 -- the entry of row j and column i
 abbrev entry_in : List (List (Option ℕ)) → ℕ → ℕ → Option ℕ
@@ -87,8 +80,8 @@ module _ (file : ScenarioFile) (graph : TimedGraph) (is : IsTimedGraph file grap
   -- edges with the same ends are made of the same entry
   same-entry : (f t v w : ℕ) → IsMadeOf file is.matrices f t v → IsMadeOf file is.matrices f t w → v ≡ w
   same-entry f t v w a b =
-      let first = one-place n a.state a.token b.state b.token a.is_token b.is_token (sym a.from ∙ b.from) in
-      let last = one-place n a.next a.later b.next b.later a.is_later b.is_later (sym a.to ∙ b.to) in
+      let first = same_from_place a.state a.token b.state b.token n a.is_token b.is_token (sym a.from ∙ b.from) in
+      let last = same_from_place a.next a.later b.next b.later n a.is_later b.is_later (sym a.to ∙ b.to) in
       let row : a.row ≡ b.row = same_Some a.row b.row (sym a.at ∙ ap (slice_get file.states) first.0 ∙ b.at) in
       same_Some v w (sym a.entry
       ∙ ap (λ (s : StateRow). entry_in (slice_index_or is.matrices s.scenario []) a.later a.token) row

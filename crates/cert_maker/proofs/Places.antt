@@ -2,7 +2,7 @@
 use Rattle.std.proofs.Common.{◌≡◌, ℕ, zero, suc, ◌+◌, ◌<◌, ◌≤◌, Option, Some, List, [], ◌∷◌, ◌++◌, length, take, drop, slice_get, inl, inr, refl, sym, ap, subst, ◌∙◌, arith}
 use Rattle.std.specs.Prelude.{slice_index_or}
 use Rattle.std.specs.List.{AllZip}
-use Rattle.std.proofs.lemmas.List.{length_push, map-append, take_more}
+use Rattle.std.proofs.lemmas.List.{length_push, map-append, take_more, get_or_default}
 use Rattle.std.proofs.lemmas.Slice.Zip.{all_zipped_more}
 use Rattle.periodic.specs.declared.schedule.Periodic.{Periodic}
 use Rattle.pareto_front.specs.declared.point.Point.{Point}
@@ -10,7 +10,6 @@ use Rattle.explore.specs.declared.exploration.Member.{Member}
 use Rattle.pareto_front.specs.Offers.{IsOneOf}
 use Rattle.explore.specs.Explorations.{capacities_of}
 use Rattle.cert_text.specs.declared.certificates.PointLine.{PointLine}
-use Rattle.cert_checker.proofs.Glue.{any-default}
 use Rattle.cert_maker.specs.StorageCertificates.{IsPointLine, schedules_of}
 use Rattle.cert_maker.specs.inside.Lines.{ArePlaced}
 
@@ -51,4 +50,4 @@ module _ (members : List Member) (points : List Point) (placed : ArePlaced (capa
       → (k : ℕ) (d : Point) → length (done ++ s ∷ []) ≤ k → k < length points → IsOneOf (drop place (capacities_of members)) (slice_index_or points k d).capacities.capacities
   more-left place at k d from within =
       placed.later (length done) k place d (omega (arith, from, length_push done s)) within
-      (at ∙ ap (λ (q : Point). Some q.capacities.capacities) (is ∙ any-default points (length done) p d below))
+      (at ∙ ap (λ (q : Point). Some q.capacities.capacities) (is ∙ get_or_default points (length done) p d below))

@@ -11,6 +11,8 @@ use Rattle.sd_base.specs.Lawful.{Lawful}
 use Rattle.sd_base.specs.Net.{Net}
 use Rattle.sd_base.specs.Rates.{Rate}
 use Rattle.sd_base.proofs.LoopRates.{one-rate}
+use Rattle.sd_base.proofs.Lists.{get-map}
+use Rattle.sd_base.proofs.Truths.{one-some}
 use Rattle.critical.specs.Bounds.{CyclesBoundTheRate}
 use Rattle.periodic.specs.declared.schedule.Periodic.{Periodic}
 use Rattle.periodic.proofs.Lines.{lines_decide}
@@ -34,7 +36,7 @@ use Rattle.cert_maker.proofs.MemberLines.{many, member-of, member-right, place-o
 use Rattle.cert_maker.proofs.MemberOrder.{member-fits}
 use Rattle.cert_maker.proofs.ShownLines.{listed-rate, shown-rate}
 use Rattle.cert_maker.proofs.Summits.{NoWorse}
-use Rattle.cert_maker.proofs.Zipped.{ZipAt, get-map, get-same, zip-at, zip-long, zip-mapped}
+use Rattle.cert_maker.proofs.Zipped.{ZipAt, zip-at, zip-long, zip-mapped}
 
 -- a rate by its parts
 same-rate : (a b x y : ℕ) (r : ℕ × ℕ) → a ≡ x → b ≡ y → r ≡ (x, y) → (a, b) ≡ r
@@ -81,7 +83,7 @@ module _ (cycles_bound : CyclesBoundTheRate) (net : Net) (file : IsFileNet net) 
     point-capacities =
         let here = point-of i below in
         let m = member-of net file limits ms ps is no_overlap schedules c put (point_at c.points i).member (member-below i below) in
-        get-same (capacities_of ms) (point_at c.points i).member here.item.capacities.capacities m.item.capacities.capacities here.holds.member
+        one-some (slice_get (capacities_of ms) (point_at c.points i).member) here.item.capacities.capacities m.item.capacities.capacities here.holds.member
         (place-of net file limits ms ps is no_overlap schedules c put (point_at c.points i).member m.item m.at)
         ∙ same-capacities net file limits ms ps is no_overlap schedules c put m.item (member_at c.members (point_at c.points i).member) m.holds
 
@@ -90,7 +92,7 @@ module _ (cycles_bound : CyclesBoundTheRate) (net : Net) (file : IsFileNet net) 
         let here = point-of i below in
         let m = member-of net file limits ms ps is no_overlap schedules c put (point_at c.points i).member (member-below i below) in
         let reaches = (is.reached here.item here.one).reaches in
-        let same : here.item.capacities.capacities ≡ m.item.capacities.capacities = get-same (capacities_of ms) (point_at c.points i).member here.item.capacities.capacities m.item.capacities.capacities here.holds.member
+        let same : here.item.capacities.capacities ≡ m.item.capacities.capacities = one-some (slice_get (capacities_of ms) (point_at c.points i).member) here.item.capacities.capacities m.item.capacities.capacities here.holds.member
         (place-of net file limits ms ps is no_overlap schedules c put (point_at c.points i).member m.item m.at) in
         let fits = member-fits net file limits ms ps is m.item m.one in
         let laws : Lawful (bound net m.item.capacities.capacities) = lawful cycles_bound net file limits small ms ps is no_overlap schedules c put m.item.capacities.capacities (record { distribution = fits.0; storage = fits.1 }) in

@@ -3,20 +3,13 @@ use Rattle.std.proofs.Common.{◌≡◌, ℕ, ◌*◌, ◌≤◌, ◌<◌, ◌�
 use Rattle.std.proofs.lemmas.Bool.{cases_lt, cases_order}
 use Rattle.sd_base.specs.Net.{Net}
 use Rattle.storage.specs.ParetoPoints.{Beats, IsReachedPair, Pair}
-use Rattle.storage.proofs.FrontsFromMembers.{less_on, no_less}
+use Rattle.storage.proofs.FrontsFromMembers.{less_on, no_less, below_less}
 use Rattle.pareto_front.specs.Offers.{IsOneOf}
 
 -- no more storage and no less rate
 pub record NoWorse (a b : Pair) : Type 0 where
   pub storage : a.storage ≤ b.storage
   pub rate : b.num * a.den ≤ a.num * b.den
-
-less-after : (a b c d e f : ℕ) → 1 ≤ b → a * d ≤ c * b → c * f < e * d → a * f < e * b
-less-after a b c d e f some one other =
-    ⊎_elim
-    (λ (h : a * f < e * b). h)
-    (λ (back : e * b ≤ a * f). absurd (let le : e * d ≤ c * f = no_less e f a b c d some back one in omega (arith, le, other)))
-    (cases_lt (a * f) (e * b))
 
 -- what beats a pair beats each that is no better
 beats-over : (x top cur : Pair) → 1 ≤ top.den → 1 ≤ cur.den → NoWorse top cur → Beats x top → Beats x cur
@@ -26,7 +19,7 @@ beats-over x top cur some there over (inl (less, rate)) =
     inl (omega (arith, storage, less), up)
 beats-over x top cur some there over (inr (same, more)) =
     let storage = over.storage in
-    let up : cur.num * x.den < x.num * cur.den = less-after cur.num cur.den top.num top.den x.num x.den there over.rate more in
+    let up : cur.num * x.den < x.num * cur.den = below_less cur.num cur.den top.num top.den x.num x.den there over.rate more in
     ⊎_elim
     (λ (less : x.storage < cur.storage). inl (less, let few : cur.num * x.den ≤ x.num * cur.den = omega (arith, up) in few))
     (λ (past : cur.storage ≤ x.storage). inr (omega (arith, same, storage, past), up))

@@ -67,16 +67,3 @@ pub one-get : {A : Type 0} (xs : List A) (x : A) → IsOneOf xs x → (i : ℕ) 
 one-get [] x one = absurd one
 one-get (y ∷ ys) x (inl same) = (0, ap Some same)
 one-get (y ∷ ys) x (inr later) = let found = one-get ys x later in (suc found.0, found.1)
-
-pub get-map : {A B : Type 0} (f : A → B) (xs : List A) (i : ℕ) (x : A) → slice_get xs i ≡ Some x → slice_get (map f xs) i ≡ Some (f x)
-get-map f [] i x at = absurd (cc)
-get-map f (y ∷ ys) zero x at = let same : y ≡ x = cc in ap (λ z. Some (f z)) same
-get-map f (y ∷ ys) (suc i) x at = get-map f ys i x at
-
-pub get-same : {A : Type 0} (xs : List A) (i : ℕ) (x y : A) → slice_get xs i ≡ Some x → slice_get xs i ≡ Some y → x ≡ y
-get-same xs i x y one other = cc
-
-pub get-there : {A : Type 0} (xs : List A) (i : ℕ) → i < length xs → (x : A) × (slice_get xs i ≡ Some x)
-get-there [] i below = absurd (omega arith)
-get-there (x ∷ xs) zero below = (x, refl)
-get-there (x ∷ xs) (suc i) below = get-there xs i (omega arith)

@@ -10,6 +10,7 @@ use Rattle.std.proofs.lemmas.List.{append-nil}
 use Rattle.std.proofs.lemmas.List.Folds.{list_any-append}
 use Rattle.std.proofs.lemmas.Map.Text.{is_eq-slice_cmp}
 use Rattle.std.proofs.lemmas.Slice.Eq.{bytes_eq-Decides}
+use Rattle.sd_base.proofs.Truths.{same_bytes}
 use Rattle.cert_text.specs.declared.certificates.LinkCycle.{LinkCycle}
 use Rattle.cert_text.specs.declared.reading.fault.Fault.{Fault}
 use Rattle.cert_text.specs.declared.reading.fault.Fault.TheVariants.{Memory}
@@ -18,7 +19,7 @@ use Rattle.cert_text.specs.Found.{HasTexts, has_text, number_of}
 use Rattle.cert_text.specs.LineForms.{same}
 use Rattle.cert_text.specs.MemberLines.{cycle_at, no_cycle}
 use Rattle.cert_text.specs.Orderly.{Differ}
-use Rattle.std.proofs.lemmas.Bool.{eq-eqb, cases_lt}
+use Rattle.std.proofs.lemmas.Bool.{cases_lt}
 use Rattle.std.proofs.Math.ListN.{get_or-append}
 use Rattle.std.proofs.Math.Seq.{get_or-append_seam}
 use Rattle.cert_text.specs.Reads.{Reads, ◌>>=◌, handing}
@@ -27,11 +28,7 @@ use Rattle.cert_text.specs.Sections.{place_of, same_cycle, with_cycle, new_cycle
 -- ---- the map of the texts
 
 same-itself : (c d : LinkCycle) → c ≡ d → same_cycle d c ≡ true
-same-itself c d e = ap (λ (x : LinkCycle). same_cycle d x) e ∙ reflexive (cycle_lines d)
-  where
-    reflexive : (text : List ℕ) → bytes_eq text text ≡ true
-    reflexive [] = refl
-    reflexive (b ∷ bs) = rw (eq-eqb b b refl) (reflexive bs)
+same-itself c d e = ap (λ (x : LinkCycle). same_cycle d x) e ∙ same_bytes (cycle_lines d)
 
 abbrev pub by_text : Bor (List ℕ) → Bor (List ℕ) → Ordering
 by_text a b = slice_cmp nat_cmp a.now b.now
@@ -51,15 +48,7 @@ found-none cycles text c is found = known (list_any (same_cycle c) cycles) refl 
     known true e f = absurd cc
     known false e f = e
 
--- none of the elements passes, so a new one stands behind all
-pub place-none : {X : Type 0} (p : X → Bool) (xs : List X) → list_any p xs ≡ false → position_or_len p xs ≡ length xs
-place-none p [] none = refl
-place-none p (x ∷ xs) none = first (λ f. place-none p xs f) (p x) refl none
-  where
-    first : (list_any p xs ≡ false → position_or_len p xs ≡ length xs) → (b : Bool) → p x ≡ b → (b || list_any p xs) ≡ false → position_or_len p (x ∷ xs) ≡ length (x ∷ xs)
-    first rest true e f = absurd cc
-    first rest false e f = rw e (omega (arith, rest f))
-
+-- an element that passes keeps its place, and a new one stands behind all where none passes
 place-pushed : {X : Type 0} (p : X → Bool) (xs : List X) (y : X) → list_any p xs ≡ true → position_or_len p (xs ++ y ∷ []) ≡ position_or_len p xs
 place-pushed p [] y some = absurd cc
 place-pushed p (x ∷ xs) y some = first (λ f. place-pushed p xs y f) (p x) refl some

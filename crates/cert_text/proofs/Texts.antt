@@ -1,21 +1,13 @@
 -- Texts that are written piece by piece.
-use Rattle.std.proofs.Common.{◌≡◌, ℕ, ◌+◌, ◌<◌, ◌≤◌, List, [], ◌∷◌, ◌++◌, All, length, take, get_or, sym, ap, ◌∙◌, subst, length-append}
-use Rattle.std.proofs.lemmas.List.{append_assoc, flat_map_more, take_more, take_all}
-use Rattle.std.proofs.lemmas.List.Elements.{All-append, All-nil, All-cons}
+use Rattle.std.proofs.Common.{◌≡◌, ℕ, ◌+◌, ◌<◌, ◌≤◌, List, [], ◌∷◌, ◌++◌, All, length, take, get_or, sym, ap, ◌∙◌, subst}
+use Rattle.std.proofs.lemmas.List.{append_assoc, flat_map_more, take_all}
+use Rattle.std.proofs.lemmas.List.Elements.{All-append, All-nil, All-cons, All-more}
 use Rattle.std.specs.List.{flat_map}
 use Rattle.std.specs.Prelude.{codes}
 use Rattle.std.proofs.lemmas.Fmt.{decimal_digit}
+use Rattle.sd_base.proofs.Lists.{flat_next}
 use Rattle.cert_text.specs.NumberLines.{version_line}
 use Rattle.cert_text.specs.ScenarioLines.{node_line, nodes_header, nodes_lines}
-
--- a piece more for each element of a list
-pub flat_next : {X : Type 0} (f : X → List ℕ) (start text new : List ℕ) (xs : List X) (i : ℕ) (d : X) → i < length xs → text ≡ start ++ flat_map f (take i xs)
-    → new ≡ text ++ f (get_or xs i d) → new ≡ start ++ flat_map f (take (i + 1) xs)
-flat_next f start text new xs i d h kept is =
-    is ∙ (ap (λ (l : List ℕ). l ++ f (get_or xs i d)) kept ∙ (flat_map_more f start (take i xs) (get_or xs i d) ∙ ap (λ ys. start ++ flat_map f ys) (sym (take_more xs i d h))))
-
-pub flat_end : {X : Type 0} (f : X → List ℕ) (start text : List ℕ) (xs : List X) (i : ℕ) → length xs ≤ i → text ≡ start ++ flat_map f (take i xs) → text ≡ start ++ flat_map f xs
-flat_end f start text xs i past kept = kept ∙ ap (λ ys. start ++ flat_map f ys) (take_all i xs past)
 
 -- a piece more that is read
 pub flat_more : {X : Type 0} (f : X → List ℕ) (whole old new : List ℕ) (xs : List X) (x : X) → whole ≡ flat_map f xs ++ old → old ≡ f x ++ new → whole ≡ flat_map f (xs ++ x ∷ []) ++ new
@@ -24,9 +16,6 @@ flat_more f whole old new xs x kept is =
 
 pub read-more : {X : Type 0} (f : X → List ℕ) (whole old new : List ℕ) (xs ys : List X) (x : X) → whole ≡ flat_map f xs ++ old → old ≡ f x ++ new → ys ≡ xs ++ x ∷ [] → whole ≡ flat_map f ys ++ new
 read-more f whole old new xs ys x kept is pushed = flat_more f whole old new xs x kept is ∙ ap (λ zs. flat_map f zs ++ new) (sym pushed)
-
-pub many-more : {X : Type 0} (xs ys : List X) (x : X) (n : ℕ) → length xs ≡ n → ys ≡ xs ++ x ∷ [] → length ys ≡ n + 1
-many-more xs ys x n many pushed = ap length pushed ∙ (length-append xs (x ∷ []) ∙ ap (λ (k : ℕ). k + 1) many)
 
 pub all-pushed : {X : Type 0} (P : X → Type 0) (xs ys : List X) (x : X) → All P xs → P x → ys ≡ xs ++ x ∷ [] → All P ys
 all-pushed P xs ys x each one pushed = subst (All P) (sym pushed) (All-append P xs (x ∷ []) each (All-cons P x [] one (All-nil P)))
@@ -46,12 +35,9 @@ version-small n small = ap (λ (l : List ℕ). codes "sdf3-certificate " ++ (l +
 pub all-end : {X : Type 0} (P : X → Type 0) (xs : List X) (i : ℕ) → length xs ≤ i → All P (take i xs) → All P xs
 all-end P xs i past all = subst (All P) (take_all i xs past) all
 
-pub all-more : {X : Type 0} (P : X → Type 0) (xs : List X) (i : ℕ) (d : X) → i < length xs → All P (take i xs) → P (get_or xs i d) → All P (take (i + 1) xs)
-all-more P xs i d within all one = all-pushed P (take i xs) (take (i + 1) xs) (get_or xs i d) all one (take_more xs i d within)
-
 -- with the element that was taken
 pub flat-item : {X : Type 0} (f : X → List ℕ) (start text new : List ℕ) (xs : List X) (i : ℕ) (x : X) → i < length xs → x ≡ get_or xs i x → text ≡ start ++ flat_map f (take i xs) → new ≡ text ++ f x → new ≡ start ++ flat_map f (take (i + 1) xs)
 flat-item f start text new xs i x within is kept more = flat_next f start text new xs i x within kept (more ∙ ap (λ y. text ++ f y) is)
 
 pub all-item : {X : Type 0} (P : X → Type 0) (xs : List X) (i : ℕ) (x : X) → i < length xs → x ≡ get_or xs i x → All P (take i xs) → P x → All P (take (i + 1) xs)
-all-item P xs i x within is all one = all-more P xs i x within all (subst P is one)
+all-item P xs i x within is all one = All-more P xs i x within all (subst P is one)

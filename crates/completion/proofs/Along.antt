@@ -1,9 +1,10 @@
 -- Sums along chains that are joined.
-use Rattle.std.proofs.Common.{◌≡◌, ℕ, ◌+◌, ◌≤◌, Bool, true, false, List, [], ◌∷◌, ◌++◌, refl, arith}
-use Rattle.std.specs.Prelude.{if◌then◌else◌, ◌==◌}
+use Rattle.std.proofs.Common.{◌≡◌, ℕ, ◌+◌, ◌≤◌, List, [], ◌∷◌, ◌++◌, refl, arith}
+use Rattle.std.specs.Prelude.{◌==◌}
 use Rattle.critical.specs.declared.cycle.FiringNo.{FiringNo}
 use Rattle.critical.specs.declared.cycle.CycleStep.{CycleStep}
 use Rattle.sd_base.specs.Net.{Net}
+use Rattle.sd_base.proofs.Truths.{if-le}
 use Rattle.critical.specs.Cycles.{last_of}
 use Rattle.completion.specs.Ways.{firing_time, sum_along, time_in}
 use Rattle.completion.specs.inside.Walks.{sum_before}
@@ -24,10 +25,6 @@ module _ (f : FiringNo → ℕ) where
 pub along-le : (f g : FiringNo → ℕ) → ((x : FiringNo) → f x ≤ g x) → (from : FiringNo) (xs : List CycleStep) → sum_along f from xs ≤ sum_along g from xs
 along-le f g le from [] = le from
 along-le f g le from (x ∷ xs) = omega (arith, le from, along-le f g le x.to xs)
-
-if-le : (b : Bool) (t : ℕ) → (if b then t else 0) ≤ t
-if-le true t = omega arith
-if-le false t = omega arith
 
 pub one-part-le : (net : Net) (a : ℕ) (x : FiringNo) → time_in net a x ≤ firing_time net x
 one-part-le net a x = if-le (x.actor == a) (firing_time net x)

@@ -1,10 +1,8 @@
 -- The first tight need of a firing that starts after moment 0.
-use Rattle.std.proofs.Common.{◌≡◌, ℕ, ◌+◌, ◌-◌, ◌*◌, ◌≤◌, ◌<◌, List, length, sum, ⊎_elim, subst, sym, refl, ap, ◌∙◌, arith, mul-le-mul}
+use Rattle.std.proofs.Common.{◌≡◌, ℕ, ◌+◌, ◌-◌, ◌*◌, ◌≤◌, ◌<◌, List, length, ⊎_elim, subst, sym, refl, ap, ◌∙◌, arith, mul-le-mul}
 use Rattle.sd_base.specs.declared.limits.TheConstants.{ROUNDS}
 use Rattle.std.specs.Prelude.{slice_index}
 use Rattle.std.proofs.lemmas.Bool.{cases_lt}
-use Rattle.std.proofs.lemmas.List.{get_or_past}
-use Rattle.std.proofs.lemmas.List.Sums.{get_or-le-sum_by}
 use Rattle.firing.specs.declared.sums.Port.TheVariants.{Taken}
 use Rattle.firing.specs.Wiring.{IsListed}
 use Rattle.firing.proofs.Listings.{member-place}
@@ -18,18 +16,13 @@ use Rattle.sd_base.proofs.Sums.{total-le, one-last-need}
 use Rattle.sd_base.proofs.Parts.{regular}
 use Rattle.sd_base.proofs.Tight.{TightNeed, tight}
 use Rattle.sd_base.proofs.Wordings.{need-is_last}
+use Rattle.sd_base.proofs.Lists.{entry-le-sum}
 use Rattle.completion.specs.Ways.{InRounds}
 use Rattle.completion.specs.inside.Timetables.{IsStart, IsTimetable, StartsAt, end_at, moment_of}
 use Rattle.completion.specs.inside.Walks.{IsSlackOn, IsTightNeed}
 use Rattle.completion.proofs.Starts.{one-start}
 use Rattle.completion.proofs.Within.{need-within}
 use Rattle.completion.proofs.Timing.{moment-starts}
-
-entry-le-sum : (xs : List ℕ) (i : ℕ) → slice_index xs i ≤ sum xs
-entry-le-sum xs i = ⊎_elim
-    (λ (below : i < length xs). get_or-le-sum_by (λ (x : ℕ). x) xs i 0 below)
-    (λ (past : length xs ≤ i). rw (get_or_past xs i 0 past) (omega arith))
-    (cases_lt i (length xs))
 
 pub few-firings : (net : Net) → Lawful net → (n a : ℕ) → n ≤ ROUNDS → n * slice_index net.round a ≤ 100000000000
 few-firings net laws n a few =

@@ -1,5 +1,5 @@
 -- Of more numbers than they have values two agree.
-use Rattle.std.proofs.Common.{◌≡◌, ℕ, zero, suc, ◌+◌, ◌-◌, ◌*◌, ◌≤◌, ◌<◌, ◌⊎◌, inl, inr, ⊎_elim, sym, ap, ◌∙◌, arith, mul-le-mul_right}
+use Rattle.std.proofs.Common.{◌≡◌, ℕ, zero, suc, ◌+◌, ◌-◌, ◌≤◌, ◌<◌, ◌⊎◌, inl, inr, ⊎_elim, sym, ap, ◌∙◌, arith}
 use Rattle.std.proofs.lemmas.Bool.{cases_lt}
 
 -- among the numbers f 0 to f n, those at p and p + d + 1 agree
@@ -59,18 +59,3 @@ agree-step n f small lower = each (find f (f (suc n)) (suc n))
 pub agree : (n : ℕ) (f : ℕ → ℕ) → ((i : ℕ) → i < suc n → f i < n) → Agree f n
 agree zero f small = absurd (let none : f 0 < 0 = small 0 (omega arith) in omega arith)
 agree (suc n) f small = agree-step n f small (agree n)
-
--- a number below s beside another one, as one number
-pub pair-small : (a i s n : ℕ) → a < n → i < s → a * s + i < n * s
-pair-small a i s n below less =
-    let next : (a + 1) * s ≤ n * s = mul-le-mul_right s (omega arith) in omega arith
-
-pair-le : (a b i j s : ℕ) → j < s → a * s + i ≡ b * s + j → a ≤ b
-pair-le a b i j s less e = ⊎_elim (λ (more : b < a). absurd (let next : (b + 1) * s ≤ a * s = mul-le-mul_right s (omega arith) in omega arith)) (λ (h : a ≤ b). h) (cases_lt b a)
-
-pub pair-first : (a b i j s : ℕ) → i < s → j < s → a * s + i ≡ b * s + j → a ≡ b
-pair-first a b i j s less also e = omega (arith, pair-le a b i j s also e, pair-le b a j i s less (sym e))
-
-pub pair-second : (a b i j s : ℕ) → i < s → j < s → a * s + i ≡ b * s + j → i ≡ j
-pair-second a b i j s less also e =
-    let same : a * s ≡ b * s = ap (λ (x : ℕ). x * s) (pair-first a b i j s less also e) in omega arith

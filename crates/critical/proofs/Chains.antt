@@ -1,6 +1,5 @@
 -- Walking along the steps of a chain.
-use Rattle.std.proofs.Common.{◌≡◌, ℕ, ◌+◌, ◌*◌, ◌≤◌, ◌<◌, List, [], ◌∷◌, ◌++◌, length, drop, subst, sym, refl, ap, ◌∙◌, arith, add-one, drop-cons}
-use Rattle.std.specs.Prelude.{slice_index_or}
+use Rattle.std.proofs.Common.{◌≡◌, ℕ, ◌+◌, ◌*◌, ◌≤◌, List, [], ◌∷◌, ◌++◌, drop, subst, sym, refl, ap, ◌∙◌, arith}
 use Rattle.critical.specs.declared.cycle.FiringNo.{FiringNo}
 use Rattle.critical.specs.declared.cycle.CycleStep.{CycleStep}
 use Rattle.sd_base.specs.Net.{Net}
@@ -14,10 +13,6 @@ pub record Follows (net : Net) (from : FiringNo) (steps : List CycleStep) (i : �
   pub last : last_of from steps ≡ last_of at (drop i steps)
   pub all : time_along net from steps ≡ time + time_along net at (drop i steps)
   pub small : time ≤ i * 1000000000
-
--- the step at place i comes first among those from i on
-pub step-split : (steps : List CycleStep) (i : ℕ) (none : CycleStep) → i < length steps → drop i steps ≡ slice_index_or steps i none ∷ drop (i + 1) steps
-step-split steps i none below = rw add-one (drop-cons steps i none below)
 
 module _ (net : Net) (from : FiringNo) (steps : List CycleStep) (i : ℕ) (at : FiringNo) (time : ℕ) (walk : Follows net from steps i at time) where
   pub follows-next : (step : CycleStep) → drop i steps ≡ step ∷ drop (i + 1) steps → IsStep net at step → (more : ℕ) → more ≡ time_of net at.actor at.number → more ≤ 1000000000 →

@@ -2,6 +2,7 @@
 use Rattle.std.proofs.Common.{◌≡◌, ℕ, suc, ◌+◌, ◌*◌, ◌%◌, ◌≤◌, ◌<◌, ⊎_elim, List, length, subst, sym, refl, ap, ◌∙◌, arith, mul-le-mul, mod-lt}
 use Rattle.std.proofs.lemmas.Bool.{cases_lt}
 use Rattle.std.specs.Prelude.{slice_index}
+use Rattle.std.proofs.lemmas.Nat.{same_from_place}
 use Rattle.critical.specs.declared.cycle.FiringNo.{FiringNo}
 use Rattle.sd_base.specs.Net.{Net}
 use Rattle.sd_base.specs.Schedules.{count_of, start_of, HasInputs}
@@ -14,10 +15,11 @@ use Rattle.sd_base.proofs.Counts.{early_at}
 use Rattle.sd_base.proofs.Ends.{sum_to}
 use Rattle.sd_base.proofs.LoopRates.{sum_to-part, table-repeats}
 use Rattle.sd_base.proofs.Admissibles.{is_actor}
+use Rattle.sd_base.proofs.Truths.{pair-small}
 use Rattle.critical.specs.Cycles.{IsChain, last_of, time_along}
 use Rattle.critical.specs.Bounds.{HasCriticalCycle}
 use Rattle.critical.proofs.Spans.{some-time}
-use Rattle.critical.proofs.Agreements.{agree, pair-small, pair-first, pair-second}
+use Rattle.critical.proofs.Agreements.{agree}
 use Rattle.critical.specs.inside.Trails.{steps_of}
 use Rattle.critical.proofs.Trails.{Trail, start_at, trail, trail-chain, trail-last, trail-time, closes}
 
@@ -81,9 +83,8 @@ module _ (net : Net) (laws : Lawful net) (fed : HasInputs net) (entry period rou
         let there = actor-at (found.p + suc found.d) found.within in
         let one = place-in (way.at found.p) here in
         let other = place-in (way.at (found.p + suc found.d)) there in
-        from-places found.p found.d found.within
-        (sym (pair-first (way.at found.p).actor (way.at (found.p + suc found.d)).actor ((way.at found.p).number % (rounds * slice_index net.round (way.at found.p).actor)) ((way.at (found.p + suc found.d)).number % (rounds * slice_index net.round (way.at (found.p + suc found.d)).actor)) all_of one other found.same))
-        (sym (pair-second (way.at found.p).actor (way.at (found.p + suc found.d)).actor ((way.at found.p).number % (rounds * slice_index net.round (way.at found.p).actor)) ((way.at (found.p + suc found.d)).number % (rounds * slice_index net.round (way.at (found.p + suc found.d)).actor)) all_of one other found.same))
+        let place = same_from_place (way.at found.p).actor ((way.at found.p).number % (rounds * slice_index net.round (way.at found.p).actor)) (way.at (found.p + suc found.d)).actor ((way.at (found.p + suc found.d)).number % (rounds * slice_index net.round (way.at (found.p + suc found.d)).actor)) all_of one other found.same in
+        from-places found.p found.d found.within (sym place.0) (sym place.1)
 
   -- a firing that starts late enough
   late-firing : (d : ℕ) → (count_of (earliest net (entry + d + 1)) 0 < count_of (earliest net (entry + period + d + 1)) 0)

@@ -2,7 +2,7 @@
 use Rattle.std.proofs.Common.{◌≡◌, ℕ, ◌+◌, ◌*◌, ◌^◌, ◌≤◌, ◌<◌, List, [], ◌∷◌, ◌++◌, length, take, drop, subst, sym, refl, ap, ◌∙◌, arith, append_assoc}
 use Rattle.std.specs.Prelude.{slice_index_or, slice_set, set, flat_map, ◌==◌}
 use Rattle.std.proofs.Math.Seq.{take-length}
-use Rattle.std.proofs.lemmas.List.{take_more, take_more_set, length-set, flat_map_more, length-append, drop_all, take-append-drop}
+use Rattle.std.proofs.lemmas.List.{take_more, take_more_set, length-set, flat_map_more, length-append, drop_all, take-append-drop, drop_more}
 use Rattle.std.proofs.lemmas.Grind.{flat_map-append}
 use Rattle.std.proofs.lemmas.List.FromFn.{length-map-range_with_len, get_or-map-range_with_len}
 use Rattle.critical.specs.declared.cycle.CycleStep.{CycleStep}
@@ -11,7 +11,7 @@ use Rattle.critical.specs.Stretches.{step_at, steps_in}
 use Rattle.sd_base.specs.Net.{Net}
 use Rattle.critical.specs.declared.cycle.FiringNo.{FiringNo}
 use Rattle.critical.specs.Cycles.{IsChain, last_of, time_along}
-use Rattle.critical.proofs.Chains.{step-split, chain-front, chain-back, chain-both, last-both, time-both}
+use Rattle.critical.proofs.Chains.{chain-front, chain-back, chain-both, last-both, time-both}
 
 -- where the last piece of a list gets one element more, so does the whole
 pub last-longer : {X A : Type 0} (f : X → List A) (xs : List X) (n : ℕ) (y d : X) (a : A) → n + 1 ≡ length xs → f y ≡ f (slice_index_or xs n d) ++ a ∷ [] → flat_map f (slice_set xs n y) ≡ flat_map f xs ++ a ∷ []
@@ -40,7 +40,7 @@ none-where_none (x ∷ xs) =
 -- the step at a place of a stretch comes first among those from there on
 pub stretch-split : (s : Stretch) (i : ℕ) (step : CycleStep) → i < s.count → step ≡ step_at s i → drop i (steps_in s) ≡ step ∷ drop (i + 1) (steps_in s)
 stretch-split s i step below is =
-    step-split (steps_in s) i step (omega (arith, length-stretch s))
+    drop_more (steps_in s) i step (omega (arith, length-stretch s))
     ∙ ap (λ (x : CycleStep). x ∷ drop (i + 1) (steps_in s)) (get_or-map-range_with_len (step_at s) 0 s.count i i step below (omega arith) ∙ sym is)
 
 -- no step is left behind the last one

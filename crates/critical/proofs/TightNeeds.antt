@@ -1,5 +1,5 @@
 -- Tight needs of firings of the second pass, by the loop's table.
-use Rattle.std.proofs.Common.{◌≡◌, ℕ, ◌+◌, ◌-◌, ◌*◌, ◌≤◌, ◌<◌, List, length, sum, ⊎_elim, subst, sym, refl, ap, ◌∙◌, arith, mul-le-mul_right}
+use Rattle.std.proofs.Common.{◌≡◌, ℕ, ◌+◌, ◌-◌, ◌*◌, ◌≤◌, ◌<◌, List, length, ⊎_elim, subst, sym, refl, ap, ◌∙◌, arith, mul-le-mul_right}
 use Rattle.std.proofs.lemmas.Bool.{cases_lt}
 use Rattle.std.specs.Prelude.{slice_index}
 use Rattle.firing.specs.declared.table.LoopTable.{LoopTable}
@@ -8,7 +8,7 @@ use Rattle.critical.specs.declared.tight.ReadNeed.{ReadNeed}
 use Rattle.sd_base.specs.Net.{Channel, Net, channel_at, total}
 use Rattle.sd_base.specs.Schedules.{time_of, LastNeed, IsNeed, count_of, start_of, end_of}
 use Rattle.sd_base.specs.Lawful.{Lawful}
-use Rattle.sd_base.proofs.Sums.{total-zero, total-le, one-last-need}
+use Rattle.sd_base.proofs.Sums.{total-le, one-last-need, one-total}
 use Rattle.sd_base.proofs.Parts.{regular}
 use Rattle.sd_base.proofs.Counts.{ended_at}
 use Rattle.sd_base.proofs.Wordings.{need-is_last}
@@ -16,8 +16,6 @@ use Rattle.sd_base.proofs.Tight.{TightNeed, tight}
 use Rattle.firing.specs.declared.sums.Port.TheVariants.{Taken}
 use Rattle.firing.specs.Wiring.{IsListed}
 use Rattle.firing.proofs.Listings.{member-place}
-use Rattle.firing.proofs.PortSums.{turn-some}
-use Rattle.firing.proofs.TokenMoves.{span-one}
 use Rattle.std.specs.Int.{div_ceil}
 use Rattle.std.proofs.lemmas.Grind.{div_ceil_times}
 use Rattle.critical.specs.CriticalCycles.{pass_of}
@@ -31,16 +29,6 @@ need-last c j n some need =
     need-is_last c j (n - 1) (rw e need)
 
 -- ---- where both ends of a channel have one phase
-
-one-total : (xs : List ℕ) (n rate : ℕ) → length xs ≡ 1 → rate ≡ slice_index xs 0 → total xs n ≡ n * rate
-one-total xs n rate one here =
-    let span : total xs 0 + n * rate ≡ total xs (0 + n) = span-one xs 0 n (length xs) rate refl one here in
-    let place : 0 + n ≡ n = omega arith in
-    omega (arith, total-zero xs, span, ap (total xs) place)
-
--- the one rate of the source is some
-pub single-some : (xs : List ℕ) (rate : ℕ) → length xs ≡ 1 → rate ≡ slice_index xs 0 → 1 ≤ sum xs → 0 < rate
-single-some xs rate one here some = let turn = one-total xs 1 rate one here in turn-some xs 1 rate (sym one) (omega (arith, turn)) some
 
 pub single-taken : (xs : List ℕ) (j rate : ℕ) → length xs ≡ 1 → rate ≡ slice_index xs 0 → (j + 1) * rate ≡ total xs (j + 1)
 single-taken xs j rate one here = sym (one-total xs (j + 1) rate one here)

@@ -1,10 +1,9 @@
 -- A way back to a firing that came again, turned round, is a need cycle with the loop's rounds per time.
-use Rattle.std.proofs.Common.{◌≡◌, ℕ, zero, suc, ◌+◌, ◌-◌, ◌*◌, ◌/◌, ◌%◌, ◌≤◌, ◌<◌, ◌⊎◌, inl, inr, List, length, sum, ⊎_elim, subst, sym, refl, ap, ◌∙◌, arith, div-add-mod', mul-le-mul, mul-le-mul_right}
+use Rattle.std.proofs.Common.{◌≡◌, ℕ, zero, suc, ◌+◌, ◌-◌, ◌*◌, ◌/◌, ◌%◌, ◌≤◌, ◌<◌, ◌⊎◌, inl, inr, List, length, ⊎_elim, subst, sym, refl, ap, ◌∙◌, arith, div-add-mod', mul-le-mul, mul-le-mul_right}
 use Rattle.std.specs.Prelude.{slice_index, slice_index_or}
 use Rattle.std.proofs.Math.Nat.{add-mul-mod_self_right}
 use Rattle.std.proofs.lemmas.Bool.{cases_lt}
-use Rattle.std.proofs.lemmas.List.{get_or_past}
-use Rattle.std.proofs.lemmas.List.Sums.{get_or-le-sum_by}
+use Rattle.std.proofs.lemmas.Nat.{same_from_place}
 use Rattle.firing.specs.declared.table.LoopTable.{LoopTable}
 use Rattle.critical.specs.declared.cycle.FiringNo.{FiringNo}
 use Rattle.critical.specs.declared.cycle.CycleStep.{CycleStep}
@@ -14,21 +13,15 @@ use Rattle.sd_base.specs.Net.{Net, channel_at}
 use Rattle.sd_base.specs.Schedules.{time_of, LastNeed, count_of}
 use Rattle.sd_base.proofs.Parts.{timed, balanced}
 use Rattle.sd_base.proofs.Rounds.{time-shift}
+use Rattle.sd_base.proofs.Lists.{entry-le-sum}
 use Rattle.critical.specs.Cycles.{IsStep, IsChain, last_of, time_along, HoldsOn}
 use Rattle.critical.specs.Spaces.{no_step}
 use Rattle.critical.specs.CriticalCycles.{pass_of, firing_at}
 use Rattle.critical.specs.inside.Trails.{IsShortLoop, IsSecond, Leads, IsTrail, second_of, listed_at, raised_number, lowered_firing, steps_of}
-use Rattle.critical.proofs.Agreements.{pair-second}
 use Rattle.critical.proofs.Passes.{actors-same, listed-many, some-pass, whole-passes, time-passes}
 use Rattle.critical.proofs.LaterCycles.{rounds-whole, last-up, last-down}
 use Rattle.critical.proofs.Trails.{chain-of, last-of_steps}
 use Rattle.critical.proofs.Marking.{firing-same}
-
-pub entry-le-sum : (xs : List ℕ) (i : ℕ) → slice_index xs i ≤ sum xs
-entry-le-sum xs i = ⊎_elim
-    (λ (below : i < length xs). get_or-le-sum_by (λ (x : ℕ). x) xs i 0 below)
-    (λ (past : length xs ≤ i). rw (get_or_past xs i 0 past) (omega arith))
-    (cases_lt i (length xs))
 
 module _ (net : Net) (table : LoopTable) (loop : IsShortLoop net table) where
   is-actor : (x : FiringNo) → IsSecond table x → x.actor < length net.times
@@ -252,8 +245,7 @@ module _ (net : Net) (table : LoopTable) (loop : IsShortLoop net table) where
               let second_i : IsSecond table (at i).firing = way.second i (omega arith) in
               let second_j : IsSecond table (record { actor = a; number = (at j).firing.number }) = subst (λ (b : ℕ). IsSecond table (record { actor = b; number = (at j).firing.number })) (sym actors) (way.second j (omega arith)) in
               let place : (at i).firing.number - second_of table a ≡ (at j).firing.number - second_of table a =
-              pair-second (((at n).passes - (at i).passes) + (forward_at j).number / v) (((at n).passes - (at j).passes) + (forward_at i).number / v) ((at i).firing.number - second_of table a) ((at j).firing.number - second_of table a) v
-              (omega (arith, second_i.from, second_i.below)) (omega (arith, second_j.from, second_j.below)) (omega (arith, second_i.from, second_j.from)) in
+              (same_from_place (((at n).passes - (at i).passes) + (forward_at j).number / v) ((at i).firing.number - second_of table a) (((at n).passes - (at j).passes) + (forward_at i).number / v) ((at j).firing.number - second_of table a) v (omega (arith, second_i.from, second_i.below)) (omega (arith, second_j.from, second_j.below)) (omega (arith, second_i.from, second_j.from))).1 in
               apart i j less below (firing-same (at i).firing (at j).firing actors (omega (arith, second_i.from, second_j.from)))
 
           -- the last firing lies whole passes after the first

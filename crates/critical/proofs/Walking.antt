@@ -3,7 +3,7 @@ use Rattle.std.proofs.Common.{◌≡◌, ℕ, suc, ◌+◌, ◌-◌, ◌*◌, �
 use Rattle.std.specs.Prelude.{slice_index, slice_index_or, slice_set}
 use Rattle.std.proofs.lemmas.Bool.{cases_lt, cases_eq}
 use Rattle.std.proofs.lemmas.List.{get_or_append_left, get_or_default, get_or_past, get_or_push, length_push, get_or-set_same, get_or-set_other, get_or-replicate, length-replicate}
-use Rattle.std.proofs.lemmas.Option.{same_Some}
+use Rattle.std.proofs.lemmas.Option.{same_Some, none-some}
 use Rattle.firing.specs.declared.table.LoopTable.{LoopTable}
 use Rattle.critical.specs.declared.cycle.FiringNo.{FiringNo}
 use Rattle.critical.specs.declared.tight.ReadNeed.{ReadNeed}
@@ -33,9 +33,6 @@ pub record AreMarks (table : LoopTable) (at : ℕ → Met) (n : ℕ) (marks : Li
   pub long : length marks ≡ offset_of table.starts (length table.starts)
   pub marked : (i : ℕ) → i < n → slice_index_or marks (class_at table (at i).firing) None ≡ Some i
   pub true : (c i : ℕ) → slice_index_or marks c None ≡ Some i → (i < n) × (class_at table (at i).firing ≡ c)
-
-none-some : (i : ℕ) → None ≡ Some i → ⊥
-none-some i e = cc
 
 abbrev no_mark : Option ℕ
 no_mark = None

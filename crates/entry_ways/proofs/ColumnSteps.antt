@@ -1,29 +1,21 @@
 -- A column with the start of one more firing is a column.
-use Rattle.std.proofs.Common.{◌≡◌, ℕ, zero, suc, ◌+◌, ◌≤◌, ◌<◌, ◌⊎◌, List, [], ◌∷◌, ◌++◌, length, Option, None, Some, Result, Ok, Err, inl, inr, ⊎_elim, subst, sym, ap, ◌∙◌, refl, arith, length-append, sum, mod-lt, ◌%◌}
+use Rattle.std.proofs.Common.{◌≡◌, ℕ, ◌+◌, ◌≤◌, ◌<◌, List, [], ◌∷◌, ◌++◌, length, Option, None, Some, inl, inr, ⊎_elim, subst, sym, ap, ◌∙◌, refl, arith, length-append, sum, mod-lt, ◌%◌}
 use Rattle.std.specs.Prelude.{slice_index, slice_index_or}
-use Rattle.std.specs.Result.{OnOk}
 use Rattle.std.proofs.lemmas.Bool.{cases_lt, cases_eq}
-use Rattle.std.proofs.lemmas.List.{get_or_append_left}
-use Rattle.std.proofs.lemmas.List.Sums.{get_or-le-sum_by}
+use Rattle.std.proofs.lemmas.List.{get_or_append_left, get_or_default}
 use Rattle.sd_base.specs.Net.{Net, channel_at, total}
 use Rattle.sd_base.specs.Lawful.{Lawful}
 use Rattle.sd_base.specs.declared.limits.TheConstants.{ROUND, TIME}
-use Rattle.sd_base.specs.declared.memory.NoMemory.{NoMemory}
 use Rattle.sd_base.specs.Schedules.{phases_at, time_of}
 use Rattle.sd_base.specs.Untimed.{one_more, CanFire}
 use Rattle.sd_base.proofs.Parts.{balanced}
-use Rattle.sd_base.proofs.Blocking.{bump-same, bump-other}
+use Rattle.sd_base.proofs.Blocking.{bump-same, bump-other, bump-cases}
+use Rattle.sd_base.proofs.Lists.{entry-le-sum, some-within}
 use Rattle.token_matrix.specs.Stamps.{IsTakenBy}
 use Rattle.token_matrix.specs.Ways.{IsChain}
 use Rattle.token_matrix.specs.Ways.IsChain.{begins, goes}
 use Rattle.entry_ways.specs.inside.Columns.{start_in, AreUpTo, IsColumn, IsFedBy, IsLink, IsLinkInto, IsLongest, HasStart}
 use Rattle.token_matrix.proofs.Putters.{put_earlier}
-
--- a start is there only for a firing that the column has
-pub start-below : (xs : List (Option ℕ)) (j t : ℕ) → slice_index_or xs j None ≡ Some t → j < length xs
-start-below [] j t at = absurd (cc)
-start-below (x ∷ xs) zero t at = omega arith
-start-below (x ∷ xs) (suc j) t at = let h = start-below xs j t at in omega arith
 
 last-at : (xs : List (Option ℕ)) (s : Option ℕ) → slice_index_or (xs ++ s ∷ []) (length xs) None ≡ s
 last-at [] s = refl
@@ -48,20 +40,12 @@ module _ (net : Net) (laws : Lawful net) (first : ℕ → ℕ) (p : ℕ) (v : �
       (λ (apart : b ≡ a → ⊥). ap (λ (r : List (Option ℕ)). slice_index_or r j None) (more.others b apart))
       (cases_eq b a)
 
-  -- the firings so far, and the new one
-  part : (b j : ℕ) → j < one_more v a b → (j < v b) ⊎ ((b ≡ a) × (j ≡ v a))
-  part b j below = ⊎_elim
-      (λ (same : b ≡ a). (let e : one_more v a b ≡ v a + 1 = ap (λ (c : ℕ). one_more v a c) same ∙ bump-same v a in let f : v b ≡ v a = ap v same in
-      ⊎_elim (λ (less : j < v a). inl (omega arith)) (λ (last : v a ≤ j). inr (same, omega arith)) (cases_lt j (v a))))
-      (λ (apart : b ≡ a → ⊥). inl (let e : one_more v a b ≡ v b = bump-other v a b apart in omega arith))
-      (cases_eq b a)
-
   -- a link is the last of a chain
   link-chain : (i t : ℕ) → i < length net.channels → (channel_at net i).target ≡ a → IsLink net first p old i (v a) t → (cs : List ℕ) × IsChain net first p a (v a) t cs
   link-chain i t below into (inl (m, takes, known, is, none)) = (i ∷ [], subst (λ (n : ℕ). IsChain net first p a (v a) n (i ∷ [])) (sym none) (begins a (v a) i m below into early takes known is))
   link-chain i t below into (inr (m, k, d, takes, puts, at, is)) =
       let source : (channel_at net i).source < length net.times = laws.sources i below in
-      let in_row : k < length (slice_index_or old (channel_at net i).source []) = start-below (slice_index_or old (channel_at net i).source []) k d at in
+      let in_row : k < length (slice_index_or old (channel_at net i).source []) = some-within (slice_index_or old (channel_at net i).source []) k d at in
       let before : k < v (channel_at net i).source = subst (λ (n : ℕ). k < n) (column.whole (channel_at net i).source source) in_row in
       let chain = column.just (channel_at net i).source k d source before at in
       (i ∷ chain.0, subst (λ (n : ℕ). IsChain net first p a (v a) n (i ∷ chain.0)) (sym is) (goes a (v a) i m k d chain.0 below into early takes puts chain.1))
@@ -89,14 +73,14 @@ module _ (net : Net) (laws : Lawful net) (first : ℕ → ℕ) (p : ℕ) (v : �
         let link = longest.just t at' in
         let chain = link-chain link.0 t link.1 link.2 link.3 in
         (chain.0, subst (λ (c : ℕ). IsChain net first p c j t chain.0) (sym last.0) (subst (λ (n : ℕ). IsChain net first p a n t chain.0) (sym last.1) chain.1))))
-        (part b j below);
+        (bump-cases v a b j below);
     top = λ b j t cs known below chain. ⊎_elim
         (λ (before : j < v b). (let d = column.top b j t cs known before chain in (d.0, there b j known before ∙ d.1, d.2)))
         (λ (last : (b ≡ a) × (j ≡ v a)). (
         let link = chain-link b j t cs chain last.0 last.1 in
         let d = longest.top link.0 link.1 in
         (d.0, ap (λ (c : ℕ). start_in new c j) last.0 ∙ (ap (λ (n : ℕ). start_in new a n) last.1 ∙ (here ∙ d.1)), omega (arith, link.2, d.2))))
-        (part b j below);
+        (bump-cases v a b j below);
   }
     where
       whole : (b : ℕ) → b < length net.times → length (slice_index_or new b []) ≡ one_more v a b
@@ -116,26 +100,18 @@ module _ (net : Net) (laws : Lawful net) (first : ℕ → ℕ) (p : ℕ) (v : �
 
 -- ---- what one more start asks and gives
 
-pub same-default : {A : Type 0} → (xs : List A) (i : ℕ) (d e : A) → i < length xs → slice_index_or xs i d ≡ slice_index_or xs i e
-same-default [] i d e below = absurd (let no : ⊥ = omega arith in no)
-same-default (x ∷ xs) zero d e below = refl
-same-default (x ∷ xs) (suc i) d e below = same-default xs i d e (omega arith)
-
-pub part-sum : (xs : List ℕ) (i : ℕ) → i < length xs → slice_index xs i ≤ sum xs
-part-sum xs i below = get_or-le-sum_by (λ (n : ℕ). n) xs i 0 below
-
 -- an actor fires in a round no more often than all do
 pub round-small : (net : Net) → Lawful net → (a : ℕ) → a < length net.times → slice_index net.round a ≤ ROUND
 round-small net laws a actor =
     let many : length net.round ≡ length net.times = (balanced net laws).actors in
-    let part : slice_index net.round a ≤ sum net.round = part-sum net.round a (omega arith) in
+    let part : slice_index net.round a ≤ sum net.round = entry-le-sum net.round a in
     omega (arith, laws.small_round)
 
 -- a row of a column is as long as its actor has fired
 pub row-long : (net : Net) (first : ℕ → ℕ) (p : ℕ) (v : ℕ → ℕ) (rows : List (List (Option ℕ))) → IsColumn net first p v rows → (a : ℕ) (row : List (Option ℕ)) → a < length net.times
     → row ≡ slice_index_or rows a row → length row ≡ v a
 row-long net first p v rows column a row actor is =
-    ap (λ (r : List (Option ℕ)). length r) (is ∙ same-default rows a row [] (omega (arith, column.actors))) ∙ column.whole a actor
+    ap (λ (r : List (Option ℕ)). length r) (is ∙ get_or_default rows a row [] (omega (arith, column.actors))) ∙ column.whole a actor
 
 -- what the next firing takes is put by firings that have starts
 pub next-fed : (net : Net) → Lawful net → (first : ℕ → ℕ) (p : ℕ) (v : ℕ → ℕ) (rows : List (List (Option ℕ))) → IsColumn net first p v rows → (a : ℕ) → CanFire net v a
@@ -143,11 +119,6 @@ pub next-fed : (net : Net) → Lawful net → (first : ℕ → ℕ) (p : ℕ) (v
 next-fed net laws first p v rows column a can i below into =
     subst (λ (n : ℕ). total (channel_at net i).taken (v a + 1) ≤ (channel_at net i).tokens + total (channel_at net i).made n)
     (sym (column.whole (channel_at net i).source (laws.sources i below))) (can i below into)
-
--- what holds of a value that is there, where something else does
-pub on-ok : {P Q : Type 0} → (r : Result (Unit {0}) NoMemory) → (P → Q) → OnOk r P → OnOk r Q
-on-ok (Ok o) then has = then has
-on-ok (Err e) then has = tt
 
 -- no link comes later than the starts and a time
 pub link-small : (net : Net) → Lawful net → ((a : ℕ) → a < length net.times → phases_at net a ≡ 1) → (first : ℕ → ℕ) (p : ℕ) (rows : List (List (Option ℕ))) (b a j t : ℕ)
@@ -170,7 +141,7 @@ starts-small a start old new b c small more one has d j t at = ⊎_elim
     ⊎_elim
     (λ (before : j < length (slice_index_or old a [])). (let s : t ≤ b = small a j t (sym (get_or_append_left (slice_index_or old a []) (start ∷ []) None j before) ∙ here) in omega arith))
     (λ (past : length (slice_index_or old a []) ≤ j). (
-    let in_row : j < length (slice_index_or old a [] ++ start ∷ []) = start-below (slice_index_or old a [] ++ start ∷ []) j t here in
+    let in_row : j < length (slice_index_or old a [] ++ start ∷ []) = some-within (slice_index_or old a [] ++ start ∷ []) j t here in
     let long : length (slice_index_or old a [] ++ start ∷ []) ≡ length (slice_index_or old a []) + 1 = length-append (slice_index_or old a []) (start ∷ []) in
     let last : j ≡ length (slice_index_or old a []) = omega arith in
     one t (sym (last-at (slice_index_or old a []) start) ∙ (ap (λ (n : ℕ). slice_index_or (slice_index_or old a [] ++ start ∷ []) n None) (sym last) ∙ here))))

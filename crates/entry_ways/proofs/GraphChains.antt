@@ -12,6 +12,7 @@ use Rattle.sd_base.specs.Net.{Net, channel_at, IsRepetitionOf}
 use Rattle.sd_base.specs.Schedules.{phases_at}
 use Rattle.sd_base.specs.FileNet.{net_of}
 use Rattle.sd_base.specs.Scenarios.{Shares, shared_count}
+use Rattle.sd_base.proofs.Lists.{entry-le-sum}
 use Rattle.firing.specs.Wiring.{IsWiringOf}
 use Rattle.firing.specs.declared.wiring.Wiring.{Wiring}
 use Rattle.token_matrix.specs.Stamps.{first_of, no_row}
@@ -22,7 +23,6 @@ use Rattle.entry_ways.specs.WayMarks.{HasWay, IsLongestWay}
 use Rattle.entry_ways.specs.inside.Columns.{IsTraceable}
 use Rattle.entry_ways.specs.inside.Firsts.{AreFirsts}
 use Rattle.entry_ways.specs.inside.Traces.{AreApart}
-use Rattle.entry_ways.proofs.ColumnSteps.{part-sum}
 use Rattle.entry_ways.proofs.Apartness.{channels-apart}
 use Rattle.entry_ways.proofs.SameNumbers.{same-way, same-longest}
 
@@ -30,8 +30,7 @@ use Rattle.entry_ways.proofs.SameNumbers.{same-way, same-longest}
 pub few-shared : (shared : List SharedRow) (g : GraphFile) (gamma : List ℕ) → KeepsWideRules g → IsRepetitionOf g gamma → sum gamma * shared_count shared ≤ STAMPS → shared_count shared ≤ STAMPS
 few-shared shared g gamma rules gives within =
     let first : 1 ≤ slice_index gamma 0 = gives.balances.fires 0 (let f : 0 < length (phases_of g) = omega (arith, rules.some_actor, length-map g.actors (λ (r : ActorRow). r.phases)) in f) in
-    let part : slice_index gamma 0 ≤ sum gamma = part-sum gamma 0 (let f : 0 < length gamma =
-    omega (arith, gives.balances.actors, rules.some_actor, length-map g.actors (λ (r : ActorRow). r.phases)) in f) in
+    let part : slice_index gamma 0 ≤ sum gamma = entry-le-sum gamma 0 in
     let up : 1 * shared_count shared ≤ sum gamma * shared_count shared = mul-le-mul_right (shared_count shared) (let f : 1 ≤ sum gamma = omega arith in f) in
     omega arith
 

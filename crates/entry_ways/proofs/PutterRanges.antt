@@ -1,29 +1,17 @@
 -- Which firings put the tokens that one firing takes.
-use Rattle.std.proofs.Common.{◌≡◌, ℕ, zero, suc, ◌+◌, ◌-◌, ◌*◌, ◌/◌, ◌%◌, ◌≤◌, ◌<◌, ◌⊎◌, Bool, List, [], ◌∷◌, length, sum, ⊎_elim, ap, ◌∙◌, refl, arith, mod-lt, div-add-mod'}
+use Rattle.std.proofs.Common.{◌≡◌, ℕ, ◌+◌, ◌-◌, ◌*◌, ◌/◌, ◌%◌, ◌≤◌, ◌<◌, ◌⊎◌, Bool, [], length, ⊎_elim, ◌∙◌, refl, arith, mod-lt, div-add-mod', div-mul-le_self}
 use Rattle.std.specs.Prelude.{◌↔◌, IsTrue, slice_index}
 use Rattle.std.proofs.lemmas.Bool.{cases_lt}
-use Rattle.sd_base.specs.Net.{Channel, Net, channel_at, total, phase_entry}
+use Rattle.sd_base.specs.Net.{Channel, Net, channel_at, total}
 use Rattle.sd_base.specs.Lawful.{Lawful}
 use Rattle.sd_base.specs.Schedules.{phases_at}
-use Rattle.sd_base.proofs.Sums.{total-zero, total-suc, total-le}
+use Rattle.sd_base.proofs.Sums.{total-le, one-total}
+use Rattle.sd_base.proofs.Lists.{single-some}
 use Rattle.token_matrix.specs.Stamps.{IsTakenBy, IsPutBy}
 use Rattle.entry_ways.specs.inside.Columns.{ArePutters, IsAmong}
 
--- the tokens of firings of an actor with one phase
-pub single-total : (xs : List ℕ) (rate : ℕ) → length xs ≡ 1 → rate ≡ slice_index xs 0 → (n : ℕ) → total xs n ≡ n * rate
-single-total [] rate one is n = absurd (let no : ⊥ = omega arith in no)
-single-total (x ∷ y ∷ xs) rate one is n = absurd (let no : ⊥ = omega arith in no)
-single-total (x ∷ []) rate one is zero = total-zero (x ∷ []) ∙ omega arith
-single-total (x ∷ []) rate one is (suc n) =
-    let h : total (x ∷ []) n ≡ n * rate = single-total (x ∷ []) rate one is n in
-    let entry : phase_entry (x ∷ []) n ≡ x = ap (λ (k : ℕ). slice_index (x ∷ []) k) (let r : n % 1 < 1 = mod-lt n (omega arith) in let e : n % 1 ≡ 0 = omega arith in e) in
-    total-suc (x ∷ []) n ∙ omega (arith, is)
-
 floor-high : (g m : ℕ) → 1 ≤ g → m < (m / g + 1) * g
 floor-high g m some = let parts : m / g * g + m % g ≡ m = div-add-mod' m g in let rest : m % g < g = mod-lt m some in omega arith
-
-floor-low : (g m : ℕ) → m / g * g ≤ m
-floor-low g m = let parts : m / g * g + m % g ≡ m = div-add-mod' m g in omega arith
 
 -- a token between two pairs of bounds
 token-between : (from to low high : ℕ) → from < to → low < high → low < to → from < high → (m : ℕ) × (from ≤ m) × (m < to) × (low ≤ m) × (m < high)
@@ -95,18 +83,12 @@ module _ (net : Net) (number : ℕ → ℕ) (p i j from end : ℕ) (start : tota
         ));
   }
 
--- a single rate that moves a token
-pub single-some : (xs : List ℕ) (rate : ℕ) → length xs ≡ 1 → rate ≡ slice_index xs 0 → 1 ≤ sum xs → 1 ≤ rate
-single-some [] rate one is some = absurd (let no : ⊥ = omega arith in no)
-single-some (x ∷ y ∷ xs) rate one is some = absurd (let no : ⊥ = omega arith in no)
-single-some (x ∷ []) rate one is some = omega (arith, is)
-
 -- the firing that puts a token
 pub putter-at : (c : Channel) (m made : ℕ) → length c.made ≡ 1 → made ≡ slice_index c.made 0 → 1 ≤ made → c.tokens ≤ m → IsPutBy c m ((m - c.tokens) / made)
 putter-at c m made one is some late =
-    let a : total c.made ((m - c.tokens) / made) ≡ (m - c.tokens) / made * made = single-total c.made made one is ((m - c.tokens) / made) in
-    let b : total c.made ((m - c.tokens) / made + 1) ≡ ((m - c.tokens) / made + 1) * made = single-total c.made made one is ((m - c.tokens) / made + 1) in
-    let low : (m - c.tokens) / made * made ≤ m - c.tokens = floor-low made (m - c.tokens) in
+    let a : total c.made ((m - c.tokens) / made) ≡ (m - c.tokens) / made * made = one-total c.made ((m - c.tokens) / made) made one is in
+    let b : total c.made ((m - c.tokens) / made + 1) ≡ ((m - c.tokens) / made + 1) * made = one-total c.made ((m - c.tokens) / made + 1) made one is in
+    let low : (m - c.tokens) / made * made ≤ m - c.tokens = div-mul-le_self (m - c.tokens) made in
     let high : m - c.tokens < ((m - c.tokens) / made + 1) * made = floor-high made (m - c.tokens) some in
     ((let f : c.tokens + total c.made ((m - c.tokens) / made) ≤ m = omega arith in f), (let f : m < c.tokens + total c.made ((m - c.tokens) / made + 1) = omega arith in f))
 
@@ -117,6 +99,6 @@ made-grows net laws phases i below n =
     let c : Channel = channel_at net i in
     let one : length c.made ≡ 1 = laws.made_phases i below ∙ phases c.source (laws.sources i below) in
     let some : 1 ≤ slice_index c.made 0 = single-some c.made (slice_index c.made 0) one refl (laws.some_made i below) in
-    let low : total c.made n ≡ n * slice_index c.made 0 = single-total c.made (slice_index c.made 0) one refl n in
-    let high : total c.made (n + 1) ≡ (n + 1) * slice_index c.made 0 = single-total c.made (slice_index c.made 0) one refl (n + 1) in
+    let low : total c.made n ≡ n * slice_index c.made 0 = one-total c.made n (slice_index c.made 0) one refl in
+    let high : total c.made (n + 1) ≡ (n + 1) * slice_index c.made 0 = one-total c.made (n + 1) (slice_index c.made 0) one refl in
     omega arith

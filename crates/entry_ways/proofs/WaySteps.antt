@@ -12,7 +12,7 @@ use Rattle.entry_ways.specs.inside.Traces.{IsEndOf, IsLinkOn}
 use Rattle.entry_ways.specs.declared.links.Link.{Link}
 use Rattle.entry_ways.specs.declared.links.Link.TheVariants.{Begins, Goes}
 use Rattle.sd_base.proofs.Sums.{total-le}
-use Rattle.entry_ways.proofs.ColumnSteps.{start-below}
+use Rattle.sd_base.proofs.Lists.{some-within}
 use Rattle.token_matrix.proofs.ChainStamps.{chain_early}
 
 module _ (net : Net) (laws : Lawful net) (first : ℕ → ℕ) (p : ℕ) (rows : List (List (Option ℕ))) (column : IsColumn net first p (slice_index net.round) rows) where
@@ -47,7 +47,7 @@ module _ (net : Net) (laws : Lawful net) (first : ℕ → ℕ) (p : ℕ) (rows :
 
   -- a firing with a start is one of the round
   pub in-round : (a j t : ℕ) → a < length net.times → start_in rows a j ≡ Some t → j < slice_index net.round a
-  in-round a j t known at = subst (λ (n : ℕ). j < n) (column.whole a known) (start-below (slice_index_or rows a []) j t at)
+  in-round a j t known at = subst (λ (n : ℕ). j < n) (column.whole a known) (some-within (slice_index_or rows a []) j t at)
 
   -- the chain goes on from a link
   pub chain-on : (a j t i k d m : ℕ) (rest : List ℕ) → i < length net.channels → (channel_at net i).target ≡ a → j < slice_index net.round a → IsTakenBy (channel_at net i) m j

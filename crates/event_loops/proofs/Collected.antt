@@ -2,13 +2,13 @@
 use Rattle.std.proofs.Common.{◌≡◌, ◌≢◌, ℕ, suc, ◌+◌, ◌-◌, ◌≤◌, ◌<◌, ◌⊎◌, List, [], ◌++◌, length, inl, inr, ⊎_elim, sym, refl, ap, ◌∙◌, arith, set, length-append}
 use Rattle.std.specs.Prelude.{slice_index, slice_index_or, replicate}
 use Rattle.std.proofs.lemmas.Bool.{cases_lt, cases_eq}
-use Rattle.std.proofs.lemmas.List.{append-nil, ext_get_or, get_or_default, get_or_append_left, get_or-append_right, get_or-replicate, length-replicate, get_or_past, length-set, get_or-set_same, get_or-set_other}
+use Rattle.std.proofs.lemmas.List.{append-nil, ext_get_or, get_or_default, get_or_append_left, get_or-append_right, get_or-replicate, length-replicate, length-set, get_or-set_same, get_or-set_other}
 use Rattle.sd_base.specs.Net.{Net}
 use Rattle.sd_base.specs.Schedules.{HasInputs, count_of, start_of, end_of}
 use Rattle.sd_base.specs.SelfTimed.{earliest}
 use Rattle.sd_base.specs.Lawful.{Lawful}
 use Rattle.sd_base.proofs.Parts.{regular}
-use Rattle.sd_base.proofs.Counts.{Quiet, early_at, ended-at-is, quiet-until}
+use Rattle.sd_base.proofs.Counts.{Quiet, early_at, ended-at-is, quiet-until, empty-rows}
 use Rattle.sd_base.proofs.Existence.{extended-is}
 use Rattle.sd_base.proofs.Tight.{earliest-within}
 use Rattle.sd_base.proofs.Alike.{count-rises}
@@ -18,13 +18,6 @@ use Rattle.selftimed.specs.Moves.{AreStarters, IsNextEvent, ComesNext}
 use Rattle.selftimed.proofs.Agendas.{has-number}
 use Rattle.loops.specs.StartRows.{AreStarts}
 use Rattle.event_loops.specs.inside.Collecting.{HasStarts, AddsStarts}
-
--- rows without starts
-empty-rows : (n a : ℕ) → count_of (replicate n []) a ≡ 0
-empty-rows n a = ⊎_elim
-    (λ (place : a < n). ap length (get_or-replicate n a [] [] place))
-    (λ (past : n ≤ a). ap length (get_or_past (replicate n []) a [] (omega (arith, length-replicate {A = List ℕ} n []))))
-    (cases_lt a n)
 
 module _ (net : Net) (laws : Lawful net) (fed : HasInputs net) where
   -- nothing that runs ends before the next event

@@ -1,6 +1,7 @@
 -- The first shape that comes again, found by the time to its like.
 use Rattle.std.proofs.Common.{◌≡◌, ◌≢◌, ℕ, ◌+◌, ◌-◌, ◌≤◌, ◌<◌, inl, ⊎_elim, sym, refl, arith}
 use Rattle.std.proofs.lemmas.Bool.{cases_lt, cases_eq}
+use Rattle.std.proofs.Math.Numerals.{lt_of_le_of_ne}
 use Rattle.sd_base.specs.Net.{Net}
 use Rattle.sd_base.specs.Schedules.{HasInputs}
 use Rattle.sd_base.specs.SelfTimed.{IsEvent, events_by, shape_at, starts_by}
@@ -36,12 +37,9 @@ module _ (net : Net) (laws : Lawful net) (fed : HasInputs net) (period : ℕ) (i
       (λ (here : u ≡ t). other x (rw here at like))
       (λ (away : u ≢ t).
       let order : u ≤ t = rank-orders net laws fed u t last (omega arith) in
-      let before : u < t = less u t order away in
+      let before : u < t = lt_of_le_of_ne order away in
       none x u last (omega (arith, rank-grows net laws fed u t before event)) like)
       (cases_eq u t)
-    where
-      less : (x y : ℕ) → x ≤ y → x ≢ y → x < y
-      less x y le apart = ⊎_elim (λ (h : x < y). h) (λ (h : y ≤ x). absurd (apart (omega arith))) (cases_lt x y)
 
   -- the two engines stand at the first repeat
   pub repeat-here : (n states now entry end : ℕ) (stage : Stage) → NoneApart net period n → StandsAt net n stage now → ComesNext net stage now end → starts_by net end ≤ 4000000 → n < states →

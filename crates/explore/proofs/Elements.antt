@@ -40,7 +40,3 @@ one-contains xs x one = at-one xs x x one
 
 pub contains-one : {A : Type 0} (xs : List A) (x : A) → Contains xs x → IsOneOf xs x
 contains-one xs x (k, below, same) = subst (IsOneOf xs) same (one-at xs k x below)
-
-pub map-map : {A B C : Type 0} (f : B → C) (g : A → B) (xs : List A) → map f (map g xs) ≡ map (λ (x : A). f (g x)) xs
-map-map f g [] = refl
-map-map f g (x ∷ xs) = ap (λ ys. f (g x) ∷ ys) (map-map f g xs)

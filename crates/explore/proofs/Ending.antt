@@ -10,6 +10,7 @@ use Rattle.sd_base.specs.Net.{Net}
 use Rattle.sd_base.specs.Lawful.{Lawful}
 use Rattle.sd_base.specs.Rates.{Rate}
 use Rattle.sd_base.proofs.LoopRates.{one-rate}
+use Rattle.sd_base.proofs.Lists.{map-map}
 use Rattle.storage.specs.BoundedNets.{bound}
 use Rattle.storage.specs.CapacityOrder.{no_later}
 use Rattle.storage.specs.Distributions.{AtMost, IsDistribution, storage_of}
@@ -28,7 +29,7 @@ use Rattle.levels.specs.Visits.{led_by, visited}
 use Rattle.explore.specs.Reachable.{IsExplorable, IsReachable, stepped}
 use Rattle.explore.specs.Explorations.{AreInOrder, IsExploration, ShowsChannel, capacities_of, pair_of}
 use Rattle.explore.specs.inside.Searches.{IsEnded, IsNoted, offer_for, offers_of, visits_of}
-use Rattle.explore.proofs.Elements.{at-one, contains-one, map-map, one-at, one-contains, one-map, one-unmap}
+use Rattle.explore.proofs.Elements.{at-one, contains-one, one-at, one-contains, one-map, one-unmap}
 use Rattle.explore.proofs.Searching.{entry-of, entry-visit, has-contains, led-member, noted-at, noted-of, visited-members}
 use Rattle.explore.proofs.OfferFronts.{front-of_offers, pair_of as offer_pair}
 

@@ -1,30 +1,23 @@
 -- Nets that can be explored.
-use Rattle.std.proofs.Common.{ℕ, suc, ◌*◌, ◌≤◌, Option, None, Some, List, [], ◌∷◌, length, arith}
+use Rattle.std.proofs.Common.{ℕ, ◌*◌, ◌≤◌, Option, List, [], length, arith}
 use Rattle.sd_base.specs.declared.limits.TheConstants.{NET_CHANNELS}
-use Rattle.sd_base.specs.Net.{Channel, Net, channel_at}
+use Rattle.sd_base.specs.Net.{Net, channel_at}
 use Rattle.sd_base.specs.Connection.{IsConnected}
-use Rattle.storage.specs.BoundedNets.{spaces_from}
 use Rattle.storage.specs.Distributions.{IsDistribution, IsPlain, storage_of}
 use Rattle.storage.specs.Steps.{step_of}
 use Rattle.storage.proofs.CornerLists.{corner-distribution}
-use Rattle.storage.proofs.SpaceChannels.{bound-long}
+use Rattle.storage.proofs.SpaceChannels.{bound-long, few-spaces}
 use Rattle.storage.specs.TouchedActors.{AreTouched}
 use Rattle.storage.proofs.TouchedInputs.{touched-inputs}
 use Rattle.storage.proofs.Enlarging.{enlarged-distribution}
 use Rattle.explore.specs.Reachable.{IsExplorable, IsReachable, corner, next}
-
-spaces-few : (n : ℕ) (cs : List Channel) (ds : List (Option ℕ)) → length (spaces_from n cs ds) ≤ length cs
-spaces-few n [] ds = omega arith
-spaces-few n (c ∷ cs) [] = omega arith
-spaces-few n (c ∷ cs) (None ∷ ds) = let later = spaces-few (suc n) cs ds in omega (arith, later)
-spaces-few n (c ∷ cs) (Some k ∷ ds) = let later = spaces-few (suc n) cs ds in omega (arith, later)
 
 pub touched-explorable : (net : Net) → IsPlain net → IsConnected net → AreTouched net → 2 * length net.channels ≤ NET_CHANNELS → IsExplorable net
 touched-explorable net plain connected touched few = record {
   plain = plain;
   connected = connected;
   inputs = touched-inputs net touched;
-  few = λ ds dist. (let long = bound-long net ds in let spaces = spaces-few 0 net.channels ds in omega (arith, long, spaces, few));
+  few = λ ds dist. (let long = bound-long net ds in let spaces = few-spaces 0 net.channels ds in omega (arith, long, spaces, few));
 }
 
 -- what can be reached is a distribution within the limit

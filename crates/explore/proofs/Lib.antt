@@ -1,4 +1,3 @@
-pub mod Ends
 pub mod Tasks
 pub mod Elements
 pub mod Stepping

@@ -1,9 +1,10 @@
 -- The counts from which an evaluation begins are reached.
-use Rattle.std.proofs.Common.{◌≡◌, ℕ, zero, suc, Option, None, Some, List, [], ◌∷◌, ◌++◌, length, refl, ◌∙◌}
+use Rattle.std.proofs.Common.{◌≡◌, ℕ, zero, suc, Option, None, Some, List, [], ◌∷◌, ◌++◌, refl, ◌∙◌}
 use Rattle.std.specs.Prelude.{slice_get, slice_index_or}
 use Rattle.sd_base.specs.Net.{Net}
 use Rattle.sd_base.specs.Lawful.{Lawful}
 use Rattle.sd_base.specs.Untimed.{IsBlockedBy, IsLive}
+use Rattle.sd_base.proofs.Lists.{get-left}
 use Rattle.liveness.specs.RoundAnswers.{AreReachedCounts}
 use Rattle.storage.specs.BoundedNets.{bound}
 use Rattle.storage.specs.Distributions.{AtMost}
@@ -34,16 +35,6 @@ get-same [] place m x at is = cc
 get-same (y ∷ ms) zero m x at is = let same : y ≡ m = cc in is ∙ same
 get-same (y ∷ ms) (suc place) m x at is = get-same ms place m x at is
 
--- a place keeps its member
-get-longer : (ms : List Member) (new : List Member) (place : ℕ) (m : Member) → slice_get ms place ≡ Some m → slice_get (ms ++ new) place ≡ Some m
-get-longer [] new place m at = cc
-get-longer (x ∷ ms) new zero m at = at
-get-longer (x ∷ ms) new (suc place) m at = get-longer ms new place m at
-
-pub get-last : (ms : List Member) (m : Member) → slice_get (ms ++ m ∷ []) (length ms) ≡ Some m
-get-last [] m = refl
-get-last (x ∷ ms) m = get-last ms m
-
 pub hinted-longer : (net : Net) (states : ℕ) (ms new : List Member) (hint : Option ℕ) (ds : List (Option ℕ)) → IsHinted net states ms hint ds → IsHinted net states (ms ++ new) hint ds
 hinted-longer net states ms new None ds is = tt
-hinted-longer net states ms new (Some place) ds is = record { member = is.member; at = get-longer ms new place is.member is.at; evaluated = is.evaluated; most = is.most }
+hinted-longer net states ms new (Some place) ds is = record { member = is.member; at = get-left ms new place is.member is.at; evaluated = is.evaluated; most = is.most }

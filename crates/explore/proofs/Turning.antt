@@ -1,7 +1,7 @@
 -- A level is taken off those that wait, its distributions are evaluated, and each of its answers is taken in.
 use Rattle.std.proofs.Common.{◌≡◌, ℕ, ◌+◌, ◌≤◌, ◌<◌, Option, None, Some, List, [], ◌∷◌, ◌++◌, Result, Ok, Err, length, map, ⊎_elim, refl, sym, ap, ◌∙◌, subst, arith, inl, inr}
 use Rattle.std.specs.Prelude.{All, Contains, MatchOption, slice_index_or}
-use Rattle.std.proofs.lemmas.List.{get_or-map, length-map, map-append}
+use Rattle.std.proofs.lemmas.List.{length-map, map-append}
 use Rattle.std.proofs.lemmas.List.Elements.{All-contains, All-map, Contains-append_left, Contains-append_right, Contains-get_or}
 use Rattle.sd_base.specs.declared.limits.Limits.{Limits}
 use Rattle.sd_base.specs.declared.limits.TheConstants.{STORAGE}
@@ -37,15 +37,16 @@ use Rattle.explore.specs.inside.Searches.{AreKnown, IsAnswerOf, IsCandidate, IsE
 use Rattle.explore.specs.inside.Rated.{IsBest, IsBestOf, evaluated_member}
 use Rattle.explore.specs.declared.rated.Rated.{Rated}
 use Rattle.sd_base.specs.declared.numbers.Fraction.{Fraction}
+use Rattle.sd_base.proofs.Lists.{get-last, map-map, all-unmap}
 use Rattle.pareto_front.specs.Points.{offer_of}
 use Rattle.pareto_front.specs.Offers.{IsOneOf, Offer}
 use Rattle.explore.specs.inside.Starts.{IsHinted}
-use Rattle.explore.proofs.Elements.{map-map, one-contains, one-map, one-split}
+use Rattle.explore.proofs.Elements.{one-contains, one-map, one-split}
 use Rattle.explore.proofs.Ending.{offer-from, to-offer}
 use Rattle.explore.proofs.Enough.{ended-whole}
 use Rattle.explore.proofs.Knowing.{member-noted, noted-more}
 use Rattle.explore.proofs.Searching.{contains-has, led-candidate, search-candidate, search-limit, visited-members}
-use Rattle.explore.proofs.Starting.{get-last, hinted-longer}
+use Rattle.explore.proofs.Starting.{hinted-longer}
 use Rattle.explore.proofs.Stepping.{candidate-evaluable, child-above, shown-bounded}
 
 -- a level that is taken off
@@ -110,9 +111,6 @@ module _ (net : Net) (laws : Lawful net) (can : IsExplorable net) (limits : Limi
       first (f ∷ fs) some holds = holds f (0, omega arith, refl)
 
 -- the answers of a level are of its distributions
-all-unmap : {A B : Type 0} (P : B → Type 0) (f : A → B) (xs : List A) → All P (map f xs) → All (λ (x : A). P (f x)) xs
-all-unmap P f xs all = λ k d below. subst P (get_or-map f xs k d (f d) below) (all k (f d) (omega (arith, below, length-map xs f)))
-
 pub level-answers : (net : Net) (limits : Limits) (total : ℕ) (best : Fraction) (answers : List Answered) (fs : List (Found (Option ℕ))) → map (λ (a : Answered). a.capacities) answers ≡ map (λ (f : Found (Option ℕ)). f.capacities) fs → All (λ (f : Found (Option ℕ)). storage_of net.channels f.capacities.capacities ≡ total) fs → All (λ (a : Answered). IsEvaluation net limits.states best a.capacities a.answer) answers → All (IsAnswerOf net limits total best) answers
 level-answers net limits total best answers fs order totals all = λ k d below.
     let P : Distribution → Type 0 = λ (x : Distribution). storage_of net.channels x.capacities ≡ total in

@@ -4,6 +4,7 @@ use Rattle.std.proofs.lemmas.Bool.{cases_Bool, cases_lt, cases_order, eq-eqb, eq
 use Rattle.std.proofs.lemmas.List.{take-append-drop, take-take, take_all, take_at, length-take-le, get_or-take, get_or_at, get_or-append_right}
 use Rattle.std.proofs.Math.Seq.{drop-cons}
 use Rattle.std.specs.Str.{str_to_ascii_lowercase}
+use Rattle.sd_base.proofs.Truths.{bytes_same, bytes_other, some-none}
 use Rattle.file_text.specs.declared.tree.Attribute.{Attribute}
 use Rattle.file_text.specs.declared.class.Class.TheVariants.{Quote}
 use Rattle.file_text.specs.declared.mode.Declaring.TheVariants as declaring
@@ -15,7 +16,7 @@ use Rattle.file_text.specs.Fault.{IsPrefix, LeavesAt, IsEncodingAt}
 use Rattle.file_text.specs.inside.Exits.{BehindQuote}
 use Rattle.file_text.specs.inside.Utf8.{due_after, due_along}
 use Rattle.file_text.specs.inside.Machine.{class_of, Around, prolog, Shape, at_start, in_declaring, in_value, declaration, declares_other, Spot, advance, walk, State, both, move, run, start, table}
-use Rattle.file_text.proofs.Names.{bytes_same, bytes_other, new_name, each_right}
+use Rattle.file_text.proofs.Names.{new_name, each_right}
 use Rattle.file_text.proofs.MachineWalks.{Along, then}
 use Rattle.file_text.proofs.OverTags.{Allowed, over_attributes, over_head, over_value}
 use Rattle.file_text.proofs.OverTexts.{over_start, ready_declaring}
@@ -141,13 +142,10 @@ none_behind bytes m n le none =
     let split : take m bytes ++ drop m (take n bytes) ≡ take n bytes = ap (λ t. t ++ drop m (take n bytes)) (sym (take-take m n bytes le)) ∙ take-append-drop m (take n bytes) in
     ap (λ t. run true (Some start) t) (sym split) ∙ run-append true (Some start) (take m bytes) (drop m (take n bytes)) ∙ ap (λ o. run true o (drop m (take n bytes))) none
 
-some_none : (o : Option State) (s : State) → o ≡ Some s → o ≡ None → ⊥
-some_none o s p q = let both : Some s ≡ None = sym p ∙ q in cc
-
 -- a strict run to where the bytes leave the grammar has met no such encoding
 pub no_encoding : (bytes : List ℕ) (n : ℕ) (s : State) (p : ℕ) → run true (Some start) (take n bytes) ≡ Some s → LeavesAt bytes n → IsEncodingAt bytes p → ⊥
 no_encoding bytes n s p here leaves is = elim (cases_lt (closing bytes p is) n) [
-  | inl before ↦ some_none (run true (Some start) (take n bytes)) s here (none_behind bytes (closing bytes p is + 1) n (omega arith) (stopped bytes p is).over)
+  | inl before ↦ some-none (run true (Some start) (take n bytes)) s here (none_behind bytes (closing bytes p is + 1) n (omega arith) (stopped bytes p is).over)
   | inr behind ↦ leaves.stops (let within = closing_within bytes p is in omega arith) (prefix_take (n + 1) (closing bytes p is + 1) bytes (omega arith) is.viable)
 ]
 
@@ -157,14 +155,14 @@ spelled_no_encoding bytes e p (xs, spells, fits) is =
     let read = completes true xs e bytes spells fits in
     let whole : take (length bytes) bytes ≡ bytes = take_all (length bytes) bytes (omega arith) in
     let none = none_behind bytes (closing bytes p is + 1) (length bytes) (let within = closing_within bytes p is in omega arith) (stopped bytes p is).over in
-    some_none (run true (Some start) bytes) (finished e) read (rw whole at none)
+    some-none (run true (Some start) bytes) (finished e) read (rw whole at none)
 
 -- there is at most one closing quote
 one_closing : (bytes : List ℕ) (m n : ℕ) → Stopped bytes m → Stopped bytes n → m ≡ n
 one_closing bytes m n p q = elim (cases_order m n) [
   | inl same ↦ same
-  | inr (inl lt) ↦ absurd (some_none (run true (Some start) (take n bytes)) q.state q.before (none_behind bytes (m + 1) n (omega arith) p.over))
-  | inr (inr gt) ↦ absurd (some_none (run true (Some start) (take m bytes)) p.state p.before (none_behind bytes (n + 1) m (omega arith) q.over))
+  | inr (inl lt) ↦ absurd (some-none (run true (Some start) (take n bytes)) q.state q.before (none_behind bytes (m + 1) n (omega arith) p.over))
+  | inr (inr gt) ↦ absurd (some-none (run true (Some start) (take m bytes)) p.state p.before (none_behind bytes (n + 1) m (omega arith) q.over))
 ]
 
 -- no quote stands in a value

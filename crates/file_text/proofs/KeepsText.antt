@@ -1,6 +1,7 @@
 -- One more byte between tags or in a comment: what the machine says has been read is still so.
 use Rattle.std.proofs.Common.{◌≡◌, ℕ, suc, inl, inr, refl, sym, ◌∙◌, subst, Bool, true, false, eqb, ltb, List, [], ◌∷◌, ◌++◌, append_assoc, append-nil, length, codes}
 use Rattle.std.proofs.lemmas.Bool.{cases_Bool, eqb-false, ltb-true}
+use Rattle.std.proofs.lemmas.List.{same_from_push}
 use Rattle.file_text.specs.declared.class.Class.{Class}
 use Rattle.file_text.specs.declared.class.Class.TheVariants.{Wide, White, Control, Letter, Hyphen, Less, Greater, Slash, Bang, Question, Ampersand}
 use Rattle.file_text.specs.declared.mode.Mark.{Mark}
@@ -14,7 +15,7 @@ use Rattle.file_text.specs.inside.Machine.{Around, prolog, within, epilog, at_st
 use Rattle.file_text.proofs.Classes.{Known}
 use Rattle.file_text.proofs.OverElements.{HasRoom}
 use Rattle.file_text.proofs.ReadSoFar.{Reached, IsStartText, Clean, NoHyphen, Has, Holds}
-use Rattle.file_text.proofs.OneMore.{gap_one, reached_item, open_item, clean_more, body_from_clean, last_same}
+use Rattle.file_text.proofs.OneMore.{gap_one, reached_item, open_item, clean_more, body_from_clean}
 use Rattle.file_text.proofs.Tidy.{when_tidy}
 
 -- what holds where a step leads
@@ -133,10 +134,10 @@ no_hyphen_end body c none e = none (c ++ 45 ∷ []) (e ∙ sym (append_assoc c (
 
 one_hyphen_end : (body c : List ℕ) → NoHyphen body → body ++ 45 ∷ [] ≡ c ++ 45 ∷ 45 ∷ [] → ⊥
 one_hyphen_end body c none e =
-    none c (last_same body (c ++ 45 ∷ []) 45 45 (e ∙ sym (append_assoc c (45 ∷ []) (45 ∷ [])))).0
+    none c (same_from_push body (c ++ 45 ∷ []) 45 45 (e ∙ sym (append_assoc c (45 ∷ []) (45 ∷ [])))).0
 
 other_end : (t : List ℕ) (b : ℕ) → eqb b 45 ≡ false → NoHyphen (t ++ b ∷ [])
-other_end t b other c e = eqb-false b 45 other (last_same t c b 45 e).1
+other_end t b other c e = eqb-false b 45 other (same_from_push t c b 45 e).1
 
 -- a character that is no hyphen behind the body so far
 body_goes : (strict : Bool) (a : Around) (t u body : List ℕ) (b : ℕ) → Reached strict a u → Clean (body ++ b ∷ []) → eqb b 45 ≡ false

@@ -1,8 +1,7 @@
 -- The faults that are known where bytes leave the grammar: one at most.
-use Rattle.std.proofs.Common.{◌≡◌, ◌≢◌, ℕ, zero, suc, ◌+◌, ◌-◌, ◌<◌, ◌≤◌, ◌⊎◌, inl, inr, refl, sym, ◌∙◌, ap, subst, Bool, true, List, [], ◌∷◌, length, take, drop, slice_index, codes, if◌then◌else◌, ◌==◌, min, eqb, bytes_eq, Decides, arith}
-use Rattle.std.proofs.lemmas.Bool.{cases_lt}
+use Rattle.std.proofs.Common.{◌≡◌, ◌≢◌, ℕ, zero, suc, ◌+◌, ◌-◌, ◌<◌, ◌≤◌, ◌⊎◌, inl, inr, refl, sym, ◌∙◌, ap, subst, Bool, true, List, [], length, take, drop, slice_index, codes, if◌then◌else◌, ◌==◌, min, eqb, bytes_eq, Decides, arith}
 use Rattle.std.proofs.lemmas.Bool.Decides.{nat_tests}
-use Rattle.std.proofs.lemmas.List.{get_or-take, get_or-drop, take_rest}
+use Rattle.std.proofs.lemmas.List.{get_or-take, get_or-drop, take_rest, drop_min}
 use Rattle.std.proofs.lemmas.Slice.Eq.{bytes_eq-Decides}
 use Rattle.std.specs.List.{starts_with}
 use Rattle.file_text.specs.declared.error.Construct.TheVariants.{Doctype, Cdata, Instruction, Reference, Encoding}
@@ -169,18 +168,6 @@ known_same bytes n f g a b =
     same_place bytes n f g a b (kind_told f (slice_index bytes (n - 1)) (slice_index bytes n) (marks bytes n f a) ∙ sym (kind_told g (slice_index bytes (n - 1)) (slice_index bytes n) (marks bytes n g b)))
 
 -- what a test of a slice's beginning says
-drop_past : (n : ℕ) (bytes : List ℕ) → length bytes ≤ n → drop n bytes ≡ []
-drop_past zero [] past = refl
-drop_past zero (b ∷ bytes) past = absurd (omega arith)
-drop_past (suc n) [] past = refl
-drop_past (suc n) (b ∷ bytes) past = drop_past n bytes (omega arith)
-
-drop_min : (place : ℕ) (bytes : List ℕ) → drop (min place (length bytes)) bytes ≡ drop place bytes
-drop_min place bytes = elim (cases_lt (length bytes) place) [
-  | inl past ↦ drop_past (min place (length bytes)) bytes (omega arith) ∙ sym (drop_past place bytes (omega arith))
-  | inr fits ↦ ap (λ k. drop k bytes) (omega arith)
-]
-
 pub begins_stands : (word bytes : List ℕ) (place m : ℕ) (r : Bool) → m ≡ min place (length bytes) → r ≡ starts_with eqb (take (length bytes - m) (drop m bytes)) word
     → Decides r (Stands word bytes place)
 begins_stands word bytes place m r at_m test =

@@ -154,15 +154,3 @@ same_begin b (x ∷ y ∷ bs) = refl
 pub body_from_clean : (body : List ℕ) → Clean (body ++ 45 ∷ 45 ∷ []) → IsBody body
 body_from_clean [] clean = tt
 body_from_clean (b ∷ bs) clean = (clean.0, (λ e. clean.1 (same_begin b bs ∙ e)), body_from_clean bs clean.2)
-
--- two texts with one last byte each
-pub last_same : (xs ys : List ℕ) (x y : ℕ) → xs ++ x ∷ [] ≡ ys ++ y ∷ [] → (xs ≡ ys) × (x ≡ y)
-last_same [] [] x y e = (refl, cc)
-last_same [] (z ∷ ys) x y e = absurd (not_empty ys y (let rest : [] ≡ ys ++ y ∷ [] = cc in sym rest))
-last_same (z ∷ xs) [] x y e = absurd (not_empty xs x (let rest : xs ++ x ∷ [] ≡ [] = cc in rest))
-last_same (z ∷ xs) (w ∷ ys) x y e =
-    let first : z ≡ w = cc in
-    let rest : xs ++ x ∷ [] ≡ ys ++ y ∷ [] = cc in
-    let same = last_same xs ys x y rest in
-    let whole : Path (List ℕ) (z ∷ xs) (w ∷ ys) = let others = same.0 in cc in
-    (whole, same.1)

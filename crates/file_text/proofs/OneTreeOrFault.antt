@@ -1,7 +1,9 @@
 -- Each text has a tree or a fault, and one alone.
-use Rattle.std.proofs.Common.{◌≡◌, ◌≢◌, ℕ, zero, suc, ◌+◌, ◌-◌, ◌<◌, ◌≤◌, ◌⊎◌, inl, inr, refl, sym, ◌∙◌, ap, subst, true, eqb, List, length, take, drop, slice_index, Option, Some, None, codes, bytes_eq, arith}
+use Rattle.std.proofs.Common.{◌≡◌, ◌≢◌, ℕ, zero, suc, ◌+◌, ◌-◌, ◌<◌, ◌≤◌, ◌⊎◌, inl, inr, refl, sym, ◌∙◌, ap, subst, true, eqb, List, length, take, drop, slice_index, Option, Some, None, codes, bytes_eq, arith, add-one}
 use Rattle.std.proofs.lemmas.Bool.{cases_Bool, cases_lt, cases_eq, eqb-true, eqb-false}
 use Rattle.std.proofs.lemmas.List.{take_all}
+use Rattle.std.proofs.lemmas.Option.{same_Some}
+use Rattle.sd_base.proofs.Truths.{bytes_same, bytes_other}
 use Rattle.file_text.specs.declared.error.Construct.TheVariants.{Doctype, Cdata, Instruction, Reference, Encoding}
 use Rattle.file_text.specs.declared.error.TextError.{TextError}
 use Rattle.file_text.specs.declared.error.TextError.TheVariants.{Syntax, Unsupported, TooDeep, NoMemory}
@@ -12,7 +14,6 @@ use Rattle.file_text.specs.Fault.{Stands, IsStart, LeavesDeclaration, KnownAt, F
 use Rattle.file_text.specs.inside.Utf8.{due_after}
 use Rattle.file_text.specs.inside.Machine.{class_of, Step, goes, leaves, too_deep, other_encoding, table, State, run, start, tree_at}
 use Rattle.file_text.specs.inside.Exits.{IsLiteral, FaultAt, BehindQuote}
-use Rattle.file_text.proofs.Names.{bytes_same, bytes_other}
 use Rattle.file_text.proofs.Exact.{finished, completes}
 use Rattle.file_text.proofs.LeavingPlaces.{run_more}
 use Rattle.file_text.proofs.RecognisedFaults.{first_fault, stops_refused, stops_early, deep_fault, other_fault}
@@ -138,14 +139,11 @@ found_next bytes n s (Some d) (other_encoding a x) lt here due step =
 found_next bytes n s (Some d) (goes a x) lt here due step =
     inl (record { due = d; spot = (a, x) }, run_more true bytes n s lt here ∙ rw (due, step) refl)
 
-next_is : (n : ℕ) → n + 1 ≡ suc n
-next_is n = omega arith
-
 found_from : (bytes : List ℕ) (n : ℕ) → n ≤ length bytes → ((s : State) × (run true (Some start) (take n bytes) ≡ Some s)) ⊎ Found bytes
 found_from bytes zero le = inl (start, refl)
 found_from bytes (suc n) le = elim (found_from bytes n (omega arith)) [
   | inr found ↦ inr found
-  | inl at_n ↦ subst (λ (m : ℕ). ((u : State) × (run true (Some start) (take m bytes) ≡ Some u)) ⊎ Found bytes) (next_is n)
+  | inl at_n ↦ subst (λ (m : ℕ). ((u : State) × (run true (Some start) (take m bytes) ≡ Some u)) ⊎ Found bytes) (add-one n)
       (found_next bytes n at_n.0 (due_after at_n.0.due (slice_index bytes n)) (table at_n.0.spot.0 at_n.0.spot.1 (class_of (slice_index bytes n)) (slice_index bytes n)) (omega arith) at_n.1 refl refl)
 ]
 
@@ -162,12 +160,9 @@ some_answer bytes = elim (found_from bytes (length bytes) (omega arith)) [
   | inl at_end ↦ found_end bytes at_end.0 (tree_at at_end.0) (rw (take_all (length bytes) bytes (omega arith)) at at_end.1) refl
 ]
 
-some_same : (d e : Node) → Some d ≡ Some e → d ≡ e
-some_same d e same = cc
-
 -- one tree
 pub one_tree : (bytes : List ℕ) (d e : Node) → IsText d bytes → IsText e bytes → d ≡ e
 one_tree bytes d e (xs, is, fits) (ys, is_too, fits_too) =
     let same : Some (finished d) ≡ Some (finished e) = sym (completes true xs d bytes is fits) ∙ completes true ys e bytes is_too fits_too in
     let trees : tree_at (finished d) ≡ tree_at (finished e) = let states : finished d ≡ finished e = cc in ap tree_at states in
-    some_same d e trees
+    same_Some d e trees

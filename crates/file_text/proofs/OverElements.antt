@@ -1,6 +1,6 @@
 -- The machine goes along elements, one in another.
-use Rattle.std.proofs.Common.{◌≡◌, ℕ, suc, ◌+◌, ◌<◌, ◌≤◌, inl, inr, refl, sym, ◌∙◌, ap, subst, Bool, true, false, eqb, ◌||◌, List, [], ◌∷◌, ◌++◌, append_assoc, append-nil, length, Some, IsTrue, codes, arith}
-use Rattle.std.proofs.lemmas.Bool.{eq-eqb, lt-ltb}
+use Rattle.std.proofs.Common.{◌≡◌, ℕ, suc, ◌+◌, ◌<◌, ◌≤◌, inl, inr, refl, sym, ◌∙◌, ap, subst, Bool, true, eqb, List, [], ◌∷◌, ◌++◌, append_assoc, append-nil, length, Some, IsTrue, codes, arith}
+use Rattle.std.proofs.lemmas.Bool.{eq-eqb, lt-ltb, or_left}
 use Rattle.file_text.specs.declared.tree.Attribute.{Attribute}
 use Rattle.file_text.specs.Node.{Node, node, Nodes, no_node, node_then, nodes, list_of, depth, depths}
 use Rattle.file_text.specs.Grammar.{Each, is_white, is_name_start, is_name_byte, IsName, IsTag, IsElement, IsContent}
@@ -29,10 +29,6 @@ unfolding table
 begins_between strict a room b start rest =
     ap (λ o. walk strict o rest)
     (at_begin (λ c. follow strict (table a at_markup c b) ≡ Some (a, in_name (b ∷ []))) b start (ap (follow strict) (opens a b room)) (ap (follow strict) (opens a b room)))
-
-or_left : (x y : Bool) → x ≡ true → (x || y) ≡ true
-or_left true y e = refl
-or_left false y e = cc
 
 pub name_bytes : (n : List ℕ) → IsName n → Each (λ b. IsTrue (is_name_byte b)) n
 name_bytes [] named = absurd named

@@ -1,10 +1,10 @@
 -- A run of characters leaves the machine where it stands, but for a value, which grows by them, as a name does, and for an end
 -- tag, which has so much less to come.
-use Rattle.std.proofs.Common.{◌≡◌, ℕ, ◌+◌, ◌-◌, ◌<◌, ◌≤◌, Bool, true, false, List, [], ◌∷◌, ◌++◌, length, take, drop, inl, inr, Option, Some, refl, sym, ap, ◌∙◌, subst, arith, append_assoc, append-nil, eq-eqb}
+use Rattle.std.proofs.Common.{◌≡◌, ℕ, ◌+◌, ◌<◌, ◌≤◌, Bool, true, false, List, [], ◌∷◌, ◌++◌, length, take, drop, inl, inr, Option, Some, refl, sym, ap, ◌∙◌, subst, arith, append_assoc, append-nil, eq-eqb}
 use Rattle.std.specs.Prelude.{IsTrue, ◌==◌}
 use Rattle.std.proofs.Math.Seq.{take-add}
 use Rattle.std.proofs.lemmas.Bool.Decides.{nat_tests}
-use Rattle.std.proofs.lemmas.List.{take_all, take-take, take-append-drop, drop-drop, length-drop, length-take}
+use Rattle.std.proofs.lemmas.List.{take-take, take-append-drop, drop-drop, length-take}
 use Rattle.file_text.specs.declared.tree.Attribute.{Attribute}
 use Rattle.file_text.specs.declared.class.Class.{Class}
 use Rattle.file_text.specs.declared.class.Class.TheVariants.{White, Control, Less, Quote, Ampersand}
@@ -217,6 +217,3 @@ pub passed-none : (bytes : List ℕ) (i n : ℕ) (s u : State) → n ≡ 0 → r
 passed-none bytes i n s u none before is =
     let same : i + n ≡ i = omega arith in
     ap (λ (k : ℕ). run true (Some start) (take k bytes)) (sym same) ∙ passed-on bytes i n s u before is
-
-pub rest-is : (bytes : List ℕ) (i : ℕ) → take (length bytes - i) (drop i bytes) ≡ drop i bytes
-rest-is bytes i = take_all (length bytes - i) (drop i bytes) (omega (arith, length-drop i bytes))

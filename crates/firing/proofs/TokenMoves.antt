@@ -75,7 +75,7 @@ pub record Changed (xs old new : List ℕ) (lost gained : ℕ → ℕ) (n : ℕ)
   pub rest : (i : ℕ) → ((j : ℕ) → j < n → slice_index xs j ≢ i) → slice_index new i ≡ slice_index old i
 
 -- the channels of the list are apart
-apart : (net : Net) (port : Port) (a : ℕ) (xs : List ℕ) → IsListed net port a xs → (j n : ℕ) → j < n → n < length xs → slice_index xs j ≢ slice_index xs n
+pub apart : (net : Net) (port : Port) (a : ℕ) (xs : List ℕ) → IsListed net port a xs → (j n : ℕ) → j < n → n < length xs → slice_index xs j ≢ slice_index xs n
 apart net port a xs listed j n h below same = let rise : slice_index xs j < slice_index xs n = listed.rising j n h below in omega arith
 
 pub changed-more : (net : Net) (port : Port) (a : ℕ) (xs old now new : List ℕ) (lost gained : ℕ → ℕ) (n i x : ℕ) → IsListed net port a xs → n < length xs → i ≡ slice_index xs n → i < length now →

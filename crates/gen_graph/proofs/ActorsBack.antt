@@ -8,8 +8,10 @@ use Rattle.sd_base.specs.declared.tables.Kind.{Kind}
 use Rattle.sd_base.specs.declared.tables.Kind.TheVariants.{Sdf}
 use Rattle.sd_base.specs.declared.tables.ActorRow.{ActorRow}
 use Rattle.sd_base.specs.declared.tables.ChannelRow.{ChannelRow}
+use Rattle.sd_base.proofs.Truths.{same_bytes, bytes_differ}
 use Rattle.file_text.specs.Node.{Node}
 use Rattle.file_text.specs.Grammar.{Each}
+use Rattle.file_text.proofs.Names.{each-append}
 use Rattle.graph_reader.specs.declared.actors.Direction.{Direction as ReadDirection}
 use Rattle.graph_reader.specs.declared.actors.Direction.TheVariants as read
 use Rattle.graph_reader.specs.declared.actors.Port.{Port}
@@ -24,9 +26,10 @@ use Rattle.gen_graph.specs.declared.direction.Direction.{Direction}
 use Rattle.gen_graph.specs.declared.direction.Direction.TheVariants.{Out, In}
 use Rattle.gen_graph.specs.GraphTrees.{port_name, port_node, ports_on, ports_from, actor_node, actor_nodes, no_actor, numbers_text}
 use Rattle.graph_reader.specs.WritableNames.{IsWritableName}
-use Rattle.gen_graph.proofs.TreeTexts.{AreSmall, each_both, each_weaker}
+use Rattle.graph_reader.proofs.ElementPlaces.{Each-weaker}
+use Rattle.gen_graph.proofs.TreeTexts.{AreSmall}
 use Rattle.gen_graph.proofs.NumbersBack.{spelled_back}
-use Rattle.gen_graph.proofs.Listed.{same_bytes, other_bytes, IsCalled, kept, children_are, pair_both, pair_perhaps, each_perhaps, two_both, two_perhaps}
+use Rattle.gen_graph.proofs.Listed.{IsCalled, kept, children_are, pair_both, pair_perhaps, each_perhaps, two_both, two_perhaps}
 
 -- ---- what is read
 
@@ -98,14 +101,14 @@ pub record IsFrom (i : ℕ) (p : Port) : Type 0 where
 
 ports_at_from : (a i : ℕ) (c : ChannelRow) → i < 256 → Each (IsFrom i) (ports_at a i c)
 ports_at_from a i c lt =
-    each_both (IsFrom i) _ _ (each_perhaps (IsFrom i) (c.source == a) (port_read Out i c.made) (λ e. record { direction = Out; number = i; from = omega arith; few = lt; name = refl }))
+    each-append (IsFrom i) _ _ (each_perhaps (IsFrom i) (c.source == a) (port_read Out i c.made) (λ e. record { direction = Out; number = i; from = omega arith; few = lt; name = refl }))
     (each_perhaps (IsFrom i) (c.target == a) (port_read In i c.taken) (λ e. record { direction = In; number = i; from = omega arith; few = lt; name = refl }))
 
 ports_from_on : (a i : ℕ) (cs : List ChannelRow) → i + length cs ≤ 256 → Each (IsFrom i) (ports_read a i cs)
 ports_from_on a i [] few = tt
 ports_from_on a i (c ∷ cs) few =
-    each_both (IsFrom i) (ports_at a i c) (ports_read a (i + 1) cs) (ports_at_from a i c (omega arith))
-    (each_weaker (IsFrom (i + 1)) (IsFrom i) (λ p is. record { direction = is.direction; number = is.number; from = omega (arith, is.from); few = is.few; name = is.name }) (ports_read a (i + 1) cs) (ports_from_on a (i + 1) cs (omega arith)))
+    each-append (IsFrom i) (ports_at a i c) (ports_read a (i + 1) cs) (ports_at_from a i c (omega arith))
+    (Each-weaker (IsFrom (i + 1)) (IsFrom i) (ports_read a (i + 1) cs) (ports_from_on a (i + 1) cs (omega arith)) (λ p is. record { direction = is.direction; number = is.number; from = omega (arith, is.from); few = is.few; name = is.name }))
 
 abbrev pub Differ : Port → Port → Type 0
 Differ p q = p.name ≢ q.name
@@ -126,7 +129,7 @@ ports_differ a i [] few = tt
 ports_differ a i (c ∷ cs) few =
     let later = ports_from_on a (i + 1) cs (omega arith) in
     two_both Differ (ports_at a i c) (ports_read a (i + 1) cs) (ports_at_differ a i c (omega arith)) (ports_differ a (i + 1) cs (omega arith))
-    (each_both (λ p. Each (Differ p) (ports_read a (i + 1) cs)) _ _
+    (each-append (λ p. Each (Differ p) (ports_read a (i + 1) cs)) _ _
     (each_perhaps (λ p. Each (Differ p) (ports_read a (i + 1) cs)) (c.source == a) (port_read Out i c.made) (λ e. later_differ Out i c.made (omega arith) _ later))
     (each_perhaps (λ p. Each (Differ p) (ports_read a (i + 1) cs)) (c.target == a) (port_read In i c.taken) (λ e. later_differ In i c.taken (omega arith) _ later)))
 
@@ -170,8 +173,8 @@ ports_called : (a i : ℕ) (cs : List ChannelRow) → Each (IsCalled (codes "por
 unfolding ports_on port_node
 ports_called a i [] = tt
 ports_called a i (c ∷ cs) =
-    each_both (IsCalled (codes "port") true) _ _
-    (each_both (IsCalled (codes "port") true) _ _ (each_perhaps (IsCalled (codes "port") true) (c.source == a) (port_node Out i c.made) (λ e. refl)) (each_perhaps (IsCalled (codes "port") true) (c.target == a) (port_node In i c.taken) (λ e. refl)))
+    each-append (IsCalled (codes "port") true) _ _
+    (each-append (IsCalled (codes "port") true) _ _ (each_perhaps (IsCalled (codes "port") true) (c.source == a) (port_node Out i c.made) (λ e. refl)) (each_perhaps (IsCalled (codes "port") true) (c.target == a) (port_node In i c.taken) (λ e. refl)))
     (ports_called a (i + 1) cs)
 
 -- ---- actors
@@ -211,7 +214,7 @@ numbered_back cs a (row ∷ rows) zero lt two =
     rw (same_bytes row.name) (ap (λ n. Some (n, actor_read cs n row)) place)
 numbered_back cs a (row ∷ rows) (suc s) lt two =
     let place : a + 1 + s ≡ a + suc s = omega arith in
-    let other = other_bytes row.name (get_or rows s no_actor).name (each_at (λ (r : ActorRow). row.name ≢ r.name) rows s two.0 (omega arith)) in
+    let other = bytes_differ row.name (get_or rows s no_actor).name (each_at (λ (r : ActorRow). row.name ≢ r.name) rows s two.0 (omega arith)) in
     rw other (numbered_back cs (a + 1) rows s (omega arith) two.1 ∙ ap (λ n. Some (n, actor_read cs n (get_or rows s no_actor))) place)
   where
     each_at : (P : ActorRow → Type 0) (rows : List ActorRow) (s : ℕ) → Each P rows → s < length rows → P (get_or rows s no_actor)

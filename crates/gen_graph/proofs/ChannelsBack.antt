@@ -5,7 +5,9 @@ use Rattle.std.specs.List.{find}
 use Rattle.std.proofs.lemmas.Bool.{eq-eqb}
 use Rattle.sd_base.specs.declared.tables.ActorRow.{ActorRow}
 use Rattle.sd_base.specs.declared.tables.ChannelRow.{ChannelRow}
+use Rattle.sd_base.proofs.Truths.{same_bytes, bytes_differ}
 use Rattle.file_text.specs.Grammar.{Each}
+use Rattle.file_text.proofs.Names.{each-append}
 use Rattle.graph_reader.specs.declared.field.Field.TheVariants as field
 use Rattle.graph_reader.specs.declared.actors.Direction.TheVariants as read
 use Rattle.graph_reader.specs.declared.actors.Port.{Port}
@@ -17,9 +19,8 @@ use Rattle.gen_graph.specs.declared.direction.Direction.{Direction}
 use Rattle.gen_graph.specs.declared.direction.Direction.TheVariants.{Out, In}
 use Rattle.gen_graph.specs.GraphTrees.{port_name, no_actor, channel_node, channel_nodes}
 use Rattle.graph_reader.specs.WritableNames.{IsWritableName}
-use Rattle.gen_graph.proofs.TreeTexts.{each_both}
 use Rattle.gen_graph.proofs.NumbersBack.{number_back}
-use Rattle.gen_graph.proofs.Listed.{same_bytes, other_bytes, each_perhaps, find_skip, find_here}
+use Rattle.gen_graph.proofs.Listed.{each_perhaps, find_skip, find_here}
 use Rattle.gen_graph.proofs.ActorsBack.{actor_read, actors_read, as_read, channel_read, channels_read, end_read, numbered_back, port_read, ports_at, ports_read, same_place}
 
 -- ---- channels
@@ -37,7 +38,7 @@ own_port Out i rates = rw (same_bytes (port_name Out i)) refl
 own_port In i rates = rw (same_bytes (port_name In i)) refl
 
 opposite_port : (i : ℕ) (rates : List ℕ) → i < 256 → is_port (as_read In) (port_name In i) (port_read Out i rates) ≡ false
-opposite_port i rates lt = rw (other_bytes (port_name Out i) (port_name In i) (λ e. let no = same_place Out In i i lt lt e in cc (no.0))) refl
+opposite_port i rates lt = rw (bytes_differ (port_name Out i) (port_name In i) (λ e. let no = same_place Out In i i lt lt e in cc (no.0))) refl
 
 here_found : (d : Direction) (a i : ℕ) (c : ChannelRow) (rest : List Port) → i < 256 → at_end d c == a ≡ true → find (is_port (as_read d) (port_name d i)) (ports_at a i c ++ rest) ≡ Some (port_read d i (rates_at d c))
 here_found Out a i c rest lt is = rw is (find_here (is_port read.Out (port_name Out i)) (port_read Out i c.made) _ (own_port Out i c.made))
@@ -49,11 +50,11 @@ here_found In a i c rest lt is = rw is (past (c.source == a))
 
 -- the ports on a channel have no name with a later number
 earlier : (d e : Direction) (i j : ℕ) (rates : List ℕ) → i < j → j < 256 → is_port (as_read d) (port_name d j) (port_read e i rates) ≡ false
-earlier d e i j rates lt few = rw (other_bytes (port_name e i) (port_name d j) (λ same. let no = same_place e d i j (omega arith) few same in omega (arith, no.1))) refl
+earlier d e i j rates lt few = rw (bytes_differ (port_name e i) (port_name d j) (λ same. let no = same_place e d i j (omega arith) few same in omega (arith, no.1))) refl
 
 skipped : (d : Direction) (a i j : ℕ) (c : ChannelRow) → i < j → j < 256 → Each (λ p. is_port (as_read d) (port_name d j) p ≡ false) (ports_at a i c)
 skipped d a i j c lt few =
-    each_both (λ p. is_port (as_read d) (port_name d j) p ≡ false) _ _
+    each-append (λ p. is_port (as_read d) (port_name d j) p ≡ false) _ _
     (each_perhaps (λ p. is_port (as_read d) (port_name d j) p ≡ false) (c.source == a) (port_read Out i c.made) (λ e. earlier d Out i j c.made lt few))
     (each_perhaps (λ p. is_port (as_read d) (port_name d j) p ≡ false) (c.target == a) (port_read In i c.taken) (λ e. earlier d In i j c.taken lt few))
 
@@ -137,7 +138,7 @@ module _ (all : List ChannelRow) (rows : List ActorRow) (few : length all ≤ 25
 -- ---- channels differ
 
 no_same : (x : Bool) (p q : List ℕ) → p ≢ q → (x && bytes_eq p q) ≡ false
-no_same true p q differ = other_bytes p q differ
+no_same true p q differ = bytes_differ p q differ
 no_same false p q differ = refl
 
 later_apart : (i : ℕ) (c : ChannelRow) (j : ℕ) (cs : List ChannelRow) → i < j → j + length cs ≤ 256 → Each (λ (d : ChannelRow). c.name ≢ d.name) cs → Each (AreApart (channel_read i c)) (channels_read j cs)

@@ -1,12 +1,10 @@
 -- The written text of an element spells it.
-use Rattle.std.proofs.Common.{◌≡◌, ◌≢◌, ℕ, ◌≤◌, Bool, true, false, ◌&&◌, List, [], ◌∷◌, ◌++◌, inl, inr, refl, sym, ap, ◌∙◌, arith}
+use Rattle.std.proofs.Common.{◌≡◌, ℕ, ◌≤◌, Bool, true, false, ◌&&◌, List, [], ◌∷◌, ◌++◌, inl, inr, refl, sym, ap, ◌∙◌, arith}
 use Rattle.std.specs.Prelude.{IsTrue, codes}
-use Rattle.std.specs.Str.{IsUtf8, bytes_eq}
+use Rattle.std.specs.Str.{IsUtf8}
 use Rattle.std.specs.List.{list_all}
 use Rattle.std.proofs.lemmas.List.{append_assoc, append-nil}
 use Rattle.std.proofs.lemmas.Bool.{and_parts}
-use Rattle.std.proofs.lemmas.Bool.Decides.{not_from_Decides}
-use Rattle.std.proofs.lemmas.Slice.Eq.{bytes_eq-Decides}
 use Rattle.std.proofs.lemmas.Str.{IsUtf8-append, IsUtf8-nil}
 use Rattle.file_text.specs.declared.tree.Attribute.{Attribute}
 use Rattle.file_text.specs.Node.{Node, node, Nodes, no_node, node_then, nodes, depth, depths}
@@ -46,9 +44,6 @@ character_bytes (b ∷ bs) e = let both = and_parts (is_character b) (list_all i
 
 pub good_word : (t : List ℕ) → list_all is_character t ≡ true → is_ascii t ≡ true → IsGoodValue t
 good_word t e ascii = (character_bytes t e, ascii_utf8 t ascii)
-
-pub differ : (a b : List ℕ) → bytes_eq a b ≡ false → a ≢ b
-differ a b e = not_from_Decides (bytes_eq a b) (bytes_eq-Decides a b) e
 
 -- ---- attributes
 

@@ -1,26 +1,19 @@
 -- Elements of a written tree, found again by their names; what is read of each.
-use Rattle.std.proofs.Common.{◌≡◌, ◌≢◌, ℕ, suc, ◌+◌, ◌<◌, ◌≤◌, Bool, true, false, cond, List, [], ◌∷◌, ◌++◌, length, get_or, Some, refl, sym, ap, ◌∙◌, subst, arith}
+use Rattle.std.proofs.Common.{◌≡◌, ℕ, suc, ◌+◌, ◌<◌, ◌≤◌, Bool, true, false, cond, List, [], ◌∷◌, ◌++◌, length, get_or, Some, refl, sym, ap, ◌∙◌, subst, arith}
 use Rattle.std.specs.Str.{bytes_eq}
 use Rattle.std.specs.List.{AllPairs, find}
-use Rattle.std.proofs.lemmas.Bool.{false_from_ne_true}
 use Rattle.std.proofs.lemmas.List.{append-nil}
 use Rattle.std.proofs.lemmas.List.Elements.{filter-append}
-use Rattle.std.proofs.lemmas.Slice.Eq.{bytes_eq-Decides}
 use Rattle.file_text.specs.declared.tree.Attribute.{Attribute}
 use Rattle.file_text.specs.Node.{Node, name_of}
 use Rattle.file_text.specs.Grammar.{Each}
+use Rattle.file_text.proofs.Names.{each-append}
 use Rattle.graph_reader.specs.TreeSteps.{children, named}
 use Rattle.graph_reader.specs.Spelled.{Pairwise, EachTwo}
 use Rattle.graph_reader.proofs.Trees.{list_of_nodes}
 use Rattle.gen_graph.specs.GraphTrees.{element}
 
 -- ---- texts
-
-pub same_bytes : (a : List ℕ) → bytes_eq a a ≡ true
-same_bytes a = (bytes_eq-Decides a a).1 refl
-
-pub other_bytes : (a b : List ℕ) → a ≢ b → bytes_eq a b ≡ false
-other_bytes a b differ = false_from_ne_true (bytes_eq a b) (λ e. differ ((bytes_eq-Decides a b).0 e))
 
 -- ---- names of elements
 
@@ -65,11 +58,7 @@ each_perhaps P false x is = tt
 
 pub two_both : {X : Type 0} (R : X → X → Type 0) (xs ys : List X) → EachTwo R xs → EachTwo R ys → Each (λ x. Each (R x) ys) xs → EachTwo R (xs ++ ys)
 two_both R [] ys first rest across = rest
-two_both R (x ∷ xs) ys first rest across = (both (R x) xs ys first.0 across.0, two_both R xs ys first.1 rest across.1)
-  where
-    both : {X : Type 0} (P : X → Type 0) (xs ys : List X) → Each P xs → Each P ys → Each P (xs ++ ys)
-    both P [] ys first rest = rest
-    both P (x ∷ xs) ys first rest = (first.0, both P xs ys first.1 rest)
+two_both R (x ∷ xs) ys first rest across = (each-append (R x) xs ys first.0 across.0, two_both R xs ys first.1 rest across.1)
 
 pub two_perhaps : {X : Type 0} (R : X → X → Type 0) (b : Bool) (x : X) → EachTwo R (cond b (x ∷ []) [])
 two_perhaps R true x = (tt, tt)

@@ -5,16 +5,17 @@ use Rattle.std.specs.Char.{is_ascii_digit}
 use Rattle.std.specs.Fmt.{decimal}
 use Rattle.std.specs.List.{All, fold, take_while, slice_split, position_or_len, flat_map}
 use Rattle.std.proofs.lemmas.Bool.{and_from, le-leb, lt-ltb, ne_eqb, le-ltb}
-use Rattle.std.proofs.lemmas.Fmt.{decimal_by_steps}
+use Rattle.std.proofs.lemmas.Fmt.{decimal_by_steps, decimal_nonempty}
 use Rattle.std.proofs.lemmas.List.{append-nil}
 use Rattle.std.proofs.lemmas.List.Elements.{All-nil, All-cons}
 use Rattle.std.proofs.lemmas.List.Sums.{take_while-cons, position_or_len_is}
 use Rattle.std.proofs.lemmas.List.Splits.{slice_split_none, slice_split_at}
 use Rattle.sd_base.specs.declared.tables.Kind.{Kind}
 use Rattle.sd_base.specs.declared.tables.Kind.TheVariants.{Sdf, Csdf}
+use Rattle.sd_base.specs.Numbers.{with_digit}
 use Rattle.file_text.specs.Grammar.{Each, is_white}
 use Rattle.graph_reader.specs.declared.numbers.Item.{Item}
-use Rattle.graph_reader.specs.NumberTexts.{with_digit, value, drop_while, number_in, item_in, items_of, items_in, numbers_of}
+use Rattle.graph_reader.specs.NumberTexts.{value, drop_while, number_in, item_in, items_of, items_in, numbers_of}
 use Rattle.graph_reader.specs.Spelled.{Spells}
 use Rattle.gen_graph.specs.GraphTrees.{numbers_text}
 use Rattle.gen_graph.proofs.TreeTexts.{IsDigit, digits_of, AreSmall}
@@ -58,15 +59,8 @@ read_list : (ds : List ℕ) → Each IsDigit ds → 1 ≤ length ds → number_i
 read_list [] are some = absurd (omega (arith, some))
 read_list (d ∷ ds) are some = read_digits d ds are
 
-some_digit : (n : ℕ) → n < 2 ^ 64 → 1 ≤ length (decimal n)
-some_digit n small = decimal_by_steps (λ k ds. 1 ≤ length ds) (λ k lt. omega arith) (λ k ds le some. longer ds (48 + k % 10)) n small
-  where
-    longer : (ds : List ℕ) (d : ℕ) → 1 ≤ length (ds ++ d ∷ [])
-    longer [] d = omega arith
-    longer (e ∷ ds) d = omega arith
-
 pub number_back : (n : ℕ) → n < 2 ^ 64 → number_in (decimal n) ≡ Some n
-number_back n small = read_list (decimal n) (digits_of n small) (some_digit n small) ∙ ap (λ (k : ℕ). Some k) (digits_value n small)
+number_back n small = read_list (decimal n) (digits_of n small) (decimal_nonempty n small) ∙ ap (λ (k : ℕ). Some k) (digits_value n small)
 
 -- ---- lists
 

@@ -1,18 +1,13 @@
 -- One more element of what is made of a list from its front.
-use Rattle.std.proofs.Common.{◌≡◌, ℕ, suc, ◌+◌, ◌-◌, ◌<◌, ◌≤◌, List, [], ◌∷◌, ◌++◌, length, take, drop, get_or, refl, sym, ap, ◌∙◌, add-one, arith}
+use Rattle.std.proofs.Common.{◌≡◌, ℕ, suc, ◌+◌, ◌-◌, ◌<◌, ◌≤◌, List, [], ◌∷◌, ◌++◌, length, drop, get_or, refl, sym, ap, ◌∙◌, add-one, arith}
 use Rattle.std.proofs.Math.Seq.{drop-cons}
-use Rattle.std.proofs.lemmas.List.{append_assoc, append-nil, drop_all, flat_map_more, take_more, take_all}
-use Rattle.std.specs.List.{flat_map}
+use Rattle.std.proofs.lemmas.List.{append_assoc, append-nil, drop_all}
 use Rattle.file_text.specs.Node.{Node, nodes}
 use Rattle.sd_base.specs.declared.tables.ChannelRow.{ChannelRow}
+use Rattle.sd_base.proofs.Lists.{piece_next}
 use Rattle.gen_graph.specs.declared.made.Drawn.{Drawn}
 use Rattle.gen_graph.specs.MadeGraphs.{next, drawn_after, drawn_for, made_channel, made_channels}
 use Rattle.gen_graph.specs.NodeTexts.{element_text, elements_text}
-
--- a piece more is made and a piece less is left
-pub piece_next : {E : Type 0} (done piece left rest whole new : List E) → left ≡ piece ++ rest → done ++ left ≡ whole → new ≡ done ++ piece → new ++ rest ≡ whole
-piece_next done piece left rest whole new split kept is =
-    ap (λ l. l ++ rest) is ∙ append_assoc done piece rest ∙ ap (λ l. done ++ l) (sym split) ∙ kept
 
 -- for each element, by its place
 pub place_next : {R E : Type 0} (make : ℕ → List R → List E) (piece : ℕ → R → List E) (first : (i : ℕ) (r : R) (rs : List R) → make i (r ∷ rs) ≡ piece i r ++ make (i + 1) rs)
@@ -56,15 +51,6 @@ channels_next rest i v d row done new whole lt is kept here =
 
 pub channels_end : (rest : List Drawn) (i v : ℕ) (done whole : List ChannelRow) → length rest ≤ i → done ++ made_channels i v (drop i rest) ≡ whole → done ≡ whole
 channels_end rest i v done whole past kept = sym (append-nil done) ∙ (ap (λ l. done ++ l) (sym (ap (made_channels i v) (drop_all i rest past))) ∙ kept)
-
--- a number more after a comma
-pub flat_next : {X : Type 0} (f : X → List ℕ) (start text new : List ℕ) (xs : List X) (i : ℕ) (d : X) → i < length xs → text ≡ start ++ flat_map f (take i xs)
-    → new ≡ text ++ f (get_or xs i d) → new ≡ start ++ flat_map f (take (i + 1) xs)
-flat_next f start text new xs i d h kept is =
-    is ∙ (ap (λ (l : List ℕ). l ++ f (get_or xs i d)) kept ∙ (flat_map_more f start (take i xs) (get_or xs i d) ∙ ap (λ ys. start ++ flat_map f ys) (sym (take_more xs i d h))))
-
-pub flat_end : {X : Type 0} (f : X → List ℕ) (start text : List ℕ) (xs : List X) (i : ℕ) → length xs ≤ i → text ≡ start ++ flat_map f (take i xs) → text ≡ start ++ flat_map f xs
-flat_end f start text xs i past kept = kept ∙ ap (λ ys. start ++ flat_map f ys) (take_all i xs past)
 
 -- an element that is put piece by piece
 pub tag_one : (old first second third word a inside : List ℕ) → first ≡ old ++ 60 ∷ word → second ≡ first ++ a → third ≡ second ++ inside → third ≡ old ++ 60 ∷ (word ++ ((a ++ []) ++ inside))

@@ -7,13 +7,13 @@ use Rattle.std.proofs.lemmas.List.Elements.{All-nil, All-cons}
 use Rattle.sd_base.specs.declared.tables.ActorRow.{ActorRow}
 use Rattle.sd_base.specs.declared.tables.ChannelRow.{ChannelRow}
 use Rattle.file_text.specs.Grammar.{Each}
+use Rattle.file_text.proofs.Names.{each-append}
 use Rattle.graph_reader.specs.declared.actors.Port.{Port}
 use Rattle.graph_reader.specs.declared.properties.TimeEntry.{TimeEntry}
 use Rattle.graph_reader.specs.declared.properties.SizeEntry.{SizeEntry}
 use Rattle.graph_reader.specs.Sections.{times_at, size_at, longest, lists_of, phases_in, widened, actor_row, channel_row}
 use Rattle.graph_reader.specs.Spelled.{IsEven}
 use Rattle.gen_graph.specs.declared.direction.Direction.TheVariants.{Out, In}
-use Rattle.gen_graph.proofs.TreeTexts.{each_both}
 use Rattle.gen_graph.proofs.Listed.{each_perhaps}
 use Rattle.gen_graph.proofs.ActorsBack.{actor_read, actors_read, channel_read, channels_read, port_read, ports_at, ports_read}
 use Rattle.gen_graph.proofs.TimesBack.{HasTimes}
@@ -47,8 +47,8 @@ HasPhases a p c = (c.source ≡ a → length c.made ≡ p) × (c.target ≡ a �
 ports_long : (a i p : ℕ) (cs : List ChannelRow) → Each (HasPhases a p) cs → Each (λ (q : Port). length q.rates ≡ p) (ports_read a i cs)
 ports_long a i p [] have = tt
 ports_long a i p (c ∷ cs) have =
-    each_both (λ (q : Port). length q.rates ≡ p) (ports_at a i c) (ports_read a (i + 1) cs)
-    (each_both (λ (q : Port). length q.rates ≡ p) _ _ (each_perhaps (λ (q : Port). length q.rates ≡ p) (c.source == a) (port_read Out i c.made) (λ e. have.0.0 (eqb-true c.source a e)))
+    each-append (λ (q : Port). length q.rates ≡ p) (ports_at a i c) (ports_read a (i + 1) cs)
+    (each-append (λ (q : Port). length q.rates ≡ p) _ _ (each_perhaps (λ (q : Port). length q.rates ≡ p) (c.source == a) (port_read Out i c.made) (λ e. have.0.0 (eqb-true c.source a e)))
     (each_perhaps (λ (q : Port). length q.rates ≡ p) (c.target == a) (port_read In i c.taken) (λ e. have.0.1 (eqb-true c.target a e))))
     (ports_long a (i + 1) p cs have.1)
 

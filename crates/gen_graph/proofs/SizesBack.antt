@@ -2,6 +2,7 @@
 use Rattle.std.proofs.Common.{◌≡◌, ◌≢◌, ℕ, zero, suc, ◌+◌, ◌≤◌, List, [], ◌∷◌, map, refl, arith}
 use Rattle.std.proofs.lemmas.Bool.{ne_eqb}
 use Rattle.sd_base.specs.declared.tables.ChannelRow.{ChannelRow}
+use Rattle.sd_base.proofs.Truths.{same_bytes, bytes_differ}
 use Rattle.file_text.specs.Grammar.{Each}
 use Rattle.graph_reader.specs.declared.channels.Channel.{Channel}
 use Rattle.graph_reader.specs.declared.properties.SizeEntry.{SizeEntry}
@@ -9,10 +10,9 @@ use Rattle.graph_reader.specs.Field.{word_of}
 use Rattle.graph_reader.specs.TreeSteps
 use Rattle.graph_reader.specs.Sections.{size_text, some_size, size_at}
 use Rattle.graph_reader.specs.Spelled.{Pairwise, EachTwo, IsSizeEntry}
+use Rattle.graph_reader.proofs.ElementPlaces.{Each-weaker}
 use Rattle.gen_graph.specs.GraphTrees.{size_node}
-use Rattle.gen_graph.proofs.TreeTexts.{each_weaker}
 use Rattle.gen_graph.proofs.NumbersBack.{number_back}
-use Rattle.gen_graph.proofs.Listed.{same_bytes, other_bytes}
 use Rattle.gen_graph.proofs.ActorsBack.{channels_read}
 
 -- ---- sizes
@@ -25,7 +25,7 @@ IsKnownChannel channels row = Each (λ (c : Channel). c.name ≢ row.name) chann
 
 pub all_channels_known : (i : ℕ) (cs : List ChannelRow) → Each (IsKnownChannel (channels_read i cs)) cs
 all_channels_known i [] = tt
-all_channels_known i (c ∷ cs) = ((λ none. none.0 refl), each_weaker (IsKnownChannel (channels_read (i + 1) cs)) (IsKnownChannel (channels_read i (c ∷ cs))) (λ r known none. known none.1) cs (all_channels_known (i + 1) cs))
+all_channels_known i (c ∷ cs) = ((λ none. none.0 refl), Each-weaker (IsKnownChannel (channels_read (i + 1) cs)) (IsKnownChannel (channels_read i (c ∷ cs))) cs (all_channels_known (i + 1) cs) (λ r known none. known none.1))
 
 abbrev pub IsSized : ChannelRow → Type 0
 IsSized c = (1 ≤ c.size) × (c.size ≤ 1000000)
@@ -59,7 +59,7 @@ HasSize entries c = size_at entries c.name ≡ c.size
 
 still_sized : (c : ChannelRow) (rest : List SizeEntry) (cs : List ChannelRow) → Each (λ (d : ChannelRow). c.name ≢ d.name) cs → Each (HasSize rest) cs → Each (HasSize (size_read c ∷ rest)) cs
 still_sized c rest [] differ have = tt
-still_sized c rest (d ∷ cs) differ have = (rw (other_bytes c.name d.name differ.0) have.0, still_sized c rest cs differ.1 have.1)
+still_sized c rest (d ∷ cs) differ have = (rw (bytes_differ c.name d.name differ.0) have.0, still_sized c rest cs differ.1 have.1)
 
 pub sizes_found : (cs : List ChannelRow) → EachTwo (λ (c d : ChannelRow). c.name ≢ d.name) cs → Each (HasSize (map size_read cs)) cs
 sizes_found [] two = tt

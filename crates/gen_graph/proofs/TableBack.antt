@@ -12,6 +12,7 @@ use Rattle.sd_base.specs.declared.tables.ChannelRow.{ChannelRow}
 use Rattle.sd_base.specs.Tables.{KeepsRules, ActorKeepsRules, ChannelKeepsRules, PortKeepsRules, IsTimed, phases_of}
 use Rattle.file_text.specs.Node.{Node}
 use Rattle.file_text.specs.Grammar.{Each}
+use Rattle.file_text.proofs.Names.{each-append}
 use Rattle.graph_reader.specs.declared.field.Field.TheVariants as field
 use Rattle.graph_reader.specs.declared.actors.Actor.{Actor}
 use Rattle.graph_reader.specs.declared.channels.Channel.{Channel}
@@ -25,7 +26,7 @@ use Rattle.graph_reader.proofs.Again
 use Rattle.gen_graph.specs.GraphTrees.{actor_node, actor_nodes, no_actor, channel_node, channel_nodes, times_node, times_of, times_nodes, size_node, kind_word, properties_word, section_node, properties_node, application_node, graph_tree, written}
 use Rattle.graph_reader.specs.WritableNames.{IsWritableName}
 use Rattle.gen_graph.specs.Writable.{IsWritable}
-use Rattle.gen_graph.proofs.TreeTexts.{AreSmall, each_both, each_from_All, phases_count, spelled_text}
+use Rattle.gen_graph.proofs.TreeTexts.{AreSmall, each_from_All, phases_count, spelled_text}
 use Rattle.gen_graph.proofs.Listed.{IsCalled, children_are, first_kept, second_kept, two_from_pairs}
 use Rattle.gen_graph.proofs.ActorsBack.{AreRates, IsRated, actors_back, actors_long, actors_read, channels_read, few_ports, two_names_read}
 use Rattle.gen_graph.proofs.ChannelsBack.{IsJoined, channels_apart, channels_back, channels_long}
@@ -139,7 +140,7 @@ channels_called word b is rows i (c ∷ cs) = (is, channels_called word b is row
 times_called : (word : List ℕ) (b : Bool) → bytes_eq (codes "actorProperties") word ≡ b → (rows : List ActorRow) → Each (IsCalled word b) (times_nodes rows)
 unfolding times_node
 times_called word b is [] = tt
-times_called word b is (row ∷ rows) = each_both (IsCalled word b) (times_of row.name row.times) (times_nodes rows) (one_called row.name row.times) (times_called word b is rows)
+times_called word b is (row ∷ rows) = each-append (IsCalled word b) (times_of row.name row.times) (times_nodes rows) (one_called row.name row.times) (times_called word b is rows)
   where
     one_called : (name ts : List ℕ) → Each (IsCalled word b) (times_of name ts)
     one_called name [] = tt

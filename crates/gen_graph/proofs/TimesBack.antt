@@ -9,7 +9,9 @@ use Rattle.sd_base.specs.declared.tables.Kind.TheVariants.{Sdf}
 use Rattle.sd_base.specs.declared.tables.ActorRow.{ActorRow}
 use Rattle.sd_base.specs.declared.tables.ChannelRow.{ChannelRow}
 use Rattle.sd_base.specs.Tables.{ActorKeepsRules}
+use Rattle.sd_base.proofs.Truths.{same_bytes, bytes_differ}
 use Rattle.file_text.specs.Grammar.{Each}
+use Rattle.file_text.proofs.Names.{each-append}
 use Rattle.graph_reader.specs.declared.field.Field.TheVariants as field
 use Rattle.graph_reader.specs.declared.actors.Actor.{Actor}
 use Rattle.graph_reader.specs.declared.properties.TimeEntry.{TimeEntry}
@@ -17,10 +19,11 @@ use Rattle.graph_reader.specs.Field.{word_of}
 use Rattle.graph_reader.specs.TreeSteps
 use Rattle.graph_reader.specs.Sections.{execution_of, counting_processor, is_default, times_at}
 use Rattle.graph_reader.specs.Spelled.{Pairwise, EachTwo, HasNumbers, IsTimeEntry}
+use Rattle.graph_reader.proofs.ElementPlaces.{Each-weaker}
 use Rattle.gen_graph.specs.GraphTrees.{numbers_text, ports_on, actor_node, actor_nodes, no_actor, channel_node, channel_nodes, processor_node, times_node, times_of, times_nodes, size_node, kind_word, properties_word, section_node, properties_node, application_node, graph_tree, written}
-use Rattle.gen_graph.proofs.TreeTexts.{each_both, each_weaker, times_small}
+use Rattle.gen_graph.proofs.TreeTexts.{times_small}
 use Rattle.gen_graph.proofs.NumbersBack.{spelled_back}
-use Rattle.gen_graph.proofs.Listed.{same_bytes, other_bytes, pair_both}
+use Rattle.gen_graph.proofs.Listed.{pair_both}
 use Rattle.gen_graph.proofs.ActorsBack.{actors_read}
 
 -- ---- times
@@ -39,7 +42,7 @@ IsKnown actors row = Each (λ (a : Actor). a.name ≢ row.name) actors → ⊥
 
 pub all_known : (cs : List ChannelRow) (a : ℕ) (rows : List ActorRow) → Each (IsKnown (actors_read cs a rows)) rows
 all_known cs a [] = tt
-all_known cs a (row ∷ rows) = ((λ none. none.0 refl), each_weaker (IsKnown (actors_read cs (a + 1) rows)) (IsKnown (actors_read cs a (row ∷ rows))) (λ r known none. known none.1) rows (all_known cs (a + 1) rows))
+all_known cs a (row ∷ rows) = ((λ none. none.0 refl), Each-weaker (IsKnown (actors_read cs (a + 1) rows)) (IsKnown (actors_read cs a (row ∷ rows))) rows (all_known cs (a + 1) rows) (λ r known none. known none.1))
 
 -- times that an actor has
 times_numbers : (k : Kind) (phases t : ℕ) (ts : List ℕ) → length (t ∷ ts) ≡ phases → phases ≤ 4096 → (k ≡ Sdf → phases ≡ 1) → All (λ t. (1 ≤ t) × (t ≤ 1000000000)) (t ∷ ts)
@@ -81,7 +84,7 @@ entry_named P name (t ∷ ts) is = (is, tt)
 
 entries_named : (P : List ℕ → Type 0) (rows : List ActorRow) → Each (λ (r : ActorRow). P r.name) rows → Each (λ (t : TimeEntry). P t.actor) (times_read rows)
 entries_named P [] each = tt
-entries_named P (row ∷ rows) each = each_both (λ (t : TimeEntry). P t.actor) (time_read row.name row.times) (times_read rows) (entry_named P row.name row.times each.0) (entries_named P rows each.1)
+entries_named P (row ∷ rows) each = each-append (λ (t : TimeEntry). P t.actor) (time_read row.name row.times) (times_read rows) (entry_named P row.name row.times each.0) (entries_named P rows each.1)
 
 abbrev OtherActor : TimeEntry → TimeEntry → Type 0
 OtherActor s t = s.actor ≢ t.actor
@@ -97,7 +100,7 @@ times_apart (row ∷ rows) two = entry_apart row.name row.times (times_read rows
 -- the times that are read for an actor
 not_there : (name : List ℕ) (entries : List TimeEntry) → Each (λ (t : TimeEntry). name ≢ t.actor) entries → times_at entries name ≡ []
 not_there name [] differ = refl
-not_there name (t ∷ ts) differ = rw (other_bytes t.actor name (λ e. differ.0 (sym e))) (not_there name ts differ.1)
+not_there name (t ∷ ts) differ = rw (bytes_differ t.actor name (λ e. differ.0 (sym e))) (not_there name ts differ.1)
 
 entry_here : (name ts : List ℕ) (rest : List TimeEntry) → Each (λ (t : TimeEntry). name ≢ t.actor) rest → times_at (time_read name ts ++ rest) name ≡ ts
 entry_here name [] rest differ = not_there name rest differ
@@ -105,7 +108,7 @@ entry_here name (t ∷ ts) rest differ = rw (same_bytes name) refl
 
 entry_past : (name other ts : List ℕ) (rest : List TimeEntry) → other ≢ name → times_at (time_read other ts ++ rest) name ≡ times_at rest name
 entry_past name other [] rest differ = refl
-entry_past name other (t ∷ ts) rest differ = rw (other_bytes other name differ) refl
+entry_past name other (t ∷ ts) rest differ = rw (bytes_differ other name differ) refl
 
 abbrev pub HasTimes : List TimeEntry → ActorRow → Type 0
 HasTimes entries row = times_at entries row.name ≡ row.times

@@ -14,31 +14,26 @@ use Rattle.sd_base.specs.declared.tables.GraphFile.{GraphFile}
 use Rattle.sd_base.specs.declared.tables.ActorRow.{ActorRow}
 use Rattle.sd_base.specs.declared.tables.ChannelRow.{ChannelRow}
 use Rattle.sd_base.specs.Tables.{KeepsRules, ActorKeepsRules, ChannelKeepsRules, phases_of}
+use Rattle.sd_base.proofs.Truths.{bytes_other}
 use Rattle.file_text.specs.declared.tree.Attribute.{Attribute}
 use Rattle.file_text.specs.Node.{Node}
 use Rattle.file_text.specs.Grammar.{Each, byte, items_text, items_value, is_character, is_plain, IsQuoted, AreDistinct, IsAttribute, IsDeclaration, IsProlog, IsText}
+use Rattle.file_text.proofs.Names.{each-append}
 use Rattle.gen_graph.specs.declared.direction.Direction.{Direction}
 use Rattle.gen_graph.specs.declared.direction.Direction.TheVariants.{Out, In}
 use Rattle.gen_graph.specs.NodeTexts.{element_text}
 use Rattle.gen_graph.specs.GraphTrees.{attribute, element, leaf, numbers_text, port_name, direction_word, port_node, ports_on, ports_from, actor_node, actor_nodes, no_actor, channel_node, channel_nodes, processor_node, times_node, times_of, times_nodes, size_node, kind_word, properties_word, section_node, properties_node, application_node, graph_tree, written}
 use Rattle.graph_reader.specs.WritableNames.{IsWritableName}
+use Rattle.graph_reader.proofs.ElementPlaces.{Each-weaker}
 use Rattle.gen_graph.specs.Writable.{IsWritable}
 use Rattle.gen_graph.proofs.Values.{ascii_utf8}
-use Rattle.gen_graph.proofs.ElementTexts.{word, IsGoodName, IsGoodValue, IsGoodAttribute, good_word, differ, IsFine, good_nodes, depth_nodes, fine_both, line_of, element_utf8}
+use Rattle.gen_graph.proofs.ElementTexts.{word, IsGoodName, IsGoodValue, IsGoodAttribute, good_word, IsFine, good_nodes, depth_nodes, fine_both, line_of, element_utf8}
 
 -- ---- lists
 
 pub each_from_All : {X : Type 0} (P : X → Type 0) (xs : List X) → All P xs → Each P xs
 each_from_All P [] all = tt
 each_from_All P (x ∷ xs) all = (All-head P x xs all, each_from_All P xs (All-tail P x xs all))
-
-pub each_weaker : {X : Type 0} (P Q : X → Type 0) → ((x : X) → P x → Q x) → (xs : List X) → Each P xs → Each Q xs
-each_weaker P Q weaker [] each = tt
-each_weaker P Q weaker (x ∷ xs) each = (weaker x each.0, each_weaker P Q weaker xs each.1)
-
-pub each_both : {X : Type 0} (P : X → Type 0) (xs ys : List X) → Each P xs → Each P ys → Each P (xs ++ ys)
-each_both P [] ys first rest = rest
-each_both P (x ∷ xs) ys first rest = (first.0, each_both P xs ys first.1 rest)
 
 -- ---- attributes whose names are this project's own
 
@@ -54,7 +49,7 @@ new_from : (name : List ℕ) (given : List Attribute) → is_new name given ≡ 
 new_from name [] e = tt
 new_from name (a ∷ rest) e =
     let both = and_parts (not (bytes_eq a.name name)) (is_new name rest) e in
-    (differ a.name name (not-true (bytes_eq a.name name) both.0), new_from name rest both.1)
+    (bytes_other a.name name (not-true (bytes_eq a.name name) both.0), new_from name rest both.1)
 
 distinct : (given : List Attribute) → is_distinct given ≡ true → AreDistinct given
 distinct [] e = tt
@@ -74,16 +69,16 @@ IsDigit b = (48 ≤ b) × (b ≤ 57)
 pub digits_of : (n : ℕ) → n < 2 ^ 64 → Each IsDigit (decimal n)
 digits_of n small =
     decimal_by_steps (λ k ds. Each IsDigit ds) (λ k lt. ((omega arith, omega arith), tt))
-    (λ k ds le each. each_both IsDigit ds ((48 + k % 10) ∷ []) each ((omega arith, omega arith), tt)) n small
+    (λ k ds le each. each-append IsDigit ds ((48 + k % 10) ∷ []) each ((omega arith, omega arith), tt)) n small
 
 digit_stands : (b : ℕ) → IsDigit b → IsTrue (is_character b)
 digit_stands b is = or_left _ _ (le-leb 32 b (omega (arith, is.0)))
 
 pub number_good : (n : ℕ) → n < 2 ^ 64 → IsGoodValue (decimal n)
-number_good n small = (each_weaker IsDigit (λ b. IsTrue (is_character b)) digit_stands (decimal n) (digits_of n small), IsUtf8-from_ascii (decimal n) (IsAscii-decimal n small))
+number_good n small = (Each-weaker IsDigit (λ b. IsTrue (is_character b)) (decimal n) (digits_of n small) digit_stands, IsUtf8-from_ascii (decimal n) (IsAscii-decimal n small))
 
 pub both_good : (u v : List ℕ) → IsGoodValue u → IsGoodValue v → IsGoodValue (u ++ v)
-both_good u v first rest = (each_both (λ b. IsTrue (is_character b)) u v first.0 rest.0, IsUtf8-append u v first.1 rest.1)
+both_good u v first rest = (each-append (λ b. IsTrue (is_character b)) u v first.0 rest.0, IsUtf8-append u v first.1 rest.1)
 
 abbrev pub AreSmall : List ℕ → Type 0
 AreSmall ns = Each (λ n. n < 2 ^ 64) ns
@@ -245,10 +240,10 @@ tree_fine g few rows channels =
 -- ---- what a table that keeps the rules shows
 
 small_from : (most : ℕ) → most < 2 ^ 64 → (ns : List ℕ) → All (λ n. n ≤ most) ns → AreSmall ns
-small_from most bound ns all = each_weaker (λ n. n ≤ most) (λ n. n < 2 ^ 64) (λ n le. omega arith) ns (each_from_All (λ n. n ≤ most) ns all)
+small_from most bound ns all = Each-weaker (λ n. n ≤ most) (λ n. n < 2 ^ 64) ns (each_from_All (λ n. n ≤ most) ns all) (λ n le. omega arith)
 
 pub times_small : (ns : List ℕ) → All (λ t. (1 ≤ t) × (t ≤ 1000000000)) ns → AreSmall ns
-times_small ns all = each_weaker (λ t. (1 ≤ t) × (t ≤ 1000000000)) (λ n. n < 2 ^ 64) (λ n le. omega (arith, le.1)) ns (each_from_All (λ t. (1 ≤ t) × (t ≤ 1000000000)) ns all)
+times_small ns all = Each-weaker (λ t. (1 ≤ t) × (t ≤ 1000000000)) (λ n. n < 2 ^ 64) ns (each_from_All (λ t. (1 ≤ t) × (t ≤ 1000000000)) ns all) (λ n le. omega (arith, le.1))
 
 name_good : (name : List ℕ) → IsWritableName name → IsGoodValue name
 name_good name is = (each_from_All (λ b. IsTrue (is_character b)) name is.characters, is.utf8)
@@ -371,5 +366,5 @@ spelled_text g keeps is =
         shallow = omega (arith, tree.1);
         utf8 = IsUtf8-append header (element_text (graph_tree g)) (ascii_utf8 header refl) (element_utf8 (graph_tree g) tree.0);
       },
-      (λ e. absurd (differ (codes "version") (codes "encoding") refl e), (λ e. refl, tt)),
+      (λ e. absurd (bytes_other (codes "version") (codes "encoding") refl e), (λ e. refl, tt)),
     )

@@ -1,16 +1,17 @@
 -- Cutting a number out of a text, and its value up to a greatest one.
-use Rattle.std.proofs.Common.{◌≡◌, ℕ, suc, ◌+◌, ◌*◌, ◌-◌, ◌<◌, ◌≤◌, Bool, true, false, cond, List, [], ◌∷◌, length, get_or, take, drop, min, refl, sym, ap, ◌∙◌, arith, add-one, drop-cons, Option, Some, None, Result, Ok, Err, inl, inr}
+use Rattle.std.proofs.Common.{◌≡◌, ℕ, suc, ◌+◌, ◌<◌, ◌≤◌, Bool, true, false, cond, List, [], ◌∷◌, length, take, drop, min, refl, sym, ap, ◌∙◌, arith, Option, Some, None, Result, Ok, Err, inl, inr}
 use Rattle.std.specs.List.{fold, take_while, prefix_len}
-use Rattle.std.proofs.lemmas.List.{drop_all}
 use Rattle.std.proofs.lemmas.List.Folds.{length-prefix_len}
 use Rattle.std.proofs.lemmas.Bool.{cases_lt, lt-ltb}
 use Rattle.std.specs.Option.{option_map}
 use Rattle.sd_base.specs.declared.limits.Quantity.{Quantity}
+use Rattle.sd_base.specs.Numbers.{with_digit}
+use Rattle.sd_base.proofs.CappedDigits
 use Rattle.graph_reader.specs.declared.field.Field.{Field}
 use Rattle.graph_reader.specs.declared.error.ReadError.{ReadError}
 use Rattle.graph_reader.specs.declared.error.ReadError.TheVariants.{Limit}
 use Rattle.graph_reader.specs.TreeSteps.{◌>>=◌}
-use Rattle.graph_reader.specs.NumberTexts.{drop_while, with_digit, value, within, formed}
+use Rattle.graph_reader.specs.NumberTexts.{drop_while, value, within, formed}
 
 drop-prefix_len : (p : ℕ → Bool) (xs : List ℕ) → drop (prefix_len p xs) xs ≡ drop_while p xs
 drop-prefix_len p [] = refl
@@ -28,26 +29,9 @@ take_while_cut p xs n is = ap (λ k. take k xs) (is ∙ length-prefix_len p xs)
 pub drop_while_cut : (p : ℕ → Bool) (xs : List ℕ) (n : ℕ) → n ≡ length (take_while p xs) → drop n xs ≡ drop_while p xs
 drop_while_cut p xs n is = ap (λ k. drop k xs) (is ∙ length-prefix_len p xs) ∙ drop-prefix_len p xs
 
--- numbers that are the same up to a greatest one stay so with more digits
-capped : (c : ℕ) (ds : List ℕ) (m n : ℕ) → min m c ≡ min n c → min (fold with_digit m ds) c ≡ min (fold with_digit n ds) c
-capped c [] m n h = h
-capped c (d ∷ ds) m n h =
-    let next : min (with_digit m d) c ≡ min (with_digit n d) c = omega arith in
-    capped c ds (with_digit m d) (with_digit n d) next
-
-pub capped-more : (c : ℕ) (ds : List ℕ) (i n m : ℕ) → i < length ds → m ≡ min (n * 10 + (get_or ds i 0 - 48)) c → min (fold with_digit m (drop (i + 1) ds)) c ≡ min (fold with_digit n (drop i ds)) c
-capped-more c ds i n m lt is =
-    let first : drop i ds ≡ get_or ds i 0 ∷ drop (i + 1) ds = rw add-one (drop-cons ds i 0 lt) in
-    let same : min m c ≡ min (with_digit n (get_or ds i 0)) c = omega arith in
-    capped c (drop (i + 1) ds) m (with_digit n (get_or ds i 0)) same ∙ ap (λ t. min (fold with_digit n t) c) (sym first)
-
 pub capped-all : (c : ℕ) (ds : List ℕ) (i n : ℕ) → length ds ≤ i → n ≤ c → min (fold with_digit n (drop i ds)) c ≡ min (fold with_digit 0 ds) c → n ≡ min (value ds) c
 unfolding value
-capped-all c ds i n past few h =
-    let none : drop i ds ≡ [] = drop_all i ds past in
-    let same : min n c ≡ min (fold with_digit 0 ds) c = sym (ap (λ t. min (fold with_digit n t) c) none) ∙ h in
-    let here : n ≡ min n c = omega arith in
-    here ∙ same
+capped-all c ds i n past few h = CappedDigits.capped-all c ds i n past few h
 
 -- a number that was held at a greatest one above the limit is within the limit if the number itself is
 pub within-capped : (quantity : Quantity) (limit c n m : ℕ) → limit < c → m ≡ min n c → within quantity limit m ≡ within quantity limit n

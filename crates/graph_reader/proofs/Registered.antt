@@ -1,5 +1,5 @@
 -- Rows that are found by their names.
-use Rattle.std.proofs.Common.{◌≡◌, ℕ, suc, ◌+◌, Bool, true, false, not, cond, ◌&&◌, ◌||◌, List, [], ◌∷◌, ◌++◌, length, map, Option, Some, None, inl, inr, nat_lt, slice_get, refl, sym, ap, ap₂, ◌∙◌, arith, lt-ltb, add-zero}
+use Rattle.std.proofs.Common.{◌≡◌, ℕ, suc, ◌+◌, Bool, true, false, not, cond, ◌&&◌, List, [], ◌∷◌, ◌++◌, length, map, Option, Some, None, inl, inr, nat_lt, slice_get, refl, sym, ap, ap₂, ◌∙◌, arith, lt-ltb, add-zero}
 use Rattle.std.specs.List.{AllByRecursion, IsDistinct, find, list_any, position, position_or_len}
 use Rattle.std.specs.Option.{option_map}
 use Rattle.std.specs.Str.{bytes_eq}
@@ -7,22 +7,12 @@ use Rattle.std.proofs.lemmas.List.{map-append}
 use Rattle.std.proofs.lemmas.List.Folds.{find_at}
 use Rattle.std.proofs.lemmas.Option.{slice_get_cases}
 use Rattle.std.proofs.lemmas.Slice.Eq.{bytes_eq-Decides}
+use Rattle.std.proofs.lemmas.Bool.{or_parts}
+use Rattle.sd_base.proofs.Lists.{any-map}
+use Rattle.sd_base.proofs.Truths.{bytes_turned}
 use Rattle.graph_reader.specs.declared.actors.Actor.{Actor}
 use Rattle.graph_reader.specs.Sections.{is_among, numbered}
 use Rattle.graph_reader.specs.Register.{AreNamed, tested}
-
-flip : (a b : List ℕ) → bytes_eq a b ≡ bytes_eq b a
-flip a b = go (bytes_eq a b) (bytes_eq b a) refl refl
-  where
-    go : (x y : Bool) → bytes_eq a b ≡ x → bytes_eq b a ≡ y → x ≡ y
-    go true true p q = refl
-    go true false p q = sym ((bytes_eq-Decides b a).1 (sym ((bytes_eq-Decides a b).0 p))) ∙ q
-    go false true p q = sym p ∙ (bytes_eq-Decides a b).1 (sym ((bytes_eq-Decides b a).0 q))
-    go false false p q = refl
-
-any-map : {X Y : Type 0} (f : X → Y) (test : Y → Bool) (xs : List X) → list_any (λ x. test (f x)) xs ≡ list_any test (map f xs)
-any-map f test [] = refl
-any-map f test (x ∷ xs) = ap (λ b. test (f x) || b) (any-map f test xs)
 
 prefix-map : {X Y : Type 0} (f : X → Y) (test : Y → Bool) (xs : List X) → position_or_len (λ x. test (f x)) xs ≡ position_or_len test (map f xs)
 prefix-map f test [] = refl
@@ -39,13 +29,13 @@ module _ {K R : Type 0} (text : K → List ℕ) (name_of : R → List ℕ) (keys
   -- a name is among the keys exactly where a row has it
   pub key-among : list_any (λ k. bytes_eq name (text k)) keys ≡ is_among name (map name_of rows)
   key-among =
-      any-map text (λ n. bytes_eq name n) keys ∙ ap (list_any (λ n. bytes_eq name n)) named.same ∙ (λ i. list_any (λ n. flip name n i) (map name_of rows))
+      any-map text (λ n. bytes_eq name n) keys ∙ ap (list_any (λ n. bytes_eq name n)) named.same ∙ (λ i. list_any (λ n. bytes_turned name n i) (map name_of rows))
 
   -- it has the number of the row
   pub key-number : position (λ k. bytes_eq name (text k)) keys ≡ position (λ r. bytes_eq (name_of r) name) rows
   key-number =
       position-map text (λ n. bytes_eq name n) keys ∙ ap (position (λ n. bytes_eq name n)) named.same
-      ∙ (λ i. position (λ n. flip name n i) (map name_of rows)) ∙ sym (position-map name_of (λ n. bytes_eq n name) rows)
+      ∙ (λ i. position (λ n. bytes_turned name n i) (map name_of rows)) ∙ sym (position-map name_of (λ n. bytes_eq n name) rows)
 
 module _ {R : Type 0} (test : R → Bool) (rows : List R) where
   pub number-some : (k : ℕ) → position test rows ≡ Some k → position_or_len test rows ≡ k
@@ -78,7 +68,7 @@ module _ {R : Type 0} (name_of : R → List ℕ) (test : R → Bool) (name : Lis
   none-later : (first : List ℕ) (rows : List R) → first ≡ name → AllByRecursion (λ n. bytes_eq first n ≡ false) (map name_of rows) → find (λ r. has_name r && test r) rows ≡ None
   none-later first [] same apart = refl
   none-later first (r ∷ rows) same apart =
-      let other : has_name r ≡ false = flip (name_of r) name ∙ ap (λ n. bytes_eq n (name_of r)) (sym same) ∙ apart.0 in
+      let other : has_name r ≡ false = bytes_turned (name_of r) name ∙ ap (λ n. bytes_eq n (name_of r)) (sym same) ∙ apart.0 in
       rw other (none-later first rows same apart.1)
 
   pub alone : (rows : List R) → IsDistinct bytes_eq (map name_of rows) → find (λ r. has_name r && test r) rows ≡ tested test (find has_name rows)
@@ -101,12 +91,8 @@ differ-more : (names : List (List ℕ)) (name : List ℕ) → is_among name name
 unfolding IsDistinct
 differ-more [] name new apart = (tt, tt)
 differ-more (n ∷ names) name new apart =
-    let p = neither (bytes_eq n name) (is_among name names) new in
+    let p = or_parts (bytes_eq n name) (is_among name names) new in
     (all-more (λ m. bytes_eq n m ≡ false) names name apart.0 p.0, differ-more names name p.1 apart.1)
-  where
-    neither : (x y : Bool) → (x || y) ≡ false → (x ≡ false) × (y ≡ false)
-    neither true y h = absurd (cc)
-    neither false y h = (refl, h)
 
 pub named-more : {K R : Type 0} (text : K → List ℕ) (name_of : R → List ℕ) (keys more : List K) (rows more_rows : List R) (key : K) (row : R) → AreNamed (map name_of rows) (map text keys)
     → is_among (name_of row) (map name_of rows) ≡ false → text key ≡ name_of row → more ≡ keys ++ key ∷ [] → more_rows ≡ rows ++ row ∷ [] → AreNamed (map name_of more_rows) (map text more)

@@ -1,5 +1,5 @@
 -- Numbers of a graph file: white, digits, white; lists of them; and their limits.
-use Rattle.std.specs.Prelude.{ℕ, ◌+◌, ◌-◌, ◌*◌, Bool, ◌&&◌, ◌==◌, nat_lt, if◌then◌else◌, List, [], ◌∷◌, ◌++◌, length, replicate, Option, Some, None, Result, Ok, Err}
+use Rattle.std.specs.Prelude.{ℕ, ◌+◌, Bool, ◌&&◌, ◌==◌, nat_lt, if◌then◌else◌, List, [], ◌∷◌, ◌++◌, length, replicate, Option, Some, None, Result, Ok, Err}
 use Rattle.std.specs.List.{fold, take_while, list_any, list_all, slice_split, position_or_len, before_first, after_first}
 use Rattle.std.specs.Option.{option_map}
 use Rattle.std.specs.Char.{is_ascii_digit}
@@ -8,6 +8,7 @@ use Rattle.sd_base.specs.declared.limits.Quantity.TheVariants as quantity
 use Rattle.sd_base.specs.declared.limits.TheConstants.{PHASES}
 use Rattle.sd_base.specs.declared.tables.Kind.{Kind}
 use Rattle.sd_base.specs.declared.tables.Kind.TheVariants.{Sdf, Csdf}
+use Rattle.sd_base.specs.Numbers.{with_digit}
 use Rattle.file_text.specs.Grammar.{is_white}
 use Rattle.graph_reader.specs.declared.numbers.Item.{Item}
 use Rattle.graph_reader.specs.declared.field.Field.{Field}
@@ -19,10 +20,6 @@ use Rattle.graph_reader.specs.TreeSteps.{◌>>=◌}
 abbrev pub drop_while : (ℕ → Bool) → List ℕ → List ℕ
 drop_while test [] = []
 drop_while test (b ∷ bs) = if test b then drop_while test bs else (b ∷ bs)
-
--- a number with one more digit, which is a byte
-abbrev pub with_digit : ℕ → ℕ → ℕ
-with_digit n b = n * 10 + (b - 48)
 
 -- the number that digits spell
 unfoldable pub value : List ℕ → ℕ

@@ -1,6 +1,7 @@
 -- In a live net events go on, so it is decided whether the shapes of the first ones differ.
 use Rattle.std.proofs.Common.{◌≡◌, ◌≢◌, ℕ, zero, suc, ◌+◌, ◌-◌, ◌≤◌, ◌<◌, ◌⊎◌, true, false, length, inl, inr, ⊎_elim, sym, refl, ◌∙◌, arith}
 use Rattle.std.proofs.lemmas.Bool.{cases_lt, cases_eq, cases_Bool, false≢true}
+use Rattle.std.proofs.Math.Numerals.{lt_of_le_of_ne}
 use Rattle.sd_base.specs.Net.{Net}
 use Rattle.sd_base.specs.Schedules.{HasInputs, count_of, start_of, end_of}
 use Rattle.sd_base.specs.SelfTimed.{earliest, IsEvent, is_event, events_by, shape_at, starts_by}
@@ -17,9 +18,6 @@ use Rattle.selftimed.specs.declared.shape.Shape.{Shape}
 use Rattle.loops.specs.LoopAnswers.{FirstDiffer, IsTooManyStarts, PassesStarts}
 use Rattle.loops.proofs.Ranks.{event-test, rank-first, rank-rises, rank-grows, rank-orders, rank-after, starts-rise}
 use Rattle.lasso.proofs.Keys.{alike, alike-tells, alike-holds}
-
-below_apart : (x y : ℕ) → x ≤ y → (x ≡ y → ⊥) → x < y
-below_apart x y le apart = ⊎_elim (λ (h : x < y). h) (λ (h : y ≤ x). absurd (apart (omega arith))) (cases_lt x y)
 
 -- the shape that stands at a moment
 abbrev standing : Net → ℕ → Shape
@@ -156,7 +154,7 @@ module _ (net : Net) (laws : Lawful net) (fed : HasInputs net) (live : IsLive ne
           before : (y : ℕ) → IsEvent net y → events_by net y ≤ suc n → (y ≡ t → ⊥) → events_by net y ≤ n
           before y other few apart =
               let le : y ≤ t = rank-orders net laws fed y t other (omega arith) in
-              let less : y < t = below_apart y t le apart in
+              let less : y < t = lt_of_le_of_ne le apart in
               omega (arith, rank-grows net laws fed y t less event)
 
   pub many-passes : (states : ℕ) → 1 ≤ states → IsTooManyStarts net states → PassesStarts net states

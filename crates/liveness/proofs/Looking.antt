@@ -94,12 +94,6 @@ trues-more (suc n) =
     let e : suc n + 1 ≡ suc (n + 1) = omega arith in
     rw e (ap (λ (bs : List Bool). true ∷ bs) (trues-more n))
 
-pub range-more : (a n j : ℕ) → a + n ≡ j → range_with_len a (n + 1) ≡ range_with_len a n ++ j ∷ []
-range-more a zero j is = let e : a ≡ j = omega arith in ap (λ (x : ℕ). x ∷ []) e
-range-more a (suc n) j is =
-    let f : suc n + 1 ≡ suc (n + 1) = omega arith in
-    rw f (ap (λ (xs : List ℕ). a ∷ xs) (range-more (a + 1) n j (omega arith)))
-
 pub all-flagged : (net : Net) (counts : List ℕ) (flagged : List Bool) (stack : List ℕ) (n : ℕ) → n ≡ length net.times → flagged ≡ replicate n true → stack ≡ range_with_len 0 n → LeavesFlags net counts flagged stack
 all-flagged net counts flagged stack n is trues range = record {
   flags = record {

@@ -8,15 +8,12 @@ use Rattle.sd_base.specs.Lawful.{Lawful}
 use Rattle.sd_base.specs.Untimed.{none_fired, one_more, CanFire, Fires, counts_after, IsLive}
 use Rattle.sd_base.proofs.Parts.{balanced}
 use Rattle.sd_base.proofs.Sums.{total-zero, total-le}
-use Rattle.sd_base.proofs.Blocking.{bump-same, bump-other}
+use Rattle.sd_base.proofs.Blocking.{bump-same, bump-other, bump-more}
 use Rattle.liveness.specs.RoundAnswers.{AreReachedCounts}
 
 -- no channel has given more tokens than it had
 abbrev pub IsPaidAt : Net → (ℕ → ℕ) → ℕ → Type 0
 IsPaidAt net v i = total (channel_at net i).taken (v (channel_at net i).target) ≤ (channel_at net i).tokens + total (channel_at net i).made (v (channel_at net i).source)
-
-bump-more : (v : ℕ → ℕ) (a b : ℕ) → v b ≤ one_more v a b
-bump-more v a b = ⊎_elim (λ (same : b ≡ a). rw same (rw (bump-same v a) (omega arith))) (λ (apart : b ≡ a → ⊥). rw (bump-other v a b apart) (omega arith)) (cases_eq b a)
 
 paid-more : (net : Net) (v : ℕ → ℕ) (a i : ℕ) → i < length net.channels → IsPaidAt net v i → CanFire net v a → IsPaidAt net (one_more v a) i
 paid-more net v a i below paid can = ⊎_elim

@@ -9,7 +9,7 @@ use Rattle.sd_base.specs.Net.{Channel, Net, channel_at, phase_entry, total}
 use Rattle.sd_base.specs.Untimed.{none_fired, one_more, CanFire, Fires, counts_after}
 use Rattle.sd_base.specs.Lawful.{Lawful}
 use Rattle.sd_base.specs.Schedules.{phases_at}
-use Rattle.sd_base.proofs.Sums.{total-zero, total-le, total-more, total-turn}
+use Rattle.sd_base.proofs.Sums.{total-zero, total-le, total-more}
 use Rattle.sd_base.proofs.Parts.{balanced}
 use Rattle.sd_base.proofs.Blocking.{run-within, bump-same, bump-other}
 use Rattle.sd_base.proofs.Ends.{left_of, sum_to-lt, fires-push, after-push}
@@ -68,13 +68,6 @@ feeds-own c tokens from n rate single here gives enough = record {
       omega (arith, takes, makes, less, enough);
   other = λ apart. absurd (apart gives.loops);
 }
-
--- the rate isn't 0
-pub rate-some : (xs : List ℕ) (rate : ℕ) → length xs ≡ 1 → rate ≡ slice_index xs 0 → 1 ≤ sum xs → 0 < rate
-rate-some xs rate single here some =
-    let turn : total xs 1 ≡ sum xs = ap (total xs) (sym single) ∙ total-turn xs in
-    let one : total xs 0 + 1 * rate ≡ total xs 1 = span-one xs 0 1 1 rate (sym single) refl here in
-    omega (arith, total-zero xs, turn, one, some)
 
 -- tokens for fewer than n + 1 firings
 pub ends-short : (c : Channel) (tokens from n rate : ℕ) → length c.taken ≡ 1 → rate ≡ slice_index c.taken 0 → tokens < (n + 1) * rate → tokens + total c.taken from < total c.taken (from + (n + 1))

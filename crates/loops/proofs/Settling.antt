@@ -1,9 +1,9 @@
 -- Where equal shapes stand a period apart, the same stood at each moment from which on all firings are alike, and at no other.
-use Rattle.std.proofs.Common.{◌≡◌, ℕ, suc, ◌+◌, ◌-◌, ◌≤◌, ◌<◌, ◌⊎◌, length, inl, inr, ⊎_elim, sym, ap, ◌∙◌, arith}
+use Rattle.std.proofs.Common.{◌≡◌, ℕ, suc, ◌+◌, ◌-◌, ◌≤◌, ◌<◌, ◌⊎◌, length, inl, inr, ⊎_elim, sym, ◌∙◌, arith}
 use Rattle.std.proofs.lemmas.Bool.{cases_lt}
 use Rattle.sd_base.specs.Net.{Net}
 use Rattle.sd_base.specs.Schedules.{Schedule, count_of, start_of, end_of, time_of, HasInputs}
-use Rattle.sd_base.specs.SelfTimed.{earliest, shape_at, shape_of}
+use Rattle.sd_base.specs.SelfTimed.{earliest, shape_at}
 use Rattle.sd_base.specs.Lawful.{Lawful}
 use Rattle.sd_base.proofs.Parts.{regular}
 use Rattle.sd_base.proofs.Admissibles.{is_actor}
@@ -12,11 +12,8 @@ use Rattle.sd_base.proofs.Rounds.{Whole, time-shift}
 use Rattle.sd_base.proofs.Tight.{earliest-within}
 use Rattle.sd_base.proofs.Shapes.{shifted-shape}
 use Rattle.sd_base.proofs.Counts.{early_at, ended_at, ended-at-is}
-use Rattle.sd_base.proofs.Alike.{Alike, count-rises, since-then, since-whole, same-alike, futures}
+use Rattle.sd_base.proofs.Alike.{Alike, count-rises, since-then, since-whole, same-alike, futures, shape-read}
 use Rattle.loops.specs.Settling.{IsLike, IsOver, IsSettled}
-
-shape-read : (net : Net) (x : ℕ) → shape_at net x ≡ shape_of net x (earliest net (suc x))
-shape-read net x = let e : x + 1 ≡ suc x = omega arith in ap (λ (n : ℕ). shape_of net x (earliest net n)) e
 
 module _ (net : Net) (laws : Lawful net) (fed : HasInputs net) where
   -- a firing of the earliest schedule that starts by a moment is in the part up to there

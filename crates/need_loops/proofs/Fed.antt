@@ -2,7 +2,7 @@
 use Rattle.std.proofs.Common.{◌≡◌, ◌≢◌, ℕ, zero, suc, ◌+◌, ◌-◌, ◌*◌, ◌^◌, ◌≤◌, ◌<◌, ◌⊎◌, Some, List, [], ◌∷◌, ◌++◌, length, sum, inl, inr, ⊎_elim, subst, sym, refl, ap, ◌∙◌, arith, set, mul-le-mul_left, mul-le-mul_right}
 use Rattle.std.specs.Prelude.{replicate, slice_get, slice_index, slice_index_or}
 use Rattle.std.proofs.lemmas.Bool.{cases_lt}
-use Rattle.std.proofs.lemmas.List.{get_or-replicate, get_or_append_left, get_or_push, length_push, length-append, get_or_default, length-set, get_or-set_same, get_or-set_other}
+use Rattle.std.proofs.lemmas.List.{get_or-replicate, get_or_push, length_push, get_or_default, length-set, get_or-set_same, get_or-set_other}
 use Rattle.std.proofs.lemmas.Option.{slice_get-get_or, get_or_from_slice_get, slice_get_within}
 use Rattle.sd_base.specs.declared.limits.TheConstants.{NET_TOKENS, RATE}
 use Rattle.sd_base.specs.Net.{Net, channel_at, phase_entry, total}
@@ -10,6 +10,7 @@ use Rattle.sd_base.specs.Schedules.{phases_at, count_of}
 use Rattle.sd_base.specs.Lawful.{Lawful}
 use Rattle.sd_base.proofs.Sums.{total-zero, total-suc}
 use Rattle.sd_base.proofs.Admissibles.{one_time}
+use Rattle.sd_base.proofs.Lists.{get-pushed, get-left}
 use Rattle.firing.specs.declared.sums.Port.TheVariants.{Taken}
 use Rattle.firing.specs.Wiring.{IsListed}
 use Rattle.firing.proofs.Listings.{place_of}
@@ -251,22 +252,6 @@ first-pause net a inputs n pause time feeds listed within so_far own = record {
     either j (inl other) = inl (subst (Paces net a (slice_index inputs j)) (one-pause net a (slice_index inputs j) (slice_index inputs n) pause time other paces) other)
     either j (inr has) = inr has
 
-get-pushed : {A : Type 0} (xs : List A) (y x : A) (j : ℕ) → slice_get (xs ++ y ∷ []) j ≡ Some x → (slice_get xs j ≡ Some x) ⊎ ((j ≡ length xs) × (x ≡ y))
-get-pushed xs y x j there =
-    let within : j < length (xs ++ y ∷ []) = slice_get_within (xs ++ y ∷ []) j x there in
-    let read : slice_index_or (xs ++ y ∷ []) j x ≡ x = get_or_from_slice_get (xs ++ y ∷ []) j x x there in
-    ⊎_elim
-    (λ (old : j < length xs). inl (slice_get-get_or xs j x old ∙ ap Some (sym (get_or_append_left xs (y ∷ []) x j old) ∙ read)))
-    (λ (new : length xs ≤ j).
-    let end : length xs ≡ j = omega (arith, length_push xs y) in
-    inr (sym end, sym read ∙ get_or_push xs y x j end))
-    (cases_lt j (length xs))
-
-get-kept : (xs ys : List Feed) (x : Feed) (j : ℕ) → slice_get xs j ≡ Some x → slice_get (xs ++ ys) j ≡ Some x
-get-kept xs ys x j there =
-    let within : j < length xs = slice_get_within xs j x there in
-    slice_get-get_or (xs ++ ys) j x (omega (arith, length-append xs ys)) ∙ ap Some (get_or_append_left xs ys x j within ∙ get_or_from_slice_get xs j x x there)
-
 pub first-push : (net : Net) (a : ℕ) (inputs : List ℕ) (n pause : ℕ) (feeds : List Feed) (f : Feed) → IsListed net Taken a inputs → n < length inputs →
     AreFirst net a inputs n pause feeds → Feeds net (slice_index inputs n) 1 f → AreFirst net a inputs (n + 1) pause (feeds ++ f ∷ [])
 first-push net a inputs n pause feeds f listed within so_far fed = record {
@@ -291,7 +276,7 @@ first-push net a inputs n pause feeds f listed within so_far fed = record {
 
     either : (j : ℕ) → Paces net a (slice_index inputs j) pause ⊎ HasFeed net (slice_index inputs j) 1 feeds → Paces net a (slice_index inputs j) pause ⊎ HasFeed net (slice_index inputs j) 1 (feeds ++ f ∷ [])
     either j (inl paces) = inl paces
-    either j (inr old) = inr (record { feed = old.feed; place = old.place; there = get-kept feeds (f ∷ []) old.feed old.place old.there; feeds_it = old.feeds_it })
+    either j (inr old) = inr (record { feed = old.feed; place = old.place; there = get-left feeds (f ∷ []) old.place old.feed old.there; feeds_it = old.feeds_it })
 
 -- all channels into a are among the first ones
 pub first-next : (net : Net) (a : ℕ) (inputs : List ℕ) (n : ℕ) (next : NextFiring) → IsListed net Taken a inputs → length inputs ≤ n → AreFirst net a inputs n next.pause next.feeds.items → IsNextOf net a 0 next

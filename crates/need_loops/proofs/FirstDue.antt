@@ -1,29 +1,21 @@
 -- Rows without starts are due, and rows that are due up to a moment are so up to a later one.
-use Rattle.std.proofs.Common.{◌≡◌, ℕ, ◌≤◌, ◌<◌, List, [], length, replicate, ⊎_elim, ap, arith}
-use Rattle.std.proofs.lemmas.Bool.{cases_lt}
-use Rattle.std.proofs.lemmas.List.{get_or_past, get_or-replicate, length-replicate}
+use Rattle.std.proofs.Common.{◌≡◌, ℕ, ◌≤◌, List, [], length, replicate, arith}
+use Rattle.std.proofs.lemmas.List.{length-replicate}
 use Rattle.sd_base.specs.Net.{Net, channel_at}
-use Rattle.sd_base.specs.Schedules.{count_of}
+use Rattle.sd_base.proofs.Counts.{empty-rows}
 use Rattle.need_loops.specs.declared.growth.Growth.{Growth}
 use Rattle.need_loops.specs.inside.Needing.{AreDue}
 use Rattle.need_loops.specs.inside.Growing.{IsGrowth}
-
--- no row has a start
-none_started : (n a : ℕ) → count_of (replicate n []) a ≡ 0
-none_started n a = ⊎_elim
-    (λ (there : a < n). ap length (get_or-replicate n a [] [] there))
-    (λ (past : n ≤ a). ap length (get_or_past (replicate n []) a [] (omega (arith, length-replicate {A = List ℕ} n []))))
-    (cases_lt a n)
 
 pub none-due : (net : Net) (until : ℕ) (rows : List (List ℕ)) → rows ≡ replicate (length net.times) [] → AreDue net until rows
 none-due net until rows none = rw none (record {
   admissible = record {
     actors = length-replicate {A = List ℕ} (length net.times) [];
-    rising = λ a k there. absurd (omega (arith, none_started (length net.times) a));
-    fed = λ i j m place there last. absurd (omega (arith, none_started (length net.times) (channel_at net i).target));
+    rising = λ a k there. absurd (omega (arith, empty-rows (length net.times) a));
+    fed = λ i j m place there last. absurd (omega (arith, empty-rows (length net.times) (channel_at net i).target));
   };
-  due = λ a k there. absurd (omega (arith, none_started (length net.times) a));
-  by = λ a k there. absurd (omega (arith, none_started (length net.times) a));
+  due = λ a k there. absurd (omega (arith, empty-rows (length net.times) a));
+  by = λ a k there. absurd (omega (arith, empty-rows (length net.times) a));
 })
 
 pub later-due : (net : Net) (t u : ℕ) (rows : List (List ℕ)) → t ≤ u → AreDue net t rows → AreDue net u rows

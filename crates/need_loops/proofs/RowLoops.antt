@@ -1,5 +1,5 @@
 -- The loop that rows of starts show.
-use Rattle.std.proofs.Common.{◌≡◌, ◌≢◌, ◌↔◌, ℕ, suc, ◌+◌, ◌-◌, ◌*◌, ◌%◌, ◌^◌, ◌≤◌, ◌<◌, ◌⊎◌, Bool, List, [], length, IsTrue, inl, inr, ⊎_elim, subst, sym, ap, ◌∙◌, arith}
+use Rattle.std.proofs.Common.{◌≡◌, ◌≢◌, ◌↔◌, ℕ, suc, ◌+◌, ◌-◌, ◌*◌, ◌%◌, ◌^◌, ◌≤◌, ◌<◌, ◌⊎◌, Bool, List, [], length, IsTrue, inl, inr, ⊎_elim, subst, sym, ap, ◌∙◌, arith, add-one}
 use Rattle.std.specs.Prelude.{slice_index, slice_index_or}
 use Rattle.std.proofs.Math.Nat.{mul-le-mul_right, one-le-mul}
 use Rattle.std.proofs.lemmas.Bool.{cases_lt}
@@ -229,17 +229,14 @@ module _ (net : Net) (laws : Lawful net) (fed : HasInputs net) (connected : IsCo
       abbrev start : ℕ → ℕ
       start k = start_of (earliest net (suc t)) a k
 
-      up : (y : ℕ) → y + 1 ≡ suc y
-      up y = omega arith
-
       by-start : (k : ℕ) → k < count t → k < count (start k)
       by-start k there =
-          let soon : start k ≤ t = omega (arith, (early_at net (regular net laws) fed (suc t)).before a k (rw (up t) at there)) in
-          rw (up (start k)) (started-by net laws fed (start k) t a k soon (rw (up t) at there) (omega arith))
+          let soon : start k ≤ t = omega (arith, (early_at net (regular net laws) fed (suc t)).before a k (rw (add-one t) at there)) in
+          rw (add-one (start k)) (started-by net laws fed (start k) t a k soon (rw (add-one t) at there) (omega arith))
 
       start-by : (y k : ℕ) → y ≤ t → k < count y → start k ≤ y
       start-by y k le there =
-          let here : k < count_of (earliest net (suc y)) a = rw (up y) at there in
+          let here : k < count_of (earliest net (suc y)) a = rw (add-one y) at there in
           let soon : start_of (earliest net (suc y)) a k < suc y = (early_at net (regular net laws) fed (suc y)).before a k here in
           omega (arith, (start-kept net laws fed y t a k le here).1)
 

@@ -11,6 +11,7 @@ use Rattle.std.proofs.lemmas.List.{at_drop_all, take_more, map-append, length-ap
 use Rattle.std.proofs.lemmas.List.Folds.{list_any-append}
 use Rattle.sd_base.specs.declared.limits.TheConstants.{ORDER_PAIRS}
 use Rattle.sd_base.specs.declared.tables.ActorRow.{ActorRow}
+use Rattle.sd_base.proofs.Truths.{or-none}
 use Rattle.ordered.specs.declared.orders.OrderError.{OrderError}
 use Rattle.ordered.specs.declared.orders.OrderError.TheVariants.{Unknown, Elsewhere, Count, TooManyPairs, NoMemory}
 use Rattle.ordered.specs.OrderedNets.{is_named, order_channel, order_channels, order_channels_from}
@@ -100,10 +101,6 @@ module _ (actors : List ActorRow) (lists : List (List (List ℕ))) (i : ℕ) whe
       ∙ sym (ap (lists_of actors) (take_more lists i list below ∙ ap (λ (l : List (List ℕ)). take i lists ++ l ∷ []) (sym is)) ∙ map-append (order_of actors) (take i lists) (list ∷ [])))
 
 -- ---- marks
-
-or-none : (b : Bool) → (b || false) ≡ b
-or-none true = refl
-or-none false = refl
 
 or-true : (b c : Bool) → (b || (c || true)) ≡ true
 or-true true c = refl

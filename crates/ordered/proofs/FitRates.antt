@@ -1,25 +1,16 @@
 -- The rates of new channels are within their limits.
-use Rattle.std.proofs.Common.{◌≡◌, ℕ, suc, ◌≤◌, ◌<◌, List, [], length, ⊎_elim, ap, ◌∙◌, arith}
-use Rattle.std.specs.Prelude.{slice_index, slice_index_or, sum}
-use Rattle.std.proofs.lemmas.List.{get_or_past}
-use Rattle.std.proofs.lemmas.List.Sums.{get_or-le-sum_by}
-use Rattle.std.proofs.lemmas.Bool.{cases_lt}
+use Rattle.std.proofs.Common.{◌≡◌, ℕ, suc, ◌≤◌, ◌<◌, List, [], length, ap, ◌∙◌, arith}
+use Rattle.std.specs.Prelude.{slice_index, slice_index_or}
 use Rattle.sd_base.specs.declared.limits.TheConstants.{RATE, ROUND}
 use Rattle.sd_base.specs.Net.{Net}
 use Rattle.sd_base.specs.Lawful.{Lawful}
+use Rattle.sd_base.proofs.Lists.{entry-le-sum}
 use Rattle.firing.specs.Csdf.{AreRates}
 use Rattle.ordered.specs.Orders.{entry_at, AreOrders}
 use Rattle.ordered.specs.OrderedNets.{order_channel, ordered}
 use Rattle.ordered.specs.inside.Steps.{FitRates, pairs_from}
 use Rattle.ordered.proofs.Sides.{PairAt, pair-at}
 use Rattle.ordered.proofs.GoodChannels.{Good, step-good, entry-actor, entry-named, named-phases, phases-here}
-
--- each number of a list is at most their sum
-pub entry-le-sum : (xs : List ℕ) (i : ℕ) → slice_index xs i ≤ sum xs
-entry-le-sum xs i = ⊎_elim
-    (λ (h : i < length xs). get_or-le-sum_by (λ (x : ℕ). x) xs i 0 h)
-    (λ (h : length xs ≤ i). rw (get_or_past xs i 0 h) (omega arith))
-    (cases_lt i (length xs))
 
 pub round-few : (net : Net) → Lawful net → (a : ℕ) → slice_index net.round a ≤ ROUND
 round-few net laws a = omega (arith, entry-le-sum net.round a, laws.small_round)

@@ -1,7 +1,7 @@
 -- Each actor of several phases of an ordered net has its own channel.
-use Rattle.std.proofs.Common.{◌≡◌, ℕ, zero, suc, ◌+◌, ◌%◌, ◌≤◌, ◌<◌, Bool, true, false, List, [], ◌∷◌, ◌++◌, length, map, ⊎_elim, subst, sym, refl, ap, ◌∙◌, arith, eq-eqb}
+use Rattle.std.proofs.Common.{◌≡◌, ℕ, zero, suc, ◌+◌, ◌%◌, ◌≤◌, ◌<◌, Bool, true, false, List, [], ◌∷◌, ◌++◌, length, map, ⊎_elim, subst, sym, refl, ap, ◌∙◌, arith}
 use Rattle.std.proofs.Math.Nat.{mod-lt}
-use Rattle.std.specs.Prelude.{slice_index, slice_index_or, ◌==◌, ◌&&◌, if◌then◌else◌, replicate}
+use Rattle.std.specs.Prelude.{slice_index, slice_index_or, ◌==◌, ◌&&◌, if◌then◌else◌}
 use Rattle.std.specs.List.{list_any, list_all, range_with_len}
 use Rattle.std.specs.Cmp.{first_so, second_so}
 use Rattle.std.proofs.lemmas.Bool.{cases_lt, and_from}
@@ -12,15 +12,12 @@ use Rattle.sd_base.specs.Net.{Channel, Net, nowhere, channel_at, phase_entry}
 use Rattle.sd_base.specs.FileNet.{own_channel}
 use Rattle.sd_base.specs.Lawful.{is_own, is_own_role, is_token_role, Lawful, is_space_role}
 use Rattle.sd_base.specs.Schedules.{phases_at}
+use Rattle.sd_base.proofs.FileNets.{own-is}
 use Rattle.ordered.specs.Orders.{AreOrders}
 use Rattle.ordered.specs.OrderedNets.{CanBeOrdered, is_named, phases_in, unrolled, rephased, with_role, own_or_new, owns_from, order_channels, ordered}
 use Rattle.ordered.proofs.Members.{Among, among-head, among-left, among-right, Kept, kept-from, kept-in, owns-here}
 use Rattle.ordered.proofs.Entries.{any-place, some-phases, whole-phases}
 use Rattle.ordered.proofs.GoodChannels.{phases-here}
-
-ones-all : (n : ℕ) → list_all (λ r. r == 1) (replicate n 1) ≡ true
-ones-all zero = refl
-ones-all (suc n) = ones-all n
 
 -- all entries of a list of ones
 one-at : (xs : List ℕ) → list_all (λ r. r == 1) xs ≡ true → (i : ℕ) → i < length xs → (slice_index xs i == 1) ≡ true
@@ -49,9 +46,6 @@ own-rephased phases a c made taken own =
     let ones = unrolled-ones (phases c.source) c.made made (first_so (list_all (λ r. r == 1) c.made) (list_all (λ r. r == 1) c.taken) rates) in
     let also = unrolled-ones (phases c.target) c.taken taken (second_so (list_all (λ r. r == 1) c.made) (list_all (λ r. r == 1) c.taken) rates) in
     rw (role, source, target, token, ones, also) refl
-
-new-own : (a n : ℕ) → is_own a (own_channel a n) ≡ true
-new-own a n = rw (eq-eqb a a refl, ones-all n) refl
 
 module _ (net : Net) (laws : Lawful net) (can : CanBeOrdered net) (orders : List (List ℕ)) where
   has : (a : ℕ) (c : Channel) → Among (ordered net orders).channels c → is_own a c ≡ true → list_any (is_own a) (ordered net orders).channels ≡ true
@@ -86,7 +80,7 @@ module _ (net : Net) (laws : Lawful net) (can : CanBeOrdered net) (orders : List
       at : (xs : List Channel) → map (rephased (phases_in net orders)) (with_role (is_own_role a) net.channels) ≡ xs → list_any (is_own a) (ordered net orders).channels ≡ true
       at [] e =
           let one : Among (own_or_new [] true (own_channel a (slice_index net.round a))) (own_channel a (slice_index net.round a)) = among-head (own_channel a (slice_index net.round a)) [] in
-          has a (own_channel a (slice_index net.round a)) (there (own_channel a (slice_index net.round a)) (rw (e, is) one)) (new-own a (slice_index net.round a))
+          has a (own_channel a (slice_index net.round a)) (there (own_channel a (slice_index net.round a)) (rw (e, is) one)) (own-is a (slice_index net.round a))
       at (x ∷ xs) e =
           let k : Kept (rephased (phases_in net orders)) (is_own_role a) net.channels x = kept-from (rephased (phases_in net orders)) (is_own_role a) net.channels x (rw e (among-head x xs)) in
           let role : (channel_at net k.among.place).role ≡ Own a = ap (λ (c : Channel). c.role) k.among.is ∙ own-role a k.from.role k.role in

@@ -2,7 +2,8 @@
 use Rattle.std.proofs.Common.{◌≡◌, ℕ, zero, suc, ◌+◌, ◌*◌, ◌%◌, ◌≤◌, ◌<◌, Bool, true, false, List, [], ◌∷◌, ◌++◌, length, map, take, ⊎_elim, subst, sym, refl, ap, ◌∙◌, arith, append-nil}
 use Rattle.std.specs.Prelude.{slice_index, slice_index_or, All, if◌then◌else◌, ◌==◌, sum, replicate}
 use Rattle.std.proofs.lemmas.Bool.{cases_lt}
-use Rattle.std.proofs.lemmas.List.{length-map, length-append, map-append, append_assoc, length_push, get_or_push, get_or_append_left, take_all, take_more}
+use Rattle.std.proofs.lemmas.List.{length-map, length-append, map-append, append_assoc, take_all, take_more, nil_from_length}
+use Rattle.std.proofs.lemmas.List.Elements.{All-push}
 use Rattle.sd_base.specs.declared.role.Role.{Role}
 use Rattle.sd_base.specs.Net.{Channel, Net, nowhere, channel_at}
 use Rattle.ordered.specs.declared.places.Place.{Place}
@@ -14,12 +15,6 @@ use Rattle.ordered.specs.inside.Steps.{pairs_from}
 use Rattle.ordered.proofs.Sides.{channels-of-pairs}
 use Rattle.ordered.specs.inside.Places.{Adds, IsPlaceOf, reach, is_sort, new_channel, place_in}
 
-all-push : (P : Place → Type 0) (xs : List Place) (x : Place) → All P xs → P x → All P (xs ++ x ∷ [])
-all-push P xs x all one = λ k d below. ⊎_elim
-    (λ (h : k < length xs). subst P (sym (get_or_append_left xs (x ∷ []) d k h)) (all k d h))
-    (λ (h : length xs ≤ k). subst P (sym (get_or_push xs x d k (omega (arith, below, length_push xs x)))) one)
-    (cases_lt k (length xs))
-
 pub adds-none : (net : Net) (old new : List Place) → new ≡ old → Adds net old new (λ phases. [])
 adds-none net old new same = record {
   over = λ all. subst (All (IsPlaceOf net)) (sym same) all;
@@ -30,7 +25,7 @@ adds-none net old new same = record {
 pub adds-one : (net : Net) (old so new : List Place) (more : (ℕ → ℕ) → List Channel) (p : Place) (c : (ℕ → ℕ) → Channel) → IsPlaceOf net p → ((phases : ℕ → ℕ) → place_in net phases p ≡ c phases) → new ≡ so ++ p ∷ []
     → Adds net old so more → Adds net old new (λ phases. more phases ++ c phases ∷ [])
 adds-one net old so new more p c is channel push adds = record {
-  over = λ all. subst (All (IsPlaceOf net)) (sym push) (all-push (IsPlaceOf net) so p (adds.over all) is);
+  over = λ all. subst (All (IsPlaceOf net)) (sym push) (All-push (IsPlaceOf net) so p (adds.over all) is);
   channels = λ phases.
       ap (map (place_in net phases)) push ∙ (map-append (place_in net phases) so (p ∷ []) ∙ (ap (λ (cs : List Channel). cs ++ place_in net phases p ∷ []) (adds.channels phases)
       ∙ (append_assoc (map (place_in net phases) old) (more phases) (place_in net phases p ∷ []) ∙ ap (λ (d : Channel). map (place_in net phases) old ++ (more phases ++ d ∷ [])) (channel phases))));
@@ -79,10 +74,6 @@ added-long net old new more phases adds =
     let e = ap length (adds.channels phases) in
     omega (arith, e, length-map new (place_in net phases), length-map old (place_in net phases), length-append (map (place_in net phases) old) (more phases))
 
-empty : (cs : List Channel) → length cs ≡ 0 → cs ≡ []
-empty [] none = refl
-empty (c ∷ cs) some = absurd (omega arith)
-
 own-some : (cs : List Channel) (named : Bool) (new : Channel) → 1 ≤ length cs → cs ≡ own_or_new cs named new
 own-some [] named new some = absurd (omega arith)
 own-some (c ∷ cs) named new some = refl
@@ -93,7 +84,7 @@ module _ (net : Net) (old so : List Place) (more : (ℕ → ℕ) → List Channe
       own-some (more phases) named own (⊎_elim (λ (h : length (more phases) < 1). absurd (some (omega (arith, h, added-long net old so more phases adds)))) (λ (h : 1 ≤ length (more phases)). h) (cases_lt (length (more phases)) 1))) adds
 
   no-own : length so ≡ length old → (phases : ℕ → ℕ) → more phases ≡ []
-  no-own same phases = empty (more phases) (omega (arith, same, added-long net old so more phases adds))
+  no-own same phases = nil_from_length (more phases) (omega (arith, same, added-long net old so more phases adds))
 
   pub own-none : length so ≡ length old → named ≡ false → Adds net old so (λ phases. own_or_new (more phases) named own)
   own-none same other = adds-as net old so more (λ phases. own_or_new (more phases) named own) (λ phases. rw (no-own same phases, other) refl) adds

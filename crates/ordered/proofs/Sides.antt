@@ -8,6 +8,7 @@ use Rattle.std.proofs.lemmas.List.{take_all}
 use Rattle.std.proofs.lemmas.List.Folds.{list_any-append}
 use Rattle.sd_base.specs.declared.role.Role.TheVariants.{Order}
 use Rattle.sd_base.specs.Net.{Channel}
+use Rattle.sd_base.proofs.Truths.{or-none}
 use Rattle.ordered.specs.Orders.{entry_at, one_if}
 use Rattle.ordered.specs.OrderedNets.{picked, before, leads, led, order_channel, order_channels_from}
 use Rattle.ordered.specs.inside.Steps.{pairs_from}
@@ -125,10 +126,6 @@ pair-known order x y (suc m) =
     one-miss : (b : Bool) → leads order x y m ≡ false → list_any (λ (p : ℕ × ℕ). (p.0 == x) && (p.1 == y)) (if b then (entry_at order m, entry_at order (suc m)) ∷ [] else []) ≡ false
     one-miss true is = rw is refl
     one-miss false is = refl
-
-    or-none : (b : Bool) → (b || false) ≡ b
-    or-none true = refl
-    or-none false = refl
 
     at : (b : Bool) → leads order x y m ≡ b
         → (not (led order x y m == 0) || list_any (λ (p : ℕ × ℕ). (p.0 == x) && (p.1 == y)) (if led order (entry_at order m) (entry_at order (suc m)) m == 0 then (entry_at order m, entry_at order (suc m)) ∷ [] else [])) ≡ not (led order x y (suc m) == 0)

@@ -2,7 +2,7 @@
 use Rattle.std.proofs.Common.{◌≡◌, ℕ, zero, suc, ◌+◌, ◌-◌, ◌*◌, ◌/◌, ◌%◌, ◌^◌, ◌≤◌, ◌<◌, List, [], ◌∷◌, ◌++◌, length, map, min, take, append_assoc, ⊎_elim, subst, sym, ap, ◌∙◌, arith, mod-lt, div-add-mod', mul-le-mul_right}
 use Rattle.std.proofs.lemmas.Bool.{cases_lt}
 use Rattle.std.proofs.lemmas.Nat.{le-div}
-use Rattle.std.proofs.lemmas.List.{map_more, get_or_append_left, get_or-append-add, get_or-map, get_or_push, length_push, length-append, length-map, ext_get_or}
+use Rattle.std.proofs.lemmas.List.{map_more, get_or_append_left, get_or-append-add, get_or-map, get_or_push, length-append, length-map, ext_get_or}
 use Rattle.std.proofs.lemmas.List.FromFn.{length-map-range_with_len, get_or-map-range_with_len}
 use Rattle.std.specs.Prelude.{slice_index, slice_index_or}
 use Rattle.std.specs.List.{range_with_len}
@@ -251,6 +251,3 @@ row-moved table up down n a r f row least actor same long made small = record {
 pub rows-more : (table : LoopTable) (up down n : ℕ) (old new : List (List ℕ)) (row : List ℕ) → length old ≡ n → ((a : ℕ) → a < n → IsMoved table up down a (slice_index_or old a [])) →
     IsMoved table up down n row → new ≡ old ++ row ∷ [] → (a : ℕ) → a < n + 1 → IsMoved table up down a (slice_index_or new a [])
 rows-more table up down n old new row long each last pushed a below = rw pushed (each-pushed (IsMoved table up down) old row n long each last a below)
-
-pub long-more : (old new : List (List ℕ)) (row : List ℕ) (n : ℕ) → length old ≡ n → new ≡ old ++ row ∷ [] → length new ≡ n + 1
-long-more old new row n long pushed = ap length pushed ∙ (length_push old row ∙ ap (λ (k : ℕ). k + 1) long)

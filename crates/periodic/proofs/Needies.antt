@@ -208,10 +208,3 @@ in-time-decides net period starts i k q n source target phases left time right f
         let le : start_at period starts (channel_at net i).source n + time_of net (channel_at net i).source n ≤ start_at period starts (channel_at net i).target (k + q * count_of starts (channel_at net i).target) = test.ends q n there need in
         let here : left + time ≤ right = omega (arith, left-is, right-is, time-is) in
         le-leb _ _ here
-
--- one more of what holds so far
-pub each-more : (P : ℕ → Type 0) (n : ℕ) → ((k : ℕ) → k < n → P k) → P n → (k : ℕ) → k < n + 1 → P k
-each-more P n so_far next k below = ⊎_elim
-    (λ (less : k < n). so_far k less)
-    (λ (last : n ≤ k). let same : k ≡ n = omega arith in subst P (sym same) next)
-    (cases_lt k n)

@@ -1,11 +1,11 @@
 -- A fraction in lowest terms, as the definition of its text gives it and as it is computed.
-use Rattle.std.proofs.Common.{◌≡◌, ℕ, zero, suc, ◌*◌, ◌/◌, ◌%◌, ◌<◌, ◌≤◌, Bool, true, false, ⊎_elim, sym, ap, ◌∙◌, subst, refl, arith, mod-lt, eqb-true, eq-eqb}
+use Rattle.std.proofs.Common.{◌≡◌, ℕ, zero, suc, ◌*◌, ◌/◌, ◌%◌, ◌<◌, ◌≤◌, Bool, true, false, ⊎_elim, sym, ap, ◌∙◌, subst, refl, arith, eqb-true, eq-eqb}
 use Rattle.std.specs.Prelude.{◌&&◌, ◌==◌, if◌then◌else◌}
 use Rattle.std.specs.Int.{IsGcd, ◌∣◌}
 use Rattle.std.proofs.Math.Nat.{one-dvd, mul-div_cancel', eq_of_mul-eq-mul_right}
 use Rattle.std.proofs.lemmas.Bool.{and_parts, cases_lt}
-use Rattle.std.proofs.lemmas.Nat.Gcd.{IsGcd-from_zero, IsGcd-from_mod, IsGcd-swap, le_from_IsGcd, le_of_dvd, dvd_antisymm, dvd_of_mod-eq-zero, mod-eq-zero_of_dvd}
-use Rattle.sd_base.proofs.Divisors.{gcd_pos, quotients, root_divides}
+use Rattle.std.proofs.lemmas.Nat.Gcd.{IsGcd-swap, le_from_IsGcd, le_of_dvd, dvd_antisymm, dvd_of_mod-eq-zero, mod-eq-zero_of_dvd}
+use Rattle.sd_base.proofs.Divisors.{gcd_pos, quotients, root_divides, some_gcd}
 use Rattle.report.specs.FractionTexts.{divisor_within, fraction_text, lowest_text}
 
 -- g divides both, and no number up to n that does is greater
@@ -41,16 +41,6 @@ within-is : (a b n : ℕ) → IsGreatest a b n (divisor_within a b n)
 unfolding divisor_within
 within-is a b zero = record { first = one-dvd a; second = one-dvd b; greatest = λ d some within one other. absurd (omega arith) }
 within-is a b (suc n) = within-step a b n (divisor_within a b n) (within-is a b n) ((a % suc n == 0) && (b % suc n == 0)) refl
-
-some_gcd : (fuel a b : ℕ) → b < fuel → (g : ℕ) × IsGcd a b g
-some_gcd zero a b below = absurd (omega arith)
-some_gcd (suc fuel) a b below = ⊎_elim
-    (λ (some : 0 < b).
-    let rest : a % b < b = mod-lt a some in
-    let found = some_gcd fuel b (a % b) (omega arith) in
-    (found.0, IsGcd-from_mod a b found.0 found.1))
-    (λ (none : b ≤ 0). let zero_here : b ≡ 0 = omega arith in (a, IsGcd-from_zero a b zero_here))
-    (cases_lt 0 b)
 
 -- the greatest common divisor by order is that by division
 within-gcd : (a b : ℕ) → 0 < b → IsGcd a b (divisor_within a b b)

@@ -1,13 +1,14 @@
 -- One more element of a text that is written element by element.
 use Rattle.std.proofs.Common.{◌≡◌, ℕ, ◌+◌, ◌<◌, ◌≤◌, List, [], ◌∷◌, ◌++◌, length, take, drop, get_or, refl, sym, ap, ◌∙◌, add-one}
 use Rattle.std.proofs.Math.Seq.{drop-cons}
-use Rattle.std.proofs.lemmas.List.{append_assoc, append-nil, at_drop_all, take_all}
+use Rattle.std.proofs.lemmas.List.{append_assoc, append-nil, at_drop_all}
 use Rattle.std.specs.List.{flat_map}
 use Rattle.sd_base.specs.declared.tables.ActorRow.{ActorRow}
 use Rattle.sd_base.specs.declared.tables.GraphFile.{GraphFile}
 use Rattle.balance.specs.declared.walk.WalkStep.{WalkStep}
 use Rattle.report.specs.WalkTexts.{more_steps, step_text}
 use Rattle.sd_base.specs.Net.{Net}
+use Rattle.sd_base.proofs.Lists.{flat_end, piece_next}
 use Rattle.periodic.specs.declared.schedule.Periodic.{Periodic}
 use Rattle.pareto_front.specs.declared.point.Point.{Point}
 use Rattle.critical.specs.declared.cycle.CycleStep.{CycleStep}
@@ -18,14 +19,6 @@ use Rattle.report.specs.ScheduleTexts.{schedule_header, spaced, starts_line, sch
 use Rattle.report.specs.CycleTexts.{cycle_header, step_on, cycle_lines}
 use Rattle.report.specs.StorageTexts.{point_text, points_header, points_lines}
 use Rattle.report.specs.AnswerTexts.{number_line, repetition_header, repetition_lines, rate_line, rate_lines}
-
--- a piece more is written and a piece less is left
-next : (text piece left rest whole new : List ℕ) → left ≡ piece ++ rest → text ++ left ≡ whole → new ≡ text ++ piece → new ++ rest ≡ whole
-next text piece left rest whole new split kept is =
-    ap (λ (l : List ℕ). l ++ rest) is ∙ append_assoc text piece rest ∙ ap (λ (l : List ℕ). text ++ l) (sym split) ∙ kept
-
-pub flat_end : {X : Type 0} (f : X → List ℕ) (start text : List ℕ) (xs : List X) (i : ℕ) → length xs ≤ i → text ≡ start ++ flat_map f (take i xs) → text ≡ start ++ flat_map f xs
-flat_end f start text xs i past kept = kept ∙ ap (λ ys. start ++ flat_map f ys) (take_all i xs past)
 
 lines-nil : {R V : Type 0} (line : R → V → List ℕ) (vs : List V) → lines_of line [] vs ≡ []
 unfolding lines_of
@@ -42,7 +35,7 @@ pub lines_more : {R V : Type 0} (line : R → V → List ℕ) (text whole new : 
     → text ++ lines_of line (drop i rows) (drop i vs) ≡ whole → new ≡ text ++ line (get_or rows i row) v
     → new ++ lines_of line (drop (i + 1) rows) (drop (i + 1) vs) ≡ whole
 lines_more line text whole new rows vs i v d row h k value kept is =
-    next text _ _ _ whole new (lines-drop line rows vs i d row h k) kept (is ∙ ap (λ x. text ++ line (get_or rows i row) x) value)
+    piece_next text _ _ _ whole new (lines-drop line rows vs i d row h k) kept (is ∙ ap (λ x. text ++ line (get_or rows i row) x) value)
 
 -- an actor's line more
 pub lines_next : {V : Type 0} (line : List ℕ → V → List ℕ) (text whole new name : List ℕ) (rows shown : List ActorRow) (vs : List V) (i : ℕ) (v d : V) (row : ActorRow)
@@ -82,7 +75,7 @@ pub steps_next : (g : GraphFile) (text spaced new whole : List ℕ) (ss : List W
     → text ++ more_steps g (drop i ss) ≡ whole → spaced ≡ text ++ 32 ∷ [] → new ≡ spaced ++ step_text g (get_or ss i d)
     → new ++ more_steps g (drop (i + 1) ss) ≡ whole
 steps_next g text spaced new whole ss i d h kept space is =
-    next text ((32 ∷ []) ++ step_text g (get_or ss i d)) _ _ whole new
+    piece_next text ((32 ∷ []) ++ step_text g (get_or ss i d)) _ _ whole new
     (walk-drop g ss i d h ∙ sym (append_assoc (32 ∷ []) (step_text g (get_or ss i d)) (more_steps g (drop (i + 1) ss)))) kept
     (is ∙ ap (λ (l : List ℕ). l ++ step_text g (get_or ss i d)) space ∙ append_assoc text (32 ∷ []) (step_text g (get_or ss i d)))
 

@@ -6,12 +6,12 @@ use Rattle.std.proofs.Math.Seq.{drop-cons}
 use Rattle.std.proofs.lemmas.List.{append_assoc}
 use Rattle.sd_base.specs.declared.tables.SharedRow.{SharedRow}
 use Rattle.sd_base.specs.declared.tables.StateRow.{StateRow}
+use Rattle.sd_base.proofs.Lists.{flat_end}
 use Rattle.automaton.specs.declared.graph.Edge.{Edge}
 use Rattle.automaton.specs.declared.graph.TimedGraph.{TimedGraph}
 use Rattle.automaton.specs.CriticalCycles.{weight_in, weights}
 use Rattle.scenario_rate.specs.declared.answer.Worst.{Worst}
 use Rattle.report.specs.WorstTexts.{no_edge, edge_at, edge_on, worst_header, worst_cycle_lines, potential_count, potentials_header, potential_lines, shown_lines}
-use Rattle.report.proofs.OneMoreElement.{flat_end}
 
 -- one more edge of a cycle
 pub weights-more : (es : List Edge) (ks : List ℕ) (i t w total : ℕ) → i < length ks → w ≡ weight_in (slice_get es (get_or ks i 0))

@@ -3,6 +3,7 @@ use Rattle.std.proofs.Common.{◌≡◌, ℕ, zero, suc, ◌+◌, ◌*◌, ◌-�
 use Rattle.std.specs.Prelude.{slice_get}
 use Rattle.std.proofs.lemmas.Bool.{cases_lt}
 use Rattle.std.proofs.lemmas.List.{length-take-le, take-append-drop}
+use Rattle.std.proofs.lemmas.Option.{slice_get_within}
 use Rattle.automaton.specs.declared.graph.Edge.{Edge}
 use Rattle.automaton.specs.declared.graph.TimedGraph.{TimedGraph}
 use Rattle.automaton.specs.CriticalCycles.{IsPath, weights, IsStart, IsReachedNode}
@@ -13,13 +14,13 @@ use Rattle.scenario_rate.specs.declared.levels.Cell.{Cell}
 use Rattle.scenario_rate.specs.inside.Levels.{cell_at}
 use Rattle.scenario_rate.specs.inside.Searches.{IsScored, AreLevels, node_after, from_in, from_of, AreNumbers, DifferBelow}
 use Rattle.scenario_rate.specs.Answers.{IsApart}
-use Rattle.scenario_rate.proofs.Scoring.{edge-inside, before, upper}
+use Rattle.scenario_rate.proofs.Scoring.{before, upper}
 
 -- ---- a walk cut at a place
 
 pub numbers : (es : List Edge) (ks : List ℕ) (u v : ℕ) → IsPath es u ks v → AreNumbers es ks
 numbers es [] u v path i k h = absurd (let no : ◌≡◌ {A = Option ℕ} None (Some k) = h in (cc))
-numbers es (x ∷ ks) u v (e, is, from, rest) zero k h = let same : x ≡ k = (cc) in subst (λ n. n < length es) same (edge-inside es x e is)
+numbers es (x ∷ ks) u v (e, is, from, rest) zero k h = let same : x ≡ k = (cc) in subst (λ n. n < length es) same (slice_get_within es x e is)
 numbers es (x ∷ ks) u v (e, is, from, rest) (suc i) k h = numbers es ks e.to v rest i k h
 
 pub node-inside : (es : List Edge) (n : ℕ) → AreInside es n → (ks : List ℕ) (u v i : ℕ) → IsPath es u ks v → v < n → node_after es ks v i < n

@@ -1,23 +1,16 @@
 -- The timed graph of a file is within its limits.
-use Rattle.std.proofs.Common.{◌≡◌, ℕ, suc, ◌+◌, ◌*◌, ◌<◌, ◌≤◌, length, ap, ◌∙◌, subst, arith}
+use Rattle.std.proofs.Common.{◌≡◌, ℕ, ◌+◌, ◌*◌, ◌<◌, ◌≤◌, length, ap, ◌∙◌, subst, arith}
 use Rattle.std.specs.Prelude.{slice_get, Some}
-use Rattle.std.proofs.Math.Nat.{mul-le-mul_right, suc-mul}
 use Rattle.std.proofs.lemmas.Option.{slice_get_within}
 use Rattle.sd_base.specs.declared.tables.ScenarioFile.{ScenarioFile}
 use Rattle.sd_base.specs.Scenarios.{shared_count}
-use Rattle.token_matrix.proofs.Rows.{get_there}
+use Rattle.sd_base.proofs.Lists.{get-there}
+use Rattle.sd_base.proofs.Truths.{pair-small}
 use Rattle.automaton.specs.declared.graph.Edge.{Edge}
 use Rattle.automaton.specs.declared.graph.TimedGraph.{TimedGraph}
 use Rattle.automaton.specs.TimedGraphs.{IsTimedGraph}
 use Rattle.automaton.proofs.Members.{Has, get-has, from-from, FromStates}
 use Rattle.automaton.specs.SoundGraphs.{IsSound}
-
--- a place in rows of n
-below : (q i n states : ℕ) → q < states → i < n → q * n + i < states * n
-below q i n states inside column =
-    let rows : suc q * n ≤ states * n = mul-le-mul_right n (let g : suc q ≤ states = omega arith in g) in
-    let more = suc-mul q n in
-    omega (arith, rows, more, column)
 
 -- the ends and the weight of an edge
 record IsWithin (n states : ℕ) (f t w : ℕ) : Type 0 where
@@ -33,13 +26,13 @@ module _ (file : ScenarioFile) (graph : TimedGraph) (is : IsTimedGraph file grap
   within f t w h =
       let state = slice_get_within file.states h.place h.state h.at in
       let next = is.leads_on.known h.place h.out.p h.out.r h.state h.at h.out.to in
-      let row = get_there file.scenarios h.state.scenario (is.leads_on.scenarios h.place h.state h.at) in
+      let row = get-there file.scenarios h.state.scenario (is.leads_on.scenarios h.place h.state h.at) in
       let matrix = (is.are_matrices.each h.state.scenario row.0 row.1).2 in
       let rows = h.out.rows_of in
       let j : rows.j < n = subst (λ m. rows.j < m) matrix.size rows.row in
       let i : rows.i < n = subst (λ m. rows.i < m) (matrix.square rows.j j) rows.within in
-      let from = below h.place rows.i n (length file.states) state i in
-      let to = below h.out.r rows.j n (length file.states) next j in
+      let from = pair-small h.place rows.i n (length file.states) state i in
+      let to = pair-small h.out.r rows.j n (length file.states) next j in
       let first : 0 + h.place ≡ h.place = omega arith in
       let start : f ≡ h.place * n + rows.i = rows.start ∙ ap (λ q. q * n + rows.i) first in
       let end : t ≡ h.out.r * n + rows.j = rows.end in

@@ -1,5 +1,5 @@
 -- Walks of a file's timed graph get heavier and heavier.
-use Rattle.std.proofs.Common.{◌≡◌, ℕ, zero, suc, ◌+◌, ◌*◌, ◌%◌, ◌≤◌, ◌<◌, List, [], ◌∷◌, ◌++◌, length, Option, Some, None, refl, sym, ap, subst, ◌∙◌, inl, inr, arith, length-append}
+use Rattle.std.proofs.Common.{◌≡◌, ℕ, zero, suc, ◌+◌, ◌*◌, ◌%◌, ◌≤◌, ◌<◌, List, [], ◌∷◌, ◌++◌, length, Option, Some, refl, sym, ap, subst, ◌∙◌, inl, inr, arith, length-append}
 use Rattle.std.proofs.Math.Nat.{mul-le-mul_right}
 use Rattle.std.specs.Prelude.{slice_get, slice_index_or}
 use Rattle.std.proofs.lemmas.Nat.{mod-mul-add}
@@ -7,10 +7,10 @@ use Rattle.std.proofs.lemmas.Bool.{cases_lt}
 use Rattle.sd_base.specs.Scenarios.{shared_count}
 use Rattle.automaton.specs.declared.graph.Edge.{Edge}
 use Rattle.sd_base.specs.declared.tables.ScenarioFile.{ScenarioFile}
+use Rattle.sd_base.proofs.Lists.{get-there, some-within}
 use Rattle.automaton.specs.declared.graph.TimedGraph.{TimedGraph}
 use Rattle.automaton.specs.TimedGraphs.{IsTimedGraph}
 use Rattle.automaton.specs.CriticalCycles.{IsPath, weights, weight_in, IsStart}
-use Rattle.token_matrix.proofs.Rows.{get_there}
 use Rattle.automaton.proofs.Walks.{path-append}
 use Rattle.automaton.proofs.Stamping.{at_state, edge_at, edge_from}
 
@@ -36,11 +36,6 @@ module _ (file : ScenarioFile) (graph : TimedGraph) (is : IsTimedGraph file grap
     there : state < length file.states
     walk : (j : ℕ) → j < shared_count file.shared → (u : ℕ) × (ks : List ℕ) × IsStart graph u × IsPath graph.edges u ks (state * shared_count file.shared + j) × (length ks ≡ n)
 
-  column-inside : (row : List (Option ℕ)) (i e : ℕ) → slice_index_or row i None ≡ Some e → i < length row
-  column-inside [] i e h = absurd (let no : ◌≡◌ {A = Option ℕ} None (Some e) = h in (cc))
-  column-inside (x ∷ row) zero e h = (let g : 0 < suc (length row) = omega arith in g)
-  column-inside (x ∷ row) (suc i) e h = (let b : i < length row = column-inside row i e h in let g : suc i < suc (length row) = omega arith in g)
-
   reaches : (n : ℕ) → Reaches n
   reaches zero = record {
     state = file.initial;
@@ -59,15 +54,15 @@ module _ (file : ScenarioFile) (graph : TimedGraph) (is : IsTimedGraph file grap
   }
   reaches (suc n) =
       let b = reaches n in
-      let s = get_there file.states b.state b.there in
-      let r = get_there s.0.next 0 (let h : 1 ≤ length s.0.next = is.leads_on.next b.state s.0 s.1 in omega arith) in
+      let s = get-there file.states b.state b.there in
+      let r = get-there s.0.next 0 (let h : 1 ≤ length s.0.next = is.leads_on.next b.state s.0 s.1 in omega arith) in
       let a = at_state file graph is b.state s.0 s.1 in
       record {
         state = r.0;
         there = is.leads_on.known b.state 0 r.0 s.0 s.1 r.1;
         walk = λ j h.
             (let f = a.matrix.full j h in
-            let i : f.0 < shared_count file.shared = (let c : f.0 < length (slice_index_or (slice_index_or is.matrices s.0.scenario []) j []) = column-inside (slice_index_or (slice_index_or is.matrices s.0.scenario []) j []) f.0 f.1 f.2 in
+            let i : f.0 < shared_count file.shared = (let c : f.0 < length (slice_index_or (slice_index_or is.matrices s.0.scenario []) j []) = some-within (slice_index_or (slice_index_or is.matrices s.0.scenario []) j []) f.0 f.1 f.2 in
             let d : length (slice_index_or (slice_index_or is.matrices s.0.scenario []) j []) ≡ shared_count file.shared = a.matrix.square j h in omega arith) in
             let w = b.walk f.0 i in
             let e = edge_at file graph is b.state r.0 f.0 j f.1 s.0 0 s.1 r.1 f.2 in (

@@ -2,13 +2,14 @@
 use Rattle.std.proofs.Common.{◌≡◌, ℕ, ◌+◌, ◌*◌, ◌≤◌, ◌<◌, List, [], ◌∷◌, length, Option, Some, refl, sym, ap, ◌∙◌, arith}
 use Rattle.std.proofs.Math.Nat.{mul-le-mul_right}
 use Rattle.std.specs.Prelude.{slice_get}
+use Rattle.std.proofs.lemmas.Option.{slice_get_within}
 use Rattle.automaton.specs.declared.graph.TimedGraph.{TimedGraph}
 use Rattle.automaton.specs.CriticalCycles.{IsPath, weights, weight_in}
 use Rattle.scenario_rate.specs.declared.levels.Cell.{Cell}
 use Rattle.automaton.specs.SoundGraphs.{IsSound, Grows}
 use Rattle.scenario_rate.specs.inside.Levels.{cell_at}
 use Rattle.scenario_rate.specs.inside.Searches.{AreLevels, IsLast, IsScored}
-use Rattle.scenario_rate.proofs.Scoring.{edge-inside, upper, scored, over}
+use Rattle.scenario_rate.proofs.Scoring.{upper, scored, over}
 use Rattle.scenario_rate.proofs.Looping.{weights-light}
 
 -- scores along a walk, where no more time goes by
@@ -16,7 +17,7 @@ along-scores : (graph : TimedGraph) (rows : List (List (Option Cell))) (levels :
     → (ks : List ℕ) (u v : ℕ) (c : Cell) → cell_at row u ≡ Some c → IsPath graph.edges u ks v → (d : Cell) × (cell_at row v ≡ Some d) × (c.score + weights graph.edges ks ≤ d.score)
 along-scores graph rows levels k row last [] u v c at path = (c, ap (cell_at row) (sym path) ∙ at, (let g : c.score + 0 ≤ c.score = omega arith in g))
 along-scores graph rows levels k row last (x ∷ ks) u v c at (e, is, from, rest) =
-    let o = over graph 1 0 rows levels k row last x e c (edge-inside graph.edges x e is) is (ap (cell_at row) (sym from) ∙ at) in
+    let o = over graph 1 0 rows levels k row last x e c (slice_get_within graph.edges x e is) is (ap (cell_at row) (sym from) ∙ at) in
     let r = along-scores graph rows levels k row last ks e.to v o.0 o.1 rest in
     let a : weight_in (slice_get graph.edges x) ≡ e.weight = ap weight_in is in
     let b : c.score + e.weight * 1 ≤ o.0.score + 0 = o.2 in

@@ -1,8 +1,9 @@
 -- One more level of a search.
-use Rattle.std.proofs.Common.{◌≡◌, ℕ, zero, suc, ◌+◌, ◌*◌, ◌≤◌, ◌<◌, ◌⊎◌, List, [], ◌∷◌, ◌++◌, length, Option, Some, None, refl, sym, ap, subst, ◌∙◌, inl, inr, arith, length-append}
+use Rattle.std.proofs.Common.{◌≡◌, ℕ, ◌+◌, ◌*◌, ◌≤◌, ◌<◌, ◌⊎◌, List, [], ◌∷◌, ◌++◌, length, Option, Some, sym, ap, subst, ◌∙◌, inl, inr, arith, length-append}
 use Rattle.std.proofs.Math.Nat.{mul-le-mul_right}
 use Rattle.std.specs.Prelude.{slice_get, slice_index_or}
-use Rattle.std.proofs.lemmas.Option.{slice_get-get_or, get_or_from_slice_get}
+use Rattle.std.proofs.lemmas.Option.{slice_get-get_or, get_or_from_slice_get, slice_get_within}
+use Rattle.sd_base.proofs.Lists.{get-last, get-pushed}
 use Rattle.automaton.specs.declared.graph.Edge.{Edge}
 use Rattle.automaton.specs.declared.graph.TimedGraph.{TimedGraph}
 use Rattle.scenario_rate.specs.declared.levels.Cell.{Cell}
@@ -19,46 +20,31 @@ pub record IsGoingOn (graph : TimedGraph) (l w : ℕ) (rows : List (List (Option
   pub wide : length (slice_index_or rows level []) ≡ node_count graph
   pub top : (level ≡ 0) ⊎ ((v < node_count graph) × IsRaisedAt rows level v)
 
-get-pushed : {X : Type 0} → (xs : List X) (x : X) (k : ℕ) (y : X) → slice_get (xs ++ x ∷ []) k ≡ Some y → (slice_get xs k ≡ Some y) ⊎ ((k ≡ length xs) × (x ≡ y))
-get-pushed [] x zero y h = inr (refl, (cc))
-get-pushed [] x (suc k) y h = absurd (cc)
-get-pushed (z ∷ xs) x zero y h = inl h
-get-pushed (z ∷ xs) x (suc k) y h = elim (get-pushed xs x k y h) [ inl a ↦ inl a | inr b ↦ inr (ap (λ n. suc n) b.0, b.1) ]
-
-get-last : {X : Type 0} → (xs : List X) (x : X) → slice_get (xs ++ x ∷ []) (length xs) ≡ Some x
-get-last [] x = refl
-get-last (z ∷ xs) x = get-last xs x
-
-get-inside : {X : Type 0} → (xs : List X) (k : ℕ) (y : X) → slice_get xs k ≡ Some y → k < length xs
-get-inside {X} [] k y h = absurd (let no : ◌≡◌ {A = Option X} None (Some y) = h in (cc))
-get-inside (x ∷ xs) zero y h = (let g : 0 < suc (length xs) = omega arith in g)
-get-inside (x ∷ xs) (suc k) y h = (let i : k < length xs = get-inside xs k y h in let g : suc k < suc (length xs) = omega arith in g)
-
 levels-more : (graph : TimedGraph) (l w : ℕ) (rows : List (List (Option Cell))) (level : ℕ) (row next : List (Option Cell))
     → AreLevels graph l w rows → length rows ≡ level + 1 → slice_get rows level ≡ Some row
     → IsRaised graph.edges (length graph.edges) l w (cell_at row) (cell_at next) → length next ≡ node_count graph → AreLevels graph l w (rows ++ next ∷ [])
 levels-more graph l w rows level row next levels count at raised wide = record {
-  first = λ x h. elim (get-pushed rows next 0 x h) [
+  first = λ x h. elim (get-pushed rows next x 0 h) [
     | inl a ↦ levels.first x a
     | inr b ↦ absurd (let e : 0 ≡ length rows = b.0 in let no : ⊥ = omega arith in no)
   ];
-  more = λ k x y h g. elim (get-pushed rows next (k + 1) y g) [
-    | inl a ↦ elim (get-pushed rows next k x h) [
+  more = λ k x y h g. elim (get-pushed rows next y (k + 1) g) [
+    | inl a ↦ elim (get-pushed rows next x k h) [
       | inl b ↦ levels.more k x y b a
-      | inr c ↦ absurd (let i : k + 1 < length rows = get-inside rows (k + 1) y a in let e : k ≡ length rows = c.0 in let no : ⊥ = omega arith in no)
+      | inr c ↦ absurd (let i : k + 1 < length rows = slice_get_within rows (k + 1) y a in let e : k ≡ length rows = c.0 in let no : ⊥ = omega arith in no)
     ]
-    | inr a ↦ elim (get-pushed rows next k x h) [
+    | inr a ↦ elim (get-pushed rows next x k h) [
       | inl b ↦ (let e : k + 1 ≡ length rows = a.0 in
           let same : k ≡ level = omega arith in
           let eq : row ≡ x = (let s : ◌≡◌ {A = Option (List (Option Cell))} (Some row) (Some x) = sym at ∙ ap (λ n. slice_get rows n) (sym same) ∙ b in (cc)) in
-          subst (λ (z : List (Option Cell)). IsRaised graph.edges (length graph.edges) l w (cell_at x) (cell_at z)) a.1
+          subst (λ (z : List (Option Cell)). IsRaised graph.edges (length graph.edges) l w (cell_at x) (cell_at z)) (sym a.1)
           (subst (λ (z : List (Option Cell)). IsRaised graph.edges (length graph.edges) l w (cell_at z) (cell_at next)) eq raised))
       | inr c ↦ absurd (let e : k ≡ length rows = c.0 in let f : k + 1 ≡ length rows = a.0 in let no : ⊥ = omega arith in no)
     ]
   ];
-  wide = λ k x h. elim (get-pushed rows next k x h) [
+  wide = λ k x h. elim (get-pushed rows next x k h) [
     | inl a ↦ levels.wide k x a
-    | inr b ↦ ap (λ (z : List (Option Cell)). length z) (sym b.1) ∙ wide
+    | inr b ↦ ap (λ (z : List (Option Cell)). length z) b.1 ∙ wide
   ];
 }
 

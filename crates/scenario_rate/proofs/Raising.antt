@@ -4,13 +4,11 @@ use Rattle.std.proofs.Math.Nat.{mul-le-mul}
 use Rattle.std.specs.Prelude.{slice_get, slice_set}
 use Rattle.std.proofs.lemmas.Bool.{cases_lt, cases_eq}
 use Rattle.std.proofs.lemmas.List.{get_or-set_same, get_or-set_other}
+use Rattle.sd_base.proofs.Truths.{some-none}
 use Rattle.automaton.specs.declared.graph.Edge.{Edge}
 use Rattle.scenario_rate.specs.declared.levels.Cell.{Cell}
 use Rattle.automaton.specs.SoundGraphs.{AreInside}
 use Rattle.scenario_rate.specs.inside.Levels.{cell_at, IsBelow, IsAtLeast, IsBrought, IsRaised, AreSmall}
-
-no-edge : (o : Option ℕ) (k : ℕ) → o ≡ None → o ≡ Some k → ⊥
-no-edge o k h g = cc
 
 same-edge : (es : List Edge) (k n : ℕ) (e f : Edge) → k ≡ n → slice_get es k ≡ Some f → slice_get es n ≡ Some e → e ≡ f
 same-edge es k n e f h a b = let c : ◌≡◌ {A = Option Edge} (Some e) (Some f) = sym b ∙ ap (λ (m : ℕ). slice_get es m) (sym h) ∙ a in (cc)
@@ -67,7 +65,7 @@ module _ (es : List Edge) (n l w : ℕ) (d : ℕ → Option Cell) (xs ys : List 
             ))
       ];
       stayed = λ v c' at none. elim (cases_eq v e.to) [
-        | inl h ↦ absurd (no-edge c'.edge n none (is_new v c' h at).1)
+        | inl h ↦ absurd (some-none c'.edge n (is_new v c' h at).1 none)
         | inr h ↦ raised.stayed v c' (sym (elsewhere v h) ∙ at) none
       ];
       came = λ v c' k at edge. elim (cases_eq v e.to) [

@@ -2,7 +2,8 @@
 use Rattle.std.proofs.Common.{◌≡◌, ℕ, zero, suc, ◌+◌, ◌*◌, ◌≤◌, ◌<◌, List, [], ◌∷◌, ◌++◌, length, Option, Some, None, refl, sym, ap, subst, ◌∙◌, arith, length-append}
 use Rattle.std.specs.Prelude.{slice_get, ℤ, pos, ◌+ℤ◌, ◌-ℤ◌, ◌≤ℤ◌}
 use Rattle.std.proofs.lemmas.Int.{ints}
-use Rattle.token_matrix.proofs.Rows.{get_there}
+use Rattle.std.proofs.lemmas.Option.{slice_get_within}
+use Rattle.sd_base.proofs.Lists.{get-there}
 use Rattle.automaton.specs.declared.graph.Edge.{Edge}
 use Rattle.automaton.specs.declared.graph.TimedGraph.{TimedGraph}
 use Rattle.automaton.specs.CriticalCycles.{IsPath, weights, weight_in, IsStart, IsReachedNode, Fit}
@@ -73,11 +74,6 @@ scored-came graph l w k v walk s s' number e (u, m, start, path, long, is) at to
     sums : (c a b l w m s s' : ℕ) → c ≡ a + b → s ≡ a * l + w * m → s' ≡ s + b * l → s' ≡ c * l + w * m
     sums c a b l w m s s' h g e = let x : c * l ≡ (a + b) * l = ap (λ n. n * l) h in omega arith
 
-pub edge-inside : (es : List Edge) (k : ℕ) (e : Edge) → slice_get es k ≡ Some e → k < length es
-edge-inside [] k e h = absurd (let no : ◌≡◌ {A = Option Edge} None (Some e) = h in (cc))
-edge-inside (x ∷ es) zero e h = (let g : 0 < suc (length es) = omega arith in g)
-edge-inside (x ∷ es) (suc k) e h = (let i : k < length es = edge-inside es k e h in let g : suc k < suc (length es) = omega arith in g)
-
 module _ (graph : TimedGraph) (l w : ℕ) (rows : List (List (Option Cell))) (levels : AreLevels graph l w rows) where
   inside : (xs : List (List (Option Cell))) (k : ℕ) (row : List (Option Cell)) → slice_get xs k ≡ Some row → k < length xs
   inside [] k row h = absurd (let no : ◌≡◌ {A = Option (List (Option Cell))} None (Some row) = h in (cc))
@@ -88,7 +84,7 @@ module _ (graph : TimedGraph) (l w : ℕ) (rows : List (List (Option Cell))) (le
   pub before : (k : ℕ) (row : List (Option Cell)) → slice_get rows (suc k) ≡ Some row
       → (last : List (Option Cell)) × (slice_get rows k ≡ Some last) × IsRaised graph.edges (length graph.edges) l w (cell_at last) (cell_at row)
   before k row at = let b : suc k < length rows = inside rows (suc k) row at in
-      let r = get_there rows k (omega arith) in
+      let r = get-there rows k (omega arith) in
       (r.0, r.1, levels.more k r.0 row r.1 (ap (λ n. slice_get rows n) (let e : k + 1 ≡ suc k = omega arith in e) ∙ at))
 
   -- each score is that of a walk
@@ -124,7 +120,7 @@ module _ (graph : TimedGraph) (l w : ℕ) (rows : List (List (Option Cell))) (le
       let b = before k row at in
       let e = last-edge graph.edges ks x s v path in
       let r = upper k b.0 e.front s e.edge.from 0 b.1 start e.path (let a : length (x ∷ ks) ≡ length e.front + 1 = e.long in omega arith) in
-      let n = b.2.over e.number e.edge r.0 (edge-inside graph.edges e.number e.edge e.at) e.at r.1 in
+      let n = b.2.over e.number e.edge r.0 (slice_get_within graph.edges e.number e.edge e.at) e.at r.1 in
       let low : weights graph.edges (x ∷ ks) * l + w * 0 ≤ r.0.score + e.edge.weight * l = one-more (weights graph.edges e.front) e.edge.weight (weights graph.edges (x ∷ ks)) 0 l w r.0.score e.sum r.2 in
       let up : r.0.score + e.edge.weight * l ≤ n.0.score = n.2 in
       (n.0, ap (cell_at row) (sym e.to) ∙ n.1, (let g : weights graph.edges (x ∷ ks) * l + w * 0 ≤ n.0.score = omega arith in g))
@@ -144,7 +140,7 @@ module _ (graph : TimedGraph) (l w : ℕ) (rows : List (List (Option Cell))) (le
   pub along-path : (ks : List ℕ) (u v : ℕ) (c : Cell) → cell_at row u ≡ Some c → IsPath graph.edges u ks v → (d : Cell) × (cell_at row v ≡ Some d)
   along-path [] u v c at path = (c, ap (cell_at row) (sym path) ∙ at)
   along-path (x ∷ ks) u v c at (e, is, from, rest) =
-      let o = over x e c (edge-inside graph.edges x e is) is (ap (cell_at row) (sym from) ∙ at) in along-path ks e.to v o.0 o.1 rest
+      let o = over x e c (slice_get_within graph.edges x e is) is (ap (cell_at row) (sym from) ∙ at) in along-path ks e.to v o.0 o.1 rest
 
   some-potential : (o : Option Cell) (x : ℤ) → potential_of (k * w) o ≡ Some x → (c : Cell) × (o ≡ Some c) × (x ≡ pos c.score -ℤ pos (k * w))
   some-potential None x h = absurd (cc)
@@ -169,7 +165,7 @@ module _ (graph : TimedGraph) (l w : ℕ) (rows : List (List (Option Cell))) (le
     steps = λ n e x y reached at px py.
         (let p = some-potential (cell_at row e.from) x px in
         let q = some-potential (cell_at row e.to) y py in
-        let o = over n e p.0 (edge-inside graph.edges n e at) at p.1 in
+        let o = over n e p.0 (slice_get_within graph.edges n e at) at p.1 in
         let same : o.0 ≡ q.0 = (let z : ◌≡◌ {A = Option Cell} (Some o.0) (Some q.0) = sym o.1 ∙ q.1 in (cc)) in
         stepped x y p.0.score q.0.score (e.weight * l) w (k * w) p.2 q.2 (subst (λ (c : Cell). p.0.score + e.weight * l ≤ c.score + w) same o.2));
   }

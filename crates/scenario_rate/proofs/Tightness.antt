@@ -4,6 +4,7 @@ use Rattle.std.specs.Prelude.{slice_get, ℤ, pos, ◌+ℤ◌, ◌-ℤ◌}
 use Rattle.std.proofs.lemmas.Int.{ints}
 use Rattle.std.proofs.lemmas.Bool.{cases_lt}
 use Rattle.std.proofs.lemmas.Option.{slice_get_within}
+use Rattle.sd_base.proofs.Lists.{get-last, get-left}
 use Rattle.automaton.specs.declared.graph.Edge.{Edge}
 use Rattle.automaton.specs.declared.graph.TimedGraph.{TimedGraph}
 use Rattle.automaton.specs.CriticalCycles.{IsPath, IsReachedNode, IsCritical, weights, weight_in}
@@ -14,7 +15,7 @@ use Rattle.scenario_rate.specs.ChosenCycles.{IsTight, IsTightPath, IsChosen}
 use Rattle.scenario_rate.specs.inside.Levels.{cell_at}
 use Rattle.scenario_rate.specs.inside.Searches.{AreLevels, IsLast, potential_of, node_after, from_in, from_of}
 use Rattle.scenario_rate.specs.inside.Choosing.{IsAmong, AreKnown, IsWalkAmong, HasCycle, IsChosenOf, IsEven, IsTightIn, AreTight}
-use Rattle.scenario_rate.proofs.Scoring.{edge-inside, over, only-reached, fit}
+use Rattle.scenario_rate.proofs.Scoring.{over, only-reached, fit}
 use Rattle.scenario_rate.proofs.Shortening.{cut, length-cut}
 
 -- ---- edge by edge
@@ -25,21 +26,12 @@ get-pushed [] x (suc i) k at = absurd (cc)
 get-pushed (y ∷ xs) x zero k at = inl (0, at)
 get-pushed (y ∷ xs) x (suc i) k at = elim (get-pushed xs x i k at) [ inl (j, is) ↦ inl (suc j, is) | inr same ↦ inr same ]
 
-among-old : (xs : List ℕ) (x k i : ℕ) → slice_get xs i ≡ Some k → slice_get (xs ++ x ∷ []) i ≡ Some k
-among-old [] x k i at = absurd (cc)
-among-old (y ∷ xs) x k zero at = at
-among-old (y ∷ xs) x k (suc i) at = among-old xs x k i at
-
-among-new : (xs : List ℕ) (x : ℕ) → slice_get (xs ++ x ∷ []) (length xs) ≡ Some x
-among-new [] x = refl
-among-new (y ∷ xs) x = among-new xs x
-
 pub tight_more : (es : List Edge) (row : List (Option Cell)) (l w n : ℕ) (ts more : List ℕ) → AreTight es row l w n ts → IsTightIn es row l w n → more ≡ ts ++ n ∷ [] → AreTight es row l w (n + 1) more
 tight_more es row l w n ts more so_far tight push = subst (AreTight es row l w (n + 1)) (sym push) (record {
   each = λ k among. (elim (get-pushed ts n among.0 k among.1) [ inl old ↦ so_far.each k old | inr same ↦ subst (IsTightIn es row l w) (sym same) tight ]);
   all = λ k below is. ⊎_elim
-      (λ (old : k < n). let a = so_far.all k old is in (a.0, among-old ts n k a.0 a.1))
-      (λ (last : n ≤ k). let same : n ≡ k = omega arith in (length ts, among-new ts n ∙ ap Some same))
+      (λ (old : k < n). let a = so_far.all k old is in (a.0, get-left ts (n ∷ []) a.0 k a.1))
+      (λ (last : n ≤ k). let same : n ≡ k = omega arith in (length ts, get-last ts n ∙ ap Some same))
       (cases_lt k n);
 })
 
@@ -93,7 +85,7 @@ module _ (graph : TimedGraph) (l w : ℕ) (rows : List (List (Option Cell))) (le
   along_scores : (ks : List ℕ) (u v : ℕ) (c : Cell) → cell_at row u ≡ Some c → IsPath graph.edges u ks v → (d : Cell) × (cell_at row v ≡ Some d) × (c.score + weights graph.edges ks * l ≤ d.score + w * length ks)
   along_scores [] u v c at path = (c, ap (cell_at row) (sym path) ∙ at, omega arith)
   along_scores (x ∷ ks) u v c at (e, is, from, rest) =
-      let o = over graph l w rows levels k row last x e c (edge-inside graph.edges x e is) is (ap (cell_at row) (sym from) ∙ at) in
+      let o = over graph l w rows levels k row last x e c (slice_get_within graph.edges x e is) is (ap (cell_at row) (sym from) ∙ at) in
       let r = along_scores ks e.to v o.0 o.1 rest in
       (r.0, r.1, (let h : c.score + weights graph.edges (x ∷ ks) * l ≤ r.0.score + w * suc (length ks) = omega (arith, sums e ks x is, longer (length ks), o.2, r.2) in h))
 
@@ -101,13 +93,13 @@ module _ (graph : TimedGraph) (l w : ℕ) (rows : List (List (Option Cell))) (le
   tight_along : (ks : List ℕ) (u v : ℕ) (c d : Cell) → cell_at row u ≡ Some c → cell_at row v ≡ Some d → IsPath graph.edges u ks v → d.score + w * length ks ≤ c.score + weights graph.edges ks * l → IsWalkAmong graph.edges ts u ks v
   tight_along [] u v c d at to path heavy = path
   tight_along (x ∷ ks) u v c d at to (e, is, from, rest) heavy =
-      let o = over graph l w rows levels k row last x e c (edge-inside graph.edges x e is) is (ap (cell_at row) (sym from) ∙ at) in
+      let o = over graph l w rows levels k row last x e c (slice_get_within graph.edges x e is) is (ap (cell_at row) (sym from) ∙ at) in
       let r = along_scores ks e.to v o.0 o.1 rest in
       let same : r.0 ≡ d = (let h : Some r.0 ≡ Some d = sym r.1 ∙ to in cc) in
       let up : o.0.score + weights graph.edges ks * l ≤ d.score + w * length ks = subst (λ (z : Cell). o.0.score + weights graph.edges ks * l ≤ z.score + w * length ks) same r.2 in
       let even : c.score + e.weight * l ≡ o.0.score + w = omega (arith, sums e ks x is, longer (length ks), o.2, heavy) in
       let here : IsTightIn graph.edges row l w x = (e, is, subst (λ (z : Option Cell). IsEven l w e z (cell_at row e.to)) (sym (ap (cell_at row) (sym from) ∙ at)) (subst (λ (z : Option Cell). IsEven l w e (Some c) z) (sym o.1) even)) in
-      (e, is, from, tight.all x (edge-inside graph.edges x e is) here, tight_along ks e.to v o.0 d o.1 to rest (omega (arith, sums e ks x is, longer (length ks), o.2, heavy)))
+      (e, is, from, tight.all x (slice_get_within graph.edges x e is) here, tight_along ks e.to v o.0 d o.1 to rest (omega (arith, sums e ks x is, longer (length ks), o.2, heavy)))
 
   reached_cell : (v : ℕ) (c : Cell) → cell_at row v ≡ Some c → IsReachedNode graph v
   reached_cell v c at = only-reached graph l w rows levels k row last v (pos c.score -ℤ pos (k * w)) (ap (potential_of (k * w)) at)
@@ -211,7 +203,7 @@ module _ (graph : TimedGraph) (l w : ℕ) (rows : List (List (Option Cell))) (le
 
     from_path : (ks : List ℕ) (u v : ℕ) → IsTightPath graph l w p u ks v → IsWalkAmong graph.edges ts u ks v
     from_path [] u v walk = walk
-    from_path (x ∷ ks) u v (e, is, from, t, rest) = (e, is, from, tight.all x (edge-inside graph.edges x e is) (from_tight x t), from_path ks e.to v rest)
+    from_path (x ∷ ks) u v (e, is, from, t, rest) = (e, is, from, tight.all x (slice_get_within graph.edges x e is) (from_tight x t), from_path ks e.to v rest)
 
     pub is_chosen : (cycle : List ℕ) → IsChosenOf graph.edges ts cycle → IsChosen graph l w p cycle
     is_chosen cycle chosen = record {

@@ -1,7 +1,7 @@
 -- A walk traced back through the levels.
 use Rattle.std.proofs.Common.{◌≡◌, ℕ, zero, suc, ◌+◌, ◌*◌, ◌-◌, ◌<◌, List, [], ◌∷◌, ◌++◌, length, Option, Some, None, refl, sym, ap, subst, ◌∙◌, arith}
 use Rattle.std.specs.Prelude.{slice_get, slice_index_or}
-use Rattle.std.proofs.lemmas.Option.{slice_get-get_or, get_or_from_slice_get}
+use Rattle.std.proofs.lemmas.Option.{slice_get-get_or, get_or_from_slice_get, slice_get_within}
 use Rattle.automaton.specs.declared.graph.Edge.{Edge}
 use Rattle.automaton.specs.declared.graph.TimedGraph.{TimedGraph}
 use Rattle.scenario_rate.specs.declared.levels.Cell.{Cell}
@@ -9,7 +9,7 @@ use Rattle.automaton.specs.SoundGraphs.{node_count}
 use Rattle.scenario_rate.specs.inside.Levels.{cell_at, IsRaised, edge_in}
 use Rattle.scenario_rate.specs.inside.Searches.{AreLevels, IsScored, IsScoredAt, HasCell, cell_of}
 use Rattle.scenario_rate.proofs.Cells.{cell-inside}
-use Rattle.scenario_rate.proofs.Scoring.{scored-stayed, scored-came, edge-inside, before}
+use Rattle.scenario_rate.proofs.Scoring.{scored-stayed, scored-came, before}
 
 module _ (graph : TimedGraph) (l w : ℕ) (rows : List (List (Option Cell))) (levels : AreLevels graph l w rows) where
   row-there : (k : ℕ) → k < length rows → slice_get rows k ≡ Some (slice_index_or rows k [])
@@ -67,7 +67,7 @@ module _ (graph : TimedGraph) (l w : ℕ) (rows : List (List (Option Cell))) (le
       let s = d.raised.came v c number at (sym (no-edge-in (cell_of rows (suc j) v) c at) ∙ some) in
       let is : slice_index_or graph.edges number (record { from = 0; to = 0; weight = 0 }) ≡ s.0 = get_or_from_slice_get graph.edges number s.0 (record { from = 0; to = 0; weight = 0 }) s.2 in
       subst (λ (e : Edge). Came j v number e.from) (sym is) (record {
-        inside = edge-inside graph.edges number s.0 s.2;
+        inside = slice_get_within graph.edges number s.0 s.2;
         cell = (d.inside, cell-inside (slice_index_or rows j []) s.0.from s.1 s.4, (s.1, s.4));
         walk = λ walk walk' is (b, b_at, scored). subst (λ (z : List ℕ). IsScoredAt graph l w rows (suc j) z v) (sym is)
             (let same : b ≡ s.1 = (let e : ◌≡◌ {A = Option Cell} (Some b) (Some s.1) = sym b_at ∙ s.4 in (cc)) in (

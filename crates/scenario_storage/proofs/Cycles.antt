@@ -8,7 +8,7 @@ use Rattle.sd_base.specs.declared.tables.ScenarioFile.{ScenarioFile}
 use Rattle.sd_base.specs.declared.tables.ScenarioRow.{ScenarioRow}
 use Rattle.sd_base.specs.Scenarios.{Shares}
 use Rattle.sd_base.specs.Untimed.{IsLive}
-use Rattle.token_matrix.proofs.Rows.{one-repetition}
+use Rattle.sd_base.proofs.Rounds.{one-repetition}
 use Rattle.automaton.specs.declared.graph.TimedGraph.{TimedGraph}
 use Rattle.automaton.specs.TimedGraphs.{IsTimedGraph}
 use Rattle.entry_ways.specs.declared.marking.EntryPlace.{EntryPlace}

@@ -10,7 +10,7 @@ use Rattle.sd_base.specs.FileNet.{own_channels_from}
 use Rattle.sd_base.specs.Net.{Channel, file_channels}
 use Rattle.sd_base.specs.Scenarios.{Shares, shared_count}
 use Rattle.sd_base.proofs.FileNets.{file-length}
-use Rattle.token_matrix.proofs.Rows.{get_there}
+use Rattle.sd_base.proofs.Lists.{get-there}
 use Rattle.bounded_scenarios.specs.Boundings.{CanBeBounded}
 use Rattle.bounded_scenarios.proofs.Counts.{dist-long, rows-few}
 use Rattle.bounded_scenarios.specs.BoundedFiles.{bounded_graph}
@@ -25,7 +25,7 @@ module _ (file : ScenarioFile) (limit : ℕ) (can : CanBeBounded file limit) whe
 
   pub shared-few : length file.shared ≤ 1024
   shared-few =
-      let first = get_there file.scenarios 0 (omega (arith, can.rules.some_scenario)) in
+      let first = get-there file.scenarios 0 (omega (arith, can.rules.some_scenario)) in
       let few : length file.shared ≤ shared_count file.shared = rows-few file.shared (λ t row at. ((its-shares 0 first.0 first.1).rows t row at).5) in
       let states : 1 * shared_count file.shared ≤ length file.states * shared_count file.shared = mul-le-mul_right (shared_count file.shared) can.rules.some_state in
       omega (arith, few, states, can.rules.few_nodes)
@@ -41,7 +41,7 @@ module _ (file : ScenarioFile) (ds : List (Option ℕ)) (g : GraphFile) (shares 
   pub spaces-in_graph : AreSpacesWithin (length (bounded_graph file.shared ds g).channels) (spaces_from (length g.channels) ds)
   spaces-in_graph c i has =
       let low : c < length file.shared = (let b = has-place (spaces_from (length g.channels) ds) c i has in omega (arith, b, spaces-long (length g.channels) ds, long)) in
-      let row = get_there file.shared c low in
+      let row = get-there file.shared c low in
       let is = numbered-space file ds g shares c i row.0 row.1 has in
       slice_get_within (bounded_graph file.shared ds g).channels i is.1.0 is.1.1
 

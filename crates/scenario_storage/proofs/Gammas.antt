@@ -8,10 +8,11 @@ use Rattle.sd_base.specs.declared.tables.GraphFile.{GraphFile}
 use Rattle.sd_base.specs.declared.tables.ScenarioFile.{ScenarioFile}
 use Rattle.sd_base.specs.declared.tables.ScenarioRow.{ScenarioRow}
 use Rattle.sd_base.specs.Tables.{KeepsRules}
+use Rattle.sd_base.proofs.Lists.{get-left}
 use Rattle.balance.specs.declared.refusal.BalanceError.{BalanceError}
 use Rattle.balance.specs.declared.refusal.BalanceError.TheVariants as causes
 use Rattle.balance.specs.Repetition.{HasOneAnswer, IsRefusal, IsRound}
-use Rattle.bounded_scenarios.proofs.Lists.{at-left, at-right}
+use Rattle.bounded_scenarios.proofs.Lists.{at-right}
 use Rattle.scenario_storage.specs.inside.Levels.{AreRounds}
 
 pub record AreRoundsTo (file : ScenarioFile) (n : ℕ) (gammas : List (List ℕ)) : Type 0 where
@@ -24,7 +25,7 @@ rounds-more file n gammas row gamma are at is = record {
   all = omega (arith, are.all, length-append gammas (gamma ∷ []));
   each = λ s other below there.
       ⊎_elim
-      (λ (before : s < n). let g = are.each s other before there in (g.0, at-left gammas (gamma ∷ []) s g.0 g.1, g.2))
+      (λ (before : s < n). let g = are.each s other before there in (g.0, get-left gammas (gamma ∷ []) s g.0 g.1, g.2))
       (λ (past : n ≤ s).
       let here : length gammas + 0 ≡ s = omega (arith, below, past, are.all) in
       let first : n ≡ s = omega (arith, below, past) in

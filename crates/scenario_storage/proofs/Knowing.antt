@@ -16,7 +16,7 @@ use Rattle.storage.specs.ClosedLists.{Entry}
 use Rattle.storage.specs.Distributions.{storage_of}
 use Rattle.storage.specs.StorageOrder.{IsBefore}
 use Rattle.storage.proofs.CapacityOrder.{no_later-refl, no_later-total}
-use Rattle.storage.proofs.FrontsFromMembers.{no_less}
+use Rattle.storage.proofs.FrontsFromMembers.{below_less}
 use Rattle.bounded_scenarios.specs.SharedChannels.{shared_channels}
 use Rattle.scenario_storage.specs.declared.point.ScenarioPoint.{ScenarioPoint}
 use Rattle.scenario_storage.specs.declared.rated.Evidence.{Evidence}
@@ -26,14 +26,6 @@ use Rattle.scenario_storage.specs.inside.Levels.{Shows}
 use Rattle.scenario_storage.specs.inside.Points.{HasNoSlower, IsPut, IsTaken}
 use Rattle.scenario_storage.specs.inside.Searches.{AreKnown, IsBest, IsCoveredBy, IsNoted, IsOffered, IsPointFor, IsPointOf, IsPointWith, KeepsEarlier, entry_of}
 use Rattle.scenario_storage.proofs.PointOrder.{put-rising}
-
--- of fractions: no more than what is less than a third one
-pub below_less : (a b c d e f : ℕ) → 1 ≤ b → a * d ≤ c * b → c * f < e * d → a * f < e * b
-below_less a b c d e f some one other =
-    ⊎_elim
-    (λ (h : a * f < e * b). h)
-    (λ (back : e * b ≤ a * f). absurd (let le : e * d ≤ c * f = no_less e f a b c d some back one in omega arith))
-    (cases_lt (a * f) (e * b))
 
 -- what stands before in order and needs as much is no later
 pub before-no_later : (file : ScenarioFile) (ds es : List (Option ℕ)) → IsBefore (shared_channels file) ds es →

@@ -1,22 +1,23 @@
 -- Longest ways of the edges of a cycle, and the shared channels whose free space is taken on them.
-use Rattle.std.proofs.Common.{◌≡◌, ℕ, ◌+◌, ◌*◌, ◌/◌, ◌%◌, ◌≤◌, ◌<◌, Bool, true, false, Option, Some, List, [], length, map, inl, inr, ⊎_elim, refl, sym, ap, ◌∙◌, subst, arith}
-use Rattle.std.specs.Prelude.{◌↔◌, Contains, option_map, slice_get, slice_index_or}
+use Rattle.std.proofs.Common.{◌≡◌, ℕ, ◌+◌, ◌*◌, ◌/◌, ◌%◌, ◌≤◌, ◌<◌, Bool, true, false, Option, Some, List, [], length, inl, inr, ⊎_elim, refl, sym, ap, ◌∙◌, subst, arith}
+use Rattle.std.specs.Prelude.{◌↔◌, Contains, slice_get, slice_index_or}
 use Rattle.std.proofs.lemmas.Bool.{cases_lt, true≢false}
 use Rattle.std.proofs.lemmas.List.{get_or_default, get_or_past, length-map}
 use Rattle.std.proofs.lemmas.List.Elements.{Contains-get_or}
 use Rattle.std.proofs.lemmas.Nat.{div-mul-add, mod-mul-add}
-use Rattle.std.proofs.lemmas.Option.{get_or_from_slice_get, slice_get-map, slice_get_within}
+use Rattle.std.proofs.lemmas.Option.{get_or_from_slice_get, slice_get_within, slice_get-get_or}
 use Rattle.sd_base.specs.declared.tables.ScenarioFile.{ScenarioFile}
 use Rattle.sd_base.specs.declared.tables.ScenarioRow.{ScenarioRow}
 use Rattle.sd_base.specs.declared.tables.SharedRow.{SharedRow}
 use Rattle.sd_base.specs.declared.tables.GraphFile.{GraphFile}
 use Rattle.sd_base.specs.Net.{IsRepetitionOf}
 use Rattle.sd_base.specs.Scenarios.{Shares}
+use Rattle.sd_base.proofs.Lists.{get-there, get-map}
+use Rattle.sd_base.proofs.Rounds.{one-repetition}
 use Rattle.token_matrix.specs.Matrices.{IsMatrix}
 use Rattle.token_matrix.specs.Stamps.{first_of}
 use Rattle.token_matrix.specs.Ways.{IsWay}
 use Rattle.token_matrix.proofs.GraphWays.{its-way, no-longer}
-use Rattle.token_matrix.proofs.Rows.{get_there, one-repetition}
 use Rattle.automaton.specs.declared.graph.Edge.{Edge}
 use Rattle.automaton.specs.declared.graph.TimedGraph.{TimedGraph}
 use Rattle.automaton.specs.TimedGraphs.{IsTimedGraph}
@@ -34,19 +35,16 @@ use Rattle.scenario_storage.proofs.SpaceNumbers.{numbered-space, space-capped, s
 -- an element of a list has a place
 pub contains-get : {A : Type 0} (xs : List A) (x : A) → Contains xs x → (k : ℕ) × (slice_get xs k ≡ Some x)
 contains-get xs x (k, below, same) =
-    let there = get_there xs k below in
+    let there = get-there xs k below in
     (k, there.1 ∙ ap Some (sym (get_or_from_slice_get xs k there.0 x there.1) ∙ same))
 
 pub get-contains : {A : Type 0} (xs : List A) (k : ℕ) (x : A) → slice_get xs k ≡ Some x → Contains xs x
 get-contains xs k x at = (k, slice_get_within xs k x at, get_or_from_slice_get xs k x x at)
 
-pub there-or : {A : Type 0} (xs : List A) (k : ℕ) (d : A) → k < length xs → slice_get xs k ≡ Some (slice_index_or xs k d)
-there-or xs k d below = let there = get_there xs k below in there.1 ∙ ap Some (sym (get_or_from_slice_get xs k there.0 d there.1))
-
 -- an element that was taken from a list by its place
 pub item-at : {A : Type 0} (xs ys : List A) (k : ℕ) (x : A) → ys ≡ xs → k < length ys → x ≡ slice_index_or ys k x → slice_get xs k ≡ Some x
 item-at {A = A} xs ys k x same below is =
-    subst (λ (zs : List A). slice_get zs k ≡ Some x) same (there-or ys k x below ∙ ap Some (sym is))
+    subst (λ (zs : List A). slice_get zs k ≡ Some x) same (slice_get-get_or ys k x below ∙ ap Some (sym is))
 
 pub marked-within : (marks : List Bool) (c : ℕ) → slice_index_or marks c false ≡ true → c < length marks
 marked-within marks c is =
@@ -54,9 +52,6 @@ marked-within marks c is =
     (λ (below : c < length marks). below)
     (λ (past : length marks ≤ c). absurd (true≢false (sym is ∙ get_or_past marks c false past)))
     (cases_lt c (length marks))
-
-pub get-map : {A B : Type 0} (f : A → B) (xs : List A) (k : ℕ) (x : A) → slice_get xs k ≡ Some x → slice_get (map f xs) k ≡ Some (f x)
-get-map f xs k x at = slice_get-map f xs k ∙ ap (option_map f) at
 
 -- the free spaces that are taken on these channels of a scenario are marked
 abbrev pub ShowsMarked : ScenarioFile → List (Option ℕ) → GraphFile → List ℕ → List Bool → Type 0
@@ -225,9 +220,9 @@ module _ (file : ScenarioFile) (gammas : List (List ℕ)) (ds : List (Option ℕ
     -- a channel that is marked now
     taken-new : (c i : ℕ) → c < length old → HasSpace (spaces_from (length more.scenario.row.graph.channels) ds) c i → IsOnSome more.ways i → IsTakenOn file ds graph cycle c
     taken-new c i below has (cs, (k, low, way_is), on) =
-        let entry = get_there entries k (omega (arith, low, more.each)) in
+        let entry = get-there entries k (omega (arith, low, more.each)) in
         let it = (listed entry.0).0 (get-contains entries k entry.0 entry.1) in
-        let shared = get_there file.shared c (omega (arith, below, was.long)) in
+        let shared = get-there file.shared c (omega (arith, below, was.long)) in
         let capped = space-capped file ds more.scenario.row.graph (shares s more.scenario.row more.scenario.at) c i has in
         let is_way : slice_index_or more.ways k [] ≡ cs = get_or_default more.ways k [] cs low ∙ way_is in
         let longest : IsLongestWay (bounded_net file.shared ds more.scenario.row.graph more.scenario.gamma) (first_of (bounded_file file ds).shared (bounded_graph file.shared ds more.scenario.row.graph)) (place_of graph.tokens it.edge).column (place_of graph.tokens it.edge).row cs =

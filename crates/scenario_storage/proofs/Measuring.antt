@@ -13,11 +13,11 @@ use Rattle.sd_base.specs.FileNet.{net_of}
 use Rattle.sd_base.specs.Net.{IsRepetitionOf}
 use Rattle.sd_base.specs.Scenarios.{LeadsOn, shared_count}
 use Rattle.sd_base.specs.Untimed.{IsLive}
+use Rattle.sd_base.proofs.Lists.{get-there, get-map}
 use Rattle.token_matrix.specs.Matrices.{IsMatrix}
 use Rattle.token_matrix.specs.MatrixRefusals.{IsMatrixRefusal}
 use Rattle.token_matrix.specs.declared.making.MatrixError.{MatrixError}
 use Rattle.token_matrix.specs.declared.making.MatrixError.TheVariants.{Limit, Blocked, NoMemory}
-use Rattle.token_matrix.proofs.Rows.{get_there}
 use Rattle.automaton.specs.declared.graph.Edge.{Edge}
 use Rattle.automaton.specs.TimedGraphs.{AreKept, AreSized, IsRun, edges_from}
 use Rattle.automaton.proofs.Kept.{kept-edges, kept-more, kept-sized, matrices-sized}
@@ -27,11 +27,10 @@ use Rattle.bounded_scenarios.specs.StorageRates.{RunsOn, bounded_net}
 use Rattle.scenario_storage.specs.ScenarioPoints.{HasTooManyEdges}
 use Rattle.scenario_storage.specs.inside.Levels.{AreRounds}
 use Rattle.scenario_storage.specs.inside.Ratings.{AreAllMatrices, AreKeptMatrices, IsMatrixAnswer, IsMatrixOf, IsScenarioAt}
-use Rattle.scenario_storage.proofs.Marking.{get-map}
 
 pub scenario-of : (file : ScenarioFile) (gammas : List (List ℕ)) → AreRounds file gammas → (s : ℕ) → s < length file.scenarios → IsScenarioAt file gammas s
 scenario-of file gammas rounds s below =
-    let row = get_there file.scenarios s below in
+    let row = get-there file.scenarios s below in
     let r = rounds.each s row.0 row.1 in
     record { row = row.0; at = row.1; gamma = r.0; its = r.1; gives = r.2.least }
 

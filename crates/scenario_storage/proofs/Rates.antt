@@ -11,7 +11,8 @@ use Rattle.sd_base.specs.Scenarios.{Shares}
 use Rattle.sd_base.specs.Untimed.{IsLive}
 use Rattle.sd_base.proofs.Blocking.{live-unblocked}
 use Rattle.sd_base.proofs.Parts.{wired}
-use Rattle.token_matrix.proofs.Rows.{get_there, one-repetition}
+use Rattle.sd_base.proofs.Lists.{get-there}
+use Rattle.sd_base.proofs.Rounds.{one-repetition}
 use Rattle.automaton.specs.declared.graph.TimedGraph.{TimedGraph}
 use Rattle.automaton.specs.CriticalCycles.{IsCritical}
 use Rattle.automaton.specs.TimedGraphs.{IsTimedGraph}
@@ -38,7 +39,7 @@ module _ (file : ScenarioFile) (gammas : List (List ℕ)) (ds : List (Option ℕ
       let capped = space-capped file ds at.is.scenario.row.graph shares c w.0 w.1 in
       let low : c < length file.shared =
       omega (arith, long, has-place (spaces_from (length at.is.scenario.row.graph.channels) ds) c w.0 w.1, spaces-long (length at.is.scenario.row.graph.channels) ds) in
-      let shared = get_there file.shared c low in (
+      let shared = get-there file.shared c low in (
         held_by shared.0 s at.is.scenario.row shared.1 at.is.scenario.at at.first (record {
           gamma = at.is.scenario.gamma;
           gives = at.is.scenario.gives;

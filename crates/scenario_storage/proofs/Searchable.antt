@@ -31,7 +31,7 @@ pub record IsSearchable (file : ScenarioFile) (limit : ℕ) : Type 0 where
   pub roles : (i : ℕ) → i < length (shared_channels file) → is_token_role (slice_index_or (shared_channels file) i nowhere).role ≡ true
 
 -- shared channels are those of a file
-token-roles : (ss : List ScenarioRow) (p : ℕ) (rows : List SharedRow) (i : ℕ) → i < length (shared_channels_from ss p rows) →
+pub token-roles : (ss : List ScenarioRow) (p : ℕ) (rows : List SharedRow) (i : ℕ) → i < length (shared_channels_from ss p rows) →
     is_token_role (slice_index_or (shared_channels_from ss p rows) i nowhere).role ≡ true
 token-roles ss p [] i below = absurd (omega (arith, below))
 token-roles ss p (row ∷ rows) zero below = refl

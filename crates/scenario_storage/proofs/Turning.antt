@@ -1,12 +1,13 @@
 -- A level is taken off those that wait, and each of its answers is taken in.
-use Rattle.std.proofs.Common.{◌≡◌, ℕ, ◌+◌, ◌-◌, ◌≤◌, ◌<◌, ◌⊎◌, true, false, Option, None, Some, List, [], ◌∷◌, ◌++◌, drop, length, map, ⊎_elim, refl, sym, ap, ◌∙◌, subst, arith, inl, inr}
+use Rattle.std.proofs.Common.{◌≡◌, ℕ, ◌+◌, ◌-◌, ◌≤◌, ◌<◌, ◌⊎◌, true, false, Option, None, Some, List, [], ◌∷◌, ◌++◌, drop, length, map, ⊎_elim, sym, ap, ◌∙◌, subst, arith, inl, inr}
 use Rattle.std.specs.Prelude.{All, Contains, MatchOption, slice_index_or}
 use Rattle.std.proofs.lemmas.Bool.{true≢false}
-use Rattle.std.proofs.lemmas.List.{drop_more, get_or-map, length-append, length-map}
+use Rattle.std.proofs.lemmas.List.{drop_more, length-append, length-map}
 use Rattle.std.proofs.lemmas.List.Elements.{All-contains, All-map, Contains-append_left, Contains-append_right, Contains-get_or}
 use Rattle.sd_base.specs.declared.numbers.Fraction.{Fraction}
 use Rattle.sd_base.specs.declared.tables.ScenarioFile.{ScenarioFile}
 use Rattle.sd_base.specs.Net.{Channel}
+use Rattle.sd_base.proofs.Lists.{map-map, all-unmap}
 use Rattle.storage.specs.ClosedLists.{Entry}
 use Rattle.storage.specs.Distributions.{storage_of}
 use Rattle.storage.specs.StorageOrder.{AreInOrder, IsBefore}
@@ -252,9 +253,6 @@ module _ (file : ScenarioFile) (limits : ScenarioLimits) (can : IsSearchable fil
       reachable = λ k d below. (candidate (slice_index_or spent.found k d) (Contains-get_or spent.found k d below)).reachable
 
 -- the answers of a level are of its distributions
-all-unmap : {A B : Type 0} (P : B → Type 0) (f : A → B) (xs : List A) → All P (map f xs) → All (λ (x : A). P (f x)) xs
-all-unmap P f xs all = λ k d below. subst P (get_or-map f xs k d (f d) below) (all k (f d) (omega (arith, below, length-map xs f)))
-
 pub level-answers : (file : ScenarioFile) (limits : ScenarioLimits) (total : ℕ) (best : Fraction) (answers : List Answered) (fs : List (Found Unit)) →
     map (λ (a : Answered). a.capacities) answers ≡ map (λ (f : Found Unit). f.capacities) fs →
     All (λ (f : Found Unit). storage_of (shared_channels file) f.capacities.capacities ≡ total) fs →
@@ -263,10 +261,6 @@ level-answers file limits total best answers fs order totals all = λ k d below.
     let P : Distribution → Type 0 = λ (x : Distribution). storage_of (shared_channels file) x.capacities ≡ total in
     let of : All P (map (λ (a : Answered). a.capacities) answers) = subst (All P) (sym order) (All-map P (λ (f : Found Unit). f.capacities) fs totals) in
     record { answer = all k d below; storage = all-unmap P (λ (a : Answered). a.capacities) answers of k d below }
-
-map-map : {A B C : Type 0} (f : B → C) (g : A → B) (xs : List A) → map f (map g xs) ≡ map (λ (x : A). f (g x)) xs
-map-map f g [] = refl
-map-map f g (x ∷ xs) = ap (λ ys. f (g x) ∷ ys) (map-map f g xs)
 
 pub answered-level : (answers : List Answered) (fs : List (Found Unit)) → map (λ (a : Answered). a.capacities) answers ≡ map (λ (f : Found Unit). f.capacities) fs →
     answered_of answers ≡ distributions_of fs

@@ -25,7 +25,7 @@ pub record Step (net : Net) (x : ℕ) (s u : Schedule) (e f : ℕ → ℕ) : Typ
   pub full : Full net f (count_of u)
   pub past : (a : ℕ) → length net.times ≤ a → count_of u a ≡ 0
 
-shape-read : (net : Net) (x : ℕ) → shape_at net x ≡ shape_of net x (earliest net (suc x))
+pub shape-read : (net : Net) (x : ℕ) → shape_at net x ≡ shape_of net x (earliest net (suc x))
 shape-read net x = let e : x + 1 ≡ suc x = omega arith in ap (λ (n : ℕ). shape_of net x (earliest net n)) e
 
 -- what has ended stays so

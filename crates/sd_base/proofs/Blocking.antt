@@ -16,6 +16,18 @@ bump-same v a = rw (Rattle.std.proofs.Common.eq-eqb a a refl) refl
 pub bump-other : (v : ℕ → ℕ) (a b : ℕ) → (b ≡ a → ⊥) → one_more v a b ≡ v b
 bump-other v a b apart = rw (Rattle.std.proofs.Common.ne_eqb b a apart) refl
 
+pub bump-more : (v : ℕ → ℕ) (a b : ℕ) → v b ≤ one_more v a b
+bump-more v a b = ⊎_elim (λ (same : b ≡ a). rw same (rw (bump-same v a) (omega arith))) (λ (apart : b ≡ a → ⊥). rw (bump-other v a b apart) (omega arith)) (cases_eq b a)
+
+-- each firing up to the new one is an earlier one, or it is the new one
+pub bump-cases : (v : ℕ → ℕ) (a b j : ℕ) → j < one_more v a b → (j < v b) ⊎ ((b ≡ a) × (j ≡ v a))
+bump-cases v a b j below = ⊎_elim
+    (λ (same : b ≡ a).
+    let c : j < v a + 1 = subst (λ (n : ℕ). j < n) (ap (λ (d : ℕ). one_more v a d) same ∙ bump-same v a) below in
+    ⊎_elim (λ (h : j < v a). inl (subst (λ (d : ℕ). j < v d) (sym same) h)) (λ (h : v a ≤ j). inr (same, (let e : j ≡ v a = omega arith in e))) (cases_lt j (v a)))
+    (λ (apart : b ≡ a → ⊥). inl (subst (λ (n : ℕ). j < n) (bump-other v a b apart) below))
+    (cases_eq b a)
+
 -- no run passes a closed vector
 pub run-below : (net : Net) (w : ℕ → ℕ) → Wired net → Closed net w → (order : List ℕ) (v : ℕ → ℕ) → Fires net v order →
     ((b : ℕ) → b < length net.times → v b ≤ w b) → (b : ℕ) → b < length net.times → counts_after v order b ≤ w b

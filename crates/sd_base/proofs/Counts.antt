@@ -1,7 +1,7 @@
 -- Counts that are able and full are decided by what has ended; between ends nothing starts.
-use Rattle.std.proofs.Common.{◌≡◌, ℕ, zero, suc, ◌+◌, ◌-◌, ◌≤◌, ◌<◌, [], length, ⊎_elim, subst, sym, refl, ap, ◌∙◌, arith}
+use Rattle.std.proofs.Common.{◌≡◌, ℕ, zero, suc, ◌+◌, ◌-◌, ◌≤◌, ◌<◌, [], length, ⊎_elim, subst, sym, refl, ap, ◌∙◌, arith, replicate, List}
 use Rattle.std.proofs.lemmas.Bool.{cases_lt}
-use Rattle.std.proofs.lemmas.List.{get_or_past}
+use Rattle.std.proofs.lemmas.List.{get_or_past, get_or-replicate, length-replicate}
 use Rattle.sd_base.specs.Net.{Net, channel_at, total}
 use Rattle.sd_base.specs.Schedules.{Needs, Lacks, Schedule, count_of, start_of, end_of, Earliest, HasInputs}
 use Rattle.sd_base.specs.SelfTimed.{ended_by, earliest}
@@ -195,3 +195,10 @@ module _ (net : Net) (reg : Regular net) (fed : HasInputs net) where
       let able_there : Able net (λ b. 0) (count_of (earliest net 1)) = able-along net (ended_at net 0) (λ b. 0) (count_of (earliest net 1)) (count_of (earliest net 1)) reg.wired none (λ b is. refl) (able-at 0) in
       let full_there : Full net (λ b. 0) (count_of (earliest net 1)) = full-along net (ended_at net 0) (λ b. 0) (count_of (earliest net 1)) (count_of (earliest net 1)) reg.wired none (λ b is. refl) (full-at 0) in
       decided net (λ b. 0) n (count_of (earliest net 1)) able full able_there full_there a actor
+
+-- rows without starts
+pub empty-rows : (n a : ℕ) → count_of (replicate n []) a ≡ 0
+empty-rows n a = ⊎_elim
+    (λ (place : a < n). ap length (get_or-replicate n a [] [] place))
+    (λ (past : n ≤ a). ap length (get_or_past (replicate n []) a [] (omega (arith, length-replicate {A = List ℕ} n []))))
+    (cases_lt a n)

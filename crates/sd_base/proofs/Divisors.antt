@@ -1,9 +1,9 @@
 -- Divisors: Euclid's lemma and the least common multiple.
-use Rattle.std.proofs.Common.{◌≡◌, ℕ, zero, suc, ◌+◌, ◌*◌, ◌/◌, ◌%◌, ◌<◌, ◌≤◌, sym, ap, subst, inl, inr, arith}
+use Rattle.std.proofs.Common.{◌≡◌, ℕ, zero, suc, ◌+◌, ◌*◌, ◌/◌, ◌%◌, ◌<◌, ◌≤◌, sym, ap, subst, inl, inr, arith, ◌∙◌}
 use Rattle.std.specs.Int.{IsGcd, ◌∣◌}
-use Rattle.std.proofs.Math.Nat.{dvd-mod_iff, dvd-add_iff_right, dvd-mul_right_of_dvd, dvd-mul_left, dvd-mul_right, div-add-mod', mul-div_cancel', dvd_of_mul-dvd-mul_left, mul-dvd-mul_left, mul-dvd-mul_right, one-dvd, eq-zero_of_zero-dvd, mul-lt-mul_of_pos_right, div-lt_iff_lt-mul, le-div_iff_mul-le}
+use Rattle.std.proofs.Math.Nat.{dvd-mod_iff, dvd-add_iff_right, dvd-mul_right_of_dvd, dvd-mul_left, dvd-mul_right, div-add-mod', mul-div_cancel', dvd_of_mul-dvd-mul_left, mul-dvd-mul_left, mul-dvd-mul_right, one-dvd, eq-zero_of_zero-dvd, mul-lt-mul_of_pos_right, div-lt_iff_lt-mul, le-div_iff_mul-le, eq_of_mul-eq-mul_right}
 use Rattle.std.proofs.lemmas.Nat.{mod_below}
-use Rattle.std.proofs.lemmas.Nat.Gcd.{IsGcd-from_zero, IsGcd-swap, same_from_IsGcd, le_of_dvd}
+use Rattle.std.proofs.lemmas.Nat.Gcd.{IsGcd-from_zero, IsGcd-swap, same_from_IsGcd, le_of_dvd, IsGcd-from_mod, dvd_antisymm}
 use Rattle.std.proofs.lemmas.Bool.{cases_lt}
 use Rattle.sd_base.specs.Numbers.{IsLcm, IsAboveLimit}
 
@@ -127,3 +127,23 @@ gcd_below a b g m is first second =
       | inl some ↦ (let le : g ≤ b = le_of_dvd some is.1 in omega arith)
       | inr none ↦ (let same : a ≡ g = same_from_IsGcd a b a g (IsGcd-from_zero a b (omega arith)) is in omega arith)
     ]
+
+-- two numbers have a greatest common divisor
+pub some_gcd : (fuel a b : ℕ) → b < fuel → (g : ℕ) × IsGcd a b g
+some_gcd zero a b below = absurd (let none : ⊥ = omega arith in none)
+some_gcd (suc fuel) a b below = elim (cases_lt 0 b) [
+  | inl some ↦
+      let low : a % b < b = mod_below a b some in
+      let (g, is) = some_gcd fuel b (a % b) (omega arith) in
+      (g, IsGcd-from_mod a b g is)
+  | inr none ↦ (a, IsGcd-from_zero a b (omega arith))
+]
+
+-- equal fractions in lowest terms have equal parts
+pub same_fraction : (p q x y : ℕ) → 1 ≤ q → 1 ≤ y → IsGcd p q 1 → IsGcd x y 1 → p * y ≡ x * q → (p ≡ x) × (q ≡ y)
+same_fraction p q x y some there one other cross =
+    let left : q ∣ y = root_divides p q y x one (sym cross ∙ omega arith) in
+    let right : y ∣ q = root_divides x y q p other (cross ∙ omega arith) in
+    let same : q ≡ y = dvd_antisymm left right in
+    let mine : p * y ≡ x * y = cross ∙ ap (λ (z : ℕ). x * z) same in
+    (eq_of_mul-eq-mul_right y there p x mine, same)

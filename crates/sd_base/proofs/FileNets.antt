@@ -1,7 +1,7 @@
 -- The net of a graph file that keeps its rules keeps the laws of nets.
 use Rattle.std.proofs.Common.{◌≡◌, ℕ, zero, suc, ◌+◌, ◌-◌, ◌≤◌, ◌<◌, ◌⊎◌, Bool, true, false, List, [], ◌∷◌, ◌++◌, length, map, sum, replicate, inl, inr, ⊎_elim, subst, sym, refl, ap, ◌∙◌, arith, eq-eqb, lt-ltb}
 use Rattle.std.specs.Prelude.{slice_index, slice_index_or, All, ◌==◌, if◌then◌else◌}
-use Rattle.std.specs.List.{list_all, list_any}
+use Rattle.std.specs.List.{list_any}
 use Rattle.std.proofs.lemmas.Bool.{cases_lt, or_left, or_right, and_from}
 use Rattle.std.proofs.lemmas.List.{get_or-map, length-map, length-append, get_or_append_left, get_or-append_right, get_or_past, length-replicate, ext_get_or, get_or-replicate}
 use Rattle.sd_base.specs.declared.role.Role.TheVariants.{Token, Own}
@@ -14,12 +14,9 @@ use Rattle.sd_base.specs.Lawful.{is_file_channel, is_token_role, is_own, Lawful}
 use Rattle.sd_base.specs.FileNet.{own_channel, gets_own, own_channels_from, net_of}
 use Rattle.sd_base.proofs.Sums.{total-turn}
 use Rattle.sd_base.proofs.Parts.{all_one-total}
+use Rattle.sd_base.proofs.Lists.{ones-all}
 
 -- ---- lists of ones
-
-ones-all : (n : ℕ) → list_all (λ r. r == 1) (replicate n 1) ≡ true
-ones-all zero = refl
-ones-all (suc n) = ones-all n
 
 ones-past : (n p : ℕ) → n ≤ p → length {A = ℕ} (replicate n 1) ≤ p
 ones-past n p past = rw (length-replicate {A = ℕ} n 1) past
@@ -81,7 +78,7 @@ own-at apart channels a (r ∷ rows) i below = step (gets_own apart channels a r
     step true test (suc k) below rest = own-tail rows r a (slice_index_or (own_channels_from apart channels (suc a) rows) k nowhere) (rest k (omega arith))
     step false test i below rest = own-tail rows r a (slice_index_or (own_channels_from apart channels (suc a) rows) i nowhere) (rest i below)
 
-own-few : (apart : Bool) (channels : List ChannelRow) (a : ℕ) (rows : List ActorRow) → length (own_channels_from apart channels a rows) ≤ length rows
+pub own-few : (apart : Bool) (channels : List ChannelRow) (a : ℕ) (rows : List ActorRow) → length (own_channels_from apart channels a rows) ≤ length rows
 own-few apart channels a [] = omega arith
 own-few apart channels a (r ∷ rows) = step (gets_own apart channels a r.phases) (own-few apart channels (suc a) rows)
   where
@@ -120,7 +117,7 @@ own-one apart channels a (r ∷ rows) i j below there same = step (gets_own apar
     step true (suc i) (suc j) below there same rest = ap suc (rest i j (omega arith) (omega arith) same)
     step false i j below there same rest = rest i j below there same
 
-own-is : (a n : ℕ) → is_own a (own_channel a n) ≡ true
+pub own-is : (a n : ℕ) → is_own a (own_channel a n) ≡ true
 own-is a n =
     let same : (a == a) ≡ true = eq-eqb a a refl in
     and_from _ _ same (and_from _ _ same (and_from _ _ same (and_from _ _ refl (and_from _ _ (ones-all n) (ones-all n)))))

@@ -1,3 +1,6 @@
+pub mod Lists
+pub mod Truths
+pub mod CappedDigits
 pub mod Divisors
 pub mod Sums
 pub mod Parts

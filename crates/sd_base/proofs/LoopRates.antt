@@ -1,11 +1,9 @@
 -- The firings round a loop give the rate of a net.
-use Rattle.std.proofs.Common.{◌≡◌, ℕ, zero, suc, ◌+◌, ◌-◌, ◌*◌, ◌/◌, ◌%◌, ◌≤◌, ◌<◌, Bool, true, false, cond, List, [], ◌∷◌, length, ⊎_elim, subst, refl, ap, ◌∙◌, arith, mul-le-mul_left, mul-le-mul_right, ltb-true, lt-ltb, mod-lt, div-add-mod'}
-use Rattle.std.proofs.Math.Nat.{le_of_mul-le-mul_left, le_of_mul-le-mul_right, eq_of_mul-eq-mul_right, mul-lt-mul_of_pos_right, add-mul-mod_self_right, mod-eq_of_lt}
-use Rattle.std.proofs.lemmas.Nat.Gcd.{IsGcd-from_zero, IsGcd-from_mod, same_from_IsGcd}
+use Rattle.std.proofs.Common.{◌≡◌, ℕ, zero, suc, ◌+◌, ◌-◌, ◌*◌, ◌≤◌, ◌<◌, Bool, true, false, cond, List, [], ◌∷◌, length, ⊎_elim, subst, refl, ap, arith, mul-le-mul_left, mul-le-mul_right, ltb-true, lt-ltb}
+use Rattle.std.proofs.Math.Nat.{le_of_mul-le-mul_left, le_of_mul-le-mul_right}
 use Rattle.std.specs.Prelude.{slice_index, slice_index_or, count_by, nat_lt}
 use Rattle.std.specs.Int.{IsGcd}
 use Rattle.std.proofs.lemmas.List.{get_or_past}
-use Rattle.std.proofs.lemmas.List.Sums.{sum_by-cons}
 use Rattle.std.proofs.lemmas.Bool.{cases_lt}
 use Rattle.sd_base.specs.Net.{Net}
 use Rattle.sd_base.specs.Schedules.{Schedule, count_of, Admissible, Earliest, HasInputs}
@@ -18,6 +16,8 @@ use Rattle.sd_base.proofs.Ends.{sum_to}
 use Rattle.sd_base.proofs.Counts.{early_at, past_none}
 use Rattle.sd_base.proofs.Alike.{count-rises, since-then, equal-futures}
 use Rattle.sd_base.proofs.Returns.{repeats-by}
+use Rattle.sd_base.proofs.Divisors.{same_fraction}
+use Rattle.sd_base.proofs.Lists.{count-cons}
 
 -- a count that rises by r in each p keeps near the line of slope r/p
 module _ (n : ℕ → ℕ) (e p r b : ℕ) (some : 0 < p) (rises : (x y : ℕ) → x ≤ y → n x ≤ n y) (turns : (t : ℕ) → e < t → n (t + p) ≡ n t + r)
@@ -60,9 +60,6 @@ sum_to-part f (suc n) a below = ⊎_elim
     (λ (last : n ≤ a). let same : a ≡ n = omega arith in rw same (omega arith))
     (cases_lt a n)
 
-pub count-cons : (t x : ℕ) (xs : List ℕ) → count_by (λ y. nat_lt y t) (x ∷ xs) ≡ cond (nat_lt x t) 1 0 + count_by (λ y. nat_lt y t) xs
-count-cons t x xs = sum_by-cons (λ (y : ℕ). cond (nat_lt y t) 1 0) x xs
-
 count-next : (t x : ℕ) (xs : List ℕ) (m : ℕ) → count_by (λ y. nat_lt y t) xs ≤ m - 1 → (x < t → 0 < m) → (b : Bool) → nat_lt x t ≡ b → cond (nat_lt x t) 1 0 + count_by (λ y. nat_lt y t) xs ≤ m
 count-next t x xs m rest first true soon = let some : 0 < m = first (ltb-true x t soon) in rw soon (omega (arith, rest))
 count-next t x xs m rest first false late = rw late (omega (arith, rest))
@@ -71,7 +68,7 @@ count-next t x xs m rest first false late = rw late (omega (arith, rest))
 pub count-bound : (t : ℕ) (xs : List ℕ) (m : ℕ) → ((k : ℕ) → k < length xs → slice_index xs k < t → k < m) → count_by (λ x. nat_lt x t) xs ≤ m
 count-bound t [] m places = omega arith
 count-bound t (x ∷ xs) m places =
-    rw (count-cons t x xs) (count-next t x xs m (count-bound t xs (m - 1) (λ k there soon. omega (arith, places (suc k) (omega arith) soon))) (λ soon. places 0 (omega arith) soon) (nat_lt x t) refl)
+    rw (count-cons (λ y. nat_lt y t) x xs) (count-next t x xs m (count-bound t xs (m - 1) (λ k there soon. omega (arith, places (suc k) (omega arith) soon))) (λ soon. places 0 (omega arith) soon) (nat_lt x t) refl)
 
 -- an admissible schedule starts no more firings before t than the earliest one
 pub no-more : (net : Net) (t : ℕ) (early s : Schedule) → Earliest net t early → Admissible net s → (a : ℕ) → count_by (λ x. nat_lt x t) (slice_index_or s a []) ≤ count_of early a
@@ -167,7 +164,7 @@ pub count-all : (t : ℕ) (xs : List ℕ) → ((k : ℕ) → k < length xs → s
 count-all t [] before = omega arith
 count-all t (x ∷ xs) before =
     let first : nat_lt x t ≡ true = lt-ltb x t (before 0 (omega arith)) in
-    rw (count-cons t x xs) (rw first (omega (arith, count-all t xs (λ k there. before (suc k) (omega arith)))))
+    rw (count-cons (λ y. nat_lt y t) x xs) (rw first (omega (arith, count-all t xs (λ k there. before (suc k) (omega arith)))))
 
 -- lines of which one never gets above the other by more than b rise in their order
 pub slopes : (x y b : ℕ) → ((t : ℕ) → x * t ≤ y * t + b) → x ≤ y
@@ -195,51 +192,6 @@ rate-le net p q x y b c some fires one other =
         let up : y * (p * slice_index net.round 0 * t) ≤ y * (q * n + b) = mul-le-mul_left y low in
         let down : q * (y * n) ≤ q * (x * slice_index net.round 0 * t + c) = mul-le-mul_left q (omega arith) in
         omega arith
-
-mod-scaled : (k a b : ℕ) → 0 < k → 0 < b → (a * k) % (b * k) ≡ (a % b) * k
-mod-scaled k a b some there =
-    let split : a / b * b + a % b ≡ a = div-add-mod' a b in
-    let scaled : (a / b * b + a % b) * k ≡ a * k = ap (λ (x : ℕ). x * k) split in
-    let parts : a * k ≡ (a % b) * k + a / b * (b * k) = omega arith in
-    let less : (a % b) * k < b * k = mul-lt-mul_of_pos_right (mod-lt a there) some in
-    ap (λ (x : ℕ). x % (b * k)) parts ∙ (add-mul-mod_self_right ((a % b) * k) (a / b) (b * k) ∙ mod-eq_of_lt less)
-
--- a greatest common divisor grows with its numbers
-scaled_gcd : (fuel a b : ℕ) → b < fuel → (g : ℕ) × ((k : ℕ) → 0 < k → IsGcd (a * k) (b * k) (g * k))
-scaled_gcd zero a b below = absurd (omega arith)
-scaled_gcd (suc fuel) a b below = ⊎_elim
-    (λ (some : 0 < b).
-    let rest : a % b < b = mod-lt a some in
-    let found = scaled_gcd fuel b (a % b) (omega arith) in
-    (found.0, λ k there. IsGcd-from_mod (a * k) (b * k) (found.0 * k) (rw (mod-scaled k a b there some) (found.1 k there))))
-    (λ (none : b ≤ 0).
-    let zero_here : b ≡ 0 = omega arith in
-    (a, λ k there. IsGcd-from_zero (a * k) (b * k) (ap (λ (x : ℕ). x * k) zero_here ∙ omega arith)))
-    (cases_lt 0 b)
-
-lowest-scaled : (a b k : ℕ) → 0 < k → IsGcd a b 1 → IsGcd (a * k) (b * k) k
-lowest-scaled a b k there lowest =
-    let found = scaled_gcd (suc b) a b (omega arith) in
-    let e : a * 1 ≡ a = omega arith in
-    let f : b * 1 ≡ b = omega arith in
-    let h : found.0 * 1 ≡ found.0 = omega arith in
-    let unit : IsGcd (a * 1) (b * 1) (found.0 * 1) = found.1 1 (omega arith) in
-    let whole : IsGcd a b found.0 = rw e at (rw f at (rw h at unit)) in
-    let one : found.0 ≡ 1 = same_from_IsGcd a b found.0 1 whole lowest in
-    let times : found.0 * k ≡ k = ap (λ (x : ℕ). x * k) one ∙ omega arith in
-    let big : IsGcd (a * k) (b * k) (found.0 * k) = found.1 k there in
-    rw times at big
-
--- equal fractions in lowest terms have equal parts
-same_fraction : (p q x y : ℕ) → 1 ≤ q → 1 ≤ y → IsGcd p q 1 → IsGcd x y 1 → p * y ≡ x * q → (p ≡ x) × (q ≡ y)
-same_fraction p q x y some there one other cross =
-    let left : IsGcd (p * y) (q * y) y = lowest-scaled p q y there one in
-    let right : IsGcd (x * q) (y * q) q = lowest-scaled x y q some other in
-    let swap : y * q ≡ q * y = omega arith in
-    let moved : IsGcd (p * y) (q * y) q = rw cross (rw swap at right) in
-    let same : q ≡ y = same_from_IsGcd (p * y) (q * y) q y moved left in
-    let mine : p * q ≡ x * q = ap (λ (z : ℕ). p * z) same ∙ cross in
-    (eq_of_mul-eq-mul_right q some p x mine, same)
 
 pub one-rate : (net : Net) (p q x y : ℕ) → Lawful net → Rate net p q → Rate net x y → (p ≡ x) × (q ≡ y)
 one-rate net p q x y laws one other =

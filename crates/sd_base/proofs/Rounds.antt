@@ -1,11 +1,14 @@
 -- Firings by whole rounds: they keep the tokens of each channel, and needs move with them.
-use Rattle.std.proofs.Common.{◌≡◌, ℕ, ◌+◌, ◌*◌, ◌/◌, ◌%◌, ◌≤◌, ◌<◌, [], length, sym, ap, ◌∙◌, arith, div-add-mod', mod-lt, mul_assoc, ⊎_elim}
+use Rattle.std.proofs.Common.{◌≡◌, ℕ, ◌+◌, ◌*◌, ◌/◌, ◌%◌, ◌≤◌, ◌<◌, [], length, sym, ap, ◌∙◌, arith, div-add-mod', mod-lt, mul_assoc, ⊎_elim, List, subst}
 use Rattle.std.proofs.lemmas.Bool.{cases_lt}
 use Rattle.std.specs.Prelude.{slice_index, slice_index_or}
-use Rattle.sd_base.specs.Net.{Net, channel_at, total}
+use Rattle.std.proofs.lemmas.List.{ext_get_or}
+use Rattle.sd_base.specs.Net.{Net, channel_at, total, IsRepetitionOf}
 use Rattle.sd_base.specs.Schedules.{time_of, phases_at, Needs, LastNeed, IsNeed}
 use Rattle.sd_base.proofs.Sums.{total-le, total-whole, total-times, entry-shift}
 use Rattle.sd_base.proofs.Parts.{Wired, Balanced}
+use Rattle.sd_base.specs.declared.tables.GraphFile.{GraphFile}
+use Rattle.sd_base.specs.Tables.{phases_of}
 
 -- v firings of each actor are whole turns of its phases and keep the tokens of each channel
 pub record Whole (net : Net) (v : ℕ → ℕ) : Type 0 where
@@ -98,3 +101,13 @@ need-by_rounds net wired bal i j n place need =
     let short : Needs (channel_at net i) j (r * slice_index net.round (channel_at net i).source) = need.least (r * slice_index net.round (channel_at net i).source) late in omega arith))
     (λ (h : n ≤ r * slice_index net.round (channel_at net i).source). h)
     (cases_lt (r * slice_index net.round (channel_at net i).source) n)
+
+-- a graph has one round
+pub one-repetition : (g : GraphFile) (v w : List ℕ) → IsRepetitionOf g v → IsRepetitionOf g w → v ≡ w
+one-repetition g v w one other =
+    ext_get_or 0 v w (one.balances.actors ∙ sym other.balances.actors)
+    (λ i below.
+    let actor : i < length (phases_of g) = subst (λ n. i < n) one.balances.actors below in
+    let le : slice_index v i ≤ slice_index w i = one.least w other.balances i actor in
+    let ge : slice_index w i ≤ slice_index v i = other.least v one.balances i actor in
+    omega arith)

@@ -80,6 +80,16 @@ total-times xs v q i e =
     let here : total xs v ≡ q * total xs (length xs) = ap (total xs) e ∙ short in
     rw (turns, long, here) (omega arith)
 
+-- a list of one number has it at each firing
+pub one-entry : (xs : List ℕ) (k : ℕ) → length xs ≡ 1 → phase_entry xs k ≡ slice_index xs 0
+one-entry [] k one = absurd (omega arith)
+one-entry (x ∷ []) k one = ap (λ (n : ℕ). slice_index (x ∷ []) n) (let e : k % 1 ≡ 0 = omega arith in e)
+one-entry (x ∷ y ∷ xs) k one = absurd (omega arith)
+
+pub one-total : (xs : List ℕ) (n rate : ℕ) → length xs ≡ 1 → rate ≡ slice_index xs 0 → total xs n ≡ n * rate
+one-total xs zero rate one is = total-zero xs ∙ omega arith
+one-total xs (suc n) rate one is = total-suc xs n ∙ omega (arith, one-total xs n rate one is, one-entry xs n one, is)
+
 -- each firing moves at most the greatest rate
 pub total-bound : (xs : List ℕ) (most n : ℕ) → ((p : ℕ) → slice_index xs p ≤ most) → total xs n ≤ n * most
 total-bound xs most zero small = rw total-zero (omega arith)

@@ -1,9 +1,10 @@
 -- The words and files decide the expansion of a net.
-use Rattle.std.proofs.Common.{◌≡◌, Option, Some, None, sym, ap, ◌∙◌}
+use Rattle.std.proofs.Common.{None, sym, ap, ◌∙◌}
 use Rattle.sd_base.specs.declared.tables.GraphFile.{GraphFile}
 use Rattle.sd_base.specs.declared.limits.Quantity.{Quantity}
 use Rattle.sd_base.specs.Limits.{greatest_of}
 use Rattle.sd_base.specs.Net.{Net}
+use Rattle.sd_base.proofs.Truths.{one-some, some-none}
 use Rattle.single_rate.specs.Limits.{excess}
 use Rattle.report.specs.declared.refusal.Refusal.{Refusal}
 use Rattle.report.specs.declared.refusal.Refusal.TheVariants.{Above}
@@ -14,16 +15,10 @@ use Rattle.sd_laws.proofs.CommandsDecide.{Determines}
 told_of : Quantity → Refusal
 told_of what = Above None (quantity_text what) (greatest_of what)
 
-one_excess : (o : Option Quantity) (a b : Quantity) → o ≡ Some a → o ≡ Some b → a ≡ b
-one_excess o a b p q = let e : ◌≡◌ {A = Option Quantity} (Some a) (Some b) = sym p ∙ q in (cc)
-
-no_excess : (o : Option Quantity) (a : Quantity) → o ≡ Some a → o ≡ None → ⊥
-no_excess o a p q = let e : ◌≡◌ {A = Option Quantity} (Some a) None = sym p ∙ q in (cc)
-
 pub expanding_determines : (net : Net) (graph : GraphFile) → Determines (expanding net graph)
 unfolding told_of
 expanding_determines net graph = record {
   one = λ a b is also. is.is ∙ sym also.is;
-  refusal = λ r s is also. is.told ∙ ap told_of (one_excess (excess net graph) is.what also.what is.first also.first) ∙ sym also.told;
-  never = λ r a is also. no_excess (excess net graph) is.what is.first also.whole;
+  refusal = λ r s is also. is.told ∙ ap told_of (one-some (excess net graph) is.what also.what is.first also.first) ∙ sym also.told;
+  never = λ r a is also. some-none (excess net graph) is.what is.first also.whole;
 }

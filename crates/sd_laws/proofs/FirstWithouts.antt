@@ -1,16 +1,14 @@
 -- Of steps on the scenarios of a file that each determine, one refusal is the first.
-use Rattle.std.proofs.Common.{◌≡◌, ℕ, ◌<◌, inl, inr, Option, Some, sym, subst, ◌∙◌, arith}
+use Rattle.std.proofs.Common.{◌≡◌, ℕ, ◌<◌, inl, inr, Some, sym, subst, arith}
 use Rattle.std.proofs.lemmas.Bool.{cases_lt}
 use Rattle.std.specs.Prelude.{slice_get}
 use Rattle.sd_base.specs.declared.tables.ScenarioFile.{ScenarioFile}
 use Rattle.sd_base.specs.declared.tables.ScenarioRow.{ScenarioRow}
+use Rattle.sd_base.proofs.Truths.{one-some}
 use Rattle.report.specs.declared.refusal.Refusal.{Refusal}
 use Rattle.sd_command.specs.steps.Courses.{Step}
 use Rattle.sd_command.specs.steps.ScenarioSteps.{IsFirstWithout}
 use Rattle.sd_laws.proofs.CommandsDecide.{Determines}
-
-one_row : (o : Option ScenarioRow) (a b : ScenarioRow) → o ≡ Some a → o ≡ Some b → a ≡ b
-one_row o a b p q = let e : ◌≡◌ {A = Option ScenarioRow} (Some a) (Some b) = sym p ∙ q in (cc)
 
 module _ {A : Type 0} (one : ScenarioRow → Step A) (file : ScenarioFile) (each : (s : ℕ) (row : ScenarioRow) → slice_get file.scenarios s ≡ Some row → Determines (one row)) where
   -- a scenario that is refused is no later than another one that is
@@ -26,7 +24,7 @@ module _ {A : Type 0} (one : ScenarioRow → Step A) (file : ScenarioFile) (each
       | inl before ↦ absurd (no_earlier s r also is before)
       | inr not_after ↦
           let same : is.place ≡ also.place = omega arith in
-          let row : also.row ≡ is.row = one_row (slice_get file.scenarios is.place) also.row is.row (subst (λ k. slice_get file.scenarios k ≡ Some also.row) (sym same) also.at) is.at in
+          let row : also.row ≡ is.row = one-some (slice_get file.scenarios is.place) also.row is.row (subst (λ k. slice_get file.scenarios k ≡ Some also.row) (sym same) also.at) is.at in
           (each is.place is.row is.at).refusal r s is.is (subst (λ x. (one x).refuses s) row also.is)
     ]
   ]

@@ -12,6 +12,7 @@ use Rattle.sd_base.specs.Limits.{greatest_of}
 use Rattle.sd_base.specs.Net.{Net}
 use Rattle.sd_base.specs.Rates.{Rate}
 use Rattle.sd_base.specs.Tables.{KeepsRules}
+use Rattle.sd_base.proofs.Truths.{one-some, some-none}
 use Rattle.escapes.specs.EscapedNames.{escaped_name}
 use Rattle.storage.specs.BoundedNets.{bound}
 use Rattle.ordered.specs.declared.orders.OrderError.{OrderError}
@@ -51,20 +52,14 @@ faulty graph gamma lists r (elsewhere name is e) = record { fault = faults.Elsew
 faulty graph gamma lists r (count actor found is e) = record { fault = faults.Count actor found; first = is; told = e }
 faulty graph gamma lists r (pairs is e) = record { fault = faults.TooManyPairs; first = is; told = e }
 
-one_fault : (o : Option OrderError) (a b : OrderError) → o ≡ Some a → o ≡ Some b → a ≡ b
-one_fault o a b p q = let e : ◌≡◌ {A = Option OrderError} (Some a) (Some b) = sym p ∙ q in (cc)
-
-no_fault : (o : Option OrderError) (a : OrderError) → o ≡ Some a → o ≡ None → ⊥
-no_fault o a p q = let e : ◌≡◌ {A = Option OrderError} (Some a) None = sym p ∙ q in (cc)
-
 pub ordering_determines : (graph : GraphFile) (gamma : List ℕ) (lists : NamedOrders) → Determines (ordering graph gamma lists)
 ordering_determines graph gamma lists = record {
   one = λ o p is also. ap (λ (ls : List (List ℕ)). record { lists = ls }) (is.named ∙ sym also.named);
   refusal = λ r s is also.
       let a = faulty graph gamma lists r is in
       let b = faulty graph gamma lists s also in
-      a.told ∙ ap (told_of graph gamma) (one_fault (first_fault graph.actors gamma lists) a.fault b.fault a.first b.first) ∙ sym b.told;
-  never = λ r o is gives. let a = faulty graph gamma lists r is in no_fault (first_fault graph.actors gamma lists) a.fault a.first gives.whole;
+      a.told ∙ ap (told_of graph gamma) (one-some (first_fault graph.actors gamma lists) a.fault b.fault a.first b.first) ∙ sym b.told;
+  never = λ r o is gives. let a = faulty graph gamma lists r is in some-none (first_fault graph.actors gamma lists) a.fault a.first gives.whole;
 }
 
 -- ---- the net

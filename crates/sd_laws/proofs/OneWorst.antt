@@ -9,10 +9,10 @@ use Rattle.sd_base.specs.Tables.{KeepsRules, IsTimed}
 use Rattle.sd_base.specs.Scenarios.{FileKeepsRules, ScenarioKeepsRules}
 use Rattle.sd_base.specs.FileNet.{net_of}
 use Rattle.sd_base.specs.Lawful.{Lawful}
+use Rattle.sd_base.proofs.Lists.{get-there}
 use Rattle.graph_reader.specs.declared.error.ReadError.{ReadError}
 use Rattle.scenario_reader.specs.ScenarioFiles.{HasOneFile, HasOneFileFault, ReadFileHasNoFault, ReadFileKeepsRules}
 use Rattle.token_matrix.specs.Matrices.{IsMatrix}
-use Rattle.token_matrix.proofs.Rows.{get_there}
 use Rattle.automaton.specs.declared.graph.TimedGraph.{TimedGraph}
 use Rattle.balance.specs.Repetition.{IsRound}
 use Rattle.report.specs.declared.refusal.Refusal.{Refusal}
@@ -87,7 +87,7 @@ module _ (facts : FileLaws) (laws : ScenarioLaws) where
 
     one_measure : (ms ns : List Entries) → AreMeasured file ms → AreMeasured file ns → ms ≡ ns
     one_measure ms ns is also = same_entries ms ns (is.all ∙ sym also.all) (λ k below.
-        let row = get_there file.scenarios k (subst (λ n. k < n) is.all below) in
+        let row = get-there file.scenarios k (subst (λ n. k < n) is.all below) in
         (each k row.0 row.1).one (slice_index_or ms k []) (slice_index_or ns k []) (is.each k row.0 row.1) (also.each k row.0 row.1))
 
     measuring_determines : Determines (measuring file)

@@ -31,6 +31,7 @@ use Rattle.report.specs.WalkTexts.{steps_text}
 use Rattle.sd_base.specs.Limits.{greatest_of}
 use Rattle.report.specs.QuantityWords.{quantity_text}
 use Rattle.sd_base.specs.declared.limits.Quantity.TheVariants as quantities
+use Rattle.sd_base.proofs.Truths.{one-some, some-none}
 use Rattle.sd_command.specs.declared.file_kind.FileKind.{FileKind}
 use Rattle.sd_command.specs.declared.file_kind.FileKind.TheVariants as kinds
 use Rattle.sd_command.specs.steps.ActorNames.{actor_shown}
@@ -94,20 +95,14 @@ faulty g bs r (unknown name is e) = record { fault = faults.Unknown name; first 
 faulty g bs r (self_loop name is e) = record { fault = faults.SelfLoop name; first = is; told = e }
 faulty g bs r (below_tokens name is e) = record { fault = faults.BelowTokens name; first = is; told = e }
 
-one_fault : (o : Option BufferError) (a b : BufferError) → o ≡ Some a → o ≡ Some b → a ≡ b
-one_fault o a b p q = let e : ◌≡◌ {A = Option BufferError} (Some a) (Some b) = sym p ∙ q in (cc)
-
-no_fault : (o : Option BufferError) (a : BufferError) → o ≡ Some a → o ≡ None → ⊥
-no_fault o a p q = let e : ◌≡◌ {A = Option BufferError} (Some a) None = sym p ∙ q in (cc)
-
 pub buffering_determines : (g : GraphFile) (bs : List Buffer) → Determines (buffering g bs)
 buffering_determines g bs = record {
   one = λ d e is also. ap (λ (cs : List (Option ℕ)). record { capacities = cs }) (is.named ∙ sym also.named);
   refusal = λ r s is also.
       let a = faulty g bs r is in
       let b = faulty g bs s also in
-      a.told ∙ ap told_of (one_fault (first_fault g.channels bs) a.fault b.fault a.first b.first) ∙ sym b.told;
-  never = λ r d is gives. let a = faulty g bs r is in no_fault (first_fault g.channels bs) a.fault a.first gives.whole;
+      a.told ∙ ap told_of (one-some (first_fault g.channels bs) a.fault b.fault a.first b.first) ∙ sym b.told;
+  never = λ r d is gives. let a = faulty g bs r is in some-none (first_fault g.channels bs) a.fault a.first gives.whole;
 }
 
 -- what a balance comes to
@@ -129,13 +124,6 @@ asking_determines words = record {
   never = λ r q is asked. let e : ◌≡◌ {A = Result Request UsageCause} (Err is.cause) (Ok q) = sym is.asked ∙ asked in (cc);
 }
 
--- two bytes of one file are the same
-one_file : (o : Option (List ℕ)) (a b : List ℕ) → o ≡ Some a → o ≡ Some b → a ≡ b
-one_file o a b p q = let e : ◌≡◌ {A = Option (List ℕ)} (Some a) (Some b) = sym p ∙ q in (cc)
-
-no_file : (o : Option (List ℕ)) (a : List ℕ) → o ≡ None → o ≡ Some a → ⊥
-no_file o a p q = let e : ◌≡◌ {A = Option (List ℕ)} None (Some a) = sym p ∙ q in (cc)
-
 long_is_there : (limit : ℕ) (o : Option (List ℕ)) → IsSomeAnd o (λ b. limit < length b) → (b : List ℕ) × (o ≡ Some b) × (limit < length b)
 long_is_there limit (Some b) h = (b, refl, h)
 long_is_there limit None h = absurd h
@@ -145,22 +133,22 @@ module _ (shelf : Files) (tells : shelf.tells ≡ true) (kind : FileKind) (name 
   one_untaken r s (missing told none p) (missing told' none' q) = p ∙ sym q
   one_untaken r s (too_long long p) (too_long long' q) = p ∙ sym q
   one_untaken r s (missing told none p) (too_long long q) =
-      let at = long_is_there (greatest_of (bytes_of kind)) (shelf.named name) (long tells) in absurd (no_file (shelf.named name) at.0 none at.1)
+      let at = long_is_there (greatest_of (bytes_of kind)) (shelf.named name) (long tells) in absurd (some-none (shelf.named name) at.0 at.1 none)
   one_untaken r s (too_long long p) (missing told none q) =
-      let at = long_is_there (greatest_of (bytes_of kind)) (shelf.named name) (long tells) in absurd (no_file (shelf.named name) at.0 none at.1)
+      let at = long_is_there (greatest_of (bytes_of kind)) (shelf.named name) (long tells) in absurd (some-none (shelf.named name) at.0 at.1 none)
 
   not_taken : (r : Refusal) (bytes : List ℕ) → IsUntaken shelf kind name r → IsTaken shelf kind name bytes → ⊥
-  not_taken r bytes (missing told none p) taken = no_file (shelf.named name) bytes none (taken.told tells)
+  not_taken r bytes (missing told none p) taken = some-none (shelf.named name) bytes (taken.told tells) none
   not_taken r bytes (too_long long p) taken =
       let at = long_is_there (greatest_of (bytes_of kind)) (shelf.named name) (long tells) in
-      let s : at.0 ≡ bytes = one_file (shelf.named name) at.0 bytes at.1 (taken.told tells) in
+      let s : at.0 ≡ bytes = one-some (shelf.named name) at.0 bytes at.1 (taken.told tells) in
       let much : greatest_of (bytes_of kind) < length at.0 = at.2 in
       let fits : length bytes ≤ greatest_of (bytes_of kind) = taken.fits in
       omega (arith, ap (λ (l : List ℕ). length l) s)
 
   pub taking_determines : Determines (taking shelf kind name)
   taking_determines = record {
-    one = λ a b is also. one_file (shelf.named name) a b (is.told tells) (also.told tells);
+    one = λ a b is also. one-some (shelf.named name) a b (is.told tells) (also.told tells);
     refusal = one_untaken;
     never = not_taken;
   }

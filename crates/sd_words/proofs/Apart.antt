@@ -1,20 +1,13 @@
 -- Names that differ, as settings are added at the end.
-use Rattle.std.proofs.Common.{◌≡◌, ℕ, Bool, true, false, ◌||◌, List, [], ◌∷◌, ◌++◌, map, refl}
+use Rattle.std.proofs.Common.{◌≡◌, ℕ, false, List, [], ◌∷◌, ◌++◌, map, refl}
 use Rattle.std.specs.List.{IsDistinct, AllByRecursion}
 use Rattle.std.specs.Str.{bytes_eq}
+use Rattle.std.proofs.lemmas.Bool.{or_parts, or_from}
 use Rattle.sd_words.specs.Spelling.{Setting}
 use Rattle.sd_words.specs.Reading.{is_taken}
 
 abbrev pub names : List Setting → List (List ℕ)
 names settings = map (λ s. s.name) settings
-
-neither : (x y : Bool) → (x || y) ≡ false → (x ≡ false) × (y ≡ false)
-neither true y h = absurd (cc)
-neither false y h = (refl, h)
-
-none : (x y : Bool) → x ≡ false → y ≡ false → (x || y) ≡ false
-none true y h k = absurd (cc)
-none false y h k = k
 
 all-more : (P : List ℕ → Type 0) (done : List Setting) (s : Setting) → AllByRecursion P (names done) → P s.name → AllByRecursion P (names (done ++ s ∷ []))
 all-more P [] s all here = (here, tt)
@@ -29,7 +22,7 @@ pub apart-more : (done : List Setting) (s : Setting) → is_taken s.name done �
 unfolding IsDistinct
 apart-more [] s free apart = (tt, tt)
 apart-more (d ∷ done) s free apart =
-    let p = neither (bytes_eq d.name s.name) (is_taken s.name done) free in
+    let p = or_parts (bytes_eq d.name s.name) (is_taken s.name done) free in
     (all-more (λ n. bytes_eq d.name n ≡ false) done s apart.0 p.0, apart-more done s p.1 apart.1)
 
 -- where names are apart, each is new to those before it
@@ -37,4 +30,4 @@ pub apart-free : (done : List Setting) (s : Setting) (ss : List Setting) → IsD
 unfolding IsDistinct
 apart-free [] s ss apart = refl
 apart-free (d ∷ done) s ss apart =
-    none (bytes_eq d.name s.name) (is_taken s.name done) (all-middle (λ n. bytes_eq d.name n ≡ false) done s ss apart.0) (apart-free done s ss apart.1)
+    or_from (bytes_eq d.name s.name) (is_taken s.name done) (all-middle (λ n. bytes_eq d.name n ≡ false) done s ss apart.0) (apart-free done s ss apart.1)

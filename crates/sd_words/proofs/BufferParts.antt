@@ -1,15 +1,12 @@
 -- The value of `--buffers`, part by part.
-use Rattle.std.proofs.Common.{◌≡◌, ℕ, suc, ◌+◌, ◌<◌, Bool, true, false, not, cond, ◌||◌, List, [], ◌∷◌, ◌++◌, length, get_or, drop, map, Some, None, refl, sym, ap, ◌∙◌, subst, add-one, ◌≤◌}
+use Rattle.std.proofs.Common.{◌≡◌, ℕ, suc, ◌+◌, ◌<◌, true, false, cond, List, [], ◌∷◌, ◌++◌, length, get_or, drop, map, Some, None, sym, ap, ◌∙◌, subst, add-one, ◌≤◌}
 use Rattle.std.specs.Option.{option_and_then}
 use Rattle.std.specs.List.{list_any}
 use Rattle.std.specs.Str.{bytes_eq}
 use Rattle.std.proofs.Math.Seq.{drop-cons}
 use Rattle.std.proofs.lemmas.List.{at_drop_all, get_or-map, length-map}
+use Rattle.sd_base.proofs.Lists.{any-map}
 use Rattle.sd_words.specs.Buffers.{Buffer, buffer_of, with_buffer, with_parts}
-
-pub any-map : {X Y : Type 0} (f : X → Y) (test : Y → Bool) (xs : List X) → list_any (λ x. test (f x)) xs ≡ list_any test (map f xs)
-any-map f test [] = refl
-any-map f test (x ∷ xs) = ap (λ b. test (f x) || b) (any-map f test xs)
 
 -- a name is among the keys exactly where a buffer has it
 pub same_names : {K : Type 0} (text : K → List ℕ) (keys : List K) (bs : List Buffer) (name : List ℕ) → map text keys ≡ map (λ b. b.0) bs
@@ -45,7 +42,3 @@ part-new bs p ps b e new =
 pub parts-end : (bs : List Buffer) (ps : List (List ℕ)) (i : ℕ) → length ps ≤ i → with_parts bs (drop i ps) ≡ Some bs
 unfolding with_parts
 parts-end bs ps i past = at_drop_all (with_parts bs) ps i past
-
-pub free : (b : Bool) → not b ≡ true → b ≡ false
-free false e = refl
-free true e = absurd (cc)

@@ -10,6 +10,5 @@ pub mod States
 pub mod Within
 pub mod Parsed
 pub mod CutWords
-pub mod CappedDigits
 pub mod TestChains
 pub mod NamedOptions

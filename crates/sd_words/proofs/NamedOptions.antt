@@ -1,21 +1,14 @@
 -- The words of options.
-use Rattle.std.proofs.Common.{◌≡◌, ◌≢◌, ℕ, Bool, true, false, ◌&&◌, ◌||◌, ◌⊎◌, inl, inr, List, [], ◌∷◌, ◌++◌, codes, drop, nat_eq, refl, sym, ap}
+use Rattle.std.proofs.Common.{◌≡◌, ◌≢◌, ℕ, true, false, ◌&&◌, inl, inr, List, [], ◌∷◌, ◌++◌, codes, drop, nat_eq, refl, sym, ap}
 use Rattle.std.specs.List.{list_any, starts_with}
 use Rattle.std.specs.Str.{bytes_eq}
 use Rattle.std.proofs.lemmas.Slice.Eq.{bytes_eq-Decides, starts_is}
 use Rattle.std.proofs.lemmas.Bool.Decides.{Decides-eqb}
+use Rattle.std.proofs.lemmas.Bool.{and_parts, or_cases}
 use Rattle.sd_words.specs.declared.names.OptionName.{OptionName}
 use Rattle.sd_words.specs.declared.names.OptionName.TheVariants as option
 use Rattle.sd_words.specs.OptionWords.{option_word, has_value, names_value, names_flag, options}
 use Rattle.sd_words.proofs.CutWords.{is_whole}
-
-either-true : (x y : Bool) → (x || y) ≡ true → (x ≡ true) ⊎ (y ≡ true)
-either-true true y h = inl refl
-either-true false y h = inr h
-
-both-true : (x y : Bool) → (x && y) ≡ true → (x ≡ true) × (y ≡ true)
-both-true true y h = (refl, h)
-both-true false y h = absurd (cc)
 
 valued : (o : OptionName) → has_value o ≡ true → o ≢ option.NoOverlap
 valued o h = λ e.
@@ -25,9 +18,9 @@ valued o h = λ e.
 valued_among : (os : List OptionName) (name : List ℕ) → list_any (λ o. has_value o && bytes_eq (option_word o) name) os ≡ true
     → (o : OptionName) × (o ≢ option.NoOverlap) × (name ≡ option_word o)
 valued_among [] name h = absurd (cc)
-valued_among (o ∷ os) name h = elim (either-true (has_value o && bytes_eq (option_word o) name) (list_any (λ p. has_value p && bytes_eq (option_word p) name) os) h) [
+valued_among (o ∷ os) name h = elim (or_cases (has_value o && bytes_eq (option_word o) name) (list_any (λ p. has_value p && bytes_eq (option_word p) name) os) h) [
   | inl e ↦
-      let both = both-true (has_value o) (bytes_eq (option_word o) name) e in
+      let both = and_parts (has_value o) (bytes_eq (option_word o) name) e in
       (o, valued o both.0, sym ((bytes_eq-Decides (option_word o) name).0 both.1))
   | inr e ↦ valued_among os name e
 ]

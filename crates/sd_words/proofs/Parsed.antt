@@ -1,9 +1,10 @@
 -- `clap` reads words that are well spelled: it takes them, and finds the value of each option.
-use Rattle.std.proofs.Common.{◌≡◌, ◌≢◌, ℕ, Bool, true, false, not, cond, ◌||◌, inl, inr, List, [], ◌∷◌, ◌++◌, map, codes, nat_eq, Option, Some, None, Ok, refl, sym, ap, ap₂, ◌∙◌}
+use Rattle.std.proofs.Common.{◌≡◌, ◌≢◌, ℕ, Bool, true, false, cond, ◌||◌, inl, inr, List, [], ◌∷◌, ◌++◌, map, codes, nat_eq, Option, Some, None, Ok, refl, sym, ap, ap₂, ◌∙◌}
 use Rattle.std.specs.List.{filter, fold, list_all}
 use Rattle.std.specs.Str.{bytes_eq}
 use Rattle.std.proofs.lemmas.List.{append-nil, map-append}
 use Rattle.std.proofs.lemmas.Slice.Eq.{bytes_eq-Decides}
+use Rattle.std.proofs.lemmas.Bool.{or_right, not-true}
 use Rattle.clap.specs.Words.{Row, Rule, Shape, first_of, first_value, rows_of, is_simple, built, new_rule, takes}
 use Rattle.clap.specs.Lexer.{long_of, long_of_rest, short_of, has_byte, name_and_value}
 use Rattle.clap.specs.Simple.{argument_words, filled, matches_of}
@@ -13,6 +14,8 @@ use Rattle.clap.specs.declared.builder.action.ArgAction.TheVariants.{Set, SetTru
 use Rattle.clap.proofs.WalkLemmas.{first_value-rows}
 use Rattle.clap.specs.declared.parser.matches.Found.{Found}
 use Rattle.clap.specs.declared.parser.matches.ValueSource.TheVariants.{CommandLine, DefaultValue}
+use Rattle.sd_base.proofs.Lists.{any-map}
+use Rattle.sd_base.proofs.Truths.{same_bytes}
 use Rattle.sd_words.specs.declared.names.OptionName.{OptionName}
 use Rattle.sd_words.specs.declared.names.OptionName.TheVariants as opt
 use Rattle.sd_words.specs.OptionWords.{option_word, has_value, names_flag, names_value, options}
@@ -25,7 +28,6 @@ use Rattle.sd_words.proofs.TestChains.{bind-ok}
 use Rattle.sd_words.proofs.CutWords.{is_whole, cut-before, cut-after}
 use Rattle.sd_words.proofs.NamedOptions.{names_value-is, names_flag-other, names_flag-of, words_whole}
 use Rattle.sd_words.proofs.Spelled.{free, waiting, pair, with_option-ok, with_value-ok, waiting-ok, read-spelled}
-use Rattle.sd_words.proofs.BufferParts.{any-map}
 
 -- ---- the command when it is built
 
@@ -158,11 +160,7 @@ joined-no-end (x ∷ n) v = refl
 
 has-equals : (n v : List ℕ) → has_byte 61 (n ++ 61 ∷ v) ≡ true
 has-equals [] v = refl
-has-equals (x ∷ n) v = or-true (nat_eq x 61) _ (has-equals n v)
-  where
-    or-true : (a b : Bool) → b ≡ true → (a || b) ≡ true
-    or-true true b e = refl
-    or-true false b e = e
+has-equals (x ∷ n) v = or_right (nat_eq x 61) _ (has-equals n v)
 
 long-joined : (n v : List ℕ) → is_whole n ≡ true → long_of (codes "--" ++ (n ++ 61 ∷ v)) ≡ Some (n, Some v)
 long-joined n v whole = rest-joined n v ∙ rw (has-equals n v, cut-before n v whole, cut-after n v whole) refl
@@ -273,9 +271,6 @@ turn-flag : (rows : List Row) (pending : Option (List ℕ × List (List ℕ))) (
     → turn_passes shape [] (at rows pending idle) word ≡ true
 turn-flag rows pending word more long settles uses = rw (more, long, flag-by-long, once, settles, uses) refl
 
-itself : (n : List ℕ) → bytes_eq n n ≡ true
-itself n = (bytes_eq-Decides n n).1 refl
-
 -- a value is no flag
 record IsPlainWord (v : List ℕ) : Type 0 where
   more : bytes_eq v (45 ∷ 45 ∷ []) ≡ false
@@ -285,17 +280,13 @@ record IsPlainWord (v : List ℕ) : Type 0 where
 plain-word : (v : List ℕ) → is_value v ≡ true → IsPlainWord v
 plain-word [] good = absurd (cc)
 plain-word (b ∷ bs) good =
-    let other : nat_eq b 45 ≡ false = is-not (nat_eq b 45) good in
+    let other : nat_eq b 45 ≡ false = not-true (nat_eq b 45) good in
     record { more = rw other refl; long = rw other refl; short = rw other refl }
-  where
-    is-not : (x : Bool) → not x ≡ true → x ≡ false
-    is-not true f = absurd (cc)
-    is-not false f = refl
 
 walk-due : (rows : List Row) (n v : List ℕ) → IsPlainWord v → arg_by_id rules n ≡ Some (text_rule n)
     → walked rules [] (at rows (Some (n, [])) (option n)) v ≡ at rows (Some (n, v ∷ [])) idle
 unfolding walked
-walk-due rows n v plain by = rw (plain.more, plain.long, plain.short, by, itself n) refl
+walk-due rows n v plain by = rw (plain.more, plain.long, plain.short, by, same_bytes n) refl
 
 turn-due : (rows : List Row) (n v : List ℕ) → IsPlainWord v → turn_passes shape [] (at rows (Some (n, [])) (option n)) v ≡ true
 turn-due rows n v plain = rw (plain.more, plain.long, plain.short) refl

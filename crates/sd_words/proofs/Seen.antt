@@ -3,12 +3,12 @@ use Rattle.std.proofs.Common.{◌≡◌, ℕ, true, List, [], ◌∷◌, ◌++�
 use Rattle.std.specs.List.{list_any}
 use Rattle.std.specs.Str.{bytes_eq}
 use Rattle.std.proofs.lemmas.List.{map-append}
+use Rattle.std.proofs.lemmas.Bool.{cond-true}
+use Rattle.sd_base.proofs.Lists.{any-map}
 use Rattle.sd_words.specs.declared.request.UsageCause.TheVariants.{Words}
 use Rattle.sd_words.specs.Spelling.{Setting}
 use Rattle.sd_words.specs.Reading.{Progress, is_taken, with_setting}
-use Rattle.sd_words.proofs.TestChains.{told}
 use Rattle.sd_words.proofs.Spelled.{pair}
-use Rattle.sd_words.proofs.BufferParts.{any-map}
 
 -- a name is among the reader's exactly where it is taken
 pub taken-seen : (names : List (Bor (List ℕ))) (settings : List Setting) (name : List ℕ) → map (λ n. n.now) names ≡ map (λ s. s.name) settings
@@ -19,7 +19,7 @@ taken-seen names settings name same =
 
 pub taken-fails : (p : Progress) (n v : List ℕ) → is_taken n p.settings ≡ true → with_setting p n v ≡ Err Words
 unfolding with_setting
-taken-fails p n v taken = told (is_taken n p.settings) _ _ taken
+taken-fails p n v taken = cond-true (is_taken n p.settings) _ _ taken
 
 -- a name more
 pub seen-more : (names more : List (Bor (List ℕ))) (settings : List Setting) (name : Bor (List ℕ)) (v : List ℕ) → map (λ n. n.now) names ≡ map (λ s. s.name) settings

@@ -3,6 +3,7 @@ use Rattle.std.proofs.Common.{◌≡◌, ℕ, true, false, cond, ◌⊎◌, inl,
 use Rattle.std.specs.List.{IsDistinct, starts_with, position_or_len, before_first, after_first}
 use Rattle.std.specs.Str.{bytes_eq}
 use Rattle.std.proofs.lemmas.List.{append-nil}
+use Rattle.std.proofs.lemmas.Bool.{cond-true, cond-false}
 use Rattle.sd_words.specs.declared.request.UsageCause.{UsageCause}
 use Rattle.sd_words.specs.declared.request.UsageCause.TheVariants.{Words}
 use Rattle.sd_words.specs.declared.names.OptionName.TheVariants as option
@@ -10,7 +11,7 @@ use Rattle.sd_words.specs.OptionWords.{names_value, names_flag}
 use Rattle.sd_words.specs.Values.{is_value}
 use Rattle.sd_words.specs.Spelling.{Setting, SpellsValue, SpellsFlag, Spells, SplitInto, IsSpelling}
 use Rattle.sd_words.specs.Reading.{◌>>=◌, Progress, is_taken, with_setting, with_value, with_name, with_text, with_option, with_word, with_words, finished, settings_of}
-use Rattle.sd_words.proofs.TestChains.{bind-ok, fails-ok, holds-ok, either-ok, told, untold}
+use Rattle.sd_words.proofs.TestChains.{bind-ok, fails-ok, holds-ok, either-ok}
 use Rattle.sd_words.proofs.CutWords.{is_equals, is_whole, uncut, cut-test, cut-before, cut-after, joined}
 use Rattle.sd_words.proofs.NamedOptions.{names_value-is, names_value-of, names_flag-is, names_flag-of, names_flag-other, words_whole, after_dashes, dashes}
 use Rattle.sd_words.proofs.Apart.{names, apart-more, apart-free}
@@ -54,7 +55,7 @@ with_setting-ok p q n v h =
 
 pub with_setting-of : (p : Progress) (n v : List ℕ) → is_taken n p.settings ≡ false → with_setting p n v ≡ Ok (free (p.settings ++ pair n v ∷ []))
 unfolding with_setting
-with_setting-of p n v new = untold (is_taken n p.settings) (Err Words) (Ok (free (p.settings ++ pair n v ∷ []))) new
+with_setting-of p n v new = cond-false (is_taken n p.settings) (Err Words) (Ok (free (p.settings ++ pair n v ∷ []))) new
 
 -- what a word that isn't a value has given: a setting of one word, or the name of an option whose value is due
 abbrev pub HasSetting : List Setting → List ℕ → Progress → Type 0
@@ -72,7 +73,7 @@ with_value-ok p q n v h =
 
 with_value-of : (p : Progress) (n v : List ℕ) → IsTrue (is_value v) → is_taken n p.settings ≡ false → with_value p n v ≡ Ok (free (p.settings ++ pair n v ∷ []))
 unfolding with_value
-with_value-of p n v good new = told (is_value v) (with_setting p n v) (Err Words) good ∙ with_setting-of p n v new
+with_value-of p n v good new = cond-true (is_value v) (with_setting p n v) (Err Words) good ∙ with_setting-of p n v new
 
 with_name-ok : (done : List Setting) (q : Progress) (n w : List ℕ) → w ≡ codes "--" ++ n → with_name (free done) n ≡ Ok q → HasSetting done w q ⊎ HasName done w q
 unfolding with_name
@@ -170,7 +171,7 @@ sound (w ∷ ws) =
 
 over_dashes : (done : List Setting) (t : List ℕ) → with_word (free done) (codes "--" ++ t) ≡ with_text (free done) t
 unfolding with_word with_option
-over_dashes done t = told (starts_with nat_eq (codes "--" ++ t) (codes "--")) (with_text (free done) t) (Err Words) (dashes t)
+over_dashes done t = cond-true (starts_with nat_eq (codes "--" ++ t) (codes "--")) (with_text (free done) t) (Err Words) (dashes t)
 
 over_joined : (done : List Setting) (n v : List ℕ) → names_value n ≡ true → is_whole n ≡ true → IsTrue (is_value v) → is_taken n done ≡ false
     → with_text (free done) (n ++ 61 ∷ v) ≡ Ok (free (done ++ pair n v ∷ []))
@@ -178,27 +179,27 @@ unfolding with_text
 over_joined done n v named one good new =
     let t = n ++ 61 ∷ v in
     let choose = λ (a b : List ℕ). cond (names_value a) (with_value (free done) a b) (Err Words) in
-    told (ltb (position_or_len is_equals t) (length t)) (choose (before_first is_equals t) (after_first is_equals t)) (with_name (free done) t) (cut-test n v one)
+    cond-true (ltb (position_or_len is_equals t) (length t)) (choose (before_first is_equals t) (after_first is_equals t)) (with_name (free done) t) (cut-test n v one)
     ∙ (ap (λ a. choose a (after_first is_equals t)) (cut-before n v one)
     ∙ (ap (λ b. choose n b) (cut-after n v one)
-    ∙ (told (names_value n) (with_value (free done) n v) (Err Words) named ∙ with_value-of (free done) n v good new)))
+    ∙ (cond-true (names_value n) (with_value (free done) n v) (Err Words) named ∙ with_value-of (free done) n v good new)))
 
 over_alone : (done : List Setting) (n : List ℕ) → is_whole n ≡ true → with_text (free done) n ≡ with_name (free done) n
 unfolding with_text
 over_alone done n one =
-    untold (ltb (position_or_len is_equals n) (length n))
+    cond-false (ltb (position_or_len is_equals n) (length n))
     (cond (names_value (before_first is_equals n)) (with_value (free done) (before_first is_equals n) (after_first is_equals n)) (Err Words)) (with_name (free done) n) (uncut n one)
 
 over_name : (done : List Setting) (n : List ℕ) → names_value n ≡ true → names_flag n ≡ false → with_name (free done) n ≡ Ok (waiting done n)
 unfolding with_name
 over_name done n named other =
-    untold (names_flag n) (with_setting (free done) n []) (cond (names_value n) (Ok (waiting done n)) (Err Words)) other
-    ∙ told (names_value n) (Ok (waiting done n)) (Err Words) named
+    cond-false (names_flag n) (with_setting (free done) n []) (cond (names_value n) (Ok (waiting done n)) (Err Words)) other
+    ∙ cond-true (names_value n) (Ok (waiting done n)) (Err Words) named
 
 over_flag : (done : List Setting) (n : List ℕ) → names_flag n ≡ true → is_taken n done ≡ false → with_name (free done) n ≡ Ok (free (done ++ pair n [] ∷ []))
 unfolding with_name
 over_flag done n flag new =
-    told (names_flag n) (with_setting (free done) n []) (cond (names_value n) (Ok (waiting done n)) (Err Words)) flag ∙ with_setting-of (free done) n [] new
+    cond-true (names_flag n) (with_setting (free done) n []) (cond (names_value n) (Ok (waiting done n)) (Err Words)) flag ∙ with_setting-of (free done) n [] new
 
 over_due : (done : List Setting) (n v : List ℕ) → IsTrue (is_value v) → is_taken n done ≡ false → with_word (waiting done n) v ≡ Ok (free (done ++ pair n v ∷ []))
 unfolding with_word

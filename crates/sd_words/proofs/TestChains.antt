@@ -22,11 +22,3 @@ holds-ok false cause r y h = absurd (cc)
 pub either-ok : {A : Type 0} (b : Bool) (r s : Result A UsageCause) (y : A) → cond b r s ≡ Ok y → ((b ≡ true) × (r ≡ Ok y)) ⊎ ((b ≡ false) × (s ≡ Ok y))
 either-ok true r s y h = inl (refl, h)
 either-ok false r s y h = inr (refl, h)
-
-pub told : {A : Type 0} (b : Bool) (r s : A) → b ≡ true → cond b r s ≡ r
-told true r s h = refl
-told false r s h = absurd (cc)
-
-pub untold : {A : Type 0} (b : Bool) (r s : A) → b ≡ false → cond b r s ≡ s
-untold true r s h = absurd (cc)
-untold false r s h = refl

@@ -1,16 +1,13 @@
 -- Values, and the numbers among them.
-use Rattle.std.specs.Prelude.{ℕ, ◌+◌, ◌-◌, ◌*◌, Bool, false, not, ◌&&◌, ◌==◌, nat_le, nat_lt, List, [], ◌∷◌, length, Option, Some, None, if◌then◌else◌}
+use Rattle.std.specs.Prelude.{ℕ, Bool, false, not, ◌&&◌, ◌==◌, nat_le, nat_lt, List, [], ◌∷◌, length, Option, Some, None, if◌then◌else◌}
 use Rattle.std.specs.List.{fold, list_all}
 use Rattle.std.specs.Char.{is_ascii_digit}
+use Rattle.sd_base.specs.Numbers.{with_digit}
 
 -- a value isn't empty and doesn't begin with a hyphen
 abbrev pub is_value : List ℕ → Bool
 is_value [] = false
 is_value (b ∷ bs) = not (b == 45)
-
--- a number with one more digit, which is a byte
-abbrev pub with_digit : ℕ → ℕ → ℕ
-with_digit n b = n * 10 + (b - 48)
 
 -- the number that decimal digits spell; zeros may lead
 abbrev pub number : List ℕ → ℕ

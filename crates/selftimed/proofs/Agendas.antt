@@ -1,7 +1,7 @@
 -- What agendas say of the actors.
-use Rattle.std.proofs.Common.{◌≡◌, ◌≢◌, ℕ, zero, suc, ◌+◌, ◌-◌, ◌≤◌, ◌<◌, true, List, [], ◌∷◌, ◌++◌, length, Some, ⊎_elim, subst, sym, refl, ap, ◌∙◌, arith}
+use Rattle.std.proofs.Common.{◌≡◌, ◌≢◌, ℕ, zero, suc, ◌+◌, ◌-◌, ◌≤◌, ◌<◌, true, List, [], ◌∷◌, length, Some, ⊎_elim, subst, sym, refl, ap, ◌∙◌, arith}
 use Rattle.std.specs.Prelude.{slice_index, slice_index_or, slice_get, ◌==◌, Option, All, Contains, IsPermutation}
-use Rattle.std.specs.List.{list_any, sum_by, range_with_len}
+use Rattle.std.specs.List.{list_any, sum_by}
 use Rattle.std.specs.Option.{is_some}
 use Rattle.std.proofs.lemmas.Bool.{cases_lt, eq-eqb, eqb-true, false≢true}
 use Rattle.std.proofs.lemmas.List.{get_or_past}
@@ -123,9 +123,3 @@ fewer-due moment t a (end ∷ more) old mid new past taken pushed late =
     omega arith
 
 -- ---- a list of all actors
-
-pub range-more : (a n j : ℕ) → a + n ≡ j → range_with_len a (n + 1) ≡ range_with_len a n ++ j ∷ []
-range-more a zero j is = let e : a ≡ j = omega arith in ap (λ (x : ℕ). x ∷ []) e
-range-more a (suc n) j is =
-    let f : suc n + 1 ≡ suc (n + 1) = omega arith in
-    rw f (ap (λ (xs : List ℕ). a ∷ xs) (range-more (a + 1) n j (omega arith)))

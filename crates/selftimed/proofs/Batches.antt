@@ -1,13 +1,12 @@
 -- Firings of one actor that start at one moment.
-use Rattle.std.proofs.Common.{◌≡◌, ℕ, ◌+◌, ◌-◌, ◌*◌, ◌%◌, ◌^◌, ◌≤◌, ◌<◌, List, [], ◌∷◌, ◌++◌, Option, Some, length, replicate, ⊎_elim, subst, sym, refl, ap, ◌∙◌, arith, mul-le-mul_right}
+use Rattle.std.proofs.Common.{◌≡◌, ℕ, ◌+◌, ◌-◌, ◌*◌, ◌%◌, ◌^◌, ◌≤◌, ◌<◌, List, [], ◌++◌, Option, Some, length, replicate, ⊎_elim, subst, sym, refl, ap, ◌∙◌, arith, mul-le-mul_right}
 use Rattle.std.specs.Prelude.{slice_index, slice_index_or, IfSome}
 use Rattle.std.proofs.lemmas.Bool.{cases_lt}
 use Rattle.std.proofs.lemmas.List.{get_or-append-add, get_or-replicate, get_or_append_left, length-append, length-replicate}
 use Rattle.sd_base.specs.Net.{Net, channel_at, phase_entry, total}
 use Rattle.sd_base.specs.Schedules.{time_of, phases_at}
 use Rattle.sd_base.specs.Lawful.{Lawful}
-use Rattle.sd_base.proofs.Sums.{total-more}
-use Rattle.sd_base.proofs.Admissibles.{one_time}
+use Rattle.sd_base.proofs.Sums.{total-more, one-entry}
 use Rattle.firing.specs.declared.sums.Port.TheVariants.{Taken}
 use Rattle.firing.specs.Wiring.{SufficesBefore, LacksNow, TakesTokens}
 use Rattle.firing.proofs.TokenMoves.{span-one}
@@ -21,12 +20,6 @@ pub feeds-one : (net : Net) (tokens : List ℕ) (a k : ℕ) → SufficesBefore n
 feeds-one net tokens a k enough i place into =
     let here : phase_entry (channel_at net i).taken k ≤ slice_index tokens i = enough i place into in
     rw total-more (omega arith)
-
--- a list of one number has it at each firing
-pub one-entry : (xs : List ℕ) (k : ℕ) → length xs ≡ 1 → phase_entry xs k ≡ slice_index xs 0
-one-entry [] k one = absurd (omega arith)
-one-entry (x ∷ []) k one = one_time (x ∷ []) k 0 (omega arith)
-one-entry (x ∷ y ∷ xs) k one = absurd (omega arith)
 
 -- as many as the channels that were looked at feed, of an actor of one phase
 pub record BatchSoFar (net : Net) (a : ℕ) (own : Option ℕ) (xs tokens : List ℕ) (most best lacking done : ℕ) : Type 0 where

@@ -1,7 +1,6 @@
 -- Where the actors of two executions stand alike.
-use Rattle.std.proofs.Common.{◌≡◌, ◌≢◌, ℕ, ◌+◌, ◌-◌, ◌%◌, ◌≤◌, ◌<◌, List, [], length, map, sym, ap, ◌∙◌, ⊎_elim, arith}
+use Rattle.std.proofs.Common.{◌≡◌, ◌≢◌, ℕ, ◌-◌, ◌%◌, ◌≤◌, ◌<◌, List, [], length, map, sym, ap, ◌∙◌, arith}
 use Rattle.std.specs.Prelude.{slice_index, slice_index_or}
-use Rattle.std.proofs.lemmas.Bool.{cases_lt}
 use Rattle.std.proofs.lemmas.List.{ext_get_or, get_or-map, length-map}
 use Rattle.std.proofs.lemmas.List.FromFn.{length-map-range_with_len}
 use Rattle.sd_base.specs.Net.{Net}
@@ -24,13 +23,6 @@ phases-agree net left right n whole agree = ext_get_or 0 (phases_now net left) (
 
 pub phases-apart : (net : Net) (left right : List ActorState) (a : ℕ) → a < length net.times → started_in left a % phases_at net a ≢ started_in right a % phases_at net a → phases_now net left ≢ phases_now net right
 phases-apart net left right a actor away same = away (sym (phase-at net left a actor) ∙ (ap (λ (xs : List ℕ). slice_index xs a) same ∙ phase-at net right a actor))
-
--- what holds below n and of n holds below n + 1
-pub below_next : (P : ℕ → Type 0) (n : ℕ) → ((a : ℕ) → a < n → P a) → P n → (a : ℕ) → a < n + 1 → P a
-below_next P n old new a below = ⊎_elim
-    (λ (h : a < n). old a h)
-    (λ (h : n ≤ a). let e : n ≡ a = omega arith in rw (← e) new)
-    (cases_lt a n)
 
 -- the times left of the first n actors' running firings are the same
 abbrev pub TimesAgree : ℕ → List ActorState → ℕ → List ActorState → ℕ → Type 0

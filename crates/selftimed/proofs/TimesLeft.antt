@@ -1,7 +1,7 @@
 -- The times left of runs, and that runs are told by their ends.
 use Rattle.std.proofs.Common.{◌≡◌, ℕ, zero, suc, ◌+◌, ◌-◌, ◌≤◌, ◌<◌, ◌⊎◌, List, [], ◌∷◌, ◌++◌, length, map, replicate, take, drop, inl, inr, ⊎_elim, subst, sym, refl, ap, ◌∙◌, append_assoc, arith}
 use Rattle.std.specs.Prelude.{slice_index}
-use Rattle.std.proofs.Math.Seq.{take-add, take-length}
+use Rattle.std.proofs.Math.Seq.{take-add}
 use Rattle.std.proofs.lemmas.List.{append_cancel_left, drop_at, ext_get_or, get_or-map, length-drop, length-map, length-replicate, length-take, length-take-le, map-append, take_at, take-append-drop}
 use Rattle.selftimed.specs.declared.queue.Run.{Run}
 use Rattle.selftimed.specs.inside.Runs.{no_run, run_at, ends_of, AreRuns, left_of, NoneEnded}
@@ -69,10 +69,6 @@ module _ (moment : ℕ) (first : Run) (later : List Run) (times : List ℕ) wher
 
   pub first-whole : take first.firings times ≡ replicate first.firings (first.end - moment) → times_left moment later ≡ drop first.firings times → times_left moment (first ∷ later) ≡ times
   first-whole begin rest = left-first moment first later ∙ (ap (λ (xs : List ℕ). xs ++ times_left moment later) (sym begin) ∙ (ap (λ (xs : List ℕ). take first.firings times ++ xs) rest ∙ take-append-drop first.firings times))
-
--- all times from a place on
-pub rest-whole : (times : List ℕ) (place : ℕ) → take (length times - place) (drop place times) ≡ drop place times
-rest-whole times place = ap (λ (n : ℕ). take n (drop place times)) (sym (length-drop place times)) ∙ take-length (drop place times)
 
 -- ---- runs are told by their ends
 

@@ -1,8 +1,8 @@
 -- A strongly connected net that some counts block has rate 0: no admissible schedule goes past those counts.
-use Rattle.std.proofs.Common.{◌≡◌, ℕ, suc, ◌+◌, ◌*◌, ◌≤◌, ◌<◌, ◌⊎◌, Bool, true, false, List, [], ◌∷◌, length, inl, inr, ⊎_elim, subst, sym, refl, ◌∙◌, arith}
-use Rattle.std.specs.Prelude.{slice_index_or, count_by, nat_lt, cond}
+use Rattle.std.proofs.Common.{ℕ, ◌+◌, ◌*◌, ◌≤◌, ◌<◌, ◌⊎◌, List, [], ◌∷◌, length, inl, inr, ⊎_elim, subst, sym, refl, ◌∙◌, arith}
+use Rattle.std.specs.Prelude.{slice_index_or, nat_lt}
 use Rattle.std.proofs.lemmas.Bool.{cases_lt}
-use Rattle.std.proofs.lemmas.List.Sums.{sum_by-cons}
+use Rattle.std.proofs.lemmas.List.Sums.{count_by-le-length}
 use Rattle.std.proofs.lemmas.Nat.Gcd.{IsGcd-from_zero, IsGcd-swap}
 use Rattle.sd_base.specs.Net.{Net, channel_at, total}
 use Rattle.sd_base.specs.Schedules.{Schedule, count_of, Admissible, HasInputs}
@@ -19,14 +19,6 @@ use Rattle.sd_base.proofs.Blocking.{blocked-bounds}
 use Rattle.sd_base.proofs.Existence.{earliest-is}
 use Rattle.sd_base.proofs.Ends.{sum_to}
 use Rattle.sd_base.proofs.LoopRates.{sum_to-part}
-
-count-few : (t : ℕ) (xs : List ℕ) → count_by (λ x. nat_lt x t) xs ≤ length xs
-count-few t [] = omega arith
-count-few t (x ∷ xs) = let cons : count_by (λ y. nat_lt y t) (x ∷ xs) ≡ cond (nat_lt x t) 1 0 + count_by (λ y. nat_lt y t) xs = sum_by-cons (λ (y : ℕ). cond (nat_lt y t) 1 0) x xs in rw cons (at (nat_lt x t) (count-few t xs))
-  where
-    at : (b : Bool) → count_by (λ y. nat_lt y t) xs ≤ length xs → cond b 1 0 + count_by (λ y. nat_lt y t) xs ≤ suc (length xs)
-    at true few = omega arith
-    at false few = omega arith
 
 unfoldable most_along : Net → List ℕ → ℕ → ℕ
 most_along net [] n = n
@@ -67,5 +59,5 @@ module _ (net : Net) (laws : Lawful net) (inputs : HasInputs net) (strong : IsSt
     positive = omega arith;
     lowest = IsGcd-swap 1 0 1 (IsGcd-from_zero 1 0 refl);
     slack = sum_to most_of (length net.times);
-    bounds = record { above = λ s t a good actor. omega (arith, count-few t (slice_index_or s a []), few s good a actor); below = λ t. (earliest net t, earliest-is net (regular net laws) inputs t, λ a actor. omega arith) };
+    bounds = record { above = λ s t a good actor. omega (arith, count_by-le-length (λ x. nat_lt x t) (slice_index_or s a []), few s good a actor); below = λ t. (earliest net t, earliest-is net (regular net laws) inputs t, λ a actor. omega arith) };
   }

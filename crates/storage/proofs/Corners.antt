@@ -1,5 +1,5 @@
 -- Rounding keeps distributions, and a live distribution rounded down is at least the corner.
-use Rattle.std.proofs.Common.{◌≡◌, ℕ, zero, suc, ◌+◌, ◌-◌, ◌/◌, ◌%◌, ◌≤◌, ◌<◌, true, false, Option, None, Some, List, [], ◌∷◌, length, ⊎_elim, subst, sym, refl, ap, ◌∙◌, arith}
+use Rattle.std.proofs.Common.{◌≡◌, ℕ, zero, suc, ◌+◌, ◌-◌, ◌/◌, ◌%◌, ◌≤◌, ◌<◌, true, false, Option, None, Some, List, [], ◌∷◌, length, ⊎_elim, subst, sym, refl, ap, ◌∙◌, arith, div-mul-le_self}
 use Rattle.std.specs.Prelude.{slice_index, slice_index_or}
 use Rattle.std.proofs.Math.Nat.{mod-eq_of_lt}
 use Rattle.std.proofs.lemmas.Bool.{cases_lt}
@@ -15,7 +15,6 @@ use Rattle.storage.specs.BoundedNets.{bound}
 use Rattle.storage.specs.Steps.{step_of, IsOnStep, IsOnGrid, CoversRates, IsCornerAt, IsCorner, rounded_at, rounded}
 use Rattle.storage.specs.inside.Easing.{Eases}
 use Rattle.storage.proofs.SpaceChannels.{bound-front, bound-space}
-use Rattle.storage.proofs.Wholes.{floor-le}
 use Rattle.storage.proofs.Roundings.{bound-eases, rounding-eases}
 use Rattle.storage.proofs.Easings.{eases-live}
 use Rattle.storage.proofs.Levels.{IsBefore, none-paid, before-firing}
@@ -35,7 +34,7 @@ rounded-covers c k = omega arith
 
 rounded-le : (c : Channel) (k : ℕ) → c.tokens ≤ k → rounded_at c k ≤ k
 unfolding rounded_at
-rounded-le c k covers = omega (arith, floor-le (step_of c) (k - c.tokens))
+rounded-le c k covers = omega (arith, div-mul-le_self (k - c.tokens) (step_of c))
 
 rounded-step : (c : Channel) (k : ℕ) → IsOnStep c (rounded_at c k)
 unfolding rounded_at

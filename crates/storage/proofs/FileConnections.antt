@@ -1,16 +1,15 @@
 -- The net of a connected graph file is connected, and its channels, counted twice, aren't too many.
-use Rattle.std.proofs.Common.{◌≡◌, ℕ, zero, suc, ◌+◌, ◌*◌, ◌≤◌, inl, inr, Bool, true, false, List, [], ◌∷◌, ◌++◌, length, map, Some, cond, arith, length-append}
+use Rattle.std.proofs.Common.{◌≡◌, ℕ, zero, suc, ◌+◌, ◌*◌, ◌≤◌, inl, inr, Bool, List, [], ◌∷◌, ◌++◌, length, map, Some, arith, length-append}
 use Rattle.std.specs.Prelude.{slice_get}
 use Rattle.std.proofs.lemmas.List.{length-map}
 use Rattle.sd_base.specs.declared.limits.TheConstants.{NET_CHANNELS}
 use Rattle.sd_base.specs.declared.tables.GraphFile.{GraphFile}
-use Rattle.sd_base.specs.declared.tables.ActorRow.{ActorRow}
 use Rattle.sd_base.specs.declared.tables.ChannelRow.{ChannelRow}
 use Rattle.sd_base.specs.Tables.{KeepsRules}
 use Rattle.sd_base.specs.Net.{Channel, file_channels, file_channels_from}
-use Rattle.sd_base.specs.FileNet.{own_channel, gets_own, own_channels_from, net_of}
+use Rattle.sd_base.specs.FileNet.{own_channels_from, net_of}
 use Rattle.sd_base.specs.Connection.{AreConnected, IsConnected, IsWalk, ends_of, graph_ends}
-use Rattle.sd_base.proofs.FileNets.{file-length}
+use Rattle.sd_base.proofs.FileNets.{file-length, own-few}
 
 abbrev row_ends : ChannelRow → ℕ × ℕ
 row_ends c = (c.source, c.target)
@@ -29,15 +28,6 @@ walk-on : (ends more : List (ℕ × ℕ)) → ((k : ℕ) (e : ℕ × ℕ) → sl
 walk-on ends more front a [] b same = same
 walk-on ends more front a (k ∷ ks) b (e, is, inl (at, way)) = (e, front k e is, inl (at, walk-on ends more front e.1 ks b way))
 walk-on ends more front a (k ∷ ks) b (e, is, inr (at, way)) = (e, front k e is, inr (at, walk-on ends more front e.0 ks b way))
-
-pub own-few : (apart : Bool) (channels : List ChannelRow) (a : ℕ) (rows : List ActorRow) → length (own_channels_from apart channels a rows) ≤ length rows
-own-few apart channels a [] = omega arith
-own-few apart channels a (r ∷ rows) = step (gets_own apart channels a r.phases) (own-few apart channels (suc a) rows)
-  where
-    step : (b : Bool) → length (own_channels_from apart channels (suc a) rows) ≤ length rows
-        → length (cond b (own_channel a r.phases ∷ own_channels_from apart channels (suc a) rows) (own_channels_from apart channels (suc a) rows)) ≤ suc (length rows)
-    step true rest = omega arith
-    step false rest = omega arith
 
 module _ (g : GraphFile) (gamma : List ℕ) (no_overlap : Bool) where
   pub file-connected : AreConnected (length g.actors) (graph_ends g) → IsConnected (net_of g gamma no_overlap)

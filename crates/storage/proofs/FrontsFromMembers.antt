@@ -1,24 +1,23 @@
 -- Pairs that are reached and cover the members of a closed list are the Pareto points; and orders of fractions.
-use Rattle.std.proofs.Common.{◌≡◌, ℕ, suc, ◌*◌, ◌≤◌, ◌<◌, ◌⊎◌, Option, None, Some, List, [], ◌∷◌, length, inl, inr, ⊎_elim, subst, sym, refl, ap, ◌∙◌, arith, mul-le-mul_right}
+use Rattle.std.proofs.Common.{◌≡◌, ℕ, suc, ◌*◌, ◌≤◌, ◌<◌, ◌⊎◌, Option, None, Some, List, [], ◌∷◌, length, inl, inr, ⊎_elim, subst, refl, ap, ◌∙◌, arith, mul-le-mul_right}
 use Rattle.std.specs.Prelude.{slice_index_or}
-use Rattle.std.specs.Int.{IsGcd, ◌∣◌}
-use Rattle.std.proofs.Math.Nat.{le_of_mul-le-mul_right, eq_of_mul-eq-mul_right}
+use Rattle.std.specs.Int.{IsGcd}
+use Rattle.std.proofs.Math.Nat.{le_of_mul-le-mul_right}
 use Rattle.std.proofs.lemmas.Bool.{cases_lt, cases_order}
-use Rattle.std.proofs.lemmas.Nat.Gcd.{dvd_antisymm}
 use Rattle.sd_base.specs.Net.{Channel, Net, nowhere}
 use Rattle.sd_base.specs.Lawful.{Lawful}
-use Rattle.sd_base.proofs.Divisors.{root_divides}
+use Rattle.sd_base.proofs.Divisors.{same_fraction}
 use Rattle.storage.specs.Distributions.{IsDistribution, AtMost, storage_of}
 use Rattle.storage.specs.ParetoPoints.{Rating, ReachesBy, Pair, IsReachedBy, Beats, IsParetoBy, no_pair, IsFrontBy, rating_of, Reaches, IsPareto, IsFront}
 use Rattle.storage.specs.ClosedLists.{Entry, entry_at, HasEntry, IsClosedBy, IsCovered, IsFrontOverBy, IsClosed, IsFrontOver}
 use Rattle.storage.proofs.Climbs.{HasSteps, storage-le}
 use Rattle.storage.proofs.Covers.{covered-by, net-steps}
 
-pub same_fraction : (p q x y : ℕ) → 1 ≤ q → 1 ≤ y → IsGcd p q 1 → IsGcd x y 1 → p * y ≡ x * q → (p ≡ x) × (q ≡ y)
-same_fraction p q x y some there one other cross = let left : q ∣ y = root_divides p q y x one (sym cross ∙ omega arith) in let right : y ∣ q = root_divides x y q p other (cross ∙ omega arith) in let same : q ≡ y = dvd_antisymm left right in let mine : p * y ≡ x * y = cross ∙ ap (λ (z : ℕ). x * z) same in (eq_of_mul-eq-mul_right y there p x mine, same)
-
 pub no_less : (a b c d e f : ℕ) → 1 ≤ d → a * d ≤ c * b → c * f ≤ e * d → a * f ≤ e * b
 no_less a b c d e f some one other = let up : a * d * f ≤ c * b * f = mul-le-mul_right f one in let on : c * f * b ≤ e * d * b = mul-le-mul_right b other in let all : a * f * d ≤ e * b * d = omega arith in le_of_mul-le-mul_right all some
+
+pub below_less : (a b c d e f : ℕ) → 1 ≤ b → a * d ≤ c * b → c * f < e * d → a * f < e * b
+below_less a b c d e f some one other = ⊎_elim (λ (h : a * f < e * b). h) (λ (back : e * b ≤ a * f). absurd (let le : e * d ≤ c * f = no_less e f a b c d some back one in omega arith)) (cases_lt (a * f) (e * b))
 
 pub less_on : (a b c d e f : ℕ) → 1 ≤ b → 1 ≤ d → 1 ≤ f → a * d < c * b → c * f ≤ e * d → a * f < e * b
 less_on a b c d e f some_b some_d some_f one other = ⊎_elim (λ (h : a * f < e * b). h) (λ (back : e * b ≤ a * f). absurd (let le : c * b ≤ a * d = no_less c d e f a b some_f other back in omega arith)) (cases_lt (a * f) (e * b))

@@ -1,26 +1,25 @@
 -- Buffers without a fault bound the net of their graph.
-use Rattle.std.proofs.Common.{◌≡◌, ℕ, zero, suc, ◌+◌, ◌≤◌, ◌<◌, Bool, true, false, not, cond, ◌&&◌, ◌||◌, All, ◌⊎◌, inl, inr, Option, None, Some, List, [], ◌∷◌, ◌++◌, length, map, refl, sym, ap, ap₂, subst, ◌∙◌, arith}
+use Rattle.std.proofs.Common.{◌≡◌, ℕ, zero, suc, ◌+◌, ◌≤◌, ◌<◌, Bool, true, false, not, cond, ◌&&◌, All, ◌⊎◌, inl, inr, Option, None, Some, List, [], ◌∷◌, ◌++◌, length, map, refl, sym, ap, ap₂, subst, ◌∙◌, arith}
 use Rattle.std.specs.Prelude.{slice_index_or, ◌==◌, ◌≢◌, nat_lt}
 use Rattle.std.specs.List.{find, list_any}
 use Rattle.std.specs.Option.{option_map, option_or}
 use Rattle.std.specs.Str.{bytes_eq}
 use Rattle.std.proofs.lemmas.List.{length-append}
-use Rattle.std.proofs.lemmas.Bool.{eqb-false, ltb-false}
-use Rattle.std.proofs.lemmas.Slice.Eq.{bytes_eq-Decides}
+use Rattle.std.proofs.lemmas.Bool.{eqb-false, ltb-false, or_parts}
 use Rattle.sd_base.specs.declared.limits.TheConstants.{ACTORS, CAPACITY, CHANNELS, NET_CHANNELS, NET_TOKENS}
 use Rattle.sd_base.specs.declared.tables.GraphFile.{GraphFile}
 use Rattle.sd_base.specs.declared.tables.ChannelRow.{ChannelRow}
 use Rattle.sd_base.specs.Tables.{KeepsRules}
 use Rattle.sd_base.specs.Net.{Channel, Net, file_channel, file_channels, file_channels_from}
 use Rattle.sd_base.specs.FileNet.{own_channels_from, net_of}
-use Rattle.sd_base.proofs.FileNets.{file-length}
+use Rattle.sd_base.proofs.FileNets.{file-length, own-few}
+use Rattle.sd_base.proofs.Truths.{bytes_turned}
 use Rattle.storage.specs.declared.buffers.BufferError.{BufferError}
 use Rattle.storage.specs.declared.buffers.BufferError.TheVariants.{Unknown, SelfLoop, BelowTokens}
 use Rattle.storage.specs.Distributions.{CanHold}
 use Rattle.storage.specs.BoundedNets.{bound, spaces_from}
 use Rattle.storage.specs.NamedBuffers.{Buffer, capacities_of, capacity_named, fault_of, first_fault, has_named}
 use Rattle.storage.proofs.SpaceChannels.{bound-long}
-use Rattle.storage.proofs.FileConnections.{own-few}
 
 -- what a row of a channel tells of the capacity that its name is given
 record Holds (r : ChannelRow) (k : ℕ) : Type 0 where
@@ -34,15 +33,11 @@ first-none : (f g : Option BufferError) → option_or f g ≡ None → (f ≡ No
 first-none None g e = (refl, e)
 first-none (Some x) g e = absurd (cc)
 
-or-none : (a b : Bool) → (a || b) ≡ false → (a ≡ false) × (b ≡ false)
-or-none false b e = (refl, e)
-or-none true b e = absurd (cc)
-
 -- a test that no row passes
 none-passes : (test : ChannelRow → Bool) (rows : List ChannelRow) (i : ℕ) (d : ChannelRow) → list_any test rows ≡ false → i < length rows → test (slice_index_or rows i d) ≡ false
 none-passes test [] i d none below = absurd (omega arith)
-none-passes test (r ∷ rows) zero d none below = (or-none (test r) (list_any test rows) none).0
-none-passes test (r ∷ rows) (suc i) d none below = none-passes test rows i d (or-none (test r) (list_any test rows) none).1 (omega arith)
+none-passes test (r ∷ rows) zero d none below = (or_parts (test r) (list_any test rows) none).0
+none-passes test (r ∷ rows) (suc i) d none below = none-passes test rows i d (or_parts (test r) (list_any test rows) none).1 (omega arith)
 
 -- a name that a row has
 and-right : (a b : Bool) → a ≡ true → (a && b) ≡ false → b ≡ false
@@ -86,9 +81,6 @@ at-first test b bs k is = go (test b) refl is
         inl (e, same)
     go false e h = inr h
 
-flip : (a b : List ℕ) → bytes_eq a b ≡ true → bytes_eq b a ≡ true
-flip a b e = (bytes_eq-Decides b a).1 (sym ((bytes_eq-Decides a b).0 e))
-
 all-hold : (rows : List ChannelRow) (bs : List Buffer) (i : ℕ) (d : ChannelRow) (k : ℕ) → i < length rows → first_fault rows bs ≡ None → All (λ (b : Buffer). b.1 ≤ CAPACITY) bs
     → capacity_named bs (slice_index_or rows i d).name ≡ Some k → Holds (slice_index_or rows i d) k
 unfolding first_fault
@@ -96,7 +88,7 @@ all-hold rows [] i d k below none small is = absurd (cc)
 all-hold rows (b ∷ bs) i d k below none small is =
     let parts = first-none (fault_of rows b) (first_fault rows bs) none in
     elim (at-first (λ (b : Buffer). bytes_eq b.0 (slice_index_or rows i d).name) b bs k is) [
-      | inl h ↦ subst (Holds (slice_index_or rows i d)) h.1 (one-holds rows b i d below parts.0 (small 0 b (omega arith)) (flip b.0 (slice_index_or rows i d).name h.0))
+      | inl h ↦ subst (Holds (slice_index_or rows i d)) h.1 (one-holds rows b i d below parts.0 (small 0 b (omega arith)) (sym (bytes_turned b.0 (slice_index_or rows i d).name) ∙ h.0))
       | inr h ↦ all-hold rows bs i d k below parts.1 (λ j e within. small (suc j) e (omega arith)) h
     ]
 

@@ -25,6 +25,13 @@ space-later n c cs d ds x at = record {
   is = let e : n + suc at.place ≡ suc n + at.place = omega arith in rw e at.is;
 }
 
+-- there are no more spaces than channels
+pub few-spaces : (n : ℕ) (cs : List Channel) (ds : List (Option ℕ)) → length (spaces_from n cs ds) ≤ length cs
+few-spaces n [] ds = omega arith
+few-spaces n (c ∷ cs) [] = omega arith
+few-spaces n (c ∷ cs) (None ∷ ds) = let later = few-spaces (suc n) cs ds in omega (arith, later)
+few-spaces n (c ∷ cs) (Some k ∷ ds) = let later = few-spaces (suc n) cs ds in omega (arith, later)
+
 pub spaces-tell : (n : ℕ) (cs : List Channel) (ds : List (Option ℕ)) (i : ℕ) → i < length (spaces_from n cs ds) → SpaceAt n cs ds (slice_index_or (spaces_from n cs ds) i nowhere)
 spaces-tell n [] ds i below = absurd (omega arith)
 spaces-tell n (c ∷ cs) [] i below = absurd (omega arith)

@@ -8,6 +8,7 @@ use Rattle.firing.specs.declared.sums.Port.{Port}
 use Rattle.firing.specs.declared.sums.Port.TheVariants.{Made, Taken}
 use Rattle.firing.specs.Wiring.{actor_at, IsListed}
 use Rattle.firing.proofs.Listings.{place_of}
+use Rattle.firing.proofs.TokenMoves.{apart}
 use Rattle.token_matrix.specs.inside.LaterRows.{Reaches, AreWide, IsRaised}
 use Rattle.token_matrix.specs.inside.Lines.{line_at, taken_on, made_on, AreReady, AreTaken, IsLatest, ArePut}
 use Rattle.token_matrix.proofs.RaisedRows.{none-at}
@@ -18,10 +19,6 @@ Lines = List (List (List (Option ℕ)))
 -- a line that is read
 pub read_line : (now : Lines) (i : ℕ) (x : List (List (Option ℕ))) → i < length now → slice_index_or now i x ≡ line_at now i
 read_line now i x below = Rattle.std.proofs.lemmas.List.get_or_default now i x [] below
-
--- a list of channels names none twice
-apart : (net : Net) (port : Port) (a : ℕ) (xs : List ℕ) → IsListed net port a xs → (j n : ℕ) → j < n → n < length xs → slice_index xs j ≢ slice_index xs n
-apart net port a xs listed j n before below same = let less : slice_index xs j < slice_index xs n = listed.rising j n before below in absurd (omega arith)
 
 -- the lines of the first n channels of a list have changed by `by`, and no others
 pub record Changed (channels : ℕ) (xs : List ℕ) (by : ℕ → List (List (Option ℕ)) → List (List (Option ℕ))) (old new : Lines) (n : ℕ) : Type 0 where

@@ -15,7 +15,7 @@ use Rattle.sd_base.specs.Untimed.{one_more, CanFire, IsRoundOrder}
 use Rattle.sd_base.proofs.Sums.{total-grows}
 use Rattle.sd_base.proofs.Parts.{timed, wired, balanced}
 use Rattle.sd_base.proofs.Rounds.{whole-round}
-use Rattle.sd_base.proofs.Blocking.{bump-same}
+use Rattle.sd_base.proofs.Blocking.{bump-same, bump-more, bump-cases}
 use Rattle.sd_base.proofs.Ends.{sum_to, sum_to-le, sum_to-lt}
 use Rattle.sd_base.proofs.FileNets.{net_of-lawful}
 use Rattle.sd_base.specs.declared.tables.SharedRow.{SharedRow}
@@ -27,7 +27,7 @@ use Rattle.token_matrix.specs.inside.RoundRows.{Table, row_at, HasEntry, UpTo, S
 use Rattle.token_matrix.proofs.Symbolic.{AreRows}
 use Rattle.token_matrix.proofs.Carrying.{IsLeft}
 use Rattle.token_matrix.proofs.Putters.{put_earlier}
-use Rattle.token_matrix.proofs.RowsSoFar.{IsNextRow, HasRowMore, row_on, row_new, counts_grow, cases_firing}
+use Rattle.token_matrix.proofs.RowsSoFar.{IsNextRow, HasRowMore, row_on, row_new}
 use Rattle.token_matrix.proofs.OfGraph.{covers, matrix_carries}
 
 sum-take : (xs : List ℕ) (n : ℕ) → n ≤ length xs → sum_to (slice_index xs) n ≡ sum (take n xs)
@@ -73,7 +73,7 @@ module _ (net : Net) (laws : Lawful net) (first : ℕ → ℕ) (rows : Table) (v
   -- one more firing
   pub small_more : (count a : ℕ) (new : List (Option ℕ)) (more : Table) → UpTo net first count rows v → a < length net.times → CanFire net v a → IsNextRow net first count rows a (v a) new
       → HasRowMore rows more a new → Small net more (one_more v a)
-  small_more count a new more up actor can next is b k p e here fired entry = elim (cases_firing net laws first count rows more v a new up actor can next is b k fired) [
+  small_more count a new more up actor can next is b k p e here fired entry = elim (bump-cases v a b k fired) [
     | inl less ↦ (let on : row_at more b k ≡ row_at rows b k = row_on net laws first count rows more v a new up actor can next is b k (subst (λ (n : ℕ). k < n) (sym (up.whole b here)) less) in
         let most : e + TIME ≤ TIME * sum_to v (length net.times) = small b k p e here less (sym (ap (λ (r : List (Option ℕ)). slice_index_or r p None) on) ∙ entry) in
         grown most)
@@ -83,7 +83,7 @@ module _ (net : Net) (laws : Lawful net) (first : ℕ → ℕ) (rows : Table) (v
   ]
     where
       grows : sum_to v (length net.times) < sum_to (one_more v a) (length net.times)
-      grows = sum_to-lt v (one_more v a) (length net.times) a (λ d there. counts_grow net laws first count rows more v a new up actor can next is d) actor (rw (bump-same v a) (omega arith))
+      grows = sum_to-lt v (one_more v a) (length net.times) a (λ d there. bump-more v a d) actor (rw (bump-same v a) (omega arith))
 
       grown : e + TIME ≤ TIME * sum_to v (length net.times) → e + TIME ≤ TIME * sum_to (one_more v a) (length net.times)
       grown most = omega (arith, grows)

@@ -19,7 +19,7 @@ pub record LeftSoFar (shared : List SharedRow) (g : GraphFile) (lines : List (Li
   pub each : (s i k : ℕ) (row : SharedRow) → s < n → slice_get shared s ≡ Some row → i < length g.channels → (slice_index_or g.channels i no_row).name ≡ row.name → k < row.tokens
       → slice_index_or rows (shared_count (take s shared) + k) [] ≡ slice_index_or (slice_index_or lines i []) k []
 
-count-append : (xs ys : List SharedRow) → shared_count (xs ++ ys) ≡ shared_count xs + shared_count ys
+pub count-append : (xs ys : List SharedRow) → shared_count (xs ++ ys) ≡ shared_count xs + shared_count ys
 count-append [] ys = omega arith
 count-append (x ∷ xs) ys = omega (arith, count-append xs ys)
 

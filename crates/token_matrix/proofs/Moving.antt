@@ -1,15 +1,17 @@
 -- A firing that is carried out on rows.
-use Rattle.std.proofs.Common.{◌≡◌, ℕ, ◌+◌, ◌-◌, ◌*◌, ◌%◌, ◌≤◌, ◌<◌, suc, List, [], ◌∷◌, ◌++◌, length, set, drop, replicate, sum, Option, Some, None, refl, sym, ap, subst, ◌∙◌, ⊎_elim, arith, length-append, length-drop}
+use Rattle.std.proofs.Common.{◌≡◌, ℕ, ◌+◌, ◌-◌, ◌*◌, ◌≤◌, ◌<◌, List, [], ◌∷◌, ◌++◌, length, set, drop, replicate, sum, Option, Some, None, refl, sym, ap, subst, ◌∙◌, ⊎_elim, arith, length-append, length-drop}
 use Rattle.std.specs.Prelude.{slice_index, slice_index_or}
 use Rattle.std.proofs.lemmas.Bool.{cases_eq}
 use Rattle.std.proofs.lemmas.List.{length-set, length-map, length-replicate, get_or-set_same, get_or-set_other}
 use Rattle.sd_base.specs.declared.limits.TheConstants.{TIME, ROUND}
-use Rattle.sd_base.specs.Net.{Net, channel_at, phase_entry, total}
+use Rattle.sd_base.specs.Net.{Net, channel_at, total}
 use Rattle.sd_base.specs.Schedules.{time_of, HasInputs}
 use Rattle.sd_base.specs.Lawful.{Lawful}
 use Rattle.sd_base.specs.Untimed.{one_more, CanFire}
 use Rattle.sd_base.proofs.Blocking.{bump-same, bump-other}
 use Rattle.sd_base.proofs.Ends.{sum_to}
+use Rattle.sd_base.proofs.Sums.{one-entry, total-more}
+use Rattle.sd_base.proofs.Lists.{single-some}
 use Rattle.token_matrix.specs.Stamps.{IsTakenBy, IsPutBy}
 use Rattle.token_matrix.specs.inside.LaterRows.{shifted, AreWithin, Reaches}
 use Rattle.token_matrix.specs.inside.Lines.{line_at, taken_on, made_on, HasOnePhase, AreReady, AreTaken, IsLatest, ArePut}
@@ -20,38 +22,23 @@ use Rattle.token_matrix.proofs.LeftRows.{token_entry}
 use Rattle.token_matrix.proofs.EntryBounds.{few_firings, next_within, small_more}
 use Rattle.token_matrix.proofs.Standing.{tokens_drop, tokens_put, tokens_kept}
 
--- a list of one number has it at each phase
-one_number : (xs : List ℕ) (k : ℕ) → length xs ≡ 1 → phase_entry xs k ≡ slice_index xs 0
-one_number [] k one = absurd (omega arith)
-one_number (x ∷ []) k one = ap (λ (n : ℕ). slice_index (x ∷ []) n) (let e : k % 1 ≡ 0 = omega arith in e)
-one_number (x ∷ y ∷ xs) k one = absurd (omega arith)
-
-some_number : (xs : List ℕ) → length xs ≡ 1 → 1 ≤ sum xs → 1 ≤ slice_index xs 0
-some_number [] one some = absurd (omega arith)
-some_number (x ∷ []) one some = omega arith
-some_number (x ∷ y ∷ xs) one some = absurd (omega arith)
-
-total-more : (xs : List ℕ) (n : ℕ) → total xs (n + 1) ≡ total xs n + phase_entry xs n
-unfolding total
-total-more xs n = let e : n + 1 ≡ suc n = omega arith in rw e refl
-
 module _ (net : Net) (laws : Lawful net) (phases : HasOnePhase net) where
   -- the tokens of one more firing
   pub taken-more : (i n : ℕ) → i < length net.channels → total (channel_at net i).taken (n + 1) ≡ total (channel_at net i).taken n + taken_on net i
   taken-more i n place = total-more (channel_at net i).taken n ∙ ap (λ (x : ℕ). total (channel_at net i).taken n + x)
-      (one_number (channel_at net i).taken n (laws.taken_phases i place ∙ phases (channel_at net i).target (laws.targets i place)))
+      (one-entry (channel_at net i).taken n (laws.taken_phases i place ∙ phases (channel_at net i).target (laws.targets i place)))
 
   pub made-more : (i n : ℕ) → i < length net.channels → total (channel_at net i).made (n + 1) ≡ total (channel_at net i).made n + made_on net i
   made-more i n place = total-more (channel_at net i).made n ∙ ap (λ (x : ℕ). total (channel_at net i).made n + x)
-      (one_number (channel_at net i).made n (laws.made_phases i place ∙ phases (channel_at net i).source (laws.sources i place)))
+      (one-entry (channel_at net i).made n (laws.made_phases i place ∙ phases (channel_at net i).source (laws.sources i place)))
 
   -- each firing takes a token of each input
   takes_some : (i : ℕ) → i < length net.channels → 1 ≤ taken_on net i
-  takes_some i place = some_number (channel_at net i).taken (laws.taken_phases i place ∙ phases (channel_at net i).target (laws.targets i place)) (laws.some_taken i place)
+  takes_some i place = single-some (channel_at net i).taken (slice_index (channel_at net i).taken 0) (laws.taken_phases i place ∙ phases (channel_at net i).target (laws.targets i place)) refl (laws.some_taken i place)
 
   -- a firing takes its time
   pub time-is : (a k : ℕ) → a < length net.times → time_of net a k ≡ slice_index (slice_index_or net.times a []) 0
-  time-is a k actor = one_number (slice_index_or net.times a []) k (phases a actor)
+  time-is a k actor = one-entry (slice_index_or net.times a []) k (phases a actor)
 
   module _ (first : ℕ → ℕ) (count : ℕ) (v : ℕ → ℕ) (lines : List (List (List (Option ℕ)))) (a : ℕ) (st : Stands net first count v lines) (actor : a < length net.times) (can : CanFire net v a) where
     fed : (i : ℕ) → i < length net.channels → (channel_at net i).target ≡ a → taken_on net i ≤ length (line_at lines i)

@@ -8,7 +8,7 @@ use Rattle.sd_base.specs.Schedules.{time_of}
 use Rattle.sd_base.specs.Untimed.{none_fired, one_more, CanFire, Fires, counts_after}
 use Rattle.sd_base.specs.Schedules.{HasInputs}
 use Rattle.sd_base.proofs.Sums.{total-le}
-use Rattle.sd_base.proofs.Blocking.{bump-same, bump-other}
+use Rattle.sd_base.proofs.Blocking.{bump-more, bump-cases}
 use Rattle.token_matrix.specs.Stamps.{IsTakenBy, IsPutBy}
 use Rattle.token_matrix.proofs.Putters.{one_putter, putter}
 use Rattle.token_matrix.proofs.Bests.{Best, best_of, AreUnique, AreDecided}
@@ -163,39 +163,25 @@ module _ (net : Net) (laws : Lawful net) (first : ℕ → ℕ) (x : List ℕ) wh
         either true is = refl
         either false is = refl
 
-    wider : (b : ℕ) → v b ≤ one_more v a b
-    wider b = ⊎_elim
-        (λ (here : b ≡ a). (let e : one_more v a b ≡ v a + 1 = ap (λ (c : ℕ). one_more v a c) here ∙ bump-same v a in let f : v b ≡ v a = ap v here in omega arith))
-        (λ (there : b ≡ a → ⊥). (let e : one_more v a b ≡ v b = bump-other v a b there in omega arith))
-        (cases_eq b a)
-
     extends : Extends s v changed (one_more v a)
-    extends = record { more = wider; same = changed-there }
-
-    -- the last firing of an actor, or an earlier one
-    part : (b j : ℕ) → j < one_more v a b → (j < v b) ⊎ ((b ≡ a) × (j ≡ v a))
-    part b j below = ⊎_elim
-        (λ (here : b ≡ a). (let e : one_more v a b ≡ v a + 1 = ap (λ (c : ℕ). one_more v a c) here ∙ bump-same v a in let f : v b ≡ v a = ap v here in
-        ⊎_elim (λ (less : j < v a). inl (omega arith)) (λ (last : v a ≤ j). inr (here, omega arith)) (cases_lt j (v a))))
-        (λ (there : b ≡ a → ⊥). inl (let e : one_more v a b ≡ v b = bump-other v a b there in omega arith))
-        (cases_eq b a)
+    extends = record { more = bump-more v a; same = changed-there }
 
     fed-by : (i j : ℕ) → i < length net.channels → j < one_more v a (channel_at net i).target → total (channel_at net i).taken (j + 1) ≤ (channel_at net i).tokens + total (channel_at net i).made (v (channel_at net i).source)
     fed-by i j below early = ⊎_elim
         (λ (old : j < v (channel_at net i).target). starts.fed i j below old)
         (λ (last : ((channel_at net i).target ≡ a) × (j ≡ v a)). (let there = can i below last.0 in subst (λ (n : ℕ). total (channel_at net i).taken (n + 1) ≤ (channel_at net i).tokens + total (channel_at net i).made (v (channel_at net i).source)) (sym last.1) there))
-        (part (channel_at net i).target j early)
+        (bump-cases v a (channel_at net i).target j early)
 
     pub more-starts : AreStarts changed (one_more v a)
     more-starts = record {
-      fed = λ i j below early. (let one = fed-by i j below early in let wide : total (channel_at net i).made (v (channel_at net i).source) ≤ total (channel_at net i).made (one_more v a (channel_at net i).source) = total-le (channel_at net i).made (wider (channel_at net i).source) in omega arith);
+      fed = λ i j below early. (let one = fed-by i j below early in let wide : total (channel_at net i).made (v (channel_at net i).source) ≤ total (channel_at net i).made (one_more v a (channel_at net i).source) = total-le (channel_at net i).made (bump-more v a (channel_at net i).source) in omega arith);
       each = λ b j there early. ⊎_elim
           (λ (old : j < v b). subst (λ (n : ℕ). IsStart changed (one_more v a) b j n) (sym (changed-there b j old))
           (start-on s v changed (one_more v a) extends b j (s b j) (λ i below into. fed-by i j below (subst (λ (c : ℕ). j < one_more v a c) (sym into) early)) (starts.each b j there old)))
           (λ (last : (b ≡ a) × (j ≡ v a)). (let moved : IsStart changed (one_more v a) a (v a) z = start-on s v changed (one_more v a) extends a (v a) z (λ i below into. can i below into) start in
           let named : IsStart changed (one_more v a) a (v a) (changed a (v a)) = subst (λ (n : ℕ). IsStart changed (one_more v a) a (v a) n) (sym changed-here) moved in
           subst (λ (c : ℕ). IsStart changed (one_more v a) c j (changed c j)) (sym last.0) (subst (λ (n : ℕ). IsStart changed (one_more v a) a n (changed a n)) (sym last.1) named)))
-          (part b j early);
+          (bump-cases v a b j early);
     }
 
   module _ (inputs : HasInputs net) (moves : (i j : ℕ) → i < length net.channels → total (channel_at net i).taken j < total (channel_at net i).taken (j + 1)) where

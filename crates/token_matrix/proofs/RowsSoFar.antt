@@ -1,13 +1,13 @@
 -- Rows by firing, written one firing after another.
 use Rattle.std.proofs.Common.{◌≡◌, ℕ, ◌+◌, ◌-◌, ◌≤◌, ◌<◌, ◌⊎◌, List, [], ◌∷◌, ◌++◌, length, Option, Some, None, refl, sym, ap, subst, ◌∙◌, inl, inr, ⊎_elim, arith, length-append}
 use Rattle.std.specs.Prelude.{slice_index, slice_index_or}
-use Rattle.std.proofs.lemmas.Bool.{cases_lt, cases_eq}
+use Rattle.std.proofs.lemmas.Bool.{cases_eq}
 use Rattle.std.proofs.lemmas.List.{get_or_append_left, get_or-append_right}
 use Rattle.sd_base.specs.Net.{Net, channel_at, total}
 use Rattle.sd_base.specs.Lawful.{Lawful}
 use Rattle.sd_base.specs.Untimed.{none_fired, one_more, CanFire}
 use Rattle.sd_base.proofs.Sums.{total-le}
-use Rattle.sd_base.proofs.Blocking.{bump-same, bump-other}
+use Rattle.sd_base.proofs.Blocking.{bump-same, bump-other, bump-more, bump-cases}
 use Rattle.token_matrix.specs.Stamps.{IsTakenBy}
 use Rattle.token_matrix.specs.inside.RoundRows.{Table, row_at, HasEntry, UpTo}
 use Rattle.token_matrix.proofs.Putters.{put_earlier}
@@ -53,9 +53,6 @@ module _ (net : Net) (laws : Lawful net) (first : ℕ → ℕ) (count : ℕ) (ro
       (λ (apart : b ≡ a → ⊥). ap (λ (t : List (List (Option ℕ))). length t) (is.others b apart) ∙ up.whole b there ∙ sym (bump-other v a b apart))
       (cases_eq b a)
 
-  pub counts_grow : (b : ℕ) → v b ≤ one_more v a b
-  counts_grow b = ⊎_elim (λ (same : b ≡ a). rw same (rw (bump-same v a) (omega arith))) (λ (apart : b ≡ a → ⊥). rw (bump-other v a b apart) (omega arith)) (cases_eq b a)
-
   pub entry_on : (i m p e : ℕ) → i < length net.channels → HasEntry net first rows i m p e → HasEntry net first more i m p e
   entry_on i m p e place (inl initial) = inl initial
   entry_on i m p e place (inr (k, d, put, counted, entry, sum)) =
@@ -65,7 +62,7 @@ module _ (net : Net) (laws : Lawful net) (first : ℕ → ℕ) (count : ℕ) (ro
         k,
         d,
         put,
-        (let h : k < length (slice_index_or more (channel_at net i).source []) = omega (arith, counts_on (channel_at net i).source source, up.whole (channel_at net i).source source, counts_grow (channel_at net i).source) in h),
+        (let h : k < length (slice_index_or more (channel_at net i).source []) = omega (arith, counts_on (channel_at net i).source source, up.whole (channel_at net i).source source, bump-more v a (channel_at net i).source) in h),
         ap (λ (r : List (Option ℕ)). slice_index_or r p None) on ∙ entry,
         sum,
       )
@@ -78,32 +75,23 @@ module _ (net : Net) (laws : Lawful net) (first : ℕ → ℕ) (count : ℕ) (ro
       let on : row_at more (channel_at net i).source k ≡ row_at rows (channel_at net i).source k = row_on (channel_at net i).source k early in
       inr (k, d, put, early, sym (ap (λ (r : List (Option ℕ)). slice_index_or r p None) on) ∙ entry, sum)
 
-  -- each firing up to the new one is an earlier one, or it is the new one
-  pub cases_firing : (b j : ℕ) → j < one_more v a b → (j < v b) ⊎ ((b ≡ a) × (j ≡ v a))
-  cases_firing b j below = ⊎_elim
-      (λ (same : b ≡ a).
-      let c : j < v a + 1 = subst (λ (n : ℕ). j < n) (ap (λ (d : ℕ). one_more v a d) same ∙ bump-same v a) below in
-      ⊎_elim (λ (h : j < v a). inl (subst (λ (d : ℕ). j < v d) (sym same) h)) (λ (h : v a ≤ j). inr (same, (let e : j ≡ v a = omega arith in e))) (cases_lt j (v a)))
-      (λ (apart : b ≡ a → ⊥). inl (subst (λ (n : ℕ). j < n) (bump-other v a b apart) below))
-      (cases_eq b a)
-
   fed_on : (i j : ℕ) → i < length net.channels → j < one_more v a (channel_at net i).target → total (channel_at net i).taken (j + 1) ≤ (channel_at net i).tokens + total (channel_at net i).made (v (channel_at net i).source)
   fed_on i j place below = ⊎_elim (λ (h : j < v (channel_at net i).target). up.fed i j place h)
       (λ (h : ((channel_at net i).target ≡ a) × (j ≡ v a)). subst (λ (n : ℕ). total (channel_at net i).taken (n + 1) ≤ (channel_at net i).tokens + total (channel_at net i).made (v (channel_at net i).source)) (sym h.1) (can i place h.0))
-      (cases_firing (channel_at net i).target j below)
+      (bump-cases v a (channel_at net i).target j below)
 
   pub rows_more : UpTo net first count more (one_more v a)
   rows_more = record {
     actors = is.long ∙ up.actors;
     whole = counts_on;
-    fed = λ i j place below. (let made : total (channel_at net i).made (v (channel_at net i).source) ≤ total (channel_at net i).made (one_more v a (channel_at net i).source) = total-le (channel_at net i).made (counts_grow (channel_at net i).source) in
+    fed = λ i j place below. (let made : total (channel_at net i).made (v (channel_at net i).source) ≤ total (channel_at net i).made (one_more v a (channel_at net i).source) = total-le (channel_at net i).made (bump-more v a (channel_at net i).source) in
         omega (arith, fed_on i j place below));
-    wide = λ b j there below. wide_is b j there (cases_firing b j below);
-    some = λ b j there below. some_is b j there (cases_firing b j below);
+    wide = λ b j there below. wide_is b j there (bump-cases v a b j below);
+    some = λ b j there below. some_is b j there (bump-cases v a b j below);
     after = λ i m j p e place below takes entry. (let made : total (channel_at net i).taken (j + 1) ≤ (channel_at net i).tokens + total (channel_at net i).made (v (channel_at net i).source) = fed_on i j place below in
         let least : m < total (channel_at net i).taken (j + 1) = takes.1 in
-        after_is i m j p e place takes (entry_back i m p e place (omega arith) entry) (cases_firing (channel_at net i).target j below));
-    just = λ b j p e there below entry. just_is b j p e there entry (cases_firing b j below);
+        after_is i m j p e place takes (entry_back i m p e place (omega arith) entry) (bump-cases v a (channel_at net i).target j below));
+    just = λ b j p e there below entry. just_is b j p e there entry (bump-cases v a b j below);
   }
     where
       wide_is : (b j : ℕ) → b < length net.times → (j < v b) ⊎ ((b ≡ a) × (j ≡ v a)) → length (row_at more b j) ≡ count

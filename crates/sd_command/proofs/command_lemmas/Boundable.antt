@@ -9,13 +9,13 @@ use Rattle.sd_base.specs.declared.tables.ScenarioFile.{ScenarioFile}
 use Rattle.sd_base.specs.declared.tables.ScenarioRow.{ScenarioRow}
 use Rattle.sd_base.specs.FileNet.{net_of}
 use Rattle.sd_base.specs.Scenarios.{FileKeepsRules, shared_count}
+use Rattle.sd_base.proofs.Lists.{all-get}
 use Rattle.file_text.specs.Grammar.{is_character}
 use Rattle.graph_reader.specs.WritableNames.{HasWritableNames, IsWritableName}
 use Rattle.scenario_reader.specs.ScenarioNames.{FileHasWritableNames}
 use Rattle.bounded_scenarios.specs.BoundedFiles.{space_name}
 use Rattle.bounded_scenarios.specs.Boundings.{AreFileNames, CanBeBounded, RunsUnbounded, looped_tokens}
 use Rattle.bounded_scenarios.proofs.Counts.{looped-few}
-use Rattle.balance.proofs.TableLemmas.{at_All}
 use Rattle.sd_command.specs.steps.ScenarioBounds.{ArePassed, fitting_nodes}
 use Rattle.sd_command.proofs.step_lemmas.Joins.{fed-inputs}
 
@@ -40,7 +40,7 @@ no_space name all = let no : false ≡ true = all 0 0 (omega arith) in absurd (c
 
 file_names : (cs : List ChannelRow) → All (λ (c : ChannelRow). IsWritableName c.name) cs → AreFileNames cs
 file_names cs all i c name at same =
-    let good = at_All (λ (d : ChannelRow). IsWritableName d.name) cs i c all at in
+    let good = all-get (λ (d : ChannelRow). IsWritableName d.name) cs i c all at in
     no_space name (subst (λ (n : List ℕ). All (λ b. IsTrue (is_character b)) n) same good.characters)
 
 module _ (file : ScenarioFile) (total : ℕ) where
@@ -48,7 +48,7 @@ module _ (file : ScenarioFile) (total : ℕ) where
   tokens = total + looped_tokens file.scenarios file.shared
 
   names : FileHasWritableNames file → (k : ℕ) (row : ScenarioRow) → slice_get file.scenarios k ≡ Some row → AreFileNames row.graph.channels
-  names good k row at = file_names row.graph.channels (at_All (λ (r : ScenarioRow). HasWritableNames r.graph) file.scenarios k row good.graphs at).channels
+  names good k row at = file_names row.graph.channels (all-get (λ (r : ScenarioRow). HasWritableNames r.graph) file.scenarios k row good.graphs at).channels
 
   runs : ArePassed file tokens → (k : ℕ) (row : ScenarioRow) → slice_get file.scenarios k ≡ Some row → RunsUnbounded tokens row
   unfolding greatest_of

@@ -1,8 +1,7 @@
 -- The ordered net of a graph stands over the graph, can be ordered, and has room.
 use Rattle.std.proofs.Common.{◌≡◌, ℕ, zero, suc, ◌+◌, ◌-◌, ◌%◌, ◌≤◌, ◌<◌, Bool, true, false, List, [], ◌∷◌, ◌++◌, length, Option, None, Some, ⊎_elim, subst, sym, refl, ap, ◌∙◌, arith, eq-eqb}
 use Rattle.std.proofs.Math.Nat.{mod-lt}
-use Rattle.std.specs.Prelude.{slice_index_or, if◌then◌else◌, replicate, ◌==◌}
-use Rattle.std.specs.List.{list_all}
+use Rattle.std.specs.Prelude.{slice_index_or, if◌then◌else◌}
 use Rattle.std.proofs.lemmas.Bool.{cases_lt}
 use Rattle.std.proofs.lemmas.List.{length-append, get_or_append_left, get_or-append_right, length-map}
 use Rattle.sd_base.specs.declared.limits.TheConstants.{NET_CHANNELS, ORDER_PAIRS}
@@ -16,6 +15,7 @@ use Rattle.sd_base.specs.Net.{Channel, Net, channel_at, nowhere, file_channels, 
 use Rattle.sd_base.specs.FileNet.{net_of, own_channels_from, own_channel, gets_own}
 use Rattle.sd_base.specs.Lawful.{Lawful, is_order_role, is_own, is_space_role, is_token_role}
 use Rattle.sd_base.proofs.FileNets.{file-length}
+use Rattle.sd_base.proofs.Lists.{ones-all}
 use Rattle.storage.specs.BoundedNets.{bound, spaces_from}
 use Rattle.storage.proofs.NamedCapacities.{spaces-few}
 use Rattle.storage.proofs.SpaceChannels.{SpaceAt, bound-front, bound-back}
@@ -52,10 +52,6 @@ record Proper (actors : ℕ) (c : Channel) : Type 0 where
 
 abbrev AllProper : ℕ → List Channel → Type 0
 AllProper actors cs = (i : ℕ) → i < length cs → Proper actors (slice_index_or cs i nowhere)
-
-ones-all : (n : ℕ) → list_all (λ r. r == 1) (replicate n 1) ≡ true
-ones-all zero = refl
-ones-all (suc n) = ones-all n
 
 own-proper : (actors a n : ℕ) → a < actors → Proper actors (own_channel a n)
 own-proper actors a n below = record { orderless = refl; owns = λ b is. let e : a ≡ b = cc in (subst (λ (x : ℕ). x < actors) e below, subst (λ (x : ℕ). is_own x (own_channel a n) ≡ true) e (rw (eq-eqb a a refl, ones-all n) refl)) }

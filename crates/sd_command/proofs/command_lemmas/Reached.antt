@@ -1,10 +1,9 @@
 -- The rate in lowest terms, which the loop's schedule reaches and its need cycle bounds.
-use Rattle.std.proofs.Common.{◌≡◌, ℕ, zero, suc, ◌*◌, ◌/◌, ◌%◌, ◌<◌, refl, sym, ap, ◌∙◌, arith, mod-lt}
+use Rattle.std.proofs.Common.{◌≡◌, ℕ, suc, ◌*◌, ◌/◌, ◌<◌, sym, ap, ◌∙◌, arith}
 use Rattle.std.specs.Int.{IsGcd}
-use Rattle.std.proofs.lemmas.Nat.Gcd.{IsGcd-from_zero, IsGcd-from_mod}
 use Rattle.sd_base.specs.Net.{Net}
 use Rattle.std.proofs.Math.Nat.{mul-div_cancel', eq_of_mul-eq-mul_left}
-use Rattle.sd_base.proofs.Divisors.{gcd_pos, quotients}
+use Rattle.sd_base.proofs.Divisors.{gcd_pos, quotients, some_gcd}
 use Rattle.firing.specs.declared.table.LoopTable.{LoopTable}
 use Rattle.lasso.specs.LoopAnswers.{IsFound}
 use Rattle.periodic.specs.declared.schedule.Periodic.{Periodic}
@@ -12,15 +11,6 @@ use Rattle.periodic.specs.LoopSchedules.{IsScheduleOf}
 use Rattle.critical.specs.declared.cycle.NeedCycle.{NeedCycle}
 use Rattle.critical.specs.CriticalCycles.{IsCriticalCycleOf}
 use Rattle.sd_command.specs.commands.Rates.{IsRateShown}
-
--- any two numbers have a greatest common divisor
-gcd_of : (fuel a b : ℕ) → b < fuel → (g : ℕ) × IsGcd a b g
-gcd_of zero a b below = absurd (omega arith)
-gcd_of (suc fuel) a zero below = (a, IsGcd-from_zero a 0 refl)
-gcd_of (suc fuel) a (suc b) below =
-    let rest : a % suc b < suc b = mod-lt a (omega arith) in
-    let found = gcd_of fuel (suc b) (a % suc b) (omega arith) in
-    (found.0, IsGcd-from_mod a (suc b) found.0 found.1)
 
 -- two numbers over their greatest common divisor
 pub record Lowest (n d : ℕ) : Type 0 where
@@ -34,7 +24,7 @@ pub record Lowest (n d : ℕ) : Type 0 where
 
 pub lowest_of : (n d : ℕ) → 0 < n → Lowest n d
 lowest_of n d positive =
-    let found = gcd_of (suc d) n d (omega arith) in
+    let found = some_gcd (suc d) n d (omega arith) in
     let g : ℕ = found.0 in
     let some : 0 < g = gcd_pos n d g positive found.1 in
     record {

@@ -1,12 +1,11 @@
 -- The points of a file of scenarios can be told.
-use Rattle.std.proofs.Common.{◌≡◌, ℕ, zero, suc, ◌*◌, ◌<◌, ◌≤◌, inl, true, List, [], ◌∷◌, length, Option, get_or, Some, refl, ap, arith}
+use Rattle.std.proofs.Common.{◌≡◌, ℕ, suc, ◌*◌, ◌≤◌, inl, List, [], ◌∷◌, length, Option, get_or, Some, refl, ap, arith}
 use Rattle.std.specs.Prelude.{All, slice_get, slice_index_or}
 use Rattle.std.proofs.lemmas.Option.{slice_get-get_or}
 use Rattle.sd_base.specs.declared.limits.TheConstants.{EDGES, NODES}
 use Rattle.sd_base.specs.declared.tables.ScenarioFile.{ScenarioFile}
 use Rattle.sd_base.specs.declared.tables.ScenarioRow.{ScenarioRow}
 use Rattle.sd_base.specs.declared.tables.SharedRow.{SharedRow}
-use Rattle.sd_base.specs.Lawful.{is_token_role}
 use Rattle.sd_base.specs.Net.{nowhere}
 use Rattle.automaton.specs.declared.graph.TimedGraph.{TimedGraph}
 use Rattle.automaton.specs.TimedGraphs.{IsTimedGraph}
@@ -22,18 +21,13 @@ use Rattle.bounded_scenarios.specs.SharedChannels.{shared_channels, shared_chann
 use Rattle.bounded_scenarios.proofs.Measurable.{measurable}
 use Rattle.scenario_storage.specs.declared.point.ScenarioPoint.{ScenarioPoint}
 use Rattle.scenario_storage.specs.ScenarioPoints.{AreScenarioPoints, IsPoint}
+use Rattle.scenario_storage.proofs.Searchable.{token-roles}
 use Rattle.sd_command.specs.inside.ToldPoints.{CanBeTold}
 use Rattle.sd_command.proofs.command_lemmas.WorstSizes.{path-edges}
 
 shared-many : (ss : List ScenarioRow) (p : ℕ) (rows : List SharedRow) → length (shared_channels_from ss p rows) ≡ length rows
 shared-many ss p [] = refl
 shared-many ss p (row ∷ rows) = ap suc (shared-many ss (suc p) rows)
-
-are-tokens : (ss : List ScenarioRow) (p : ℕ) (rows : List SharedRow) (i : ℕ) → i < length (shared_channels_from ss p rows)
-    → is_token_role (slice_index_or (shared_channels_from ss p rows) i nowhere).role ≡ true
-are-tokens ss p [] i below = absurd (omega (arith, below))
-are-tokens ss p (row ∷ rows) zero below = refl
-are-tokens ss p (row ∷ rows) (suc i) below = are-tokens ss (suc p) rows i (omega arith)
 
 module _ (file : ScenarioFile) where
   -- there is a capacity for each shared channel at most
@@ -42,7 +36,7 @@ module _ (file : ScenarioFile) where
 
   -- so of what can be reached
   reachable-distribution : (limit : ℕ) (ds : List (Option ℕ)) → IsReachable file limit ds → IsDistribution (shared_channels file) ds
-  reachable-distribution limit ds (corner _ is within) = corner-distribution (shared_channels file) ds (λ i below. inl (are-tokens file.scenarios 0 file.shared i below)) is
+  reachable-distribution limit ds (corner _ is within) = corner-distribution (shared_channels file) ds (λ i below. inl (token-roles file.scenarios 0 file.shared i below)) is
   reachable-distribution limit _ (next ds c reach guided within) =
       enlarged-distribution (shared_channels file) ds c (step_of (slice_index_or (shared_channels file) c nowhere)) (reachable-distribution limit ds reach)
 

@@ -1,14 +1,13 @@
 -- From paths over the ends of channels to connection and inputs of a net.
-use Rattle.std.proofs.Common.{◌≡◌, ℕ, ◌<◌, List, length, ap, sym, subst, ◌∙◌, get_or}
-use Rattle.std.proofs.lemmas.List.{get_or-map, length-map}
+use Rattle.std.proofs.Common.{◌≡◌, ℕ, ◌<◌, List, length, ap, sym, subst, ◌∙◌}
 use Rattle.std.proofs.lemmas.Option.{slice_get-get_or}
 use Rattle.std.specs.Prelude.{slice_get, Some}
-use Rattle.sd_base.specs.Net.{Channel, Net, channel_at, nowhere}
+use Rattle.sd_base.specs.Net.{Net, channel_at}
 use Rattle.sd_base.specs.Schedules.{HasInputs}
 use Rattle.sd_base.specs.Connection.{AreStronglyConnected, IsConnected, IsStronglyConnected, ends_of}
 use Rattle.sd_base.specs.Lawful.{Lawful}
 use Rattle.sd_base.proofs.Connections.{IsChannel, channel-of, strongly-connected}
-use Rattle.balance.specs.ConnectRefusals.{AreActors, HasInput, IsConnectRefusal, IsFirstWithoutInput}
+use Rattle.balance.specs.ConnectRefusals.{HasInput, IsConnectRefusal, IsFirstWithoutInput}
 use Rattle.balance.specs.declared.connection.ConnectError.{ConnectError}
 use Rattle.balance.specs.declared.connection.ConnectError.TheVariants as connecting
 use Rattle.sd_command.specs.steps.Nets.{IsFed}
@@ -27,23 +26,8 @@ has-input net a (k, e, within, is, into) =
 pub fed-inputs : (net : Net) → IsFed net → HasInputs net
 fed-inputs net fed a actor = has-input net a (fed a actor)
 
--- the ends of a channel
-abbrev ends_at : Channel → ℕ × ℕ
-ends_at c = (c.source, c.target)
-
--- the ends of a lawful net's channels are actors
-ends-at_actors : (net : Net) → Lawful net → AreActors (length net.times) (ends_of net)
-ends-at_actors net laws k d within =
-    let place : k < length net.channels = subst (λ (n : ℕ). k < n) (length-map net.channels ends_at) within in
-    let same : get_or (ends_of net) k d ≡ ends_at (channel_at net k) = get_or-map ends_at net.channels k nowhere d place in
-    let source : (channel_at net k).source < length net.times = laws.sources k place in
-    let target : (channel_at net k).target < length net.times = laws.targets k place in
-    subst (λ (e : ℕ × ℕ). (e.0 < length net.times) × (e.1 < length net.times)) (sym same) (source, target)
-
 -- a number of actors and pairs of them that are those of a net
 module _ (net : Net) (n : ℕ) (es : List (ℕ × ℕ)) (actors : n ≡ length net.times) (ends : es ≡ ends_of net) where
-  pub are-actors : Lawful net → AreActors n es
-  are-actors laws = subst (λ (m : ℕ). AreActors m es) (sym actors) (subst (λ (xs : List (ℕ × ℕ)). AreActors (length net.times) xs) (sym ends) (ends-at_actors net laws))
 
   pub strongly : AreStronglyConnected n es → AreStronglyConnected (length net.times) (ends_of net)
   strongly is = subst (λ (m : ℕ). AreStronglyConnected m (ends_of net)) actors (subst (λ (xs : List (ℕ × ℕ)). AreStronglyConnected n xs) ends is)

@@ -9,8 +9,8 @@ use Rattle.sd_base.specs.declared.tables.ScenarioRow.{ScenarioRow}
 use Rattle.sd_base.specs.Scenarios.{FileKeepsRules, LeadsOn, shared_count}
 use Rattle.sd_base.specs.FileNet.{net_of}
 use Rattle.sd_base.proofs.FileNets.{widened}
+use Rattle.sd_base.proofs.Lists.{get-there}
 use Rattle.token_matrix.specs.EntryWays.{CarriesStamps}
-use Rattle.token_matrix.proofs.Rows.{get_there}
 use Rattle.bounded_scenarios.proofs.FirstTokens.{some-shared}
 use Rattle.automaton.specs.TimedGraphs.{AreKept, AreMatrices, AreSized, IsRun}
 use Rattle.automaton.proofs.Kept.{kept-more, kept-sized, matrices-sized}
@@ -99,7 +99,7 @@ module _ (file : ScenarioFile) (ms : List Entries) (measured : AreMeasured file 
 -- a measured file shares some token
 pub file_some : (file : ScenarioFile) (ms : List Entries) → AreMeasured file ms → FileKeepsRules file → 1 ≤ shared_count file.shared
 file_some file ms measured rules =
-    let first = get_there file.scenarios 0 (let g : 0 < length file.scenarios = omega (arith, rules.some_scenario) in g) in
+    let first = get-there file.scenarios 0 (let g : 0 < length file.scenarios = omega (arith, rules.some_scenario) in g) in
     let kept = rules.scenarios 0 first.0 first.1 in
     let passed = measured.each 0 first.0 first.1 in
     let carries : CarriesStamps file.shared first.0.graph passed.0 = record {

@@ -15,12 +15,12 @@ use Rattle.sd_base.proofs.FileNets.{file-length, file-at, nothing}
 use Rattle.liveness.specs.declared.ending.Ending.{Ending}
 use Rattle.liveness.specs.declared.ending.Ending.TheVariants.{Blocked}
 use Rattle.sd_base.specs.Untimed.{IsBlockedBy, IsFirstLacking}
+use Rattle.sd_base.proofs.Lists.{some-within}
 use Rattle.liveness.specs.RoundAnswers.{IsEnding}
 use Rattle.critical.specs.declared.cycle.NeedCycle.{NeedCycle}
 use Rattle.critical.specs.declared.cycle.CycleStep.{CycleStep}
 use Rattle.critical.specs.declared.cycle.FiringNo.{FiringNo}
 use Rattle.critical.specs.Cycles.{IsChain, HoldsOn}
-use Rattle.storage.specs.Distributions.{capacity_at}
 use Rattle.storage.specs.BoundedNets.{bound}
 use Rattle.storage.proofs.SpaceChannels.{bound-front, bound-back}
 use Rattle.report.specs.LinkTexts.{IsRoleIn, IsNamed}
@@ -46,12 +46,6 @@ own-role g no_overlap cs a [] fits j below = absurd (omega arith)
 own-role g no_overlap cs a (row ∷ rows) fits j below =
     one-more g a row (own_channels_from no_overlap cs (suc a) rows) (omega arith) (own-role g no_overlap cs (suc a) rows (omega arith)) (gets_own no_overlap cs a row.phases) j below
 
--- a capacity that is there belongs to one of the entries
-entry-below : (ds : List (Option ℕ)) (place room : ℕ) → capacity_at ds place ≡ Some room → place < length ds
-entry-below [] place room has = absurd (cc)
-entry-below (d ∷ ds) zero room has = omega arith
-entry-below (d ∷ ds) (suc place) room has = let rest = entry-below ds place room has in omega arith
-
 -- so do those of free spaces
 pub bound-over : (g : GraphFile) (net : Net) (ds : List (Option ℕ)) → length ds ≤ length g.channels → IsNamed g net → IsNamed g (bound net ds)
 bound-over g net ds many named = record { actors = named.actors; roles = roles }
@@ -61,7 +55,7 @@ bound-over g net ds many named = record { actors = named.actors; roles = roles }
         (λ (own : i < length net.channels). subst (λ (c : Channel). IsRoleIn g c.role) (sym (bound-front net ds i own)) (named.roles i own))
         (λ (space : length net.channels ≤ i).
         let at = bound-back net ds i space below in
-        let there = entry-below ds at.place at.room at.has in
+        let there = some-within ds at.place at.room at.has in
         subst (λ (c : Channel). IsRoleIn g c.role) (sym at.is) (omega arith))
         (cases_lt i (length net.channels))
 

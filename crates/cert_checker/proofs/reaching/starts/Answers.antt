@@ -1,10 +1,11 @@
 use Rattle.std.proofs.Common.{arith}
-use Rattle.cert_checker.proofs.Marking.{size-more, starts-more, starts-all}
+use Rattle.sd_base.proofs.Lists.{many-more}
+use Rattle.cert_checker.proofs.Marking.{starts-more, starts-all}
 use Rattle.cert_checker.proofs.reaching.starts.Goals as goal
 
 pub loop-node-preserved : goal.loop-node-preserved
 loop-node-preserved c = record {
-  size = size-more c.loop-node.marks.items c.push.new.self.items c.loop-node.node c.is_start.result c.loop-node.invariant.size c.in_ok-push.ensures.items;
+  size = many-more c.loop-node.marks.items c.push.new.self.items c.is_start.result c.loop-node.node c.loop-node.invariant.size c.in_ok-push.ensures.items;
   starts = starts-more c.args.graph.now c.loop-node.marks.items c.push.new.self.items c.loop-node.node c.is_start.result c.loop-node.invariant.size c.loop-node.invariant.starts c.is_start.ensures c.in_ok-push.ensures.items;
 }
 

@@ -1,13 +1,11 @@
-use Rattle.std.proofs.Common.{◌≡◌, ℕ, drop, Option, Some, List, add-one, ap, sym, subst, ◌∙◌, true≢false}
+use Rattle.std.proofs.Common.{◌≡◌, ℕ, drop, Option, List, add-one, ap, sym, subst, ◌∙◌, true≢false}
 use Rattle.std.specs.Prelude.{slice_index_or}
+use Rattle.std.proofs.lemmas.Option.{same_Some}
 use Rattle.explore.specs.declared.exploration.Member.{Member}
 use Rattle.pareto_front.specs.Offers.{IsOneOf}
 use Rattle.explore.specs.Explorations.{capacities_of}
 use Rattle.cert_maker.proofs.Places.{capacities-at, one-later}
 use Rattle.cert_maker.proofs.points.place_of.Goals as goal
-
-some-is : (ds es : List (Option ℕ)) → Some ds ≡ Some es → ds ≡ es
-some-is ds es same = cc
 
 pub loop-place-preserved : goal.loop-place-preserved
 loop-place-preserved c = λ one.
@@ -17,5 +15,5 @@ loop-place-preserved c = λ one.
     let m : Member = c.index-members-place.result in
     subst (λ (j : ℕ). IsOneOf (drop j (capacities_of ms)) ds) (sym (add-one i))
     (one-later (capacities_of ms) i ds (c.loop-place.invariant one) (λ at.
-    let same : (slice_index_or ms i m).capacities.capacities ≡ ds = some-is (slice_index_or ms i m).capacities.capacities ds (sym (capacities-at ms i m c.loop-place-test.true) ∙ at) in
+    let same : (slice_index_or ms i m).capacities.capacities ≡ ds = same_Some (slice_index_or ms i m).capacities.capacities ds (sym (capacities-at ms i m c.loop-place-test.true) ∙ at) in
     true≢false (sym (c.has.ensures.1 (ap (λ (x : Member). x.capacities.capacities) c.index-members-place.is ∙ same)) ∙ c.if-has.false)))

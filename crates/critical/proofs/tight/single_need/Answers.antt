@@ -1,7 +1,8 @@
 use Rattle.std.proofs.Common.{◌+◌, ◌*◌}
 use Rattle.sd_base.specs.Net.{channel_at}
+use Rattle.sd_base.proofs.Lists.{single-some}
 use Rattle.firing.proofs.PortSums.{need-none}
-use Rattle.critical.proofs.TightNeeds.{single-need, single-some, single-taken}
+use Rattle.critical.proofs.TightNeeds.{single-need, single-taken}
 use Rattle.critical.proofs.tight.single_need.Goals as goal
 
 pub returns-then-taken-tokens : goal.returns-then-taken-tokens

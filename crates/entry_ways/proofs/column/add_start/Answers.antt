@@ -1,10 +1,11 @@
 use Rattle.std.proofs.Common.{◌≡◌, ◌≤◌, ◌+◌, ◌*◌, ℕ, List, length, take, Option, Some, sym, subst, ◌∙◌, arith}
 use Rattle.std.specs.Prelude.{slice_index}
+use Rattle.std.proofs.lemmas.Result.{on_ok_weaker}
 use Rattle.sd_base.specs.declared.limits.TheConstants.{TIME}
 use Rattle.sd_base.specs.Net.{Net}
 use Rattle.sd_base.specs.Untimed.{counts_after, none_fired}
 use Rattle.entry_ways.specs.inside.Columns.{AreUpTo, HasStart, IsColumn, IsFedBy, IsLinkInto, IsLongest}
-use Rattle.entry_ways.proofs.ColumnSteps.{column-more, link-small, next-fed, on-ok, round-small, row-long, starts-small}
+use Rattle.entry_ways.proofs.ColumnSteps.{column-more, link-small, next-fed, round-small, row-long, starts-small}
 use Rattle.token_matrix.proofs.Orders.{fires_at, after_more}
 use Rattle.entry_ways.proofs.column.add_start.Goals as goal
 
@@ -58,7 +59,7 @@ returns-clause-column g c =
     let longest : IsLongest (IsLinkInto net number p old a (v a)) start =
     subst (λ (n : ℕ). IsLongest (IsLinkInto net number p old a n) start) {y = v a} firing
     (subst (λ (rows : List (List (Option ℕ))). IsLongest (IsLinkInto net number p rows a c.len-firing.result) start) {y = old} c.as_slice.ensures.value c.start_of-start.ensures) in
-    on-ok c.push_start.result
+    on_ok_weaker c.push_start.result
     (λ (has : HasStart a start old c.push_start.new.rows.items).
     subst (λ (w : ℕ → ℕ). IsColumn net number p w c.push_start.new.rows.items) (sym (after_more none_fired c.args.order.now c.args.place c.requires.within))
     (column-more net c.know_laws.ensures number p v a start old c.push_start.new.rows.items c.requires.column f.actor f.below f.can longest has))
@@ -76,7 +77,7 @@ returns-clause-small g c =
     let most : t ≤ TIME * c.args.place + TIME =
     link-small net c.know_laws.ensures c.requires.chains.phases number p c.as_slice.result.now (TIME * c.args.place) a c.len-firing.result t bound (c.start_of-start.ensures.just t at) in
     omega arith) in
-    on-ok c.push_start.result
+    on_ok_weaker c.push_start.result
     (λ (has : HasStart a c.start_of-start.result c.args.rows.now.items c.push_start.new.rows.items).
     starts-small a c.start_of-start.result c.args.rows.now.items c.push_start.new.rows.items (TIME * c.args.place) (TIME * (c.args.place + 1)) c.requires.small (omega arith) low has)
     c.push_start.ensures

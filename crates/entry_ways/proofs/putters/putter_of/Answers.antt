@@ -1,7 +1,8 @@
 use Rattle.std.proofs.Common.{◌≡◌, ◌≤◌, ◌-◌, ◌/◌, ℕ, length, sym, subst, ◌∙◌}
 use Rattle.sd_base.specs.Net.{Channel, channel_at}
+use Rattle.sd_base.proofs.Lists.{single-some}
 use Rattle.token_matrix.specs.Stamps.{IsPutBy}
-use Rattle.entry_ways.proofs.PutterRanges.{putter-at, single-some}
+use Rattle.entry_ways.proofs.PutterRanges.{putter-at}
 use Rattle.entry_ways.proofs.putters.putter_of.Goals as goal
 
 pub nonzero_div-result : goal.nonzero_div-result

@@ -1,6 +1,7 @@
 use Rattle.std.proofs.Common.{◌≡◌, length, ◌∙◌}
 use Rattle.sd_base.specs.Net.{Channel, channel_at}
-use Rattle.entry_ways.proofs.PutterRanges.{single-some, single-total}
+use Rattle.sd_base.proofs.Lists.{single-some}
+use Rattle.sd_base.proofs.Sums.{one-total}
 use Rattle.entry_ways.proofs.putters.taken_rate.Goals as goal
 
 pub returns-clause-all : goal.returns-clause-all
@@ -8,7 +9,7 @@ returns-clause-all g c =
     let on : Channel = channel_at (g.F.Firing.net c.args.chains.now.net.now) c.args.channel in
     let one : length on.taken ≡ 1 = c.know_laws.ensures.taken_phases c.args.channel c.requires.channel ∙ c.requires.chains.phases on.target
     (c.know_laws.ensures.targets c.args.channel c.requires.channel) in
-    λ n. single-total on.taken c.taken.result one c.taken.ensures n
+    λ n. one-total on.taken n c.taken.result one c.taken.ensures
 
 pub returns-clause-some : goal.returns-clause-some
 returns-clause-some g c =

@@ -1,5 +1,5 @@
+use Rattle.sd_base.proofs.Lists.{flat_next}
 use Rattle.escapes.specs.EscapedNames.{escaped_byte}
-use Rattle.escapes.proofs.OneMoreByte.{flat_next}
 use Rattle.escapes.proofs.names.put_escaped.Goals as goal
 
 pub loop-byte-preserved : goal.loop-byte-preserved

@@ -1,4 +1,5 @@
 use Rattle.std.proofs.Common.{◌≡◌, ◌++◌, ◌∷◌, [], ℕ, ◌+◌, All, Result, Some, refl, ap, subst, sym, ◌∙◌, arith}
+use Rattle.std.proofs.lemmas.List.Elements.{All-push}
 use Rattle.fanout.proofs.TaskLists.{drained-more, all-front, all-last}
 use Rattle.explore.specs.declared.task.Task.{Task}
 use Rattle.explore.specs.declared.level.Answered.{Answered}
@@ -7,7 +8,6 @@ use Rattle.storage.specs.declared.distribution.Distribution.{Distribution}
 use Rattle.lasso.specs.RunError.{RunError}
 use Rattle.explore.specs.declared.rated.Rated.{Rated}
 use Rattle.explore.proofs.Tasks.{answer-is, counts-least, counts-most, sum-more}
-use Rattle.explore.proofs.Ends.{all-more}
 use Rattle.explore.proofs.level.drain.Goals as goal
 
 pub loop-task-preserved : goal.loop-task-preserved
@@ -29,7 +29,7 @@ loop-task-preserved g c =
       omega (arith, c.push_reserved.ensures.len, c.loop-task.invariant.1),
       c.push_reserved.ensures.capacity ∙ c.loop-task.invariant.2,
       all-front P rest t both,
-      subst (All Q) (sym c.push_reserved.ensures.items) (all-more Q c.loop-task.answers.items pushed c.loop-task.invariant.4 (answer-is net t.capacities c.args.states c.args.best 0 t.steps.count c.in-Some.answer answered)),
+      subst (All Q) (sym c.push_reserved.ensures.items) (All-push Q c.loop-task.answers.items pushed c.loop-task.invariant.4 (answer-is net t.capacities c.args.states c.args.best 0 t.steps.count c.in-Some.answer answered)),
       c.absorb.ensures.share ∙ c.loop-task.invariant.5,
       omega (arith, c.absorb.ensures.count, c.loop-task.invariant.6, counts-least net t.capacities.capacities c.args.states c.args.best t.steps.count c.in-Some.answer answered, sums least_loops),
       omega (arith, c.absorb.ensures.count, c.loop-task.invariant.7, counts-most net t.capacities.capacities c.args.states c.args.best t.steps.count c.in-Some.answer answered, sums most_loops),

@@ -3,6 +3,7 @@ use Rattle.std.specs.Prelude.{Option, ℕ}
 use Rattle.std.proofs.lemmas.List.{length_push, map-append}
 use Rattle.std.proofs.lemmas.Iterator.Consumers.{YieldsList-end, YieldsList-turn}
 use Rattle.std.proofs.lemmas.Iterator.Adapters.{YieldsList-from_vec}
+use Rattle.std.proofs.lemmas.List.Elements.{All-push}
 use Rattle.liveness.specs.RoundAnswers.{AreReachedCounts}
 use Rattle.storage.specs.BoundedNets.{bound}
 use Rattle.storage.specs.declared.distribution.Distribution.{Distribution}
@@ -10,7 +11,6 @@ use Rattle.guide.specs.Evaluations.{IsEvaluable}
 use Rattle.levels.specs.declared.found.Found.{Found}
 use Rattle.explore.specs.declared.task.Task.{Task}
 use Rattle.explore.specs.inside.Levels.{IsFresh, IsVisitable}
-use Rattle.explore.proofs.Ends.{all-more}
 use Rattle.explore.proofs.level.fill.Goals as goal
 
 pub loop-found-preserved : goal.loop-found-preserved
@@ -29,7 +29,7 @@ loop-found-preserved g c =
     let pushed : Task g.row.F.Denot g.row.L.Denot = record { alloc = c.args.exploring.now.alloc; net = c.args.exploring.now.net; wiring = c.args.exploring.now.wiring; capacities = c.into_capacities.result; counts = c.led_to-counts.result; states = c.args.exploring.now.limits.states; best = c.args.best; steps = c.share.result; answer = None } in (
       omega (arith, c.push_reserved.ensures.len, c.loop-found.invariant.0, length_push c.loop-found.yielded c.in-Some.found),
       c.push_reserved.ensures.capacity ∙ c.loop-found.invariant.1,
-      subst (All P) (sym c.push_reserved.ensures.items) (all-more P c.loop-found.tasks.items pushed c.loop-found.invariant.2
+      subst (All P) (sym c.push_reserved.ensures.items) (All-push P c.loop-found.tasks.items pushed c.loop-found.invariant.2
           (record { net_is = refl; states_are = refl; best_is = refl; start = record { fits = fits; wired = c.requires.wired c.into_capacities.result.capacities fits.distribution; reached = reached }; share = c.share.ensures.share; count = c.share.ensures.count })),
       c.share.ensures.stays ∙ c.loop-found.invariant.3,
       ap (map f) c.push_reserved.ensures.items

@@ -1,18 +1,18 @@
 use Rattle.std.proofs.Common.{◌≡◌, sym, inr, true, take, arith, rules}
-use Rattle.std.proofs.lemmas.List.{take_all, length-drop}
+use Rattle.std.proofs.lemmas.List.{take_all, length-drop, take_rest}
 use Rattle.file_text.specs.Node.{tree_of}
 use Rattle.file_text.specs.inside.Seen.{state_of}
 use Rattle.file_text.proofs.Exact.{tidy_at}
 use Rattle.file_text.proofs.RecognisedFaults.{no_fault}
 use Rattle.file_text.proofs.LoopOutcomes.{goes_on, read_text, read_only, early_fault}
 use Rattle.file_text.proofs.ValueTexts.{text-characters}
-use Rattle.file_text.proofs.PassedRuns.{passed-on, passed-none, rest-is}
+use Rattle.file_text.proofs.PassedRuns.{passed-on, passed-none}
 use Rattle.file_text.proofs.read.read_tree.Goals as goal
 
 pub take-requires : goal.take-requires
 take-requires c =
     tidy_at true (take c.loop-i.i c.args.bytes.now) (state_of c.pass.new.self)
-    (passed-none c.args.bytes.now c.loop-i.i c.in_ok-passed.passed (state_of c.loop-i.scanner) (state_of c.pass.new.self) (omega (arith, c.if-passed-gt0.false)) c.loop-i.invariant.same (rw (rest-is c.args.bytes.now c.loop-i.i) at c.in_ok-passed.ensures.same))
+    (passed-none c.args.bytes.now c.loop-i.i c.in_ok-passed.passed (state_of c.loop-i.scanner) (state_of c.pass.new.self) (omega (arith, c.if-passed-gt0.false)) c.loop-i.invariant.same (rw (take_rest c.args.bytes.now c.loop-i.i) at c.in_ok-passed.ensures.same))
 
 pub returns-in_default : goal.returns-in_default
 returns-in_default c = record {
@@ -24,13 +24,13 @@ returns-in_default c = record {
 
 pub loop-i-preserved-then-passed-gt0 : goal.loop-i-preserved-then-passed-gt0
 loop-i-preserved-then-passed-gt0 c = record {
-  within = omega (arith, rw (rest-is c.args.bytes.now c.loop-i.i) at c.in_ok-passed.ensures.within, length-drop c.loop-i.i c.args.bytes.now);
-  same = passed-on c.args.bytes.now c.loop-i.i c.in_ok-passed.passed (state_of c.loop-i.scanner) (state_of c.pass.new.self) c.loop-i.invariant.same (rw (rest-is c.args.bytes.now c.loop-i.i) at c.in_ok-passed.ensures.same);
+  within = omega (arith, rw (take_rest c.args.bytes.now c.loop-i.i) at c.in_ok-passed.ensures.within, length-drop c.loop-i.i c.args.bytes.now);
+  same = passed-on c.args.bytes.now c.loop-i.i c.in_ok-passed.passed (state_of c.loop-i.scanner) (state_of c.pass.new.self) c.loop-i.invariant.same (rw (take_rest c.args.bytes.now c.loop-i.i) at c.in_ok-passed.ensures.same);
 }
 
 pub loop-i-preserved : goal.loop-i-preserved
 loop-i-preserved c =
-    let here = (passed-none c.args.bytes.now c.loop-i.i c.in_ok-passed.passed (state_of c.loop-i.scanner) (state_of c.pass.new.self) (omega (arith, c.if-passed-gt0.false)) c.loop-i.invariant.same (rw (rest-is c.args.bytes.now c.loop-i.i) at c.in_ok-passed.ensures.same)) in
+    let here = (passed-none c.args.bytes.now c.loop-i.i c.in_ok-passed.passed (state_of c.loop-i.scanner) (state_of c.pass.new.self) (omega (arith, c.if-passed-gt0.false)) c.loop-i.invariant.same (rw (take_rest c.args.bytes.now c.loop-i.i) at c.in_ok-passed.ensures.same)) in
     record {
       within = omega (arith, c.loop-i-test.true);
       same = goes_on c.args.bytes.now c.loop-i.i (state_of c.pass.new.self) (state_of c.take.new.self) c.loop-i-test.true here (rw c.in-Goes.is at c.in_ok-stop.ensures);
@@ -38,7 +38,7 @@ loop-i-preserved c =
 
 pub fault_of-requires : goal.fault_of-requires
 fault_of-requires c =
-    let here = (passed-none c.args.bytes.now c.loop-i.i c.in_ok-passed.passed (state_of c.loop-i.scanner) (state_of c.pass.new.self) (omega (arith, c.if-passed-gt0.false)) c.loop-i.invariant.same (rw (rest-is c.args.bytes.now c.loop-i.i) at c.in_ok-passed.ensures.same)) in
+    let here = (passed-none c.args.bytes.now c.loop-i.i c.in_ok-passed.passed (state_of c.loop-i.scanner) (state_of c.pass.new.self) (omega (arith, c.if-passed-gt0.false)) c.loop-i.invariant.same (rw (take_rest c.args.bytes.now c.loop-i.i) at c.in_ok-passed.ensures.same)) in
     record {
       state = state_of c.pass.new.self;
       after = state_of c.take.new.self;

@@ -1,5 +1,6 @@
 use Rattle.std.proofs.Common.{◌∙◌, arith, rules}
-use Rattle.graph_reader.proofs.NumberDigits.{capped-more, capped-all}
+use Rattle.sd_base.proofs.CappedDigits.{capped-more}
+use Rattle.graph_reader.proofs.NumberDigits.{capped-all}
 use Rattle.graph_reader.proofs.numbers.value.Goals as goal
 
 pub loop-digit-preserved : goal.loop-digit-preserved

@@ -1,6 +1,6 @@
 use Rattle.std.proofs.Common.{◌≡◌, ◌≤◌, drop, min}
 use Rattle.std.specs.List.{fold}
-use Rattle.graph_reader.specs.NumberTexts.{with_digit}
+use Rattle.sd_base.specs.Numbers.{with_digit}
 use Rattle.graph_reader.proofs.numbers.value.Given as goal
 
 abbrev pub invariant-loop-digit : goal.invariant-loop-digit

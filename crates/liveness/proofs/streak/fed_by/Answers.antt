@@ -1,7 +1,8 @@
 use Rattle.std.proofs.Common.{◌*◌, ◌/◌, ◌%◌, ◌≤◌, ◌<◌, ◌≡◌, sym, ◌∙◌, arith, div-add-mod', mod-lt}
 use Rattle.std.proofs.Math.Nat.{mul-le-mul_right}
 use Rattle.sd_base.specs.Net.{channel_at}
-use Rattle.liveness.proofs.Streaks.{ends-short, rate-some, feeds-own, feeds-share, gives-back}
+use Rattle.sd_base.proofs.Lists.{single-some}
+use Rattle.liveness.proofs.Streaks.{ends-short, feeds-own, feeds-share, gives-back}
 use Rattle.liveness.proofs.streak.fed_by.Goals as goal
 
 pub returns-then-tokens-rate-clause-ends : goal.returns-then-tokens-rate-clause-ends
@@ -24,7 +25,7 @@ returns-clause-fed g c from =
 pub returns-clause-ends : goal.returns-clause-ends
 returns-clause-ends g c less from =
     let all : c.min.result ≡ c.args.tokens / c.taken-rate.result = omega (arith, c.min.ensures, less) in
-    let some : 0 < c.taken-rate.result = rate-some (channel_at (g.F.Firing.net c.args.net.now) c.args.channel).taken c.taken-rate.result c.requires.single c.taken-rate.ensures (c.know_laws.ensures.some_taken c.args.channel c.requires.channel) in
+    let some : 0 < c.taken-rate.result = single-some (channel_at (g.F.Firing.net c.args.net.now) c.args.channel).taken c.taken-rate.result c.requires.single c.taken-rate.ensures (c.know_laws.ensures.some_taken c.args.channel c.requires.channel) in
     let rest : c.args.tokens % c.taken-rate.result < c.taken-rate.result = mod-lt c.args.tokens some in
     ends-short (channel_at (g.F.Firing.net c.args.net.now) c.args.channel) c.args.tokens from c.min.result c.taken-rate.result c.requires.single c.taken-rate.ensures
     (rw all (omega (arith, rest, div-add-mod' c.args.tokens c.taken-rate.result)))

@@ -2,11 +2,11 @@ use Rattle.std.proofs.Common.{◌≡◌, ◌+◌, ◌++◌, ◌∷◌, ◌<◌, 
 use Rattle.std.specs.Prelude.{◌↔◌, Contains, Some, slice_get, slice_index_or}
 use Rattle.std.proofs.lemmas.List.{take_all, take_more}
 use Rattle.std.proofs.lemmas.List.Elements.{Contains-get_or}
+use Rattle.std.proofs.lemmas.Option.{slice_get-get_or}
 use Rattle.automaton.specs.declared.graph.Edge.{Edge}
 use Rattle.entry_ways.specs.declared.marking.EntryPlace.{EntryPlace}
 use Rattle.scenario_storage.specs.inside.Shown.{IsEntryIn, place_of, scenario_at}
 use Rattle.scenario_storage.proofs.Listing.{entries-more, entries-other}
-use Rattle.scenario_storage.proofs.Marking.{there-or}
 use Rattle.scenario_storage.proofs.shown.entries_of.Goals as goal
 use Rattle.scenario_storage.proofs.shown.entries_of.Goals.{then-scenario_of-scenario+in_ok-push, else-scenario_of-scenario}
 
@@ -21,7 +21,7 @@ scenario_of-requires-clause-states c =
     let below = c.requires.cycle n (Contains-get_or c.args.cycle.now c.loop-number.number-index 0 (omega (arith, c.loop-number-test.true))) in
     let e : Edge = record { from = 0; to = 0; weight = 0 } in
     subst (λ (es : List Edge). (slice_index_or es n e).from / c.args.graph.now.tokens < length c.args.states.now) (sym c.as_slice.ensures)
-    (c.requires.states n (slice_index_or c.args.graph.now.edges n e) (there-or c.args.graph.now.edges n e below))
+    (c.requires.states n (slice_index_or c.args.graph.now.edges n e) (slice_get-get_or c.args.graph.now.edges n e below))
 
 pub loop-number-preserved : goal.loop-number-preserved
 loop-number-preserved c =
@@ -31,7 +31,7 @@ loop-number-preserved c =
     let low : c.loop-number.number-index < length c.args.cycle.now = omega (arith, c.loop-number-test.true) in
     let d : Edge = record { from = 0; to = 0; weight = 0 } in
     let e : Edge = slice_index_or c.args.graph.now.edges n d in
-    let at : slice_get c.args.graph.now.edges n ≡ Some (slice_index_or c.args.graph.now.edges n d) = there-or c.args.graph.now.edges n d (c.requires.cycle n (Contains-get_or cycle k 0 low)) in
+    let at : slice_get c.args.graph.now.edges n ≡ Some (slice_index_or c.args.graph.now.edges n d) = slice_get-get_or c.args.graph.now.edges n d (c.requires.cycle n (Contains-get_or cycle k 0 low)) in
     let own : slice_index_or c.as_slice.result.now n d ≡ slice_index_or c.args.graph.now.edges n d = ap (λ (es : List Edge). slice_index_or es n d) c.as_slice.ensures in
     let its : c.scenario_of.result ≡ scenario_at c.args.states.now c.args.graph.now.tokens (slice_index_or c.args.graph.now.edges n d) =
     c.scenario_of.ensures ∙ ap (scenario_at c.args.states.now c.args.graph.now.tokens) own in

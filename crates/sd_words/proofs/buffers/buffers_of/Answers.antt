@@ -3,9 +3,9 @@ use Rattle.std.proofs.lemmas.List.{map-append, length-map}
 use Rattle.std.specs.List.{list_any}
 use Rattle.std.specs.Str.{bytes_eq}
 use Rattle.std.specs.String.{string_bytes}
-use Rattle.std.proofs.lemmas.Bool.{not-false}
+use Rattle.std.proofs.lemmas.Bool.{not-false, not-true}
 use Rattle.sd_words.specs.Buffers.{with_parts}
-use Rattle.sd_words.proofs.BufferParts.{next-part, part-none, part-taken, part-new, parts-end, same_names, free}
+use Rattle.sd_words.proofs.BufferParts.{next-part, part-none, part-taken, part-new, parts-end, same_names}
 use Rattle.sd_words.proofs.buffers.buffers_of.Goals as goal
 
 pub returns-in_default : goal.returns-in_default
@@ -27,7 +27,7 @@ loop-part-preserved c =
     let next = next-part (λ (p : Bor (List ℕ)). p.now) c.deref-part-items.result.now c.loop-part.part-index (record { ref_ptr = (0, 0); now = [] }) c.loop-part-test.true in
     let some = sym c.in_ok-buffer.ensures ∙ c.in-Some.is in
     let new : not (list_any (λ k. bytes_eq c.in-Some.buffer.0 (string_bytes k)) c.loop-part.names.keys) ≡ true = search rules in
-    let among = free _ (ap not (sym (same_names string_bytes c.loop-part.names.keys c.loop-part.buffers.items c.in-Some.buffer.0 c.loop-part.invariant.names)) ∙ new) in
+    let among = not-true _ (ap not (sym (same_names string_bytes c.loop-part.names.keys c.loop-part.buffers.items c.in-Some.buffer.0 c.loop-part.invariant.names)) ∙ new) in
     let more : map string_bytes c.is_new.new.names.keys ≡ map string_bytes c.loop-part.names.keys ++ c.in-Some.buffer.0 ∷ [] = search rules in
     record {
       names = more ∙ (ap (λ ns. ns ++ c.in-Some.buffer.0 ∷ []) c.loop-part.invariant.names ∙ (sym (map-append _ c.loop-part.buffers.items (c.in-Some.buffer ∷ [])) ∙ ap (map (λ b. b.0)) (sym c.in_ok-push.ensures.items)));

@@ -1,5 +1,5 @@
 use Rattle.std.proofs.Common.{◌∙◌, arith, rules}
-use Rattle.sd_words.proofs.CappedDigits.{capped-more, capped-all}
+use Rattle.sd_base.proofs.CappedDigits.{capped-more, capped-all}
 use Rattle.sd_words.proofs.form.number.Goals as goal
 
 pub loop-digit-preserved : goal.loop-digit-preserved

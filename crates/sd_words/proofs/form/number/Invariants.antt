@@ -1,6 +1,6 @@
 use Rattle.std.proofs.Common.{◌≡◌, ◌≤◌, drop, min}
 use Rattle.std.specs.List.{fold}
-use Rattle.sd_words.specs.Values.{with_digit}
+use Rattle.sd_base.specs.Numbers.{with_digit}
 use Rattle.sd_words.proofs.form.number.Given as goal
 
 abbrev pub invariant-loop-digit : goal.invariant-loop-digit

@@ -1,11 +1,11 @@
-use Rattle.std.proofs.Common.{◌≡◌, ◌-◌, ◌<◌, length, map, refl, sym, ap, ◌∙◌, arith}
+use Rattle.std.proofs.Common.{◌≡◌, ◌-◌, ◌<◌, length, map, refl, sym, ap, ◌∙◌, arith, below_more}
 use Rattle.std.specs.Prelude.{slice_index_or}
 use Rattle.std.proofs.lemmas.Bool.{false≢true}
 use Rattle.std.proofs.lemmas.List.{get_or_default}
 use Rattle.selftimed.specs.declared.actors.ActorState.{ActorState}
 use Rattle.selftimed.specs.inside.Actors.{idle, running_in}
 use Rattle.selftimed.proofs.Shaping.{past-at}
-use Rattle.selftimed.proofs.Comparing.{below_next, times-agree, times-apart}
+use Rattle.selftimed.proofs.Comparing.{times-agree, times-apart}
 use Rattle.selftimed.proofs.compare.same_running.Goals as goal
 
 pub same_times_left-requires-clause-left : goal.same_times_left-requires-clause-left
@@ -33,7 +33,7 @@ loop-actor-preserved c =
     let there : c.loop-actor.actor < length c.args.right.now = omega (arith, c.loop-actor-test.true, c.requires.long) in
     let left : running_in c.args.left.now c.loop-actor.actor ≡ c.index-left-actor.result.running = ap (λ (s : ActorState). s.running) (get_or_default c.args.left.now c.loop-actor.actor idle c.index-left-actor.result c.loop-actor-test.true ∙ sym c.index-left-actor.is) in
     let right : running_in c.args.right.now c.loop-actor.actor ≡ (slice_index_or c.args.right.now c.loop-actor.actor c.index-right-actor.result).running = ap (λ (s : ActorState). s.running) (get_or_default c.args.right.now c.loop-actor.actor idle c.index-right-actor.result there) in
-    below_next (λ a. map (λ e. e - c.args.now) (running_in c.args.left.now a) ≡ map (λ e. e - c.args.then) (running_in c.args.right.now a)) c.loop-actor.actor c.loop-actor.invariant
+    below_more (λ a. map (λ e. e - c.args.now) (running_in c.args.left.now a) ≡ map (λ e. e - c.args.then) (running_in c.args.right.now a)) c.loop-actor.actor c.loop-actor.invariant
     (rw (left, right) (c.if-not-same_times_left.ensures.0 refl))
 
 pub returns : goal.returns

@@ -1,10 +1,11 @@
 use Rattle.std.proofs.Common.{All}
 use Rattle.std.proofs.lemmas.Result.{err_from_is_err_and}
+use Rattle.sd_base.proofs.Lists.{many-more}
 use Rattle.cert_text.specs.MemberLines.{point_lines}
 use Rattle.cert_text.specs.Sections.{point_from}
 use Rattle.cert_text.specs.declared.certificates.PointLine.{PointLine}
 use Rattle.cert_text.specs.Spellable.{AreStarts}
-use Rattle.cert_text.proofs.Texts.{read-more, many-more, all-pushed}
+use Rattle.cert_text.proofs.Texts.{read-more, all-pushed}
 use Rattle.cert_text.proofs.Times.{times-more, times-fails, times-ends}
 use Rattle.cert_text.proofs.reading.points.each_point.Goals as goal
 

@@ -1,8 +1,9 @@
 use Rattle.std.proofs.lemmas.Result.{err_from_is_err_and}
+use Rattle.sd_base.proofs.Lists.{many-more}
 use Rattle.cert_text.specs.LineForms.{potential_due}
 use Rattle.cert_text.specs.Reads.{next_by}
 use Rattle.cert_text.specs.ScenarioLines.{potential_line}
-use Rattle.cert_text.proofs.Texts.{read-more, many-more}
+use Rattle.cert_text.proofs.Texts.{read-more}
 use Rattle.cert_text.proofs.Times.{times-more, times-fails, times-ends}
 use Rattle.cert_text.proofs.reading.scenarios.each_potential.Goals as goal
 

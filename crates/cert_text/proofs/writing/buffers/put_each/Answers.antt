@@ -1,5 +1,7 @@
+use Rattle.std.proofs.lemmas.List.Elements.{All-more}
+use Rattle.sd_base.proofs.Lists.{flat_next, flat_end}
 use Rattle.cert_text.specs.BufferLines.{buffer_text}
-use Rattle.cert_text.proofs.Texts.{all-end, all-more, flat_end, flat_next}
+use Rattle.cert_text.proofs.Texts.{all-end}
 use Rattle.cert_text.proofs.writing.buffers.put_each.Goals as goal
 use Rattle.cert_text.specs.Limits.{IsBufferWithin}
 
@@ -12,5 +14,5 @@ returns-clause-within c = all-end IsBufferWithin c.args.buffers.now c.loop-buffe
 pub loop-buffer-preserved : goal.loop-buffer-preserved
 loop-buffer-preserved c = record {
   text = flat_next buffer_text _ _ _ c.args.buffers.now c.loop-buffer.buffer-index _ c.loop-buffer-test.true c.loop-buffer.invariant.text c.in_ok-put_buffer.ensures.text;
-  within = all-more IsBufferWithin c.args.buffers.now c.loop-buffer.buffer-index _ c.loop-buffer-test.true c.loop-buffer.invariant.within c.put_buffer.ensures.within;
+  within = All-more IsBufferWithin c.args.buffers.now c.loop-buffer.buffer-index _ c.loop-buffer-test.true c.loop-buffer.invariant.within c.put_buffer.ensures.within;
 }

@@ -2,9 +2,11 @@ use Rattle.std.proofs.Common.{◌≡◌, ◌+◌, ◌++◌, take}
 use Rattle.std.specs.List.{flat_map}
 use Rattle.std.specs.String.{string_bytes}
 use Rattle.std.proofs.lemmas.Result.{err_from_is_err_and}
+use Rattle.std.proofs.lemmas.List.Elements.{All-more}
+use Rattle.sd_base.proofs.Lists.{flat_next, flat_end}
 use Rattle.cert_text.proofs.GivenUp.{up-at}
 use Rattle.cert_text.specs.CycleLines.{step_line}
-use Rattle.cert_text.proofs.Texts.{all-end, all-more, flat_end, flat_next}
+use Rattle.cert_text.proofs.Texts.{all-end}
 use Rattle.cert_text.proofs.writing.cycles.put_steps.Goals as goal
 use Rattle.cert_text.specs.Limits.{IsStepWithin}
 
@@ -17,7 +19,7 @@ returns-clause-within c = all-end IsStepWithin c.args.steps.now c.loop-step.step
 pub loop-step-preserved : goal.loop-step-preserved
 loop-step-preserved c = record {
   text = flat_next step_line _ _ _ c.args.steps.now c.loop-step.step-index _ c.loop-step-test.true c.loop-step.invariant.text c.in_ok-put_step.ensures.text;
-  within = all-more IsStepWithin c.args.steps.now c.loop-step.step-index _ c.loop-step-test.true c.loop-step.invariant.within c.put_step.ensures.within;
+  within = All-more IsStepWithin c.args.steps.now c.loop-step.step-index _ c.loop-step-test.true c.loop-step.invariant.within c.put_step.ensures.within;
 }
 
 pub returns-in_err-keep_within-clause-long : goal.returns-in_err-keep_within-clause-long

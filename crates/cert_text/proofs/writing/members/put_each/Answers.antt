@@ -1,5 +1,7 @@
+use Rattle.std.proofs.lemmas.List.Elements.{All-more}
+use Rattle.sd_base.proofs.Lists.{flat_next, flat_end}
 use Rattle.cert_text.specs.MemberLines.{capacity_text}
-use Rattle.cert_text.proofs.Texts.{all-end, all-more, flat_end, flat_next}
+use Rattle.cert_text.proofs.Texts.{all-end}
 use Rattle.cert_text.proofs.writing.members.put_each.Goals as goal
 use Rattle.cert_text.specs.Limits.{IsCapacityWithin}
 
@@ -12,5 +14,5 @@ returns-clause-within c = all-end IsCapacityWithin c.args.capacities.now c.loop-
 pub loop-capacity-preserved : goal.loop-capacity-preserved
 loop-capacity-preserved c = record {
   text = flat_next capacity_text _ _ _ c.args.capacities.now c.loop-capacity.capacity-index _ c.loop-capacity-test.true c.loop-capacity.invariant.text c.in_ok-put_capacity.ensures.text;
-  within = all-more IsCapacityWithin c.args.capacities.now c.loop-capacity.capacity-index _ c.loop-capacity-test.true c.loop-capacity.invariant.within c.put_capacity.ensures.within;
+  within = All-more IsCapacityWithin c.args.capacities.now c.loop-capacity.capacity-index _ c.loop-capacity-test.true c.loop-capacity.invariant.within c.put_capacity.ensures.within;
 }

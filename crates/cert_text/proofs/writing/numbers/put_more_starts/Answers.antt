@@ -1,5 +1,5 @@
+use Rattle.sd_base.proofs.Lists.{flat_end}
 use Rattle.cert_text.specs.NumberLines.{spaced}
-use Rattle.cert_text.proofs.Texts.{flat_end}
 use Rattle.cert_text.proofs.writing.numbers.put_more_starts.Goals as goal
 
 pub returns : goal.returns

@@ -2,9 +2,11 @@ use Rattle.std.proofs.Common.{◌≡◌, ◌+◌, ◌++◌, take}
 use Rattle.std.specs.List.{flat_map}
 use Rattle.std.specs.String.{string_bytes}
 use Rattle.std.proofs.lemmas.Result.{err_from_is_err_and}
+use Rattle.std.proofs.lemmas.List.Elements.{All-more}
+use Rattle.sd_base.proofs.Lists.{flat_next, flat_end}
 use Rattle.cert_text.proofs.GivenUp.{up-at}
 use Rattle.cert_text.specs.ScenarioLines.{potential_line}
-use Rattle.cert_text.proofs.Texts.{all-end, all-more, flat_end, flat_next}
+use Rattle.cert_text.proofs.Texts.{all-end}
 use Rattle.cert_text.proofs.writing.scenarios.put_each.Goals as goal
 use Rattle.cert_text.specs.Limits.{IsPotentialWithin}
 
@@ -17,7 +19,7 @@ returns-clause-within c = all-end IsPotentialWithin c.args.potentials.now c.loop
 pub loop-potential-preserved : goal.loop-potential-preserved
 loop-potential-preserved c = record {
   text = flat_next potential_line _ _ _ c.args.potentials.now c.loop-potential.potential-index _ c.loop-potential-test.true c.loop-potential.invariant.text c.in_ok-put_potential.ensures.text;
-  within = all-more IsPotentialWithin c.args.potentials.now c.loop-potential.potential-index _ c.loop-potential-test.true c.loop-potential.invariant.within c.put_potential.ensures.within;
+  within = All-more IsPotentialWithin c.args.potentials.now c.loop-potential.potential-index _ c.loop-potential-test.true c.loop-potential.invariant.within c.put_potential.ensures.within;
 }
 
 pub returns-in_err-keep_within-clause-long : goal.returns-in_err-keep_within-clause-long

@@ -2,9 +2,11 @@ use Rattle.std.proofs.Common.{◌≡◌, ◌+◌, ◌++◌, take}
 use Rattle.std.specs.List.{flat_map}
 use Rattle.std.specs.String.{string_bytes}
 use Rattle.std.proofs.lemmas.Result.{err_from_is_err_and}
+use Rattle.std.proofs.lemmas.List.Elements.{All-more}
+use Rattle.sd_base.proofs.Lists.{flat_next, flat_end}
 use Rattle.cert_text.proofs.GivenUp.{up-at}
 use Rattle.cert_text.specs.ScenarioLines.{node_line}
-use Rattle.cert_text.proofs.Texts.{all-end, all-more, flat_end, flat_next}
+use Rattle.cert_text.proofs.Texts.{all-end}
 use Rattle.cert_text.proofs.writing.scenarios.put_entered.Goals as goal
 use Rattle.cert_text.specs.Limits.{IsNodeWithin}
 
@@ -17,7 +19,7 @@ returns-clause-within c = all-end IsNodeWithin c.args.nodes.now c.loop-node.node
 pub loop-node-preserved : goal.loop-node-preserved
 loop-node-preserved c = record {
   text = flat_next node_line _ _ _ c.args.nodes.now c.loop-node.node-index _ c.loop-node-test.true c.loop-node.invariant.text c.in_ok-put_node.ensures.text;
-  within = all-more IsNodeWithin c.args.nodes.now c.loop-node.node-index _ c.loop-node-test.true c.loop-node.invariant.within c.put_node.ensures.within;
+  within = All-more IsNodeWithin c.args.nodes.now c.loop-node.node-index _ c.loop-node-test.true c.loop-node.invariant.within c.put_node.ensures.within;
 }
 
 pub returns-in_err-keep_within-clause-long : goal.returns-in_err-keep_within-clause-long

@@ -1,5 +1,6 @@
 use Rattle.std.proofs.Common.{sym, arith}
-use Rattle.liveness.proofs.Looking.{range-more, trues-more}
+use Rattle.sd_base.proofs.Lists.{range-more}
+use Rattle.liveness.proofs.Looking.{trues-more}
 use Rattle.liveness.proofs.flags.Flags.new.Goals as goal
 
 pub loop-actor-preserved : goal.loop-actor-preserved

@@ -1,5 +1,6 @@
 use Rattle.std.proofs.Common.{◌∙◌}
-use Rattle.sd_command.proofs.step_lemmas.Joins.{are-actors, with-inputs}
+use Rattle.balance.proofs.ChannelEnds.{are-actors}
+use Rattle.sd_command.proofs.step_lemmas.Joins.{with-inputs}
 use Rattle.sd_command.proofs.steps.nets.feed.Goals as goal
 
 pub no_input-requires-clause-ends : goal.no_input-requires-clause-ends

@@ -1,5 +1,6 @@
 use Rattle.std.proofs.Common.{◌∙◌}
-use Rattle.sd_command.proofs.step_lemmas.Joins.{are-actors, strongly}
+use Rattle.balance.proofs.ChannelEnds.{are-actors}
+use Rattle.sd_command.proofs.step_lemmas.Joins.{strongly}
 use Rattle.sd_command.proofs.steps.nets.join.Goals as goal
 
 pub strongly_connected-requires-clause-ends : goal.strongly_connected-requires-clause-ends

@@ -1,5 +1,5 @@
 use Rattle.std.proofs.Common.{◌∷◌, ◌++◌, [], ◌∙◌, sym, ap, ℕ, List, arith}
-use Rattle.selftimed.proofs.Agendas.{range-more}
+use Rattle.sd_base.proofs.Lists.{range-more}
 use Rattle.selftimed.proofs.agenda.Agenda.refill.Goals as goal
 
 pub loop-actor-preserved : goal.loop-actor-preserved

@@ -2,7 +2,7 @@
 use Rattle.std.proofs.Common.{◌≡◌, ℕ, ◌+◌, ◌*◌, ◌-◌, ◌<◌, ◌≤◌, List, [], ◌∷◌, length, get_or, drop, min, sym, ap, ◌∙◌, arith, add-one, drop-cons}
 use Rattle.std.specs.List.{fold}
 use Rattle.std.proofs.lemmas.List.{drop_all}
-use Rattle.sd_words.specs.Values.{with_digit, number}
+use Rattle.sd_base.specs.Numbers.{with_digit}
 
 -- numbers that are the same up to a greatest one stay so with more digits
 capped : (c : ℕ) (ds : List ℕ) (m n : ℕ) → min m c ≡ min n c → min (fold with_digit m ds) c ≡ min (fold with_digit n ds) c
@@ -17,7 +17,7 @@ capped-more c ds i n m lt is =
     let same : min m c ≡ min (with_digit n (get_or ds i 0)) c = omega arith in
     capped c (drop (i + 1) ds) m (with_digit n (get_or ds i 0)) same ∙ ap (λ t. min (fold with_digit n t) c) (sym first)
 
-pub capped-all : (c : ℕ) (ds : List ℕ) (i n : ℕ) → length ds ≤ i → n ≤ c → min (fold with_digit n (drop i ds)) c ≡ min (fold with_digit 0 ds) c → n ≡ min (number ds) c
+pub capped-all : (c : ℕ) (ds : List ℕ) (i n : ℕ) → length ds ≤ i → n ≤ c → min (fold with_digit n (drop i ds)) c ≡ min (fold with_digit 0 ds) c → n ≡ min (fold with_digit 0 ds) c
 capped-all c ds i n past few h =
     let none : drop i ds ≡ [] = drop_all i ds past in
     let same : min n c ≡ min (fold with_digit 0 ds) c = sym (ap (λ t. min (fold with_digit n t) c) none) ∙ h in
