@@ -1,13 +1,13 @@
 -- Walks over edges: joined, cut, and repeated; and potentials along them.
 use Rattle.std.proofs.Common.{◌≡◌, ℕ, zero, suc, ◌+◌, ◌*◌, ◌-◌, ◌≤◌, ◌<◌, List, [], ◌∷◌, ◌++◌, length, take, Option, Some, refl, sym, ap, subst, ◌∙◌, inl, inr, arith, length-append}
-use Rattle.std.proofs.Math.Nat.{mul-le-mul_left}
+use Rattle.std.proofs.Math.Nat.{mul-le-mul_left, mul-le-mul_right}
 use Rattle.std.specs.Prelude.{slice_get, ℤ, pos, ◌+ℤ◌, ◌≤ℤ◌}
 use Rattle.std.proofs.lemmas.Int.{ints}
 use Rattle.std.proofs.lemmas.Bool.{cases_lt}
 use Rattle.std.proofs.lemmas.List.{length-take-le}
 use Rattle.automaton.specs.declared.graph.Edge.{Edge}
 use Rattle.automaton.specs.declared.graph.TimedGraph.{TimedGraph}
-use Rattle.automaton.specs.CriticalCycles.{IsPath, weights, weight_in, IsReachedNode, Fit}
+use Rattle.automaton.specs.CriticalCycles.{IsPath, weights, weight_in, IsReachedNode, Fit, IsStart}
 
 pub path-append : (es : List Edge) (ks ls : List ℕ) (u v x : ℕ) → IsPath es u ks v → IsPath es v ls x → IsPath es u (ks ++ ls) x
 path-append es [] ls u v x h g = subst (λ n. IsPath es n ls x) (sym h) g
@@ -158,3 +158,9 @@ along graph l w p fit (k ∷ ks) u v x reached at (e, is, from, rest) =
 
     longer : (w n : ℕ) → w + w * n ≡ w * suc n
     longer w n = omega arith
+
+-- nodes of the initial state are nodes
+pub start-inside : (graph : TimedGraph) → graph.initial < graph.states → (v : ℕ) → IsStart graph v → v < graph.states * graph.tokens
+start-inside graph some v (i, less, at) =
+    let le : (graph.initial + 1) * graph.tokens ≤ graph.states * graph.tokens = mul-le-mul_right graph.tokens (omega arith) in
+    omega arith

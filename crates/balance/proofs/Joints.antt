@@ -2,9 +2,9 @@
 use Rattle.std.proofs.Common.{◌≡◌, ◌≢◌, ℕ, ◌+◌, ◌<◌, ◌≤◌, ◌⊎◌, Bool, true, false, Some, List, [], ◌∷◌, ◌++◌, length, replicate, sym, refl, ap, subst, ◌∙◌, inl, inr, arith}
 use Rattle.std.specs.Prelude.{slice_get}
 use Rattle.std.proofs.lemmas.Bool.{cases_eq, cases_lt}
-use Rattle.std.proofs.lemmas.List.{get_or-set_same, get_or-set_other, get_or-replicate, get_or_past, length-set, length-replicate}
+use Rattle.std.proofs.lemmas.List.{get_or-set_same, get_or-set_other, length-set, length-replicate}
 use Rattle.std.proofs.lemmas.Option.{same_Some, none-some, slice_get_within}
-use Rattle.sd_base.proofs.Lists.{get-pushed, get-left, get-last}
+use Rattle.sd_base.proofs.Lists.{get-pushed, get-left, get-last, replicate-same}
 use Rattle.balance.specs.declared.walk.Link.{Link}
 use Rattle.balance.specs.declared.search.Found.{Found}
 use Rattle.balance.specs.inside.Lists.{list_at, appended}
@@ -21,12 +21,6 @@ appended_other rows a k b ne = get_or-set_other rows a b (list_at rows a ++ k �
 
 pub length-appended : (rows : List (List ℕ)) (a k : ℕ) → length (appended rows a k) ≡ length rows
 length-appended rows a k = length-set rows a (list_at rows a ++ k ∷ [])
-
-pub list_at-replicate : (n a : ℕ) → list_at (replicate n []) a ≡ []
-list_at-replicate n a = elim (cases_lt a n) [
-  | inl lt ↦ get_or-replicate n a [] [] lt
-  | inr ge ↦ (let size : length (replicate n (let none : List ℕ = [] in none)) ≡ n = length-replicate n [] in get_or_past (replicate n []) a [] (omega arith))
-]
 
 -- ---- one channel more
 -- the list of an actor after a channel was put on the lists of its ends
@@ -83,8 +77,8 @@ row_new rows rows' n l f row = elim row [
 pub joints_none : (ls : List Link) (actors : ℕ) → AreJoints ls 0 actors (replicate actors [])
 joints_none ls actors = record {
   size = length-replicate actors [];
-  below = λ a p k is. absurd (none-some k (subst (λ (t : List ℕ). slice_get t p ≡ Some k) (list_at-replicate actors a) is));
-  rising = λ a p q k k' lt is is'. absurd (none-some k (subst (λ (t : List ℕ). slice_get t p ≡ Some k) (list_at-replicate actors a) is));
+  below = λ a p k is. absurd (none-some k (subst (λ (t : List ℕ). slice_get t p ≡ Some k) (replicate-same {A = List ℕ} actors a []) is));
+  rising = λ a p q k k' lt is is'. absurd (none-some k (subst (λ (t : List ℕ). slice_get t p ≡ Some k) (replicate-same {A = List ℕ} actors a []) is));
   whole = λ k l f lt is apart. absurd (let none : ⊥ = omega arith in none);
 }
 

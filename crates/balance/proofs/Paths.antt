@@ -7,12 +7,12 @@ use Rattle.std.proofs.lemmas.Option.{same_Some, none-some, slice_get_within, sli
 use Rattle.balance.specs.declared.connection.Direction.{Direction}
 use Rattle.balance.specs.declared.connection.Direction.TheVariants.{Along, Against}
 use Rattle.sd_base.specs.Connection.{IsPath, Reaches}
-use Rattle.sd_base.proofs.Lists.{get-pushed, get-left, get-last, all-get, get-there}
+use Rattle.sd_base.proofs.Lists.{get-pushed, get-left, get-last, all-get, get-there, replicate-same}
 use Rattle.balance.specs.ConnectRefusals.{AreActors}
 use Rattle.balance.specs.inside.Search.{mark_at}
 use Rattle.balance.specs.inside.Lists.{list_at, appended}
 use Rattle.balance.specs.inside.Reaching.{pair_from, pair_to, Leads, AreLed, AreClosed, AreFollowers, IsQueue, IsMarked, AreMarked}
-use Rattle.balance.proofs.Searching.{trues_le, trues-set, trues-replicate, mark-replicate, mark_set, mark_kept, mark_only}
+use Rattle.balance.proofs.Searching.{trues_le, trues-set, trues-replicate, mark_set, mark_kept, mark_only}
 use Rattle.balance.proofs.Joints.{appended_here, appended_other, length-appended}
 
 pub path-append : (ends : List (ℕ × ℕ)) (xs ys : List ℕ) (a b c : ℕ) → IsPath ends a xs b → IsPath ends b ys c → IsPath ends a (xs ++ ys) c
@@ -111,11 +111,11 @@ queue_start actors some =
     let size : length bs ≡ actors = length-replicate actors false in
     let lt : 0 < length bs = omega arith in
     let empty : IsQueue [] bs = record {
-      queued = λ v on. absurd (false≢true (sym (mark-replicate actors v) ∙ on));
+      queued = λ v on. absurd (false≢true (sym (replicate-same actors v false) ∙ on));
       marked = λ j v at. absurd (none-some v at);
       count = trues-replicate actors;
     } in
-    queue_more 0 [] bs lt (mark-replicate actors 0) empty
+    queue_more 0 [] bs lt (replicate-same actors 0 false) empty
 
 -- one actor more was marked
 pub marked_more : (next : List ℕ) (n u : ℕ) (queue queue' queue'' : List ℕ) (marks marks' marks'' : List Bool) → slice_get next n ≡ Some u → u < length marks'
@@ -173,7 +173,7 @@ reach_start d ends actors some =
       root = mark_set bs 0 (omega arith);
       led = λ v on. elim (mark_only bs 0 v on) [
         | inl e ↦ subst (λ n. Leads d ends n) (sym e) (leads_none d ends)
-        | inr was ↦ absurd (false≢true (sym (mark-replicate actors v) ∙ was))
+        | inr was ↦ absurd (false≢true (sym (replicate-same actors v false) ∙ was))
       ];
       left = λ j v k e lt at is from. absurd (let none : ⊥ = omega arith in none);
     }

@@ -5,7 +5,7 @@ use Rattle.std.proofs.lemmas.List.{get_or_past, get_or_read, get_or-set_same, ge
 use Rattle.std.proofs.Math.Nat.{mul-le-mul_right}
 use Rattle.std.proofs.lemmas.Bool.{cases_Bool, cases_lt, cases_eq, false≢true}
 use Rattle.std.proofs.lemmas.Option.{same_Some, none-some, slice_get_within}
-use Rattle.sd_base.proofs.Lists.{get-pushed, get-left, get-last, get-there}
+use Rattle.sd_base.proofs.Lists.{get-pushed, get-left, get-last, get-there, replicate-same}
 use Rattle.balance.specs.declared.walk.WalkStep.{WalkStep}
 use Rattle.balance.specs.declared.walk.Link.{Link}
 use Rattle.balance.specs.declared.search.Found.{Found}
@@ -247,11 +247,6 @@ mark_within bs v on = elim (cases_lt v (length bs)) [
   | inr ge ↦ absurd (false≢true (sym (get_or_past bs v false ge) ∙ on))
 ]
 
-pub mark-replicate : (n v : ℕ) → mark_at (replicate n false) v ≡ false
-mark-replicate zero v = refl
-mark-replicate (suc n) zero = refl
-mark-replicate (suc n) (suc v) = mark-replicate n v
-
 pub mark_set : (bs : List Bool) (u : ℕ) → u < length bs → mark_at (slice_set bs u true) u ≡ true
 mark_set bs u lt = get_or-set_same bs u true false lt
 
@@ -458,7 +453,7 @@ started_by ls actors x some root none =
     record {
       marked = λ v on. elim (mark_only bs 0 v on) [
         | inl e ↦ (0, x, refl, root ∙ sym e)
-        | inr was ↦ absurd (false≢true (sym (mark-replicate actors v) ∙ was))
+        | inr was ↦ absurd (false≢true (sym (replicate-same actors v false) ∙ was))
       ];
       listed = λ j y at. (let e = single x y j at in
           subst (λ n. mark_at (slice_set bs 0 true) n ≡ true) (sym root ∙ sym (ap (λ (z : Entry). z.actor) e.1)) (mark_set bs 0 lt));
@@ -497,7 +492,7 @@ started ls actors x some root none =
       search = started_by ls actors e some refl refl;
       root = mark_set bs 0 lt;
       size = length-set bs 0 true ∙ size;
-      count = (let a = trues-set bs 0 lt (mark-replicate actors 0) in let b = trues-replicate actors in omega (arith, a, b));
+      count = (let a = trues-set bs 0 lt (replicate-same actors 0 false) in let b = trues-replicate actors in omega (arith, a, b));
     }
 
 -- at the end of the search

@@ -1,11 +1,11 @@
 -- What the rules of a file say of its shared rows, and the steps of the loops over them.
 use Rattle.std.proofs.Common.{◌≡◌, ℕ, suc, ◌+◌, ◌*◌, ◌≤◌, ◌<◌, Bool, true, false, Option, None, Some, List, [], ◌∷◌, ◌++◌, length, take, map, sum, ⊎_elim, subst, sym, ap, ◌∙◌, refl, arith}
-use Rattle.std.specs.Prelude.{All, MatchOption, ◌≢◌, flat_map, slice_get, slice_index, slice_index_or, if◌then◌else◌}
+use Rattle.std.specs.Prelude.{All, MatchOption, ◌≢◌, flat_map, slice_get, slice_index, if◌then◌else◌}
 use Rattle.std.specs.Option.{unwrap_or}
 use Rattle.std.proofs.Math.Nat.{mul-le-mul_right}
 use Rattle.std.proofs.lemmas.Bool.{cases_lt}
 use Rattle.std.proofs.lemmas.List.{get_or_past, length-append, take_more}
-use Rattle.std.proofs.lemmas.Option.{get_or_from_slice_get, slice_get-get_or, slice_get_within}
+use Rattle.std.proofs.lemmas.Option.{get_or_from_slice_get, slice_get_within}
 use Rattle.std.proofs.lemmas.List.Sums.{sum_by-append}
 use Rattle.sd_base.specs.declared.limits.TheConstants.{NODES, RATE, TOKENS}
 use Rattle.sd_base.specs.declared.tables.ChannelRow.{ChannelRow}
@@ -94,10 +94,6 @@ module _ (file : ScenarioFile) (rules : FileKeepsRules file) where
       omega (arith, few, few-tokens)
 
 -- ---- one row after another
-
--- the row that a loop over the shared rows is at
-pub row-at : (shared items : List SharedRow) (i : ℕ) (row : SharedRow) → items ≡ shared → i < length items → row ≡ slice_index_or items i row → slice_get shared i ≡ Some row
-row-at shared items i row same below is = subst (λ (l : List SharedRow). slice_get l i ≡ Some row) same (slice_get-get_or items i row below ∙ ap Some (sym is))
 
 take-row : (rows : List SharedRow) (i : ℕ) (row : SharedRow) → slice_get rows i ≡ Some row → take (i + 1) rows ≡ take i rows ++ row ∷ []
 take-row rows i row there = take_more rows i row (slice_get_within rows i row there) ∙ ap (λ (r : SharedRow). take i rows ++ r ∷ []) (get_or_from_slice_get rows i row row there)

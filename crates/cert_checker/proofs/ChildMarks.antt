@@ -1,9 +1,10 @@
 -- The marks of members that are children of others.
-use Rattle.std.proofs.Common.{◌≡◌, ◌≢◌, ℕ, zero, suc, ◌+◌, ◌≤◌, ◌<◌, ◌↔◌, ◌⊎◌, Bool, true, false, Option, Some, List, length, inl, inr, ⊎_elim, sym, refl, subst, ap, ◌∙◌, true≢false, arith}
+use Rattle.std.proofs.Common.{◌≡◌, ◌≢◌, ℕ, ◌+◌, ◌≤◌, ◌<◌, ◌↔◌, ◌⊎◌, Bool, true, false, Option, Some, List, length, inl, inr, ⊎_elim, sym, subst, ap, ◌∙◌, true≢false, arith}
 use Rattle.std.proofs.Math.ListN.{replicate}
 use Rattle.std.proofs.lemmas.Bool.{cases_lt}
 use Rattle.std.proofs.lemmas.List.{length-replicate}
 use Rattle.sd_base.specs.Net.{Net}
+use Rattle.sd_base.proofs.Lists.{replicate-same}
 use Rattle.storage.specs.Distributions.{storage_of}
 use Rattle.cert_text.specs.declared.certificates.MemberLine.{MemberLine}
 use Rattle.cert_text.specs.declared.certificates.StorageCertificate.{StorageCertificate}
@@ -34,15 +35,10 @@ module _ (net : Net) (c : StorageCertificate) (known : Known) where
   first-none marks is = (
     ap length is ∙ length-replicate (length c.members) false,
     λ ds i number. (
-      λ on. absurd (true≢false (sym on ∙ (ap (λ (ms : List Bool). mark_at ms i) is ∙ get_or-replicate i (length c.members)))),
+      λ on. absurd (true≢false (sym on ∙ (ap (λ (ms : List Bool). mark_at ms i) is ∙ replicate-same (length c.members) i false))),
       λ at. absurd (omega (arith, at.1)),
     ),
   )
-    where
-      get_or-replicate : (i n : ℕ) → mark_at (replicate n false) i ≡ false
-      get_or-replicate i zero = refl
-      get_or-replicate zero (suc n) = refl
-      get_or-replicate (suc i) (suc n) = get_or-replicate i n
 
   -- those of one more member
   pub first-more : (n : ℕ) (old new : List Bool) → AreFirst net c known n old → AreMarked net c known (member_at c.members n) old (length net.channels) new → AreFirst net c known (n + 1) new

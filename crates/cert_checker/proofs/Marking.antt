@@ -1,13 +1,13 @@
 -- Marking reachable nodes.
-use Rattle.std.proofs.Common.{◌≡◌, ◌≢◌, ℕ, zero, suc, ◌+◌, ◌-◌, ◌*◌, ◌≤◌, ◌<◌, ◌↔◌, Bool, true, false, true≢false, mul-le-mul_right, ltb-true, lt-ltb, List, [], ◌∷◌, ◌++◌, length, set, refl, sym, ap, subst, ◌∙◌, ⊎_elim, inl, inr, ◌⊎◌, arith}
+use Rattle.std.proofs.Common.{◌≡◌, ◌≢◌, ℕ, zero, suc, ◌+◌, ◌-◌, ◌*◌, ◌≤◌, ◌<◌, ◌↔◌, Bool, true, false, true≢false, ltb-true, lt-ltb, List, [], ◌∷◌, ◌++◌, length, set, refl, sym, ap, subst, ◌∙◌, ⊎_elim, arith}
 use Rattle.std.specs.Prelude.{slice_get, slice_index_or, Some, IsTrue, nat_lt}
-use Rattle.std.proofs.lemmas.Bool.{cases_lt}
+use Rattle.std.proofs.lemmas.Bool.{cases_lt, cases_eq}
 use Rattle.std.proofs.lemmas.Option.{slice_get_within, slice_get-get_or}
 use Rattle.std.proofs.lemmas.List.{get_or-set_other, get_or_past, get_or_append_left, get_or_push}
 use Rattle.automaton.specs.declared.graph.Edge.{Edge}
 use Rattle.automaton.specs.declared.graph.TimedGraph.{TimedGraph}
 use Rattle.automaton.specs.CriticalCycles.{IsPath, IsReachedNode, IsStart}
-use Rattle.automaton.proofs.Walks.{path-append}
+use Rattle.automaton.proofs.Walks.{path-append, start-inside}
 use Rattle.automaton.specs.SoundGraphs.{IsSound}
 use Rattle.cert_checker.specs.inside.Marks.{mark_at, unmarked, AreSoundMarks, AreKept, IsKept, HasStarts, AreReached}
 
@@ -19,15 +19,12 @@ unmarked-set (false ∷ ms) zero below off = refl
 unmarked-set (true ∷ ms) (suc i) below off = unmarked-set ms i (omega arith) off
 unmarked-set (false ∷ ms) (suc i) below off = ap suc (unmarked-set ms i (omega arith) off)
 
-pub cases-eq : (i j : ℕ) → (i ≡ j) ⊎ (i ≢ j)
-cases-eq i j = ⊎_elim (λ (less : i < j). inr (λ e. omega arith)) (λ (more : j ≤ i). ⊎_elim (λ (less : j < i). inr (λ e. omega arith)) (λ (no_more : i ≤ j). inl (omega arith)) (cases_lt j i)) (cases_lt i j)
-
 -- one more node that is reached
 pub sound-more : (graph : TimedGraph) (marks : List Bool) (i : ℕ) → i < length marks → IsReachedNode graph i → AreSoundMarks graph marks → AreSoundMarks graph (set marks i true)
 sound-more graph marks i below reached sound v on = ⊎_elim
     (λ (same : v ≡ i). subst (IsReachedNode graph) (sym same) reached)
     (λ (other : v ≢ i). sound v (sym (get_or-set_other marks i v true false other) ∙ on))
-    (cases-eq v i)
+    (cases_eq v i)
 
 pub reached-on : (graph : TimedGraph) (k : ℕ) (e : Edge) → slice_get graph.edges k ≡ Some e → IsReachedNode graph e.from → IsReachedNode graph e.to
 reached-on graph k e is (u, ks, start, path) = (u, ks ++ k ∷ [], start, path-append graph.edges ks (k ∷ []) u e.from e.to path (e, is, refl, refl))
@@ -70,12 +67,6 @@ starts-more graph old new n b long so_far is pushed v below = ⊎_elim
     let same : mark_at new v ≡ b = ap (λ (ms : List Bool). mark_at ms v) pushed ∙ get_or_push old b false v (sym e) in
     ((λ on. subst (IsStart graph) at (is.0 (sym same ∙ on))), (λ start. same ∙ is.1 (subst (IsStart graph) (sym at) start))))
     (cases_lt v n)
-
--- nodes of the initial state are nodes
-pub start-inside : (graph : TimedGraph) → graph.initial < graph.states → (v : ℕ) → IsStart graph v → v < graph.states * graph.tokens
-start-inside graph some v (i, less, at) =
-    let le : (graph.initial + 1) * graph.tokens ≤ graph.states * graph.tokens = mul-le-mul_right graph.tokens (omega arith) in
-    omega arith
 
 -- so marks of the first nodes are those of all
 pub starts-all : (graph : TimedGraph) (marks : List Bool) (n : ℕ) → graph.initial < graph.states → length marks ≡ n → n ≡ graph.states * graph.tokens → ((v : ℕ) → v < n → (mark_at marks v ≡ true) ↔ IsStart graph v)

@@ -5,6 +5,7 @@ use Rattle.std.specs.List.{flat_map, sum_by}
 use Rattle.std.specs.Fmt.{decimal}
 use Rattle.std.proofs.lemmas.List.Concat.{length-flat_map}
 use Rattle.std.proofs.lemmas.List.Sums.{sum-map, sum_by-cons}
+use Rattle.std.proofs.Math.Seq.{take-length}
 use Rattle.periodic.specs.declared.schedule.Periodic.{Periodic}
 use Rattle.cert_text.specs.declared.certificates.Certificate.TheVariants.{Storage}
 use Rattle.cert_text.specs.declared.certificates.LinkCycle.{LinkCycle}
@@ -21,7 +22,6 @@ use Rattle.cert_text.specs.MemberLines.{blocked_line, capacity_text, cycle_at, m
 use Rattle.cert_text.specs.Spelling.{end_line, cycle_list, lines_after, member_list, point_list, spelling, storage_kind, storage_lines, storage_lists}
 use Rattle.cert_checker.specs.StorageLines.{cycle_size, cycles_size, member_size, point_size, shown_size}
 use Rattle.cert_checker.specs.StorageLines as sizes
-use Rattle.cert_checker.proofs.StorageFirsts.{take-all}
 
 -- ---- pieces of texts
 
@@ -183,4 +183,4 @@ lines-fit version c =
     let two = both (overlap_line c.no_overlap) (limit_line c.limit ++ (cycle_list version c.cycles ++ (member_list version c.cycles c.members ++ (point_list c.points ++ end_line)))) 1 _ (overlap-long c.no_overlap) one in
     let three = both storage_kind (overlap_line c.no_overlap ++ (limit_line c.limit ++ (cycle_list version c.cycles ++ (member_list version c.cycles c.members ++ (point_list c.points ++ end_line))))) 1 _ kind-long two in
     let four = both (version_line version) (storage_kind ++ (overlap_line c.no_overlap ++ (limit_line c.limit ++ (cycle_list version c.cycles ++ (member_list version c.cycles c.members ++ (point_list c.points ++ end_line)))))) 1 _ (head-long version) three in
-    omega (arith, four, ap (λ (ms : List MemberLine). sum (map (member_size version c.cycles) ms)) (take-all c.members), ap (λ (ps : List PointLine). sum (map point_size ps)) (take-all c.points))
+    omega (arith, four, ap (λ (ms : List MemberLine). sum (map (member_size version c.cycles) ms)) (take-length c.members), ap (λ (ps : List PointLine). sum (map point_size ps)) (take-length c.points))

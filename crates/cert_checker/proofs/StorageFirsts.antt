@@ -1,7 +1,7 @@
 -- The first fault of a certificate of a trade-off, from those of its parts.
 use Rattle.std.proofs.Common.{◌≡◌, ℕ, zero, suc, ◌+◌, ◌-◌, ◌≤◌, ◌<◌, ◌⊎◌, List, [], ◌∷◌, length, map, take, inl, inr, ⊎_elim, sym, refl, subst, ap, ap₂, ◌∙◌, arith}
 use Rattle.std.specs.Prelude.{sum, slice_index_or, ◌==◌, cond, Bool, true, false}
-use Rattle.std.proofs.Math.Seq.{take-suc}
+use Rattle.std.proofs.Math.Seq.{take-suc, take-length}
 use Rattle.std.proofs.lemmas.Bool.{cases_lt, eqb-true}
 use Rattle.std.specs.List.{sum_by}
 use Rattle.std.proofs.lemmas.List.Sums.{sum-map, sum_by-append}
@@ -46,10 +46,6 @@ module _ {A : Type 0} (f : A → ℕ) (xs : List A) (d : A) where
       let on_j : sum (map f (take (suc i) xs)) ≤ sum (map f (take j xs)) = subst (λ (n : ℕ). sum (map f (take (suc i) xs)) ≤ sum (map f (take n xs))) e on in
       omega (arith, step, on_j)
 
-pub take-all : {A : Type 0} (xs : List A) → take (length xs) xs ≡ xs
-take-all [] = refl
-take-all (x ∷ xs) = ap (λ (ys : List _). x ∷ ys) (take-all xs)
-
 -- the lines of the first cycles and of one more are lines of the cycles
 pub cycles-fit : (version : ℕ) (cs : List LinkCycle) (i : ℕ) (x : LinkCycle) → (version ≡ 1 → ⊥) → i < length cs → x ≡ slice_index_or cs i x → 1 + sum (map cycle_size (take i cs)) + cycle_size x ≤ cycles_size version cs
 cycles-fit version cs i x other below is = at (version == 1) refl
@@ -60,7 +56,7 @@ cycles-fit version cs i x other below is = at (version == 1) refl
     at : (b : Bool) → (version == 1) ≡ b → 1 + sum (map cycle_size (take i cs)) + cycle_size x ≤ cond b 0 (1 + sum (map cycle_size cs))
     at true same = absurd (other (eqb-true version 1 same))
     at false same =
-        let all : sum (map cycle_size (take (length cs) cs)) ≡ sum (map cycle_size cs) = ap (λ (ys : List LinkCycle). sum (map cycle_size ys)) (take-all cs) in
+        let all : sum (map cycle_size (take (length cs) cs)) ≡ sum (map cycle_size cs) = ap (λ (ys : List LinkCycle). sum (map cycle_size ys)) (take-length cs) in
         let here : cycle_size x ≡ cycle_size (slice_index_or cs i x) = ap cycle_size is in
         omega (arith, room, all, here)
 

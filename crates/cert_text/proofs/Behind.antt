@@ -6,11 +6,11 @@ use Rattle.cert_text.specs.declared.reading.fault.Fault.{Fault}
 use Rattle.cert_text.specs.declared.reading.fault.Fault.TheVariants.{Form}
 use Rattle.cert_text.specs.Fields.{behind, ended}
 
-abbrev fine : List ℕ → Result (List ℕ) Fault
+abbrev pub fine : {A : Type 0} → A → Result A Fault
 fine x = Ok x
 
-ok_is : (a b : List ℕ) → fine a ≡ fine b → a ≡ b
-ok_is a b e = cc
+pub ok-is : {A : Type 0} (x y : A) → fine x ≡ fine y → x ≡ y
+ok-is x y e = cc
 
 head-is : (a b : ℕ) (xs ys : List ℕ) → a ∷ xs ≡ b ∷ ys → a ≡ b
 head-is a b xs ys e = cc
@@ -46,7 +46,7 @@ behind-other (c ∷ w) (b ∷ text) other = step (b == c) refl (behind-other w t
 
 pub behind-sound : (w text left : List ℕ) → behind w text ≡ Ok left → text ≡ w ++ left
 unfolding behind
-behind-sound [] text left read = ok_is text left read
+behind-sound [] text left read = ok-is text left read
 behind-sound (c ∷ w) [] left read = absurd cc
 behind-sound (c ∷ w) (b ∷ text) left read = by_test (b == c) refl read (behind-sound w text left)
   where

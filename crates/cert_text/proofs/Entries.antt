@@ -15,7 +15,7 @@ use Rattle.cert_text.specs.Fields.{behind, number_in, ended, entries_of, each_by
 use Rattle.cert_text.specs.LineForms.{spaced_number_in, numbers_due, limited_long, capacity_in, capacity_limited, capacities_due, hyphen_or_number_in}
 use Rattle.cert_text.specs.MemberLines.{capacity_text, member_line}
 use Rattle.cert_text.specs.NumberLines.{spaced, numbers_line}
-use Rattle.cert_text.proofs.Behind.{behind-sound, ended-sound}
+use Rattle.cert_text.proofs.Behind.{behind-sound, ended-sound, fine, ok-is}
 use Rattle.cert_text.proofs.Numerals.{number-sound}
 
 -- what stands in front was read, and the rest of the text is
@@ -136,15 +136,9 @@ if-ok P (Err e) read is sound = tt
 
 -- ---- what is read is spelled so
 
-pub bind-ok : {A B : Type 0} (r : Result A Fault) (f : A → Result B Fault) (y : B) → (r >>= f) ≡ Ok y → (x : A) × (r ≡ Ok x) × (f x ≡ Ok y)
+pub bind-ok : {A B E : Type 0} (r : Result A E) (f : A → Result B E) (y : B) → (r >>= f) ≡ Ok y → (x : A) × (r ≡ Ok x) × (f x ≡ Ok y)
 bind-ok (Ok x) f y e = (x, refl, e)
 bind-ok (Err d) f y e = absurd cc
-
-abbrev fine : {A : Type 0} → A → Result A Fault
-fine x = Ok x
-
-pub ok-is : {A : Type 0} (x y : A) → fine x ≡ fine y → x ≡ y
-ok-is x y e = cc
 
 pub entries-sound : {A : Type 0} (f : List ℕ → Result (A × List ℕ) Fault) (spell : A → List ℕ) (P : A → Type 0) → ((text : List ℕ) (x : A) (left : List ℕ) → f text ≡ Ok (x, left) → P x → text ≡ spell x ++ left)
     → (fuel : ℕ) (text : List ℕ) (xs : List A) → entries_of f fuel text ≡ Ok xs → AllByRecursion P xs → text ≡ flat_map spell xs ++ 10 ∷ []

@@ -1,9 +1,8 @@
 -- Digits of numbers, from the left.
-use Rattle.std.proofs.Common.{◌≡◌, ℕ, zero, suc, ◌+◌, ◌-◌, ◌*◌, ◌/◌, ◌%◌, ◌^◌, ◌<◌, ◌≤◌, Bool, true, false, List, [], ◌∷◌, ◌++◌, length, take, drop, get_or, Result, Ok, Err, refl, sym, ap, ◌∙◌, subst, arith, length-take, length-take-le, length-drop, inl, inr}
+use Rattle.std.proofs.Common.{◌≡◌, ℕ, zero, suc, ◌+◌, ◌-◌, ◌*◌, ◌/◌, ◌%◌, ◌^◌, ◌<◌, ◌≤◌, Bool, true, false, List, [], ◌∷◌, ◌++◌, length, take, drop, get_or, Ok, Err, refl, sym, ap, ◌∙◌, subst, arith, length-take, length-take-le, length-drop, inl, inr}
 use Rattle.std.specs.List.{fold, position_or_len}
 use Rattle.std.proofs.lemmas.List.{take-append-drop, take_all, get_or-take, get_or-drop}
 use Rattle.std.proofs.lemmas.List.Sums.{fold-append, position_or_len_is, fails_before_first}
-use Rattle.cert_text.specs.declared.reading.fault.Fault.{Fault}
 use Rattle.cert_text.specs.declared.reading.fault.Fault.TheVariants.{Form}
 use Rattle.cert_text.specs.Fields.{number_value, number_in, is_numeral, is_other}
 use Rattle.std.specs.Prelude.{slice_index}
@@ -14,6 +13,7 @@ use Rattle.std.proofs.lemmas.Bool.{eqb-false, leb-true, le-leb, lt-ltb, le-ltb, 
 use Rattle.std.specs.Prelude.{not, ◌&&◌, ◌==◌, if◌then◌else◌}
 use Rattle.std.proofs.Math.Dec.{leb, ltb}
 use Rattle.cert_text.specs.Digits.{IsDigit, IsNumeral}
+use Rattle.cert_text.proofs.Behind.{fine, ok-is}
 
 -- a digit behind those of a number
 digit-behind : (n d : ℕ) → d < 10 → 0 < n → n * 10 + d < 10 ^ 64 → decimal (n * 10 + d) ≡ decimal n ++ (48 + d) ∷ []
@@ -45,14 +45,8 @@ pub above-more : (ds : List ℕ) (i n d : ℕ) → IsNumeral ds → i < length d
 above-more ds zero n d numeral within is above long = let first = numeral.zeros long in omega (arith, first, is)
 above-more ds (suc i) n d numeral within is above long = let some : 0 < n = above (omega arith) long in omega (arith, some)
 
-abbrev fine : ℕ × List ℕ → Result (ℕ × List ℕ) Fault
-fine x = Ok x
-
 abbrev step : ℕ → ℕ → ℕ
 step n d = n * 10 + (d - 48)
-
-pair_is : (a b : ℕ × List ℕ) → fine a ≡ fine b → a ≡ b
-pair_is a b e = cc
 
 -- the value of one digit more
 pub value-more : (ds : List ℕ) (i : ℕ) → i < length ds → number_value (take (i + 1) ds) ≡ number_value (take i ds) * 10 + (slice_index ds i - 48)
@@ -159,7 +153,7 @@ number-sound text n left read small = by_test (is_numeral (take (position_or_len
     by_test true test e =
         let p : ℕ = position_or_len is_other text in
         let ds : List ℕ = take p text in
-        let both : (number_value ds, drop p text) ≡ (n, left) = pair_is (number_value ds, drop p text) (n, left) e in
+        let both : (number_value ds, drop p text) ≡ (n, left) = ok-is (number_value ds, drop p text) (n, left) e in
         let is : number_value ds ≡ n = ap (λ (q : ℕ × List ℕ). q.0) both in
         let back : drop p text ≡ left = ap (λ (q : ℕ × List ℕ). q.1) both in
         let size : length ds ≤ p = omega (arith, length-take p text) in

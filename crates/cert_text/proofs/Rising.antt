@@ -13,8 +13,8 @@ use Rattle.cert_text.specs.Collected.{collected, one_more}
 use Rattle.cert_text.specs.Fields.{behind, number_in, ended, entries_of, each_by}
 use Rattle.cert_text.specs.LineForms.{buffer_in, buffer_limited, limited_short, limited_long, rises, some_buffers_due}
 use Rattle.cert_text.specs.Spellable.{Rise}
-use Rattle.cert_text.proofs.Behind.{behind-sound}
-use Rattle.cert_text.proofs.Entries.{Goes, goes-more, goes-ends, each-more, bind-ok, ok-is, limited-is, entries-sound}
+use Rattle.cert_text.proofs.Behind.{behind-sound, ok-is}
+use Rattle.cert_text.proofs.Entries.{Goes, goes-more, goes-ends, each-more, bind-ok, limited-is, entries-sound}
 use Rattle.cert_text.proofs.Numerals.{number-sound}
 
 abbrev pub if_rising : List (ℕ × ℕ) → Result (List (ℕ × ℕ)) Fault

@@ -21,12 +21,9 @@ use Rattle.cert_text.specs.Reads.{◌>>=◌}
 use Rattle.cert_text.specs.ScenarioLines.{node_line, nodes_header, potential_line}
 use Rattle.cert_text.specs.ScheduleLines.{schedule_header}
 use Rattle.cert_text.specs.Spellable.{HasText}
-use Rattle.cert_text.proofs.Behind.{behind-sound, ended-sound}
-use Rattle.cert_text.proofs.Entries.{bind-ok, ok-is, limited-is}
+use Rattle.cert_text.proofs.Behind.{behind-sound, ended-sound, fine, ok-is}
+use Rattle.cert_text.proofs.Entries.{bind-ok, limited-is}
 use Rattle.cert_text.proofs.Numerals.{number-sound}
-
-abbrev fine : {A : Type 0} → A → Result A Fault
-fine x = Ok x
 
 -- ---- lines of words and numbers
 

@@ -23,14 +23,14 @@ use Rattle.cert_text.specs.Reads.{Reads, ◌>>=◌, in_front, next_by, handing}
 use Rattle.cert_text.specs.Sections.{cycle_from, same_cycle, place_of, with_cycle, new_cycle_from, new_cycles_from, cycles_from, blocked_from, listed_from, numbered_from, member_from, members_from, naming_from, named_from, explored_from, points_from, finish, storage_from}
 use Rattle.cert_text.specs.Spellable.{AreShown, IsStorageSpellable}
 use Rattle.cert_text.specs.Spelling.{cycle_list, member_list, point_list, end_line, storage_lists}
-use Rattle.cert_text.proofs.Entries.{numbers-sound}
+use Rattle.cert_text.proofs.Entries.{numbers-sound, bind-ok}
 use Rattle.cert_text.proofs.FoundCycles.{differ-more}
 use Rattle.cert_text.proofs.ListedCycles.{listed-text, listed-cycle, listed-blocked}
 use Rattle.cert_text.proofs.ReadMembers.{IsGoodMember, AreGood}
 use Rattle.cert_text.proofs.ReadSections.{IsGoodCycle}
 use Rattle.cert_text.proofs.SoundEntries.{capacities-line-sound}
 use Rattle.cert_text.proofs.SoundLines.{rate-sound, numbered-sound, same-is}
-use Rattle.cert_text.proofs.SoundSections.{joined, Was, then-ok, reads, reads-is, next-was, worded-was, overlap-was, cycle-was, points-was, finish-was}
+use Rattle.cert_text.proofs.SoundSections.{joined, Was, reads, reads-is, next-was, worded-was, overlap-was, cycle-was, points-was, finish-was}
 use Rattle.cert_text.proofs.Texts.{all-pushed}
 use Rattle.cert_text.proofs.Times.{in-front-ok}
 use Rattle.cert_text.proofs.Uses.{used_next}
@@ -53,7 +53,7 @@ new-cycle-was : (old : List LinkCycle) (lines : List (List ℕ)) (all : List Lin
     → (c : LinkCycle) × (all ≡ old ++ c ∷ []) × (list_any (same_cycle c) old ≡ false) × Was cycle_lines IsGoodCycle lines c left
 unfolding new_cycle_from
 new-cycle-was old lines all left e =
-    let a = then-ok (cycle_from lines) (one_new old lines) (all, left) e in
+    let a = bind-ok (cycle_from lines) (one_new old lines) (all, left) e in
     let h = cycle-was lines a.0.0 a.0.1 a.1 in
     split a.0.0 a.0.1 h (list_any (same_cycle a.0.0) old) refl a.2
   where
@@ -70,7 +70,7 @@ new-cycles-was zero old lines all left e =
     subst (λ (r : List LinkCycle × List (List ℕ)). AreNew 0 old lines r.0 r.1) (reads-is (old, lines) (all, left) e)
     (record { cycles = []; many = refl; made = sym (append-nil old); spelled = refl; good = tt; differ = λ h. h })
 new-cycles-was (suc n) old lines all left e =
-    let a = then-ok (new_cycle_from old lines) (λ more. new_cycles_from n more.0 more.1) (all, left) e in
+    let a = bind-ok (new_cycle_from old lines) (λ more. new_cycles_from n more.0 more.1) (all, left) e in
     let c = new-cycle-was old lines a.0.0 a.0.1 a.1 in
     let rest = new-cycles-was n a.0.0 a.0.1 all left a.2 in
     let first = c.3 in
@@ -96,7 +96,7 @@ no-cycles i j less within = absurd (omega (arith, within))
 cycles-was : (lines : List (List ℕ)) (cycles : List LinkCycle) (left : List (List ℕ)) → cycles_from lines ≡ Ok (cycles, left) → IsCycleList lines cycles left
 unfolding cycles_from cycles_line
 cycles-was lines cycles left e =
-    let a = then-ok (next_by (worded_due (codes "cycles ")) lines) (λ count. new_cycles_from count.0 [] count.1) (cycles, left) e in
+    let a = bind-ok (next_by (worded_due (codes "cycles ")) lines) (λ count. new_cycles_from count.0 [] count.1) (cycles, left) e in
     let first = worded-was (codes "cycles ") lines a.0.0 a.0.1 a.1 in
     let h = new-cycles-was a.0.0 [] a.0.1 cycles left a.2 in
     let back : h.cycles ≡ cycles = sym h.made in
@@ -124,7 +124,7 @@ record IsBlocked (lines : List (List ℕ)) (counts : List ℕ) (left : List (Lis
 blocked-was : {S : Type 0} (known : S) (lines : List (List ℕ)) (r : S × MemberShown) (left : List (List ℕ)) → blocked_from known lines ≡ Ok (r, left) → (counts : List ℕ) × (blocked_made known counts ≡ r) × IsBlocked lines counts left
 unfolding blocked_from
 blocked-was {S} known lines r left e =
-    let a = then-ok (next_by (numbers_due 18446744073709551615) lines) (λ counts. reads (blocked_made known counts.0) counts.1) (r, left) e in
+    let a = bind-ok (next_by (numbers_due 18446744073709551615) lines) (λ counts. reads (blocked_made known counts.0) counts.1) (r, left) e in
     let h = next-was (numbers_due 18446744073709551615) numbers_line (λ counts. (0 < length counts) × All IsLong counts) (λ line counts g. let s = numbers-sound 18446744073709551615 line counts (omega arith) g in (s.0, (s.1, s.2))) lines a.0.0 a.0.1 a.1 in
     let is = reads-is (blocked_made known a.0.0, a.0.1) (r, left) a.2 in
     let counts : List ℕ = a.0.0 in
@@ -165,7 +165,7 @@ numbered-was cycles all used many (line ∷ ls) r left e = split (same line bloc
           shown = b.some;
         })
     split false test g =
-        let a = then-ok (in_front (numbered_rate_due used all line) ls) (λ q. reads (named_made used q.0) q.1) (r, left) g in
+        let a = bind-ok (in_front (numbered_rate_due used all line) ls) (λ q. reads (named_made used q.0) q.1) (r, left) g in
         let both = in-front-ok (numbered_rate_due used all line) a.0.0 ls a.0.1 a.1 in
         let h = numbered-sound used all line a.0.0 many both.0 in
         let fits = h.1 in
@@ -212,10 +212,10 @@ listed-was old (line ∷ ls) r left e = split (same line blocked_line) refl e
         let text : (later : List LinkCycle) → joined (line ∷ ls) ≡ shown_lines 1 (old ++ later) (Blocked h.0) ++ joined left = λ later. blocked-text (old ++ later) line ls left h.0 (same-is line blocked_line test) b.spelled in
         subst (λ (q : List LinkCycle × MemberShown). IsListedSo old (line ∷ ls) q.0 q.1 left) h.1 (record { spelled = text; listed = listed-blocked old h.0 b.some; within = b.within; good = λ all. all })
     split false test g =
-        let a = then-ok (in_front (rate_due line) ls) (λ q. cycle_from q.1 >>= λ y. reads (listed_made old q.0 y.0) y.1) (r, left) g in
+        let a = bind-ok (in_front (rate_due line) ls) (λ q. cycle_from q.1 >>= λ y. reads (listed_made old q.0 y.0) y.1) (r, left) g in
         let both = in-front-ok (rate_due line) a.0.0 ls a.0.1 a.1 in
         let h = rate-sound line a.0.0 both.0 in
-        let b = then-ok (cycle_from a.0.1) (λ y. reads (listed_made old a.0.0 y.0) y.1) (r, left) a.2 in
+        let b = bind-ok (cycle_from a.0.1) (λ y. reads (listed_made old a.0.0 y.0) y.1) (r, left) a.2 in
         let y = cycle-was a.0.1 b.0.0 b.0.1 b.1 in
         let c : LinkCycle = b.0.0 in
         let mid : joined ls ≡ cycle_lines c ++ joined b.0.1 = ap (λ (l : List (List ℕ)). joined l) both.1 ∙ y.spelled in
@@ -246,8 +246,8 @@ member-was : {S : Type 0} (shown_from : S → List (List ℕ) → Reads (S × Me
     → IsMemberRead shown_from known lines r.0 r.1 left
 unfolding member_from
 member-was {S} shown_from known lines r left e =
-    let a = then-ok (next_by capacities_due lines) (λ cs. shown_from known cs.1 >>= λ s. reads (member_made cs.0 s.0) s.1) (r, left) e in
-    let b = then-ok (shown_from known a.0.1) (λ s. reads (member_made a.0.0 s.0) s.1) (r, left) a.2 in
+    let a = bind-ok (next_by capacities_due lines) (λ cs. shown_from known cs.1 >>= λ s. reads (member_made cs.0 s.0) s.1) (r, left) e in
+    let b = bind-ok (shown_from known a.0.1) (λ s. reads (member_made a.0.0 s.0) s.1) (r, left) a.2 in
     let first = next-was capacities_due member_line (All IsCapacityWithin) capacities-line-sound lines a.0.0 a.0.1 a.1 in
     subst (λ (q : (S × MemberLine) × List (List ℕ)). IsMemberRead shown_from known lines q.0.0 q.0.1 q.1) (reads-is (member_made a.0.0 b.0.0, b.0.1) (r, left) b.2)
     (record { behind = a.0.1; spelled = first.spelled; within = first.fits; shown = b.1 })
@@ -267,8 +267,8 @@ module _ {S : Type 0} (f : S → List (List ℕ) → Reads (S × MemberLine)) wh
       let made : S × List MemberLine = (s, []) in
       subst (λ (q : (S × List MemberLine) × List (List ℕ)). (length q.0.1 ≡ 0) × Chain s lines q.0.1 q.0.0 q.1) (reads-is (made, lines) (r, left) e) (refl, (refl, refl))
   handing-was (suc n) s lines r left e =
-      let a = then-ok (f s lines) (λ x. handing f n x.0.0 x.1 >>= λ xs. reads (handed x.0.1 xs.0) xs.1) (r, left) e in
-      let b = then-ok (handing f n a.0.0.0 a.0.1) (λ xs. reads (handed a.0.0.1 xs.0) xs.1) (r, left) a.2 in
+      let a = bind-ok (f s lines) (λ x. handing f n x.0.0 x.1 >>= λ xs. reads (handed x.0.1 xs.0) xs.1) (r, left) e in
+      let b = bind-ok (handing f n a.0.0.0 a.0.1) (λ xs. reads (handed a.0.0.1 xs.0) xs.1) (r, left) a.2 in
       let rest = handing-was n a.0.0.0 a.0.1 b.0.0 b.0.1 b.1 in
       subst (λ (q : (S × List MemberLine) × List (List ℕ)). (length q.0.1 ≡ suc n) × Chain s lines q.0.1 q.0.0 q.1) (reads-is (handed a.0.0.1 b.0.0, b.0.1) (r, left) b.2)
       (ap (λ (k : ℕ). suc k) rest.0, (a.0.0.0, a.0.1, a.1, rest.1))
@@ -372,7 +372,7 @@ members-was : {S : Type 0} (shown_from : S → List (List ℕ) → Reads (S × M
     → (behind : List (List ℕ)) × (joined lines ≡ members_line (length r.1) ++ joined behind) × IsLong (length r.1) × Chain (member_from shown_from) known behind r.1 r.0 left
 unfolding members_from members_line
 members-was shown_from known lines r left e =
-    let a = then-ok (next_by (worded_due (codes "members ")) lines) (λ count. handing (member_from shown_from) count.0 known count.1) (r, left) e in
+    let a = bind-ok (next_by (worded_due (codes "members ")) lines) (λ count. handing (member_from shown_from) count.0 known count.1) (r, left) e in
     let first = worded-was (codes "members ") lines a.0.0 a.0.1 a.1 in
     let h = handing-was (member_from shown_from) a.0.0 known a.0.1 r left a.2 in
     let many : a.0.0 ≡ length r.1 = sym h.0 in
@@ -434,7 +434,7 @@ naming-last all next ms more ns left e = split (nat_lt next all) refl e
 naming-was : (cycles : List LinkCycle) (all : ℕ) → IsLong all → (lines : List (List ℕ)) (ms : List MemberLine) (left : List (List ℕ)) → naming_from all lines ≡ Ok (ms, left) → AreNaming cycles all lines ms left
 unfolding naming_from member_list
 naming-was cycles all many lines ms left e =
-    let a = then-ok (members_from (numbered_from all) 0 lines) (naming_then all) (ms, left) e in
+    let a = bind-ok (members_from (numbered_from all) 0 lines) (naming_then all) (ms, left) e in
     let h = members-was (numbered_from all) 0 lines a.0.0 a.0.1 a.1 in
     let c = named-chain cycles all many a.0.0.1 0 h.0 a.0.0.0 a.0.1 h.3 in
     let last = naming-last all a.0.0.0 a.0.0.1 a.0.1 ms left a.2 in
@@ -453,8 +453,8 @@ naming-was cycles all many lines ms left e =
 named-was : (lines : List (List ℕ)) (r : List LinkCycle × List MemberLine) (left : List (List ℕ)) → named_from lines ≡ Ok (r, left) → IsExploredSo 2 lines r.0 r.1 left
 unfolding named_from cycle_list
 named-was lines r left e =
-    let a = then-ok (cycles_from lines) (λ cs. naming_from (length cs.0) cs.1 >>= λ ms. reads (pair_made cs.0 ms.0) ms.1) (r, left) e in
-    let b = then-ok (naming_from (length a.0.0) a.0.1) (λ ms. reads (pair_made a.0.0 ms.0) ms.1) (r, left) a.2 in
+    let a = bind-ok (cycles_from lines) (λ cs. naming_from (length cs.0) cs.1 >>= λ ms. reads (pair_made cs.0 ms.0) ms.1) (r, left) e in
+    let b = bind-ok (naming_from (length a.0.0) a.0.1) (λ ms. reads (pair_made a.0.0 ms.0) ms.1) (r, left) a.2 in
     let first = cycles-was lines a.0.0 a.0.1 a.1 in
     let rest = naming-was a.0.0 (length a.0.0) first.many a.0.1 b.0.0 b.0.1 b.1 in
     let line : List ℕ = cycles_line (length a.0.0) in
@@ -482,10 +482,10 @@ pub storage-was : (version : ℕ) → (version ≡ 1) ⊎ (version ≡ 2) → (l
     → (joined lines ≡ storage_text version c) × IsStorageWithin c × IsStorageSpellable c × IsStorageOrderly c
 unfolding storage_from storage_lists limit_line
 storage-was version is lines c left e =
-    let o = then-ok (next_by overlap_due lines) (λ o. next_by (worded_due (codes "limit ")) o.1 >>= λ l. explored_from version l.1 >>= λ x. points_from x.1 >>= λ p. finish (storage_made o.0 l.0 x.0 p.0) p.1) (c, left) e in
-    let l = then-ok (next_by (worded_due (codes "limit ")) o.0.1) (λ l. explored_from version l.1 >>= λ x. points_from x.1 >>= λ p. finish (storage_made o.0.0 l.0 x.0 p.0) p.1) (c, left) o.2 in
-    let x = then-ok (explored_from version l.0.1) (λ x. points_from x.1 >>= λ p. finish (storage_made o.0.0 l.0.0 x.0 p.0) p.1) (c, left) l.2 in
-    let p = then-ok (points_from x.0.1) (λ p. finish (storage_made o.0.0 l.0.0 x.0.0 p.0) p.1) (c, left) x.2 in
+    let o = bind-ok (next_by overlap_due lines) (λ o. next_by (worded_due (codes "limit ")) o.1 >>= λ l. explored_from version l.1 >>= λ x. points_from x.1 >>= λ p. finish (storage_made o.0 l.0 x.0 p.0) p.1) (c, left) e in
+    let l = bind-ok (next_by (worded_due (codes "limit ")) o.0.1) (λ l. explored_from version l.1 >>= λ x. points_from x.1 >>= λ p. finish (storage_made o.0.0 l.0 x.0 p.0) p.1) (c, left) o.2 in
+    let x = bind-ok (explored_from version l.0.1) (λ x. points_from x.1 >>= λ p. finish (storage_made o.0.0 l.0.0 x.0 p.0) p.1) (c, left) l.2 in
+    let p = bind-ok (points_from x.0.1) (λ p. finish (storage_made o.0.0 l.0.0 x.0.0 p.0) p.1) (c, left) x.2 in
     let made : StorageCertificate = storage_made o.0.0 l.0.0 x.0.0 p.0.0 in
     let end = finish-was made c p.0.1 left p.2 in
     let first = overlap-was lines o.0.0 o.0.1 o.1 in

@@ -26,7 +26,7 @@ use Rattle.cert_text.specs.ScheduleLines.{schedule_header, schedule_lines}
 use Rattle.cert_text.specs.Sections.{begins_with_digit, actors_from, schedule_from, cycle_from, rate_from, nothing_behind, finish, ending, point_from, points_from, entered_from, nodes_from, potentials_from, scenario_from}
 use Rattle.cert_text.specs.Spellable.{AreStarts, IsRateSpellable, Rise}
 use Rattle.cert_text.specs.Spelling.{end_line, point_list, potential_list}
-use Rattle.cert_text.proofs.Entries.{numbers-sound}
+use Rattle.cert_text.proofs.Entries.{numbers-sound, bind-ok}
 use Rattle.cert_text.proofs.ReadSections.{IsGoodStep, IsGoodCycle, IsGoodPoint}
 use Rattle.cert_text.proofs.SoundEntries.{buffers-line-sound}
 use Rattle.cert_text.proofs.SoundLines.{worded-sound, overlap-sound, rate-sound, schedule-line-sound, IsHeaderWithin, header-sound, step-sound, point-line-sound, node-sound, nodes-line-sound, potential-sound}
@@ -52,10 +52,6 @@ pub record Was {A : Type 0} (spell : A → List ℕ) (P : A → Type 0) (lines :
   pub spelled : joined lines ≡ spell x ++ joined left
   pub fits : P x
 
-pub then-ok : {A B E : Type 0} (r : Result A E) (f : A → Result B E) (y : B) → (r >>= f) ≡ Ok y → (x : A) × (r ≡ Ok x) × (f x ≡ Ok y)
-then-ok (Ok x) f y e = (x, refl, e)
-then-ok (Err d) f y e = absurd cc
-
 abbrev pub reads : {A : Type 0} → A → List (List ℕ) → Reads A
 reads x left = Ok (x, left)
 
@@ -76,8 +72,8 @@ module _ {A : Type 0} (f : List (List ℕ) → Reads A) (spell : A → List ℕ)
   times-was zero lines xs left e =
       subst (λ (r : List A × List (List ℕ)). (length r.0 ≡ 0) × Was (flat_map spell) (AllByRecursion P) lines r.0 r.1) (reads-is ([], lines) (xs, left) e) (refl, record { spelled = refl; fits = tt })
   times-was (suc n) lines xs left e =
-      let a = then-ok (f lines) (λ x. times_by f n x.1 >>= λ r. reads (x.0 ∷ r.0) r.1) (xs, left) e in
-      let b = then-ok (times_by f n a.0.1) (λ r. reads (a.0.0 ∷ r.0) r.1) (xs, left) a.2 in
+      let a = bind-ok (f lines) (λ x. times_by f n x.1 >>= λ r. reads (x.0 ∷ r.0) r.1) (xs, left) e in
+      let b = bind-ok (times_by f n a.0.1) (λ r. reads (a.0.0 ∷ r.0) r.1) (xs, left) a.2 in
       let first = each lines a.0.0 a.0.1 a.1 in
       let rest = times-was n a.0.1 b.0.0 b.0.1 b.1 in
       subst (λ (r : List A × List (List ℕ)). (length r.0 ≡ suc n) × Was (flat_map spell) (AllByRecursion P) lines r.0 r.1) (reads-is (a.0.0 ∷ b.0.0, b.0.1) (xs, left) b.2)
@@ -94,10 +90,10 @@ actors-was (line ∷ ls) ss left e = split (begins_with_digit line) e (λ xs m h
         → ((xs m : List (List ℕ)) → actors_from ls ≡ Ok (xs, m) → Was (flat_map numbers_line) (AllByRecursion AreStarts) ls xs m) → Was (flat_map numbers_line) (AllByRecursion AreStarts) (line ∷ ls) ss left
     split false h others = subst (λ (r : List (List ℕ) × List (List ℕ)). Was (flat_map numbers_line) (AllByRecursion AreStarts) (line ∷ ls) r.0 r.1) (reads-is ([], line ∷ ls) (ss, left) h) (record { spelled = refl; fits = tt })
     split true h others =
-        let a = then-ok (in_front (numbers_due START line) ls) (λ starts. actors_from ls >>= λ others. reads (starts.0 ∷ others.0) others.1) (ss, left) h in
+        let a = bind-ok (in_front (numbers_due START line) ls) (λ starts. actors_from ls >>= λ others. reads (starts.0 ∷ others.0) others.1) (ss, left) h in
         let both = in-front-ok (numbers_due START line) a.0.0 ls a.0.1 a.1 in
         let s = numbers-sound START line a.0.0 (omega arith) both.0 in
-        let b = then-ok (actors_from ls) (λ others. reads (a.0.0 ∷ others.0) others.1) (ss, left) a.2 in
+        let b = bind-ok (actors_from ls) (λ others. reads (a.0.0 ∷ others.0) others.1) (ss, left) a.2 in
         let rest = others b.0.0 b.0.1 b.1 in
         subst (λ (r : List (List ℕ) × List (List ℕ)). Was (flat_map numbers_line) (AllByRecursion AreStarts) (line ∷ ls) r.0 r.1) (reads-is (a.0.0 ∷ b.0.0, b.0.1) (ss, left) b.2)
         (record { spelled = ap (λ (l : List ℕ). l ++ joined ls) s.0 ∙ (ap (λ (l : List ℕ). numbers_line a.0.0 ++ l) rest.spelled ∙ sym (append_assoc (numbers_line a.0.0) (flat_map numbers_line b.0.0) (joined b.0.1))); fits = (record { some = s.1; early = s.2 }, rest.fits) })
@@ -112,8 +108,8 @@ schedule_made header starts = record { period = header.0; rounds = header.1; sta
 pub schedule-was : (lines : List (List ℕ)) (s : Periodic) (left : List (List ℕ)) → schedule_from lines ≡ Ok (s, left) → Was schedule_lines IsGoodSchedule lines s left
 unfolding schedule_from schedule_lines
 schedule-was lines s left e =
-    let a = then-ok (next_by schedule_line_due lines) (λ header. actors_from header.1 >>= λ starts. reads (schedule_made header.0 starts.0) starts.1) (s, left) e in
-    let b = then-ok (actors_from a.0.1) (λ starts. reads (schedule_made a.0.0 starts.0) starts.1) (s, left) a.2 in
+    let a = bind-ok (next_by schedule_line_due lines) (λ header. actors_from header.1 >>= λ starts. reads (schedule_made header.0 starts.0) starts.1) (s, left) e in
+    let b = bind-ok (actors_from a.0.1) (λ starts. reads (schedule_made a.0.0 starts.0) starts.1) (s, left) a.2 in
     let first = next-was schedule_line_due (λ h. schedule_header h.0 h.1) (λ h. IsLong h.0 × IsLong h.1) schedule-line-sound lines a.0.0 a.0.1 a.1 in
     let rest = actors-was a.0.1 b.0.0 b.0.1 b.1 in
     let header : List ℕ = schedule_header a.0.0.0 a.0.0.1 in
@@ -134,8 +130,8 @@ step-was = next-was step_due step_line IsGoodStep step-sound
 pub cycle-was : (lines : List (List ℕ)) (c : LinkCycle) (left : List (List ℕ)) → cycle_from lines ≡ Ok (c, left) → Was cycle_lines IsGoodCycle lines c left
 unfolding cycle_from cycle_lines
 cycle-was lines c left e =
-    let a = then-ok (next_by header_due lines) (λ header. times_by (next_by step_due) header.0.steps header.1 >>= λ steps. reads (cycle_made header.0 steps.0) steps.1) (c, left) e in
-    let b = then-ok (times_by (next_by step_due) a.0.0.steps a.0.1) (λ steps. reads (cycle_made a.0.0 steps.0) steps.1) (c, left) a.2 in
+    let a = bind-ok (next_by header_due lines) (λ header. times_by (next_by step_due) header.0.steps header.1 >>= λ steps. reads (cycle_made header.0 steps.0) steps.1) (c, left) e in
+    let b = bind-ok (times_by (next_by step_due) a.0.0.steps a.0.1) (λ steps. reads (cycle_made a.0.0 steps.0) steps.1) (c, left) a.2 in
     let h : CycleHeader = a.0.0 in
     let first = next-was header_due (λ (q : CycleHeader). cycle_header q.time q.rounds q.first q.steps) IsHeaderWithin header-sound lines h a.0.1 a.1 in
     let rest = times-was (next_by step_due) step_line IsGoodStep step-was h.steps a.0.1 b.0.0 b.0.1 b.1 in
@@ -193,11 +189,11 @@ rate_text c = overlap_line c.no_overlap ++ (buffers_line c.buffers ++ (rate_line
 pub rate-was : (lines : List (List ℕ)) (c : RateCertificate) (left : List (List ℕ)) → rate_from lines ≡ Ok (c, left) → (joined lines ≡ rate_text c) × IsRateCertificateWithin c × IsRateSpellable c
 unfolding rate_from
 rate-was lines c left e =
-    let o = then-ok (next_by overlap_due lines) (λ o. next_by buffers_due o.1 >>= λ b. next_by rate_due b.1 >>= λ r. schedule_from r.1 >>= λ s. cycle_from s.1 >>= λ y. finish (rate_made o.0 b.0 r.0 s.0 y.0) y.1) (c, left) e in
-    let b = then-ok (next_by buffers_due o.0.1) (λ b. next_by rate_due b.1 >>= λ r. schedule_from r.1 >>= λ s. cycle_from s.1 >>= λ y. finish (rate_made o.0.0 b.0 r.0 s.0 y.0) y.1) (c, left) o.2 in
-    let r = then-ok (next_by rate_due b.0.1) (λ r. schedule_from r.1 >>= λ s. cycle_from s.1 >>= λ y. finish (rate_made o.0.0 b.0.0 r.0 s.0 y.0) y.1) (c, left) b.2 in
-    let s = then-ok (schedule_from r.0.1) (λ s. cycle_from s.1 >>= λ y. finish (rate_made o.0.0 b.0.0 r.0.0 s.0 y.0) y.1) (c, left) r.2 in
-    let y = then-ok (cycle_from s.0.1) (λ y. finish (rate_made o.0.0 b.0.0 r.0.0 s.0.0 y.0) y.1) (c, left) s.2 in
+    let o = bind-ok (next_by overlap_due lines) (λ o. next_by buffers_due o.1 >>= λ b. next_by rate_due b.1 >>= λ r. schedule_from r.1 >>= λ s. cycle_from s.1 >>= λ y. finish (rate_made o.0 b.0 r.0 s.0 y.0) y.1) (c, left) e in
+    let b = bind-ok (next_by buffers_due o.0.1) (λ b. next_by rate_due b.1 >>= λ r. schedule_from r.1 >>= λ s. cycle_from s.1 >>= λ y. finish (rate_made o.0.0 b.0 r.0 s.0 y.0) y.1) (c, left) o.2 in
+    let r = bind-ok (next_by rate_due b.0.1) (λ r. schedule_from r.1 >>= λ s. cycle_from s.1 >>= λ y. finish (rate_made o.0.0 b.0.0 r.0 s.0 y.0) y.1) (c, left) b.2 in
+    let s = bind-ok (schedule_from r.0.1) (λ s. cycle_from s.1 >>= λ y. finish (rate_made o.0.0 b.0.0 r.0.0 s.0 y.0) y.1) (c, left) r.2 in
+    let y = bind-ok (cycle_from s.0.1) (λ y. finish (rate_made o.0.0 b.0.0 r.0.0 s.0.0 y.0) y.1) (c, left) s.2 in
     let made : RateCertificate = rate_made o.0.0 b.0.0 r.0.0 s.0.0 y.0.0 in
     let end = finish-was made c y.0.1 left y.2 in
     let first = overlap-was lines o.0.0 o.0.1 o.1 in
@@ -218,8 +214,8 @@ point_made h s = record { total = h.0; rate = h.1; member = h.2; schedule = s }
 point-was : (lines : List (List ℕ)) (p : PointLine) (left : List (List ℕ)) → point_from lines ≡ Ok (p, left) → Was point_lines IsGoodPoint lines p left
 unfolding point_from point_lines
 point-was lines p left e =
-    let h = then-ok (next_by point_line_due lines) (λ h. schedule_from h.1 >>= λ s. reads (point_made h.0 s.0) s.1) (p, left) e in
-    let s = then-ok (schedule_from h.0.1) (λ s. reads (point_made h.0.0 s.0) s.1) (p, left) h.2 in
+    let h = bind-ok (next_by point_line_due lines) (λ h. schedule_from h.1 >>= λ s. reads (point_made h.0 s.0) s.1) (p, left) e in
+    let s = bind-ok (schedule_from h.0.1) (λ s. reads (point_made h.0.0 s.0) s.1) (p, left) h.2 in
     let first = next-was point_line_due (λ q. point_line q.0 q.1 q.2) (λ q. IsLong q.0 × IsRateWithin q.1 × IsLong q.2) point-line-sound lines h.0.0 h.0.1 h.1 in
     let rest = schedule-was h.0.1 s.0.0 s.0.1 s.1 in
     let line : List ℕ = point_line h.0.0.0 h.0.0.1 h.0.0.2 in
@@ -241,7 +237,7 @@ module _ {A : Type 0} (word : List ℕ) (f : List (List ℕ) → Reads A) (spell
   pub list-was : (lines : List (List ℕ)) (xs : List A) (left : List (List ℕ)) → (next_by (worded_due word) lines >>= λ count. times_by f count.0 count.1) ≡ Ok (xs, left)
       → Was (λ ys. (word ++ (decimal (length ys) ++ 10 ∷ [])) ++ flat_map spell ys) AreListed lines xs left
   list-was lines xs left e =
-      let a = then-ok (next_by (worded_due word) lines) (λ count. times_by f count.0 count.1) (xs, left) e in
+      let a = bind-ok (next_by (worded_due word) lines) (λ count. times_by f count.0 count.1) (xs, left) e in
       let first = worded-was word lines a.0.0 a.0.1 a.1 in
       let rest = times-was f spell P each a.0.0 a.0.1 xs left a.2 in
       let many : a.0.0 ≡ length xs = sym rest.0 in
@@ -268,9 +264,9 @@ nodes-was : (lines : List (List ℕ)) (n : ℕ × List (ℕ × ℕ)) (left : Lis
     → Was (λ m. nodes_lines m.0 m.1) AreNodesWithin lines n left
 unfolding nodes_from entered_from nodes_lines
 nodes-was lines n left e =
-    let a = then-ok (next_by nodes_line_due lines) (λ h. entered_from h.0.2 h.0.1 h.1 >>= λ m. reads (nodes_made h.0.0 m.0) m.1) (n, left) e in
-    let b = then-ok (entered_from a.0.0.2 a.0.0.1 a.0.1) (λ m. reads (nodes_made a.0.0.0 m.0) m.1) (n, left) a.2 in
-    let d = then-ok (times_by (next_by node_due) a.0.0.1 a.0.1) (λ m. reads (a.0.0.2 ∷ m.0) m.1) b.0 b.1 in
+    let a = bind-ok (next_by nodes_line_due lines) (λ h. entered_from h.0.2 h.0.1 h.1 >>= λ m. reads (nodes_made h.0.0 m.0) m.1) (n, left) e in
+    let b = bind-ok (entered_from a.0.0.2 a.0.0.1 a.0.1) (λ m. reads (nodes_made a.0.0.0 m.0) m.1) (n, left) a.2 in
+    let d = bind-ok (times_by (next_by node_due) a.0.0.1 a.0.1) (λ m. reads (a.0.0.2 ∷ m.0) m.1) b.0 b.1 in
     let node : ℕ × ℕ = a.0.0.2 in
     let first = next-was nodes_line_due (λ q. nodes_header q.0 q.1 q.2) (λ q. IsLong q.0 × IsLong q.1 × IsNodeWithin q.2) nodes-line-sound lines a.0.0 a.0.1 a.1 in
     let rest = times-was (next_by node_due) node_line IsNodeWithin (next-was node_due node_line IsNodeWithin node-sound) a.0.0.1 a.0.1 d.0.0 d.0.1 d.1 in
@@ -302,9 +298,9 @@ scenario_text c = rate_line c.rate ++ (nodes_lines c.time c.nodes ++ (potential_
 pub scenario-was : (lines : List (List ℕ)) (c : ScenarioCertificate) (left : List (List ℕ)) → scenario_from lines ≡ Ok (c, left) → (joined lines ≡ scenario_text c) × IsScenarioWithin c × (0 < length c.nodes)
 unfolding scenario_from
 scenario-was lines c left e =
-    let r = then-ok (next_by rate_due lines) (λ r. nodes_from r.1 >>= λ n. potentials_from n.1 >>= λ p. finish (scenario_made r.0 n.0 p.0) p.1) (c, left) e in
-    let n = then-ok (nodes_from r.0.1) (λ n. potentials_from n.1 >>= λ p. finish (scenario_made r.0.0 n.0 p.0) p.1) (c, left) r.2 in
-    let p = then-ok (potentials_from n.0.1) (λ p. finish (scenario_made r.0.0 n.0.0 p.0) p.1) (c, left) n.2 in
+    let r = bind-ok (next_by rate_due lines) (λ r. nodes_from r.1 >>= λ n. potentials_from n.1 >>= λ p. finish (scenario_made r.0 n.0 p.0) p.1) (c, left) e in
+    let n = bind-ok (nodes_from r.0.1) (λ n. potentials_from n.1 >>= λ p. finish (scenario_made r.0.0 n.0 p.0) p.1) (c, left) r.2 in
+    let p = bind-ok (potentials_from n.0.1) (λ p. finish (scenario_made r.0.0 n.0.0 p.0) p.1) (c, left) n.2 in
     let made : ScenarioCertificate = scenario_made r.0.0 n.0.0 p.0.0 in
     let end = finish-was made c p.0.1 left p.2 in
     let first = rate-line-was lines r.0.0 r.0.1 r.1 in

@@ -19,7 +19,8 @@ use Rattle.cert_text.specs.Spellable.{IsSpellable}
 use Rattle.cert_text.specs.Spelling.{rate_kind, storage_kind, scenario_kind, rate_lines, storage_lines, scenario_lines, lines_after, spelling}
 use Rattle.cert_text.proofs.SoundLines.{version-sound, same-is}
 use Rattle.cert_text.proofs.SoundMembers.{storage-was}
-use Rattle.cert_text.proofs.SoundSections.{joined, joined-lines, then-ok, reads, reads-is, next-was, rate-was, scenario-was}
+use Rattle.cert_text.proofs.SoundSections.{joined, joined-lines, reads, reads-is, next-was, rate-was, scenario-was}
+use Rattle.cert_text.proofs.Entries.{bind-ok}
 
 -- a certificate that was read of the lines after the first one
 record IsAfter (version : ℕ) (lines : List (List ℕ)) (c : Certificate) : Type 0 where
@@ -55,13 +56,13 @@ certificate-was version is (line ∷ ls) c left e = split (same line rate_kind) 
         → (if x then (rate_from ls >>= λ r. reads (Rate r.0) r.1) else if y then (storage_from version ls >>= λ r. reads (Storage r.0) r.1) else if z then (scenario_from ls >>= λ r. reads (Scenario r.0) r.1) else Err (Form, ls)) ≡ Ok (c, left)
         → IsAfter version (line ∷ ls) c
     split true x y b z d g =
-        let a = then-ok (rate_from ls) (λ r. reads (Rate r.0) r.1) (c, left) g in
+        let a = bind-ok (rate_from ls) (λ r. reads (Rate r.0) r.1) (c, left) g in
         subst (IsAfter version (line ∷ ls)) (ap (λ (r : Certificate × List (List ℕ)). r.0) (reads-is (Rate a.0.0, a.0.1) (c, left) a.2)) (rate-after version line ls a.0.0 a.0.1 (same-is line rate_kind x) a.1)
     split false x true y z d g =
-        let a = then-ok (storage_from version ls) (λ r. reads (Storage r.0) r.1) (c, left) g in
+        let a = bind-ok (storage_from version ls) (λ r. reads (Storage r.0) r.1) (c, left) g in
         subst (IsAfter version (line ∷ ls)) (ap (λ (r : Certificate × List (List ℕ)). r.0) (reads-is (Storage a.0.0, a.0.1) (c, left) a.2)) (storage-after version is line ls a.0.0 a.0.1 (same-is line storage_kind y) a.1)
     split false x false y true z g =
-        let a = then-ok (scenario_from ls) (λ r. reads (Scenario r.0) r.1) (c, left) g in
+        let a = bind-ok (scenario_from ls) (λ r. reads (Scenario r.0) r.1) (c, left) g in
         subst (IsAfter version (line ∷ ls)) (ap (λ (r : Certificate × List (List ℕ)). r.0) (reads-is (Scenario a.0.0, a.0.1) (c, left) a.2)) (scenario-after version line ls a.0.0 a.0.1 (same-is line scenario_kind z) a.1)
     split false x false y false z g = absurd cc
 
@@ -76,8 +77,8 @@ versioned v c = (v, c)
 text-was : (text : List ℕ) (r : ℕ × Certificate) (left : List (List ℕ)) → text_from (lines_of text) ≡ Ok (r, left) → IsWhole text r
 unfolding text_from spelling
 text-was text r left e =
-    let a = then-ok (next_by version_due (lines_of text)) (λ v. certificate_from v.0 v.1 >>= λ c. reads (versioned v.0 c.0) c.1) (r, left) e in
-    let b = then-ok (certificate_from a.0.0 a.0.1) (λ c. reads (versioned a.0.0 c.0) c.1) (r, left) a.2 in
+    let a = bind-ok (next_by version_due (lines_of text)) (λ v. certificate_from v.0 v.1 >>= λ c. reads (versioned v.0 c.0) c.1) (r, left) e in
+    let b = bind-ok (certificate_from a.0.0 a.0.1) (λ c. reads (versioned a.0.0 c.0) c.1) (r, left) a.2 in
     let first = next-was version_due version_line (λ v. (v ≡ 1) ⊎ (v ≡ 2)) version-sound (lines_of text) a.0.0 a.0.1 a.1 in
     let rest = certificate-was a.0.0 first.fits a.0.1 b.0.0 b.0.1 b.1 in
     let is = reads-is (versioned a.0.0 b.0.0, b.0.1) (r, left) b.2 in

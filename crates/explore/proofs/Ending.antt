@@ -25,12 +25,13 @@ use Rattle.pareto_front.specs.declared.point.Point.{Point}
 use Rattle.pareto_front.specs.Offers.{AreAbove, AreInOrder as AreRising, Covers, IsCoveredBy, IsOneOf, Offer}
 use Rattle.pareto_front.specs.Points.{offer_of}
 use Rattle.explore.specs.declared.exploration.Member.{Member}
-use Rattle.levels.specs.Visits.{led_by, visited}
+use Rattle.levels.specs.Visits.{led_by, visited, visits_of}
+use Rattle.levels.proofs.Visited.{has-entry}
 use Rattle.explore.specs.Reachable.{IsExplorable, IsReachable, stepped}
 use Rattle.explore.specs.Explorations.{AreInOrder, IsExploration, ShowsChannel, capacities_of, pair_of}
-use Rattle.explore.specs.inside.Searches.{IsEnded, IsNoted, offer_for, offers_of, visits_of}
+use Rattle.explore.specs.inside.Searches.{IsEnded, IsNoted, offer_for, offers_of}
 use Rattle.explore.proofs.Elements.{at-one, contains-one, one-at, one-contains, one-map, one-unmap}
-use Rattle.explore.proofs.Searching.{entry-of, entry-visit, has-contains, led-member, noted-at, noted-of, visited-members}
+use Rattle.explore.proofs.Searching.{entry-visit, has-contains, led-member, noted-at, noted-of, visited-members}
 use Rattle.explore.proofs.OfferFronts.{front-of_offers, pair_of as offer_pair}
 
 zero-test : (n : ℕ) → (((n == 0) ≡ true) × (n ≡ 0)) ⊎ (((n == 0) ≡ false) × (1 ≤ n))
@@ -76,7 +77,7 @@ above-one p (r ∷ ps) q above (inr later) =
     let next = above-one r ps q above.2 later in
     (omega (arith, above.0, next.0), less_on p.rate.num p.rate.den r.rate.num r.rate.den q.rate.num q.rate.den p.rate.positive r.rate.positive q.rate.positive above.1 (omega (arith, next.1)))
 
-covering-one : (ps : List Offer) (o : Offer) → IsCoveredBy ps o → (q : Offer) × IsOneOf ps q × Covers q o
+pub covering-one : (ps : List Offer) (o : Offer) → IsCoveredBy ps o → (q : Offer) × IsOneOf ps q × Covers q o
 covering-one [] o covered = absurd covered
 covering-one (p ∷ ps) o (inl covers) = (p, inl refl, covers)
 covering-one (p ∷ ps) o (inr later) = let found = covering-one ps o later in (found.0, inr found.1, found.2)
@@ -114,7 +115,7 @@ module _ (net : Net) (laws : Lawful net) (can : IsExplorable net) (limits : Limi
   nexts i j below shown within =
       let e : Entry = entry_at ended.entries i in
       let c : ℕ = slice_index (entry_at ended.entries i).shown j in
-      entry-of ended.entries (stepped net e.capacities c)
+      has-entry ended.entries (stepped net e.capacities c)
       (ended.visits.next (led_by e.capacities e.shown) (stepped net e.capacities c) (entry-visit ended.entries e (one-at ended.entries i no_entry below)) (c, Contains-get_or (entry_at ended.entries i).shown j 0 shown, refl) within)
 
   bounds : (i : ℕ) → i < length ended.entries → (ds : List (Option ℕ)) → IsDistribution net.channels ds → storage_of net.channels ds ≤ limits.total → AtMost (entry_at ended.entries i).capacities ds → AgreesOn (entry_at ended.entries i).shown (entry_at ended.entries i).capacities ds → (p q : ℕ) → Rate (bound net ds) p q → p * (entry_at ended.entries i).den ≤ (entry_at ended.entries i).num * q
@@ -126,7 +127,7 @@ module _ (net : Net) (laws : Lawful net) (can : IsExplorable net) (limits : Limi
   closed = record {
     corner = ended.corner;
     is_corner = ended.is_corner;
-    start = λ fits. entry-of ended.entries ended.corner (ended.visits.begins fits);
+    start = λ fits. has-entry ended.entries ended.corner (ended.visits.begins fits);
     distributions = λ i below. let n = noted i below in subst (λ (x : Entry). IsDistribution net.channels x.capacities) (sym n.2.is) (ended.candidates n.0 n.1).distribution;
     grid = λ i below. let n = noted i below in subst (λ (x : Entry). IsOnGrid net.channels x.capacities) (sym n.2.is) (ended.candidates n.0 n.1).grid;
     within = λ i below. let n = noted i below in subst (λ (x : Entry). storage_of net.channels x.capacities ≤ limits.total) (sym n.2.is) (ended.candidates n.0 n.1).within;

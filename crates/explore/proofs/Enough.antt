@@ -21,9 +21,9 @@ use Rattle.explore.specs.declared.extent.Extent.TheVariants.{Limit, Fastest}
 use Rattle.explore.specs.declared.search.Search.{Search}
 use Rattle.explore.specs.Extents.{Explores, IsEnough, up_to}
 use Rattle.explore.specs.Ceilings.{BoundsAll}
-use Rattle.levels.specs.Visits.{AreVisits, visited}
+use Rattle.levels.specs.Visits.{AreVisits, visited, visits_of}
 use Rattle.levels.proofs.Spreading.{frontier-up_to}
-use Rattle.explore.specs.inside.Searches.{IsCandidate, IsEnded, IsFarEnough, IsPast, IsSearch, IsTopAmong, visits_of}
+use Rattle.explore.specs.inside.Searches.{IsCandidate, IsEnded, IsFarEnough, IsPast, IsSearch, IsTopAmong}
 use Rattle.explore.proofs.Elements.{at-one, one-contains, one-map}
 use Rattle.explore.proofs.Searching.{search-few, search-limit, visited-members}
 use Rattle.explore.proofs.Ending.{explored}

@@ -24,7 +24,7 @@ use Rattle.explore.specs.declared.exploration.Shown.{Shown}
 use Rattle.storage.proofs.FrontsFromMembers.{no_less}
 use Rattle.std.proofs.lemmas.Bool.{cases_lt}
 use Rattle.explore.proofs.Elements.{one-left}
-use Rattle.explore.proofs.Ending.{offer-there}
+use Rattle.explore.proofs.Ending.{offer-there, covering-one}
 use Rattle.explore.specs.Explorations.{ShowsChannel, ShowsRate, cycles_in, shows_cycle}
 use Rattle.explore.specs.inside.Searches.{AreKnown, AreNoted, HasTable, IsNoted, entry_of, offer_for, offers_at, offers_of}
 use Rattle.explore.specs.inside.Rated.{IsBest, IsRated, KeepsTable, evaluated_member, member_of, shown_by}
@@ -159,20 +159,10 @@ record_of d rate shown = record { capacities = d; rate = rate; shown = shown }
 
 -- a member whose loop wasn't kept is covered: one of less storage has no less rate
 
-covering : (ps : List Offer) (o : Offer) → IsCoveredBy ps o → (p : Offer) × IsOneOf ps p × Covers p o
-covering [] o covered = absurd covered
-covering (p ∷ ps) o (inl covers) = (p, inl refl, covers)
-covering (p ∷ ps) o (inr later) = let found = covering ps o later in (found.0, inr found.1, found.2)
-
 covered-by : (ps : List Offer) (p o : Offer) → IsOneOf ps p → Covers p o → IsCoveredBy ps o
 covered-by [] p o is covers = absurd is
 covered-by (q ∷ ps) p o (inl same) covers = inl (subst (λ (x : Offer). Covers x o) (sym same) covers)
 covered-by (q ∷ ps) p o (inr later) covers = inr (covered-by ps p o later covers)
-
-offer-left : (os more : List Offer) (x : Offer) → IsOneOf os x → IsOneOf (os ++ more) x
-offer-left [] more x is = absurd is
-offer-left (y ∷ os) more x (inl same) = inl same
-offer-left (y ∷ os) more x (inr later) = inr (offer-left os more x later)
 
 module _ (net : Net) (d : Distribution) (e : Evaluation) (total : ℕ) (best : Fraction) (points : List Point) (storage : storage_of net.channels d.capacities ≡ total) (slow : e.rate.num * best.den ≤ best.num * e.rate.den) (ms : List Member) where
   without : e.rate.num ≡ 0 → IsFrontOf (offers_of net ms) (map offer_of points) → IsFrontOf (offers_of net ms ++ offers_of net (evaluated_member d e ∷ [])) (map offer_of points)
@@ -180,7 +170,7 @@ module _ (net : Net) (d : Distribution) (e : Evaluation) (total : ℕ) (best : F
 
   covered : (b : Offer) → b.storage < total → e.rate.num * b.rate.den ≤ b.rate.num * e.rate.den → IsCoveredBy (map offer_of points) b → IsCoveredBy (map offer_of points) (offer_for net (evaluated_member d e))
   covered b less rate by =
-      let p = covering (map offer_of points) b by in
+      let p = covering-one (map offer_of points) b by in
       covered-by (map offer_of points) p.0 (offer_for net (evaluated_member d e)) p.1 (record {
         storage = omega (arith, storage, less, p.2.storage);
         rate = no_less e.rate.num e.rate.den b.rate.num b.rate.den p.0.rate.num p.0.rate.den b.rate.positive rate p.2.rate;
@@ -203,7 +193,7 @@ module _ (net : Net) (d : Distribution) (e : Evaluation) (total : ℕ) (best : F
       more = record {
         order = was.order;
         covers = λ x is. ⊎_elim (λ (h : IsOneOf (offers_of net ms) x). was.covers x h) (λ (h : offer_for net (evaluated_member d e) ≡ x). subst (IsCoveredBy (map offer_of points)) h by) (one-more (offers_of net ms) (offer_for net (evaluated_member d e)) x is);
-        among = λ p is. offer-left (offers_of net ms) (offer_for net (evaluated_member d e) ∷ []) p (was.among p is);
+        among = λ p is. one-left (offers_of net ms) (offer_for net (evaluated_member d e) ∷ []) p (was.among p is);
       }
 
       at : (b : Bool) → (e.rate.num == 0) ≡ b → IsFrontOf (offers_of net ms ++ offers_of net (evaluated_member d e ∷ [])) (map offer_of points)

@@ -1,5 +1,5 @@
 -- What the visits of a search say of its members.
-use Rattle.std.proofs.Common.{◌≡◌, ℕ, suc, ◌+◌, ◌≤◌, Option, List, [], ◌∷◌, ◌++◌, length, inl, inr, ⊎_elim, refl, sym, ap, ◌∙◌, subst, arith}
+use Rattle.std.proofs.Common.{◌≡◌, ℕ, suc, ◌+◌, ◌≤◌, Option, List, [], ◌∷◌, ◌++◌, length, inl, inr, refl, sym, ap, ◌∙◌, subst, arith}
 use Rattle.std.specs.Prelude.{Contains}
 use Rattle.std.proofs.lemmas.List.{get_or_default, length-append, length-map}
 use Rattle.std.proofs.lemmas.List.Elements.{All-contains}
@@ -7,18 +7,18 @@ use Rattle.sd_base.specs.declared.limits.Limits.{Limits}
 use Rattle.sd_base.specs.Net.{Net}
 use Rattle.critical.specs.Spaces.{Has}
 use Rattle.storage.specs.Distributions.{storage_of}
-use Rattle.storage.specs.ClosedLists.{Entry, HasEntry}
+use Rattle.storage.specs.ClosedLists.{Entry}
 use Rattle.storage.specs.Steps.{IsCorner}
 use Rattle.storage.proofs.CornerLists.{corner-distribution, corner-grid}
 use Rattle.levels.specs.declared.levels.Bounds.{Bounds}
-use Rattle.levels.specs.Visits.{IsLedTo as IsLed, LeadsTo, Visit, led_by, visited}
-use Rattle.levels.proofs.Elements.{contains-cases, contains-map, contains-none, contains-unmap}
+use Rattle.levels.specs.Visits.{IsLedTo as IsLed, LeadsTo, Visit, led_by, visited, visits_of}
+use Rattle.levels.proofs.Elements.{contains-map, contains-unmap}
 use Rattle.explore.specs.declared.exploration.Member.{Member}
 use Rattle.explore.specs.declared.search.Search.{Search}
 use Rattle.explore.specs.Reachable.{IsExplorable, corner, stepped}
 use Rattle.pareto_front.specs.Offers.{IsOneOf}
 use Rattle.explore.specs.Explorations.{CountsFew, IsLedTo, capacities_of}
-use Rattle.explore.specs.inside.Searches.{AreNoted, IsCandidate, IsNoted, IsSearch, visits_of}
+use Rattle.explore.specs.inside.Searches.{AreNoted, IsCandidate, IsNoted, IsSearch}
 use Rattle.explore.proofs.Elements.{contains-one, one-contains}
 use Rattle.explore.proofs.Stepping.{child-candidate}
 
@@ -61,14 +61,6 @@ visit-entry es v one = let found = contains-unmap (λ (e : Entry). led_by e.capa
 
 pub entry-visit : (es : List Entry) (e : Entry) → IsOneOf es e → Contains (visits_of es) (led_by e.capacities e.shown)
 entry-visit es e one = contains-map (λ (x : Entry). led_by x.capacities x.shown) es e (one-contains es e one)
-
-pub entry-of : (es : List Entry) (ds : List (Option ℕ)) → Contains (visited (visits_of es)) ds → HasEntry es ds
-entry-of [] ds one = absurd (contains-none ds one)
-entry-of (e ∷ es) ds one =
-    ⊎_elim
-    (λ (same : e.capacities ≡ ds). (0, omega arith, same))
-    (λ (later : Contains (visited (visits_of es)) ds). let found = entry-of es ds later in (suc found.0, omega (arith, found.1), found.2))
-    (contains-cases e.capacities (visited (visits_of es)) ds one)
 
 -- a visit leads on by a channel that its member shows
 pub leads-shown : (net : Net) (states : ℕ) (m : Member) (e : Entry) (ds : List (Option ℕ)) → IsNoted net states m e → LeadsTo net.channels (led_by e.capacities e.shown) ds → (c : ℕ) × Has e.shown c × (ds ≡ stepped net m.capacities.capacities c)

@@ -1,6 +1,6 @@
 -- The points of a search are candidates, each with the loop of its net.
 use Rattle.std.proofs.Common.{ℕ, List, ap, subst}
-use Rattle.std.specs.Prelude.{IfOk, Result, Ok, Err, map}
+use Rattle.std.specs.Prelude.{map}
 use Rattle.sd_base.specs.Net.{Net}
 use Rattle.storage.specs.ClosedLists.{Entry}
 use Rattle.pareto_front.specs.declared.point.Point.{Point}
@@ -16,7 +16,3 @@ pub point-candidate : (net : Net) (limit states : ℕ) (members : List Member) (
 point-candidate net limit states members entries points candidates known p one =
     let from = offer-from net members (offer_of p) (known.front.among (offer_of p) (to-offer (map offer_of points) (offer_of p) (one-map offer_of points p one))) in
     subst (IsCandidate net limit) (ap (λ (o : Offer). o.capacities) from.2) (candidates from.0 from.1)
-
-pub ok-more : {A E : Type 0} (P Q : A → Type 0) (r : Result A E) → ((a : A) → P a → Q a) → IfOk r P → IfOk r Q
-ok-more P Q (Ok a) more is = more a is
-ok-more P Q (Err e) more is = is

@@ -1,7 +1,7 @@
 -- A level is taken off those that wait, its distributions are evaluated, and each of its answers is taken in.
 use Rattle.std.proofs.Common.{◌≡◌, ℕ, ◌+◌, ◌≤◌, ◌<◌, Option, None, Some, List, [], ◌∷◌, ◌++◌, Result, Ok, Err, length, map, ⊎_elim, refl, sym, ap, ◌∙◌, subst, arith, inl, inr}
 use Rattle.std.specs.Prelude.{All, Contains, MatchOption, slice_index_or}
-use Rattle.std.proofs.lemmas.List.{length-map, map-append}
+use Rattle.std.proofs.lemmas.List.{length-map}
 use Rattle.std.proofs.lemmas.List.Elements.{All-contains, All-map, Contains-append_left, Contains-append_right, Contains-get_or}
 use Rattle.sd_base.specs.declared.limits.Limits.{Limits}
 use Rattle.sd_base.specs.declared.limits.TheConstants.{STORAGE}
@@ -9,7 +9,6 @@ use Rattle.sd_base.specs.Net.{Channel, Net, nowhere}
 use Rattle.sd_base.specs.Lawful.{Lawful}
 use Rattle.lasso.specs.RunError.{RunError}
 use Rattle.storage.specs.declared.distribution.Distribution.{Distribution}
-use Rattle.storage.specs.ClosedLists.{Entry}
 use Rattle.storage.specs.Distributions.{AtMost, storage_of}
 use Rattle.storage.specs.Steps.{step_of}
 use Rattle.storage.proofs.Enlarging.{enlarged-most}
@@ -20,10 +19,11 @@ use Rattle.levels.specs.declared.error.LevelsError.TheVariants as causes
 use Rattle.levels.specs.declared.found.Found.{Found}
 use Rattle.levels.specs.declared.found.Level.{Level}
 use Rattle.levels.specs.declared.levels.Bounds.{Bounds}
-use Rattle.levels.specs.Visits.{AreVisits, IsLedTo as IsLed, Visit, led_by, visited}
+use Rattle.levels.specs.Visits.{AreVisits, IsLedTo as IsLed, Visit, led_by, visited, visits_of}
 use Rattle.levels.specs.Frontiers.{AreLedOn, IsFoundBy, IsFrontier, IsLevelTaken, IsSame, IsSpent, Rises, Waits, distributions_of}
 use Rattle.levels.proofs.Elements.{contains-map}
 use Rattle.levels.proofs.LedOn.{known-long}
+use Rattle.levels.proofs.Visited.{visits-more}
 use Rattle.explore.specs.declared.exploration.Member.{Member}
 use Rattle.explore.specs.declared.exploration.Shown.{Shown}
 use Rattle.explore.specs.declared.exploration.Shown.TheVariants.{Cycle, Blocked}
@@ -33,7 +33,7 @@ use Rattle.explore.specs.Reachable.{IsExplorable}
 use Rattle.explore.specs.Explorations.{IsRefusal, capacities_of, cycles_in, shows_cycle}
 use Rattle.explore.specs.inside.Errors.{error_of}
 use Rattle.explore.specs.inside.Levels.{IsEvaluation, IsVisitable, most_loops, sum_of}
-use Rattle.explore.specs.inside.Searches.{AreKnown, IsAnswerOf, IsCandidate, IsEnded, IsSearch, IsTurn, answered_of, entry_of, visits_of}
+use Rattle.explore.specs.inside.Searches.{AreKnown, IsAnswerOf, IsCandidate, IsEnded, IsSearch, IsTurn, answered_of, entry_of}
 use Rattle.explore.specs.inside.Rated.{IsBest, IsBestOf, evaluated_member}
 use Rattle.explore.specs.declared.rated.Rated.{Rated}
 use Rattle.sd_base.specs.declared.numbers.Fraction.{Fraction}
@@ -145,9 +145,6 @@ sum-few [] = omega arith
 sum-few (a ∷ answers) = let later = sum-few answers in omega (arith, later, loops-few a.answer)
 
 -- a member that is taken in
-visits-more : (es : List Entry) (e : Entry) → visits_of (es ++ e ∷ []) ≡ visits_of es ++ led_by e.capacities e.shown ∷ []
-visits-more es e = map-append (λ (x : Entry). led_by x.capacities x.shown) es (e ∷ [])
-
 module _ (net : Net) (laws : Lawful net) (can : IsExplorable net) (limits : Limits) (total : ℕ) (d : Distribution) (e : Evaluation) (is : IsEvaluated net d.capacities limits.states e) (rest : List (List (Option ℕ))) (old : Search) (search : IsSearch net limits (total + 1) (d.capacities ∷ rest) old) where
   here : Contains (visited (visits_of search.entries) ++ d.capacities ∷ rest) d.capacities
   here = Contains-append_right (visited (visits_of search.entries)) (d.capacities ∷ rest) d.capacities (0, omega arith, refl)

@@ -112,7 +112,7 @@ record Stopped (bytes : List ℕ) (c : ℕ) : Type 0 where
   before : run true (Some start) (take c bytes) ≡ Some state
   over : run true (Some start) (take (c + 1) bytes) ≡ None
 
-both-none_spot : (d : Option Due) (o : Option Spot) → o ≡ None → both d o ≡ None
+pub both-none_spot : (d : Option Due) (o : Option Spot) → o ≡ None → both d o ≡ None
 both-none_spot None o e = refl
 both-none_spot (Some d) o e = rw e refl
 

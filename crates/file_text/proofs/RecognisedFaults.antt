@@ -22,7 +22,7 @@ use Rattle.file_text.proofs.ReadSoFar.{Has}
 use Rattle.file_text.proofs.MachineSteps.{IsDeep, Shows, shows, IsBehindLess, LeadsBehind, behind_less, either}
 use Rattle.file_text.proofs.Exact.{both_parts, tidy_at, has_at, run-append, alive, loose}
 use Rattle.file_text.proofs.LeavingPlaces.{run_more, leaves_at, one_place, spelled_stays, run_one}
-use Rattle.file_text.proofs.Encodings.{encoding_in, viable_run, no_encoding, spelled_no_encoding, encoding_same}
+use Rattle.file_text.proofs.Encodings.{encoding_in, viable_run, no_encoding, spelled_no_encoding, encoding_same, both-none_spot}
 use Rattle.file_text.proofs.Known.{stands_at, known_same}
 
 -- a byte with which a name begins begins a character, and the other way round
@@ -114,10 +114,6 @@ deep_known bytes n s d (within o os) at_markup lt here spot due begins =
       ),
     )
 deep_known bytes n s d a x lt here spot due deep = absurd deep
-
-both-none_spot : (d : Option Due) (o : Option Spot) → o ≡ None → both d o ≡ None
-both-none_spot None o e = refl
-both-none_spot (Some d) o e = rw e refl
 
 -- the machine refuses a byte
 abbrev pub Refuses : State → ℕ → Type 0

@@ -1,5 +1,5 @@
 -- What a tree spells is read of it.
-use Rattle.std.proofs.Common.{◌≡◌, ◌≢◌, ◌⊎◌, ℕ, suc, ◌+◌, ◌<◌, ◌≤◌, Bool, true, false, not, cond, ◌==◌, nat_le, List, [], ◌∷◌, ◌++◌, length, map, Option, Some, None, Ok, inl, inr, refl, sym, ap, ◌∙◌, subst, arith}
+use Rattle.std.proofs.Common.{◌≡◌, ◌≢◌, ◌⊎◌, ℕ, suc, ◌+◌, ◌≤◌, Bool, true, false, not, cond, ◌==◌, nat_le, List, [], ◌∷◌, ◌++◌, length, map, Option, Some, None, Ok, inl, inr, refl, sym, ap, ◌∙◌, subst, arith}
 use Rattle.std.specs.Prelude.{IsTrue, codes}
 use Rattle.std.specs.List.{All, list_any, list_all, find}
 use Rattle.std.specs.Option.{option_to_list}
@@ -35,7 +35,7 @@ use Rattle.graph_reader.proofs.ReaderSteps.{then-ok}
 use Rattle.graph_reader.proofs.NumberLists.{within-again, number-again, not-zero, again}
 use Rattle.graph_reader.proofs.PhaseLists.{longest-some}
 use Rattle.graph_reader.proofs.ElementPlaces.{AfterEach, each-given, Related, after-from_two, Counted, counted-from_few, no-count, none-from_Each, Each-weaker, not-among, among, port_count-cons, port_count-push}
-use Rattle.graph_reader.proofs.Found.{TimesDiffer, ActorCounted, NoCount, SizesDiffer}
+use Rattle.graph_reader.proofs.Found.{TimesDiffer, ActorCounted, NoCount, SizesDiffer, PortsDiffer, PortsFit, ActorsDiffer}
 
 pub required : (what : Field) (of : List ℕ) (e : Node) (value : List ℕ) → Has what e value → TreeSteps.required what of e ≡ Ok value
 unfolding TreeSteps.required
@@ -64,9 +64,6 @@ direction_in : (of : List ℕ) (d : Direction) → Sections.direction_in of (Spe
 direction_in of In = refl
 direction_in of Out = refl
 
-abbrev PortsDiffer : Port → Port → Type 0
-PortsDiffer p q = p.name ≢ q.name
-
 port_of : (kind : Kind) (actor : List ℕ) (before : ℕ) (done : List Port) (e : Node) (p : Port) → Spelled.IsPort kind e p → Related PortsDiffer (Counted before 1024) done p → Sections.port_of kind actor before done e ≡ Ok p
 unfolding Sections.port_of
 port_of kind actor before done e p is new =
@@ -77,17 +74,11 @@ port_of kind actor before done e p is new =
     then-ok (TreeSteps.required field.Rate actor e) _ is.rates.0 (Ok p) (required field.Rate actor e is.rates.0 is.rates.1) (
     then-ok (NumberTexts.numbers kind 0 field.Rate actor quantity.Rate 1000000 is.rates.0) _ p.rates (Ok p) (again kind 0 field.Rate actor quantity.Rate 1000000 is.rates.0 p.rates is.rates.2 is.rates.3) refl)))))
 
-abbrev PortsFit : ℕ → List Port → Type 0
-PortsFit before ports = (0 < length ports) → before + length ports ≤ 1024
-
 counted-ports : (before : ℕ) (ports : List Port) → PortsFit before ports → AfterEach (Counted before 1024) [] ports
 counted-ports before [] fit = tt
 counted-ports before (p ∷ ports) fit =
     let few : before + length (p ∷ ports) ≤ 1024 = fit (omega arith) in
     counted-from_few before 1024 [] (p ∷ ports) (omega arith)
-
-abbrev ActorsDiffer : Actor → Actor → Type 0
-ActorsDiffer a b = a.name ≢ b.name
 
 actor_of : (kind : Kind) (of : List ℕ) (done : List Actor) (e : Node) (a : Actor) → Spelled.IsActor kind e a → Related ActorsDiffer ActorCounted done a → Sections.actor_of kind of done e ≡ Ok a
 unfolding Sections.actor_of

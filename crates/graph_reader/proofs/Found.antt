@@ -90,7 +90,7 @@ direction_in of word =
     choice (λ d. word ≡ Spelled.direction_word d) (bytes_eq word (codes "out")) (Ok Out) _ (λ k. (bytes_eq-Decides word (codes "out")).0 k) (λ k. tt))
 
 -- ports of an actor differ, and the ports of the graph are few
-abbrev PortsDiffer : Port → Port → Type 0
+abbrev pub PortsDiffer : Port → Port → Type 0
 PortsDiffer p q = p.name ≢ q.name
 
 port_of : (kind : Kind) (actor : List ℕ) (before : ℕ) (done : List Port) (e : Node) → IfOk (Sections.port_of kind actor before done e) (λ p. Spelled.IsPort kind e p × Related PortsDiffer (Counted before 1024) done p)
@@ -105,7 +105,7 @@ port_of kind actor before done e =
     (record { name = new.0; direction = typed ∙ ap Some word_is; rates = (text, has, is.0, is.1) }, (new.1, few.1))))))))
 
 -- an actor's ports are few after those of the earlier actors
-abbrev PortsFit : ℕ → List Port → Type 0
+abbrev pub PortsFit : ℕ → List Port → Type 0
 PortsFit before ports = (0 < length ports) → before + length ports ≤ 1024
 
 few-from_counted-ports : (before : ℕ) (ports : List Port) → AfterEach (Counted before 1024) [] ports → PortsFit before ports
@@ -115,7 +115,7 @@ few-from_counted-ports before (p ∷ ports) after some =
     let all = few-from_counted before 1024 [] (p ∷ ports) (omega arith) after in
     omega arith
 
-abbrev ActorsDiffer : Actor → Actor → Type 0
+abbrev pub ActorsDiffer : Actor → Actor → Type 0
 ActorsDiffer a b = a.name ≢ b.name
 
 abbrev pub ActorCounted : List Actor → Actor → Type 0

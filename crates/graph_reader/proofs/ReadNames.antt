@@ -4,6 +4,7 @@ use Rattle.std.specs.Prelude.{IsTrue, IfOk}
 use Rattle.std.specs.List.{AllPairs}
 use Rattle.std.proofs.lemmas.List.Elements.{All-nil, All-cons}
 use Rattle.std.proofs.lemmas.List.Kept.{AllPairs-cons}
+use Rattle.std.proofs.lemmas.Result.{IfOk-at_ok}
 use Rattle.sd_base.specs.declared.tables.Kind.{Kind}
 use Rattle.sd_base.specs.declared.tables.GraphFile.{GraphFile}
 use Rattle.sd_base.specs.declared.tables.ActorRow.{ActorRow}
@@ -23,7 +24,6 @@ use Rattle.graph_reader.specs.WritableNames.{HasWritableNames, IsWritableName}
 use Rattle.graph_reader.specs.Laws.{ReadIsWritable}
 use Rattle.file_text.specs.Values.{HasCharacters}
 use Rattle.file_text.proofs.ValueTexts.{text-characters}
-use Rattle.graph_reader.proofs.ReaderSteps.{if-ok}
 use Rattle.graph_reader.proofs.Rules.{is_timed}
 use Rattle.graph_reader.proofs.Found.{table_of as found}
 use Rattle.graph_reader.proofs.Values.{attribute-characters, children-characters}
@@ -98,7 +98,7 @@ table-names need_times e t good is =
 pub tree_names : (need_times : Bool) (e : Node) (t : GraphFile) → HasCharacters e → table_of need_times e ≡ Ok t → HasWritableNames t
 tree_names need_times e t good gives =
     table-names need_times e t good
-    (if-ok (λ u. (IsTrue need_times → IsTimed u) → IsTable need_times e u) (table_of need_times e) t (found need_times e) gives (is_timed need_times e (Ok t) gives))
+    (IfOk-at_ok (λ u. (IsTrue need_times → IsTimed u) → IsTable need_times e u) gives (found need_times e) (is_timed need_times e (Ok t) gives))
 
 pub given_names : (need_times : Bool) (e : Node) (result : Result GraphFile ReadError) → HasCharacters e → Gives (λ t. t) result (table_of need_times e) → IfOk result HasWritableNames
 given_names need_times e (Ok t) good gives = tree_names need_times e t good gives

@@ -1,5 +1,5 @@
 -- Steps one after another, as a reader takes them.
-use Rattle.std.proofs.Common.{◌≡◌, Bool, true, false, cond, Result, Ok, Err, refl, subst}
+use Rattle.std.proofs.Common.{◌≡◌, Bool, true, false, cond, Result, Ok, Err, refl}
 use Rattle.std.specs.Prelude.{IfOk}
 use Rattle.graph_reader.specs.declared.error.ReadError.{ReadError}
 use Rattle.graph_reader.specs.TreeSteps.{◌>>=◌}
@@ -33,6 +33,3 @@ then-ok r f x y e h = rw e h
 -- a test that fails goes on with the second
 pub passes : {A : Type 0} (b : Bool) (x y z : Result A ReadError) → b ≡ false → y ≡ z → cond b x y ≡ z
 passes b x y z e h = rw e h
-
-pub if-ok : {A : Type 0} (P : A → Type 0) (r : Result A ReadError) (x : A) → IfOk r P → r ≡ Ok x → P x
-if-ok P r x p e = subst (λ t. IfOk t P) e p

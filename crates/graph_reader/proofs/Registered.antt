@@ -8,7 +8,7 @@ use Rattle.std.proofs.lemmas.List.Folds.{find_at}
 use Rattle.std.proofs.lemmas.Option.{slice_get_cases}
 use Rattle.std.proofs.lemmas.Slice.Eq.{bytes_eq-Decides}
 use Rattle.std.proofs.lemmas.Bool.{or_parts}
-use Rattle.sd_base.proofs.Lists.{any-map}
+use Rattle.sd_base.proofs.Lists.{any-map, push-all}
 use Rattle.sd_base.proofs.Truths.{bytes_turned}
 use Rattle.graph_reader.specs.declared.actors.Actor.{Actor}
 use Rattle.graph_reader.specs.Sections.{is_among, numbered}
@@ -82,17 +82,12 @@ module _ {R : Type 0} (name_of : R → List ℕ) (test : R → Bool) (name : Lis
       go true false here passes later = none-later (name_of r) rows ((bytes_eq-Decides (name_of r) name).0 here) apart.0 ∙ rw passes refl
       go false t here passes later = later
 
--- a name more
-all-more : (P : List ℕ → Type 0) (names : List (List ℕ)) (name : List ℕ) → AllByRecursion P names → P name → AllByRecursion P (names ++ name ∷ [])
-all-more P [] name all here = (here, tt)
-all-more P (n ∷ names) name all here = (all.0, all-more P names name all.1 here)
-
 differ-more : (names : List (List ℕ)) (name : List ℕ) → is_among name names ≡ false → IsDistinct bytes_eq names → IsDistinct bytes_eq (names ++ name ∷ [])
 unfolding IsDistinct
 differ-more [] name new apart = (tt, tt)
 differ-more (n ∷ names) name new apart =
     let p = or_parts (bytes_eq n name) (is_among name names) new in
-    (all-more (λ m. bytes_eq n m ≡ false) names name apart.0 p.0, differ-more names name p.1 apart.1)
+    (push-all (λ m. bytes_eq n m ≡ false) names name apart.0 p.0, differ-more names name p.1 apart.1)
 
 pub named-more : {K R : Type 0} (text : K → List ℕ) (name_of : R → List ℕ) (keys more : List K) (rows more_rows : List R) (key : K) (row : R) → AreNamed (map name_of rows) (map text keys)
     → is_among (name_of row) (map name_of rows) ≡ false → text key ≡ name_of row → more ≡ keys ++ key ∷ [] → more_rows ≡ rows ++ row ∷ [] → AreNamed (map name_of more_rows) (map text more)

@@ -7,6 +7,7 @@ use Rattle.std.specs.Str.{bytes_eq}
 use Rattle.std.proofs.lemmas.Bool.{eqb-false}
 use Rattle.std.proofs.lemmas.List.Elements.{All-from_recursion, recursion_from_All}
 use Rattle.std.proofs.lemmas.List.{get_or-map, length-map, length_push}
+use Rattle.std.proofs.lemmas.Result.{IfOk-at_ok}
 use Rattle.sd_base.specs.declared.limits.Quantity.{Quantity}
 use Rattle.sd_base.specs.declared.limits.Quantity.TheVariants as quantity
 use Rattle.sd_base.specs.declared.tables.Kind.{Kind}
@@ -14,6 +15,7 @@ use Rattle.sd_base.specs.declared.tables.Kind.TheVariants.{Sdf}
 use Rattle.sd_base.specs.declared.tables.GraphFile.{GraphFile}
 use Rattle.sd_base.specs.declared.tables.ActorRow.{ActorRow}
 use Rattle.sd_base.specs.Tables.{ActorKeepsRules, PortKeepsRules, ChannelKeepsRules, KeepsRules, IsTimed}
+use Rattle.sd_base.proofs.Lists.{push-all}
 use Rattle.file_text.specs.Node.{Node}
 use Rattle.file_text.specs.Grammar.{Each}
 use Rattle.graph_reader.specs.declared.field.Field.{Field}
@@ -34,15 +36,11 @@ use Rattle.graph_reader.specs.NumberTexts
 use Rattle.graph_reader.specs.Sections
 use Rattle.graph_reader.specs.Spelled.{IsNumber, Spells, ArePhased, IsEven}
 use Rattle.graph_reader.specs.inside.Lists.{AreShort, HasShortPorts, JoinActors}
-use Rattle.graph_reader.proofs.ReaderSteps.{then, skip, weaker, choice, both, if-ok}
+use Rattle.graph_reader.proofs.ReaderSteps.{then, skip, weaker, choice, both}
 use Rattle.graph_reader.proofs.NumberLists.{within, found, one_long}
 use Rattle.graph_reader.proofs.NumberLists
 use Rattle.graph_reader.proofs.PhaseLists.{Fits, longest-some, longest-few, widened-long, widened-all, widened-moves, some-long}
 use Rattle.graph_reader.proofs.Found.{even_phases}
-
-pub push-all : {A : Type 0} (P : A → Type 0) (done : List A) (a : A) → AllByRecursion P done → P a → AllByRecursion P (done ++ a ∷ [])
-push-all P [] a p q = (q, tt)
-push-all P (x ∷ done) a p q = (p.0, push-all P done a p.1 q)
 
 -- what holds of each value that is read holds of all of them
 each-all : {A : Type 0} (P : A → Type 0) (read : List A → Node → Result A ReadError) → ((done : List A) (e : Node) → IfOk (read done e) P) → (done : List A) (es : List Node) → AllByRecursion P done → IfOk (TreeSteps.each read done es) (AllByRecursion P)
@@ -501,18 +499,18 @@ actors-short kind [] fit = tt
 actors-short kind (a ∷ actors) fit = (All-from_recursion (λ (xs : List ℕ). length xs ≤ 4096) (map (λ (p : Port). p.rates) a.ports) (ports-short kind 4096 (few-phases kind) a.ports fit.0), actors-short kind actors fit.1)
 
 pub short_ports : (kind : Kind) (of : List ℕ) (section : Node) (actors : List Actor) → Sections.actors_of kind of section ≡ Ok actors → All HasShortPorts actors
-short_ports kind of section actors read = All-from_recursion HasShortPorts actors (actors-short kind actors (if-ok (ActorsFit kind) (Sections.actors_of kind of section) actors (actors_of kind of section) read).fit)
+short_ports kind of section actors read = All-from_recursion HasShortPorts actors (actors-short kind actors (IfOk-at_ok (ActorsFit kind) read (actors_of kind of section)).fit)
 
 channels-join : (actors : List Actor) (channels : List Channel) → AllByRecursion (ChannelFits actors) channels → AllByRecursion (JoinActors (length actors)) channels
 channels-join actors [] fit = tt
 channels-join actors (c ∷ channels) fit = (record { source = fit.0.source.actor; target = fit.0.target.actor }, channels-join actors channels fit.1)
 
 pub join : (of : List ℕ) (actors : List Actor) (section : Node) (channels : List Channel) → Sections.channels_of of actors section ≡ Ok channels → All (JoinActors (length actors)) channels
-join of actors section channels read = All-from_recursion (JoinActors (length actors)) channels (channels-join actors channels (if-ok (ChannelsFit actors) (Sections.channels_of of actors section) channels (channels_of of actors section) read).fit)
+join of actors section channels read = All-from_recursion (JoinActors (length actors)) channels (channels-join actors channels (IfOk-at_ok (ChannelsFit actors) read (channels_of of actors section)).fit)
 
 pub short_lists : (kind : Kind) (of : List ℕ) (actors : List Actor) (o : Option Node) (times : List TimeEntry) → Sections.times_of kind of actors o ≡ Ok times → All HasShortPorts actors → All (λ a. AreShort (Sections.lists_of times a)) actors
 short_lists kind of actors o times read short k d below =
     let a : Actor = get_or actors k d in
-    let fit : AllByRecursion (TimeEntryFits kind) times = if-ok (AllByRecursion (TimeEntryFits kind)) (Sections.times_of kind of actors o) times (times_of kind of actors o) read in
+    let fit : AllByRecursion (TimeEntryFits kind) times = IfOk-at_ok (AllByRecursion (TimeEntryFits kind)) read (times_of kind of actors o) in
     All-from_recursion (λ (xs : List ℕ). length xs ≤ 4096) (Sections.lists_of times a)
     (times-short kind 4096 (few-phases kind) (Sections.times_at times a.name) (times_at kind times a.name fit), recursion_from_All (λ (xs : List ℕ). length xs ≤ 4096) (map (λ (p : Port). p.rates) a.ports) (short k d below))

@@ -1,6 +1,6 @@
 -- One more that waits, unless its distribution does so already.
 use Rattle.std.proofs.Common.{◌≡◌, ℕ, ◌⊎◌, true, List, inl, inr, ⊎_elim, refl, sym, ◌∙◌, subst}
-use Rattle.std.specs.Prelude.{Any, Contains, IfErr, OnOk, Result, Ok, Err}
+use Rattle.std.specs.Prelude.{Any, Contains}
 use Rattle.std.specs.List.{list_any}
 use Rattle.std.proofs.lemmas.List.Folds.{Any-from_list_any}
 use Rattle.std.specs.declared.cmp.Ordering.{Ordering}
@@ -59,12 +59,3 @@ module _ {H : Type 0} where
   only-copy child old new inserted f one =
       ⊎_elim (λ (h : child ≡ f). inr (copy-same child f h)) (λ (h : Contains old f). inl h)
       (insert-only old child f (subst (λ (fs : List (Found H)). Contains fs f) inserted one))
-
--- what follows of a result's clauses
-pub on-ok : {A E : Type 0} (P Q : Type 0) (r : Result A E) → (P → Q) → OnOk r P → OnOk r Q
-on-ok P Q (Ok a) more is = more is
-on-ok P Q (Err e) more is = is
-
-pub if-err : {A E : Type 0} (P Q : E → Type 0) (r : Result A E) → ((e : E) → P e → Q e) → IfErr r P → IfErr r Q
-if-err P Q (Ok a) more is = is
-if-err P Q (Err e) more is = more e is

@@ -131,12 +131,9 @@ led-append cs limit ds xs ys hint old now new first second = record {
 pub part-so-far : (xs : List ℕ) (n : ℕ) (c : ℕ) → n < length xs → Contains (slice_index_or xs n 0 ∷ []) c → Contains xs c
 part-so-far xs n c below one =
     ⊎_elim
-    (λ (h : slice_index_or xs n 0 ≡ c). subst (Contains xs) h (at-place xs n below))
+    (λ (h : slice_index_or xs n 0 ≡ c). subst (Contains xs) h (Contains-get_or xs n 0 below))
     (λ (none : Contains [] c). absurd (contains-none c none))
     (contains-cases (slice_index_or xs n 0) [] c one)
-  where
-    at-place : (ys : List ℕ) (k : ℕ) → k < length ys → Contains ys (slice_index_or ys k 0)
-    at-place ys k small = Contains-get_or ys k 0 small
 
 pub led-more : {H : Type 0} (cs : List Channel) (limit : ℕ) (ds : List (Option ℕ)) (xs : List ℕ) (n : ℕ) (hint : H) (old now new : List (Found H)) → n < length xs → AreLedOn cs limit (led_by ds (take n xs)) hint old now → AreLedOn cs limit (led_by ds (slice_index_or xs n 0 ∷ [])) hint now new → AreLedOn cs limit (led_by ds (take (n + 1) xs)) hint old new
 led-more cs limit ds xs n hint old now new below first second =

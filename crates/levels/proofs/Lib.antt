@@ -8,3 +8,4 @@ pub mod LedOn
 pub mod Children
 pub mod Spreading
 pub mod ComingTo
+pub mod Visited

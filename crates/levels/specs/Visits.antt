@@ -3,6 +3,7 @@ use Rattle.std.specs.Prelude.{◌≡◌, ℕ, ◌≤◌, ◌<◌, ◌⊎◌, All
 use Rattle.sd_base.specs.Net.{Channel}
 use Rattle.storage.specs.Distributions.{storage_of}
 use Rattle.storage.specs.StorageOrder.{AreInOrder, stepped}
+use Rattle.storage.specs.ClosedLists.{Entry}
 
 -- a distribution that is visited, and the channels on which it leads on to more room
 pub record Visit : Type 0 where
@@ -12,6 +13,10 @@ pub record Visit : Type 0 where
 -- the visit of a distribution that leads on by some channels
 abbrev pub led_by : List (Option ℕ) → List ℕ → Visit
 led_by ds channels = record { capacities = ds; channels = channels }
+
+-- the visits that entries are
+abbrev pub visits_of : List Entry → List Visit
+visits_of es = map (λ (e : Entry). led_by e.capacities e.shown) es
 
 -- the distributions of visits
 abbrev pub visited : List Visit → List (List (Option ℕ))

@@ -88,12 +88,6 @@ targets-skip net t channels old now n into so_far = record {
 
 -- ---- an actor is looked at
 
-pub trues-more : (n : ℕ) → replicate (n + 1) true ≡ replicate n true ++ true ∷ []
-trues-more zero = refl
-trues-more (suc n) =
-    let e : suc n + 1 ≡ suc (n + 1) = omega arith in
-    rw e (ap (λ (bs : List Bool). true ∷ bs) (trues-more n))
-
 pub all-flagged : (net : Net) (counts : List ℕ) (flagged : List Bool) (stack : List ℕ) (n : ℕ) → n ≡ length net.times → flagged ≡ replicate n true → stack ≡ range_with_len 0 n → LeavesFlags net counts flagged stack
 all-flagged net counts flagged stack n is trues range = record {
   flags = record {

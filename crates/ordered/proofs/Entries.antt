@@ -1,28 +1,20 @@
 -- Named actors, the entries of their firings, and the phases that they get.
-use Rattle.std.proofs.Common.{◌≡◌, ℕ, zero, suc, ◌+◌, ◌*◌, ◌%◌, ◌/◌, ◌≤◌, ◌<◌, Bool, true, false, List, [], ◌∷◌, length, map, ⊎_elim, subst, sym, refl, ap, ◌∙◌, arith, eq-eqb, eqb-true, div-add-mod'}
+use Rattle.std.proofs.Common.{◌≡◌, ℕ, zero, suc, ◌+◌, ◌*◌, ◌%◌, ◌/◌, ◌≤◌, ◌<◌, Bool, true, false, List, [], length, map, subst, sym, refl, ap, ◌∙◌, arith, eq-eqb, eqb-true, div-add-mod'}
 use Rattle.std.proofs.Math.Nat.{mod-eq_of_lt, mod_self, mod-lt}
 use Rattle.std.specs.Prelude.{slice_index, slice_index_or, ◌==◌, ◌||◌, if◌then◌else◌, replicate}
 use Rattle.std.specs.List.{list_any, range_with_len}
-use Rattle.std.proofs.lemmas.Bool.{or_cases}
 use Rattle.std.proofs.lemmas.List.{get_or-map, get_or-replicate, length-replicate}
 use Rattle.std.proofs.lemmas.List.FromFn.{length-map-range_with_len, get_or-map-range_with_len}
 use Rattle.sd_base.specs.Net.{Channel, Net, channel_at, phase_entry, total}
 use Rattle.sd_base.specs.Schedules.{phases_at}
 use Rattle.sd_base.specs.Lawful.{Lawful}
 use Rattle.sd_base.proofs.Sums.{total-zero, total-suc}
+use Rattle.sd_base.proofs.Lists.{any-place}
 use Rattle.ordered.specs.Orders.{entry_at, fired, firing_at, AreOrders}
 use Rattle.ordered.specs.OrderedNets.{is_named, phases_in, unrolled, ordered}
 use Rattle.ordered.proofs.Counting.{Found, found-on}
 use Rattle.ordered.proofs.Picks.{entry-turns, is_of, of-turns, of-here}
 use Rattle.ordered.proofs.Unrolling.{unrolled-entry, unrolled-total}
-
--- the place of an element that passes
-pub any-place : {X : Type 0} (p : X → Bool) (d : X) (xs : List X) → list_any p xs ≡ true → (i : ℕ) × (i < length xs) × (p (slice_index_or xs i d) ≡ true)
-any-place p d [] any = absurd (cc)
-any-place p d (x ∷ xs) any = ⊎_elim
-    (λ (here : p x ≡ true). (0, omega arith, here))
-    (λ (later : list_any p xs ≡ true). let at = any-place p d xs later in (suc at.0, omega (arith, at.1), at.2))
-    (or_cases (p x) (list_any p xs) any)
 
 -- an order and the place of an actor in it
 pub record Named (orders : List (List ℕ)) (a : ℕ) : Type 0 where

@@ -1,10 +1,10 @@
 -- Rows that are made a cell at a time, and raised an edge at a time.
-use Rattle.std.proofs.Common.{◌≡◌, ℕ, zero, suc, ◌+◌, ◌*◌, ◌-◌, ◌≤◌, ◌<◌, List, [], ◌∷◌, length, Option, Some, None, refl, sym, ap, ◌∙◌, arith}
-use Rattle.std.proofs.Math.Nat.{mul-le-mul_right}
+use Rattle.std.proofs.Common.{◌≡◌, ℕ, zero, suc, ◌*◌, ◌-◌, ◌<◌, List, [], ◌∷◌, length, Option, Some, None, refl, sym, ap, ◌∙◌, arith}
 use Rattle.automaton.specs.declared.graph.TimedGraph.{TimedGraph}
 use Rattle.automaton.specs.CriticalCycles.{IsStart}
 use Rattle.scenario_rate.specs.declared.levels.Cell.{Cell}
 use Rattle.automaton.specs.SoundGraphs.{IsSound}
+use Rattle.automaton.proofs.Walks.{start-inside}
 use Rattle.scenario_rate.specs.inside.Levels.{cell_at, IsFirst, IsFirstCell, aged_of}
 
 pub cell-inside : (xs : List (Option Cell)) (v : ℕ) (c : Cell) → cell_at xs v ≡ Some c → v < length xs
@@ -29,15 +29,10 @@ first-cell-there : (graph : TimedGraph) (v : ℕ) (o : Option Cell) → IsFirstC
 first-cell-there graph v None h (i, below, is) = absurd (h (omega arith) (omega arith))
 first-cell-there graph v (Some x) h start = (x, refl)
 
-start-inside : (graph : TimedGraph) (v : ℕ) → graph.initial < graph.states → IsStart graph v → v < graph.states * graph.tokens
-start-inside graph v below (i, small, is) =
-    let up : suc graph.initial * graph.tokens ≤ graph.states * graph.tokens = mul-le-mul_right graph.tokens (let g : suc graph.initial ≤ graph.states = omega arith in g) in
-    let e : suc graph.initial * graph.tokens ≡ graph.initial * graph.tokens + graph.tokens = omega arith in omega arith
-
 pub first-all : (graph : TimedGraph) (row : List (Option Cell)) → IsSound graph → So (IsFirstCell graph) row (graph.states * graph.tokens) → IsFirst graph (cell_at row)
 first-all graph row sound s = record {
   there = λ v start. first-cell-there graph v (cell_at row v) (s.each v (let e : length row ≡ graph.states * graph.tokens = s.size in
-      let g : v < graph.states * graph.tokens = start-inside graph v sound.some_state start in omega arith)) start;
+      let g : v < graph.states * graph.tokens = start-inside graph sound.some_state v start in omega arith)) start;
   start = λ v c at. (first-cell-start graph v (cell_at row v) c (s.each v (cell-inside row v c at)) at).0;
   zero_score = λ v c at. (first-cell-start graph v (cell_at row v) c (s.each v (cell-inside row v c at)) at).1;
 }

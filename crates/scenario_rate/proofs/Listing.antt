@@ -4,6 +4,7 @@ use Rattle.std.specs.Prelude.{slice_get, slice_index_or}
 use Rattle.std.proofs.lemmas.Bool.{cases_eq}
 use Rattle.std.proofs.lemmas.List.{length-set, length-replicate, get_or-set_same, get_or-set_other, take_more, get_or_default}
 use Rattle.std.proofs.lemmas.Option.{slice_get_within, get_or_from_slice_get}
+use Rattle.sd_base.proofs.Lists.{replicate-same}
 use Rattle.automaton.specs.declared.graph.Edge.{Edge}
 use Rattle.scenario_rate.specs.declared.by_node.End.{End}
 use Rattle.scenario_rate.specs.declared.by_node.End.TheVariants.{From, To}
@@ -76,14 +77,9 @@ listed_long end es ts nodes lists now is listed = ap (λ (l : List (List ℕ)). 
 pub listed_none : (end : End) (es : List Edge) (nodes : ℕ) (lists : List (List ℕ)) → lists ≡ replicate nodes [] → AreByNode end es [] nodes lists
 listed_none end es nodes lists is = record {
   long = ap (λ (l : List (List ℕ)). length l) is ∙ length-replicate nodes [];
-  each = λ v k among. absurd (among_none k (subst (λ (l : List ℕ). IsAmong l k) (ap (λ (l : List (List ℕ)). list_at l v) is ∙ empty nodes v) among));
+  each = λ v k among. absurd (among_none k (subst (λ (l : List ℕ). IsAmong l k) (ap (λ (l : List (List ℕ)). list_at l v) is ∙ replicate-same {A = List ℕ} nodes v []) among));
   all = λ k e among at. absurd (among_none k among);
 }
-  where
-    empty : (n v : ℕ) → list_at (replicate n []) v ≡ []
-    empty zero v = refl
-    empty (suc n) zero = refl
-    empty (suc n) (suc v) = empty n v
 
 pub listed_more : (end : End) (es : List Edge) (ts more : List ℕ) (nodes number : ℕ) (e : Edge) (old new : List (List ℕ)) → AreByNode end es ts nodes old → slice_get es number ≡ Some e → node_at end e < nodes
     → more ≡ ts ++ number ∷ [] → new ≡ set old (node_at end e) (list_at old (node_at end e) ++ number ∷ []) → AreByNode end es more nodes new

@@ -1,8 +1,7 @@
 -- What the walk of a raised node closes, and the rate of a cycle.
 use Rattle.std.proofs.Common.{◌≡◌, ℕ, zero, suc, ◌+◌, ◌*◌, ◌-◌, ◌≤◌, ◌<◌, List, [], ◌∷◌, length, take, drop, Option, Some, None, refl, sym, ap, subst, ◌∙◌, inl, inr, arith}
 use Rattle.std.proofs.Math.Nat.{mul-le-mul, mul-le-mul_left}
-use Rattle.std.specs.Int.{IsGcd}
-use Rattle.std.proofs.lemmas.Nat.Gcd.{le_of_dvd}
+use Rattle.std.proofs.lemmas.Nat.Gcd.{le_of_dvd, IsGcd-swap}
 use Rattle.std.specs.Prelude.{slice_get, slice_index_or}
 use Rattle.std.proofs.lemmas.Bool.{cases_lt}
 use Rattle.std.proofs.lemmas.Option.{get_or_from_slice_get}
@@ -105,9 +104,6 @@ taken-weight es ks i k e at is = subst (λ n. weights es (take i ks) + e.weight 
     go (x ∷ ks) (suc i) h = let r : weights es (take i ks) + e.weight ≡ weights es (take (suc i) ks) = go ks i h in
         (let g : weight_in (slice_get es x) + weights es (take i ks) + e.weight ≡ weight_in (slice_get es x) + weights es (take (suc i) ks) = omega arith in g)
 
-turned : (a b : ℕ) → IsGcd a b 1 → IsGcd b a 1
-turned a b h = (h.1, h.0, λ d p q. h.2 d q p)
-
 positive : (num den a b : ℕ) → num * a ≡ b * den → 1 ≤ b → 1 ≤ den → 1 ≤ num
 positive zero den a b e some some' = absurd (let p : 1 * 1 ≤ b * den = mul-le-mul some some' in let no : ⊥ = omega arith in no)
 positive (suc num) den a b e some some' = (let g : 1 ≤ suc num = omega arith in g)
@@ -143,7 +139,7 @@ rated graph l w es cycle b sound loop es_is is rate' =
     let some : 1 ≤ b.rate.num = positive b.rate.num b.rate.den (weights graph.edges cycle) (length cycle) rate loop.some b.rate.positive in
     let light : weights graph.edges cycle ≤ length cycle * 100000000000000 = weights-light graph.edges (graph.states * graph.tokens) sound.edges cycle in
     let few : length cycle ≤ 1024 = loop.few in
-    let low : b.rate.num ≤ length cycle = le_of_dvd (loop.some) (root_divides b.rate.den b.rate.num (length cycle) (weights graph.edges cycle) (turned b.rate.num b.rate.den b.rate.lowest) (let q : weights graph.edges cycle * b.rate.num ≡ length cycle * b.rate.den = omega arith in q)) in
+    let low : b.rate.num ≤ length cycle = le_of_dvd (loop.some) (root_divides b.rate.den b.rate.num (length cycle) (weights graph.edges cycle) (IsGcd-swap b.rate.num b.rate.den 1 b.rate.lowest) (let q : weights graph.edges cycle * b.rate.num ≡ length cycle * b.rate.den = omega arith in q)) in
     let high : b.rate.den ≤ weights graph.edges cycle = le_of_dvd (loop.heavy) (root_divides b.rate.num b.rate.den (weights graph.edges cycle) (length cycle) b.rate.lowest (let q : length cycle * b.rate.den ≡ weights graph.edges cycle * b.rate.num = omega arith in q)) in
     record {
       best = record {

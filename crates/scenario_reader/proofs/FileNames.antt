@@ -2,6 +2,7 @@
 use Rattle.std.proofs.Common.{◌≡◌, Bool, true, false, ◌==◌, List, [], ◌∷◌, Result, Ok, Err, All, sym, subst}
 use Rattle.std.specs.Prelude.{IfOk, cond}
 use Rattle.std.proofs.lemmas.List.Elements.{All-nil, All-cons, All-head, All-tail, All-same}
+use Rattle.std.proofs.lemmas.Result.{IfOk-at_ok}
 use Rattle.sd_base.specs.declared.tables.Kind.TheVariants.{Sdf}
 use Rattle.sd_base.specs.declared.tables.ChannelRow.{ChannelRow}
 use Rattle.sd_base.specs.declared.tables.ScenarioFile.{ScenarioFile}
@@ -17,7 +18,6 @@ use Rattle.graph_reader.specs.declared.field.Field.TheVariants as field
 use Rattle.graph_reader.specs.Field.{word_of}
 use Rattle.graph_reader.specs.TreeSteps.{children, Gives}
 use Rattle.graph_reader.specs.WritableNames.{IsWritableName, HasWritableNames}
-use Rattle.graph_reader.proofs.ReaderSteps.{if-ok}
 use Rattle.graph_reader.proofs.ReadNames.{all-from_each, each-read, name-writable, only-characters, graph-names}
 use Rattle.graph_reader.proofs.Values.{children-characters}
 use Rattle.scenario_reader.specs.declared.states.State.{State}
@@ -76,7 +76,7 @@ file-names e f good is = record {
 
 -- the file that a tree gives has names that can be written
 tree_names : (e : Node) (f : ScenarioFile) → HasCharacters e → file_of e ≡ Ok f → FileHasWritableNames f
-tree_names e f good gives = file-names e f good (if-ok (IsScenarioFile e) (file_of e) f (found e) gives)
+tree_names e f good gives = file-names e f good (IfOk-at_ok (IsScenarioFile e) gives (found e))
 
 pub given_names : (e : Node) (result : Result ScenarioFile ReadError) → HasCharacters e → Gives (λ f. f) result (file_of e) → IfOk result FileHasWritableNames
 given_names e (Ok f) good gives = tree_names e f good gives

@@ -15,6 +15,7 @@ use Rattle.sd_base.specs.declared.tables.SharedRow.{SharedRow}
 use Rattle.sd_base.specs.declared.tables.StateRow.{StateRow}
 use Rattle.sd_base.specs.Tables.{KeepsRules, IsTimed}
 use Rattle.sd_base.specs.Scenarios.{shared_count, ScenarioKeepsRules, FileKeepsRules}
+use Rattle.sd_base.proofs.Lists.{push-all}
 use Rattle.file_text.specs.Node.{Node}
 use Rattle.graph_reader.specs.declared.field.Field.{Field}
 use Rattle.graph_reader.specs.declared.field.Field.TheVariants as field
@@ -30,7 +31,7 @@ use Rattle.graph_reader.proofs.NumberLists.{within}
 use Rattle.graph_reader.proofs.ElementPlaces.{AfterEach, Follows, each-gives, Related, two-from_after, Counted, few-from_counted, Each-from_none, Each-weaker}
 use Rattle.graph_reader.proofs.Found.{NamesDiffer, graph-kind, names-apart}
 use Rattle.graph_reader.proofs.Found
-use Rattle.graph_reader.proofs.Rules.{Keeps, push-all}
+use Rattle.graph_reader.proofs.Rules.{Keeps}
 use Rattle.graph_reader.proofs.Rules
 use Rattle.scenario_reader.specs.declared.states.State.{State}
 use Rattle.scenario_reader.specs.ScenarioSections as files
@@ -171,10 +172,10 @@ initial_of states fsm =
 
 -- ---- successors
 
-abbrev Differ : ℕ → ℕ → Type 0
+abbrev pub Differ : ℕ → ℕ → Type 0
 Differ m n = m ≢ n
 
-abbrev NoCount : List ℕ → ℕ → Type 0
+abbrev pub NoCount : List ℕ → ℕ → Type 0
 NoCount done n = Unit {0}
 
 abbrev IsNew : List ℕ → ℕ → Type 0

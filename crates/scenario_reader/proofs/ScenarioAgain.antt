@@ -27,7 +27,8 @@ use Rattle.scenario_reader.specs.declared.states.State.{State}
 use Rattle.scenario_reader.specs.ScenarioSections as files
 use Rattle.scenario_reader.specs.ScenarioSpelled.{IsScenario, AreScenarios, AreSame, AreShared, IsState, AreStates, IsInitial, NamesSuccessor, IsStateRow, AreRows, IsScenarioFile}
 use Rattle.scenario_reader.proofs.SharedRows.{share-again}
-use Rattle.scenario_reader.proofs.ScenarioFound.{ScenariosDiffer, StatesDiffer, Differ, NoCount}
+use Rattle.scenario_reader.proofs.ScenarioFound.{ScenariosDiffer, StatesDiffer}
+use Rattle.scenario_reader.proofs.FileRules.{Differ, NoCount}
 
 scenario_kind : files.scenario_kind (word_of field.Fsmsadf) ≡ Ok (word_of field.Fsmsadf)
 unfolding files.scenario_kind word_of

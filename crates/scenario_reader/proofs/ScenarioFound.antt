@@ -34,7 +34,7 @@ use Rattle.scenario_reader.specs.declared.states.State.{State}
 use Rattle.scenario_reader.specs.ScenarioSections as files
 use Rattle.scenario_reader.specs.ScenarioSpelled.{IsScenario, AreScenarios, AreSame, AreShared, IsState, AreStates, IsInitial, NamesSuccessor, IsStateRow, AreRows, IsScenarioFile}
 use Rattle.scenario_reader.proofs.SharedRows.{all-share}
-use Rattle.scenario_reader.proofs.FileRules.{few}
+use Rattle.scenario_reader.proofs.FileRules.{few, Differ, NoCount}
 
 -- values that are read of elements: one each, related to each other, and counted
 record AreRead {X : Type 0} (P : Node → X → Type 0) (R : X → X → Type 0) (N : List X → X → Type 0) (es : List Node) (xs : List X) : Type 0 where
@@ -128,12 +128,6 @@ initial_of states fsm =
     weaker (λ n. files.state_number states name ≡ Some n) (IsInitial states fsm) (Sections.known field.InitialState name (files.state_number states name)) (known field.InitialState name (files.state_number states name)) (λ n is. (name, has, is)))
 
 -- ---- successors
-
-abbrev pub Differ : ℕ → ℕ → Type 0
-Differ m n = m ≢ n
-
-abbrev pub NoCount : List ℕ → ℕ → Type 0
-NoCount done n = Unit {0}
 
 next_of : (states : List State) (of : List ℕ) (done : List ℕ) (e : Node) → IfOk (files.next_of states of done e) (λ n. NamesSuccessor states e n × Related Differ NoCount done n)
 unfolding files.next_of

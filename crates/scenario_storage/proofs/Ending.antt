@@ -14,7 +14,8 @@ use Rattle.storage.specs.StorageOrder.{stepped}
 use Rattle.storage.proofs.Climbs.{HasSteps, storage-le}
 use Rattle.storage.proofs.Covers.{covered-by}
 use Rattle.storage.proofs.FrontsFromMembers.{front-from, no_less, same-storage, positive-on}
-use Rattle.levels.specs.Visits.{led_by, visited}
+use Rattle.levels.specs.Visits.{led_by, visited, visits_of}
+use Rattle.levels.proofs.Visited.{has-entry}
 use Rattle.bounded_scenarios.specs.SharedChannels.{shared_channels}
 use Rattle.bounded_scenarios.specs.StorageRates.{HasWorstRate}
 use Rattle.bounded_scenarios.specs.ScenarioGuides.{IsReachable}
@@ -22,9 +23,9 @@ use Rattle.scenario_storage.specs.declared.point.ScenarioLimits.{ScenarioLimits}
 use Rattle.scenario_storage.specs.declared.point.ScenarioPoint.{ScenarioPoint}
 use Rattle.scenario_storage.specs.ScenarioPoints.{AreScenarioPoints, IsPoint, ReachesPoint, pair_of}
 use Rattle.scenario_storage.specs.inside.Points.{AreRising, IsBelow}
-use Rattle.scenario_storage.specs.inside.Searches.{Covers, HasTop, IsEnded, IsNoted, visits_of}
+use Rattle.scenario_storage.specs.inside.Searches.{Covers, HasTop, IsEnded, IsNoted}
 use Rattle.scenario_storage.proofs.Searchable.{IsSearchable}
-use Rattle.scenario_storage.proofs.Stepping.{entry-visit, entry-visited, has-entry}
+use Rattle.scenario_storage.proofs.Stepping.{entry-visit, entry-visited}
 
 -- two elements of a list are one, or one stands before the other
 pub one-or-apart : {A : Type 0} (R : A → A → Type 0) (xs : List A) (x y : A) → AllPairs R xs → Contains xs x → Contains xs y → (x ≡ y) ⊎ (R x y ⊎ R y x)

@@ -1,9 +1,8 @@
 -- What is known of distributions that were rated, with one more.
 use Rattle.std.proofs.Common.{◌≡◌, ℕ, ◌*◌, ◌≤◌, ◌<◌, true, Option, None, Some, List, [], ◌∷◌, ◌++◌, length, inl, inr, ⊎_elim, sym, ap, ◌∙◌, subst, arith, mul-le-mul_left, mul-le-mul_right}
-use Rattle.std.specs.Prelude.{All, Contains, MatchOption, OnOk, Result, Ok, Err, slice_index_or}
+use Rattle.std.specs.Prelude.{All, Contains, MatchOption, slice_index_or}
 use Rattle.std.proofs.lemmas.Bool.{cases_lt, true≢false}
 use Rattle.std.proofs.lemmas.List.Elements.{Contains-append_left, Contains-get_or, Contains-push, Contains-push_cases}
-use Rattle.sd_base.specs.declared.memory.NoMemory.{NoMemory}
 use Rattle.sd_base.specs.declared.numbers.Fraction.{Fraction}
 use Rattle.sd_base.specs.declared.tables.ScenarioFile.{ScenarioFile}
 use Rattle.sd_base.specs.declared.tables.SharedRow.{SharedRow}
@@ -245,8 +244,3 @@ module _ (file : ScenarioFile) (limit : ℕ) (es : List Entry) (best : Fraction)
 
 pub keeps-as : (total : ℕ) (point : ScenarioPoint) (old new : List ScenarioPoint) → point.total ≡ total → IsTaken point old new → KeepsEarlier total old new
 keeps-as total point old new same taken = subst (λ (n : ℕ). KeepsEarlier n old new) same (taken-keeps point old new taken)
-
--- what follows where a call returns
-pub ok-then : (r : Result (Unit {0}) NoMemory) (P Q : Type 0) → (P → Q) → OnOk r P → OnOk r Q
-ok-then (Ok done) P Q more is = more is
-ok-then (Err e) P Q more is = tt

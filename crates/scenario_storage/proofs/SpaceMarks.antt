@@ -1,10 +1,10 @@
 -- The shared channels whose free space is among channels that are marked for longest ways.
-use Rattle.std.proofs.Common.{◌≡◌, false, ℕ, ◌≤◌, ◌<◌, ◌⊎◌, Bool, true, Option, List, [], length, inl, inr, ⊎_elim, refl, sym, ap, ◌∙◌, subst, arith}
+use Rattle.std.proofs.Common.{◌≡◌, false, ℕ, ◌<◌, ◌⊎◌, Bool, true, Option, List, [], length, inl, inr, ⊎_elim, refl, sym, ap, ◌∙◌, subst, arith}
 use Rattle.std.specs.Prelude.{◌↔◌, replicate, slice_index_or}
-use Rattle.std.proofs.lemmas.Bool.{cases_lt, true≢false}
-use Rattle.std.proofs.lemmas.List.{get_or_past, get_or-replicate, length-replicate}
+use Rattle.std.proofs.lemmas.Bool.{true≢false}
 use Rattle.std.proofs.lemmas.Option.{slice_get_within}
 use Rattle.sd_base.specs.declared.tables.ScenarioFile.{ScenarioFile}
+use Rattle.sd_base.proofs.Lists.{replicate-same}
 use Rattle.token_matrix.specs.Stamps.{first_of}
 use Rattle.entry_ways.specs.declared.marking.EntryPlace.{EntryPlace}
 use Rattle.entry_ways.specs.WayMarks.{AreWayMarks, IsOnSome}
@@ -56,9 +56,4 @@ module _ (file : ScenarioFile) (gammas : List (List ℕ)) (ds : List (Option ℕ
 
 -- of a list of false nothing is true
 pub none-true : (n i : ℕ) (marks : List Bool) → marks ≡ replicate n false → slice_index_or marks i false ≡ true → ⊥
-none-true n i marks is one =
-    let no : slice_index_or (replicate n false) i false ≡ false = ⊎_elim
-    (λ (below : i < n). get_or-replicate n i false false below)
-    (λ (past : n ≤ i). get_or_past (replicate n false) i false (let long = length-replicate n false in omega (arith, long, past)))
-    (cases_lt i n) in
-    true≢false (sym one ∙ (ap (λ (xs : List Bool). slice_index_or xs i false) is ∙ no))
+none-true n i marks is one = true≢false (sym one ∙ (ap (λ (xs : List Bool). slice_index_or xs i false) is ∙ replicate-same n i false))

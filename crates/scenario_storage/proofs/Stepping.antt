@@ -1,23 +1,23 @@
 -- Distributions with a step more room, and what the visits of a search say of them.
-use Rattle.std.proofs.Common.{◌≡◌, ℕ, ◌≤◌, ◌<◌, Option, None, Some, List, [], ◌∷◌, ◌++◌, length, inl, inr, ⊎_elim, sym, ap, ◌∙◌, subst, arith}
+use Rattle.std.proofs.Common.{◌≡◌, ℕ, ◌≤◌, ◌<◌, Option, None, Some, List, [], length, inl, inr, ⊎_elim, sym, ap, ◌∙◌, subst, arith}
 use Rattle.std.specs.Prelude.{Contains, slice_index_or}
 use Rattle.std.proofs.lemmas.Bool.{cases_lt}
-use Rattle.std.proofs.lemmas.List.{get_or_default, get_or_past, map-append}
+use Rattle.std.proofs.lemmas.List.{get_or_past}
 use Rattle.sd_base.specs.declared.tables.ScenarioFile.{ScenarioFile}
 use Rattle.sd_base.specs.Net.{Channel, nowhere}
-use Rattle.storage.specs.ClosedLists.{Entry, HasEntry, no_entry}
+use Rattle.storage.specs.ClosedLists.{Entry}
 use Rattle.storage.specs.Distributions.{IsDistribution, capacity_at, storage_of}
 use Rattle.storage.specs.Steps.{IsCorner, step_of}
 use Rattle.storage.specs.StorageOrder.{stepped}
 use Rattle.storage.proofs.CornerLists.{corner-distribution, corner-grid}
 use Rattle.storage.proofs.Enlarging.{distribution-length, enlarged-distribution, enlarged-grid, enlarged-storage}
-use Rattle.levels.specs.Visits.{IsLedTo, LeadsTo, Visit, led_by, visited}
+use Rattle.levels.specs.Visits.{IsLedTo, LeadsTo, Visit, led_by, visited, visits_of}
 use Rattle.levels.specs.Frontiers.{Rises}
 use Rattle.levels.proofs.Elements.{contains-map, contains-unmap}
 use Rattle.bounded_scenarios.specs.SharedChannels.{shared_channels}
 use Rattle.bounded_scenarios.specs.ScenarioGuides.{corner, next}
 use Rattle.scenario_storage.specs.inside.Levels.{IsGuided}
-use Rattle.scenario_storage.specs.inside.Searches.{IsCandidate, IsNoted, visits_of}
+use Rattle.scenario_storage.specs.inside.Searches.{IsCandidate, IsNoted}
 use Rattle.scenario_storage.proofs.Searchable.{IsSearchable}
 
 -- entries and visits
@@ -36,14 +36,6 @@ visited-entry es ds one =
 
 pub entry-visited : (es : List Entry) (e : Entry) → Contains es e → Contains (visited (visits_of es)) e.capacities
 entry-visited es e one = contains-map (λ (x : Visit). x.capacities) (visits_of es) (led_by e.capacities e.shown) (entry-visit es e one)
-
-pub has-entry : (es : List Entry) (ds : List (Option ℕ)) → Contains (visited (visits_of es)) ds → HasEntry es ds
-has-entry es ds one =
-    let e = visited-entry es ds one in
-    (e.1.0, e.1.1, ap (λ (x : Entry). x.capacities) (get_or_default es e.1.0 no_entry e.0 e.1.1 ∙ e.1.2) ∙ e.2)
-
-pub visits-more : (es : List Entry) (e : Entry) → visits_of (es ++ e ∷ []) ≡ visits_of es ++ led_by e.capacities e.shown ∷ []
-visits-more es e = map-append (λ (x : Entry). led_by x.capacities x.shown) es (e ∷ [])
 
 -- a channel with a capacity is one of the channels
 pub capped-place : (cs : List Channel) (ds : List (Option ℕ)) (c k : ℕ) → IsDistribution cs ds → capacity_at ds c ≡ Some k → c < length cs

@@ -19,11 +19,12 @@ use Rattle.levels.specs.declared.found.Found.{Found}
 use Rattle.levels.specs.declared.found.Level.{Level}
 use Rattle.levels.specs.declared.levels.Bounds.{Bounds}
 use Rattle.levels.specs.declared.levels.Levels.{Levels}
-use Rattle.levels.specs.Visits.{AreVisits, IsLedTo, Visit, led_by, visited}
+use Rattle.levels.specs.Visits.{AreVisits, IsLedTo, Visit, led_by, visited, visits_of}
 use Rattle.levels.specs.Frontiers.{IsFrontier, IsLevelTaken, IsSame, IsSpent, Rises, Waits, distributions_of}
 use Rattle.levels.proofs.Elements.{contains-cases, contains-here, contains-map, contains-none}
 use Rattle.levels.proofs.LedOn.{known-long}
 use Rattle.levels.proofs.Spreading.{frontier-up_to}
+use Rattle.levels.proofs.Visited.{visits-more}
 use Rattle.bounded_scenarios.specs.SharedChannels.{shared_channels}
 use Rattle.bounded_scenarios.specs.ScenarioGuides.{IsReachable}
 use Rattle.scenario_storage.specs.declared.level.Answered.{Answered}
@@ -35,10 +36,10 @@ use Rattle.scenario_storage.specs.ScenarioPoints.{IsRefusal}
 use Rattle.scenario_storage.specs.inside.Errors.{error_of}
 use Rattle.scenario_storage.specs.inside.Levels.{IsRatingAnswer, IsRated, IsWithin}
 use Rattle.scenario_storage.specs.inside.Points.{IsBestOf}
-use Rattle.scenario_storage.specs.inside.Searches.{AreKnown, HasTop, IsAnswerOf, IsBest, IsCandidate, IsEnded, IsOffered, IsSearch, IsStanding, IsTurn, ShowsNone, answered_of, entry_of, taken_off, visits_of}
+use Rattle.scenario_storage.specs.inside.Searches.{AreKnown, HasTop, IsAnswerOf, IsBest, IsCandidate, IsEnded, IsOffered, IsSearch, IsStanding, IsTurn, ShowsNone, answered_of, entry_of, taken_off}
 use Rattle.scenario_storage.proofs.Knowing.{noted-more}
 use Rattle.scenario_storage.proofs.Searchable.{IsSearchable}
-use Rattle.scenario_storage.proofs.Stepping.{capped-place, entry-visited, guided-rises, led-candidate, visits-more}
+use Rattle.scenario_storage.proofs.Stepping.{capped-place, entry-visited, guided-rises, led-candidate}
 
 -- what stands in order before the first one that is taken off
 order-before : (file : ScenarioFile) (dss rest : List (List (Option ℕ))) (ds : List (Option ℕ)) → AreInOrder (shared_channels file) (dss ++ ds ∷ rest) →

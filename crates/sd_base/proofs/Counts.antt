@@ -1,7 +1,7 @@
 -- Counts that are able and full are decided by what has ended; between ends nothing starts.
 use Rattle.std.proofs.Common.{◌≡◌, ℕ, zero, suc, ◌+◌, ◌-◌, ◌≤◌, ◌<◌, [], length, ⊎_elim, subst, sym, refl, ap, ◌∙◌, arith, replicate, List}
 use Rattle.std.proofs.lemmas.Bool.{cases_lt}
-use Rattle.std.proofs.lemmas.List.{get_or_past, get_or-replicate, length-replicate}
+use Rattle.std.proofs.lemmas.List.{get_or_past}
 use Rattle.sd_base.specs.Net.{Net, channel_at, total}
 use Rattle.sd_base.specs.Schedules.{Needs, Lacks, Schedule, count_of, start_of, end_of, Earliest, HasInputs}
 use Rattle.sd_base.specs.SelfTimed.{ended_by, earliest}
@@ -10,6 +10,7 @@ use Rattle.sd_base.proofs.Parts.{Timed, Wired, Regular}
 use Rattle.sd_base.proofs.Admissibles.{no_actor}
 use Rattle.sd_base.proofs.Moment.{Ended, Able, Full, Extended}
 use Rattle.sd_base.proofs.Existence.{ended-is, earliest-is, extended-is}
+use Rattle.sd_base.proofs.Lists.{replicate-same}
 
 -- counts that are full are at least all that are able
 pub decided-le : (net : Net) (e n m : ℕ → ℕ) → Full net e n → Able net e m → (a : ℕ) → a < length net.times → m a ≤ n a
@@ -198,7 +199,4 @@ module _ (net : Net) (reg : Regular net) (fed : HasInputs net) where
 
 -- rows without starts
 pub empty-rows : (n a : ℕ) → count_of (replicate n []) a ≡ 0
-empty-rows n a = ⊎_elim
-    (λ (place : a < n). ap length (get_or-replicate n a [] [] place))
-    (λ (past : n ≤ a). ap length (get_or_past (replicate n []) a [] (omega (arith, length-replicate {A = List ℕ} n []))))
-    (cases_lt a n)
+empty-rows n a = ap length (replicate-same {A = List ℕ} n a [])

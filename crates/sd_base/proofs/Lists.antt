@@ -1,10 +1,10 @@
 -- Lists: their elements by place, what is pushed, mapped, written piece by piece, and sums.
 use Rattle.std.proofs.Common.{◌≡◌, ℕ, zero, suc, ◌+◌, ◌<◌, ◌≤◌, ◌⊎◌, Bool, true, false, ◌||◌, ◌==◌, Option, Some, None, List, [], ◌∷◌, ◌++◌, length, map, sum, take, replicate, get_or, inl, inr, ⊎_elim, refl, sym, ap, ◌∙◌, subst, arith, cond}
 use Rattle.std.specs.Prelude.{slice_get, slice_index, slice_index_or, count_by}
-use Rattle.std.specs.List.{All, list_all, list_any, flat_map, position_or_len, range_with_len}
+use Rattle.std.specs.List.{All, list_all, list_any, flat_map, position_or_len, range_with_len, AllByRecursion}
 use Rattle.std.specs.Option.{option_map}
-use Rattle.std.proofs.lemmas.Bool.{cases_lt}
-use Rattle.std.proofs.lemmas.Option.{same_Some, none-some, slice_get-map, slice_get_within, get_or_from_slice_get}
+use Rattle.std.proofs.lemmas.Bool.{cases_lt, or_cases}
+use Rattle.std.proofs.lemmas.Option.{same_Some, none-some, slice_get-map, slice_get_within, get_or_from_slice_get, slice_get_read}
 use Rattle.std.proofs.lemmas.List.{append_assoc, flat_map_more, get_or-map, get_or_past, length-map, length_push, take_all, take_more}
 use Rattle.std.proofs.lemmas.List.Sums.{get_or-le-sum_by, sum_by-cons}
 
@@ -17,6 +17,10 @@ get-there (x ∷ xs) (suc i) below = get-there xs i (omega arith)
 
 pub get-map : {A B : Type 0} (f : A → B) (xs : List A) (i : ℕ) (x : A) → slice_get xs i ≡ Some x → slice_get (map f xs) i ≡ Some (f x)
 get-map f xs i x at = slice_get-map f xs i ∙ ap (option_map f) at
+
+-- the element that a loop over the same list is at
+pub item-at : {A : Type 0} (xs ys : List A) (i : ℕ) (x : A) → ys ≡ xs → i < length ys → x ≡ slice_index_or ys i x → slice_get xs i ≡ Some x
+item-at {A} xs ys i x same below is = subst (λ (zs : List A). slice_get zs i ≡ Some x) same (slice_get_read ys (length ys) i x refl below is)
 
 -- of two lists one after the other, the first
 pub get-left : {A : Type 0} (xs ys : List A) (i : ℕ) (x : A) → slice_get xs i ≡ Some x → slice_get (xs ++ ys) i ≡ Some x
@@ -46,10 +50,20 @@ some-within [] i x at = absurd (none-some x at)
 some-within (o ∷ xs) zero x at = omega arith
 some-within (o ∷ xs) (suc i) x at = let rest = some-within xs i x at in omega (arith, rest)
 
+-- a list of one element many times, also past its end
+pub replicate-same : {A : Type 0} (n i : ℕ) (x : A) → slice_index_or (replicate n x) i x ≡ x
+replicate-same zero i x = refl
+replicate-same (suc n) zero x = refl
+replicate-same (suc n) (suc i) x = replicate-same n i x
+
 -- ---- one more element
 
 pub many-more : {X : Type 0} (xs ys : List X) (x : X) (n : ℕ) → length xs ≡ n → ys ≡ xs ++ x ∷ [] → length ys ≡ n + 1
 many-more xs ys x n many pushed = ap length pushed ∙ (length_push xs x ∙ ap (λ (k : ℕ). k + 1) many)
+
+pub push-all : {A : Type 0} (P : A → Type 0) (xs : List A) (x : A) → AllByRecursion P xs → P x → AllByRecursion P (xs ++ x ∷ [])
+push-all P [] x all one = (one, tt)
+push-all P (y ∷ xs) x all one = (all.0, push-all P xs x all.1 one)
 
 pub range-more : (a n j : ℕ) → a + n ≡ j → range_with_len a (n + 1) ≡ range_with_len a n ++ j ∷ []
 range-more a zero j is = let e : a ≡ j = omega arith in ap (λ (x : ℕ). x ∷ []) e
@@ -87,6 +101,14 @@ pub flat_end : {X : Type 0} (f : X → List ℕ) (start text : List ℕ) (xs : L
 flat_end f start text xs i past kept = kept ∙ ap (λ ys. start ++ flat_map f ys) (take_all i xs past)
 
 -- ---- tests and sums
+
+-- the place of an element that passes
+pub any-place : {X : Type 0} (p : X → Bool) (d : X) (xs : List X) → list_any p xs ≡ true → (i : ℕ) × (i < length xs) × (p (slice_index_or xs i d) ≡ true)
+any-place p d [] any = absurd (cc)
+any-place p d (x ∷ xs) any = ⊎_elim
+    (λ (here : p x ≡ true). (0, omega arith, here))
+    (λ (later : list_any p xs ≡ true). let at = any-place p d xs later in (suc at.0, omega (arith, at.1), at.2))
+    (or_cases (p x) (list_any p xs) any)
 
 -- where no element passes, the first that does is past the end
 pub place-none : {X : Type 0} (p : X → Bool) (xs : List X) → list_any p xs ≡ false → position_or_len p xs ≡ length xs

@@ -1,13 +1,14 @@
 -- What the laws of nets say of parts of a net, in the forms that the lemmas take.
-use Rattle.std.proofs.Common.{◌≡◌, ℕ, zero, suc, ◌+◌, ◌%◌, ◌≤◌, ◌<◌, ◌⊎◌, Bool, true, List, [], ◌∷◌, length, map, sum, inl, inr, ◌∙◌, arith, mod-lt, eqb-true}
+use Rattle.std.proofs.Common.{◌≡◌, ℕ, zero, suc, ◌+◌, ◌%◌, ◌≤◌, ◌<◌, ◌⊎◌, true, List, [], ◌∷◌, length, map, sum, inl, inr, ◌∙◌, arith, mod-lt, eqb-true}
 use Rattle.std.specs.Prelude.{slice_index, slice_index_or, ◌==◌}
-use Rattle.std.specs.List.{list_all, list_any}
-use Rattle.std.proofs.lemmas.Bool.{and_parts, or_cases, cases_lt}
+use Rattle.std.specs.List.{list_all}
+use Rattle.std.proofs.lemmas.Bool.{and_parts, cases_lt}
 use Rattle.std.proofs.lemmas.List.{get_or-map}
 use Rattle.sd_base.specs.Net.{Channel, Net, nowhere, channel_at, total}
 use Rattle.sd_base.specs.Schedules.{time_of, phases_at, LastNeed}
 use Rattle.sd_base.specs.Lawful.{is_own, Lawful}
 use Rattle.sd_base.proofs.Sums.{total-zero, total-suc}
+use Rattle.sd_base.proofs.Lists.{any-place}
 
 -- each firing takes at least one time unit
 pub record Timed (net : Net) : Type 0 where
@@ -74,20 +75,6 @@ all_one-total xs zero all some = total-zero xs
 all_one-total xs (suc n) all some =
     rw total-suc (omega (arith, all_one-total xs n all some, all_one-entry xs (n % length xs) all (mod-lt n some)))
 
-list_any-step : (p : Channel → Bool) (c : Channel) (cs : List Channel) → list_any p (c ∷ cs) ≡ true →
-    (list_any p cs ≡ true → (i : ℕ) × (i < length cs) × (p (slice_index_or cs i nowhere) ≡ true)) →
-    (i : ℕ) × (i < length (c ∷ cs)) × (p (slice_index_or (c ∷ cs) i nowhere) ≡ true)
-list_any-step p c cs holds rest = at (or_cases (p c) (list_any p cs) holds)
-  where
-    at : (p c ≡ true) ⊎ (list_any p cs ≡ true) → (i : ℕ) × (i < length (c ∷ cs)) × (p (slice_index_or (c ∷ cs) i nowhere) ≡ true)
-    at (inl here) = (0, omega arith, here)
-    at (inr later) = let found = rest later in (suc found.0, omega arith, found.2)
-
--- where a test holds of some channel, the place of one
-pub list_any-tells : (p : Channel → Bool) (cs : List Channel) → list_any p cs ≡ true → (i : ℕ) × (i < length cs) × (p (slice_index_or cs i nowhere) ≡ true)
-list_any-tells p [] holds = cc
-list_any-tells p (c ∷ cs) holds = list_any-step p c cs holds (λ rest. list_any-tells p cs rest)
-
 own-last : (c : Channel) (k : ℕ) → c.tokens ≡ 1 → total c.made k ≡ k → total c.made (k + 1) ≡ k + 1 → total c.taken (k + 1 + 1) ≡ k + 1 + 1 → LastNeed c (k + 1) k
 own-last c k one made more taken = record { needed = omega arith; enough = omega arith }
 
@@ -117,7 +104,7 @@ one_by_one net laws = record { own = λ a below. each a below (cases_lt (phases_
     each a below (inl few) = inl (omega arith)
     each a below (inr many) =
         let found : (i : ℕ) × (i < length net.channels) × (is_own a (slice_index_or net.channels i nowhere) ≡ true) =
-        list_any-tells (is_own a) net.channels (laws.one_by_one a below many) in
+        any-place (is_own a) nowhere net.channels (laws.one_by_one a below many) in
         inr (found.0, own-tells net laws a found.0 found.1 found.2)
 
 -- what self-timed execution rests on

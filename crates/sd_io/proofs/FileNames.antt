@@ -3,8 +3,7 @@ use Rattle.std.proofs.Common.{◌≡◌, ◌≢◌, ℕ, ◌+◌, ◌<◌, zero,
 use Rattle.std.specs.Prelude.{slice_index_or}
 use Rattle.std.specs.Cmp.Lexicographic.{pointwise}
 use Rattle.std.specs.Bool.{Decides}
-use Rattle.std.proofs.lemmas.Bool.Decides.{Decides-eqb}
-use Rattle.std.proofs.lemmas.Slice.Eq.{slice_eq-Decides}
+use Rattle.std.proofs.lemmas.Slice.Eq.{bytes_eq-Decides}
 use Rattle.std.proofs.lemmas.List.{get_or-take, get_or_default, length-take}
 use Rattle.std.specs.Prelude.{is_some}
 use Rattle.std.specs.Borrow.{Bor}
@@ -13,9 +12,6 @@ use Rattle.sd_io.specs.Files.{file_named, NamesDiffer}
 
 abbrev pub name_at : List (List ℕ × List ℕ) → ℕ → List ℕ
 name_at files j = (slice_index_or files j ([], [])).0
-
-names-Decides : (a b : List ℕ) → Decides (pointwise nat_eq a b) (a ≡ b)
-names-Decides a b = slice_eq-Decides Decides-eqb a b (pointwise nat_eq a b) refl
 
 -- a file's own name, and what is left to look through, where no file has a name
 none-step : (b : Bool) (a name bytes : List ℕ) (rest : Option (List ℕ)) → Decides b (a ≡ name)
@@ -28,9 +24,9 @@ pub absent-name : (name : List ℕ) (files : List (List ℕ × List ℕ)) → fi
     → (j : ℕ) → j < length files → name_at files j ≢ name
 absent-name name [] is j below = absurd (omega arith)
 absent-name name (f ∷ fs) is zero below =
-    (none-step (pointwise nat_eq f.0 name) f.0 name f.1 (file_named name fs) (names-Decides f.0 name) is).0
+    (none-step (pointwise nat_eq f.0 name) f.0 name f.1 (file_named name fs) (bytes_eq-Decides f.0 name) is).0
 absent-name name (f ∷ fs) is (suc j) below =
-    absent-name name fs (none-step (pointwise nat_eq f.0 name) f.0 name f.1 (file_named name fs) (names-Decides f.0 name) is).1 j (omega arith)
+    absent-name name fs (none-step (pointwise nat_eq f.0 name) f.0 name f.1 (file_named name fs) (bytes_eq-Decides f.0 name) is).1 j (omega arith)
 
 abbrev Named : List ℕ → List (List ℕ × List ℕ) → Type 0
 Named name files = (j : ℕ) × (j < length files) × (name_at files j ≡ name)
@@ -47,7 +43,7 @@ some-step false name f fs bytes d is later = later-named name f fs (later is)
 pub present-name : (name : List ℕ) (files : List (List ℕ × List ℕ)) (bytes : List ℕ) → file_named name files ≡ Some bytes → Named name files
 present-name name [] bytes is = cc
 present-name name (f ∷ fs) bytes is =
-    some-step (pointwise nat_eq f.0 name) name f fs bytes (names-Decides f.0 name) is (present-name name fs bytes)
+    some-step (pointwise nat_eq f.0 name) name f fs bytes (bytes_eq-Decides f.0 name) is (present-name name fs bytes)
 
 copied-none : (found : Option (Bor (List ℕ))) → is_some found ≡ false → option_copied found ≡ None
 copied-none None is = refl

@@ -20,6 +20,7 @@ use Rattle.sd_base.specs.Net.{Net}
 use Rattle.sd_base.specs.FileNet.{net_of}
 use Rattle.sd_base.specs.Lawful.{Lawful}
 use Rattle.sd_base.proofs.Parts.{wired, balanced}
+use Rattle.sd_base.proofs.Lists.{entry-le-sum}
 use Rattle.file_text.specs.Grammar.{is_character}
 use Rattle.graph_reader.specs.Laws.{Gives, ReadIsWritable}
 use Rattle.graph_reader.specs.WritableNames.{HasWritableNames, IsWritableName}
@@ -38,7 +39,6 @@ use Rattle.single_rate.specs.Firings.{no_link}
 use Rattle.single_rate.specs.Limits.{excess, has_long_name}
 use Rattle.single_rate.proofs.CopyNames.{copies-differ, excess-tells, links-differ}
 use Rattle.single_rate.proofs.Expanded.{length-rows, row-of, rows-at}
-use Rattle.single_rate.proofs.FirstCopies.{round-small}
 use Rattle.single_rate.proofs.Tables.{table-keeps, table-timed}
 use Rattle.sd_words.proofs.Within.{asked_within}
 use Rattle.sd_words.specs.declared.request.Request.TheVariants.{Expand}
@@ -139,7 +139,7 @@ module _ (net : Net) (laws : Lawful net) (g : GraphFile) (named : length g.actor
       let is : (slice_index_or (copy_rows net g.actors) y d).name ≡ copy_name name row.1 = ap (λ (r : ActorRow). r.name) row.4 ∙ copy-is name row.0 row.1 in
       let short : length (copy_name name row.1) ≤ NAME_BYTES = omega (arith, row-short y d below, ap (λ (t : List ℕ). length t) is) in
       subst IsWritableName (sym is)
-      (copy_writable name row.1 (good row.0 d (omega (arith, row.2, named))) (omega (arith, row.3, round-small net laws row.0 row.2, (excess-tells net g fits).0)) short)
+      (copy_writable name row.1 (good row.0 d (omega (arith, row.2, named))) (omega (arith, row.3, entry-le-sum net.round row.0, (excess-tells net g fits).0)) short)
 
   links-writable : All (λ (c : ChannelRow). IsWritableName c.name) (link_rows 0 (links_of net))
   links-writable n d below =

@@ -1,7 +1,8 @@
 -- An engine is stuck, or spent, just where a step finds it so.
-use Rattle.std.proofs.Common.{◌≡◌, ℕ, suc, ◌+◌, ◌≤◌, ◌<◌, ◌↔◌, length, map, sum, Result, Ok, Err, inl, inr, ⊎_elim, sym, refl, ◌∙◌, arith}
+use Rattle.std.proofs.Common.{◌≡◌, ℕ, suc, ◌+◌, ◌≤◌, ◌<◌, ◌↔◌, length, map, sum, Result, inl, inr, ⊎_elim, sym, refl, ◌∙◌, arith}
 use Rattle.std.specs.Prelude.{IfOk}
 use Rattle.std.proofs.lemmas.Bool.{cases_lt}
+use Rattle.std.proofs.lemmas.Result.{IfOk-weaker}
 use Rattle.sd_base.specs.Net.{Net}
 use Rattle.sd_base.specs.Schedules.{Lacks, HasInputs, count_of, end_of}
 use Rattle.sd_base.specs.SelfTimed.{earliest, starts_by}
@@ -102,13 +103,9 @@ module _ (net : Net) (laws : Lawful net) where
 
 -- ---- of an answer
 
-if_ok-map : {T E : Type 0} (r : Result T E) (P Q : T → Type 0) → ((x : T) → P x → Q x) → IfOk r P → IfOk r Q
-if_ok-map (Ok x) P Q along holds = along x holds
-if_ok-map (Err e) P Q along holds = holds
-
 module _ {E : Type 0} (net : Net) (laws : Lawful net) (most : ℕ) (stage : Stage) (now : ℕ) (after : Stage) (t : ℕ) (result : Result Move E) (moved : IfOk result (λ move. IsMove net most stage now move after t)) where
   pub answer-stuck : IfOk result (λ move. (move ≡ Stuck) ↔ IsStuck net stage now)
-  answer-stuck = if_ok-map result (λ move. IsMove net most stage now move after t) (λ move. (move ≡ Stuck) ↔ IsStuck net stage now) (λ move is. stuck-exactly net laws most stage now move after t is) moved
+  answer-stuck = IfOk-weaker result (λ move. IsMove net most stage now move after t) (λ move. (move ≡ Stuck) ↔ IsStuck net stage now) (λ move is. stuck-exactly net laws most stage now move after t is) moved
 
   pub answer-spent : IfOk result (λ move. (move ≡ Move.Spent) ↔ IsSpent net most stage now)
-  answer-spent = if_ok-map result (λ move. IsMove net most stage now move after t) (λ move. (move ≡ Move.Spent) ↔ IsSpent net most stage now) (λ move is. spent-exactly net laws most stage now move after t is) moved
+  answer-spent = IfOk-weaker result (λ move. IsMove net most stage now move after t) (λ move. (move ≡ Move.Spent) ↔ IsSpent net most stage now) (λ move is. spent-exactly net laws most stage now move after t is) moved

@@ -10,13 +10,14 @@ use Rattle.sd_base.specs.Net.{Channel, Net, nowhere, channel_at, total}
 use Rattle.sd_base.specs.Schedules.{time_of, phases_at, Needs, Lacks, Schedule, count_of, start_of, end_of, Earliest, HasInputs}
 use Rattle.sd_base.specs.SelfTimed.{ended_by, earliest, IsEvent, is_event}
 use Rattle.sd_base.specs.Lawful.{Lawful}
-use Rattle.sd_base.proofs.Parts.{Regular, regular, list_any-tells}
+use Rattle.sd_base.proofs.Parts.{Regular, regular}
 use Rattle.sd_base.proofs.Admissibles.{is_actor, ends-le, earliest-equal}
 use Rattle.sd_base.proofs.Moment.{Ended, Able, Full, Extended}
 use Rattle.sd_base.proofs.Existence.{extended-is}
 use Rattle.sd_base.proofs.Counts.{Same, Quiet, ended_at, early_at, ended-at-is, full-at, decided-le, quiet-until, advance-ended, advance-counts, full-along, able-along}
 use Rattle.sd_base.proofs.Ends.{sum_to, sum_to-le, sum_to-lt}
 use Rattle.sd_base.proofs.Events.{is_event-end, event-tells}
+use Rattle.sd_base.proofs.Lists.{any-place}
 use Rattle.selftimed.specs.declared.actors.ActorState.{ActorState}
 use Rattle.selftimed.specs.inside.Actors.{started_in, ended_in, running_in, touched_in, lacking_in, LacksAt, IsFirstEnd, IsQuiet, EndsAll, Stand, Counted, StartedAll, CanOverrun, HaveStarted}
 use Rattle.selftimed.specs.inside.Stands.{Stands}
@@ -28,7 +29,7 @@ use Rattle.selftimed.proofs.Starting.{sum_to-all, sum_to-same}
 
 pub inputs-from : (net : Net) → ((a : ℕ) → a < length net.times → list_any (λ (c : Channel). c.target == a) net.channels ≡ true) → HasInputs net
 inputs-from net fed a actor =
-    let found : (i : ℕ) × (i < length net.channels) × (((slice_index_or net.channels i nowhere).target == a) ≡ true) = list_any-tells (λ (c : Channel). c.target == a) net.channels (fed a actor) in
+    let found : (i : ℕ) × (i < length net.channels) × (((slice_index_or net.channels i nowhere).target == a) ≡ true) = any-place (λ (c : Channel). c.target == a) nowhere net.channels (fed a actor) in
     (found.0, found.1, Rattle.std.proofs.Common.eqb-true (channel_at net found.0).target a found.2)
 
 list_any-from : (p : Channel → Bool) (cs : List Channel) (i : ℕ) → i < length cs → p (slice_index_or cs i nowhere) ≡ true → list_any p cs ≡ true

@@ -13,13 +13,13 @@ use Rattle.sd_base.specs.declared.tables.ChannelRow.{ChannelRow}
 use Rattle.sd_base.specs.Net.{Net}
 use Rattle.sd_base.specs.Lawful.{Lawful}
 use Rattle.sd_base.proofs.Parts.{wired, balanced}
+use Rattle.sd_base.proofs.Lists.{entry-le-sum}
 use Rattle.single_rate.specs.declared.links.Link.{Link}
 use Rattle.single_rate.specs.Expansions.{copy_name, copy_row, copy_rows, expansion, first_copy, link_row, link_rows, links_of}
 use Rattle.single_rate.specs.Firings.{no_link}
 use Rattle.single_rate.specs.Limits.{excess, has_long_name}
 use Rattle.single_rate.specs.Names.{ActorsDiffer, ChannelsDiffer}
 use Rattle.single_rate.proofs.CopyNumbers.{copy-of}
-use Rattle.single_rate.proofs.FirstCopies.{round-small}
 use Rattle.single_rate.proofs.Expanded.{many-copies, copy-row-at, rows-at, length-rows}
 
 -- a byte doesn't stand in a text, by recursion
@@ -102,7 +102,7 @@ module _ (net : Net) (laws : Lawful net) (g : GraphFile) (named : length g.actor
       ap (λ (x : ℕ). slice_index_or (copy_rows net g.actors) x d) two.4 ∙ copy-row-at net (wired net laws) (balanced net laws) g named two.0 two.1 d two_actor two.3 in
       let names : copy_name (slice_index_or g.actors one.0 d).name one.1 ≡ copy_name (slice_index_or g.actors two.0 d).name two.1 =
       sym (ap (λ (r : ActorRow). r.name) one_row ∙ name-is (slice_index_or g.actors one.0 d).name one.0 one.1) ∙ (same ∙ (ap (λ (r : ActorRow). r.name) two_row ∙ name-is (slice_index_or g.actors two.0 d).name two.0 two.1)) in
-      let parts = one-copy (slice_index_or g.actors one.0 d).name (slice_index_or g.actors two.0 d).name one.1 two.1 (omega (arith, one.3, round-small net laws one.0 one_actor)) (omega (arith, two.3, round-small net laws two.0 two_actor)) names in
+      let parts = one-copy (slice_index_or g.actors one.0 d).name (slice_index_or g.actors two.0 d).name one.1 two.1 (omega (arith, one.3, entry-le-sum net.round one.0)) (omega (arith, two.3, entry-le-sum net.round two.0)) names in
       at one.0 two.0 one_actor two_actor (cases_order one.0 two.0) parts.0 (λ e. let first : first_copy net one.0 ≡ first_copy net two.0 = ap (first_copy net) e in omega (arith, one.4, two.4, parts.1))
     where
       at : (a b : ℕ) → a < length net.times → b < length net.times → (a ≡ b) ⊎ ((a < b) ⊎ (b < a)) → (slice_index_or g.actors a d).name ≡ (slice_index_or g.actors b d).name → (a ≡ b → ⊥) → ⊥

@@ -17,6 +17,7 @@ use Rattle.sd_base.specs.Schedules.{time_of, phases_at}
 use Rattle.sd_base.specs.Lawful.{Lawful}
 use Rattle.sd_base.proofs.Parts.{wired, balanced}
 use Rattle.sd_base.proofs.FileNets.{file-at, file-length}
+use Rattle.sd_base.proofs.Lists.{entry-le-sum}
 use Rattle.single_rate.specs.declared.links.Link.{Link}
 use Rattle.single_rate.specs.Expansions.{copy_row, copy_rows, expansion, link_row, link_rows, links_of}
 use Rattle.single_rate.specs.Firings.{IsLink, no_link}
@@ -25,7 +26,7 @@ use Rattle.single_rate.specs.Namings.{one_each}
 use Rattle.single_rate.specs.declared.expansion.ExpandError.{ExpandError}
 use Rattle.single_rate.specs.declared.expansion.ExpandError.TheVariants.{Limit, NoMemory}
 use Rattle.single_rate.specs.inside.Parts.{AreMoreThan, IsLongIn, is_long}
-use Rattle.single_rate.proofs.FirstCopies.{copy-small, round-small}
+use Rattle.single_rate.proofs.FirstCopies.{copy-small}
 use Rattle.single_rate.proofs.LinkPlaces.{links-sound, back-within}
 use Rattle.single_rate.proofs.Expanded.{many-copies, row-of, rows-at, no_channel, length-rows}
 
@@ -138,7 +139,7 @@ module _ (net : Net) (laws : Lawful net) (g : GraphFile) (named : length g.actor
   some-copy : 1 ≤ sum net.round
   some-copy =
       let fires : 1 ≤ slice_index net.round 0 = (balanced net laws).fires 0 laws.some_actor in
-      omega (arith, round-small net laws 0 laws.some_actor)
+      omega (arith, entry-le-sum net.round 0)
 
   pub table-keeps : sum net.round ≤ ACTORS → length (links_of net) ≤ CHANNELS → ((x : ℕ) → x < length net.channels → (channel_at net x).tokens ≤ TOKENS) → KeepsRules (expansion net g)
   unfolding expansion

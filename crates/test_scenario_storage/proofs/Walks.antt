@@ -1,13 +1,9 @@
 -- What is tested of the scenarios of a file, one after another.
-use Rattle.std.proofs.Common.{◌≡◌, ◌∙◌, ℕ, ◌+◌, ◌≤◌, ◌<◌, inl, inr, List, Option, Some, length, ap, refl, subst, sym, arith}
-use Rattle.std.specs.Prelude.{slice_get, slice_index_or}
+use Rattle.std.proofs.Common.{◌≡◌, ◌∙◌, ℕ, ◌+◌, ◌≤◌, ◌<◌, inl, inr, List, Option, Some, length, ap, subst, sym, arith}
+use Rattle.std.specs.Prelude.{slice_get}
 use Rattle.std.proofs.lemmas.Bool.{cases_lt}
-use Rattle.std.proofs.lemmas.Option.{slice_get_read, slice_get_within}
+use Rattle.std.proofs.lemmas.Option.{slice_get_within}
 use Rattle.sd_base.specs.declared.tables.ScenarioRow.{ScenarioRow}
-
--- the scenario that is tested is that of the place
-pub place : (rows items : List ScenarioRow) (i : ℕ) (row : ScenarioRow) → items ≡ rows → i < length items → row ≡ slice_index_or items i row → slice_get rows i ≡ Some row
-place rows items i row same below is = subst (λ (xs : List ScenarioRow). slice_get xs i ≡ Some row) same (slice_get_read items (length items) i row refl below is)
 
 module _ (P : ScenarioRow → Type 0) (rows : List ScenarioRow) where
   -- it holds of those before place i

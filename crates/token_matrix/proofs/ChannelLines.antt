@@ -4,6 +4,8 @@ use Rattle.std.specs.Prelude.{slice_index, slice_index_or}
 use Rattle.std.proofs.lemmas.Bool.{cases_lt}
 use Rattle.std.proofs.lemmas.List.{length-set, get_or-set_same, get_or-set_other, get_or-take}
 use Rattle.sd_base.specs.Net.{Net, channel_at}
+use Rattle.sd_base.proofs.Lists.{replicate-same}
+use Rattle.sd_base.proofs.Truths.{some-none}
 use Rattle.firing.specs.declared.sums.Port.{Port}
 use Rattle.firing.specs.declared.sums.Port.TheVariants.{Made, Taken}
 use Rattle.firing.specs.Wiring.{actor_at, IsListed}
@@ -11,7 +13,6 @@ use Rattle.firing.proofs.Listings.{place_of}
 use Rattle.firing.proofs.TokenMoves.{apart}
 use Rattle.token_matrix.specs.inside.LaterRows.{Reaches, AreWide, IsRaised}
 use Rattle.token_matrix.specs.inside.Lines.{line_at, taken_on, made_on, AreReady, AreTaken, IsLatest, ArePut}
-use Rattle.token_matrix.proofs.RaisedRows.{none-at}
 
 abbrev pub Lines : Type 0
 Lines = List (List (List (Option ℕ)))
@@ -92,7 +93,7 @@ taken_none net a size xs old ready = record {
   lines = changed_none (length net.channels) xs (λ i line. drop (taken_on net i) line) old ready.long;
   wide = Rattle.std.proofs.lemmas.List.length-replicate size None;
   after = λ j k p e h. absurd (omega arith);
-  just = λ p e at. absurd (none-at size p e at);
+  just = λ p e at. absurd (some-none (slice_index_or (replicate size None) p None) e at (replicate-same size p None));
 }
 
 module _ (net : Net) (a size : ℕ) (xs : List ℕ) (listed : IsListed net Taken a xs) (old now : Lines) (n : ℕ) (below : n < length xs) (ready : AreReady net a size old) (row : List (Option ℕ))

@@ -37,11 +37,6 @@ later_row-one (Some o ∷ a) (Some y ∷ b) zero d at =
     ⊎_elim (λ (h : o < y). inr (let e : y ≡ d = omega arith in ap Some e)) (λ (h : y ≤ o). inl (let e : o ≡ d = omega arith in ap Some e)) (cases_lt o y)
 later_row-one (o ∷ a) (y ∷ b) (suc p) d at = later_row-one a b p d at
 
-pub none-at : (count p e : ℕ) → slice_index_or (replicate count None) p None ≡ Some e → ⊥
-none-at zero p e at = cc
-none-at (suc count) zero e at = cc
-none-at (suc count) (suc p) e at = none-at count p e at
-
 -- ---- entry by entry
 
 more : (a b : List (Option ℕ)) (i : ℕ) (x : Option ℕ) → i < length a → length a ≡ length b → x ≡ later (slice_index_or a i None) (slice_index_or b i None)

@@ -2,6 +2,7 @@
 use Rattle.std.proofs.Common.{◌≡◌, ℕ, zero, suc, ◌+◌, ◌≤◌, ◌<◌, List, [], ◌∷◌, length, replicate, Option, Some, None, refl, ap, arith}
 use Rattle.std.specs.Prelude.{slice_index, slice_index_or}
 use Rattle.std.proofs.lemmas.List.{length-replicate}
+use Rattle.sd_base.proofs.Lists.{replicate-same}
 use Rattle.token_matrix.specs.Matrices.{apply_row}
 
 -- n stamps of 0, but for one of m at place i
@@ -62,15 +63,10 @@ spike-here i m zero below = absurd (let no : ⊥ = omega arith in no)
 spike-here zero m (suc n) below = refl
 spike-here (suc i) m (suc n) below = spike-here i m n (omega arith)
 
-none-there : (n k : ℕ) → slice_index (replicate n 0) k ≡ 0
-none-there zero k = refl
-none-there (suc n) zero = refl
-none-there (suc n) (suc k) = none-there n k
-
 pub spike-there : (i m n k : ℕ) → (k ≡ i → ⊥) → slice_index (spike i m n) k ≡ 0
 unfolding spike
 spike-there i m zero k apart = refl
 spike-there zero m (suc n) zero apart = absurd (apart refl)
-spike-there zero m (suc n) (suc k) apart = none-there n k
+spike-there zero m (suc n) (suc k) apart = replicate-same n k 0
 spike-there (suc i) m (suc n) zero apart = refl
 spike-there (suc i) m (suc n) (suc k) apart = spike-there i m n k (λ same. apart (ap (λ (x : ℕ). suc x) same))

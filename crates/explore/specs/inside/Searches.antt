@@ -16,7 +16,7 @@ use Rattle.guide.specs.Evaluations.{Bounds}
 use Rattle.guide.specs.Guides.{IsInGuide}
 use Rattle.levels.specs.declared.found.Found.{Found}
 use Rattle.levels.specs.declared.found.Level.{Level}
-use Rattle.levels.specs.Visits.{AreVisits, Visit, led_by}
+use Rattle.levels.specs.Visits.{AreVisits, visits_of}
 use Rattle.levels.specs.Frontiers.{IsFrontier, distributions_of}
 use Rattle.explore.specs.declared.exploration.Member.{Member}
 use Rattle.explore.specs.declared.search.Search.{Search}
@@ -75,10 +75,6 @@ pub record AreKnown (net : Net) (states : ℕ) (members : List Member) (entries 
   pub noted : AreNoted net states members entries
   pub front : IsFrontOf (offers_of net members) (map offer_of points)
   pub tables : (p : Point) → IsOneOf points p → HasTable net states p
-
--- the visits that entries are
-abbrev pub visits_of : List Entry → List Visit
-visits_of es = map (λ (e : Entry). led_by e.capacities e.shown) es
 
 -- where an exploration stands that has these distributions taken off, and whose levels before the floor are taken in: from the
 -- corner it has made the visits that its members are, each member is a candidate, and those that wait have their hints

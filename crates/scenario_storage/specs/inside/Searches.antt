@@ -9,7 +9,7 @@ use Rattle.storage.specs.ClosedLists.{Entry}
 use Rattle.storage.specs.StorageOrder.{IsBefore}
 use Rattle.storage.specs.declared.distribution.Distribution.{Distribution}
 use Rattle.levels.specs.declared.found.Level.{Level}
-use Rattle.levels.specs.Visits.{AreVisits, Visit, led_by}
+use Rattle.levels.specs.Visits.{AreVisits, visits_of}
 use Rattle.levels.specs.Frontiers.{IsFrontier, distributions_of}
 use Rattle.bounded_scenarios.specs.SharedChannels.{shared_channels}
 use Rattle.bounded_scenarios.specs.StorageRates.{HasWorstRate}
@@ -72,10 +72,6 @@ pub record AreKnown (file : ScenarioFile) (limit : ℕ) (es : List Entry) (ps : 
   pub rising : AreRising ps
   pub among : (p : ScenarioPoint) → Contains ps p → IsPointOf file es p
   pub covers : (e : Entry) → Contains es e → 1 ≤ e.num → IsCoveredBy file ps e
-
--- the visits that entries are
-abbrev pub visits_of : List Entry → List Visit
-visits_of es = map (λ (e : Entry). led_by e.capacities e.shown) es
 
 -- some entry has a rate above 0 that bounds those of all distributions within the limit
 abbrev pub HasTop : ScenarioFile → ℕ → List Entry → Type 0

@@ -1,5 +1,5 @@
-use Rattle.std.proofs.Common.{◌≡◌, ℕ, ◌<◌, ◌≤◌, All, List, Bool, Some, length, replicate, true, false, sym, refl, subst, arith}
-use Rattle.std.specs.Prelude.{slice_get, slice_set, slice_index_or}
+use Rattle.std.proofs.Common.{ℕ, ◌<◌, ◌≤◌, All, List, Bool, length, replicate, true, false, sym, refl, subst, arith}
+use Rattle.std.specs.Prelude.{slice_set}
 use Rattle.std.proofs.lemmas.Option.{slice_get_read}
 use Rattle.balance.specs.inside.Lists.{list_at}
 use Rattle.balance.specs.inside.Reaching.{AreMarked}
@@ -7,10 +7,6 @@ use Rattle.balance.proofs.Searching.{mark_within}
 use Rattle.balance.proofs.Paths.{IsReach, reach_start, reach_more, reach_past, reach_closed, followers_within, all_marked}
 use Rattle.balance.proofs.connection.reached.Goals as goal
 use Rattle.balance.proofs.connection.reached.Goals.{then-place-len+in_ok-mark_all, else-place-len}
-
--- the queued actor that the code reads
-queued : (xs : List ℕ) (len n i x : ℕ) → i < n → n ≡ len → len ≡ length xs → x ≡ slice_index_or xs i x → slice_get xs i ≡ Some x
-queued xs len n i x lt e e' is = slice_get_read xs (length xs) i x refl (omega arith) is
 
 pub loop-place-init : goal.loop-place-init
 loop-place-init c =
@@ -23,7 +19,7 @@ pub at-requires : goal.at-requires
 at-requires c =
     let q = c.loop-place.marked.queue in
     let v : ℕ = c.index-from.result.now in
-    let at = queued q.items q.len c.len.result c.loop-place.place v c.if-place-len.true c.len.ensures q.ok.0 c.index-from.ensures in
+    let at = slice_get_read q.items (length q.items) c.loop-place.place v refl (omega (arith, c.if-place-len.true, c.len.ensures, q.ok.0)) c.index-from.ensures in
     let lt = mark_within c.loop-place.marked.marks.items v (c.loop-place.invariant.is_queue.marked c.loop-place.place v at) in
     let size = c.loop-place.invariant.size in
     let size' = c.in_ok-next.ensures.size in
@@ -48,7 +44,7 @@ loop-place-preserved c =
           let rows : List (List ℕ) = c.in_ok-next.next.rows.items in
           let v : ℕ = w.index-from.result.now in
           let new = w.mark_all.new.marked in
-          let at = queued r.queue.items r.queue.len c.len.result i v w.if-place-len.true c.len.ensures r.queue.ok.0 w.index-from.ensures in
+          let at = slice_get_read r.queue.items (length r.queue.items) i v refl (omega (arith, w.if-place-len.true, c.len.ensures, r.queue.ok.0)) w.index-from.ensures in
           let left : AreMarked (list_at rows v) (length (list_at rows v)) r.queue.items r.marks.items new.queue.items new.marks.items =
           subst (λ (t : List ℕ). AreMarked t (length t) r.queue.items r.marks.items new.queue.items new.marks.items) w.at.ensures w.in_ok-mark_all.ensures in
           rw w.marked-is (reach_more d ends c.args.actors rows r.queue.items new.queue.items r.marks.items new.marks.items i v c.in_ok-next.ensures at left c.loop-place.invariant)

@@ -1,5 +1,5 @@
-use Rattle.std.proofs.Common.{◌≡◌, ℕ, ◌<◌, ◌≤◌, ◌⊎◌, List, Some, length, replicate, sym, subst, refl, ap, ◌∙◌, inl, inr, arith}
-use Rattle.std.specs.Prelude.{MatchOption, slice_get, slice_index_or}
+use Rattle.std.proofs.Common.{◌≡◌, ◌<◌, ◌≤◌, ◌⊎◌, List, length, replicate, sym, subst, refl, ap, ◌∙◌, inl, inr, arith}
+use Rattle.std.specs.Prelude.{MatchOption}
 use Rattle.std.proofs.lemmas.Option.{slice_get_read}
 use Rattle.balance.specs.declared.walk.WalkStep.{WalkStep}
 use Rattle.balance.specs.declared.ratio.Ratio.{Ratio}
@@ -8,10 +8,6 @@ use Rattle.balance.specs.inside.Search.{IsWayAt}
 use Rattle.balance.specs.inside.Ratios.{one, IsRatedStep}
 use Rattle.balance.proofs.Rating.{IsRating, IsStepped, rating_start, rating_ready, rating_within, rating_more, rating_above, rating_all}
 use Rattle.balance.proofs.ratio.ratios.Goals as goal
-
--- what was found at the loop's place
-at_loop : (xs : List Found) (len n i : ℕ) (x : Found) → i < n → n ≡ len → len ≡ length xs → x ≡ slice_index_or xs i x → slice_get xs i ≡ Some x
-at_loop xs len n i x lt e e' is = slice_get_read xs (length xs) i x refl (omega arith) is
 
 pub loop-place-init : goal.loop-place-init
 loop-place-init c =
@@ -25,7 +21,7 @@ pub way_ratio-ratio-requires-clause-rated : goal.way_ratio-ratio-requires-clause
 way_ratio-ratio-requires-clause-rated c =
     let s = c.args.search.now in
     let x : Found = c.index-found.result.now in
-    let at = at_loop s.found.items s.found.len c.len-place-end.result c.loop-place.place x c.loop-place-test.true c.len-place-end.ensures s.found.ok.0 c.index-found.ensures in
+    let at = slice_get_read s.found.items (length s.found.items) c.loop-place.place x refl (omega (arith, c.loop-place-test.true, c.len-place-end.ensures, s.found.ok.0)) c.index-found.ensures in
     subst (λ (rs : List Ratio). MatchOption x.reach (Unit {0}) (λ r. IsRatedStep c.args.links.now rs r.step)) (sym c.deref.ensures.value)
     (rating_ready c.args.links.now (length s.seen.items) s.found.items s.seen.items c.loop-place.ratios.items c.loop-place.place x c.loop-place.invariant at)
 
@@ -34,7 +30,7 @@ returns-then-ratio-gt-RATIO_LIMIT-clause-refusal c =
     let s = c.args.search.now in
     let x : Found = c.index-found.result.now in
     let q : Ratio = c.way_ratio-ratio.result in
-    let at = at_loop s.found.items s.found.len c.len-place-end.result c.loop-place.place x c.loop-place-test.true c.len-place-end.ensures s.found.ok.0 c.index-found.ensures in
+    let at = slice_get_read s.found.items (length s.found.items) c.loop-place.place x refl (omega (arith, c.loop-place-test.true, c.len-place-end.ensures, s.found.ok.0)) c.index-found.ensures in
     let gives : MatchOption x.reach (q ≡ one) (λ r. IsStepped c.args.links.now c.loop-place.ratios.items r.step q) =
     subst (λ (rs : List Ratio). MatchOption x.reach (q ≡ one) (λ r. IsStepped c.args.links.now rs r.step q)) c.deref.ensures.value c.way_ratio-ratio.ensures in
     let over : (100000 < q.num) ⊎ (100000 < q.den) = elim c.then-ratio-gt-RATIO_LIMIT.either [ inl h ↦ inl h | inr h ↦ inr h.1 ] in
@@ -48,7 +44,7 @@ pub index_mut-requires : goal.index_mut-requires
 index_mut-requires c =
     let s = c.args.search.now in
     let x : Found = c.index-found.result.now in
-    let at = at_loop s.found.items s.found.len c.len-place-end.result c.loop-place.place x c.loop-place-test.true c.len-place-end.ensures s.found.ok.0 c.index-found.ensures in
+    let at = slice_get_read s.found.items (length s.found.items) c.loop-place.place x refl (omega (arith, c.loop-place-test.true, c.len-place-end.ensures, s.found.ok.0)) c.index-found.ensures in
     let lt = rating_within c.args.links.now (length s.seen.items) s.found.items s.seen.items c.loop-place.ratios.items c.loop-place.place x c.loop-place.invariant at in
     omega (arith, lt, c.loop-place.ratios.ok.0)
 
@@ -57,7 +53,7 @@ loop-place-preserved c =
     let s = c.args.search.now in
     let x : Found = c.index-found.result.now in
     let q : Ratio = c.way_ratio-ratio.result in
-    let at = at_loop s.found.items s.found.len c.len-place-end.result c.loop-place.place x c.loop-place-test.true c.len-place-end.ensures s.found.ok.0 c.index-found.ensures in
+    let at = slice_get_read s.found.items (length s.found.items) c.loop-place.place x refl (omega (arith, c.loop-place-test.true, c.len-place-end.ensures, s.found.ok.0)) c.index-found.ensures in
     let gives : MatchOption x.reach (q ≡ one) (λ r. IsStepped c.args.links.now c.loop-place.ratios.items r.step q) =
     subst (λ (rs : List Ratio). MatchOption x.reach (q ≡ one) (λ r. IsStepped c.args.links.now rs r.step q)) c.deref.ensures.value c.way_ratio-ratio.ensures in
     rating_more c.args.links.now (length s.seen.items) s.found.items s.seen.items c.loop-place.ratios.items c.loop-place.place x q

@@ -1,10 +1,9 @@
 use Rattle.std.proofs.Common.{◌+◌, ◌∷◌, sym, ap}
 use Rattle.std.proofs.lemmas.List.Elements.{Contains-append_right}
-use Rattle.levels.specs.Visits.{visited}
+use Rattle.levels.specs.Visits.{visited, visits_of}
 use Rattle.levels.proofs.Elements.{contains-here}
 use Rattle.explore.specs.inside.Levels.{least_loops, most_loops}
 use Rattle.explore.specs.inside.Rated.{member_of}
-use Rattle.explore.specs.inside.Searches.{visits_of}
 use Rattle.explore.proofs.Searching.{search-candidate}
 use Rattle.explore.proofs.members.take_answer.Goals as goal
 

@@ -1,9 +1,8 @@
 use Rattle.std.proofs.Common.{◌≡◌, ◌+◌, ◌++◌, ◌∷◌, [], ◌<◌, ℕ, List, All, length, refl, sym, subst, rules}
 use Rattle.std.proofs.lemmas.Result.{err_from_is_err_and}
-use Rattle.levels.specs.Visits.{led_by}
+use Rattle.levels.specs.Visits.{led_by, visits_of}
 use Rattle.levels.specs.Frontiers.{IsFrontier, IsSpent, Rises}
 use Rattle.bounded_scenarios.specs.SharedChannels.{shared_channels}
-use Rattle.scenario_storage.specs.inside.Searches.{visits_of}
 use Rattle.scenario_storage.proofs.Searchable.{searchable}
 use Rattle.scenario_storage.proofs.Turning.{its-known, its-rises, its-within, off-same, offered, spent-refusal, taken-in}
 use Rattle.scenario_storage.proofs.members.take_in.Goals as goal

@@ -1,30 +1,31 @@
 use Rattle.std.proofs.Common.{◌≤◌, List, length, ap, arith}
 use Rattle.sd_base.specs.declared.tables.ScenarioRow.{ScenarioRow}
+use Rattle.sd_base.proofs.Lists.{item-at}
 use Rattle.test_scenario_storage.specs.Running.{Runs}
-use Rattle.test_scenario_storage.proofs.Walks.{holds-all, holds-more, place}
+use Rattle.test_scenario_storage.proofs.Walks.{holds-all, holds-more}
 use Rattle.test_scenario_storage.proofs.boundable.all_run.Goals as goal
 
 pub runs-requires-clause-rules : goal.runs-requires-clause-rules
 runs-requires-clause-rules c =
-    let at = place c.args.file.now.scenarios c.as_slice-scenario-items.result.now
+    let at = item-at c.args.file.now.scenarios c.as_slice-scenario-items.result.now
     c.loop-scenario.scenario-index c.scenario-item.result c.as_slice-scenario-items.ensures c.loop-scenario-test.true c.scenario-item.is in
     (c.requires.rules.scenarios c.loop-scenario.scenario-index c.scenario-item.result at).rules
 
 pub runs-requires-clause-kind : goal.runs-requires-clause-kind
 runs-requires-clause-kind c =
-    let at = place c.args.file.now.scenarios c.as_slice-scenario-items.result.now
+    let at = item-at c.args.file.now.scenarios c.as_slice-scenario-items.result.now
     c.loop-scenario.scenario-index c.scenario-item.result c.as_slice-scenario-items.ensures c.loop-scenario-test.true c.scenario-item.is in
     (c.requires.rules.scenarios c.loop-scenario.scenario-index c.scenario-item.result at).kind
 
 pub runs-requires-clause-timed : goal.runs-requires-clause-timed
 runs-requires-clause-timed c =
-    let at = place c.args.file.now.scenarios c.as_slice-scenario-items.result.now
+    let at = item-at c.args.file.now.scenarios c.as_slice-scenario-items.result.now
     c.loop-scenario.scenario-index c.scenario-item.result c.as_slice-scenario-items.ensures c.loop-scenario-test.true c.scenario-item.is in
     (c.requires.rules.scenarios c.loop-scenario.scenario-index c.scenario-item.result at).timed
 
 pub loop-scenario-preserved : goal.loop-scenario-preserved
 loop-scenario-preserved c =
-    let at = place c.args.file.now.scenarios c.as_slice-scenario-items.result.now
+    let at = item-at c.args.file.now.scenarios c.as_slice-scenario-items.result.now
     c.loop-scenario.scenario-index c.scenario-item.result c.as_slice-scenario-items.ensures c.loop-scenario-test.true c.scenario-item.is in
     holds-more (λ (row : ScenarioRow). Runs c.args.tokens row.graph) c.args.file.now.scenarios c.loop-scenario.scenario-index c.scenario-item.result
     c.loop-scenario.invariant at

@@ -1,9 +1,10 @@
 use Rattle.std.proofs.Common.{◌≡◌, ap, sym, ◌∙◌}
 use Rattle.std.specs.BTreeSet.{insert_key}
+use Rattle.std.proofs.lemmas.Result.{IfErr-weaker, on_ok_weaker}
 use Rattle.storage.specs.declared.distribution.Distribution.{Distribution}
 use Rattle.levels.specs.Frontiers.{found_order}
 use Rattle.levels.specs.inside.Waiting.{EndsAdding, IsAdded, IsCopy}
-use Rattle.levels.proofs.Adding.{added-none, added-one, ends-copied, if-err, on-ok}
+use Rattle.levels.proofs.Adding.{added-none, added-one, ends-copied}
 use Rattle.levels.proofs.levels.Levels.admit.Goals as goal
 
 pub returns-then-contains-clause-added : goal.returns-then-contains-clause-added
@@ -16,7 +17,7 @@ returns-clause-added g c =
     let old = c.args.self.now.waiting.keys in
     let new = c.wait.new.self.waiting.keys in
     let same : IsCopy c.args.child.now c.in_ok-found.found = record { capacities = ap (λ (d : Distribution). d.capacities) c.in_ok-found.ensures.capacities; total = c.in_ok-found.ensures.total; hint = c.in_ok-found.ensures.hint } in
-    on-ok (new ≡ insert_key found_order old copy) (IsAdded child old new) c.wait.result (λ inserted. added-one child copy old new same inserted) c.wait.ensures.waited
+    on_ok_weaker {P = (new ≡ insert_key found_order old copy)} {Q = (IsAdded child old new)} c.wait.result (λ inserted. added-one child copy old new same inserted) c.wait.ensures.waited
 
 pub returns-clause-ended : goal.returns-clause-ended
 returns-clause-ended g c =
@@ -25,5 +26,5 @@ returns-clause-ended g c =
     let old = c.args.self.now.waiting.keys in
     let new = c.wait.new.self.waiting.keys in
     let same : IsCopy c.args.child.now c.in_ok-found.found = record { capacities = ap (λ (d : Distribution). d.capacities) c.in_ok-found.ensures.capacities; total = c.in_ok-found.ensures.total; hint = c.in_ok-found.ensures.hint } in
-    if-err (EndsAdding copy c.args.self.now.bounds c.args.self.now.found old new) (EndsAdding child c.args.self.now.bounds c.args.self.now.found old new) c.wait.result
+    IfErr-weaker c.wait.result (EndsAdding copy c.args.self.now.bounds c.args.self.now.found old new) (EndsAdding child c.args.self.now.bounds c.args.self.now.found old new)
     (λ e ends. ends-copied child copy c.args.self.now.bounds c.args.self.now.found old new e same ends) c.wait.ensures.ended

@@ -1,27 +1,21 @@
-use Rattle.std.proofs.Common.{◌≡◌, ◌<◌, ◌≤◌, ℕ, List, length, Some, refl, ap, subst, arith}
-use Rattle.std.specs.Prelude.{slice_get, slice_index_or}
-use Rattle.std.proofs.lemmas.Option.{slice_get_read}
+use Rattle.std.proofs.Common.{◌≤◌, List, length, ap, arith}
 use Rattle.std.proofs.lemmas.Result.{err_from_is_err_and}
 use Rattle.sd_base.specs.declared.tables.ScenarioRow.{ScenarioRow}
+use Rattle.sd_base.proofs.Lists.{item-at}
 use Rattle.sd_command.specs.steps.ScenarioBounds.{ArePassed, bounding_one}
 use Rattle.sd_command.proofs.step_lemmas.ScenarioWalks.{first_stops, passed_all, passed_more}
 use Rattle.sd_command.proofs.steps.scenario_bounds.bound_all.Goals as goal
 
--- the scenario that is tested is that of the place
-place : (rows items : List ScenarioRow) (i : ℕ) (row : ScenarioRow) → items ≡ rows → i < length items → row ≡ slice_index_or items i row
-    → slice_get rows i ≡ Some row
-place rows items i row same below is = subst (λ (xs : List ScenarioRow). slice_get xs i ≡ Some row) same (slice_get_read items (length items) i row refl below is)
-
 pub bound_one-requires-clause-rules : goal.bound_one-requires-clause-rules
 bound_one-requires-clause-rules c =
     let items = c.as_slice-scenario-items.result.now in
-    let at = place c.args.file.now.scenarios items c.loop-scenario.scenario-index c.scenario-item.result c.as_slice-scenario-items.ensures c.loop-scenario-test.true c.scenario-item.is in
+    let at = item-at c.args.file.now.scenarios items c.loop-scenario.scenario-index c.scenario-item.result c.as_slice-scenario-items.ensures c.loop-scenario-test.true c.scenario-item.is in
     (c.args.file.now.shared, c.requires.rules.scenarios c.loop-scenario.scenario-index c.scenario-item.result at)
 
 pub returns-in_err-bound_one : goal.returns-in_err-bound_one
 returns-in_err-bound_one c =
     let items = c.as_slice-scenario-items.result.now in
-    let at = place c.args.file.now.scenarios items c.loop-scenario.scenario-index c.scenario-item.result c.as_slice-scenario-items.ensures c.loop-scenario-test.true c.scenario-item.is in
+    let at = item-at c.args.file.now.scenarios items c.loop-scenario.scenario-index c.scenario-item.result c.as_slice-scenario-items.ensures c.loop-scenario-test.true c.scenario-item.is in
     let p = err_from_is_err_and c.from_residual.result c.from_residual.ensures.1 in
     rw (p.1, p.2) (first_stops (bounding_one c.args.tokens) c.args.file.now (λ (done : Unit {0}). ArePassed c.args.file.now c.args.tokens)
     c.loop-scenario.scenario-index c.scenario-item.result _
@@ -30,7 +24,7 @@ returns-in_err-bound_one c =
 pub loop-scenario-preserved : goal.loop-scenario-preserved
 loop-scenario-preserved c =
     let items = c.as_slice-scenario-items.result.now in
-    let at = place c.args.file.now.scenarios items c.loop-scenario.scenario-index c.scenario-item.result c.as_slice-scenario-items.ensures c.loop-scenario-test.true c.scenario-item.is in
+    let at = item-at c.args.file.now.scenarios items c.loop-scenario.scenario-index c.scenario-item.result c.as_slice-scenario-items.ensures c.loop-scenario-test.true c.scenario-item.is in
     passed_more c.args.file.now c.args.tokens c.loop-scenario.scenario-index c.scenario-item.result c.loop-scenario.invariant at c.in_ok-bound_one.ensures
 
 pub returns : goal.returns
