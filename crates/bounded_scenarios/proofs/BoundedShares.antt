@@ -16,9 +16,6 @@ use Rattle.bounded_scenarios.proofs.NamedChannels.{named-is, shared-named}
 
 -- ---- no two of them have one name
 
-abbrev SharesDiffer : List SharedRow → Type 0
-SharesDiffer rows = (s t : ℕ) (x y : SharedRow) → slice_get rows s ≡ Some x → slice_get rows t ≡ Some y → x.name ≡ y.name → s ≡ t
-
 not-later : (row : SharedRow) (rows : List SharedRow) (ds : List (Option ℕ)) (t : ℕ) (y : SharedRow) → RowsDiffer (row ∷ rows) → slice_get (space_shares rows ds) t ≡ Some y →
     space_name row.name ≡ y.name → ⊥
 not-later row rows ds t y differ at same =
@@ -28,19 +25,19 @@ not-later row rows ds t y differ at same =
     let places : 0 ≡ suc one.0 = differ 0 (suc one.0) row one.1 refl one.3 names in
     absurd (omega (arith, places))
 
-shares-apart : (rows : List SharedRow) (ds : List (Option ℕ)) → RowsDiffer rows → SharesDiffer (space_shares rows ds)
+shares-apart : (rows : List SharedRow) (ds : List (Option ℕ)) → RowsDiffer rows → RowsDiffer (space_shares rows ds)
 shares-apart [] ds differ s t x y at there same = absurd (cc)
 shares-apart (row ∷ rows) [] differ s t x y at there same = absurd (cc)
 shares-apart (row ∷ rows) (None ∷ ds) differ s t x y at there same = shares-apart rows ds (later_differ row rows differ) s t x y at there same
 shares-apart (row ∷ rows) (Some k ∷ ds) differ s t x y at there same = both (shares-apart rows ds (later_differ row rows differ)) (nat_lt row.tokens k) s t x y at there same
   where
-    cons : SharesDiffer (space_shares rows ds) → SharesDiffer (share_of row k ∷ space_shares rows ds)
+    cons : RowsDiffer (space_shares rows ds) → RowsDiffer (share_of row k ∷ space_shares rows ds)
     cons next zero zero x y at there same = refl
     cons next zero (suc t) x y at there same = let e : share_of row k ≡ x = cc in let z : ⊥ = not-later row rows ds t y differ there (ap (λ (r : SharedRow). r.name) e ∙ same) in absurd z
     cons next (suc s) zero x y at there same = let e : share_of row k ≡ y = cc in let z : ⊥ = not-later row rows ds s x differ at (ap (λ (r : SharedRow). r.name) e ∙ sym same) in absurd z
     cons next (suc s) (suc t) x y at there same = ap suc (next s t x y at there same)
 
-    both : SharesDiffer (space_shares rows ds) → (b : Bool) → SharesDiffer (if b then share_of row k ∷ space_shares rows ds else space_shares rows ds)
+    both : RowsDiffer (space_shares rows ds) → (b : Bool) → RowsDiffer (if b then share_of row k ∷ space_shares rows ds else space_shares rows ds)
     both next true = cons next
     both next false = next
 
@@ -136,7 +133,7 @@ module _ (shared : List SharedRow) (ds : List (Option ℕ)) (g : GraphFile) (sha
   no-space : (s : ℕ) (x : SharedRow) (name : List ℕ) → slice_get shared s ≡ Some x → x.name ≡ space_name name → ⊥
   no-space s x name at same = let one = shares.rows s x at in absurd (names one.0 one.1 name one.2 (one.3 ∙ same))
 
-  rows-apart : SharesDiffer (shared ++ space_shares shared ds)
+  rows-apart : RowsDiffer (shared ++ space_shares shared ds)
   rows-apart s t x y at there same = ⊎_elim
       (λ (a : slice_get shared s ≡ Some x). ⊎_elim (λ (b : slice_get shared t ≡ Some y). shares.rows_differ s t x y a b same)
       (λ (b : IsLater shared (space_shares shared ds) t y). let one = share-at shared ds b.0 y b.2 in let z : ⊥ = no-space s x one.1.name a (same ∙ ap (λ (r : SharedRow). r.name) one.5.1) in

@@ -5,6 +5,7 @@ use Rattle.sd_base.specs.declared.tables.ScenarioFile.{ScenarioFile}
 use Rattle.sd_base.specs.declared.tables.ScenarioRow.{ScenarioRow}
 use Rattle.sd_base.specs.Net.{IsRepetitionOf}
 use Rattle.sd_base.proofs.Lists.{get-map}
+use Rattle.levels.proofs.Elements.{contains-here, contains-later}
 use Rattle.automaton.specs.declared.graph.Edge.{Edge}
 use Rattle.automaton.specs.declared.graph.TimedGraph.{TimedGraph}
 use Rattle.automaton.specs.CriticalCycles.{IsPath, IsReachedNode, weight_in, weights}
@@ -14,7 +15,6 @@ use Rattle.automaton.proofs.Stamping.{edge_from}
 use Rattle.bounded_scenarios.specs.BoundedFiles.{bounded_file, bounded_graph, bounded_scenario}
 use Rattle.bounded_scenarios.specs.ScenarioGuides.{IsEntryOf, IsWayOf}
 use Rattle.bounded_scenarios.specs.ShownSpaces.{ShowsTaken, ShowsWays}
-use Rattle.bounded_scenarios.proofs.Chains.{has-here, has-more}
 use Rattle.bounded_scenarios.proofs.TourLists.{IsLeg, IsTour, LeadTo}
 
 -- the spaces that are taken on channels of a scenario are shown
@@ -38,7 +38,7 @@ module _ (file : ScenarioFile) (m : List (Option ℕ)) (shown : List ℕ) (graph
       (ks : List ℕ) (u v q p : ℕ) → u ≡ q * graph.tokens + p → p < graph.tokens → ShowsWays file m graph ks shown → IsPath graph.edges u ks v → EndsAt q p v (length ks) (weights graph.edges ks)
   path-tour bounded [] u v q p from inside shows same = record { states = []; r = q; s = p; end = sym same ∙ from; inside = inside; long = refl; tour = (refl, refl, refl) }
   path-tour bounded (k ∷ ks) u v q p from inside shows (e, at, starts, path) =
-      step (λ next line to below. path-tour bounded ks e.to v next line to below (λ n f has there. shows n f (has-more k n ks has) there) path) (shows k e (has-here k ks) at)
+      step (λ next line to below. path-tour bounded ks e.to v next line to below (λ n f has there. shows n f (contains-later k ks n has) there) path) (shows k e (contains-here k ks) at)
     where
       step : ((next line : ℕ) → e.to ≡ next * graph.tokens + line → line < graph.tokens → EndsAt next line v (length ks) (weights graph.edges ks)) →
           (row : ScenarioRow) × (channels : List ℕ) × IsWayOf file m graph.tokens e row channels × ShowsTaken file m row.graph channels shown →

@@ -12,6 +12,7 @@ use Rattle.sd_base.specs.Net.{Channel, Net, channel_at, file_channel, total}
 use Rattle.sd_base.specs.Scenarios.{Shares, shared_count}
 use Rattle.sd_base.specs.Schedules.{time_of}
 use Rattle.sd_base.proofs.Lists.{get-left}
+use Rattle.levels.proofs.Elements.{contains-here, contains-later}
 use Rattle.token_matrix.specs.EntryWays.{CarriesStamps}
 use Rattle.token_matrix.specs.Stamps.{IsPutBy, IsTakenBy, first_of, first_token, left_token, no_row}
 use Rattle.token_matrix.specs.Ways.{IsChain, IsWay}
@@ -26,7 +27,6 @@ use Rattle.bounded_scenarios.specs.SharedChannels.{channel_named}
 use Rattle.bounded_scenarios.specs.ShownSpaces.{ShowsTaken}
 use Rattle.bounded_scenarios.specs.StorageRates.{bounded_net}
 use Rattle.bounded_scenarios.proofs.BoundedRules.{channel-is, channel-there}
-use Rattle.bounded_scenarios.proofs.Chains.{has-here, has-more}
 use Rattle.bounded_scenarios.proofs.Lists.{IsLater, at-either}
 use Rattle.bounded_scenarios.proofs.NamedChannels.{named-is}
 use Rattle.bounded_scenarios.proofs.Spaces.{space-at}
@@ -152,15 +152,15 @@ module _ (file : ScenarioFile) (m ds : List (Option ℕ)) (g : GraphFile) (gamma
 
   chain-same : (p a j t : ℕ) (cs : List ℕ) → ShowsTaken file m g cs [] → IsChain low_net low_first p a j t cs → IsOfFile p × IsChain high_net high_first p a j t cs
   chain-same p _ _ _ _ shows (begins a j i k below into early takes there is) =
-      let plain = taken-plain (i ∷ []) shows i below (has-here i []) in
+      let plain = taken-plain (i ∷ []) shows i below (contains-here i []) in
       let number = has-number i k plain there in (
         subst IsOfFile (sym is) number.small,
         begins a j i k plain.inside (ap (λ (x : Channel). x.target) (sym (same-channel i plain)) ∙ into) early (subst (λ (x : Channel). IsTakenBy x k j) (same-channel i plain) takes)
             (subst (λ (x : Channel). k < x.tokens) (same-channel i plain) there) (is ∙ ap (λ (n : ℕ). n + k) number.same),
       )
   chain-same p _ _ _ _ shows (goes a j i k n s rest below into early takes puts chain) =
-      let plain = taken-plain (i ∷ rest) shows i below (has-here i rest) in
-      let inner = chain-same p (channel_at (bounded_net file.shared m g gamma) i).source n s rest (λ c d row at has for. shows c d row at (has-more i d rest has) for) chain in
+      let plain = taken-plain (i ∷ rest) shows i below (contains-here i rest) in
+      let inner = chain-same p (channel_at (bounded_net file.shared m g gamma) i).source n s rest (λ c d row at has for. shows c d row at (contains-later i rest d has) for) chain in
       let inner' : IsChain high_net high_first p (channel_at high_net i).source n s rest = subst (λ (x : Channel). IsChain high_net high_first p x.source n s rest) (same-channel i plain) inner.1 in
       let made : IsChain high_net high_first p a j (s + time_of high_net (channel_at high_net i).source n) (i ∷ rest) =
       goes a j i k n s rest plain.inside (ap (λ (x : Channel). x.target) (sym (same-channel i plain)) ∙ into) early (subst (λ (x : Channel). IsTakenBy x k j) (same-channel i plain) takes)

@@ -58,7 +58,7 @@ pub ended-sound : (text left : List ℕ) → ended text ≡ Ok left → text ≡
 ended-sound [] left read = absurd cc
 ended-sound (b ∷ []) left read = by_test (b == 10) refl read
   where
-    by_test : (same : Bool) → (b == 10) ≡ same → (if same then fine [] else Err Form) ≡ Ok left → b ∷ [] ≡ 10 ∷ []
+    by_test : (same : Bool) → (b == 10) ≡ same → (if same then fine {A = List ℕ} [] else Err Form) ≡ Ok left → b ∷ [] ≡ 10 ∷ []
     by_test true e found = ap (λ (x : ℕ). x ∷ []) (eqb-true b 10 e)
     by_test false e found = absurd cc
 ended-sound (b ∷ c ∷ rest) left read = absurd cc

@@ -3,6 +3,7 @@ use Rattle.std.proofs.Common.{◌≡◌, ℕ, zero, suc, ◌+◌, ◌-◌, ◌*�
 use Rattle.std.specs.List.{fold, position_or_len}
 use Rattle.std.proofs.lemmas.List.{take-append-drop, take_all, get_or-take, get_or-drop}
 use Rattle.std.proofs.lemmas.List.Sums.{fold-append, position_or_len_is, fails_before_first}
+use Rattle.sd_base.specs.Numbers.{with_digit}
 use Rattle.cert_text.specs.declared.reading.fault.Fault.TheVariants.{Form}
 use Rattle.cert_text.specs.Fields.{number_value, number_in, is_numeral, is_other}
 use Rattle.std.specs.Prelude.{slice_index}
@@ -45,21 +46,18 @@ pub above-more : (ds : List ℕ) (i n d : ℕ) → IsNumeral ds → i < length d
 above-more ds zero n d numeral within is above long = let first = numeral.zeros long in omega (arith, first, is)
 above-more ds (suc i) n d numeral within is above long = let some : 0 < n = above (omega arith) long in omega (arith, some)
 
-abbrev step : ℕ → ℕ → ℕ
-step n d = n * 10 + (d - 48)
-
 -- the value of one digit more
 pub value-more : (ds : List ℕ) (i : ℕ) → i < length ds → number_value (take (i + 1) ds) ≡ number_value (take i ds) * 10 + (slice_index ds i - 48)
 unfolding number_value
-value-more ds i within = ap (λ (l : List ℕ). fold step 0 l) (take_more ds i 0 within) ∙ fold-append step 0 (take i ds) (get_or ds i 0 ∷ [])
+value-more ds i within = ap (λ (l : List ℕ). fold with_digit 0 l) (take_more ds i 0 within) ∙ fold-append with_digit 0 (take i ds) (get_or ds i 0 ∷ [])
 
-pub fold-least : (n : ℕ) (ds : List ℕ) → n ≤ fold step n ds
+pub fold-least : (n : ℕ) (ds : List ℕ) → n ≤ fold with_digit n ds
 fold-least n [] = omega arith
-fold-least n (d ∷ ds) = omega (arith, fold-least (step n d) ds)
+fold-least n (d ∷ ds) = omega (arith, fold-least (with_digit n d) ds)
 
-pub value-split : (ds : List ℕ) (i : ℕ) → number_value ds ≡ fold step (number_value (take i ds)) (drop i ds)
+pub value-split : (ds : List ℕ) (i : ℕ) → number_value ds ≡ fold with_digit (number_value (take i ds)) (drop i ds)
 unfolding number_value
-value-split ds i = ap (λ (l : List ℕ). fold step 0 l) (sym (take-append-drop i ds)) ∙ fold-append step 0 (take i ds) (drop i ds)
+value-split ds i = ap (λ (l : List ℕ). fold with_digit 0 l) (sym (take-append-drop i ds)) ∙ fold-append with_digit 0 (take i ds) (drop i ds)
 
 pub value-least : (ds : List ℕ) (i : ℕ) → number_value (take i ds) ≤ number_value ds
 value-least ds i = rw (value-split ds i) (fold-least (number_value (take i ds)) (drop i ds))
@@ -148,12 +146,12 @@ pub number-sound : (text : List ℕ) (n : ℕ) (left : List ℕ) → number_in t
 unfolding number_in
 number-sound text n left read small = by_test (is_numeral (take (position_or_len is_other text) text)) refl read
   where
-    by_test : (b : Bool) → is_numeral (take (position_or_len is_other text) text) ≡ b → (if b then fine (number_value (take (position_or_len is_other text) text), drop (position_or_len is_other text) text) else Err Form) ≡ fine (n, left) → text ≡ decimal n ++ left
+    by_test : (b : Bool) → is_numeral (take (position_or_len is_other text) text) ≡ b → (if b then fine {A = ℕ × List ℕ} (number_value (take (position_or_len is_other text) text), drop (position_or_len is_other text) text) else Err Form) ≡ fine {A = ℕ × List ℕ} (n, left) → text ≡ decimal n ++ left
     by_test false test e = absurd cc
     by_test true test e =
         let p : ℕ = position_or_len is_other text in
         let ds : List ℕ = take p text in
-        let both : (number_value ds, drop p text) ≡ (n, left) = ok-is (number_value ds, drop p text) (n, left) e in
+        let both : (number_value ds, drop p text) ≡ (n, left) = ok-is {A = ℕ × List ℕ} (number_value ds, drop p text) (n, left) e in
         let is : number_value ds ≡ n = ap (λ (q : ℕ × List ℕ). q.0) both in
         let back : drop p text ≡ left = ap (λ (q : ℕ × List ℕ). q.1) both in
         let size : length ds ≤ p = omega (arith, length-take p text) in
@@ -163,13 +161,13 @@ number-sound text n left read small = by_test (is_numeral (take (position_or_len
 
 -- ---- numbers by their digits
 
-fold-less : (xs ys : List ℕ) (m n : ℕ) → length xs ≡ length ys → ((k : ℕ) → k < length xs → slice_index xs k ≤ 57) → m < n → fold step m xs < fold step n ys
+fold-less : (xs ys : List ℕ) (m n : ℕ) → length xs ≡ length ys → ((k : ℕ) → k < length xs → slice_index xs k ≤ 57) → m < n → fold with_digit m xs < fold with_digit n ys
 fold-less [] [] m n same digits less = less
 fold-less [] (y ∷ ys) m n same digits less = absurd (omega (arith, same))
 fold-less (x ∷ xs) [] m n same digits less = absurd (omega (arith, same))
 fold-less (x ∷ xs) (y ∷ ys) m n same digits less =
     let low = digits 0 (omega arith) in
-    fold-less xs ys (step m x) (step n y) (omega (arith, same)) (λ k within. digits (suc k) (omega arith)) (omega (arith, low, less))
+    fold-less xs ys (with_digit m x) (with_digit n y) (omega (arith, same)) (λ k within. digits (suc k) (omega arith)) (omega (arith, low, less))
 
 value-above : (ds : List ℕ) (i : ℕ) → IsNumeral ds → 1 < length ds → 0 < i → 0 < number_value (take i ds)
 unfolding number_value
@@ -177,10 +175,10 @@ value-above [] i numeral long some = absurd (omega (arith, long))
 value-above (d ∷ ds) zero numeral long some = absurd (omega (arith, some))
 value-above (d ∷ ds) (suc i) numeral long some =
     let first = numeral.zeros long in
-    let least = fold-least (step 0 d) (take i ds) in
+    let least = fold-least (with_digit 0 d) (take i ds) in
     omega (arith, first, least)
 
-value-is : (ds : List ℕ) → number_value ds ≡ fold step 0 ds
+value-is : (ds : List ℕ) → number_value ds ≡ fold with_digit 0 ds
 unfolding number_value
 value-is ds = refl
 

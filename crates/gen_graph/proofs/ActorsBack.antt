@@ -27,6 +27,7 @@ use Rattle.gen_graph.specs.declared.direction.Direction.TheVariants.{Out, In}
 use Rattle.gen_graph.specs.GraphTrees.{port_name, port_node, ports_on, ports_from, actor_node, actor_nodes, no_actor, numbers_text}
 use Rattle.graph_reader.specs.WritableNames.{IsWritableName}
 use Rattle.graph_reader.proofs.ElementPlaces.{Each-weaker}
+use Rattle.graph_reader.proofs.Found.{PortsDiffer}
 use Rattle.gen_graph.proofs.TreeTexts.{AreSmall}
 use Rattle.gen_graph.proofs.NumbersBack.{spelled_back}
 use Rattle.gen_graph.proofs.Listed.{IsCalled, kept, children_are, pair_both, pair_perhaps, each_perhaps, two_both, two_perhaps}
@@ -110,28 +111,25 @@ ports_from_on a i (c ∷ cs) few =
     each-append (IsFrom i) (ports_at a i c) (ports_read a (i + 1) cs) (ports_at_from a i c (omega arith))
     (Each-weaker (IsFrom (i + 1)) (IsFrom i) (ports_read a (i + 1) cs) (ports_from_on a (i + 1) cs (omega arith)) (λ p is. record { direction = is.direction; number = is.number; from = omega (arith, is.from); few = is.few; name = is.name }))
 
-abbrev pub Differ : Port → Port → Type 0
-Differ p q = p.name ≢ q.name
-
-later_differ : (d : Direction) (i : ℕ) (rates : List ℕ) → i < 256 → (ps : List Port) → Each (IsFrom (i + 1)) ps → Each (Differ (port_read d i rates)) ps
+later_differ : (d : Direction) (i : ℕ) (rates : List ℕ) → i < 256 → (ps : List Port) → Each (IsFrom (i + 1)) ps → Each (PortsDiffer (port_read d i rates)) ps
 later_differ d i rates lt [] are = tt
 later_differ d i rates lt (p ∷ ps) are =
     ((λ e. let same = same_place d are.0.direction i are.0.number lt are.0.few (e ∙ are.0.name) in omega (arith, same.1, are.0.from)), later_differ d i rates lt ps are.1)
 
-ports_at_differ : (a i : ℕ) (c : ChannelRow) → i < 256 → EachTwo Differ (ports_at a i c)
+ports_at_differ : (a i : ℕ) (c : ChannelRow) → i < 256 → EachTwo PortsDiffer (ports_at a i c)
 ports_at_differ a i c lt =
-    two_both Differ _ _ (two_perhaps Differ (c.source == a) (port_read Out i c.made)) (two_perhaps Differ (c.target == a) (port_read In i c.taken))
-    (each_perhaps (λ p. Each (Differ p) (cond (c.target == a) (port_read In i c.taken ∷ []) [])) (c.source == a) (port_read Out i c.made) (λ e.
-    each_perhaps (Differ (port_read Out i c.made)) (c.target == a) (port_read In i c.taken) (λ f same. let no = same_place Out In i i lt lt same in absurd (cc (no.0)))))
+    two_both PortsDiffer _ _ (two_perhaps PortsDiffer (c.source == a) (port_read Out i c.made)) (two_perhaps PortsDiffer (c.target == a) (port_read In i c.taken))
+    (each_perhaps (λ p. Each (PortsDiffer p) (cond (c.target == a) (port_read In i c.taken ∷ []) [])) (c.source == a) (port_read Out i c.made) (λ e.
+    each_perhaps (PortsDiffer (port_read Out i c.made)) (c.target == a) (port_read In i c.taken) (λ f same. let no = same_place Out In i i lt lt same in absurd (cc (no.0)))))
 
-pub ports_differ : (a i : ℕ) (cs : List ChannelRow) → i + length cs ≤ 256 → EachTwo Differ (ports_read a i cs)
+pub ports_differ : (a i : ℕ) (cs : List ChannelRow) → i + length cs ≤ 256 → EachTwo PortsDiffer (ports_read a i cs)
 ports_differ a i [] few = tt
 ports_differ a i (c ∷ cs) few =
     let later = ports_from_on a (i + 1) cs (omega arith) in
-    two_both Differ (ports_at a i c) (ports_read a (i + 1) cs) (ports_at_differ a i c (omega arith)) (ports_differ a (i + 1) cs (omega arith))
-    (each-append (λ p. Each (Differ p) (ports_read a (i + 1) cs)) _ _
-    (each_perhaps (λ p. Each (Differ p) (ports_read a (i + 1) cs)) (c.source == a) (port_read Out i c.made) (λ e. later_differ Out i c.made (omega arith) _ later))
-    (each_perhaps (λ p. Each (Differ p) (ports_read a (i + 1) cs)) (c.target == a) (port_read In i c.taken) (λ e. later_differ In i c.taken (omega arith) _ later)))
+    two_both PortsDiffer (ports_at a i c) (ports_read a (i + 1) cs) (ports_at_differ a i c (omega arith)) (ports_differ a (i + 1) cs (omega arith))
+    (each-append (λ p. Each (PortsDiffer p) (ports_read a (i + 1) cs)) _ _
+    (each_perhaps (λ p. Each (PortsDiffer p) (ports_read a (i + 1) cs)) (c.source == a) (port_read Out i c.made) (λ e. later_differ Out i c.made (omega arith) _ later))
+    (each_perhaps (λ p. Each (PortsDiffer p) (ports_read a (i + 1) cs)) (c.target == a) (port_read In i c.taken) (λ e. later_differ In i c.taken (omega arith) _ later)))
 
 -- ---- ports
 

@@ -20,6 +20,7 @@ use Rattle.graph_reader.specs.TreeSteps
 use Rattle.graph_reader.specs.Sections.{execution_of, counting_processor, is_default, times_at}
 use Rattle.graph_reader.specs.Spelled.{Pairwise, EachTwo, HasNumbers, IsTimeEntry}
 use Rattle.graph_reader.proofs.ElementPlaces.{Each-weaker}
+use Rattle.graph_reader.proofs.Found.{TimesDiffer}
 use Rattle.gen_graph.specs.GraphTrees.{numbers_text, ports_on, actor_node, actor_nodes, no_actor, channel_node, channel_nodes, processor_node, times_node, times_of, times_nodes, size_node, kind_word, properties_word, section_node, properties_node, application_node, graph_tree, written}
 use Rattle.gen_graph.proofs.TreeTexts.{times_small}
 use Rattle.gen_graph.proofs.NumbersBack.{spelled_back}
@@ -86,14 +87,11 @@ entries_named : (P : List ℕ → Type 0) (rows : List ActorRow) → Each (λ (r
 entries_named P [] each = tt
 entries_named P (row ∷ rows) each = each-append (λ (t : TimeEntry). P t.actor) (time_read row.name row.times) (times_read rows) (entry_named P row.name row.times each.0) (entries_named P rows each.1)
 
-abbrev OtherActor : TimeEntry → TimeEntry → Type 0
-OtherActor s t = s.actor ≢ t.actor
-
-entry_apart : (name ts : List ℕ) (rest : List TimeEntry) → Each (λ (t : TimeEntry). name ≢ t.actor) rest → EachTwo OtherActor rest → EachTwo OtherActor (time_read name ts ++ rest)
+entry_apart : (name ts : List ℕ) (rest : List TimeEntry) → Each (λ (t : TimeEntry). name ≢ t.actor) rest → EachTwo TimesDiffer rest → EachTwo TimesDiffer (time_read name ts ++ rest)
 entry_apart name [] rest differ two = two
 entry_apart name (t ∷ ts) rest differ two = (differ, two)
 
-pub times_apart : (rows : List ActorRow) → EachTwo (λ (r s : ActorRow). r.name ≢ s.name) rows → EachTwo OtherActor (times_read rows)
+pub times_apart : (rows : List ActorRow) → EachTwo (λ (r s : ActorRow). r.name ≢ s.name) rows → EachTwo TimesDiffer (times_read rows)
 times_apart [] two = tt
 times_apart (row ∷ rows) two = entry_apart row.name row.times (times_read rows) (entries_named (λ name. row.name ≢ name) rows two.0) (times_apart rows two.1)
 
