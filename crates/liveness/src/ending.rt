@@ -4,15 +4,13 @@ ghost use Rattle.sd_base.specs.Net.{Net, channel_at, total};
 ghost use Rattle.sd_base.specs.Lawful.{Lawful};
 ghost use Rattle.sd_base.specs.Untimed.{IsLive};
 ghost use Rattle.firing.specs.Ports.{rates_at};
-ghost use Rattle.firing.specs.Wiring.{IsLevel, IsWiringOf};
+ghost use Rattle.firing.specs.Wiring.{IsLevel};
 ghost use Rattle.liveness.specs.RoundAnswers.{IsEnding, AreReachedCounts};
 
 use crate::note::NoNote;
 use crate::round::{is_whole, lacking_channels};
 use crate::run::run_out;
-use firing::{
-    Firing, Port, Wiring, know_laws, know_wiring, made_sum, port_phases, span_sum, taken_sum,
-};
+use firing::{Firing, Port, Wired, know_laws, made_sum, port_phases, span_sum, taken_sum};
 use sd_base::{NoMemory, Rows};
 use std::alloc::Global;
 
@@ -30,26 +28,23 @@ pub enum Ending {
 }
 
 /// Fires a round, or as much of it as can fire, from counts by actor on that some order of firings reaches. Where it
-/// ends doesn't depend on where it began. Cost: as of `one_round_on` for the firings that are left, and linear in
+/// ends doesn't depend on where it began. Cost: as of `fire_round` for the firings that are left, and linear in
 /// the actors and channels; no list of the firings is made.
-pub fn one_round_from<F: Firing>(
+pub fn finish_round<F: Firing>(
     alloc: Global,
-    net: &F,
-    wiring: &Wiring,
+    wired: &Wired<F>,
     counts: &[u64],
 ) -> Result<Ending, NoMemory>
-    requires wired { IsWiringOf (F.net net.now) wiring.now }
-    requires reached { AreReachedCounts (F.net net.now) counts.now }
-    ensures { IfOk result (IsEnding (F.net net.now)) }
+    requires { AreReachedCounts (F.net wired.now.net.now) counts.now }
+    ensures { IfOk result (IsEnding (F.net wired.now.net.now)) }
 {
+    let net = wired.net;
     know_laws(net);
-    know_wiring(net, wiring);
     let mut tokens = tokens_after(alloc, net, counts)?;
     let mut counts = Vec::from_slice(alloc, counts)?;
     run_out(
         alloc,
-        net,
-        wiring,
+        wired,
         counts.as_mut_slice(),
         tokens.as_mut_slice(),
         &mut NoNote,
@@ -57,7 +52,7 @@ pub fn one_round_from<F: Firing>(
     if is_whole(net, counts.as_slice()) {
         return Ok(Ending::Whole);
     }
-    let lacks = lacking_channels(alloc, net, wiring, counts.as_slice(), tokens.as_slice())?;
+    let lacks = lacking_channels(alloc, wired, counts.as_slice(), tokens.as_slice())?;
     Ok(Ending::Blocked {
         counts: Rows::from_vec(counts),
         lacks,

@@ -8,5 +8,5 @@ mod round;
 mod run;
 mod streak;
 
-pub use ending::{Ending, moved_sum, no_counts, one_round_from, whole_counts};
-pub use round::{Round, one_round, one_round_on};
+pub use ending::{Ending, finish_round, moved_sum, no_counts, whole_counts};
+pub use round::{Round, fire_round, one_round};

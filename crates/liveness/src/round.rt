@@ -1,10 +1,9 @@
 ghost use Rattle.std.specs.Prelude.{◌≡◌, ◌≤◌, ◌<◌, ◌↔◌, ℕ, IsTrue, IfOk, MatchOption, length, slice_index};
 ghost use Rattle.sd_base.specs.Untimed.{IsLive, Closed};
-ghost use Rattle.firing.specs.declared.sums.Port.TheVariants.{Made, Taken};
-ghost use Rattle.firing.specs.Wiring.{AreListed, IsLevel, IsWiringOf};
+ghost use Rattle.firing.specs.Wiring.{IsLevel};
 
 use crate::run::run_out;
-use firing::{Firing, Wiring, first_lack, initial_tokens, know_wiring};
+use firing::{Firing, Wired, Wiring, first_lack, initial_tokens};
 use sd_base::{NoMemory, Rows};
 use std::alloc::Global;
 
@@ -33,23 +32,25 @@ pub fn one_round<F: Firing>(alloc: Global, net: &F) -> Result<Round, NoMemory>
     ensures exact { IfOk result (λ round. IsTrue (is_live round) ↔ IsLive (F.net net.now)) }
 {
     let wiring = Wiring::new(alloc, net)?;
-    one_round_on(alloc, net, &wiring)
+    let wired = Wired {
+        net,
+        wiring: &wiring,
+    };
+    fire_round(alloc, &wired)
 }
 
 /// A round of a net whose wiring is there already, as `one_round` fires it.
-pub fn one_round_on<F: Firing>(alloc: Global, net: &F, wiring: &Wiring) -> Result<Round, NoMemory>
-    requires wired { IsWiringOf (F.net net.now) wiring.now }
-    ensures answer { IfOk result (IsRoundAnswer (F.net net.now)) }
-    ensures exact { IfOk result (λ round. IsTrue (is_live round) ↔ IsLive (F.net net.now)) }
+pub fn fire_round<F: Firing>(alloc: Global, wired: &Wired<F>) -> Result<Round, NoMemory>
+    ensures answer { IfOk result (IsRoundAnswer (F.net wired.now.net.now)) }
+    ensures exact { IfOk result (λ round. IsTrue (is_live round) ↔ IsLive (F.net wired.now.net.now)) }
 {
-    know_wiring(net, wiring);
+    let net = wired.net;
     let mut counts = vec![in alloc; 0u64; net.actors() as usize]?;
     let mut tokens = initial_tokens(alloc, net)?;
     let mut order = Vec::new(alloc);
     run_out(
         alloc,
-        net,
-        wiring,
+        wired,
         counts.as_mut_slice(),
         tokens.as_mut_slice(),
         &mut order,
@@ -59,7 +60,7 @@ pub fn one_round_on<F: Firing>(alloc: Global, net: &F, wiring: &Wiring) -> Resul
             order: Rows::from_vec(order),
         });
     }
-    let lacks = lacking_channels(alloc, net, wiring, counts.as_slice(), tokens.as_slice())?;
+    let lacks = lacking_channels(alloc, wired, counts.as_slice(), tokens.as_slice())?;
     Ok(Round::Blocked {
         counts: Rows::from_vec(counts),
         lacks,
@@ -83,44 +84,40 @@ pub(crate) fn is_whole<F: Firing>(net: &F, counts: &[u64]) -> bool
 /// By actor the first channel on which it lacks tokens, if it is below its round.
 pub(crate) fn lacking_channels<F: Firing>(
     alloc: Global,
-    net: &F,
-    wiring: &Wiring,
+    wired: &Wired<F>,
     counts: &[u64],
     tokens: &[u128],
 ) -> Result<Rows<Option<u32>>, NoMemory>
-    requires actors { length counts.now ≡ length (F.net net.now).times }
-    requires inputs { AreListed (F.net net.now) Taken wiring.now.inputs }
-    requires level { IsLevel (F.net net.now) (slice_index counts.now) (slice_index counts.now) tokens.now }
-    requires closed { Closed (F.net net.now) (slice_index counts.now) }
-    ensures { IfOk result (NamesLacks (F.net net.now) (slice_index counts.now)) }
+    requires actors { length counts.now ≡ length (F.net wired.now.net.now).times }
+    requires level { IsLevel (F.net wired.now.net.now) (slice_index counts.now) (slice_index counts.now) tokens.now }
+    requires closed { Closed (F.net wired.now.net.now) (slice_index counts.now) }
+    ensures { IfOk result (NamesLacks (F.net wired.now.net.now) (slice_index counts.now)) }
 {
-    let mut lacks = Vec::with_capacity(alloc, net.actors() as usize)?;
-    for actor in 0..net.actors() {
-        lacks.push(lacking_channel(net, wiring, actor, counts, tokens))?;
+    let mut lacks = Vec::with_capacity(alloc, wired.net.actors() as usize)?;
+    for actor in 0..wired.net.actors() {
+        lacks.push(lacking_channel(wired, actor, counts, tokens))?;
     }
     Ok(Rows::from_vec(lacks))
 }
 
 /// The first channel on which an actor lacks tokens, if it is below its round.
 fn lacking_channel<F: Firing>(
-    net: &F,
-    wiring: &Wiring,
+    wired: &Wired<F>,
     actor: u32,
     counts: &[u64],
     tokens: &[u128],
 ) -> Option<u32>
-    requires actor { actor < length (F.net net.now).times }
-    requires actors { length counts.now ≡ length (F.net net.now).times }
-    requires inputs { AreListed (F.net net.now) Taken wiring.now.inputs }
-    requires level { IsLevel (F.net net.now) (slice_index counts.now) (slice_index counts.now) tokens.now }
-    requires closed { Closed (F.net net.now) (slice_index counts.now) }
-    ensures { MatchOption result (slice_index (F.net net.now).round actor ≤ slice_index counts.now actor)
-        (λ i. (slice_index counts.now actor < slice_index (F.net net.now).round actor)
-        × IsFirstLacking (F.net net.now) (slice_index counts.now) actor i) }
+    requires actor { actor < length (F.net wired.now.net.now).times }
+    requires actors { length counts.now ≡ length (F.net wired.now.net.now).times }
+    requires level { IsLevel (F.net wired.now.net.now) (slice_index counts.now) (slice_index counts.now) tokens.now }
+    requires closed { Closed (F.net wired.now.net.now) (slice_index counts.now) }
+    ensures { MatchOption result (slice_index (F.net wired.now.net.now).round actor ≤ slice_index counts.now actor)
+        (λ i. (slice_index counts.now actor < slice_index (F.net wired.now.net.now).round actor)
+        × IsFirstLacking (F.net wired.now.net.now) (slice_index counts.now) actor i) }
 {
     let count = counts[actor as usize];
-    if count >= net.round(actor) {
+    if count >= wired.net.round(actor) {
         return None;
     }
-    first_lack(net, wiring.inputs_of(actor), tokens, actor, count)
+    first_lack(wired.net, wired.inputs_of(actor), tokens, actor, count)
 }

@@ -5,49 +5,47 @@ ghost use Rattle.sd_base.specs.Net.{channel_at, total};
 ghost use Rattle.sd_base.specs.Schedules.{phases_at};
 ghost use Rattle.sd_base.proofs.Ends.{left_of};
 ghost use Rattle.firing.specs.declared.sums.Port.TheVariants.{Made, Taken};
-ghost use Rattle.firing.specs.Wiring.{AreListed, IsListed, PutsTokens, TakesTokens};
+ghost use Rattle.firing.specs.Wiring.{IsListed, PutsTokens, TakesTokens};
 ghost use Rattle.liveness.specs.inside.Streaks.{EndsStreak, Feeds, FeedsStreak};
 ghost use Rattle.liveness.specs.inside.UntimedRuns.{IsNoted, IsStopped};
 
 use crate::note::Note;
-use firing::{Firing, Wiring, know_laws};
+use firing::{Firing, Wired, know_laws};
 use sd_base::NoMemory;
 
 /// Fires an actor of one phase as often as it can within its round, and tells whether it fired. Cost: linear in its
 /// channels, and where notes are taken in the firings.
 pub(crate) fn fire_streak<F: Firing, N: Note>(
-    net: &F,
-    wiring: &Wiring,
+    wired: &Wired<F>,
     actor: u32,
     counts: &mut [u64],
     tokens: &mut [u128],
     note: &mut N,
 ) -> Result<bool, NoMemory>
-    requires actor { actor < length (F.net net.now).times }
-    requires single { phases_at (F.net net.now) actor ≡ 1 }
-    requires inputs { AreListed (F.net net.now) Taken wiring.now.inputs }
-    requires outputs { AreListed (F.net net.now) Made wiring.now.outputs }
-    requires run { IsNoted (N.holds note.old) (F.net net.now) counts.old tokens.old }
-    ensures run { OnOk result (IsNoted (N.holds note.new) (F.net net.now) counts.new tokens.new) }
-    ensures stopped { IfOk result (λ b. IsStopped (F.net net.now) (slice_index counts.new) actor) }
+    requires actor { actor < length (F.net wired.now.net.now).times }
+    requires single { phases_at (F.net wired.now.net.now) actor ≡ 1 }
+    requires run { IsNoted (N.holds note.old) (F.net wired.now.net.now) counts.old tokens.old }
+    ensures run { OnOk result (IsNoted (N.holds note.new) (F.net wired.now.net.now) counts.new tokens.new) }
+    ensures stopped { IfOk result (λ b. IsStopped (F.net wired.now.net.now) (slice_index counts.new) actor) }
     ensures others { IfOk result (λ b. (a : ℕ) → a ≢ actor → slice_index counts.new a ≡ slice_index counts.old a) }
     ensures fired { IfOk result (λ b. MatchBool b
-        (left_of (F.net net.now) (slice_index counts.new) < left_of (F.net net.now) (slice_index counts.old))
+        (left_of (F.net wired.now.net.now) (slice_index counts.new) < left_of (F.net wired.now.net.now) (slice_index counts.old))
         (counts.new ≡ counts.old)) }
 {
+    let net = wired.net;
     know_laws(net);
     let count = counts[actor as usize];
     let round = net.round(actor);
     if count >= round {
         return Ok(false);
     }
-    let inputs = wiring.inputs_of(actor);
+    let inputs = wired.inputs_of(actor);
     let firings = fed_in_streak(net, inputs, tokens, actor, count, round - count);
     if firings == 0 {
         return Ok(false);
     }
     note_streak(note, actor, firings)?;
-    put_streak(net, wiring.outputs_of(actor), tokens, actor, count, firings);
+    put_streak(net, wired.outputs_of(actor), tokens, actor, count, firings);
     take_streak(net, inputs, tokens, actor, count, firings);
     counts[actor as usize] = count + firings;
     Ok(true)

@@ -3,4 +3,4 @@ use Rattle.liveness.proofs.Naming.{NamesBelow}
 use Rattle.liveness.proofs.round.lacking_channels.Given as goal
 
 abbrev pub invariant-loop-actor : goal.invariant-loop-actor
-invariant-loop-actor g l = NamesBelow (g.F.Firing.net l.net) (slice_index l.counts) l.actor l.lacks.items
+invariant-loop-actor g l = NamesBelow (g.F.Firing.net l.wired.net.now) (slice_index l.counts) l.actor l.lacks.items

@@ -5,9 +5,9 @@ use Rattle.liveness.proofs.run.run_out.Given as goal
 
 abbrev pub invariant-looks : goal.invariant-looks
 invariant-looks g l = record {
-  run : IsNoted (g.N.Note.holds l.note) (g.F.Firing.net l.net) l.counts l.tokens;
-  leaves : LeavesFlags (g.F.Firing.net l.net) l.counts l.flags.flagged.items l.flags.stack.items;
+  run : IsNoted (g.N.Note.holds l.note) (g.F.Firing.net l.wired.net.now) l.counts l.tokens;
+  leaves : LeavesFlags (g.F.Firing.net l.wired.net.now) l.counts l.flags.flagged.items l.flags.stack.items;
 }
 
 abbrev pub decreases-looks : goal.decreases-looks
-decreases-looks g l = looks_left (g.F.Firing.net l.net) l.counts l.flags.stack.items
+decreases-looks g l = looks_left (g.F.Firing.net l.wired.net.now) l.counts l.flags.stack.items
