@@ -3,13 +3,12 @@ ghost use Rattle.sd_base.specs.declared.limits.TheConstants.{STARTS};
 ghost use Rattle.sd_base.specs.Schedules.{HasInputs};
 ghost use Rattle.sd_base.specs.SelfTimed.{starts_by};
 ghost use Rattle.sd_base.specs.Rates.{IsLoopTable};
-ghost use Rattle.firing.specs.Wiring.{IsWiringOf};
 ghost use Rattle.critical.specs.CriticalCycles.{IsCriticalCycleOf};
 
 use crate::closing::closed_cycle;
 use crate::cycle::NeedCycle;
 use crate::walk::walk_back;
-use firing::{Firing, LoopTable, Wiring, know_laws, know_wiring};
+use firing::{Firing, LoopTable, Wired, Wiring, know_laws};
 use sd_base::NoMemory;
 use std::alloc::Global;
 
@@ -24,24 +23,25 @@ pub fn cycle_of<F: Firing>(alloc: Global, net: &F, table: &LoopTable) -> Result<
     ensures { IfOk result (IsCriticalCycleOf (F.net net.now) table.now) }
 {
     let wiring = Wiring::new(alloc, net)?;
-    cycle_of_on(alloc, net, &wiring, table)
+    let wired = Wired {
+        net,
+        wiring: &wiring,
+    };
+    critical_cycle(alloc, &wired, table)
 }
 
-/// The cycle on a net whose wiring is there already, as `cycle_of` finds it.
-pub fn cycle_of_on<F: Firing>(
+/// The cycle that `cycle_of` finds, of a net whose channels by actor are there already.
+pub fn critical_cycle<F: Firing>(
     alloc: Global,
-    net: &F,
-    wiring: &Wiring,
+    wired: &Wired<F>,
     table: &LoopTable,
 ) -> Result<NeedCycle, NoMemory>
-    requires wired { IsWiringOf (F.net net.now) wiring.now }
-    requires inputs { HasInputs (F.net net.now) }
-    requires table { IsLoopTable (F.net net.now) table.now.entry table.now.period table.now.rounds table.now.before table.now.starts }
-    requires few { starts_by (F.net net.now) (table.now.entry + table.now.period) ≤ STARTS }
-    ensures { IfOk result (IsCriticalCycleOf (F.net net.now) table.now) }
+    requires inputs { HasInputs (F.net wired.now.net.now) }
+    requires table { IsLoopTable (F.net wired.now.net.now) table.now.entry table.now.period table.now.rounds table.now.before table.now.starts }
+    requires few { starts_by (F.net wired.now.net.now) (table.now.entry + table.now.period) ≤ STARTS }
+    ensures { IfOk result (IsCriticalCycleOf (F.net wired.now.net.now) table.now) }
 {
-    know_laws(net);
-    know_wiring(net, wiring);
-    let way = walk_back(alloc, net, wiring, table)?;
-    closed_cycle(alloc, net, table, way.met.as_slice(), way.from)
+    know_laws(wired.net);
+    let way = walk_back(alloc, wired, table)?;
+    closed_cycle(alloc, wired.net, table, way.met.as_slice(), way.from)
 }

@@ -16,6 +16,6 @@ mod unspaced;
 mod walk;
 
 pub use cycle::{CycleStep, FiringNo, NeedCycle};
-pub use find::{cycle_of, cycle_of_on};
+pub use find::{critical_cycle, cycle_of};
 pub use steps::CycleSteps;
 pub use unspaced::cycle_without_spaces;

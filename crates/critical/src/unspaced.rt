@@ -8,7 +8,7 @@ ghost use Rattle.sd_base.specs.SelfTimed.{starts_by};
 ghost use Rattle.sd_base.specs.Rates.{IsLoopTable};
 ghost use Rattle.sd_base.specs.Net.{channel_at};
 ghost use Rattle.firing.specs.declared.sums.Port.TheVariants.{Taken};
-ghost use Rattle.firing.specs.Wiring.{IsListed, IsWiringOf};
+ghost use Rattle.firing.specs.Wiring.{IsListed};
 ghost use Rattle.critical.specs.declared.walk.Met.{Met as AMet};
 ghost use Rattle.critical.specs.Unspaced.{IsUnspaced};
 ghost use Rattle.critical.specs.inside.Trails.{IsSearchable, IsSecond, offset_of};
@@ -19,7 +19,7 @@ use crate::pass::{pass_of, second_of};
 use crate::steps::CycleSteps;
 use crate::tight::{ReadNeed, tight_on};
 use crate::walk::{Met, Way};
-use firing::{Firing, LoopTable, Wiring, know_laws, know_wiring};
+use firing::{Firing, LoopTable, Wired, know_laws};
 use sd_base::{NoMemory, Role};
 use std::alloc::Global;
 
@@ -27,8 +27,7 @@ use std::alloc::Global;
 /// list of marks.
 #[derive(Drop)]
 struct Pass<'a, F: Firing> {
-    net: &'a F,
-    wiring: &'a Wiring,
+    wired: &'a Wired<'a, F>,
     table: &'a LoopTable,
     offsets: &'a [usize],
 }
@@ -38,24 +37,20 @@ struct Pass<'a, F: Firing> {
 /// back, there is one. Cost: linear in the starts of a pass times the channels into an actor.
 pub fn cycle_without_spaces<F: Firing>(
     alloc: Global,
-    net: &F,
-    wiring: &Wiring,
+    wired: &Wired<F>,
     table: &LoopTable,
 ) -> Result<Option<NeedCycle>, NoMemory>
-    requires wired { IsWiringOf (F.net net.now) wiring.now }
-    requires inputs { HasInputs (F.net net.now) }
-    requires table { IsLoopTable (F.net net.now) table.now.entry table.now.period table.now.rounds table.now.before table.now.starts }
-    requires few { starts_by (F.net net.now) (table.now.entry + table.now.period) ≤ STARTS }
-    ensures { IfOk result (λ found. IfSome found (IsUnspaced (F.net net.now))) }
+    requires inputs { HasInputs (F.net wired.now.net.now) }
+    requires table { IsLoopTable (F.net wired.now.net.now) table.now.entry table.now.period table.now.rounds table.now.before table.now.starts }
+    requires few { starts_by (F.net wired.now.net.now) (table.now.entry + table.now.period) ≤ STARTS }
+    ensures { IfOk result (λ found. IfSome found (IsUnspaced (F.net wired.now.net.now))) }
 {
-    know_laws(net);
-    know_wiring(net, wiring);
+    know_laws(wired.net);
     let offsets = offsets(alloc, table)?;
     let begins = offsets.as_slice();
     let mut marks = no_marks(alloc, places_of(table, begins))?;
     let pass = Pass {
-        net,
-        wiring,
+        wired,
         table,
         offsets: begins,
     };
@@ -68,11 +63,11 @@ pub fn cycle_without_spaces<F: Firing>(
 impl<'a, F: Firing> Pass<'a, F> {
     /// A way to a firing that stands on it.
     fn way_round(&self, alloc: Global, marks: &mut [Option<u32>]) -> Result<Option<Way>, NoMemory>
-        requires pass { IsSearchable (F.net self.now.net.now) self.now.table.now self.now.wiring.now.inputs self.now.offsets.now }
+        requires pass { IsSearchable (F.net self.now.wired.now.net.now) self.now.table.now self.now.offsets.now }
         requires marks { length marks.old ≡ offset_of self.now.table.now.starts (length self.now.table.now.starts) }
         ensures { IfOk result (λ found. IfSome found (λ w. All (λ (m : AMet). IsSecond self.now.table.now m.firing) w.met.items)) }
     {
-        for actor in 0..self.net.actors() {
+        for actor in 0..self.wired.net.actors() {
             if let Some(way) = self.way_from_actor(alloc, actor, marks)? {
                 return Ok(Some(way));
             }
@@ -87,7 +82,7 @@ impl<'a, F: Firing> Pass<'a, F> {
         actor: u32,
         marks: &mut [Option<u32>],
     ) -> Result<Option<Way>, NoMemory>
-        requires pass { IsSearchable (F.net self.now.net.now) self.now.table.now self.now.wiring.now.inputs self.now.offsets.now }
+        requires pass { IsSearchable (F.net self.now.wired.now.net.now) self.now.table.now self.now.offsets.now }
         requires actor { actor < length self.now.table.now.starts }
         requires marks { length marks.old ≡ offset_of self.now.table.now.starts (length self.now.table.now.starts) }
         ensures way { IfOk result (λ found. IfSome found (λ w. All (λ (m : AMet). IsSecond self.now.table.now m.firing) w.met.items)) }
@@ -114,7 +109,7 @@ impl<'a, F: Firing> Pass<'a, F> {
         first: FiringNo,
         marks: &mut [Option<u32>],
     ) -> Result<Option<Way>, NoMemory>
-        requires pass { IsSearchable (F.net self.now.net.now) self.now.table.now self.now.wiring.now.inputs self.now.offsets.now }
+        requires pass { IsSearchable (F.net self.now.wired.now.net.now) self.now.table.now self.now.offsets.now }
         requires first { IsSecond self.now.table.now first }
         requires marks { length marks.old ≡ offset_of self.now.table.now.starts (length self.now.table.now.starts) }
         ensures way { IfOk result (λ found. IfSome found (λ w. All (λ (m : AMet). IsSecond self.now.table.now m.firing) w.met.items)) }
@@ -151,7 +146,7 @@ impl<'a, F: Firing> Pass<'a, F> {
         met: &mut Vec<Met>,
         marks: &mut [Option<u32>],
     ) -> Result<Option<usize>, NoMemory>
-        requires pass { IsSearchable (F.net self.now.net.now) self.now.table.now self.now.wiring.now.inputs self.now.offsets.now }
+        requires pass { IsSearchable (F.net self.now.wired.now.net.now) self.now.table.now self.now.offsets.now }
         requires here { IsSecond self.now.table.now here.firing }
         requires met { All (λ (m : AMet). IsSecond self.now.table.now m.firing) met.old.items }
         requires few { length met.old.items ≤ 2 * STARTS + 1 }
@@ -160,7 +155,7 @@ impl<'a, F: Firing> Pass<'a, F> {
         ensures few { OnOk result (length met.new.items ≤ length met.old.items + 1) }
         ensures marks { length marks.new ≡ length marks.old }
     {
-        let inputs = self.wiring.inputs_of(here.firing.actor);
+        let inputs = self.wired.inputs_of(here.firing.actor);
         let Some(need) = self.open_need(inputs, here.firing, met.as_slice(), marks) else {
             met.pop();
             return Ok(None);
@@ -170,7 +165,9 @@ impl<'a, F: Firing> Pass<'a, F> {
         met.push(Met {
             firing: need.firing,
             passes: here.passes.saturating_add(need.passes),
-            time: here.time.saturating_add(time_at(self.net, need.firing)),
+            time: here
+                .time
+                .saturating_add(time_at(self.wired.net, need.firing)),
             channel: need.channel,
         })?;
         match before {
@@ -187,9 +184,9 @@ impl<'a, F: Firing> Pass<'a, F> {
         met: &[Met],
         marks: &[Option<u32>],
     ) -> Option<ReadNeed>
-        requires pass { IsSearchable (F.net self.now.net.now) self.now.table.now self.now.wiring.now.inputs self.now.offsets.now }
+        requires pass { IsSearchable (F.net self.now.wired.now.net.now) self.now.table.now self.now.offsets.now }
         requires second { IsSecond self.now.table.now later }
-        requires listed { IsListed (F.net self.now.net.now) Taken later.actor inputs.now }
+        requires listed { IsListed (F.net self.now.wired.now.net.now) Taken later.actor inputs.now }
         requires marks { length marks.now ≡ offset_of self.now.table.now.starts (length self.now.table.now.starts) }
         ensures { IfSome result (λ n. IsSecond self.now.table.now n.firing) }
     {
@@ -209,17 +206,17 @@ impl<'a, F: Firing> Pass<'a, F> {
         met: &[Met],
         marks: &[Option<u32>],
     ) -> Option<ReadNeed>
-        requires pass { IsSearchable (F.net self.now.net.now) self.now.table.now self.now.wiring.now.inputs self.now.offsets.now }
+        requires pass { IsSearchable (F.net self.now.wired.now.net.now) self.now.table.now self.now.offsets.now }
         requires second { IsSecond self.now.table.now later }
-        requires place { channel < length (F.net self.now.net.now).channels }
-        requires target { (channel_at (F.net self.now.net.now) channel).target ≡ later.actor }
+        requires place { channel < length (F.net self.now.wired.now.net.now).channels }
+        requires target { (channel_at (F.net self.now.wired.now.net.now) channel).target ≡ later.actor }
         requires marks { length marks.now ≡ offset_of self.now.table.now.starts (length self.now.table.now.starts) }
         ensures { IfSome result (λ n. IsSecond self.now.table.now n.firing) }
     {
-        if is_space(self.net, channel) {
+        if is_space(self.wired.net, channel) {
             return None;
         }
-        let need = tight_on(self.net, self.table, channel, later)?;
+        let need = tight_on(self.wired.net, self.table, channel, later)?;
         if self.is_open(need.firing, met, marks) {
             Some(need)
         } else {
@@ -229,7 +226,7 @@ impl<'a, F: Firing> Pass<'a, F> {
 
     /// Whether a firing isn't marked, or stands on the way.
     fn is_open(&self, firing: FiringNo, met: &[Met], marks: &[Option<u32>]) -> bool
-        requires pass { IsSearchable (F.net self.now.net.now) self.now.table.now self.now.wiring.now.inputs self.now.offsets.now }
+        requires pass { IsSearchable (F.net self.now.wired.now.net.now) self.now.table.now self.now.offsets.now }
         requires second { IsSecond self.now.table.now firing }
         requires marks { length marks.now ≡ offset_of self.now.table.now.starts (length self.now.table.now.starts) }
     {
@@ -241,18 +238,18 @@ impl<'a, F: Firing> Pass<'a, F> {
 
     /// The need cycle from the end of a way to its place `from`, if it is one and goes along no free space.
     fn tested(&self, alloc: Global, way: Way) -> Result<Option<NeedCycle>, NoMemory>
-        requires pass { IsSearchable (F.net self.now.net.now) self.now.table.now self.now.wiring.now.inputs self.now.offsets.now }
+        requires pass { IsSearchable (F.net self.now.wired.now.net.now) self.now.table.now self.now.offsets.now }
         requires met { All (λ (m : AMet). IsSecond self.now.table.now m.firing) way.met.items }
-        ensures { IfOk result (λ found. IfSome found (IsUnspaced (F.net self.now.net.now))) }
+        ensures { IfOk result (λ found. IfSome found (IsUnspaced (F.net self.now.wired.now.net.now))) }
     {
         if way.from >= way.met.len() {
             return Ok(None);
         }
         let cycle = self.closed(alloc, way.met.as_slice(), way.from)?;
-        if !cycle.holds(self.net) {
+        if !cycle.holds(self.wired.net) {
             return Ok(None);
         }
-        let spaces = cycle.storage_channels(alloc, self.net)?;
+        let spaces = cycle.storage_channels(alloc, self.wired.net)?;
         let count = spaces.as_slice().len();
         if count == 0 {
             Ok(Some(cycle))
@@ -263,7 +260,7 @@ impl<'a, F: Firing> Pass<'a, F> {
 
     /// The steps from the end of a way forward to its place `from`, with the numbers that they have as the end is read.
     fn closed(&self, alloc: Global, met: &[Met], from: usize) -> Result<NeedCycle, NoMemory>
-        requires pass { IsSearchable (F.net self.now.net.now) self.now.table.now self.now.wiring.now.inputs self.now.offsets.now }
+        requires pass { IsSearchable (F.net self.now.wired.now.net.now) self.now.table.now self.now.offsets.now }
         requires met { All (λ (m : AMet). IsSecond self.now.table.now m.firing) met.now }
         requires from { from < length met.now }
     {
@@ -289,7 +286,7 @@ impl<'a, F: Firing> Pass<'a, F> {
 
     /// A firing met, as one met after so many passes is read.
     fn read_at(&self, met: Met, passes: u64) -> FiringNo
-        requires pass { IsSearchable (F.net self.now.net.now) self.now.table.now self.now.wiring.now.inputs self.now.offsets.now }
+        requires pass { IsSearchable (F.net self.now.wired.now.net.now) self.now.table.now self.now.offsets.now }
         requires second { IsSecond self.now.table.now met.firing }
     {
         let later = passes

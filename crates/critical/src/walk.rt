@@ -1,14 +1,12 @@
 //! The way back along tight needs, until a firing comes again whole passes before.
 ghost use Rattle.std.specs.Prelude.{◌≡◌, ◌+◌, ◌*◌, ◌<◌, ◌≤◌, ◌^◌, IfOk, length};
-ghost use Rattle.firing.specs.declared.sums.Port.TheVariants.{Taken};
-ghost use Rattle.firing.specs.Wiring.{AreListed};
 ghost use Rattle.critical.specs.inside.Trails.{IsShort, IsShortLoop, IsSecond, Leads, ComesAgain, first_firing};
 
 use crate::cycle::{FiringNo, time_at};
 use crate::marks::{class_of, mark, no_marks, offsets, places_of};
 use crate::pass::{pass_of, second_of};
 use crate::tight::tight_need;
-use firing::{Firing, LoopTable, Wiring};
+use firing::{Firing, LoopTable, Wired};
 use sd_base::NoMemory;
 use std::alloc::Global;
 
@@ -37,13 +35,11 @@ pub(crate) struct Way {
 /// times the channels into an actor.
 pub(crate) fn walk_back<F: Firing>(
     alloc: Global,
-    net: &F,
-    wiring: &Wiring,
+    wired: &Wired<F>,
     table: &LoopTable,
 ) -> Result<Way, NoMemory>
-    requires table { IsShortLoop (F.net net.now) table.now }
-    requires wired { AreListed (F.net net.now) Taken wiring.now.inputs }
-    ensures { IfOk result (λ w. ComesAgain (F.net net.now) table.now w.met.items w.from) }
+    requires { IsShortLoop (F.net wired.now.net.now) table.now }
+    ensures { IfOk result (λ w. ComesAgain (F.net wired.now.net.now) table.now w.met.items w.from) }
 {
     let offsets = offsets(alloc, table)?;
     let places = places_of(table, offsets.as_slice());
@@ -63,7 +59,7 @@ pub(crate) fn walk_back<F: Firing>(
                 from: from as usize,
             });
         }
-        here = next_met(net, table, wiring, here);
+        here = next_met(wired, table, here);
     }
     unreachable!()
 }
@@ -89,19 +85,19 @@ fn first_met(table: &LoopTable) -> Met
 }
 
 /// The tight need of a firing met, met next.
-fn next_met<F: Firing>(net: &F, table: &LoopTable, wiring: &Wiring, here: Met) -> Met
-    requires table { IsShortLoop (F.net net.now) table.now }
+fn next_met<F: Firing>(wired: &Wired<F>, table: &LoopTable, here: Met) -> Met
+    requires table { IsShortLoop (F.net wired.now.net.now) table.now }
     requires second { IsSecond table.now here.firing }
-    requires wired { AreListed (F.net net.now) Taken wiring.now.inputs }
     requires near { here.passes ≤ 2 ^ 62 }
     requires soon { here.time ≤ 2 ^ 62 }
-    ensures { Leads (F.net net.now) table.now here result }
+    ensures { Leads (F.net wired.now.net.now) table.now here result }
 {
-    let need = tight_need(net, table, wiring.inputs_of(here.firing.actor), here.firing);
+    let inputs = wired.inputs_of(here.firing.actor);
+    let need = tight_need(wired.net, table, inputs, here.firing);
     Met {
         firing: need.firing,
         passes: here.passes + need.passes,
-        time: here.time + time_at(net, need.firing),
+        time: here.time + time_at(wired.net, need.firing),
         channel: need.channel,
     }
 }

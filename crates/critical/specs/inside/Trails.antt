@@ -2,8 +2,6 @@
 use Rattle.std.specs.Prelude.{◌≡◌, ℕ, zero, suc, ◌+◌, ◌-◌, ◌*◌, ◌≤◌, ◌<◌, List, [], ◌∷◌, length, slice_index, slice_index_or}
 use Rattle.sd_base.specs.declared.limits.TheConstants.{STARTS, TIME}
 use Rattle.firing.specs.declared.table.LoopTable.{LoopTable}
-use Rattle.firing.specs.declared.sums.Port.TheVariants.{Taken}
-use Rattle.firing.specs.Wiring.{AreListed}
 use Rattle.critical.specs.declared.cycle.FiringNo.{FiringNo}
 use Rattle.critical.specs.declared.cycle.CycleStep.{CycleStep}
 use Rattle.critical.specs.declared.tight.ReadNeed.{ReadNeed}
@@ -38,10 +36,9 @@ pub record IsShortLoop (net : Net) (table : LoopTable) : Type 0 where
   pub loop : IsLoopTable net table.entry table.period table.rounds table.before table.starts
   pub short : IsShort table
 
--- a loop whose second pass can be searched: with the channels into each actor, and where the firings of each begin in a list
-pub record IsSearchable (net : Net) (table : LoopTable) (inputs : List (List ℕ)) (offsets : List ℕ) : Type 0 where
+-- a loop whose second pass can be searched, with where the firings of each actor begin in a list
+pub record IsSearchable (net : Net) (table : LoopTable) (offsets : List ℕ) : Type 0 where
   pub short : IsShortLoop net table
-  pub wired : AreListed net Taken inputs
   pub placed : AreOffsets table.starts offsets
 
 -- the number of the first firing of an actor in the second pass

@@ -6,6 +6,6 @@ pub overflow_add-result : goal.overflow_add-result
 overflow_add-result g c =
     omega (
       arith,
-      need-near (g.F.Firing.net c.args.net.now) c.args.table.now c.requires.table c.args.here.firing c.tight_need-need.result c.tight_need-need.ensures.need,
+      need-near (g.F.Firing.net c.args.wired.now.net.now) c.args.table.now c.requires.table c.args.here.firing c.tight_need-need.result c.tight_need-need.ensures.need,
       mul-le-mul_left c.tight_need-need.result.passes c.requires.table.loop.turns,
     )

@@ -9,45 +9,45 @@ loop-place-init g c =
     rw c.in_ok-met.ensures.items (record {
       long = omega arith;
       first = c.first_met-here.ensures.first;
-      way = way-first (g.F.Firing.net c.args.net.now) c.args.table.now c.requires.table c.first_met-here.result c.first_met-here.ensures.second c.first_met-here.ensures.passes c.first_met-here.ensures.time;
+      way = way-first (g.F.Firing.net c.args.wired.now.net.now) c.args.table.now c.requires c.first_met-here.result c.first_met-here.ensures.second c.first_met-here.ensures.passes c.first_met-here.ensures.time;
       marks = marks-none c.args.table.now (met_then [] c.first_met-here.result) c.in_ok-marks.marks.items c.places_of-places.result c.places_of-places.ensures c.in_ok-marks.ensures;
     })
 
 pub class_of-requires-clause-second : goal.class_of-requires-clause-second
 class_of-requires-clause-second g c =
-    here-second (g.F.Firing.net c.args.net.now) c.args.table.now c.requires.table c.loop-place.met.items c.loop-place.here c.loop-place.place c.loop-place.invariant.long c.loop-place.invariant.way
+    here-second (g.F.Firing.net c.args.wired.now.net.now) c.args.table.now c.requires c.loop-place.met.items c.loop-place.here c.loop-place.place c.loop-place.invariant.long c.loop-place.invariant.way
 
 pub returns-in-Some : goal.returns-in-Some
 returns-in-Some g c =
-    comes-again (g.F.Firing.net c.args.net.now) c.args.table.now c.requires.table c.loop-place.met.items c.push.new.self.items c.loop-place.here c.loop-place.place c.in-Some.from c.loop-place.marks.items c.loop-place.invariant.long
-    (omega (arith, c.places_of-places.ensures, c.requires.table.short.all)) c.loop-place.invariant.first c.loop-place.invariant.way c.loop-place.invariant.marks
+    comes-again (g.F.Firing.net c.args.wired.now.net.now) c.args.table.now c.requires c.loop-place.met.items c.push.new.self.items c.loop-place.here c.loop-place.place c.in-Some.from c.loop-place.marks.items c.loop-place.invariant.long
+    (omega (arith, c.places_of-places.ensures, c.requires.short.all)) c.loop-place.invariant.first c.loop-place.invariant.way c.loop-place.invariant.marks
     (sym (rw (c.deref_mut.ensures.value, c.class_of.ensures.class) at c.in-Some.ensures.before)) c.in_ok-push.ensures.items
 
 pub next_met-here-requires-clause-second : goal.next_met-here-requires-clause-second
 next_met-here-requires-clause-second g c =
-    here-second (g.F.Firing.net c.args.net.now) c.args.table.now c.requires.table c.loop-place.met.items c.loop-place.here c.loop-place.place c.loop-place.invariant.long c.loop-place.invariant.way
+    here-second (g.F.Firing.net c.args.wired.now.net.now) c.args.table.now c.requires c.loop-place.met.items c.loop-place.here c.loop-place.place c.loop-place.invariant.long c.loop-place.invariant.way
 
 pub next_met-here-requires-clause-near : goal.next_met-here-requires-clause-near
 next_met-here-requires-clause-near g c =
-    omega (arith, here-near (g.F.Firing.net c.args.net.now) c.args.table.now c.requires.table c.loop-place.met.items c.loop-place.here c.loop-place.place c.loop-place.invariant.long c.loop-place.invariant.way (omega (arith, c.places_of-places.ensures, c.requires.table.short.all)))
+    omega (arith, here-near (g.F.Firing.net c.args.wired.now.net.now) c.args.table.now c.requires c.loop-place.met.items c.loop-place.here c.loop-place.place c.loop-place.invariant.long c.loop-place.invariant.way (omega (arith, c.places_of-places.ensures, c.requires.short.all)))
 
 pub next_met-here-requires-clause-soon : goal.next_met-here-requires-clause-soon
 next_met-here-requires-clause-soon g c =
-    omega (arith, here-soon (g.F.Firing.net c.args.net.now) c.args.table.now c.requires.table c.loop-place.met.items c.loop-place.here c.loop-place.place c.loop-place.invariant.long c.loop-place.invariant.way (omega (arith, c.places_of-places.ensures, c.requires.table.short.all)))
+    omega (arith, here-soon (g.F.Firing.net c.args.wired.now.net.now) c.args.table.now c.requires c.loop-place.met.items c.loop-place.here c.loop-place.place c.loop-place.invariant.long c.loop-place.invariant.way (omega (arith, c.places_of-places.ensures, c.requires.short.all)))
 
 pub loop-place-preserved : goal.loop-place-preserved
 loop-place-preserved g c =
     let size : length c.mark-before.new.marks ≡ c.loop-place.marks.len = omega (arith, c.mark-before.auto.marks, c.deref_mut.ensures.len) in
     record {
       long = omega (arith, ap length c.in_ok-push.ensures.items, length_push c.loop-place.met.items c.loop-place.here, c.loop-place.invariant.long);
-      first = first-kept (g.F.Firing.net c.args.net.now) c.args.table.now c.requires.table c.loop-place.met.items c.loop-place.here c.loop-place.place c.loop-place.invariant.long c.loop-place.invariant.way c.push.new.self.items c.next_met-here.result c.in_ok-push.ensures.items (first_firing c.args.table.now) c.loop-place.invariant.first;
-      way = way-next (g.F.Firing.net c.args.net.now) c.args.table.now c.requires.table c.loop-place.met.items c.loop-place.here c.loop-place.place c.loop-place.invariant.long c.loop-place.invariant.way c.push.new.self.items c.next_met-here.result c.in_ok-push.ensures.items c.next_met-here.ensures;
-      marks = marks-next (g.F.Firing.net c.args.net.now) c.args.table.now c.requires.table c.loop-place.met.items c.loop-place.here c.loop-place.place c.loop-place.invariant.long c.loop-place.invariant.way c.push.new.self.items c.next_met-here.result c.in_ok-push.ensures.items
+      first = first-kept (g.F.Firing.net c.args.wired.now.net.now) c.args.table.now c.requires c.loop-place.met.items c.loop-place.here c.loop-place.place c.loop-place.invariant.long c.loop-place.invariant.way c.push.new.self.items c.next_met-here.result c.in_ok-push.ensures.items (first_firing c.args.table.now) c.loop-place.invariant.first;
+      way = way-next (g.F.Firing.net c.args.wired.now.net.now) c.args.table.now c.requires c.loop-place.met.items c.loop-place.here c.loop-place.place c.loop-place.invariant.long c.loop-place.invariant.way c.push.new.self.items c.next_met-here.result c.in_ok-push.ensures.items c.next_met-here.ensures;
+      marks = marks-next (g.F.Firing.net c.args.wired.now.net.now) c.args.table.now c.requires c.loop-place.met.items c.loop-place.here c.loop-place.place c.loop-place.invariant.long c.loop-place.invariant.way c.push.new.self.items c.next_met-here.result c.in_ok-push.ensures.items
           c.loop-place.marks.items c.deref_mut.result.now _ c.class_of.result c.mark-before.result c.loop-place.invariant.marks c.deref_mut.ensures.value c.class_of.ensures.class c.in_default.is c.mark-before.ensures.before
           (take_at c.mark-before.new.marks _ c.loop-place.marks.len size ∙ c.in_default.ensures.after);
     }
 
 pub unreachable-requires : goal.unreachable-requires
 unreachable-requires g c =
-    all-met (g.F.Firing.net c.args.net.now) c.args.table.now c.requires.table (met_then c.loop-place.met.items c.loop-place.here) c.loop-place.place c.loop-place.marks.items c.loop-place.invariant.way c.loop-place.invariant.marks
+    all-met (g.F.Firing.net c.args.wired.now.net.now) c.args.table.now c.requires (met_then c.loop-place.met.items c.loop-place.here) c.loop-place.place c.loop-place.marks.items c.loop-place.invariant.way c.loop-place.invariant.marks
     (omega (arith, c.places_of-places.ensures, c.loop-place.invariant.marks.long))

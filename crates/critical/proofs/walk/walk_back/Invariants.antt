@@ -7,6 +7,6 @@ abbrev pub invariant-loop-place : goal.invariant-loop-place
 invariant-loop-place g l = record {
   long : length l.met.items ≡ l.place;
   first : (met_then l.met.items l.here 0).firing ≡ first_firing l.table;
-  way : IsTrail (g.F.Firing.net l.net) l.table (met_then l.met.items l.here) l.place;
+  way : IsTrail (g.F.Firing.net l.wired.net.now) l.table (met_then l.met.items l.here) l.place;
   marks : AreMarks l.table (met_then l.met.items l.here) l.place l.marks.items;
 }

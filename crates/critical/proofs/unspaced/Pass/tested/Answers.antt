@@ -1,4 +1,4 @@
-use Rattle.std.proofs.Common.{length, refl, rules}
+use Rattle.std.proofs.Common.{refl, rules}
 use Rattle.critical.proofs.Unspacing.{unspaced}
 use Rattle.critical.proofs.unspaced.Pass.tested.Goals as goal
 use Rattle.critical.proofs.Storage.{chain-places}
