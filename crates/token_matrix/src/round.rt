@@ -11,7 +11,7 @@ ghost use Rattle.token_matrix.specs.inside.RoundRows.{IsStart, IsDue, StandsAfte
 
 use crate::entries::{Entry, delay, free_row};
 use crate::line::Line;
-use firing::{Firing, Wiring, know_laws};
+use firing::{Firing, Wired, Wiring, know_laws};
 use sd_base::{NoMemory, Rows};
 use std::alloc::Global;
 use std::rc::Rc;
@@ -29,8 +29,12 @@ pub(crate) fn run_round<F: Firing>(
     ensures { OnOk result ((first : (ℕ → ℕ)) → StandsAfter (F.net net.now) first size [] lines.old → StandsAfter (F.net net.now) first size order.now lines.new) }
 {
     let wiring = Wiring::new(alloc, net)?;
+    let wired = Wired {
+        net,
+        wiring: &wiring,
+    };
     for place in 0..order.len() {
-        fire(alloc, net, &wiring, order, place, size, lines)?;
+        fire(alloc, &wired, order, place, size, lines)?;
     }
     Ok(())
 }
@@ -38,23 +42,23 @@ pub(crate) fn run_round<F: Firing>(
 /// Fires the actor at a place of an order: its row is the latest of the rows of the tokens that it takes.
 fn fire<F: Firing>(
     alloc: Global,
-    net: &F,
-    wiring: &Wiring,
+    wired: &Wired<F>,
     order: &[u32],
     place: usize,
     size: usize,
     lines: &mut [Line],
 ) -> Result<(), NoMemory>
-    requires { (first : (ℕ → ℕ)) × IsDue (F.net net.now) first size order.now place wiring.now.inputs wiring.now.outputs lines.old }
-    ensures { OnOk result ((first : (ℕ → ℕ)) → StandsAfter (F.net net.now) first size (take place order.now) lines.old
-        → StandsAfter (F.net net.now) first size (take (place + 1) order.now) lines.new) }
+    requires { (first : (ℕ → ℕ)) × IsDue (F.net wired.now.net.now) first size order.now place lines.old }
+    ensures { OnOk result ((first : (ℕ → ℕ)) → StandsAfter (F.net wired.now.net.now) first size (take place order.now) lines.old
+        → StandsAfter (F.net wired.now.net.now) first size (take (place + 1) order.now) lines.new) }
 {
+    let net = wired.net;
     know_laws(net);
     let actor = order[place];
-    let mut row = take_row(alloc, net, wiring.inputs_of(actor), actor, size, lines)?;
+    let mut row = take_row(alloc, net, wired.inputs_of(actor), actor, size, lines)?;
     delay(row.as_mut_slice(), net.time(actor, 0));
     let row = Rc::new(alloc, Rows::from_vec(row))?;
-    put_tokens(net, wiring.outputs_of(actor), actor, &row, lines)
+    put_tokens(net, wired.outputs_of(actor), actor, &row, lines)
 }
 
 /// Takes the tokens of a firing, and gives the latest of their rows.

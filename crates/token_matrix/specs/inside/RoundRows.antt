@@ -4,8 +4,6 @@ use Rattle.sd_base.specs.declared.limits.TheConstants.{TIME}
 use Rattle.sd_base.specs.Net.{Net, channel_at, total}
 use Rattle.sd_base.specs.Schedules.{time_of, HasInputs}
 use Rattle.sd_base.specs.Untimed.{none_fired, counts_after, IsRoundOrder}
-use Rattle.firing.specs.declared.sums.Port.TheVariants.{Made, Taken}
-use Rattle.firing.specs.Wiring.{AreListed}
 use Rattle.sd_base.proofs.Ends.{sum_to}
 use Rattle.token_matrix.specs.Stamps.{IsTakenBy, IsPutBy}
 use Rattle.token_matrix.specs.inside.LaterRows.{AreWide}
@@ -77,12 +75,10 @@ pub record IsStart (net : Net) (first : ℕ → ℕ) (count : ℕ) (order : List
   pub fed : HasInputs net
   pub stands : StandsAfter net first count [] lines
 
--- the firing at a place of the order is next, and its actor's channels are listed
-pub record IsDue (net : Net) (first : ℕ → ℕ) (count : ℕ) (order : List ℕ) (place : ℕ) (inputs outputs : List (List ℕ)) (lines : List (List (List (Option ℕ)))) : Type 0 where
+-- the firing at a place of the order is next
+pub record IsDue (net : Net) (first : ℕ → ℕ) (count : ℕ) (order : List ℕ) (place : ℕ) (lines : List (List (List (Option ℕ)))) : Type 0 where
   pub round : IsRoundOrder net order
   pub within : place < length order
   pub phases : HasOnePhase net
   pub fed : HasInputs net
-  pub listed : AreListed net Taken inputs
-  pub made : AreListed net Made outputs
   pub stands : StandsAfter net first count (take place order) lines

@@ -11,8 +11,6 @@ fire-requires g c = (
     within = c.loop-place-test.true;
     phases = c.requires.1.phases;
     fed = c.requires.1.fed;
-    listed = c.in_ok-wiring.ensures.inputs;
-    made = c.in_ok-wiring.ensures.outputs;
     stands = c.loop-place.invariant c.requires.0 c.requires.1.stands;
   },
 )
