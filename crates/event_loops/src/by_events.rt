@@ -3,14 +3,13 @@ ghost use Rattle.sd_base.specs.declared.limits.TheConstants.{LEAST_STATES};
 ghost use Rattle.sd_base.specs.Schedules.{HasInputs};
 ghost use Rattle.sd_base.specs.Untimed.{IsLive};
 ghost use Rattle.sd_base.specs.Connection.{IsConnected};
-ghost use Rattle.firing.specs.Wiring.{IsWiringOf};
 ghost use Rattle.loops.specs.LoopAnswers.{IsFound, IsRunRefusal};
 
 use crate::entry::entry_of;
 use crate::repeat::first_repeat;
 use crate::search::{SEARCH_STARTS, find_pair};
 use crate::trace::Trace;
-use firing::{Firing, LoopTable, Wiring};
+use firing::{Firing, LoopTable, Wired};
 use loops::{RunError, empty_rows, loop_table};
 use sd_base::limits::STARTS;
 use selftimed::Engine;
@@ -30,19 +29,18 @@ use std::alloc::Global;
 /// Memory: three shapes, and at most `STARTS` starts and as many events, with a print each.
 pub fn loop_by_events<F: Firing>(
     alloc: Global,
-    net: &F,
-    wiring: &Wiring,
+    wired: &Wired<F>,
     states: u64,
 ) -> Result<LoopTable, RunError>
-    requires wired { IsWiringOf (F.net net.now) wiring.now }
-    requires live { IsLive (F.net net.now) }
-    requires connected { IsConnected (F.net net.now) }
-    requires inputs { HasInputs (F.net net.now) }
+    requires live { IsLive (F.net wired.now.net.now) }
+    requires connected { IsConnected (F.net wired.now.net.now) }
+    requires inputs { HasInputs (F.net wired.now.net.now) }
     requires some { LEAST_STATES ≤ states }
-    ensures found { IfOk result (IsFound (F.net net.now) states) }
-    ensures refused { IfErr result (IsRunRefusal (F.net net.now) states) }
+    ensures found { IfOk result (IsFound (F.net wired.now.net.now) states) }
+    ensures refused { IfErr result (IsRunRefusal (F.net wired.now.net.now) states) }
 {
-    let mut lead = Engine::new(alloc, net, wiring, SEARCH_STARTS)?;
+    let net = wired.net;
+    let mut lead = Engine::new(alloc, wired, SEARCH_STARTS)?;
     let mut trace = Trace::new(alloc, net)?;
     let pair = find_pair(alloc, &mut lead, &mut trace, states)?;
     let period = pair.later - pair.earlier;
@@ -52,7 +50,7 @@ pub fn loop_by_events<F: Firing>(
         return Ok(table);
     }
     lead.restart(alloc, net, STARTS)?;
-    let mut trail = Engine::new(alloc, net, wiring, STARTS)?;
+    let mut trail = Engine::new(alloc, wired, STARTS)?;
     let mut starts = empty_rows(alloc, net)?;
     let end = first_repeat(&mut lead, &mut trail, starts.as_mut_slice(), period, states)?;
     let entry = trail.moment();

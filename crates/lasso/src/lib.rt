@@ -7,4 +7,4 @@ mod run;
 pub use event_loops::starts_until;
 pub use laws::{one_ending, starts_are_counted_to_the_first_repeat};
 pub use loops::RunError;
-pub use run::{run_loop, run_loop_on};
+pub use run::{find_loop, run_loop};

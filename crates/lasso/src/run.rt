@@ -3,11 +3,10 @@ ghost use Rattle.sd_base.specs.declared.limits.TheConstants.{STATES, LEAST_STATE
 ghost use Rattle.sd_base.specs.Schedules.{HasInputs};
 ghost use Rattle.sd_base.specs.Untimed.{IsLive};
 ghost use Rattle.sd_base.specs.Connection.{IsConnected};
-ghost use Rattle.firing.specs.Wiring.{IsWiringOf};
 ghost use Rattle.loops.specs.LoopAnswers.{IsFound, IsRunRefusal};
 
 use event_loops::loop_by_events;
-use firing::{Firing, LoopTable, Wiring, is_single_phase};
+use firing::{Firing, LoopTable, Wired, Wiring, is_single_phase};
 use loops::RunError;
 use need_loops::loop_by_needs;
 use sd_base::{Ledger, Steps};
@@ -40,51 +39,31 @@ pub fn run_loop<F: Firing, L: Ledger>(
 {
     steps.tick();
     let wiring = Wiring::new(alloc, net)?;
-    find_loop(alloc, net, &wiring, states)
+    let wired = Wired {
+        net,
+        wiring: &wiring,
+    };
+    find_loop(alloc, &wired, states)
 }
 
-/// The loop of a net whose wiring is there already, as `run_loop` finds it.
-pub fn run_loop_on<F: Firing, L: Ledger>(
+/// The loop of a net whose wiring is there already, as `run_loop` finds it: by needs where this shows it, else by events. It counts
+/// no step.
+pub fn find_loop<F: Firing>(
     alloc: Global,
-    net: &F,
-    wiring: &Wiring,
-    states: u64,
-    steps: &mut Steps<L>,
-) -> Result<LoopTable, RunError>
-    requires wired { IsWiringOf (F.net net.now) wiring.now }
-    requires live { IsLive (F.net net.now) }
-    requires connected { IsConnected (F.net net.now) }
-    requires inputs { HasInputs (F.net net.now) }
-    requires some { LEAST_STATES ≤ states }
-    requires few { states ≤ STATES }
-    ensures found { IfOk result (IsFound (F.net net.now) states) }
-    ensures refused { IfErr result (IsRunRefusal (F.net net.now) states) }
-    ensures ticked { steps.new.count ≡ steps.old.count + 1 }
-    ensures kept { steps.new.share ≡ steps.old.share }
-{
-    steps.tick();
-    find_loop(alloc, net, wiring, states)
-}
-
-/// The loop, uncounted: by needs where this shows it, else by events.
-fn find_loop<F: Firing>(
-    alloc: Global,
-    net: &F,
-    wiring: &Wiring,
+    wired: &Wired<F>,
     states: u64,
 ) -> Result<LoopTable, RunError>
-    requires wired { IsWiringOf (F.net net.now) wiring.now }
-    requires live { IsLive (F.net net.now) }
-    requires connected { IsConnected (F.net net.now) }
-    requires inputs { HasInputs (F.net net.now) }
+    requires live { IsLive (F.net wired.now.net.now) }
+    requires connected { IsConnected (F.net wired.now.net.now) }
+    requires inputs { HasInputs (F.net wired.now.net.now) }
     requires some { LEAST_STATES ≤ states }
-    ensures found { IfOk result (IsFound (F.net net.now) states) }
-    ensures refused { IfErr result (IsRunRefusal (F.net net.now) states) }
+    ensures found { IfOk result (IsFound (F.net wired.now.net.now) states) }
+    ensures refused { IfErr result (IsRunRefusal (F.net wired.now.net.now) states) }
 {
-    if is_single_phase(net)
-        && let Some(table) = loop_by_needs(alloc, net, wiring, states)?
+    if is_single_phase(wired.net)
+        && let Some(table) = loop_by_needs(alloc, wired, states)?
     {
         return Ok(table);
     }
-    loop_by_events(alloc, net, wiring, states)
+    loop_by_events(alloc, wired, states)
 }

@@ -17,7 +17,6 @@ ghost use Rattle.std.specs.Prelude.{◌≡◌, ℕ, ◌+◌, ◌*◌, ◌^◌, �
 ghost use Rattle.sd_base.specs.declared.limits.TheConstants.{LEAST_STATES};
 ghost use Rattle.sd_base.specs.Schedules.{HasInputs, phases_at};
 ghost use Rattle.sd_base.specs.Connection.{IsConnected};
-ghost use Rattle.firing.specs.Wiring.{IsWiringOf};
 ghost use Rattle.loops.specs.LoopAnswers.{IsFound};
 ghost use Rattle.need_loops.specs.inside.Growing.{IsGrowth};
 ghost use Rattle.need_loops.specs.inside.Showing.{IsLoopIn};
@@ -25,7 +24,7 @@ ghost use Rattle.need_loops.specs.inside.Showing.{IsLoopIn};
 use crate::growth::Growth;
 use crate::needs::{Reach, are_whole};
 use crate::shown::{last_pair, loop_by_rows, starts_in};
-use firing::{Firing, LoopTable, Wiring};
+use firing::{Firing, LoopTable, Wired};
 use loops::starts_of_round;
 use sd_base::NoMemory;
 use sd_base::limits::STARTS;
@@ -60,26 +59,25 @@ struct Pace {
 /// each times the channels into its actor, and mostly of little more than one.
 pub(crate) fn loop_by_moments<F: Firing>(
     alloc: Global,
-    net: &F,
-    wiring: &Wiring,
+    wired: &Wired<F>,
     states: u64,
 ) -> Result<Option<LoopTable>, NoMemory>
-    requires wired { IsWiringOf (F.net net.now) wiring.now }
-    requires single { (a : ℕ) → a < length (F.net net.now).times → phases_at (F.net net.now) a ≡ 1 }
-    requires connected { IsConnected (F.net net.now) }
-    requires inputs { HasInputs (F.net net.now) }
+    requires single { (a : ℕ) → a < length (F.net wired.now.net.now).times → phases_at (F.net wired.now.net.now) a ≡ 1 }
+    requires connected { IsConnected (F.net wired.now.net.now) }
+    requires inputs { HasInputs (F.net wired.now.net.now) }
     requires some { LEAST_STATES ≤ states }
-    ensures { IfOk result (λ o. IfSome o (IsFound (F.net net.now) states)) }
+    ensures { IfOk result (λ o. IfSome o (IsFound (F.net wired.now.net.now) states)) }
 {
+    let net = wired.net;
     let round = starts_of_round(net);
     let most = STARTS.min(states - 1);
     if round > most {
         return Ok(None);
     }
-    let mut growth = Growth::new(alloc, net, wiring)?;
+    let mut growth = Growth::new(alloc, wired)?;
     let mut pace = Pace::new();
     for _look in 0..LOOKS {
-        growth.extend(net, wiring, pace.reach())?;
+        growth.extend(wired, pace.reach())?;
         let total = starts_in(net, growth.starts.as_slice());
         if total > u128::from(most) {
             return Ok(None);

@@ -2,12 +2,11 @@ ghost use Rattle.std.specs.Prelude.{◌≡◌, ℕ, ◌≤◌, ◌<◌, IfOk, If
 ghost use Rattle.sd_base.specs.declared.limits.TheConstants.{LEAST_STATES};
 ghost use Rattle.sd_base.specs.Schedules.{HasInputs, phases_at};
 ghost use Rattle.sd_base.specs.Connection.{IsConnected};
-ghost use Rattle.firing.specs.Wiring.{IsWiringOf};
 ghost use Rattle.loops.specs.LoopAnswers.{IsFound};
 
 use crate::by_moments::loop_by_moments;
 use crate::by_rounds::{FEW, loop_by_rounds};
-use firing::{Firing, LoopTable, Wiring};
+use firing::{Firing, LoopTable, Wired};
 use loops::starts_of_round;
 use sd_base::NoMemory;
 use std::alloc::Global;
@@ -19,20 +18,18 @@ use std::alloc::Global;
 /// some three rounds, and for some 4,000 starts at most where a round has up to 256.
 pub fn loop_by_needs<F: Firing>(
     alloc: Global,
-    net: &F,
-    wiring: &Wiring,
+    wired: &Wired<F>,
     states: u64,
 ) -> Result<Option<LoopTable>, NoMemory>
-    requires wired { IsWiringOf (F.net net.now) wiring.now }
-    requires single { (a : ℕ) → a < length (F.net net.now).times → phases_at (F.net net.now) a ≡ 1 }
-    requires connected { IsConnected (F.net net.now) }
-    requires inputs { HasInputs (F.net net.now) }
+    requires single { (a : ℕ) → a < length (F.net wired.now.net.now).times → phases_at (F.net wired.now.net.now) a ≡ 1 }
+    requires connected { IsConnected (F.net wired.now.net.now) }
+    requires inputs { HasInputs (F.net wired.now.net.now) }
     requires some { LEAST_STATES ≤ states }
-    ensures found { IfOk result (λ o. IfSome o (IsFound (F.net net.now) states)) }
+    ensures found { IfOk result (λ o. IfSome o (IsFound (F.net wired.now.net.now) states)) }
 {
-    if starts_of_round(net) <= FEW {
-        loop_by_rounds(alloc, net, wiring, states)
+    if starts_of_round(wired.net) <= FEW {
+        loop_by_rounds(alloc, wired, states)
     } else {
-        loop_by_moments(alloc, net, wiring, states)
+        loop_by_moments(alloc, wired, states)
     }
 }

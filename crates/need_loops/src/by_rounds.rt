@@ -11,7 +11,6 @@ ghost use Rattle.std.specs.Prelude.{◌≡◌, ℕ, ◌+◌, ◌-◌, ◌≤◌,
 ghost use Rattle.sd_base.specs.declared.limits.TheConstants.{LEAST_STATES};
 ghost use Rattle.sd_base.specs.Schedules.{HasInputs, phases_at};
 ghost use Rattle.sd_base.specs.Connection.{IsConnected};
-ghost use Rattle.firing.specs.Wiring.{IsWiringOf};
 ghost use Rattle.loops.specs.LoopAnswers.{IsFound};
 ghost use Rattle.need_loops.specs.inside.Knowing.{AreStartsBy, GoPast};
 ghost use Rattle.loops.specs.StartRows.{Ascend};
@@ -21,7 +20,7 @@ use crate::by_moments::LATEST;
 use crate::growth::Growth;
 use crate::needs::Reach;
 use crate::shown::{last_pair, loop_by_rows, starts_in, take_unlike};
-use firing::{Firing, LoopTable, Wiring};
+use firing::{Firing, LoopTable, Wired};
 use loops::{count_by, starts_of_round};
 use sd_base::limits::STARTS;
 use sd_base::{NoMemory, Rows};
@@ -45,19 +44,18 @@ const LONGEST: u64 = 8;
 /// shows, as much for the first `SEARCHED` starts.
 pub(crate) fn loop_by_rounds<F: Firing>(
     alloc: Global,
-    net: &F,
-    wiring: &Wiring,
+    wired: &Wired<F>,
     states: u64,
 ) -> Result<Option<LoopTable>, NoMemory>
-    requires wired { IsWiringOf (F.net net.now) wiring.now }
-    requires single { (a : ℕ) → a < length (F.net net.now).times → phases_at (F.net net.now) a ≡ 1 }
-    requires connected { IsConnected (F.net net.now) }
-    requires inputs { HasInputs (F.net net.now) }
+    requires single { (a : ℕ) → a < length (F.net wired.now.net.now).times → phases_at (F.net wired.now.net.now) a ≡ 1 }
+    requires connected { IsConnected (F.net wired.now.net.now) }
+    requires inputs { HasInputs (F.net wired.now.net.now) }
     requires some { LEAST_STATES ≤ states }
-    ensures { IfOk result (λ o. IfSome o (IsFound (F.net net.now) states)) }
+    ensures { IfOk result (λ o. IfSome o (IsFound (F.net wired.now.net.now) states)) }
 {
+    let net = wired.net;
     let round = starts_of_round(net);
-    let mut growth = Growth::new(alloc, net, wiring)?;
+    let mut growth = Growth::new(alloc, wired)?;
     for rounds in 1..ROUNDS + 1 {
         if round.saturating_mul(rounds) > SEARCHED {
             return Ok(None);
@@ -66,7 +64,7 @@ pub(crate) fn loop_by_rounds<F: Firing>(
             until: LATEST,
             rounds,
         };
-        growth.extend(net, wiring, reach)?;
+        growth.extend(wired, reach)?;
         if let Some(alike) = rounds_alike(net, growth.starts.as_slice(), rounds)
             && let Some(table) = loop_in(alloc, net, growth.starts.as_slice(), alike, states)?
         {

@@ -4,10 +4,10 @@ ghost use Rattle.sd_base.specs.declared.limits.TheConstants.{NET_TOKENS, RATE};
 ghost use Rattle.sd_base.specs.Net.{channel_at};
 ghost use Rattle.sd_base.specs.Schedules.{phases_at};
 ghost use Rattle.firing.specs.declared.sums.Port.TheVariants.{Taken};
-ghost use Rattle.firing.specs.Wiring.{IsListed, IsWiringOf};
+ghost use Rattle.firing.specs.Wiring.{IsListed};
 ghost use Rattle.need_loops.specs.inside.Needing.{Advances, AreNext, Feeds, IsNextOf, Paces};
 
-use firing::{Firing, Wiring, know_laws, know_wiring};
+use firing::{Firing, Wired, know_laws};
 use sd_base::NoMemory;
 use std::alloc::Global;
 
@@ -137,17 +137,15 @@ fn pause_of<F: Firing>(net: &F, channel: u32) -> Option<u64>
 /// By actor what its first firing needs. Cost: linear in the channels, and in the firings that all of them need.
 pub(crate) fn first_firings<F: Firing>(
     alloc: Global,
-    net: &F,
-    wiring: &Wiring,
+    wired: &Wired<F>,
 ) -> Result<Vec<NextFiring>, NoMemory>
-    requires wired { IsWiringOf (F.net net.now) wiring.now }
-    requires single { (a : ℕ) → a < length (F.net net.now).times → phases_at (F.net net.now) a ≡ 1 }
-    ensures { IfOk result (λ v. AreNext (F.net net.now) (replicate (length (F.net net.now).times) []) v.items) }
+    requires single { (a : ℕ) → a < length (F.net wired.now.net.now).times → phases_at (F.net wired.now.net.now) a ≡ 1 }
+    ensures { IfOk result (λ v. AreNext (F.net wired.now.net.now) (replicate (length (F.net wired.now.net.now).times) []) v.items) }
 {
-    know_wiring(net, wiring);
+    let net = wired.net;
     let mut firings = Vec::with_capacity(alloc, net.actors() as usize)?;
     for actor in 0..net.actors() {
-        let inputs = wiring.inputs_of(actor);
+        let inputs = wired.inputs_of(actor);
         firings.push(NextFiring::new(alloc, net, actor, inputs)?)?;
     }
     Ok(firings)

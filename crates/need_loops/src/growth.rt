@@ -1,12 +1,11 @@
 //! Rows of starts that grow by needs.
 ghost use Rattle.std.specs.Prelude.{◌≡◌, ℕ, ◌^◌, ◌≤◌, ◌<◌, IfOk, OnOk, length};
 ghost use Rattle.sd_base.specs.Schedules.{phases_at};
-ghost use Rattle.firing.specs.Wiring.{IsWiringOf};
 ghost use Rattle.need_loops.specs.inside.Growing.{IsGrowth};
 
 use crate::feeds::{NextFiring, first_firings};
 use crate::needs::{Reach, extend_all};
-use firing::{Firing, Wiring};
+use firing::{Firing, Wired};
 use loops::empty_rows;
 use sd_base::{NoMemory, Rows};
 use std::alloc::Global;
@@ -24,18 +23,13 @@ pub(crate) struct Growth {
 
 impl Growth {
     /// No starts. Cost: linear in the channels, and in the firings that all first firings need.
-    pub(crate) fn new<F: Firing>(
-        alloc: Global,
-        net: &F,
-        wiring: &Wiring,
-    ) -> Result<Growth, NoMemory>
-        requires wired { IsWiringOf (F.net net.now) wiring.now }
-        requires single { (a : ℕ) → a < length (F.net net.now).times → phases_at (F.net net.now) a ≡ 1 }
-        ensures { IfOk result (λ growth. (until : ℕ) → IsGrowth (F.net net.now) until growth) }
+    pub(crate) fn new<F: Firing>(alloc: Global, wired: &Wired<F>) -> Result<Growth, NoMemory>
+        requires single { (a : ℕ) → a < length (F.net wired.now.net.now).times → phases_at (F.net wired.now.net.now) a ≡ 1 }
+        ensures { IfOk result (λ growth. (until : ℕ) → IsGrowth (F.net wired.now.net.now) until growth) }
     {
-        let firings = first_firings(alloc, net, wiring)?;
-        let starts = empty_rows(alloc, net)?;
-        let flags = no_flags(alloc, net)?;
+        let firings = first_firings(alloc, wired)?;
+        let starts = empty_rows(alloc, wired.net)?;
+        let flags = no_flags(alloc, wired.net)?;
         Ok(Growth {
             starts,
             firings,
@@ -47,19 +41,16 @@ impl Growth {
     #[inline(always)]
     pub(crate) fn extend<F: Firing>(
         &mut self,
-        net: &F,
-        wiring: &Wiring,
+        wired: &Wired<F>,
         reach: Reach,
     ) -> Result<(), NoMemory>
-        requires wired { IsWiringOf (F.net net.now) wiring.now }
-        requires grown { IsGrowth (F.net net.now) reach.until self.old }
+        requires grown { IsGrowth (F.net wired.now.net.now) reach.until self.old }
         requires soon { reach.until ≤ 2 ^ 62 }
         requires few { reach.rounds ≤ 2 ^ 20 }
-        ensures { OnOk result (IsGrowth (F.net net.now) reach.until self.new) }
+        ensures { OnOk result (IsGrowth (F.net wired.now.net.now) reach.until self.new) }
     {
         extend_all(
-            net,
-            wiring,
+            wired,
             self.firings.as_mut_slice(),
             self.starts.as_mut_slice(),
             self.flags.as_mut_slice(),

@@ -1,12 +1,11 @@
 //! Starts of self-timed execution by needs: a firing starts when the last of the firings that it needs ends.
 ghost use Rattle.std.specs.Prelude.{◌≡◌, ◌≢◌, ℕ, ◌^◌, ◌≤◌, ◌<◌, [], IsTrue, MatchOption, OnOk, length, slice_index, slice_index_or};
 ghost use Rattle.sd_base.specs.Schedules.{HasInputs, count_of};
-ghost use Rattle.firing.specs.Wiring.{IsWiringOf};
 ghost use Rattle.loops.specs.StartRows.{AreStarts};
 ghost use Rattle.need_loops.specs.inside.Needing.{AreDue, AreNext, IsNextOf, IsStuck, StartsNext};
 
 use crate::feeds::NextFiring;
-use firing::{Firing, Wiring, know_laws, know_wiring};
+use firing::{Firing, Wired, know_laws};
 use sd_base::{NoMemory, Rows};
 
 /// How often the actors are gone through at most until none goes on.
@@ -93,30 +92,27 @@ fn extend<F: Firing>(
 /// Adds all starts within a reach that the rows tell. `flags` is by actor. Cost: linear in the channels into each actor for each of
 /// its starts, and for each time that one of them has new starts.
 pub(crate) fn extend_all<F: Firing>(
-    net: &F,
-    wiring: &Wiring,
+    wired: &Wired<F>,
     firings: &mut [NextFiring],
     starts: &mut [Rows<u64>],
     flags: &mut [bool],
     reach: Reach,
 ) -> Result<(), NoMemory>
-    requires wired { IsWiringOf (F.net net.now) wiring.now }
-    requires due { AreDue (F.net net.now) reach.until starts.old }
-    requires next { AreNext (F.net net.now) starts.old firings.old }
-    requires flags { length flags.old ≡ length (F.net net.now).times }
+    requires due { AreDue (F.net wired.now.net.now) reach.until starts.old }
+    requires next { AreNext (F.net wired.now.net.now) starts.old firings.old }
+    requires flags { length flags.old ≡ length (F.net wired.now.net.now).times }
     requires soon { reach.until ≤ 2 ^ 62 }
     requires few { reach.rounds ≤ 2 ^ 20 }
     ensures flags { length flags.new ≡ length flags.old }
-    ensures due { OnOk result (AreDue (F.net net.now) reach.until starts.new) }
-    ensures next { OnOk result (AreNext (F.net net.now) starts.new firings.new) }
+    ensures due { OnOk result (AreDue (F.net wired.now.net.now) reach.until starts.new) }
+    ensures next { OnOk result (AreNext (F.net wired.now.net.now) starts.new firings.new) }
 {
-    know_laws(net);
-    know_wiring(net, wiring);
-    for actor in 0..net.actors() {
+    know_laws(wired.net);
+    for actor in 0..wired.net.actors() {
         flags[actor as usize] = true;
     }
     for _sweep in 0..SWEEPS {
-        if !sweep(net, wiring, firings, starts, flags, reach)? {
+        if !sweep(wired, firings, starts, flags, reach)? {
             return Ok(());
         }
     }
@@ -127,25 +123,23 @@ pub(crate) fn extend_all<F: Firing>(
 /// flags those that take tokens of one with new starts.
 #[inline(always)]
 fn sweep<F: Firing>(
-    net: &F,
-    wiring: &Wiring,
+    wired: &Wired<F>,
     firings: &mut [NextFiring],
     starts: &mut [Rows<u64>],
     flags: &mut [bool],
     reach: Reach,
 ) -> Result<bool, NoMemory>
-    requires wired { IsWiringOf (F.net net.now) wiring.now }
-    requires due { AreDue (F.net net.now) reach.until starts.old }
-    requires next { AreNext (F.net net.now) starts.old firings.old }
-    requires flags { length flags.old ≡ length (F.net net.now).times }
+    requires due { AreDue (F.net wired.now.net.now) reach.until starts.old }
+    requires next { AreNext (F.net wired.now.net.now) starts.old firings.old }
+    requires flags { length flags.old ≡ length (F.net wired.now.net.now).times }
     requires soon { reach.until ≤ 2 ^ 62 }
     requires few { reach.rounds ≤ 2 ^ 20 }
     ensures flags { length flags.new ≡ length flags.old }
-    ensures due { OnOk result (AreDue (F.net net.now) reach.until starts.new) }
-    ensures next { OnOk result (AreNext (F.net net.now) starts.new firings.new) }
+    ensures due { OnOk result (AreDue (F.net wired.now.net.now) reach.until starts.new) }
+    ensures next { OnOk result (AreNext (F.net wired.now.net.now) starts.new firings.new) }
 {
+    let net = wired.net;
     know_laws(net);
-    know_wiring(net, wiring);
     let mut found = false;
     for actor in 0..net.actors() {
         if flags[actor as usize] {
@@ -159,7 +153,7 @@ fn sweep<F: Firing>(
                 reach.until,
                 room,
             )? {
-                flag_targets(net, actor, wiring.outputs_of(actor), flags);
+                flag_targets(net, actor, wired.outputs_of(actor), flags);
                 found = true;
             }
         }

@@ -1,8 +1,7 @@
 //! Self-timed execution of a net, event by event.
 //!
-//! An engine borrows the wiring. `Engine::new` takes the channels by actor as an argument, since an engine borrows them and
-//! two engines of one net share them. Every caller has them from `Wiring::new` of the same net; its condition `wired`
-//! speaks of the ends of the channels alone.
+//! An engine borrows the net and its wiring, so two engines of one net share them. A wiring depends on the ends of the
+//! channels alone, so an engine that is set back keeps its own for each net with the same ends.
 ghost use Rattle.std.specs.Prelude.{◌≡◌, ◌↔◌, IsTrue, ◌+◌, ◌^◌, ◌<◌, ◌≤◌, length, IfOk, IfErr, OnErr, OnOk};
 ghost use Rattle.sd_base.specs.Schedules.{count_of};
 ghost use Rattle.sd_base.specs.SelfTimed.{earliest, shape_at, starts_by};
@@ -28,7 +27,7 @@ use crate::shape::{
     Shape, phases_of, remaining_of, same_phases, same_remaining, same_tokens, tokens_of,
 };
 use crate::tokens::Tokens;
-use firing::{Firing, Wiring, know_wiring};
+use firing::{Firing, Wired, Wiring};
 use sd_base::NoMemory;
 use std::alloc::Global;
 
@@ -88,31 +87,25 @@ pub struct Engine<'a, F: Firing> {
 
 impl<'a, F: Firing> Engine<'a, F> {
     /// An engine that stands before the first event. Cost: linear in the actors and channels of the net.
-    pub fn new(
-        alloc: Global,
-        net: &'a F,
-        wiring: &'a Wiring,
-        most: u64,
-    ) -> Result<Engine<'a, F>, NoMemory>
-        requires wired { IsWiringOf (F.net net.now) wiring.now }
-        requires most { most ≤ 2 ^ 32 }
-        ensures net { IfOk result (λ e. e.net.now ≡ net.now) }
+    pub fn new(alloc: Global, wired: &Wired<'a, F>, most: u64) -> Result<Engine<'a, F>, NoMemory>
+        requires { most ≤ 2 ^ 32 }
+        ensures net { IfOk result (λ e. e.net.now ≡ wired.now.net.now) }
         ensures stage { IfOk result (λ e. e.stage ≡ Stage.Fresh) }
         ensures moment { IfOk result (λ e. e.moment ≡ 0) }
         ensures most { IfOk result (λ e. e.most ≡ most) }
     {
-        know_wiring(net, wiring);
+        let net = wired.net;
         let actors = new_actors(alloc, net.actors())?;
         let tokens = Tokens::new(alloc, net)?;
         let agenda = Agenda::new(alloc, net.actors())?;
-        let ports = Ports::new(alloc, net, wiring)?;
+        let ports = Ports::new(alloc, wired)?;
         let rates = rates_of(alloc, net)?;
         Ok(Engine {
             net,
             stage: Stage::Fresh,
             moment: 0,
             most,
-            wiring,
+            wiring: wired.wiring,
             ports,
             rates,
             all: 0,
@@ -134,11 +127,14 @@ impl<'a, F: Firing> Engine<'a, F> {
         ensures lost { OnErr result (self.new.stage ≡ Stage.OutOfMemory) }
     {
         self.stage = Stage::OutOfMemory;
-        know_wiring(net, self.wiring);
+        let wired = Wired {
+            net,
+            wiring: self.wiring,
+        };
         refresh(alloc, &mut self.actors, net.actors())?;
         self.tokens.refill(net)?;
         self.agenda.refill(net.actors())?;
-        self.ports.refill(net, self.wiring)?;
+        self.ports.refill(&wired)?;
         reset_rates(net, self.rates.as_mut_slice());
         self.net = net;
         self.moment = 0;

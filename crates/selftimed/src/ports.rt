@@ -10,12 +10,12 @@
 ghost use Rattle.std.specs.Prelude.{◌≡◌, ◌↔◌, ℕ, ◌+◌, ◌<◌, ◌++◌, List, IfOk, IfSome, IsTrue, OnOk, length, slice_index, slice_range, true};
 ghost use Rattle.sd_base.specs.Net.{channel_at};
 ghost use Rattle.sd_base.specs.Schedules.{phases_at};
-ghost use Rattle.firing.specs.declared.sums.Port.TheVariants.{Made, Taken};
+ghost use Rattle.firing.specs.declared.sums.Port.TheVariants.{Taken};
 ghost use Rattle.firing.specs.inside.Cuts.{AreCuts};
-ghost use Rattle.firing.specs.Wiring.{AreListed, IsListed};
+ghost use Rattle.firing.specs.Wiring.{IsListed};
 ghost use Rattle.selftimed.specs.inside.Ports.{AreOthers, AreNone, ArePorts, IsOther, IsOwn, IsRising, Adds};
 
-use firing::{Firing, Wiring, know_laws};
+use firing::{Firing, Wired, know_laws};
 use sd_base::NoMemory;
 use std::alloc::Global;
 
@@ -33,35 +33,32 @@ pub(crate) struct Ports {
 
 impl Ports {
     /// The channels of each actor of a net. Cost: linear in the actors and channels.
-    pub(crate) fn new<F: Firing>(alloc: Global, net: &F, wiring: &Wiring) -> Result<Ports, NoMemory>
-        requires inputs { AreListed (F.net net.now) Taken wiring.now.inputs }
-        requires outputs { AreListed (F.net net.now) Made wiring.now.outputs }
-        ensures { IfOk result (ArePorts (F.net net.now)) }
+    pub(crate) fn new<F: Firing>(alloc: Global, wired: &Wired<F>) -> Result<Ports, NoMemory>
+        ensures { IfOk result (ArePorts (F.net wired.now.net.now)) }
     {
+        let net = wired.net;
         let mut ports = Ports {
             own: Vec::with_capacity(alloc, net.actors() as usize)?,
             inputs: ChannelRows::with_capacity(alloc, net.actors(), net.channels())?,
             outputs: ChannelRows::with_capacity(alloc, net.actors(), net.channels())?,
         };
-        ports.refill(net, wiring)?;
+        ports.refill(wired)?;
         Ok(ports)
     }
 
     /// Makes them those of another net. It allocates nothing where there were as many actors and channels.
-    pub(crate) fn refill<F: Firing>(&mut self, net: &F, wiring: &Wiring) -> Result<(), NoMemory>
-        requires inputs { AreListed (F.net net.now) Taken wiring.now.inputs }
-        requires outputs { AreListed (F.net net.now) Made wiring.now.outputs }
-        ensures { OnOk result (ArePorts (F.net net.now) self.new) }
+    pub(crate) fn refill<F: Firing>(&mut self, wired: &Wired<F>) -> Result<(), NoMemory>
+        ensures { OnOk result (ArePorts (F.net wired.now.net.now) self.new) }
     {
         self.own.clear();
         self.inputs.clear()?;
         self.outputs.clear()?;
-        for actor in 0..net.actors() {
-            let inputs = wiring.inputs_of(actor);
-            let own = own_channel(net, inputs, actor);
+        for actor in 0..wired.net.actors() {
+            let inputs = wired.inputs_of(actor);
+            let own = own_channel(wired.net, inputs, actor);
             self.own.push(own)?;
             self.inputs.push(inputs, own)?;
-            self.outputs.push(wiring.outputs_of(actor), own)?;
+            self.outputs.push(wired.outputs_of(actor), own)?;
         }
         Ok(())
     }

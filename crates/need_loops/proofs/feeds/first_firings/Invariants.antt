@@ -2,4 +2,4 @@ use Rattle.need_loops.proofs.Fed.{AreNextBelow}
 use Rattle.need_loops.proofs.feeds.first_firings.Given as goal
 
 abbrev pub invariant-loop-actor : goal.invariant-loop-actor
-invariant-loop-actor g l = AreNextBelow (g.F.Firing.net l.net) l.actor l.firings.items
+invariant-loop-actor g l = AreNextBelow (g.F.Firing.net l.wired.net.now) l.actor l.firings.items

@@ -14,11 +14,11 @@ returns g c =
     take_at c.extend_all.new.firings (drop (length c.extend_all.new.firings) c.args.self.now.firings.items) c.args.self.now.firings.len firings_long in
     let flags : take c.args.self.now.flags.len (c.extend_all.new.flags ++ drop (length c.extend_all.new.flags) c.args.self.now.flags.items) ≡ c.extend_all.new.flags =
     take_at c.extend_all.new.flags (drop (length c.extend_all.new.flags) c.args.self.now.flags.items) c.args.self.now.flags.len flags_long in
-    let due : AreDue (g.F.Firing.net c.args.net.now) c.args.reach.until c.extend_all.new.starts = c.in_ok-extend_all.ensures.due in
-    let next : AreNext (g.F.Firing.net c.args.net.now) c.extend_all.new.starts c.extend_all.new.firings = c.in_ok-extend_all.ensures.next in
+    let due : AreDue (g.F.Firing.net c.args.wired.now.net.now) c.args.reach.until c.extend_all.new.starts = c.in_ok-extend_all.ensures.due in
+    let next : AreNext (g.F.Firing.net c.args.wired.now.net.now) c.extend_all.new.starts c.extend_all.new.firings = c.in_ok-extend_all.ensures.next in
     record {
-      due = subst (AreDue (g.F.Firing.net c.args.net.now) c.args.reach.until) (sym starts) due;
-      next = subst (λ rows. AreNext (g.F.Firing.net c.args.net.now) rows (take c.args.self.now.firings.len (c.extend_all.new.firings ++ drop (length c.extend_all.new.firings) c.args.self.now.firings.items))) (sym starts)
-          (subst (λ nexts. AreNext (g.F.Firing.net c.args.net.now) c.extend_all.new.starts nexts) (sym firings) next);
+      due = subst (AreDue (g.F.Firing.net c.args.wired.now.net.now) c.args.reach.until) (sym starts) due;
+      next = subst (λ rows. AreNext (g.F.Firing.net c.args.wired.now.net.now) rows (take c.args.self.now.firings.len (c.extend_all.new.firings ++ drop (length c.extend_all.new.firings) c.args.self.now.firings.items))) (sym starts)
+          (subst (λ nexts. AreNext (g.F.Firing.net c.args.wired.now.net.now) c.extend_all.new.starts nexts) (sym firings) next);
       flags = ap length flags ∙ omega (arith, c.extend_all.ensures.flags, ap length c.as_mut_slice-3.ensures.value, c.requires.grown.flags);
     }
