@@ -1,4 +1,5 @@
-ghost use Rattle.std.specs.Prelude.{◌≡◌, ◌↔◌, ℕ, ◌+◌, ◌-◌, ◌^◌, ◌<◌, ◌≤◌, IsTrue, OnOk, length, slice_index};
+ghost use Rattle.std.specs.Prelude.{◌≡◌, ◌↔◌, ℕ, ◌+◌, ◌-◌, ◌^◌, ◌<◌, ◌≤◌, IfSome, IsTrue, MatchOption, OnOk, length, set, slice_index};
+ghost use Rattle.std.proofs.Props.{props};
 ghost use Rattle.sd_base.specs.Net.{channel_at, phase_entry};
 ghost use Rattle.firing.specs.declared.sums.Port.TheVariants.{Made};
 ghost use Rattle.firing.specs.Wiring.{PutsTokens};
@@ -9,100 +10,125 @@ ghost use Rattle.selftimed.specs.inside.Ports.{IsListedBut, MayOwn};
 
 use crate::actors::ActorState;
 use crate::agenda::Agenda;
-use crate::rates::{Rates, taken_at};
-use crate::tokens::{Tokens, put_all};
-use firing::Firing;
+use crate::rates::{Rates, moved_span, taken_at};
+use crate::tokens::Tokens;
+use firing::{Firing, Port};
 use sd_base::NoMemory;
 
-/// Ends the firings of an actor whose end has come.
-#[inline(always)]
-pub(crate) fn end_actor<F: Firing>(
-    net: &F,
-    rates: &[Rates],
-    own: Option<u32>,
-    outputs: &[u32],
-    actor: u32,
-    moment: u64,
-    state: &mut ActorState,
-    tokens: &mut Tokens,
-)
-    requires actor { actor < length (F.net net.now).times }
-    requires rates { AreRates (F.net net.now) rates.now }
-    requires own { MayOwn (F.net net.now) actor own }
-    requires listed { IsListedBut (F.net net.now) Made actor own outputs.now }
-    requires tokens { length tokens.old ≡ length (F.net net.now).channels }
-    requires few { state.old.ended + length state.old.running ≤ 2 ^ 32 }
-    requires small { (i : ℕ) → i < length (F.net net.now).channels → slice_index tokens.old i ≤ 2 ^ 60 }
-    ensures ended { EndsOne moment state.old state.new }
-    ensures puts { PutsTokens (F.net net.now) actor state.old.ended (state.new.ended - state.old.ended) tokens.old tokens.new }
-    ensures touched { state.new.touched ≡ state.old.touched }
-    ensures lacking { state.new.lacking ≡ state.old.lacking }
-    ensures long { length tokens.new ≡ length tokens.old }
-{
-    let firings = state.running.pop_ended(moment);
-    put_all(
-        net,
-        rates,
-        own,
-        outputs,
-        tokens,
-        actor,
-        state.ended,
-        firings,
-    );
-    state.ended += firings;
+/// An actor whose next end is due at a moment.
+#[derive(Drop)]
+pub(crate) struct DueActor<'a, F: Firing> {
+    pub(crate) net: &'a F,
+    /// The rates of each channel.
+    pub(crate) rates: &'a [Rates],
+    /// The actor's own channel.
+    pub(crate) own: Option<u32>,
+    /// The other channels out of the actor.
+    pub(crate) outputs: &'a [u32],
+    pub(crate) actor: u32,
+    pub(crate) moment: u64,
+    ghost is_actor: { actor < length (F.net net.now).times },
+    ghost rated: { AreRates (F.net net.now) rates.now },
+    ghost owned: { MayOwn (F.net net.now) actor own } by { Prim.hlevel props },
+    ghost listed: { IsListedBut (F.net net.now) Made actor own outputs.now } by { Prim.hlevel props },
 }
 
-/// Touches an actor of which firings ended, if it lacked tokens on its own channel: there are some now.
-#[inline(always)]
-pub(crate) fn touch_itself<F: Firing>(
-    _net: &F,
-    own: Option<u32>,
-    actor: u32,
-    actors: &mut [ActorState],
-    agenda: &mut Agenda,
-) -> Result<(), NoMemory>
-    requires actor { actor < length (F.net _net.now).times }
-    requires long { length actors.old ≡ length (F.net _net.now).times }
-    requires lists { Lists (F.net _net.now) actors.old agenda.old.touched.items }
-    ensures touched { OnOk result (TouchesItself own actor actors.old actors.new) }
-    ensures lists { OnOk result (Lists (F.net _net.now) actors.new agenda.new.touched.items) }
-    ensures ends { agenda.new.ends ≡ agenda.old.ends }
-{
-    if let Some(channel) = own {
-        if actors[actor as usize].lacking == channel {
-            agenda.touch(actor, &mut actors[actor as usize])?;
-        }
+impl<F: Firing> DueActor<'_, F> {
+    /// Ends the firings whose end has come.
+    #[inline(always)]
+    pub(crate) fn end_firings(&self, state: &mut ActorState, tokens: &mut Tokens)
+        requires tokens { length tokens.old ≡ length (F.net self.now.net.now).channels }
+        requires few { state.old.ended + length state.old.running ≤ 2 ^ 32 }
+        requires small { (i : ℕ) → i < length (F.net self.now.net.now).channels → slice_index tokens.old i ≤ 2 ^ 60 }
+        ensures ended { EndsOne self.now.moment state.old state.new }
+        ensures puts { PutsTokens (F.net self.now.net.now) self.now.actor state.old.ended (state.new.ended - state.old.ended) tokens.old tokens.new }
+        ensures touched { state.new.touched ≡ state.old.touched }
+        ensures lacking { state.new.lacking ≡ state.old.lacking }
+        ensures long { length tokens.new ≡ length tokens.old }
+    {
+        let firings = state.running.pop_ended(self.moment);
+        self.put_all(tokens, state.ended, firings);
+        state.ended += firings;
     }
-    Ok(())
-}
 
-/// Touches the actors into which these channels lead and that lacked tokens there, if they have enough now.
-#[inline(always)]
-pub(crate) fn touch_targets<F: Firing>(
-    net: &F,
-    rates: &[Rates],
-    channels: &[u32],
-    tokens: &[u64],
-    actors: &mut [ActorState],
-    agenda: &mut Agenda,
-) -> Result<(), NoMemory>
-    requires long { length actors.old ≡ length (F.net net.now).times }
-    requires rates { AreRates (F.net net.now) rates.now }
-    requires tokens { length tokens.now ≡ length (F.net net.now).channels }
-    requires there { (j : ℕ) → j < length channels.now → slice_index channels.now j < length (F.net net.now).channels }
-    requires lists { Lists (F.net net.now) actors.old agenda.old.touched.items }
-    ensures touched { OnOk result (Touches (F.net net.now) tokens.now channels.now actors.old actors.new) }
-    ensures lists { OnOk result (Lists (F.net net.now) actors.new agenda.new.touched.items) }
-    ensures ends { agenda.new.ends ≡ agenda.old.ends }
-{
-    for channel in channels {
-        let target = target_of(net, rates, *channel);
-        if has_enough(net, rates, tokens, *channel, &actors[target as usize]) {
-            agenda.touch(target, &mut actors[target as usize])?;
+    /// Puts the tokens of firings, of which the first has number `from`, on the actor's own channel and the others out of it.
+    fn put_all(&self, tokens: &mut Tokens, from: u64, firings: u64)
+        requires tokens { length tokens.old ≡ length (F.net self.now.net.now).channels }
+        requires few { from + firings ≤ 2 ^ 32 }
+        requires small { (i : ℕ) → i < length (F.net self.now.net.now).channels → slice_index tokens.old i ≤ 2 ^ 60 }
+        ensures puts { PutsTokens (F.net self.now.net.now) self.now.actor from firings tokens.old tokens.new }
+        ensures long { length tokens.new ≡ length tokens.old }
+    {
+        for channel in self.outputs {
+            let here = self.rates[*channel as usize];
+            let all = moved_span(self.net, here.made, *channel, Port::Made, from, firings);
+            tokens.put(*channel, all, here.weight);
+        }
+        self.put_own(tokens, firings);
+    }
+
+    /// Puts a token of each firing on the actor's own channel.
+    #[inline(always)]
+    fn put_own(&self, tokens: &mut Tokens, firings: u64)
+        requires tokens { length tokens.old ≡ length (F.net self.now.net.now).channels }
+        requires small { IfSome self.now.own (λ i. slice_index tokens.old i + firings < 2 ^ 64) }
+        ensures { MatchOption self.now.own (tokens.new ≡ tokens.old) (λ i. tokens.new ≡ set tokens.old i (slice_index tokens.old i + firings)) }
+    {
+        if let Some(channel) = self.own {
+            tokens.put(channel, firings, self.rates[channel as usize].weight);
         }
     }
-    Ok(())
+
+    /// Touches the actor, of which firings ended, if it lacked tokens on its own channel: there are some now.
+    #[inline(always)]
+    pub(crate) fn touch_itself(
+        &self,
+        actors: &mut [ActorState],
+        agenda: &mut Agenda,
+    ) -> Result<(), NoMemory>
+        requires long { length actors.old ≡ length (F.net self.now.net.now).times }
+        requires lists { Lists (F.net self.now.net.now) actors.old agenda.old.touched.items }
+        ensures touched { OnOk result (TouchesItself self.now.own self.now.actor actors.old actors.new) }
+        ensures lists { OnOk result (Lists (F.net self.now.net.now) actors.new agenda.new.touched.items) }
+        ensures ends { agenda.new.ends ≡ agenda.old.ends }
+    {
+        if let Some(channel) = self.own {
+            if actors[self.actor as usize].lacking == channel {
+                agenda.touch(self.actor, &mut actors[self.actor as usize])?;
+            }
+        }
+        Ok(())
+    }
+
+    /// Touches the actors into which the other channels lead and that lacked tokens there, if they have enough now.
+    #[inline(always)]
+    pub(crate) fn touch_targets(
+        &self,
+        tokens: &[u64],
+        actors: &mut [ActorState],
+        agenda: &mut Agenda,
+    ) -> Result<(), NoMemory>
+        requires long { length actors.old ≡ length (F.net self.now.net.now).times }
+        requires tokens { length tokens.now ≡ length (F.net self.now.net.now).channels }
+        requires lists { Lists (F.net self.now.net.now) actors.old agenda.old.touched.items }
+        ensures touched { OnOk result (Touches (F.net self.now.net.now) tokens.now self.now.outputs.now actors.old actors.new) }
+        ensures lists { OnOk result (Lists (F.net self.now.net.now) actors.new agenda.new.touched.items) }
+        ensures ends { agenda.new.ends ≡ agenda.old.ends }
+    {
+        for channel in self.outputs {
+            let target = target_of(self.net, self.rates, *channel);
+            if has_enough(
+                self.net,
+                self.rates,
+                tokens,
+                *channel,
+                &actors[target as usize],
+            ) {
+                agenda.touch(target, &mut actors[target as usize])?;
+            }
+        }
+        Ok(())
+    }
 }
 
 /// The actor into which a channel leads.

@@ -14,7 +14,7 @@ ghost use Rattle.selftimed.specs.Moves.{AreStarters, Overruns};
 
 use crate::actors::ActorState;
 use crate::agenda::Agenda;
-use crate::ends::{end_actor, touch_itself, touch_targets};
+use crate::ends::DueActor;
 use crate::ports::Ports;
 use crate::rates::Rates;
 use crate::starts::Turn;
@@ -94,28 +94,18 @@ impl<F: Firing> Event<'_, F> {
         ensures agenda { OnOk result (Plans (F.net self.now.net.now) actors.new agenda.new) }
     {
         while let Some(actor) = agenda.pop_due(self.moment) {
-            let own = self.ports.own[actor as usize];
-            let outputs = self.ports.outputs.of(actor);
-            end_actor(
-                self.net,
-                self.rates,
-                own,
-                outputs,
+            let due = DueActor {
+                net: self.net,
+                rates: self.rates,
+                own: self.ports.own[actor as usize],
+                outputs: self.ports.outputs.of(actor),
                 actor,
-                self.moment,
-                &mut actors[actor as usize],
-                tokens,
-            );
+                moment: self.moment,
+            };
+            due.end_firings(&mut actors[actor as usize], tokens);
             agenda.announce(actor, &actors[actor as usize])?;
-            touch_itself(self.net, own, actor, actors, agenda)?;
-            touch_targets(
-                self.net,
-                self.rates,
-                outputs,
-                tokens.as_slice(),
-                actors,
-                agenda,
-            )?;
+            due.touch_itself(actors, agenda)?;
+            due.touch_targets(tokens.as_slice(), actors, agenda)?;
         }
         Ok(())
     }

@@ -1,19 +1,19 @@
-ghost use Rattle.std.specs.Prelude.{◌≡◌, ℕ, ◌+◌, ◌*◌, ◌%◌, ◌^◌, ◌<◌, ◌≤◌, None, length, slice_index, IfOk, IfSome, OnOk, MatchOption};
+ghost use Rattle.std.specs.Prelude.{◌≡◌, ℕ, ◌+◌, ◌-◌, ◌*◌, ◌%◌, ◌^◌, ◌<◌, ◌≤◌, None, length, set, slice_index, IfOk, IfSome, OnOk, MatchOption};
 ghost use Rattle.std.proofs.Props.{props};
 ghost use Rattle.sd_base.specs.Net.{channel_at};
 ghost use Rattle.sd_base.specs.Schedules.{phases_at, time_of};
 ghost use Rattle.firing.specs.declared.sums.Port.TheVariants.{Taken};
-ghost use Rattle.firing.specs.Wiring.{SufficesBefore, IsFirstLack};
+ghost use Rattle.firing.specs.Wiring.{SufficesBefore, IsFirstLack, TakesTokens};
 ghost use Rattle.selftimed.specs.inside.Actors.{StartsOne};
 ghost use Rattle.selftimed.specs.inside.PortRates.{AreRates};
 ghost use Rattle.selftimed.specs.inside.Ports.{IsListedBut, MayOwn};
 ghost use Rattle.selftimed.specs.inside.Starts.{AddsEnds, Feeds, FeedsNoMore, StartsAll, Overfills};
 
 use crate::actors::ActorState;
-use crate::rates::{Rates, taken_at};
+use crate::rates::{Rates, moved_span, taken_at};
 use crate::running::Running;
-use crate::tokens::{Tokens, take_all};
-use firing::{Firing, know_laws};
+use crate::tokens::Tokens;
+use firing::{Firing, Port, know_laws};
 use sd_base::NoMemory;
 
 /// Firings of an actor that start together, and a channel that lacks tokens for the next one.
@@ -118,16 +118,7 @@ impl<F: Firing> Turn<'_, F> {
             return Ok(None);
         }
         if begun.firings > 0 {
-            take_all(
-                self.net,
-                self.rates,
-                self.own,
-                self.inputs,
-                tokens,
-                self.actor,
-                from,
-                begun.firings,
-            );
+            self.take_all(tokens, from, begun.firings);
             self.push_ends(running, from, begun.firings)?;
         }
         Ok(Some(begun))
@@ -226,16 +217,7 @@ impl<F: Firing> Turn<'_, F> {
             if count >= room {
                 return Ok(None);
             }
-            take_all(
-                self.net,
-                self.rates,
-                self.own,
-                self.inputs,
-                tokens,
-                self.actor,
-                from + count,
-                1,
-            );
+            self.take_all(tokens, from + count, 1);
             self.push_ends(running, from + count, 1)?;
             count += 1;
         }
@@ -255,6 +237,34 @@ impl<F: Firing> Turn<'_, F> {
             }
         }
         None
+    }
+
+    /// Takes the tokens of firings, of which the first has number `from`, off the actor's own channel and the others into it.
+    fn take_all(&self, tokens: &mut Tokens, from: u64, firings: u64)
+        requires tokens { length tokens.old ≡ length (F.net self.now.net.now).channels }
+        requires few { from + firings ≤ 2 ^ 32 }
+        requires enough { Feeds (F.net self.now.net.now) tokens.old self.now.actor from firings }
+        ensures takes { TakesTokens (F.net self.now.net.now) self.now.actor from firings tokens.old tokens.new }
+        ensures long { length tokens.new ≡ length tokens.old }
+    {
+        for channel in self.inputs {
+            let here = self.rates[*channel as usize];
+            let all = moved_span(self.net, here.taken, *channel, Port::Taken, from, firings);
+            tokens.take(*channel, all, here.weight);
+        }
+        self.take_own(tokens, firings);
+    }
+
+    /// Takes a token of each firing off the actor's own channel.
+    #[inline(always)]
+    fn take_own(&self, tokens: &mut Tokens, firings: u64)
+        requires tokens { length tokens.old ≡ length (F.net self.now.net.now).channels }
+        requires enough { IfSome self.now.own (λ i. firings ≤ slice_index tokens.old i) }
+        ensures { MatchOption self.now.own (tokens.new ≡ tokens.old) (λ i. tokens.new ≡ set tokens.old i (slice_index tokens.old i - firings)) }
+    {
+        if let Some(channel) = self.own {
+            tokens.take(channel, firings, self.rates[channel as usize].weight);
+        }
     }
 
     /// Adds the ends of firings that start, from number `from` on, all of which take as long.

@@ -6,16 +6,11 @@
 //! The print of tokens is kept as they change, that of remaining times is made from a sum that each actor keeps of the ends
 //! of its running firings. So two shapes that differ are mostly told apart without going through lists, however many
 //! firings run.
-ghost use Rattle.std.specs.Prelude.{◌≡◌, ◌↔◌, ℕ, ◌+◌, ◌-◌, ◌^◌, ◌<◌, ◌≤◌, [], ◌∷◌, ◌++◌, length, map, set, slice_index, IfOk, IfSome, IsTrue, MatchOption, OnOk};
-ghost use Rattle.sd_base.specs.Net.{Channel, channel_at, total};
-ghost use Rattle.firing.specs.declared.sums.Port.TheVariants.{Made, Taken};
-ghost use Rattle.firing.specs.Wiring.{TakesTokens, PutsTokens};
+ghost use Rattle.std.specs.Prelude.{◌≡◌, ◌↔◌, ◌+◌, ◌-◌, ◌^◌, ◌<◌, ◌≤◌, [], ◌∷◌, ◌++◌, length, map, set, slice_index, IfOk, IsTrue, OnOk};
+ghost use Rattle.sd_base.specs.Net.{Channel};
 ghost use Rattle.selftimed.specs.Prints.{print_of, weight as weight_in_print};
-ghost use Rattle.selftimed.specs.inside.PortRates.{AreRates};
-ghost use Rattle.selftimed.specs.inside.Ports.{IsListedBut, MayOwn};
 
-use crate::rates::{Rates, moved_span};
-use firing::{Firing, Port};
+use firing::Firing;
 use sd_base::NoMemory;
 use std::alloc::Global;
 use std::marker::Model;
@@ -124,106 +119,6 @@ impl Tokens {
     {
         self.counts[channel as usize] += count;
         self.print = self.print.wrapping_add(weight.wrapping_mul(count));
-    }
-}
-
-/// Takes the tokens of `firings` firings of an actor, from number `from` on, off its own channel and the others into it.
-pub(crate) fn take_all<F: Firing>(
-    net: &F,
-    rates: &[Rates],
-    own: Option<u32>,
-    inputs: &[u32],
-    tokens: &mut Tokens,
-    actor: u32,
-    from: u64,
-    firings: u64,
-)
-    requires actor { actor < length (F.net net.now).times }
-    requires rates { AreRates (F.net net.now) rates.now }
-    requires own { MayOwn (F.net net.now) actor own }
-    requires listed { IsListedBut (F.net net.now) Taken actor own inputs.now }
-    requires tokens { length tokens.old ≡ length (F.net net.now).channels }
-    requires few { from + firings ≤ 2 ^ 32 }
-    requires enough { (i : ℕ) → i < length (F.net net.now).channels → (channel_at (F.net net.now) i).target ≡ actor →
-        total (channel_at (F.net net.now) i).taken (from + firings)
-        ≤ slice_index tokens.old i + total (channel_at (F.net net.now) i).taken from }
-    ensures takes { TakesTokens (F.net net.now) actor from firings tokens.old tokens.new }
-    ensures long { length tokens.new ≡ length tokens.old }
-{
-    for channel in inputs {
-        let here = rates[*channel as usize];
-        let all = moved_span(net, here.taken, *channel, Port::Taken, from, firings);
-        tokens.take(*channel, all, here.weight);
-    }
-    take_own(net, rates, own, tokens, firings);
-}
-
-/// Takes so many tokens off an own channel.
-#[inline(always)]
-fn take_own<F: Firing>(
-    _net: &F,
-    rates: &[Rates],
-    own: Option<u32>,
-    tokens: &mut Tokens,
-    firings: u64,
-)
-    requires rates { AreRates (F.net _net.now) rates.now }
-    requires own { IfSome own (λ i. i < length (F.net _net.now).channels) }
-    requires tokens { length tokens.old ≡ length (F.net _net.now).channels }
-    requires enough { IfSome own (λ i. firings ≤ slice_index tokens.old i) }
-    ensures { MatchOption own (tokens.new ≡ tokens.old) (λ i. tokens.new ≡ set tokens.old i (slice_index tokens.old i - firings)) }
-{
-    if let Some(channel) = own {
-        tokens.take(channel, firings, rates[channel as usize].weight);
-    }
-}
-
-/// Puts the tokens of `firings` firings of an actor, from number `from` on, on its own channel and the others out of it.
-pub(crate) fn put_all<F: Firing>(
-    net: &F,
-    rates: &[Rates],
-    own: Option<u32>,
-    outputs: &[u32],
-    tokens: &mut Tokens,
-    actor: u32,
-    from: u64,
-    firings: u64,
-)
-    requires actor { actor < length (F.net net.now).times }
-    requires rates { AreRates (F.net net.now) rates.now }
-    requires own { MayOwn (F.net net.now) actor own }
-    requires listed { IsListedBut (F.net net.now) Made actor own outputs.now }
-    requires tokens { length tokens.old ≡ length (F.net net.now).channels }
-    requires few { from + firings ≤ 2 ^ 32 }
-    requires small { (i : ℕ) → i < length (F.net net.now).channels → slice_index tokens.old i ≤ 2 ^ 60 }
-    ensures puts { PutsTokens (F.net net.now) actor from firings tokens.old tokens.new }
-    ensures long { length tokens.new ≡ length tokens.old }
-{
-    for channel in outputs {
-        let here = rates[*channel as usize];
-        let all = moved_span(net, here.made, *channel, Port::Made, from, firings);
-        tokens.put(*channel, all, here.weight);
-    }
-    put_own(net, rates, own, tokens, firings);
-}
-
-/// Puts so many tokens on an own channel.
-#[inline(always)]
-fn put_own<F: Firing>(
-    _net: &F,
-    rates: &[Rates],
-    own: Option<u32>,
-    tokens: &mut Tokens,
-    firings: u64,
-)
-    requires rates { AreRates (F.net _net.now) rates.now }
-    requires own { IfSome own (λ i. i < length (F.net _net.now).channels) }
-    requires tokens { length tokens.old ≡ length (F.net _net.now).channels }
-    requires small { IfSome own (λ i. slice_index tokens.old i + firings < 2 ^ 64) }
-    ensures { MatchOption own (tokens.new ≡ tokens.old) (λ i. tokens.new ≡ set tokens.old i (slice_index tokens.old i + firings)) }
-{
-    if let Some(channel) = own {
-        tokens.put(channel, firings, rates[channel as usize].weight);
     }
 }
 

@@ -1,6 +1,0 @@
-use Rattle.std.proofs.Common.{◌≡◌}
-use Rattle.selftimed.proofs.FiringsEnd.{TouchesSoFar}
-use Rattle.selftimed.proofs.ends.touch_targets.Given as goal
-
-abbrev pub invariant-loop-channel : goal.invariant-loop-channel
-invariant-loop-channel g l = TouchesSoFar (g.F.Firing.net l.net) l.tokens l.channels l.initial.actors l.actors l.agenda.touched.items l.channel-index × (l.agenda.ends ≡ l.initial.agenda.ends)
