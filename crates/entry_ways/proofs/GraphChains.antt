@@ -13,8 +13,6 @@ use Rattle.sd_base.specs.Schedules.{phases_at}
 use Rattle.sd_base.specs.FileNet.{net_of}
 use Rattle.sd_base.specs.Scenarios.{Shares, shared_count}
 use Rattle.sd_base.proofs.Lists.{entry-le-sum}
-use Rattle.firing.specs.Wiring.{IsWiringOf}
-use Rattle.firing.specs.declared.wiring.Wiring.{Wiring}
 use Rattle.token_matrix.specs.Stamps.{first_of, no_row}
 use Rattle.token_matrix.specs.Ways.{IsWay}
 use Rattle.token_matrix.proofs.OfGraph.{no_actor, channels-many, tokens-are}
@@ -51,10 +49,9 @@ module _ (shared : List SharedRow) (g : GraphFile) (gamma : List ℕ) (rules : K
       let here : a < length g.actors = omega (arith, length-map g.actors (λ (r : ActorRow). r.times)) in
       ap (λ (t : List ℕ). length t) (get_or-map (λ (r : ActorRow). r.times) g.actors a no_actor [] here) ∙ timed a no_actor here ∙ (rules.actors a no_actor here).one_phase kind
 
-  pub traceable : IsTimed g → (wiring : Wiring) → IsWiringOf net wiring → IsTraceable net wiring firsts
-  traceable timed wiring wired = record {
+  pub traceable : IsTimed g → IsTraceable net firsts
+  traceable timed = record {
     phases = subst (λ (n : Net). (a : ℕ) → a < length n.times → phases_at n a ≡ 1) (sym is) (one-phase timed);
-    wired = wired;
     long = are.long ∙ sym many;
   }
 

@@ -1,13 +1,12 @@
 //! Where chains of firings are followed.
-use firing::{Firing, Wiring};
+use firing::{Firing, Wired};
 use sd_base::Rows;
 
 /// A net in which each actor has one phase, its channels by actor, by channel the number of its first shared token, and
 /// the shared token from which chains lead.
 #[derive(Drop)]
 pub(crate) struct Chains<'a, F: Firing> {
-    pub(crate) net: &'a F,
-    pub(crate) wiring: &'a Wiring,
+    pub(crate) wired: &'a Wired<'a, F>,
     pub(crate) firsts: &'a Rows<u64>,
     pub(crate) token: u64,
 }

@@ -8,7 +8,7 @@ ghost use Rattle.entry_ways.specs.inside.Columns.{AreSmall, AreUpTo, HasStart, I
 
 use crate::chains::Chains;
 use crate::putters::putters_of;
-use firing::{Firing, know_laws, know_wiring};
+use firing::{Firing, know_laws};
 use sd_base::{NoMemory, Rows};
 use std::alloc::Global;
 
@@ -20,12 +20,12 @@ pub(crate) fn column_of<F: Firing>(
     chains: &Chains<F>,
     order: &[u32],
 ) -> Result<Vec<Rows<Option<u128>>>, NoMemory>
-    requires chains { IsTraceable (F.net chains.now.net.now) chains.now.wiring.now chains.now.firsts.now }
-    requires order { IsRoundOrder (F.net chains.now.net.now) order.now }
-    ensures column { IfOk result (λ rows. IsColumn (F.net chains.now.net.now) (slice_index chains.now.firsts.now) chains.now.token (slice_index (F.net chains.now.net.now).round) rows.items) }
+    requires chains { IsTraceable (F.net chains.now.wired.now.net.now) chains.now.firsts.now }
+    requires order { IsRoundOrder (F.net chains.now.wired.now.net.now) order.now }
+    ensures column { IfOk result (λ rows. IsColumn (F.net chains.now.wired.now.net.now) (slice_index chains.now.firsts.now) chains.now.token (slice_index (F.net chains.now.wired.now.net.now).round) rows.items) }
     ensures small { IfOk result (λ rows. AreSmall rows.items) }
 {
-    let mut rows = free_rows(alloc, chains.net)?;
+    let mut rows = free_rows(alloc, chains.wired.net)?;
     for place in 0..order.len() {
         add_start(chains, order, place, &mut rows)?;
     }
@@ -51,15 +51,15 @@ fn add_start<F: Firing>(
     place: usize,
     rows: &mut Vec<Rows<Option<u128>>>,
 ) -> Result<(), NoMemory>
-    requires chains { IsTraceable (F.net chains.now.net.now) chains.now.wiring.now chains.now.firsts.now }
-    requires order { IsRoundOrder (F.net chains.now.net.now) order.now }
+    requires chains { IsTraceable (F.net chains.now.wired.now.net.now) chains.now.firsts.now }
+    requires order { IsRoundOrder (F.net chains.now.wired.now.net.now) order.now }
     requires within { place < length order.now }
-    requires column { IsColumn (F.net chains.now.net.now) (slice_index chains.now.firsts.now) chains.now.token (counts_after none_fired (take place order.now)) rows.old.items }
+    requires column { IsColumn (F.net chains.now.wired.now.net.now) (slice_index chains.now.firsts.now) chains.now.token (counts_after none_fired (take place order.now)) rows.old.items }
     requires small { AreUpTo (TIME * place) rows.old.items }
-    ensures column { OnOk result (IsColumn (F.net chains.now.net.now) (slice_index chains.now.firsts.now) chains.now.token (counts_after none_fired (take (place + 1) order.now)) rows.new.items) }
+    ensures column { OnOk result (IsColumn (F.net chains.now.wired.now.net.now) (slice_index chains.now.firsts.now) chains.now.token (counts_after none_fired (take (place + 1) order.now)) rows.new.items) }
     ensures small { OnOk result (AreUpTo (TIME * (place + 1)) rows.new.items) }
 {
-    know_laws(chains.net);
+    know_laws(chains.wired.net);
     let actor = order[place];
     let firing = rows[actor as usize].len() as u64;
     let start = start_of(chains, rows.as_slice(), actor, firing);
@@ -86,18 +86,17 @@ fn start_of<F: Firing>(
     actor: u32,
     firing: u64,
 ) -> Option<u128>
-    requires chains { IsTraceable (F.net chains.now.net.now) chains.now.wiring.now chains.now.firsts.now }
-    requires actor { actor < length (F.net chains.now.net.now).times }
-    requires long { length rows.now ≡ length (F.net chains.now.net.now).times }
+    requires chains { IsTraceable (F.net chains.now.wired.now.net.now) chains.now.firsts.now }
+    requires actor { actor < length (F.net chains.now.wired.now.net.now).times }
+    requires long { length rows.now ≡ length (F.net chains.now.wired.now.net.now).times }
     requires few { firing ≤ ROUND }
-    requires fed { (i : ℕ) → i < length (F.net chains.now.net.now).channels → (channel_at (F.net chains.now.net.now) i).target ≡ actor → IsFedBy (F.net chains.now.net.now) rows.now i firing }
+    requires fed { (i : ℕ) → i < length (F.net chains.now.wired.now.net.now).channels → (channel_at (F.net chains.now.wired.now.net.now) i).target ≡ actor → IsFedBy (F.net chains.now.wired.now.net.now) rows.now i firing }
     requires small { AreSmall rows.now }
-    ensures { IsLongest (IsLinkInto (F.net chains.now.net.now) (slice_index chains.now.firsts.now) chains.now.token rows.now actor firing) result }
+    ensures { IsLongest (IsLinkInto (F.net chains.now.wired.now.net.now) (slice_index chains.now.firsts.now) chains.now.token rows.now actor firing) result }
 {
-    know_laws(chains.net);
-    know_wiring(chains.net, chains.wiring);
+    know_laws(chains.wired.net);
     let mut start = None;
-    for channel in chains.wiring.inputs_of(actor) {
+    for channel in chains.wired.inputs_of(actor) {
         start = later(start, arrival(chains, rows, *channel, firing));
     }
     start
@@ -110,15 +109,15 @@ fn arrival<F: Firing>(
     channel: u32,
     firing: u64,
 ) -> Option<u128>
-    requires chains { IsTraceable (F.net chains.now.net.now) chains.now.wiring.now chains.now.firsts.now }
-    requires channel { channel < length (F.net chains.now.net.now).channels }
-    requires long { length rows.now ≡ length (F.net chains.now.net.now).times }
+    requires chains { IsTraceable (F.net chains.now.wired.now.net.now) chains.now.firsts.now }
+    requires channel { channel < length (F.net chains.now.wired.now.net.now).channels }
+    requires long { length rows.now ≡ length (F.net chains.now.wired.now.net.now).times }
     requires few { firing ≤ ROUND }
-    requires fed { IsFedBy (F.net chains.now.net.now) rows.now channel firing }
+    requires fed { IsFedBy (F.net chains.now.wired.now.net.now) rows.now channel firing }
     requires small { AreSmall rows.now }
-    ensures { IsLongest (IsLink (F.net chains.now.net.now) (slice_index chains.now.firsts.now) chains.now.token rows.now channel firing) result }
+    ensures { IsLongest (IsLink (F.net chains.now.wired.now.net.now) (slice_index chains.now.firsts.now) chains.now.token rows.now channel firing) result }
 {
-    know_laws(chains.net);
+    know_laws(chains.wired.net);
     let putters = putters_of(chains, channel, firing);
     let end = latest_end(chains, rows, channel, putters.first, putters.end);
     if putters.has_token {
@@ -136,12 +135,12 @@ fn latest_end<F: Firing>(
     first: u64,
     end: u64,
 ) -> Option<u128>
-    requires chains { IsTraceable (F.net chains.now.net.now) chains.now.wiring.now chains.now.firsts.now }
-    requires channel { channel < length (F.net chains.now.net.now).channels }
-    requires long { length rows.now ≡ length (F.net chains.now.net.now).times }
-    requires there { (k : ℕ) → first ≤ k → k < end → k < length (slice_index_or rows.now (channel_at (F.net chains.now.net.now) channel).source []) }
+    requires chains { IsTraceable (F.net chains.now.wired.now.net.now) chains.now.firsts.now }
+    requires channel { channel < length (F.net chains.now.wired.now.net.now).channels }
+    requires long { length rows.now ≡ length (F.net chains.now.wired.now.net.now).times }
+    requires there { (k : ℕ) → first ≤ k → k < end → k < length (slice_index_or rows.now (channel_at (F.net chains.now.wired.now.net.now) channel).source []) }
     requires small { AreSmall rows.now }
-    ensures { IsLongest (IsEndIn (F.net chains.now.net.now) rows.now channel first end) result }
+    ensures { IsLongest (IsEndIn (F.net chains.now.wired.now.net.now) rows.now channel first end) result }
 {
     let mut latest = None;
     for putter in first..end {
@@ -157,18 +156,18 @@ fn end_of<F: Firing>(
     channel: u32,
     putter: u64,
 ) -> Option<u128>
-    requires chains { IsTraceable (F.net chains.now.net.now) chains.now.wiring.now chains.now.firsts.now }
-    requires channel { channel < length (F.net chains.now.net.now).channels }
-    requires long { length rows.now ≡ length (F.net chains.now.net.now).times }
-    requires there { putter < length (slice_index_or rows.now (channel_at (F.net chains.now.net.now) channel).source []) }
+    requires chains { IsTraceable (F.net chains.now.wired.now.net.now) chains.now.firsts.now }
+    requires channel { channel < length (F.net chains.now.wired.now.net.now).channels }
+    requires long { length rows.now ≡ length (F.net chains.now.wired.now.net.now).times }
+    requires there { putter < length (slice_index_or rows.now (channel_at (F.net chains.now.wired.now.net.now) channel).source []) }
     requires small { AreSmall rows.now }
-    ensures { result ≡ later_by (time_of (F.net chains.now.net.now) (channel_at (F.net chains.now.net.now) channel).source putter)
-        (start_in rows.now (channel_at (F.net chains.now.net.now) channel).source putter) }
+    ensures { result ≡ later_by (time_of (F.net chains.now.wired.now.net.now) (channel_at (F.net chains.now.wired.now.net.now) channel).source putter)
+        (start_in rows.now (channel_at (F.net chains.now.wired.now.net.now) channel).source putter) }
 {
-    know_laws(chains.net);
-    let source = chains.net.source(channel);
+    know_laws(chains.wired.net);
+    let source = chains.wired.net.source(channel);
     match start_at(rows, source, putter) {
-        Some(start) => Some(start + u128::from(chains.net.time(source, 0))),
+        Some(start) => Some(start + u128::from(chains.wired.net.time(source, 0))),
         None => None,
     }
 }

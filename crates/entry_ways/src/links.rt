@@ -9,7 +9,7 @@ ghost use Rattle.entry_ways.specs.inside.Traces.{AreMarked, IsEndOf, IsLinkOn, I
 use crate::chains::Chains;
 use crate::column::start_at;
 use crate::putters::putters_of;
-use firing::{Firing, know_laws, know_wiring};
+use firing::{Firing, know_laws};
 use sd_base::Rows;
 
 /// How a firing comes by a token that it waits for longest.
@@ -37,16 +37,16 @@ pub(crate) fn mark_chain<F: Firing>(
     start: u128,
     marks: &mut [bool],
 )
-    requires chains { IsTraceable (F.net chains.now.net.now) chains.now.wiring.now chains.now.firsts.now }
-    requires column { IsColumn (F.net chains.now.net.now) (slice_index chains.now.firsts.now) chains.now.token (slice_index (F.net chains.now.net.now).round) rows.now }
+    requires chains { IsTraceable (F.net chains.now.wired.now.net.now) chains.now.firsts.now }
+    requires column { IsColumn (F.net chains.now.wired.now.net.now) (slice_index chains.now.firsts.now) chains.now.token (slice_index (F.net chains.now.wired.now.net.now).round) rows.now }
     requires small { AreSmall rows.now }
-    requires actor { actor < length (F.net chains.now.net.now).times }
-    requires firing { firing < slice_index (F.net chains.now.net.now).round actor }
+    requires actor { actor < length (F.net chains.now.wired.now.net.now).times }
+    requires firing { firing < slice_index (F.net chains.now.wired.now.net.now).round actor }
     requires start { start_in rows.now actor firing ≡ Some start }
-    requires wide { length (F.net chains.now.net.now).channels ≤ length marks.old }
-    ensures { (cs : List ℕ) × IsChain (F.net chains.now.net.now) (slice_index chains.now.firsts.now) chains.now.token actor firing start cs × AreMarked cs marks.old marks.new }
+    requires wide { length (F.net chains.now.wired.now.net.now).channels ≤ length marks.old }
+    ensures { (cs : List ℕ) × IsChain (F.net chains.now.wired.now.net.now) (slice_index chains.now.firsts.now) chains.now.token actor firing start cs × AreMarked cs marks.old marks.new }
 {
-    know_laws(chains.net);
+    know_laws(chains.wired.net);
     let mut actor = actor;
     let mut firing = firing;
     let mut start = start;
@@ -62,7 +62,7 @@ pub(crate) fn mark_chain<F: Firing>(
                 start: earlier,
             } => {
                 mark(marks, channel);
-                actor = chains.net.source(channel);
+                actor = chains.wired.net.source(channel);
                 firing = putter;
                 start = earlier;
             }
@@ -87,17 +87,16 @@ fn link_to<F: Firing>(
     firing: u64,
     start: u128,
 ) -> Link
-    requires chains { IsTraceable (F.net chains.now.net.now) chains.now.wiring.now chains.now.firsts.now }
-    requires column { IsColumn (F.net chains.now.net.now) (slice_index chains.now.firsts.now) chains.now.token (slice_index (F.net chains.now.net.now).round) rows.now }
+    requires chains { IsTraceable (F.net chains.now.wired.now.net.now) chains.now.firsts.now }
+    requires column { IsColumn (F.net chains.now.wired.now.net.now) (slice_index chains.now.firsts.now) chains.now.token (slice_index (F.net chains.now.wired.now.net.now).round) rows.now }
     requires small { AreSmall rows.now }
-    requires actor { actor < length (F.net chains.now.net.now).times }
-    requires firing { firing < slice_index (F.net chains.now.net.now).round actor }
+    requires actor { actor < length (F.net chains.now.wired.now.net.now).times }
+    requires firing { firing < slice_index (F.net chains.now.wired.now.net.now).round actor }
     requires start { start_in rows.now actor firing ≡ Some start }
-    ensures { IsLinkTo (F.net chains.now.net.now) (slice_index chains.now.firsts.now) chains.now.token rows.now actor firing start result }
+    ensures { IsLinkTo (F.net chains.now.wired.now.net.now) (slice_index chains.now.firsts.now) chains.now.token rows.now actor firing start result }
 {
-    know_laws(chains.net);
-    know_wiring(chains.net, chains.wiring);
-    for channel in chains.wiring.inputs_of(actor) {
+    know_laws(chains.wired.net);
+    for channel in chains.wired.inputs_of(actor) {
         if let Some(link) = link_on(chains, rows, *channel, firing, start) {
             return link;
         }
@@ -113,14 +112,14 @@ fn link_on<F: Firing>(
     firing: u64,
     start: u128,
 ) -> Option<Link>
-    requires chains { IsTraceable (F.net chains.now.net.now) chains.now.wiring.now chains.now.firsts.now }
-    requires long { length rows.now ≡ length (F.net chains.now.net.now).times }
+    requires chains { IsTraceable (F.net chains.now.wired.now.net.now) chains.now.firsts.now }
+    requires long { length rows.now ≡ length (F.net chains.now.wired.now.net.now).times }
     requires small { AreSmall rows.now }
-    requires channel { channel < length (F.net chains.now.net.now).channels }
+    requires channel { channel < length (F.net chains.now.wired.now.net.now).channels }
     requires few { firing ≤ ROUND }
-    requires fed { IsFedBy (F.net chains.now.net.now) rows.now channel firing }
-    ensures { MatchOption result (IsLink (F.net chains.now.net.now) (slice_index chains.now.firsts.now) chains.now.token rows.now channel firing start → ⊥)
-        (IsLinkOn (F.net chains.now.net.now) (slice_index chains.now.firsts.now) chains.now.token rows.now channel firing start) }
+    requires fed { IsFedBy (F.net chains.now.wired.now.net.now) rows.now channel firing }
+    ensures { MatchOption result (IsLink (F.net chains.now.wired.now.net.now) (slice_index chains.now.firsts.now) chains.now.token rows.now channel firing start → ⊥)
+        (IsLinkOn (F.net chains.now.wired.now.net.now) (slice_index chains.now.firsts.now) chains.now.token rows.now channel firing start) }
 {
     let putters = putters_of(chains, channel, firing);
     if is_begun(putters.has_token, start) {
@@ -145,13 +144,13 @@ fn putter_ending<F: Firing>(
     end: u64,
     start: u128,
 ) -> Option<Link>
-    requires chains { IsTraceable (F.net chains.now.net.now) chains.now.wiring.now chains.now.firsts.now }
-    requires long { length rows.now ≡ length (F.net chains.now.net.now).times }
+    requires chains { IsTraceable (F.net chains.now.wired.now.net.now) chains.now.firsts.now }
+    requires long { length rows.now ≡ length (F.net chains.now.wired.now.net.now).times }
     requires small { AreSmall rows.now }
-    requires channel { channel < length (F.net chains.now.net.now).channels }
-    requires there { (k : ℕ) → first ≤ k → k < end → k < length (slice_index_or rows.now (channel_at (F.net chains.now.net.now) channel).source []) }
-    ensures { MatchOption result (IsEndIn (F.net chains.now.net.now) rows.now channel first end start → ⊥)
-        (IsEndOf (F.net chains.now.net.now) rows.now channel first end start) }
+    requires channel { channel < length (F.net chains.now.wired.now.net.now).channels }
+    requires there { (k : ℕ) → first ≤ k → k < end → k < length (slice_index_or rows.now (channel_at (F.net chains.now.wired.now.net.now) channel).source []) }
+    ensures { MatchOption result (IsEndIn (F.net chains.now.wired.now.net.now) rows.now channel first end start → ⊥)
+        (IsEndOf (F.net chains.now.wired.now.net.now) rows.now channel first end start) }
 {
     for putter in first..end {
         if let Some(link) = link_by(chains, rows, channel, putter, start) {
@@ -169,17 +168,17 @@ fn link_by<F: Firing>(
     putter: u64,
     start: u128,
 ) -> Option<Link>
-    requires chains { IsTraceable (F.net chains.now.net.now) chains.now.wiring.now chains.now.firsts.now }
-    requires long { length rows.now ≡ length (F.net chains.now.net.now).times }
+    requires chains { IsTraceable (F.net chains.now.wired.now.net.now) chains.now.firsts.now }
+    requires long { length rows.now ≡ length (F.net chains.now.wired.now.net.now).times }
     requires small { AreSmall rows.now }
-    requires channel { channel < length (F.net chains.now.net.now).channels }
-    requires there { putter < length (slice_index_or rows.now (channel_at (F.net chains.now.net.now) channel).source []) }
-    ensures { MatchOption result (IsEndIn (F.net chains.now.net.now) rows.now channel putter (putter + 1) start → ⊥)
-        (IsEndOf (F.net chains.now.net.now) rows.now channel putter (putter + 1) start) }
+    requires channel { channel < length (F.net chains.now.wired.now.net.now).channels }
+    requires there { putter < length (slice_index_or rows.now (channel_at (F.net chains.now.wired.now.net.now) channel).source []) }
+    ensures { MatchOption result (IsEndIn (F.net chains.now.wired.now.net.now) rows.now channel putter (putter + 1) start → ⊥)
+        (IsEndOf (F.net chains.now.wired.now.net.now) rows.now channel putter (putter + 1) start) }
 {
-    know_laws(chains.net);
-    let source = chains.net.source(channel);
-    let time = u128::from(chains.net.time(source, 0));
+    know_laws(chains.wired.net);
+    let source = chains.wired.net.source(channel);
+    let time = u128::from(chains.wired.net.time(source, 0));
     let begun = start_at(rows, source, putter);
     match begun {
         Some(earlier) => {

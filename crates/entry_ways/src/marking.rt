@@ -17,8 +17,8 @@ use crate::chains::Chains;
 use crate::column::column_of;
 use crate::firsts::firsts_of;
 use crate::way::mark_way;
-use firing::{Firing, SdfNet, Wiring};
-use liveness::{Round, one_round_on};
+use firing::{Firing, SdfNet, Wired, Wiring};
+use liveness::{Round, fire_round};
 use sd_base::{GraphFile, NoMemory, SharedRow};
 use std::alloc::Global;
 
@@ -56,14 +56,17 @@ pub fn mark_ways(
 {
     let net = SdfNet::new(alloc, graph, gamma, false)?;
     let wiring = Wiring::new(alloc, &net)?;
+    let wired = Wired {
+        net: &net,
+        wiring: &wiring,
+    };
     let firsts = firsts_of(alloc, graph, shared)?;
-    match one_round_on(alloc, &net, &wiring)? {
+    match fire_round(alloc, &wired)? {
         Round::Blocked { .. } => unreachable!(),
         Round::Live { order } => {
             for entry in entries {
                 let chains = Chains {
-                    net: &net,
-                    wiring: &wiring,
+                    wired: &wired,
                     firsts: &firsts,
                     token: entry.column,
                 };
@@ -82,12 +85,12 @@ fn mark_entry<F: Firing>(
     row: u64,
     marks: &mut [bool],
 ) -> Result<(), NoMemory>
-    requires chains { IsTraceable (F.net chains.now.net.now) chains.now.wiring.now chains.now.firsts.now }
-    requires order { IsRoundOrder (F.net chains.now.net.now) order.now }
-    requires apart { AreApart (F.net chains.now.net.now) (slice_index chains.now.firsts.now) }
-    requires way { (e : ℕ) × (cs : List ℕ) × IsWay (F.net chains.now.net.now) (slice_index chains.now.firsts.now) chains.now.token row e cs }
-    requires wide { length (F.net chains.now.net.now).channels ≤ length marks.old }
-    ensures { OnOk result ((cs : List ℕ) × IsLongestWay (F.net chains.now.net.now) (slice_index chains.now.firsts.now) chains.now.token row cs × AreMarked cs marks.old marks.new) }
+    requires chains { IsTraceable (F.net chains.now.wired.now.net.now) chains.now.firsts.now }
+    requires order { IsRoundOrder (F.net chains.now.wired.now.net.now) order.now }
+    requires apart { AreApart (F.net chains.now.wired.now.net.now) (slice_index chains.now.firsts.now) }
+    requires way { (e : ℕ) × (cs : List ℕ) × IsWay (F.net chains.now.wired.now.net.now) (slice_index chains.now.firsts.now) chains.now.token row e cs }
+    requires wide { length (F.net chains.now.wired.now.net.now).channels ≤ length marks.old }
+    ensures { OnOk result ((cs : List ℕ) × IsLongestWay (F.net chains.now.wired.now.net.now) (slice_index chains.now.firsts.now) chains.now.token row cs × AreMarked cs marks.old marks.new) }
 {
     let rows = column_of(alloc, chains, order)?;
     mark_way(chains, rows.as_slice(), row, marks);

@@ -19,17 +19,17 @@ pub(crate) struct Putters {
 
 /// Which firings put the tokens that a firing takes from a channel.
 pub(crate) fn putters_of<F: Firing>(chains: &Chains<F>, channel: u32, firing: u64) -> Putters
-    requires chains { IsTraceable (F.net chains.now.net.now) chains.now.wiring.now chains.now.firsts.now }
-    requires channel { channel < length (F.net chains.now.net.now).channels }
+    requires chains { IsTraceable (F.net chains.now.wired.now.net.now) chains.now.firsts.now }
+    requires channel { channel < length (F.net chains.now.wired.now.net.now).channels }
     requires few { firing ≤ ROUND }
-    ensures { ArePutters (F.net chains.now.net.now) (slice_index chains.now.firsts.now) chains.now.token channel firing result.has_token result.first result.end }
+    ensures { ArePutters (F.net chains.now.wired.now.net.now) (slice_index chains.now.firsts.now) chains.now.token channel firing result.has_token result.first result.end }
 {
-    know_laws(chains.net);
+    know_laws(chains.wired.net);
     let taken = taken_rate(chains, channel);
     let from = firing * taken;
     let end = from + taken;
     let has_token = has_token(chains, channel, from, end);
-    let tokens = chains.net.tokens(channel);
+    let tokens = chains.wired.net.tokens(channel);
     if end <= tokens {
         return Putters {
             has_token,
@@ -46,24 +46,30 @@ pub(crate) fn putters_of<F: Firing>(chains: &Chains<F>, channel: u32, firing: u6
 
 /// The tokens that each firing of a channel's target takes from it.
 pub(crate) fn taken_rate<F: Firing>(chains: &Chains<F>, channel: u32) -> u64
-    requires chains { IsTraceable (F.net chains.now.net.now) chains.now.wiring.now chains.now.firsts.now }
-    requires channel { channel < length (F.net chains.now.net.now).channels }
-    ensures all { (n : ℕ) → total (channel_at (F.net chains.now.net.now) channel).taken n ≡ n * result }
+    requires chains { IsTraceable (F.net chains.now.wired.now.net.now) chains.now.firsts.now }
+    requires channel { channel < length (F.net chains.now.wired.now.net.now).channels }
+    ensures all { (n : ℕ) → total (channel_at (F.net chains.now.wired.now.net.now) channel).taken n ≡ n * result }
     ensures some { 1 ≤ result }
     ensures few { result ≤ RATE }
 {
-    know_laws(chains.net);
-    chains.net.taken(channel, 0)
+    know_laws(chains.wired.net);
+    chains.wired.net.taken(channel, 0)
 }
 
 /// Whether the shared token is one of those that are there before the round, from one number to before another one.
 fn has_token<F: Firing>(chains: &Chains<F>, channel: u32, from: u64, end: u64) -> bool
-    requires chains { IsTraceable (F.net chains.now.net.now) chains.now.wiring.now chains.now.firsts.now }
-    requires channel { channel < length (F.net chains.now.net.now).channels }
-    ensures { IsTrue result ↔ IsAmong (slice_index chains.now.firsts.now channel) chains.now.token from end (channel_at (F.net chains.now.net.now) channel).tokens }
+    requires chains { IsTraceable (F.net chains.now.wired.now.net.now) chains.now.firsts.now }
+    requires channel { channel < length (F.net chains.now.wired.now.net.now).channels }
+    ensures { IsTrue result ↔ IsAmong (slice_index chains.now.firsts.now channel) chains.now.token from end (channel_at (F.net chains.now.wired.now.net.now) channel).tokens }
 {
     let first = chains.firsts.as_slice()[channel as usize];
-    is_among(first, chains.token, from, end, chains.net.tokens(channel))
+    is_among(
+        first,
+        chains.token,
+        from,
+        end,
+        chains.wired.net.tokens(channel),
+    )
 }
 
 /// Whether a token is one of those from one number to before another one, and before an end; numbers begin at the first.
@@ -84,12 +90,12 @@ fn first_put(from: u64, tokens: u64) -> u64
 
 /// The firing that puts a token on a channel.
 pub(crate) fn putter_of<F: Firing>(chains: &Chains<F>, channel: u32, token: u64) -> u64
-    requires chains { IsTraceable (F.net chains.now.net.now) chains.now.wiring.now chains.now.firsts.now }
-    requires channel { channel < length (F.net chains.now.net.now).channels }
-    requires late { (channel_at (F.net chains.now.net.now) channel).tokens ≤ token }
-    ensures put { IsPutBy (channel_at (F.net chains.now.net.now) channel) token result }
+    requires chains { IsTraceable (F.net chains.now.wired.now.net.now) chains.now.firsts.now }
+    requires channel { channel < length (F.net chains.now.wired.now.net.now).channels }
+    requires late { (channel_at (F.net chains.now.wired.now.net.now) channel).tokens ≤ token }
+    ensures put { IsPutBy (channel_at (F.net chains.now.wired.now.net.now) channel) token result }
     ensures few { result ≤ token }
 {
-    know_laws(chains.net);
-    (token - chains.net.tokens(channel)) / chains.net.made(channel, 0)
+    know_laws(chains.wired.net);
+    (token - chains.wired.net.tokens(channel)) / chains.wired.net.made(channel, 0)
 }

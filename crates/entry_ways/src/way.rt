@@ -22,21 +22,21 @@ pub(crate) fn mark_way<F: Firing>(
     left: u64,
     marks: &mut [bool],
 )
-    requires chains { IsTraceable (F.net chains.now.net.now) chains.now.wiring.now chains.now.firsts.now }
-    requires column { IsColumn (F.net chains.now.net.now) (slice_index chains.now.firsts.now) chains.now.token (slice_index (F.net chains.now.net.now).round) rows.now }
+    requires chains { IsTraceable (F.net chains.now.wired.now.net.now) chains.now.firsts.now }
+    requires column { IsColumn (F.net chains.now.wired.now.net.now) (slice_index chains.now.firsts.now) chains.now.token (slice_index (F.net chains.now.wired.now.net.now).round) rows.now }
     requires small { AreSmall rows.now }
-    requires apart { AreApart (F.net chains.now.net.now) (slice_index chains.now.firsts.now) }
-    requires way { (e : ℕ) × (cs : List ℕ) × IsWay (F.net chains.now.net.now) (slice_index chains.now.firsts.now) chains.now.token left e cs }
-    requires wide { length (F.net chains.now.net.now).channels ≤ length marks.old }
-    ensures { (cs : List ℕ) × IsLongestWay (F.net chains.now.net.now) (slice_index chains.now.firsts.now) chains.now.token left cs × AreMarked cs marks.old marks.new }
+    requires apart { AreApart (F.net chains.now.wired.now.net.now) (slice_index chains.now.firsts.now) }
+    requires way { (e : ℕ) × (cs : List ℕ) × IsWay (F.net chains.now.wired.now.net.now) (slice_index chains.now.firsts.now) chains.now.token left e cs }
+    requires wide { length (F.net chains.now.wired.now.net.now).channels ≤ length marks.old }
+    ensures { (cs : List ℕ) × IsLongestWay (F.net chains.now.wired.now.net.now) (slice_index chains.now.firsts.now) chains.now.token left cs × AreMarked cs marks.old marks.new }
 {
-    know_laws(chains.net);
+    know_laws(chains.wired.net);
     let channel = channel_of(chains, left);
     let last = left_token(chains, channel, left);
-    if last < chains.net.tokens(channel) {
+    if last < chains.wired.net.tokens(channel) {
         return;
     }
-    let actor = chains.net.source(channel);
+    let actor = chains.wired.net.source(channel);
     let putter = putter_of(chains, channel, last);
     match start_at(rows, actor, putter) {
         Some(start) => mark_chain(chains, rows, actor, putter, start, marks),
@@ -46,11 +46,11 @@ pub(crate) fn mark_way<F: Firing>(
 
 /// The channel of which a shared token is one.
 fn channel_of<F: Firing>(chains: &Chains<F>, token: u64) -> u32
-    requires chains { IsTraceable (F.net chains.now.net.now) chains.now.wiring.now chains.now.firsts.now }
-    requires there { (i : ℕ) × IsOnChannel (F.net chains.now.net.now) (slice_index chains.now.firsts.now) token i }
-    ensures { IsOnChannel (F.net chains.now.net.now) (slice_index chains.now.firsts.now) token result }
+    requires chains { IsTraceable (F.net chains.now.wired.now.net.now) chains.now.firsts.now }
+    requires there { (i : ℕ) × IsOnChannel (F.net chains.now.wired.now.net.now) (slice_index chains.now.firsts.now) token i }
+    ensures { IsOnChannel (F.net chains.now.wired.now.net.now) (slice_index chains.now.firsts.now) token result }
 {
-    for channel in 0..chains.net.channels() {
+    for channel in 0..chains.wired.net.channels() {
         if is_on(chains, token, channel) {
             return channel;
         }
@@ -60,23 +60,24 @@ fn channel_of<F: Firing>(chains: &Chains<F>, token: u64) -> u32
 
 /// Whether a shared token is one of a channel.
 fn is_on<F: Firing>(chains: &Chains<F>, token: u64, channel: u32) -> bool
-    requires chains { IsTraceable (F.net chains.now.net.now) chains.now.wiring.now chains.now.firsts.now }
-    requires channel { channel < length (F.net chains.now.net.now).channels }
-    ensures { IsTrue result ↔ IsOnChannel (F.net chains.now.net.now) (slice_index chains.now.firsts.now) token channel }
+    requires chains { IsTraceable (F.net chains.now.wired.now.net.now) chains.now.firsts.now }
+    requires channel { channel < length (F.net chains.now.wired.now.net.now).channels }
+    ensures { IsTrue result ↔ IsOnChannel (F.net chains.now.wired.now.net.now) (slice_index chains.now.firsts.now) token channel }
 {
     let first = chains.firsts.as_slice()[channel as usize];
-    first <= token && token - first < chains.net.tokens(channel)
+    first <= token && token - first < chains.wired.net.tokens(channel)
 }
 
 /// The token of a channel that is left as a shared token of it after a round.
 fn left_token<F: Firing>(chains: &Chains<F>, channel: u32, left: u64) -> u64
-    requires chains { IsTraceable (F.net chains.now.net.now) chains.now.wiring.now chains.now.firsts.now }
-    requires on { IsOnChannel (F.net chains.now.net.now) (slice_index chains.now.firsts.now) left channel }
-    ensures { result ≡ left_token (F.net chains.now.net.now) channel (left - slice_index chains.now.firsts.now channel) }
+    requires chains { IsTraceable (F.net chains.now.wired.now.net.now) chains.now.firsts.now }
+    requires on { IsOnChannel (F.net chains.now.wired.now.net.now) (slice_index chains.now.firsts.now) left channel }
+    ensures { result ≡ left_token (F.net chains.now.wired.now.net.now) channel (left - slice_index chains.now.firsts.now channel) }
 {
-    know_laws(chains.net);
+    know_laws(chains.wired.net);
     let place = left - chains.firsts.as_slice()[channel as usize];
-    round_of(chains.net, chains.net.target(channel)) * taken_rate(chains, channel) + place
+    round_of(chains.wired.net, chains.wired.net.target(channel)) * taken_rate(chains, channel)
+        + place
 }
 
 /// The firings of an actor in a round.

@@ -2,8 +2,6 @@
 use Rattle.std.specs.Prelude.{◌≡◌, ◌≢◌, ℕ, ◌+◌, ◌^◌, ◌≤◌, ◌<◌, ◌⊎◌, ◌↔◌, Bool, IsTrue, List, [], ◌∷◌, ◌++◌, length, slice_index, slice_index_or, max, Option, None, Some}
 use Rattle.sd_base.specs.Net.{Net, channel_at, total}
 use Rattle.sd_base.specs.Schedules.{phases_at, time_of}
-use Rattle.firing.specs.Wiring.{IsWiringOf}
-use Rattle.firing.specs.declared.wiring.Wiring.{Wiring}
 use Rattle.token_matrix.specs.Stamps.{IsTakenBy, IsPutBy}
 use Rattle.token_matrix.specs.Ways.{IsChain}
 
@@ -66,10 +64,9 @@ pub record ArePutters (net : Net) (number : ℕ → ℕ) (p i j : ℕ) (has : Bo
   pub each : (k : ℕ) → first ≤ k → k < end → (m : ℕ) × IsTakenBy (channel_at net i) m j × IsPutBy (channel_at net i) m k
   pub all : (m k : ℕ) → IsTakenBy (channel_at net i) m j → IsPutBy (channel_at net i) m k → (first ≤ k) × (k < end)
 
--- a net in which each actor has one phase, with its wiring, and by channel the number of its first shared token
-pub record IsTraceable (net : Net) (wiring : Wiring) (firsts : List ℕ) : Type 0 where
+-- a net in which each actor has one phase, and by channel the number of its first shared token
+pub record IsTraceable (net : Net) (firsts : List ℕ) : Type 0 where
   pub phases : (a : ℕ) → a < length net.times → phases_at net a ≡ 1
-  pub wired : IsWiringOf net wiring
   pub long : length firsts ≡ length net.channels
 
 -- no start is later than b

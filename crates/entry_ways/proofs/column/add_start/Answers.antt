@@ -11,15 +11,15 @@ use Rattle.entry_ways.proofs.column.add_start.Goals as goal
 
 pub index-requires : goal.index-requires
 index-requires g c =
-    let f = fires_at (g.F.Firing.net c.args.chains.now.net.now) none_fired c.args.order.now c.args.place c.requires.order.fires c.requires.within in
+    let f = fires_at (g.F.Firing.net c.args.chains.now.wired.now.net.now) none_fired c.args.order.now c.args.place c.requires.order.fires c.requires.within in
     omega (arith, f.actor, c.requires.column.actors)
 
 pub start_of-start-requires-clause-actor : goal.start_of-start-requires-clause-actor
-start_of-start-requires-clause-actor g c = (fires_at (g.F.Firing.net c.args.chains.now.net.now) none_fired c.args.order.now c.args.place c.requires.order.fires c.requires.within).actor
+start_of-start-requires-clause-actor g c = (fires_at (g.F.Firing.net c.args.chains.now.wired.now.net.now) none_fired c.args.order.now c.args.place c.requires.order.fires c.requires.within).actor
 
 pub start_of-start-requires-clause-few : goal.start_of-start-requires-clause-few
 start_of-start-requires-clause-few g c =
-    let net : Net = g.F.Firing.net c.args.chains.now.net.now in
+    let net : Net = g.F.Firing.net c.args.chains.now.wired.now.net.now in
     let a : ℕ = slice_index c.args.order.now c.args.place in
     let v : ℕ → ℕ = counts_after none_fired (take c.args.place c.args.order.now) in
     let f = fires_at net none_fired c.args.order.now c.args.place c.requires.order.fires c.requires.within in
@@ -29,7 +29,7 @@ start_of-start-requires-clause-few g c =
 
 pub start_of-start-requires-clause-fed : goal.start_of-start-requires-clause-fed
 start_of-start-requires-clause-fed g c =
-    let net : Net = g.F.Firing.net c.args.chains.now.net.now in
+    let net : Net = g.F.Firing.net c.args.chains.now.wired.now.net.now in
     let number : ℕ → ℕ = slice_index c.args.chains.now.firsts.now in
     let p : ℕ = c.args.chains.now.token in
     let a : ℕ = slice_index c.args.order.now c.args.place in
@@ -42,12 +42,12 @@ start_of-start-requires-clause-fed g c =
 
 pub push_start-requires : goal.push_start-requires
 push_start-requires g c =
-    let f = fires_at (g.F.Firing.net c.args.chains.now.net.now) none_fired c.args.order.now c.args.place c.requires.order.fires c.requires.within in
+    let f = fires_at (g.F.Firing.net c.args.chains.now.wired.now.net.now) none_fired c.args.order.now c.args.place c.requires.order.fires c.requires.within in
     omega (arith, f.actor, c.requires.column.actors)
 
 pub returns-clause-column : goal.returns-clause-column
 returns-clause-column g c =
-    let net : Net = g.F.Firing.net c.args.chains.now.net.now in
+    let net : Net = g.F.Firing.net c.args.chains.now.wired.now.net.now in
     let number : ℕ → ℕ = slice_index c.args.chains.now.firsts.now in
     let p : ℕ = c.args.chains.now.token in
     let a : ℕ = slice_index c.args.order.now c.args.place in
@@ -67,7 +67,7 @@ returns-clause-column g c =
 
 pub returns-clause-small : goal.returns-clause-small
 returns-clause-small g c =
-    let net : Net = g.F.Firing.net c.args.chains.now.net.now in
+    let net : Net = g.F.Firing.net c.args.chains.now.wired.now.net.now in
     let number : ℕ → ℕ = slice_index c.args.chains.now.firsts.now in
     let p : ℕ = c.args.chains.now.token in
     let a : ℕ = slice_index c.args.order.now c.args.place in

@@ -7,5 +7,5 @@ use Rattle.entry_ways.proofs.column.column_of.Given as goal
 
 -- the column of the firings so far
 abbrev pub invariant-loop-place : goal.invariant-loop-place
-invariant-loop-place g l = IsColumn (g.F.Firing.net l.chains.net.now) (slice_index l.chains.firsts.now) l.chains.token
+invariant-loop-place g l = IsColumn (g.F.Firing.net l.chains.wired.now.net.now) (slice_index l.chains.firsts.now) l.chains.token
     (counts_after none_fired (take l.place l.order)) l.rows.items × AreUpTo (TIME * l.place) l.rows.items

@@ -6,18 +6,18 @@ use Rattle.entry_ways.proofs.Longest.{longest-same}
 use Rattle.entry_ways.proofs.column.latest_end.Goals as goal
 
 pub loop-putter-init : goal.loop-putter-init
-loop-putter-init g c = (omega arith, inr refl, ends-none (g.F.Firing.net c.args.chains.now.net.now) (λ n. n) 0 c.args.rows.now c.args.channel 0 c.args.first)
+loop-putter-init g c = (omega arith, inr refl, ends-none (g.F.Firing.net c.args.chains.now.wired.now.net.now) (λ n. n) 0 c.args.rows.now c.args.channel 0 c.args.first)
 
 pub loop-putter-preserved : goal.loop-putter-preserved
 loop-putter-preserved g c =
-    let net : Net = g.F.Firing.net c.args.chains.now.net.now in
+    let net : Net = g.F.Firing.net c.args.chains.now.wired.now.net.now in
     let inv = c.loop-putter.invariant in
     let more = ends-more net (λ n. n) 0 c.args.rows.now c.args.channel 0 c.args.first c.loop-putter.putter c.loop-putter.latest inv.0 inv.2 in
     (omega (arith, inv.0), inl (omega (arith, c.loop-putter-test.true)), rw (c.later-latest.ensures, c.end_of.ensures) more)
 
 pub returns : goal.returns
 returns g c =
-    let net : Net = g.F.Firing.net c.args.chains.now.net.now in
+    let net : Net = g.F.Firing.net c.args.chains.now.wired.now.net.now in
     let rows : List (List (Option ℕ)) = c.args.rows.now in
     ⊎_elim
     (λ (within : c.loop-putter.putter ≤ c.args.end).

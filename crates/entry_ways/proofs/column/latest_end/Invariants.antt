@@ -5,4 +5,4 @@ use Rattle.entry_ways.proofs.column.latest_end.Given as goal
 -- the latest end of the firings so far
 abbrev pub invariant-loop-putter : goal.invariant-loop-putter
 invariant-loop-putter g l =
-    (l.fn.first ≤ l.putter) × ((l.putter ≤ l.fn.end) ⊎ (l.putter ≡ l.fn.first)) × IsLongest (IsEndIn (g.F.Firing.net l.chains.net.now) l.rows l.channel l.fn.first l.putter) l.latest
+    (l.fn.first ≤ l.putter) × ((l.putter ≤ l.fn.end) ⊎ (l.putter ≡ l.fn.first)) × IsLongest (IsEndIn (g.F.Firing.net l.chains.wired.now.net.now) l.rows l.channel l.fn.first l.putter) l.latest

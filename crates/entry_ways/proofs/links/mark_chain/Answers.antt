@@ -10,7 +10,7 @@ use Rattle.entry_ways.proofs.links.mark_chain.Goals as goal
 
 pub returns-in-Begins : goal.returns-in-Begins
 returns-in-Begins g c =
-    let net : Net = g.F.Firing.net c.args.chains.now.net.now in
+    let net : Net = g.F.Firing.net c.args.chains.now.wired.now.net.now in
     let number : ℕ → ℕ = slice_index c.args.chains.now.firsts.now in
     let p : ℕ = c.args.chains.now.token in
     let link = c.in-Begins.ensures in
@@ -24,7 +24,7 @@ returns-in-Begins g c =
 
 pub chain-preserved : goal.chain-preserved
 chain-preserved g c =
-    let net : Net = g.F.Firing.net c.args.chains.now.net.now in
+    let net : Net = g.F.Firing.net c.args.chains.now.wired.now.net.now in
     let number : ℕ → ℕ = slice_index c.args.chains.now.firsts.now in
     let p : ℕ = c.args.chains.now.token in
     let link = c.in-Goes.ensures in

@@ -8,10 +8,10 @@ use Rattle.entry_ways.proofs.links.mark_chain.Given as goal
 -- the channels so far are marked, and each chain to the firing at hand is, with them, one to the firing that was given
 abbrev pub invariant-chain : goal.invariant-chain
 invariant-chain g l =
-    (l.actor < length (g.F.Firing.net l.chains.net.now).times) × (l.firing < slice_index (g.F.Firing.net l.chains.net.now).round l.actor) × (start_in l.rows l.actor l.firing ≡ Some l.start)
-    × ((cs : List ℕ) × AreMarked cs l.fn.marks l.marks × ((rest : List ℕ) → IsChain (g.F.Firing.net l.chains.net.now)
+    (l.actor < length (g.F.Firing.net l.chains.wired.now.net.now).times) × (l.firing < slice_index (g.F.Firing.net l.chains.wired.now.net.now).round l.actor) × (start_in l.rows l.actor l.firing ≡ Some l.start)
+    × ((cs : List ℕ) × AreMarked cs l.fn.marks l.marks × ((rest : List ℕ) → IsChain (g.F.Firing.net l.chains.wired.now.net.now)
     (slice_index l.chains.firsts.now) l.chains.token l.actor l.firing l.start rest →
-    IsChain (g.F.Firing.net l.chains.net.now) (slice_index l.chains.firsts.now) l.chains.token l.fn.actor l.fn.firing l.fn.start (cs ++ rest)))
+    IsChain (g.F.Firing.net l.chains.wired.now.net.now) (slice_index l.chains.firsts.now) l.chains.token l.fn.actor l.fn.firing l.fn.start (cs ++ rest)))
 
 abbrev pub decreases-chain : goal.decreases-chain
 decreases-chain g l = l.start

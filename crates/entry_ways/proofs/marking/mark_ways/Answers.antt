@@ -14,8 +14,7 @@ firsts_of-requires c = few-shared c.args.shared.now c.args.graph.now c.args.gamm
 
 pub mark_entry-requires-clause-chains : goal.mark_entry-requires-clause-chains
 mark_entry-requires-clause-chains c = traceable c.args.shared.now c.args.graph.now c.args.gamma.now c.requires.rules c.requires.kind c.in_ok-firsts.firsts c.in_ok-firsts.ensures _
-    c.in_ok-net.ensures
-    c.requires.timed c.in_ok-wiring.wiring c.in_ok-wiring.ensures.wired
+    c.in_ok-net.ensures c.requires.timed
 
 pub mark_entry-requires-clause-apart : goal.mark_entry-requires-clause-apart
 mark_entry-requires-clause-apart c = apart c.args.shared.now c.args.graph.now c.args.gamma.now c.requires.rules c.requires.kind c.in_ok-firsts.firsts c.in_ok-firsts.ensures _

@@ -6,7 +6,7 @@ use Rattle.entry_ways.proofs.putters.putters_of.Goals as goal
 
 pub returns-then-end-tokens : goal.returns-then-end-tokens
 returns-then-end-tokens g c =
-    let net : Net = g.F.Firing.net c.args.chains.now.net.now in
+    let net : Net = g.F.Firing.net c.args.chains.now.wired.now.net.now in
     let number : ℕ → ℕ = slice_index c.args.chains.now.firsts.now in
     let p : ℕ = c.args.chains.now.token in
     let on : Channel = channel_at net c.args.channel in
@@ -19,7 +19,7 @@ returns-then-end-tokens g c =
 
 pub returns : goal.returns
 returns g c =
-    let net : Net = g.F.Firing.net c.args.chains.now.net.now in
+    let net : Net = g.F.Firing.net c.args.chains.now.wired.now.net.now in
     let number : ℕ → ℕ = slice_index c.args.chains.now.firsts.now in
     let p : ℕ = c.args.chains.now.token in
     let on : Channel = channel_at net c.args.channel in

@@ -5,4 +5,4 @@ use Rattle.entry_ways.proofs.way.channel_of.Given as goal
 
 -- the token is of no channel so far
 abbrev pub invariant-loop-channel : goal.invariant-loop-channel
-invariant-loop-channel g l = (i : ℕ) → i < l.channel → IsOnChannel (g.F.Firing.net l.chains.net.now) (slice_index l.chains.firsts.now) l.token i → ⊥
+invariant-loop-channel g l = (i : ℕ) → i < l.channel → IsOnChannel (g.F.Firing.net l.chains.wired.now.net.now) (slice_index l.chains.firsts.now) l.token i → ⊥

@@ -5,7 +5,7 @@ use Rattle.entry_ways.proofs.way.left_token.Goals as goal
 
 pub returns : goal.returns
 returns g c =
-    let net : Net = g.F.Firing.net c.args.chains.now.net.now in
+    let net : Net = g.F.Firing.net c.args.chains.now.wired.now.net.now in
     let on : Channel = channel_at net c.args.channel in
     let round_is : c.round_of.result ≡ slice_index net.round on.target = c.round_of.ensures.is ∙ ap (λ (a : ℕ). slice_index net.round a) c.target.ensures in
     let all : total on.taken (slice_index net.round on.target) ≡ slice_index net.round on.target * c.taken_rate.result = c.taken_rate.ensures.all (slice_index net.round on.target) in

@@ -10,11 +10,11 @@ use Rattle.entry_ways.proofs.way.mark_way.Goals as goal
 
 pub channel_of-channel-requires-clause-there : goal.channel_of-channel-requires-clause-there
 channel_of-channel-requires-clause-there g c =
-    way-on (g.F.Firing.net c.args.chains.now.net.now) (slice_index c.args.chains.now.firsts.now) c.args.chains.now.token c.args.left c.requires.way.0 c.requires.way.1 c.requires.way.2
+    way-on (g.F.Firing.net c.args.chains.now.wired.now.net.now) (slice_index c.args.chains.now.firsts.now) c.args.chains.now.token c.args.left c.requires.way.0 c.requires.way.1 c.requires.way.2
 
 pub returns-then-last-tokens : goal.returns-then-last-tokens
 returns-then-last-tokens g c =
-    let net : Net = g.F.Firing.net c.args.chains.now.net.now in
+    let net : Net = g.F.Firing.net c.args.chains.now.wired.now.net.now in
     let number : ℕ → ℕ = slice_index c.args.chains.now.firsts.now in
     let early : left_token net c.channel_of-channel.result (c.args.left - number c.channel_of-channel.result) < (channel_at net c.channel_of-channel.result).tokens =
     omega (arith, c.if-last-tokens.true, c.tokens.ensures, c.left_token-last.ensures) in
@@ -23,7 +23,7 @@ returns-then-last-tokens g c =
 
 pub start_at-requires-clause-firing : goal.start_at-requires-clause-firing
 start_at-requires-clause-firing g c =
-    let net : Net = g.F.Firing.net c.args.chains.now.net.now in
+    let net : Net = g.F.Firing.net c.args.chains.now.wired.now.net.now in
     let number : ℕ → ℕ = slice_index c.args.chains.now.firsts.now in
     let p : ℕ = c.args.chains.now.token in
     let i : ℕ = c.channel_of-channel.result in
@@ -39,7 +39,7 @@ start_at-requires-clause-firing g c =
 
 pub unreachable-requires : goal.unreachable-requires
 unreachable-requires g c =
-    let net : Net = g.F.Firing.net c.args.chains.now.net.now in
+    let net : Net = g.F.Firing.net c.args.chains.now.wired.now.net.now in
     let number : ℕ → ℕ = slice_index c.args.chains.now.firsts.now in
     let p : ℕ = c.args.chains.now.token in
     let i : ℕ = c.channel_of-channel.result in
@@ -55,7 +55,7 @@ unreachable-requires g c =
 
 pub returns : goal.returns
 returns g c =
-    let net : Net = g.F.Firing.net c.args.chains.now.net.now in
+    let net : Net = g.F.Firing.net c.args.chains.now.wired.now.net.now in
     let number : ℕ → ℕ = slice_index c.args.chains.now.firsts.now in
     let p : ℕ = c.args.chains.now.token in
     let i : ℕ = c.channel_of-channel.result in
