@@ -1,4 +1,6 @@
 //! Where chains of firings are followed.
+ghost use Rattle.entry_ways.specs.inside.Columns.{IsTraceable};
+
 use firing::{Firing, Wired};
 use sd_base::Rows;
 
@@ -9,4 +11,5 @@ pub(crate) struct Chains<'a, F: Firing> {
     pub(crate) wired: &'a Wired<'a, F>,
     pub(crate) firsts: &'a Rows<u64>,
     pub(crate) token: u64,
+    ghost traceable: { IsTraceable (F.net wired.now.net.now) firsts.now },
 }

@@ -4,7 +4,7 @@ ghost use Rattle.sd_base.specs.declared.limits.TheConstants.{ROUND, TIME};
 ghost use Rattle.sd_base.specs.Net.{channel_at};
 ghost use Rattle.sd_base.specs.Schedules.{time_of};
 ghost use Rattle.sd_base.specs.Untimed.{IsRoundOrder, counts_after, none_fired};
-ghost use Rattle.entry_ways.specs.inside.Columns.{AreSmall, AreUpTo, HasStart, IsColumn, IsEndIn, IsFedBy, IsLink, IsLinkInto, IsLongest, IsTraceable, later, later_by, start_in};
+ghost use Rattle.entry_ways.specs.inside.Columns.{AreSmall, AreUpTo, HasStart, IsColumn, IsEndIn, IsFedBy, IsLink, IsLinkInto, IsLongest, later, later_by, start_in};
 
 use crate::chains::Chains;
 use crate::putters::putters_of;
@@ -20,8 +20,7 @@ pub(crate) fn column_of<F: Firing>(
     chains: &Chains<F>,
     order: &[u32],
 ) -> Result<Vec<Rows<Option<u128>>>, NoMemory>
-    requires chains { IsTraceable (F.net chains.now.wired.now.net.now) chains.now.firsts.now }
-    requires order { IsRoundOrder (F.net chains.now.wired.now.net.now) order.now }
+    requires { IsRoundOrder (F.net chains.now.wired.now.net.now) order.now }
     ensures column { IfOk result (λ rows. IsColumn (F.net chains.now.wired.now.net.now) (slice_index chains.now.firsts.now) chains.now.token (slice_index (F.net chains.now.wired.now.net.now).round) rows.items) }
     ensures small { IfOk result (λ rows. AreSmall rows.items) }
 {
@@ -51,7 +50,6 @@ fn add_start<F: Firing>(
     place: usize,
     rows: &mut Vec<Rows<Option<u128>>>,
 ) -> Result<(), NoMemory>
-    requires chains { IsTraceable (F.net chains.now.wired.now.net.now) chains.now.firsts.now }
     requires order { IsRoundOrder (F.net chains.now.wired.now.net.now) order.now }
     requires within { place < length order.now }
     requires column { IsColumn (F.net chains.now.wired.now.net.now) (slice_index chains.now.firsts.now) chains.now.token (counts_after none_fired (take place order.now)) rows.old.items }
@@ -86,7 +84,6 @@ fn start_of<F: Firing>(
     actor: u32,
     firing: u64,
 ) -> Option<u128>
-    requires chains { IsTraceable (F.net chains.now.wired.now.net.now) chains.now.firsts.now }
     requires actor { actor < length (F.net chains.now.wired.now.net.now).times }
     requires long { length rows.now ≡ length (F.net chains.now.wired.now.net.now).times }
     requires few { firing ≤ ROUND }
@@ -109,7 +106,6 @@ fn arrival<F: Firing>(
     channel: u32,
     firing: u64,
 ) -> Option<u128>
-    requires chains { IsTraceable (F.net chains.now.wired.now.net.now) chains.now.firsts.now }
     requires channel { channel < length (F.net chains.now.wired.now.net.now).channels }
     requires long { length rows.now ≡ length (F.net chains.now.wired.now.net.now).times }
     requires few { firing ≤ ROUND }
@@ -135,7 +131,6 @@ fn latest_end<F: Firing>(
     first: u64,
     end: u64,
 ) -> Option<u128>
-    requires chains { IsTraceable (F.net chains.now.wired.now.net.now) chains.now.firsts.now }
     requires channel { channel < length (F.net chains.now.wired.now.net.now).channels }
     requires long { length rows.now ≡ length (F.net chains.now.wired.now.net.now).times }
     requires there { (k : ℕ) → first ≤ k → k < end → k < length (slice_index_or rows.now (channel_at (F.net chains.now.wired.now.net.now) channel).source []) }
@@ -156,7 +151,6 @@ fn end_of<F: Firing>(
     channel: u32,
     putter: u64,
 ) -> Option<u128>
-    requires chains { IsTraceable (F.net chains.now.wired.now.net.now) chains.now.firsts.now }
     requires channel { channel < length (F.net chains.now.wired.now.net.now).channels }
     requires long { length rows.now ≡ length (F.net chains.now.wired.now.net.now).times }
     requires there { putter < length (slice_index_or rows.now (channel_at (F.net chains.now.wired.now.net.now) channel).source []) }

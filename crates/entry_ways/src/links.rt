@@ -3,7 +3,7 @@ ghost use Rattle.std.specs.Prelude.{◌≡◌, ◌+◌, ◌≤◌, ◌<◌, ◌�
 ghost use Rattle.sd_base.specs.declared.limits.TheConstants.{ROUND};
 ghost use Rattle.sd_base.specs.Net.{channel_at};
 ghost use Rattle.token_matrix.specs.Ways.{IsChain};
-ghost use Rattle.entry_ways.specs.inside.Columns.{AreSmall, IsColumn, IsEndIn, IsFedBy, IsLink, IsTraceable, start_in};
+ghost use Rattle.entry_ways.specs.inside.Columns.{AreSmall, IsColumn, IsEndIn, IsFedBy, IsLink, start_in};
 ghost use Rattle.entry_ways.specs.inside.Traces.{AreMarked, IsEndOf, IsLinkOn, IsLinkTo};
 
 use crate::chains::Chains;
@@ -37,7 +37,6 @@ pub(crate) fn mark_chain<F: Firing>(
     start: u128,
     marks: &mut [bool],
 )
-    requires chains { IsTraceable (F.net chains.now.wired.now.net.now) chains.now.firsts.now }
     requires column { IsColumn (F.net chains.now.wired.now.net.now) (slice_index chains.now.firsts.now) chains.now.token (slice_index (F.net chains.now.wired.now.net.now).round) rows.now }
     requires small { AreSmall rows.now }
     requires actor { actor < length (F.net chains.now.wired.now.net.now).times }
@@ -87,7 +86,6 @@ fn link_to<F: Firing>(
     firing: u64,
     start: u128,
 ) -> Link
-    requires chains { IsTraceable (F.net chains.now.wired.now.net.now) chains.now.firsts.now }
     requires column { IsColumn (F.net chains.now.wired.now.net.now) (slice_index chains.now.firsts.now) chains.now.token (slice_index (F.net chains.now.wired.now.net.now).round) rows.now }
     requires small { AreSmall rows.now }
     requires actor { actor < length (F.net chains.now.wired.now.net.now).times }
@@ -112,7 +110,6 @@ fn link_on<F: Firing>(
     firing: u64,
     start: u128,
 ) -> Option<Link>
-    requires chains { IsTraceable (F.net chains.now.wired.now.net.now) chains.now.firsts.now }
     requires long { length rows.now ≡ length (F.net chains.now.wired.now.net.now).times }
     requires small { AreSmall rows.now }
     requires channel { channel < length (F.net chains.now.wired.now.net.now).channels }
@@ -144,7 +141,6 @@ fn putter_ending<F: Firing>(
     end: u64,
     start: u128,
 ) -> Option<Link>
-    requires chains { IsTraceable (F.net chains.now.wired.now.net.now) chains.now.firsts.now }
     requires long { length rows.now ≡ length (F.net chains.now.wired.now.net.now).times }
     requires small { AreSmall rows.now }
     requires channel { channel < length (F.net chains.now.wired.now.net.now).channels }
@@ -168,7 +164,6 @@ fn link_by<F: Firing>(
     putter: u64,
     start: u128,
 ) -> Option<Link>
-    requires chains { IsTraceable (F.net chains.now.wired.now.net.now) chains.now.firsts.now }
     requires long { length rows.now ≡ length (F.net chains.now.wired.now.net.now).times }
     requires small { AreSmall rows.now }
     requires channel { channel < length (F.net chains.now.wired.now.net.now).channels }

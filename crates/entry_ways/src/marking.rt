@@ -10,7 +10,6 @@ ghost use Rattle.sd_base.specs.Scenarios.{shared_count, Shares};
 ghost use Rattle.token_matrix.specs.Stamps.{first_of};
 ghost use Rattle.token_matrix.specs.Ways.{IsWay};
 ghost use Rattle.entry_ways.specs.WayMarks.{AreWayMarks, HasWay, IsLongestWay};
-ghost use Rattle.entry_ways.specs.inside.Columns.{IsTraceable};
 ghost use Rattle.entry_ways.specs.inside.Traces.{AreApart, AreMarked};
 
 use crate::chains::Chains;
@@ -85,7 +84,6 @@ fn mark_entry<F: Firing>(
     row: u64,
     marks: &mut [bool],
 ) -> Result<(), NoMemory>
-    requires chains { IsTraceable (F.net chains.now.wired.now.net.now) chains.now.firsts.now }
     requires order { IsRoundOrder (F.net chains.now.wired.now.net.now) order.now }
     requires apart { AreApart (F.net chains.now.wired.now.net.now) (slice_index chains.now.firsts.now) }
     requires way { (e : ℕ) × (cs : List ℕ) × IsWay (F.net chains.now.wired.now.net.now) (slice_index chains.now.firsts.now) chains.now.token row e cs }

@@ -3,7 +3,7 @@ ghost use Rattle.std.specs.Prelude.{◌≡◌, ◌*◌, ◌≤◌, ◌<◌, ◌�
 ghost use Rattle.sd_base.specs.declared.limits.TheConstants.{RATE, ROUND};
 ghost use Rattle.sd_base.specs.Net.{channel_at, total};
 ghost use Rattle.token_matrix.specs.Stamps.{IsPutBy};
-ghost use Rattle.entry_ways.specs.inside.Columns.{ArePutters, IsAmong, IsTraceable};
+ghost use Rattle.entry_ways.specs.inside.Columns.{ArePutters, IsAmong};
 
 use crate::chains::Chains;
 use firing::{Firing, know_laws};
@@ -19,7 +19,6 @@ pub(crate) struct Putters {
 
 /// Which firings put the tokens that a firing takes from a channel.
 pub(crate) fn putters_of<F: Firing>(chains: &Chains<F>, channel: u32, firing: u64) -> Putters
-    requires chains { IsTraceable (F.net chains.now.wired.now.net.now) chains.now.firsts.now }
     requires channel { channel < length (F.net chains.now.wired.now.net.now).channels }
     requires few { firing ≤ ROUND }
     ensures { ArePutters (F.net chains.now.wired.now.net.now) (slice_index chains.now.firsts.now) chains.now.token channel firing result.has_token result.first result.end }
@@ -46,8 +45,7 @@ pub(crate) fn putters_of<F: Firing>(chains: &Chains<F>, channel: u32, firing: u6
 
 /// The tokens that each firing of a channel's target takes from it.
 pub(crate) fn taken_rate<F: Firing>(chains: &Chains<F>, channel: u32) -> u64
-    requires chains { IsTraceable (F.net chains.now.wired.now.net.now) chains.now.firsts.now }
-    requires channel { channel < length (F.net chains.now.wired.now.net.now).channels }
+    requires { channel < length (F.net chains.now.wired.now.net.now).channels }
     ensures all { (n : ℕ) → total (channel_at (F.net chains.now.wired.now.net.now) channel).taken n ≡ n * result }
     ensures some { 1 ≤ result }
     ensures few { result ≤ RATE }
@@ -58,8 +56,7 @@ pub(crate) fn taken_rate<F: Firing>(chains: &Chains<F>, channel: u32) -> u64
 
 /// Whether the shared token is one of those that are there before the round, from one number to before another one.
 fn has_token<F: Firing>(chains: &Chains<F>, channel: u32, from: u64, end: u64) -> bool
-    requires chains { IsTraceable (F.net chains.now.wired.now.net.now) chains.now.firsts.now }
-    requires channel { channel < length (F.net chains.now.wired.now.net.now).channels }
+    requires { channel < length (F.net chains.now.wired.now.net.now).channels }
     ensures { IsTrue result ↔ IsAmong (slice_index chains.now.firsts.now channel) chains.now.token from end (channel_at (F.net chains.now.wired.now.net.now) channel).tokens }
 {
     let first = chains.firsts.as_slice()[channel as usize];
@@ -90,7 +87,6 @@ fn first_put(from: u64, tokens: u64) -> u64
 
 /// The firing that puts a token on a channel.
 pub(crate) fn putter_of<F: Firing>(chains: &Chains<F>, channel: u32, token: u64) -> u64
-    requires chains { IsTraceable (F.net chains.now.wired.now.net.now) chains.now.firsts.now }
     requires channel { channel < length (F.net chains.now.wired.now.net.now).channels }
     requires late { (channel_at (F.net chains.now.wired.now.net.now) channel).tokens ≤ token }
     ensures put { IsPutBy (channel_at (F.net chains.now.wired.now.net.now) channel) token result }

@@ -4,7 +4,7 @@ ghost use Rattle.sd_base.specs.declared.limits.TheConstants.{ROUND};
 ghost use Rattle.token_matrix.specs.Stamps.{left_token};
 ghost use Rattle.token_matrix.specs.Ways.{IsWay};
 ghost use Rattle.entry_ways.specs.WayMarks.{IsLongestWay};
-ghost use Rattle.entry_ways.specs.inside.Columns.{AreSmall, IsColumn, IsTraceable};
+ghost use Rattle.entry_ways.specs.inside.Columns.{AreSmall, IsColumn};
 ghost use Rattle.entry_ways.specs.inside.Traces.{AreApart, AreMarked, IsOnChannel};
 
 use crate::chains::Chains;
@@ -22,7 +22,6 @@ pub(crate) fn mark_way<F: Firing>(
     left: u64,
     marks: &mut [bool],
 )
-    requires chains { IsTraceable (F.net chains.now.wired.now.net.now) chains.now.firsts.now }
     requires column { IsColumn (F.net chains.now.wired.now.net.now) (slice_index chains.now.firsts.now) chains.now.token (slice_index (F.net chains.now.wired.now.net.now).round) rows.now }
     requires small { AreSmall rows.now }
     requires apart { AreApart (F.net chains.now.wired.now.net.now) (slice_index chains.now.firsts.now) }
@@ -46,8 +45,7 @@ pub(crate) fn mark_way<F: Firing>(
 
 /// The channel of which a shared token is one.
 fn channel_of<F: Firing>(chains: &Chains<F>, token: u64) -> u32
-    requires chains { IsTraceable (F.net chains.now.wired.now.net.now) chains.now.firsts.now }
-    requires there { (i : ℕ) × IsOnChannel (F.net chains.now.wired.now.net.now) (slice_index chains.now.firsts.now) token i }
+    requires { (i : ℕ) × IsOnChannel (F.net chains.now.wired.now.net.now) (slice_index chains.now.firsts.now) token i }
     ensures { IsOnChannel (F.net chains.now.wired.now.net.now) (slice_index chains.now.firsts.now) token result }
 {
     for channel in 0..chains.wired.net.channels() {
@@ -60,8 +58,7 @@ fn channel_of<F: Firing>(chains: &Chains<F>, token: u64) -> u32
 
 /// Whether a shared token is one of a channel.
 fn is_on<F: Firing>(chains: &Chains<F>, token: u64, channel: u32) -> bool
-    requires chains { IsTraceable (F.net chains.now.wired.now.net.now) chains.now.firsts.now }
-    requires channel { channel < length (F.net chains.now.wired.now.net.now).channels }
+    requires { channel < length (F.net chains.now.wired.now.net.now).channels }
     ensures { IsTrue result ↔ IsOnChannel (F.net chains.now.wired.now.net.now) (slice_index chains.now.firsts.now) token channel }
 {
     let first = chains.firsts.as_slice()[channel as usize];
@@ -70,8 +67,7 @@ fn is_on<F: Firing>(chains: &Chains<F>, token: u64, channel: u32) -> bool
 
 /// The token of a channel that is left as a shared token of it after a round.
 fn left_token<F: Firing>(chains: &Chains<F>, channel: u32, left: u64) -> u64
-    requires chains { IsTraceable (F.net chains.now.wired.now.net.now) chains.now.firsts.now }
-    requires on { IsOnChannel (F.net chains.now.wired.now.net.now) (slice_index chains.now.firsts.now) left channel }
+    requires { IsOnChannel (F.net chains.now.wired.now.net.now) (slice_index chains.now.firsts.now) left channel }
     ensures { result ≡ left_token (F.net chains.now.wired.now.net.now) channel (left - slice_index chains.now.firsts.now channel) }
 {
     know_laws(chains.wired.net);

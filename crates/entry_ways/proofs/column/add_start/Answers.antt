@@ -75,7 +75,7 @@ returns-clause-small g c =
     let bound : AreUpTo (TIME * c.args.place) c.as_slice.result.now = subst (λ (rows : List (List (Option ℕ))). AreUpTo (TIME * c.args.place) rows) {y = c.as_slice.result.now}
     (sym c.as_slice.ensures.value) c.requires.small in
     let most : t ≤ TIME * c.args.place + TIME =
-    link-small net c.know_laws.ensures c.requires.chains.phases number p c.as_slice.result.now (TIME * c.args.place) a c.len-firing.result t bound (c.start_of-start.ensures.just t at) in
+    link-small net c.know_laws.ensures c.args.chains.now.traceable.phases number p c.as_slice.result.now (TIME * c.args.place) a c.len-firing.result t bound (c.start_of-start.ensures.just t at) in
     omega arith) in
     on_ok_weaker c.push_start.result
     (λ (has : HasStart a c.start_of-start.result c.args.rows.now.items c.push_start.new.rows.items).

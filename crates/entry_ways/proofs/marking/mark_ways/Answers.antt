@@ -12,9 +12,10 @@ use Rattle.entry_ways.proofs.marking.mark_ways.Goals as goal
 pub firsts_of-requires : goal.firsts_of-requires
 firsts_of-requires c = few-shared c.args.shared.now c.args.graph.now c.args.gamma.now c.requires.rules c.requires.gamma c.requires.within
 
-pub mark_entry-requires-clause-chains : goal.mark_entry-requires-clause-chains
-mark_entry-requires-clause-chains c = traceable c.args.shared.now c.args.graph.now c.args.gamma.now c.requires.rules c.requires.kind c.in_ok-firsts.firsts c.in_ok-firsts.ensures _
-    c.in_ok-net.ensures c.requires.timed
+pub invariant_of-chains : goal.invariant_of-chains
+invariant_of-chains c = record {
+  traceable = traceable c.args.shared.now c.args.graph.now c.args.gamma.now c.requires.rules c.requires.kind c.in_ok-firsts.firsts c.in_ok-firsts.ensures _ c.in_ok-net.ensures c.requires.timed;
+}
 
 pub mark_entry-requires-clause-apart : goal.mark_entry-requires-clause-apart
 mark_entry-requires-clause-apart c = apart c.args.shared.now c.args.graph.now c.args.gamma.now c.requires.rules c.requires.kind c.in_ok-firsts.firsts c.in_ok-firsts.ensures _

@@ -28,7 +28,7 @@ returns g c =
     let stop : total on.taken (c.args.firing + 1) ≡ end = (let h = c.taken_rate-taken.ensures.all (c.args.firing + 1) in omega (arith, h)) in
     let which = c.first_put.ensures.which in
     some-put net number p c.args.channel c.args.firing from end (c.taken_rate-taken.ensures.all c.args.firing) stop c.has_token-has_token.result c.first_put.result (end - 1)
-    (made-grows net c.know_laws.ensures c.requires.chains.phases c.args.channel c.requires.channel)
+    (made-grows net c.know_laws.ensures c.args.chains.now.traceable.phases c.args.channel c.requires.channel)
     (among net number p c.args.channel c.args.firing from end (c.taken_rate-taken.ensures.all c.args.firing) stop c.has_token-has_token.result c.has_token-has_token.ensures)
     (omega (arith, c.taken_rate-taken.ensures.some)) (omega (arith, c.if-end-tokens.false, c.tokens-tokens.ensures)) c.first_put.ensures.low
     (⊎_elim (λ (e : c.first_put.result ≡ from). inl e) (λ (e : c.first_put.result ≡ c.tokens-tokens.result). inr (e ∙ c.tokens-tokens.ensures)) which)

@@ -8,8 +8,8 @@ use Rattle.entry_ways.proofs.Marks.{none-marked}
 use Rattle.entry_ways.proofs.LastSteps.{last-early, last-started, put-way, stays-way, way-on}
 use Rattle.entry_ways.proofs.way.mark_way.Goals as goal
 
-pub channel_of-channel-requires-clause-there : goal.channel_of-channel-requires-clause-there
-channel_of-channel-requires-clause-there g c =
+pub channel_of-channel-requires : goal.channel_of-channel-requires
+channel_of-channel-requires g c =
     way-on (g.F.Firing.net c.args.chains.now.wired.now.net.now) (slice_index c.args.chains.now.firsts.now) c.args.chains.now.token c.args.left c.requires.way.0 c.requires.way.1 c.requires.way.2
 
 pub returns-then-last-tokens : goal.returns-then-last-tokens
