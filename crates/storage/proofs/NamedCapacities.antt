@@ -1,16 +1,16 @@
 -- Buffers without a fault bound the net of their graph.
-use Rattle.std.proofs.Common.{◌≡◌, ℕ, zero, suc, ◌+◌, ◌≤◌, ◌<◌, Bool, true, false, not, cond, ◌&&◌, All, ◌⊎◌, inl, inr, Option, None, Some, List, [], ◌∷◌, ◌++◌, length, map, refl, sym, ap, ap₂, subst, ◌∙◌, arith}
+use Rattle.std.proofs.Common.{◌≡◌, ℕ, zero, suc, ◌+◌, ◌≤◌, ◌<◌, Bool, true, false, not, cond, ◌&&◌, All, ◌⊎◌, inl, inr, Option, None, Some, List, [], ◌∷◌, ◌++◌, length, refl, sym, subst, ◌∙◌, arith}
 use Rattle.std.specs.Prelude.{slice_index_or, ◌==◌, ◌≢◌, nat_lt}
 use Rattle.std.specs.List.{find, list_any}
 use Rattle.std.specs.Option.{option_map, option_or}
 use Rattle.std.specs.Str.{bytes_eq}
 use Rattle.std.proofs.lemmas.List.{length-append}
 use Rattle.std.proofs.lemmas.Bool.{eqb-false, ltb-false, or_parts}
-use Rattle.sd_base.specs.declared.limits.TheConstants.{ACTORS, CAPACITY, CHANNELS, NET_CHANNELS, NET_TOKENS}
+use Rattle.sd_base.specs.declared.limits.TheConstants.{CAPACITY, NET_CHANNELS, NET_TOKENS}
 use Rattle.sd_base.specs.declared.tables.GraphFile.{GraphFile}
 use Rattle.sd_base.specs.declared.tables.ChannelRow.{ChannelRow}
 use Rattle.sd_base.specs.Tables.{KeepsRules}
-use Rattle.sd_base.specs.Net.{Channel, Net, file_channel, file_channels, file_channels_from}
+use Rattle.sd_base.specs.Net.{Channel, file_channel, file_channels, file_channels_from}
 use Rattle.sd_base.specs.FileNet.{own_channels_from, net_of}
 use Rattle.sd_base.proofs.FileNets.{file-length, own-few}
 use Rattle.sd_base.proofs.Truths.{bytes_turned}

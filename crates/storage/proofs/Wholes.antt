@@ -1,5 +1,5 @@
 -- Sums of whole multiples are whole multiples, and such sums don't tell a number from it rounded down.
-use Rattle.std.proofs.Common.{◌≡◌, ℕ, zero, suc, ◌+◌, ◌*◌, ◌/◌, ◌%◌, ◌≤◌, ◌<◌, List, length, ⊎_elim, ◌∙◌, arith, mod-lt, mul-le-mul_right, div-add-mod', div-mul-le_self}
+use Rattle.std.proofs.Common.{◌≡◌, ℕ, zero, suc, ◌+◌, ◌*◌, ◌/◌, ◌%◌, ◌≤◌, ◌<◌, List, length, ⊎_elim, ◌∙◌, arith, mod-lt, mul-le-mul_right, div-add-mod'}
 use Rattle.std.proofs.lemmas.Bool.{cases_lt}
 use Rattle.sd_base.specs.Net.{total}
 use Rattle.sd_base.proofs.Sums.{total-zero, total-suc}
@@ -14,5 +14,3 @@ floor-less s x a b some less = ⊎_elim (λ (room : x / s + a < b). let parts : 
 
 pub less-floor : (s x a b : ℕ) → x + a * s < b * s → x / s * s + a * s < b * s
 less-floor s x a b less = let parts : x / s * s + x % s ≡ x = div-add-mod' x s in omega arith
-
-div-mul-le_self x s = let parts : x / s * s + x % s ≡ x = div-add-mod' x s in omega arith

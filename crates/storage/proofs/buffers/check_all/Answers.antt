@@ -1,6 +1,6 @@
-use Rattle.std.proofs.Common.{◌∙◌, sym, subst, rules}
+use Rattle.std.proofs.Common.{◌∙◌, sym, subst}
 use Rattle.std.proofs.lemmas.Result.{err_from_is_err_and}
-use Rattle.storage.specs.NamedBuffers.{Tells, fault_of}
+use Rattle.storage.specs.NamedBuffers.{Tells}
 use Rattle.storage.proofs.NamedFaults.{no-fault, end-fault, one-fault}
 use Rattle.storage.proofs.buffers.check_all.Goals as goal
 
