@@ -8,7 +8,7 @@ ghost use Rattle.graph_reader.specs.Sections.{is_among, direction_in, port_of, p
 use crate::elements::{elements_in, required, split_named};
 use crate::error::{bad_word, copied, missing};
 use crate::names::new_name;
-use crate::numbers::{numbers, within};
+use crate::numbers::{Meaning, numbers, within};
 use crate::register::{Named, Register};
 use crate::{Field, ReadError};
 use file_text::Element;
@@ -84,16 +84,13 @@ fn read_port(
     let word = required(alloc, element, Field::TypeWord, actor)?;
     let direction = direction_in(alloc, actor, word)?;
     let text = required(alloc, element, Field::Rate, actor)?;
-    let rates = numbers(
-        alloc,
-        kind,
-        text,
-        0,
-        Field::Rate,
-        actor,
-        Quantity::Rate,
-        RATE,
-    )?;
+    let meaning = Meaning {
+        what: Field::Rate,
+        of: actor,
+        quantity: Quantity::Rate,
+        limit: RATE,
+    };
+    let rates = numbers(alloc, kind, text, 0, &meaning)?;
     let name = copied(alloc, name)?;
     Ok(Port {
         name,

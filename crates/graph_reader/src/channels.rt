@@ -11,7 +11,7 @@ use crate::actors::{Actor, Direction, Port};
 use crate::elements::{attribute, elements_in, required, split_named};
 use crate::error::{copied, twice, unknown};
 use crate::names::new_name;
-use crate::numbers::{list_copy, number, within};
+use crate::numbers::{Meaning, list_copy, number, within};
 use crate::register::{Named, Register};
 use crate::{Field, ReadError};
 use file_text::Element;
@@ -145,14 +145,15 @@ fn tokens_in(alloc: Global, of: &str, text: Option<&str>) -> Result<u64, ReadErr
 {
     match text {
         None => Ok(0),
-        Some(text) => number(
-            alloc,
-            text,
-            Field::InitialTokens,
-            of,
-            Quantity::Tokens,
-            TOKENS,
-        ),
+        Some(text) => {
+            let meaning = Meaning {
+                what: Field::InitialTokens,
+                of,
+                quantity: Quantity::Tokens,
+                limit: TOKENS,
+            };
+            number(alloc, text, &meaning)
+        }
     }
 }
 

@@ -91,41 +91,37 @@ pub fn within(what: Quantity, limit: u64, n: u64) -> Result<u64, ReadError>
     Ok(n)
 }
 
+/// What a number means: the refusal of one that isn't well formed names the field and what that is of, the refusal of one above
+/// the limit the quantity.
+#[derive(Clone, Copy, Debug)]
+pub struct Meaning<'a> {
+    pub what: Field,
+    pub of: &'a str,
+    pub quantity: Quantity,
+    pub limit: u64,
+}
+
 /// A number within a limit.
 #[tactic(auto, unfolding(crate::specs::NumberTexts::number))]
-pub fn number(
-    alloc: Global,
-    text: &str,
-    what: Field,
-    of: &str,
-    quantity: Quantity,
-    limit: u64,
-) -> Result<u64, ReadError>
-    requires { limit < GREATEST }
-    ensures { Gives (λ n. n) result (number what of.now quantity limit text.now) }
+pub fn number(alloc: Global, text: &str, meaning: &Meaning<'_>) -> Result<u64, ReadError>
+    requires { meaning.now.limit < GREATEST }
+    ensures { let m = meaning.now in Gives (λ n. n) result (number m.what m.of.now m.quantity m.limit text.now) }
 {
     match number_in(text.as_bytes()) {
-        Some(n) => within(quantity, limit, n),
-        None => Err(bad_number(alloc, what, of)),
+        Some(n) => within(meaning.quantity, meaning.limit, n),
+        None => Err(bad_number(alloc, meaning.what, meaning.of)),
     }
 }
 
 /// A number within a limit that isn't 0.
 #[tactic(auto, unfolding(crate::specs::NumberTexts::positive))]
-pub fn positive(
-    alloc: Global,
-    text: &str,
-    what: Field,
-    of: &str,
-    quantity: Quantity,
-    limit: u64,
-) -> Result<u64, ReadError>
-    requires { limit < GREATEST }
-    ensures { Gives (λ n. n) result (positive what of.now quantity limit text.now) }
+pub fn positive(alloc: Global, text: &str, meaning: &Meaning<'_>) -> Result<u64, ReadError>
+    requires { meaning.now.limit < GREATEST }
+    ensures { let m = meaning.now in Gives (λ n. n) result (positive m.what m.of.now m.quantity m.limit text.now) }
 {
-    let n = number(alloc, text, what, of, quantity, limit)?;
+    let n = number(alloc, text, meaning)?;
     if n == 0 {
-        return Err(bad_number(alloc, what, of));
+        return Err(bad_number(alloc, meaning.what, meaning.of));
     }
     Ok(n)
 }
@@ -237,23 +233,22 @@ fn tested_items(
     alloc: Global,
     items: &[Item],
     least: u64,
-    what: Field,
-    of: &str,
-    quantity: Quantity,
-    limit: u64,
+    meaning: &Meaning<'_>,
 ) -> Result<Rows<u64>, ReadError>
-    ensures { Gives (λ ns. ns) result (tested_items least what of.now quantity limit items.now) }
+    ensures { let m = meaning.now in Gives (λ ns. ns) result (tested_items least m.what m.of.now m.quantity m.limit items.now) }
 {
-    if is_some_above(items, limit) {
-        return Err(ReadError::Limit { what: quantity });
+    if is_some_above(items, meaning.limit) {
+        return Err(ReadError::Limit {
+            what: meaning.quantity,
+        });
     }
     if is_some_below(items, least) {
-        return Err(bad_number(alloc, what, of));
+        return Err(bad_number(alloc, meaning.what, meaning.of));
     }
     few_numbers(items)?;
     let list = numbers_of(alloc, items)?;
     if are_all_zero(list.as_slice()) {
-        return Err(bad_number(alloc, what, of));
+        return Err(bad_number(alloc, meaning.what, meaning.of));
     }
     Ok(list)
 }
@@ -264,18 +259,15 @@ fn number_list(
     alloc: Global,
     text: &str,
     least: u64,
-    what: Field,
-    of: &str,
-    quantity: Quantity,
-    limit: u64,
+    meaning: &Meaning<'_>,
 ) -> Result<Rows<u64>, ReadError>
-    requires limit { limit < GREATEST }
+    requires limit { meaning.now.limit < GREATEST }
     requires least { least < GREATEST }
-    ensures { Gives (λ ns. ns) result (number_list least what of.now quantity limit text.now) }
+    ensures { let m = meaning.now in Gives (λ ns. ns) result (number_list least m.what m.of.now m.quantity m.limit text.now) }
 {
     match items_in(alloc, text)? {
-        Some(items) => tested_items(alloc, items.as_slice(), least, what, of, quantity, limit),
-        None => Err(bad_number(alloc, what, of)),
+        Some(items) => tested_items(alloc, items.as_slice(), least, meaning),
+        None => Err(bad_number(alloc, meaning.what, meaning.of)),
     }
 }
 
@@ -295,21 +287,18 @@ pub fn numbers(
     kind: Kind,
     text: &str,
     least: u64,
-    what: Field,
-    of: &str,
-    quantity: Quantity,
-    limit: u64,
+    meaning: &Meaning<'_>,
 ) -> Result<Rows<u64>, ReadError>
-    requires limit { limit < GREATEST }
+    requires limit { meaning.now.limit < GREATEST }
     requires least { least < GREATEST }
-    ensures { Gives (λ ns. ns) result (numbers kind least what of.now quantity limit text.now) }
+    ensures { let m = meaning.now in Gives (λ ns. ns) result (numbers kind least m.what m.of.now m.quantity m.limit text.now) }
 {
     match kind {
         Kind::Sdf => {
-            let n = positive(alloc, text, what, of, quantity, limit)?;
+            let n = positive(alloc, text, meaning)?;
             Ok(single(alloc, n)?)
         }
-        Kind::Csdf => number_list(alloc, text, least, what, of, quantity, limit),
+        Kind::Csdf => number_list(alloc, text, least, meaning),
     }
 }
 

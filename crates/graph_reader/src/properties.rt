@@ -12,7 +12,7 @@ use crate::channels::Channel;
 use crate::elements::{attribute, elements_in, first_child, required, split_named};
 use crate::error::copied;
 use crate::names::mention;
-use crate::numbers::{number, numbers};
+use crate::numbers::{Meaning, number, numbers};
 use crate::register::{Named, Register};
 use crate::{Field, ReadError};
 use file_text::Element;
@@ -91,7 +91,13 @@ fn times_in(alloc: Global, kind: Kind, of: &str, element: &Element) -> Result<Ro
         return Ok(Rows::new(alloc));
     };
     let text = required(alloc, execution, Field::Time, of)?;
-    numbers(alloc, kind, text, 1, Field::Time, of, Quantity::Time, TIME)
+    let meaning = Meaning {
+        what: Field::Time,
+        of,
+        quantity: Quantity::Time,
+        limit: TIME,
+    };
+    numbers(alloc, kind, text, 1, &meaning)
 }
 
 #[tactic(auto, unfolding(crate::specs::Sections::time_entry))]
@@ -151,7 +157,13 @@ fn size_of(alloc: Global, of: &str, element: &Element) -> Result<u64, ReadError>
     let Some(text) = size_text(element) else {
         return Ok(1);
     };
-    let size = number(alloc, text, Field::Sz, of, Quantity::Size, SIZE)?;
+    let meaning = Meaning {
+        what: Field::Sz,
+        of,
+        quantity: Quantity::Size,
+        limit: SIZE,
+    };
+    let size = number(alloc, text, &meaning)?;
     Ok(if size == 0 { 1 } else { size })
 }
 

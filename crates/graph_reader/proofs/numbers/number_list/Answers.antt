@@ -8,5 +8,5 @@ pub returns-in-Some : goal.returns-in-Some
 unfolding number_list
 returns-in-Some c =
     subst (λ read. Gives (λ ns. ns) c.tested_items.result read)
-    (list-read c.args.least c.args.what c.args.of.now c.args.quantity c.args.limit (items_in c.args.text.now) c.in-Some.items.items c.requires.limit c.requires.least (rw c.in-Some.is at c.in_ok-items.ensures))
+    (list-read c.args.least c.args.meaning.now.what c.args.meaning.now.of.now c.args.meaning.now.quantity c.args.meaning.now.limit (items_in c.args.text.now) c.in-Some.items.items c.requires.limit c.requires.least (rw c.in-Some.is at c.in_ok-items.ensures))
     (rw c.as_slice.ensures.value at c.tested_items.ensures)
