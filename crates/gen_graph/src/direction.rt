@@ -1,6 +1,7 @@
 ghost use Rattle.std.specs.Prelude.{◌≡◌, IfOk};
 ghost use Rattle.std.specs.String.{string_bytes};
 ghost use Rattle.gen_graph.specs.GraphTrees.{direction_word, port_name};
+ghost use Rattle.gen_graph.specs.inside.EndWords.{actor_word, port_word};
 
 use std::alloc::{AllocError, Global};
 
@@ -20,6 +21,26 @@ impl Direction {
         match self {
             Direction::Out => "out",
             Direction::In => "in",
+        }
+    }
+
+    /// The word of a channel for the actor at this end.
+    pub(crate) fn actor_word(self) -> &'static str
+        ensures { result.now ≡ actor_word self }
+    {
+        match self {
+            Direction::Out => "srcActor",
+            Direction::In => "dstActor",
+        }
+    }
+
+    /// The word of a channel for the port at this end.
+    pub(crate) fn port_word(self) -> &'static str
+        ensures { result.now ≡ port_word self }
+    {
+        match self {
+            Direction::Out => "srcPort",
+            Direction::In => "dstPort",
         }
     }
 }

@@ -5,6 +5,7 @@ ghost use Rattle.std.specs.Fmt.{decimal};
 ghost use Rattle.std.specs.String.{string_bytes};
 ghost use Rattle.file_text.specs.Node.{nodes};
 ghost use Rattle.gen_graph.specs.NodeTexts.{attribute_text, element_text, elements_text};
+ghost use Rattle.gen_graph.specs.inside.EndWords.{actor_word, port_word};
 ghost use Rattle.gen_graph.specs.GraphTrees.{attribute, leaf, numbers_text, port_name, port_node, ports_on, ports_from, actor_node, channel_node, processor_node, times_node, times_of, size_node};
 
 use crate::direction::{Direction, port_name};
@@ -117,17 +118,9 @@ pub(crate) fn put_channel(
     put(text, "<channel")?;
     put_attribute(text, "name", channel.name.as_str())?;
     let source = &actors[channel.source as usize];
-    put_end(
-        alloc,
-        text,
-        "srcActor",
-        source,
-        "srcPort",
-        Direction::Out,
-        i,
-    )?;
+    put_end(alloc, text, source, Direction::Out, i)?;
     let target = &actors[channel.target as usize];
-    put_end(alloc, text, "dstActor", target, "dstPort", Direction::In, i)?;
+    put_end(alloc, text, target, Direction::In, i)?;
     put_tokens(alloc, text, channel.tokens)?;
     put(text, "/>\n")
 }
@@ -136,17 +129,15 @@ pub(crate) fn put_channel(
 fn put_end(
     alloc: Global,
     text: &mut Vec<u8>,
-    actor_word: &str,
     actor: &ActorRow,
-    port_word: &str,
-    direction: Direction,
+    end: Direction,
     i: usize,
 ) -> Result<(), AllocError>
-    ensures { OnOk result (text.new.items ≡ text.old.items ++ (attribute_text (attribute actor_word.now actor.now.name) ++ attribute_text (attribute port_word.now (port_name direction i)))) }
+    ensures { OnOk result (text.new.items ≡ text.old.items ++ (attribute_text (attribute (actor_word end) actor.now.name) ++ attribute_text (attribute (port_word end) (port_name end i)))) }
 {
-    let port = port_name(alloc, direction, i)?;
-    put_attribute(text, actor_word, actor.name.as_str())?;
-    put_attribute(text, port_word, port.as_str())
+    let port = port_name(alloc, end, i)?;
+    put_attribute(text, end.actor_word(), actor.name.as_str())?;
+    put_attribute(text, end.port_word(), port.as_str())
 }
 
 fn put_tokens(alloc: Global, text: &mut Vec<u8>, tokens: u64) -> Result<(), AllocError>
