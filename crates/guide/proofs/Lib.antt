@@ -4,4 +4,5 @@ pub mod Blocked
 pub mod Listing
 pub mod MoreRoom
 mod LoopTables
+mod Reached
 mod Elsewhere

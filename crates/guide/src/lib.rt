@@ -5,4 +5,4 @@ mod held_up;
 pub mod laws;
 mod rating;
 
-pub use rating::{Evaluation, Outcome, Trial, evaluate, evaluate_from};
+pub use rating::{Evaluation, Outcome, Trial, evaluate};

@@ -11,10 +11,10 @@ ghost use Rattle.storage.specs.BoundedNets.{bound};
 ghost use Rattle.guide.specs.Evaluations.{IsEvaluable, IsEvaluated, IsRefused, loops_run};
 
 use crate::held_up::shown_channels;
-use critical::{NeedCycle, cycle_of_on};
-use firing::{Firing, LoopTable, Wiring, is_single_phase, know_laws, single_phase_copy};
-use lasso::{RunError, run_loop_on};
-use liveness::{Ending, no_counts, one_round_from};
+use critical::{NeedCycle, critical_cycle};
+use firing::{Firing, LoopTable, Wired, Wiring, is_single_phase, know_laws, single_phase_copy};
+use lasso::{RunError, find_loop};
+use liveness::{Ending, finish_round, no_counts};
 use sd_base::{Fraction, Ledger, NoMemory, Rows, Steps};
 use std::alloc::Global;
 use storage::laws::need_cycles_hold_with_more_room;
@@ -55,6 +55,8 @@ pub struct Trial<'a, F: Firing> {
     /// By actor firings that some order of firings of the bounded net reaches: none, those at which a net with less room is
     /// blocked, or those of a whole round where one with less room is live.
     pub counts: &'a [u64],
+    ghost wired: { IsWiringOf (bound (F.net net.now) capacities.now.capacities) wiring.now },
+    ghost reached: { ∥ AreReachedCounts (bound (F.net net.now) capacities.now.capacities) counts.now ∥₁ },
 }
 
 /// The rate of the net bounded by a distribution: by the loop of its self-timed execution, or 0 where a round can't be
@@ -87,79 +89,79 @@ pub fn evaluate<F: Firing, L: Ledger>(
         wiring: &wiring,
         counts: counts.as_slice(),
     };
-    evaluate_on(alloc, &trial, &bounded, states, steps)
+    trial.evaluate_on(alloc, &bounded, states, steps)
 }
 
-/// What `evaluate` answers, where the wiring of the bounded net is there already, and the test for a round begins from counts
-/// that are. Cost: that of `one_round_from`, unless they are those of a whole round, and, where the net is live, of
-/// `run_loop` and `cycle_of`.
-pub fn evaluate_from<F: Firing, L: Ledger>(
-    alloc: Global,
-    trial: &Trial<F>,
-    states: u64,
-    steps: &mut Steps<L>,
-) -> Result<Evaluation, RunError>
-    requires fits { IsEvaluable (F.net trial.now.net.now) trial.now.capacities.now.capacities }
-    requires wired { IsWiringOf (bound (F.net trial.now.net.now) trial.now.capacities.now.capacities) trial.now.wiring.now }
-    requires reached { AreReachedCounts (bound (F.net trial.now.net.now) trial.now.capacities.now.capacities) trial.now.counts.now }
-    requires some { LEAST_STATES ≤ states }
-    requires few { states ≤ STATES }
-    ensures evaluated { IfOk result (IsEvaluated (F.net trial.now.net.now) trial.now.capacities.now.capacities states) }
-    ensures refused { IfErr result (IsRefused (F.net trial.now.net.now) trial.now.capacities.now.capacities states) }
-    ensures count { IfOk result (λ e. steps.new.count ≡ steps.old.count + loops_run e.outcome) }
-    ensures most { steps.new.count ≤ steps.old.count + 1 }
-    ensures rises { steps.old.count ≤ steps.new.count }
-    ensures share { steps.new.share ≡ steps.old.share }
-{
-    let bounded = Bounded::new(alloc, trial.net, trial.capacities)?;
-    evaluate_on(alloc, trial, &bounded, states, steps)
-}
+impl<'a, F: Firing> Trial<'a, F> {
+    /// What the function `evaluate` answers, where the channels by actor of the bounded net are there already, and the test for a
+    /// round begins from counts that are. Cost: that of `finish_round`, unless they are those of a whole round, and, where the
+    /// net is live, of `run_loop` and `cycle_of`.
+    pub fn evaluate<L: Ledger>(
+        &self,
+        alloc: Global,
+        states: u64,
+        steps: &mut Steps<L>,
+    ) -> Result<Evaluation, RunError>
+        requires fits { IsEvaluable (F.net self.now.net.now) self.now.capacities.now.capacities }
+        requires some { LEAST_STATES ≤ states }
+        requires few { states ≤ STATES }
+        ensures evaluated { IfOk result (IsEvaluated (F.net self.now.net.now) self.now.capacities.now.capacities states) }
+        ensures refused { IfErr result (IsRefused (F.net self.now.net.now) self.now.capacities.now.capacities states) }
+        ensures count { IfOk result (λ e. steps.new.count ≡ steps.old.count + loops_run e.outcome) }
+        ensures most { steps.new.count ≤ steps.old.count + 1 }
+        ensures rises { steps.old.count ≤ steps.new.count }
+        ensures share { steps.new.share ≡ steps.old.share }
+    {
+        let bounded = Bounded::new(alloc, self.net, self.capacities)?;
+        self.evaluate_on(alloc, &bounded, states, steps)
+    }
 
-/// The same on the net that the distribution bounds.
-fn evaluate_on<F: Firing, B: Firing, L: Ledger>(
-    alloc: Global,
-    trial: &Trial<F>,
-    bounded: &B,
-    states: u64,
-    steps: &mut Steps<L>,
-) -> Result<Evaluation, RunError>
-    requires fits { IsEvaluable (F.net trial.now.net.now) trial.now.capacities.now.capacities }
-    requires bounded { B.net bounded.now ≡ bound (F.net trial.now.net.now) trial.now.capacities.now.capacities }
-    requires wired { IsWiringOf (B.net bounded.now) trial.now.wiring.now }
-    requires reached { AreReachedCounts (B.net bounded.now) trial.now.counts.now }
-    requires some { LEAST_STATES ≤ states }
-    requires few { states ≤ STATES }
-    ensures evaluated { IfOk result (IsEvaluated (F.net trial.now.net.now) trial.now.capacities.now.capacities states) }
-    ensures refused { IfErr result (IsRefused (F.net trial.now.net.now) trial.now.capacities.now.capacities states) }
-    ensures count { IfOk result (λ e. steps.new.count ≡ steps.old.count + loops_run e.outcome) }
-    ensures most { steps.new.count ≤ steps.old.count + 1 }
-    ensures rises { steps.old.count ≤ steps.new.count }
-    ensures share { steps.new.share ≡ steps.old.share }
-{
-    match ending_from(alloc, bounded, trial.wiring, trial.counts)? {
-        Ending::Whole => evaluate_whole(alloc, bounded, trial.wiring, states, steps),
-        Ending::Blocked { counts, lacks } => {
-            Ok(evaluate_blocked(alloc, trial.net, trial.capacities, counts, lacks)?)
+    /// The same on the net that the distribution bounds.
+    fn evaluate_on<B: Firing, L: Ledger>(
+        &self,
+        alloc: Global,
+        bounded: &B,
+        states: u64,
+        steps: &mut Steps<L>,
+    ) -> Result<Evaluation, RunError>
+        requires fits { IsEvaluable (F.net self.now.net.now) self.now.capacities.now.capacities }
+        requires bounded { B.net bounded.now ≡ bound (F.net self.now.net.now) self.now.capacities.now.capacities }
+        requires some { LEAST_STATES ≤ states }
+        requires few { states ≤ STATES }
+        ensures evaluated { IfOk result (IsEvaluated (F.net self.now.net.now) self.now.capacities.now.capacities states) }
+        ensures refused { IfErr result (IsRefused (F.net self.now.net.now) self.now.capacities.now.capacities states) }
+        ensures count { IfOk result (λ e. steps.new.count ≡ steps.old.count + loops_run e.outcome) }
+        ensures most { steps.new.count ≤ steps.old.count + 1 }
+        ensures rises { steps.old.count ≤ steps.new.count }
+        ensures share { steps.new.share ≡ steps.old.share }
+    {
+        let wired = Wired {
+            net: bounded,
+            wiring: self.wiring,
+        };
+        match ending_from(alloc, &wired, self.counts)? {
+            Ending::Whole => evaluate_whole(alloc, &wired, states, steps),
+            Ending::Blocked { counts, lacks } => {
+                Ok(evaluate_blocked(alloc, self.net, self.capacities, counts, lacks)?)
+            }
         }
     }
 }
 
-/// What `one_round_from` answers. Counts of a whole round show that one can be completed, which is seen at once. Cost: linear in
-/// the actors where they are, else that of `one_round_from`.
+/// What `finish_round` answers. Counts of a whole round show that one can be completed, which is seen at once. Cost: linear in
+/// the actors where they are, else that of `finish_round`.
 fn ending_from<B: Firing>(
     alloc: Global,
-    bounded: &B,
-    wiring: &Wiring,
+    wired: &Wired<B>,
     counts: &[u64],
 ) -> Result<Ending, NoMemory>
-    requires wired { IsWiringOf (B.net bounded.now) wiring.now }
-    requires reached { AreReachedCounts (B.net bounded.now) counts.now }
-    ensures { IfOk result (IsEnding (B.net bounded.now)) }
+    requires { AreReachedCounts (B.net wired.now.net.now) counts.now }
+    ensures { IfOk result (IsEnding (B.net wired.now.net.now)) }
 {
-    if are_whole(bounded, counts) {
+    if are_whole(wired.net, counts) {
         return Ok(Ending::Whole);
     }
-    one_round_from(alloc, bounded, wiring, counts)
+    finish_round(alloc, wired, counts)
 }
 
 /// Whether each actor has fired its round.
@@ -200,57 +202,58 @@ fn evaluate_blocked<F: Firing>(
 /// The rate of a live distribution by the loop of the net that it bounds, or of a copy that is quicker to read.
 fn evaluate_whole<B: Firing, L: Ledger>(
     alloc: Global,
-    bounded: &B,
-    wiring: &Wiring,
+    wired: &Wired<B>,
     states: u64,
     steps: &mut Steps<L>,
 ) -> Result<Evaluation, RunError>
-    requires wired { IsWiringOf (B.net bounded.now) wiring.now }
-    requires live { IsLive (B.net bounded.now) }
-    requires connected { IsConnected (B.net bounded.now) }
-    requires inputs { HasInputs (B.net bounded.now) }
+    requires live { IsLive (B.net wired.now.net.now) }
+    requires connected { IsConnected (B.net wired.now.net.now) }
+    requires inputs { HasInputs (B.net wired.now.net.now) }
     requires some { LEAST_STATES ≤ states }
     requires few { states ≤ STATES }
-    ensures evaluated { IfOk result (λ e. (net : Net) (ds : List (Option ℕ)) → B.net bounded.now ≡ bound net ds → IsEvaluated net ds states e) }
-    ensures refused { IfErr result (IsRunRefusal (B.net bounded.now) states) }
+    ensures evaluated { IfOk result (λ e. (net : Net) (ds : List (Option ℕ)) → B.net wired.now.net.now ≡ bound net ds → IsEvaluated net ds states e) }
+    ensures refused { IfErr result (IsRunRefusal (B.net wired.now.net.now) states) }
     ensures count { IfOk result (λ e. steps.new.count ≡ steps.old.count + loops_run e.outcome) }
     ensures most { steps.new.count ≤ steps.old.count + 1 }
     ensures rises { steps.old.count ≤ steps.new.count }
     ensures share { steps.new.share ≡ steps.old.share }
 {
-    if !is_single_phase(bounded) {
-        return evaluate_live(alloc, bounded, wiring, states, steps);
+    if !is_single_phase(wired.net) {
+        return evaluate_live(alloc, wired, states, steps);
     }
-    let copy = single_phase_copy(alloc, bounded)?;
-    evaluate_live(alloc, &copy, wiring, states, steps)
+    let copy = single_phase_copy(alloc, wired.net)?;
+    let copied = Wired {
+        net: &copy,
+        wiring: wired.wiring,
+    };
+    evaluate_live(alloc, &copied, states, steps)
 }
 
 /// The rate of a live distribution by the loop of the net that it bounds.
 fn evaluate_live<B: Firing, L: Ledger>(
     alloc: Global,
-    bounded: &B,
-    wiring: &Wiring,
+    wired: &Wired<B>,
     states: u64,
     steps: &mut Steps<L>,
 ) -> Result<Evaluation, RunError>
-    requires wired { IsWiringOf (B.net bounded.now) wiring.now }
-    requires live { IsLive (B.net bounded.now) }
-    requires connected { IsConnected (B.net bounded.now) }
-    requires inputs { HasInputs (B.net bounded.now) }
+    requires live { IsLive (B.net wired.now.net.now) }
+    requires connected { IsConnected (B.net wired.now.net.now) }
+    requires inputs { HasInputs (B.net wired.now.net.now) }
     requires some { LEAST_STATES ≤ states }
     requires few { states ≤ STATES }
-    ensures evaluated { IfOk result (λ e. (net : Net) (ds : List (Option ℕ)) → B.net bounded.now ≡ bound net ds → IsEvaluated net ds states e) }
-    ensures refused { IfErr result (IsRunRefusal (B.net bounded.now) states) }
+    ensures evaluated { IfOk result (λ e. (net : Net) (ds : List (Option ℕ)) → B.net wired.now.net.now ≡ bound net ds → IsEvaluated net ds states e) }
+    ensures refused { IfErr result (IsRunRefusal (B.net wired.now.net.now) states) }
     ensures count { IfOk result (λ e. steps.new.count ≡ steps.old.count + loops_run e.outcome) }
     ensures most { steps.new.count ≤ steps.old.count + 1 }
     ensures rises { steps.old.count ≤ steps.new.count }
     ensures share { steps.new.share ≡ steps.old.share }
 {
-    know_laws(bounded);
+    know_laws(wired.net);
     need_cycles_hold_with_more_room();
-    let table = run_loop_on(alloc, bounded, wiring, states, steps)?;
-    let cycle = cycle_of_on(alloc, bounded, wiring, &table)?;
-    let enlarge = cycle.storage_channels(alloc, bounded)?;
+    steps.tick();
+    let table = find_loop(alloc, wired, states)?;
+    let cycle = critical_cycle(alloc, wired, &table)?;
+    let enlarge = cycle.storage_channels(alloc, wired.net)?;
     Ok(Evaluation {
         rate: Fraction::new(table.rounds, table.period),
         enlarge,
