@@ -93,7 +93,7 @@ taken_none net a size xs old ready = record {
   lines = changed_none (length net.channels) xs (λ i line. drop (taken_on net i) line) old ready.long;
   wide = Rattle.std.proofs.lemmas.List.length-replicate size None;
   after = λ j k p e h. absurd (omega arith);
-  just = λ p e at. absurd (some-none {A = ℕ} (slice_index_or (replicate size None) p None) e at (replicate-same {A = Option ℕ} size p None));
+  just = λ p e at. absurd (some-none (slice_index_or (replicate size None) p None) e at (replicate-same size p None));
 }
 
 module _ (net : Net) (a size : ℕ) (xs : List ℕ) (listed : IsListed net Taken a xs) (old now : Lines) (n : ℕ) (below : n < length xs) (ready : AreReady net a size old) (row : List (Option ℕ))
