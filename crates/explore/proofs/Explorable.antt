@@ -1,5 +1,5 @@
 -- Nets that can be explored.
-use Rattle.std.proofs.Common.{ℕ, ◌*◌, ◌≤◌, Option, List, [], length, arith}
+use Rattle.std.proofs.Common.{ℕ, ◌*◌, ◌≤◌, Option, List, length, arith}
 use Rattle.sd_base.specs.declared.limits.TheConstants.{NET_CHANNELS}
 use Rattle.sd_base.specs.Net.{Net, channel_at}
 use Rattle.sd_base.specs.Connection.{IsConnected}

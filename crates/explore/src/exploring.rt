@@ -1,3 +1,5 @@
+ghost use Rattle.explore.specs.inside.Levels.{WiresAll};
+
 use crate::starts::Starts;
 use firing::{Firing, Wiring};
 use sd_base::Limits;
@@ -12,4 +14,5 @@ pub(crate) struct Exploring<'a, F: Firing> {
     pub(crate) wiring: &'a Wiring,
     pub(crate) starts: &'a Starts,
     pub(crate) limits: Limits,
+    ghost wired: { WiresAll (F.net net.now) wiring.now },
 }

@@ -1,6 +1,6 @@
 ghost use Rattle.std.specs.Prelude.{◌≡◌, ◌+◌, ◌≤◌, [], All, IfOk, OnErr, map, reverse, vec_capacity, vec_len};
 ghost use Rattle.sd_base.specs.declared.limits.TheConstants.{LEAST_STATES, STATES};
-ghost use Rattle.explore.specs.inside.Levels.{IsDone, IsEvaluation, IsFresh, IsVisitable, WiresAll, least_loops, most_loops, sum_of};
+ghost use Rattle.explore.specs.inside.Levels.{IsDone, IsEvaluation, IsFresh, IsVisitable, least_loops, most_loops, sum_of};
 ghost use Rattle.sd_base.specs.declared.numbers.Fraction.{Fraction as AFraction};
 ghost use Rattle.explore.specs.inside.Rated.{IsBestOf};
 ghost use Rattle.explore.specs.inside.Starts.{AreStarts};
@@ -36,7 +36,6 @@ pub(crate) fn run_level<R: Threads + Sync, F: Firing + Sync, G: Gate + Sync, L: 
     steps: &mut Steps<L>,
 ) -> Result<Vec<Answered>, NoMemory>
     requires starts { AreStarts (F.net exploring.now.net.now) exploring.now.starts.now }
-    requires wired { WiresAll (F.net exploring.now.net.now) exploring.now.wiring.now }
     requires fits { All (IsVisitable (F.net exploring.now.net.now) exploring.now.limits.states search.now.members.items) level.visits.items }
     requires some { LEAST_STATES ≤ exploring.now.limits.states }
     requires few { exploring.now.limits.states ≤ STATES }
@@ -92,7 +91,6 @@ fn fill<'a, F: Firing, L: Ledger>(
     tasks: &mut Vec<Task<'a, F, L>>,
 )
     requires starts { AreStarts (F.net exploring.now.net.now) exploring.now.starts.now }
-    requires wired { WiresAll (F.net exploring.now.net.now) exploring.now.wiring.now }
     requires fits { All (IsVisitable (F.net exploring.now.net.now) exploring.now.limits.states members.now) visits.items }
     requires empty { tasks.old.items ≡ [] }
     requires room { vec_len visits ≤ vec_capacity tasks.old }

@@ -135,7 +135,6 @@ fn take_turns<R: Threads + Sync, F: Firing + Sync, G: Gate + Sync, L: Ledger + S
     steps: &mut Steps<L>,
 ) -> Result<(), ExploreError>
     requires net { IsExplorable (F.net exploring.now.net.now) }
-    requires wired { WiresAll (F.net exploring.now.net.now) exploring.now.wiring.now }
     requires starts { AreStarts (F.net exploring.now.net.now) exploring.now.starts.now }
     requires small { exploring.now.limits.total ≤ STORAGE }
     requires some_states { LEAST_STATES ≤ exploring.now.limits.states }
@@ -186,7 +185,6 @@ fn is_last<F: Firing>(
     points: &[Point],
 ) -> Result<bool, NoMemory>
     requires net { IsExplorable (F.net exploring.now.net.now) }
-    requires wired { WiresAll (F.net exploring.now.net.now) exploring.now.wiring.now }
     requires small { exploring.now.limits.total ≤ STORAGE }
     requires points { (p : APoint) → IsOneOf points.now p → IsCandidate (F.net exploring.now.net.now) exploring.now.limits.total p.capacities.capacities }
     requires tables { (states : ℕ) × ((p : APoint) → IsOneOf points.now p → HasTable (F.net exploring.now.net.now) states p) }
@@ -194,16 +192,7 @@ fn is_last<F: Firing>(
 {
     match extent {
         Extent::Limit => Ok(false),
-        Extent::Fastest => {
-            reaches_fastest(
-                exploring.alloc,
-                exploring.net,
-                exploring.wiring,
-                exploring.limits.total,
-                total,
-                points,
-            )
-        }
+        Extent::Fastest => reaches_fastest(exploring, total, points),
     }
 }
 
@@ -217,7 +206,6 @@ fn take_turn<R: Threads + Sync, F: Firing + Sync, G: Gate + Sync, L: Ledger + Se
     steps: &mut Steps<L>,
 ) -> Result<(), ExploreError>
     requires net { IsExplorable (F.net exploring.now.net.now) }
-    requires wired { WiresAll (F.net exploring.now.net.now) exploring.now.wiring.now }
     requires starts { AreStarts (F.net exploring.now.net.now) exploring.now.starts.now }
     requires small { exploring.now.limits.total ≤ STORAGE }
     requires some_states { LEAST_STATES ≤ exploring.now.limits.states }

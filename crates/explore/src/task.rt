@@ -4,7 +4,7 @@ ghost use Rattle.explore.specs.inside.Levels.{HasRun, IsReady};
 use crate::rated::{Rated, keep};
 use fanout::Job;
 use firing::{Firing, Wiring};
-use guide::{Trial, evaluate_from};
+use guide::Trial;
 use lasso::RunError;
 use sd_base::{Fraction, Ledger, Steps};
 use std::alloc::Global;
@@ -36,7 +36,7 @@ impl<'a, F: Firing + Sync, L: Ledger + Send> Job for Task<'a, F, L> {
             wiring: self.wiring,
             counts: self.counts,
         };
-        let answer = evaluate_from(self.alloc, &trial, self.states, &mut self.steps);
+        let answer = trial.evaluate(self.alloc, self.states, &mut self.steps);
         self.answer = Some(keep(answer, self.best));
     }
 }

@@ -8,7 +8,7 @@ use Rattle.explore.proofs.fastest.is_fastest.Goals as goal
 
 pub new-requires-clause-can : goal.new-requires-clause-can
 new-requires-clause-can g c =
-    (candidate-evaluable (g.F.Firing.net c.args.net.now) c.know_laws.ensures c.requires.net c.args.limit c.args.point.now.capacities.capacities (omega (arith, c.requires.small)) c.requires.fits).can
+    (candidate-evaluable (g.F.Firing.net c.args.exploring.now.net.now) c.know_laws.ensures c.requires.net c.args.exploring.now.limits.total c.args.point.now.capacities.capacities (omega (arith, c.requires.small)) c.requires.fits).can
 
 pub cycle_without_spaces-requires-clause-inputs : goal.cycle_without_spaces-requires-clause-inputs
 cycle_without_spaces-requires-clause-inputs g c =
@@ -16,5 +16,5 @@ cycle_without_spaces-requires-clause-inputs g c =
 
 pub returns-in-Some : goal.returns-in-Some
 returns-in-Some g c = λ is.
-    bounds-all c.cycles_bound_the_rate.ensures.rate (g.F.Firing.net c.args.net.now) c.args.point.now.capacities.capacities c.in-Some.cycle c.args.point.now.rate
+    bounds-all c.cycles_bound_the_rate.ensures.rate (g.F.Firing.net c.args.exploring.now.net.now) c.args.point.now.capacities.capacities c.in-Some.cycle c.args.point.now.rate
     (subst (λ (n : Net). IsUnspaced n c.in-Some.cycle) c.in_ok-bounded.ensures (rw c.in-Some.is at c.in_ok-found.ensures)) (c.is_bound.ensures is)

@@ -16,7 +16,7 @@ is_fastest-requires-clause-table g c =
 
 pub returns-in-Some : goal.returns-in-Some
 returns-in-Some g c =
-    IfOk-weaker c.is_fastest.result (λ (b : Bool). b ≡ true → BoundsAll (g.F.Firing.net c.args.net.now) c.in-Some.point.now.rate) (λ (b : Bool). b ≡ true → IsTopAmong (g.F.Firing.net c.args.net.now) c.args.points.now)
+    IfOk-weaker c.is_fastest.result (λ (b : Bool). b ≡ true → BoundsAll (g.F.Firing.net c.args.exploring.now.net.now) c.in-Some.point.now.rate) (λ (b : Bool). b ≡ true → IsTopAmong (g.F.Firing.net c.args.exploring.now.net.now) c.args.points.now)
     (λ b bounds is.
     (c.in-Some.point.now, subst (IsOneOf c.args.points.now) (sym (c.in-Some.ensures.item.3.1 c.in-Some.point.now)) (one-at c.args.points.now (length c.args.points.now - 1) c.in-Some.point.now (omega (arith, c.in-Some.ensures.item.3.0))), bounds is))
     c.is_fastest.ensures

@@ -30,7 +30,7 @@ loop-found-preserved g c =
       omega (arith, c.push_reserved.ensures.len, c.loop-found.invariant.0, length_push c.loop-found.yielded c.in-Some.found),
       c.push_reserved.ensures.capacity ∙ c.loop-found.invariant.1,
       subst (All P) (sym c.push_reserved.ensures.items) (All-push P c.loop-found.tasks.items pushed c.loop-found.invariant.2
-          (record { net_is = refl; states_are = refl; best_is = refl; start = record { fits = fits; wired = c.requires.wired c.into_capacities.result.capacities fits.distribution; reached = reached }; share = c.share.ensures.share; count = c.share.ensures.count })),
+          (record { net_is = refl; states_are = refl; best_is = refl; start = record { fits = fits; wired = c.args.exploring.now.wired c.into_capacities.result.capacities fits.distribution; reached = reached }; share = c.share.ensures.share; count = c.share.ensures.count })),
       c.share.ensures.stays ∙ c.loop-found.invariant.3,
       ap (map f) c.push_reserved.ensures.items
           ∙ (map-append f c.loop-found.tasks.items (pushed ∷ [])

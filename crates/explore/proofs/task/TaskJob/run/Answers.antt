@@ -7,7 +7,7 @@ returns g c =
     let t = c.args.self.now in
     record {
       same = refl;
-      share = c.evaluate_from-answer.ensures.share;
-      answered = run-answer (g.F.Firing.net t.net.now) t.capacities.capacities t.states t.best t.steps.count c.evaluate_from-answer.new.steps.count c.evaluate_from-answer.result c.keep.result c.keep.ensures
-          c.evaluate_from-answer.ensures.evaluated c.evaluate_from-answer.ensures.refused c.evaluate_from-answer.ensures.count c.evaluate_from-answer.ensures.most;
+      share = c.evaluate-answer.ensures.share;
+      answered = run-answer (g.F.Firing.net t.net.now) t.capacities.capacities t.states t.best t.steps.count c.evaluate-answer.new.steps.count c.evaluate-answer.result c.keep.result c.keep.ensures
+          c.evaluate-answer.ensures.evaluated c.evaluate-answer.ensures.refused c.evaluate-answer.ensures.count c.evaluate-answer.ensures.most;
     }
