@@ -1,6 +1,7 @@
 -- Walks in the timed graph of a bounded file as walks of ways through its states.
 use Rattle.std.proofs.Common.{◌≡◌, ℕ, suc, ◌+◌, ◌*◌, ◌<◌, Option, Some, List, [], ◌∷◌, length, subst, sym, ap, ◌∙◌, refl}
 use Rattle.std.specs.Prelude.{slice_get}
+use Rattle.std.proofs.lemmas.Nat.{same_from_place}
 use Rattle.sd_base.specs.declared.tables.ScenarioFile.{ScenarioFile}
 use Rattle.sd_base.specs.declared.tables.ScenarioRow.{ScenarioRow}
 use Rattle.sd_base.specs.Net.{IsRepetitionOf}
@@ -45,7 +46,7 @@ module _ (file : ScenarioFile) (m : List (Option ℕ)) (shown : List ℕ) (graph
           EndsAt q p v (length (k ∷ ks)) (weights graph.edges (k ∷ ks))
       step further (row, channels, way, taken) =
           let entry : IsEntryOf file graph.tokens e row way.p way.q = way.entry in
-          let place = same-place graph.tokens entry.state way.p q p e.from entry.column inside entry.from (sym starts ∙ from) in
+          let place = same_from_place entry.state way.p q p graph.tokens entry.column inside (sym entry.from ∙ (sym starts ∙ from)) in
           let rest = further entry.next way.q entry.to entry.line in
           let next : IsSuccessor (bounded_file file m).states q entry.next = subst (λ (n : ℕ). IsSuccessor file.states n entry.next) place.0 (entry.at, entry.runs, entry.place, entry.goes_on) in
           let leg : IsLeg (AreShown file m shown) (bounded_file file m) entry.state way.p way.q e.weight = record {
@@ -92,7 +93,7 @@ module _ (file : ScenarioFile) (m : List (Option ℕ)) (shown : List ℕ) (graph
       let line : entry.j < graph.tokens = subst (λ (n : ℕ). entry.j < n) (sym timed.tokens) entry.row in
       let out : e.from ≡ entry.q * graph.tokens + entry.i = entry.from ∙ ap (λ (n : ℕ). entry.q * n + entry.i) (sym timed.tokens) in
       let into : e.to ≡ entry.r * graph.tokens + entry.j = entry.to ∙ ap (λ (n : ℕ). entry.r * n + entry.j) (sym timed.tokens) in
-      let place = same-place graph.tokens entry.q entry.i q p e.from column inside out (sym starts ∙ from) in
+      let place = same_from_place entry.q entry.i q p graph.tokens column inside (sym out ∙ (sym starts ∙ from)) in
       let rest = path-leads timed ks e.to v entry.r entry.j into line path in
       let next : IsSuccessor (bounded_file file m).states q entry.r = subst (λ (n : ℕ). IsSuccessor file.states n entry.r) place.0 (entry.s, entry.there, entry.p, entry.next) in
       record { states = entry.r ∷ rest.states; r = rest.r; s = rest.s; end = rest.end; inside = rest.inside; leads = (next, rest.leads) }

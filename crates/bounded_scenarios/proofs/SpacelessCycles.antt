@@ -1,5 +1,5 @@
 -- The rate of a critical cycle whose ways take no free space bounds the worst rates of all distributions.
-use Rattle.std.proofs.Common.{◌≡◌, ℕ, zero, suc, ◌*◌, ◌≤◌, ◌<◌, ◌⊎◌, Option, Some, List, [], ◌∷◌, length, ⊎_elim, subst, sym, ap, arith}
+use Rattle.std.proofs.Common.{◌≡◌, ℕ, zero, suc, ◌*◌, ◌≤◌, ◌<◌, ◌⊎◌, Option, Some, List, [], ◌∷◌, length, ⊎_elim, subst, sym, ap, arith, ◌∙◌}
 use Rattle.std.specs.Prelude.{false, slice_get}
 use Rattle.std.proofs.Math.Nat.{mul-le-mul_right}
 use Rattle.std.proofs.lemmas.Bool.{cases_lt}

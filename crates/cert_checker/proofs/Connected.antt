@@ -7,7 +7,6 @@ use Rattle.balance.specs.ConnectRefusals.{IsFirstUnreached, IsFirstNotReaching}
 
 -- a number of actors and pairs of them that are those of a net
 module _ (net : Net) (n : ℕ) (es : List (ℕ × ℕ)) (actors : n ≡ length net.times) (ends : es ≡ ends_of net) where
-
   pub strongly : AreStronglyConnected n es → IsTrue true ↔ IsStronglyConnected net
   strongly is = ((λ t. subst (λ (m : ℕ). AreStronglyConnected m (ends_of net)) actors (subst (λ (xs : List (ℕ × ℕ)). AreStronglyConnected n xs) ends is)), λ s. refl)
 
