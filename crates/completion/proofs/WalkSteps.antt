@@ -9,6 +9,7 @@ use Rattle.completion.specs.declared.timetable.Start.{Start}
 use Rattle.completion.specs.declared.timetable.Timetable.{Timetable}
 use Rattle.completion.specs.declared.walk.Walk.{Walk}
 use Rattle.sd_base.specs.Net.{Net}
+use Rattle.sd_base.proofs.Parts.{timed}
 use Rattle.critical.specs.Cycles.{IsStep, IsChain, last_of}
 use Rattle.completion.specs.Ways.{InRounds, firing_time, no_part, one_in, part_at, sum_along, time_in}
 use Rattle.completion.specs.inside.Timetables.{IsLastOf, IsStart, IsTimetable, StartsAt, end_at, firing_of, moment_of, pass_of}
@@ -25,6 +26,10 @@ use Rattle.completion.proofs.Counted.{counted-more, more}
 module _ (net : Net) (times : Timetable) (is : IsTimetable net times) where
   pub short-time : (x : FiringNo) → x.actor < length net.times → firing_time net x ≤ TIME
   short-time x actor = is.laws.short_times x.actor _ actor (mod-lt x.number (is.laws.some_phase x.actor actor))
+
+  -- a tight need starts before the firing that has it
+  pub need-sooner : (later earlier : Start) → IsTightNeed net later earlier → earlier.actor < length net.times → earlier.moment < later.moment
+  need-sooner later earlier need actor = omega (arith, need.just, (timed net is.laws).some earlier.actor earlier.number actor)
 
   -- a firing of an actor that starts sooner has the lesser number
   pub numbers-order : (here kept : Start) → IsStart net times here → IsStart net times kept → here.moment < kept.moment → kept.actor ≡ here.actor → here.number < kept.number

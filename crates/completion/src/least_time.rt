@@ -10,7 +10,7 @@ use crate::counts::{Part, firings_in};
 use crate::ends::last_to_end;
 use crate::timetable::{Timetable, end};
 use crate::walk::parts_of_way;
-use firing::{Firing, Wiring};
+use firing::{Firing, Wired, Wiring};
 use lasso::{RunError, run_loop, starts_until};
 use sd_base::{Ledger, Rows, Steps};
 use std::alloc::Global;
@@ -59,10 +59,14 @@ pub fn complete<F: Firing, L: Ledger>(
 {
     let table = run_loop(alloc, net, states, steps)?;
     let wiring = Wiring::new(alloc, net)?;
-    let early = starts_until(alloc, net, &wiring, table.entry)?;
+    let wired = Wired {
+        net,
+        wiring: &wiring,
+    };
+    let early = starts_until(alloc, &wired, table.entry)?;
     let times = Timetable { early, table };
     let last = last_to_end(net, &times, rounds);
-    let parts = parts_of_way(alloc, net, &wiring, &times, rounds, last)?;
+    let parts = parts_of_way(alloc, &wired, &times, rounds, last)?;
     Ok(Completion {
         time: end(net, last),
         firings: firings_in(parts.as_slice()),

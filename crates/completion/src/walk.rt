@@ -11,14 +11,14 @@ ghost use Rattle.std.specs.Prelude.{◌≡◌, ◌≢◌, ℕ, ◌^◌, ◌≤�
 ghost use Rattle.sd_base.specs.declared.limits.TheConstants.{ROUNDS};
 ghost use Rattle.sd_base.specs.Net.{channel_at};
 ghost use Rattle.firing.specs.declared.sums.Port.TheVariants.{Taken};
-ghost use Rattle.firing.specs.Wiring.{AreListed, IsListed};
+ghost use Rattle.firing.specs.Wiring.{IsListed};
 ghost use Rattle.completion.specs.Ways.{HasWay, InRounds, no_part, part_at};
 ghost use Rattle.completion.specs.inside.Timetables.{IsLastOf, IsStart, IsTimetable, end_at};
 ghost use Rattle.completion.specs.inside.Walks.{FitsTimes, IsSlackOn, IsTightNeed, IsWalkBack};
 
 use crate::counts::{Part, clear, count, count_laps, no_parts};
 use crate::timetable::{Start, Timetable, end, time_at};
-use firing::{Firing, Wiring, know_laws, need};
+use firing::{Firing, Wired, know_laws, need};
 use sd_base::NoMemory;
 use std::alloc::Global;
 
@@ -43,24 +43,22 @@ pub(crate) struct Walk {
 /// By actor what the way of tight needs to a firing is made of, the one of the first rounds that ends last.
 pub(crate) fn parts_of_way<F: Firing>(
     alloc: Global,
-    net: &F,
-    wiring: &Wiring,
+    wired: &Wired<F>,
     times: &Timetable,
     rounds: u64,
     last: Start,
 ) -> Result<Vec<Part>, NoMemory>
-    requires wired { AreListed (F.net net.now) Taken wiring.now.inputs }
-    requires times { IsTimetable (F.net net.now) times.now }
+    requires times { IsTimetable (F.net wired.now.net.now) times.now }
     requires few { rounds ≤ ROUNDS }
-    requires last { IsLastOf (F.net net.now) times.now rounds last }
+    requires last { IsLastOf (F.net wired.now.net.now) times.now rounds last }
     requires soon { last.moment ≤ 2 ^ 105 }
-    ensures way { IfOk result (λ parts. HasWay (F.net net.now) rounds (end_at (F.net net.now) last) parts.items) }
+    ensures way { IfOk result (λ parts. HasWay (F.net wired.now.net.now) rounds (end_at (F.net wired.now.net.now) last) parts.items) }
     ensures few { IfOk result (λ parts. (a : ℕ) → a < length parts.items → (part_at parts.items a).firings ≤ 2 ^ 50) }
 {
-    let mut walk = Walk::new(alloc, net, times, rounds, last)?;
+    let mut walk = Walk::new(alloc, wired.net, times, rounds, last)?;
     'way: while walk.here.moment != 0 {
-        walk.step_back(net, wiring, times);
-        walk.look_back(net, times);
+        walk.step_back(wired, times);
+        walk.look_back(wired.net, times);
     }
     Ok(walk.parts)
 }
@@ -100,18 +98,18 @@ impl Walk {
     }
 
     /// Goes back to the first tight need of the firing here.
-    fn step_back<F: Firing>(&mut self, net: &F, wiring: &Wiring, times: &Timetable)
-        requires wired { AreListed (F.net net.now) Taken wiring.now.inputs }
-        requires times { IsTimetable (F.net net.now) times.now }
-        requires walk { IsWalkBack (F.net net.now) times.now self.old }
+    fn step_back<F: Firing>(&mut self, wired: &Wired<F>, times: &Timetable)
+        requires times { IsTimetable (F.net wired.now.net.now) times.now }
+        requires walk { IsWalkBack (F.net wired.now.net.now) times.now self.old }
         requires later { self.old.here.moment ≢ 0 }
         ensures last { self.new.last ≡ self.old.last }
-        ensures walk { IsWalkBack (F.net net.now) times.now self.new }
+        ensures walk { IsWalkBack (F.net wired.now.net.now) times.now self.new }
         ensures back { self.new.here.moment < self.old.here.moment }
         ensures order { self.new.here.moment < self.new.kept.moment }
     {
-        let here = tight_need(net, times, wiring.inputs_of(self.here.actor), self.here);
-        let time = time_at(net, here.actor, here.number);
+        let inputs = wired.inputs_of(self.here.actor);
+        let here = tight_need(wired.net, times, inputs, self.here);
+        let time = time_at(wired.net, here.actor, here.number);
         count(&mut self.parts, here.actor, time);
         count(&mut self.lap, here.actor, time);
         self.here = here;
