@@ -5,7 +5,7 @@
 
 mod words;
 
-use firing::{Firing, SdfNet, Wiring};
+use firing::{Firing, SdfNet, Wired, Wiring};
 use sd_base::NoMemory;
 use selftimed::{Engine, Move};
 use std::alloc::Global;
@@ -55,7 +55,11 @@ fn net_of(alloc: Global, which: Which) -> Result<SdfNet, TableError> {
 /// Runs an engine until it has made so many starts, or can't go on.
 fn run(alloc: Global, net: &SdfNet, wanted: u64) -> Result<Made, NoMemory> {
     let wiring = Wiring::new(alloc, net)?;
-    let mut engine = Engine::new(alloc, net, &wiring, 1 << 32)?;
+    let wired = Wired {
+        net,
+        wiring: &wiring,
+    };
+    let mut engine = Engine::new(alloc, &wired, 1 << 32)?;
     let mut made = Made {
         starts: 0,
         events: 0,

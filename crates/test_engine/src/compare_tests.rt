@@ -2,7 +2,7 @@ ghost use Rattle.std.specs.Prelude.{◌≤◌, ◌^◌, ◌<◌};
 
 use crate::engine_tests::half_blocked;
 use crate::run::{PlainRun, run_until};
-use firing::{Firing, SdfNet, Wiring};
+use firing::{Firing, SdfNet, Wired, Wiring};
 use liveness::{Round, one_round};
 use selftimed::{Engine, Move, Shape, Stage};
 use std::alloc::Global;
@@ -26,7 +26,11 @@ pub(crate) fn compare<F: Firing>(
         panic!(rt; "too many starts");
     };
     let wiring = Wiring::new(alloc, net)?;
-    let mut engine = Engine::new(alloc, net, &wiring, 1_000_000)?;
+    let wired = Wired {
+        net,
+        wiring: &wiring,
+    };
+    let mut engine = Engine::new(alloc, &wired, 1_000_000)?;
     let mut next = plain.first_event();
     for _event in 0..last + 2 {
         let step = engine.advance()?;

@@ -1,6 +1,6 @@
 ghost use Rattle.std.specs.Prelude.{◌^◌, ◌≤◌};
 
-use firing::{Firing, SdfNet, Wiring};
+use firing::{Firing, SdfNet, Wired, Wiring};
 use liveness::{Round, one_round};
 use selftimed::{Engine, Move, Stage};
 use std::alloc::Global;
@@ -38,7 +38,11 @@ pub(crate) fn follow<F: Firing>(
     events: &[Event],
 ) -> Result<(), Fail> {
     let wiring = Wiring::new(alloc, net)?;
-    let mut engine = Engine::new(alloc, net, &wiring, 1000)?;
+    let wired = Wired {
+        net,
+        wiring: &wiring,
+    };
+    let mut engine = Engine::new(alloc, &wired, 1000)?;
     for event in events {
         let step = engine.advance()?;
         assert_eq!(rt; step, Move::Stepped, "to {}", event.moment);
@@ -158,7 +162,11 @@ pub(crate) fn half_blocked(alloc: Global) -> Result<SdfNet, test_nets::TableErro
 fn what_cannot_start_is_stuck(rt: HostRuntime) -> Result<(), Fail> {
     let pair = blocked_pair(rt.alloc())?;
     let wiring = Wiring::new(rt.alloc(), &pair)?;
-    let mut engine = Engine::new(rt.alloc(), &pair, &wiring, 1000)?;
+    let wired = Wired {
+        net: &pair,
+        wiring: &wiring,
+    };
+    let mut engine = Engine::new(rt.alloc(), &wired, 1000)?;
     for _call in 0..2 {
         let step = engine.advance()?;
         assert_eq!(rt; step, Move::Stuck);
@@ -167,7 +175,11 @@ fn what_cannot_start_is_stuck(rt: HostRuntime) -> Result<(), Fail> {
     // The second and the third actor start at 0 and end at 1.
     let half = half_blocked(rt.alloc())?;
     let wiring = Wiring::new(rt.alloc(), &half)?;
-    let mut engine = Engine::new(rt.alloc(), &half, &wiring, 1000)?;
+    let wired = Wired {
+        net: &half,
+        wiring: &wiring,
+    };
+    let mut engine = Engine::new(rt.alloc(), &wired, 1000)?;
     let steps = [Move::Stepped, Move::Stepped, Move::Stuck, Move::Stuck];
     for want in steps {
         let step = engine.advance()?;
@@ -182,7 +194,11 @@ fn is_spent_after(alloc: Global, net: &SdfNet, most: u64, steps: u32) -> Result<
     requires { most ≤ 2 ^ 32 }
 {
     let wiring = Wiring::new(alloc, net)?;
-    let mut engine = Engine::new(alloc, net, &wiring, most)?;
+    let wired = Wired {
+        net,
+        wiring: &wiring,
+    };
+    let mut engine = Engine::new(alloc, &wired, most)?;
     for _step in 0..steps {
         if engine.advance()? != Move::Stepped {
             return Ok(false);

@@ -4,7 +4,7 @@ ghost use Rattle.selftimed.specs.declared.engine.Stage.TheVariants.{Running};
 ghost use Rattle.std.specs.Prelude.{◌≡◌};
 
 use crate::checks::run_net;
-use firing::{Firing, LoopTable, SdfNet, Wiring};
+use firing::{Firing, LoopTable, SdfNet, Wired, Wiring};
 use lasso::RunError;
 use sd_base::NoMemory;
 use selftimed::{Engine, Move, Shape, Stage};
@@ -30,7 +30,11 @@ fn keep_all(
     states: u64,
 ) -> Result<(Vec<Seen>, Option<usize>), Fail> {
     let wiring = Wiring::new(alloc, net)?;
-    let mut engine = Engine::new(alloc, net, &wiring, 1000)?;
+    let wired = Wired {
+        net,
+        wiring: &wiring,
+    };
+    let mut engine = Engine::new(alloc, &wired, 1000)?;
     let mut seen = Vec::new(alloc);
     for _event in 0..states {
         let step = engine.advance()?;
