@@ -1,6 +1,7 @@
 //! What each command does with what its steps pass on.
 
 pub(crate) mod bounded_course;
+pub(crate) mod bounded_graph;
 pub(crate) mod check;
 pub(crate) mod conversion;
 pub(crate) mod expansion;

@@ -3,7 +3,7 @@ ghost use Rattle.sd_words.specs.Asked.{IsWithinLimits};
 ghost use Rattle.sd_command.specs.steps.Takings.{Files};
 ghost use Rattle.sd_command.specs.Requests.{command_of, course_of};
 ghost use Rattle.sd_command.specs.inside.Goings.{Goes};
-ghost use Rattle.sd_command.specs.inside.Groups.{AsksForNoPoints, AsksForNoRate};
+ghost use Rattle.sd_command.specs.inside.Groups.{AsksForNoNet, AsksForNoPoints, AsksForNoRate};
 
 use crate::answer::Answer;
 use crate::commands::parallel::Parallel;
@@ -96,7 +96,7 @@ fn command_answer<R: Threads + Sync, S: Shelf, G: Gate + Sync, L: Ledger + Send>
     }
 }
 
-// What answers a request that asks for no points, and so needs no other thread: here one for a rate.
+// What answers a request that asks for no points, and so needs no other thread: here one for the rate of a graph.
 fn answer_alone<S: Shelf, L: Ledger>(
     alloc: Global,
     request: Request,
@@ -126,14 +126,8 @@ fn answer_alone<S: Shelf, L: Ledger>(
                 states,
                 certificate,
             });
-            bounded_course::answer(
-                alloc,
-                shelf,
-                graph.as_str(),
-                buffers.as_slice(),
-                &wanted,
-                steps,
-            )
+            let name = graph.as_str();
+            bounded_course::answer(alloc, shelf, name, buffers.as_slice(), &wanted, steps)
         }
         Request::Ordered {
             graph,
@@ -148,20 +142,14 @@ fn answer_alone<S: Shelf, L: Ledger>(
                 certificate: None,
             };
             let wanted = Wanted::Ordered { lists: order, rate };
-            bounded_course::answer(
-                alloc,
-                shelf,
-                graph.as_str(),
-                buffers.as_slice(),
-                &wanted,
-                steps,
-            )
+            let name = graph.as_str();
+            bounded_course::answer(alloc, shelf, name, buffers.as_slice(), &wanted, steps)
         }
         other => answer_rateless(alloc, other, shelf, steps),
     }
 }
 
-// What answers a request that asks neither for points nor for the rate of a graph.
+// What answers a request that asks neither for points nor for the rate of a graph: here one for something else of its net.
 fn answer_rateless<S: Shelf, L: Ledger>(
     alloc: Global,
     request: Request,
@@ -179,7 +167,6 @@ fn answer_rateless<S: Shelf, L: Ledger>(
     ensures share { steps.new.share ≡ steps.old.share }
 {
     match request {
-        Request::Repetition { graph } => repetition::answer(alloc, shelf, graph.as_str()),
         Request::Complete {
             graph,
             rounds,
@@ -192,14 +179,8 @@ fn answer_rateless<S: Shelf, L: Ledger>(
                 states,
                 rounds,
             });
-            bounded_course::answer(
-                alloc,
-                shelf,
-                graph.as_str(),
-                buffers.as_slice(),
-                &wanted,
-                steps,
-            )
+            let name = graph.as_str();
+            bounded_course::answer(alloc, shelf, name, buffers.as_slice(), &wanted, steps)
         }
         Request::Expand {
             graph,
@@ -208,15 +189,24 @@ fn answer_rateless<S: Shelf, L: Ledger>(
             no_overlap,
         } => {
             let wanted = Wanted::Expansion { output, no_overlap };
-            bounded_course::answer(
-                alloc,
-                shelf,
-                graph.as_str(),
-                buffers.as_slice(),
-                &wanted,
-                steps,
-            )
+            let name = graph.as_str();
+            bounded_course::answer(alloc, shelf, name, buffers.as_slice(), &wanted, steps)
         }
+        other => answer_netless(alloc, other, shelf),
+    }
+}
+
+// What answers a request that asks for nothing of the net of a graph. It executes nothing.
+fn answer_netless<S: Shelf>(alloc: Global, request: Request, shelf: &mut S) -> Result<Answer, Stop>
+    requires { AsksForNoNet request }
+    ensures goes { let files : Files = record { tells = S.tells shelf.old; named = S.file shelf.old } in
+        Goes (command_of request files) result 0 (S.faults shelf.old) (S.faults shelf.new) }
+    ensures stays { (n : List ℕ) → S.file shelf.new n ≡ S.file shelf.old n }
+    ensures telling { S.tells shelf.new ≡ S.tells shelf.old }
+    ensures grows { S.faults shelf.old ≤ S.faults shelf.new }
+{
+    match request {
+        Request::Repetition { graph } => repetition::answer(alloc, shelf, graph.as_str()),
         Request::Scenario { graph, certificate } => {
             worst_rate::answer(alloc, shelf, graph.as_str(), &certificate)
         }

@@ -17,3 +17,14 @@ AsksForNoRate (requests.Generate seed limit actors) = ⊥
 AsksForNoRate (requests.Throughput graph buffers no_overlap states certificate) = ⊥
 AsksForNoRate (requests.Ordered graph order buffers no_overlap states) = ⊥
 AsksForNoRate request = Unit {0}
+
+-- nor for anything else of its net
+abbrev pub AsksForNoNet : Request → Type 0
+AsksForNoNet (requests.Storage graph limits no_overlap certificate) = ⊥
+AsksForNoNet (requests.ScenarioStorage graph limit distributions) = ⊥
+AsksForNoNet (requests.Generate seed limit actors) = ⊥
+AsksForNoNet (requests.Throughput graph buffers no_overlap states certificate) = ⊥
+AsksForNoNet (requests.Ordered graph order buffers no_overlap states) = ⊥
+AsksForNoNet (requests.Complete graph rounds buffers no_overlap states) = ⊥
+AsksForNoNet (requests.Expand graph output buffers no_overlap) = ⊥
+AsksForNoNet request = Unit {0}

@@ -10,6 +10,7 @@ ghost use Rattle.sd_command.specs.inside.Goings.{Goes};
 ghost use Rattle.sd_command.specs.inside.Wants.{IsBounded, IsWithin, no_overlap_of, on_net};
 
 use crate::answer::Answer;
+use crate::commands::bounded_graph::BoundedGraph;
 use crate::commands::expansion::expansion_of;
 use crate::commands::in_order::rate_in_order;
 use crate::commands::least_time::time_of;
@@ -23,7 +24,7 @@ use firing::{CsdfNet, Firing, SdfNet};
 use sd_base::{GraphFile, Kind, Ledger, Steps, Text};
 use sd_io::Shelf;
 use std::alloc::Global;
-use storage::{Bounded, Distribution};
+use storage::Bounded;
 
 /// What is wanted of the net of a graph file whose named channels have a capacity.
 pub(crate) fn answer<S: Shelf, L: Ledger>(
@@ -67,34 +68,37 @@ fn on_bounded<L: Ledger>(
 {
     let distribution = buffered(alloc, graph, buffers)?;
     let gamma = balanced(alloc, graph)?;
-    on_kind(alloc, graph, gamma.as_slice(), &distribution, wanted, steps)
+    let bounded = BoundedGraph {
+        graph,
+        gamma: gamma.as_slice(),
+        distribution: &distribution,
+    };
+    on_kind(alloc, &bounded, wanted, steps)
 }
 
 // The same of a graph with its repetition vector and the capacities of its channels. Each kind of graphs has a net of its own,
 // so that the analyses ask nothing of the kind at each event.
 fn on_kind<L: Ledger>(
     alloc: Global,
-    graph: &GraphFile,
-    gamma: &[u64],
-    distribution: &Distribution,
+    bounded: &BoundedGraph<'_>,
     wanted: &Wanted,
     steps: &mut Steps<L>,
 ) -> Result<Answer, Stop>
-    requires bounded { IsBounded graph.now gamma.now (no_overlap_of wanted.now) distribution.now.capacities }
+    requires bounded { let b = bounded.now in IsBounded b.graph.now b.gamma.now (no_overlap_of wanted.now) b.distribution.now.capacities }
     requires within { IsWithin wanted.now }
-    ensures goes { (faults : ℕ) →
-        Goes (on_net wanted.now graph.now gamma.now distribution.now (bound (net_of graph.now gamma.now (no_overlap_of wanted.now)) distribution.now.capacities)) result (steps.new.count - steps.old.count) faults faults }
+    ensures goes { let b = bounded.now in (faults : ℕ) →
+        Goes (on_net wanted.now b.graph.now b.gamma.now b.distribution.now (bound (net_of b.graph.now b.gamma.now (no_overlap_of wanted.now)) b.distribution.now.capacities)) result (steps.new.count - steps.old.count) faults faults }
     ensures rises { steps.old.count ≤ steps.new.count }
     ensures share { steps.new.share ≡ steps.old.share }
 {
-    match graph.kind {
+    match bounded.graph.kind {
         Kind::Sdf => {
-            let net = SdfNet::new(alloc, graph, gamma, wanted.no_overlap())?;
-            within(alloc, &net, graph, gamma, distribution, wanted, steps)
+            let net = SdfNet::new(alloc, bounded.graph, bounded.gamma, wanted.no_overlap())?;
+            within(alloc, &net, bounded, wanted, steps)
         }
         Kind::Csdf => {
-            let net = CsdfNet::new(alloc, graph, gamma, wanted.no_overlap())?;
-            within(alloc, &net, graph, gamma, distribution, wanted, steps)
+            let net = CsdfNet::new(alloc, bounded.graph, bounded.gamma, wanted.no_overlap())?;
+            within(alloc, &net, bounded, wanted, steps)
         }
     }
 }
@@ -103,55 +107,46 @@ fn on_kind<L: Ledger>(
 fn within<F: Firing, L: Ledger>(
     alloc: Global,
     net: &F,
-    graph: &GraphFile,
-    gamma: &[u64],
-    distribution: &Distribution,
+    bounded: &BoundedGraph<'_>,
     wanted: &Wanted,
     steps: &mut Steps<L>,
 ) -> Result<Answer, Stop>
-    requires net { F.net net.now ≡ net_of graph.now gamma.now (no_overlap_of wanted.now) }
-    requires bounded { IsBounded graph.now gamma.now (no_overlap_of wanted.now) distribution.now.capacities }
+    requires net { F.net net.now ≡ net_of bounded.now.graph.now bounded.now.gamma.now (no_overlap_of wanted.now) }
+    requires bounded { let b = bounded.now in IsBounded b.graph.now b.gamma.now (no_overlap_of wanted.now) b.distribution.now.capacities }
     requires within { IsWithin wanted.now }
-    ensures goes { (faults : ℕ) →
-        Goes (on_net wanted.now graph.now gamma.now distribution.now (bound (net_of graph.now gamma.now (no_overlap_of wanted.now)) distribution.now.capacities)) result (steps.new.count - steps.old.count) faults faults }
+    ensures goes { let b = bounded.now in (faults : ℕ) →
+        Goes (on_net wanted.now b.graph.now b.gamma.now b.distribution.now (bound (net_of b.graph.now b.gamma.now (no_overlap_of wanted.now)) b.distribution.now.capacities)) result (steps.new.count - steps.old.count) faults faults }
     ensures rises { steps.old.count ≤ steps.new.count }
     ensures share { steps.new.share ≡ steps.old.share }
 {
-    let bounded = Bounded::new(alloc, net, distribution)?;
-    on_net(alloc, &bounded, graph, gamma, distribution, wanted, steps)
+    let net = Bounded::new(alloc, net, bounded.distribution)?;
+    on_net(alloc, &net, bounded, wanted, steps)
 }
 
 // The same of the bounded net.
 fn on_net<F: Firing, L: Ledger>(
     alloc: Global,
     net: &F,
-    graph: &GraphFile,
-    gamma: &[u64],
-    distribution: &Distribution,
+    bounded: &BoundedGraph<'_>,
     wanted: &Wanted,
     steps: &mut Steps<L>,
 ) -> Result<Answer, Stop>
-    requires net { F.net net.now ≡ bound (net_of graph.now gamma.now (no_overlap_of wanted.now)) distribution.now.capacities }
-    requires bounded { IsBounded graph.now gamma.now (no_overlap_of wanted.now) distribution.now.capacities }
+    requires net { let b = bounded.now in F.net net.now ≡ bound (net_of b.graph.now b.gamma.now (no_overlap_of wanted.now)) b.distribution.now.capacities }
+    requires bounded { let b = bounded.now in IsBounded b.graph.now b.gamma.now (no_overlap_of wanted.now) b.distribution.now.capacities }
     requires within { IsWithin wanted.now }
-    ensures goes { (faults : ℕ) →
-        Goes (on_net wanted.now graph.now gamma.now distribution.now (F.net net.now)) result (steps.new.count - steps.old.count) faults faults }
+    ensures goes { let b = bounded.now in (faults : ℕ) →
+        Goes (on_net wanted.now b.graph.now b.gamma.now b.distribution.now (F.net net.now)) result (steps.new.count - steps.old.count) faults faults }
     ensures rises { steps.old.count ≤ steps.new.count }
     ensures share { steps.new.share ≡ steps.old.share }
 {
     match wanted {
-        Wanted::Rate(rate) => rate_of(alloc, net, graph, distribution, rate, steps),
-        Wanted::Ordered { lists, rate } => rate_in_order(
-            alloc,
-            net,
-            graph,
-            gamma,
-            distribution,
-            lists.as_slice(),
-            rate,
-            steps,
-        ),
-        Wanted::Rounds(rounds) => time_of(alloc, net, graph, rounds, steps),
-        Wanted::Expansion { output, .. } => expansion_of(alloc, net, graph, output.as_str()),
+        Wanted::Rate(rate) => rate_of(alloc, net, bounded.graph, bounded.distribution, rate, steps),
+        Wanted::Ordered { lists, rate } => {
+            rate_in_order(alloc, net, bounded, lists.as_slice(), rate, steps)
+        }
+        Wanted::Rounds(rounds) => time_of(alloc, net, bounded.graph, rounds, steps),
+        Wanted::Expansion { output, .. } => {
+            expansion_of(alloc, net, bounded.graph, output.as_str())
+        }
     }
 }

@@ -21,7 +21,7 @@ use crate::steps::nets::{complete, touch};
 use crate::stop::Stop;
 use explore::Extent;
 use fanout::Gate;
-use firing::{Firing, SdfNet};
+use firing::{Firing, SdfNet, Wired, Wiring};
 use gen_graph::{make, write_graph};
 use graph_reader::{ReadError, know_files, read_graph};
 use report::summary_text;
@@ -163,7 +163,12 @@ fn summary_of<R: Threads + Sync, F: Firing + Sync, G: Gate + Sync, L: Ledger + S
     ensures share { steps.new.share ≡ steps.old.share }
 {
     touch(alloc, net, &made.graph)?;
-    complete(alloc, net, &made.graph)?;
+    let wiring = Wiring::new(alloc, net)?;
+    let wired = Wired {
+        net,
+        wiring: &wiring,
+    };
+    complete(alloc, &wired, &made.graph)?;
     let exploration = explored(
         parallel,
         alloc,

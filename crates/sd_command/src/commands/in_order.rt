@@ -7,6 +7,7 @@ ghost use Rattle.sd_command.specs.inside.Goings.{Goes};
 ghost use Rattle.sd_command.specs.inside.Wants.{IsBounded};
 
 use crate::answer::Answer;
+use crate::commands::bounded_graph::BoundedGraph;
 use crate::commands::rates::rate_of;
 use crate::commands::wanted::WantedRate;
 use crate::steps::ordering::in_orders;
@@ -14,34 +15,38 @@ use crate::stop::Stop;
 use firing::{Firing, know_laws};
 use ordered::Ordered;
 use ordered::laws::{named_orders_fit, ordered_nets_are_lawful};
-use sd_base::{GraphFile, Ledger, Rows, Steps, Text};
+use sd_base::{Ledger, Rows, Steps, Text};
 use std::alloc::Global;
-use storage::Distribution;
 
 /// The rate of the bounded net of a graph whose named actors keep orders.
 pub(crate) fn rate_in_order<F: Firing, L: Ledger>(
     alloc: Global,
     net: &F,
-    graph: &GraphFile,
-    gamma: &[u64],
-    distribution: &Distribution,
+    bounded: &BoundedGraph<'_>,
     lists: &[Rows<Text>],
     wanted: &WantedRate,
     steps: &mut Steps<L>,
 ) -> Result<Answer, Stop>
-    requires net { F.net net.now ≡ bound (net_of graph.now gamma.now wanted.now.no_overlap) distribution.now.capacities }
-    requires bounded { IsBounded graph.now gamma.now wanted.now.no_overlap distribution.now.capacities }
+    requires net { let b = bounded.now in F.net net.now ≡ bound (net_of b.graph.now b.gamma.now wanted.now.no_overlap) b.distribution.now.capacities }
+    requires bounded { let b = bounded.now in IsBounded b.graph.now b.gamma.now wanted.now.no_overlap b.distribution.now.capacities }
     requires states { AreStates wanted.now.states }
     requires bare { wanted.now.certificate ≡ None }
-    ensures goes { (faults : ℕ) →
-        Goes (ordered_rate_on lists.now wanted.now graph.now gamma.now distribution.now (F.net net.now)) result (steps.new.count - steps.old.count) faults faults }
+    ensures goes { let b = bounded.now in (faults : ℕ) →
+        Goes (ordered_rate_on lists.now wanted.now b.graph.now b.gamma.now b.distribution.now (F.net net.now)) result (steps.new.count - steps.old.count) faults faults }
     ensures rises { steps.old.count ≤ steps.new.count }
     ensures share { steps.new.share ≡ steps.old.share }
 {
     know_laws(net);
     named_orders_fit();
     ordered_nets_are_lawful();
-    let orders = in_orders(alloc, graph, gamma, lists)?;
+    let orders = in_orders(alloc, bounded.graph, bounded.gamma, lists)?;
     let ordered = Ordered::new(alloc, net, &orders)?;
-    rate_of(alloc, &ordered, graph, distribution, wanted, steps)
+    rate_of(
+        alloc,
+        &ordered,
+        bounded.graph,
+        bounded.distribution,
+        wanted,
+        steps,
+    )
 }

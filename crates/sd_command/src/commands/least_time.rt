@@ -18,7 +18,7 @@ use crate::commands::wanted::WantedRounds;
 use crate::steps::nets::test;
 use crate::stop::Stop;
 use completion::{Completion, Part};
-use firing::{Firing, know_laws};
+use firing::{Firing, Wired, Wiring, know_laws};
 use report::complete_text;
 use sd_base::{GraphFile, Ledger, NoMemory, Steps};
 use std::alloc::Global;
@@ -40,7 +40,12 @@ pub(crate) fn time_of<F: Firing, L: Ledger>(
     ensures rises { steps.old.count ≤ steps.new.count }
     ensures share { steps.new.share ≡ steps.old.share }
 {
-    test(alloc, net, graph)?;
+    let wiring = Wiring::new(alloc, net)?;
+    let wired = Wired {
+        net,
+        wiring: &wiring,
+    };
+    test(alloc, &wired, graph)?;
     let completion = completed(alloc, net, wanted, steps)?;
     let parts = pairs_of(alloc, completion.parts.as_slice())?;
     let text = complete_text(

@@ -33,7 +33,7 @@ use crate::stop::Stop;
 use cert_maker::storage_certificate;
 use explore::{Exploration, ExploreError, Extent, explore_as_far};
 use fanout::Gate;
-use firing::{CsdfNet, Firing, SdfNet, know_laws};
+use firing::{CsdfNet, Firing, SdfNet, Wired, Wiring, know_laws};
 use periodic::Periodic;
 use report::{Refusal, buffers_text};
 use sd_base::{GraphFile, Kind, Ledger, Limits, Quantity, Steps, Text};
@@ -91,7 +91,12 @@ pub(crate) fn points_of<R: Threads + Sync, F: Firing + Sync, G: Gate + Sync, L: 
     ensures share { steps.new.share ≡ steps.old.share }
 {
     touch(alloc, net, graph)?;
-    complete(alloc, net, graph)?;
+    let wiring = Wiring::new(alloc, net)?;
+    let wired = Wired {
+        net,
+        wiring: &wiring,
+    };
+    complete(alloc, &wired, graph)?;
     let exploration = explored(
         parallel,
         alloc,

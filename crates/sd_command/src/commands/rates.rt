@@ -25,9 +25,9 @@ use crate::steps::nets::test;
 use crate::steps::reading::above;
 use crate::stop::Stop;
 use cert_maker::rate_certificate;
-use critical::{NeedCycle, cycle_of};
-use firing::{Firing, LoopTable, know_laws};
-use lasso::{RunError, run_loop};
+use critical::{NeedCycle, critical_cycle};
+use firing::{Firing, LoopTable, Wired, Wiring, know_laws};
+use lasso::RunError;
 use periodic::{Periodic, from_loop};
 use report::{Refusal, rate_text};
 use sd_base::{GraphFile, Ledger, NoMemory, Quantity, Steps};
@@ -53,28 +53,34 @@ pub(crate) fn rate_of<F: Firing, L: Ledger>(
     ensures rises { steps.old.count ≤ steps.new.count }
     ensures share { steps.new.share ≡ steps.old.share }
 {
-    test(alloc, net, graph)?;
-    let table = find_loop(alloc, net, wanted.states, steps)?;
-    shown(alloc, net, graph, distribution, wanted, &table)
+    let wiring = Wiring::new(alloc, net)?;
+    let wired = Wired {
+        net,
+        wiring: &wiring,
+    };
+    test(alloc, &wired, graph)?;
+    let table = find_loop(alloc, &wired, wanted.states, steps)?;
+    shown(alloc, &wired, graph, distribution, wanted, &table)
 }
 
 // The loop of self-timed execution, or the refusal of one that passes a bound.
 fn find_loop<F: Firing, L: Ledger>(
     alloc: Global,
-    net: &F,
+    wired: &Wired<F>,
     states: u64,
     steps: &mut Steps<L>,
 ) -> Result<LoopTable, Stop>
-    requires joined { IsStronglyConnected (F.net net.now) }
-    requires fed { IsFed (F.net net.now) }
-    requires live { IsLive (F.net net.now) }
+    requires joined { IsStronglyConnected (F.net wired.now.net.now) }
+    requires fed { IsFed (F.net wired.now.net.now) }
+    requires live { IsLive (F.net wired.now.net.now) }
     requires states { AreStates states }
-    ensures does { Does (deciding (IsFound (F.net net.now) states) (IsRunRefusal (F.net net.now) states)) result }
+    ensures does { Does (deciding (IsFound (F.net wired.now.net.now) states) (IsRunRefusal (F.net wired.now.net.now) states)) result }
     ensures counts { steps.new.count ≡ steps.old.count + 1 }
     ensures share { steps.new.share ≡ steps.old.share }
 {
-    know_laws(net);
-    match run_loop(alloc, net, states, steps) {
+    know_laws(wired.net);
+    steps.tick();
+    match lasso::find_loop(alloc, wired, states) {
         Ok(table) => Ok(table),
         Err(error) => Err(Stop::Refused(run_refusal(alloc, error, states)?)),
     }
@@ -94,22 +100,23 @@ pub(crate) fn run_refusal(alloc: Global, error: RunError, states: u64) -> Result
 // The answer by the loop of the net: its text, and its certificate where one is asked for.
 fn shown<F: Firing>(
     alloc: Global,
-    net: &F,
+    wired: &Wired<F>,
     graph: &GraphFile,
     distribution: &Distribution,
     wanted: &WantedRate,
     table: &LoopTable,
 ) -> Result<Answer, Stop>
-    requires named { IsNamed graph.now (F.net net.now) }
-    requires unordered { IsSome wanted.now.certificate → HasNoOrders (F.net net.now) }
+    requires named { IsNamed graph.now (F.net wired.now.net.now) }
+    requires unordered { IsSome wanted.now.certificate → HasNoOrders (F.net wired.now.net.now) }
     requires few { length distribution.now.capacities < 2 ^ 32 }
-    requires fed { IsFed (F.net net.now) }
-    requires found { IsFound (F.net net.now) wanted.now.states table.now }
-    ensures { Does (deciding (IsRateAnswer graph.now (F.net net.now) distribution.now.capacities wanted.now) (IsRateTooLong (F.net net.now) distribution.now.capacities wanted.now)) result }
+    requires fed { IsFed (F.net wired.now.net.now) }
+    requires found { IsFound (F.net wired.now.net.now) wanted.now.states table.now }
+    ensures { Does (deciding (IsRateAnswer graph.now (F.net wired.now.net.now) distribution.now.capacities wanted.now) (IsRateTooLong (F.net wired.now.net.now) distribution.now.capacities wanted.now)) result }
 {
+    let net = wired.net;
     know_laws(net);
     let schedule = from_loop(alloc, net, table)?;
-    let cycle = cycle_of(alloc, net, table)?;
+    let cycle = critical_cycle(alloc, wired, table)?;
     let text = rate_text(alloc, net, graph, &schedule, &cycle)?;
     let put = put_for(alloc, net, distribution, wanted, schedule, &cycle)?;
     Ok(Answer { text, put })

@@ -12,7 +12,7 @@ use crate::steps::nets::{complete, feed};
 use crate::steps::reading::above;
 use crate::steps::scenario_steps::stop_of;
 use crate::stop::Stop;
-use firing::SdfNet;
+use firing::{SdfNet, Wired, Wiring, ends};
 use sd_base::{GraphFile, Quantity, ScenarioFile, ScenarioRow};
 use std::alloc::Global;
 
@@ -51,13 +51,19 @@ fn bound_graph(alloc: Global, graph: &GraphFile, tokens: u64) -> Result<(), Stop
 {
     let gamma = balanced(alloc, graph)?;
     let net = SdfNet::new(alloc, graph, gamma.as_slice(), false)?;
-    feed(alloc, &net, graph)?;
+    let ends = ends(alloc, &net)?;
+    feed(alloc, &net, graph, &ends)?;
     fit(
         alloc,
         Quantity::Stamps,
         firings_of(gamma.as_slice()) * tokens,
     )?;
-    complete(alloc, &net, graph)
+    let wiring = Wiring::new(alloc, &net)?;
+    let wired = Wired {
+        net: &net,
+        wiring: &wiring,
+    };
+    complete(alloc, &wired, graph)
 }
 
 // The firings of a round.

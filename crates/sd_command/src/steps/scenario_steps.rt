@@ -22,7 +22,7 @@ use crate::steps::reading::{above, refusal_of};
 use crate::stop::Stop;
 use automaton::{GraphError, TimedGraph, needed, product};
 use escapes::escaped;
-use firing::{Firing, SdfNet};
+use firing::{Firing, SdfNet, ends};
 use report::{Refusal, lacks_text};
 use scenario_rate::files_are_sound;
 use scenario_reader::read_scenarios;
@@ -139,7 +139,8 @@ fn measure_graph(alloc: Global, shared: &[SharedRow], graph: &GraphFile) -> Resu
 {
     let gamma = balanced(alloc, graph)?;
     let net = SdfNet::new(alloc, graph, gamma.as_slice(), false)?;
-    feed(alloc, &net, graph)?;
+    let ends = ends(alloc, &net)?;
+    feed(alloc, &net, graph, &ends)?;
     make_matrix(alloc, shared, graph, gamma.as_slice(), &net)
 }
 

@@ -1,17 +1,18 @@
 use Rattle.std.proofs.Common.{◌≡◌, refl}
 use Rattle.sd_words.specs.declared.request.Request.{Request}
 use Rattle.sd_words.specs.declared.request.Request.TheVariants as requests
-use Rattle.sd_command.specs.inside.Groups.{AsksForNoRate}
+use Rattle.sd_command.specs.inside.Groups.{AsksForNoNet, AsksForNoRate}
 use Rattle.sd_command.proofs.requests.answer_rateless.Goals as goal
 
-pub unreachable-requires : goal.unreachable-requires
-unreachable-requires g c = none c.args.request refl c.requires.rateless
+pub answer_netless-requires : goal.answer_netless-requires
+answer_netless-requires g c = none c.args.request refl c.requires.rateless
   where
-    none : (r : Request) → c.args.request ≡ r → AsksForNoRate r → ⊥
-    none (requests.Repetition graph) is asks = c.in_default.not-Repetition graph is
+    none : (r : Request) → c.args.request ≡ r → AsksForNoRate r → AsksForNoNet r
     none (requests.Complete graph rounds buffers no_overlap states) is asks = c.in_default.not-Complete graph rounds buffers no_overlap states is
     none (requests.Expand graph output buffers no_overlap) is asks = c.in_default.not-Expand graph output buffers no_overlap is
-    none (requests.Scenario graph certificate) is asks = c.in_default.not-Scenario graph certificate is
-    none (requests.Check graph certificate) is asks = c.in_default.not-Check graph certificate is
-    none (requests.Convert certificate output) is asks = c.in_default.not-Convert certificate output is
-    none r is asks = asks
+    none (requests.Storage graph limits no_overlap certificate) is asks = asks
+    none (requests.ScenarioStorage graph limit distributions) is asks = asks
+    none (requests.Generate seed limit actors) is asks = asks
+    none (requests.Throughput graph buffers no_overlap states certificate) is asks = asks
+    none (requests.Ordered graph order buffers no_overlap states) is asks = asks
+    none r is asks = tt

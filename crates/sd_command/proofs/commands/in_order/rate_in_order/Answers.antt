@@ -25,7 +25,7 @@ use Rattle.sd_command.proofs.commands.in_order.rate_in_order.Goals as goal
 pub returns-in_err-orders-clause-goes : goal.returns-in_err-orders-clause-goes
 returns-in_err-orders-clause-goes g c = λ faults.
     let p = err_from_is_err_and c.from_residual.result c.from_residual.ensures.1 in
-    rw (p.1, p.2) (step_stops (ordering c.args.graph.now c.args.gamma.now c.args.lists.now) _ _ (omega arith) _ faults c.in_err-orders.ensures)
+    rw (p.1, p.2) (step_stops (ordering c.args.bounded.now.graph.now c.args.bounded.now.gamma.now c.args.lists.now) _ _ (omega arith) _ faults c.in_err-orders.ensures)
 
 -- the orders by name are orders of the net
 are-orders : (net : Net) (graph : GraphFile) (gamma : List ℕ) (apart : Bool) (ds : List (Option ℕ)) (lists : NamedOrders) (orders : List (List ℕ)) → net ≡ bound (net_of graph gamma apart) ds → orders ≡ lists_of graph.actors lists
@@ -34,46 +34,46 @@ are-orders net graph gamma apart ds lists orders is named are =
     subst (λ (n : Net). AreOrders n orders) (sym is) (subst (λ (ls : List (List ℕ)). AreOrders (bound (net_of graph gamma apart) ds) ls) (sym named) are)
 
 pub new-requires-clause-can : goal.new-requires-clause-can
-new-requires-clause-can g c = subst CanBeOrdered (sym c.requires.net) (bound-can c.args.graph.now c.args.gamma.now c.args.wanted.now.no_overlap c.args.distribution.now.capacities)
+new-requires-clause-can g c = subst CanBeOrdered (sym c.requires.net) (bound-can c.args.bounded.now.graph.now c.args.bounded.now.gamma.now c.args.wanted.now.no_overlap c.args.bounded.now.distribution.now.capacities)
 
 pub new-requires-clause-orders : goal.new-requires-clause-orders
 new-requires-clause-orders g c =
-    let graph = c.args.graph.now in
-    let ds = c.args.distribution.now.capacities in
-    let bounded : Net = bound (net_of graph c.args.gamma.now c.args.wanted.now.no_overlap) ds in
-    are-orders (g.F.Firing.net c.args.net.now) graph c.args.gamma.now c.args.wanted.now.no_overlap ds c.args.lists.now c.in_ok-orders.orders.lists c.requires.net c.in_ok-orders.ensures.named
-    (c.named_orders_fit.ensures.orders bounded graph.actors c.args.gamma.now c.args.lists.now (length-map graph.actors (λ (r : ActorRow). r.times)) refl c.in_ok-orders.ensures.whole)
+    let graph = c.args.bounded.now.graph.now in
+    let ds = c.args.bounded.now.distribution.now.capacities in
+    let bounded : Net = bound (net_of graph c.args.bounded.now.gamma.now c.args.wanted.now.no_overlap) ds in
+    are-orders (g.F.Firing.net c.args.net.now) graph c.args.bounded.now.gamma.now c.args.wanted.now.no_overlap ds c.args.lists.now c.in_ok-orders.orders.lists c.requires.net c.in_ok-orders.ensures.named
+    (c.named_orders_fit.ensures.orders bounded graph.actors c.args.bounded.now.gamma.now c.args.lists.now (length-map graph.actors (λ (r : ActorRow). r.times)) refl c.in_ok-orders.ensures.whole)
 
 pub new-requires-clause-few : goal.new-requires-clause-few
 new-requires-clause-few g c =
-    let graph = c.args.graph.now in
-    let ds = c.args.distribution.now.capacities in
-    let net : Net = bound (net_of graph c.args.gamma.now c.args.wanted.now.no_overlap) ds in
+    let graph = c.args.bounded.now.graph.now in
+    let ds = c.args.bounded.now.distribution.now.capacities in
+    let net : Net = bound (net_of graph c.args.bounded.now.gamma.now c.args.wanted.now.no_overlap) ds in
     let ls : List (List ℕ) = lists_of graph.actors c.args.lists.now in
     subst (λ (n : Net). length (ordered n c.in_ok-orders.orders.lists).channels ≤ NET_CHANNELS) (sym c.requires.net)
     (subst (λ (l : List (List ℕ)). length (ordered net l).channels ≤ NET_CHANNELS) (sym c.in_ok-orders.ensures.named)
-    (ordered-room graph c.args.gamma.now c.args.wanted.now.no_overlap ds ls c.requires.bounded.rules c.requires.bounded.over
-    (c.named_orders_fit.ensures.pairs graph.actors c.args.gamma.now c.args.lists.now c.in_ok-orders.ensures.whole)
+    (ordered-room graph c.args.bounded.now.gamma.now c.args.wanted.now.no_overlap ds ls c.requires.bounded.rules c.requires.bounded.over
+    (c.named_orders_fit.ensures.pairs graph.actors c.args.bounded.now.gamma.now c.args.lists.now c.in_ok-orders.ensures.whole)
     (c.ordered_nets_are_lawful.ensures.few net ls (subst Lawful c.requires.net c.know_laws.ensures))))
 
 pub rate_of-requires-clause-named : goal.rate_of-requires-clause-named
 rate_of-requires-clause-named g c =
-    let graph = c.args.graph.now in
-    let ds = c.args.distribution.now.capacities in
-    let bounded : Net = bound (net_of graph c.args.gamma.now c.args.wanted.now.no_overlap) ds in
+    let graph = c.args.bounded.now.graph.now in
+    let ds = c.args.bounded.now.distribution.now.capacities in
+    let bounded : Net = bound (net_of graph c.args.bounded.now.gamma.now c.args.wanted.now.no_overlap) ds in
     let are =
-    are-orders (g.F.Firing.net c.args.net.now) graph c.args.gamma.now c.args.wanted.now.no_overlap ds c.args.lists.now c.in_ok-orders.orders.lists c.requires.net c.in_ok-orders.ensures.named
-    (c.named_orders_fit.ensures.orders bounded graph.actors c.args.gamma.now c.args.lists.now (length-map graph.actors (λ (r : ActorRow). r.times)) refl c.in_ok-orders.ensures.whole) in
+    are-orders (g.F.Firing.net c.args.net.now) graph c.args.bounded.now.gamma.now c.args.wanted.now.no_overlap ds c.args.lists.now c.in_ok-orders.orders.lists c.requires.net c.in_ok-orders.ensures.named
+    (c.named_orders_fit.ensures.orders bounded graph.actors c.args.bounded.now.gamma.now c.args.lists.now (length-map graph.actors (λ (r : ActorRow). r.times)) refl c.in_ok-orders.ensures.whole) in
     subst (λ (net : Net). IsNamed graph net) (sym c.in_ok-ordered.ensures.net)
     (ordered-over graph (g.F.Firing.net c.args.net.now) c.in_ok-orders.orders.lists c.know_laws.ensures are
     (subst (λ (net : Net). IsNamed graph net) (sym c.requires.net)
-    (named-bounded graph c.args.gamma.now c.args.wanted.now.no_overlap c.args.distribution.now.capacities c.requires.bounded)))
+    (named-bounded graph c.args.bounded.now.gamma.now c.args.wanted.now.no_overlap c.args.bounded.now.distribution.now.capacities c.requires.bounded)))
 
 pub rate_of-requires-clause-unordered : goal.rate_of-requires-clause-unordered
 rate_of-requires-clause-unordered g c = λ some. absurd (false≢true (subst IsSome c.requires.bare some))
 
 pub returns-clause-goes : goal.returns-clause-goes
 returns-clause-goes g c = λ faults.
-    goes_on (ordering c.args.graph.now c.args.gamma.now c.args.lists.now) _ c.in_ok-orders.orders _ _ faults faults c.in_ok-orders.ensures
-    (subst (λ (net : Net). Goes (rate_on c.args.wanted.now c.args.graph.now c.args.gamma.now c.args.distribution.now net) c.rate_of.result (c.rate_of.new.steps.count - c.args.steps.now.count) faults faults)
+    goes_on (ordering c.args.bounded.now.graph.now c.args.bounded.now.gamma.now c.args.lists.now) _ c.in_ok-orders.orders _ _ faults faults c.in_ok-orders.ensures
+    (subst (λ (net : Net). Goes (rate_on c.args.wanted.now c.args.bounded.now.graph.now c.args.bounded.now.gamma.now c.args.bounded.now.distribution.now net) c.rate_of.result (c.rate_of.new.steps.count - c.args.steps.now.count) faults faults)
     c.in_ok-ordered.ensures.net (c.rate_of.ensures.goes faults))

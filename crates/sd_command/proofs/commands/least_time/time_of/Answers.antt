@@ -11,7 +11,7 @@ use Rattle.sd_command.proofs.commands.least_time.time_of.Goals as goal
 
 pub returns-in_err-test-clause-goes : goal.returns-in_err-test-clause-goes
 returns-in_err-test-clause-goes g c = λ faults.
-    let p = err_from_is_err_and c.from_residual.result c.from_residual.ensures.1 in
+    let p = err_from_is_err_and c.from_residual-in_err-test.result c.from_residual-in_err-test.ensures.1 in
     rw (p.1, p.2) (step_stops (testing c.args.graph.now (g.F.Firing.net c.args.net.now)) _ _ (omega arith) _ faults c.in_err-test.ensures.does)
 
 pub returns-in_err-completion-clause-goes : goal.returns-in_err-completion-clause-goes

@@ -6,35 +6,35 @@ use Rattle.sd_command.proofs.command_lemmas.Reached.{rate-shown}
 use Rattle.sd_command.proofs.commands.rates.shown.Goals as goal
 
 pub from_loop-requires-clause-inputs : goal.from_loop-requires-clause-inputs
-from_loop-requires-clause-inputs g c = fed-inputs (g.F.Firing.net c.args.net.now) c.requires.fed
+from_loop-requires-clause-inputs g c = fed-inputs (g.F.Firing.net c.args.wired.now.net.now) c.requires.fed
 
-pub cycle_of-requires-clause-inputs : goal.cycle_of-requires-clause-inputs
-cycle_of-requires-clause-inputs g c = fed-inputs (g.F.Firing.net c.args.net.now) c.requires.fed
+pub critical_cycle-requires-clause-inputs : goal.critical_cycle-requires-clause-inputs
+critical_cycle-requires-clause-inputs g c = fed-inputs (g.F.Firing.net c.args.wired.now.net.now) c.requires.fed
 
 pub rate_text-requires-clause-cycle : goal.rate_text-requires-clause-cycle
 rate_text-requires-clause-cycle g c =
-    cycle-over c.args.graph.now (g.F.Firing.net c.args.net.now) c.know_laws.ensures c.requires.named c.in_ok-cycle.cycle c.in_ok-cycle.ensures.holds
+    cycle-over c.args.graph.now (g.F.Firing.net c.args.wired.now.net.now) c.know_laws.ensures c.requires.named c.in_ok-cycle.cycle c.in_ok-cycle.ensures.holds
 
 pub put_for-requires-clause-starts : goal.put_for-requires-clause-starts
 put_for-requires-clause-starts g c =
-    starts-spelled (g.F.Firing.net c.args.net.now) c.args.table.now c.in_ok-schedule.schedule c.know_laws.ensures c.in_ok-schedule.ensures
+    starts-spelled (g.F.Firing.net c.args.wired.now.net.now) c.args.table.now c.in_ok-schedule.schedule c.know_laws.ensures c.in_ok-schedule.ensures
 
 pub put_for-requires-clause-channels : goal.put_for-requires-clause-channels
 put_for-requires-clause-channels g c =
-    let over = cycle-over c.args.graph.now (g.F.Firing.net c.args.net.now) c.know_laws.ensures c.requires.named c.in_ok-cycle.cycle c.in_ok-cycle.ensures.holds in
+    let over = cycle-over c.args.graph.now (g.F.Firing.net c.args.wired.now.net.now) c.know_laws.ensures c.requires.named c.in_ok-cycle.cycle c.in_ok-cycle.ensures.holds in
     λ k d below. (over.steps k d below).channel
 
 pub returns-in_err-put : goal.returns-in_err-put
 returns-in_err-put g c =
     let p = err_from_is_err_and c.from_residual-in_err-put.result c.from_residual-in_err-put.ensures.1 in
-    let shown = rate-shown (g.F.Firing.net c.args.net.now) c.args.wanted.now.states c.args.table.now c.in_ok-schedule.schedule c.in_ok-cycle.cycle c.requires.found c.in_ok-schedule.ensures c.in_ok-cycle.ensures in
-    rw (p.1, p.2) (rate-stops c.args.graph.now (g.F.Firing.net c.args.net.now) c.args.distribution.now.capacities c.args.wanted.now c.in_ok-schedule.schedule c.in_ok-cycle.cycle shown c.in_err-put.field-0.0 c.in_err-put.ensures)
+    let shown = rate-shown (g.F.Firing.net c.args.wired.now.net.now) c.args.wanted.now.states c.args.table.now c.in_ok-schedule.schedule c.in_ok-cycle.cycle c.requires.found c.in_ok-schedule.ensures c.in_ok-cycle.ensures in
+    rw (p.1, p.2) (rate-stops c.args.graph.now (g.F.Firing.net c.args.wired.now.net.now) c.args.distribution.now.capacities c.args.wanted.now c.in_ok-schedule.schedule c.in_ok-cycle.cycle shown c.in_err-put.field-0.0 c.in_err-put.ensures)
 
 pub returns : goal.returns
 returns g c = record {
   schedule = c.in_ok-schedule.schedule;
   cycle = c.in_ok-cycle.cycle;
-  shown = rate-shown (g.F.Firing.net c.args.net.now) c.args.wanted.now.states c.args.table.now c.in_ok-schedule.schedule c.in_ok-cycle.cycle c.requires.found c.in_ok-schedule.ensures c.in_ok-cycle.ensures;
+  shown = rate-shown (g.F.Firing.net c.args.wired.now.net.now) c.args.wanted.now.states c.args.table.now c.in_ok-schedule.schedule c.in_ok-cycle.cycle c.requires.found c.in_ok-schedule.ensures c.in_ok-cycle.ensures;
   text = c.in_ok-text.ensures;
   put = c.in_ok-put.ensures;
 }

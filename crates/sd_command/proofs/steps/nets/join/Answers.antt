@@ -1,10 +1,9 @@
-use Rattle.std.proofs.Common.{◌∙◌}
 use Rattle.balance.proofs.ChannelEnds.{are-actors}
 use Rattle.sd_command.proofs.step_lemmas.Joins.{strongly}
 use Rattle.sd_command.proofs.steps.nets.join.Goals as goal
 
 pub strongly_connected-requires-clause-ends : goal.strongly_connected-requires-clause-ends
-strongly_connected-requires-clause-ends g c = are-actors (g.F.Firing.net c.args.net.now) _ _ c.actors.ensures (c.deref.ensures.value ∙ c.in_ok-ends.ensures) c.know_laws.ensures
+strongly_connected-requires-clause-ends g c = are-actors (g.F.Firing.net c.args.net.now) _ _ c.actors.ensures c.requires.ends c.know_laws.ensures
 
 pub returns-in-Ok : goal.returns-in-Ok
-returns-in-Ok g c = strongly (g.F.Firing.net c.args.net.now) _ _ c.actors.ensures (c.deref.ensures.value ∙ c.in_ok-ends.ensures) c.in-Ok.ensures.connected
+returns-in-Ok g c = strongly (g.F.Firing.net c.args.net.now) _ _ c.actors.ensures c.requires.ends c.in-Ok.ensures.connected

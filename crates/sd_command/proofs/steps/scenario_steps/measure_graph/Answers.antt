@@ -25,8 +25,8 @@ returns-in_err-gamma c =
     let p = err_from_is_err_and c.from_residual.result c.from_residual.ensures.1 in
     rw (p.1, p.2) (through_stops (balancing c.args.graph.now) (balanced_on c.args.shared.now c.args.graph.now) _ c.in_err-gamma.ensures)
 
-pub feed-requires : goal.feed-requires
-feed-requires c = subst (λ (net : Net). IsNamed c.args.graph.now net) (sym c.in_ok-net.ensures) (net-over c.args.graph.now c.as_slice.result.now false)
+pub feed-requires-clause-named : goal.feed-requires-clause-named
+feed-requires-clause-named c = subst (λ (net : Net). IsNamed c.args.graph.now net) (sym c.in_ok-net.ensures) (net-over c.args.graph.now c.as_slice.result.now false)
 
 pub make_matrix-requires-clause-fed : goal.make_matrix-requires-clause-fed
 make_matrix-requires-clause-fed c =
