@@ -28,7 +28,6 @@ fed-inputs net fed a actor = has-input net a (fed a actor)
 
 -- a number of actors and pairs of them that are those of a net
 module _ (net : Net) (n : ℕ) (es : List (ℕ × ℕ)) (actors : n ≡ length net.times) (ends : es ≡ ends_of net) where
-
   pub strongly : AreStronglyConnected n es → AreStronglyConnected (length net.times) (ends_of net)
   strongly is = subst (λ (m : ℕ). AreStronglyConnected m (ends_of net)) actors (subst (λ (xs : List (ℕ × ℕ)). AreStronglyConnected n xs) ends is)
 
