@@ -6,10 +6,11 @@ use Rattle.std.proofs.lemmas.List.{length-replicate}
 use Rattle.sd_base.specs.Net.{Net}
 use Rattle.sd_base.proofs.Lists.{replicate-same}
 use Rattle.storage.specs.Distributions.{storage_of}
+use Rattle.storage.specs.StorageOrder.{stepped}
 use Rattle.cert_text.specs.declared.certificates.MemberLine.{MemberLine}
 use Rattle.cert_text.specs.declared.certificates.StorageCertificate.{StorageCertificate}
 use Rattle.cert_checker.specs.declared.known.Known.{Known}
-use Rattle.cert_checker.specs.ShownChannels.{Shows, member_at, stepped}
+use Rattle.cert_checker.specs.ShownChannels.{Shows, member_at}
 use Rattle.cert_checker.specs.inside.KnownSets.{AreMembers, IsChild, IsChildOfFirst, number_of}
 use Rattle.cert_checker.specs.inside.Marks.{mark_at}
 use Rattle.cert_checker.proofs.Glue.{no-child, one-child}
@@ -65,14 +66,14 @@ module _ (net : Net) (c : StorageCertificate) (known : Known) where
     marked-none size = (size, λ ds i number. (λ on. inl on, λ both. ⊎_elim (λ (on : mark_at old i ≡ true). on) (λ (k : IsChild net c m 0 ds). absurd (omega (arith, k.below))) both))
 
     -- one more channel, on which there is no child
-    pub marked-same : (n : ℕ) (marks : List Bool) → AreMarked net c known m old n marks → (Shows net c.limit c.cycles m n → c.limit < storage_of net.channels (stepped net m.capacities.capacities n))
+    pub marked-same : (n : ℕ) (marks : List Bool) → AreMarked net c known m old n marks → (Shows net c.limit c.cycles m n → c.limit < storage_of net.channels (stepped net.channels m.capacities.capacities n))
         → AreMarked net c known m old (n + 1) marks
     marked-same n marks before none = (before.0, λ ds i number. no-child net c m n ds (mark_at old i ≡ true) (mark_at marks i ≡ true) (before.1 ds i number) none)
 
     -- and one on which there is one
     pub marked-more : (n : ℕ) (marks new : List Bool) (es : Caps) → AreMarked net c known m old n marks → AreMembers c.members known → length new ≡ length marks
         → ((i : ℕ) → (mark_at new i ≡ true) ↔ ((mark_at marks i ≡ true) ⊎ (number_of known es ≡ Some i)))
-        → Shows net c.limit c.cycles m n × (es ≡ stepped net m.capacities.capacities n) × (storage_of net.channels (stepped net m.capacities.capacities n) ≤ c.limit) → AreMarked net c known m old (n + 1) new
+        → Shows net c.limit c.cycles m n × (es ≡ stepped net.channels m.capacities.capacities n) × (storage_of net.channels (stepped net.channels m.capacities.capacities n) ≤ c.limit) → AreMarked net c known m old (n + 1) new
     marked-more n marks new es before are size added child = (
       size ∙ before.0,
       λ ds i number.

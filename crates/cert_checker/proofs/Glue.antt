@@ -12,6 +12,7 @@ use Rattle.storage.specs.BoundedNets.{bound}
 use Rattle.storage.specs.Distributions.{storage_of}
 use Rattle.storage.specs.Steps.{IsCorner, IsCornerAt}
 use Rattle.storage.proofs.Enlarging.{distribution-length}
+use Rattle.storage.specs.StorageOrder.{IsBefore, stepped}
 use Rattle.cert_text.specs.declared.certificates.LinkCycle.{LinkCycle}
 use Rattle.cert_text.specs.declared.certificates.MemberLine.{MemberLine}
 use Rattle.cert_text.specs.declared.certificates.MemberShown.{MemberShown}
@@ -25,8 +26,8 @@ use Rattle.cert_checker.specs.declared.verdict.Reason.TheVariants as reasons
 use Rattle.cert_checker.specs.Verdicts.{IsFirst, rank_of}
 use Rattle.cert_checker.specs.LinkCycles.{IsCycleLine}
 use Rattle.cert_checker.specs.Schedules.{IsFirstFaulty, IsRateLine, IsScheduleLine}
-use Rattle.cert_checker.specs.ShownChannels.{IsMember, IsWithin, Shows, capacities_at, member_at, stepped}
-use Rattle.cert_checker.specs.StorageCertificates.{AreBelow, BeginsAtCorner, HasParent, IsAfter, IsClosedAt, IsInPlace, IsMemberRight, IsPointOf, IsPointRight, IsScheduleRight, IsShownRight, capacities_of, point_at}
+use Rattle.cert_checker.specs.ShownChannels.{IsMember, IsWithin, Shows, capacities_at, member_at}
+use Rattle.cert_checker.specs.StorageCertificates.{AreBelow, BeginsAtCorner, HasParent, IsClosedAt, IsInPlace, IsMemberRight, IsPointOf, IsPointRight, IsScheduleRight, IsShownRight, capacities_of, point_at}
 use Rattle.cert_checker.specs.StorageFaults.{IsCycleFault, IsMemberFault, IsPointFault, IsScheduleFault, IsShownFault, member, closure, shown, schedule, starts, point, reaches}
 use Rattle.cert_checker.specs.inside.FirstFaults.{Judges}
 use Rattle.cert_checker.specs.inside.BelowPoints.{IsMemberBelow, IsShownBelow}
@@ -79,7 +80,7 @@ shown-channel net limit cs m channel shows =
     omega (arith, some-within m.capacities.capacities channel room.0 room.1, distribution-length net.channels m.capacities.capacities shows.within.distribution)
 
 pub closed-all : (net : Net) (c : StorageCertificate) (i n : ℕ) → length net.channels ≤ n
-    → ((k : ℕ) → k < n → Shows net c.limit c.cycles (member_at c.members i) k → storage_of net.channels (stepped net (capacities_at c.members i) k) ≤ c.limit → IsMember c.members (stepped net (capacities_at c.members i) k)) → IsClosedAt net c i
+    → ((k : ℕ) → k < n → Shows net c.limit c.cycles (member_at c.members i) k → storage_of net.channels (stepped net.channels (capacities_at c.members i) k) ≤ c.limit → IsMember c.members (stepped net.channels (capacities_at c.members i) k)) → IsClosedAt net c i
 closed-all net c i n past all channel shows small = all channel (omega (arith, past, shown-channel net c.limit c.cycles (member_at c.members i) channel shows)) shows small
 
 -- children and parents
@@ -100,7 +101,7 @@ child-of net c ds fit parent = (
 )
 
 -- a member that isn't the first one
-pub later-place : (net : Net) (c : StorageCertificate) (i : ℕ) → (i ≡ 0 → ⊥) → IsWithin net c.limit (capacities_at c.members i) → IsAfter net (capacities_at c.members (i - 1)) (capacities_at c.members i)
+pub later-place : (net : Net) (c : StorageCertificate) (i : ℕ) → (i ≡ 0 → ⊥) → IsWithin net c.limit (capacities_at c.members i) → IsBefore net.channels (capacities_at c.members (i - 1)) (capacities_at c.members i)
     → (b : Bool) → IsTrue b ↔ IsChildOfFirst net c (length c.members) (capacities_at c.members i) → IsTrue b ↔ IsInPlace net c i
 later-place net c i later fit after b tests = (
   λ yes. record { within = fit; after = λ some. after; parent = λ some. parent-of net c (capacities_at c.members i) (tests.0 yes) },
@@ -111,7 +112,7 @@ module _ (net : Net) (c : StorageCertificate) (m : MemberLine) (n : ℕ) (ds : L
   later : IsChild net c m n ds → IsChild net c m (n + 1) ds
   later k = record { channel = k.channel; below = omega (arith, k.below); shows = k.shows; small = k.small; is = k.is }
 
-  pub no-child : (Shows net c.limit c.cycles m n → c.limit < storage_of net.channels (stepped net m.capacities.capacities n)) → old ↔ (first ⊎ IsChild net c m (n + 1) ds)
+  pub no-child : (Shows net c.limit c.cycles m n → c.limit < storage_of net.channels (stepped net.channels m.capacities.capacities n)) → old ↔ (first ⊎ IsChild net c m (n + 1) ds)
   no-child none = (
     λ has. ⊎_elim (λ (f : first). inl f) (λ (k : IsChild net c m n ds). inr (later k)) (before.0 has),
     λ both. before.1 (⊎_elim (λ (f : first). inl f) (λ (k : IsChild net c m (n + 1) ds). ⊎_elim
@@ -119,12 +120,12 @@ module _ (net : Net) (c : StorageCertificate) (m : MemberLine) (n : ℕ) (ds : L
         (λ (past : n ≤ k.channel).
         let same : k.channel ≡ n = omega (arith, past, k.below) in
         let shows : Shows net c.limit c.cycles m n = subst (Shows net c.limit c.cycles m) same k.shows in
-        let small : storage_of net.channels (stepped net m.capacities.capacities n) ≤ c.limit = subst (λ (x : ℕ). storage_of net.channels (stepped net m.capacities.capacities x) ≤ c.limit) same k.small in
+        let small : storage_of net.channels (stepped net.channels m.capacities.capacities n) ≤ c.limit = subst (λ (x : ℕ). storage_of net.channels (stepped net.channels m.capacities.capacities x) ≤ c.limit) same k.small in
         absurd (omega (arith, none shows, small)))
         (cases_lt k.channel n)) both),
   )
 
-  pub one-child : (new : Type 0) (es : List (Option ℕ)) → new ↔ (old ⊎ (es ≡ ds)) → Shows net c.limit c.cycles m n → es ≡ stepped net m.capacities.capacities n → storage_of net.channels (stepped net m.capacities.capacities n) ≤ c.limit
+  pub one-child : (new : Type 0) (es : List (Option ℕ)) → new ↔ (old ⊎ (es ≡ ds)) → Shows net c.limit c.cycles m n → es ≡ stepped net.channels m.capacities.capacities n → storage_of net.channels (stepped net.channels m.capacities.capacities n) ≤ c.limit
       → new ↔ (first ⊎ IsChild net c m (n + 1) ds)
   one-child new es added shows is small = (
     λ has. ⊎_elim
@@ -133,7 +134,7 @@ module _ (net : Net) (c : StorageCertificate) (m : MemberLine) (n : ℕ) (ds : L
         (added.0 has),
     λ both. added.1 (⊎_elim (λ (f : first). inl (before.1 (inl f))) (λ (k : IsChild net c m (n + 1) ds). ⊎_elim
         (λ (less : k.channel < n). inl (before.1 (inr (record { channel = k.channel; below = less; shows = k.shows; small = k.small; is = k.is }))))
-        (λ (past : n ≤ k.channel). let same : k.channel ≡ n = omega (arith, past, k.below) in inr (is ∙ (ap (stepped net m.capacities.capacities) (sym same) ∙ k.is)))
+        (λ (past : n ≤ k.channel). let same : k.channel ≡ n = omega (arith, past, k.below) in inr (is ∙ (ap (stepped net.channels m.capacities.capacities) (sym same) ∙ k.is)))
         (cases_lt k.channel n)) both),
   )
 

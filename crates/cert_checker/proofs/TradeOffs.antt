@@ -21,6 +21,7 @@ use Rattle.storage.proofs.FrontsFromMembers.{front-over, less_on}
 use Rattle.storage.proofs.Lawfulness.{bound-lawful}
 use Rattle.storage.proofs.SpacesJoinEnds.{bound-strong}
 use Rattle.storage.proofs.TouchedInputs.{touched-inputs}
+use Rattle.storage.specs.StorageOrder.{stepped}
 use Rattle.cert_text.specs.declared.certificates.MemberShown.{MemberShown}
 use Rattle.cert_text.specs.declared.certificates.MemberShown.TheVariants.{Cycle, Blocked}
 use Rattle.cert_text.specs.declared.certificates.StorageCertificate.{StorageCertificate}
@@ -28,7 +29,7 @@ use Rattle.cert_text.specs.declared.certificates.LinkCycle.{LinkCycle}
 use Rattle.cert_checker.specs.LinkCycles.{IsCycleLine}
 use Rattle.cert_checker.specs.Schedules.{IsRateLine}
 use Rattle.cert_checker.specs.RateCertificates.{RateIsShown}
-use Rattle.cert_checker.specs.ShownChannels.{IsMember, IsShownBy, IsWithin, capacities_at, member_at, stepped}
+use Rattle.cert_checker.specs.ShownChannels.{IsMember, IsShownBy, IsWithin, capacities_at, member_at}
 use Rattle.cert_checker.specs.StorageCertificates.{HasRate, IsFileNet, IsShownRight, IsTradeOff, capacities_of, pair_of, point_at, no_point}
 use Rattle.cert_checker.proofs.FileNets.{bounded-few, no-spaces, within-can}
 use Rattle.cert_checker.proofs.ShownLists.{HasBound, shown-bound}
@@ -83,7 +84,7 @@ module _ (cycles_bound : CyclesBoundTheRate) (rates : RateIsShown) (net : Net) (
       let parent = (is.members (suc i) below).place.parent (omega arith) in
       let room = shown-room net c.cycles (capacities_at c.members parent.place) (member_at c.members parent.place).shown parent.channel parent.shows.by in
       let place : parent.channel < length net.channels = omega (arith, some-within (capacities_at c.members parent.place) parent.channel room.0 room.1, distribution-length net.channels (capacities_at c.members parent.place) parent.shows.within.distribution) in
-      let less : storage_of net.channels (capacities_at c.members parent.place) < storage_of net.channels (stepped net (capacities_at c.members parent.place) parent.channel) =
+      let less : storage_of net.channels (capacities_at c.members parent.place) < storage_of net.channels (stepped net.channels (capacities_at c.members parent.place) parent.channel) =
       enlarged-storage net.channels (capacities_at c.members parent.place) parent.channel room.0 (step_of (channel_at net parent.channel)) file.laws.some_size place room.1 (some-step (channel_at net parent.channel) (file.laws.some_made parent.channel place)) in
       let less_here : storage_of net.channels (capacities_at c.members parent.place) < storage_of net.channels (capacities_at c.members (suc i)) = subst (λ (ds : List (Option ℕ)). storage_of net.channels (capacities_at c.members parent.place) < storage_of net.channels ds) parent.is less in
       let on : IsOnGrid net.channels (capacities_at c.members parent.place) = grid n parent.place parent.below (omega (arith, less_here, few)) in
@@ -110,17 +111,17 @@ module _ (cycles_bound : CyclesBoundTheRate) (rates : RateIsShown) (net : Net) (
     here : (i : ℕ) → i < length es → i < length c.members
     here i below = omega (arith, below, many)
 
-    next-of : (i j : ℕ) → i < length es → j < length (entry_at es i).shown → storage_of net.channels (stepped net (entry_at es i).capacities (slice_index (entry_at es i).shown j)) ≤ c.limit → HasEntry es (stepped net (entry_at es i).capacities (slice_index (entry_at es i).shown j))
+    next-of : (i j : ℕ) → i < length es → j < length (entry_at es i).shown → storage_of net.channels (stepped net.channels (entry_at es i).capacities (slice_index (entry_at es i).shown j)) ≤ c.limit → HasEntry es (stepped net.channels (entry_at es i).capacities (slice_index (entry_at es i).shown j))
     next-of i j below place small =
         let e : IsEntry i (entry_at es i) = are i (here i below) in
-        let step : (xs : List ℕ) → xs ≡ e.bound_of.list → j < length xs → storage_of net.channels (stepped net (capacities_at c.members i) (slice_index xs j)) ≤ c.limit → HasEntry es (stepped net (capacities_at c.members i) (slice_index xs j)) =
+        let step : (xs : List ℕ) → xs ≡ e.bound_of.list → j < length xs → storage_of net.channels (stepped net.channels (capacities_at c.members i) (slice_index xs j)) ≤ c.limit → HasEntry es (stepped net.channels (capacities_at c.members i) (slice_index xs j)) =
         λ xs same less few. at-list i j (here i below) e xs same less few in
         rw e.capacities (step (entry_at es i).shown e.list place (rw (← e.capacities) small))
       where
-        at-list : (i j : ℕ) → i < length c.members → (e : IsEntry i (entry_at es i)) → (xs : List ℕ) → xs ≡ e.bound_of.list → j < length xs → storage_of net.channels (stepped net (capacities_at c.members i) (slice_index xs j)) ≤ c.limit → HasEntry es (stepped net (capacities_at c.members i) (slice_index xs j))
+        at-list : (i j : ℕ) → i < length c.members → (e : IsEntry i (entry_at es i)) → (xs : List ℕ) → xs ≡ e.bound_of.list → j < length xs → storage_of net.channels (stepped net.channels (capacities_at c.members i) (slice_index xs j)) ≤ c.limit → HasEntry es (stepped net.channels (capacities_at c.members i) (slice_index xs j))
         at-list i j below e xs same less few =
             let shows : IsShownBy net c.cycles (capacities_at c.members i) (member_at c.members i).shown (slice_index xs j) = subst (λ (ys : List ℕ). j < length ys → IsShownBy net c.cycles (capacities_at c.members i) (member_at c.members i).shown (slice_index ys j)) (sym same) (e.bound_of.each j) less in
-            entry-of (stepped net (capacities_at c.members i) (slice_index xs j)) ((is.members i below).closed (slice_index xs j) (record { within = within i below; by = shows }) few)
+            entry-of (stepped net.channels (capacities_at c.members i) (slice_index xs j)) ((is.members i below).closed (slice_index xs j) (record { within = within i below; by = shows }) few)
 
     bounds : (i : ℕ) → i < length es → BoundsRoomier net c.limit (entry_at es i)
     bounds i below ds dist small most agrees p q rate =

@@ -1,10 +1,9 @@
 -- Members of a trade-off, and the channels on which they show that more room may help.
 use Rattle.std.specs.Prelude.{◌≡◌, ℕ, ◌≤◌, ◌<◌, List, [], Option, Some, length, slice_index, slice_index_or}
 use Rattle.sd_base.specs.declared.role.Role.TheVariants.{Space}
-use Rattle.sd_base.specs.Net.{Net, channel_at}
-use Rattle.storage.specs.Distributions.{IsDistribution, capacity_at, enlarged, storage_of}
+use Rattle.sd_base.specs.Net.{Net}
+use Rattle.storage.specs.Distributions.{IsDistribution, capacity_at, storage_of}
 use Rattle.storage.specs.ShownSpaces.{ShowsSpace}
-use Rattle.storage.specs.Steps.{step_of}
 use Rattle.cert_text.specs.declared.certificates.LinkCycle.{LinkCycle}
 use Rattle.cert_text.specs.declared.certificates.MemberLine.{MemberLine}
 use Rattle.cert_text.specs.declared.certificates.MemberShown.{MemberShown}
@@ -34,10 +33,6 @@ IsMember members ds = (i : ℕ) × (i < length members) × (capacities_at member
 pub record IsWithin (net : Net) (limit : ℕ) (ds : List (Option ℕ)) : Type 0 where
   pub distribution : IsDistribution net.channels ds
   pub storage : storage_of net.channels ds ≤ limit
-
--- the distribution with a step more room on channel c
-abbrev pub stepped : Net → List (Option ℕ) → ℕ → List (Option ℕ)
-stepped net ds c = enlarged ds c (step_of (channel_at net c))
 
 -- a step of the cycle is along the free space of channel c, which has a capacity
 pub record IsAlongSpace (ds : List (Option ℕ)) (cycle : LinkCycle) (c : ℕ) : Type 0 where

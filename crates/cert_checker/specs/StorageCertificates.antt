@@ -1,5 +1,5 @@
 -- Valid certificates of trade-offs, and what they show.
-use Rattle.std.specs.Prelude.{◌≡◌, ℕ, ◌-◌, ◌*◌, ◌≤◌, ◌<◌, ◌⊎◌, false, List, [], Option, length, map, slice_index, slice_index_or}
+use Rattle.std.specs.Prelude.{◌≡◌, ℕ, ◌-◌, ◌*◌, ◌≤◌, ◌<◌, ◌⊎◌, List, [], Option, length, map, slice_index, slice_index_or}
 use Rattle.sd_base.specs.declared.limits.TheConstants.{NET_CHANNELS, STORAGE}
 use Rattle.sd_base.specs.Net.{Net}
 use Rattle.sd_base.specs.Lawful.{Lawful}
@@ -7,11 +7,11 @@ use Rattle.sd_base.specs.Connection.{IsConnected}
 use Rattle.sd_base.specs.Untimed.{Blocks}
 use Rattle.periodic.specs.ScheduleLines.{LineHolds}
 use Rattle.storage.specs.BoundedNets.{bound}
-use Rattle.storage.specs.CapacityOrder.{no_later}
 use Rattle.storage.specs.Distributions.{IsPlain, storage_of}
 use Rattle.storage.specs.ParetoPoints.{IsFront, Pair}
 use Rattle.storage.specs.Steps.{IsCorner}
 use Rattle.storage.specs.TouchedActors.{AreTouched}
+use Rattle.storage.specs.StorageOrder.{IsBefore, stepped}
 use Rattle.cert_text.specs.declared.certificates.LinkCycle.{LinkCycle}
 use Rattle.cert_text.specs.declared.certificates.MemberShown.{MemberShown}
 use Rattle.cert_text.specs.declared.certificates.MemberShown.TheVariants.{Cycle, Blocked}
@@ -22,7 +22,7 @@ use Rattle.cert_checker.specs.declared.verdict.Claim.{Claim}
 use Rattle.cert_checker.specs.declared.verdict.Claim.TheVariants as claims
 use Rattle.cert_checker.specs.LinkCycles.{IsCycleLine}
 use Rattle.cert_checker.specs.Schedules.{IsRateLine, IsScheduleLine}
-use Rattle.cert_checker.specs.ShownChannels.{IsMember, IsWithin, Shows, capacities_at, member_at, stepped}
+use Rattle.cert_checker.specs.ShownChannels.{IsMember, IsWithin, Shows, capacities_at, member_at}
 
 -- ---- members
 
@@ -33,31 +33,25 @@ BeginsAtCorner net c =
     ((c.limit < storage_of net.channels corner) × (length c.members ≡ 0))
     ⊎ ((storage_of net.channels corner ≤ c.limit) × (1 ≤ length c.members) × (capacities_at c.members 0 ≡ corner))
 
--- a distribution comes after another by its storage, then lexicographically
-abbrev pub IsAfter : Net → List (Option ℕ) → List (Option ℕ) → Type 0
-IsAfter net ds es =
-    (storage_of net.channels ds < storage_of net.channels es)
-    ⊎ ((storage_of net.channels ds ≡ storage_of net.channels es) × (no_later es ds ≡ false))
-
 -- a distribution is some member with a step more room on a channel that the member shows
 pub record HasParent (net : Net) (c : StorageCertificate) (ds : List (Option ℕ)) : Type 0 where
   pub place : ℕ
   pub below : place < length c.members
   pub channel : ℕ
   pub shows : Shows net c.limit c.cycles (member_at c.members place) channel
-  pub is : stepped net (capacities_at c.members place) channel ≡ ds
+  pub is : stepped net.channels (capacities_at c.members place) channel ≡ ds
 
 -- member i is a distribution within the limit; but for the first one it comes after the one before it, and has a parent
 pub record IsInPlace (net : Net) (c : StorageCertificate) (i : ℕ) : Type 0 where
   pub within : IsWithin net c.limit (capacities_at c.members i)
-  pub after : 1 ≤ i → IsAfter net (capacities_at c.members (i - 1)) (capacities_at c.members i)
+  pub after : 1 ≤ i → IsBefore net.channels (capacities_at c.members (i - 1)) (capacities_at c.members i)
   pub parent : 1 ≤ i → HasParent net c (capacities_at c.members i)
 
 -- member i with a step more room on any channel that it shows is a member, if it is within the limit
 abbrev pub IsClosedAt : Net → StorageCertificate → ℕ → Type 0
 IsClosedAt net c i =
-    (channel : ℕ) → Shows net c.limit c.cycles (member_at c.members i) channel → storage_of net.channels (stepped net (capacities_at c.members i) channel) ≤ c.limit →
-    IsMember c.members (stepped net (capacities_at c.members i) channel)
+    (channel : ℕ) → Shows net c.limit c.cycles (member_at c.members i) channel → storage_of net.channels (stepped net.channels (capacities_at c.members i) channel) ≤ c.limit →
+    IsMember c.members (stepped net.channels (capacities_at c.members i) channel)
 
 -- one count for each actor, which block the net
 pub record AreBlocking (net : Net) (counts : List ℕ) : Type 0 where

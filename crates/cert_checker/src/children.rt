@@ -2,7 +2,8 @@
 ghost use Rattle.std.specs.Prelude.{◌≡◌, ◌↔◌, ◌⊎◌, ℕ, ◌≤◌, ◌<◌, true, List, Option, Some, IfOk, OnOk, MatchOption, length};
 ghost use Rattle.sd_base.specs.declared.limits.TheConstants.{STORAGE};
 ghost use Rattle.storage.specs.Distributions.{storage_of};
-ghost use Rattle.cert_checker.specs.ShownChannels.{IsWithin, Shows, stepped};
+ghost use Rattle.storage.specs.StorageOrder.{stepped};
+ghost use Rattle.cert_checker.specs.ShownChannels.{IsWithin, Shows};
 ghost use Rattle.cert_checker.specs.inside.KnownSets.{AreChildren, AreMembers, IsChild, number_of};
 ghost use Rattle.cert_checker.specs.inside.Marks.{mark_at};
 ghost use Rattle.cert_checker.specs.inside.Spaces.{AreSpaces};
@@ -92,9 +93,9 @@ pub(crate) fn child_on<F: Firing>(
     requires spaces { AreSpaces certificate.now.cycles spaces.now }
     requires within { IsWithin (F.net net.now) certificate.now.limit member.now.capacities.capacities }
     requires channel { channel < length (F.net net.now).channels }
-    ensures { IfOk result (λ o. MatchOption o (Shows (F.net net.now) certificate.now.limit certificate.now.cycles member.now channel → certificate.now.limit < storage_of (F.net net.now).channels (stepped (F.net net.now) member.now.capacities.capacities channel))
-        (λ d. Shows (F.net net.now) certificate.now.limit certificate.now.cycles member.now channel × (d.capacities ≡ stepped (F.net net.now) member.now.capacities.capacities channel)
-        × (storage_of (F.net net.now).channels (stepped (F.net net.now) member.now.capacities.capacities channel) ≤ certificate.now.limit))) }
+    ensures { IfOk result (λ o. MatchOption o (Shows (F.net net.now) certificate.now.limit certificate.now.cycles member.now channel → certificate.now.limit < storage_of (F.net net.now).channels (stepped (F.net net.now).channels member.now.capacities.capacities channel))
+        (λ d. Shows (F.net net.now) certificate.now.limit certificate.now.cycles member.now channel × (d.capacities ≡ stepped (F.net net.now).channels member.now.capacities.capacities channel)
+        × (storage_of (F.net net.now).channels (stepped (F.net net.now).channels member.now.capacities.capacities channel) ≤ certificate.now.limit))) }
 {
     know_laws(net);
     if !is_shown(net, spaces, member, channel) {

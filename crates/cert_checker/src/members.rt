@@ -1,11 +1,12 @@
 //! The lines of members.
 ghost use Rattle.std.specs.Prelude.{◌≡◌, ◌↔◌, ◌-◌, ◌≤◌, ◌<◌, IfOk, IsTrue, length};
 ghost use Rattle.sd_base.specs.declared.limits.TheConstants.{STORAGE};
+ghost use Rattle.storage.specs.StorageOrder.{IsBefore};
 ghost use Rattle.cert_text.specs.Orderly.{NameOnes, NamesOneOf};
 ghost use Rattle.cert_checker.specs.LinkCycles.{IsCycleLine};
 ghost use Rattle.cert_checker.specs.Schedules.{IsRateLine};
 ghost use Rattle.cert_checker.specs.ShownChannels.{IsWithin, capacities_at};
-ghost use Rattle.cert_checker.specs.StorageCertificates.{AreBlocking, IsAfter, IsClosedAt, IsFileNet, IsInPlace, IsMemberRight, IsShownRight};
+ghost use Rattle.cert_checker.specs.StorageCertificates.{AreBlocking, IsClosedAt, IsFileNet, IsInPlace, IsMemberRight, IsShownRight};
 ghost use Rattle.cert_checker.specs.StorageFaults.{IsCountsFault, IsCycleFault, IsMemberFault, IsShownFault};
 ghost use Rattle.cert_checker.specs.inside.FirstFaults.{Judges};
 ghost use Rattle.cert_checker.specs.inside.KnownSets.{IsListing};
@@ -81,7 +82,7 @@ fn is_in_place<F: Firing>(
     let capacities = &members[number].capacities;
     is_within(net, certificate.limit, capacities)
         && (number == 0
-            || (is_after(
+            || (is_before(
                 net,
                 certificate.limit,
                 &members[number - 1].capacities,
@@ -89,11 +90,11 @@ fn is_in_place<F: Firing>(
             ) && listed.is_child(capacities)))
 }
 
-/// Whether a distribution comes after another, both within a limit.
-fn is_after<F: Firing>(net: &F, limit: u64, first: &Distribution, second: &Distribution) -> bool
+/// Whether the first of two distributions comes before the second one, both within a limit.
+fn is_before<F: Firing>(net: &F, limit: u64, first: &Distribution, second: &Distribution) -> bool
     requires first { IsWithin (F.net net.now) limit first.now.capacities }
     requires second { IsWithin (F.net net.now) limit second.now.capacities }
-    ensures { IsTrue result ↔ IsAfter (F.net net.now) first.now.capacities second.now.capacities }
+    ensures { IsTrue result ↔ IsBefore (F.net net.now).channels first.now.capacities second.now.capacities }
 {
     let before = first.total(net);
     let after = second.total(net);

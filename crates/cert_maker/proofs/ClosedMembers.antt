@@ -1,6 +1,6 @@
 -- The members of an exploration are a closed list.
 use Rattle.std.proofs.Common.{◌≡◌, ℕ, ◌*◌, ◌≤◌, ◌<◌, Bool, Option, List, length, ⊎_elim, refl, sym, ap, subst, ◌∙◌, arith}
-use Rattle.std.specs.Prelude.{slice_index}
+use Rattle.std.specs.Prelude.{slice_index, Contains}
 use Rattle.std.specs.List.{AllZip}
 use Rattle.std.proofs.lemmas.Bool.{cases_lt}
 use Rattle.sd_base.specs.declared.limits.Limits.{Limits}
@@ -16,13 +16,13 @@ use Rattle.storage.specs.Steps.{IsOnGrid}
 use Rattle.storage.proofs.Covers.{BoundsRoomier, net-above, net-bounds}
 use Rattle.storage.proofs.Lawfulness.{bound-lawful}
 use Rattle.storage.proofs.FrontsFromMembers.{positive-on}
+use Rattle.storage.proofs.Containing.{contains-unmap}
+use Rattle.storage.specs.StorageOrder.{stepped}
 use Rattle.pareto_front.specs.declared.point.Point.{Point}
 use Rattle.explore.specs.declared.exploration.Member.{Member}
-use Rattle.pareto_front.specs.Offers.{IsOneOf}
 use Rattle.explore.specs.Explorations.{IsExploration, ShowsChannel, capacities_of}
-use Rattle.explore.proofs.Elements.{one-unmap}
 use Rattle.cert_text.specs.declared.certificates.StorageCertificate.{StorageCertificate}
-use Rattle.cert_checker.specs.ShownChannels.{IsWithin, member_at, no_member, stepped}
+use Rattle.cert_checker.specs.ShownChannels.{IsWithin, member_at, no_member}
 use Rattle.cert_checker.specs.StorageCertificates.{IsFileNet}
 use Rattle.cert_checker.proofs.FileNets.{bounded-few, within-can}
 use Rattle.cert_checker.proofs.ShownLists.{HasBound, shown-bound}
@@ -54,7 +54,7 @@ module _ (cycles_bound : CyclesBoundTheRate) (net : Net) (file : IsFileNet net) 
   pub lawful : (ds : List (Option ℕ)) → IsWithin net limits.total ds → Lawful (bound net ds)
   lawful ds fit = bound-lawful net file.laws ds (none net file limits ms ps is) (within-can net file limits.total ds small fit) (bounded-few net file ds)
 
-  entry-of : (m : Member) → IsOneOf ms m → (e : Entry) × IsEntryOf net limits.total m e
+  entry-of : (m : Member) → Contains ms m → (e : Entry) × IsEntryOf net limits.total m e
   entry-of m one = (
     record { capacities = m.capacities.capacities; shown = b.list; num = m.rate.num; den = m.rate.den },
     record {
@@ -91,19 +91,19 @@ module _ (cycles_bound : CyclesBoundTheRate) (net : Net) (file : IsFileNet net) 
   entries = zip-chosen (IsEntryOf net limits.total) ms entry-of
 
   module _ (es : List Entry) (are : AllZip (IsEntryOf net limits.total) ms es) where
-    has-entry : (ds : List (Option ℕ)) → IsOneOf (capacities_of ms) ds → HasEntry es ds
+    has-entry : (ds : List (Option ℕ)) → Contains (capacities_of ms) ds → HasEntry es ds
     has-entry ds one =
-        let m = one-unmap (λ (x : Member). x.capacities.capacities) ms ds one in
+        let m = contains-unmap (λ (x : Member). x.capacities.capacities) ms ds one in
         let at = zip-one (IsEntryOf net limits.total) ms es no_entry m.0 are m.1 in
         (at.place, at.below, at.holds.capacities ∙ m.2)
 
     next-entry : (i j : ℕ) → i < length es → j < length (entry_at es i).shown →
-        storage_of net.channels (stepped net (entry_at es i).capacities (slice_index (entry_at es i).shown j)) ≤ limits.total → HasEntry es (stepped net (entry_at es i).capacities (slice_index (entry_at es i).shown j))
+        storage_of net.channels (stepped net.channels (entry_at es i).capacities (slice_index (entry_at es i).shown j)) ≤ limits.total → HasEntry es (stepped net.channels (entry_at es i).capacities (slice_index (entry_at es i).shown j))
     next-entry i j below shown few =
         let n = zip-at (IsEntryOf net limits.total) ms es i no_entry are below in
         let channel : ℕ = slice_index (entry_at es i).shown j in
-        subst (λ (ds : List (Option ℕ)). storage_of net.channels (stepped net ds channel) ≤ limits.total → HasEntry es (stepped net ds channel)) (sym n.holds.capacities)
-        (λ within. has-entry (stepped net n.item.capacities.capacities channel) (is.closed n.item channel n.one (n.holds.each j shown) within)) few
+        subst (λ (ds : List (Option ℕ)). storage_of net.channels (stepped net.channels ds channel) ≤ limits.total → HasEntry es (stepped net.channels ds channel)) (sym n.holds.capacities)
+        (λ within. has-entry (stepped net.channels n.item.capacities.capacities channel) (is.closed n.item channel n.one (n.holds.each j shown) within)) few
 
     pub closed-members : IsClosed net limits.total es
     closed-members = record {

@@ -1,6 +1,6 @@
 -- Some point has no more storage and no less rate than each member.
 use Rattle.std.proofs.Common.{◌≡◌, ℕ, ◌*◌, ◌≤◌, ◌<◌, Bool, List, length, map, refl, sym, ap, subst, arith}
-use Rattle.std.specs.Prelude.{slice_index_or}
+use Rattle.std.specs.Prelude.{slice_index_or, Contains}
 use Rattle.std.specs.List.{AllZip}
 use Rattle.std.proofs.lemmas.List.{length-map}
 use Rattle.sd_base.specs.declared.limits.Limits.{Limits}
@@ -14,11 +14,10 @@ use Rattle.storage.specs.ParetoPoints.{IsPareto, IsReachedPair, Pair, no_pair}
 use Rattle.storage.proofs.Climbs.{storage-le}
 use Rattle.storage.proofs.Covers.{covered}
 use Rattle.storage.proofs.FrontsFromMembers.{positive-on}
+use Rattle.storage.proofs.Containing.{contains-map, contains-unmap}
 use Rattle.pareto_front.specs.declared.point.Point.{Point}
 use Rattle.explore.specs.declared.exploration.Member.{Member}
-use Rattle.pareto_front.specs.Offers.{IsOneOf}
 use Rattle.explore.specs.Explorations.{IsExploration, pair_of}
-use Rattle.explore.proofs.Elements.{one-map, one-unmap}
 use Rattle.cert_text.specs.declared.certificates.StorageCertificate.{StorageCertificate}
 use Rattle.cert_checker.specs.StorageCertificates.{IsFileNet}
 use Rattle.cert_maker.specs.StorageCertificates.{IsStorageCertificate}
@@ -33,19 +32,19 @@ member-pair net m = record { storage = storage_of net.channels m.capacities.capa
 
 module _ (cycles_bound : CyclesBoundTheRate) (net : Net) (file : IsFileNet net) (limits : Limits) (small : limits.total ≤ STORAGE) (ms : List Member) (ps : List Point) (is : IsExploration net limits ms ps)
     (no_overlap : Bool) (schedules : List Periodic) (c : StorageCertificate) (put : IsStorageCertificate net no_overlap limits.total ms ps schedules c) where
-  pub member-reached : (m : Member) → IsOneOf ms m → 1 ≤ m.rate.num → IsReachedPair net limits.total (member-pair net m)
+  pub member-reached : (m : Member) → Contains ms m → 1 ≤ m.rate.num → IsReachedPair net limits.total (member-pair net m)
   member-reached m one runs =
       let fits = member-fits net file limits ms ps is m one in
       (m.capacities.capacities, record { distribution = fits.0; total = refl; within = fits.1; rate = (is.evaluated m one).rate; runs = runs })
 
-  reach : (x : Pair) → IsOneOf (map (member-pair net) ms) x → 1 ≤ x.num → IsReachedPair net limits.total x
+  reach : (x : Pair) → Contains (map (member-pair net) ms) x → 1 ≤ x.num → IsReachedPair net limits.total x
   reach x one runs =
-      let m = one-unmap (member-pair net) ms x one in
+      let m = contains-unmap (member-pair net) ms x one in
       subst (λ (y : Pair). 1 ≤ y.num → IsReachedPair net limits.total y) m.2 (λ some. member-reached m.0 m.1 some) runs
 
   module _ (es : List Entry) (are : AllZip (IsEntryOf net limits.total) ms es) where
     -- each reached pair has a member that is no worse
-    below-reached : (o : Pair) → IsReachedPair net limits.total o → (m : Member) × IsOneOf ms m × (1 ≤ m.rate.num) × NoWorse (member-pair net m) o
+    below-reached : (o : Pair) → IsReachedPair net limits.total o → (m : Member) × Contains ms m × (1 ≤ m.rate.num) × NoWorse (member-pair net m) o
     below-reached o reached =
         let cover = covered net file.laws limits.total es (closed-members cycles_bound net file limits small ms ps is no_overlap schedules c put es are) o.storage o.num o.den reached.0 reached.1 in
         let n = zip-at (IsEntryOf net limits.total) ms es cover.place no_entry are cover.below in
@@ -65,7 +64,7 @@ module _ (cycles_bound : CyclesBoundTheRate) (net : Net) (file : IsFileNet net) 
       reached = s.reached;
       best = λ other reached beats.
           (let m = below-reached other reached in
-          s.best (member-pair net m.0) (one-map (member-pair net) ms m.0 m.1) m.2
+          s.best (member-pair net m.0) (contains-map (member-pair net) ms m.0 m.1) m.2
           (beats-under (member-pair net m.0) other s.top (is.evaluated m.0 m.1).rate.positive reached.1.rate.positive s.reached.1.rate.positive m.3 beats));
     }
 
@@ -75,7 +74,7 @@ module _ (cycles_bound : CyclesBoundTheRate) (net : Net) (file : IsFileNet net) 
     pub below : place < length ps
     pub no_worse : NoWorse (slice_index_or (map pair_of ps) place no_pair) (member-pair net m)
 
-  pub member-covered : (m : Member) → IsOneOf ms m → 1 ≤ m.rate.num → HasPoint m
+  pub member-covered : (m : Member) → Contains ms m → 1 ≤ m.rate.num → HasPoint m
   member-covered m one runs =
       let listed = entries cycles_bound net file limits small ms ps is no_overlap schedules c put in
       let s = climb net limits.total (map (member-pair net) ms) reach (member-pair net m) (member-reached m one runs) in

@@ -1,24 +1,23 @@
 -- Members by their places.
-use Rattle.std.proofs.Common.{◌≡◌, ℕ, zero, suc, ◌+◌, ◌<◌, ◌≤◌, Option, Some, List, [], ◌∷◌, ◌++◌, length, take, drop, slice_get, inl, inr, refl, sym, ap, subst, ◌∙◌, arith}
-use Rattle.std.specs.Prelude.{slice_index_or}
+use Rattle.std.proofs.Common.{◌≡◌, ℕ, zero, suc, ◌+◌, ◌<◌, ◌≤◌, Option, Some, List, [], ◌∷◌, ◌++◌, length, take, drop, slice_get, ⊎_elim, refl, sym, ap, subst, ◌∙◌, arith}
+use Rattle.std.specs.Prelude.{slice_index_or, Contains}
 use Rattle.std.specs.List.{AllZip}
 use Rattle.std.proofs.lemmas.List.{length_push, map-append, take_more, get_or_default}
 use Rattle.std.proofs.lemmas.Slice.Zip.{all_zipped_more}
 use Rattle.periodic.specs.declared.schedule.Periodic.{Periodic}
+use Rattle.storage.proofs.Containing.{contains-none, contains-cases}
 use Rattle.pareto_front.specs.declared.point.Point.{Point}
 use Rattle.explore.specs.declared.exploration.Member.{Member}
-use Rattle.pareto_front.specs.Offers.{IsOneOf}
 use Rattle.explore.specs.Explorations.{capacities_of}
 use Rattle.cert_text.specs.declared.certificates.PointLine.{PointLine}
 use Rattle.cert_maker.specs.StorageCertificates.{IsPointLine, schedules_of}
 use Rattle.cert_maker.specs.inside.Lines.{ArePlaced}
 
 -- what isn't at a place stands after it
-pub one-later : (dss : List (List (Option ℕ))) (i : ℕ) (ds : List (Option ℕ)) → IsOneOf (drop i dss) ds → (slice_get dss i ≡ Some ds → ⊥) → IsOneOf (drop (suc i) dss) ds
-one-later [] zero ds one other = absurd one
-one-later [] (suc i) ds one other = absurd one
-one-later (x ∷ xs) zero ds (inl same) other = absurd (other (ap Some same))
-one-later (x ∷ xs) zero ds (inr later) other = later
+pub one-later : (dss : List (List (Option ℕ))) (i : ℕ) (ds : List (Option ℕ)) → Contains (drop i dss) ds → (slice_get dss i ≡ Some ds → ⊥) → Contains (drop (suc i) dss) ds
+one-later [] zero ds one other = absurd (contains-none ds one)
+one-later [] (suc i) ds one other = absurd (contains-none ds one)
+one-later (x ∷ xs) zero ds one other = ⊎_elim (λ (same : x ≡ ds). absurd (other (ap Some same))) (λ (later : Contains xs ds). later) (contains-cases x xs ds one)
 one-later (x ∷ xs) (suc i) ds one other = one-later xs i ds one other
 
 pub capacities-at : (ms : List Member) (i : ℕ) (d : Member) → i < length ms → slice_get (capacities_of ms) i ≡ Some (slice_index_or ms i d).capacities.capacities
@@ -42,12 +41,12 @@ module _ (members : List Member) (points : List Point) (placed : ArePlaced (capa
   pub more-count : length lines ≡ length done → length (lines ++ line ∷ []) ≡ length (done ++ s ∷ [])
   more-count same = length_push lines line ∙ ap (λ (n : ℕ). n + 1) same ∙ sym (length_push done s)
 
-  pub here : (place : ℕ) → ((k : ℕ) (d : Point) → length done ≤ k → k < length points → IsOneOf (drop place (capacities_of members)) (slice_index_or points k d).capacities.capacities)
-      → IsOneOf (drop place (capacities_of members)) p.capacities.capacities
-  here place left = subst (λ (q : Point). IsOneOf (drop place (capacities_of members)) q.capacities.capacities) (sym is) (left (length done) p (omega arith) below)
+  pub here : (place : ℕ) → ((k : ℕ) (d : Point) → length done ≤ k → k < length points → Contains (drop place (capacities_of members)) (slice_index_or points k d).capacities.capacities)
+      → Contains (drop place (capacities_of members)) p.capacities.capacities
+  here place left = subst (λ (q : Point). Contains (drop place (capacities_of members)) q.capacities.capacities) (sym is) (left (length done) p (omega arith) below)
 
   pub more-left : (place : ℕ) → slice_get (capacities_of members) place ≡ Some p.capacities.capacities
-      → (k : ℕ) (d : Point) → length (done ++ s ∷ []) ≤ k → k < length points → IsOneOf (drop place (capacities_of members)) (slice_index_or points k d).capacities.capacities
+      → (k : ℕ) (d : Point) → length (done ++ s ∷ []) ≤ k → k < length points → Contains (drop place (capacities_of members)) (slice_index_or points k d).capacities.capacities
   more-left place at k d from within =
       placed.later (length done) k place d (omega (arith, from, length_push done s)) within
       (at ∙ ap (λ (q : Point). Some q.capacities.capacities) (is ∙ get_or_default points (length done) p d below))

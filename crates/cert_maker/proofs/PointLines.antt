@@ -1,6 +1,6 @@
 -- The lines of points are right.
 use Rattle.std.proofs.Common.{◌≡◌, ℕ, ◌*◌, ◌-◌, ◌≤◌, ◌<◌, Bool, Option, Some, List, length, map, slice_get, inl, ⊎_elim, sym, ap, subst, ◌∙◌, arith}
-use Rattle.std.specs.Prelude.{slice_index_or}
+use Rattle.std.specs.Prelude.{slice_index_or, Contains}
 use Rattle.std.specs.List.{AllZip}
 use Rattle.std.proofs.lemmas.Bool.{cases_lt}
 use Rattle.std.proofs.lemmas.List.{length-map}
@@ -21,7 +21,6 @@ use Rattle.storage.specs.Distributions.{storage_of}
 use Rattle.storage.specs.ParetoPoints.{IsPareto, Pair, no_pair}
 use Rattle.pareto_front.specs.declared.point.Point.{Point}
 use Rattle.explore.specs.declared.exploration.Member.{Member}
-use Rattle.pareto_front.specs.Offers.{IsOneOf}
 use Rattle.explore.specs.Explorations.{IsExploration, capacities_of, pair_of}
 use Rattle.cert_text.specs.declared.certificates.MemberShown.TheVariants.{Cycle}
 use Rattle.cert_text.specs.declared.certificates.PointLine.{PointLine}
@@ -196,7 +195,7 @@ module _ (cycles_bound : CyclesBoundTheRate) (net : Net) (file : IsFileNet net) 
       line-below net ms c.points here.item (capacities_at c.members i) rate point.item found.place there point.holds (subst (λ (x : Pair). NoWorse x (member-pair net here.item)) (pair-there found.place point.item point.at) found.no_worse)
       (same-capacities net file limits ms ps is no_overlap schedules c put here.item (member_at c.members i) here.holds) mine
     where
-      listed-runs : (m : Member) → IsOneOf ms m → (r : ℕ × ℕ) (k j : ℕ) → j < length c.members → (member_at c.members j).shown ≡ Cycle r k → r ≡ (m.rate.num, m.rate.den) → 1 ≤ m.rate.num
+      listed-runs : (m : Member) → Contains ms m → (r : ℕ × ℕ) (k j : ℕ) → j < length c.members → (member_at c.members j).shown ≡ Cycle r k → r ≡ (m.rate.num, m.rate.den) → 1 ≤ m.rate.num
       listed-runs m one r k j within at equal =
           let right = (member-right net file limits ms ps is no_overlap schedules c put j within).shown in
           let line = (subst (IsShownRight (bound net (capacities_at c.members j)) c.cycles) at right).0 in

@@ -1,10 +1,11 @@
 -- Pairs of storage and rate that none of a list beats.
-use Rattle.std.proofs.Common.{◌≡◌, ℕ, ◌*◌, ◌≤◌, ◌<◌, ◌⊎◌, List, [], ◌∷◌, inl, inr, ⊎_elim, subst, refl, arith}
+use Rattle.std.proofs.Common.{◌≡◌, ℕ, ◌*◌, ◌≤◌, ◌<◌, ◌⊎◌, List, [], ◌∷◌, inl, inr, ⊎_elim, subst, arith}
 use Rattle.std.proofs.lemmas.Bool.{cases_lt, cases_order}
+use Rattle.std.specs.Prelude.{Contains}
 use Rattle.sd_base.specs.Net.{Net}
 use Rattle.storage.specs.ParetoPoints.{Beats, IsReachedPair, Pair}
 use Rattle.storage.proofs.FrontsFromMembers.{less_on, no_less, below_less}
-use Rattle.pareto_front.specs.Offers.{IsOneOf}
+use Rattle.storage.proofs.Containing.{contains-here, contains-later, contains-none, contains-cases}
 
 -- no more storage and no less rate
 pub record NoWorse (a b : Pair) : Type 0 where
@@ -85,7 +86,7 @@ pub record IsSummit (net : Net) (limit : ℕ) (xs : List Pair) (below : Pair) : 
   pub top : Pair
   pub reached : IsReachedPair net limit top
   pub over : NoWorse top below
-  pub best : (x : Pair) → IsOneOf xs x → 1 ≤ x.num → Beats x top → ⊥
+  pub best : (x : Pair) → Contains xs x → 1 ≤ x.num → Beats x top → ⊥
 
 -- one more pair of the list
 module _ (net : Net) (limit : ℕ) (x : Pair) (xs : List Pair) (reach : 1 ≤ x.num → IsReachedPair net limit x) (climb-rest : (cur : Pair) → IsReachedPair net limit cur → IsSummit net limit xs cur) (cur : Pair) (is : IsReachedPair net limit cur) where
@@ -98,8 +99,8 @@ module _ (net : Net) (limit : ℕ) (x : Pair) (xs : List Pair) (reach : 1 ≤ x.
         over = s.over;
         best = λ y one some beats. ⊎_elim
             (λ (same : x ≡ y). subst (λ (z : Pair). 1 ≤ z.num → Beats z s.top → ⊥) same (λ runs better. not runs (beats-over x s.top cur s.reached.1.rate.positive is.1.rate.positive s.over better)) some beats)
-            (λ (later : IsOneOf xs y). s.best y later some beats)
-            one;
+            (λ (later : Contains xs y). s.best y later some beats)
+            (contains-cases x xs y one);
       }
 
   rise : 1 ≤ x.num → Beats x cur → IsSummit net limit (x ∷ xs) cur
@@ -111,8 +112,8 @@ module _ (net : Net) (limit : ℕ) (x : Pair) (xs : List Pair) (reach : 1 ≤ x.
         over = worse-trans s.top x cur (reach some).1.rate.positive s.over (beats-worse x cur beats);
         best = λ y one runs better. ⊎_elim
             (λ (same : x ≡ y). subst (λ (z : Pair). Beats z s.top → ⊥) same (not-both s.top x s.over) better)
-            (λ (later : IsOneOf xs y). s.best y later runs better)
-            one;
+            (λ (later : Contains xs y). s.best y later runs better)
+            (contains-cases x xs y one);
       }
 
   pub summit-more : IsSummit net limit (x ∷ xs) cur
@@ -122,6 +123,6 @@ module _ (net : Net) (limit : ℕ) (x : Pair) (xs : List Pair) (reach : 1 ≤ x.
       (cases_lt x.num 1)
 
 -- above each reached pair is one
-pub climb : (net : Net) (limit : ℕ) (xs : List Pair) → ((x : Pair) → IsOneOf xs x → 1 ≤ x.num → IsReachedPair net limit x) → (cur : Pair) → IsReachedPair net limit cur → IsSummit net limit xs cur
-climb net limit [] reach cur is = record { top = cur; reached = is; over = record { storage = omega arith; rate = omega arith }; best = λ x one some beats. absurd one }
-climb net limit (x ∷ xs) reach cur is = summit-more net limit x xs (λ some. reach x (inl refl) some) (λ low here. climb net limit xs (λ y one some. reach y (inr one) some) low here) cur is
+pub climb : (net : Net) (limit : ℕ) (xs : List Pair) → ((x : Pair) → Contains xs x → 1 ≤ x.num → IsReachedPair net limit x) → (cur : Pair) → IsReachedPair net limit cur → IsSummit net limit xs cur
+climb net limit [] reach cur is = record { top = cur; reached = is; over = record { storage = omega arith; rate = omega arith }; best = λ x one some beats. contains-none x one }
+climb net limit (x ∷ xs) reach cur is = summit-more net limit x xs (λ some. reach x (contains-here x xs) some) (λ low here. climb net limit xs (λ y one some. reach y (contains-later x xs y one) some) low here) cur is

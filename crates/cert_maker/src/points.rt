@@ -1,7 +1,6 @@
 //! The lines of points.
-ghost use Rattle.std.specs.Prelude.{◌≡◌, ◌↔◌, IfOk, IsTrue, Some, drop, length, slice_get};
+ghost use Rattle.std.specs.Prelude.{◌≡◌, ◌↔◌, IfOk, IsTrue, Some, drop, length, slice_get, Contains};
 ghost use Rattle.std.specs.List.{AllZip};
-ghost use Rattle.pareto_front.specs.Offers.{IsOneOf};
 ghost use Rattle.explore.specs.Explorations.{capacities_of};
 ghost use Rattle.cert_maker.specs.StorageCertificates.{IsPointLine, schedules_of};
 ghost use Rattle.cert_maker.specs.inside.Lines.{ArePlaced};
@@ -44,7 +43,7 @@ pub(crate) fn point_lines(
 
 /// The number of the first member from a place on that has these capacities, if one has.
 fn place_of(members: &[Member], from: usize, capacities: &Distribution) -> usize
-    ensures { IsOneOf (drop from (capacities_of members.now)) capacities.now.capacities
+    ensures { Contains (drop from (capacities_of members.now)) capacities.now.capacities
         → slice_get (capacities_of members.now) result ≡ Some capacities.now.capacities }
 {
     for place in from..members.len() {

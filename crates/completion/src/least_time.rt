@@ -1,5 +1,5 @@
 ghost use Rattle.std.specs.Prelude.{◌≡◌, ◌+◌, ◌≤◌, IfErr, IfOk};
-ghost use Rattle.sd_base.specs.declared.limits.TheConstants.{LEAST_ROUNDS, LEAST_STATES, ROUNDS, STATES};
+ghost use Rattle.sd_base.specs.declared.limits.TheConstants.{LEAST_ROUNDS, LEAST_STATES, ROUNDS};
 ghost use Rattle.sd_base.specs.Schedules.{HasInputs};
 ghost use Rattle.sd_base.specs.Untimed.{IsLive};
 ghost use Rattle.sd_base.specs.Connection.{IsConnected};
@@ -10,8 +10,8 @@ use crate::counts::{Part, firings_in};
 use crate::ends::last_to_end;
 use crate::timetable::{Timetable, end};
 use crate::walk::parts_of_way;
-use firing::{Firing, Wired, Wiring};
-use lasso::{RunError, run_loop, starts_until};
+use firing::{Firing, Wired};
+use lasso::{RunError, find_loop, starts_until};
 use sd_base::{Ledger, Rows, Steps};
 use std::alloc::Global;
 
@@ -34,41 +34,36 @@ pub struct Completion {
 /// way comes again to a firing whole passes before, the lap between is counted as often as it fits after the entry,
 /// and isn't gone again. At most `states` shapes are looked at; `steps` counts the call as one execution.
 ///
-/// Cost: that of `run_loop`, a second execution up to the entry, and for each firing that is looked at the channels
+/// Cost: that of `find_loop`, a second execution up to the entry, and for each firing that is looked at the channels
 /// into its actor. However many rounds there are, no more firings are looked at than start up to the entry and in
-/// some four passes. Memory: that of `run_loop`, the starts up to the entry, and two parts for each actor.
+/// some four passes. Memory: that of `find_loop`, the starts up to the entry, and two parts for each actor.
 pub fn complete<F: Firing, L: Ledger>(
     alloc: Global,
-    net: &F,
+    wired: &Wired<F>,
     rounds: u64,
     states: u64,
     steps: &mut Steps<L>,
 ) -> Result<Completion, RunError>
-    requires live { IsLive (F.net net.now) }
-    requires connected { IsConnected (F.net net.now) }
-    requires inputs { HasInputs (F.net net.now) }
+    requires live { IsLive (F.net wired.now.net.now) }
+    requires connected { IsConnected (F.net wired.now.net.now) }
+    requires inputs { HasInputs (F.net wired.now.net.now) }
     requires some { LEAST_STATES ≤ states }
-    requires few { states ≤ STATES }
     requires some_round { LEAST_ROUNDS ≤ rounds }
     requires few_rounds { rounds ≤ ROUNDS }
-    ensures completed { IfOk result (IsCompletionOf (F.net net.now) rounds) }
-    ensures looped { IfOk result (λ _. HasLoopWithin (F.net net.now) states) }
-    ensures refused { IfErr result (IsRunRefusal (F.net net.now) states) }
+    ensures completed { IfOk result (IsCompletionOf (F.net wired.now.net.now) rounds) }
+    ensures looped { IfOk result (λ _. HasLoopWithin (F.net wired.now.net.now) states) }
+    ensures refused { IfErr result (IsRunRefusal (F.net wired.now.net.now) states) }
     ensures ticked { steps.new.count ≡ steps.old.count + 1 }
     ensures kept { steps.new.share ≡ steps.old.share }
 {
-    let table = run_loop(alloc, net, states, steps)?;
-    let wiring = Wiring::new(alloc, net)?;
-    let wired = Wired {
-        net,
-        wiring: &wiring,
-    };
-    let early = starts_until(alloc, &wired, table.entry)?;
+    steps.tick();
+    let table = find_loop(alloc, wired, states)?;
+    let early = starts_until(alloc, wired, table.entry)?;
     let times = Timetable { early, table };
-    let last = last_to_end(net, &times, rounds);
-    let parts = parts_of_way(alloc, &wired, &times, rounds, last)?;
+    let last = last_to_end(wired.net, &times, rounds);
+    let parts = parts_of_way(alloc, wired, &times, rounds, last)?;
     Ok(Completion {
-        time: end(net, last),
+        time: end(wired.net, last),
         firings: firings_in(parts.as_slice()),
         parts: Rows::from_vec(parts),
     })

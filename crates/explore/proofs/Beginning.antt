@@ -1,25 +1,24 @@
 -- An exploration begins at the corner.
 use Rattle.std.proofs.Common.{◌≡◌, ℕ, ◌≤◌, ◌<◌, Option, None, List, [], sym, subst, arith}
-use Rattle.std.specs.Prelude.{All}
+use Rattle.std.specs.Prelude.{All, Contains}
 use Rattle.std.proofs.lemmas.List.Elements.{All-contains, All-nil}
 use Rattle.sd_base.specs.declared.limits.Limits.{Limits}
 use Rattle.sd_base.specs.Net.{Net}
 use Rattle.storage.specs.Distributions.{storage_of}
 use Rattle.storage.specs.Steps.{IsCorner}
-use Rattle.levels.proofs.Elements.{contains-none}
+use Rattle.storage.proofs.Containing.{contains-none}
 use Rattle.explore.specs.declared.exploration.Member.{Member}
 use Rattle.levels.specs.declared.found.Found.{Found}
 use Rattle.levels.specs.Frontiers.{IsFrontier}
 use Rattle.explore.specs.declared.search.Search.{Search}
-use Rattle.pareto_front.specs.Offers.{IsOneOf}
 use Rattle.explore.specs.inside.Searches.{AreKnown, IsEnded, IsSearch}
 use Rattle.explore.specs.inside.Starts.{IsHinted}
 
 pub known-none : (net : Net) (states : ℕ) → AreKnown net states [] [] []
 known-none net states = record {
   noted = tt;
-  front = record { order = tt; covers = λ o one. absurd one; among = λ o one. absurd one };
-  tables = λ p one. absurd one;
+  front = record { order = tt; covers = λ o one. absurd (contains-none o one); among = λ o one. one };
+  tables = λ p one. absurd (contains-none p one);
 }
 
 -- where the corner is past the limit there is nothing
@@ -37,7 +36,7 @@ ended-none net limits ds is past = record {
     rises = λ v es one leads. absurd (contains-none v one);
     led = λ es one. absurd (contains-none es one);
   };
-  candidates = λ m one. absurd one;
+  candidates = λ m one. absurd (contains-none m one);
   few = omega arith;
 }
 
@@ -50,6 +49,6 @@ search-begun net limits ds s is members front bounds frontier hints = record {
   is_corner = is;
   bounds = bounds;
   frontier = frontier;
-  candidates = λ m one. absurd (subst (λ (ms : List Member). IsOneOf ms m) members one);
+  candidates = λ m one. absurd (contains-none m (subst (λ (ms : List Member). Contains ms m) members one));
   hinted = λ f one. subst (λ (hint : Option ℕ). IsHinted net limits.states s.members.items hint f.capacities.capacities) (sym (All-contains (λ (g : Found (Option ℕ)). g.hint ≡ None) s.levels.waiting.keys f hints one)) tt;
 }

@@ -1,7 +1,7 @@
 -- A search that has ended is an exploration: its points are the front.
 use Rattle.std.proofs.Common.{◌≡◌, ℕ, ◌*◌, ◌≤◌, ◌<◌, ◌⊎◌, true, false, Option, List, [], ◌∷◌, length, map, inl, inr, ⊎_elim, refl, sym, ap, ◌∙◌, subst, arith}
 use Rattle.std.specs.Prelude.{◌==◌, Contains, slice_index, slice_index_or}
-use Rattle.std.proofs.lemmas.List.Elements.{Contains-get_or}
+use Rattle.std.proofs.lemmas.List.Elements.{Contains-get_or, at_from_Contains}
 use Rattle.std.proofs.lemmas.Bool.{cases_lt, cases_Bool, true≢false}
 use Rattle.std.proofs.lemmas.Bool.Decides.{Decides-eqb}
 use Rattle.sd_base.specs.declared.limits.Limits.{Limits}
@@ -21,17 +21,18 @@ use Rattle.storage.proofs.Covers.{net-above, net-bounds}
 use Rattle.storage.proofs.Fits.{within-lawful}
 use Rattle.storage.proofs.FileChannels.{plain-no_spaces}
 use Rattle.storage.proofs.FrontsFromMembers.{AreExact, front-over, less_on, no_less, pareto-listed}
+use Rattle.storage.proofs.Containing.{contains-here, contains-later, contains-none, contains-cases, contains-map, contains-unmap}
+use Rattle.storage.specs.StorageOrder.{AreInOrder, stepped}
 use Rattle.pareto_front.specs.declared.point.Point.{Point}
-use Rattle.pareto_front.specs.Offers.{AreAbove, AreInOrder as AreRising, Covers, IsCoveredBy, IsOneOf, Offer}
+use Rattle.pareto_front.specs.Offers.{AreAbove, AreInOrder as AreRising, Covers, IsCoveredBy, Offer}
 use Rattle.pareto_front.specs.Points.{offer_of}
 use Rattle.explore.specs.declared.exploration.Member.{Member}
 use Rattle.levels.specs.Visits.{led_by, visited, visits_of}
 use Rattle.levels.proofs.Visited.{has-entry}
-use Rattle.explore.specs.Reachable.{IsExplorable, IsReachable, stepped}
-use Rattle.explore.specs.Explorations.{AreInOrder, IsExploration, ShowsChannel, capacities_of, pair_of}
+use Rattle.explore.specs.Reachable.{IsExplorable, IsReachable}
+use Rattle.explore.specs.Explorations.{IsExploration, ShowsChannel, capacities_of, pair_of}
 use Rattle.explore.specs.inside.Searches.{IsEnded, IsNoted, offer_for, offers_of}
-use Rattle.explore.proofs.Elements.{at-one, contains-one, one-at, one-contains, one-map, one-unmap}
-use Rattle.explore.proofs.Searching.{entry-visit, has-contains, led-member, noted-at, noted-of, visited-members}
+use Rattle.explore.proofs.Searching.{entry-visit, led-member, noted-at, noted-of, visited-members}
 use Rattle.explore.proofs.OfferFronts.{front-of_offers, pair_of as offer_pair}
 
 zero-test : (n : ℕ) → (((n == 0) ≡ true) × (n ≡ 0)) ⊎ (((n == 0) ≡ false) × (1 ≤ n))
@@ -41,82 +42,83 @@ zero-test n =
     (λ (h : (n == 0) ≡ false). inr (h, ⊎_elim (λ (less : n < 1). absurd (true≢false (sym ((Decides-eqb n 0).1 (omega arith)) ∙ h))) (λ (some : 1 ≤ n). some) (cases_lt n 1)))
     (cases_Bool (n == 0))
 
-pub offer-there : (net : Net) (ms : List Member) (m : Member) → IsOneOf ms m → 1 ≤ m.rate.num → IsOneOf (offers_of net ms) (offer_for net m)
-offer-there net [] m is some = absurd is
+pub offer-there : (net : Net) (ms : List Member) (m : Member) → Contains ms m → 1 ≤ m.rate.num → Contains (offers_of net ms) (offer_for net m)
+offer-there net [] m is some = absurd (contains-none m is)
 offer-there net (x ∷ ms) m is some = at (zero-test x.rate.num) (λ later. offer-there net ms m later some)
   where
-    at : (((x.rate.num == 0) ≡ true) × (x.rate.num ≡ 0)) ⊎ (((x.rate.num == 0) ≡ false) × (1 ≤ x.rate.num)) → (IsOneOf ms m → IsOneOf (offers_of net ms) (offer_for net m)) → IsOneOf (offers_of net (x ∷ ms)) (offer_for net m)
-    at (inl test) rest = rw test.0 (⊎_elim (λ (same : x ≡ m). absurd (let none : m.rate.num ≡ 0 = subst (λ (y : Member). y.rate.num ≡ 0) same test.1 in omega arith)) rest is)
-    at (inr test) rest = rw test.0 (⊎_elim (λ (same : x ≡ m). inl (ap (offer_for net) same)) (λ (later : IsOneOf ms m). inr (rest later)) is)
+    at : (((x.rate.num == 0) ≡ true) × (x.rate.num ≡ 0)) ⊎ (((x.rate.num == 0) ≡ false) × (1 ≤ x.rate.num)) → (Contains ms m → Contains (offers_of net ms) (offer_for net m)) → Contains (offers_of net (x ∷ ms)) (offer_for net m)
+    at (inl test) rest = rw test.0 (⊎_elim (λ (same : x ≡ m). absurd (let none : m.rate.num ≡ 0 = subst (λ (y : Member). y.rate.num ≡ 0) same test.1 in omega arith)) rest (contains-cases x ms m is))
+    at (inr test) rest = rw test.0 (⊎_elim (λ (same : x ≡ m). subst (λ (y : Member). Contains (offer_for net x ∷ offers_of net ms) (offer_for net y)) same (contains-here (offer_for net x) (offers_of net ms))) (λ (later : Contains ms m). contains-later (offer_for net x) (offers_of net ms) (offer_for net m) (rest later)) (contains-cases x ms m is))
 
 abbrev pub IsOfferOf : Net → List Member → Offer → Type 0
-IsOfferOf net ms o = (m : Member) × IsOneOf ms m × (offer_for net m ≡ o) × (1 ≤ m.rate.num)
+IsOfferOf net ms o = (m : Member) × Contains ms m × (offer_for net m ≡ o) × (1 ≤ m.rate.num)
 
-pub offer-from : (net : Net) (ms : List Member) (o : Offer) → IsOneOf (offers_of net ms) o → IsOfferOf net ms o
-offer-from net [] o is = absurd is
+pub offer-from : (net : Net) (ms : List Member) (o : Offer) → Contains (offers_of net ms) o → IsOfferOf net ms o
+offer-from net [] o is = absurd (contains-none o is)
 offer-from net (x ∷ ms) o is = at (zero-test x.rate.num) (λ later. offer-from net ms o later)
   where
     further : IsOfferOf net ms o → IsOfferOf net (x ∷ ms) o
-    further found = (found.0, inr found.1, found.2, found.3)
+    further found = (found.0, contains-later x ms found.0 found.1, found.2, found.3)
 
-    at : (((x.rate.num == 0) ≡ true) × (x.rate.num ≡ 0)) ⊎ (((x.rate.num == 0) ≡ false) × (1 ≤ x.rate.num)) → (IsOneOf (offers_of net ms) o → IsOfferOf net ms o) → IsOfferOf net (x ∷ ms) o
+    at : (((x.rate.num == 0) ≡ true) × (x.rate.num ≡ 0)) ⊎ (((x.rate.num == 0) ≡ false) × (1 ≤ x.rate.num)) → (Contains (offers_of net ms) o → IsOfferOf net ms o) → IsOfferOf net (x ∷ ms) o
     at (inl test) rest = further (rest (rw test.0 at is))
-    at (inr test) rest = ⊎_elim (λ (same : offer_for net x ≡ o). (x, inl refl, same, test.1)) (λ (later : IsOneOf (offers_of net ms) o). further (rest later)) (rw test.0 at is)
-
-pub to-offer : (os : List Offer) (o : Offer) → IsOneOf os o → IsOneOf os o
-to-offer [] o is = is
-to-offer (p ∷ os) o (inl same) = inl same
-to-offer (p ∷ os) o (inr later) = inr (to-offer os o later)
+    at (inr test) rest = ⊎_elim (λ (same : offer_for net x ≡ o). (x, contains-here x ms, same, test.1)) (λ (later : Contains (offers_of net ms) o). further (rest later)) (contains-cases (offer_for net x) (offers_of net ms) o (rw test.0 at is))
 
 -- of offers in order, the one with the storage and the rate of another one is the one that covers it
 
-above-one : (p : Offer) (ps : List Offer) (q : Offer) → AreAbove p ps → IsOneOf ps q → (p.storage < q.storage) × (p.rate.num * q.rate.den < q.rate.num * p.rate.den)
-above-one p [] q above is = absurd is
-above-one p (r ∷ ps) q above (inl same) = subst (λ (x : Offer). (p.storage < x.storage) × (p.rate.num * x.rate.den < x.rate.num * p.rate.den)) same (above.0, above.1)
-above-one p (r ∷ ps) q above (inr later) =
+above-one : (p : Offer) (ps : List Offer) (q : Offer) → AreAbove p ps → Contains ps q → (p.storage < q.storage) × (p.rate.num * q.rate.den < q.rate.num * p.rate.den)
+above-one p [] q above is = absurd (contains-none q is)
+above-one p (r ∷ ps) q above is =
+    ⊎_elim
+    (λ (same : r ≡ q). subst (λ (x : Offer). (p.storage < x.storage) × (p.rate.num * x.rate.den < x.rate.num * p.rate.den)) same (above.0, above.1))
+    (λ (later : Contains ps q).
     let next = above-one r ps q above.2 later in
-    (omega (arith, above.0, next.0), less_on p.rate.num p.rate.den r.rate.num r.rate.den q.rate.num q.rate.den p.rate.positive r.rate.positive q.rate.positive above.1 (omega (arith, next.1)))
+    (omega (arith, above.0, next.0), less_on p.rate.num p.rate.den r.rate.num r.rate.den q.rate.num q.rate.den p.rate.positive r.rate.positive q.rate.positive above.1 (omega (arith, next.1))))
+    (contains-cases r ps q is)
 
-pub covering-one : (ps : List Offer) (o : Offer) → IsCoveredBy ps o → (q : Offer) × IsOneOf ps q × Covers q o
+pub covering-one : (ps : List Offer) (o : Offer) → IsCoveredBy ps o → (q : Offer) × Contains ps q × Covers q o
 covering-one [] o covered = absurd covered
-covering-one (p ∷ ps) o (inl covers) = (p, inl refl, covers)
-covering-one (p ∷ ps) o (inr later) = let found = covering-one ps o later in (found.0, inr found.1, found.2)
+covering-one (p ∷ ps) o (inl covers) = (p, contains-here p ps, covers)
+covering-one (p ∷ ps) o (inr later) = let found = covering-one ps o later in (found.0, contains-later p ps found.0 found.1, found.2)
 
 rest-rising : (p : Offer) (ps : List Offer) → AreAbove p ps → AreRising ps
 rest-rising p [] above = tt
 rest-rising p (q ∷ ps) above = above.2
 
-same-covers : (ps : List Offer) (p o : Offer) → AreRising ps → IsOneOf ps p → IsCoveredBy ps o → o.storage ≡ p.storage → o.rate.num * p.rate.den ≡ p.rate.num * o.rate.den → Covers p o
-same-covers [] p o order is covered storage rate = absurd is
-same-covers (q ∷ ps) p o order (inl same) (inl covers) storage rate = subst (λ (x : Offer). Covers x o) same covers
-same-covers (q ∷ ps) p o order (inl same) (inr later) storage rate =
-    let found = covering-one ps o later in
-    let above = above-one q ps found.0 order found.1 in
-    let level : q.storage ≡ p.storage = ap (λ (x : Offer). x.storage) same in
-    absurd (omega (arith, above.0, found.2.storage, level, storage))
-same-covers (q ∷ ps) p o order (inr later) (inl covers) storage rate =
-    let above = above-one q ps p order later in
-    let no_more : p.rate.num * q.rate.den ≤ q.rate.num * p.rate.den = no_less p.rate.num p.rate.den o.rate.num o.rate.den q.rate.num q.rate.den o.rate.positive (omega arith) covers.rate in
-    absurd (omega (arith, above.1, no_more))
-same-covers (q ∷ ps) p o order (inr later) (inr covered) storage rate = same-covers ps p o (rest-rising q ps order) later covered storage rate
+same-covers : (ps : List Offer) (p o : Offer) → AreRising ps → Contains ps p → IsCoveredBy ps o → o.storage ≡ p.storage → o.rate.num * p.rate.den ≡ p.rate.num * o.rate.den → Covers p o
+same-covers [] p o order is covered storage rate = absurd covered
+same-covers (q ∷ ps) p o order is covered storage rate = at (contains-cases q ps p is) covered (λ later under. same-covers ps p o (rest-rising q ps order) later under storage rate)
+  where
+    at : (q ≡ p) ⊎ Contains ps p → IsCoveredBy (q ∷ ps) o → (Contains ps p → IsCoveredBy ps o → Covers p o) → Covers p o
+    at (inl same) (inl covers) rest = subst (λ (x : Offer). Covers x o) same covers
+    at (inl same) (inr later) rest =
+        let found = covering-one ps o later in
+        let above = above-one q ps found.0 order found.1 in
+        let level : q.storage ≡ p.storage = ap (λ (x : Offer). x.storage) same in
+        absurd (omega (arith, above.0, found.2.storage, level, storage))
+    at (inr later) (inl covers) rest =
+        let above = above-one q ps p order later in
+        let no_more : p.rate.num * q.rate.den ≤ q.rate.num * p.rate.den = no_less p.rate.num p.rate.den o.rate.num o.rate.den q.rate.num q.rate.den o.rate.positive (omega arith) covers.rate in
+        absurd (omega (arith, above.1, no_more))
+    at (inr later) (inr under) rest = rest later under
 
 module _ (net : Net) (laws : Lawful net) (can : IsExplorable net) (limits : Limits) (small : limits.total ≤ STORAGE) (members : List Member) (points : List Point) (ended : IsEnded net limits members points) where
-  lawful-at : (ds : List (Option ℕ)) → (m : Member) → IsOneOf members m → IsDistribution net.channels ds → storage_of net.channels ds ≤ limits.total → Lawful (bound net ds)
+  lawful-at : (ds : List (Option ℕ)) → (m : Member) → Contains members m → IsDistribution net.channels ds → storage_of net.channels ds ≤ limits.total → Lawful (bound net ds)
   lawful-at ds m one dist within =
       let mine = ended.candidates m one in
       within-lawful net laws (plain-no_spaces net can.plain) m.capacities.capacities ds mine.distribution (can.few m.capacities.capacities mine.distribution) dist (omega (arith, small, within))
 
-  noted : (i : ℕ) → i < length ended.entries → (m : Member) × IsOneOf members m × IsNoted net limits.states m (entry_at ended.entries i)
-  noted i below = noted-at net limits.states members ended.entries (entry_at ended.entries i) ended.known.noted (one-at ended.entries i no_entry below)
+  noted : (i : ℕ) → i < length ended.entries → (m : Member) × Contains members m × IsNoted net limits.states m (entry_at ended.entries i)
+  noted i below = noted-at net limits.states members ended.entries (entry_at ended.entries i) ended.known.noted (Contains-get_or ended.entries i no_entry below)
 
   nexts : (i j : ℕ) → i < length ended.entries → j < length (entry_at ended.entries i).shown →
-      storage_of net.channels (stepped net (entry_at ended.entries i).capacities (slice_index (entry_at ended.entries i).shown j)) ≤ limits.total →
-      HasEntry ended.entries (stepped net (entry_at ended.entries i).capacities (slice_index (entry_at ended.entries i).shown j))
+      storage_of net.channels (stepped net.channels (entry_at ended.entries i).capacities (slice_index (entry_at ended.entries i).shown j)) ≤ limits.total →
+      HasEntry ended.entries (stepped net.channels (entry_at ended.entries i).capacities (slice_index (entry_at ended.entries i).shown j))
   nexts i j below shown within =
       let e : Entry = entry_at ended.entries i in
       let c : ℕ = slice_index (entry_at ended.entries i).shown j in
-      has-entry ended.entries (stepped net e.capacities c)
-      (ended.visits.next (led_by e.capacities e.shown) (stepped net e.capacities c) (entry-visit ended.entries e (one-at ended.entries i no_entry below)) (c, Contains-get_or (entry_at ended.entries i).shown j 0 shown, refl) within)
+      has-entry ended.entries (stepped net.channels e.capacities c)
+      (ended.visits.next (led_by e.capacities e.shown) (stepped net.channels e.capacities c) (entry-visit ended.entries e (Contains-get_or ended.entries i no_entry below)) (c, Contains-get_or (entry_at ended.entries i).shown j 0 shown, refl) within)
 
   bounds : (i : ℕ) → i < length ended.entries → (ds : List (Option ℕ)) → IsDistribution net.channels ds → storage_of net.channels ds ≤ limits.total → AtMost (entry_at ended.entries i).capacities ds → AgreesOn (entry_at ended.entries i).shown (entry_at ended.entries i).capacities ds → (p q : ℕ) → Rate (bound net ds) p q → p * (entry_at ended.entries i).den ≤ (entry_at ended.entries i).num * q
   bounds i below ds dist within most agrees p q rate =
@@ -140,10 +142,10 @@ module _ (net : Net) (laws : Lawful net) (can : IsExplorable net) (limits : Limi
   exact : AreExact net ended.entries
   exact i below runs = let n = noted i below in subst (λ (x : Entry). Rate (bound net x.capacities) x.num x.den) (sym n.2.is) n.2.member.rate
 
-  member-rate : (m : Member) → IsOneOf members m → Rate (bound net m.capacities.capacities) m.rate.num m.rate.den
+  member-rate : (m : Member) → Contains members m → Rate (bound net m.capacities.capacities) m.rate.num m.rate.den
   member-rate m one = (noted-of net limits.states members ended.entries m ended.known.noted one).2.member.rate
 
-  reached-offer : (o : Offer) → IsOneOf (map offer_of points) o → (m : Member) × IsOneOf members m × (offer_for net m ≡ o) × Reaches net limits.total o.storage o.rate.num o.rate.den o.capacities
+  reached-offer : (o : Offer) → Contains (map offer_of points) o → (m : Member) × Contains members m × (offer_for net m ≡ o) × Reaches net limits.total o.storage o.rate.num o.rate.den o.capacities
   reached-offer o one =
       let from = offer-from net members o (ended.known.front.among o one) in
       let mine = ended.candidates from.0 from.1 in
@@ -152,8 +154,8 @@ module _ (net : Net) (laws : Lawful net) (can : IsExplorable net) (limits : Limi
   over : IsFrontOver net limits.total ended.entries (map offer_pair (map offer_of points))
   over = front-of_offers net limits.total ended.entries (map offer_of points) ended.known.front.order
       (λ i below.
-      let o = one-unmap offer_pair (map offer_of points) (slice_index_or (map offer_pair (map offer_of points)) i no_pair) (one-at (map offer_pair (map offer_of points)) i no_pair below) in
-      let reaches = reached-offer o.0 (to-offer (map offer_of points) o.0 o.1) in
+      let o = contains-unmap offer_pair (map offer_of points) (slice_index_or (map offer_pair (map offer_of points)) i no_pair) (Contains-get_or (map offer_pair (map offer_of points)) i no_pair below) in
+      let reaches = reached-offer o.0 o.1 in
       subst (IsReachedPair net limits.total) o.2 (o.0.capacities, reaches.3))
       (λ i below runs.
       let n = noted i below in
@@ -169,12 +171,12 @@ module _ (net : Net) (laws : Lawful net) (can : IsExplorable net) (limits : Limi
   front : IsFront net limits.total (map pair_of points)
   front = subst (IsFront net limits.total) (map-map offer_pair offer_of points) (front-over net laws limits.total ended.entries (map offer_pair (map offer_of points)) closed over)
 
-  pareto : (p : Point) → IsOneOf points p → IsPareto net limits.total (pair_of p)
+  pareto : (p : Point) → Contains points p → IsPareto net limits.total (pair_of p)
   pareto p one =
-      let at = at-one (map pair_of points) no_pair (pair_of p) (one-map pair_of points p one) in
-      subst (IsPareto net limits.total) at.2 (front.points at.0 at.1)
+      let at = at_from_Contains (map pair_of points) (pair_of p) (contains-map pair_of points p one) in
+      subst (IsPareto net limits.total) (at.2 no_pair) (front.points at.0 at.1)
 
-  least : (p : Point) → IsOneOf points p → (ds : List (Option ℕ)) → Reaches net limits.total p.total p.rate.num p.rate.den ds → no_later p.capacities.capacities ds ≡ true
+  least : (p : Point) → Contains points p → (ds : List (Option ℕ)) → Reaches net limits.total p.total p.rate.num p.rate.den ds → no_later p.capacities.capacities ds ≡ true
   least p one ds reaches =
       let has = pareto-listed net laws limits.total ended.entries closed exact (pair_of p) (pareto p one) ds reaches in
       let n = noted has.0 has.1 in
@@ -186,38 +188,38 @@ module _ (net : Net) (laws : Lawful net) (can : IsExplorable net) (limits : Limi
       let covered = ended.known.front.covers (offer_for net n.0) (offer-there net members n.0 n.1 some) in
       let storage : storage_of net.channels n.0.capacities.capacities ≡ p.total = ap (storage_of net.channels) same ∙ reaches.total in
       let cross : n.0.rate.num * p.rate.den ≡ p.rate.num * n.0.rate.den = ap (λ (x : ℕ). x * p.rate.den) rates.0 ∙ ap (λ (x : ℕ). p.rate.num * x) (sym rates.1) in
-      let covers : Covers (offer_of p) (offer_for net n.0) = same-covers (map offer_of points) (offer_of p) (offer_for net n.0) ended.known.front.order (to-offer (map offer_of points) (offer_of p) (one-map offer_of points p one)) covered storage cross in
+      let covers : Covers (offer_of p) (offer_for net n.0) = same-covers (map offer_of points) (offer_of p) (offer_for net n.0) ended.known.front.order (contains-map offer_of points p one) covered storage cross in
       subst (λ (es : List (Option ℕ)). no_later p.capacities.capacities es ≡ true) same (covers.tie (sym storage) cross)
 
   same-visits : visited (visits_of ended.entries) ≡ capacities_of members
   same-visits = visited-members net limits.states members ended.entries ended.known.noted
 
-  is-member : (ds : List (Option ℕ)) → Contains (visited (visits_of ended.entries)) ds → IsOneOf (capacities_of members) ds
-  is-member ds one = contains-one (capacities_of members) ds (subst (λ (xs : List (List (Option ℕ))). Contains xs ds) same-visits one)
+  is-member : (ds : List (Option ℕ)) → Contains (visited (visits_of ended.entries)) ds → Contains (capacities_of members) ds
+  is-member ds one = subst (λ (xs : List (List (Option ℕ))). Contains xs ds) same-visits one
 
-  is-visit : (ds : List (Option ℕ)) → IsOneOf (capacities_of members) ds → Contains (visited (visits_of ended.entries)) ds
-  is-visit ds one = subst (λ (xs : List (List (Option ℕ))). Contains xs ds) (sym same-visits) (one-contains (capacities_of members) ds one)
+  is-visit : (ds : List (Option ℕ)) → Contains (capacities_of members) ds → Contains (visited (visits_of ended.entries)) ds
+  is-visit ds one = subst (λ (xs : List (List (Option ℕ))). Contains xs ds) (sym same-visits) one
 
-  follows : (m : Member) (c : ℕ) → IsOneOf members m → ShowsChannel net m.capacities.capacities m.shown c → storage_of net.channels (stepped net m.capacities.capacities c) ≤ limits.total → IsOneOf (capacities_of members) (stepped net m.capacities.capacities c)
+  follows : (m : Member) (c : ℕ) → Contains members m → ShowsChannel net m.capacities.capacities m.shown c → storage_of net.channels (stepped net.channels m.capacities.capacities c) ≤ limits.total → Contains (capacities_of members) (stepped net.channels m.capacities.capacities c)
   follows m c one shows fits =
       let e = noted-of net limits.states members ended.entries m ended.known.noted one in
       let same : e.0.capacities ≡ m.capacities.capacities = ap (λ (x : Entry). x.capacities) e.2.is in
-      is-member (stepped net m.capacities.capacities c)
-      (ended.visits.next (led_by e.0.capacities e.0.shown) (stepped net m.capacities.capacities c) (entry-visit ended.entries e.0 e.1)
-      (c, has-contains e.0.shown c ((e.2.shows c).1 shows), ap (λ (ds : List (Option ℕ)). stepped net ds c) (sym same)) fits)
+      is-member (stepped net.channels m.capacities.capacities c)
+      (ended.visits.next (led_by e.0.capacities e.0.shown) (stepped net.channels m.capacities.capacities c) (entry-visit ended.entries e.0 e.1)
+      (c, (e.2.shows c).1 shows, ap (λ (ds : List (Option ℕ)). stepped net.channels ds c) (sym same)) fits)
 
   pub explored : IsExploration net limits members points
   explored = record {
     front = front;
     reached = λ p one.
-        let at = reached-offer (offer_of p) (to-offer (map offer_of points) (offer_of p) (one-map offer_of points p one)) in
+        let at = reached-offer (offer_of p) (contains-map offer_of points p one) in
         record { reaches = at.3; least = least p one; found = ended.known.tables p one };
     listed = λ p one.
-        let at = reached-offer (offer_of p) (to-offer (map offer_of points) (offer_of p) (one-map offer_of points p one)) in
-        subst (IsOneOf (capacities_of members)) (ap (λ (o : Offer). o.capacities) at.2) (one-map (λ (x : Member). x.capacities.capacities) members at.0 at.1);
+        let at = reached-offer (offer_of p) (contains-map offer_of points p one) in
+        subst (Contains (capacities_of members)) (ap (λ (o : Offer). o.capacities) at.2) (contains-map (λ (x : Member). x.capacities.capacities) members at.0 at.1);
     evaluated = λ m one. (noted-of net limits.states members ended.entries m ended.known.noted one).2.member;
-    reachable = λ ds one. let m = one-unmap (λ (x : Member). x.capacities.capacities) members ds one in subst (IsReachable net limits.total) m.2 (ended.candidates m.0 m.1).reachable;
-    order = subst (AreInOrder net) same-visits ended.visits.order;
+    reachable = λ ds one. let m = contains-unmap (λ (x : Member). x.capacities.capacities) members ds one in subst (IsReachable net limits.total) m.2 (ended.candidates m.0 m.1).reachable;
+    order = subst (AreInOrder net.channels) same-visits ended.visits.order;
     start = record { corner = ended.corner; is_corner = ended.is_corner; start = λ fits. is-member ended.corner (ended.visits.begins fits) };
     closed = follows;
     led = λ ds one. led-member net limits.states members ended.entries ended.known.noted ended.corner ended.is_corner ds (ended.visits.led ds (is-visit ds one));

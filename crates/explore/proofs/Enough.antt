@@ -1,7 +1,7 @@
 -- An exploration that ends below the limit has all points, if one of them has a rate that none passes.
 use Rattle.std.proofs.Common.{ℕ, zero, suc, ◌+◌, ◌*◌, ◌≤◌, ◌<◌, Option, Some, None, List, [], ◌∷◌, length, map, inl, inr, ⊎_elim, sym, subst, arith, mul-le-mul_right}
 use Rattle.std.specs.Prelude.{Contains, slice_index_or}
-use Rattle.std.proofs.lemmas.List.Elements.{All-contains}
+use Rattle.std.proofs.lemmas.List.Elements.{All-contains, at_from_Contains}
 use Rattle.std.proofs.lemmas.Bool.{cases_lt}
 use Rattle.sd_base.specs.declared.limits.Limits.{Limits}
 use Rattle.sd_base.specs.declared.limits.TheConstants.{STORAGE}
@@ -11,11 +11,12 @@ use Rattle.storage.specs.Distributions.{enlarged, storage_of}
 use Rattle.storage.specs.ParetoPoints.{Beats, IsFront, IsPareto, IsReachedPair, Pair, Reaches, no_pair}
 use Rattle.storage.proofs.Fits.{within-lawful}
 use Rattle.storage.proofs.FileChannels.{plain-no_spaces}
+use Rattle.storage.proofs.Containing.{contains-map}
+use Rattle.storage.specs.StorageOrder.{stepped}
 use Rattle.pareto_front.specs.declared.point.Point.{Point}
 use Rattle.explore.specs.declared.exploration.Member.{Member}
-use Rattle.explore.specs.Reachable.{IsExplorable, IsReachable, corner, next, stepped}
-use Rattle.pareto_front.specs.Offers.{IsOneOf}
-use Rattle.explore.specs.Explorations.{IsExploration, IsPoint, capacities_of, pair_of}
+use Rattle.explore.specs.Reachable.{IsExplorable, IsReachable, corner, next}
+use Rattle.explore.specs.Explorations.{IsExploration, IsPoint, pair_of}
 use Rattle.explore.specs.declared.extent.Extent.{Extent}
 use Rattle.explore.specs.declared.extent.Extent.TheVariants.{Limit, Fastest}
 use Rattle.explore.specs.declared.search.Search.{Search}
@@ -24,7 +25,6 @@ use Rattle.explore.specs.Ceilings.{BoundsAll}
 use Rattle.levels.specs.Visits.{AreVisits, visited, visits_of}
 use Rattle.levels.proofs.Spreading.{frontier-up_to}
 use Rattle.explore.specs.inside.Searches.{IsCandidate, IsEnded, IsFarEnough, IsPast, IsSearch, IsTopAmong}
-use Rattle.explore.proofs.Elements.{at-one, one-contains, one-map}
 use Rattle.explore.proofs.Searching.{search-few, search-limit, visited-members}
 use Rattle.explore.proofs.Ending.{explored}
 
@@ -42,7 +42,7 @@ more-storage (x ∷ cs) (Some k ∷ ds) (suc c) by = let later = more-storage cs
 reachable-low : (net : Net) (limit storage : ℕ) (ds : List (Option ℕ)) → IsReachable net limit ds → storage_of net.channels ds ≤ storage → IsReachable net storage ds
 reachable-low net limit storage ds (corner _ is within) low = corner ds is low
 reachable-low net limit storage _ (next ds c reach guide within) low =
-    next ds c (reachable-low net limit storage ds reach (let more : storage_of net.channels ds ≤ storage_of net.channels (stepped net ds c) = more-storage net.channels ds c _ in omega (arith, more, low))) guide low
+    next ds c (reachable-low net limit storage ds reach (let more : storage_of net.channels ds ≤ storage_of net.channels (stepped net.channels ds c) = more-storage net.channels ds c _ in omega (arith, more, low))) guide low
 
 -- what is reached within less storage
 reaches-up : (net : Net) (storage limit t p q : ℕ) (ds : List (Option ℕ)) → storage ≤ limit → Reaches net storage t p q ds → Reaches net limit t p q ds
@@ -102,13 +102,13 @@ module _ (net : Net) (laws : Lawful net) (can : IsExplorable net) (limits : Limi
 
   pub enough : (members : List Member) (points : List Point) → IsExploration net (up_to storage limits) members points → IsTopAmong net points → IsEnough net limits members points
   enough members points is top =
-      let at = at-one (map pair_of points) no_pair (pair_of top.0) (one-map pair_of points top.0 top.1) in
+      let at = at_from_Contains (map pair_of points) (pair_of top.0) (contains-map pair_of points top.0 top.1) in
       record {
         storage = storage;
         within = low;
         explored = is;
         front = front-up net storage limits.total low (map pair_of points) is.front at.0 at.1
-            (λ other reached. subst (λ (x : Pair). other.num * x.den ≤ x.num * other.den) (sym at.2) (top-reached top.0 (is.reached top.0 top.1) top.2 other reached));
+            (λ other reached. subst (λ (x : Pair). other.num * x.den ≤ x.num * other.den) (sym (at.2 no_pair)) (top-reached top.0 (is.reached top.0 top.1) top.2 other reached));
         reached = λ p one. point-up p (is.reached p one);
       }
 
@@ -132,7 +132,7 @@ ended-past net can limits storage s (low, search) = record {
   candidates = λ m one.
       let is : IsCandidate net limits.total m.capacities.capacities = search.candidates m one in
       let mine : storage_of net.channels m.capacities.capacities ≤ storage = All-contains (λ (ds : List (Option ℕ)). storage_of net.channels ds ≤ storage) (visited (visits_of search.entries)) m.capacities.capacities visits.within
-      (subst (λ (xs : List (List (Option ℕ))). Contains xs m.capacities.capacities) (sym (visited-members net limits.states s.members.items search.entries search.known.noted)) (one-contains (capacities_of s.members.items) m.capacities.capacities (one-map (λ (x : Member). x.capacities.capacities) s.members.items m one))) in
+      (subst (λ (xs : List (List (Option ℕ))). Contains xs m.capacities.capacities) (sym (visited-members net limits.states s.members.items search.entries search.known.noted)) (contains-map (λ (x : Member). x.capacities.capacities) s.members.items m one)) in
       record { distribution = is.distribution; grid = is.grid; within = mine; reachable = reachable-low net limits.total storage m.capacities.capacities is.reachable mine };
   few = (let few = search-few net can limits (storage + 1) [] s search in omega (arith, few));
 }
@@ -161,6 +161,6 @@ module _ (net : Net) (laws : Lawful net) (can : IsExplorable net) (limits : Limi
       (explored net laws can (up_to storage limits) (omega (arith, small, past.0)) s.members.items s.front (ended-past net can limits storage s past)) top
 
 -- the points are those of all distributions within the limit
-pub explores-points : (extent : Extent) (net : Net) (limits : Limits) (members : List Member) (points : List Point) → Explores extent net limits members points → (p : Point) → IsOneOf points p → IsPoint net limits p
+pub explores-points : (extent : Extent) (net : Net) (limits : Limits) (members : List Member) (points : List Point) → Explores extent net limits members points → (p : Point) → Contains points p → IsPoint net limits p
 explores-points Limit net limits members points is = is.reached
 explores-points Fastest net limits members points is = is.reached

@@ -1,6 +1,6 @@
 -- What is known of members, with one more.
 use Rattle.std.proofs.Common.{◌≡◌, ℕ, ◌+◌, ◌*◌, ◌≤◌, ◌<◌, ◌⊎◌, ◌∙◌, None, Some, mul-le-mul_left, Bool, true, false, Option, List, [], ◌∷◌, ◌++◌, map, inl, inr, ⊎_elim, refl, sym, ap, subst, arith, eq-eqb}
-use Rattle.std.specs.Prelude.{◌==◌, ◌↔◌, if◌then◌else◌, nat_le}
+use Rattle.std.specs.Prelude.{◌==◌, ◌↔◌, if◌then◌else◌, nat_le, Contains}
 use Rattle.std.proofs.lemmas.List.{append-nil}
 use Rattle.sd_base.specs.declared.numbers.Fraction.{Fraction}
 use Rattle.sd_base.specs.Net.{Net}
@@ -12,9 +12,8 @@ use Rattle.storage.specs.BoundedNets.{bound}
 use Rattle.storage.specs.Distributions.{storage_of}
 use Rattle.storage.specs.ClosedLists.{Entry}
 use Rattle.pareto_front.specs.declared.point.Point.{Point}
-use Rattle.pareto_front.specs.Offers.{Covers, IsCoveredBy, IsOneOf, Offer, is_slower}
+use Rattle.pareto_front.specs.Offers.{Covers, IsCoveredBy, Offer, is_slower}
 use Rattle.pareto_front.specs.Points.{IsFrontOf, IsOffered, left_points, offer_of, put_point}
-use Rattle.pareto_front.proofs.Putting.{one-more}
 use Rattle.guide.specs.declared.rating.Evaluation.{Evaluation}
 use Rattle.guide.specs.declared.rating.Outcome.{Outcome}
 use Rattle.guide.specs.declared.rating.Outcome.TheVariants as outcomes
@@ -23,24 +22,26 @@ use Rattle.explore.specs.declared.exploration.Member.{Member}
 use Rattle.explore.specs.declared.exploration.Shown.{Shown}
 use Rattle.storage.proofs.FrontsFromMembers.{no_less}
 use Rattle.std.proofs.lemmas.Bool.{cases_lt}
-use Rattle.explore.proofs.Elements.{one-left}
+use Rattle.std.proofs.lemmas.List.Elements.{Contains-append_left, Contains-push_cases}
 use Rattle.explore.proofs.Ending.{offer-there, covering-one}
 use Rattle.explore.specs.Explorations.{ShowsChannel, ShowsRate, cycles_in, shows_cycle}
 use Rattle.explore.specs.inside.Searches.{AreKnown, AreNoted, HasTable, IsNoted, entry_of, offer_for, offers_at, offers_of}
 use Rattle.explore.specs.inside.Rated.{IsBest, IsRated, KeepsTable, evaluated_member, member_of, shown_by}
 use Rattle.explore.specs.declared.rated.Rated.{Rated}
-use Rattle.critical.specs.Spaces.{Has, IsSpaceAt}
+use Rattle.critical.specs.Spaces.{IsSpaceAt}
+use Rattle.critical.proofs.Storage.{number-place}
+use Rattle.storage.proofs.Containing.{contains-here, contains-later, contains-none, contains-cases}
 use Rattle.guide.proofs.Shown.{evaluation-shows}
 
 -- what an outcome shows is what its member shows
-outcome-shown : (net : Net) (ds : List (Option ℕ)) (states : ℕ) (rate : Fraction) (shown : List ℕ) (outcome : Outcome) → IsOutcome net ds states rate shown outcome → (c : ℕ) → Has shown c ↔ ShowsChannel net ds (shown_by outcome) c
+outcome-shown : (net : Net) (ds : List (Option ℕ)) (states : ℕ) (rate : Fraction) (shown : List ℕ) (outcome : Outcome) → IsOutcome net ds states rate shown outcome → (c : ℕ) → Contains shown c ↔ ShowsChannel net ds (shown_by outcome) c
 outcome-shown net ds states rate shown (outcomes.Live table cycle) is c = (
-  λ has. let at = is.channels.there has.0 has.1 in (at.0, at.1, subst (IsSpaceAt (bound net ds) cycle.steps at.0) has.2 at.2),
+  λ has. let number = number-place shown c has in let at = is.channels.there number.0 number.1 in (at.0, at.1, subst (IsSpaceAt (bound net ds) cycle.steps at.0) number.2 at.2),
   λ shows. is.channels.all shows.0 c shows.1 shows.2,
 )
 outcome-shown net ds states rate shown (outcomes.Blocked counts lacks) is c = is.channels c
 
-pub evaluation-shown : (net : Net) (d : Distribution) (states : ℕ) (e : Evaluation) → IsEvaluated net d.capacities states e → (c : ℕ) → Has e.enlarge c ↔ ShowsChannel net d.capacities (evaluated_member d e).shown c
+pub evaluation-shown : (net : Net) (d : Distribution) (states : ℕ) (e : Evaluation) → IsEvaluated net d.capacities states e → (c : ℕ) → Contains e.enlarge c ↔ ShowsChannel net d.capacities (evaluated_member d e).shown c
 evaluation-shown net d states e is c = outcome-shown net d.capacities states e.rate e.enlarge e.outcome is.outcome c
 
 -- a member with the channels of its evaluation
@@ -73,7 +74,7 @@ offers-more net (m ∷ ms) new = at (m.rate.num == 0) (offers-more net ms new)
     at false rest = ap (λ (os : List Offer). offer_for net m ∷ os) rest
 
 -- one more member is known
-pub known-more : (net : Net) (states : ℕ) (ms : List Member) (es : List Entry) (old new : List Point) (m : Member) (e : Entry) → AreKnown net states ms es old → IsNoted net states m e → ((os : List Offer) → IsFrontOf os (map offer_of old) → IsFrontOf (os ++ offers_of net (m ∷ [])) (map offer_of new)) → (((p : Point) → IsOneOf old p → HasTable net states p) → (p : Point) → IsOneOf new p → HasTable net states p) → AreKnown net states (ms ++ m ∷ []) (es ++ e ∷ []) new
+pub known-more : (net : Net) (states : ℕ) (ms : List Member) (es : List Entry) (old new : List Point) (m : Member) (e : Entry) → AreKnown net states ms es old → IsNoted net states m e → ((os : List Offer) → IsFrontOf os (map offer_of old) → IsFrontOf (os ++ offers_of net (m ∷ [])) (map offer_of new)) → (((p : Point) → Contains old p → HasTable net states p) → (p : Point) → Contains new p → HasTable net states p) → AreKnown net states (ms ++ m ∷ []) (es ++ e ∷ []) new
 known-more net states ms es old new m e known is front tables = record {
   noted = noted-more net states ms es m e known.noted is;
   front = subst (λ (os : List Offer). IsFrontOf os (map offer_of new)) (sym (offers-more net ms (m ∷ []))) (front (offers_of net ms) known.front);
@@ -90,31 +91,33 @@ one-offer net m some = rw some refl
 
 -- the points after an offer
 
-left-one : (n : Point) (ps : List Point) (p : Point) → IsOneOf (left_points n ps) p → IsOneOf ps p
+left-one : (n : Point) (ps : List Point) (p : Point) → Contains (left_points n ps) p → Contains ps p
 left-one n [] p is = is
 left-one n (q ∷ ps) p is = at (is_slower (offer_of q) (offer_of n)) (left-one n ps p) is
   where
-    at : (b : Bool) → (IsOneOf (left_points n ps) p → IsOneOf ps p) → IsOneOf (if b then left_points n ps else q ∷ ps) p → IsOneOf (q ∷ ps) p
-    at true rest is = inr (rest is)
+    at : (b : Bool) → (Contains (left_points n ps) p → Contains ps p) → Contains (if b then left_points n ps else q ∷ ps) p → Contains (q ∷ ps) p
+    at true rest is = contains-later q ps p (rest is)
     at false rest is = is
 
-put-one : (n : Point) (ps : List Point) (p : Point) → IsOneOf (put_point n ps) p → (n ≡ p) ⊎ IsOneOf ps p
-put-one n [] p is = is
+put-one : (n : Point) (ps : List Point) (p : Point) → Contains (put_point n ps) p → (n ≡ p) ⊎ Contains ps p
+put-one n [] p is = contains-cases n [] p is
 put-one n (q ∷ ps) p is = at (nat_le n.total q.total) (put-one n ps p) is
   where
-    at : (b : Bool) → (IsOneOf (put_point n ps) p → (n ≡ p) ⊎ IsOneOf ps p) → IsOneOf (if b then n ∷ left_points n (q ∷ ps) else q ∷ put_point n ps) p → (n ≡ p) ⊎ IsOneOf (q ∷ ps) p
-    at true rest (inl same) = inl same
-    at true rest (inr later) = inr (left-one n (q ∷ ps) p later)
-    at false rest (inl same) = inr (inl same)
-    at false rest (inr later) = ⊎_elim (λ (h : n ≡ p). inl h) (λ (h : IsOneOf ps p). inr (inr h)) (rest later)
+    further : (n ≡ p) ⊎ Contains ps p → (n ≡ p) ⊎ Contains (q ∷ ps) p
+    further (inl same) = inl same
+    further (inr later) = inr (contains-later q ps p later)
 
-pub offered-one : (n : Point) (old new : List Point) (p : Point) → IsOffered n old new → IsOneOf new p → (n ≡ p) ⊎ IsOneOf old p
-offered-one n old new p (inl (covered, same)) is = inr (subst (λ (ps : List Point). IsOneOf ps p) same is)
-offered-one n old new p (inr (not, same)) is = put-one n old p (subst (λ (ps : List Point). IsOneOf ps p) same is)
+    at : (b : Bool) → (Contains (put_point n ps) p → (n ≡ p) ⊎ Contains ps p) → Contains (if b then n ∷ left_points n (q ∷ ps) else q ∷ put_point n ps) p → (n ≡ p) ⊎ Contains (q ∷ ps) p
+    at true rest is = ⊎_elim (λ (h : n ≡ p). inl h) (λ (h : Contains (left_points n (q ∷ ps)) p). inr (left-one n (q ∷ ps) p h)) (contains-cases n (left_points n (q ∷ ps)) p is)
+    at false rest is = ⊎_elim (λ (same : q ≡ p). inr (subst (Contains (q ∷ ps)) same (contains-here q ps))) (λ (later : Contains (put_point n ps) p). further (rest later)) (contains-cases q (put_point n ps) p is)
+
+pub offered-one : (n : Point) (old new : List Point) (p : Point) → IsOffered n old new → Contains new p → (n ≡ p) ⊎ Contains old p
+offered-one n old new p (inl (covered, same)) is = inr (subst (λ (ps : List Point). Contains ps p) same is)
+offered-one n old new p (inr (not, same)) is = put-one n old p (subst (λ (ps : List Point). Contains ps p) same is)
 
 -- a member whose net is live, and one whose net is blocked
 
-pub live-known : (net : Net) (d : Distribution) (e : Evaluation) (total : ℕ) (table : LoopTable) (cycle : NeedCycle) (old new : List Point) → e.outcome ≡ outcomes.Live table cycle → storage_of net.channels d.capacities ≡ total → ((os : List Offer) → IsFrontOf os (map offer_of old) → IsFrontOf (os ++ offers_at total e.rate d.capacities) (map offer_of new)) → ((p : Point) → IsOneOf new p → ((p.capacities ≡ d) × (p.table ≡ table)) ⊎ IsOneOf old p) → (states : ℕ) (ms : List Member) (es : List Entry) → IsEvaluated net d.capacities states e → AreKnown net states ms es old → AreKnown net states (ms ++ evaluated_member d e ∷ []) (es ++ entry_of (evaluated_member d e) e.enlarge ∷ []) new
+pub live-known : (net : Net) (d : Distribution) (e : Evaluation) (total : ℕ) (table : LoopTable) (cycle : NeedCycle) (old new : List Point) → e.outcome ≡ outcomes.Live table cycle → storage_of net.channels d.capacities ≡ total → ((os : List Offer) → IsFrontOf os (map offer_of old) → IsFrontOf (os ++ offers_at total e.rate d.capacities) (map offer_of new)) → ((p : Point) → Contains new p → ((p.capacities ≡ d) × (p.table ≡ table)) ⊎ Contains old p) → (states : ℕ) (ms : List Member) (es : List Entry) → IsEvaluated net d.capacities states e → AreKnown net states ms es old → AreKnown net states (ms ++ evaluated_member d e ∷ []) (es ++ entry_of (evaluated_member d e) e.enlarge ∷ []) new
 live-known net d e total table cycle old new live storage front points states ms es is known =
     known-more net states ms es old new (evaluated_member d e) (entry_of (evaluated_member d e) e.enlarge) known (member-noted net d states e is) fronts tables
   where
@@ -124,8 +127,8 @@ live-known net d e total table cycle old new live storage front points states ms
     found : IsFound (bound net d.capacities) states table
     found = (subst (IsOutcome net d.capacities states e.rate e.enlarge) live is.outcome).found
 
-    tables : ((p : Point) → IsOneOf old p → HasTable net states p) → (p : Point) → IsOneOf new p → HasTable net states p
-    tables was p one = ⊎_elim (λ (h : (p.capacities ≡ d) × (p.table ≡ table)). subst (λ (x : Distribution). IsFound (bound net x.capacities) states p.table) (sym h.0) (subst (λ (t : LoopTable). IsFound (bound net d.capacities) states t) (sym h.1) found)) (λ (h : IsOneOf old p). was p h) (points p one)
+    tables : ((p : Point) → Contains old p → HasTable net states p) → (p : Point) → Contains new p → HasTable net states p
+    tables was p one = ⊎_elim (λ (h : (p.capacities ≡ d) × (p.table ≡ table)). subst (λ (x : Distribution). IsFound (bound net x.capacities) states p.table) (sym h.0) (subst (λ (t : LoopTable). IsFound (bound net d.capacities) states t) (sym h.1) found)) (λ (h : Contains old p). was p h) (points p one)
 
 pub blocked-known : (net : Net) (d : Distribution) (e : Evaluation) (counts : List ℕ) (lacks : List (Option ℕ)) (points : List Point) → e.outcome ≡ outcomes.Blocked counts lacks → (states : ℕ) (ms : List Member) (es : List Entry) → IsEvaluated net d.capacities states e → AreKnown net states ms es points → AreKnown net states (ms ++ evaluated_member d e ∷ []) (es ++ entry_of (evaluated_member d e) e.enlarge ∷ []) points
 blocked-known net d e counts lacks points blocked states ms es is known =
@@ -159,10 +162,13 @@ record_of d rate shown = record { capacities = d; rate = rate; shown = shown }
 
 -- a member whose loop wasn't kept is covered: one of less storage has no less rate
 
-covered-by : (ps : List Offer) (p o : Offer) → IsOneOf ps p → Covers p o → IsCoveredBy ps o
-covered-by [] p o is covers = absurd is
-covered-by (q ∷ ps) p o (inl same) covers = inl (subst (λ (x : Offer). Covers x o) (sym same) covers)
-covered-by (q ∷ ps) p o (inr later) covers = inr (covered-by ps p o later covers)
+covered-by : (ps : List Offer) (p o : Offer) → Contains ps p → Covers p o → IsCoveredBy ps o
+covered-by [] p o is covers = absurd (contains-none p is)
+covered-by (q ∷ ps) p o is covers =
+    ⊎_elim
+    (λ (same : q ≡ p). inl (subst (λ (x : Offer). Covers x o) (sym same) covers))
+    (λ (later : Contains ps p). inr (covered-by ps p o later covers))
+    (contains-cases q ps p is)
 
 module _ (net : Net) (d : Distribution) (e : Evaluation) (total : ℕ) (best : Fraction) (points : List Point) (storage : storage_of net.channels d.capacities ≡ total) (slow : e.rate.num * best.den ≤ best.num * e.rate.den) (ms : List Member) where
   without : e.rate.num ≡ 0 → IsFrontOf (offers_of net ms) (map offer_of points) → IsFrontOf (offers_of net ms ++ offers_of net (evaluated_member d e ∷ [])) (map offer_of points)
@@ -177,7 +183,7 @@ module _ (net : Net) (d : Distribution) (e : Evaluation) (total : ℕ) (best : F
         tie = λ same cross. absurd (omega (arith, storage, less, p.2.storage, same));
       })
 
-  behind : (m : Member) → IsOneOf ms m → m.rate ≡ best → storage_of net.channels m.capacities.capacities < total → 1 ≤ best.num → IsFrontOf (offers_of net ms) (map offer_of points) → IsFrontOf (offers_of net ms ++ offers_of net (evaluated_member d e ∷ [])) (map offer_of points)
+  behind : (m : Member) → Contains ms m → m.rate ≡ best → storage_of net.channels m.capacities.capacities < total → 1 ≤ best.num → IsFrontOf (offers_of net ms) (map offer_of points) → IsFrontOf (offers_of net ms ++ offers_of net (evaluated_member d e ∷ [])) (map offer_of points)
   behind m one same less some was = at (e.rate.num == 0) refl
     where
       runs : 1 ≤ m.rate.num
@@ -192,8 +198,8 @@ module _ (net : Net) (d : Distribution) (e : Evaluation) (total : ℕ) (best : F
       more : IsFrontOf (offers_of net ms ++ offer_for net (evaluated_member d e) ∷ []) (map offer_of points)
       more = record {
         order = was.order;
-        covers = λ x is. ⊎_elim (λ (h : IsOneOf (offers_of net ms) x). was.covers x h) (λ (h : offer_for net (evaluated_member d e) ≡ x). subst (IsCoveredBy (map offer_of points)) h by) (one-more (offers_of net ms) (offer_for net (evaluated_member d e)) x is);
-        among = λ p is. one-left (offers_of net ms) (offer_for net (evaluated_member d e) ∷ []) p (was.among p is);
+        covers = λ x is. ⊎_elim (λ (h : Contains (offers_of net ms) x). was.covers x h) (λ (h : offer_for net (evaluated_member d e) ≡ x). subst (IsCoveredBy (map offer_of points)) h by) (Contains-push_cases (offers_of net ms) (offer_for net (evaluated_member d e)) x is);
+        among = λ p is. Contains-append_left (offers_of net ms) (offer_for net (evaluated_member d e) ∷ []) p (was.among p is);
       }
 
       at : (b : Bool) → (e.rate.num == 0) ≡ b → IsFrontOf (offers_of net ms ++ offers_of net (evaluated_member d e ∷ [])) (map offer_of points)
@@ -208,7 +214,7 @@ module _ (net : Net) (d : Distribution) (e : Evaluation) (total : ℕ) (best : F
       without (omega (arith, slow, nothing, least)) was)
       (λ (some : 1 ≤ best.num). ⊎_elim
       (λ (none : best.num ≡ 0). absurd (omega (arith, none, some)))
-      (λ (b : (m : Member) × IsOneOf ms m × (m.rate ≡ best) × (storage_of net.channels m.capacities.capacities < total)). behind b.0 b.1 b.2 b.3 some was)
+      (λ (b : (m : Member) × Contains ms m × (m.rate ≡ best) × (storage_of net.channels m.capacities.capacities < total)). behind b.0 b.1 b.2 b.3 some was)
       fastest)
       (cases_lt best.num 1)
 
@@ -225,7 +231,7 @@ pub same-member : (d : Distribution) (best : Fraction) (e : Evaluation) (r : Rat
 same-member d best e r is =
     ap (λ (x : Fraction). record_of d x (shown_by e.outcome)) (sym is.rate) ∙ ap (λ (x : Shown). record_of d r.rate x) (sym is.shown)
 
-pub kept-known : (net : Net) (d : Distribution) (best : Fraction) (e : Evaluation) (r : Rated) (total : ℕ) (table : LoopTable) (old new : List Point) → IsRated best e r → r.table ≡ Some table → storage_of net.channels d.capacities ≡ total → ((os : List Offer) → IsFrontOf os (map offer_of old) → IsFrontOf (os ++ offers_at total r.rate d.capacities) (map offer_of new)) → ((p : Point) → IsOneOf new p → ((p.capacities ≡ d) × (p.table ≡ table)) ⊎ IsOneOf old p) → (states : ℕ) (ms : List Member) (es : List Entry) → IsEvaluated net d.capacities states e → AreKnown net states ms es old → AreKnown net states (ms ++ evaluated_member d e ∷ []) (es ++ entry_of (evaluated_member d e) e.enlarge ∷ []) new
+pub kept-known : (net : Net) (d : Distribution) (best : Fraction) (e : Evaluation) (r : Rated) (total : ℕ) (table : LoopTable) (old new : List Point) → IsRated best e r → r.table ≡ Some table → storage_of net.channels d.capacities ≡ total → ((os : List Offer) → IsFrontOf os (map offer_of old) → IsFrontOf (os ++ offers_at total r.rate d.capacities) (map offer_of new)) → ((p : Point) → Contains new p → ((p.capacities ≡ d) × (p.table ≡ table)) ⊎ Contains old p) → (states : ℕ) (ms : List Member) (es : List Entry) → IsEvaluated net d.capacities states e → AreKnown net states ms es old → AreKnown net states (ms ++ evaluated_member d e ∷ []) (es ++ entry_of (evaluated_member d e) e.enlarge ∷ []) new
 kept-known net d best e r total table old new is kept storage front points states ms es evaluated known = at e.outcome refl (subst (KeepsTable best e.rate e.outcome) kept is.table)
   where
     fronts-of : (os : List Offer) → IsFrontOf os (map offer_of old) → IsFrontOf (os ++ offers_at total e.rate d.capacities) (map offer_of new)
@@ -246,4 +252,4 @@ left-known net d best e r total points is left storage states ms es evaluated fa
 
 pub best-more : (net : Net) (best : Fraction) (total : ℕ) (ms : List Member) (m : Member) → IsBest net best total ms → IsBest net best total (ms ++ m ∷ [])
 best-more net best total ms m (inl none) = inl none
-best-more net best total ms m (inr (x, one, same, less)) = inr (x, one-left ms (m ∷ []) x one, same, less)
+best-more net best total ms m (inr (x, one, same, less)) = inr (x, Contains-append_left ms (m ∷ []) x one, same, less)

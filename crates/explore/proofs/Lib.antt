@@ -1,5 +1,4 @@
 pub mod Tasks
-pub mod Elements
 pub mod Stepping
 pub mod Searching
 pub mod Reaching

@@ -1,39 +1,43 @@
 -- What the visits of a search say of its members.
-use Rattle.std.proofs.Common.{◌≡◌, ℕ, suc, ◌+◌, ◌≤◌, Option, List, [], ◌∷◌, ◌++◌, length, inl, inr, refl, sym, ap, ◌∙◌, subst, arith}
+use Rattle.std.proofs.Common.{◌≡◌, ℕ, suc, ◌+◌, ◌≤◌, Option, List, [], ◌∷◌, ◌++◌, length, inl, inr, ⊎_elim, refl, sym, ap, ◌∙◌, subst, arith}
 use Rattle.std.specs.Prelude.{Contains}
-use Rattle.std.proofs.lemmas.List.{get_or_default, length-append, length-map}
+use Rattle.std.proofs.lemmas.List.{length-append, length-map}
 use Rattle.std.proofs.lemmas.List.Elements.{All-contains}
 use Rattle.sd_base.specs.declared.limits.Limits.{Limits}
 use Rattle.sd_base.specs.Net.{Net}
-use Rattle.critical.specs.Spaces.{Has}
 use Rattle.storage.specs.Distributions.{storage_of}
 use Rattle.storage.specs.ClosedLists.{Entry}
 use Rattle.storage.specs.Steps.{IsCorner}
 use Rattle.storage.proofs.CornerLists.{corner-distribution, corner-grid}
 use Rattle.levels.specs.declared.levels.Bounds.{Bounds}
 use Rattle.levels.specs.Visits.{IsLedTo as IsLed, LeadsTo, Visit, led_by, visited, visits_of}
-use Rattle.levels.proofs.Elements.{contains-map, contains-unmap}
+use Rattle.storage.proofs.Containing.{contains-map, contains-unmap, contains-here, contains-later, contains-none, contains-cases}
+use Rattle.storage.specs.StorageOrder.{stepped}
 use Rattle.explore.specs.declared.exploration.Member.{Member}
 use Rattle.explore.specs.declared.search.Search.{Search}
-use Rattle.explore.specs.Reachable.{IsExplorable, corner, stepped}
-use Rattle.pareto_front.specs.Offers.{IsOneOf}
+use Rattle.explore.specs.Reachable.{IsExplorable, corner}
 use Rattle.explore.specs.Explorations.{CountsFew, IsLedTo, capacities_of}
 use Rattle.explore.specs.inside.Searches.{AreNoted, IsCandidate, IsNoted, IsSearch}
-use Rattle.explore.proofs.Elements.{contains-one, one-contains}
 use Rattle.explore.proofs.Stepping.{child-candidate}
 
-pub noted-at : (net : Net) (states : ℕ) (ms : List Member) (es : List Entry) (e : Entry) → AreNoted net states ms es → IsOneOf es e → (m : Member) × IsOneOf ms m × IsNoted net states m e
-noted-at net states [] [] e are is = absurd is
+pub noted-at : (net : Net) (states : ℕ) (ms : List Member) (es : List Entry) (e : Entry) → AreNoted net states ms es → Contains es e → (m : Member) × Contains ms m × IsNoted net states m e
+noted-at net states [] [] e are is = absurd (contains-none e is)
 noted-at net states [] (f ∷ es) e are is = absurd are
 noted-at net states (m ∷ ms) [] e are is = absurd are
-noted-at net states (m ∷ ms) (f ∷ es) e are (inl same) = (m, inl refl, subst (IsNoted net states m) same are.0)
-noted-at net states (m ∷ ms) (f ∷ es) e are (inr later) = let found = noted-at net states ms es e are.1 later in (found.0, inr found.1, found.2)
+noted-at net states (m ∷ ms) (f ∷ es) e are is =
+    ⊎_elim
+    (λ (same : f ≡ e). (m, contains-here m ms, subst (IsNoted net states m) same are.0))
+    (λ (later : Contains es e). let found = noted-at net states ms es e are.1 later in (found.0, contains-later m ms found.0 found.1, found.2))
+    (contains-cases f es e is)
 
-pub noted-of : (net : Net) (states : ℕ) (ms : List Member) (es : List Entry) (m : Member) → AreNoted net states ms es → IsOneOf ms m → (e : Entry) × IsOneOf es e × IsNoted net states m e
-noted-of net states [] es m are is = absurd is
+pub noted-of : (net : Net) (states : ℕ) (ms : List Member) (es : List Entry) (m : Member) → AreNoted net states ms es → Contains ms m → (e : Entry) × Contains es e × IsNoted net states m e
+noted-of net states [] es m are is = absurd (contains-none m is)
 noted-of net states (x ∷ ms) [] m are is = absurd are
-noted-of net states (x ∷ ms) (f ∷ es) m are (inl same) = (f, inl refl, subst (λ (y : Member). IsNoted net states y f) same are.0)
-noted-of net states (x ∷ ms) (f ∷ es) m are (inr later) = let found = noted-of net states ms es m are.1 later in (found.0, inr found.1, found.2)
+noted-of net states (x ∷ ms) (f ∷ es) m are is =
+    ⊎_elim
+    (λ (same : x ≡ m). (f, contains-here f es, subst (λ (y : Member). IsNoted net states y f) same are.0))
+    (λ (later : Contains ms m). let found = noted-of net states ms es m are.1 later in (found.0, contains-later f es found.0 found.1, found.2))
+    (contains-cases x ms m is)
 
 pub noted-long : (net : Net) (states : ℕ) (ms : List Member) (es : List Entry) → AreNoted net states ms es → length es ≡ length ms
 noted-long net states [] [] are = refl
@@ -50,21 +54,15 @@ visited-members net states (m ∷ ms) (e ∷ es) are =
     ap (λ (ds : List (Option ℕ)). ds ∷ visited (visits_of es)) (ap (λ (x : Entry). x.capacities) are.0.is)
     ∙ ap (λ (dss : List (List (Option ℕ))). m.capacities.capacities ∷ dss) (visited-members net states ms es are.1)
 
-pub contains-has : (xs : List ℕ) (c : ℕ) → Contains xs c → Has xs c
-contains-has xs c (k, below, same) = (k, below, get_or_default xs k 0 c below ∙ same)
+visit-entry : (es : List Entry) (v : Visit) → Contains (visits_of es) v → (e : Entry) × Contains es e × (led_by e.capacities e.shown ≡ v)
+visit-entry es v one = contains-unmap (λ (e : Entry). led_by e.capacities e.shown) es v one
 
-pub has-contains : (xs : List ℕ) (c : ℕ) → Has xs c → Contains xs c
-has-contains xs c (k, below, same) = (k, below, get_or_default xs k c 0 below ∙ same)
-
-visit-entry : (es : List Entry) (v : Visit) → Contains (visits_of es) v → (e : Entry) × IsOneOf es e × (led_by e.capacities e.shown ≡ v)
-visit-entry es v one = let found = contains-unmap (λ (e : Entry). led_by e.capacities e.shown) es v one in (found.0, contains-one es found.0 found.1, found.2)
-
-pub entry-visit : (es : List Entry) (e : Entry) → IsOneOf es e → Contains (visits_of es) (led_by e.capacities e.shown)
-entry-visit es e one = contains-map (λ (x : Entry). led_by x.capacities x.shown) es e (one-contains es e one)
+pub entry-visit : (es : List Entry) (e : Entry) → Contains es e → Contains (visits_of es) (led_by e.capacities e.shown)
+entry-visit es e one = contains-map (λ (x : Entry). led_by x.capacities x.shown) es e one
 
 -- a visit leads on by a channel that its member shows
-pub leads-shown : (net : Net) (states : ℕ) (m : Member) (e : Entry) (ds : List (Option ℕ)) → IsNoted net states m e → LeadsTo net.channels (led_by e.capacities e.shown) ds → (c : ℕ) × Has e.shown c × (ds ≡ stepped net m.capacities.capacities c)
-leads-shown net states m e ds is (c, one, same) = (c, contains-has e.shown c one, same ∙ ap (λ (x : Entry). stepped net x.capacities c) is.is)
+pub leads-shown : (net : Net) (states : ℕ) (m : Member) (e : Entry) (ds : List (Option ℕ)) → IsNoted net states m e → LeadsTo net.channels (led_by e.capacities e.shown) ds → (c : ℕ) × Contains e.shown c × (ds ≡ stepped net.channels m.capacities.capacities c)
+leads-shown net states m e ds is (c, one, same) = (c, one, same ∙ ap (λ (x : Entry). stepped net.channels x.capacities c) is.is)
 
 pub corner-candidate : (net : Net) (limit : ℕ) (ds : List (Option ℕ)) → IsExplorable net → IsCorner net.channels ds → storage_of net.channels ds ≤ limit → IsCandidate net limit ds
 corner-candidate net limit ds can is within = record {
@@ -75,13 +73,13 @@ corner-candidate net limit ds can is within = record {
 }
 
 module _ (net : Net) (states : ℕ) (ms : List Member) (es : List Entry) (are : AreNoted net states ms es) (start : List (Option ℕ)) (is_corner : IsCorner net.channels start) where
-  led-shown : (ds : List (Option ℕ)) (v : Visit) → Contains (visits_of es) v → LeadsTo net.channels v ds → (m : Member) × IsOneOf ms m × ((e : Entry) × IsNoted net states m e × ((c : ℕ) × Has e.shown c × (ds ≡ stepped net m.capacities.capacities c)))
+  led-shown : (ds : List (Option ℕ)) (v : Visit) → Contains (visits_of es) v → LeadsTo net.channels v ds → (m : Member) × Contains ms m × ((e : Entry) × IsNoted net states m e × ((c : ℕ) × Contains e.shown c × (ds ≡ stepped net.channels m.capacities.capacities c)))
   led-shown ds v one leads =
       let e = visit-entry es v one in
       let n = noted-at net states ms es e.0 are e.1 in (n.0, n.1, (e.0, n.2, leads-shown net states n.0 e.0 ds n.2 (subst (λ (x : Visit). LeadsTo net.channels x ds) (sym e.2) leads)))
 
   -- what is led to within the limit is a candidate
-  pub led-candidate : IsExplorable net → (limit : ℕ) → ((m : Member) → IsOneOf ms m → IsCandidate net limit m.capacities.capacities) → (ds : List (Option ℕ)) → storage_of net.channels ds ≤ limit → IsLed net.channels start (visits_of es) ds → IsCandidate net limit ds
+  pub led-candidate : IsExplorable net → (limit : ℕ) → ((m : Member) → Contains ms m → IsCandidate net limit m.capacities.capacities) → (ds : List (Option ℕ)) → storage_of net.channels ds ≤ limit → IsLed net.channels start (visits_of es) ds → IsCandidate net limit ds
   led-candidate can limit candidates ds within (inl same) = subst (IsCandidate net limit) (sym same) (corner-candidate net limit start can is_corner (subst (λ (x : List (Option ℕ)). storage_of net.channels x ≤ limit) same within))
   led-candidate can limit candidates ds within (inr (v, one, leads)) =
       let s = led-shown ds v one leads in
@@ -121,7 +119,7 @@ module _ (net : Net) (can : IsExplorable net) (limits : Limits) (floor : ℕ) (t
   pub counts-few : (before after : ℕ) → after ≤ before + (length s.members.items + length taken) → CountsFew net limits before after
   counts-few before after rise = (
     visited (visits_of search.entries) ++ taken,
-    record { order = search.frontier.spread.order; reachable = λ ds one. (search-candidate ds (one-contains (visited (visits_of search.entries) ++ taken) ds one)).reachable },
+    record { order = search.frontier.spread.order; reachable = λ ds one. (search-candidate ds one).reachable },
     omega (arith, rise, long),
     omega (arith, search-few, long),
   )

@@ -2,7 +2,7 @@
 use Rattle.std.proofs.Common.{◌≡◌, ℕ, ◌+◌, ◌≤◌, ◌<◌, Option, None, Some, List, [], ◌∷◌, ◌++◌, Result, Ok, Err, length, map, ⊎_elim, refl, sym, ap, ◌∙◌, subst, arith, inl, inr}
 use Rattle.std.specs.Prelude.{All, Contains, MatchOption, slice_index_or}
 use Rattle.std.proofs.lemmas.List.{length-map}
-use Rattle.std.proofs.lemmas.List.Elements.{All-contains, All-map, Contains-append_left, Contains-append_right, Contains-get_or}
+use Rattle.std.proofs.lemmas.List.Elements.{All-contains, All-map, Contains-append_left, Contains-append_right, Contains-get_or, Contains-push_cases}
 use Rattle.sd_base.specs.declared.limits.Limits.{Limits}
 use Rattle.sd_base.specs.declared.limits.TheConstants.{STORAGE}
 use Rattle.sd_base.specs.Net.{Channel, Net, nowhere}
@@ -21,7 +21,7 @@ use Rattle.levels.specs.declared.found.Level.{Level}
 use Rattle.levels.specs.declared.levels.Bounds.{Bounds}
 use Rattle.levels.specs.Visits.{AreVisits, IsLedTo as IsLed, Visit, led_by, visited, visits_of}
 use Rattle.levels.specs.Frontiers.{AreLedOn, IsFoundBy, IsFrontier, IsLevelTaken, IsSame, IsSpent, Rises, Waits, distributions_of}
-use Rattle.levels.proofs.Elements.{contains-map}
+use Rattle.storage.proofs.Containing.{contains-map}
 use Rattle.levels.proofs.LedOn.{known-long}
 use Rattle.levels.proofs.Visited.{visits-more}
 use Rattle.explore.specs.declared.exploration.Member.{Member}
@@ -30,7 +30,7 @@ use Rattle.explore.specs.declared.exploration.Shown.TheVariants.{Cycle, Blocked}
 use Rattle.explore.specs.declared.level.Answered.{Answered}
 use Rattle.explore.specs.declared.search.Search.{Search}
 use Rattle.explore.specs.Reachable.{IsExplorable}
-use Rattle.explore.specs.Explorations.{IsRefusal, capacities_of, cycles_in, shows_cycle}
+use Rattle.explore.specs.Explorations.{IsRefusal, cycles_in, shows_cycle}
 use Rattle.explore.specs.inside.Errors.{error_of}
 use Rattle.explore.specs.inside.Levels.{IsEvaluation, IsVisitable, most_loops, sum_of}
 use Rattle.explore.specs.inside.Searches.{AreKnown, IsAnswerOf, IsCandidate, IsEnded, IsSearch, IsTurn, answered_of, entry_of}
@@ -39,13 +39,12 @@ use Rattle.explore.specs.declared.rated.Rated.{Rated}
 use Rattle.sd_base.specs.declared.numbers.Fraction.{Fraction}
 use Rattle.sd_base.proofs.Lists.{get-last, map-map, all-unmap}
 use Rattle.pareto_front.specs.Points.{offer_of}
-use Rattle.pareto_front.specs.Offers.{IsOneOf, Offer}
+use Rattle.pareto_front.specs.Offers.{Offer}
 use Rattle.explore.specs.inside.Starts.{IsHinted}
-use Rattle.explore.proofs.Elements.{one-contains, one-map, one-split}
-use Rattle.explore.proofs.Ending.{offer-from, to-offer}
+use Rattle.explore.proofs.Ending.{offer-from}
 use Rattle.explore.proofs.Enough.{ended-whole}
 use Rattle.explore.proofs.Knowing.{member-noted, noted-more}
-use Rattle.explore.proofs.Searching.{contains-has, led-candidate, search-candidate, search-limit, visited-members}
+use Rattle.explore.proofs.Searching.{led-candidate, search-candidate, search-limit, visited-members}
 use Rattle.explore.proofs.Starting.{hinted-longer}
 use Rattle.explore.proofs.Stepping.{candidate-evaluable, child-above, shown-bounded}
 
@@ -62,7 +61,7 @@ module _ (net : Net) (laws : Lawful net) (can : IsExplorable net) (limits : Limi
     is_corner = search.is_corner;
     bounds = same.bounds ∙ search.bounds;
     frontier = frontier;
-    candidates = λ m one. search.candidates m (subst (λ (ms : List Member). IsOneOf ms m) same-members one);
+    candidates = λ m one. search.candidates m (subst (λ (ms : List Member). Contains ms m) same-members one);
     hinted = λ f one. subst (λ (ms : List Member). IsHinted net limits.states ms f.hint f.capacities.capacities) (sym same-members)
         (search.hinted f (subst (λ (fs : List (Found (Option ℕ))). Contains fs f) (sym off.parts) (Contains-append_right level.visits.items new.levels.waiting.keys f one)));
   }
@@ -89,12 +88,12 @@ module _ (net : Net) (laws : Lawful net) (can : IsExplorable net) (limits : Limi
     search = turned;
     totals = λ k d below. (total-of (slice_index_or level.visits.items k d) (Contains-get_or level.visits.items k d below)).0;
     within = first level.visits.items off.some (λ f one. (total-of f one).1);
-    before = λ m one. earlier m level.visits.items off.some (λ f here. here) (subst (λ (ms : List Member). IsOneOf ms m) same-members one);
+    before = λ m one. earlier m level.visits.items off.some (λ f here. here) (subst (λ (ms : List Member). Contains ms m) same-members one);
     visitable = λ k d below. visitable (slice_index_or level.visits.items k d) (Contains-get_or level.visits.items k d below);
     some = off.some;
   }
     where
-      earlier : (m : Member) (fs : List (Found (Option ℕ))) → 1 ≤ length fs → ((f : Found (Option ℕ)) → Contains fs f → Contains level.visits.items f) → IsOneOf old.members.items m → storage_of net.channels m.capacities.capacities < level.total
+      earlier : (m : Member) (fs : List (Found (Option ℕ))) → 1 ≤ length fs → ((f : Found (Option ℕ)) → Contains fs f → Contains level.visits.items f) → Contains old.members.items m → storage_of net.channels m.capacities.capacities < level.total
       earlier m [] some holds one = absurd (omega (arith, some))
       earlier m (f ∷ fs) some holds one =
           let there = holds f (0, omega arith, refl) in
@@ -103,7 +102,7 @@ module _ (net : Net) (laws : Lawful net) (can : IsExplorable net) (limits : Limi
           let low : storage_of net.channels m.capacities.capacities < floor = All-contains (λ (ds : List (Option ℕ)). storage_of net.channels ds < floor) (visited (visits_of search.entries) ++ []) m.capacities.capacities search.frontier.spread.low
           (Contains-append_left (visited (visits_of search.entries)) [] m.capacities.capacities
           (subst (λ (xs : List (List (Option ℕ))). Contains xs m.capacities.capacities) (sym (visited-members net limits.states old.members.items search.entries search.known.noted))
-          (one-contains (capacities_of old.members.items) m.capacities.capacities (one-map (λ (x : Member). x.capacities.capacities) old.members.items m one)))) in
+          (contains-map (λ (x : Member). x.capacities.capacities) old.members.items m one))) in
           omega (arith, waits.above, here, low)
 
       first : (fs : List (Found (Option ℕ))) → 1 ≤ length fs → ((f : Found (Option ℕ)) → Contains fs f → level.total ≤ limits.total) → level.total ≤ limits.total
@@ -154,23 +153,23 @@ module _ (net : Net) (laws : Lawful net) (can : IsExplorable net) (limits : Limi
 
   -- more room on a channel that is shown needs more storage
   pub shown-rises : Rises net.channels (led_by d.capacities e.enlarge)
-  shown-rises es (c, one, same) = subst (λ (x : List (Option ℕ)). storage_of net.channels d.capacities < storage_of net.channels x) (sym same) (child-above net laws can limits.total d.capacities its-candidate limits.states e is c (contains-has e.enlarge c one))
+  shown-rises es (c, one, same) = subst (λ (x : List (Option ℕ)). storage_of net.channels d.capacities < storage_of net.channels x) (sym same) (child-above net laws can limits.total d.capacities its-candidate limits.states e is c one)
 
   -- the channels are known
   pub shown-known : All (λ (c : ℕ). c < length old.levels.channels) e.enlarge
   shown-known = λ k z below.
-      let b = shown-bounded net laws can limits.total d.capacities its-candidate limits.states e is (slice_index_or e.enlarge k z) (contains-has e.enlarge (slice_index_or e.enlarge k z) (Contains-get_or e.enlarge k z below)) in
+      let b = shown-bounded net laws can limits.total d.capacities its-candidate limits.states e is (slice_index_or e.enlarge k z) (Contains-get_or e.enlarge k z below) in
       omega (arith, b.place, known-long net.channels old.levels.channels search.frontier.over)
 
   pub total-within : storage_of net.channels d.capacities ≡ total → total ≤ old.levels.bounds.total
   total-within is_total = omega (arith, is_total, its-candidate.within, search-limit net can limits (total + 1) (d.capacities ∷ rest) old search)
 
-  candidates-more : (m : Member) → IsOneOf (old.members.items ++ evaluated_member d e ∷ []) m → IsCandidate net limits.total m.capacities.capacities
+  candidates-more : (m : Member) → Contains (old.members.items ++ evaluated_member d e ∷ []) m → IsCandidate net limits.total m.capacities.capacities
   candidates-more m one =
       ⊎_elim
-      (λ (h : IsOneOf old.members.items m). search.candidates m h)
-      (λ (h : IsOneOf (evaluated_member d e ∷ []) m). ⊎_elim (λ (same : evaluated_member d e ≡ m). subst (λ (x : Member). IsCandidate net limits.total x.capacities.capacities) same its-candidate) (λ (none : ⊥). absurd none) h)
-      (one-split old.members.items (evaluated_member d e ∷ []) m one)
+      (λ (h : Contains old.members.items m). search.candidates m h)
+      (λ (same : evaluated_member d e ≡ m). subst (λ (x : Member). IsCandidate net limits.total x.capacities.capacities) same its-candidate)
+      (Contains-push_cases old.members.items (evaluated_member d e) m one)
 
   hint-new : (f : Found (Option ℕ)) → IsFoundBy net.channels old.levels.bounds.total (led_by d.capacities e.enlarge) (Some (length old.members.items)) f → IsHinted net limits.states (old.members.items ++ evaluated_member d e ∷ []) f.hint f.capacities.capacities
   hint-new f by = subst (λ (hint : Option ℕ). IsHinted net limits.states (old.members.items ++ evaluated_member d e ∷ []) hint f.capacities.capacities) (sym by.hinted) (record {
@@ -190,7 +189,7 @@ module _ (net : Net) (laws : Lawful net) (can : IsExplorable net) (limits : Limi
     is_corner = search.is_corner;
     bounds = same.bounds ∙ search.bounds;
     frontier = subst (λ (vs : List Visit). IsFrontier net.channels search.corner (total + 1) vs rest new.levels) (sym (visits-more search.entries (entry_of (evaluated_member d e) e.enlarge))) frontier;
-    candidates = λ m one. candidates-more m (subst (λ (ms : List Member). IsOneOf ms m) members one);
+    candidates = λ m one. candidates-more m (subst (λ (ms : List Member). Contains ms m) members one);
     hinted = λ f one. subst (λ (ms : List Member). IsHinted net limits.states ms f.hint f.capacities.capacities) (sym members)
         (⊎_elim
         (λ (h : Contains old.levels.waiting.keys f). hinted-longer net limits.states old.members.items (evaluated_member d e ∷ []) f.hint f.capacities.capacities (search.hinted f h))
@@ -206,11 +205,10 @@ module _ (net : Net) (laws : Lawful net) (can : IsExplorable net) (limits : Limi
     record {
       order = many.order;
       reachable = λ ds one.
-          let has = one-contains many.found ds one in
           (led-candidate net limits.states (old.members.items ++ evaluated_member d e ∷ []) (search.entries ++ entry_of (evaluated_member d e) e.enlarge ∷ [])
           (noted-more net limits.states old.members.items search.entries (evaluated_member d e) (entry_of (evaluated_member d e) e.enlarge) search.known.noted (member-noted net d limits.states e is)) search.corner search.is_corner can limits.total candidates-more ds
-          (subst (λ (n : ℕ). storage_of net.channels ds ≤ n) (search-limit net can limits (total + 1) (d.capacities ∷ rest) old search) (All-contains (λ (x : List (Option ℕ)). storage_of net.channels x ≤ old.levels.bounds.total) many.found ds many.within has))
-          (subst (λ (vs : List Visit). IsLed net.channels search.corner vs ds) (sym (visits-more search.entries (entry_of (evaluated_member d e) e.enlarge))) (many.led ds has))).reachable;
+          (subst (λ (n : ℕ). storage_of net.channels ds ≤ n) (search-limit net can limits (total + 1) (d.capacities ∷ rest) old search) (All-contains (λ (x : List (Option ℕ)). storage_of net.channels x ≤ old.levels.bounds.total) many.found ds many.within one))
+          (subst (λ (vs : List Visit). IsLed net.channels search.corner vs ds) (sym (visits-more search.entries (entry_of (evaluated_member d e) e.enlarge))) (many.led ds one))).reachable;
     },
     (let most : old.levels.bounds.distributions ≡ limits.distributions = ap (λ (b : Bounds). b.distributions) search.bounds in omega (arith, many.many, most)),
   )
@@ -227,5 +225,5 @@ next-turn net laws can limits small floor old new search members front same (Som
 pub best-of : (net : Net) (limits : Limits) (level : Level (Option ℕ)) (s : Search) (best : Fraction) → IsTurn net limits level s → IsBestOf s.front best → IsBest net best level.total s.members.items
 best-of net limits level s best turn (inl none) = inl none
 best-of net limits level s best turn (inr (p, one, same)) =
-    let from = offer-from net s.members.items (offer_of p) (turn.search.known.front.among (offer_of p) (to-offer (map offer_of s.front) (offer_of p) (one-map offer_of s.front p one))) in
+    let from = offer-from net s.members.items (offer_of p) (turn.search.known.front.among (offer_of p) (contains-map offer_of s.front p one)) in
     inr (from.0, from.1, ap (λ (o : Offer). o.rate) from.2 ∙ same, turn.before from.0 from.1)

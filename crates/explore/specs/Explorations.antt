@@ -1,5 +1,5 @@
 -- What an exploration of storage distributions comes to.
-use Rattle.std.specs.Prelude.{◌≡◌, ℕ, ◌+◌, ◌*◌, ◌≤◌, ◌<◌, ◌⊎◌, true, Option, List, [], ◌∷◌, length, map, slice_index}
+use Rattle.std.specs.Prelude.{◌≡◌, ℕ, ◌+◌, ◌*◌, ◌≤◌, ◌<◌, ◌⊎◌, true, Option, List, [], ◌∷◌, length, map, slice_index, Contains}
 use Rattle.sd_base.specs.declared.limits.Limits.{Limits}
 use Rattle.sd_base.specs.declared.numbers.Fraction.{Fraction}
 use Rattle.sd_base.specs.Net.{Net}
@@ -15,16 +15,15 @@ use Rattle.storage.specs.CapacityOrder.{no_later}
 use Rattle.storage.specs.Distributions.{storage_of}
 use Rattle.storage.specs.ParetoPoints.{IsFront, Pair, Reaches}
 use Rattle.storage.specs.ShownSpaces.{ShowsSpace}
-use Rattle.storage.specs.StorageOrder as storage_order
 use Rattle.storage.specs.Steps.{IsCorner}
-use Rattle.pareto_front.specs.Offers.{IsOneOf}
+use Rattle.storage.specs.StorageOrder.{AreInOrder, stepped}
 use Rattle.pareto_front.specs.declared.point.Point.{Point}
 use Rattle.explore.specs.declared.error.ExploreError.{ExploreError}
 use Rattle.explore.specs.declared.error.ExploreError.TheVariants.{StatesSpent, TooManyStarts, DistributionsSpent, NoMemory}
 use Rattle.explore.specs.declared.exploration.Member.{Member}
 use Rattle.explore.specs.declared.exploration.Shown.{Shown}
 use Rattle.explore.specs.declared.exploration.Shown.TheVariants.{Cycle, Blocked}
-use Rattle.explore.specs.Reachable.{IsReachable, stepped}
+use Rattle.explore.specs.Reachable.{IsReachable}
 
 -- what shows the rate of a distribution: a critical cycle of the loop of its bounded net, whose rounds by its time are the
 -- rate, or counts that block the net, whose rate is 0
@@ -49,19 +48,11 @@ pub record IsMember (net : Net) (states : ℕ) (m : Member) : Type 0 where
 abbrev pub capacities_of : List Member → List (List (Option ℕ))
 capacities_of ms = map (λ (m : Member). m.capacities.capacities) ms
 
--- the first distribution needs less storage, or as much and is lexicographically earlier
-abbrev pub IsBefore : Net → List (Option ℕ) → List (Option ℕ) → Type 0
-IsBefore net ds es = storage_order.IsBefore net.channels ds es
-
--- each distribution stands before all later ones, so that none is there twice
-abbrev pub AreInOrder : Net → List (List (Option ℕ)) → Type 0
-AreInOrder net dss = storage_order.AreInOrder net.channels dss
-
 -- the distribution is the corner, or has a step more room than a member on a channel that this one shows
 abbrev pub IsLedTo : Net → List Member → List (Option ℕ) → Type 0
 IsLedTo net ms ds =
     IsCorner net.channels ds
-    ⊎ ((m : Member) × IsOneOf ms m × ((c : ℕ) × ShowsChannel net m.capacities.capacities m.shown c × (ds ≡ stepped net m.capacities.capacities c)))
+    ⊎ ((m : Member) × Contains ms m × ((c : ℕ) × ShowsChannel net m.capacities.capacities m.shown c × (ds ≡ stepped net.channels m.capacities.capacities c)))
 
 -- a point without its distribution
 abbrev pub pair_of : Point → Pair
@@ -78,22 +69,22 @@ pub record IsPoint (net : Net) (limits : Limits) (p : Point) : Type 0 where
 pub record BeginsAtCorner (net : Net) (limit : ℕ) (dss : List (List (Option ℕ))) : Type 0 where
   pub corner : List (Option ℕ)
   pub is_corner : IsCorner net.channels corner
-  pub start : storage_of net.channels corner ≤ limit → IsOneOf dss corner
+  pub start : storage_of net.channels corner ≤ limit → Contains dss corner
 
 -- the points are the front of all distributions within the limit, each with its least one, which is a member; the members
 -- are reachable and in order, begin at the corner, lead on from each to those with a step more room on a channel that it
 -- shows, and are no more than allowed
 pub record IsExploration (net : Net) (limits : Limits) (members : List Member) (points : List Point) : Type 0 where
   pub front : IsFront net limits.total (map pair_of points)
-  pub reached : (p : Point) → IsOneOf points p → IsPoint net limits p
-  pub listed : (p : Point) → IsOneOf points p → IsOneOf (capacities_of members) p.capacities.capacities
-  pub evaluated : (m : Member) → IsOneOf members m → IsMember net limits.states m
-  pub reachable : (ds : List (Option ℕ)) → IsOneOf (capacities_of members) ds → IsReachable net limits.total ds
-  pub order : AreInOrder net (capacities_of members)
+  pub reached : (p : Point) → Contains points p → IsPoint net limits p
+  pub listed : (p : Point) → Contains points p → Contains (capacities_of members) p.capacities.capacities
+  pub evaluated : (m : Member) → Contains members m → IsMember net limits.states m
+  pub reachable : (ds : List (Option ℕ)) → Contains (capacities_of members) ds → IsReachable net limits.total ds
+  pub order : AreInOrder net.channels (capacities_of members)
   pub start : BeginsAtCorner net limits.total (capacities_of members)
-  pub closed : (m : Member) (c : ℕ) → IsOneOf members m → ShowsChannel net m.capacities.capacities m.shown c →
-      storage_of net.channels (stepped net m.capacities.capacities c) ≤ limits.total → IsOneOf (capacities_of members) (stepped net m.capacities.capacities c)
-  pub led : (ds : List (Option ℕ)) → IsOneOf (capacities_of members) ds → IsLedTo net members ds
+  pub closed : (m : Member) (c : ℕ) → Contains members m → ShowsChannel net m.capacities.capacities m.shown c →
+      storage_of net.channels (stepped net.channels m.capacities.capacities c) ≤ limits.total → Contains (capacities_of members) (stepped net.channels m.capacities.capacities c)
+  pub led : (ds : List (Option ℕ)) → Contains (capacities_of members) ds → IsLedTo net members ds
   pub few : length members ≤ limits.distributions
 
 abbrev pub shows_cycle : Shown → ℕ
@@ -107,8 +98,8 @@ cycles_in (m ∷ ms) = shows_cycle m.shown + cycles_in ms
 
 -- distributions that differ and are all reachable within the limit
 pub record AreFound (net : Net) (limit : ℕ) (dss : List (List (Option ℕ))) : Type 0 where
-  pub order : AreInOrder net dss
-  pub reachable : (ds : List (Option ℕ)) → IsOneOf dss ds → IsReachable net limit ds
+  pub order : AreInOrder net.channels dss
+  pub reachable : (ds : List (Option ℕ)) → Contains dss ds → IsReachable net limit ds
 
 -- why an exploration isn't ended: the loop of the live bounded net of a reachable distribution isn't run to the end; more
 -- distributions are reachable than allowed; or want of memory

@@ -1,5 +1,5 @@
 -- Explorations up to the greatest rate that storage can buy.
-use Rattle.std.specs.Prelude.{ℕ, ◌≤◌, List, map}
+use Rattle.std.specs.Prelude.{ℕ, ◌≤◌, List, map, Contains}
 use Rattle.sd_base.specs.declared.limits.Limits.{Limits}
 use Rattle.sd_base.specs.Net.{Net}
 use Rattle.storage.specs.ParetoPoints.{IsFront}
@@ -7,7 +7,6 @@ use Rattle.pareto_front.specs.declared.point.Point.{Point}
 use Rattle.explore.specs.declared.exploration.Member.{Member}
 use Rattle.explore.specs.declared.extent.Extent.{Extent}
 use Rattle.explore.specs.declared.extent.Extent.TheVariants.{Limit, Fastest}
-use Rattle.pareto_front.specs.Offers.{IsOneOf}
 use Rattle.explore.specs.Explorations.{IsExploration, IsPoint, pair_of}
 
 -- the limits with another total
@@ -21,7 +20,7 @@ pub record IsEnough (net : Net) (limits : Limits) (members : List Member) (point
   pub within : storage ≤ limits.total
   pub explored : IsExploration net (up_to storage limits) members points
   pub front : IsFront net limits.total (map pair_of points)
-  pub reached : (p : Point) → IsOneOf points p → IsPoint net limits p
+  pub reached : (p : Point) → Contains points p → IsPoint net limits p
 
 -- what is explored as far as is wanted
 abbrev pub Explores : Extent → Net → Limits → List Member → List Point → Type 0

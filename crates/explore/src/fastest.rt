@@ -1,8 +1,7 @@
 //! How it is seen that no distribution has a greater rate than a point.
-ghost use Rattle.std.specs.Prelude.{◌≡◌, ◌*◌, ◌≤◌, ℕ, true, IfOk};
+ghost use Rattle.std.specs.Prelude.{◌≡◌, ◌*◌, ◌≤◌, ℕ, true, IfOk, Contains};
 ghost use Rattle.sd_base.specs.declared.limits.TheConstants.{STORAGE};
 ghost use Rattle.pareto_front.specs.declared.point.Point.{Point as APoint};
-ghost use Rattle.pareto_front.specs.Offers.{IsOneOf};
 ghost use Rattle.explore.specs.Reachable.{IsExplorable};
 ghost use Rattle.explore.specs.Ceilings.{BoundsAll};
 ghost use Rattle.explore.specs.inside.Searches.{HasTable, IsCandidate, IsTopAmong};
@@ -25,8 +24,8 @@ pub(crate) fn reaches_fastest<F: Firing>(
 ) -> Result<bool, NoMemory>
     requires net { IsExplorable (F.net exploring.now.net.now) }
     requires small { exploring.now.limits.total ≤ STORAGE }
-    requires points { (p : APoint) → IsOneOf points.now p → IsCandidate (F.net exploring.now.net.now) exploring.now.limits.total p.capacities.capacities }
-    requires tables { (states : ℕ) × ((p : APoint) → IsOneOf points.now p → HasTable (F.net exploring.now.net.now) states p) }
+    requires points { (p : APoint) → Contains points.now p → IsCandidate (F.net exploring.now.net.now) exploring.now.limits.total p.capacities.capacities }
+    requires tables { (states : ℕ) × ((p : APoint) → Contains points.now p → HasTable (F.net exploring.now.net.now) states p) }
     ensures { IfOk result (λ reached. reached ≡ true → IsTopAmong (F.net exploring.now.net.now) points.now) }
 {
     match points.last() {

@@ -1,10 +1,10 @@
 //! How the answers of a level become members.
-ghost use Rattle.std.specs.Prelude.{◌≡◌, ◌+◌, ◌≤◌, ◌⊎◌, ◌++◌, ℕ, [], ◌∷◌, All, Option, List, IfErr, IfOk, OnOk, length, map};
+ghost use Rattle.std.specs.Prelude.{◌≡◌, ◌+◌, ◌≤◌, ◌⊎◌, ◌++◌, ℕ, [], ◌∷◌, All, Option, List, IfErr, IfOk, OnOk, length, map, Contains};
 ghost use Rattle.sd_base.specs.declared.limits.TheConstants.{STORAGE};
 ghost use Rattle.sd_base.specs.declared.limits.Limits.{Limits as SomeLimits};
 ghost use Rattle.sd_base.specs.Net.{Net};
 ghost use Rattle.pareto_front.specs.declared.point.Point.{Point as APoint};
-ghost use Rattle.pareto_front.specs.Offers.{IsOneOf, Offer};
+ghost use Rattle.pareto_front.specs.Offers.{Offer};
 ghost use Rattle.pareto_front.specs.Points.{IsFrontOf, offer_of};
 ghost use Rattle.storage.specs.ClosedLists.{Entry};
 ghost use Rattle.storage.specs.Distributions.{storage_of};
@@ -171,7 +171,7 @@ fn offer(
     front: &mut Front,
 ) -> Result<(), NoMemory>
     ensures front { OnOk result ((os : List Offer) → IsFrontOf os (map offer_of front.old) → IsFrontOf (os ++ offers_at total rate capacities.now.capacities) (map offer_of front.new)) }
-    ensures points { OnOk result ((p : APoint) → IsOneOf front.new p → ((p.capacities ≡ capacities.now) × (p.table ≡ table)) ⊎ IsOneOf front.old p) }
+    ensures points { OnOk result ((p : APoint) → Contains front.new p → ((p.capacities ≡ capacities.now) × (p.table ≡ table)) ⊎ Contains front.old p) }
 {
     if rate.is_zero() {
         return Ok(());

@@ -1,9 +1,8 @@
-ghost use Rattle.std.specs.Prelude.{◌≡◌, ◌+◌, ◌≤◌, ◌<◌, ℕ, true, [], All, IfErr, IfOk, MatchOption, OnOk, length, map, take};
+ghost use Rattle.std.specs.Prelude.{◌≡◌, ◌+◌, ◌≤◌, ◌<◌, ℕ, true, [], All, IfErr, IfOk, MatchOption, OnOk, length, map, take, Contains};
 ghost use Rattle.sd_base.specs.declared.limits.TheConstants.{DISTRIBUTIONS, LEAST_DISTRIBUTIONS, LEAST_STATES, STATES, STORAGE};
 ghost use Rattle.storage.specs.Distributions.{storage_of};
 ghost use Rattle.storage.specs.Steps.{IsCorner};
 ghost use Rattle.levels.specs.Frontiers.{channel_step};
-ghost use Rattle.pareto_front.specs.Offers.{IsOneOf};
 ghost use Rattle.explore.specs.Explorations.{CountsFew, IsExploration, IsRefusal, cycles_in};
 ghost use Rattle.explore.specs.Extents.{Explores};
 ghost use Rattle.explore.specs.Reachable.{IsExplorable};
@@ -186,8 +185,8 @@ fn is_last<F: Firing>(
 ) -> Result<bool, NoMemory>
     requires net { IsExplorable (F.net exploring.now.net.now) }
     requires small { exploring.now.limits.total ≤ STORAGE }
-    requires points { (p : APoint) → IsOneOf points.now p → IsCandidate (F.net exploring.now.net.now) exploring.now.limits.total p.capacities.capacities }
-    requires tables { (states : ℕ) × ((p : APoint) → IsOneOf points.now p → HasTable (F.net exploring.now.net.now) states p) }
+    requires points { (p : APoint) → Contains points.now p → IsCandidate (F.net exploring.now.net.now) exploring.now.limits.total p.capacities.capacities }
+    requires tables { (states : ℕ) × ((p : APoint) → Contains points.now p → HasTable (F.net exploring.now.net.now) states p) }
     ensures { IfOk result (λ last. last ≡ true → (extent ≡ Fastest) × IsTopAmong (F.net exploring.now.net.now) points.now) }
 {
     match extent {

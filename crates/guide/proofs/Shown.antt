@@ -1,7 +1,7 @@
 -- The channels on which a distribution is to be enlarged are in its guide: those on the critical cycle of a loop are storage
 -- dependencies of the loop.
 use Rattle.std.proofs.Common.{◌≡◌, ℕ, zero, suc, ◌+◌, ◌*◌, ◌<◌, Option, List, [], ◌∷◌, length, inl, inr, subst, sym, arith}
-use Rattle.std.specs.Prelude.{slice_index}
+use Rattle.std.specs.Prelude.{Contains, slice_index}
 use Rattle.sd_base.specs.declared.role.Role.TheVariants.{Space}
 use Rattle.sd_base.specs.Net.{Net, channel_at}
 use Rattle.sd_base.specs.Schedules.{count_of, start_of, end_of}
@@ -11,7 +11,8 @@ use Rattle.critical.specs.declared.cycle.FiringNo.{FiringNo}
 use Rattle.critical.specs.declared.cycle.CycleStep.{CycleStep}
 use Rattle.critical.specs.declared.cycle.NeedCycle.{NeedCycle}
 use Rattle.critical.specs.Cycles.{IsStep, IsChain}
-use Rattle.critical.specs.Spaces.{Has, IsSpaceAt}
+use Rattle.critical.specs.Spaces.{IsSpaceAt}
+use Rattle.critical.proofs.Storage.{number-place}
 use Rattle.critical.specs.CriticalCycles.{IsTight, AreTight, IsCriticalCycleOf, InSecondPass}
 use Rattle.sd_base.specs.declared.numbers.Fraction.{Fraction}
 use Rattle.storage.specs.BoundedNets.{bound}
@@ -48,13 +49,14 @@ pub cycle-shows : (net : Net) (table : LoopTable) (cycle : NeedCycle) → IsCrit
 cycle-shows net table cycle critical i c below space = chain-shows net table.entry table.period table.rounds cycle.first cycle.steps critical.holds.chain critical.tight i c below space
 
 -- what an outcome shows is in the guide
-outcome-shows : (net : Net) (ds : List (Option ℕ)) (states : ℕ) (rate : Fraction) (enlarge : List ℕ) (outcome : Outcome) → IsOutcome net ds states rate enlarge outcome → (c : ℕ) → Has enlarge c → IsInGuide net ds c
+outcome-shows : (net : Net) (ds : List (Option ℕ)) (states : ℕ) (rate : Fraction) (enlarge : List ℕ) (outcome : Outcome) → IsOutcome net ds states rate enlarge outcome → (c : ℕ) → Contains enlarge c → IsInGuide net ds c
 outcome-shows net ds states rate enlarge (Live table cycle) is c has =
-    let at = is.channels.there has.0 has.1 in
-    let space : IsSpaceAt (bound net ds) cycle.steps at.0 c = subst (IsSpaceAt (bound net ds) cycle.steps at.0) has.2 at.2 in
+    let number = number-place enlarge c has in
+    let at = is.channels.there number.0 number.1 in
+    let space : IsSpaceAt (bound net ds) cycle.steps at.0 c = subst (IsSpaceAt (bound net ds) cycle.steps at.0) number.2 at.2 in
     inr (table.entry, table.period, is.found.loop.loop, cycle-shows (bound net ds) table cycle is.critical at.0 c at.1 space)
 outcome-shows net ds states rate enlarge (Blocked counts lacks) is c has =
     inl (slice_index counts, is.blocked.ends, is.blocked.blocks, (is.channels c).0 has)
 
-pub evaluation-shows : (net : Net) (ds : List (Option ℕ)) (states : ℕ) (e : Evaluation) (c : ℕ) → IsEvaluated net ds states e → Has e.enlarge c → IsInGuide net ds c
+pub evaluation-shows : (net : Net) (ds : List (Option ℕ)) (states : ℕ) (e : Evaluation) (c : ℕ) → IsEvaluated net ds states e → Contains e.enlarge c → IsInGuide net ds c
 evaluation-shows net ds states e c is has = outcome-shows net ds states e.rate e.enlarge e.outcome is.outcome c has

@@ -1,5 +1,5 @@
 -- What is answered of a distribution.
-use Rattle.std.specs.Prelude.{◌≡◌, ℕ, ◌*◌, ◌≤◌, ◌↔◌, Option, List, length, slice_index}
+use Rattle.std.specs.Prelude.{◌≡◌, ℕ, ◌*◌, ◌≤◌, ◌↔◌, Contains, Option, List, length, slice_index}
 use Rattle.sd_base.specs.declared.limits.TheConstants.{NET_CHANNELS}
 use Rattle.sd_base.specs.declared.numbers.Fraction.{Fraction}
 use Rattle.sd_base.specs.Net.{Net}
@@ -14,7 +14,7 @@ use Rattle.lasso.specs.RunError.{RunError}
 use Rattle.lasso.specs.RunError.TheVariants.{StatesSpent, TooManyStarts, NoMemory}
 use Rattle.critical.specs.declared.cycle.NeedCycle.{NeedCycle}
 use Rattle.critical.specs.CriticalCycles.{IsCriticalCycleOf}
-use Rattle.critical.specs.Spaces.{IsRising, Has, AreSpaces}
+use Rattle.critical.specs.Spaces.{IsRising, AreSpaces}
 use Rattle.storage.specs.Distributions.{AtMost, CanHold, IsDistribution}
 use Rattle.storage.specs.BoundedNets.{HasNoSpaces, bound}
 use Rattle.storage.specs.ShownSpaces.{ShowsSpace}
@@ -46,7 +46,7 @@ pub record IsBlockedOutcome (net : Net) (ds : List (Option ℕ)) (rate : Fractio
   pub blocked : IsBlockedBy (bound net ds) counts lacks
   pub zero : rate.num ≡ 0
   pub rising : IsRising enlarge
-  pub channels : (c : ℕ) → Has enlarge c ↔ ShowsSpace net ds (slice_index counts) c
+  pub channels : (c : ℕ) → Contains enlarge c ↔ ShowsSpace net ds (slice_index counts) c
 
 abbrev pub IsOutcome : Net → List (Option ℕ) → ℕ → Fraction → List ℕ → Outcome → Type 0
 IsOutcome net ds states rate enlarge (Live table cycle) = IsLiveOutcome net ds states rate enlarge table cycle

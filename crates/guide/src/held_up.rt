@@ -1,9 +1,9 @@
 //! The channels that counts show which block a bounded net.
-ghost use Rattle.std.specs.Prelude.{◌≡◌, ◌↔◌, ◌+◌, ◌-◌, ◌*◌, ◌≤◌, ◌<◌, ℕ, None, IfOk, IsTrue, MatchOption, length, slice_index};
+ghost use Rattle.std.specs.Prelude.{◌≡◌, ◌↔◌, ◌+◌, ◌-◌, ◌*◌, ◌≤◌, ◌<◌, Contains, ℕ, None, IfOk, IsTrue, MatchOption, length, slice_index};
 ghost use Rattle.sd_base.specs.Net.{channel_at, total};
 ghost use Rattle.sd_base.specs.Schedules.{Needs};
 ghost use Rattle.sd_base.specs.Untimed.{CanFire, NamesLacks};
-ghost use Rattle.critical.specs.Spaces.{Has, IsRising};
+ghost use Rattle.critical.specs.Spaces.{IsRising};
 ghost use Rattle.storage.specs.ShownSpaces.{ShowsSpace};
 ghost use Rattle.storage.specs.BoundedNets.{bound, space_of};
 
@@ -26,7 +26,7 @@ pub(crate) fn shown_channels<F: Firing>(
     requires actors { length counts.now ≡ length (F.net net.now).times }
     requires names { NamesLacks (bound (F.net net.now) capacities.now.capacities) (slice_index counts.now) lacks.now }
     ensures rising { IfOk result IsRising }
-    ensures shown { IfOk result (λ xs. (c : ℕ) → Has xs c ↔ ShowsSpace (F.net net.now) capacities.now.capacities (slice_index counts.now) c) }
+    ensures shown { IfOk result (λ xs. (c : ℕ) → Contains xs c ↔ ShowsSpace (F.net net.now) capacities.now.capacities (slice_index counts.now) c) }
 {
     let mut shown = Rows::new(alloc);
     for channel in 0..net.channels() {

@@ -1,8 +1,8 @@
 //! Laws of what holds a distribution back, each on a function that does nothing.
-ghost use Rattle.std.specs.Prelude.{◌≡◌, ℕ, Option, List, ◌*◌, ◌≤◌, ◌<◌, length};
+ghost use Rattle.std.specs.Prelude.{◌≡◌, Contains, ℕ, Option, List, ◌*◌, ◌≤◌, ◌<◌, length};
 ghost use Rattle.firing.specs.declared.table.LoopTable.{LoopTable};
 ghost use Rattle.critical.specs.declared.cycle.NeedCycle.{NeedCycle};
-ghost use Rattle.critical.specs.Spaces.{Has, IsSpaceAt};
+ghost use Rattle.critical.specs.Spaces.{IsSpaceAt};
 ghost use Rattle.critical.specs.CriticalCycles.{IsCriticalCycleOf};
 ghost use Rattle.sd_base.specs.Net.{Net};
 ghost use Rattle.sd_base.specs.Lawful.{Lawful};
@@ -25,7 +25,7 @@ ghost use Rattle.guide.specs.Guides.{IsDependency, IsInGuide};
 pub fn enlarged_channels_are_in_the_guide()
     ensures cycle { (net : Net) (table : LoopTable) (cycle : NeedCycle) (i c : ℕ) → IsCriticalCycleOf net table cycle → i < length cycle.steps → IsSpaceAt net cycle.steps i c →
         IsDependency net table.entry table.period c }
-    ensures guide { (net : Net) (ds : List (Option ℕ)) (states : ℕ) (e : Evaluation) (c : ℕ) → IsEvaluated net ds states e → Has e.enlarge c → IsInGuide net ds c }
+    ensures guide { (net : Net) (ds : List (Option ℕ)) (states : ℕ) (e : Evaluation) (c : ℕ) → IsEvaluated net ds states e → Contains e.enlarge c → IsInGuide net ds c }
 {}
 
 /// Ending counts rise with room: counts that some order of firings reaches in a bounded net are reached in each with no

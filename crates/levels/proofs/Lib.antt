@@ -1,4 +1,3 @@
-pub mod Elements
 pub mod WaitingOrder
 pub mod Inserts
 pub mod Growing

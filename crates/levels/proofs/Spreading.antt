@@ -17,8 +17,17 @@ use Rattle.levels.specs.declared.levels.Levels.{Levels}
 use Rattle.levels.specs.Visits.{AreVisits, IsLedTo, LeadsTo, Visit, visited}
 use Rattle.levels.specs.Frontiers.{AreLedOn, AreTooMany, IsFoundBy, IsFrontier, IsLevelTaken, IsOver, IsSame, IsSpent, IsSpread, Rises, StandsIn, StopsAt, Waits, WasFound, distributions_of, found_order}
 use Rattle.levels.specs.inside.Waiting.{AreTooManyLed, EndsWaiting, IsNextTotal}
-use Rattle.levels.proofs.Elements.{contains-cases, contains-here, contains-map, contains-none, contains-unmap, order-append}
+use Rattle.storage.proofs.Containing.{contains-cases, contains-here, contains-later, contains-map, contains-none, contains-unmap}
 use Rattle.levels.proofs.Inserts.{least-first, sorted-left, sorted-order, sorted-right}
+
+-- distributions in order, and others after all of them
+
+order-append : (cs : List Channel) (xs ys : List (List (Option ℕ))) → AreInOrder cs xs → AreInOrder cs ys → ((ds es : List (Option ℕ)) → Contains xs ds → Contains ys es → IsBefore cs ds es) → AreInOrder cs (xs ++ ys)
+order-append cs [] ys one other apart = other
+order-append cs (x ∷ xs) ys one other apart = (
+  All-append (IsBefore cs x) xs ys one.0 (λ k d below. apart x (slice_index_or ys k d) (contains-here x xs) (Contains-get_or ys k d below)),
+  order-append cs xs ys one.1 other (λ ds es front back. apart ds es (contains-later x xs ds front) back),
+)
 
 -- one visit more
 

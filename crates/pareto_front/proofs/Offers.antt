@@ -1,12 +1,13 @@
 -- What putting an offer in its place keeps: order, what is covered, and that nothing else comes in.
-use Rattle.std.proofs.Common.{◌≡◌, ◌*◌, ◌≤◌, ◌<◌, ◌⊎◌, true, false, List, [], ◌∷◌, inl, inr, ⊎_elim, arith}
-use Rattle.std.specs.Prelude.{nat_le}
+use Rattle.std.proofs.Common.{◌≡◌, ◌*◌, ◌≤◌, ◌<◌, ◌⊎◌, true, false, List, [], ◌∷◌, inl, inr, ⊎_elim, subst, arith}
+use Rattle.std.specs.Prelude.{Contains, nat_le}
 use Rattle.std.proofs.lemmas.Bool.{cases_lt}
 use Rattle.std.proofs.lemmas.Bool.Decides.{leb_tells}
 use Rattle.storage.specs.CapacityOrder.{no_later}
+use Rattle.storage.proofs.Containing.{contains-cases, contains-here, contains-later}
 use Rattle.storage.proofs.FrontsFromMembers.{no_less}
 use Rattle.storage.proofs.CapacityOrder.{no_later-refl, no_later-total, no_later-trans}
-use Rattle.pareto_front.specs.Offers.{Offer, Covers, IsCoveredBy, AreAbove, AreInOrder, is_slower, left_of, put, IsOneOf}
+use Rattle.pareto_front.specs.Offers.{Offer, Covers, IsCoveredBy, AreAbove, AreInOrder, is_slower, left_of, put}
 
 pub covers-same : (p : Offer) → Covers p p
 covers-same p = record { storage = omega arith; rate = omega arith; tie = λ s r. no_later-refl p.capacities }
@@ -71,10 +72,29 @@ pub put-has : (n : Offer) (ps : List Offer) → IsCoveredBy (put n ps) n
 put-has n [] = inl (covers-same n)
 put-has n (p ∷ ps) = ⊎_elim (λ (here : (nat_le n.storage p.storage ≡ true) × (n.storage ≤ p.storage)). rw here.0 (inl (covers-same n))) (λ (later : (nat_le n.storage p.storage ≡ false) × (p.storage < n.storage)). rw later.0 (inr (put-has n ps))) (leb_tells n.storage p.storage)
 
-left-from : (n : Offer) (ps : List Offer) (o : Offer) → IsOneOf (left_of n ps) o → IsOneOf ps o
+left-from : (n : Offer) (ps : List Offer) (o : Offer) → Contains (left_of n ps) o → Contains ps o
 left-from n [] o is = is
-left-from n (p ∷ ps) o is = ⊎_elim (λ (drop : (is_slower p n ≡ true) × (p.rate.num * n.rate.den ≤ n.rate.num * p.rate.den)). inr (left-from n ps o (rw drop.0 at is))) (λ (keep : (is_slower p n ≡ false) × (n.rate.num * p.rate.den < p.rate.num * n.rate.den)). rw keep.0 at is) (slower-tells p n)
+left-from n (p ∷ ps) o is =
+    ⊎_elim
+    (λ (drop : (is_slower p n ≡ true) × (p.rate.num * n.rate.den ≤ n.rate.num * p.rate.den)). contains-later p ps o (left-from n ps o (rw drop.0 at is)))
+    (λ (keep : (is_slower p n ≡ false) × (n.rate.num * p.rate.den < p.rate.num * n.rate.den)). rw keep.0 at is)
+    (slower-tells p n)
 
-pub put-from : (n : Offer) (ps : List Offer) (o : Offer) → IsOneOf (put n ps) o → (n ≡ o) ⊎ IsOneOf ps o
-put-from n [] o is = is
-put-from n (p ∷ ps) o is = ⊎_elim (λ (here : (nat_le n.storage p.storage ≡ true) × (n.storage ≤ p.storage)). let now : (n ≡ o) ⊎ IsOneOf (left_of n (p ∷ ps)) o = rw here.0 at is in ⊎_elim (λ (h : n ≡ o). inl h) (λ (h : IsOneOf (left_of n (p ∷ ps)) o). inr (left-from n (p ∷ ps) o h)) now) (λ (later : (nat_le n.storage p.storage ≡ false) × (p.storage < n.storage)). let now : (p ≡ o) ⊎ IsOneOf (put n ps) o = rw later.0 at is in ⊎_elim (λ (h : p ≡ o). inr (inl h)) (λ (h : IsOneOf (put n ps) o). ⊎_elim (λ (k : n ≡ o). inl k) (λ (k : IsOneOf ps o). inr (inr k)) (put-from n ps o h)) now) (leb_tells n.storage p.storage)
+-- what follows the first comes from the list, or is n
+put-later : (n p : Offer) (ps : List Offer) (o : Offer) → (n ≡ o) ⊎ Contains ps o → (n ≡ o) ⊎ Contains (p ∷ ps) o
+put-later n p ps o from = ⊎_elim (λ (k : n ≡ o). inl k) (λ (k : Contains ps o). inr (contains-later p ps o k)) from
+
+pub put-from : (n : Offer) (ps : List Offer) (o : Offer) → Contains (put n ps) o → (n ≡ o) ⊎ Contains ps o
+put-from n [] o is = contains-cases n [] o is
+put-from n (p ∷ ps) o is =
+    ⊎_elim
+    (λ (here : (nat_le n.storage p.storage ≡ true) × (n.storage ≤ p.storage)).
+    let now : Contains (n ∷ left_of n (p ∷ ps)) o = rw here.0 at is in
+    ⊎_elim (λ (h : n ≡ o). inl h) (λ (h : Contains (left_of n (p ∷ ps)) o). inr (left-from n (p ∷ ps) o h)) (contains-cases n (left_of n (p ∷ ps)) o now))
+    (λ (later : (nat_le n.storage p.storage ≡ false) × (p.storage < n.storage)).
+    let now : Contains (p ∷ put n ps) o = rw later.0 at is in
+    ⊎_elim
+    (λ (h : p ≡ o). inr (subst (Contains (p ∷ ps)) h (contains-here p ps)))
+    (λ (h : Contains (put n ps) o). put-later n p ps o (put-from n ps o h))
+    (contains-cases p (put n ps) o now))
+    (leb_tells n.storage p.storage)

@@ -1,8 +1,9 @@
 -- Putting a point in its place, by parts of the list.
-use Rattle.std.proofs.Common.{◌≡◌, ℕ, zero, suc, ◌≤◌, ◌<◌, ◌⊎◌, Bool, true, false, List, [], ◌∷◌, ◌++◌, length, map, take, drop, insert, if◌then◌else◌, inl, inr, ⊎_elim, refl, ap, ◌∙◌, arith}
-use Rattle.std.specs.Prelude.{slice_index_or, nat_le}
+use Rattle.std.proofs.Common.{◌≡◌, ℕ, zero, suc, ◌≤◌, ◌<◌, ◌⊎◌, Bool, true, false, List, [], ◌∷◌, ◌++◌, length, map, take, drop, insert, if◌then◌else◌, inl, inr, ⊎_elim, refl, ap, ◌∙◌, subst, arith}
+use Rattle.std.specs.Prelude.{Contains, slice_index_or, nat_le}
 use Rattle.std.proofs.lemmas.Bool.Decides.{leb_tells}
-use Rattle.pareto_front.specs.Offers.{Offer, Covers, IsCoveredBy, IsOneOf, is_slower, left_of, put}
+use Rattle.std.proofs.lemmas.List.Elements.{Contains-append_left, Contains-push, Contains-push_cases}
+use Rattle.pareto_front.specs.Offers.{Offer, Covers, IsCoveredBy, is_slower, left_of, put}
 use Rattle.pareto_front.proofs.Offers.{put-order, put-covers, put-has, put-from}
 use Rattle.pareto_front.specs.declared.point.Point.{Point}
 use Rattle.pareto_front.specs.Points.{IsFrontOf, IsOffered, left_points, offer_of, put_point}
@@ -53,18 +54,6 @@ put-map n (p ∷ ps) =
     ∙ (ap (λ (xs : List Offer). if nat_le n.total p.total then offer_of n ∷ xs else offer_of p ∷ map offer_of (put_point n ps)) (left-map n (p ∷ ps))
     ∙ ap (λ (xs : List Offer). if nat_le n.total p.total then offer_of n ∷ left_of (offer_of n) (offer_of p ∷ map offer_of ps) else offer_of p ∷ xs) (put-map n ps))
 
-pub one-more : (os : List Offer) (n o : Offer) → IsOneOf (os ++ n ∷ []) o → IsOneOf os o ⊎ (n ≡ o)
-one-more [] n o is = ⊎_elim (λ (same : n ≡ o). inr same) (λ (none : ⊥). absurd none) is
-one-more (p ∷ os) n o is = ⊎_elim (λ (same : p ≡ o). inl (inl same)) (λ (later : IsOneOf (os ++ n ∷ []) o). ⊎_elim (λ (h : IsOneOf os o). inl (inr h)) (λ (h : n ≡ o). inr h) (one-more os n o later)) is
-
-one-front : (os : List Offer) (n o : Offer) → IsOneOf os o → IsOneOf (os ++ n ∷ []) o
-one-front [] n o is = absurd is
-one-front (p ∷ os) n o is = ⊎_elim (λ (same : p ≡ o). inl same) (λ (later : IsOneOf os o). inr (one-front os n o later)) is
-
-one-back : (os : List Offer) (n : Offer) → IsOneOf (os ++ n ∷ []) n
-one-back [] n = inl refl
-one-back (p ∷ os) n = inr (one-back os n)
-
 same-covered : (ps : List Offer) (n o : Offer) → n ≡ o → IsCoveredBy ps n → IsCoveredBy ps o
 same-covered ps n o same covered = let P : Offer → Type 0 = IsCoveredBy ps in rw (← same) covered
 
@@ -73,15 +62,15 @@ same-covered ps n o same covered = let P : Offer → Type 0 = IsCoveredBy ps in 
 put-front : (n : Offer) (os ps : List Offer) → (IsCoveredBy ps n → ⊥) → IsFrontOf os ps → IsFrontOf (os ++ n ∷ []) (put n ps)
 put-front n os ps not front = record {
   order = put-order n ps not front.order;
-  covers = λ o is. ⊎_elim (λ (old : IsOneOf os o). put-covers n ps o not front.order (front.covers o old)) (λ (same : n ≡ o). same-covered (put n ps) n o same (put-has n ps)) (one-more os n o is);
-  among = λ p is. ⊎_elim (λ (same : n ≡ p). rw (← same) (one-back os n)) (λ (old : IsOneOf ps p). one-front os n p (front.among p old)) (put-from n ps p is);
+  covers = λ o is. ⊎_elim (λ (old : Contains os o). put-covers n ps o not front.order (front.covers o old)) (λ (same : n ≡ o). same-covered (put n ps) n o same (put-has n ps)) (Contains-push_cases os n o is);
+  among = λ p is. ⊎_elim (λ (same : n ≡ p). subst (Contains (os ++ n ∷ [])) same (Contains-push os n)) (λ (old : Contains ps p). Contains-append_left os (n ∷ []) p (front.among p old)) (put-from n ps p is);
 }
 
 same-front : (n : Offer) (os ps : List Offer) → IsCoveredBy ps n → IsFrontOf os ps → IsFrontOf (os ++ n ∷ []) ps
 same-front n os ps covered front = record {
   order = front.order;
-  covers = λ o is. ⊎_elim (λ (old : IsOneOf os o). front.covers o old) (λ (same : n ≡ o). same-covered ps n o same covered) (one-more os n o is);
-  among = λ p is. one-front os n p (front.among p is);
+  covers = λ o is. ⊎_elim (λ (old : Contains os o). front.covers o old) (λ (same : n ≡ o). same-covered ps n o same covered) (Contains-push_cases os n o is);
+  among = λ p is. Contains-append_left os (n ∷ []) p (front.among p is);
 }
 
 pub offered-front : (n : Point) (old new : List Point) → IsOffered n old new → (os : List Offer) → IsFrontOf os (map offer_of old) → IsFrontOf (os ++ offer_of n ∷ []) (map offer_of new)

@@ -43,8 +43,3 @@ left_of n (p ∷ ps) = if is_slower p n then left_of n ps else p ∷ ps
 abbrev pub put : Offer → List Offer → List Offer
 put n [] = n ∷ []
 put n (p ∷ ps) = if nat_le n.storage p.storage then n ∷ left_of n (p ∷ ps) else p ∷ put n ps
-
--- x is one of the list
-abbrev pub IsOneOf : {A : Type 0} → List A → A → Type 0
-IsOneOf [] x = ⊥
-IsOneOf (y ∷ ys) x = (y ≡ x) ⊎ IsOneOf ys x

@@ -1,7 +1,7 @@
 -- Points as offers, and the front of what was offered.
-use Rattle.std.specs.Prelude.{◌≡◌, ◌⊎◌, List, [], ◌∷◌, map, if◌then◌else◌, nat_le}
+use Rattle.std.specs.Prelude.{◌≡◌, ◌⊎◌, Contains, List, [], ◌∷◌, map, if◌then◌else◌, nat_le}
 use Rattle.pareto_front.specs.declared.point.Point.{Point}
-use Rattle.pareto_front.specs.Offers.{Offer, IsCoveredBy, IsOneOf, AreInOrder, is_slower}
+use Rattle.pareto_front.specs.Offers.{Offer, IsCoveredBy, AreInOrder, is_slower}
 
 -- a point without its loop
 abbrev pub offer_of : Point → Offer
@@ -10,8 +10,8 @@ offer_of p = record { storage = p.total; rate = p.rate; capacities = p.capacitie
 -- the list is in order, covers each offer, and has offers alone
 pub record IsFrontOf (offers points : List Offer) : Type 0 where
   pub order : AreInOrder points
-  pub covers : (o : Offer) → IsOneOf offers o → IsCoveredBy points o
-  pub among : (p : Offer) → IsOneOf points p → IsOneOf offers p
+  pub covers : (o : Offer) → Contains offers o → IsCoveredBy points o
+  pub among : (p : Offer) → Contains points p → Contains offers p
 
 -- what is left of points of no less storage than n, which n covers as long as their rates are no greater
 abbrev pub left_points : Point → List Point → List Point

@@ -14,6 +14,7 @@ use Rattle.sd_base.specs.Net.{IsRepetitionOf}
 use Rattle.sd_base.specs.Scenarios.{Shares}
 use Rattle.sd_base.proofs.Lists.{get-there, get-map}
 use Rattle.sd_base.proofs.Rounds.{one-repetition}
+use Rattle.storage.proofs.Containing.{contains-get, get-contains}
 use Rattle.token_matrix.specs.Matrices.{IsMatrix}
 use Rattle.token_matrix.specs.Stamps.{first_of}
 use Rattle.token_matrix.specs.Ways.{IsWay}
@@ -31,15 +32,6 @@ use Rattle.bounded_scenarios.specs.ScenarioGuides.{IsSpaceFor, IsWayOf}
 use Rattle.scenario_storage.specs.inside.Ratings.{IsScenarioAt}
 use Rattle.scenario_storage.specs.inside.Shown.{AreSpaceMarks, HasSpace, IsEntryIn, IsTakenOn, no_state, place_of, scenario_at, spaces_from}
 use Rattle.scenario_storage.proofs.SpaceNumbers.{numbered-space, space-capped, space-number}
-
--- an element of a list has a place
-pub contains-get : {A : Type 0} (xs : List A) (x : A) → Contains xs x → (k : ℕ) × (slice_get xs k ≡ Some x)
-contains-get xs x (k, below, same) =
-    let there = get-there xs k below in
-    (k, there.1 ∙ ap Some (sym (get_or_from_slice_get xs k there.0 x there.1) ∙ same))
-
-pub get-contains : {A : Type 0} (xs : List A) (k : ℕ) (x : A) → slice_get xs k ≡ Some x → Contains xs x
-get-contains xs k x at = (k, slice_get_within xs k x at, get_or_from_slice_get xs k x x at)
 
 pub marked-within : (marks : List Bool) (c : ℕ) → slice_index_or marks c false ≡ true → c < length marks
 marked-within marks c is =

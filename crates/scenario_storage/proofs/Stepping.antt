@@ -1,5 +1,5 @@
 -- Distributions with a step more room, and what the visits of a search say of them.
-use Rattle.std.proofs.Common.{◌≡◌, ℕ, ◌≤◌, ◌<◌, Option, None, Some, List, [], length, inl, inr, ⊎_elim, sym, ap, ◌∙◌, subst, arith}
+use Rattle.std.proofs.Common.{◌≡◌, ℕ, ◌≤◌, ◌<◌, Option, None, Some, List, length, inl, inr, ⊎_elim, sym, ap, ◌∙◌, subst, arith}
 use Rattle.std.specs.Prelude.{Contains, slice_index_or}
 use Rattle.std.proofs.lemmas.Bool.{cases_lt}
 use Rattle.std.proofs.lemmas.List.{get_or_past}
@@ -13,7 +13,7 @@ use Rattle.storage.proofs.CornerLists.{corner-distribution, corner-grid}
 use Rattle.storage.proofs.Enlarging.{distribution-length, enlarged-distribution, enlarged-grid, enlarged-storage}
 use Rattle.levels.specs.Visits.{IsLedTo, LeadsTo, Visit, led_by, visited, visits_of}
 use Rattle.levels.specs.Frontiers.{Rises}
-use Rattle.levels.proofs.Elements.{contains-map, contains-unmap}
+use Rattle.storage.proofs.Containing.{contains-map, contains-unmap}
 use Rattle.bounded_scenarios.specs.SharedChannels.{shared_channels}
 use Rattle.bounded_scenarios.specs.ScenarioGuides.{corner, next}
 use Rattle.scenario_storage.specs.inside.Levels.{IsGuided}

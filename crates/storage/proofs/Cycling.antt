@@ -10,7 +10,8 @@ use Rattle.critical.specs.declared.cycle.FiringNo.{FiringNo}
 use Rattle.critical.specs.declared.cycle.CycleStep.{CycleStep}
 use Rattle.critical.specs.declared.cycle.NeedCycle.{NeedCycle}
 use Rattle.critical.specs.Cycles.{IsStep, IsChain, HoldsOn}
-use Rattle.critical.specs.Spaces.{IsSpaceAt, Has, AreSpaces}
+use Rattle.critical.specs.Spaces.{IsSpaceAt, AreSpaces}
+use Rattle.critical.proofs.Storage.{number-place}
 use Rattle.storage.specs.Distributions.{capacity_at, AtMost}
 use Rattle.storage.specs.BoundedNets.{spaces_from, bound}
 use Rattle.storage.specs.ClosedLists.{AgreesOn}
@@ -63,4 +64,4 @@ module _ (net : Net) (ds es : List (Option ℕ)) (most : AtMost ds es) where
   holds-still cycle spaces holds are agrees = holds-on cycle holds same
     where
       same : (i c : ℕ) → i < length cycle.steps → IsSpaceAt (bound net ds) cycle.steps i c → capacity_at ds c ≡ capacity_at es c
-      same i c below space = let has : Has spaces c = are.all i c below space in subst (λ (x : ℕ). capacity_at ds x ≡ capacity_at es x) has.2 (agrees has.0 has.1)
+      same i c below space = let at = number-place spaces c (are.all i c below space) in subst (λ (x : ℕ). capacity_at ds x ≡ capacity_at es x) at.2 (agrees at.0 at.1)

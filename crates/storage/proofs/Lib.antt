@@ -28,3 +28,4 @@ pub mod TouchedInputs
 pub mod Enlarging
 pub mod FileConnections
 pub mod BoundedChannels
+pub mod Containing

@@ -7,11 +7,12 @@ use Rattle.std.specs.Option.{option_cmp}
 use Rattle.std.specs.Ordering.{nat_cmp}
 use Rattle.sd_base.specs.Net.{Net}
 use Rattle.storage.specs.Distributions.{storage_of}
+use Rattle.storage.specs.StorageOrder.{stepped}
 use Rattle.cert_text.specs.declared.certificates.MemberLine.{MemberLine}
 use Rattle.cert_text.specs.declared.certificates.StorageCertificate.{StorageCertificate}
 use Rattle.cert_checker.specs.declared.known.Known.{Known}
 use Rattle.cert_checker.specs.declared.listed.Listed.{Listed}
-use Rattle.cert_checker.specs.ShownChannels.{Shows, capacities_at, member_at, stepped}
+use Rattle.cert_checker.specs.ShownChannels.{Shows, capacities_at, member_at}
 use Rattle.cert_checker.specs.inside.Marks.{mark_at}
 use Rattle.cert_checker.specs.inside.Spaces.{AreSpaces}
 
@@ -36,8 +37,8 @@ pub record IsChild (net : Net) (c : StorageCertificate) (m : MemberLine) (n : �
   pub channel : ℕ
   pub below : channel < n
   pub shows : Shows net c.limit c.cycles m channel
-  pub small : storage_of net.channels (stepped net m.capacities.capacities channel) ≤ c.limit
-  pub is : stepped net m.capacities.capacities channel ≡ ds
+  pub small : storage_of net.channels (stepped net.channels m.capacities.capacities channel) ≤ c.limit
+  pub is : stepped net.channels m.capacities.capacities channel ≡ ds
 
 -- some of the first n members has the child ds
 abbrev pub IsChildOfFirst : Net → StorageCertificate → ℕ → List (Option ℕ) → Type 0

@@ -1,5 +1,5 @@
 -- What the lines of members and of points rest on.
-use Rattle.std.specs.Prelude.{◌≡◌, ℕ, ◌<◌, ◌≤◌, Option, Some, List, ◌++◌, All, length, drop, slice_get, slice_index_or}
+use Rattle.std.specs.Prelude.{◌≡◌, ℕ, ◌<◌, ◌≤◌, Option, Some, List, ◌++◌, All, length, drop, slice_get, slice_index_or, Contains}
 use Rattle.sd_base.specs.declared.limits.TheConstants.{STORAGE}
 use Rattle.sd_base.specs.Net.{Net}
 use Rattle.critical.specs.declared.cycle.CycleStep.{CycleStep}
@@ -9,7 +9,6 @@ use Rattle.pareto_front.specs.declared.point.Point.{Point}
 use Rattle.explore.specs.declared.exploration.Member.{Member}
 use Rattle.explore.specs.declared.exploration.Shown.{Shown}
 use Rattle.explore.specs.declared.exploration.Shown.TheVariants.{Cycle, Blocked}
-use Rattle.pareto_front.specs.Offers.{IsOneOf}
 use Rattle.cert_text.specs.declared.certificates.LinkCycle.{LinkCycle}
 use Rattle.cert_text.specs.declared.certificates.MemberShown.{MemberShown}
 use Rattle.cert_text.specs.Orderly.{used_with}
@@ -35,6 +34,6 @@ pub record AddsCycles (old new : List LinkCycle) (line : MemberShown) : Type 0 w
 
 -- each point's distribution is among these, and after that of each point before it
 pub record ArePlaced (dss : List (List (Option ℕ))) (points : List Point) : Type 0 where
-  pub there : (k : ℕ) (d : Point) → k < length points → IsOneOf dss (slice_index_or points k d).capacities.capacities
+  pub there : (k : ℕ) (d : Point) → k < length points → Contains dss (slice_index_or points k d).capacities.capacities
   pub later : (j k i : ℕ) (d : Point) → j < k → k < length points → slice_get dss i ≡ Some (slice_index_or points j d).capacities.capacities
-      → IsOneOf (drop i dss) (slice_index_or points k d).capacities.capacities
+      → Contains (drop i dss) (slice_index_or points k d).capacities.capacities

@@ -1,5 +1,5 @@
 -- What is kept of an evaluation.
-use Rattle.std.specs.Prelude.{◌≡◌, ℕ, ◌*◌, ◌≤◌, ◌<◌, ◌⊎◌, MatchOption, Option, None, List, Result, Ok, Err}
+use Rattle.std.specs.Prelude.{◌≡◌, ℕ, ◌*◌, ◌≤◌, ◌<◌, ◌⊎◌, MatchOption, Option, None, List, Result, Ok, Err, Contains}
 use Rattle.sd_base.specs.declared.numbers.Fraction.{Fraction}
 use Rattle.sd_base.specs.Net.{Net}
 use Rattle.firing.specs.declared.table.LoopTable.{LoopTable}
@@ -14,7 +14,6 @@ use Rattle.explore.specs.declared.exploration.Member.{Member}
 use Rattle.explore.specs.declared.exploration.Shown.{Shown}
 use Rattle.explore.specs.declared.exploration.Shown.TheVariants as shows
 use Rattle.explore.specs.declared.rated.Rated.{Rated}
-use Rattle.pareto_front.specs.Offers.{IsOneOf}
 
 -- what an outcome shows
 abbrev pub shown_by : Outcome → Shown
@@ -40,11 +39,11 @@ IsRatedAnswer best answer kept = ⊥
 
 -- the best rate is that of a point, or 0
 abbrev pub IsBestOf : List Point → Fraction → Type 0
-IsBestOf points best = (best.num ≡ 0) ⊎ ((p : Point) × IsOneOf points p × (p.rate ≡ best))
+IsBestOf points best = (best.num ≡ 0) ⊎ ((p : Point) × Contains points p × (p.rate ≡ best))
 
 -- the best rate is that of a member of less storage, or 0
 abbrev pub IsBest : Net → Fraction → ℕ → List Member → Type 0
-IsBest net best total ms = (best.num ≡ 0) ⊎ ((m : Member) × IsOneOf ms m × (m.rate ≡ best) × (storage_of net.channels m.capacities.capacities < total))
+IsBest net best total ms = (best.num ≡ 0) ⊎ ((m : Member) × Contains ms m × (m.rate ≡ best) × (storage_of net.channels m.capacities.capacities < total))
 
 -- the member that an evaluation makes of a distribution, and the one that is made of what is kept
 abbrev pub evaluated_member : Distribution → Evaluation → Member

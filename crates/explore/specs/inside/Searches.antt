@@ -4,13 +4,12 @@ use Rattle.sd_base.specs.declared.limits.Limits.{Limits}
 use Rattle.sd_base.specs.declared.numbers.Fraction.{Fraction}
 use Rattle.sd_base.specs.Net.{Net}
 use Rattle.lasso.specs.LoopAnswers.{IsFound}
-use Rattle.critical.specs.Spaces.{Has}
 use Rattle.storage.specs.BoundedNets.{bound}
 use Rattle.storage.specs.Distributions.{IsDistribution, storage_of}
 use Rattle.storage.specs.Steps.{IsCorner, IsOnGrid}
 use Rattle.storage.specs.ClosedLists.{Entry}
 use Rattle.pareto_front.specs.declared.point.Point.{Point}
-use Rattle.pareto_front.specs.Offers.{IsOneOf, Offer}
+use Rattle.pareto_front.specs.Offers.{Offer}
 use Rattle.pareto_front.specs.Points.{IsFrontOf, offer_of}
 use Rattle.guide.specs.Evaluations.{Bounds}
 use Rattle.guide.specs.Guides.{IsInGuide}
@@ -43,8 +42,8 @@ entry_of m shown = record { capacities = m.capacities.capacities; shown = shown;
 -- the entry is the member with the channels that it shows, which are in its guide and bound its rate
 pub record IsNoted (net : Net) (states : ℕ) (m : Member) (e : Entry) : Type 0 where
   pub is : e ≡ entry_of m e.shown
-  pub shows : (c : ℕ) → Has e.shown c ↔ ShowsChannel net m.capacities.capacities m.shown c
-  pub guided : (c : ℕ) → Has e.shown c → IsInGuide net m.capacities.capacities c
+  pub shows : (c : ℕ) → Contains e.shown c ↔ ShowsChannel net m.capacities.capacities m.shown c
+  pub guided : (c : ℕ) → Contains e.shown c → IsInGuide net m.capacities.capacities c
   pub member : IsMember net states m
   pub bounds : Bounds net m.capacities.capacities m.rate e.shown
 
@@ -74,7 +73,7 @@ HasTable net states p = IsFound (bound net p.capacities.capacities) states p.tab
 pub record AreKnown (net : Net) (states : ℕ) (members : List Member) (entries : List Entry) (points : List Point) : Type 0 where
   pub noted : AreNoted net states members entries
   pub front : IsFrontOf (offers_of net members) (map offer_of points)
-  pub tables : (p : Point) → IsOneOf points p → HasTable net states p
+  pub tables : (p : Point) → Contains points p → HasTable net states p
 
 -- where an exploration stands that has these distributions taken off, and whose levels before the floor are taken in: from the
 -- corner it has made the visits that its members are, each member is a candidate, and those that wait have their hints
@@ -85,7 +84,7 @@ pub record IsSearch (net : Net) (limits : Limits) (floor : ℕ) (taken : List (L
   pub is_corner : IsCorner net.channels corner
   pub bounds : s.levels.bounds ≡ record { total = limits.total; distributions = limits.distributions }
   pub frontier : IsFrontier net.channels corner floor (visits_of entries) taken s.levels
-  pub candidates : (m : Member) → IsOneOf s.members.items m → IsCandidate net limits.total m.capacities.capacities
+  pub candidates : (m : Member) → Contains s.members.items m → IsCandidate net limits.total m.capacities.capacities
   pub hinted : (f : Found (Option ℕ)) → Contains s.levels.waiting.keys f → IsHinted net limits.states s.members.items f.hint f.capacities.capacities
 
 -- where an exploration stands between two levels
@@ -97,13 +96,13 @@ pub record IsTurn (net : Net) (limits : Limits) (level : Level (Option ℕ)) (s 
   pub search : IsSearch net limits (level.total + 1) (distributions_of level.visits.items) s
   pub totals : All (λ (f : Found (Option ℕ)). storage_of net.channels f.capacities.capacities ≡ level.total) level.visits.items
   pub within : level.total ≤ limits.total
-  pub before : (m : Member) → IsOneOf s.members.items m → storage_of net.channels m.capacities.capacities < level.total
+  pub before : (m : Member) → Contains s.members.items m → storage_of net.channels m.capacities.capacities < level.total
   pub visitable : All (IsVisitable net limits.states s.members.items) level.visits.items
   pub some : 1 ≤ length level.visits.items
 
 -- one of the points has a rate that no distribution passes
 abbrev pub IsTopAmong : Net → List Point → Type 0
-IsTopAmong net points = (p : Point) × IsOneOf points p × BoundsAll net p.rate
+IsTopAmong net points = (p : Point) × Contains points p × BoundsAll net p.rate
 
 -- the members are all visits from the corner within the limit, and what they show is known
 pub record IsEnded (net : Net) (limits : Limits) (members : List Member) (points : List Point) : Type 0 where
@@ -112,7 +111,7 @@ pub record IsEnded (net : Net) (limits : Limits) (members : List Member) (points
   pub corner : List (Option ℕ)
   pub is_corner : IsCorner net.channels corner
   pub visits : AreVisits net.channels corner limits.total (visits_of entries)
-  pub candidates : (m : Member) → IsOneOf members m → IsCandidate net limits.total m.capacities.capacities
+  pub candidates : (m : Member) → Contains members m → IsCandidate net limits.total m.capacities.capacities
   pub few : length members ≤ limits.distributions
 
 -- an exploration has come past this storage, which is within the limit

@@ -1,6 +1,6 @@
 -- The schedule of a point's loop reaches its rate, and the distributions of a net stand over its graph.
-use Rattle.std.proofs.Common.{◌≡◌, ℕ, zero, suc, ◌*◌, ◌-◌, ◌≤◌, ◌<◌, ⊎_elim, true, List, [], ◌∷◌, ◌++◌, length, inl, inr, Option, Some, None, All, refl, sym, ap, subst, ◌∙◌, arith}
-use Rattle.std.specs.Prelude.{slice_index_or}
+use Rattle.std.proofs.Common.{◌≡◌, ℕ, zero, suc, ◌*◌, ◌-◌, ◌≤◌, ◌<◌, ⊎_elim, true, List, [], ◌∷◌, ◌++◌, length, Option, Some, None, All, sym, ap, subst, ◌∙◌, arith}
+use Rattle.std.specs.Prelude.{slice_index_or, Contains}
 use Rattle.std.specs.List.{AllZip}
 use Rattle.std.proofs.lemmas.Bool.{cases_lt, eqb-true}
 use Rattle.sd_base.specs.declared.role.Role.{Role}
@@ -18,9 +18,9 @@ use Rattle.storage.specs.Distributions.{CanHold, IsDistribution, storage_of}
 use Rattle.storage.proofs.FileChannels.{plain-no_spaces}
 use Rattle.storage.proofs.Fits.{can-hold}
 use Rattle.storage.proofs.Lawfulness.{bound-lawful}
+use Rattle.storage.proofs.Containing.{contains-here, contains-later}
 use Rattle.pareto_front.specs.declared.point.Point.{Point}
 use Rattle.explore.specs.Reachable.{IsExplorable}
-use Rattle.pareto_front.specs.Offers.{IsOneOf}
 use Rattle.explore.specs.Explorations.{IsPoint}
 use Rattle.cert_text.specs.Spellable.{AreStarts}
 use Rattle.report.specs.LinkTexts.{IsRoleIn, IsNamed}
@@ -99,12 +99,12 @@ pub zip-pushed : {A B : Type 0} (R : A → B → Type 0) (xs : List A) (ys zs : 
 zip-pushed {B} R xs ys zs x y pushed all is = subst (λ (l : List B). AllZip R (xs ++ x ∷ []) l) (sym pushed) (zip-more R xs ys x y all is)
 
 -- each schedule has a text
-pub zip-starts : (net : Net) → Lawful net → IsExplorable net → (limits : Limits) → limits.total ≤ STORAGE → (ps : List Point) (ss : List Periodic) → ((p : Point) → IsOneOf ps p → IsPoint net limits p)
+pub zip-starts : (net : Net) → Lawful net → IsExplorable net → (limits : Limits) → limits.total ≤ STORAGE → (ps : List Point) (ss : List Periodic) → ((p : Point) → Contains ps p → IsPoint net limits p)
     → AllZip (IsPointSchedule net) ps ss → All (λ (s : Periodic). All AreStarts s.starts) ss
 zip-starts net laws can limits small [] [] reached all k d below = absurd (omega arith)
 zip-starts net laws can limits small [] (s ∷ ss) reached all k d below = absurd all
 zip-starts net laws can limits small (p ∷ ps) [] reached all k d below = absurd all
 zip-starts net laws can limits small (p ∷ ps) (s ∷ ss) reached all zero d below =
-    let is : IsPoint net limits p = reached p (inl refl) in
+    let is : IsPoint net limits p = reached p (contains-here p ps) in
     starts-spelled (bound net p.capacities.capacities) p.table s (fits-lawful net laws can p.capacities.capacities is.reaches.distribution (point-small net laws can limits small p is)) all.0.of_loop
-zip-starts net laws can limits small (p ∷ ps) (s ∷ ss) reached all (suc k) d below = zip-starts net laws can limits small ps ss (λ q one. reached q (inr one)) all.1 k d (omega arith)
+zip-starts net laws can limits small (p ∷ ps) (s ∷ ss) reached all (suc k) d below = zip-starts net laws can limits small ps ss (λ q one. reached q (contains-later p ps q one)) all.1 k d (omega arith)

@@ -46,7 +46,7 @@ pub(crate) fn time_of<F: Firing, L: Ledger>(
         wiring: &wiring,
     };
     test(alloc, &wired, graph)?;
-    let completion = completed(alloc, net, wanted, steps)?;
+    let completion = completed(alloc, &wired, wanted, steps)?;
     let parts = pairs_of(alloc, completion.parts.as_slice())?;
     let text = complete_text(
         alloc,
@@ -62,21 +62,21 @@ pub(crate) fn time_of<F: Firing, L: Ledger>(
 // The least time for the rounds, or the refusal of an execution that passes a bound.
 fn completed<F: Firing, L: Ledger>(
     alloc: Global,
-    net: &F,
+    wired: &Wired<F>,
     wanted: &WantedRounds,
     steps: &mut Steps<L>,
 ) -> Result<Completion, Stop>
-    requires joined { IsStronglyConnected (F.net net.now) }
-    requires fed { IsFed (F.net net.now) }
-    requires live { IsLive (F.net net.now) }
+    requires joined { IsStronglyConnected (F.net wired.now.net.now) }
+    requires fed { IsFed (F.net wired.now.net.now) }
+    requires live { IsLive (F.net wired.now.net.now) }
     requires states { AreStates wanted.now.states }
     requires rounds { AreRounds wanted.now.rounds }
-    ensures does { Does (deciding (λ (c : ACompletion). IsCompletionOf (F.net net.now) wanted.now.rounds c × HasLoopWithin (F.net net.now) wanted.now.states) (IsRunRefusal (F.net net.now) wanted.now.states)) result }
+    ensures does { Does (deciding (λ (c : ACompletion). IsCompletionOf (F.net wired.now.net.now) wanted.now.rounds c × HasLoopWithin (F.net wired.now.net.now) wanted.now.states) (IsRunRefusal (F.net wired.now.net.now) wanted.now.states)) result }
     ensures counts { steps.new.count ≡ steps.old.count + 1 }
     ensures share { steps.new.share ≡ steps.old.share }
 {
-    know_laws(net);
-    match completion::complete(alloc, net, wanted.rounds, wanted.states, steps) {
+    know_laws(wired.net);
+    match completion::complete(alloc, wired, wanted.rounds, wanted.states, steps) {
         Ok(completion) => Ok(completion),
         Err(error) => Err(Stop::Refused(run_refusal(alloc, error, wanted.states)?)),
     }

@@ -2,7 +2,8 @@ use Rattle.std.proofs.Common.{◌≡◌, ◌≤◌, ◌<◌, ℕ, ◌+◌, Bool,
 use Rattle.std.specs.Prelude.{MatchOption}
 use Rattle.storage.specs.declared.distribution.Distribution.{Distribution}
 use Rattle.storage.specs.Distributions.{storage_of}
-use Rattle.cert_checker.specs.ShownChannels.{Shows, stepped}
+use Rattle.storage.specs.StorageOrder.{stepped}
+use Rattle.cert_checker.specs.ShownChannels.{Shows}
 use Rattle.cert_checker.proofs.ChildMarks.{AreMarked, marked-more, marked-none, marked-same}
 use Rattle.cert_checker.proofs.children.mark_children.Goals as goal
 use Rattle.cert_checker.proofs.children.mark_children.Goals.{in-Some, in_default}
@@ -17,8 +18,8 @@ loop-channel-preserved g c =
     let m = c.args.member.now in
     let n = c.loop-channel.channel in
     let P : Vec Bool Global → Type 0 = λ v. AreMarked net cert c.args.members.now m c.args.marks.now.items (n + 1) v.items in
-    let none : Type 0 = Shows net cert.limit cert.cycles m n → cert.limit < storage_of net.channels (stepped net m.capacities.capacities n) in
-    let some : Distribution → Type 0 = λ d. Shows net cert.limit cert.cycles m n × (d.capacities ≡ stepped net m.capacities.capacities n) × (storage_of net.channels (stepped net m.capacities.capacities n) ≤ cert.limit) in
+    let none : Type 0 = Shows net cert.limit cert.cycles m n → cert.limit < storage_of net.channels (stepped net.channels m.capacities.capacities n) in
+    let some : Distribution → Type 0 = λ d. Shows net cert.limit cert.cycles m n × (d.capacities ≡ stepped net.channels m.capacities.capacities n) × (storage_of net.channels (stepped net.channels m.capacities.capacities n) ≤ cert.limit) in
     let Q : Option Distribution → Type 0 = λ o. MatchOption o none some in
     elim c.match-branch-2.branch [
       | in-Some w ↦

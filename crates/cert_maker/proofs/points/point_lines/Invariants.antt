@@ -1,8 +1,7 @@
 use Rattle.std.proofs.Common.{◌≡◌, ℕ, ◌<◌, ◌≤◌, length, take, drop}
-use Rattle.std.specs.Prelude.{slice_index_or}
+use Rattle.std.specs.Prelude.{slice_index_or, Contains}
 use Rattle.std.specs.List.{AllZip}
 use Rattle.pareto_front.specs.declared.point.Point.{Point}
-use Rattle.pareto_front.specs.Offers.{IsOneOf}
 use Rattle.explore.specs.Explorations.{capacities_of}
 use Rattle.cert_maker.specs.StorageCertificates.{IsPointLine, schedules_of}
 use Rattle.cert_maker.proofs.points.point_lines.Given as goal
@@ -13,5 +12,5 @@ invariant-loop-schedule l = record {
   count : length l.lines.items ≡ length l.yielded;
   lines : AllZip (IsPointLine l.members) (take (length l.yielded) l.points) l.lines.items;
   schedules : schedules_of l.lines.items ≡ l.yielded;
-  left : (k : ℕ) (d : Point) → length l.yielded ≤ k → k < length l.points → IsOneOf (drop l.place (capacities_of l.members)) (slice_index_or l.points k d).capacities.capacities;
+  left : (k : ℕ) (d : Point) → length l.yielded ≤ k → k < length l.points → Contains (drop l.place (capacities_of l.members)) (slice_index_or l.points k d).capacities.capacities;
 }

@@ -1,8 +1,7 @@
 use Rattle.std.proofs.Common.{◌≡◌, false, inl, inr, ⊎_elim, sym, ap, ◌∙◌}
-use Rattle.std.specs.Prelude.{◌==◌}
+use Rattle.std.specs.Prelude.{◌==◌, Contains}
 use Rattle.storage.specs.declared.distribution.Distribution.{Distribution}
 use Rattle.pareto_front.specs.declared.point.Point.{Point}
-use Rattle.pareto_front.specs.Offers.{IsOneOf}
 use Rattle.explore.specs.inside.Searches.{offers_at}
 use Rattle.explore.proofs.Knowing.{front-as, offered-one, offers-some}
 use Rattle.explore.proofs.members.offer.Goals as goal
@@ -19,5 +18,5 @@ returns-clause-points c = λ p one.
     let point : Point = record { total = c.args.total; rate = c.args.rate; capacities = c.in_ok-capacities.capacities; table = c.args.table } in
     ⊎_elim
     (λ (same : point ≡ p). inl (sym (ap (λ (q : Point). q.capacities) same) ∙ c.in_ok-capacities.ensures, sym (ap (λ (q : Point). q.table) same)))
-    (λ (old : IsOneOf c.args.front.now p). inr old)
+    (λ (old : Contains c.args.front.now p). inr old)
     (offered-one point c.args.front.now _ p c.in_ok-offer.ensures.offered one)

@@ -1,6 +1,6 @@
 use Rattle.std.proofs.Common.{◌≡◌, ◌+◌, List, [], ap, subst, arith}
+use Rattle.std.specs.Prelude.{Contains}
 use Rattle.pareto_front.specs.declared.point.Point.{Point}
-use Rattle.pareto_front.specs.Offers.{IsOneOf}
 use Rattle.explore.specs.Explorations.{cycles_in}
 use Rattle.explore.specs.inside.Searches.{IsTopAmong}
 use Rattle.explore.proofs.Halting.{far-top}
@@ -12,12 +12,12 @@ use Rattle.explore.proofs.search.take_turns.Goals as goal
 pub is_last-requires-clause-points : goal.is_last-requires-clause-points
 is_last-requires-clause-points g c = λ p one.
     let search = c.in_ok-take_turn.ensures.past.1 in
-    point-candidate (g.F.Firing.net c.args.exploring.now.net.now) c.args.exploring.now.limits.total c.args.exploring.now.limits.states _ search.entries _ search.candidates search.known p (subst (λ (ps : List Point). IsOneOf ps p) c.points.ensures one)
+    point-candidate (g.F.Firing.net c.args.exploring.now.net.now) c.args.exploring.now.limits.total c.args.exploring.now.limits.states _ search.entries _ search.candidates search.known p (subst (λ (ps : List Point). Contains ps p) c.points.ensures one)
 
 pub is_last-requires-clause-tables : goal.is_last-requires-clause-tables
 is_last-requires-clause-tables g c =
     let search = c.in_ok-take_turn.ensures.past.1 in
-    (c.args.exploring.now.limits.states, λ p one. search.known.tables p (subst (λ (ps : List Point). IsOneOf ps p) c.points.ensures one))
+    (c.args.exploring.now.limits.states, λ p one. search.known.tables p (subst (λ (ps : List Point). Contains ps p) c.points.ensures one))
 
 pub returns-in_err-level-clause-most : goal.returns-in_err-level-clause-most
 returns-in_err-level-clause-most g c =

@@ -1,8 +1,9 @@
 use Rattle.std.proofs.Common.{◌≡◌, ◌+◌, ◌++◌, ◌∷◌, ◌<◌, [], ℕ, List, slice_index, sym, ◌∙◌, subst, true≢false, arith, rules}
-use Rattle.std.specs.Prelude.{◌↔◌}
-use Rattle.critical.specs.Spaces.{Has, IsRising}
+use Rattle.std.specs.Prelude.{◌↔◌, Contains}
+use Rattle.critical.specs.Spaces.{IsRising}
 use Rattle.storage.specs.ShownSpaces.{ShowsSpace}
-use Rattle.guide.proofs.Listing.{listed-more, listed-other, rising-more}
+use Rattle.storage.proofs.Containing.{listed-more, listed-other}
+use Rattle.guide.proofs.Listing.{rising-more}
 use Rattle.guide.proofs.held_up.shown_channels.Goals as goal
 use Rattle.guide.proofs.held_up.shown_channels.Goals.{then-shows_space+in_ok-push, else-shows_space}
 
@@ -11,7 +12,7 @@ loop-channel-preserved g c =
     let P : ℕ → Type 0 = λ i. ShowsSpace (g.F.Firing.net c.args.net.now) c.args.capacities.now.capacities (slice_index c.args.counts.now) i in
     let n = c.loop-channel.channel in
     let xs = c.loop-channel.shown in
-    let Q : List ℕ → Type 0 = λ ys. IsRising ys × ((i : ℕ) → Has ys i ↔ ((i < n + 1) × P i)) in
+    let Q : List ℕ → Type 0 = λ ys. IsRising ys × ((i : ℕ) → Contains ys i ↔ ((i < n + 1) × P i)) in
     elim c.if-shows_space.branch [
       | then-shows_space+in_ok-push w ↦
           let here : P n = c.shows_space.ensures.0 w.if-shows_space.true in

@@ -5,4 +5,4 @@ pub complete-requires-clause-connected : goal.complete-requires-clause-connected
 complete-requires-clause-connected g c = joined-connected _ c.know_laws.ensures c.requires.joined
 
 pub complete-requires-clause-inputs : goal.complete-requires-clause-inputs
-complete-requires-clause-inputs g c = fed-inputs (g.F.Firing.net c.args.net.now) c.requires.fed
+complete-requires-clause-inputs g c = fed-inputs (g.F.Firing.net c.args.wired.now.net.now) c.requires.fed

@@ -1,14 +1,13 @@
 use Rattle.std.proofs.Common.{◌∙◌, List, ap, length, refl, subst}
-use Rattle.std.specs.Prelude.{slice_index_or}
+use Rattle.std.specs.Prelude.{slice_index_or, Contains}
 use Rattle.std.specs.List.{AllZip}
 use Rattle.std.proofs.lemmas.Result.{err_from_is_err_and}
 use Rattle.std.proofs.lemmas.Slice.Zip.{AllZip-long}
+use Rattle.std.proofs.lemmas.List.Elements.{Contains-get_or}
 use Rattle.sd_base.specs.Net.{Net}
 use Rattle.periodic.specs.declared.schedule.Periodic.{Periodic}
 use Rattle.report.specs.StorageTexts.{points_lines}
 use Rattle.pareto_front.specs.declared.point.Point.{Point}
-use Rattle.pareto_front.specs.Offers.{IsOneOf}
-use Rattle.explore.proofs.Elements.{one-at}
 use Rattle.explore.proofs.Enough.{explores-points}
 use Rattle.sd_command.specs.commands.Points.{ArePointsShown, IsPointSchedule}
 use Rattle.sd_command.proofs.command_lemmas.Certified.{points-stops}
@@ -22,7 +21,7 @@ shown_points-requires-after_bounds g c κs within = λ k d below.
       explorable = c.requires.explorable;
       limits = c.args.wanted.now.limits;
       total = c.requires.total;
-      found = explores-points _ _ _ _ _ c.requires.explored p (subst (λ (ps : List Point). IsOneOf ps p) c.as_slice.ensures.value (one-at c.as_slice.result.now k d below));
+      found = explores-points _ _ _ _ _ c.requires.explored p (subst (λ (ps : List Point). Contains ps p) c.as_slice.ensures.value (Contains-get_or c.as_slice.result.now k d below));
     }
 
 pub put_for-requires-clause-many : goal.put_for-requires-clause-many
@@ -31,7 +30,7 @@ put_for-requires-clause-many g c = AllZip-long _ _ _ c.in_ok-shown.ensures.sched
 pub put_for-requires-clause-starts : goal.put_for-requires-clause-starts
 put_for-requires-clause-starts g c =
     zip-starts (g.F.Firing.net c.args.net.now) c.know_laws.ensures c.requires.explorable c.args.wanted.now.limits c.requires.total c.as_slice.result.now c.in_ok-shown.shown.schedules.items
-    (λ p one. explores-points _ _ _ _ _ c.requires.explored p (subst (λ (ps : List Point). IsOneOf ps p) c.as_slice.ensures.value one)) c.in_ok-shown.ensures.schedules
+    (λ p one. explores-points _ _ _ _ _ c.requires.explored p (subst (λ (ps : List Point). Contains ps p) c.as_slice.ensures.value one)) c.in_ok-shown.ensures.schedules
 
 pub returns-in_err-put : goal.returns-in_err-put
 returns-in_err-put g c =
