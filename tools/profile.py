@@ -12,14 +12,15 @@ what ended between two looks stands in the last row.
 A crate with two edits or more is proved once more, as what they begin with: that is the column `Base`, and with it stands a last
 check that the base is still proved.
 
-`rt ci` says nothing of single functions. A check that names each as it ends, as `rt check --jobs 1` in a crate's folder, is
-followed by the twenty that took longest.
+A second table has the twenty functions and files of lemmas whose proofs took longest, by the moments at which the compiler left
+each of their modules in its folder. Where it proves some beside each other (`--jobs`), these are less than they take alone.
 """
 import os
 import re
 import resource
 import subprocess
 import sys
+import tempfile
 import threading
 import time
 from collections import defaultdict
@@ -27,7 +28,11 @@ from collections import defaultdict
 PAUSE = 0.2
 TICKS = os.sysconf("SC_CLK_TCK")
 KINDS = ("proof", "tests", "base", "edits", "programs")
-MOST_FUNCTIONS = 20
+MOST_OWNERS = 20
+# Where a proof leaves the modules that are done, by the number of its process; and what it makes for each function.
+DONE = re.compile(r"rattle-logic-built-locked-(\d+)-\d+$")
+STAGES = {"Answers", "Code", "Given", "Goals", "Invariants", "Key", "Kinds", "Layout", "Lts", "Met", "Mir", "Named", "Proof", "Reads",
+          "Statement", "Symbol", "TheLink", "Tie", "View"}
 
 
 def processes():
@@ -83,6 +88,7 @@ class Costs:
         self.ticks, self.work, self.said = {}, {}, set()
 
     def look(self, root):
+        """Adds what stands now, and answers the numbers of the processes below the root."""
         found = processes()
         reached = below(root, found)
         # A parent comes before its children, whose work is that of the parent where their own words don't say it.
@@ -98,6 +104,7 @@ class Costs:
                 self.said.add(process)
             if own or above in self.work:
                 self.work[process] = own or self.work[above]
+        return reached
 
     def seconds(self):
         """The seconds of each crate and kind."""
@@ -106,6 +113,54 @@ class Costs:
             if process in self.work:
                 sums[self.work[process]] += ticks / TICKS
         return sums
+
+
+class Modules:
+    """When each module of each proof was done."""
+
+    def __init__(self):
+        self.ends, self.crates = defaultdict(dict), {}
+
+    def look(self, numbers):
+        for folder in os.scandir(tempfile.gettempdir()):
+            named = DONE.match(folder.name)
+            if not named or int(named[1]) not in numbers:
+                continue
+            if folder.name not in self.crates:
+                work = work_of(int(named[1]))
+                if not work:
+                    continue
+                crate, kind = work
+                self.crates[folder.name] = {"proof": crate, "tests": f"{crate}, with tests"}.get(kind)
+            if self.crates[folder.name]:
+                self.look_into(folder)
+
+    def look_into(self, folder):
+        ends = self.ends[folder.name]
+        try:
+            for module in os.scandir(folder.path):
+                if module.name.endswith(".oantt") and module.name not in ends:
+                    ends[module.name] = module.stat().st_mtime
+        except OSError:
+            # The proof has ended, or the module has just got its name.
+            return
+
+    def seconds(self):
+        """The seconds of each function and each file of lemmas, with its crate: from the module that was done before."""
+        sums = defaultdict(float)
+        for folder, ends in self.ends.items():
+            names = sorted(ends, key=ends.get)
+            for before, name in zip(names, names[1:]):
+                sums[self.crates[folder], owner(name)] += ends[name] - ends[before]
+        return sums
+
+
+def owner(module):
+    """The function or the file of lemmas that a module belongs to: `Rattle-CRATE-proofs.PATH.STAGE.oantt` to `PATH`."""
+    path = re.sub(r"^Rattle-[^-]+-((proofs|specs)\.)?(contracts\.)?", "", module.removesuffix(".oantt")).split(".")
+    while len(path) > 1 and path[-1] in STAGES:
+        path.pop()
+    return "::".join(path)
 
 
 def minutes(seconds):
@@ -127,45 +182,40 @@ def table(seconds, edits, all_seconds, wall):
     return [*lines, "", f"Processor minutes: {minutes(all_seconds)} ({shown}), in {minutes(wall)} minutes of the clock."]
 
 
-def slowest(told):
-    """The functions that took longest, where the command named each as it ended: by the time since the line before."""
-    took, before = [], None
-    for moment, line in told:
-        named = re.match(r"checked (.+), \d+ of \d+$", line)
-        if named and before is not None:
-            took.append((moment - before, named[1]))
-        before = moment
+def slowest(seconds):
+    """The table of the functions and files of lemmas that took longest."""
+    took = sorted(((spent, *names) for names, spent in seconds.items()), reverse=True)[:MOST_OWNERS]
     if not took:
         return []
-    rows = [f"| `{name}` | {seconds:.1f} |" for seconds, name in sorted(took, reverse=True)[:MOST_FUNCTIONS]]
-    return ["", "| Function | Seconds of the clock |", "|---|---|", *rows]
+    rows = [f"| `{crate}` | `{path}` | {spent:.1f} |" for spent, crate, path in took]
+    return ["", "| Crate | Function or file of lemmas | Seconds of the clock |", "|---|---|---|", *rows]
 
 
 def pass_on(stream, told):
     for line in stream:
-        told.append((time.monotonic(), line.rstrip("\n")))
+        told.append(line.rstrip("\n"))
         print(line, end="", flush=True)
 
 
 def profile(command):
-    begun, costs, told = time.monotonic(), Costs(), []
+    begun, costs, modules, told = time.monotonic(), Costs(), Modules(), []
     child = subprocess.Popen(command, stdin=subprocess.DEVNULL, stdout=subprocess.PIPE, stderr=subprocess.STDOUT, text=True,
                              errors="replace")
     reading = threading.Thread(target=pass_on, args=(child.stdout, told))
     reading.start()
     while child.poll() is None:
         # The command stands above what is looked at, so the processes below it are found from this one.
-        costs.look(os.getpid())
+        modules.look(set(costs.look(os.getpid())))
         time.sleep(PAUSE)
     reading.join()
     usage = resource.getrusage(resource.RUSAGE_CHILDREN)
     edits = defaultdict(int)
-    for _, line in told:
+    for line in told:
         tried = re.search(r"\bmust-fail (\w+)/\S+\.edit: ", line)
         if tried:
             edits[tried[1]] += 1
     wall = time.monotonic() - begun
-    print("\n" + "\n".join([*table(costs.seconds(), edits, usage.ru_utime + usage.ru_stime, wall), *slowest(told)]))
+    print("\n" + "\n".join([*table(costs.seconds(), edits, usage.ru_utime + usage.ru_stime, wall), *slowest(modules.seconds())]))
     return child.returncode
 
 

@@ -3,7 +3,7 @@ use Rattle.std.proofs.Common.{◌≡◌, ℕ, ◌+◌, ◌*◌, ◌≤◌, ◌<�
 use Rattle.std.specs.Prelude.{slice_index}
 use Rattle.sd_base.specs.Net.{Net, Channel, channel_at, total}
 use Rattle.sd_base.specs.Schedules.{Needs}
-use Rattle.sd_base.specs.Untimed.{none_fired, counts_after, CanFire, IsLive, Blocks}
+use Rattle.sd_base.specs.Untimed.{none_fired, counts_after, IsLive, Blocks}
 use Rattle.sd_base.proofs.Parts.{Wired}
 use Rattle.sd_base.proofs.Blocking.{live-unblocked}
 use Rattle.sd_base.proofs.Ends.{live_or_blocked}

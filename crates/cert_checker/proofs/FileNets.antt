@@ -1,5 +1,5 @@
 -- The net of a file can be bounded by distributions within the limit.
-use Rattle.std.proofs.Common.{ℕ, ◌≤◌, Option, List, [], length, arith}
+use Rattle.std.proofs.Common.{ℕ, ◌≤◌, Option, List, length, arith}
 use Rattle.sd_base.specs.declared.limits.TheConstants.{NET_CHANNELS, STORAGE}
 use Rattle.sd_base.specs.Net.{Net}
 use Rattle.storage.specs.BoundedNets.{HasNoSpaces, bound}

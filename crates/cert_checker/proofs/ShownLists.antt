@@ -5,7 +5,7 @@ use Rattle.std.proofs.lemmas.Bool.{cases_lt}
 use Rattle.std.proofs.Math.Nat.{le_of_mul-le-mul_left}
 use Rattle.sd_base.specs.declared.role.Role.{Role}
 use Rattle.sd_base.specs.declared.role.Role.TheVariants.{Token, Own, Space, Order}
-use Rattle.sd_base.specs.Net.{Channel, Net, channel_at}
+use Rattle.sd_base.specs.Net.{Net, channel_at}
 use Rattle.sd_base.specs.Lawful.{Lawful}
 use Rattle.sd_base.specs.Rates.{Rate}
 use Rattle.sd_base.specs.Schedules.{Lacks, Needs}

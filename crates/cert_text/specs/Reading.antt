@@ -47,9 +47,6 @@ reading_of text = answer_of (length (lines_of text)) (text_from (lines_of text))
 abbrev pub IsCertText : List ℕ → ℕ → Certificate → Type 0
 IsCertText text version c = reading_of text ≡ Ok (version, c)
 
-abbrev pub IsCertFault : List ℕ → CertError → Type 0
-IsCertFault text error = reading_of text ≡ Err error
-
 -- what a reader answers, unless memory runs out
 abbrev pub IsReading : List ℕ → Result (ℕ × Certificate) CertError → Type 0
 IsReading text answer = (answer ≡ Err NoMemory) ⊎ (reading_of text ≡ answer)

@@ -7,7 +7,6 @@ use Rattle.completion.specs.declared.timetable.Timetable.{Timetable}
 use Rattle.sd_base.specs.Net.{Net}
 use Rattle.sd_base.specs.Schedules.{Schedule, count_of, end_of, start_of}
 use Rattle.sd_base.specs.SelfTimed.{earliest}
-use Rattle.sd_base.proofs.Parts.{balanced}
 use Rattle.sd_base.proofs.LoopPasses as passes
 use Rattle.sd_base.proofs.Alike.{count-rises}
 use Rattle.critical.specs.inside.Trails.{IsShortLoop}

@@ -1,6 +1,6 @@
 -- Lists of tasks and of their answers: what jobs have kept of them, turned round, taken off the end one by one; and the list
 -- behind a slice that was lent.
-use Rattle.std.proofs.Common.{◌≡◌, ℕ, suc, ◌+◌, ◌-◌, List, [], ◌∷◌, ◌++◌, length, map, reverse, take, drop, append_assoc, refl, sym, ap, ◌∙◌, subst, arith}
+use Rattle.std.proofs.Common.{◌≡◌, suc, ◌+◌, ◌-◌, List, [], ◌∷◌, ◌++◌, length, map, reverse, take, drop, append_assoc, refl, sym, ap, ◌∙◌, subst, arith}
 use Rattle.std.specs.Prelude.{All}
 use Rattle.std.proofs.lemmas.List.{get_or_append_left, get_or-append-add, get_or-reverse, length-append, length-reverse, map-append, reverse-append, reverse-reverse}
 use Rattle.fanout.specs.JobRuns.{EachRan}

@@ -1,5 +1,5 @@
 -- Distributions with a step more room, and what the visits of a search say of them.
-use Rattle.std.proofs.Common.{◌≡◌, ℕ, ◌≤◌, ◌<◌, Option, None, Some, List, length, inl, inr, ⊎_elim, sym, ap, ◌∙◌, subst, arith}
+use Rattle.std.proofs.Common.{◌≡◌, ℕ, ◌≤◌, ◌<◌, Option, None, Some, List, length, inl, inr, ⊎_elim, sym, subst, arith}
 use Rattle.std.specs.Prelude.{Contains, slice_index_or}
 use Rattle.std.proofs.lemmas.Bool.{cases_lt}
 use Rattle.std.proofs.lemmas.List.{get_or_past}
@@ -27,12 +27,6 @@ entry-visit es e one = contains-map (λ (x : Entry). led_by x.capacities x.shown
 
 pub visit-entry : (es : List Entry) (v : Visit) → Contains (visits_of es) v → (e : Entry) × Contains es e × (led_by e.capacities e.shown ≡ v)
 visit-entry es v one = contains-unmap (λ (x : Entry). led_by x.capacities x.shown) es v one
-
-pub visited-entry : (es : List Entry) (ds : List (Option ℕ)) → Contains (visited (visits_of es)) ds → (e : Entry) × Contains es e × (e.capacities ≡ ds)
-visited-entry es ds one =
-    let v = contains-unmap (λ (x : Visit). x.capacities) (visits_of es) ds one in
-    let e = visit-entry es v.0 v.1 in
-    (e.0, e.1, ap (λ (x : Visit). x.capacities) e.2 ∙ v.2)
 
 pub entry-visited : (es : List Entry) (e : Entry) → Contains es e → Contains (visited (visits_of es)) e.capacities
 entry-visited es e one = contains-map (λ (x : Visit). x.capacities) (visits_of es) (led_by e.capacities e.shown) (entry-visit es e one)

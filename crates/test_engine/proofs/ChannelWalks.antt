@@ -1,5 +1,5 @@
 -- Walks of a net over one channel.
-use Rattle.std.proofs.Common.{◌≡◌, ℕ, ◌<◌, List, [], ◌∷◌, length, sym, ◌∙◌, inl, inr}
+use Rattle.std.proofs.Common.{◌≡◌, ℕ, ◌<◌, [], ◌∷◌, length, sym, ◌∙◌, inl, inr}
 use Rattle.sd_base.specs.Net.{Net, channel_at}
 use Rattle.sd_base.specs.Connection.{IsWalk, ends_of}
 use Rattle.sd_base.proofs.Connections.{pair-of}

@@ -1,26 +1,11 @@
 -- Walks that get heavier than any number, where an edge that takes time leads on from each node.
-use Rattle.std.proofs.Common.{◌≡◌, ℕ, zero, suc, ◌+◌, ◌*◌, ◌≤◌, ◌<◌, List, [], ◌∷◌, Some, All, length, refl, sym, ap, subst, arith}
+use Rattle.std.proofs.Common.{◌≡◌, ℕ, zero, suc, ◌+◌, ◌*◌, ◌≤◌, ◌<◌, List, [], ◌∷◌, refl, sym, ap, arith}
 use Rattle.std.specs.Prelude.{slice_get}
 use Rattle.std.proofs.Math.Nat.{mul-le-mul_right}
-use Rattle.std.proofs.lemmas.List.Elements.{All-get_or}
-use Rattle.std.proofs.lemmas.Option.{get_or_from_slice_get, slice_get_within}
-use Rattle.sd_base.specs.declared.limits.TheConstants.{EDGES}
-use Rattle.automaton.specs.declared.graph.Edge.{Edge}
 use Rattle.automaton.specs.declared.graph.TimedGraph.{TimedGraph}
 use Rattle.automaton.specs.CriticalCycles.{IsPath, weight_in, weights}
-use Rattle.automaton.specs.SoundGraphs.{AreInside, Grows, IsSound, node_count}
-use Rattle.test_scenarios.specs.Leading.{IsInside, LeadsFrom}
-
-inside-at : (es : List Edge) (n : ℕ) → All (IsInside n) es → (k : ℕ) (e : Edge) → slice_get es k ≡ Some e → IsInside n e
-inside-at es n inside k e get = subst (IsInside n) (get_or_from_slice_get es k e e get) (All-get_or (IsInside n) es k e (slice_get_within es k e get) inside)
-
-pub are-inside : (es : List Edge) (n : ℕ) → length es ≤ EDGES → All (IsInside n) es → AreInside es n
-are-inside es n few inside = record {
-  few = few;
-  from = λ k e get. (inside-at es n inside k e get).from;
-  to = λ k e get. (inside-at es n inside k e get).to;
-  light = λ k e get. (inside-at es n inside k e get).light;
-}
+use Rattle.automaton.specs.SoundGraphs.{Grows, IsSound, node_count}
+use Rattle.test_scenarios.specs.Leading.{LeadsFrom}
 
 module _ (graph : TimedGraph) (sound : IsSound graph) (leads : (v : ℕ) → v < node_count graph → LeadsFrom graph.edges v) where
   walk : (n u : ℕ) → u < node_count graph → (v : ℕ) × (ks : List ℕ) × IsPath graph.edges u ks v × (n ≤ weights graph.edges ks)

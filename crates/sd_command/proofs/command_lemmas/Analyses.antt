@@ -77,9 +77,6 @@ few_from net limits before after (dss, found, most, few) = (dss, found, omega (a
 pub print_answers : (text : List ℕ) (put : Option Put) (answer : Answer) (faults : ℕ) → answer.text ≡ text → answer.put ≡ put → Goes (ends_by (printing text put)) (Ok answer) 0 faults faults
 print_answers text put answer faults is puts = record { ending = Answered answer; is = refl; came = (refl, is, puts); counted = refl }
 
-pub print_lacks : (text : List ℕ) (put : Option Put) (faults : ℕ) → Goes (ends_by (printing text put)) (Err stop.OutOfMemory) 0 faults faults
-print_lacks text put faults = record { ending = Lacking; is = refl; came = refl; counted = refl }
-
 -- the answer of a file of scenarios, by its timed graph: it is told, or its certificate is too long
 pub worst_told : (file : ScenarioFile) (certificate : Option (List ℕ)) (graph : TimedGraph) (result : Result Answer Stop) (faults : ℕ)
     → Does (deciding (λ answer. IsWorstAnswer file graph certificate answer 0) (λ refusal. IsWorstTooLong file graph certificate refusal 0)) result → Goes (ends_by (telling_worst file certificate graph)) result 0 faults faults

@@ -5,9 +5,7 @@ use Rattle.sd_base.specs.declared.limits.TheConstants.{CAPACITY, NET_CHANNELS, T
 use Rattle.sd_base.specs.declared.tables.ActorRow.{ActorRow}
 use Rattle.sd_base.specs.declared.tables.GraphFile.{GraphFile}
 use Rattle.sd_base.specs.FileNet.{net_of}
-use Rattle.sd_base.specs.Lawful.{Lawful}
 use Rattle.sd_base.specs.Net.{channel_at}
-use Rattle.sd_base.proofs.FileNets.{net_of-lawful, widened}
 use Rattle.sd_base.specs.Tables.{IsTimed, KeepsRules}
 use Rattle.balance.specs.Repetition.{IsRound}
 use Rattle.storage.specs.declared.distribution.Distribution.{Distribution}
@@ -15,7 +13,6 @@ use Rattle.storage.specs.BoundedNets.{HasNoSpaces, bound}
 use Rattle.storage.specs.Distributions.{CanHold}
 use Rattle.storage.specs.NamedBuffers.{Buffer}
 use Rattle.storage.proofs.FileChannels.{file-plain, plain-no_spaces}
-use Rattle.storage.proofs.Lawfulness.{bound-lawful}
 use Rattle.storage.proofs.NamedCapacities.{bounded-few, named-held}
 use Rattle.storage.proofs.SmallSpaces.{bounded-few_tokens}
 use Rattle.cert_maker.specs.Links.{HasNoOrders}
@@ -47,13 +44,8 @@ is-bounded graph gamma no_overlap buffers d rules timed round small gives = reco
 pub file-spaceless : (graph : GraphFile) (gamma : List ℕ) (no_overlap : Bool) → HasNoSpaces (net_of graph gamma no_overlap)
 file-spaceless graph gamma no_overlap = plain-no_spaces (net_of graph gamma no_overlap) (file-plain graph gamma no_overlap)
 
--- the bounded net keeps the laws of nets, has room, stands over the graph, and has no edges of orders
+-- the bounded net has room, stands over the graph, and has no edges of orders
 module _ (graph : GraphFile) (gamma : List ℕ) (no_overlap : Bool) (ds : List (Option ℕ)) (is : IsBounded graph gamma no_overlap ds) where
-  pub lawful-bounded : Lawful (bound (net_of graph gamma no_overlap) ds)
-  lawful-bounded =
-      bound-lawful (net_of graph gamma no_overlap) (net_of-lawful graph gamma no_overlap (widened graph is.rules) is.timed is.gives is.small) ds (file-spaceless graph gamma no_overlap) is.held
-      (bounded-few graph gamma no_overlap ds is.rules is.over)
-
   pub few-bounded : length (bound (net_of graph gamma no_overlap) ds).channels ≤ NET_CHANNELS
   few-bounded = bounded-few graph gamma no_overlap ds is.rules is.over
 

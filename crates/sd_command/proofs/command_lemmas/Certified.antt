@@ -1,5 +1,5 @@
 -- From a certificate that is made to the file that an answer puts.
-use Rattle.std.proofs.Common.{◌≡◌, ℕ, ◌*◌, ◌<◌, ◌≤◌, List, [], All, length, Option, Some, None, Err, refl, sym, subst, get_or, mul-le-mul, arith}
+use Rattle.std.proofs.Common.{◌≡◌, ℕ, ◌*◌, ◌<◌, ◌≤◌, List, [], All, length, Option, Err, refl, get_or, mul-le-mul, arith}
 use Rattle.std.specs.Prelude.{slice_index}
 use Rattle.std.proofs.lemmas.List.Elements.{All-from_get_or}
 use Rattle.sd_base.specs.declared.limits.TheConstants.{START}
@@ -10,13 +10,11 @@ use Rattle.sd_base.specs.Schedules.{count_of}
 use Rattle.firing.specs.declared.table.LoopTable.{LoopTable}
 use Rattle.periodic.specs.declared.schedule.Periodic.{Periodic}
 use Rattle.periodic.specs.LoopSchedules.{IsScheduleOf}
-use Rattle.cert_text.specs.declared.certificates.Certificate.{Certificate}
 use Rattle.cert_text.specs.Spellable.{AreStarts}
-use Rattle.sd_command.specs.declared.answer.Put.{Put}
 use Rattle.sd_command.specs.declared.file_kind.FileKind.TheVariants as kinds
 use Rattle.sd_command.specs.declared.stop.Stop.{Stop}
 use Rattle.sd_command.specs.declared.stop.Stop.TheVariants as stop
-use Rattle.sd_command.specs.steps.Certifyings.{Certifies, IsTooLong, certifying}
+use Rattle.sd_command.specs.steps.Certifyings.{Certifies, IsTooLong}
 use Rattle.sd_base.specs.declared.tables.GraphFile.{GraphFile}
 use Rattle.sd_base.specs.declared.tables.ScenarioFile.{ScenarioFile}
 use Rattle.critical.specs.declared.cycle.NeedCycle.{NeedCycle}
@@ -32,20 +30,6 @@ use Rattle.sd_command.specs.commands.Points.{ArePointsShown, ArePointsTooLong, I
 use Rattle.sd_command.specs.commands.WorstRates.{IsOfWorst, IsShown, IsWorstAnswer, IsWorstTooLong}
 use Rattle.sd_command.specs.steps.Courses.{deciding}
 use Rattle.sd_command.specs.inside.Steps.{Does}
-
-module _ (asked : Option (List ℕ)) (name shown : List ℕ) (is_asked : asked ≡ Some name) (same : shown ≡ name) (shows : Certificate → Type 0) (c : Certificate) (is : shows c) where
-  -- a certificate is put under the name that was asked for
-  pub put-made : (p : Put) → (certifying kinds.Certificate shown c).passes p → Certifies asked shows (Some p)
-  put-made p passes =
-      subst (λ (o : Option (List ℕ)). Certifies o shows (Some p)) (sym is_asked) (c, is, (p, subst (λ (n : List ℕ). (certifying kinds.Certificate n c).passes p) same passes, refl))
-
-  -- or it isn't
-  pub put-stops : (why : Stop) → Does (certifying kinds.Certificate shown c) (Err why) → Does (deciding (Certifies asked shows) (IsTooLong asked shows)) (Err why)
-  put-stops (stop.Refused refusal) refuses = subst (λ (o : Option (List ℕ)). IsTooLong o shows refusal) (sym is_asked) (c, is, refuses)
-  put-stops stop.OutOfMemory nothing = tt
-
-pub put-none : (asked : Option (List ℕ)) (shows : Certificate → Type 0) → asked ≡ None → Certifies asked shows None
-put-none asked shows none = subst (λ (o : Option (List ℕ)). Certifies o shows None) (sym none) refl
 
 -- a schedule of a loop has a text
 pub starts-spelled : (net : Net) (table : LoopTable) (schedule : Periodic) → Lawful net → IsScheduleOf net table schedule → All AreStarts schedule.starts

@@ -7,8 +7,7 @@ use Rattle.sd_base.specs.Schedules.{HasInputs}
 use Rattle.sd_base.specs.Connection.{AreStronglyConnected, IsConnected, IsStronglyConnected, ends_of}
 use Rattle.sd_base.specs.Lawful.{Lawful}
 use Rattle.sd_base.proofs.Connections.{IsChannel, channel-of, strongly-connected}
-use Rattle.balance.specs.ConnectRefusals.{HasInput, IsConnectRefusal, IsFirstWithoutInput}
-use Rattle.balance.specs.declared.connection.ConnectError.{ConnectError}
+use Rattle.balance.specs.ConnectRefusals.{HasInput}
 use Rattle.balance.specs.declared.connection.ConnectError.TheVariants as connecting
 use Rattle.sd_command.specs.steps.Nets.{IsFed}
 
@@ -30,14 +29,6 @@ fed-inputs net fed a actor = has-input net a (fed a actor)
 module _ (net : Net) (n : ℕ) (es : List (ℕ × ℕ)) (actors : n ≡ length net.times) (ends : es ≡ ends_of net) where
   pub strongly : AreStronglyConnected n es → AreStronglyConnected (length net.times) (ends_of net)
   strongly is = subst (λ (m : ℕ). AreStronglyConnected m (ends_of net)) actors (subst (λ (xs : List (ℕ × ℕ)). AreStronglyConnected n xs) ends is)
-
-  pub one_way-of : (e : ConnectError) (x y : ℕ) → e ≡ connecting.OneWay x y → IsConnectRefusal n es e → IsConnectRefusal (length net.times) (ends_of net) (connecting.OneWay x y)
-  one_way-of e x y is refusal =
-      subst (λ (m : ℕ). IsConnectRefusal m (ends_of net) (connecting.OneWay x y)) actors
-      (subst (λ (xs : List (ℕ × ℕ)). IsConnectRefusal n xs (connecting.OneWay x y)) ends (subst (λ (f : ConnectError). IsConnectRefusal n es f) is refusal))
-
-  pub without-input : (a : ℕ) → IsFirstWithoutInput n es a → IsFirstWithoutInput (length net.times) (ends_of net) a
-  without-input a is = subst (λ (m : ℕ). IsFirstWithoutInput m (ends_of net) a) actors (subst (λ (xs : List (ℕ × ℕ)). IsFirstWithoutInput n xs a) ends is)
 
   pub with-inputs : ((a : ℕ) → a < n → HasInput es a) → (a : ℕ) → a < length net.times → HasInput (ends_of net) a
   with-inputs all a below = subst (λ (xs : List (ℕ × ℕ)). HasInput xs a) ends (all a (subst (λ (m : ℕ). a < m) (sym actors) below))

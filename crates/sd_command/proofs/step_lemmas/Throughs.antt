@@ -1,10 +1,9 @@
 -- Steps that are made of steps.
-use Rattle.std.proofs.Common.{◌≡◌, ℕ, List, inl, inr, Result, Ok, Err, subst}
+use Rattle.std.proofs.Common.{◌≡◌, ℕ, inl, inr, Result, Ok, Err, subst}
 use Rattle.sd_command.specs.declared.stop.Stop.{Stop}
 use Rattle.sd_command.specs.declared.stop.Stop.TheVariants as stop
 use Rattle.sd_command.specs.steps.Courses.{Step, through}
-use Rattle.sd_command.specs.steps.ScenarioSteps.{naming}
-use Rattle.sd_command.specs.inside.Steps.{Does, IsStopOf, Takes}
+use Rattle.sd_command.specs.inside.Steps.{Does, Takes}
 
 module _ {A B : Type 0} (step : Step A) (next : A → Step B) where
   -- the first step stops, or goes on to the second
@@ -30,9 +29,3 @@ module _ {A B : Type 0} (step : Step A) (next : A → Step B) where
   through_on a (Ok b) is does = (a, is, does)
   through_on a (Err (stop.Refused refusal)) is does = inr (a, is, does)
   through_on a (Err stop.OutOfMemory) is does = tt
-
--- a step on a scenario's graph stops, and so does that of the scenario
-pub named_stops : {A : Type 0} (name : List ℕ) (step : Step A) (why told : Stop) → Does step (Err why) → IsStopOf name why told → Does (naming name step) (Err told)
-named_stops name step (stop.Refused r) (stop.Refused s) is same = (r, is, same)
-named_stops name step stop.OutOfMemory (stop.Refused s) is none = absurd none
-named_stops name step why stop.OutOfMemory is of = tt

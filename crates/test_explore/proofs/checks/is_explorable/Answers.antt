@@ -1,4 +1,4 @@
-use Rattle.std.proofs.Common.{◌≡◌, ◌≤◌, ◌*◌, length, arith, rules}
+use Rattle.std.proofs.Common.{arith}
 use Rattle.test_explore.proofs.Joined.{joined-connected, joined-touched}
 use Rattle.test_explore.proofs.checks.is_explorable.Goals as goal
 

@@ -1,4 +1,4 @@
-use Rattle.std.proofs.Common.{◌≡◌, ℕ, ◌<◌, List, [], length, Some}
+use Rattle.std.proofs.Common.{◌≡◌, ℕ, ◌<◌, [], length, Some}
 use Rattle.std.specs.Prelude.{slice_get, slice_index_or}
 use Rattle.sd_base.specs.declared.tables.StateRow.{StateRow}
 use Rattle.test_scenarios.proofs.product_tests.are_two_by_two.Given as goal

@@ -1,4 +1,4 @@
-use Rattle.std.proofs.Common.{◌≡◌, ℕ, ◌<◌, length, subst, ap, ◌∙◌, sym, arith, set}
+use Rattle.std.proofs.Common.{◌≡◌, length, subst, ap, ◌∙◌, sym, arith, set}
 use Rattle.std.proofs.lemmas.List.{get_or-replicate, length-replicate, take_at}
 use Rattle.completion.specs.declared.counts.Part.{Part}
 use Rattle.completion.specs.Ways.{no_part, part_at}

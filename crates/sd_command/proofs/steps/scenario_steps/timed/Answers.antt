@@ -1,7 +1,7 @@
-use Rattle.std.proofs.Common.{List, sym, subst}
+use Rattle.std.proofs.Common.{sym, subst}
 use Rattle.std.proofs.lemmas.Result.{err_from_is_err_and}
 use Rattle.automaton.specs.TimedGraphs.{AreKept}
-use Rattle.sd_command.specs.steps.ScenarioSteps.{Entries, linking, measuring}
+use Rattle.sd_command.specs.steps.ScenarioSteps.{linking, measuring}
 use Rattle.sd_command.proofs.step_lemmas.Measured.{sized}
 use Rattle.sd_command.proofs.step_lemmas.Throughs.{through_on, through_stops}
 use Rattle.sd_command.proofs.step_lemmas.TimedFiles.{linked_sound, linked_timed}
