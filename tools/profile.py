@@ -18,6 +18,7 @@ each of their modules in its folder. Where it proves some beside each other (`--
 import os
 import re
 import resource
+import signal
 import subprocess
 import sys
 import tempfile
@@ -201,6 +202,8 @@ def profile(command):
     begun, costs, modules, told = time.monotonic(), Costs(), Modules(), []
     child = subprocess.Popen(command, stdin=subprocess.DEVNULL, stdout=subprocess.PIPE, stderr=subprocess.STDOUT, text=True,
                              errors="replace")
+    # What was seen is told where the run is ended early, too.
+    signal.signal(signal.SIGTERM, lambda *_: child.terminate())
     reading = threading.Thread(target=pass_on, args=(child.stdout, told))
     reading.start()
     while child.poll() is None:
