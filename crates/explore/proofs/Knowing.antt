@@ -231,15 +231,18 @@ pub same-member : (d : Distribution) (best : Fraction) (e : Evaluation) (r : Rat
 same-member d best e r is =
     ap (λ (x : Fraction). record_of d x (shown_by e.outcome)) (sym is.rate) ∙ ap (λ (x : Shown). record_of d r.rate x) (sym is.shown)
 
+-- a loop that is kept is that of the outcome
+kept-live : (best rate : Fraction) (outcome : Outcome) (table : LoopTable) → KeepsTable best rate outcome (Some table) → (cycle : NeedCycle) × (outcome ≡ outcomes.Live table cycle)
+kept-live best rate (outcomes.Live own cycle) table keeps = (cycle, ap (λ (t : LoopTable). outcomes.Live t cycle) (sym keeps))
+kept-live best rate (outcomes.Blocked counts lacks) table keeps = absurd (cc)
+
 pub kept-known : (net : Net) (d : Distribution) (best : Fraction) (e : Evaluation) (r : Rated) (total : ℕ) (table : LoopTable) (old new : List Point) → IsRated best e r → r.table ≡ Some table → storage_of net.channels d.capacities ≡ total → ((os : List Offer) → IsFrontOf os (map offer_of old) → IsFrontOf (os ++ offers_at total r.rate d.capacities) (map offer_of new)) → ((p : Point) → Contains new p → ((p.capacities ≡ d) × (p.table ≡ table)) ⊎ Contains old p) → (states : ℕ) (ms : List Member) (es : List Entry) → IsEvaluated net d.capacities states e → AreKnown net states ms es old → AreKnown net states (ms ++ evaluated_member d e ∷ []) (es ++ entry_of (evaluated_member d e) e.enlarge ∷ []) new
-kept-known net d best e r total table old new is kept storage front points states ms es evaluated known = at e.outcome refl (subst (KeepsTable best e.rate e.outcome) kept is.table)
+kept-known net d best e r total table old new is kept storage front points states ms es evaluated known =
+    let live = kept-live best e.rate e.outcome table (subst (KeepsTable best e.rate e.outcome) kept is.table) in
+    live-known net d e total table live.0 old new live.1 storage fronts-of points states ms es evaluated known
   where
     fronts-of : (os : List Offer) → IsFrontOf os (map offer_of old) → IsFrontOf (os ++ offers_at total e.rate d.capacities) (map offer_of new)
     fronts-of os was = subst (λ (x : Fraction). IsFrontOf (os ++ offers_at total x d.capacities) (map offer_of new)) is.rate (front os was)
-
-    at : (outcome : Outcome) → e.outcome ≡ outcome → KeepsTable best e.rate outcome (Some table) → AreKnown net states (ms ++ evaluated_member d e ∷ []) (es ++ entry_of (evaluated_member d e) e.enlarge ∷ []) new
-    at (outcomes.Live own cycle) live keeps = live-known net d e total table cycle old new (live ∙ ap (λ (t : LoopTable). outcomes.Live t cycle) (sym keeps)) storage fronts-of points states ms es evaluated known
-    at (outcomes.Blocked counts lacks) blocked keeps = cc
 
 pub left-known : (net : Net) (d : Distribution) (best : Fraction) (e : Evaluation) (r : Rated) (total : ℕ) (points : List Point) → IsRated best e r → r.table ≡ None → storage_of net.channels d.capacities ≡ total → (states : ℕ) (ms : List Member) (es : List Entry) → IsEvaluated net d.capacities states e → IsBest net best total ms → AreKnown net states ms es points → AreKnown net states (ms ++ evaluated_member d e ∷ []) (es ++ entry_of (evaluated_member d e) e.enlarge ∷ []) points
 left-known net d best e r total points is left storage states ms es evaluated fastest known = at e.outcome refl (subst (KeepsTable best e.rate e.outcome) left is.table)
