@@ -31,6 +31,19 @@ pub(crate) fn compare<F: Firing>(
         wiring: &wiring,
     };
     let mut engine = Engine::new(alloc, &wired, 1_000_000)?;
+    compare_on(rt, alloc, &mut engine, &plain, last)
+}
+
+/// Steps an engine that stands before its first event, and compares each with the plain run.
+fn compare_on<F: Firing>(
+    rt: &impl Abort,
+    alloc: Global,
+    engine: &mut Engine<'_, F>,
+    plain: &PlainRun,
+    last: u64,
+) -> Result<bool, Fail>
+    requires { last < 2 ^ 62 }
+{
     let mut next = plain.first_event();
     for _event in 0..last + 2 {
         let step = engine.advance()?;
@@ -43,12 +56,22 @@ pub(crate) fn compare<F: Firing>(
         }
         assert_eq!(rt; step, Move::Stepped);
         assert_eq!(rt; engine.moment(), event);
-        compare_starts(rt, &engine, &plain, event);
-        let shape = plain.shape_at(alloc, net, event)?;
-        compare_shapes(rt, alloc, &engine, &shape, event)?;
+        compare_event(rt, alloc, engine, plain, event)?;
         next = plain.next_end(event);
     }
     panic!(rt; "more events than moments")
+}
+
+fn compare_event<F: Firing>(
+    rt: &impl Abort,
+    alloc: Global,
+    engine: &Engine<'_, F>,
+    plain: &PlainRun,
+    event: u64,
+) -> Result<(), Fail> {
+    compare_starts(rt, engine, plain, event);
+    let shape = plain.shape_at(alloc, engine.net, event)?;
+    compare_shapes(rt, alloc, engine, &shape, event)
 }
 
 fn compare_starts<F: Firing>(rt: &impl Abort, engine: &Engine<'_, F>, plain: &PlainRun, now: u64) {

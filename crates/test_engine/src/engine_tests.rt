@@ -43,12 +43,22 @@ pub(crate) fn follow<F: Firing>(
         wiring: &wiring,
     };
     let mut engine = Engine::new(alloc, &wired, 1000)?;
+    follow_on(rt, alloc, &mut engine, events)
+}
+
+/// Steps an engine that stands before the first of some events through these.
+fn follow_on<F: Firing>(
+    rt: &impl Abort,
+    alloc: Global,
+    engine: &mut Engine<'_, F>,
+    events: &[Event],
+) -> Result<(), Fail> {
     for event in events {
         let step = engine.advance()?;
         assert_eq!(rt; step, Move::Stepped, "to {}", event.moment);
         assert_eq!(rt; engine.moment(), event.moment);
-        check_starts(rt, &engine, event);
-        check_shape(rt, alloc, &engine, event)?;
+        check_starts(rt, engine, event);
+        check_shape(rt, alloc, engine, event)?;
     }
     Ok(())
 }
@@ -158,34 +168,44 @@ pub(crate) fn half_blocked(alloc: Global) -> Result<SdfNet, test_nets::TableErro
     table_net(alloc, &[1, 1, 1], &lines, false)
 }
 
+/// Steps an engine of a net as often as there are moves, which these steps have to be. Tells where it then stands.
+fn moves(
+    rt: &impl Abort,
+    alloc: Global,
+    net: &SdfNet,
+    wanted: &[Move],
+) -> Result<(u64, Stage), Fail> {
+    let wiring = Wiring::new(alloc, net)?;
+    let wired = Wired {
+        net,
+        wiring: &wiring,
+    };
+    let mut engine = Engine::new(alloc, &wired, 1000)?;
+    move_on(rt, &mut engine, wanted)?;
+    Ok((engine.moment(), engine.stage))
+}
+
+fn move_on(rt: &impl Abort, engine: &mut Engine<'_, SdfNet>, wanted: &[Move]) -> Result<(), Fail> {
+    for want in wanted {
+        let step = engine.advance()?;
+        assert_eq!(rt; step, *want);
+    }
+    Ok(())
+}
+
 #[test]
 fn what_cannot_start_is_stuck(rt: HostRuntime) -> Result<(), Fail> {
     let pair = blocked_pair(rt.alloc())?;
-    let wiring = Wiring::new(rt.alloc(), &pair)?;
-    let wired = Wired {
-        net: &pair,
-        wiring: &wiring,
-    };
-    let mut engine = Engine::new(rt.alloc(), &wired, 1000)?;
-    for _call in 0..2 {
-        let step = engine.advance()?;
-        assert_eq!(rt; step, Move::Stuck);
-        assert_eq!(rt; engine.stage, Stage::Fresh);
+    for calls in 1..3 {
+        let stuck = [Move::Stuck, Move::Stuck];
+        let (_, stage) = moves(&rt, rt.alloc(), &pair, &stuck[..calls])?;
+        assert_eq!(rt; stage, Stage::Fresh, "after {calls}");
     }
     // The second and the third actor start at 0 and end at 1.
     let half = half_blocked(rt.alloc())?;
-    let wiring = Wiring::new(rt.alloc(), &half)?;
-    let wired = Wired {
-        net: &half,
-        wiring: &wiring,
-    };
-    let mut engine = Engine::new(rt.alloc(), &wired, 1000)?;
     let steps = [Move::Stepped, Move::Stepped, Move::Stuck, Move::Stuck];
-    for want in steps {
-        let step = engine.advance()?;
-        assert_eq!(rt; step, want);
-    }
-    assert_eq!(rt; engine.moment(), 1);
+    let (moment, _) = moves(&rt, rt.alloc(), &half, &steps)?;
+    assert_eq!(rt; moment, 1);
     Ok(())
 }
 
@@ -199,13 +219,13 @@ fn is_spent_after(alloc: Global, net: &SdfNet, most: u64, steps: u32) -> Result<
         wiring: &wiring,
     };
     let mut engine = Engine::new(alloc, &wired, most)?;
+    Ok(goes_on(&mut engine, steps, Move::Stepped)? && goes_on(&mut engine, 3, Move::Spent)?)
+}
+
+/// Whether so many steps of an engine are the same move.
+fn goes_on(engine: &mut Engine<'_, SdfNet>, steps: u32, same: Move) -> Result<bool, Fail> {
     for _step in 0..steps {
-        if engine.advance()? != Move::Stepped {
-            return Ok(false);
-        }
-    }
-    for _call in 0..3 {
-        if engine.advance()? != Move::Spent {
+        if engine.advance()? != same {
             return Ok(false);
         }
     }

@@ -36,21 +36,40 @@ fn keep_all(
     };
     let mut engine = Engine::new(alloc, &wired, 1000)?;
     let mut seen = Vec::new(alloc);
+    let before = keep_on(rt, alloc, &mut engine, &mut seen, states)?;
+    Ok((seen, before))
+}
+
+/// Steps an engine that stands before its first event, and adds each event to those that were seen.
+fn keep_on(
+    rt: &impl Abort,
+    alloc: Global,
+    engine: &mut Engine<'_, SdfNet>,
+    seen: &mut Vec<Seen>,
+    states: u64,
+) -> Result<Option<usize>, Fail> {
     for _event in 0..states {
         let step = engine.advance()?;
         assert_eq!(rt; step, Move::Stepped);
         assert_eq!(rt; engine.stage, Stage::Running);
-        let before = place_of(&engine, seen.as_slice());
-        seen.push(Seen {
-            moment: engine.moment(),
-            shape: engine.shape(alloc)?,
-            counts: counts_of(alloc, &engine)?,
-        })?;
+        let before = place_of(engine, seen.as_slice());
+        seen.push(seen_at(alloc, engine)?)?;
         if before.is_some() {
-            return Ok((seen, before));
+            return Ok(before);
         }
     }
-    Ok((seen, None))
+    Ok(None)
+}
+
+/// What stands at an event.
+fn seen_at(alloc: Global, engine: &Engine<'_, SdfNet>) -> Result<Seen, NoMemory>
+    requires { engine.now.stage ≡ Running }
+{
+    Ok(Seen {
+        moment: engine.moment(),
+        shape: engine.shape(alloc)?,
+        counts: counts_of(alloc, engine)?,
+    })
 }
 
 /// The place of the first event whose shape is what stands now.
