@@ -1,6 +1,7 @@
 use sd_base::{Rows, Text};
 use sd_io::{Failed, MemoryShelf, MemorySink, PutError, Shelf, TakeError, names_differ, send_all};
 use std::alloc::Global;
+use std::process::Abort;
 use std::test::Fail;
 
 fn shelf_of_one(alloc: Global, bytes: &[u8], failing: Vec<u64>) -> Result<MemoryShelf, Fail> {
@@ -33,6 +34,10 @@ fn refuses_a_file_of_one_byte_more(rt: HostRuntime) -> Result<(), Fail> {
 fn a_missing_name_fails_without_a_fault(rt: HostRuntime) -> Result<(), Fail> {
     let alloc = rt.alloc();
     let mut shelf = shelf_of_one(alloc, b"abc", Vec::new(alloc))?;
+    miss(&rt, alloc, &mut shelf)
+}
+
+fn miss(rt: &impl Abort, alloc: Global, shelf: &mut MemoryShelf) -> Result<(), Fail> {
     assert!(rt; matches!(shelf.take(alloc, "b.xml", 9), Err(TakeError::Failed)));
     assert_eq!(rt; shelf.faults(), 0);
     assert!(rt; shelf.file("b.xml").is_none());
@@ -85,6 +90,10 @@ fn a_full_sink_fails(rt: HostRuntime) -> Result<(), Fail> {
 fn a_put_file_is_taken_again(rt: HostRuntime) -> Result<(), Fail> {
     let alloc = rt.alloc();
     let mut shelf = shelf_of_one(alloc, b"abc", vec![in alloc; 3]?)?;
+    put_and_take(&rt, alloc, &mut shelf)
+}
+
+fn put_and_take(rt: &impl Abort, alloc: Global, shelf: &mut MemoryShelf) -> Result<(), Fail> {
     assert!(rt; shelf.put(alloc, "a.xml", b"de").is_ok());
     assert!(rt; shelf.put(alloc, "b.xml", b"").is_ok());
     assert!(rt; matches!(shelf.put(alloc, "a.xml", b"f"), Err(PutError::Failed)));

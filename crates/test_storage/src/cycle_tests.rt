@@ -50,6 +50,19 @@ fn storage_of<F: Firing>(
     Ok(cycle.storage_channels(alloc, net)?)
 }
 
+/// Asserts the storage channels of a cycle that holds on a net.
+fn check<F: Firing>(
+    rt: &impl Abort,
+    alloc: Global,
+    net: &F,
+    cycle: &NeedCycle,
+    channels: &[u32],
+) -> Result<(), Fail> {
+    let storage = storage_of(rt, alloc, net, cycle)?;
+    assert_eq!(rt; storage.as_slice(), channels);
+    Ok(())
+}
+
 // Two channels side by side have room for one token each: actor 1 waits for actor 0 on channels 0 and 1, and actor 0 for
 // actor 1 on their spaces, which are channels 2 and 3.
 #[test]
@@ -65,12 +78,9 @@ fn spaces_on_a_cycle_are_its_storage(rt: HostRuntime) -> Result<(), Fail> {
         along(2, 0, 2),
     ];
     let both = cycle(alloc, &steps, 4, 2)?;
-    let storage = storage_of(&rt, alloc, &with_room, &both)?;
-    assert_eq!(rt; storage.as_slice(), [0, 1].as_slice());
+    check(&rt, alloc, &with_room, &both, &[0, 1])?;
     let one = cycle(alloc, &[along(1, 1, 0), along(3, 0, 1)], 2, 1)?;
-    let storage = storage_of(&rt, alloc, &with_room, &one)?;
-    assert_eq!(rt; storage.as_slice(), [1].as_slice());
-    Ok(())
+    check(&rt, alloc, &with_room, &one, &[1])
 }
 
 // In the ring the second channel is one of the file.

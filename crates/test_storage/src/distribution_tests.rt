@@ -1,8 +1,10 @@
 use crate::checks::{enlarged, needs_more, step_at, total_of};
 use crate::nets::{chain, even_rates};
+use firing::SdfNet;
 use sd_base::Rows;
 use std::alloc::{AllocError, Global};
 use std::cmp::Ordering;
+use std::process::Abort;
 use std::test::Fail;
 use storage::{Distribution, corner};
 
@@ -16,19 +18,38 @@ pub(crate) fn distribution(
     })
 }
 
+/// The distributions with these capacities.
+fn distributions(alloc: Global, lines: &[&[Option<u64>]]) -> Result<Vec<Distribution>, AllocError> {
+    let mut all = Vec::new(alloc);
+    for line in lines {
+        all.push(distribution(alloc, line)?)?;
+    }
+    Ok(all)
+}
+
+/// Asserts the capacities and the storage of a distribution.
+fn check(
+    rt: &impl Abort,
+    net: &SdfNet,
+    distribution: &Distribution,
+    capacities: &[Option<u64>],
+    total: u64,
+) {
+    assert_eq!(rt; distribution.capacities.as_slice(), capacities);
+    assert_eq!(rt; total_of(rt, net, distribution), total);
+}
+
 // The rates 2 and 3 have divisor 1 and maximum 3, and the rates 1 and 2 have 1 and 2. From the corner (3, 2), one step on
 // beta gives (3, 3).
 #[test]
 fn the_corner_of_a_chain_has_its_greatest_rates(rt: HostRuntime) -> Result<(), Fail> {
     let net = chain(rt.alloc())?;
     let least = corner(rt.alloc(), &net)?;
-    assert_eq!(rt; least.capacities.as_slice(), [Some(3), Some(2)].as_slice());
+    check(&rt, &net, &least, &[Some(3), Some(2)], 5);
     assert_eq!(rt; (step_at(&rt, &net, 0), step_at(&rt, &net, 1)), (1, 1));
-    assert_eq!(rt; total_of(&rt, &net, &least), 5);
-    let more = enlarged(&rt, rt.alloc(), &least, 1, 1)?;
-    assert_eq!(rt; more.capacities.as_slice(), [Some(3), Some(3)].as_slice());
-    assert_eq!(rt; total_of(&rt, &net, &more), 6);
     assert!(rt; needs_more(&rt, &net, &least, 4));
+    let more = enlarged(&rt, rt.alloc(), &least, 1, 1)?;
+    check(&rt, &net, &more, &[Some(3), Some(3)], 6);
     Ok(())
 }
 
@@ -38,27 +59,40 @@ fn the_corner_of_a_chain_has_its_greatest_rates(rt: HostRuntime) -> Result<(), F
 fn steps_begin_at_the_tokens_and_sizes_count(rt: HostRuntime) -> Result<(), Fail> {
     let net = even_rates(rt.alloc())?;
     let least = corner(rt.alloc(), &net)?;
-    assert_eq!(rt; least.capacities.as_slice(), [Some(7), None].as_slice());
+    check(&rt, &net, &least, &[Some(7), None], 35);
     assert_eq!(rt; step_at(&rt, &net, 0), 2);
-    assert_eq!(rt; total_of(&rt, &net, &least), 35);
     let more = enlarged(&rt, rt.alloc(), &least, 0, 2)?;
-    assert_eq!(rt; more.capacities.as_slice(), [Some(9), None].as_slice());
-    assert_eq!(rt; total_of(&rt, &net, &more), 45);
+    check(&rt, &net, &more, &[Some(9), None], 45);
     let same = enlarged(&rt, rt.alloc(), &least, 1, 2)?;
-    assert_eq!(rt; same, least.copy(rt.alloc())?);
+    check(&rt, &net, &same, &[Some(7), None], 35);
+    Ok(())
+}
+
+#[test]
+fn a_copy_of_a_distribution_equals_it(rt: HostRuntime) -> Result<(), Fail> {
+    let one = distribution(rt.alloc(), &[Some(7), None])?;
+    assert_eq!(rt; one.copy(rt.alloc())?, one);
     Ok(())
 }
 
 #[test]
 fn distributions_are_in_lexicographic_order(rt: HostRuntime) -> Result<(), Fail> {
-    let rising = [
-        distribution(rt.alloc(), &[None, Some(9)])?,
-        distribution(rt.alloc(), &[Some(4), None])?,
-        distribution(rt.alloc(), &[Some(4), Some(2)])?,
-        distribution(rt.alloc(), &[Some(4), Some(2), None])?,
-        distribution(rt.alloc(), &[Some(4), Some(3)])?,
-        distribution(rt.alloc(), &[Some(5), Some(1)])?,
+    let lines: [&[Option<u64>]; 6] = [
+        &[None, Some(9)],
+        &[Some(4), None],
+        &[Some(4), Some(2)],
+        &[Some(4), Some(2), None],
+        &[Some(4), Some(3)],
+        &[Some(5), Some(1)],
     ];
+    let rising = distributions(rt.alloc(), &lines)?;
+    assert_eq!(rt; rising.len(), 6);
+    check_order(&rt, rising.as_slice());
+    Ok(())
+}
+
+/// Asserts that each distribution comes before all later ones.
+fn check_order(rt: &impl Abort, rising: &[Distribution]) {
     for i in 0..rising.len() {
         for j in 0..rising.len() {
             let order = rising[i].order(&rising[j]);
@@ -70,5 +104,4 @@ fn distributions_are_in_lexicographic_order(rt: HostRuntime) -> Result<(), Fail>
             );
         }
     }
-    Ok(())
 }

@@ -231,13 +231,15 @@ fn capacities_of_shared_channels_are_listed(rt: HostRuntime) -> Result<(), Fail>
     Ok(())
 }
 
+/// The line that refuses a graph of more edges than these at a distribution.
+fn too_many_edges(alloc: Global, number: u64, at: Text) -> Result<Rows<u8>, NoMemory> {
+    refusal_text(alloc, &Refusal::EdgesAt { number, at })
+}
+
 #[test]
 fn a_graph_of_too_many_edges_names_its_distribution(rt: HostRuntime) -> Result<(), Fail> {
-    let refusal = Refusal::EdgesAt {
-        number: 65_536,
-        at: Text::of(rt.alloc(), "s=300")?,
-    };
-    let line = refusal_text(rt.alloc(), &refusal)?;
+    let at = Text::of(rt.alloc(), "s=300")?;
+    let line = too_many_edges(rt.alloc(), 65_536, at)?;
     let shown = "sdf3analysis: limit: edges above 65536 at s=300\n";
     assert_eq!(rt; line.as_slice(), shown.as_bytes());
     Ok(())
