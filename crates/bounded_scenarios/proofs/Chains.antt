@@ -3,7 +3,7 @@ use Rattle.std.proofs.Common.{◌≡◌, ℕ, ◌+◌, ◌<◌, List, [], ◌∷
 use Rattle.std.specs.Prelude.{slice_index, slice_index_or}
 use Rattle.sd_base.specs.Net.{Net, channel_at, phase_entry}
 use Rattle.sd_base.specs.Schedules.{time_of}
-use Rattle.storage.proofs.Containing.{contains-here, contains-later}
+use Rattle.sd_base.proofs.Containing.{contains-here, contains-later}
 use Rattle.token_matrix.specs.Ways.{IsChain}
 use Rattle.token_matrix.specs.Ways.IsChain.{begins, goes}
 use Rattle.bounded_scenarios.proofs.TokenMaps.{MapsTokens, SameRates}

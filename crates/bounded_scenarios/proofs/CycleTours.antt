@@ -6,7 +6,7 @@ use Rattle.sd_base.specs.declared.tables.ScenarioFile.{ScenarioFile}
 use Rattle.sd_base.specs.declared.tables.ScenarioRow.{ScenarioRow}
 use Rattle.sd_base.specs.Net.{IsRepetitionOf}
 use Rattle.sd_base.proofs.Lists.{get-map}
-use Rattle.storage.proofs.Containing.{contains-here, contains-later}
+use Rattle.sd_base.proofs.Containing.{contains-here, contains-later}
 use Rattle.automaton.specs.declared.graph.Edge.{Edge}
 use Rattle.automaton.specs.declared.graph.TimedGraph.{TimedGraph}
 use Rattle.automaton.specs.CriticalCycles.{IsPath, IsReachedNode, weight_in, weights}

@@ -12,7 +12,7 @@ use Rattle.sd_base.specs.Net.{Channel, Net, channel_at, file_channel, total}
 use Rattle.sd_base.specs.Scenarios.{Shares, shared_count}
 use Rattle.sd_base.specs.Schedules.{time_of}
 use Rattle.sd_base.proofs.Lists.{get-left}
-use Rattle.storage.proofs.Containing.{contains-here, contains-later}
+use Rattle.sd_base.proofs.Containing.{contains-here, contains-later}
 use Rattle.token_matrix.specs.EntryWays.{CarriesStamps}
 use Rattle.token_matrix.specs.Stamps.{IsPutBy, IsTakenBy, first_of, first_token, left_token, no_row}
 use Rattle.token_matrix.specs.Ways.{IsChain, IsWay}

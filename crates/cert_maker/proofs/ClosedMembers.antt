@@ -16,7 +16,7 @@ use Rattle.storage.specs.Steps.{IsOnGrid}
 use Rattle.storage.proofs.Covers.{BoundsRoomier, net-above, net-bounds}
 use Rattle.storage.proofs.Lawfulness.{bound-lawful}
 use Rattle.storage.proofs.FrontsFromMembers.{positive-on}
-use Rattle.storage.proofs.Containing.{contains-unmap}
+use Rattle.sd_base.proofs.Containing.{contains-unmap}
 use Rattle.storage.specs.StorageOrder.{stepped}
 use Rattle.pareto_front.specs.declared.point.Point.{Point}
 use Rattle.explore.specs.declared.exploration.Member.{Member}

@@ -14,7 +14,7 @@ use Rattle.storage.specs.ParetoPoints.{IsPareto, IsReachedPair, Pair, no_pair}
 use Rattle.storage.proofs.Climbs.{storage-le}
 use Rattle.storage.proofs.Covers.{covered}
 use Rattle.storage.proofs.FrontsFromMembers.{positive-on}
-use Rattle.storage.proofs.Containing.{contains-map, contains-unmap}
+use Rattle.sd_base.proofs.Containing.{contains-map, contains-unmap}
 use Rattle.pareto_front.specs.declared.point.Point.{Point}
 use Rattle.explore.specs.declared.exploration.Member.{Member}
 use Rattle.explore.specs.Explorations.{IsExploration, pair_of}

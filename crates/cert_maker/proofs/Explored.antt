@@ -17,7 +17,7 @@ use Rattle.explore.specs.declared.exploration.Shown.TheVariants.{Cycle, Blocked}
 use Rattle.explore.specs.Explorations.{IsExploration, ShowsRate, capacities_of, pair_of}
 use Rattle.explore.proofs.Explorable.{reachable-fits}
 use Rattle.sd_base.specs.declared.numbers.Fraction.{Fraction}
-use Rattle.storage.proofs.Containing.{contains-none, contains-cases, contains-map, get-contains}
+use Rattle.sd_base.proofs.Containing.{contains-none, contains-cases, contains-map, get-contains}
 use Rattle.storage.specs.StorageOrder.{AreInOrder, IsBefore}
 use Rattle.cert_maker.specs.inside.Lines.{ArePlaced, HasLine, HasText}
 

@@ -13,7 +13,7 @@ use Rattle.storage.specs.declared.distribution.Distribution.{Distribution}
 use Rattle.storage.specs.BoundedNets.{bound}
 use Rattle.storage.specs.Distributions.{storage_of}
 use Rattle.storage.specs.Steps.{IsCorner}
-use Rattle.storage.proofs.Containing.{contains-unmap, get-contains}
+use Rattle.sd_base.proofs.Containing.{contains-unmap, get-contains}
 use Rattle.storage.specs.StorageOrder.{IsBefore, stepped}
 use Rattle.pareto_front.specs.declared.point.Point.{Point}
 use Rattle.explore.specs.declared.exploration.Member.{Member}

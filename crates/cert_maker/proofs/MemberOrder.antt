@@ -15,7 +15,7 @@ use Rattle.storage.proofs.CapacityOrder.{no_later-refl}
 use Rattle.storage.proofs.ChannelSteps.{some-step}
 use Rattle.storage.proofs.CornerLists.{corner-grid}
 use Rattle.storage.proofs.Enlarging.{enlarged-grid, enlarged-storage}
-use Rattle.storage.proofs.Containing.{contains-map, contains-get, get-contains}
+use Rattle.sd_base.proofs.Containing.{contains-map, contains-get, get-contains}
 use Rattle.storage.specs.StorageOrder.{AreInOrder, IsBefore, stepped}
 use Rattle.pareto_front.specs.declared.point.Point.{Point}
 use Rattle.explore.specs.declared.exploration.Member.{Member}

@@ -5,7 +5,7 @@ use Rattle.std.specs.List.{AllZip}
 use Rattle.std.proofs.lemmas.List.{length_push, map-append, take_more, get_or_default}
 use Rattle.std.proofs.lemmas.Slice.Zip.{all_zipped_more}
 use Rattle.periodic.specs.declared.schedule.Periodic.{Periodic}
-use Rattle.storage.proofs.Containing.{contains-none, contains-cases}
+use Rattle.sd_base.proofs.Containing.{contains-none, contains-cases}
 use Rattle.pareto_front.specs.declared.point.Point.{Point}
 use Rattle.explore.specs.declared.exploration.Member.{Member}
 use Rattle.explore.specs.Explorations.{capacities_of}

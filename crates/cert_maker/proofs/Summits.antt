@@ -5,7 +5,7 @@ use Rattle.std.specs.Prelude.{Contains}
 use Rattle.sd_base.specs.Net.{Net}
 use Rattle.storage.specs.ParetoPoints.{Beats, IsReachedPair, Pair}
 use Rattle.storage.proofs.FrontsFromMembers.{less_on, no_less, below_less}
-use Rattle.storage.proofs.Containing.{contains-here, contains-later, contains-none, contains-cases}
+use Rattle.sd_base.proofs.Containing.{contains-here, contains-later, contains-none, contains-cases}
 
 -- no more storage and no less rate
 pub record NoWorse (a b : Pair) : Type 0 where

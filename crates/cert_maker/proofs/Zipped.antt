@@ -2,7 +2,7 @@
 use Rattle.std.proofs.Common.{◌≡◌, ℕ, zero, suc, ◌<◌, Some, List, [], ◌∷◌, length, map, slice_get, ⊎_elim, refl, ap, subst, arith}
 use Rattle.std.specs.Prelude.{slice_index_or, Contains}
 use Rattle.std.specs.List.{AllZip}
-use Rattle.storage.proofs.Containing.{contains-here, contains-later, contains-none, contains-cases}
+use Rattle.sd_base.proofs.Containing.{contains-here, contains-later, contains-none, contains-cases}
 
 -- what stands at a place of the first list for what stands there in the second one
 pub record ZipAt {A B : Type 0} (R : A → B → Type 0) (xs : List A) (i : ℕ) (y : B) : Type 0 where

@@ -6,7 +6,7 @@ use Rattle.sd_base.specs.declared.limits.Limits.{Limits}
 use Rattle.sd_base.specs.Net.{Net}
 use Rattle.storage.specs.Distributions.{storage_of}
 use Rattle.storage.specs.Steps.{IsCorner}
-use Rattle.storage.proofs.Containing.{contains-none}
+use Rattle.sd_base.proofs.Containing.{contains-none}
 use Rattle.explore.specs.declared.exploration.Member.{Member}
 use Rattle.levels.specs.declared.found.Found.{Found}
 use Rattle.levels.specs.Frontiers.{IsFrontier}

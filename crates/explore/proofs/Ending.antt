@@ -21,7 +21,7 @@ use Rattle.storage.proofs.Covers.{net-above, net-bounds}
 use Rattle.storage.proofs.Fits.{within-lawful}
 use Rattle.storage.proofs.FileChannels.{plain-no_spaces}
 use Rattle.storage.proofs.FrontsFromMembers.{AreExact, front-over, less_on, no_less, pareto-listed}
-use Rattle.storage.proofs.Containing.{contains-here, contains-later, contains-none, contains-cases, contains-map, contains-unmap}
+use Rattle.sd_base.proofs.Containing.{contains-here, contains-later, contains-none, contains-cases, contains-map, contains-unmap}
 use Rattle.storage.specs.StorageOrder.{AreInOrder, stepped}
 use Rattle.pareto_front.specs.declared.point.Point.{Point}
 use Rattle.pareto_front.specs.Offers.{AreAbove, AreInOrder as AreRising, Covers, IsCoveredBy, Offer}

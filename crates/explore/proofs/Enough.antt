@@ -11,7 +11,7 @@ use Rattle.storage.specs.Distributions.{enlarged, storage_of}
 use Rattle.storage.specs.ParetoPoints.{Beats, IsFront, IsPareto, IsReachedPair, Pair, Reaches, no_pair}
 use Rattle.storage.proofs.Fits.{within-lawful}
 use Rattle.storage.proofs.FileChannels.{plain-no_spaces}
-use Rattle.storage.proofs.Containing.{contains-map}
+use Rattle.sd_base.proofs.Containing.{contains-map}
 use Rattle.storage.specs.StorageOrder.{stepped}
 use Rattle.pareto_front.specs.declared.point.Point.{Point}
 use Rattle.explore.specs.declared.exploration.Member.{Member}

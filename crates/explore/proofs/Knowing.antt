@@ -30,7 +30,7 @@ use Rattle.explore.specs.inside.Rated.{IsBest, IsRated, KeepsTable, evaluated_me
 use Rattle.explore.specs.declared.rated.Rated.{Rated}
 use Rattle.critical.specs.Spaces.{IsSpaceAt}
 use Rattle.critical.proofs.Storage.{number-place}
-use Rattle.storage.proofs.Containing.{contains-here, contains-later, contains-none, contains-cases}
+use Rattle.sd_base.proofs.Containing.{contains-here, contains-later, contains-none, contains-cases}
 use Rattle.guide.proofs.Shown.{evaluation-shows}
 
 -- what an outcome shows is what its member shows

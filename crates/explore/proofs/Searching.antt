@@ -11,7 +11,7 @@ use Rattle.storage.specs.Steps.{IsCorner}
 use Rattle.storage.proofs.CornerLists.{corner-distribution, corner-grid}
 use Rattle.levels.specs.declared.levels.Bounds.{Bounds}
 use Rattle.levels.specs.Visits.{IsLedTo as IsLed, LeadsTo, Visit, led_by, visited, visits_of}
-use Rattle.storage.proofs.Containing.{contains-map, contains-unmap, contains-here, contains-later, contains-none, contains-cases}
+use Rattle.sd_base.proofs.Containing.{contains-map, contains-unmap, contains-here, contains-later, contains-none, contains-cases}
 use Rattle.storage.specs.StorageOrder.{stepped}
 use Rattle.explore.specs.declared.exploration.Member.{Member}
 use Rattle.explore.specs.declared.search.Search.{Search}

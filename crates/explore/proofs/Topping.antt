@@ -3,7 +3,7 @@ use Rattle.std.proofs.Common.{ℕ, List, ap, subst}
 use Rattle.std.specs.Prelude.{Contains}
 use Rattle.sd_base.specs.Net.{Net}
 use Rattle.storage.specs.ClosedLists.{Entry}
-use Rattle.storage.proofs.Containing.{contains-map}
+use Rattle.sd_base.proofs.Containing.{contains-map}
 use Rattle.pareto_front.specs.declared.point.Point.{Point}
 use Rattle.pareto_front.specs.Offers.{Offer}
 use Rattle.pareto_front.specs.Points.{offer_of}

@@ -21,7 +21,7 @@ use Rattle.levels.specs.declared.found.Level.{Level}
 use Rattle.levels.specs.declared.levels.Bounds.{Bounds}
 use Rattle.levels.specs.Visits.{AreVisits, IsLedTo as IsLed, Visit, led_by, visited, visits_of}
 use Rattle.levels.specs.Frontiers.{AreLedOn, IsFoundBy, IsFrontier, IsLevelTaken, IsSame, IsSpent, Rises, Waits, distributions_of}
-use Rattle.storage.proofs.Containing.{contains-map}
+use Rattle.sd_base.proofs.Containing.{contains-map}
 use Rattle.levels.proofs.LedOn.{known-long}
 use Rattle.levels.proofs.Visited.{visits-more}
 use Rattle.explore.specs.declared.exploration.Member.{Member}

@@ -1,4 +1,4 @@
-ghost use Rattle.std.specs.Prelude.{◌≡◌, ◌<◌, [], IfOk, length, map, slice_index_or};
+ghost use Rattle.std.specs.Prelude.{◌≡◌, ◌<◌, IfOk, length, map};
 ghost use Rattle.sd_base.specs.Net.{channel_at};
 ghost use Rattle.sd_base.specs.Connection.{ends_of};
 ghost use Rattle.firing.specs.declared.sums.Port.TheVariants.{Made, Taken};
@@ -33,22 +33,6 @@ impl Wiring {
             outputs: channels_by_actor(alloc, net, Port::Made)?,
         })
     }
-
-    /// The channels into an actor.
-    pub fn inputs_of(&self, actor: u32) -> &[u32]
-        requires { actor < length self.now.inputs }
-        ensures { result.now ≡ slice_index_or self.now.inputs actor [] }
-    {
-        self.inputs.of(actor)
-    }
-
-    /// The channels out of an actor.
-    pub fn outputs_of(&self, actor: u32) -> &[u32]
-        requires { actor < length self.now.outputs }
-        ensures { result.now ≡ slice_index_or self.now.outputs actor [] }
-    {
-        self.outputs.of(actor)
-    }
 }
 
 /// A net with its channels by actor, which analyses that go from actor to actor are passed as one.
@@ -66,7 +50,7 @@ impl<'a, F: Firing> Wired<'a, F> {
         ensures { IsListed (F.net self.now.net.now) Taken actor result.now }
     {
         know_wiring(self.net, self.wiring);
-        self.wiring.inputs_of(actor)
+        self.wiring.inputs.of(actor)
     }
 
     /// The channels out of an actor, ascending.
@@ -75,7 +59,7 @@ impl<'a, F: Firing> Wired<'a, F> {
         ensures { IsListed (F.net self.now.net.now) Made actor result.now }
     {
         know_wiring(self.net, self.wiring);
-        self.wiring.outputs_of(actor)
+        self.wiring.outputs.of(actor)
     }
 }
 

@@ -4,7 +4,7 @@ use Rattle.std.specs.Prelude.{Contains, slice_index}
 use Rattle.std.proofs.lemmas.List.Elements.{Contains-get_or, Contains-push_cases}
 use Rattle.critical.specs.Spaces.{IsRising}
 use Rattle.critical.proofs.Storage.{number-place}
-use Rattle.storage.proofs.Containing.{contains-here, contains-later}
+use Rattle.sd_base.proofs.Containing.{contains-here, contains-later}
 
 rising-rest : (z : ℕ) (xs : List ℕ) → IsRising (z ∷ xs) → IsRising xs
 rising-rest z xs rising j k less below = rising (suc j) (suc k) (omega arith) (omega arith)

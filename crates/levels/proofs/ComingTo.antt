@@ -5,7 +5,7 @@ use Rattle.std.proofs.lemmas.List.Elements.{All-contains}
 use Rattle.sd_base.specs.Net.{Channel}
 use Rattle.storage.specs.Distributions.{storage_of}
 use Rattle.levels.specs.Visits.{AreVisits, IsComeTo, IsLedTo, Visit, first, next, visited}
-use Rattle.storage.proofs.Containing.{contains-map}
+use Rattle.sd_base.proofs.Containing.{contains-map}
 
 module _ (cs : List Channel) (start : List (Option ℕ)) (limit : ℕ) (visits : List Visit) (are : AreVisits cs start limit visits) where
   within : (ds : List (Option ℕ)) → Contains (visited visits) ds → storage_of cs ds ≤ limit

@@ -13,7 +13,7 @@ use Rattle.storage.specs.Distributions.{storage_of}
 use Rattle.storage.specs.StorageOrder.{AreInOrder, IsBefore}
 use Rattle.levels.specs.declared.found.Found.{Found}
 use Rattle.levels.specs.Frontiers.{StandsIn, distributions_of, found_order}
-use Rattle.storage.proofs.Containing.{contains-cases, contains-here, contains-later, contains-none}
+use Rattle.sd_base.proofs.Containing.{contains-cases, contains-here, contains-later, contains-none}
 use Rattle.levels.proofs.WaitingOrder.{waits-before, waits-same}
 
 module _ {H : Type 0} where

@@ -15,7 +15,7 @@ use Rattle.levels.specs.declared.levels.Bounds.{Bounds}
 use Rattle.levels.specs.Visits.{LeadsTo, led_by}
 use Rattle.levels.specs.Frontiers.{AreLedOn, IsFoundBy, IsOver, Rises, StandsIn, channel_step}
 use Rattle.levels.specs.inside.Waiting.{AreTooManyLed, EndsWaiting, IsAdded, IsCopy, IsOneTooMany}
-use Rattle.storage.proofs.Containing.{contains-cases, contains-here, contains-none}
+use Rattle.sd_base.proofs.Containing.{contains-cases, contains-here, contains-none}
 use Rattle.levels.proofs.Growing.{enlarged-at, enlarged-none, enlarged-some, room-storage}
 
 -- by one channel a visit leads to one distribution

@@ -17,7 +17,7 @@ use Rattle.levels.specs.declared.levels.Levels.{Levels}
 use Rattle.levels.specs.Visits.{AreVisits, IsLedTo, LeadsTo, Visit, visited}
 use Rattle.levels.specs.Frontiers.{AreLedOn, AreTooMany, IsFoundBy, IsFrontier, IsLevelTaken, IsOver, IsSame, IsSpent, IsSpread, Rises, StandsIn, StopsAt, Waits, WasFound, distributions_of, found_order}
 use Rattle.levels.specs.inside.Waiting.{AreTooManyLed, EndsWaiting, IsNextTotal}
-use Rattle.storage.proofs.Containing.{contains-cases, contains-here, contains-later, contains-map, contains-none, contains-unmap}
+use Rattle.sd_base.proofs.Containing.{contains-cases, contains-here, contains-later, contains-map, contains-none, contains-unmap}
 use Rattle.levels.proofs.Inserts.{least-first, sorted-left, sorted-order, sorted-right}
 
 -- distributions in order, and others after all of them

@@ -3,7 +3,7 @@ use Rattle.std.proofs.Common.{◌≡◌, ℕ, suc, List, [], ◌∷◌, ◌++◌
 use Rattle.std.proofs.lemmas.List.{map-append}
 use Rattle.storage.specs.ClosedLists.{Entry, HasEntry}
 use Rattle.levels.specs.Visits.{led_by, visited, visits_of}
-use Rattle.storage.proofs.Containing.{contains-cases, contains-none}
+use Rattle.sd_base.proofs.Containing.{contains-cases, contains-none}
 
 pub visits-more : (es : List Entry) (e : Entry) → visits_of (es ++ e ∷ []) ≡ visits_of es ++ led_by e.capacities e.shown ∷ []
 visits-more es e = map-append (λ (x : Entry). led_by x.capacities x.shown) es (e ∷ [])

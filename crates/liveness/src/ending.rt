@@ -1,4 +1,4 @@
-ghost use Rattle.std.specs.Prelude.{◌≡◌, ℕ, ◌+◌, ◌*◌, ◌≤◌, ◌<◌, IfOk, length, slice_index};
+ghost use Rattle.std.specs.Prelude.{◌≡◌, ◌+◌, ◌*◌, ◌≤◌, ◌<◌, IfOk, length, slice_index};
 ghost use Rattle.sd_base.specs.declared.limits.TheConstants.{RATE};
 ghost use Rattle.sd_base.specs.Net.{Net, channel_at, total};
 ghost use Rattle.sd_base.specs.Lawful.{Lawful};

@@ -65,9 +65,6 @@ module _ (net : Net) (laws : Lawful net) (fed : HasInputs net) where
       (λ (later : u < t). absurd (omega (arith, rank-grows u t later event)))
       (λ (h : t ≤ u). h) (cases_lt u t)
 
-  pub rank-one : (t u : ℕ) → IsEvent net t → IsEvent net u → events_by net t ≡ events_by net u → t ≡ u
-  rank-one t u event other same = omega (arith, rank-orders t u event (omega arith), rank-orders u t other (omega arith))
-
   still : (m u d : ℕ) → ((x : ℕ) → m < x → x < u → IsEvent net x → ⊥) → d + m < u → events_by net (d + m) ≡ events_by net m
   still m u zero quiet below = let e : 0 + m ≡ m = omega arith in rw e refl
   still m u (suc d) quiet below =

@@ -4,7 +4,7 @@ use Rattle.std.specs.Prelude.{Contains, nat_le}
 use Rattle.std.proofs.lemmas.Bool.{cases_lt}
 use Rattle.std.proofs.lemmas.Bool.Decides.{leb_tells}
 use Rattle.storage.specs.CapacityOrder.{no_later}
-use Rattle.storage.proofs.Containing.{contains-cases, contains-here, contains-later}
+use Rattle.sd_base.proofs.Containing.{contains-cases, contains-here, contains-later}
 use Rattle.storage.proofs.FrontsFromMembers.{no_less}
 use Rattle.storage.proofs.CapacityOrder.{no_later-refl, no_later-total, no_later-trans}
 use Rattle.pareto_front.specs.Offers.{Offer, Covers, IsCoveredBy, AreAbove, AreInOrder, is_slower, left_of, put}

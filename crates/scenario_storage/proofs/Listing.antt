@@ -7,7 +7,7 @@ use Rattle.sd_base.specs.declared.tables.StateRow.{StateRow}
 use Rattle.automaton.specs.declared.graph.Edge.{Edge}
 use Rattle.automaton.specs.declared.graph.TimedGraph.{TimedGraph}
 use Rattle.automaton.specs.CriticalCycles.{IsPath}
-use Rattle.storage.proofs.Containing.{contains-cases}
+use Rattle.sd_base.proofs.Containing.{contains-cases}
 use Rattle.entry_ways.specs.declared.marking.EntryPlace.{EntryPlace}
 use Rattle.scenario_storage.specs.inside.Shown.{IsEntryIn, place_of, scenario_at}
 

@@ -14,7 +14,7 @@ use Rattle.sd_base.specs.Net.{IsRepetitionOf}
 use Rattle.sd_base.specs.Scenarios.{Shares}
 use Rattle.sd_base.proofs.Lists.{get-there, get-map}
 use Rattle.sd_base.proofs.Rounds.{one-repetition}
-use Rattle.storage.proofs.Containing.{contains-get, get-contains}
+use Rattle.sd_base.proofs.Containing.{contains-get, get-contains}
 use Rattle.token_matrix.specs.Matrices.{IsMatrix}
 use Rattle.token_matrix.specs.Stamps.{first_of}
 use Rattle.token_matrix.specs.Ways.{IsWay}

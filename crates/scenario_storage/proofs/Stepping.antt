@@ -13,7 +13,7 @@ use Rattle.storage.proofs.CornerLists.{corner-distribution, corner-grid}
 use Rattle.storage.proofs.Enlarging.{distribution-length, enlarged-distribution, enlarged-grid, enlarged-storage}
 use Rattle.levels.specs.Visits.{IsLedTo, LeadsTo, Visit, led_by, visited, visits_of}
 use Rattle.levels.specs.Frontiers.{Rises}
-use Rattle.storage.proofs.Containing.{contains-map, contains-unmap}
+use Rattle.sd_base.proofs.Containing.{contains-map, contains-unmap}
 use Rattle.bounded_scenarios.specs.SharedChannels.{shared_channels}
 use Rattle.bounded_scenarios.specs.ScenarioGuides.{corner, next}
 use Rattle.scenario_storage.specs.inside.Levels.{IsGuided}

@@ -21,7 +21,7 @@ use Rattle.levels.specs.declared.levels.Bounds.{Bounds}
 use Rattle.levels.specs.declared.levels.Levels.{Levels}
 use Rattle.levels.specs.Visits.{AreVisits, IsLedTo, Visit, led_by, visited, visits_of}
 use Rattle.levels.specs.Frontiers.{IsFrontier, IsLevelTaken, IsSame, IsSpent, Rises, Waits, distributions_of}
-use Rattle.storage.proofs.Containing.{contains-cases, contains-here, contains-map, contains-none}
+use Rattle.sd_base.proofs.Containing.{contains-cases, contains-here, contains-map, contains-none}
 use Rattle.levels.proofs.LedOn.{known-long}
 use Rattle.levels.proofs.Spreading.{frontier-up_to}
 use Rattle.levels.proofs.Visited.{visits-more}

@@ -1,4 +1,5 @@
 pub mod Lists
+pub mod Containing
 pub mod Truths
 pub mod CappedDigits
 pub mod Divisors

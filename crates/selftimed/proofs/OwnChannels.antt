@@ -12,6 +12,7 @@ use Rattle.firing.specs.Wiring.{actor_at, IsListed, TakesTokens, PutsTokens}
 use Rattle.firing.proofs.Listings.{member-place}
 use Rattle.firing.proofs.TokenMoves.{Changed, span-one}
 use Rattle.selftimed.specs.inside.Ports.{IsOwn, MayOwn, IsOther, IsRising, IsListedBut}
+use Rattle.selftimed.specs.inside.Starts.{Feeds}
 
 -- ---- the own channel, or another one
 
@@ -140,11 +141,7 @@ OthersTaken net k n xs old now done = Changed xs old now (λ i. total (channel_a
 abbrev pub OthersPut : Net → ℕ → ℕ → List ℕ → List ℕ → List ℕ → ℕ → Type 0
 OthersPut net k n xs old now done = Changed xs old now (λ i. total (channel_at net i).made k) (λ i. total (channel_at net i).made (k + n)) done
 
--- the tokens that an actor's channels have for its firings
-abbrev pub Enough : Net → ℕ → ℕ → ℕ → List ℕ → Type 0
-Enough net a k n tokens = (i : ℕ) → i < length net.channels → (channel_at net i).target ≡ a → total (channel_at net i).taken (k + n) ≤ slice_index tokens i + total (channel_at net i).taken k
-
-module _ (net : Net) (laws : Lawful net) (a : ℕ) (own : Option ℕ) (may : MayOwn net a own) (k n : ℕ) (xs old now : List ℕ) (listed : IsListedBut net Taken a own xs) (long : length now ≡ length net.channels) (enough : Enough net a k n old) where
+module _ (net : Net) (laws : Lawful net) (a : ℕ) (own : Option ℕ) (may : MayOwn net a own) (k n : ℕ) (xs old now : List ℕ) (listed : IsListedBut net Taken a own xs) (long : length now ≡ length net.channels) (enough : Feeds net old a k n) where
   module _ (at all : ℕ) (below : at < length xs) (sum : total (channel_at net (slice_index xs at)).taken k + all ≡ total (channel_at net (slice_index xs at)).taken (k + n)) (so_far : OthersTaken net k n xs old now at) where
     pub take-fits : all ≤ slice_index now (slice_index xs at)
     take-fits =

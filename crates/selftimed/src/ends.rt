@@ -1,11 +1,11 @@
-ghost use Rattle.std.specs.Prelude.{◌≡◌, ◌↔◌, ℕ, ◌+◌, ◌-◌, ◌^◌, ◌<◌, ◌≤◌, IfSome, IsTrue, MatchOption, OnOk, length, set, slice_index};
+ghost use Rattle.std.specs.Prelude.{◌≡◌, ◌↔◌, ℕ, ◌+◌, ◌-◌, ◌^◌, ◌<◌, ◌≤◌, IfSome, IsTrue, MatchOption, OnOk, length, set, slice_index, slice_index_or};
 ghost use Rattle.std.proofs.Props.{props};
 ghost use Rattle.sd_base.specs.Net.{channel_at, phase_entry};
 ghost use Rattle.firing.specs.declared.sums.Port.TheVariants.{Made};
 ghost use Rattle.firing.specs.Wiring.{PutsTokens};
 ghost use Rattle.selftimed.specs.inside.Actors.{EndsOne, Touches, TouchesItself};
 ghost use Rattle.selftimed.specs.inside.Agendas.{Lists};
-ghost use Rattle.selftimed.specs.inside.PortRates.{AreRates};
+ghost use Rattle.selftimed.specs.inside.PortRates.{AreRates, no_rates};
 ghost use Rattle.selftimed.specs.inside.Ports.{IsListedBut, MayOwn};
 
 use crate::actors::ActorState;
@@ -116,7 +116,7 @@ impl<F: Firing> DueActor<'_, F> {
         ensures ends { agenda.new.ends ≡ agenda.old.ends }
     {
         for channel in self.outputs {
-            let target = target_of(self.net, self.rates, *channel);
+            let target = target_of(self.rates, *channel);
             if has_enough(
                 self.net,
                 self.rates,
@@ -132,10 +132,9 @@ impl<F: Firing> DueActor<'_, F> {
 }
 
 /// The actor into which a channel leads.
-fn target_of<F: Firing>(_net: &F, rates: &[Rates], channel: u32) -> u32
-    requires channel { channel < length (F.net _net.now).channels }
-    requires rates { AreRates (F.net _net.now) rates.now }
-    ensures { result ≡ (channel_at (F.net _net.now) channel).target }
+fn target_of(rates: &[Rates], channel: u32) -> u32
+    requires { channel < length rates.now }
+    ensures { result ≡ (slice_index_or rates.now channel no_rates).target }
 {
     rates[channel as usize].target
 }

@@ -28,4 +28,3 @@ pub mod TouchedInputs
 pub mod Enlarging
 pub mod FileConnections
 pub mod BoundedChannels
-pub mod Containing

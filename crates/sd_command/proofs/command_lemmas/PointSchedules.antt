@@ -18,7 +18,7 @@ use Rattle.storage.specs.Distributions.{CanHold, IsDistribution, storage_of}
 use Rattle.storage.proofs.FileChannels.{plain-no_spaces}
 use Rattle.storage.proofs.Fits.{can-hold}
 use Rattle.storage.proofs.Lawfulness.{bound-lawful}
-use Rattle.storage.proofs.Containing.{contains-here, contains-later}
+use Rattle.sd_base.proofs.Containing.{contains-here, contains-later}
 use Rattle.pareto_front.specs.declared.point.Point.{Point}
 use Rattle.explore.specs.Reachable.{IsExplorable}
 use Rattle.explore.specs.Explorations.{IsPoint}

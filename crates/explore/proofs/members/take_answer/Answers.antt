@@ -1,7 +1,7 @@
 use Rattle.std.proofs.Common.{◌+◌, ◌∷◌, sym, ap}
 use Rattle.std.proofs.lemmas.List.Elements.{Contains-append_right}
 use Rattle.levels.specs.Visits.{visited, visits_of}
-use Rattle.storage.proofs.Containing.{contains-here}
+use Rattle.sd_base.proofs.Containing.{contains-here}
 use Rattle.explore.specs.inside.Levels.{least_loops, most_loops}
 use Rattle.explore.specs.inside.Rated.{member_of}
 use Rattle.explore.proofs.Searching.{search-candidate}

@@ -1,5 +1,5 @@
 use Rattle.std.proofs.Common.{◌+◌, ◌∷◌}
-use Rattle.storage.proofs.Containing.{contains-here}
+use Rattle.sd_base.proofs.Containing.{contains-here}
 use Rattle.scenario_storage.proofs.Searchable.{searchable}
 use Rattle.scenario_storage.proofs.Turning.{search-candidate}
 use Rattle.scenario_storage.proofs.members.take_answer.Goals as goal

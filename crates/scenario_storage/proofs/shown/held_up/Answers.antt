@@ -1,7 +1,7 @@
 use Rattle.std.proofs.Common.{◌≡◌, ◌+◌, ◌++◌, ◌∷◌, ◌<◌, [], ℕ, List, slice_index, sym, ◌∙◌, subst, true≢false, arith, rules}
 use Rattle.std.specs.Prelude.{◌↔◌, Contains}
 use Rattle.scenario_storage.specs.inside.Shown.{IsWaitedFor}
-use Rattle.storage.proofs.Containing.{listed-more, listed-other}
+use Rattle.sd_base.proofs.Containing.{listed-more, listed-other}
 use Rattle.scenario_storage.proofs.Listing.{listed-all}
 use Rattle.scenario_storage.proofs.SpaceNumbers.{has-place}
 use Rattle.scenario_storage.proofs.shown.held_up.Goals as goal

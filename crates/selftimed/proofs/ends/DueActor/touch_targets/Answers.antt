@@ -12,14 +12,15 @@ use Rattle.selftimed.proofs.ends.DueActor.touch_targets.Goals.{then-has_enough+i
 pub loop-channel-preserved : goal.loop-channel-preserved
 loop-channel-preserved g c =
     let i : ℕ = slice_index c.args.self.now.outputs.now c.loop-channel.channel-index in
-    let actor : c.target_of-target.result < length (g.F.Firing.net c.args.self.now.net.now).times =
-    omega (arith, c.target_of-target.ensures, (g.met.F.Firing.lawful c.args.self.now.net.now).targets (slice_index c.args.self.now.outputs.now c.loop-channel.channel-index) (c.args.self.now.listed.place c.loop-channel.channel-index c.loop-channel-test.true)) in
+    let below : i < length (g.F.Firing.net c.args.self.now.net.now).channels = c.args.self.now.listed.place c.loop-channel.channel-index c.loop-channel-test.true in
+    let target : c.target_of-target.result ≡ (channel_at (g.F.Firing.net c.args.self.now.net.now) i).target = c.target_of-target.ensures ∙ (c.args.self.now.rated.each i below).target in
+    let actor : c.target_of-target.result < length (g.F.Firing.net c.args.self.now.net.now).times = omega (arith, target, (g.met.F.Firing.lawful c.args.self.now.net.now).targets i below) in
     let place : c.target_of-target.result < length c.loop-channel.actors = omega (arith, c.loop-channel.auto.actors, c.requires.long) in
     elim c.if-has_enough.branch [
       | then-has_enough+in_ok-touch w ↦ rw (w.actors-is, w.agenda-is) (
         rw w.in_ok-touch.ensures.state (touches-more (g.F.Firing.net c.args.self.now.net.now) c.loop-channel.actors c.loop-channel.agenda.touched.items w.touch.new.self.touched.items c.target_of-target.result actor place (slice_index_or c.loop-channel.actors c.target_of-target.result w.index-actors-target-then-has_enough.result)
             (get_or_default c.loop-channel.actors c.target_of-target.result w.index-actors-target-then-has_enough.result idle place) c.loop-channel.invariant.0.lists w.in_ok-touch.ensures.touched
-            c.args.tokens.now c.args.self.now.outputs.now c.args.actors.now c.loop-channel.channel-index c.target_of-target.ensures c.loop-channel.invariant.0),
+            c.args.tokens.now c.args.self.now.outputs.now c.args.actors.now c.loop-channel.channel-index target c.loop-channel.invariant.0),
         w.touch.ensures.ends ∙ c.loop-channel.invariant.1,
       )
       | else-has_enough w ↦
@@ -33,7 +34,7 @@ loop-channel-preserved g c =
           subst (λ (s : ActorState). s.lacking ≡ i → slice_index c.args.tokens.now i < phase_entry (channel_at (g.F.Firing.net c.args.self.now.net.now) i).taken s.started)
           (sym (get_or_default c.loop-channel.actors c.target_of-target.result idle c.index-actors-target.result place)) short in
           rw (w.actors-is, w.agenda-is) (
-            touches-skip (g.F.Firing.net c.args.self.now.net.now) c.args.tokens.now c.args.self.now.outputs.now c.args.actors.now c.loop-channel.actors c.loop-channel.agenda.touched.items c.loop-channel.channel-index c.target_of-target.result c.target_of-target.ensures still c.loop-channel.invariant.0,
+            touches-skip (g.F.Firing.net c.args.self.now.net.now) c.args.tokens.now c.args.self.now.outputs.now c.args.actors.now c.loop-channel.actors c.loop-channel.agenda.touched.items c.loop-channel.channel-index c.target_of-target.result target still c.loop-channel.invariant.0,
             c.loop-channel.invariant.1,
           )
     ]
