@@ -1,16 +1,21 @@
-ghost use Rattle.std.specs.Prelude.{◌≤◌, IfErr, IfOk};
-ghost use Rattle.sd_base.specs.declared.limits.TheConstants.{LEAST_STATES};
+ghost use Rattle.std.specs.Prelude.{◌≡◌, ℕ, ◌≤◌, IfErr, IfOk};
+ghost use Rattle.sd_base.specs.declared.limits.TheConstants.{LEAST_STATES, STARTS as MOST_STARTS};
 ghost use Rattle.sd_base.specs.Schedules.{HasInputs};
+ghost use Rattle.sd_base.specs.SelfTimed.{events_by, starts_by};
 ghost use Rattle.sd_base.specs.Untimed.{IsLive};
 ghost use Rattle.sd_base.specs.Connection.{IsConnected};
+ghost use Rattle.selftimed.specs.declared.engine.Stage.TheVariants.{Fresh};
 ghost use Rattle.loops.specs.LoopAnswers.{IsFound, IsRunRefusal};
+ghost use Rattle.event_loops.specs.inside.Searching.{IsPair, IsPeriod};
+ghost use Rattle.event_loops.specs.inside.Tracing.{IsTrace};
 
 use crate::entry::entry_of;
 use crate::repeat::first_repeat;
 use crate::search::{SEARCH_STARTS, find_pair};
 use crate::trace::Trace;
 use firing::{Firing, LoopTable, Wired};
-use loops::{RunError, empty_rows, loop_table};
+use loops::{Pair, RunError, empty_rows, loop_table};
+use sd_base::NoMemory;
 use sd_base::limits::STARTS;
 use selftimed::Engine;
 use std::alloc::Global;
@@ -39,21 +44,65 @@ pub fn loop_by_events<F: Firing>(
     ensures found { IfOk result (IsFound (F.net wired.now.net.now) states) }
     ensures refused { IfErr result (IsRunRefusal (F.net wired.now.net.now) states) }
 {
-    let net = wired.net;
     let mut lead = Engine::new(alloc, wired, SEARCH_STARTS)?;
-    let mut trace = Trace::new(alloc, net)?;
+    let mut trace = Trace::new(alloc, wired.net)?;
     let pair = find_pair(alloc, &mut lead, &mut trace, states)?;
-    let period = pair.later - pair.earlier;
     if trace.ends_at(pair.later) {
-        let entry = entry_of(net, &trace, pair);
-        let table = loop_table(alloc, net, entry, period, trace.starts.as_slice())?;
+        let table = traced_loop(alloc, wired.net, &trace, pair)?;
         return Ok(table);
     }
-    lead.restart(alloc, net, STARTS)?;
+    lead.restart(alloc, wired.net, STARTS)?;
+    repeated_loop(alloc, wired, &mut lead, pair.later - pair.earlier, states)
+}
+
+/// The loop that two equal shapes show, in the trace up to the later one.
+fn traced_loop<F: Firing>(
+    alloc: Global,
+    net: &F,
+    trace: &Trace,
+    pair: Pair,
+) -> Result<LoopTable, NoMemory>
+    requires connected { IsConnected (F.net net.now) }
+    requires inputs { HasInputs (F.net net.now) }
+    requires pair { IsPair (F.net net.now) pair }
+    requires traced { IsTrace (F.net net.now) pair.later trace.now.moments.items trace.now.starts.items }
+    requires few { starts_by (F.net net.now) pair.later ≤ MOST_STARTS }
+    ensures found { IfOk result (λ table. (states : ℕ) → events_by (F.net net.now) pair.later ≤ states → IsFound (F.net net.now) states table) }
+{
+    let entry = entry_of(net, trace, pair);
+    loop_table(
+        alloc,
+        net,
+        entry,
+        pair.later - pair.earlier,
+        trace.starts.as_slice(),
+    )
+}
+
+/// The loop by two executions side by side, so many time units apart, up to its first repeat.
+fn repeated_loop<'a, F: Firing>(
+    alloc: Global,
+    wired: &Wired<'a, F>,
+    lead: &mut Engine<'a, F>,
+    period: u64,
+    states: u64,
+) -> Result<LoopTable, RunError>
+    requires live { IsLive (F.net wired.now.net.now) }
+    requires connected { IsConnected (F.net wired.now.net.now) }
+    requires inputs { HasInputs (F.net wired.now.net.now) }
+    requires net { lead.old.net.now ≡ wired.now.net.now }
+    requires fresh { lead.old.stage ≡ Fresh }
+    requires start { lead.old.moment ≡ 0 }
+    requires most { lead.old.most ≡ MOST_STARTS }
+    requires period { IsPeriod (F.net wired.now.net.now) period }
+    requires some { 1 ≤ states }
+    ensures found { IfOk result (IsFound (F.net wired.now.net.now) states) }
+    ensures refused { IfErr result (IsRunRefusal (F.net wired.now.net.now) states) }
+{
     let mut trail = Engine::new(alloc, wired, STARTS)?;
-    let mut starts = empty_rows(alloc, net)?;
-    let end = first_repeat(&mut lead, &mut trail, starts.as_mut_slice(), period, states)?;
+    let mut starts = empty_rows(alloc, wired.net)?;
+    let end = first_repeat(lead, &mut trail, starts.as_mut_slice(), period, states)?;
     let entry = trail.moment();
-    let table = loop_table(alloc, net, entry, end - entry, starts.as_slice())?;
+    let table = loop_table(alloc, wired.net, entry, end - entry, starts.as_slice())?;
     Ok(table)
 }

@@ -12,14 +12,14 @@
 ghost use Rattle.std.specs.Prelude.{◌≡◌, ◌↔◌, ◌*◌, ◌≤◌, ◌<◌, [], IfErr, IfOk, IsTrue, OnOk, MatchOption, length, replicate};
 ghost use Rattle.sd_base.specs.declared.limits.TheConstants.{STARTS};
 ghost use Rattle.sd_base.specs.Schedules.{HasInputs};
-ghost use Rattle.sd_base.specs.SelfTimed.{IsEvent, shape_at};
+ghost use Rattle.sd_base.specs.SelfTimed.{IsEvent, shape_at, starts_by};
 ghost use Rattle.sd_base.specs.Untimed.{IsLive};
 ghost use Rattle.selftimed.specs.declared.engine.Stage.TheVariants.{Fresh, Running};
 ghost use Rattle.loops.specs.LoopAnswers.{IsRunRefusal};
 ghost use Rattle.loops.specs.declared.error.RunError.TheVariants.{StatesSpent, TooManyStarts};
 ghost use Rattle.event_loops.specs.inside.Printing.{ArePrints};
-ghost use Rattle.event_loops.specs.inside.Tracing.{AreAllowed};
-ghost use Rattle.event_loops.specs.inside.Searching.{IsPair, IsCheckpoint, IsLast, NoneSince, NoneSoon};
+ghost use Rattle.event_loops.specs.inside.Tracing.{AreAllowed, IsTrace};
+ghost use Rattle.event_loops.specs.inside.Searching.{IsPair, IsCheckpoint, IsWatch, IsLast, NoneSince, NoneSoon};
 
 use crate::marks::Marks;
 use crate::prints::{is_new, upper_half};
@@ -46,6 +46,14 @@ pub(crate) struct Checkpoint {
     pub(crate) starts: u64,
     /// Up to how many starts it stays.
     pub(crate) stays_to: u64,
+}
+
+/// What later shapes are compared with: those at the marks, and that of the checkpoint. A round has `round` starts.
+#[derive(Drop)]
+pub(crate) struct Watch {
+    pub(crate) checkpoint: Checkpoint,
+    pub(crate) marks: Marks,
+    pub(crate) round: u64,
 }
 
 /// Finds a shape and the first one after it that is equal, and leaves the events and starts on the way in a trace. Each later
@@ -127,10 +135,55 @@ fn search_allowed<F: Firing>(
         return Err(RunError::TooManyStarts);
     }
     trace.add(engine)?;
+    let mut watch = watch_from(alloc, engine)?;
+    search_after(alloc, engine, trace, prints, &mut watch, states)
+}
+
+/// What the shapes after one are compared with: with this one at first.
+fn watch_from<F: Firing>(alloc: Global, engine: &Engine<F>) -> Result<Watch, NoMemory>
+    requires running { engine.now.stage ≡ Running }
+    requires event { IsEvent (F.net engine.now.net.now) engine.now.moment }
+    ensures watch { IfOk result (IsWatch (F.net engine.now.net.now) engine.now.moment) }
+{
     let round = starts_of_round(engine.net);
-    let mut checkpoint = checkpoint_of(alloc, engine, round)?;
+    let checkpoint = checkpoint_of(alloc, engine, round)?;
     let mut marks = Marks::new(alloc);
     marks.mark(engine)?;
+    Ok(Watch {
+        checkpoint,
+        marks,
+        round,
+    })
+}
+
+/// Goes on with what `search_allowed` does from the first shape, at which the engine stands.
+fn search_after<F: Firing>(
+    alloc: Global,
+    engine: &mut Engine<F>,
+    trace: &mut Trace,
+    prints: &mut Vec<u32>,
+    watch: &mut Watch,
+    states: u64,
+) -> Result<Option<Pair>, RunError>
+    requires live { IsLive (F.net engine.old.net.now) }
+    requires inputs { HasInputs (F.net engine.old.net.now) }
+    requires running { engine.old.stage ≡ Running }
+    requires first { engine.old.moment ≡ 0 }
+    requires most { engine.old.most ≡ 4 * STARTS }
+    requires some { 1 ≤ states }
+    requires watch { IsWatch (F.net engine.old.net.now) engine.old.moment watch.old }
+    requires trace { starts_by (F.net engine.old.net.now) engine.old.moment ≤ STARTS →
+        IsTrace (F.net engine.old.net.now) engine.old.moment trace.old.moments.items trace.old.starts.items }
+    requires allowed { AreAllowed (F.net engine.old.net.now) states trace.old.moments.items trace.old.starts.items }
+    requires no_prints { prints.old.items ≡ [] }
+    ensures net { engine.new.net ≡ engine.old.net }
+    ensures most { engine.new.most ≡ engine.old.most }
+    ensures traced { IfOk result (λ o. AreAllowed (F.net engine.old.net.now) states trace.new.moments.items trace.new.starts.items) }
+    ensures prints { IfOk result (λ o. MatchOption o (ArePrints (F.net engine.old.net.now) engine.new.moment prints.new.items) (λ pair. Unit {0})) }
+    ensures found { IfOk result (λ o. MatchOption o ((engine.new.stage ≡ Running) × IsLast (F.net engine.old.net.now) states engine.new.moment) (IsPair (F.net engine.old.net.now))) }
+    ensures refused { IfErr result (IsRunRefusal (F.net engine.old.net.now) states) }
+{
+    let round = watch.round;
     for _event in 1..states {
         if engine.starts() > STARTS {
             return Ok(None);
@@ -140,16 +193,16 @@ fn search_allowed<F: Firing>(
             return Err(RunError::TooManyStarts);
         }
         trace.add(engine)?;
-        if stands_at(engine, &checkpoint) {
+        if stands_at(engine, &watch.checkpoint) {
             return Ok(Some(Pair {
-                earlier: checkpoint.moment,
+                earlier: watch.checkpoint.moment,
                 later: engine.moment(),
             }));
         }
-        if let Some(pair) = marks.meet(engine, trace, round)? {
+        if let Some(pair) = watch.marks.meet(engine, trace, round)? {
             return Ok(Some(pair));
         }
-        renew(alloc, engine, &mut checkpoint, round)?;
+        renew(alloc, engine, &mut watch.checkpoint, round)?;
     }
     Ok(None)
 }

@@ -1,42 +1,16 @@
-use Rattle.std.proofs.Common.{◌∙◌, ◌≡◌, ◌≢◌, ◌+◌, refl, inl, ap, arith}
-use Rattle.std.proofs.lemmas.Bool.{false≢true}
-use Rattle.sd_base.specs.SelfTimed.{events_by, shape_at, starts_by}
-use Rattle.selftimed.specs.Moves.{IsNextEvent}
-use Rattle.loops.proofs.Ranks.{rank-first, rank-after}
-use Rattle.event_loops.proofs.Searched.{none-yet, none-more, first-since, few-before, few-first, many-next, many-first}
-use Rattle.selftimed.specs.declared.engine.Stage.TheVariants.{Fresh, Running}
+use Rattle.std.proofs.Common.{inl, ap, arith}
+use Rattle.sd_base.specs.SelfTimed.{events_by}
+use Rattle.loops.proofs.Ranks.{rank-first}
+use Rattle.event_loops.proofs.Searched.{many-first}
+use Rattle.selftimed.specs.declared.engine.Stage.TheVariants.{Fresh}
 use Rattle.event_loops.specs.inside.Tracing.{IsTraceBefore}
 use Rattle.event_loops.proofs.Traced.{none-allowed, allowed-next}
-use Rattle.event_loops.proofs.Marked.{marks-on}
-use Rattle.event_loops.proofs.Printed.{first-prints, more-prints}
 use Rattle.event_loops.proofs.search.search_allowed.Goals as goal
 
 pub returns-then-not-branch-clause-refused : goal.returns-then-not-branch-clause-refused
 returns-then-not-branch-clause-refused g c =
     let goes = rw c.requires.fresh at (rw c.requires.most at (rw c.if-not-branch.true at c.in_ok-go_on.ensures.goes)) in
     many-first (g.F.Firing.net c.args.engine.now.net.now) (g.met.F.Firing.lawful c.args.engine.now.net.now) c.requires.inputs c.args.states goes.0 goes.1 c.requires.some (omega (arith, goes.2))
-
-pub loop-event-init : goal.loop-event-init
-loop-event-init g c =
-    let goes = rw c.requires.fresh at (rw c.if-not-branch.false at c.in_ok-go_on.ensures.goes) in
-    record {
-      net = c.go_on.ensures.net;
-      most = c.go_on.ensures.most;
-      running = goes.0;
-      event = inl goes.1;
-      number = ap (events_by (g.F.Firing.net c.args.engine.now.net.now)) goes.1 ∙ rank-first (g.F.Firing.net c.args.engine.now.net.now);
-      few = few-first (g.F.Firing.net c.args.engine.now.net.now) (g.met.F.Firing.lawful c.args.engine.now.net.now) c.requires.inputs c.go_on.new.engine.moment goes.1;
-      checkpoint = rw c.go_on.ensures.net at c.in_ok-checkpoint.ensures.checkpoint;
-      ahead = omega (arith, c.in_ok-checkpoint.ensures.moment);
-      none = rw c.in_ok-checkpoint.ensures.moment (none-yet (g.F.Firing.net c.args.engine.now.net.now) c.go_on.new.engine.moment);
-      prints = first-prints (g.F.Firing.net c.args.engine.now.net.now) c.go_on.new.engine.moment c.args.prints.now.items goes.1;
-      marks = rw c.go_on.ensures.net at c.in_ok-mark.ensures;
-      trace = rw c.go_on.ensures.net at c.in_ok-add.ensures.few;
-      allowed = allowed-next (g.F.Firing.net c.args.engine.now.net.now) c.args.states c.go_on.new.engine.moment c.args.trace.now.moments.items c.add.new.self.moments.items c.args.trace.now.starts.items c.add.new.self.starts.items
-          (none-allowed (g.F.Firing.net c.args.engine.now.net.now) c.args.states c.args.trace.now.moments.items c.args.trace.now.starts.items c.requires.no_events)
-          (rw c.go_on.ensures.net at c.in_ok-add.ensures.few) (rw c.go_on.ensures.net at c.in_ok-add.ensures.many) (inl goes.1)
-          (omega (arith, ap (events_by (g.F.Firing.net c.args.engine.now.net.now)) goes.1, rank-first (g.F.Firing.net c.args.engine.now.net.now), c.requires.some));
-    }
 
 pub add-requires-clause-inputs : goal.add-requires-clause-inputs
 add-requires-clause-inputs g c = rw c.go_on.ensures.net c.requires.inputs
@@ -47,105 +21,16 @@ add-requires-clause-before g c =
     let before : IsTraceBefore (g.F.Firing.net c.args.engine.now.net.now) c.go_on.new.engine.moment c.args.trace.now.moments.items c.args.trace.now.starts.items = (Fresh, 0, (c.requires.no_events, c.requires.no_starts), goes.1) in
     rw c.go_on.ensures.net before
 
-pub add-requires-in-loop-event-clause-inputs : goal.add-requires-in-loop-event-clause-inputs
-add-requires-in-loop-event-clause-inputs g c = rw (c.go_on-in-loop-event.ensures.net, c.loop-event.invariant.net) c.requires.inputs
+pub search_after-requires-clause-inputs : goal.search_after-requires-clause-inputs
+search_after-requires-clause-inputs g c = rw c.go_on.ensures.net c.requires.inputs
 
-pub add-requires-in-loop-event-clause-before : goal.add-requires-in-loop-event-clause-before
-add-requires-in-loop-event-clause-before g c =
-    let goes = rw c.loop-event.invariant.running at (rw c.loop-event.invariant.net at (rw c.if-not-branch-2.false at c.in_ok-go_on-2.ensures.goes)) in
-    let here : c.starts.result ≡ starts_by (g.F.Firing.net c.args.engine.now.net.now) c.loop-event.engine.moment = rw c.loop-event.invariant.net at c.starts.ensures in
-    let before : IsTraceBefore (g.F.Firing.net c.args.engine.now.net.now) c.go_on-in-loop-event.new.engine.moment c.loop-event.trace.moments.items c.loop-event.trace.starts.items =
-    (Running, c.loop-event.engine.moment, c.loop-event.invariant.trace (omega (arith, here, c.if-starts-gt-STARTS.false)), goes.1) in
-    rw (c.go_on-in-loop-event.ensures.net, c.loop-event.invariant.net) before
+pub search_after-requires-clause-first : goal.search_after-requires-clause-first
+search_after-requires-clause-first g c = let goes = rw c.requires.fresh at (rw c.if-not-branch.false at c.in_ok-go_on.ensures.goes) in goes.1
 
-pub go_on-requires-in-loop-event-clause-inputs : goal.go_on-requires-in-loop-event-clause-inputs
-go_on-requires-in-loop-event-clause-inputs g c = rw c.loop-event.invariant.net c.requires.inputs
-
-pub returns-then-not-branch-2-clause-refused : goal.returns-then-not-branch-2-clause-refused
-returns-then-not-branch-2-clause-refused g c =
-    let goes = rw c.loop-event.invariant.running at (rw (c.loop-event.invariant.most, c.requires.most) at (rw c.loop-event.invariant.net at (rw c.if-not-branch-2.true at c.in_ok-go_on-2.ensures.goes))) in
-    let here : c.starts.result ≡ starts_by (g.F.Firing.net c.args.engine.now.net.now) c.loop-event.engine.moment = rw c.loop-event.invariant.net at c.starts.ensures in
-    many-next (g.F.Firing.net c.args.engine.now.net.now) (g.met.F.Firing.lawful c.args.engine.now.net.now) c.requires.inputs c.args.states c.loop-event.engine.moment goes.0 goes.1 (omega (arith, c.loop-event.invariant.number, c.loop-event-test.true)) (omega (arith, here, c.if-starts-gt-STARTS.false)) (omega (arith, goes.2))
-
-pub returns-then-stands_at-clause-found : goal.returns-then-stands_at-clause-found
-returns-then-stands_at-clause-found g c =
-    let goes = rw c.loop-event.invariant.running at (rw c.loop-event.invariant.net at (rw c.if-not-branch-2.false at c.in_ok-go_on-2.ensures.goes)) in
-    let next : IsNextEvent (g.F.Firing.net c.args.engine.now.net.now) c.loop-event.engine.moment c.go_on-in-loop-event.new.engine.moment = goes.1 in
-    let same : shape_at (g.F.Firing.net c.args.engine.now.net.now) c.go_on-in-loop-event.new.engine.moment ≡ shape_at (g.F.Firing.net c.args.engine.now.net.now) c.loop-event.checkpoint.moment =
-    rw c.loop-event.invariant.net at (rw c.go_on-in-loop-event.ensures.net at (c.if-stands_at.ensures.0 refl)) in
-    rw c.moment.ensures (record {
-      order = omega (arith, next.later, c.loop-event.invariant.ahead);
-      start = c.loop-event.invariant.checkpoint.event;
-      end = next.event;
-      same = same;
-      first = λ u event after before. first-since (g.F.Firing.net c.args.engine.now.net.now) (g.met.F.Firing.lawful c.args.engine.now.net.now) c.requires.inputs c.loop-event.checkpoint.moment c.loop-event.engine.moment c.go_on-in-loop-event.new.engine.moment u c.loop-event.invariant.none next event after before;
-    })
-
-pub loop-event-preserved : goal.loop-event-preserved
-loop-event-preserved g c =
-    let goes = rw c.loop-event.invariant.running at (rw c.loop-event.invariant.net at (rw c.if-not-branch-2.false at c.in_ok-go_on-2.ensures.goes)) in
-    let next : IsNextEvent (g.F.Firing.net c.args.engine.now.net.now) c.loop-event.engine.moment c.go_on-in-loop-event.new.engine.moment = goes.1 in
-    let here : c.starts.result ≡ starts_by (g.F.Firing.net c.args.engine.now.net.now) c.loop-event.engine.moment = rw c.loop-event.invariant.net at c.starts.ensures in
-    record {
-      net = c.go_on-in-loop-event.ensures.net ∙ c.loop-event.invariant.net;
-      most = c.go_on-in-loop-event.ensures.most ∙ c.loop-event.invariant.most;
-      running = goes.0;
-      event = next.event;
-      number = rank-after (g.F.Firing.net c.args.engine.now.net.now) (g.met.F.Firing.lawful c.args.engine.now.net.now) c.requires.inputs c.loop-event.engine.moment c.go_on-in-loop-event.new.engine.moment next ∙ ap (λ n. n + 1) c.loop-event.invariant.number;
-      few = few-before (g.F.Firing.net c.args.engine.now.net.now) (g.met.F.Firing.lawful c.args.engine.now.net.now) c.requires.inputs c.loop-event.engine.moment c.go_on-in-loop-event.new.engine.moment (omega (arith, here, c.if-starts-gt-STARTS.false)) next;
-      checkpoint = rw (c.go_on-in-loop-event.ensures.net, c.loop-event.invariant.net) at c.in_ok-renew.ensures.checkpoint;
-      ahead = c.in_ok-renew.ensures.ahead;
-      none = rw (c.go_on-in-loop-event.ensures.net, c.loop-event.invariant.net) at c.in_ok-renew.ensures.none;
-      prints = rw c.in_ok-push.ensures.items (more-prints (g.F.Firing.net c.args.engine.now.net.now) c.loop-event.engine.moment c.go_on-in-loop-event.new.engine.moment c.upper_half.result c.loop-event.prints.items
-          (rw c.loop-event.invariant.net at c.upper_half.ensures) next c.loop-event.invariant.prints);
-      marks = rw (c.go_on-in-loop-event.ensures.net, c.loop-event.invariant.net) at (rw c.in_default.is at c.in_ok-pair.ensures);
-      trace = rw (c.go_on-in-loop-event.ensures.net, c.loop-event.invariant.net) at c.in_ok-add-2.ensures.few;
-      allowed = allowed-next (g.F.Firing.net c.args.engine.now.net.now) c.args.states c.go_on-in-loop-event.new.engine.moment c.loop-event.trace.moments.items c.add-in-loop-event.new.self.moments.items c.loop-event.trace.starts.items c.add-in-loop-event.new.self.starts.items
-          c.loop-event.invariant.allowed (rw (c.go_on-in-loop-event.ensures.net, c.loop-event.invariant.net) at c.in_ok-add-2.ensures.few) (rw (c.go_on-in-loop-event.ensures.net, c.loop-event.invariant.net) at c.in_ok-add-2.ensures.many) next.event
-          (omega (arith, rank-after (g.F.Firing.net c.args.engine.now.net.now) (g.met.F.Firing.lawful c.args.engine.now.net.now) c.requires.inputs c.loop-event.engine.moment c.go_on-in-loop-event.new.engine.moment next, c.loop-event.invariant.number, c.loop-event-test.true));
-    }
-
-pub returns-then-stands_at-clause-traced : goal.returns-then-stands_at-clause-traced
-returns-then-stands_at-clause-traced g c =
-    let goes = rw c.loop-event.invariant.running at (rw c.loop-event.invariant.net at (rw c.if-not-branch-2.false at c.in_ok-go_on-2.ensures.goes)) in
-    let next : IsNextEvent (g.F.Firing.net c.args.engine.now.net.now) c.loop-event.engine.moment c.go_on-in-loop-event.new.engine.moment = goes.1 in
-    allowed-next (g.F.Firing.net c.args.engine.now.net.now) c.args.states c.go_on-in-loop-event.new.engine.moment c.loop-event.trace.moments.items c.add-in-loop-event.new.self.moments.items c.loop-event.trace.starts.items c.add-in-loop-event.new.self.starts.items
-    c.loop-event.invariant.allowed (rw (c.go_on-in-loop-event.ensures.net, c.loop-event.invariant.net) at c.in_ok-add-2.ensures.few) (rw (c.go_on-in-loop-event.ensures.net, c.loop-event.invariant.net) at c.in_ok-add-2.ensures.many) next.event
-    (omega (arith, rank-after (g.F.Firing.net c.args.engine.now.net.now) (g.met.F.Firing.lawful c.args.engine.now.net.now) c.requires.inputs c.loop-event.engine.moment c.go_on-in-loop-event.new.engine.moment next, c.loop-event.invariant.number, c.loop-event-test.true))
-
-pub returns-in-Some-clause-traced : goal.returns-in-Some-clause-traced
-returns-in-Some-clause-traced g c =
-    let goes = rw c.loop-event.invariant.running at (rw c.loop-event.invariant.net at (rw c.if-not-branch-2.false at c.in_ok-go_on-2.ensures.goes)) in
-    let next : IsNextEvent (g.F.Firing.net c.args.engine.now.net.now) c.loop-event.engine.moment c.go_on-in-loop-event.new.engine.moment = goes.1 in
-    allowed-next (g.F.Firing.net c.args.engine.now.net.now) c.args.states c.go_on-in-loop-event.new.engine.moment c.loop-event.trace.moments.items c.add-in-loop-event.new.self.moments.items c.loop-event.trace.starts.items c.add-in-loop-event.new.self.starts.items
-    c.loop-event.invariant.allowed (rw (c.go_on-in-loop-event.ensures.net, c.loop-event.invariant.net) at c.in_ok-add-2.ensures.few) (rw (c.go_on-in-loop-event.ensures.net, c.loop-event.invariant.net) at c.in_ok-add-2.ensures.many) next.event
-    (omega (arith, rank-after (g.F.Firing.net c.args.engine.now.net.now) (g.met.F.Firing.lawful c.args.engine.now.net.now) c.requires.inputs c.loop-event.engine.moment c.go_on-in-loop-event.new.engine.moment next, c.loop-event.invariant.number, c.loop-event-test.true))
-
-pub meet-requires-clause-inputs : goal.meet-requires-clause-inputs
-meet-requires-clause-inputs g c = rw (c.go_on-in-loop-event.ensures.net, c.loop-event.invariant.net) c.requires.inputs
-
-pub meet-requires-clause-event : goal.meet-requires-clause-event
-meet-requires-clause-event g c =
-    let goes = rw c.loop-event.invariant.running at (rw c.loop-event.invariant.net at (rw c.if-not-branch-2.false at c.in_ok-go_on-2.ensures.goes)) in
-    let next : IsNextEvent (g.F.Firing.net c.args.engine.now.net.now) c.loop-event.engine.moment c.go_on-in-loop-event.new.engine.moment = goes.1 in
-    rw (c.go_on-in-loop-event.ensures.net, c.loop-event.invariant.net) next.event
-
-pub meet-requires-clause-marks : goal.meet-requires-clause-marks
-meet-requires-clause-marks g c =
-    let goes = rw c.loop-event.invariant.running at (rw c.loop-event.invariant.net at (rw c.if-not-branch-2.false at c.in_ok-go_on-2.ensures.goes)) in
-    let next : IsNextEvent (g.F.Firing.net c.args.engine.now.net.now) c.loop-event.engine.moment c.go_on-in-loop-event.new.engine.moment = goes.1 in
-    rw (c.go_on-in-loop-event.ensures.net, c.loop-event.invariant.net) (marks-on (g.F.Firing.net c.args.engine.now.net.now) c.loop-event.engine.moment c.go_on-in-loop-event.new.engine.moment c.loop-event.marks next c.loop-event.invariant.marks)
-
-pub renew-requires-clause-none : goal.renew-requires-clause-none
-renew-requires-clause-none g c =
-    let goes = rw c.loop-event.invariant.running at (rw c.loop-event.invariant.net at (rw c.if-not-branch-2.false at c.in_ok-go_on-2.ensures.goes)) in
-    let next : IsNextEvent (g.F.Firing.net c.args.engine.now.net.now) c.loop-event.engine.moment c.go_on-in-loop-event.new.engine.moment = goes.1 in
-    let other : shape_at (g.F.Firing.net c.args.engine.now.net.now) c.go_on-in-loop-event.new.engine.moment ≢ shape_at (g.F.Firing.net c.args.engine.now.net.now) c.loop-event.checkpoint.moment =
-    λ same. false≢true (c.if-stands_at.ensures.1 (rw (c.go_on-in-loop-event.ensures.net, c.loop-event.invariant.net) same)) in
-    rw (c.go_on-in-loop-event.ensures.net, c.loop-event.invariant.net) (none-more (g.F.Firing.net c.args.engine.now.net.now) (g.met.F.Firing.lawful c.args.engine.now.net.now) c.requires.inputs c.loop-event.checkpoint.moment c.loop-event.engine.moment c.go_on-in-loop-event.new.engine.moment c.loop-event.invariant.none next other)
-
-pub renew-requires-clause-event : goal.renew-requires-clause-event
-renew-requires-clause-event g c =
-    let goes = rw c.loop-event.invariant.running at (rw c.loop-event.invariant.net at (rw c.if-not-branch-2.false at c.in_ok-go_on-2.ensures.goes)) in
-    let next : IsNextEvent (g.F.Firing.net c.args.engine.now.net.now) c.loop-event.engine.moment c.go_on-in-loop-event.new.engine.moment = goes.1 in
-    rw (c.go_on-in-loop-event.ensures.net, c.loop-event.invariant.net) next.event
+pub search_after-requires-clause-allowed : goal.search_after-requires-clause-allowed
+search_after-requires-clause-allowed g c =
+    let goes = rw c.requires.fresh at (rw c.if-not-branch.false at c.in_ok-go_on.ensures.goes) in
+    rw c.go_on.ensures.net (allowed-next (g.F.Firing.net c.args.engine.now.net.now) c.args.states c.go_on.new.engine.moment c.args.trace.now.moments.items c.add.new.self.moments.items c.args.trace.now.starts.items c.add.new.self.starts.items
+    (none-allowed (g.F.Firing.net c.args.engine.now.net.now) c.args.states c.args.trace.now.moments.items c.args.trace.now.starts.items c.requires.no_events)
+    (rw c.go_on.ensures.net at c.in_ok-add.ensures.few) (rw c.go_on.ensures.net at c.in_ok-add.ensures.many) (inl goes.1)
+    (omega (arith, ap (events_by (g.F.Firing.net c.args.engine.now.net.now)) goes.1, rank-first (g.F.Firing.net c.args.engine.now.net.now), c.requires.some)))

@@ -6,7 +6,7 @@ use Rattle.sd_base.specs.declared.limits.TheConstants.{STARTS}
 use Rattle.event_loops.specs.inside.Marking.{AreMarks}
 use Rattle.event_loops.specs.inside.Printing.{ArePrints}
 use Rattle.event_loops.specs.inside.Tracing.{IsTrace, AreAllowed}
-use Rattle.event_loops.proofs.search.search_allowed.Given as goal
+use Rattle.event_loops.proofs.search.search_after.Given as goal
 
 abbrev pub invariant-loop-event : goal.invariant-loop-event
 invariant-loop-event g l = record {
@@ -16,11 +16,11 @@ invariant-loop-event g l = record {
   event : IsEvent (g.F.Firing.net l.fn.engine.net.now) l.engine.moment;
   number : events_by (g.F.Firing.net l.fn.engine.net.now) l.engine.moment ≡ l._event;
   few : FewBefore (g.F.Firing.net l.fn.engine.net.now) l.engine.moment;
-  checkpoint : IsCheckpoint (g.F.Firing.net l.fn.engine.net.now) l.checkpoint;
-  ahead : l.checkpoint.moment ≤ l.engine.moment;
+  checkpoint : IsCheckpoint (g.F.Firing.net l.fn.engine.net.now) l.watch.checkpoint;
+  ahead : l.watch.checkpoint.moment ≤ l.engine.moment;
   trace : starts_by (g.F.Firing.net l.fn.engine.net.now) l.engine.moment ≤ STARTS → IsTrace (g.F.Firing.net l.fn.engine.net.now) l.engine.moment l.trace.moments.items l.trace.starts.items;
   allowed : AreAllowed (g.F.Firing.net l.fn.engine.net.now) l.states l.trace.moments.items l.trace.starts.items;
   prints : ArePrints (g.F.Firing.net l.fn.engine.net.now) l.engine.moment l.prints.items;
-  marks : AreMarks (g.F.Firing.net l.fn.engine.net.now) (l.engine.moment + 1) l.marks;
-  none : NoneSince (g.F.Firing.net l.fn.engine.net.now) l.checkpoint.moment l.engine.moment;
+  marks : AreMarks (g.F.Firing.net l.fn.engine.net.now) (l.engine.moment + 1) l.watch.marks;
+  none : NoneSince (g.F.Firing.net l.fn.engine.net.now) l.watch.checkpoint.moment l.engine.moment;
 }
