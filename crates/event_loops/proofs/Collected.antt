@@ -1,8 +1,8 @@
 -- The starts of each next event are added to those collected so far.
 use Rattle.std.proofs.Common.{◌≡◌, ◌≢◌, ℕ, suc, ◌+◌, ◌-◌, ◌≤◌, ◌<◌, ◌⊎◌, List, [], ◌++◌, length, inl, inr, ⊎_elim, sym, refl, ap, ◌∙◌, arith, set, length-append}
 use Rattle.std.specs.Prelude.{slice_index, slice_index_or, replicate}
-use Rattle.std.proofs.lemmas.Bool.{cases_lt}
-use Rattle.std.proofs.lemmas.List.{append-nil, ext_get_or, get_or_default, get_or_append_left, get_or-append_right, get_or-replicate, length-replicate, get_or-set_same, get_or-set_other}
+use Rattle.std.proofs.lemmas.Bool.{cases_lt, cases_eq}
+use Rattle.std.proofs.lemmas.List.{append-nil, ext_get_or, get_or_default, get_or_append_left, get_or-append_right, get_or-replicate, length-replicate, length-set, get_or-set_same, get_or-set_other}
 use Rattle.sd_base.specs.Net.{Net}
 use Rattle.sd_base.specs.Schedules.{HasInputs, count_of, start_of, end_of}
 use Rattle.sd_base.specs.SelfTimed.{earliest}
@@ -145,6 +145,16 @@ pub record AddsSoFar (net : Net) (now : ℕ) (list : List ℕ) (old new : List (
 
 pub adds-none : (net : Net) (now : ℕ) (list : List ℕ) (old : List (List ℕ)) → AddsSoFar net now list old old 0
 adds-none net now list old = record { rows = refl; each = λ a actor. inr (refl, λ j below. absurd (omega arith)) }
+
+pub adds-step : (net : Net) (now n x : ℕ) (list : List ℕ) (old new : List (List ℕ)) (row : List ℕ) → AddsSoFar net now list old new n → slice_index list n ≡ x → x < length old → x < length net.times →
+    count_of old x ≤ count_of (earliest net (now + 1)) x → row ≡ slice_index_or new x [] ++ replicate (count_of (earliest net (now + 1)) x - count_of new x) now → AddsSoFar net now list old (set new x row) (n + 1)
+adds-step net now n x list old new row adds listed place actor fewer filled = record {
+  rows = length-set new x row ∙ adds.rows;
+  each = λ a is. each a is (cases_eq a x);
+}
+  where
+    all : ℕ
+    all = count_of (earliest net (now + 1)) x
 
     put : slice_index_or (set new x row) x [] ≡ row
     put = get_or-set_same new x row [] (omega (arith, adds.rows))

@@ -128,3 +128,7 @@ module _ (net : Net) (laws : Lawful net) (fed : HasInputs net) where
       (λ (new : now < u). omega (arith, starts-rise net laws fed now u (omega arith)))
       (λ (old : u ≤ now). none u event after old same)
       (cases_lt now u)
+
+  -- or twice the moment has come
+  pub none-late : (from now most : ℕ) → NoneSince net from now → from + from ≤ now → NoneSoon net from most
+  none-late from now most none late = λ u event after twice few within same. none u event after (omega arith) same

@@ -12,7 +12,7 @@ use Rattle.selftimed.specs.declared.engine.Stage.TheVariants.{Fresh, Running, Sp
 use Rattle.selftimed.specs.Moves.{IsNextEvent, ComesNext}
 use Rattle.event_loops.specs.inside.Collecting.{HasStarts, AddsStarts}
 use Rattle.event_loops.specs.inside.Tracing.{AreEvents, IsTrace, HasTrace, IsTraceBefore, IsLastOf, IsAllowed, AreAllowed}
-use Rattle.event_loops.proofs.Collected.{has-before, has-fewer, has-next}
+use Rattle.event_loops.proofs.Collected.{has-rows, has-before, has-fewer, has-next}
 
 -- the last event is the one up to which all are there
 pub last-event : (net : Net) (now : ℕ) (moments : List ℕ) → AreEvents net now moments → IsEvent net now → IsLastOf moments now
@@ -81,6 +81,9 @@ module _ (net : Net) (laws : Lawful net) (fed : HasInputs net) where
   events-next Running now t moments starts have next = more-events net now t moments have.events next
   events-next Spent now t moments starts have next = absurd have
   events-next OutOfMemory now t moments starts have next = absurd have
+
+  pub before-rows : (t : ℕ) (moments : List ℕ) (starts : List (List ℕ)) → IsTraceBefore net t moments starts → length starts ≡ length net.times
+  before-rows t moments starts before = has-rows net laws fed before.0 before.1 t starts (have-starts before.0 before.1 moments starts before.2) before.3
 
   pub before-fewer : (t : ℕ) (moments : List ℕ) (starts : List (List ℕ)) → IsTraceBefore net t moments starts → (a : ℕ) → a < length net.times → count_of starts a ≤ count_of (earliest net (t + 1)) a
   before-fewer t moments starts before = has-fewer net laws fed before.0 before.1 t starts (have-starts before.0 before.1 moments starts before.2) before.3

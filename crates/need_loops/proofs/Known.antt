@@ -29,6 +29,9 @@ pub record AreByBelow (starts : List (List ℕ)) (moment n : ℕ) (known : List 
   pub each : (a : ℕ) → a < n → AreBy (slice_index_or starts a []) moment (count_of known a)
   pub first : (a : ℕ) → a < n → slice_index_or known a [] ≡ take (count_of known a) (slice_index_or starts a [])
 
+pub by-none : (starts : List (List ℕ)) (moment : ℕ) (known : List (List ℕ)) → known ≡ [] → AreByBelow starts moment 0 known
+by-none starts moment known none = record { rows = ap length none; each = λ a below. absurd (omega arith); first = λ a below. absurd (omega arith) }
+
 pub by-more : (starts : List (List ℕ)) (moment n count : ℕ) (known more : List (List ℕ)) (row : List ℕ) → more ≡ known ++ row ∷ [] → AreByBelow starts moment n known →
     AreBy (slice_index_or starts n []) moment count → length row ≡ count → row ≡ take count (slice_index_or starts n []) → AreByBelow starts moment (n + 1) more
 by-more starts moment n count known more row push below by long first = record {

@@ -4,6 +4,8 @@ use Rattle.std.specs.Prelude.{slice_index, slice_index_or}
 use Rattle.std.proofs.lemmas.Bool.{cases_lt}
 use Rattle.std.proofs.lemmas.List.{length-set, get_or-set_same, get_or-set_other, get_or-take}
 use Rattle.sd_base.specs.Net.{Net, channel_at}
+use Rattle.sd_base.proofs.Lists.{replicate-same}
+use Rattle.sd_base.proofs.Truths.{some-none}
 use Rattle.firing.specs.declared.sums.Port.{Port}
 use Rattle.firing.specs.declared.sums.Port.TheVariants.{Made, Taken}
 use Rattle.firing.specs.Wiring.{actor_at, IsListed}
@@ -85,6 +87,14 @@ pub record TakenSoFar (net : Net) (size : ℕ) (xs : List ℕ) (old new : Lines)
   pub after : (j k p e : ℕ) → j < n → j < length xs → k < taken_on net (slice_index xs j) → slice_index_or (slice_index_or (line_at old (slice_index xs j)) k []) p None ≡ Some e → Reaches row p e
   pub just : (p e : ℕ) → slice_index_or row p None ≡ Some e → (j : ℕ) × (k : ℕ) × (j < n) × (j < length xs) × (k < taken_on net (slice_index xs j))
       × (slice_index_or (slice_index_or (line_at old (slice_index xs j)) k []) p None ≡ Some e)
+
+pub taken_none : (net : Net) (a size : ℕ) (xs : List ℕ) (old : Lines) → AreReady net a size old → TakenSoFar net size xs old old (replicate size None) 0
+taken_none net a size xs old ready = record {
+  lines = changed_none (length net.channels) xs (λ i line. drop (taken_on net i) line) old ready.long;
+  wide = Rattle.std.proofs.lemmas.List.length-replicate size None;
+  after = λ j k p e h. absurd (omega arith);
+  just = λ p e at. absurd (some-none (slice_index_or (replicate size None) p None) e at (replicate-same size p None));
+}
 
 module _ (net : Net) (a size : ℕ) (xs : List ℕ) (listed : IsListed net Taken a xs) (old now : Lines) (n : ℕ) (below : n < length xs) (ready : AreReady net a size old) (row : List (Option ℕ))
     (so_far : TakenSoFar net size xs old now row n) where

@@ -44,7 +44,13 @@ first-at (r ∷ shared) (suc s) row differ at = elim (cases_Bool (bytes_eq r.nam
   | inr other ↦ rw other (ap (λ (n : ℕ). r.tokens + n) (first-at shared s row (later_differ r shared differ) at))
 ]
 
+pub left_none : (shared : List SharedRow) (g : GraphFile) (lines : List (List (List (Option ℕ)))) → LeftSoFar shared g lines [] 0
+left_none shared g lines = record { long = refl; each = λ s i k row below. absurd (omega arith) }
+
 module _ (shared : List SharedRow) (g : GraphFile) (shares : Shares shared g) (lines : List (List (List (Option ℕ)))) (held : AreHeld g lines) where
+  -- a shared row has one channel, with as many tokens
+  pub some_channel : (s : ℕ) (row : SharedRow) → slice_get shared s ≡ Some row → (i : ℕ) × IsNumberOf g row.name i
+  some_channel s row at = let c = shares.rows s row at in (c.0, (slice_get_within g.channels c.0 c.1 c.2, ap (λ (r : ChannelRow). r.name) (get_or_from_slice_get g.channels c.0 c.1 no_row c.2) ∙ c.3))
 
   one_channel : (i j : ℕ) (name : List ℕ) → IsNumberOf g name i → IsNumberOf g name j → i ≡ j
   one_channel i j name (here, is) (there, also) = shares.names_differ i j (slice_index_or g.channels i no_row) (slice_index_or g.channels j no_row) (slice_get-get_or g.channels i no_row here) (slice_get-get_or g.channels j no_row there) (is ∙ sym also)

@@ -1,9 +1,9 @@
 -- The latest of rows.
-use Rattle.std.proofs.Common.{◌≡◌, ℕ, zero, suc, ◌+◌, ◌-◌, ◌≤◌, ◌<◌, ◌⊎◌, max, List, [], ◌∷◌, ◌++◌, length, replicate, Option, Some, None, refl, sym, ap, subst, ◌∙◌, inl, inr, ⊎_elim, arith, length-append}
+use Rattle.std.proofs.Common.{◌≡◌, ℕ, zero, suc, ◌+◌, ◌-◌, ◌≤◌, ◌<◌, ◌⊎◌, max, List, [], ◌∷◌, ◌++◌, length, take, drop, set, replicate, Option, Some, None, refl, sym, ap, subst, ◌∙◌, inl, inr, ⊎_elim, arith, length-append}
 use Rattle.std.specs.Prelude.{slice_index_or}
 use Rattle.std.proofs.lemmas.Bool.{cases_lt}
 use Rattle.std.proofs.lemmas.List.{get_or_append_left, get_or-append_right, get_or-replicate, length-replicate}
-use Rattle.token_matrix.specs.inside.LaterRows.{later_row, Reaches, IsRaised}
+use Rattle.token_matrix.specs.inside.LaterRows.{later, later_row, Reaches, IsRaised}
 
 pub later_row-long : (a b : List (Option ℕ)) → length a ≡ length b → length (later_row a b) ≡ length a
 later_row-long [] b same = refl
@@ -37,7 +37,29 @@ later_row-one (Some o ∷ a) (Some y ∷ b) zero d at =
     ⊎_elim (λ (h : o < y). inr (let e : y ≡ d = omega arith in ap Some e)) (λ (h : y ≤ o). inl (let e : o ≡ d = omega arith in ap Some e)) (cases_lt o y)
 later_row-one (o ∷ a) (y ∷ b) (suc p) d at = later_row-one a b p d at
 
+-- ---- entry by entry
+
+more : (a b : List (Option ℕ)) (i : ℕ) (x : Option ℕ) → i < length a → length a ≡ length b → x ≡ later (slice_index_or a i None) (slice_index_or b i None)
+    → take (suc i) (set a i x) ++ later_row (drop (suc i) (set a i x)) (drop (suc i) b) ≡ take i a ++ later_row (drop i a) (drop i b)
+more [] b i x below same is = absurd (omega arith)
+more (y ∷ a) [] i x below same is = absurd (omega arith)
+more (y ∷ a) (z ∷ b) zero x below same is = ap (λ (o : Option ℕ). o ∷ later_row a b) is
+more (y ∷ a) (z ∷ b) (suc i) x below same is = ap (λ (r : List (Option ℕ)). y ∷ r) (more a b i x (omega arith) (omega arith) is)
+
+-- one place more is raised
+pub raised_more : (a b : List (Option ℕ)) (i : ℕ) (x : Option ℕ) → i < length a → length a ≡ length b → x ≡ later (slice_index_or a i None) (slice_index_or b i None)
+    → take (i + 1) (set a i x) ++ later_row (drop (i + 1) (set a i x)) (drop (i + 1) b) ≡ take i a ++ later_row (drop i a) (drop i b)
+raised_more a b i x below same is = subst (λ (n : ℕ). take n (set a i x) ++ later_row (drop n (set a i x)) (drop n b) ≡ take i a ++ later_row (drop i a) (drop i b)) (let e : suc i ≡ i + 1 = omega arith in e) (more a b i x below same is)
+
 -- ---- rows of a list
+
+pub raised_none : (a : List (Option ℕ)) → IsRaised [] a a
+raised_none a = record {
+  long = refl;
+  kept = λ p e at. (e, at, omega arith);
+  raised = λ k p e below at. absurd (omega arith);
+  just = λ p e at. inl at;
+}
 
 -- one row, however often
 pub raised_one : (n : ℕ) (row a : List (Option ℕ)) → 1 ≤ n → length a ≡ length row → IsRaised (replicate n row) a (later_row a row)
