@@ -67,16 +67,12 @@ fn traced_loop<F: Firing>(
     requires pair { IsPair (F.net net.now) pair }
     requires traced { IsTrace (F.net net.now) pair.later trace.now.moments.items trace.now.starts.items }
     requires few { starts_by (F.net net.now) pair.later ≤ MOST_STARTS }
-    ensures found { IfOk result (λ table. (states : ℕ) → events_by (F.net net.now) pair.later ≤ states → IsFound (F.net net.now) states table) }
+    ensures { IfOk result (λ table. (states : ℕ) → events_by (F.net net.now) pair.later ≤ states → IsFound (F.net net.now) states table) }
 {
     let entry = entry_of(net, trace, pair);
-    loop_table(
-        alloc,
-        net,
-        entry,
-        pair.later - pair.earlier,
-        trace.starts.as_slice(),
-    )
+    let period = pair.later - pair.earlier;
+    let table = loop_table(alloc, net, entry, period, trace.starts.as_slice())?;
+    Ok(table)
 }
 
 /// The loop by two executions side by side, so many time units apart, up to its first repeat.

@@ -143,7 +143,7 @@ fn search_allowed<F: Firing>(
 fn watch_from<F: Firing>(alloc: Global, engine: &Engine<F>) -> Result<Watch, NoMemory>
     requires running { engine.now.stage ≡ Running }
     requires event { IsEvent (F.net engine.now.net.now) engine.now.moment }
-    ensures watch { IfOk result (IsWatch (F.net engine.now.net.now) engine.now.moment) }
+    ensures { IfOk result (IsWatch (F.net engine.now.net.now) engine.now.moment) }
 {
     let round = starts_of_round(engine.net);
     let checkpoint = checkpoint_of(alloc, engine, round)?;

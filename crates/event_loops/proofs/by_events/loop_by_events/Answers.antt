@@ -22,7 +22,7 @@ pub returns-then-ends_at-clause-found : goal.returns-then-ends_at-clause-found
 returns-then-ends_at-clause-found g c =
     let allowed : IsAllowed (g.F.Firing.net c.args.wired.now.net.now) c.args.states c.in_ok-pair.pair.later c.find_pair.new.trace.moments.items c.find_pair.new.trace.starts.items =
     rw c.in_ok-lead.ensures.net at c.in_ok-pair.ensures.traced c.in_ok-pair.pair.later (c.if-ends_at.ensures.0 refl) in
-    c.in_ok-table.ensures.found c.args.states allowed.number
+    c.in_ok-table.ensures c.args.states allowed.number
 
 pub repeated_loop-requires-clause-period : goal.repeated_loop-requires-clause-period
 repeated_loop-requires-clause-period g c =

@@ -1,4 +1,4 @@
-use Rattle.std.proofs.Common.{◌≡◌, ◌+◌, ◌-◌, ◌≤◌, ◌∙◌, length, drop, arith}
+use Rattle.std.proofs.Common.{◌≡◌, ◌+◌, ◌-◌, ◌∙◌, length, drop, arith}
 use Rattle.std.proofs.lemmas.List.{take_at}
 use Rattle.sd_base.proofs.LoopRates.{table-rate}
 use Rattle.loops.specs.StartRows.{AreStarts}

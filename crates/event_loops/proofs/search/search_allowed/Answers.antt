@@ -34,3 +34,9 @@ search_after-requires-clause-allowed g c =
     (none-allowed (g.F.Firing.net c.args.engine.now.net.now) c.args.states c.args.trace.now.moments.items c.args.trace.now.starts.items c.requires.no_events)
     (rw c.go_on.ensures.net at c.in_ok-add.ensures.few) (rw c.go_on.ensures.net at c.in_ok-add.ensures.many) (inl goes.1)
     (omega (arith, ap (events_by (g.F.Firing.net c.args.engine.now.net.now)) goes.1, rank-first (g.F.Firing.net c.args.engine.now.net.now), c.requires.some)))
+
+pub returns-clause-traced : goal.returns-clause-traced
+returns-clause-traced g c = rw c.go_on.ensures.net at c.search_after.ensures.traced
+
+pub returns-clause-prints : goal.returns-clause-prints
+returns-clause-prints g c = rw c.go_on.ensures.net at c.search_after.ensures.prints
