@@ -1,7 +1,6 @@
 pub mod Going
 pub mod Collected
 pub mod Traced
-pub mod Marked
 pub mod Printed
 pub mod Searched
 pub mod Visiting

@@ -4,4 +4,3 @@ pub mod Collecting
 pub mod Entering
 pub mod Tracing
 pub mod Printing
-pub mod Marking

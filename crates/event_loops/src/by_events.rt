@@ -20,14 +20,12 @@ use sd_base::limits::STARTS;
 use selftimed::Engine;
 use std::alloc::Global;
 
-/// The loop of self-timed execution (Ghamarian et al. 2006), found without keeping its shapes: by marks at a few events (van
-/// Oorschot and Wiener 1999), and one shape for the rest (Brent 1980). At most `states` shapes are looked at, and at most `STARTS`
-/// firings started.
+/// The loop of self-timed execution (Ghamarian et al. 2006), found without keeping its shapes but one (Brent 1980). At most
+/// `states` shapes are looked at, and at most `STARTS` firings started.
 ///
-/// Cost: an execution up to the first mark on the loop that comes again, mostly a little longer than one up to the
-/// first repeat. Where the marks miss the loop, as they do if each print of its tokens comes several times a round, an execution to a
-/// shape that came before, at most three times as long as one up to the first repeat, and half as long again as this one where
-/// the loop is entered soon and is a round long. The entry is then found among the starts.
+/// Cost: an execution to a shape that came before. Where the loop is entered soon and is a round long, this is a quarter of a
+/// round longer than one up to the first repeat, and else it has at most some three times as many starts. The entry is then
+/// found among the starts.
 /// Where it has more than `STARTS` of them, two more side by side, up to the first repeat and up to the entry. Where a
 /// refusal comes, an execution up to the last shape that is allowed if the print of its tokens is a new one, and else up to
 /// twice its moment, of at most `STARTS` starts more.

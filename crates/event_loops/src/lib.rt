@@ -1,12 +1,10 @@
 //! The loop of self-timed execution, found by the shapes at its events.
 #![tactic(auto)]
 
-mod again;
 mod beginning;
 mod by_events;
 mod collect;
 mod entry;
-mod marks;
 mod prints;
 mod repeat;
 mod search;

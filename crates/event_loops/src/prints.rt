@@ -2,7 +2,7 @@
 //!
 //! A new print shows different shapes. The search for the loop leaves half of the print of each event's tokens in a list,
 //! 32 bits an event. If two shapes up to the last allowed one are equal, then this one is equal to one before it, as
-//! execution is determined. So where no mark and no checkpoint came again, and its print is none of those before, all
+//! execution is determined. So where no checkpoint came again, and its print is none of those before, all
 //! shapes differ, and the refusal needs no further execution. The last shape that is allowed becomes a checkpoint only
 //! where its print isn't new.
 ghost use Rattle.std.specs.Prelude.{◌≡◌, IsTrue};

@@ -1,14 +1,14 @@
-//! The search for two equal shapes, by one execution that marks some events, and keeps one shape (Brent 1980).
+//! The search for two equal shapes, by one execution that keeps one of its shapes (Brent 1980).
 //!
-//! The last shape that is allowed is a checkpoint too. The search for the loop keeps one shape and compares later ones with
-//! it. A shape that comes again within what is allowed may not be the one that is kept. So the last allowed one becomes the
-//! checkpoint, and the search goes on up to twice its moment: if a shape has come again up to there, this one stands on the
+//! The shape that is kept is the checkpoint, and later ones are compared with it. It moves when the starts are twice those up
+//! to it, as Brent has it, but not before it has stood for a time: a quarter of a round for the first one, a round for another
+//! one in the first round, and two rounds for each later one. No loop has fewer starts than a round, and most have just a
+//! round. So one that is entered soon is found after a round and a quarter, one that is entered within the first round after two
+//! and a quarter, and any other one after at most some three times the starts up to its first repeat.
+//!
+//! A shape that comes again within what is allowed may not be the one that is kept. So the last allowed one becomes a
+//! checkpoint too, and the search goes on up to twice its moment: if a shape has come again up to there, this one stands on the
 //! loop itself, whose period is no longer than its moment.
-//!
-//! For what the marks miss, as a loop whose prints come several times a round, the search keeps one shape. It moves it when
-//! the starts are twice those up to it, as Brent has it, but not before it has stood for a time: half a round for the first
-//! one, a round and a half for each other one, since no loop has fewer starts than a round. So a loop that is entered soon
-//! and is one round long is found in one and a half times the starts up to its first repeat.
 ghost use Rattle.std.specs.Prelude.{◌≡◌, ◌↔◌, ◌*◌, ◌≤◌, ◌<◌, [], IfErr, IfOk, IsTrue, OnOk, MatchOption, length, replicate};
 ghost use Rattle.sd_base.specs.declared.limits.TheConstants.{STARTS};
 ghost use Rattle.sd_base.specs.Schedules.{HasInputs};
@@ -19,9 +19,8 @@ ghost use Rattle.loops.specs.LoopAnswers.{IsRunRefusal};
 ghost use Rattle.loops.specs.declared.error.RunError.TheVariants.{StatesSpent, TooManyStarts};
 ghost use Rattle.event_loops.specs.inside.Printing.{ArePrints};
 ghost use Rattle.event_loops.specs.inside.Tracing.{AreAllowed, IsTrace};
-ghost use Rattle.event_loops.specs.inside.Searching.{IsPair, IsCheckpoint, IsWatch, IsLast, NoneSince, NoneSoon};
+ghost use Rattle.event_loops.specs.inside.Searching.{IsPair, IsCheckpoint, IsLast, NoneSince, NoneSoon};
 
-use crate::marks::Marks;
 use crate::prints::{is_new, upper_half};
 use crate::steps::go_on;
 use crate::trace::Trace;
@@ -48,20 +47,12 @@ pub(crate) struct Checkpoint {
     pub(crate) stays_to: u64,
 }
 
-/// What later shapes are compared with: those at the marks, and that of the checkpoint. A round has `round` starts.
-#[derive(Drop)]
-pub(crate) struct Watch {
-    pub(crate) checkpoint: Checkpoint,
-    pub(crate) marks: Marks,
-    pub(crate) round: u64,
-}
-
 /// Finds a shape and the first one after it that is equal, and leaves the events and starts on the way in a trace. Each later
-/// shape is looked for among those at the marks, and compared with that of a checkpoint, which finds what the marks miss. The
-/// first shape is the first checkpoint. A later one becomes the checkpoint when the starts up to it are more than twice those up
-/// to the one before, and that one has stood for some time (`end_of_stay`). Where none is found again, the last shape that is
-/// allowed tells: if a shape up to there came again, then this one came before. So a new print of its tokens shows that all
-/// shapes differ; else it becomes the checkpoint, which comes again if a shape up to there does.
+/// shape is compared with that of a checkpoint. The first shape is the first checkpoint. A later one becomes the checkpoint when
+/// the starts up to it are more than twice those up to the one before, and that one has stood for some time (`end_of_stay`).
+/// Where none is found again, the last shape that is allowed tells: if a shape up to there came again, then this one came
+/// before. So a new print of its tokens shows that all shapes differ; else it becomes the checkpoint, which comes again if a
+/// shape up to there does.
 pub(crate) fn find_pair<F: Firing>(
     alloc: Global,
     engine: &mut Engine<F>,
@@ -106,9 +97,8 @@ fn refusal_at(starts: u64) -> RunError
     }
 }
 
-/// Compares each of the first `states` shapes with those at the marks and the checkpoint, up to the first one with more than
-/// `STARTS` starts, and adds their events to a trace and the prints of all but the last one to others. None: no marked shape
-/// and no checkpoint was found again.
+/// Compares each of the first `states` shapes with that of the checkpoint, up to the first one with more than `STARTS` starts,
+/// and adds their events to a trace and the prints of all but the last one to others. None: no checkpoint was found again.
 fn search_allowed<F: Firing>(
     alloc: Global,
     engine: &mut Engine<F>,
@@ -135,25 +125,8 @@ fn search_allowed<F: Firing>(
         return Err(RunError::TooManyStarts);
     }
     trace.add(engine)?;
-    let mut watch = watch_from(alloc, engine)?;
-    search_after(alloc, engine, trace, prints, &mut watch, states)
-}
-
-/// What the shapes after one are compared with: with this one at first.
-fn watch_from<F: Firing>(alloc: Global, engine: &Engine<F>) -> Result<Watch, NoMemory>
-    requires running { engine.now.stage ≡ Running }
-    requires event { IsEvent (F.net engine.now.net.now) engine.now.moment }
-    ensures { IfOk result (IsWatch (F.net engine.now.net.now) engine.now.moment) }
-{
-    let round = starts_of_round(engine.net);
-    let checkpoint = checkpoint_of(alloc, engine, round)?;
-    let mut marks = Marks::new(alloc);
-    marks.mark(engine)?;
-    Ok(Watch {
-        checkpoint,
-        marks,
-        round,
-    })
+    let mut checkpoint = checkpoint_of(alloc, engine, starts_of_round(engine.net))?;
+    search_after(alloc, engine, trace, prints, &mut checkpoint, states)
 }
 
 /// Goes on with what `search_allowed` does from the first shape, at which the engine stands.
@@ -162,7 +135,7 @@ fn search_after<F: Firing>(
     engine: &mut Engine<F>,
     trace: &mut Trace,
     prints: &mut Vec<u32>,
-    watch: &mut Watch,
+    checkpoint: &mut Checkpoint,
     states: u64,
 ) -> Result<Option<Pair>, RunError>
     requires live { IsLive (F.net engine.old.net.now) }
@@ -171,7 +144,8 @@ fn search_after<F: Firing>(
     requires first { engine.old.moment ≡ 0 }
     requires most { engine.old.most ≡ 4 * STARTS }
     requires some { 1 ≤ states }
-    requires watch { IsWatch (F.net engine.old.net.now) engine.old.moment watch.old }
+    requires checkpoint { IsCheckpoint (F.net engine.old.net.now) checkpoint.old }
+    requires here { engine.old.moment ≡ checkpoint.old.moment }
     requires trace { starts_by (F.net engine.old.net.now) engine.old.moment ≤ STARTS →
         IsTrace (F.net engine.old.net.now) engine.old.moment trace.old.moments.items trace.old.starts.items }
     requires allowed { AreAllowed (F.net engine.old.net.now) states trace.old.moments.items trace.old.starts.items }
@@ -183,7 +157,7 @@ fn search_after<F: Firing>(
     ensures found { IfOk result (λ o. MatchOption o ((engine.new.stage ≡ Running) × IsLast (F.net engine.old.net.now) states engine.new.moment) (IsPair (F.net engine.old.net.now))) }
     ensures refused { IfErr result (IsRunRefusal (F.net engine.old.net.now) states) }
 {
-    let round = watch.round;
+    let round = starts_of_round(engine.net);
     for _event in 1..states {
         if engine.starts() > STARTS {
             return Ok(None);
@@ -193,16 +167,13 @@ fn search_after<F: Firing>(
             return Err(RunError::TooManyStarts);
         }
         trace.add(engine)?;
-        if stands_at(engine, &watch.checkpoint) {
+        if stands_at(engine, checkpoint) {
             return Ok(Some(Pair {
-                earlier: watch.checkpoint.moment,
+                earlier: checkpoint.moment,
                 later: engine.moment(),
             }));
         }
-        if let Some(pair) = watch.marks.meet(engine, trace, round)? {
-            return Ok(Some(pair));
-        }
-        renew(alloc, engine, &mut watch.checkpoint, round)?;
+        renew(alloc, engine, checkpoint, round)?;
     }
     Ok(None)
 }
@@ -247,15 +218,17 @@ fn put_checkpoint<F: Firing>(
     Ok(())
 }
 
-/// Up to how many starts a checkpoint stays, where a round has `round` of them: up to twice its own, and for one and a half
-/// rounds. A loop has the starts of a round or more, so a checkpoint that stays for fewer is of no use. The first one
-/// stays for half a round: a loop that is entered soon, and is a round long, comes again at the second one.
+/// Up to how many starts a checkpoint stays, where a round has `round` of them: up to twice its own, and for some time.
+/// A loop has the starts of a round or more, so a checkpoint that stays for fewer finds none, but the first one: it stays for a
+/// quarter of a round, to let a loop be entered that is then found by the second one, which stays for a round. Later ones
+/// stay for two, since a loop may have more rounds than one.
 fn end_of_stay(moment: u64, starts: u64, round: u64) -> u64 {
-    let half = round / 2;
     let stay = if moment == 0 {
-        half
+        round / 4
+    } else if starts <= round {
+        round
     } else {
-        round.saturating_add(half)
+        round.saturating_mul(2)
     };
     let twice = starts.saturating_mul(2).saturating_add(1);
     starts.saturating_add(stay).max(twice)

@@ -18,7 +18,7 @@ use std::alloc::Global;
 ///
 /// Cost by needs: for each start up to a little more than the first repeat, the channels into its actor; where that finds no
 /// loop, for each of some three rounds, and for some 4,000 starts at most where a round has up to 256. Cost by events: an
-/// execution mostly a little longer than one up to the first repeat, at most some three times as long, and where a refusal
+/// execution mostly a quarter longer than one up to the first repeat, at most some three times as long, and where a refusal
 /// comes twice as long as what is allowed at most; where more than `STARTS` firings start, two more beside each other.
 /// Memory: three shapes, and at most `STARTS` starts and as many events, with a print each.
 pub fn run_loop<F: Firing, L: Ledger>(

@@ -8,8 +8,6 @@ use Rattle.selftimed.specs.EngineShapes.{form}
 use Rattle.selftimed.specs.Prints.{print_of, running_print_of}
 use Rattle.loops.specs.declared.alike.Pair.{Pair}
 use Rattle.event_loops.specs.declared.search.Checkpoint.{Checkpoint}
-use Rattle.event_loops.specs.declared.search.Watch.{Watch}
-use Rattle.event_loops.specs.inside.Marking.{AreMarks}
 
 -- no event after one moment, up to and with another, has the shape of the first
 abbrev pub NoneSince : Net → ℕ → ℕ → Type 0
@@ -31,13 +29,6 @@ pub record IsCheckpoint (net : Net) (c : Checkpoint) : Type 0 where
   pub print : c.print ≡ print_of (shape_at net c.moment).tokens
   pub running_print : c.running_print ≡ running_print_of (shape_at net c.moment).remaining
   pub starts : c.starts ≡ starts_by net c.moment
-
--- a checkpoint whose shape hasn't come again by an event, and the marks up to and with it
-pub record IsWatch (net : Net) (now : ℕ) (w : Watch) : Type 0 where
-  pub checkpoint : IsCheckpoint net w.checkpoint
-  pub ahead : w.checkpoint.moment ≤ now
-  pub none : NoneSince net w.checkpoint.moment now
-  pub marks : AreMarks net (now + 1) w.marks
 
 -- up to the event before there are at most STARTS starts
 abbrev pub FewBefore : Net → ℕ → Type 0

@@ -3,7 +3,6 @@ use Rattle.sd_base.specs.SelfTimed.{IsEvent, events_by, starts_by}
 use Rattle.selftimed.specs.declared.engine.Stage.TheVariants.{Running}
 use Rattle.event_loops.specs.inside.Searching.{IsCheckpoint, NoneSince, FewBefore}
 use Rattle.sd_base.specs.declared.limits.TheConstants.{STARTS}
-use Rattle.event_loops.specs.inside.Marking.{AreMarks}
 use Rattle.event_loops.specs.inside.Printing.{ArePrints}
 use Rattle.event_loops.specs.inside.Tracing.{IsTrace, AreAllowed}
 use Rattle.event_loops.proofs.search.search_after.Given as goal
@@ -16,11 +15,10 @@ invariant-loop-event g l = record {
   event : IsEvent (g.F.Firing.net l.fn.engine.net.now) l.engine.moment;
   number : events_by (g.F.Firing.net l.fn.engine.net.now) l.engine.moment ≡ l._event;
   few : FewBefore (g.F.Firing.net l.fn.engine.net.now) l.engine.moment;
-  checkpoint : IsCheckpoint (g.F.Firing.net l.fn.engine.net.now) l.watch.checkpoint;
-  ahead : l.watch.checkpoint.moment ≤ l.engine.moment;
+  checkpoint : IsCheckpoint (g.F.Firing.net l.fn.engine.net.now) l.checkpoint;
+  ahead : l.checkpoint.moment ≤ l.engine.moment;
   trace : starts_by (g.F.Firing.net l.fn.engine.net.now) l.engine.moment ≤ STARTS → IsTrace (g.F.Firing.net l.fn.engine.net.now) l.engine.moment l.trace.moments.items l.trace.starts.items;
   allowed : AreAllowed (g.F.Firing.net l.fn.engine.net.now) l.states l.trace.moments.items l.trace.starts.items;
   prints : ArePrints (g.F.Firing.net l.fn.engine.net.now) l.engine.moment l.prints.items;
-  marks : AreMarks (g.F.Firing.net l.fn.engine.net.now) (l.engine.moment + 1) l.watch.marks;
-  none : NoneSince (g.F.Firing.net l.fn.engine.net.now) l.watch.checkpoint.moment l.engine.moment;
+  none : NoneSince (g.F.Firing.net l.fn.engine.net.now) l.checkpoint.moment l.engine.moment;
 }
