@@ -15,10 +15,11 @@ from programs import instructions, least_time, program
 
 
 class Graph:
-    """Actors with their times, and channels: (source, made, taken, target, tokens)."""
+    """Actors with their times, and channels: (source, made, taken, target, tokens). A cyclo-static one has words for those by
+    phase."""
 
-    def __init__(self, times):
-        self.times, self.channels = times, []
+    def __init__(self, times, kind="sdf"):
+        self.times, self.channels, self.kind = times, [], kind
 
     def channel(self, source, made, taken, target, tokens):
         self.channels.append((source, made, taken, target, tokens))
@@ -42,16 +43,26 @@ class Graph:
         times = "".join(
             f"<actorProperties actor='{name}'><processor type='p' default='true'><executionTime time='{time}'/></processor>"
             "</actorProperties>" for name, time in self.times.items())
-        return ("<sdf3 type='sdf'><applicationGraph><sdf>" + "".join(actors) + "".join(lines) + "</sdf><sdfProperties>" + times
-                + "</sdfProperties></applicationGraph></sdf3>")
+        kind = self.kind
+        return (f"<sdf3 type='{kind}'><applicationGraph><{kind}>" + "".join(actors) + "".join(lines)
+                + f"</{kind}><{kind}Properties>{times}</{kind}Properties></applicationGraph></sdf3>")
 
 
 def decoder(blocks, frames):
     """A decoder of that many blocks in a frame, with buffers of so many frames."""
-    graph = Graph({"vld": 26018, "iq": 559, "idct": 486, "mc": 10958})
-    graph.bounded("vld", blocks, 1, "iq", frames * blocks)
+    return decoder_by(Graph({"vld": 26018, "iq": 559, "idct": 486, "mc": 10958}), blocks, blocks, frames)
+
+
+def decoder_in_phases(blocks, frames):
+    """The same with two phases for what makes a frame and for what takes it, of half its blocks each."""
+    graph = Graph({"vld": "26018,26018", "iq": 559, "idct": 486, "mc": "10958,10958"}, "csdf")
+    return decoder_by(graph, f"{blocks // 2},{blocks // 2}", blocks, frames)
+
+
+def decoder_by(graph, made, blocks, frames):
+    graph.bounded("vld", made, 1, "iq", frames * blocks)
     graph.bounded("iq", 1, 1, "idct", 2)
-    graph.bounded("idct", 1, blocks, "mc", frames * blocks)
+    graph.bounded("idct", 1, made, "mc", frames * blocks)
     return graph
 
 
@@ -122,6 +133,8 @@ PRIMES = [2, 3, 5, 7, 11, 13, 17, 19, 23, 29, 31, 37, 41, 43, 47, 53]
 CASES = [
     ("decoder 594", decoder(594, 2), ["--no-overlap"]),
     ("decoder 2376", decoder(2376, 2), ["--no-overlap"]),
+    ("decoder 594, two phases", decoder_in_phases(594, 2), ["--no-overlap"]),
+    ("decoder 2376, two phases", decoder_in_phases(2376, 2), ["--no-overlap"]),
     ("converter", converter(), ["--no-overlap"]),
     ("ring of 128, 1 token", ring(128, 1), []),
     ("ring of 128, 60 tokens", ring(128, 60), []),
