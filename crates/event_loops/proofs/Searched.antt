@@ -7,13 +7,44 @@ use Rattle.sd_base.specs.SelfTimed.{IsEvent, events_by, shape_at, starts_by}
 use Rattle.sd_base.specs.Lawful.{Lawful}
 use Rattle.selftimed.specs.Moves.{IsNextEvent}
 use Rattle.loops.specs.LoopAnswers.{IsStatesSpent, IsTooManyStarts}
-use Rattle.event_loops.specs.inside.Searching.{NoneSince, FewBefore, IsLast, NoneSoon}
+use Rattle.event_loops.specs.declared.search.Checkpoint.{Checkpoint}
+use Rattle.event_loops.specs.inside.Searching.{NoneSince, IsPair, IsCheckpoint, IsKept, FewBefore, IsLast, NoneSoon}
 use Rattle.loops.proofs.Ranks.{rank-first, rank-orders, rank-after, starts-rise}
 use Rattle.loops.proofs.Recurring.{again-shape, again-event, again-back, again-starts}
 
 -- no event follows a moment up to itself
 pub none-yet : (net : Net) (now : ℕ) → NoneSince net now now
 none-yet net now = λ u event after upto same. omega arith
+
+-- a checkpoint at an event
+pub kept-here : (net : Net) (now : ℕ) (c : Checkpoint) → IsCheckpoint net c → c.moment ≡ now → IsKept net (now + 1) c
+kept-here net now c is here = record { is = is; before = omega (arith, here); none = λ u event after soon same. omega (arith, here) }
+
+-- up to the next event there are no others
+pub kept-on : (net : Net) (now t : ℕ) (c : Checkpoint) → IsNextEvent net now t → IsKept net (now + 1) c → IsKept net t c
+kept-on net now t c next kept = record {
+  is = kept.is;
+  before = omega (arith, kept.before, next.later);
+  none = λ u event after soon same. ⊎_elim
+      (λ (new : now < u). next.quiet u new soon event)
+      (λ (old : u ≤ now). kept.none u event after (omega arith) same)
+      (cases_lt now u);
+}
+
+-- an event of another shape
+pub kept-past : (net : Net) (t : ℕ) (c : Checkpoint) → shape_at net t ≢ shape_at net c.moment → IsKept net t c → IsKept net (t + 1) c
+kept-past net t c other kept = record {
+  is = kept.is;
+  before = omega (arith, kept.before);
+  none = λ u event after upto same. ⊎_elim
+      (λ (before : u < t). kept.none u event after before same)
+      (λ (last : t ≤ u). let e : u ≡ t = omega arith in other (rw e at same))
+      (cases_lt u t);
+}
+
+-- one of its shape
+pub kept-pair : (net : Net) (t : ℕ) (c : Checkpoint) → IsKept net t c → IsEvent net t → shape_at net t ≡ shape_at net c.moment → IsPair net (record { earlier = c.moment; later = t })
+kept-pair net t c kept event same = record { order = kept.before; start = kept.is.event; end = event; same = same; first = kept.none }
 
 module _ (net : Net) (laws : Lawful net) (fed : HasInputs net) where
   -- the next event has another shape, too

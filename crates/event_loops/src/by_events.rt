@@ -20,12 +20,13 @@ use sd_base::limits::STARTS;
 use selftimed::Engine;
 use std::alloc::Global;
 
-/// The loop of self-timed execution (Ghamarian et al. 2006), found without keeping its shapes but one (Brent 1980). At most
-/// `states` shapes are looked at, and at most `STARTS` firings started.
+/// The loop of self-timed execution (Ghamarian et al. 2006), found without keeping its shapes but two (Brent 1980). The first
+/// `states` shapes, of at most `STARTS` starts, decide whether there is one; the search for it may go on to four times as many
+/// starts.
 ///
 /// Cost: an execution to a shape that came before. Where the loop is entered soon and is a round long, this is a quarter of a
-/// round longer than one up to the first repeat, and else it has at most some three times as many starts. The entry is then
-/// found among the starts.
+/// round longer than one up to the first repeat, and else mostly it has no more than half as many starts again, and at most
+/// some two and a half times as many. The entry is then found among the starts.
 /// Where it has more than `STARTS` of them, two more side by side, up to the first repeat and up to the entry. Where a
 /// refusal comes, an execution up to the last shape that is allowed if the print of its tokens is a new one, and else up to
 /// twice its moment, of at most `STARTS` starts more.

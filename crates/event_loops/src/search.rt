@@ -1,15 +1,16 @@
-//! The search for two equal shapes, by one execution that keeps one of its shapes (Brent 1980).
+//! The search for two equal shapes, by one execution that keeps two of its shapes (Brent 1980).
 //!
-//! The shape that is kept is the checkpoint, and later ones are compared with it. It moves when the starts are twice those up
-//! to it, as Brent has it, but not before it has stood for a time: a quarter of a round for the first one, a round for another
-//! one in the first round, and two rounds for each later one. No loop has fewer starts than a round, and most have just a
-//! round. So one that is entered soon is found after a round and a quarter, one that is entered within the first round after two
-//! and a quarter, and any other one after at most some three times the starts up to its first repeat.
+//! The shapes that are kept are checkpoints, and later ones are compared with them. A new checkpoint takes the place of the older
+//! one when the starts are half as many again as those up to the newer one, but not before this one has stood for a time: a
+//! quarter of a round for the first one, and three quarters for each later one. No loop has fewer starts than a round, and most
+//! have just a round; a checkpoint is compared with until the next but one takes its place, so for a round and a half or more. So a
+//! loop that is entered soon is found after a round and a quarter, and one that is entered late after half as many starts
+//! again as up to its first repeat, or sooner.
 //!
-//! A shape that comes again within what is allowed may not be the one that is kept. So the last allowed one becomes a
+//! A shape that comes again within what is allowed may be none of those that are kept. So the last allowed one becomes a
 //! checkpoint too, and the search goes on up to twice its moment: if a shape has come again up to there, this one stands on the
 //! loop itself, whose period is no longer than its moment.
-ghost use Rattle.std.specs.Prelude.{◌≡◌, ◌↔◌, ◌*◌, ◌≤◌, ◌<◌, [], IfErr, IfOk, IsTrue, OnOk, MatchOption, length, replicate};
+ghost use Rattle.std.specs.Prelude.{◌≡◌, ◌↔◌, ◌*◌, ◌+◌, ◌≤◌, ◌<◌, [], IfErr, IfOk, IsTrue, OnOk, MatchOption, length, replicate};
 ghost use Rattle.sd_base.specs.declared.limits.TheConstants.{STARTS};
 ghost use Rattle.sd_base.specs.Schedules.{HasInputs};
 ghost use Rattle.sd_base.specs.SelfTimed.{IsEvent, shape_at, starts_by};
@@ -19,7 +20,7 @@ ghost use Rattle.loops.specs.LoopAnswers.{IsRunRefusal};
 ghost use Rattle.loops.specs.declared.error.RunError.TheVariants.{StatesSpent, TooManyStarts};
 ghost use Rattle.event_loops.specs.inside.Printing.{ArePrints};
 ghost use Rattle.event_loops.specs.inside.Tracing.{AreAllowed, IsTrace};
-ghost use Rattle.event_loops.specs.inside.Searching.{IsPair, IsCheckpoint, IsLast, NoneSince, NoneSoon};
+ghost use Rattle.event_loops.specs.inside.Searching.{IsPair, IsCheckpoint, IsWatch, IsLast, NoneSoon};
 
 use crate::prints::{is_new, upper_half};
 use crate::steps::go_on;
@@ -30,6 +31,7 @@ use sd_base::NoMemory;
 use sd_base::limits::STARTS;
 use selftimed::{Engine, Shape};
 use std::alloc::Global;
+use std::mem;
 
 /// How many starts the search makes at most. If a shape comes again within `STARTS` starts, the last
 /// checkpoint stands within twice as many, and comes again within as many more.
@@ -47,12 +49,18 @@ pub(crate) struct Checkpoint {
     pub(crate) stays_to: u64,
 }
 
+/// The two shapes that later ones are compared with, the newer one first.
+#[derive(Drop)]
+pub(crate) struct Watch {
+    pub(crate) last: Checkpoint,
+    pub(crate) before: Checkpoint,
+}
+
 /// Finds a shape and the first one after it that is equal, and leaves the events and starts on the way in a trace. Each later
-/// shape is compared with that of a checkpoint. The first shape is the first checkpoint. A later one becomes the checkpoint when
-/// the starts up to it are more than twice those up to the one before, and that one has stood for some time (`end_of_stay`).
-/// Where none is found again, the last shape that is allowed tells: if a shape up to there came again, then this one came
-/// before. So a new print of its tokens shows that all shapes differ; else it becomes the checkpoint, which comes again if a
-/// shape up to there does.
+/// shape is compared with those of the last two checkpoints. The first shape is the first checkpoint; a later one becomes one
+/// when the last one has stood for some time (`end_of_stay`). Where none is found again, the last shape that is allowed
+/// tells: if a shape up to there came again, then this one came before. So a new print of its tokens shows that all shapes
+/// differ; else it becomes a checkpoint, which comes again if a shape up to there does.
 pub(crate) fn find_pair<F: Firing>(
     alloc: Global,
     engine: &mut Engine<F>,
@@ -97,8 +105,9 @@ fn refusal_at(starts: u64) -> RunError
     }
 }
 
-/// Compares each of the first `states` shapes with that of the checkpoint, up to the first one with more than `STARTS` starts,
-/// and adds their events to a trace and the prints of all but the last one to others. None: no checkpoint was found again.
+/// Compares each of the first `states` shapes with those of the last two checkpoints, up to the first one with more than `STARTS`
+/// starts, and adds their events to a trace and the prints of all but the last one to others. None: no checkpoint was found
+/// again.
 fn search_allowed<F: Firing>(
     alloc: Global,
     engine: &mut Engine<F>,
@@ -125,8 +134,20 @@ fn search_allowed<F: Firing>(
         return Err(RunError::TooManyStarts);
     }
     trace.add(engine)?;
-    let mut checkpoint = checkpoint_of(alloc, engine, starts_of_round(engine.net))?;
-    search_after(alloc, engine, trace, prints, &mut checkpoint, states)
+    let mut watch = watch_from(alloc, engine)?;
+    search_after(alloc, engine, trace, prints, &mut watch, states)
+}
+
+/// What the shapes after one are compared with: with this one at first.
+fn watch_from<F: Firing>(alloc: Global, engine: &Engine<F>) -> Result<Watch, NoMemory>
+    requires running { engine.now.stage ≡ Running }
+    requires event { IsEvent (F.net engine.now.net.now) engine.now.moment }
+    ensures { IfOk result (IsWatch (F.net engine.now.net.now) (engine.now.moment + 1)) }
+{
+    let round = starts_of_round(engine.net);
+    let last = checkpoint_of(alloc, engine, round)?;
+    let before = checkpoint_of(alloc, engine, round)?;
+    Ok(Watch { last, before })
 }
 
 /// Goes on with what `search_allowed` does from the first shape, at which the engine stands.
@@ -135,7 +156,7 @@ fn search_after<F: Firing>(
     engine: &mut Engine<F>,
     trace: &mut Trace,
     prints: &mut Vec<u32>,
-    checkpoint: &mut Checkpoint,
+    watch: &mut Watch,
     states: u64,
 ) -> Result<Option<Pair>, RunError>
     requires live { IsLive (F.net engine.old.net.now) }
@@ -144,8 +165,7 @@ fn search_after<F: Firing>(
     requires first { engine.old.moment ≡ 0 }
     requires most { engine.old.most ≡ 4 * STARTS }
     requires some { 1 ≤ states }
-    requires checkpoint { IsCheckpoint (F.net engine.old.net.now) checkpoint.old }
-    requires here { engine.old.moment ≡ checkpoint.old.moment }
+    requires watch { IsWatch (F.net engine.old.net.now) (engine.old.moment + 1) watch.old }
     requires trace { starts_by (F.net engine.old.net.now) engine.old.moment ≤ STARTS →
         IsTrace (F.net engine.old.net.now) engine.old.moment trace.old.moments.items trace.old.starts.items }
     requires allowed { AreAllowed (F.net engine.old.net.now) states trace.old.moments.items trace.old.starts.items }
@@ -167,71 +187,88 @@ fn search_after<F: Firing>(
             return Err(RunError::TooManyStarts);
         }
         trace.add(engine)?;
-        if stands_at(engine, checkpoint) {
-            return Ok(Some(Pair {
-                earlier: checkpoint.moment,
-                later: engine.moment(),
-            }));
+        if let Some(pair) = pair_with(engine, watch) {
+            return Ok(Some(pair));
         }
-        renew(alloc, engine, checkpoint, round)?;
+        renew(alloc, engine, watch, round)?;
     }
     Ok(None)
 }
 
-/// Makes the shape at which an engine stands the checkpoint, if the one that stands has stayed long enough.
+/// The event at which an engine stands and that of a checkpoint, if their shapes are equal.
+#[inline(always)]
+fn pair_with<F: Firing>(engine: &Engine<F>, watch: &Watch) -> Option<Pair>
+    requires running { engine.now.stage ≡ Running }
+    requires event { IsEvent (F.net engine.now.net.now) engine.now.moment }
+    requires watch { IsWatch (F.net engine.now.net.now) engine.now.moment watch.now }
+    ensures { MatchOption result (IsWatch (F.net engine.now.net.now) (engine.now.moment + 1) watch.now) (IsPair (F.net engine.now.net.now)) }
+{
+    let later = engine.moment();
+    if stands_at(engine, &watch.last) {
+        return Some(Pair {
+            earlier: watch.last.moment,
+            later,
+        });
+    }
+    if stands_at(engine, &watch.before) {
+        return Some(Pair {
+            earlier: watch.before.moment,
+            later,
+        });
+    }
+    None
+}
+
+/// Makes the shape at which an engine stands a checkpoint, if the last one has stayed long enough.
 #[inline(always)]
 fn renew<F: Firing>(
     alloc: Global,
     engine: &Engine<F>,
-    checkpoint: &mut Checkpoint,
+    watch: &mut Watch,
     round: u64,
 ) -> Result<(), NoMemory>
     requires running { engine.now.stage ≡ Running }
     requires event { IsEvent (F.net engine.now.net.now) engine.now.moment }
-    requires checkpoint { IsCheckpoint (F.net engine.now.net.now) checkpoint.old }
-    requires ahead { checkpoint.old.moment ≤ engine.now.moment }
-    requires none { NoneSince (F.net engine.now.net.now) checkpoint.old.moment engine.now.moment }
-    ensures checkpoint { OnOk result (IsCheckpoint (F.net engine.now.net.now) checkpoint.new) }
-    ensures ahead { OnOk result (checkpoint.new.moment ≤ engine.now.moment) }
-    ensures none { OnOk result (NoneSince (F.net engine.now.net.now) checkpoint.new.moment engine.now.moment) }
+    requires watch { IsWatch (F.net engine.now.net.now) (engine.now.moment + 1) watch.old }
+    ensures { OnOk result (IsWatch (F.net engine.now.net.now) (engine.now.moment + 1) watch.new) }
 {
-    if engine.starts() > checkpoint.stays_to {
-        put_checkpoint(alloc, engine, checkpoint, round)?;
+    if engine.starts() > watch.last.stays_to {
+        put_checkpoint(alloc, engine, watch, round)?;
     }
     Ok(())
 }
 
-/// Makes the shape at which an engine stands the checkpoint.
+/// Makes the shape at which an engine stands the newer checkpoint, and the newer one the older one.
 #[inline(never)]
 fn put_checkpoint<F: Firing>(
     alloc: Global,
     engine: &Engine<F>,
-    checkpoint: &mut Checkpoint,
+    watch: &mut Watch,
     round: u64,
 ) -> Result<(), NoMemory>
     requires running { engine.now.stage ≡ Running }
     requires event { IsEvent (F.net engine.now.net.now) engine.now.moment }
-    ensures moment { OnOk result (checkpoint.new.moment ≡ engine.now.moment) }
-    ensures checkpoint { OnOk result (IsCheckpoint (F.net engine.now.net.now) checkpoint.new) }
+    requires watch { IsWatch (F.net engine.now.net.now) (engine.now.moment + 1) watch.old }
+    ensures { OnOk result (IsWatch (F.net engine.now.net.now) (engine.now.moment + 1) watch.new) }
 {
-    *checkpoint = checkpoint_of(alloc, engine, round)?;
+    let next = checkpoint_of(alloc, engine, round)?;
+    watch.before = mem::replace(&mut watch.last, next);
     Ok(())
 }
 
-/// Up to how many starts a checkpoint stays, where a round has `round` of them: up to twice its own, and for some time.
-/// A loop has the starts of a round or more, so a checkpoint that stays for fewer finds none, but the first one: it stays for a
-/// quarter of a round, to let a loop be entered that is then found by the second one, which stays for a round. Later ones
-/// stay for two, since a loop may have more rounds than one.
+/// Up to how many starts a checkpoint is the newer one, where a round has `round` of them: up to half as many again as its own,
+/// and for three quarters of a round. The first one is it for a quarter of a round: where a loop is entered by then, the second
+/// one stands on it.
 fn end_of_stay(moment: u64, starts: u64, round: u64) -> u64 {
+    let quarter = round / 4;
     let stay = if moment == 0 {
-        round / 4
-    } else if starts <= round {
-        round
+        quarter
     } else {
-        round.saturating_mul(2)
+        quarter.saturating_mul(3)
     };
-    let twice = starts.saturating_mul(2).saturating_add(1);
-    starts.saturating_add(stay).max(twice)
+    starts
+        .saturating_add(stay.max(starts / 2))
+        .saturating_add(1)
 }
 
 /// The shape at which an engine stands, where a round has `round` starts.

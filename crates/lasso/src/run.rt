@@ -13,13 +13,13 @@ use sd_base::{Ledger, Steps};
 use std::alloc::Global;
 
 /// The loop of self-timed execution (Ghamarian et al. 2006), found without keeping its shapes: by the needs of firings alone
-/// where each actor has one phase and these show it (`need_loops`), else by the shapes at its events (`event_loops`). At most
-/// `states` shapes are looked at, and at most `STARTS` firings started. `steps` counts the call.
+/// where each actor has one phase and these show it (`need_loops`), else by the shapes at its events (`event_loops`). The first
+/// `states` shapes, of at most `STARTS` starts, decide whether there is one. `steps` counts the call.
 ///
 /// Cost by needs: for each start up to a little more than the first repeat, the channels into its actor; where that finds no
 /// loop, for each of some three rounds, and for some 4,000 starts at most where a round has up to 256. Cost by events: an
-/// execution mostly a quarter longer than one up to the first repeat, at most some three times as long, and where a refusal
-/// comes twice as long as what is allowed at most; where more than `STARTS` firings start, two more beside each other.
+/// execution mostly a quarter longer than one up to the first repeat, at most some two and a half times as long, and where a
+/// refusal comes twice as long as what is allowed at most; where more than `STARTS` firings start, two more beside each other.
 /// Memory: three shapes, and at most `STARTS` starts and as many events, with a print each.
 pub fn run_loop<F: Firing, L: Ledger>(
     alloc: Global,

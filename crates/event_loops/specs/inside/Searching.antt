@@ -8,6 +8,7 @@ use Rattle.selftimed.specs.EngineShapes.{form}
 use Rattle.selftimed.specs.Prints.{print_of, running_print_of}
 use Rattle.loops.specs.declared.alike.Pair.{Pair}
 use Rattle.event_loops.specs.declared.search.Checkpoint.{Checkpoint}
+use Rattle.event_loops.specs.declared.search.Watch.{Watch}
 
 -- no event after one moment, up to and with another, has the shape of the first
 abbrev pub NoneSince : Net → ℕ → ℕ → Type 0
@@ -29,6 +30,15 @@ pub record IsCheckpoint (net : Net) (c : Checkpoint) : Type 0 where
   pub print : c.print ≡ print_of (shape_at net c.moment).tokens
   pub running_print : c.running_print ≡ running_print_of (shape_at net c.moment).remaining
   pub starts : c.starts ≡ starts_by net c.moment
+
+-- a checkpoint before an end, whose shape no later event before it has
+pub record IsKept (net : Net) (end : ℕ) (c : Checkpoint) : Type 0 where
+  pub is : IsCheckpoint net c
+  pub before : c.moment < end
+  pub none : (u : ℕ) → IsEvent net u → c.moment < u → u < end → shape_at net u ≢ shape_at net c.moment
+
+abbrev pub IsWatch : Net → ℕ → Watch → Type 0
+IsWatch net end w = IsKept net end w.last × IsKept net end w.before
 
 -- up to the event before there are at most STARTS starts
 abbrev pub FewBefore : Net → ℕ → Type 0

@@ -59,12 +59,12 @@ pub(crate) fn rate_of<F: Firing, L: Ledger>(
         wiring: &wiring,
     };
     test(alloc, &wired, graph)?;
-    let table = find_loop(alloc, &wired, wanted.states, steps)?;
+    let table = counted_loop(alloc, &wired, wanted.states, steps)?;
     shown(alloc, &wired, graph, distribution, wanted, &table)
 }
 
 // The loop of self-timed execution, or the refusal of one that passes a bound.
-fn find_loop<F: Firing, L: Ledger>(
+fn counted_loop<F: Firing, L: Ledger>(
     alloc: Global,
     wired: &Wired<F>,
     states: u64,

@@ -1,9 +1,8 @@
-use Rattle.std.proofs.Common.{◌∙◌, ◌≡◌, ◌≢◌, ◌+◌, refl, inl, ap, arith}
-use Rattle.std.proofs.lemmas.Bool.{false≢true}
-use Rattle.sd_base.specs.SelfTimed.{events_by, shape_at, starts_by}
+use Rattle.std.proofs.Common.{◌∙◌, ◌≡◌, ◌+◌, refl, inl, ap, arith}
+use Rattle.sd_base.specs.SelfTimed.{events_by, starts_by}
 use Rattle.selftimed.specs.Moves.{IsNextEvent}
 use Rattle.loops.proofs.Ranks.{rank-first, rank-after}
-use Rattle.event_loops.proofs.Searched.{none-yet, none-more, first-since, few-before, few-first, many-next}
+use Rattle.event_loops.proofs.Searched.{kept-on, few-before, few-first, many-next}
 use Rattle.selftimed.specs.declared.engine.Stage.TheVariants.{Running}
 use Rattle.event_loops.specs.inside.Tracing.{IsTraceBefore}
 use Rattle.event_loops.proofs.Traced.{allowed-next}
@@ -18,9 +17,7 @@ loop-event-init g c = record {
   event = inl c.requires.first;
   number = ap (events_by (g.F.Firing.net c.args.engine.now.net.now)) c.requires.first ∙ rank-first (g.F.Firing.net c.args.engine.now.net.now);
   few = few-first (g.F.Firing.net c.args.engine.now.net.now) (g.met.F.Firing.lawful c.args.engine.now.net.now) c.requires.inputs c.args.engine.now.moment c.requires.first;
-  checkpoint = c.requires.checkpoint;
-  ahead = omega (arith, c.requires.here);
-  none = rw c.requires.here (none-yet (g.F.Firing.net c.args.engine.now.net.now) c.args.checkpoint.now.moment);
+  watch = c.requires.watch;
   prints = first-prints (g.F.Firing.net c.args.engine.now.net.now) c.args.engine.now.moment c.args.prints.now.items c.requires.first;
   trace = c.requires.trace;
   allowed = c.requires.allowed;
@@ -46,20 +43,6 @@ returns-then-not-branch-clause-refused g c =
     let here : c.starts.result ≡ starts_by (g.F.Firing.net c.args.engine.now.net.now) c.loop-event.engine.moment = rw c.loop-event.invariant.net at c.starts.ensures in
     many-next (g.F.Firing.net c.args.engine.now.net.now) (g.met.F.Firing.lawful c.args.engine.now.net.now) c.requires.inputs c.args.states c.loop-event.engine.moment goes.0 goes.1 (omega (arith, c.loop-event.invariant.number, c.loop-event-test.true)) (omega (arith, here, c.if-starts-gt-STARTS.false)) (omega (arith, goes.2))
 
-pub returns-then-stands_at-clause-found : goal.returns-then-stands_at-clause-found
-returns-then-stands_at-clause-found g c =
-    let goes = rw c.loop-event.invariant.running at (rw c.loop-event.invariant.net at (rw c.if-not-branch.false at c.in_ok-go_on.ensures.goes)) in
-    let next : IsNextEvent (g.F.Firing.net c.args.engine.now.net.now) c.loop-event.engine.moment c.go_on.new.engine.moment = goes.1 in
-    let same : shape_at (g.F.Firing.net c.args.engine.now.net.now) c.go_on.new.engine.moment ≡ shape_at (g.F.Firing.net c.args.engine.now.net.now) c.loop-event.checkpoint.moment =
-    rw c.loop-event.invariant.net at (rw c.go_on.ensures.net at (c.if-stands_at.ensures.0 refl)) in
-    rw c.moment.ensures (record {
-      order = omega (arith, next.later, c.loop-event.invariant.ahead);
-      start = c.loop-event.invariant.checkpoint.event;
-      end = next.event;
-      same = same;
-      first = λ u event after before. first-since (g.F.Firing.net c.args.engine.now.net.now) (g.met.F.Firing.lawful c.args.engine.now.net.now) c.requires.inputs c.loop-event.checkpoint.moment c.loop-event.engine.moment c.go_on.new.engine.moment u c.loop-event.invariant.none next event after before;
-    })
-
 pub loop-event-preserved : goal.loop-event-preserved
 loop-event-preserved g c =
     let goes = rw c.loop-event.invariant.running at (rw c.loop-event.invariant.net at (rw c.if-not-branch.false at c.in_ok-go_on.ensures.goes)) in
@@ -72,9 +55,7 @@ loop-event-preserved g c =
       event = next.event;
       number = rank-after (g.F.Firing.net c.args.engine.now.net.now) (g.met.F.Firing.lawful c.args.engine.now.net.now) c.requires.inputs c.loop-event.engine.moment c.go_on.new.engine.moment next ∙ ap (λ n. n + 1) c.loop-event.invariant.number;
       few = few-before (g.F.Firing.net c.args.engine.now.net.now) (g.met.F.Firing.lawful c.args.engine.now.net.now) c.requires.inputs c.loop-event.engine.moment c.go_on.new.engine.moment (omega (arith, here, c.if-starts-gt-STARTS.false)) next;
-      checkpoint = rw (c.go_on.ensures.net, c.loop-event.invariant.net) at c.in_ok-renew.ensures.checkpoint;
-      ahead = c.in_ok-renew.ensures.ahead;
-      none = rw (c.go_on.ensures.net, c.loop-event.invariant.net) at c.in_ok-renew.ensures.none;
+      watch = rw (c.go_on.ensures.net, c.loop-event.invariant.net) at c.in_ok-renew.ensures;
       prints = rw c.in_ok-push.ensures.items (more-prints (g.F.Firing.net c.args.engine.now.net.now) c.loop-event.engine.moment c.go_on.new.engine.moment c.upper_half.result c.loop-event.prints.items
           (rw c.loop-event.invariant.net at c.upper_half.ensures) next c.loop-event.invariant.prints);
       trace = rw (c.go_on.ensures.net, c.loop-event.invariant.net) at c.in_ok-add.ensures.few;
@@ -83,24 +64,31 @@ loop-event-preserved g c =
           (omega (arith, rank-after (g.F.Firing.net c.args.engine.now.net.now) (g.met.F.Firing.lawful c.args.engine.now.net.now) c.requires.inputs c.loop-event.engine.moment c.go_on.new.engine.moment next, c.loop-event.invariant.number, c.loop-event-test.true));
     }
 
-pub returns-then-stands_at-clause-traced : goal.returns-then-stands_at-clause-traced
-returns-then-stands_at-clause-traced g c =
+pub returns-in-Some-clause-traced : goal.returns-in-Some-clause-traced
+returns-in-Some-clause-traced g c =
     let goes = rw c.loop-event.invariant.running at (rw c.loop-event.invariant.net at (rw c.if-not-branch.false at c.in_ok-go_on.ensures.goes)) in
     let next : IsNextEvent (g.F.Firing.net c.args.engine.now.net.now) c.loop-event.engine.moment c.go_on.new.engine.moment = goes.1 in
     allowed-next (g.F.Firing.net c.args.engine.now.net.now) c.args.states c.go_on.new.engine.moment c.loop-event.trace.moments.items c.add.new.self.moments.items c.loop-event.trace.starts.items c.add.new.self.starts.items
     c.loop-event.invariant.allowed (rw (c.go_on.ensures.net, c.loop-event.invariant.net) at c.in_ok-add.ensures.few) (rw (c.go_on.ensures.net, c.loop-event.invariant.net) at c.in_ok-add.ensures.many) next.event
     (omega (arith, rank-after (g.F.Firing.net c.args.engine.now.net.now) (g.met.F.Firing.lawful c.args.engine.now.net.now) c.requires.inputs c.loop-event.engine.moment c.go_on.new.engine.moment next, c.loop-event.invariant.number, c.loop-event-test.true))
 
-pub renew-requires-clause-none : goal.renew-requires-clause-none
-renew-requires-clause-none g c =
-    let goes = rw c.loop-event.invariant.running at (rw c.loop-event.invariant.net at (rw c.if-not-branch.false at c.in_ok-go_on.ensures.goes)) in
-    let next : IsNextEvent (g.F.Firing.net c.args.engine.now.net.now) c.loop-event.engine.moment c.go_on.new.engine.moment = goes.1 in
-    let other : shape_at (g.F.Firing.net c.args.engine.now.net.now) c.go_on.new.engine.moment ≢ shape_at (g.F.Firing.net c.args.engine.now.net.now) c.loop-event.checkpoint.moment =
-    λ same. false≢true (c.if-stands_at.ensures.1 (rw (c.go_on.ensures.net, c.loop-event.invariant.net) same)) in
-    rw (c.go_on.ensures.net, c.loop-event.invariant.net) (none-more (g.F.Firing.net c.args.engine.now.net.now) (g.met.F.Firing.lawful c.args.engine.now.net.now) c.requires.inputs c.loop-event.checkpoint.moment c.loop-event.engine.moment c.go_on.new.engine.moment c.loop-event.invariant.none next other)
-
 pub renew-requires-clause-event : goal.renew-requires-clause-event
 renew-requires-clause-event g c =
     let goes = rw c.loop-event.invariant.running at (rw c.loop-event.invariant.net at (rw c.if-not-branch.false at c.in_ok-go_on.ensures.goes)) in
     let next : IsNextEvent (g.F.Firing.net c.args.engine.now.net.now) c.loop-event.engine.moment c.go_on.new.engine.moment = goes.1 in
     rw (c.go_on.ensures.net, c.loop-event.invariant.net) next.event
+
+pub pair_with-requires-clause-event : goal.pair_with-requires-clause-event
+pair_with-requires-clause-event g c =
+    let goes = rw c.loop-event.invariant.running at (rw c.loop-event.invariant.net at (rw c.if-not-branch.false at c.in_ok-go_on.ensures.goes)) in
+    let next : IsNextEvent (g.F.Firing.net c.args.engine.now.net.now) c.loop-event.engine.moment c.go_on.new.engine.moment = goes.1 in
+    rw (c.go_on.ensures.net, c.loop-event.invariant.net) next.event
+
+pub pair_with-requires-clause-watch : goal.pair_with-requires-clause-watch
+pair_with-requires-clause-watch g c =
+    let goes = rw c.loop-event.invariant.running at (rw c.loop-event.invariant.net at (rw c.if-not-branch.false at c.in_ok-go_on.ensures.goes)) in
+    let next : IsNextEvent (g.F.Firing.net c.args.engine.now.net.now) c.loop-event.engine.moment c.go_on.new.engine.moment = goes.1 in
+    rw (c.go_on.ensures.net, c.loop-event.invariant.net) (
+      kept-on (g.F.Firing.net c.args.engine.now.net.now) c.loop-event.engine.moment c.go_on.new.engine.moment c.loop-event.watch.last next c.loop-event.invariant.watch.0,
+      kept-on (g.F.Firing.net c.args.engine.now.net.now) c.loop-event.engine.moment c.go_on.new.engine.moment c.loop-event.watch.before next c.loop-event.invariant.watch.1,
+    )

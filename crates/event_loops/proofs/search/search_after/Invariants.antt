@@ -1,7 +1,7 @@
 use Rattle.std.proofs.Common.{◌≡◌, ◌+◌, ◌≤◌}
 use Rattle.sd_base.specs.SelfTimed.{IsEvent, events_by, starts_by}
 use Rattle.selftimed.specs.declared.engine.Stage.TheVariants.{Running}
-use Rattle.event_loops.specs.inside.Searching.{IsCheckpoint, NoneSince, FewBefore}
+use Rattle.event_loops.specs.inside.Searching.{IsWatch, FewBefore}
 use Rattle.sd_base.specs.declared.limits.TheConstants.{STARTS}
 use Rattle.event_loops.specs.inside.Printing.{ArePrints}
 use Rattle.event_loops.specs.inside.Tracing.{IsTrace, AreAllowed}
@@ -15,10 +15,8 @@ invariant-loop-event g l = record {
   event : IsEvent (g.F.Firing.net l.fn.engine.net.now) l.engine.moment;
   number : events_by (g.F.Firing.net l.fn.engine.net.now) l.engine.moment ≡ l._event;
   few : FewBefore (g.F.Firing.net l.fn.engine.net.now) l.engine.moment;
-  checkpoint : IsCheckpoint (g.F.Firing.net l.fn.engine.net.now) l.checkpoint;
-  ahead : l.checkpoint.moment ≤ l.engine.moment;
+  watch : IsWatch (g.F.Firing.net l.fn.engine.net.now) (l.engine.moment + 1) l.watch;
   trace : starts_by (g.F.Firing.net l.fn.engine.net.now) l.engine.moment ≤ STARTS → IsTrace (g.F.Firing.net l.fn.engine.net.now) l.engine.moment l.trace.moments.items l.trace.starts.items;
   allowed : AreAllowed (g.F.Firing.net l.fn.engine.net.now) l.states l.trace.moments.items l.trace.starts.items;
   prints : ArePrints (g.F.Firing.net l.fn.engine.net.now) l.engine.moment l.prints.items;
-  none : NoneSince (g.F.Firing.net l.fn.engine.net.now) l.checkpoint.moment l.engine.moment;
 }

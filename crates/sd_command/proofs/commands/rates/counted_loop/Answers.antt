@@ -1,5 +1,5 @@
 use Rattle.sd_command.proofs.step_lemmas.Joins.{joined-connected, fed-inputs}
-use Rattle.sd_command.proofs.commands.rates.find_loop.Goals as goal
+use Rattle.sd_command.proofs.commands.rates.counted_loop.Goals as goal
 
 pub find_loop-requires-clause-connected : goal.find_loop-requires-clause-connected
 find_loop-requires-clause-connected g c = joined-connected _ c.know_laws.ensures c.requires.joined
