@@ -34,7 +34,9 @@ pub(crate) fn running_print(moment: u64, actors: &[ActorState]) -> u64
     let mut print = 0u64;
     for (actor, state) in actors.iter().enumerate() {
         let left = state.running.time_left(moment);
-        print = print.wrapping_add(weight_of(actor as u64).wrapping_mul(left));
+        if left != 0 {
+            print = print.wrapping_add(weight_of(actor as u64).wrapping_mul(left));
+        }
     }
     print
 }

@@ -76,19 +76,19 @@ fn times_of(alloc: Global, moment: u64, running: &Running) -> Result<Rows<u64>, 
     requires { (k : ℕ) → k < length running.now → moment ≤ slice_index running.now k }
     ensures { IfOk result (λ row. row ≡ map (λ end. end - moment) running.now) }
 {
-    let mut row = Rows::new(alloc);
     let Some(runs) = running.as_runs() else {
-        return Ok(row);
+        return Ok(Rows::new(alloc));
     };
+    let mut row = Vec::new(alloc);
     push_times(&mut row, runs.first.end - moment, runs.first.firings)?;
     push_left(&mut row, moment, runs.later)?;
-    Ok(row)
+    Ok(Rows::from_vec(row))
 }
 
 /// Adds the times from a moment to each end.
-fn push_left(row: &mut Rows<u64>, moment: u64, runs: &[Run]) -> Result<(), NoMemory>
+fn push_left(row: &mut Vec<u64>, moment: u64, runs: &[Run]) -> Result<(), NoMemory>
     requires { NoneEnded moment runs.now }
-    ensures { OnOk result (row.new ≡ row.old ++ map (λ end. end - moment) (ends_of runs.now)) }
+    ensures { OnOk result (row.new.items ≡ row.old.items ++ map (λ end. end - moment) (ends_of runs.now)) }
 {
     for run in runs {
         push_times(row, run.end - moment, run.firings)?;
@@ -97,12 +97,13 @@ fn push_left(row: &mut Rows<u64>, moment: u64, runs: &[Run]) -> Result<(), NoMem
 }
 
 /// Adds so many equal times.
-fn push_times(row: &mut Rows<u64>, time: u64, firings: u64) -> Result<(), NoMemory>
-    ensures { OnOk result (row.new ≡ row.old ++ replicate firings time) }
+fn push_times(row: &mut Vec<u64>, time: u64, firings: u64) -> Result<(), NoMemory>
+    ensures { OnOk result (row.new.items ≡ row.old.items ++ replicate firings time) }
 {
-    for _firing in 0..firings {
-        row.push(time)?;
-    }
+    let Some(len) = row.len().checked_add(firings as usize) else {
+        return Err(NoMemory);
+    };
+    row.resize(len, time)?;
     Ok(())
 }
 

@@ -1,9 +1,11 @@
-use Rattle.std.proofs.Common.{sym, refl, ◌∙◌}
+use Rattle.std.proofs.Common.{◌≡◌, ℕ, ◌+◌, ◌*◌, ◌%◌, ◌^◌, take, sym, refl, ◌∙◌, arith}
 use Rattle.std.proofs.lemmas.List.{get_or_default}
 use Rattle.selftimed.specs.inside.Actors.{idle}
-use Rattle.selftimed.specs.Prints.{weighed_from}
+use Rattle.selftimed.specs.EngineShapes.{remaining_now}
+use Rattle.selftimed.specs.Prints.{weight, weighed_from, running_print_of}
 use Rattle.selftimed.proofs.Shaping.{past-at}
 use Rattle.selftimed.proofs.RunningPrints.{running-more}
+use Rattle.selftimed.proofs.compare.running_print.Goals.{then-left-ne0, else-left-ne0}
 use Rattle.selftimed.proofs.compare.running_print.Goals as goal
 
 pub loop-actor-init : goal.loop-actor-init
@@ -16,5 +18,13 @@ time_left-left-requires c =
 
 pub loop-actor-preserved : goal.loop-actor-preserved
 loop-actor-preserved c =
-    running-more c.args.moment c.args.actors.now c.loop-actor.actor c.index-actors-actor.result c.loop-actor.print c.weight_of.result c.time_left-left.result _ c.loop-actor-test.true
-    (get_or_default c.args.actors.now c.loop-actor.actor idle c.index-actors-actor.result c.loop-actor-test.true ∙ sym c.index-actors-actor.is) c.loop-actor.invariant c.weight_of.ensures c.time_left-left.ensures refl
+    let read = get_or_default c.args.actors.now c.loop-actor.actor idle c.index-actors-actor.result c.loop-actor-test.true ∙ sym c.index-actors-actor.is in
+    let more : (w add : ℕ) → w ≡ weight c.loop-actor.actor → add ≡ (w * c.time_left-left.result) % 2 ^ 64 →
+        (c.loop-actor.print + add) % 2 ^ 64 ≡ running_print_of (remaining_now c.args.moment (take (c.loop-actor.actor + 1) c.args.actors.now)) = λ w add weighs added.
+        running-more c.args.moment c.args.actors.now c.loop-actor.actor c.index-actors-actor.result c.loop-actor.print w c.time_left-left.result add c.loop-actor-test.true read c.loop-actor.invariant weighs c.time_left-left.ensures added in
+    elim c.if-left-ne0.branch [
+      then-left-ne0 w ↦ rw w.print-is (more w.weight_of.result _ w.weight_of.ensures refl)
+    | else-left-ne0 w ↦
+        let none : 0 ≡ (weight c.loop-actor.actor * c.time_left-left.result) % 2 ^ 64 = rw w.if-left-ne0.false (omega arith) in
+        rw w.print-is (omega (arith, c.loop-actor.auto.print-fits) ∙ more (weight c.loop-actor.actor) 0 refl none)
+    ]

@@ -12,5 +12,5 @@ returns c =
     let runs = c.in-Some.runs in
     let times : List ℕ = replicate runs.first.firings (runs.first.end - c.args.moment) in
     let later : List ℕ = times_left c.args.moment runs.later.now in
-    c.in_ok-push_left.ensures ∙ (ap (λ (xs : List ℕ). xs ++ later) (c.in_ok-push_times.ensures ∙ ap (λ (xs : List ℕ). xs ++ times) c.new-row.ensures)
-    ∙ (sym (left-first c.args.moment runs.first runs.later.now) ∙ ap (map (λ e. e - c.args.moment)) c.in-Some.ensures.0))
+    c.from_vec.ensures ∙ (c.in_ok-push_left.ensures ∙ (ap (λ (xs : List ℕ). xs ++ later) (c.in_ok-push_times.ensures ∙ ap (λ (xs : List ℕ). xs ++ times) c.new-row.ensures.items)
+    ∙ (sym (left-first c.args.moment runs.first runs.later.now) ∙ ap (map (λ e. e - c.args.moment)) c.in-Some.ensures.0)))
