@@ -20,11 +20,11 @@ pub loop-actor-preserved : goal.loop-actor-preserved
 loop-actor-preserved c =
     let read = get_or_default c.args.actors.now c.loop-actor.actor idle c.index-actors-actor.result c.loop-actor-test.true ∙ sym c.index-actors-actor.is in
     let more : (w add : ℕ) → w ≡ weight c.loop-actor.actor → add ≡ (w * c.time_left-left.result) % 2 ^ 64 →
-        (c.loop-actor.print + add) % 2 ^ 64 ≡ running_print_of (remaining_now c.args.moment (take (c.loop-actor.actor + 1) c.args.actors.now)) = λ w add weighs added.
-        running-more c.args.moment c.args.actors.now c.loop-actor.actor c.index-actors-actor.result c.loop-actor.print w c.time_left-left.result add c.loop-actor-test.true read c.loop-actor.invariant weighs c.time_left-left.ensures added in
+    (c.loop-actor.print + add) % 2 ^ 64 ≡ running_print_of (remaining_now c.args.moment (take (c.loop-actor.actor + 1) c.args.actors.now)) = λ w add weighs added.
+    running-more c.args.moment c.args.actors.now c.loop-actor.actor c.index-actors-actor.result c.loop-actor.print w c.time_left-left.result add c.loop-actor-test.true read c.loop-actor.invariant weighs c.time_left-left.ensures added in
     elim c.if-left-ne0.branch [
-      then-left-ne0 w ↦ rw w.print-is (more w.weight_of.result _ w.weight_of.ensures refl)
-    | else-left-ne0 w ↦
-        let none : 0 ≡ (weight c.loop-actor.actor * c.time_left-left.result) % 2 ^ 64 = rw w.if-left-ne0.false (omega arith) in
-        rw w.print-is (omega (arith, c.loop-actor.auto.print-fits) ∙ more (weight c.loop-actor.actor) 0 refl none)
+      | then-left-ne0 w ↦ rw w.print-is (more w.weight_of.result _ w.weight_of.ensures refl)
+      | else-left-ne0 w ↦
+          let none : 0 ≡ (weight c.loop-actor.actor * c.time_left-left.result) % 2 ^ 64 = rw w.if-left-ne0.false (omega arith) in
+          rw w.print-is (omega (arith, c.loop-actor.auto.print-fits) ∙ more (weight c.loop-actor.actor) 0 refl none)
     ]
