@@ -15,6 +15,7 @@ ghost use Rattle.sd_base.specs.declared.limits.TheConstants.{STARTS};
 ghost use Rattle.sd_base.specs.Schedules.{HasInputs};
 ghost use Rattle.sd_base.specs.SelfTimed.{IsEvent, shape_at, starts_by};
 ghost use Rattle.sd_base.specs.Untimed.{IsLive};
+ghost use Rattle.selftimed.specs.Prints.{running_print_of};
 ghost use Rattle.selftimed.specs.declared.engine.Stage.TheVariants.{Fresh, Running};
 ghost use Rattle.loops.specs.LoopAnswers.{IsRunRefusal};
 ghost use Rattle.loops.specs.declared.error.RunError.TheVariants.{StatesSpent, TooManyStarts};
@@ -195,7 +196,8 @@ fn search_after<F: Firing>(
     Ok(None)
 }
 
-/// The event at which an engine stands and that of a checkpoint, if their shapes are equal.
+/// The event at which an engine stands and that of a checkpoint, if their shapes are equal. Cost: where no checkpoint has this
+/// shape, mostly constant if their tokens differ from its, and linear in the actors if the running firings do.
 #[inline(always)]
 fn pair_with<F: Firing>(engine: &Engine<F>, watch: &Watch) -> Option<Pair>
     requires running { engine.now.stage ≡ Running }
@@ -203,14 +205,30 @@ fn pair_with<F: Firing>(engine: &Engine<F>, watch: &Watch) -> Option<Pair>
     requires watch { IsWatch (F.net engine.now.net.now) engine.now.moment watch.now }
     ensures { MatchOption result (IsWatch (F.net engine.now.net.now) (engine.now.moment + 1) watch.now) (IsPair (F.net engine.now.net.now)) }
 {
+    let print = engine.print();
+    if print == watch.last.print || print == watch.before.print {
+        return pair_of_alike(engine, watch);
+    }
+    None
+}
+
+/// What `pair_with` finds where the tokens may be those of a checkpoint: told by the running firings first.
+#[inline(never)]
+fn pair_of_alike<F: Firing>(engine: &Engine<F>, watch: &Watch) -> Option<Pair>
+    requires running { engine.now.stage ≡ Running }
+    requires event { IsEvent (F.net engine.now.net.now) engine.now.moment }
+    requires watch { IsWatch (F.net engine.now.net.now) engine.now.moment watch.now }
+    ensures { MatchOption result (IsWatch (F.net engine.now.net.now) (engine.now.moment + 1) watch.now) (IsPair (F.net engine.now.net.now)) }
+{
     let later = engine.moment();
-    if stands_at(engine, &watch.last) {
+    let running_print = engine.running_print();
+    if has_shape(engine, running_print, &watch.last) {
         return Some(Pair {
             earlier: watch.last.moment,
             later,
         });
     }
-    if stands_at(engine, &watch.before) {
+    if has_shape(engine, running_print, &watch.before) {
         return Some(Pair {
             earlier: watch.before.moment,
             later,
@@ -303,17 +321,18 @@ fn stands_at<F: Firing>(engine: &Engine<F>, checkpoint: &Checkpoint) -> bool
     if engine.print() != checkpoint.print {
         return false;
     }
-    runs_alike(engine, checkpoint)
+    has_shape(engine, engine.running_print(), checkpoint)
 }
 
-/// Whether an engine stands at the shape of a checkpoint, told by its running firings first.
+/// Whether an engine, with this print of its running firings, stands at the shape of a checkpoint.
 #[inline(never)]
-fn runs_alike<F: Firing>(engine: &Engine<F>, checkpoint: &Checkpoint) -> bool
+fn has_shape<F: Firing>(engine: &Engine<F>, running_print: u64, checkpoint: &Checkpoint) -> bool
     requires running { engine.now.stage ≡ Running }
+    requires print { running_print ≡ running_print_of (shape_at (F.net engine.now.net.now) engine.now.moment).remaining }
     requires checkpoint { IsCheckpoint (F.net engine.now.net.now) checkpoint.now }
     ensures { IsTrue result ↔ (shape_at (F.net engine.now.net.now) engine.now.moment ≡ shape_at (F.net engine.now.net.now) checkpoint.now.moment) }
 {
-    if engine.running_print() != checkpoint.running_print {
+    if running_print != checkpoint.running_print {
         return false;
     }
     engine.same_shape(&checkpoint.shape)
