@@ -2,11 +2,13 @@
 //! seed. They are there for tests and benchmarks.
 #![tactic(auto)]
 
+mod checks;
 mod drawn;
 mod draws;
 mod table;
 mod worked;
 
+pub use checks::{is_fed, is_joined};
 pub use drawn::drawn_net;
 pub use table::{Line, TableError, channel, is_lawful, table_net};
 pub use worked::{

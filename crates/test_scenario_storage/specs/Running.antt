@@ -1,18 +1,13 @@
 -- Files whose scenarios run without bounds.
-use Rattle.std.specs.Prelude.{◌≡◌, ℕ, ◌*◌, ◌≤◌, ◌<◌, false, List, Some, length, slice_get, sum}
+use Rattle.std.specs.Prelude.{◌≡◌, ℕ, ◌*◌, ◌≤◌, false, List, Some, slice_get, sum}
 use Rattle.sd_base.specs.declared.limits.TheConstants.{STAMPS}
 use Rattle.sd_base.specs.declared.tables.GraphFile.{GraphFile}
 use Rattle.sd_base.specs.declared.tables.ScenarioFile.{ScenarioFile}
 use Rattle.sd_base.specs.declared.tables.ScenarioRow.{ScenarioRow}
 use Rattle.sd_base.specs.FileNet.{net_of}
-use Rattle.sd_base.specs.Net.{Net, channel_at}
 use Rattle.sd_base.specs.Schedules.{HasInputs}
 use Rattle.sd_base.specs.Untimed.{IsLive}
 use Rattle.balance.specs.Repetition.{IsRound}
-
--- a channel leads into the actor
-abbrev pub IsEntered : Net → ℕ → Type 0
-IsEntered net a = (i : ℕ) × (i < length net.channels) × ((channel_at net i).target ≡ a)
 
 -- the graph runs rounds so, with so many shared tokens
 pub record RunsRounds (tokens : ℕ) (g : GraphFile) (gamma : List ℕ) : Type 0 where

@@ -2,18 +2,17 @@ ghost use Rattle.std.specs.Prelude.{◌≡◌, ◌+◌, ◌≤◌, IfOk, IsTrue,
 ghost use Rattle.sd_base.specs.declared.limits.TheConstants.{NODES, ROUND, STORAGE};
 ghost use Rattle.sd_base.specs.declared.tables.Kind.TheVariants.{Sdf};
 ghost use Rattle.sd_base.specs.Scenarios.{FileKeepsRules};
-ghost use Rattle.sd_base.specs.Schedules.{HasInputs};
 ghost use Rattle.sd_base.specs.Tables.{IsTimed, KeepsRules};
 ghost use Rattle.balance.specs.Repetition.{IsRound};
 ghost use Rattle.scenario_reader.specs.ScenarioNames.{FileHasWritableNames};
 ghost use Rattle.bounded_scenarios.specs.Boundings.{CanBeBounded};
-ghost use Rattle.test_scenario_storage.specs.Running.{AllRun, IsEntered, Runs};
+ghost use Rattle.test_scenario_storage.specs.Running.{AllRun, Runs};
 
 use crate::outline::{Outline, text_of};
 use balance::{BalanceError, repetition};
 use bounded_scenarios::looped_tokens;
 use fanout::Gate;
-use firing::{Firing, SdfNet};
+use firing::SdfNet;
 use liveness::{Round, one_round};
 use scenario_reader::read_scenarios;
 use scenario_storage::{ScenarioLimits, ScenarioPoint, ScenarioStorageError, scenario_points};
@@ -22,6 +21,7 @@ use sd_base::{GraphFile, NoMemory, ScenarioFile};
 use std::alloc::Global;
 use std::process::Abort;
 use std::thread::Threads;
+use test_nets::is_fed;
 
 /// The points of a file whose scenarios run without bounds.
 pub(crate) fn points_of<R: Threads + Abort + Sync, G: Gate + Sync>(
@@ -133,27 +133,4 @@ fn firings_of(gamma: &[u64]) -> u64
     ensures { result ≡ sum gamma.now }
 {
     gamma.iter().sum()
-}
-
-/// Whether a channel leads into each actor.
-fn is_fed<F: Firing>(net: &F) -> bool
-    ensures { result ≡ true → HasInputs (F.net net.now) }
-{
-    for actor in 0..net.actors() {
-        if !is_entered(net, actor) {
-            return false;
-        }
-    }
-    true
-}
-
-fn is_entered<F: Firing>(net: &F, actor: u32) -> bool
-    ensures { result ≡ true → IsEntered (F.net net.now) actor }
-{
-    for channel in 0..net.channels() {
-        if net.target(channel) == actor {
-            return true;
-        }
-    }
-    false
 }

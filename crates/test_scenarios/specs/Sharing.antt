@@ -2,11 +2,6 @@
 use Rattle.std.specs.Prelude.{◌≡◌, ◌≢◌, ℕ, ◌≤◌, ◌<◌, List, Some, length, slice_get}
 use Rattle.sd_base.specs.declared.tables.ChannelRow.{ChannelRow}
 use Rattle.sd_base.specs.declared.tables.SharedRow.{SharedRow}
-use Rattle.sd_base.specs.Net.{Net, channel_at}
-
--- a channel leads into the actor
-abbrev pub IsEntered : Net → ℕ → Type 0
-IsEntered net a = (i : ℕ) × (i < length net.channels) × ((channel_at net i).target ≡ a)
 
 -- the channel has the name of the row and as many tokens, of which there are some
 pub record IsOf (row : SharedRow) (c : ChannelRow) : Type 0 where

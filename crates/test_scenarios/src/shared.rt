@@ -1,17 +1,15 @@
 ghost use Rattle.std.specs.Prelude.{◌≡◌, ◌≢◌, ◌≤◌, ◌<◌, ℕ, Some, true, length, slice_get};
 ghost use Rattle.sd_base.specs.declared.tables.ChannelRow.{ChannelRow as AChannel};
 ghost use Rattle.sd_base.specs.declared.tables.SharedRow.{SharedRow as ARow};
-ghost use Rattle.sd_base.specs.Net.{channel_at};
-ghost use Rattle.sd_base.specs.Schedules.{HasInputs};
 ghost use Rattle.sd_base.specs.Scenarios.{Shares};
-ghost use Rattle.test_scenarios.specs.Sharing.{BeginWith, IsEntered, IsOf};
+ghost use Rattle.test_scenarios.specs.Sharing.{BeginWith, IsOf};
 
 use balance::repetition;
-use firing::{Firing, SdfNet};
+use firing::SdfNet;
 use sd_base::{ChannelRow, GraphFile, Rows, SharedRow};
 use std::alloc::{AllocError, Global};
 use std::process::Abort;
-use test_nets::is_lawful;
+use test_nets::{is_fed, is_lawful};
 use token_matrix::{Entry, Matrix, MatrixError, matrix_of};
 
 /// The matrix of a graph whose first channels are the shared ones, in order.
@@ -31,29 +29,6 @@ pub(crate) fn matrix(
             matrix_of(alloc, graph, gamma.as_slice(), shared)
         }
     }
-}
-
-/// Whether a channel leads into each actor.
-fn is_fed<F: Firing>(net: &F) -> bool
-    ensures { result ≡ true → HasInputs (F.net net.now) }
-{
-    for actor in 0..net.actors() {
-        if !is_entered(net, actor) {
-            return false;
-        }
-    }
-    true
-}
-
-fn is_entered<F: Firing>(net: &F, actor: u32) -> bool
-    ensures { result ≡ true → IsEntered (F.net net.now) actor }
-{
-    for channel in 0..net.channels() {
-        if net.target(channel) == actor {
-            return true;
-        }
-    }
-    false
 }
 
 fn shares(graph: &GraphFile, shared: &[SharedRow]) -> bool

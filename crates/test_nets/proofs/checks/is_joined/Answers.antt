@@ -2,7 +2,7 @@ use Rattle.std.proofs.Common.{ℕ, List, [], ◌++◌, arith}
 use borrow.Author.Count.{below_more}
 use Rattle.sd_base.specs.Connection.{IsWalk, ends_of}
 use Rattle.sd_base.proofs.Connections.{walk-append}
-use Rattle.test_engine.proofs.checks.is_joined.Goals as goal
+use Rattle.test_nets.proofs.checks.is_joined.Goals as goal
 
 pub loop-actor-init : goal.loop-actor-init
 loop-actor-init g c = λ a below. ([], omega arith)

@@ -1,6 +1,6 @@
 use Rattle.std.proofs.Common.{◌<◌, [], ◌∷◌, length, arith}
-use Rattle.test_engine.proofs.ChannelWalks.{walk-along, walk-against}
-use Rattle.test_engine.proofs.checks.is_linked_back.Goals as goal
+use Rattle.test_nets.proofs.ChannelWalks.{walk-along, walk-against}
+use Rattle.test_nets.proofs.checks.is_linked_back.Goals as goal
 
 pub returns-then-target-actor : goal.returns-then-target-actor
 returns-then-target-actor g c there =

@@ -1,6 +1,6 @@
 use borrow.Author.Count.{below_more}
-use Rattle.test_scenario_storage.specs.Running.{IsEntered}
-use Rattle.test_scenario_storage.proofs.boundable.is_fed.Goals as goal
+use Rattle.test_nets.specs.Entered.{IsEntered}
+use Rattle.test_nets.proofs.checks.is_fed.Goals as goal
 
 pub loop-actor-preserved : goal.loop-actor-preserved
 loop-actor-preserved g c =

@@ -1,6 +1,0 @@
-use Rattle.std.proofs.Common.{ℕ, ◌<◌}
-use Rattle.test_scenario_storage.specs.Running.{IsEntered}
-use Rattle.test_scenario_storage.proofs.boundable.is_fed.Given as goal
-
-abbrev pub invariant-loop-actor : goal.invariant-loop-actor
-invariant-loop-actor g l = (a : ℕ) → a < l.actor → IsEntered (g.F.Firing.net l.net) a
