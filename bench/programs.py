@@ -46,8 +46,9 @@ def program(crate):
     return path
 
 
-def graph(times, channels):
-    """A graph of actors by their times, and channels: source, tokens put, tokens taken, target, tokens that are there."""
+def graph(times, channels, kind="sdf"):
+    """A graph of actors by their times, and channels: source, tokens put, tokens taken, target, tokens that are there. A
+    cyclo-static one has words for those by phase."""
     ports = {actor: [] for actor in times}
     lines = []
     for number, (source, put, taken, target, tokens) in enumerate(channels):
@@ -58,8 +59,8 @@ def graph(times, channels):
     actors = [f"<actor name='{actor}'>{''.join(held)}</actor>" for actor, held in ports.items()]
     properties = [f"<actorProperties actor='{actor}'><processor type='p' default='true'><executionTime time='{time}'/>"
                   "</processor></actorProperties>" for actor, time in times.items()]
-    return (f"<sdf3 type='sdf'><applicationGraph><sdf>{''.join(actors + lines)}</sdf><sdfProperties>{''.join(properties)}</sdfProperties>"
-            "</applicationGraph></sdf3>")
+    return (f"<sdf3 type='{kind}'><applicationGraph><{kind}>{''.join(actors + lines)}</{kind}>"
+            f"<{kind}Properties>{''.join(properties)}</{kind}Properties></applicationGraph></sdf3>")
 
 
 def least_time(words):
