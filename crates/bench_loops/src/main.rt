@@ -58,9 +58,9 @@ fn loop_in(alloc: Global, bytes: &[u8], request: &Request) -> Result<Option<Loop
     }
 }
 
-/// The loop of a net. None: no state may be searched, or the net isn't one that is.
+/// The loop of a net. None: no state may be searched, or self-timed execution of the net has no loop or may have none.
 fn search<F: Firing>(alloc: Global, net: &F, states: u64) -> Result<Option<LoopTable>> {
-    if states < LEAST_STATES || !is_joined(net) || !is_fed(net) {
+    if !is_joined(net) || !is_fed(net) {
         return Ok(None);
     }
     let wiring = Wiring::new(alloc, net)?;
@@ -69,7 +69,9 @@ fn search<F: Firing>(alloc: Global, net: &F, states: u64) -> Result<Option<LoopT
         wiring: &wiring,
     };
     match one_round(alloc, net)? {
-        Round::Live { .. } => Ok(Some(loop_by_events(alloc, &wired, states)?)),
-        Round::Blocked { .. } => Ok(None),
+        Round::Live { .. } if LEAST_STATES <= states => {
+            Ok(Some(loop_by_events(alloc, &wired, states)?))
+        }
+        Round::Live { .. } | Round::Blocked { .. } => Ok(None),
     }
 }
