@@ -104,6 +104,26 @@ const SENDING_POINTS: [Row<'static>; 2] = [
     },
 ];
 
+/// The points of actors of times 5 and 9 that send so.
+const SLOWER_POINTS: [Row<'static>; 2] = [
+    Row {
+        total: 1,
+        rate: (1, 14),
+        capacities: &[None, None, Some(1)],
+        shared: 3,
+        cycle: &[5],
+        time: 14,
+    },
+    Row {
+        total: 2,
+        rate: (1, 9),
+        capacities: &[None, None, Some(2)],
+        shared: 4,
+        cycle: &[5],
+        time: 9,
+    },
+];
+
 /// The outline of one scenario, round after round.
 pub(crate) fn alone<'a>(scenarios: &'a [Scenario<'a>]) -> Outline<'a> {
     Outline {
@@ -168,23 +188,7 @@ fn a_state_that_is_not_reached_does_not_count(rt: HostRuntime) -> Result<(), Fai
         scenarios: &scenarios,
         states: &[(0, &[0, 1]), (1, &[0, 1])],
     };
-    let first = Row {
-        total: 1,
-        rate: (1, 14),
-        capacities: &[None, None, Some(1)],
-        shared: 3,
-        cycle: &[5],
-        time: 14,
-    };
-    let second = Row {
-        total: 2,
-        rate: (1, 9),
-        capacities: &[None, None, Some(2)],
-        shared: 4,
-        cycle: &[5],
-        time: 9,
-    };
-    check(&rt, rt.alloc(), &joined, 3, &[first, second])
+    check(&rt, rt.alloc(), &joined, 3, &SLOWER_POINTS)
 }
 
 // In the second scenario s is a self-loop, so it has no capacity in either.
