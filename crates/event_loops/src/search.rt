@@ -267,7 +267,9 @@ fn put_checkpoint<F: Firing>(
     requires running { engine.now.stage ≡ Running }
     requires event { IsEvent (F.net engine.now.net.now) engine.now.moment }
     requires watch { IsWatch (F.net engine.now.net.now) (engine.now.moment + 1) watch.old }
-    ensures { OnOk result (IsWatch (F.net engine.now.net.now) (engine.now.moment + 1) watch.new) }
+    ensures watch { OnOk result (IsWatch (F.net engine.now.net.now) (engine.now.moment + 1) watch.new) }
+    ensures last { OnOk result (watch.new.last.moment ≡ engine.now.moment) }
+    ensures before { OnOk result (watch.new.before ≡ watch.old.last) }
 {
     let next = checkpoint_of(alloc, engine, round)?;
     watch.before = mem::replace(&mut watch.last, next);
