@@ -1,1 +1,2 @@
-pub mod ChannelWalks
+pub mod BackLinks
+pub mod Rates

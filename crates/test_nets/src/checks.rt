@@ -1,24 +1,24 @@
-ghost use Rattle.std.specs.Prelude.{◌≡◌, ◌<◌, ℕ, List, true};
+ghost use Rattle.std.specs.Prelude.{◌↔◌, ◌<◌, IsTrue, length};
 ghost use Rattle.sd_base.specs.Schedules.{HasInputs};
-ghost use Rattle.sd_base.specs.Connection.{IsConnected, IsWalk, ends_of};
-ghost use Rattle.test_nets.specs.Entered.{IsEntered};
+ghost use Rattle.sd_base.specs.Connection.{IsConnected};
+ghost use Rattle.test_nets.specs.Ends.{HasInput, LinksBack, IsLinkedBack, AreLinkedBack};
 
 use firing::Firing;
 
 /// Whether a channel leads into each actor. Cost: at most the actors times the channels.
 pub fn is_fed<F: Firing>(net: &F) -> bool
-    ensures { result ≡ true → HasInputs (F.net net.now) }
+    ensures { IsTrue result ↔ HasInputs (F.net net.now) }
 {
     for actor in 0..net.actors() {
-        if !is_entered(net, actor) {
+        if !has_input(net, actor) {
             return false;
         }
     }
     true
 }
 
-fn is_entered<F: Firing>(net: &F, actor: u32) -> bool
-    ensures { result ≡ true → IsEntered (F.net net.now) actor }
+fn has_input<F: Firing>(net: &F, actor: u32) -> bool
+    ensures { IsTrue result ↔ HasInput (F.net net.now) actor }
 {
     for channel in 0..net.channels() {
         if net.target(channel) == actor {
@@ -30,7 +30,8 @@ fn is_entered<F: Firing>(net: &F, actor: u32) -> bool
 
 /// Whether each actor but the first one shares a channel with one before it. Cost: at most the actors times the channels.
 pub fn is_joined<F: Firing>(net: &F) -> bool
-    ensures { result ≡ true → IsConnected (F.net net.now) }
+    ensures linked { IsTrue result ↔ AreLinkedBack (F.net net.now) }
+    ensures joined { IsTrue result → IsConnected (F.net net.now) }
 {
     for actor in 1..net.actors() {
         if !is_linked_back(net, actor) {
@@ -40,19 +41,23 @@ pub fn is_joined<F: Firing>(net: &F) -> bool
     true
 }
 
-/// Whether a channel leads to an actor from one before it, or back.
 fn is_linked_back<F: Firing>(net: &F, actor: u32) -> bool
-    ensures { result ≡ true → (a : ℕ) × (a < actor) × ((walk : List ℕ) × IsWalk (ends_of (F.net net.now)) a walk actor) }
+    ensures { IsTrue result ↔ IsLinkedBack (F.net net.now) actor }
 {
-    for i in 0..net.channels() {
-        let source = net.source(i);
-        let target = net.target(i);
-        if source < actor && target == actor {
-            return true;
-        }
-        if target < actor && source == actor {
+    for channel in 0..net.channels() {
+        if links_back(net, actor, channel) {
             return true;
         }
     }
     false
+}
+
+/// Whether a channel leads to an actor from one before it, or back.
+fn links_back<F: Firing>(net: &F, actor: u32, channel: u32) -> bool
+    requires { channel < length (F.net net.now).channels }
+    ensures { IsTrue result ↔ LinksBack (F.net net.now) actor channel }
+{
+    let source = net.source(channel);
+    let target = net.target(channel);
+    (source < actor && target == actor) || (target < actor && source == actor)
 }

@@ -1,4 +1,5 @@
-ghost use Rattle.std.specs.Prelude.{◌≡◌, true, length, map, All};
+ghost use Rattle.std.specs.Prelude.{◌≡◌, ◌↔◌, IsTrue, length, map, nat_lt, All};
+ghost use Rattle.std.specs.List.{list_any};
 ghost use Rattle.sd_base.specs.declared.tables.Kind.TheVariants.{Sdf};
 ghost use Rattle.sd_base.specs.Tables.{ActorKeepsRules, ChannelKeepsRules, KeepsRules, PortKeepsRules, IsTimed};
 
@@ -128,9 +129,7 @@ fn single(alloc: Global, number: u64) -> Result<Rows<u64>, NoMemory> {
 
 /// Whether a synchronous graph table keeps its rules and has its times.
 pub fn is_lawful(graph: &GraphFile) -> bool
-    ensures rules { result ≡ true → KeepsRules graph.now }
-    ensures kind { result ≡ true → graph.now.kind ≡ Sdf }
-    ensures timed { result ≡ true → IsTimed graph.now }
+    ensures { IsTrue result ↔ ((graph.now.kind ≡ Sdf) × KeepsRules graph.now × IsTimed graph.now) }
 {
     let actors = graph.actors.as_slice();
     let channels = graph.channels.as_slice();
@@ -141,25 +140,18 @@ pub fn is_lawful(graph: &GraphFile) -> bool
     {
         return false;
     }
-    are_timed(actors) && actors_keep(actors) && channels_keep(actors, channels)
+    actors_keep(actors) && channels_keep(actors, channels)
 }
 
-fn are_timed(actors: &[ActorRow]) -> bool
-    ensures { result ≡ true → All (λ a. length a.times ≡ a.phases) actors.now }
-{
-    actors
-        .iter()
-        .all(|actor| actor.times.len() == actor.phases as usize)
-}
-
+/// Whether each actor keeps its rules and has its times.
 fn actors_keep(actors: &[ActorRow]) -> bool
-    ensures { result ≡ true → All (ActorKeepsRules Sdf) actors.now }
+    ensures { IsTrue result ↔ All (λ a. ActorKeepsRules Sdf a × (length a.times ≡ a.phases)) actors.now }
 {
     actors.iter().all(|actor| actor_keeps(actor))
 }
 
 fn actor_keeps(actor: &ActorRow) -> bool
-    ensures { result ≡ true → ActorKeepsRules Sdf actor.now }
+    ensures { IsTrue result ↔ (ActorKeepsRules Sdf actor.now × (length actor.now.times ≡ actor.now.phases)) }
 {
     actor.phases == 1
         && actor.times.len() == 1
@@ -171,7 +163,7 @@ fn actor_keeps(actor: &ActorRow) -> bool
 }
 
 fn channels_keep(actors: &[ActorRow], channels: &[ChannelRow]) -> bool
-    ensures { result ≡ true → All (ChannelKeepsRules (map (λ a. a.phases) actors.now)) channels.now }
+    ensures { IsTrue result ↔ All (ChannelKeepsRules (map (λ a. a.phases) actors.now)) channels.now }
 {
     channels
         .iter()
@@ -179,7 +171,7 @@ fn channels_keep(actors: &[ActorRow], channels: &[ChannelRow]) -> bool
 }
 
 fn channel_keeps(actors: &[ActorRow], channel: &ChannelRow) -> bool
-    ensures { result ≡ true → ChannelKeepsRules (map (λ a. a.phases) actors.now) channel.now }
+    ensures { IsTrue result ↔ ChannelKeepsRules (map (λ a. a.phases) actors.now) channel.now }
 {
     let source = channel.source as usize;
     let target = channel.target as usize;
@@ -193,9 +185,14 @@ fn channel_keeps(actors: &[ActorRow], channel: &ChannelRow) -> bool
 }
 
 fn port_keeps(phases: u32, rates: &[u64]) -> bool
-    ensures { result ≡ true → PortKeepsRules phases rates.now }
+    ensures { IsTrue result ↔ PortKeepsRules phases rates.now }
 {
-    rates.len() == phases as usize
-        && rates.iter().all(|rate| *rate <= RATE)
-        && rates.iter().any(|rate| *rate >= 1)
+    rates.len() == phases as usize && rates.iter().all(|rate| *rate <= RATE) && moves(rates)
+}
+
+/// Whether a rate moves a token.
+fn moves(rates: &[u64]) -> bool
+    ensures { result ≡ list_any (λ r. nat_lt 0 r) rates.now }
+{
+    rates.iter().any(|rate| 0 < *rate)
 }

@@ -13,7 +13,7 @@ returns-in-Live c = λ yes.
       c.args.gamma.now,
       record {
         round = c.requires.round;
-        inputs = subst HasInputs c.in_ok-net.ensures (c.is_fed.ensures c.if-not-is_fed.false);
+        inputs = subst HasInputs c.in_ok-net.ensures (c.is_fed.ensures.0 c.if-not-is_fed.false);
         live = subst IsLive c.in_ok-net.ensures live;
         stamps = subst (λ (n : ℕ). n * c.args.tokens ≤ STAMPS) c.firings_of.ensures c.if-firings_of-tokens-gt-STAMPS.false;
       },
