@@ -19,6 +19,9 @@ use Rattle.sd_base.proofs.Sums.{total-zero}
 use Rattle.sd_base.proofs.Parts.{balanced}
 use Rattle.sd_base.proofs.Ends.{sum_to, sum_to-le}
 use Rattle.sd_base.proofs.FileNets.{net_of-lawful}
+use Rattle.liveness.specs.declared.round.Round.{Round}
+use Rattle.liveness.specs.declared.round.Round.TheVariants.{Live}
+use Rattle.liveness.specs.RoundAnswers.{IsRoundAnswer}
 use Rattle.token_matrix.specs.Stamps.{no_row, first_of, left_token}
 use Rattle.token_matrix.specs.Matrices.{IsSquare, IsMatrix}
 use Rattle.token_matrix.specs.inside.LaterRows.{IsUnit}
@@ -31,6 +34,11 @@ use Rattle.token_matrix.proofs.RowsSoFar.{rows_none, rows_all}
 use Rattle.token_matrix.proofs.OneRow.{row_initial}
 use Rattle.token_matrix.proofs.LeftRows.{is_left}
 use Rattle.token_matrix.proofs.EntryBounds.{is_matrix}
+
+-- what is answered of a live net, as an order of a net that it is
+pub answered-order : (m net : Net) (round : Round) (order given : List ℕ) → IsRoundAnswer m round → round ≡ Live order → m ≡ net → given ≡ order → IsRoundOrder net given
+answered-order m net round order given answer is same shown =
+    subst (λ (x : Net). IsRoundOrder x given) same (subst (IsRoundOrder m) (sym shown) (subst (IsRoundAnswer m) is answer))
 
 module _ (shared : List SharedRow) (g : GraphFile) (gamma : List ℕ) (rules : KeepsWideRules g) (kind : g.kind ≡ Sdf) (shares : Shares shared g) (timed : IsTimed g) (gives : IsRepetitionOf g gamma) (small : sum gamma ≤ ROUND)
     (order : List ℕ) (round : IsRoundOrder (net_of g gamma false) order) where

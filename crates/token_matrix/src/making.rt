@@ -6,7 +6,7 @@ ghost use Rattle.sd_base.specs.Tables.{KeepsWideRules, IsTimed};
 ghost use Rattle.sd_base.specs.Net.{IsRepetitionOf};
 ghost use Rattle.sd_base.specs.FileNet.{net_of};
 ghost use Rattle.sd_base.specs.Schedules.{HasInputs};
-ghost use Rattle.sd_base.specs.Untimed.{IsLive, IsRoundOrder};
+ghost use Rattle.sd_base.specs.Untimed.{IsLive};
 ghost use Rattle.sd_base.specs.Scenarios.{shared_count, Shares};
 ghost use Rattle.token_matrix.specs.Matrices.{IsMatrix};
 ghost use Rattle.token_matrix.specs.MatrixRefusals.{IsMatrixRefusal};
@@ -18,7 +18,7 @@ use crate::entries::{Entry, unit_row};
 use crate::line::Line;
 use crate::matrix::Matrix;
 use crate::round::run_round;
-use firing::{Firing, SdfNet};
+use firing::SdfNet;
 use liveness::{Round, one_round};
 use sd_base::limits::STAMPS;
 use sd_base::{GraphFile, NoMemory, Rows, SharedRow, Text};
@@ -74,51 +74,27 @@ pub fn matrix_of(
     ensures live { OnOk result (IsLive (net_of graph.now gamma.now false)) }
     ensures stopped { IfErr result (IsMatrixRefusal shared.now graph.now gamma.now) }
 {
-    match stamped_tokens(gamma, shared) {
-        None => Err(MatrixError::Limit),
-        Some(tokens) => {
-            let net = SdfNet::new(alloc, graph, gamma, false)?;
-            match one_round(alloc, &net)? {
-                Round::Blocked { counts, lacks } => Err(MatrixError::Blocked { counts, lacks }),
-                Round::Live { order } => {
-                    let order = order.as_slice();
-                    let matrix = matrix_by(alloc, graph, gamma, shared, tokens, &net, order)?;
-                    Ok(matrix)
-                },
+    let Some(tokens) = stamped_tokens(gamma, shared) else {
+        return Err(MatrixError::Limit);
+    };
+    let net = SdfNet::new(alloc, graph, gamma, false)?;
+    match one_round(alloc, &net)? {
+        Round::Blocked { counts, lacks } => Err(MatrixError::Blocked { counts, lacks }),
+        Round::Live { order } => {
+            let mut lines = first_lines(alloc, graph, shared, tokens as usize)?;
+            run_round(
+                alloc,
+                &net,
+                order.as_slice(),
+                tokens as usize,
+                lines.as_mut_slice(),
+            )?;
+            let rows = left_rows(alloc, graph, shared, lines.as_slice())?;
+            match Matrix::new(rows) {
+                Some(matrix) => Ok(matrix),
+                None => unreachable!(),
             }
         },
-    }
-}
-
-/// The matrix by a round in an order.
-fn matrix_by(
-    alloc: Global,
-    graph: &GraphFile,
-    gamma: &[u64],
-    shared: &[SharedRow],
-    tokens: u64,
-    net: &SdfNet,
-    order: &[u32],
-) -> Result<Matrix, NoMemory>
-    requires rules { KeepsWideRules graph.now }
-    requires kind { graph.now.kind ≡ Sdf }
-    requires timed { IsTimed graph.now }
-    requires gamma { IsRepetitionOf graph.now gamma.now }
-    requires small { sum gamma.now ≤ ROUND }
-    requires inputs { HasInputs (net_of graph.now gamma.now false) }
-    requires shares { Shares shared.now graph.now }
-    requires tokens { tokens ≡ shared_count shared.now }
-    requires few { tokens ≤ STAMPS }
-    requires net { ⟦<SdfNet as Firing>⟧.net net.now ≡ net_of graph.now gamma.now false }
-    requires order { IsRoundOrder (net_of graph.now gamma.now false) order.now }
-    ensures { IfOk result (IsMatrix shared.now graph.now gamma.now) }
-{
-    let mut lines = first_lines(alloc, graph, shared, tokens as usize)?;
-    run_round(alloc, net, order, tokens as usize, lines.as_mut_slice())?;
-    let rows = left_rows(alloc, graph, shared, lines.as_slice())?;
-    match Matrix::new(rows) {
-        Some(matrix) => Ok(matrix),
-        None => unreachable!(),
     }
 }
 
