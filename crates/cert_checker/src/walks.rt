@@ -3,7 +3,7 @@ ghost use Rattle.std.specs.Prelude.{◌≡◌, ◌↔◌, ℕ, ◌*◌, ◌<◌,
 ghost use Rattle.automaton.specs.SoundGraphs.{IsSound};
 ghost use Rattle.cert_checker.specs.inside.Marks.{AreReached};
 ghost use Rattle.cert_checker.specs.inside.Weights.{AreWeights};
-ghost use Rattle.cert_checker.specs.ListedNodes.{IsClosedWalk, IsNode, IsListedWalk, end_of, node_of, time_on};
+ghost use Rattle.cert_checker.specs.ListedNodes.{IsClosedWalk, IsNode, end_of, node_of, time_on};
 
 use crate::weights::Weights;
 use automaton::TimedGraph;
@@ -24,11 +24,8 @@ pub(crate) fn is_closed_walk(
     requires marks { AreReached graph.now marks.now }
     ensures { IfOk result (λ b. IsTrue b ↔ IsClosedWalk graph.now rate time nodes.now) }
 {
-    let [first, rest @ ..] = nodes else {
-        return Ok(false);
-    };
     let weights = Weights::of(alloc, graph.edges.as_slice())?;
-    Ok(is_walk(graph, &weights, marks, rate, time, *first, rest))
+    Ok(is_walk(graph, &weights, marks, rate, time, nodes))
 }
 
 fn is_walk(
@@ -37,22 +34,24 @@ fn is_walk(
     marks: &[bool],
     rate: (u64, u64),
     time: u64,
-    first: (u32, u32),
     nodes: &[(u32, u32)],
 ) -> bool
     requires sound { IsSound graph.now }
     requires weights { AreWeights graph.now.edges weights.now }
     requires marks { AreReached graph.now marks.now }
-    ensures { IsTrue result ↔ IsListedWalk graph.now rate time first nodes.now }
+    ensures { IsTrue result ↔ IsClosedWalk graph.now rate time nodes.now }
 {
-    if nodes.is_empty() || !is_node(graph, first) || !are_nodes(graph, nodes) {
+    let [first, rest @ ..] = nodes else {
+        return false;
+    };
+    if rest.is_empty() || !is_node(graph, *first) || !are_nodes(graph, rest) {
         return false;
     }
-    if end_of(first, nodes) != first || !marks[node_of(graph, first) as usize] {
+    if end_of(*first, rest) != *first || !marks[node_of(graph, *first) as usize] {
         return false;
     }
-    takes(graph, weights, time, first, nodes)
-        && nodes.len() as u128 * rate.1 as u128 == rate.0 as u128 * time as u128
+    takes(graph, weights, time, *first, rest)
+        && rest.len() as u128 * rate.1 as u128 == rate.0 as u128 * time as u128
 }
 
 pub(crate) fn is_node(graph: &TimedGraph, node: (u32, u32)) -> bool
