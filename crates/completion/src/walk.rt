@@ -9,7 +9,7 @@
 //! loop; what is told is the same.
 ghost use Rattle.std.specs.Prelude.{◌≡◌, ◌≢◌, ℕ, ◌^◌, ◌≤◌, ◌<◌, IfOk, MatchOption, length};
 ghost use Rattle.sd_base.specs.declared.limits.TheConstants.{ROUNDS};
-ghost use Rattle.sd_base.specs.Net.{channel_at};
+ghost use Rattle.sd_base.specs.Net.{Net, channel_at};
 ghost use Rattle.firing.specs.declared.sums.Port.TheVariants.{Taken};
 ghost use Rattle.firing.specs.Wiring.{IsListed};
 ghost use Rattle.completion.specs.Ways.{HasWay, InRounds, no_part, part_at};
@@ -127,7 +127,7 @@ impl Walk {
     {
         know_laws(net);
         if let Some(laps) = times.laps(self.here, self.kept) {
-            self.jump(net, times, laps);
+            self.jump(times, laps);
         } else if self.left > 1 {
             self.left -= 1;
         } else {
@@ -137,13 +137,12 @@ impl Walk {
     }
 
     /// Goes back so many laps more, each like that back from the kept firing.
-    fn jump<F: Firing>(&mut self, net: &F, times: &Timetable, laps: u64)
-        requires times { IsTimetable (F.net net.now) times.now }
-        requires walk { IsWalkBack (F.net net.now) times.now self.old }
+    fn jump(&mut self, times: &Timetable, laps: u64)
+        requires walk { (net : Net) × IsTimetable net times.now × IsWalkBack net times.now self.old }
         requires order { self.old.here.moment < self.old.kept.moment }
         requires fits { FitsTimes times.now self.old.here self.old.kept laps }
         ensures last { self.new.last ≡ self.old.last }
-        ensures walk { IsWalkBack (F.net net.now) times.now self.new }
+        ensures walk { (net : Net) → IsTimetable net times.now → IsWalkBack net times.now self.old → IsWalkBack net times.now self.new }
         ensures back { self.new.here.moment ≤ self.old.here.moment }
     {
         let apart = self.kept.number - self.here.number;

@@ -1,13 +1,11 @@
 ghost use Rattle.std.specs.Prelude.{◌≡◌, ◌≤◌, ◌++◌, All, IfOk, OnOk, length, map};
 ghost use Rattle.std.specs.String.{string_bytes};
-ghost use Rattle.report.specs.LinkTexts.{IsNamed};
 ghost use Rattle.report.specs.StorageTexts.{buffers_line, buffers_list, capacities_list, point_line, point_text, points_header, points_lines};
 
 use crate::answers::bytes_of;
 use crate::buffers::{Named, put_buffers};
 use crate::fractions::put_fraction;
 use crate::schedules::put_schedule;
-use firing::Firing;
 use pareto_front::Point;
 use periodic::Periodic;
 use sd_base::{Fraction, GraphFile, NoMemory, Rows};
@@ -18,17 +16,15 @@ use storage::Distribution;
 /// RATE` with its storage and its rate in lowest terms, a line `buffers LIST` with its distribution, and the lines of a
 /// schedule. Who makes the lines of points side by side puts `points_header` before those that `point_text` makes of
 /// each. Cost: linear in the channels of each point and the text.
-pub fn points_text<F: Firing>(
+pub fn points_text(
     alloc: Global,
-    net: &F,
     graph: &GraphFile,
     points: &[Point],
     schedules: &[Periodic],
 ) -> Result<Rows<u8>, NoMemory>
-    requires net { IsNamed graph.now (F.net net.now) }
     requires many { length schedules.now ≡ length points.now }
     requires channels { All (λ (p : Point). length p.capacities.capacities ≤ length graph.now.channels) points.now }
-    requires actors { All (λ (s : Periodic). length s.starts ≡ length (F.net net.now).times) schedules.now }
+    requires actors { All (λ (s : Periodic). length s.starts ≡ length graph.now.actors) schedules.now }
     ensures { IfOk result (λ t. t ≡ points_lines graph.now points.now schedules.now) }
 {
     let mut text = header(alloc, points.len())?;

@@ -1,11 +1,6 @@
-ghost use Rattle.std.specs.Prelude.{◌≡◌, ◌≤◌, [], ◌∷◌, IfOk, length};
-ghost use Rattle.sd_base.specs.declared.limits.TheConstants.{TIME};
-ghost use Rattle.sd_base.specs.declared.tables.Kind.TheVariants.{Sdf};
-ghost use Rattle.sd_base.specs.Tables.{ActorKeepsRules, ChannelKeepsRules, IsTimed, KeepsRules};
-ghost use Rattle.report.specs.LinkTexts.{IsNamed};
+ghost use Rattle.std.specs.Prelude.{◌≡◌, ◌≤◌, IfOk, length};
 
-use balance::{one_answer, repetition};
-use firing::{Firing, LoopTable, SdfNet};
+use firing::LoopTable;
 use pareto_front::Point;
 use periodic::Periodic;
 use report::{point_text, points_header, points_text};
@@ -14,21 +9,13 @@ use std::alloc::Global;
 use std::test::Fail;
 use storage::Distribution;
 
-fn single(alloc: Global, number: u64) -> Result<Rows<u64>, NoMemory>
-    ensures { IfOk result (λ rows. rows ≡ number ∷ []) }
-{
+fn single(alloc: Global, number: u64) -> Result<Rows<u64>, NoMemory> {
     let mut rows = Rows::new(alloc);
     rows.push(number)?;
     Ok(rows)
 }
 
-fn timed_actor(alloc: Global, name: &str, time: u64) -> Result<ActorRow, NoMemory>
-    requires some { 1 ≤ time }
-    requires short { time ≤ TIME }
-    ensures phases { IfOk result (λ a. a.phases ≡ 1) }
-    ensures timed { IfOk result (λ a. length a.times ≡ a.phases) }
-    ensures rules { IfOk result (ActorKeepsRules Sdf) }
-{
+fn timed_actor(alloc: Global, name: &str, time: u64) -> Result<ActorRow, NoMemory> {
     Ok(ActorRow {
         name: Text::of(alloc, name)?,
         phases: 1,
@@ -36,9 +23,7 @@ fn timed_actor(alloc: Global, name: &str, time: u64) -> Result<ActorRow, NoMemor
     })
 }
 
-fn channel(alloc: Global) -> Result<ChannelRow, NoMemory>
-    ensures { IfOk result (ChannelKeepsRules (1 ∷ 1 ∷ [])) }
-{
+fn channel(alloc: Global) -> Result<ChannelRow, NoMemory> {
     Ok(ChannelRow {
         name: Text::of(alloc, "my xy")?,
         source: 0,
@@ -52,9 +37,6 @@ fn channel(alloc: Global) -> Result<ChannelRow, NoMemory>
 
 /// Actor x of time 2, and actor y of time 3, which takes what x makes.
 fn pair(alloc: Global) -> Result<GraphFile, NoMemory>
-    ensures rules { IfOk result KeepsRules }
-    ensures timed { IfOk result IsTimed }
-    ensures kind { IfOk result (λ g. g.kind ≡ Sdf) }
     ensures actors { IfOk result (λ g. length g.actors ≡ 2) }
     ensures channels { IfOk result (λ g. length g.channels ≡ 1) }
 {
@@ -106,19 +88,6 @@ fn schedule(alloc: Global, period: u64, x: &[u128], y: &[u128]) -> Result<Period
     })
 }
 
-/// The net of the pair, whose firings don't overlap.
-fn net_of(alloc: Global, graph: &GraphFile) -> Result<SdfNet, Fail>
-    requires rules { KeepsRules graph.now }
-    requires timed { IsTimed graph.now }
-    requires kind { graph.now.kind ≡ Sdf }
-    ensures { IfOk result (λ n. IsNamed graph.now (⟦<SdfNet as Firing>⟧.net n)) }
-{
-    let gamma = repetition(alloc, graph)?;
-    let net = SdfNet::new(alloc, graph, gamma.as_slice(), true)?;
-    one_answer();
-    Ok(net)
-}
-
 /// The lines of the point of the pair with room for so many tokens, and of a schedule in which y starts at 2.
 fn lines_of(alloc: Global, room: u64, period: u64, x: &[u128]) -> Result<Rows<u8>, NoMemory>
     requires { 1 ≤ period }
@@ -148,13 +117,12 @@ y 2
 fn points_are_shown_one_after_the_other(rt: HostRuntime) -> Result<(), Fail> {
     let alloc = rt.alloc();
     let graph = pair(alloc)?;
-    let net = net_of(alloc, &graph)?;
     let points = [point(alloc, 1, 5)?, point(alloc, 2, 3)?];
     let schedules = [
         schedule(alloc, 5, &[0], &[2])?,
         schedule(alloc, 3, &[0], &[2])?,
     ];
-    let text = points_text(alloc, &net, &graph, &points, &schedules)?;
+    let text = points_text(alloc, &graph, &points, &schedules)?;
     assert_eq!(rt; text.as_slice(), TWO_POINTS.as_bytes());
     Ok(())
 }

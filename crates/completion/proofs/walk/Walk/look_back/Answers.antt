@@ -11,6 +11,12 @@ laps-requires-clause-order g c =
     let walk = c.args.self.now in
     numbers-order (g.F.Firing.net c.args.net.now) c.args.times.now c.requires.times walk.here walk.kept c.requires.walk.here c.requires.walk.kept c.requires.order
 
+pub jump-requires-clause-walk : goal.jump-requires-clause-walk
+jump-requires-clause-walk g c = (g.F.Firing.net c.args.net.now, c.requires.times, c.requires.walk)
+
+pub returns-in-Some-clause-walk : goal.returns-in-Some-clause-walk
+returns-in-Some-clause-walk g c = c.jump.ensures.walk (g.F.Firing.net c.args.net.now) c.requires.times c.requires.walk
+
 pub returns-else-self-gt1-clause-walk : goal.returns-else-self-gt1-clause-walk
 returns-else-self-gt1-clause-walk g c =
     let walk = c.args.self.now in
