@@ -1,6 +1,6 @@
 //! Laws of plain nets: what self-timed execution and untimed runs rest on, each on a function that does nothing.
 ghost use Rattle.std.specs.Prelude.{◌≡◌, ℕ, ◌+◌, ◌≤◌, ◌<◌, ◌⊎◌, ◌↔◌, Bool, List, length, sum, slice_index};
-ghost use Rattle.sd_base.specs.declared.limits.TheConstants.{ROUND};
+ghost use Rattle.sd_base.specs.declared.limits.TheConstants.{FILE_BYTES, CERTIFICATE_BYTES, DEPTH, NAME_BYTES, ACTORS, CHANNELS, PORTS, PHASES, RATE, TOKENS, SIZE, TIME, RATIO, ROUND, STARTS, SCENARIOS, AUTOMATON_STATES, NODES, STAMPS, EDGES, ORDER_PAIRS, CERTIFICATE_NUMBER, NET_CHANNELS, NET_TOKENS, START, LEAST_STATES, STATES, USUAL_STATES, LEAST_DISTRIBUTIONS, DISTRIBUTIONS, USUAL_DISTRIBUTIONS, LEAST_ROUNDS, ROUNDS, STORAGE, CAPACITY};
 ghost use Rattle.sd_base.specs.declared.tables.GraphFile.{GraphFile};
 ghost use Rattle.sd_base.specs.Tables.{KeepsWideRules, IsTimed};
 ghost use Rattle.sd_base.specs.FileNet.{net_of};
@@ -64,4 +64,43 @@ pub fn blocking_counts_bound_each_schedule()
 pub fn live_nets_never_stop()
     ensures { (net : Net) (n : ℕ → ℕ) → Lawful net → IsLive net →
         ¬ ((a : ℕ) → a < length net.times → Lacks net n a (n a)) }
+{}
+
+/// Each limit as a number, so that a digit that is wrong where the limit is written is wrong here too.
+pub fn limits_are_these_numbers()
+    ensures file_bytes { FILE_BYTES ≡ 4194304 }
+    ensures certificate_bytes { CERTIFICATE_BYTES ≡ 268435456 }
+    ensures depth { DEPTH ≡ 32 }
+    ensures name_bytes { NAME_BYTES ≡ 128 }
+    ensures actors { ACTORS ≡ 128 }
+    ensures channels { CHANNELS ≡ 256 }
+    ensures ports { PORTS ≡ 1024 }
+    ensures phases { PHASES ≡ 4096 }
+    ensures rate { RATE ≡ 1000000 }
+    ensures tokens { TOKENS ≡ 1000000 }
+    ensures size { SIZE ≡ 1000000 }
+    ensures time { TIME ≡ 1000000000 }
+    ensures ratio { RATIO ≡ 100000 }
+    ensures round { ROUND ≡ 100000 }
+    ensures starts { STARTS ≡ 4000000 }
+    ensures scenarios { SCENARIOS ≡ 64 }
+    ensures automaton_states { AUTOMATON_STATES ≡ 256 }
+    ensures nodes { NODES ≡ 1024 }
+    ensures stamps { STAMPS ≡ 4000000 }
+    ensures edges { EDGES ≡ 65536 }
+    ensures order_pairs { ORDER_PAIRS ≡ 128 }
+    ensures certificate_number { CERTIFICATE_NUMBER ≡ 18446744073709551615 }
+    ensures net_channels { NET_CHANNELS ≡ 768 }
+    ensures net_tokens { NET_TOKENS ≡ 2000000000 }
+    ensures start { START ≡ 1267650600228229401496703205376 }
+    ensures least_states { LEAST_STATES ≡ 1 }
+    ensures states { STATES ≡ 200000 }
+    ensures usual_states { USUAL_STATES ≡ 20000 }
+    ensures least_distributions { LEAST_DISTRIBUTIONS ≡ 1 }
+    ensures distributions { DISTRIBUTIONS ≡ 1000000 }
+    ensures usual_distributions { USUAL_DISTRIBUTIONS ≡ 10000 }
+    ensures least_rounds { LEAST_ROUNDS ≡ 1 }
+    ensures rounds { ROUNDS ≡ 1000000 }
+    ensures storage { STORAGE ≡ 1000000000 }
+    ensures capacity { CAPACITY ≡ 1000000 }
 {}

@@ -52,48 +52,70 @@ pub enum Quantity {
     CertificateNumber,
 }
 
+/// The greatest graph file, in bytes.
 pub const FILE_BYTES: u64 = 4_194_304;
 
+/// The greatest certificate, in bytes.
 pub const CERTIFICATE_BYTES: u64 = 268_435_456;
 
+/// The most elements of a text that may be open at one place.
 pub const DEPTH: u64 = 32;
 
+/// The longest name, in bytes of UTF-8.
 pub const NAME_BYTES: u64 = 128;
 
+/// The most actors of a graph.
 pub const ACTORS: u64 = 128;
 
+/// The most channels of a graph.
 pub const CHANNELS: u64 = 256;
 
+/// The most ports of a graph, over all its actors.
 pub const PORTS: u64 = 1_024;
 
+/// The most phases of an actor.
 pub const PHASES: u64 = 4_096;
 
+/// The most tokens that one firing makes or takes on a channel.
 pub const RATE: u64 = 1_000_000;
 
+/// The most initial tokens of a channel.
 pub const TOKENS: u64 = 1_000_000;
 
+/// The greatest memory that one token needs.
 pub const SIZE: u64 = 1_000_000;
 
+/// The longest firing, in time units.
 pub const TIME: u64 = 1_000_000_000;
 
+/// The greatest part of the ratio of a walk, in lowest terms.
 pub const RATIO: u64 = 100_000;
 
+/// The most firings of a round, over all actors.
 pub const ROUND: u64 = 100_000;
 
+/// The most starts of one execution, up to and with the first shape that comes again.
 pub const STARTS: u64 = 4_000_000;
 
+/// The most scenarios of a file.
 pub const SCENARIOS: u64 = 64;
 
+/// The most states of an automaton.
 pub const AUTOMATON_STATES: u64 = 256;
 
+/// The most nodes of a timed graph: automaton states times shared tokens.
 pub const NODES: u64 = 1_024;
 
+/// The most stamps of a scenario: firings of its round times shared tokens.
 pub const STAMPS: u64 = 4_000_000;
 
+/// The most edges of a timed graph.
 pub const EDGES: u64 = 65_536;
 
+/// The most pairs of actors that follow each other in orders.
 pub const ORDER_PAIRS: u64 = 128;
 
+/// The greatest number of a certificate.
 pub const CERTIFICATE_NUMBER: u64 = u64::MAX;
 
 /// Channels of a net: those of a graph with the spaces, own channels and order channels that are added to them.
@@ -105,24 +127,28 @@ pub const NET_TOKENS: u64 = 2_000_000_000;
 /// The start of a firing in a schedule that is handed in, in time units.
 pub const START: u128 = 1_267_650_600_228_229_401_496_703_205_376;
 
-/// The least and the greatest number of shapes that an execution may see before one comes again, and how many
-/// it may see where nothing is said.
+/// The least number of shapes that an execution may be given to see before one comes again.
 pub const LEAST_STATES: u64 = 1;
 
+/// The greatest number of shapes that an execution may be given to see before one comes again.
 pub const STATES: u64 = 200_000;
 
+/// How many shapes an execution may see where nothing is said.
 pub const USUAL_STATES: u64 = 20_000;
 
-/// The same of the storage distributions that an exploration may find.
+/// The least number of storage distributions that an exploration may be given to find.
 pub const LEAST_DISTRIBUTIONS: u64 = 1;
 
+/// The greatest number of storage distributions that an exploration may be given to find.
 pub const DISTRIBUTIONS: u64 = 1_000_000;
 
+/// How many storage distributions an exploration may find where nothing is said.
 pub const USUAL_DISTRIBUTIONS: u64 = 10_000;
 
-/// The least and the greatest number of rounds that are to be completed.
+/// The least number of rounds that are to be completed.
 pub const LEAST_ROUNDS: u64 = 1;
 
+/// The greatest number of rounds that are to be completed.
 pub const ROUNDS: u64 = 1_000_000;
 
 /// The memory of all channels together up to which storage distributions are explored.

@@ -1,7 +1,7 @@
-ghost use Rattle.std.specs.Prelude.{◌≡◌, ◌↔◌, ◌<◌, ◌^◌, false, IsOk, IsTrue, MatchResult, None};
+ghost use Rattle.std.specs.Prelude.{◌≡◌, ◌↔◌, ◌<◌, ◌≤◌, ◌^◌, false, length, IfOk, IsOk, IsTrue, MatchResult, None, OnOk};
 ghost use Rattle.std.specs.IoError.{error_kind};
 ghost use Rattle.sd_io.specs.Outside.{Rose};
-ghost use Rattle.sd_io.specs.RealAnswers.{AnswersRead, IsPutErrorOf};
+ghost use Rattle.sd_io.specs.RealAnswers.{AnswersRead, AnswersTake, IsCountedTake, IsPutErrorOf, IsWrittenTo};
 
 use crate::streams::{read_opened, write_whole};
 use crate::{PutError, Shelf, TakeError};
@@ -9,7 +9,7 @@ use sd_base::Rows;
 use std::alloc::Global;
 use std::fs::File;
 use std::io;
-use std::io::{ErrorKind, Write};
+use std::io::{ErrorKind, Read, Write};
 
 /// The files of the system. It tells nothing of them, and counts each error, a missing file among them.
 #[derive(Drop)]
@@ -50,18 +50,35 @@ impl<'a> RealShelf<'a> {
         }
     }
 
-    /// Writes all bytes to a file, if it was created. Each error is counted, but want of memory where there is no file yet.
-    fn write_created<W: Write + Drop>(
+    /// The bytes of a file, if it was opened and has at most `limit`.
+    fn take_opened<R: Read + Drop>(
         &mut self,
-        created: io::Result<W>,
+        alloc: Global,
+        opened: io::Result<R>,
+        limit: usize,
+    ) -> Result<Rows<u8>, TakeError>
+        ensures takes { IfOk opened (λ reader. AnswersTake (R.remaining reader) limit result) }
+        ensures short { IfOk result (λ bytes. length bytes ≤ limit) }
+        ensures counts { IsCountedTake self.old.faults self.new.faults result }
+    {
+        // No list has `usize::MAX` bytes, so a file of that many can't be taken anyway.
+        let read = read_opened(alloc, opened, limit.min(usize::MAX - 1));
+        self.answer(read)
+    }
+
+    /// Writes all bytes to a file, if it was created. Each error is counted, but want of memory where there is no file yet.
+    fn write_created<W: Write>(
+        &mut self,
+        created: &mut io::Result<W>,
         bytes: &[u8],
     ) -> Result<(), PutError>
-        ensures { MatchResult result (λ _. IsOk created × (self.new.faults ≡ self.old.faults))
-            (IsPutErrorOf created self.old.faults self.new.faults) }
+        ensures answers { MatchResult result (λ _. IsOk created.old × (self.new.faults ≡ self.old.faults))
+            (IsPutErrorOf created.old self.old.faults self.new.faults) }
+        ensures writes { OnOk result (IsWrittenTo W.contents created.old created.new bytes.now) }
     {
         match created {
-            Ok(mut file) => {
-                if write_whole(&mut file, bytes).is_err() {
+            Ok(file) => {
+                if write_whole(file, bytes).is_err() {
                     // The file isn't as before, whatever the cause.
                     self.count();
                     return Err(PutError::Failed);
@@ -69,7 +86,7 @@ impl<'a> RealShelf<'a> {
                 Ok(())
             }
             Err(error) => {
-                if is_lack(&error) {
+                if is_lack(error) {
                     return Err(PutError::NoMemory);
                 }
                 self.count();
@@ -87,14 +104,13 @@ impl Shelf for RealShelf<'_> {
     ghost faults = { λ s. s.faults };
 
     fn take(&mut self, alloc: Global, name: &str, limit: usize) -> Result<Rows<u8>, TakeError> {
-        // No list has `usize::MAX` bytes, so a file of that many can't be taken anyway.
-        let read = read_opened(alloc, File::open(self.rt, name), limit.min(usize::MAX - 1));
-        self.answer(read)
+        let opened = File::open(self.rt, name);
+        self.take_opened(alloc, opened, limit)
     }
 
     fn put(&mut self, _alloc: Global, name: &str, bytes: &[u8]) -> Result<(), PutError> {
-        let created = File::create(self.rt, name);
-        self.write_created(created, bytes)
+        let mut created = File::create(self.rt, name);
+        self.write_created(&mut created, bytes)
     }
 
     ghost counted = { λ s. s.counted };

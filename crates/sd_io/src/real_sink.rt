@@ -1,9 +1,11 @@
-ghost use Rattle.std.specs.Prelude.{◌≡◌, ◌<◌, ◌^◌, None};
+ghost use Rattle.std.specs.Prelude.{◌≡◌, ◌<◌, ◌≤◌, ◌^◌, length, take, IfOk, MatchResult, None};
+ghost use Rattle.std.specs.Io.KnownBytes.{Appends, Keeps};
+ghost use Rattle.sd_io.specs.Outside.{Rose};
 ghost use Rattle.sd_io.specs.StandardStreams.{IsError, IsOutput};
 
 use crate::streams::write_some;
 use crate::{Failed, Sink};
-use std::io::{Stderr, Stdout};
+use std::io::{Stderr, Stdout, Write};
 
 /// A standard stream, by its own kind of handle.
 #[derive(Clone, Copy)]
@@ -43,6 +45,20 @@ impl RealSink {
             faults: 0,
         }
     }
+
+    /// Sends to a writer, and counts where it takes no byte.
+    fn send_to<W: Write>(&mut self, writer: &mut W, piece: &[u8]) -> Result<usize, Failed>
+        ensures some { IfOk result (λ n. (0 < n) × (n ≤ length piece.now)) }
+        ensures bytes { MatchResult result (λ n. Appends (W.contents writer.old) (W.contents writer.new) (take n piece.now))
+            (λ _. Keeps (W.contents writer.old) (W.contents writer.new)) }
+        ensures counts { MatchResult result (λ _. self.new.faults ≡ self.old.faults) (λ _. Rose self.old.faults self.new.faults) }
+    {
+        let written = write_some(writer, piece);
+        if written.is_err() {
+            self.faults = self.faults.saturating_add(1);
+        }
+        written
+    }
 }
 
 impl Sink for RealSink {
@@ -51,14 +67,10 @@ impl Sink for RealSink {
     ghost faults = { λ s. s.faults };
 
     fn send(&mut self, piece: &[u8]) -> Result<usize, Failed> {
-        let written = match self.stream {
-            Stream::Output(mut output) => write_some(&mut output, piece),
-            Stream::Error(mut error) => write_some(&mut error, piece),
-        };
-        if written.is_err() {
-            self.faults = self.faults.saturating_add(1);
+        match self.stream {
+            Stream::Output(mut output) => self.send_to(&mut output, piece),
+            Stream::Error(mut error) => self.send_to(&mut error, piece),
         }
-        written
     }
 
     ghost counted = { λ s. s.counted };
