@@ -1,7 +1,7 @@
 ghost use Rattle.std.specs.Thread.{IsSend, IsSync};
 ghost use Rattle.std.specs.Prelude.{◌≡◌};
-ghost use Rattle.fanout.specs.JobRuns.{AreReadyOnceEntered, EachRan};
-ghost use Rattle.fanout.specs.Parts.{IsPart};
+ghost use Rattle.fanout.specs.JobRuns.{AreReadyOnceEntered, EachEntered, EachRan};
+ghost use Rattle.fanout.specs.Parts.{IsPart, PartEntered};
 
 use crate::gate::Gate;
 use crate::job::Job;
@@ -24,7 +24,8 @@ struct Place {
 /// entered. Takes no memory of its own, and recurses at most five calls deep.
 pub fn all<R: Threads + Sync, J: Job, G: Gate + Sync>(rt: &R, level: u64, jobs: &mut [J], gate: &G)
     requires { AreReadyOnceEntered J.ready (G.entered gate.now level) jobs.old }
-    ensures { EachRan J.ran jobs.old jobs.new }
+    ensures ran { EachRan J.ran jobs.old jobs.new }
+    ensures entered { EachEntered (G.entered gate.now level) jobs.old }
 {
     let place = Place {
         level,
@@ -38,7 +39,8 @@ pub fn all<R: Threads + Sync, J: Job, G: Gate + Sync>(rt: &R, level: u64, jobs: 
 #[cycle(halves)]
 fn part<R: Threads + Sync, J: Job, G: Gate + Sync>(rt: &R, gate: &G, place: Place, jobs: &mut [J])
     requires { IsPart J.ready (G.entered gate.now place.level) place.first jobs.old }
-    ensures { EachRan J.ran jobs.old jobs.new }
+    ensures ran { EachRan J.ran jobs.old jobs.new }
+    ensures entered { PartEntered (G.entered gate.now place.level) place.first jobs.old }
 {
     if place.halvings == 0 || jobs.len() < 2 {
         in_turn(gate, place, jobs);
@@ -75,16 +77,20 @@ fn both_parts<R: Threads + Sync, J: Job, G: Gate + Sync>(
     requires back { IsPart J.ready (G.entered gate.now next.level) next.first back.old }
     ensures front { EachRan J.ran front.old front.new }
     ensures back { EachRan J.ran back.old back.new }
+    ensures front_entered { PartEntered (G.entered gate.now place.level) place.first front.old }
+    ensures back_entered { PartEntered (G.entered gate.now next.level) next.first back.old }
 {
     join_mut(
         rt,
         &mut ||
             requires { IsSync R.row × IsSync G.row × IsSend J.row × IsPart J.ready (G.entered gate.now place.level) place.first front.now }
-            ensures { EachRan J.ran front.entry.now front.exit.now }
+            ensures ran { EachRan J.ran front.entry.now front.exit.now }
+            ensures entered { PartEntered (G.entered gate.entry.now place.level) place.first front.entry.now }
         { part(rt, gate, place, front) },
         &mut ||
             requires { IsSync R.row × IsSync G.row × IsSend J.row × IsPart J.ready (G.entered gate.now next.level) next.first back.now }
-            ensures { EachRan J.ran back.entry.now back.exit.now }
+            ensures ran { EachRan J.ran back.entry.now back.exit.now }
+            ensures entered { PartEntered (G.entered gate.entry.now next.level) next.first back.entry.now }
         { part(rt, gate, next, back) },
     );
 }
@@ -92,7 +98,8 @@ fn both_parts<R: Threads + Sync, J: Job, G: Gate + Sync>(
 /// Runs the jobs one after another.
 fn in_turn<J: Job, G: Gate>(gate: &G, place: Place, jobs: &mut [J])
     requires { IsPart J.ready (G.entered gate.now place.level) place.first jobs.old }
-    ensures { EachRan J.ran jobs.old jobs.new }
+    ensures ran { EachRan J.ran jobs.old jobs.new }
+    ensures entered { PartEntered (G.entered gate.now place.level) place.first jobs.old }
 {
     for k in 0..jobs.len() {
         gate.enter(place.level, place.first + k);
