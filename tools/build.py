@@ -140,13 +140,13 @@ class Measured:
             part.replace(SECONDS)
 
 
-def seconds_behind(crates: dict[str, list[str]], measured: Measured) -> dict[str, float]:
+def seconds_behind(crates: dict[str, list[str]], seconds: dict[str, float]) -> dict[str, float]:
     """For each crate the seconds of the longest chain of crates that begins at it, of which each stands on the one before."""
     found: dict[str, float] = {}
 
     def behind(name: str) -> float:
         if name not in found:
-            found[name] = measured.of(name) + max((behind(above) for above in crates if name in crates[above]), default=0)
+            found[name] = seconds.get(name, 0.0) + max((behind(above) for above in crates if name in crates[above]), default=0.0)
         return found[name]
 
     return {name: behind(name) for name in crates}
@@ -215,14 +215,16 @@ class Running:
         _, status, usage = os.wait4(command.pid, 0)
         with self.changing:
             self.commands.discard(command)
-        return os.waitstatus_to_exitcode(status), text, usage.ru_utime + usage.ru_stime
+        command.returncode = os.waitstatus_to_exitcode(status)
+        return command.returncode, text, usage.ru_utime + usage.ru_stime
 
     def stop(self) -> None:
         """Ends those that run, and begins no other."""
         with self.changing:
             self.is_over = True
             for command in self.commands:
-                os.kill(command.pid, signal.SIGTERM)
+                with contextlib.suppress(ProcessLookupError):
+                    os.kill(command.pid, signal.SIGTERM)
 
 
 @contextlib.contextmanager
@@ -275,10 +277,10 @@ class Build:
 
     def run(self) -> bool:
         """Proves and builds all, those first behind which the most is to do."""
-        behind, most = seconds_behind(self.crates, self.measured), lanes.cores()
-        chain = max((behind[name] for name in self.left), default=0.0)
-        say(f"proving and building {len(self.left)} of {len(self.crates)} crates on {most} cores: {minutes(self.all)} minutes of work from "
-            f"nothing, so about {minutes(max(chain, self.all / most))} of the clock, and less where something is kept of earlier proofs")
+        behind, most = seconds_behind(self.crates, self.left), lanes.cores()
+        clock = max(self.all / most, *behind.values())
+        say(f"proving and building {len(self.left)} of {len(self.crates)} crates on {most} core{'s' * (most > 1)}: {minutes(self.all)} minutes "
+            f"of work from nothing, so at least {minutes(clock)} of the clock, and less where something is kept of earlier proofs")
         for number in range(most):
             copy_sources(self.room / str(number), self.crates)
             self.copies.append(self.room / str(number))
@@ -312,7 +314,8 @@ class Build:
         # A program is run without words, and then has a status of its own.
         well = (out / f"{name}.stamp").exists() if is_program(name) else status == 0
         for part in ((name, f"{name}.stamp") if is_program(name) else (BUILT,)) if well else ():
-            hand_on(out / part, own / part)
+            if not is_same(out / part / "stamp", own / part / "stamp"):
+                hand_on(out / part, own / part)
         self.tell(name, well, text, seconds, is_from_nothing)
         return well
 
@@ -331,6 +334,11 @@ class Build:
             return
         say(f"{name}: done, {minutes(seconds)} minutes of work; left {minutes(sum(self.left.values()))} of {minutes(self.all)}, "
             f"after {minutes(time.monotonic() - self.begun)} of the clock")
+
+
+def is_same(path: Path, other: Path) -> bool:
+    """Whether two files have the same bytes."""
+    return path.is_file() and other.is_file() and path.read_bytes() == other.read_bytes()
 
 
 def move(path: Path, to: Path) -> bool:
