@@ -152,18 +152,23 @@ def seconds_behind(crates: dict[str, list[str]], seconds: dict[str, float]) -> d
     return {name: behind(name) for name in crates}
 
 
-def copy_sources(top: Path, crates: Collection[str]) -> None:
+def copy_sources(to: Path, crates: Collection[str], top: Path = ROOT) -> None:
     """Makes a copy of what the proofs of these crates read. Its crates.txt has these alone, since `rt` wants the folder of each
     crate in it."""
-    top.mkdir(parents=True)
-    shutil.copy2(ROOT / "HANDLES", top)
-    lines = (ROOT / "crates.txt").read_text(encoding="utf-8").splitlines(keepends=True)
-    ours = [line for line in lines if line.split("#")[0].partition(":")[0].split()[:1] and line.split()[0].rstrip(":") in crates]
-    (top / "crates.txt").write_text("".join(ours), encoding="utf-8")
+    to.mkdir(parents=True)
+    shutil.copy2(top / "HANDLES", to)
+    lines = (top / "crates.txt").read_text(encoding="utf-8").splitlines(keepends=True)
+    (to / "crates.txt").write_text("".join(line for line in lines if lists(line, crates)), encoding="utf-8")
     for name in crates:
         for part in SOURCES:
-            if (home(name) / part).is_dir():
-                shutil.copytree(home(name) / part, home(name, top) / part)
+            if (home(name, top) / part).is_dir():
+                shutil.copytree(home(name, top) / part, home(name, to) / part)
+
+
+def lists(line: str, crates: Collection[str]) -> bool:
+    """Whether a line of crates.txt is that of one of these crates."""
+    words = line.split("#")[0].partition(":")[0].split()
+    return bool(words) and words[0] in crates
 
 
 def link(source: str, target: str) -> None:
@@ -252,6 +257,17 @@ def wait_for(lock: int) -> None:
         return
 
 
+@contextlib.contextmanager
+def told_later(line: str) -> Iterator[None]:
+    """Says a line unless what follows ends at once."""
+    telling = threading.Timer(LEAST_SECONDS, say, [line])
+    telling.start()
+    try:
+        yield
+    finally:
+        telling.cancel()
+
+
 def end_early(number: int, _frame: object) -> None:
     sys.exit(128 + number)
 
@@ -279,8 +295,8 @@ class Build:
         """Proves and builds all, those first behind which the most is to do."""
         behind, most = seconds_behind(self.crates, self.left), lanes.cores()
         clock = max(self.all / most, *behind.values())
-        say(f"proving and building {len(self.left)} of {len(self.crates)} crates on {most} core{'s' * (most > 1)}: {minutes(self.all)} minutes "
-            f"of work from nothing, so at least {minutes(clock)} of the clock, and less where something is kept of earlier proofs")
+        say(f"proving and building {len(self.left)} of {len(self.crates)} crates on {most} core{'s' * (most > 1)}: {minutes(self.all)} "
+            f"minutes of work from nothing, at least {minutes(clock)} of the clock, and less where an earlier proof is kept")
         for number in range(most):
             copy_sources(self.room / str(number), self.crates)
             self.copies.append(self.room / str(number))
@@ -293,9 +309,8 @@ class Build:
         """Proves and builds a crate in a copy that is free, over what the others have built."""
         copy = self.copies.pop()
         try:
-            if name in self.left:
-                say(f"{name}: begins, {minutes(self.left[name])} minutes of work from nothing")
-            return self.prove_in(copy, name, jobs)
+            with told_later(f"{name}: begun, {minutes(self.measured.of(name))} minutes of work from nothing"):
+                return self.prove_in(copy, name, jobs)
         finally:
             self.copies.append(copy)
 
