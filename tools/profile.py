@@ -5,15 +5,17 @@ with, of the edits themselves, and of its programs.
     tools/profile.py [-- COMMAND]
 
 Starts `rt ci` (or COMMAND), passes on what it prints, looks five times a second at the processes below it, and prints a table in
-Markdown when it has ended. It ends with the command's own status, and changes nothing of the run. What an earlier run has proved
-costs nothing, so the whole gate is seen by `tools/profile.py -- rt ci --anew`. A process loses at most a fifth of a second, and
-what ended between two looks stands in the last row.
+Markdown when it has ended. It ends with the command's own status, and changes nothing of the run. With the kit that keeps what it has
+passed, the whole gate is seen by `tools/profile.py -- rt ci --anew`. A process loses at most a fifth of a second, and what ended
+between two looks stands in the last row.
 
 A crate with two edits or more is proved once more, as what they begin with: that is the column `Base`, and with it stands a last
-check that the base is still proved.
+check that the base is still proved. One kit does this in the first of its edits, and there the column `Edits, s` has it.
 
-A second table has the twenty functions and files of lemmas whose proofs took longest, by the moments at which the compiler left
-each of their modules in its folder. Where it proves some beside each other (`--jobs`), these are less than they take alone.
+A second table has the twenty functions and files of lemmas whose proofs took longest, each with its dearest stage, and a third one
+the stages of all, by the moments at which the compiler left each module in its folder. Where it proves some beside each other
+(`--jobs`), these are less than they take alone. The stage `Lts` follows a function's ways and what is dropped on each, `Proof` has
+the tactics at goals that nothing answers, `Tie` binds them to the code; `bench/GATE.md` says what makes them dear.
 """
 import os
 import re
@@ -33,7 +35,9 @@ MOST_OWNERS = 20
 # Where a proof leaves the modules that are done, by the number of its process; and what it makes for each function.
 DONE = re.compile(r"rattle-logic-built-locked-(\d+)-\d+$")
 STAGES = {"Answers", "Code", "Given", "Goals", "Invariants", "Key", "Kinds", "Layout", "Lts", "Met", "Mir", "Named", "Proof", "Reads",
-          "Statement", "Symbol", "TheLink", "Tie", "View"}
+          "Statement", "Symbol", "TheImpl", "TheLaws", "TheLink", "TheLinks", "TheReach", "TheSendSync", "Tie", "View"}
+# What stands for the stage of a file of lemmas or of definitions.
+NO_STAGE = "(lemmas)"
 
 
 def processes():
@@ -147,21 +151,23 @@ class Modules:
             return
 
     def seconds(self):
-        """The seconds of each function and each file of lemmas, with its crate: from the module that was done before."""
+        """The seconds of each stage of each function, and of each file of lemmas, with its crate: from the module that was done before."""
         sums = defaultdict(float)
         for folder, ends in self.ends.items():
             names = sorted(ends, key=ends.get)
             for before, name in zip(names, names[1:]):
-                sums[self.crates[folder], owner(name)] += ends[name] - ends[before]
+                sums[self.crates[folder], *owner(name)] += ends[name] - ends[before]
         return sums
 
 
 def owner(module):
-    """The function or the file of lemmas that a module belongs to: `Rattle-CRATE-proofs.PATH.STAGE.oantt` to `PATH`."""
-    path = re.sub(r"^Rattle-[^-]+-((proofs|specs)\.)?(contracts\.)?", "", module.removesuffix(".oantt")).split(".")
+    """The function or the file of lemmas that a module belongs to, and its stage: `Rattle-CRATE-proofs.PATH.STAGE.oantt` to `PATH` and
+    `STAGE`. What is written of a function, `Rattle-CRATE.proofs.PATH.Answers.oantt`, belongs to it, too."""
+    path = re.sub(r"^Rattle-\w+[-.](proofs|specs)\.(contracts\.)?", "", module.removesuffix(".oantt")).split(".")
+    stage = NO_STAGE
     while len(path) > 1 and path[-1] in STAGES:
-        path.pop()
-    return "::".join(path)
+        stage = path.pop()
+    return "::".join(path), stage
 
 
 def minutes(seconds):
@@ -184,12 +190,21 @@ def table(seconds, edits, all_seconds, wall):
 
 
 def slowest(seconds):
-    """The table of the functions and files of lemmas that took longest."""
-    took = sorted(((spent, *names) for names, spent in seconds.items()), reverse=True)[:MOST_OWNERS]
-    if not took:
+    """The tables of the functions and files of lemmas that took longest, and of the stages."""
+    owners, stages = defaultdict(dict), defaultdict(float)
+    for (crate, path, stage), spent in seconds.items():
+        owners[crate, path][stage] = spent
+        stages[stage] += spent
+    if not owners:
         return []
-    rows = [f"| `{crate}` | `{path}` | {spent:.1f} |" for spent, crate, path in took]
-    return ["", "| Crate | Function or file of lemmas | Seconds of the clock |", "|---|---|---|", *rows]
+    took = sorted(((sum(parts.values()), *names) for names, parts in owners.items()), reverse=True)[:MOST_OWNERS]
+    rows = []
+    for spent, crate, path in took:
+        dearest = max(owners[crate, path], key=owners[crate, path].get)
+        rows.append(f"| `{crate}` | `{path}` | {spent:.1f} | {dearest} {owners[crate, path][dearest]:.1f} |")
+    shares = [f"| {stage} | {spent:.0f} |" for stage, spent in sorted(stages.items(), key=lambda it: -it[1]) if spent >= 0.5]
+    return ["", "| Crate | Function or file of lemmas | Seconds of the clock | Of these its dearest stage |", "|---|---|---|---|", *rows,
+            "", "| Stage | Seconds of the clock |", "|---|---|", *shares]
 
 
 def pass_on(stream, told):
