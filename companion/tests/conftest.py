@@ -5,8 +5,8 @@ import sys
 
 import pytest
 
-from companion import faults
-from companion.analyser import ROOT, Analyser
+from sdf3companion import faults
+from sdf3companion.analyser import ROOT, Analyser
 
 LAUNCHER = os.path.join(ROOT, "companion", "companion")
 EXAMPLES = os.path.join(ROOT, "examples")

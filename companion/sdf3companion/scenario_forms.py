@@ -1,7 +1,7 @@
 """Gives the scenarios of an SDF3 file the form that the analyser reads: a graph and its times in each scenario."""
 from xml.etree import ElementTree
 
-from companion.xmltree import Element
+from sdf3companion.xmltree import Element
 
 
 def placed(tag, like, **attributes):

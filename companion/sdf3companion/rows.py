@@ -6,8 +6,8 @@ import json
 import os
 import sys
 
-from companion import output
-from companion.faults import FORM, REJECTED, SHELF, Fault
+from sdf3companion import output
+from sdf3companion.faults import FORM, REJECTED, SHELF, Fault
 
 FIELDS = ["file", "key", "status", "rate", "line"]
 

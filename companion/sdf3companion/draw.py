@@ -11,10 +11,10 @@ import os
 import shutil
 import subprocess
 
-from companion import graphs, output, words
-from companion.analyser import Analyser, escaped
-from companion.faults import USAGE, Fault, needed
-from companion.fastest import fastest, known
+from sdf3companion import graphs, output, words
+from sdf3companion.analyser import Analyser, escaped
+from sdf3companion.faults import USAGE, Fault, needed
+from sdf3companion.fastest import fastest, known
 
 FORMATS = ("svg", "png", "pdf")
 

@@ -11,11 +11,11 @@ import os
 import shlex
 from html import escape
 
-from companion import curve, draw, graphs, output, timeline, words
-from companion.analyser import Analyser
-from companion.faults import BUDGET, Fault
-from companion.gantt import times_of
-from companion.tradeoff import DISTRIBUTIONS, Search
+from sdf3companion import curve, draw, graphs, output, timeline, words
+from sdf3companion.analyser import Analyser
+from sdf3companion.faults import BUDGET, Fault
+from sdf3companion.gantt import times_of
+from sdf3companion.tradeoff import DISTRIBUTIONS, Search
 
 TEMPLATE = os.path.join(os.path.dirname(os.path.realpath(__file__)), "page.html")
 

@@ -11,8 +11,8 @@ from dataclasses import dataclass
 from fractions import Fraction
 from math import isqrt, lcm
 
-from companion import graphs, words
-from companion.faults import LIMIT, Fault
+from sdf3companion import graphs, words
+from sdf3companion.faults import LIMIT, Fault
 
 MOST_TIME = 10**9
 """The greatest time that the analyser takes."""

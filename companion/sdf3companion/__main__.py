@@ -9,7 +9,7 @@ import importlib.util
 import os
 import sys
 
-from companion import faults, words
+from sdf3companion import faults, words
 
 NAMES = ["tradeoff", "fastest", "whatif", "referee", "adapt", "gantt", "draw", "page", "batch"]
 """The subcommands. The module of each has a docstring, whose first line is its summary and whose rest is its help,
@@ -24,11 +24,11 @@ was anything to show; else the analyser's own, with its line on standard error."
 
 
 def is_there(name):
-    return importlib.util.find_spec(f"companion.{name}") is not None
+    return importlib.util.find_spec(f"sdf3companion.{name}") is not None
 
 
 def module(name):
-    return importlib.import_module(f"companion.{name}")
+    return importlib.import_module(f"sdf3companion.{name}")
 
 
 def summary(name):

@@ -4,7 +4,7 @@ import stat
 import sys
 import tempfile
 
-from companion.faults import SHELF, Fault
+from sdf3companion.faults import SHELF, Fault
 
 
 def put(path, data):

@@ -2,7 +2,7 @@
 from xml.etree import ElementTree
 from xml.parsers import expat
 
-from companion.faults import FORM, Fault
+from sdf3companion.faults import FORM, Fault
 
 
 class Element(ElementTree.Element):

@@ -17,10 +17,10 @@ import sys
 import tempfile
 from xml.etree import ElementTree
 
-from companion import output, scaling, words, xmltree
-from companion.analyser import Analyser, escaped
-from companion.faults import FORM, LIMIT, Fault
-from companion.source import Source, name_kind, plain_names
+from sdf3companion import output, scaling, words, xmltree
+from sdf3companion.analyser import Analyser, escaped
+from sdf3companion.faults import FORM, LIMIT, Fault
+from sdf3companion.source import Source, name_kind, plain_names
 
 def repetition_by(analyser):
     """Asks the analyser for the repetition vector of a section by the file's names; of its times only the number of phases counts."""

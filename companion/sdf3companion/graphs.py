@@ -10,9 +10,9 @@ from collections import defaultdict
 from dataclasses import dataclass
 from math import gcd
 
-from companion import output, xmltree
-from companion.analyser import escaped
-from companion.faults import FORM, Fault
+from sdf3companion import output, xmltree
+from sdf3companion.analyser import escaped
+from sdf3companion.faults import FORM, Fault
 
 
 @dataclass

@@ -17,10 +17,10 @@ import csv
 import sys
 import time
 
-from companion import graphs, output, words
-from companion.analyser import MOST_STORAGE, Analyser
-from companion.faults import BUDGET, INTERRUPTED, NO, Fault, OutOfTime
-from companion.fastest import fastest
+from sdf3companion import graphs, output, words
+from sdf3companion.analyser import MOST_STORAGE, Analyser
+from sdf3companion.faults import BUDGET, INTERRUPTED, NO, Fault, OutOfTime
+from sdf3companion.fastest import fastest
 
 DISTRIBUTIONS = "1000000"
 MOMENT = 2

@@ -1,5 +1,5 @@
 """The trade-off of storage and rate as a step curve in SVG, on which each point can be chosen."""
-from companion.words import fraction
+from sdf3companion.words import fraction
 
 WIDTH, HEIGHT, LEFT, BOTTOM, MARGIN = 760, 300, 90, 40, 20
 """Pixels: of the whole, left of the rates, below the storage, above and to the right."""

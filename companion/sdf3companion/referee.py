@@ -15,9 +15,9 @@ import re
 import tempfile
 from fractions import Fraction
 
-from companion import graphs, output, words
-from companion.analyser import Analyser
-from companion.faults import NO, REJECTED, Fault
+from sdf3companion import graphs, output, words
+from sdf3companion.analyser import Analyser
+from sdf3companion.faults import NO, REJECTED, Fault
 
 
 class Claim:

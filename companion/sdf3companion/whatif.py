@@ -13,10 +13,10 @@ import argparse
 from dataclasses import dataclass
 from fractions import Fraction
 
-from companion import graphs, words
-from companion.analyser import Analyser, escaped
-from companion.faults import BUDGET, FORM, LIMIT, Fault
-from companion.fastest import fastest, known
+from sdf3companion import graphs, words
+from sdf3companion.analyser import Analyser, escaped
+from sdf3companion.faults import BUDGET, FORM, LIMIT, Fault
+from sdf3companion.fastest import fastest, known
 
 
 @dataclass

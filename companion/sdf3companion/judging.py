@@ -3,10 +3,10 @@ import os
 import subprocess
 import tempfile
 
-from companion import graphs, xmltree
-from companion.analyser import escaped
-from companion.faults import REJECTED
-from companion.work import answer_of
+from sdf3companion import graphs, xmltree
+from sdf3companion.analyser import escaped
+from sdf3companion.faults import REJECTED
+from sdf3companion.work import answer_of
 
 
 def question_of(data, words):

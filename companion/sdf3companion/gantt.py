@@ -8,10 +8,10 @@ With --point N it draws the N-th point of the trade-off, with its buffers. The p
   companion gantt examples/ring.xml ring.svg
   companion gantt examples/modem.xml modem.svg --no-overlap --point 4
 """
-from companion import graphs, output, timeline, words
-from companion.analyser import Analyser, escaped
-from companion.faults import NO, USAGE, Fault
-from companion.tradeoff import Search
+from sdf3companion import graphs, output, timeline, words
+from sdf3companion.analyser import Analyser, escaped
+from sdf3companion.faults import NO, USAGE, Fault
+from sdf3companion.tradeoff import Search
 
 
 def add_words(parser):

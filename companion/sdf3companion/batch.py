@@ -17,11 +17,11 @@ Exit status 0 where all rows count, also refusals, and 1 where some don't.
 import os
 from concurrent import futures
 
-from companion import output, work, words
-from companion.analyser import Analyser
-from companion.faults import MISSING, NO, USAGE, Fault, needed
-from companion.judging import judged
-from companion.rows import Table, key_of
+from sdf3companion import output, work, words
+from sdf3companion.analyser import Analyser
+from sdf3companion.faults import MISSING, NO, USAGE, Fault, needed
+from sdf3companion.judging import judged
+from sdf3companion.rows import Table, key_of
 
 
 def local(analyser, tasks, asked):

@@ -1,6 +1,6 @@
 """A file of another program: its tree, the changes that are made to it, and its root in the form that the analyser reads."""
-from companion import output, scenario_forms, xmltree
-from companion.faults import FORM, Fault
+from sdf3companion import output, scenario_forms, xmltree
+from sdf3companion.faults import FORM, Fault
 
 KINDS = ("sdf", "csdf", "fsmsadf")
 

@@ -6,10 +6,10 @@ import subprocess
 from dataclasses import dataclass
 from fractions import Fraction
 
-from companion import output
-from companion.faults import MISSING, Fault, OutOfTime
+from sdf3companion import output
+from sdf3companion.faults import MISSING, Fault, OutOfTime
 
-ROOT = os.path.dirname(os.path.dirname(os.path.realpath(__file__)))
+ROOT = os.path.dirname(os.path.dirname(os.path.dirname(os.path.realpath(__file__))))
 BUILT = os.path.join(ROOT, "crates", "sdf3analysis", "out", "sdf3analysis")
 HANDED_ON = os.path.join(ROOT, "program")
 """The program as the archive of `tools/dist` has it."""

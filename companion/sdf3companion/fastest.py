@@ -13,9 +13,9 @@ back: no actor waits for itself or for another. Most graphs want --no-overlap.
 from dataclasses import dataclass
 from fractions import Fraction
 
-from companion import graphs, words
-from companion.analyser import Analyser, Rate, escaped
-from companion.faults import CONNECTION, FORM, Fault
+from sdf3companion import graphs, words
+from sdf3companion.analyser import Analyser, Rate, escaped
+from sdf3companion.faults import CONNECTION, FORM, Fault
 
 
 @dataclass
