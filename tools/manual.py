@@ -1,6 +1,9 @@
-"""The manual page of the analyser, read for what is made of it: the text of `--help`, and what shells complete."""
+"""The manual pages: that of the analyser, read for what is made of it (the text of `--help`, and what shells complete), and that of
+the companions, made of what they say of themselves by `--help`."""
 import os
 import re
+import subprocess
+import sys
 import textwrap
 from collections.abc import Iterator
 from dataclasses import dataclass, field
@@ -122,3 +125,37 @@ def algorithms() -> list[Command]:
     return [Command(item.tag.partition(" ")[0], item.text, [Option(option.name, option.value, said[option.name])
                                                              for option in options_in(item.tag)])
             for item in by_title["ALGORITHMS"].items]
+
+
+def companion_help(*words: str) -> str:
+    """What the companions say of themselves, in lines of a fixed width."""
+    done = subprocess.run([sys.executable, "-B", os.path.join(ROOT, "sdf3companion"), *words, "--help"], env={**os.environ, "COLUMNS": "100"},
+                          capture_output=True, text=True, check=True)
+    return done.stdout
+
+
+def companions() -> list[Command]:
+    """The companions with their options, out of their help."""
+    rows = re.findall(r"^ {2,4}([a-z]+) +(\S.*)$", companion_help().partition("usage:")[2], re.M)
+    return [Command(name, text, options_of(companion_help(name))) for name, text in rows]
+
+
+def options_of(text: str) -> list[Option]:
+    """The options that a help lists, each at the beginning of a line, with the first line of what is said of it."""
+    rows = re.findall(r"^  (?:-\w, )?(--[a-z-]+)(?:[ =]([A-Z][^\s]*))?(?:\s{2,}(\S.*))?$", text, re.M)
+    return [Option(name, value, said) for name, value, said in rows if name != "--help"]
+
+
+def verbatim(text: str) -> list[str]:
+    """Lines as they are, in the language of manual pages."""
+    lines = [line.replace("\\", "\\e").replace("-", "\\-") for line in text.strip("\n").splitlines()]
+    return [".nf", *(f"\\&{line}" if line.startswith((".", "'")) else line for line in lines), ".fi"]
+
+
+def companion_page() -> str:
+    """The manual page of the companions."""
+    lines = [".TH SDF3COMPANION 1", ".SH NAME", "sdf3companion \\- what takes more than one run of sdf3analysis: unproved programs around it",
+             ".SH SYNOPSIS", ".B sdf3companion", ".I NAME", ".RI [ WORDS ]", ".SH DESCRIPTION", *verbatim(companion_help())]
+    for command in companions():
+        lines += [f".SH {command.name.upper()}", *verbatim(companion_help(command.name))]
+    return "\n".join([*lines, ".SH SEE ALSO", ".BR sdf3analysis (1)"]) + "\n"

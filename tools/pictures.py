@@ -62,6 +62,20 @@ def ring():
     picture.save("ring.svg")
 
 
+def chain():
+    """The chain of three actors, with the times of the actors and the rates of the channels."""
+    picture = Picture(520, 90)
+    for i, (name, time) in enumerate([("a", 1), ("b", 2), ("c", 2)]):
+        picture.box(20 + i * 190, 25, 100, 44, f"{name}, time {time}")
+    for i, (made, name, taken) in enumerate([("2", "alpha", "3"), ("1", "beta", "2")]):
+        x = 120 + i * 190
+        picture.bend([(x, 47), (x + 90, 47)])
+        picture.text(x + 12, 38, made, colour="#567")
+        picture.text(x + 45, 66, name)
+        picture.text(x + 74, 38, taken, colour="#567")
+    picture.save("chain.svg")
+
+
 def listed_layers():
     """The layers of crates.txt but those for tests and benchmarks: a title each, and by crate the crates that it stands on."""
     layers = []
@@ -178,6 +192,7 @@ def player():
 
 if __name__ == "__main__":
     ring()
+    chain()
     packets()
     frames()
     player()

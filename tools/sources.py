@@ -27,11 +27,12 @@ class Clause:
 
 @dataclass
 class Item:
-    """A public item by the name that callers write, with its comment and its clauses."""
+    """A public item by the name that callers write, with its comment and its clauses; only calls have clauses."""
 
     name: str
     comment: str
     clauses: list[Clause]
+    is_call: bool
 
 
 def layers() -> list[Layer]:
@@ -164,11 +165,11 @@ def declared(file: str, prefix: str) -> Iterator[Item]:
         if opened:
             owner = "" if opened[4] else f"{opened[3]}{'' if opened[2] else '.'}"
         found = re.match(r"( *)(pub )?(?:const )?(fn|struct|enum|trait|const) (\w+)", line)
-        is_call = bool(found) and line.startswith("pub fn ")
-        if found and (comment or is_call) and (found[2] or owner.endswith(".") and found[1]):
+        is_free = bool(found) and line.startswith("pub fn ")
+        if found and (comment or is_free) and (found[2] or owner.endswith(".") and found[1]):
             within = f"{owner.rstrip('.')}::" if found[1] and owner else ""
             clauses = clauses_in(signature(lines, at), known) if found[3] == "fn" else []
             if not found[1] or owner:
-                yield Item(f"{prefix}{within}{found[4]}", " ".join(filter(None, comment)), clauses)
+                yield Item(f"{prefix}{within}{found[4]}", " ".join(filter(None, comment)), clauses, found[3] == "fn")
         if stripped and not stripped.startswith(("#[", "#![")) and not stripped.endswith(")]"):
             comment = []
