@@ -1,5 +1,6 @@
 """The manual pages: that of the analyser, read for what is made of it (the text of `--help`, and what shells complete), and that of
 the companions, made of what they say of themselves by `--help`."""
+import functools
 import os
 import re
 import subprocess
@@ -127,6 +128,7 @@ def algorithms() -> list[Command]:
             for item in by_title["ALGORITHMS"].items]
 
 
+@functools.cache
 def companion_help(*words: str) -> str:
     """What the companions say of themselves, in lines of a fixed width."""
     done = subprocess.run([sys.executable, "-B", os.path.join(ROOT, "sdf3companion"), *words, "--help"], env={**os.environ, "COLUMNS": "100"},
