@@ -40,13 +40,13 @@ def layers() -> list[Layer]:
     found: list[Layer] = []
     with open(os.path.join(ROOT, "crates.txt"), encoding="utf-8") as lines:
         for line in lines:
-            heading = re.fullmatch(r"# (\w+): (.*)\n", line)
+            heading = re.fullmatch(r"# ([\w-]+): (.*)\n", line)
             name, colon, libraries = line.partition(":")
-            if heading and " " not in heading[1]:
+            if heading:
                 found.append(Layer(heading[1], heading[2], {}))
             elif colon and not line.startswith("#"):
                 found[-1].crates[name.split()[0]] = libraries.split()
-    return found[1:] if found and not found[0].crates else found
+    return found
 
 
 def text_of(path: str) -> str:
