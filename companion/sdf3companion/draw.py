@@ -11,10 +11,11 @@ import os
 import shutil
 import subprocess
 
-from sdf3companion import graphs, output, words
-from sdf3companion.analyser import Analyser, escaped
+from sdf3companion import output, words
+from sdf3companion.answers import escaped
+from sdf3companion.asking import asked_graph
 from sdf3companion.faults import USAGE, Fault, needed
-from sdf3companion.fastest import fastest, known
+from sdf3companion.bounds import fastest, known
 
 FORMATS = ("svg", "png", "pdf")
 
@@ -88,8 +89,7 @@ def run(asked):
     form = os.path.splitext(asked.output)[1].lstrip(".").lower() if asked.output else "svg"
     if form not in FORMATS:
         raise Fault(USAGE, f"{asked.output}: a picture's name ends in .svg, .png or .pdf")
-    analyser = Analyser(asked.program)
-    graph = graphs.opened(analyser, asked.graph)
+    analyser, graph = asked_graph(asked)
     bound = fastest(analyser, graph, asked.buffers, words.without_buffers(asked))
     cycle = bound and bound.answer.cycle
     text = dot(graph, cycle, known(graph, asked.buffers))

@@ -8,10 +8,10 @@ With --point N it draws the N-th point of the trade-off, with its buffers. The p
   companion gantt examples/ring.xml ring.svg
   companion gantt examples/modem.xml modem.svg --no-overlap --point 4
 """
-from sdf3companion import graphs, output, timeline, words
-from sdf3companion.analyser import Analyser, escaped
+from sdf3companion import output, timeline, words
+from sdf3companion.asking import asked_graph
 from sdf3companion.faults import NO, USAGE, Fault
-from sdf3companion.tradeoff import Search
+from sdf3companion.search import Search
 
 
 def add_words(parser):
@@ -32,13 +32,13 @@ def buffers_of_point(analyser, graph, asked):
 
 
 def times_of(graph):
-    """Times by printed actor."""
-    return {escaped(actor.name): actor.times for actor in graph.actors}
+    """Times by actor."""
+    return {actor.name: actor.times for actor in graph.actors}
 
 
 def run(asked):
-    analyser = Analyser(asked.program)
-    graph = graphs.opened(analyser, asked.graph)
+    output.require_ending(asked.output, ["svg"])
+    analyser, graph = asked_graph(asked)
     buffers = buffers_of_point(analyser, graph, asked) if asked.point is not None else []
     answer = analyser.throughput(graph, [*words.passed_on(asked), *buffers])
     if asked.json:

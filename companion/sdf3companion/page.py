@@ -11,11 +11,11 @@ import os
 import shlex
 from html import escape
 
-from sdf3companion import curve, draw, graphs, output, timeline, words
-from sdf3companion.analyser import Analyser
+from sdf3companion import curve, draw, output, timeline, words
+from sdf3companion.asking import asked_graph
 from sdf3companion.faults import BUDGET, Fault
 from sdf3companion.gantt import times_of
-from sdf3companion.tradeoff import DISTRIBUTIONS, Search
+from sdf3companion.search import DISTRIBUTIONS, Search
 
 TEMPLATE = os.path.join(os.path.dirname(os.path.realpath(__file__)), "page.html")
 
@@ -85,12 +85,12 @@ def drawn(graph):
 def add_words(parser):
     parser.add_argument("graph", metavar="GRAPH", help="a graph file")
     parser.add_argument("output", metavar="OUT.html", help="the page")
-    parser.add_argument("--seconds", type=float, metavar="S", help="explore for so long; by default until it ends by itself")
+    parser.add_argument("--seconds", type=words.seconds, metavar="S", help="explore for so long; by default until it ends by itself")
 
 
 def run(asked):
-    analyser = Analyser(asked.program)
-    graph = graphs.opened(analyser, asked.graph)
+    output.require_ending(asked.output, ["html", "htm"])
+    analyser, graph = asked_graph(asked)
     picture = drawn(graph)
     search = explored(analyser, graph, asked)
     data = {"points": [shown(analyser, graph, asked, point) for point in search.points]}
