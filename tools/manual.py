@@ -129,16 +129,17 @@ def algorithms() -> list[Command]:
 
 
 @functools.cache
-def companion_help(*words: str) -> str:
+def companion_help(*words: str, width: int = WIDTH) -> str:
     """What the companions say of themselves, in lines of a fixed width."""
-    done = subprocess.run([sys.executable, "-B", os.path.join(ROOT, "sdf3companion"), *words, "--help"], env={**os.environ, "COLUMNS": "100"},
-                          capture_output=True, text=True, check=True)
+    # on the PATH, so that they call themselves by the name that runs
+    own = {**os.environ, "COLUMNS": str(width), "PATH": f"{ROOT}:{os.environ.get('PATH', '')}"}
+    done = subprocess.run([sys.executable, "-B", os.path.join(ROOT, "sdf3companion"), *words, "--help"], env=own, capture_output=True, text=True, check=True)
     return done.stdout
 
 
 def companions() -> list[Command]:
     """The companions with their options, out of their help."""
-    rows = re.findall(r"^ {2,4}([a-z]+) +(\S.*)$", companion_help().partition("usage:")[2], re.M)
+    rows = re.findall(r"^    ([a-z]+) +(\S.*)$", companion_help(width=1000).partition("commands:")[2], re.M)
     return [Command(name, text, options_of(companion_help(name))) for name, text in rows]
 
 

@@ -229,7 +229,7 @@ def debian(packed: Packed) -> tuple[str, bytes]:
     """A package for Debian and what is made of it."""
     bash, zsh = shell_words()
     python = "usr/lib/python3/dist-packages"
-    launcher = f"#!/usr/bin/python3\nfrom {PACKAGE}.launch import companion\n\ncompanion()\n"
+    launcher = f"#!/usr/bin/python3\nfrom {PACKAGE}.__main__ import console\n\nconsole()\n"
     members = [
         *(member.under(python) for member in python_package(packed)),
         Member("usr/bin/sdf3analysis", mode=0o777, target=f"../lib/python3/dist-packages/{PACKAGE}/sdf3analysis"),

@@ -1,12 +1,11 @@
-"""The commands that the packages install: the proved analyser, and the companions."""
+"""The command by which the packages run the proved analyser."""
 import os
 import sys
 
-from sdf3companion.__main__ import main
+from sdf3companion.faults import MISSING
 
 RUNNER = os.path.join(os.path.dirname(os.path.realpath(__file__)), "sdf3analysis")
 """The script that runs the proved program of a package, with its help and what the C library is told."""
-MISSING = 14
 
 
 def analyser() -> None:
@@ -15,8 +14,3 @@ def analyser() -> None:
         print("sdf3analysis: this isn't a package with the proved program", file=sys.stderr)
         sys.exit(MISSING)
     os.execv("/bin/sh", ["sh", RUNNER, *sys.argv[1:]])
-
-
-def companion() -> None:
-    """Runs the companion that the words of the command line name."""
-    sys.exit(main(sys.argv[1:]))

@@ -8,7 +8,7 @@ import pytest
 from sdf3companion import faults
 from sdf3companion.analyser import ROOT, Analyser
 
-LAUNCHER = os.path.join(ROOT, "companion", "companion")
+LAUNCHER = os.path.join(ROOT, "sdf3companion")
 EXAMPLES = os.path.join(ROOT, "examples")
 SECONDS = 600
 """How long a run may take before it counts as hung."""
