@@ -29,6 +29,8 @@ PACKAGE = "sdf3companion"
 PAGES = ("EXAMPLES", "COMING_FROM", "COMPANION", "LIBRARY", "FILES")
 # What a page says of the sources alone stands between these two marks, and is left out of what is handed on.
 ONLY_IN_A_CLONE = re.compile(r"\s*<!-- clone -->.*?<!-- /clone -->", re.S)
+# What pages may speak of that lies in the repository.
+OF_THE_REPOSITORY = re.compile(r"(?<![\w./-])((?:\./)?(?:docs|examples|tools|crates|bench|specs|companion|\.ci)/[\w./-]*\w|\./(?:unproved|curve)|\brt [a-z]+)")
 # The packages of Debian that have the libraries which the program may ask for.
 LIBRARIES = {"libc.so.6": "libc6", "libm.so.6": "libc6", "libgcc_s.so.1": "libgcc-s1", "ld-linux-x86-64.so.2": "libc6"}
 
@@ -122,9 +124,9 @@ def strangers(pages: dict[str, str], inside: set[str]) -> list[str]:
     """What pages speak of that isn't handed on with them: a file of the repository, or a command that is run in a clone."""
     found = []
     for name, own in pages.items():
-        for path in re.findall(r"(?<![\w./-])((?:\./)?(?:docs|examples|tools|crates|bench|specs|companion|\.ci)/[\w./-]*\w|\./(?:unproved|curve)|\brt [a-z]+)", own):
+        for path in OF_THE_REPOSITORY.findall(own):
             if path.removeprefix("./") not in inside and not any(known.startswith(f"{path}/") for known in inside):
-                found.append(f"{name} speaks of {path}, which isn't handed on; stand what is for a clone alone between <!-- clone --> and <!-- /clone -->")
+                found.append(f"{name} speaks of {path}, which isn't handed on; what is for a clone alone stands between <!-- clone --> and <!-- /clone -->")
     return found
 
 
