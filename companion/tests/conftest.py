@@ -5,10 +5,10 @@ import sys
 
 import pytest
 
-from companion import faults
-from companion.analyser import ROOT, Analyser
+from sdf3companion import faults
+from sdf3companion.analyser import ROOT, Analyser
 
-LAUNCHER = os.path.join(ROOT, "companion", "companion")
+LAUNCHER = os.path.join(ROOT, "sdf3companion")
 EXAMPLES = os.path.join(ROOT, "examples")
 SECONDS = 600
 """How long a run may take before it counts as hung."""

@@ -3,7 +3,7 @@ import json
 
 import pytest
 
-from companion import graphs, xmltree
+from sdf3companion import graphs, xmltree
 
 RING = """<?xml version="1.0" encoding="{encoding}"?>
 <!DOCTYPE sdf3 SYSTEM "sdf3.dtd">

@@ -7,9 +7,9 @@ import sys
 
 import pytest
 
-from companion import graphs, tradeoff
-from companion.tests.conftest import LAUNCHER, SECONDS
-from companion.tradeoff import Search
+from sdf3companion import graphs, tradeoff
+from tests.conftest import LAUNCHER, SECONDS
+from sdf3companion.tradeoff import Search
 
 FRONTS = {
     "two_filters": (1, {}),

@@ -10,10 +10,10 @@ import time
 
 import pytest
 
-from companion import work
-from companion.analyser import ROOT
-from companion.judging import judged, question_of
-from companion.tests.drawn import Drawn
+from sdf3companion import work
+from sdf3companion.analyser import ROOT
+from sdf3companion.judging import judged, question_of
+from tests.drawn import Drawn
 
 COUNT = 12
 LIAR = """#!{python}
@@ -155,7 +155,7 @@ def wait_for_workers(address):
 def test_answers_of_a_worker_that_lies_are_refused(run, analyser, files, cluster, tmp_path):
     out = tmp_path / "rows.csv"
     words = ["batch", "--no-overlap", "--scheduler", cluster, "--output", out, "--", *files]
-    status, _, said = run(*words, environment={"PYTHONPATH": ROOT})
+    status, _, said = run(*words, environment={"PYTHONPATH": os.path.join(ROOT, "companion")})
     found = rows(out.read_text())
     assert status == 1, said
     refused = [row for row in found.values() if row["status"] == "9"]

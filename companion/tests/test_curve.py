@@ -7,7 +7,7 @@ from importlib.machinery import SourceFileLoader
 
 import pytest
 
-from companion.analyser import ROOT
+from sdf3companion.analyser import ROOT
 
 OF_SCENARIOS = """points 2
 point 1 1/3

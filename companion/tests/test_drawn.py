@@ -4,15 +4,15 @@ from fractions import Fraction
 
 import pytest
 
-from companion import graphs, scaling, timeline, whatif, xmltree
-from companion.adapt import constraint, repetition_by
-from companion.faults import BUDGET, Fault
-from companion.fastest import fastest
-from companion.gantt import times_of
-from companion.referee import Claim
-from companion.source import Source, name_kind, plain_names
-from companion.tests.drawn import Drawn
-from companion.tradeoff import Search
+from sdf3companion import graphs, scaling, timeline, whatif, xmltree
+from sdf3companion.adapt import constraint, repetition_by
+from sdf3companion.faults import BUDGET, Fault
+from sdf3companion.fastest import fastest
+from sdf3companion.gantt import times_of
+from sdf3companion.referee import Claim
+from sdf3companion.source import Source, name_kind, plain_names
+from tests.drawn import Drawn
+from sdf3companion.tradeoff import Search
 
 SEEDS = range(int(os.environ.get("COMPANION_DRAWN", "200")))
 AMPLE = 8

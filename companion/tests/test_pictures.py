@@ -5,8 +5,8 @@ import xml.etree.ElementTree as ElementTree
 
 import pytest
 
-from companion import graphs, timeline
-from companion.gantt import times_of
+from sdf3companion import graphs, timeline
+from sdf3companion.gantt import times_of
 
 SVG = "{http://www.w3.org/2000/svg}"
 needs_graphviz = pytest.mark.skipif(shutil.which("dot") is None, reason="graphviz isn't installed")

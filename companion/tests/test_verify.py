@@ -1,8 +1,8 @@
 """The second checker and the analyser's `check` say the same of each worked certificate."""
 import pytest
 
-from companion import verify
-from companion.tests.worked_cases import cases
+from sdf3companion import verify
+from tests.worked_cases import cases
 
 GRAPH, CERTIFICATE = 3, 5
 WORDS = ["--algo", "check", "--graph", None, "--certificate", None]

@@ -5,8 +5,8 @@ from fractions import Fraction
 
 import pytest
 
-from companion import words
-from companion.__main__ import NAMES
+from sdf3companion import words
+from sdf3companion.__main__ import NAMES
 
 ON_GRAPHS = ["tradeoff", "fastest", "whatif", "referee", "gantt", "draw", "page"]
 

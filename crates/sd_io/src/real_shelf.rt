@@ -11,7 +11,9 @@ use std::fs::File;
 use std::io;
 use std::io::{ErrorKind, Read, Write};
 
-/// The files of the system. It tells nothing of them, and counts each error, a missing file among them.
+/// The files of the system. It tells nothing of them, and counts each error but want of memory, a missing file among them.
+/// Over any reader whose bytes are known, `take_opened` gives all of them or tells that they are more than the limit; over any
+/// writer, `write_created` has written all bytes where it succeeds. What is left to trust is which file stands behind a name.
 #[derive(Drop)]
 pub struct RealShelf<'a> {
     rt: &'a HostRuntime,

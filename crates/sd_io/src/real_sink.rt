@@ -15,7 +15,8 @@ enum Stream {
 }
 
 /// Standard output or standard error. It tells nothing of what was written, and counts each error, a
-/// write that takes no byte among them.
+/// write that takes no byte among them. Over any writer whose bytes are known, `send_to` appends those that it tells. What is
+/// left to trust is which stream stands behind a handle.
 #[derive(Drop)]
 pub struct RealSink {
     stream: Stream,
