@@ -61,8 +61,8 @@ def folded(cycle):
 def shown(analyser, graph, asked, point):
     """What the page shows of a point."""
     answer = analyser.throughput(graph, [*words.passed_on(asked), *point.words()])
-    critical = draw.Critical(answer.cycle)
-    hot = [f"actor {name}" for name in critical.actors] + [f"channel {name}" for name in critical.channels | critical.spaces]
+    critical = draw.of_cycle(answer.cycle)
+    hot = [f"actor/{name}" for name in critical.actors] + [f"channel/{name}" for name in critical.channels | critical.spaces]
     return {"storage": point.storage, "rate": words.fraction(point.rate), "buffers": point.capacities(), "bound": bound(answer.cycle),
             "cycle": folded(answer.cycle), "hot": sorted(hot), "timeline": timeline.svg(answer, times_of(graph)), "commands": commands(asked, point)}
 
@@ -78,7 +78,7 @@ def filled(parts):
 
 def drawn(graph):
     """The graph as SVG to be put into a page."""
-    text = draw.picture(draw.dot(graph, None, {}), "svg").decode("utf-8")
+    text = draw.picture(draw.dot(graph, draw.Marks(), {}), "svg").decode("utf-8")
     return text[text.index("<svg"):]
 
 
