@@ -10,6 +10,8 @@ name SVG is printed.
 
   companion draw examples/modem.xml modem.svg --no-overlap
 """
+from __future__ import annotations
+
 import argparse
 import os
 import re
@@ -138,7 +140,7 @@ def channel_lines(channel: graphs.Channel, marks: Marks, capacities: dict[str, i
 def dot(graph: graphs.Graph, marks: Marks, capacities: dict[str, int], variant: str = "") -> str:
     """The graph in graphviz's language. What `variant` says stands before each part's id."""
     lines = ["digraph g {", "rankdir=LR;", 'node [shape=box style=rounded fontname="sans-serif" fontsize=11];',
-             'edge [fontname="sans-serif" fontsize=9 arrowsize=0.7 labeldistance=1.3];']
+             'edge [fontname="sans-serif" fontsize=9 arrowsize=0.7];']
     lines += [actor_line(actor, marks, variant) for actor in graph.actors]
     lines += [line for channel in graph.channels for line in channel_lines(channel, marks, capacities, variant)]
     if marks.missing:

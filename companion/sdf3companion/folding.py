@@ -1,6 +1,9 @@
 """Folds a wide drawing into rows, as text is wrapped: it is cut where no actor stands, and what crosses a cut goes on at the left of the row
 below. Lengths are points, as graphviz has them, and heights grow upwards."""
+from __future__ import annotations
+
 import json
+import math
 from bisect import bisect
 from collections.abc import Iterator
 from dataclasses import dataclass, field
@@ -12,12 +15,10 @@ Place = tuple[float, float]
 Curve = list[Place]
 """Bezier curves end to end: a place, and then two that guide and one that ends, for each."""
 
-GAP = 26.0
+GAP = 30.0
 """Between two rows."""
-BESIDE = 7.0
-"""How near to the actors at its left a cut may lie."""
-BEFORE = 16.0
-"""How near to those at its right, so that the tip of an arrow stays whole."""
+BESIDE = 16.0
+"""How near to an actor a cut may lie: the tip of an arrow stays whole."""
 LETTER = 0.58
 """The width of a letter, in heights of its font."""
 SAMPLES = 24
@@ -44,7 +45,7 @@ class Line:
     curve: Curve
     tip: Place | None
     attributes: dict[str, str]
-    labels: dict[str, Place]
+    labels: dict[str, Place] = field(default_factory=dict)
 
 
 @dataclass
@@ -92,9 +93,10 @@ class Drawing:
     def line(self, row: dict[str, Any]) -> Line:
         words = row["pos"].split(";")[0].split()
         tip = next((place(word[2:]) for word in words if word.startswith("e,")), None)
-        labels = {name: place(row[at]) for name, at in LABELS.items() if row.get(name) and at in row}
-        return Line(self.boxes[row["tail"]].name, self.boxes[row["head"]].name, [place(word) for word in words if word[0] not in "es"], tip,
-                    attributes_of(row), labels)
+        line = Line(self.boxes[row["tail"]].name, self.boxes[row["head"]].name, [place(word) for word in words if word[0] not in "es"], tip,
+                    attributes_of(row))
+        line.labels = {name: end_label(line, name) or place(row[at]) for name, at in LABELS.items() if row.get(name) and at in row}
+        return line
 
     def width(self) -> float:
         """How wide the boxes and lines are."""
@@ -125,7 +127,7 @@ def candidates(drawing: Drawing) -> list[float]:
              for size, _ in [text_size(line.attributes[name], line.attributes)]]
     found = []
     for start, end in gaps(drawing):
-        low, high = min(start + BESIDE, (start + end) / 2), max(end - BEFORE, (start + end) / 2)
+        low, high = min(start + BESIDE, (start + end) / 2), max(end - BESIDE, (start + end) / 2)
         places = [low + (high - low) * number / SAMPLES for number in range(SAMPLES + 1)]
         found.append(min(places, key=lambda x: sum(left < x < right for left, right in spans)))
     return found
@@ -144,6 +146,22 @@ def cuts(drawing: Drawing, room: float) -> list[float]:
             begin = last
         last = x
     return found
+
+
+def end_label(line: Line, name: str) -> Place | None:
+    """Where the rates at an end of a line stand: beside the line, below it, so that they aren't read as part of its name. None for the
+    others, and where the line is a loop."""
+    if name == "label" or line.tail == line.head:
+        return None
+    path = line.curve if name == "taillabel" else line.curve[::-1]
+    end = path[0] if name == "taillabel" or line.tip is None else line.tip
+    away = (path[3][0] - end[0], path[3][1] - end[1])
+    long = math.hypot(*away) or 1.0
+    onward = (away[0] / long, away[1] / long)
+    beside = (-onward[1], onward[0]) if onward[0] < 0 else (onward[1], -onward[0])
+    width, height = text_size(line.attributes[name], line.attributes)
+    far, off = (7 if name == "taillabel" else 11) + abs(onward[0]) * width / 2, abs(beside[1]) * height / 2 + abs(beside[0]) * (width / 2 + 3) + 1
+    return end[0] + onward[0] * far + beside[0] * off, end[1] + onward[1] * far + beside[1] * off
 
 
 def halves(curve: Curve, share: float) -> tuple[Curve, Curve]:
@@ -253,7 +271,7 @@ class Folded:
         width, height = text_size(name, line.attributes)
         for piece in parts:
             x, y = min(piece.curve[0], piece.curve[-1])
-            if name and "label" not in piece.shown and max(spot[0] for spot in piece.curve) - x > width + BEFORE:
+            if name and "label" not in piece.shown and max(spot[0] for spot in piece.curve) - x > width + BESIDE:
                 piece.shown.update(label=name, lp=self.moved((x + width / 2 + 2, y + height / 2), piece.row))
 
     def piece_attributes(self, line: Line, piece: Piece, at: int) -> dict[str, str]:
@@ -265,9 +283,20 @@ class Folded:
             return {**found, **piece.shown, "pos": f"e,{self.moved(line.tip, piece.row)} {path}"}
         return {**found, **piece.shown, "arrowhead": "none", "pos": path}
 
+    def torn(self) -> Iterator[str]:
+        """A dotted line at each end of a row that goes on in another one."""
+        for number, cut in enumerate(self.cuts):
+            for row in (number, number + 1):
+                spots = [(cut, height) for height in self.heights(row)]
+                ends = [f"{side} of row {row}, {end}" for side in ["right" if row == number else "left"] for end in ("below", "above")]
+                for end, spot in zip(ends, spots):
+                    yield f'{quoted(end)} [style=invis shape=point width=0.01 label="" pos="{self.moved(spot, row)}"];'
+                path = " ".join(self.moved(spot, row) for spot in (spots[0], spots[0], spots[1], spots[1]))
+                yield f'{quoted(ends[0])} -> {quoted(ends[1])} [class=cut style=dotted color="#667380" arrowhead=none pos="{path}"];'
+
     def text(self, note: str = "") -> str:
         """All of it, with a note below."""
         widths = [x - self.left[bisect(self.cuts, x)] for box in self.drawing.boxes for x in [box.middle[0] + box.width / 2]]
         below = [f'"the note" [shape=plaintext label={quoted(note)} fontcolor="#bb2222" fontname="sans-serif" fontsize=11 '
                  f'pos="{spelled((max(widths, default=0.0) / 2, self.bottom - 6.0 * note.count(chr(92) + "l")))}"];'] if note else []
-        return "\n".join(["digraph g {", *self.boxes(), *self.lines(), *below, "}"])
+        return "\n".join(["digraph g {", *self.boxes(), *self.lines(), *self.torn(), *below, "}"])
