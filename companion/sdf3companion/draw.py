@@ -137,9 +137,9 @@ def channel_lines(channel: graphs.Channel, marks: Marks, capacities: dict[str, i
         yield f"{target} -> {source} [id={quoted(f'{variant}space/{name}')} label=space style=dashed constraint=false{red(True)}];"
 
 
-def dot(graph: graphs.Graph, marks: Marks, capacities: dict[str, int], variant: str = "") -> str:
-    """The graph in graphviz's language. What `variant` says stands before each part's id."""
-    lines = ["digraph g {", "rankdir=LR;", 'node [shape=box style=rounded fontname="sans-serif" fontsize=11];',
+def dot(graph: graphs.Graph, marks: Marks, capacities: dict[str, int], variant: str = "", between: float = 0.5) -> str:
+    """The graph in graphviz's language. What `variant` says stands before each part's id; so many inches are between actors at least."""
+    lines = ["digraph g {", f"rankdir=LR; ranksep={between};", 'node [shape=box style=rounded fontname="sans-serif" fontsize=11];',
              'edge [fontname="sans-serif" fontsize=9 arrowsize=0.7];']
     lines += [actor_line(actor, marks, variant) for actor in graph.actors]
     lines += [line for channel in graph.channels for line in channel_lines(channel, marks, capacities, variant)]

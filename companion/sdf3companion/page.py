@@ -26,8 +26,8 @@ from sdf3companion.ticks import decimal
 from sdf3companion.tradeoff import DISTRIBUTIONS, Search
 
 TEMPLATE = os.path.join(os.path.dirname(os.path.realpath(__file__)), "page.html")
-ROOMS = {"wide": 800, "medium": 500, "narrow": 235}
-"""Points that a row of the graph has, by the window that it is for."""
+ROOMS = {"wide": (800, 0.5), "medium": (500, 0.5), "narrow": (245, 0.2)}
+"""By the window that a drawing is for: points that a row has, and inches between actors."""
 
 
 def explored(analyser: Analyser, graph: graphs.Graph, asked: argparse.Namespace) -> Search:
@@ -90,8 +90,8 @@ def drawn(graph: graphs.Graph) -> str:
     """The graph as SVG to be put into a page, once for each width of its window."""
     told = escape(f"the graph: {len(graph.actors)} actors and {len(graph.channels)} channels", quote=True)
     found = []
-    for name, room in ROOMS.items():
-        text = draw.picture(draw.dot(graph, draw.Marks(), {}, f"{name}/"), "svg", room).decode("utf-8")
+    for name, (room, between) in ROOMS.items():
+        text = draw.picture(draw.dot(graph, draw.Marks(), {}, f"{name}/", between), "svg", room).decode("utf-8")
         found.append(f'<div class="drawing {name}" role="img" aria-label="{told}">{text[text.index("<svg"):]}</div>')
     return "\n".join(found)
 
