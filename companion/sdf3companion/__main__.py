@@ -1,87 +1,151 @@
 """Companions of sdf3analysis: what a designer does with the analyser's answers, beyond one run of it.
 
 Unproved: nothing here was checked by the prover. Every number comes from the analyser, or from plain arithmetic on its
-numbers. `companion NAME --help` says what each does.
+numbers. Rates, times and schedules are by the times of the file that is given.
 """
+from __future__ import annotations
+
 import argparse
-import importlib
-import importlib.util
 import os
+import shutil
+import signal
 import sys
+from types import ModuleType
+from typing import Dict, NoReturn, Sequence
 
-from sdf3companion import faults, words
+from sdf3companion import draw, faults, gantt, hints, output, page, verify, words
+from sdf3companion.commands import adapt, batch, fastest, referee, tradeoff, whatif
+from sdf3companion.faults import Fault
 
-NAMES = ["tradeoff", "fastest", "whatif", "referee", "adapt", "gantt", "draw", "page", "batch"]
+COMMANDS: Dict[str, ModuleType] = {"tradeoff": tradeoff, "fastest": fastest, "whatif": whatif, "referee": referee, "adapt": adapt, "gantt": gantt,
+                                   "draw": draw, "page": page, "batch": batch, "verify": verify}
 """The subcommands. The module of each has a docstring, whose first line is its summary and whose rest is its help,
-`add_words(parser)`, which adds the words it reads, and `run(asked)`, which answers its exit status."""
-
-ALONE = {"verify": "Checks a certificate again, by a checker that shares nothing with the analyser."}
-"""Subcommands that read their own words: the module of each has `main(words)`, which answers its exit status."""
+`add_words(parser)`, which adds the words it alone reads, and `run(asked)`, which answers its exit status."""
+BUFFERS, CONSTRAINT = "its bufferSize as --buffers", "its throughput constraint as"
+FROM_FILE = {"tradeoff": f"{CONSTRAINT} --rate", "fastest": BUFFERS, "whatif": BUFFERS, "referee": f"{CONSTRAINT} --claim, and {BUFFERS}",
+             "gantt": BUFFERS, "draw": BUFFERS}
+"""What a subcommand takes from the file by --use-file."""
+OF_GRAPHS = (*FROM_FILE, "page", "batch")
+"""The subcommands that pass words on to the analyser."""
+WITHOUT_BUFFERS = ("tradeoff", "page")
+"""Those of them that find the buffers themselves."""
+TRACE = "SDF3COMPANION_TRACE"
+"""The variable with which a fault of a companion itself is shown whole."""
 
 STATUSES = """exit status: 0 where there is an answer, 1 where the answer is no (a claim that is refuted, a rate that no memory
-reaches, rows that are refused), 14 where the analyser or a package is missing, 130 where it was interrupted before there
-was anything to show; else the analyser's own, with its line on standard error."""
+reaches, rows that are refused), 11 where the answer can't be written, 14 where the analyser or a package is missing, 15 where the
+companion itself fails, 130 where it was interrupted before there was anything to show; else the analyser's own, with its line on
+standard error."""
 
 
-def is_there(name):
-    return importlib.util.find_spec(f"sdf3companion.{name}") is not None
+class Parser(argparse.ArgumentParser):
+    """A reader of words, for which words that it can't read are a fault like others."""
+
+    def error(self, message: str) -> NoReturn:
+        raise Fault(faults.USAGE, message, more=[f"`{self.prog} --help` has the words"])
 
 
-def module(name):
-    return importlib.import_module(f"sdf3companion.{name}")
+def called() -> str:
+    """The command by which companions are run, as it runs from here."""
+    given = sys.argv[0] if sys.argv and sys.argv[0] else "companion"
+    name = os.path.basename(given)
+    if name.startswith("__main__"):
+        return "python3 -m sdf3companion"
+    on_path = shutil.which(name)
+    return name if on_path is not None and os.path.realpath(on_path) == os.path.realpath(given) else given
 
 
-def summary(name):
-    return ALONE.get(name) or module(name).__doc__.strip().splitlines()[0]
+def parser(command: str) -> Parser:
+    """The reader of the words of all subcommands."""
+    raw = argparse.RawDescriptionHelpFormatter
+    whole = Parser(prog=command, description=(__doc__ or "").strip(), epilog=STATUSES, formatter_class=raw, allow_abbrev=False)
+    listed = whole.add_subparsers(dest="name", metavar="NAME", title="commands", parser_class=Parser)
+    for name, module in COMMANDS.items():
+        first, _, rest = (module.__doc__ or "").strip().partition("\n")
+        one = listed.add_parser(name, help=first, description=f"{first}\n\n{words.UNPROVED}\n{rest}", epilog=STATUSES, formatter_class=raw,
+                                allow_abbrev=False)
+        module.add_words(one)
+        if name in OF_GRAPHS:
+            words.add_common(one, buffers=name not in WITHOUT_BUFFERS)
+        if name in FROM_FILE:
+            words.add_use_file(one, FROM_FILE[name])
+    return whole
 
 
-def overview():
-    """The help of the whole: a line for each subcommand."""
-    names = [name for name in [*NAMES, *ALONE] if is_there(name)]
-    lines = [__doc__.strip(), "", "usage: companion NAME ..", "", *(f"  {name:9} {summary(name)}" for name in names), "", STATUSES]
-    return "\n".join(lines)
+def answered(command: str, arguments: Sequence[str]) -> int:
+    """The exit status of the subcommand that words ask for."""
+    whole = parser(command)
+    if not arguments:
+        raise Fault(faults.USAGE, "a command has to be named", more=[f"`{command} --help` has their names"])
+    asked = whole.parse_args(arguments)
+    if asked.name is None:
+        raise Fault(faults.USAGE, "a command has to be named", more=[f"`{command} --help` has their names"])
+    status = COMMANDS[asked.name].run(asked)
+    assert isinstance(status, int), "each subcommand answers its exit status"
+    return status
 
 
-def parser_of(name):
-    """The reader of a subcommand's words."""
-    first, _, rest = module(name).__doc__.strip().partition("\n")
-    parser = argparse.ArgumentParser(
-        prog=f"companion {name}", description=f"{first}\n\n{words.UNPROVED}\n{rest}", epilog=STATUSES,
-        formatter_class=argparse.RawDescriptionHelpFormatter, allow_abbrev=False)
-    module(name).add_words(parser)
-    words.add_common(parser)
-    return parser
+def told(fault: Fault, command: str) -> int:
+    """Tells a fault on standard error: the analyser's line as it is, and what to try."""
+    if fault.is_analysers:
+        output.tell_as_it_is(fault.line)
+    else:
+        output.tell(fault.line)
+    for line in [*fault.more, *hints.advice(fault, command)]:
+        output.tell(line)
+    return fault.status
 
 
-def answered(name, rest):
-    """The exit status of a subcommand; a fault is told in one line on standard error."""
+def broken(failure: BaseException) -> int:
+    """Tells in a line that a companion itself failed."""
+    if os.environ.get(TRACE):
+        raise failure
+    if isinstance(failure, MemoryError):
+        output.tell("there is no memory")
+        return faults.MEMORY
+    if isinstance(failure, OSError):
+        output.tell(f"{failure.filename or 'a file'} can't be read or written: {failure.strerror or failure}")
+        return faults.SHELF
+    said = str(failure).partition("\n")[0]
+    output.tell(f"the companion itself failed ({type(failure).__name__}: {said[:200]}); {TRACE}=1 shows where")
+    return faults.BROKEN
+
+
+def ended(printed: output.Printed, command: str, arguments: Sequence[str]) -> int:
+    """The exit status of a run; whatever ends it is told in a line."""
     try:
-        status = module(name).run(parser_of(name).parse_args(rest))
-        sys.stdout.flush()
-        return status
-    except faults.Fault as fault:
-        print(fault.line if fault.is_analysers else f"companion {name}: {fault.line}", file=sys.stderr)
-        return fault.status
-    except BrokenPipeError:
-        os.dup2(os.open(os.devnull, os.O_WRONLY), sys.stdout.fileno())
-        return faults.UNWRITTEN
+        try:
+            return answered(command, arguments)
+        except SystemExit as end:
+            return end.code if isinstance(end.code, int) else faults.USAGE
+        finally:
+            printed.flush()
+    except faults.Unwritten as fault:
+        printed.leave()
+        return told(fault, command)
+    except Fault as fault:
+        return told(fault, command)
     except KeyboardInterrupt:
-        print(f"companion {name}: interrupted", file=sys.stderr)
+        output.tell("interrupted")
         return faults.INTERRUPTED
+    except Exception as failure:
+        return broken(failure)
 
 
-def main(arguments):
-    name = arguments[0] if arguments else ""
-    if name in ("", "-h", "--help"):
-        print(overview(), file=sys.stdout if name else sys.stderr)
-        return 0 if name else faults.USAGE
-    if name in ALONE and is_there(name):
-        return module(name).main(arguments[1:])
-    if name in NAMES and is_there(name):
-        return answered(name, arguments[1:])
-    print(f"companion: there is no {name}; companion --help has the names", file=sys.stderr)
-    return faults.USAGE
+def main(arguments: Sequence[str]) -> int:
+    command = called()
+    name = os.path.basename(command.partition(" ")[0]) if not command.startswith("python3 -m") else "sdf3companion"
+    known = next((word for word in arguments[:1] if word in COMMANDS), None)
+    output.speaker.name = f"{name} {known}" if known else name
+    signal.signal(signal.SIGINT, signal.default_int_handler)
+    signal.signal(signal.SIGTERM, signal.default_int_handler)
+    return ended(output.take_standard_output(), command, arguments)
+
+
+def console() -> NoReturn:
+    """What an installed command runs."""
+    sys.exit(main(sys.argv[1:]))
 
 
 if __name__ == "__main__":
-    sys.exit(main(sys.argv[1:]))
+    console()

@@ -18,14 +18,15 @@ import re
 import shutil
 import subprocess
 import textwrap
-from collections.abc import Iterator
+from collections.abc import Iterator, Mapping, Sequence
 from dataclasses import dataclass, field
 from itertools import groupby
 
-from sdf3companion import graphs, output, words, xmltree
-from sdf3companion.analyser import Analyser, NeedCycle, escaped
+from sdf3companion import asking, graphs, output, words, xmltree
+from sdf3companion.analyser import Analyser
+from sdf3companion.answers import NeedCycle, Time, escaped, plain, shown
+from sdf3companion.bounds import fastest
 from sdf3companion.faults import USAGE, Fault, needed
-from sdf3companion.fastest import fastest, known
 from sdf3companion.folding import Drawing, Folded, quoted
 
 FORMATS = ("svg", "png", "pdf")
@@ -45,7 +46,7 @@ UNANSWERED = re.compile(r"limit: (?:round|starts) above|budget: ")
 
 @dataclass
 class Marks:
-    """What is red, by printed name: actors, channels, channels by their free space, and a way that is missing; what else is told of
+    """What is red, by name: actors, channels, channels by their free space, and a way that is missing; what else is told of
     actors; and the refusal that stands below."""
 
     actors: set[str] = field(default_factory=set)
@@ -59,9 +60,9 @@ class Marks:
         """Marks what a link stands for; the token of an actor to itself is in its actor."""
         name, _, kind = link.partition("/")
         if kind == "space":
-            self.spaces.add(name)
+            self.spaces.add(plain(name))
         elif not kind:
-            self.channels.add(name)
+            self.channels.add(plain(name))
 
 
 def of_cycle(cycle: NeedCycle | None) -> Marks:
@@ -78,14 +79,14 @@ def of_refusal(line: str) -> Marks | None:
     """What a refusal says of a graph; None where it says nothing that could be drawn."""
     marks = Marks(refusal=line)
     if walk := WALK.search(line):
-        marks.channels.update(step[1:] for step in walk[1].split())
+        marks.channels.update(plain(step[1:]) for step in walk[1].split())
     elif "deadlock: " in line:
         for actor, fired, due, link in BLOCKED.findall(line.partition("deadlock: ")[2]):
-            marks.actors.add(actor)
-            marks.told[actor] = f"{fired} of {due} firings"
+            marks.actors.add(plain(actor))
+            marks.told[plain(actor)] = f"{fired} of {due} firings"
             marks.add(link)
     elif way := MISSING_WAY.search(line):
-        ends = [name for name in way.groups() if name]
+        ends = [plain(name) for name in way.groups() if name]
         marks.actors.update(ends)
         marks.missing = (ends[0], ends[1]) if len(ends) == 2 else None
     elif not UNANSWERED.search(line):
@@ -103,14 +104,14 @@ def shortened(name: str) -> str:
     return name if len(name) <= LETTERS else f"{name[:LETTERS - 10]}\N{HORIZONTAL ELLIPSIS}{name[-9:]}"
 
 
-def listed(values: list[int]) -> str:
+def listed(values: Sequence[Time]) -> str:
     """Numbers by phase, `n*v` for n times v, as far as there is room."""
-    runs = [(len(list(run)), value) for value, run in groupby(values)]
-    text = ",".join(f"{times}*{value}" if times > 1 and len(values) > 2 else ",".join([str(value)] * times) for times, value in runs)
+    runs = [(len(list(run)), shown(value)) for value, run in groupby(values)]
+    text = ",".join(f"{times}*{value}" if times > 1 and len(values) > 2 else ",".join([value] * times) for times, value in runs)
     return text if len(text) <= NUMBERS else f"{text[:NUMBERS].rpartition(',')[0]},\N{HORIZONTAL ELLIPSIS} of {len(values)}"
 
 
-def rates(values: list[int]) -> str:
+def rates(values: Sequence[int]) -> str:
     """The rates of a port as its end of a channel shows them: nothing where they are 1."""
     return listed(values) if set(values) != {1} else ""
 
@@ -120,31 +121,32 @@ def red(is_red: bool) -> str:
 
 
 def actor_line(actor: graphs.Actor, marks: Marks, variant: str) -> str:
-    name = escaped(actor.name)
-    shown = [shortened(actor.name), listed(actor.times), *([marks.told[name]] if name in marks.told else [])]
-    return f"{quoted(name)} [id={quoted(f'{variant}actor/{name}')} label={label(chr(10).join(filter(None, shown)))}{red(name in marks.actors)}];"
+    name, is_red = escaped(actor.name), actor.name in marks.actors
+    told = [shortened(actor.name), listed(actor.times), marks.told.get(actor.name, "")]
+    return f"{quoted(name)} [id={quoted(f'{variant}actor/{name}')} label={label(chr(10).join(filter(None, told)))}{red(is_red)}];"
 
 
-def channel_lines(channel: graphs.Channel, marks: Marks, capacities: dict[str, int], variant: str) -> Iterator[str]:
+def channel_lines(channel: graphs.Channel, marks: Marks, capacities: Mapping[str, int], variant: str) -> Iterator[str]:
     """The channel, and its free space where that is red."""
     name, source, target = escaped(channel.name), quoted(escaped(channel.source)), quoted(escaped(channel.target))
-    shown = [shortened(channel.name), *([f"\N{BLACK CIRCLE}{channel.tokens}"] if channel.tokens else []),
-             *([f"[{capacities[name]}]"] if name in capacities else [])]
+    told = [shortened(channel.name), *([f"\N{BLACK CIRCLE}{channel.tokens}"] if channel.tokens else []),
+            *([f"[{capacities[channel.name]}]"] if channel.name in capacities else [])]
     ends = f"taillabel={label(rates(channel.made))} headlabel={label(rates(channel.taken))}"
-    yield (f"{source} -> {target} [id={quoted(f'{variant}channel/{name}')} label={label(chr(10).join(shown))} {ends}"
-           f"{red(name in marks.channels)}];")
-    if name in marks.spaces:
+    yield (f"{source} -> {target} [id={quoted(f'{variant}channel/{name}')} label={label(chr(10).join(told))} {ends}"
+           f"{red(channel.name in marks.channels)}];")
+    if channel.name in marks.spaces:
         yield f"{target} -> {source} [id={quoted(f'{variant}space/{name}')} label=space style=dashed constraint=false{red(True)}];"
 
 
-def dot(graph: graphs.Graph, marks: Marks, capacities: dict[str, int], variant: str = "", between: float = 0.5) -> str:
+def dot(graph: graphs.Graph, marks: Marks | None, capacities: Mapping[str, int], variant: str = "", between: float = 0.5) -> str:
     """The graph in graphviz's language. What `variant` says stands before each part's id; so many inches are between actors at least."""
+    marks = marks or Marks()
     lines = ["digraph g {", f"rankdir=LR; ranksep={between};", 'node [shape=box style=rounded fontname="sans-serif" fontsize=11];',
              'edge [fontname="sans-serif" fontsize=9 arrowsize=0.7];']
     lines += [actor_line(actor, marks, variant) for actor in graph.actors]
     lines += [line for channel in graph.channels for line in channel_lines(channel, marks, capacities, variant)]
     if marks.missing:
-        ends = " -> ".join(map(quoted, marks.missing))
+        ends = " -> ".join(quoted(escaped(name)) for name in marks.missing)
         lines.append(f'{ends} [label="no way" style=dashed constraint=false{red(True)}];')
     return "\n".join([*lines, "}"])
 
@@ -167,42 +169,45 @@ def picture(text: str, form: str, room: float = ROOM, note: str = "") -> bytes:
 
 
 def add_words(parser: argparse.ArgumentParser) -> None:
-    parser.add_argument("graph", metavar="GRAPH", help="a graph file")
+    words.add_graph(parser)
     parser.add_argument("output", metavar="OUT.svg", nargs="?", help="the picture: .svg, .png or .pdf; without it, or by -, SVG is printed")
 
 
-def looked_at(analyser: Analyser, asked: argparse.Namespace) -> tuple[graphs.Graph, NeedCycle | None, Fault | None]:
-    """The graph, and what holds it back: a need cycle or a refusal."""
-    try:
-        graph = graphs.opened(analyser, asked.graph)
-    except Fault as fault:
-        if of_refusal(fault.line) is None:
-            raise
-        return graphs.Graph(xmltree.parsed(output.read(asked.graph), asked.graph).root, asked.graph), None, fault
+def refused(asked: argparse.Namespace, fault: Fault) -> graphs.Graph:
+    """The graph of a file that the analyser refuses for what could be drawn; else the fault stays."""
+    if of_refusal(fault.line) is None or asked.graph == output.STANDARD:
+        raise fault
+    return graphs.Graph(xmltree.parsed(output.read(asked.graph), asked.graph).root, asked.graph, asked.graph)
+
+
+def held_back(analyser: Analyser, graph: graphs.Graph, asked: argparse.Namespace) -> tuple[NeedCycle | None, Fault | None]:
+    """What holds a graph back: a need cycle, or a refusal that could be drawn."""
     try:
         bound = fastest(analyser, graph, asked.buffers, words.without_buffers(asked))
-        answer = bound.answer if bound else analyser.throughput(graph, words.passed_on(asked))
+        return (bound.answer if bound else analyser.throughput(graph, words.passed_on(asked))).cycle, None
     except Fault as fault:
         if of_refusal(fault.line) is None:
             raise
-        return graph, None, fault
-    return graph, answer.cycle, None
+        return None, fault
 
 
 def run(asked: argparse.Namespace) -> int:
-    out = None if asked.output == "-" else asked.output
-    form = os.path.splitext(out)[1].lstrip(".").lower() if out else "svg"
-    if form not in FORMATS:
-        raise Fault(USAGE, f"{out}: a picture's name ends in .svg, .png or .pdf")
-    graph, cycle, fault = looked_at(Analyser(asked.program), asked)
+    output.require_ending(asked.output, FORMATS)
+    cycle: NeedCycle | None = None
+    fault: Fault | None = None
+    try:
+        analyser, graph = asking.asked_graph(asked)
+        cycle, fault = held_back(analyser, graph, asked)
+    except Fault as refusal:
+        graph, fault = refused(asked, refusal), refusal
     marks = (of_refusal(fault.line) if fault else None) or of_cycle(cycle)
-    text = dot(graph, marks, known(graph, asked.buffers))
+    text = dot(graph, marks, graph.buffers(asked.buffers))
+    is_named = asked.output not in (None, output.STANDARD)
     if asked.json:
         words.as_json({"cycle": cycle and cycle.document(), "refusal": fault and fault.line, "dot": text})
-    if out is not None:
-        output.put(out, picture(text, form, note=marks.refusal))
-    elif not asked.json:
-        output.put_or_print(None, picture(text, form, note=marks.refusal).decode())
+    if is_named or not asked.json:
+        form = os.path.splitext(asked.output)[1][1:].lower() if is_named else "svg"
+        output.put_or_print(asked.output, picture(text, form or "svg", note=marks.refusal))
     if fault:
         raise fault
     return 0

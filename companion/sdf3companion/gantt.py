@@ -16,16 +16,15 @@ from __future__ import annotations
 
 import argparse
 import json
-import os
 
-from sdf3companion import graphs, output, timeline, words
-from sdf3companion.analyser import Analyser, escaped
+from sdf3companion import asking, graphs, output, timeline, words
+from sdf3companion.analyser import Analyser, Point
 from sdf3companion.faults import NO, USAGE, Fault
-from sdf3companion.tradeoff import Search
+from sdf3companion.search import Search
 
 
 def add_words(parser: argparse.ArgumentParser) -> None:
-    parser.add_argument("graph", metavar="GRAPH", help="a graph file")
+    words.add_graph(parser)
     parser.add_argument("output", metavar="OUT.svg", nargs="?", help="the picture; without it, or by -, it is printed")
     parser.add_argument("--point", type=int, metavar="N", help="draw this point of the trade-off, from 1")
     parser.add_argument("--trace", action="store_true", help="write trace events, as OUT.json, for Perfetto and Chrome")
@@ -38,36 +37,26 @@ def buffers_of_point(analyser: Analyser, graph: graphs.Graph, asked: argparse.Na
     search = Search(analyser, graph, words.passed_on(asked))
     for _ in search.levels():
         if len(search.points) >= asked.point:
-            found: list[str] = search.points[asked.point - 1].words()
-            return found
+            point: Point = search.points[asked.point - 1]
+            return point.words()
     raise Fault(NO, f"there are {len(search.points)} points")
 
 
 def times_of(graph: graphs.Graph) -> timeline.Times:
-    """Times by printed actor."""
-    return {escaped(actor.name): actor.times for actor in graph.actors}
-
-
-def output_of(asked: argparse.Namespace) -> str | None:
-    """The name of the picture, which says what is written; None where it is printed."""
-    out: str | None = None if asked.output == "-" else asked.output
-    ending = ".json" if asked.trace else ".svg"
-    if out is not None and os.path.splitext(out)[1].lower() != ending:
-        hint = "" if asked.trace else ", and one of trace events, by --trace, in .json"
-        raise Fault(USAGE, f"{out}: the name of {'trace events' if asked.trace else 'a time line'} ends in {ending}{hint}")
-    if asked.trace and asked.json and out is None:
-        raise Fault(USAGE, "trace events and --json can't both go to standard output; name a file")
-    return out
+    """Times by actor."""
+    return graph.times
 
 
 def run(asked: argparse.Namespace) -> int:
-    out = output_of(asked)
-    analyser = Analyser(asked.program)
-    graph = graphs.opened(analyser, asked.graph)
+    output.require_ending(asked.output, ["json"] if asked.trace else ["svg"])
+    is_named = asked.output not in (None, output.STANDARD)
+    if asked.trace and asked.json and not is_named:
+        raise Fault(USAGE, "trace events and --json can't both go to standard output; name a file")
+    analyser, graph = asking.asked_graph(asked)
     buffers = buffers_of_point(analyser, graph, asked) if asked.point is not None else []
     answer, times = analyser.throughput(graph, [*words.passed_on(asked), *buffers]), times_of(graph)
     if asked.json:
         words.as_json(timeline.document(answer, times))
-    if out is not None or not asked.json:
-        output.put_or_print(out, json.dumps(timeline.trace(answer, times)) + "\n" if asked.trace else timeline.svg(answer, times))
+    if is_named or not asked.json:
+        output.put_or_print(asked.output, json.dumps(timeline.trace(answer, times)) + "\n" if asked.trace else timeline.svg(answer, times))
     return 0

@@ -8,14 +8,12 @@ of this actor before it on the cycle.
 from __future__ import annotations
 
 from collections.abc import Sequence
-from fractions import Fraction
 from math import lcm
-from typing import Any, Union
+from typing import Any, Dict, Iterable, List, Union
 
-from sdf3companion.analyser import NeedCycle, Rate, Schedule
+from sdf3companion.answers import NeedCycle, Rate, Schedule, Time, escaped_link
 
-Time = Union[int, Fraction]
-Packed = list[Union[int, list[int]]]
+Packed = List[Union[int, List[int]]]
 
 LONGEST = 8
 """How long what is repeated may be."""
@@ -57,16 +55,20 @@ def numbers_in(items: Packed) -> int:
     return sum(len(item) if isinstance(item, list) else 1 for item in items)
 
 
-def unit_of(values: Sequence[Time]) -> int:
-    """The least number by which all times are whole."""
-    return lcm(*(value.denominator for value in values))
+def unit_of(times: Iterable[Sequence[Time]], answers: Iterable[Rate]) -> int:
+    """The least number by which all times are whole, those of actors and those in answers."""
+    found = {value.denominator for row in times for value in row}
+    for answer in answers:
+        found |= {answer.schedule.period.denominator, answer.cycle.time.denominator}
+        found |= {start.denominator for line in answer.schedule.starts.values() for start in line}
+    return lcm(*found)
 
 
 class Table:
     """Numbers for what comes again and again, in the order in which it came."""
 
     def __init__(self) -> None:
-        self.rows: dict[Any, int] = {}
+        self.rows: Dict[Any, int] = {}
 
     def number(self, row: Any) -> int:
         return self.rows.setdefault(row, len(self.rows))
@@ -104,7 +106,7 @@ class Packer:
         first, last = cycle.steps[0], {cycle.steps[0].actor: cycle.steps[0].firing}
         kinds = []
         for step in cycle.steps[1:]:
-            kinds.append(self.steps.number((self.actors[step.actor], self.links.number(step.link), step.firing - last.get(step.actor, 0))))
+            kinds.append(self.steps.number((self.actors[step.actor], self.links.number(escaped_link(step.link)), step.firing - last.get(step.actor, 0))))
             last[step.actor] = step.firing
         steps = packed(kinds)
         is_cut = numbers_in(steps) > self.share

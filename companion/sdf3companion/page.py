@@ -18,12 +18,11 @@ from concurrent.futures import ThreadPoolExecutor
 from html import escape
 from typing import Any
 
-from sdf3companion import draw, graphs, output, packing, words
+from sdf3companion import asking, draw, graphs, output, packing, words
 from sdf3companion.analyser import Analyser, Point, Rate
 from sdf3companion.faults import BUDGET, USAGE, Fault
-from sdf3companion.gantt import times_of
+from sdf3companion.search import DISTRIBUTIONS, Search
 from sdf3companion.ticks import decimal
-from sdf3companion.tradeoff import DISTRIBUTIONS, Search
 
 TEMPLATE = os.path.join(os.path.dirname(os.path.realpath(__file__)), "page.html")
 ROOMS = {"wide": (800, 0.5), "medium": (500, 0.5), "narrow": (245, 0.2)}
@@ -39,15 +38,18 @@ def explored(analyser: Analyser, graph: graphs.Graph, asked: argparse.Namespace)
     return search
 
 
-def commands(asked: argparse.Namespace, has_buffers: bool) -> list[str]:
-    """The commands that give a point's answers, for its storage and its buffers."""
-    shared = words.passed_on(asked)
+def commands(asked: argparse.Namespace, is_adapted: bool, has_buffers: bool) -> list[str]:
+    """The commands that give a point's answers, for its storage and its buffers; of a file that the analyser doesn't read, on the one that
+    `adapt` makes of it."""
+    shared, companion = words.passed_on(asked), output.speaker.name.partition(" ")[0]
     own = [*shared, *(["--buffers", "BUFFERS"] if has_buffers else [])]
-    throughput = ["sdf3analysis", "--algo", "throughput", "--graph", asked.graph, *own]
-    lines = [["sdf3analysis", "--algo", "storage", "--graph", asked.graph, "--limit", "STORAGE", *shared, "--distributions", DISTRIBUTIONS],
+    graph = "adapted.xml" if is_adapted else asked.graph
+    throughput = ["sdf3analysis", "--algo", "throughput", "--graph", graph, *own]
+    lines = [*([[companion, "adapt", asked.graph, graph]] if is_adapted else []),
+             ["sdf3analysis", "--algo", "storage", "--graph", graph, "--limit", "STORAGE", *shared, "--distributions", DISTRIBUTIONS],
              throughput, [*throughput, "--certificate", "rate.certificate"],
-             ["sdf3analysis", "--algo", "check", "--graph", asked.graph, "--certificate", "rate.certificate"],
-             ["companion", "gantt", asked.graph, "timeline.svg", *own]]
+             ["sdf3analysis", "--algo", "check", "--graph", graph, "--certificate", "rate.certificate"],
+             [companion, "gantt", asked.graph, "timeline.svg", *own]]
     places = {"STORAGE": "{storage}", "BUFFERS": "{buffers}"}
     return [" ".join(places.get(word, shlex.quote(word)) for word in line) for line in lines]
 
@@ -71,14 +73,14 @@ def schedules(analyser: Analyser, graph: graphs.Graph, asked: argparse.Namespace
 
 def numbers(analyser: Analyser, graph: graphs.Graph, asked: argparse.Namespace, points: list[Point]) -> dict[str, Any]:
     """What the page shows of all points, as numbers."""
-    times = times_of(graph)
-    packer = packing.Packer(list(times), packing.unit_of([one for row in times.values() for one in row]), packing.share_of(len(points)))
+    times, answers = graph.times, schedules(analyser, graph, asked, points)
+    packer = packing.Packer(list(times), packing.unit_of(times.values(), answers), packing.share_of(len(points)))
     buffers = list(points[0].capacities())
-    shown = [{"storage": point.storage, "rate": words.fraction(point.rate), "decimal": decimal(point.rate),
-              "capacities": [point.capacities()[name] for name in buffers], **packer.document(answer)}
-             for point, answer in zip(points, schedules(analyser, graph, asked, points))]
+    told = [{"storage": point.storage, "rate": words.fraction(point.rate), "decimal": decimal(point.rate),
+             "capacities": [point.capacities()[name] for name in buffers], **packer.document(answer)}
+            for point, answer in zip(points, answers)]
     return {**packer.tables(), "times": [[packer.whole(one) for one in row] for row in times.values()], "buffers": buffers,
-            "commands": commands(asked, bool(buffers)), "points": shown}
+            "commands": commands(asked, graph.path is None, bool(buffers)), "points": told}
 
 
 def filled(parts: dict[str, str]) -> str:
@@ -97,25 +99,22 @@ def drawn(graph: graphs.Graph) -> str:
 
 
 def add_words(parser: argparse.ArgumentParser) -> None:
-    parser.add_argument("graph", metavar="GRAPH", help="a graph file")
+    words.add_graph(parser)
     parser.add_argument("output", metavar="OUT.html", help="the page; - is standard output")
-    parser.add_argument("--seconds", type=float, metavar="S", help="explore for so long; by default until it ends by itself")
+    parser.add_argument("--seconds", type=words.seconds, metavar="S", help="explore for so long; by default until it ends by itself")
 
 
 def run(asked: argparse.Namespace) -> int:
-    if asked.output != "-" and os.path.splitext(asked.output)[1].lower() not in (".html", ".htm"):
-        raise Fault(USAGE, f"{asked.output}: a page's name ends in .html")
-    if asked.output == "-" and asked.json:
+    output.require_ending(asked.output, ["html", "htm"])
+    if asked.output == output.STANDARD and asked.json:
         raise Fault(USAGE, "the page and --json can't both go to standard output; name a file")
-    analyser = Analyser(asked.program)
-    graph = graphs.opened(analyser, asked.graph)
+    analyser, graph = asking.asked_graph(asked)
     picture = drawn(graph)
     search = explored(analyser, graph, asked)
     data = numbers(analyser, graph, asked, search.points)
     complete = f"No point is missing up to storage {search.complete}; {search.ended}."
-    text = filled({"title": escape(os.path.basename(asked.graph)), "complete": escape(complete), "graph": picture,
-                   "data": json.dumps(data, separators=(",", ":")).replace("</", "<\\/")})
-    output.put_or_print(None if asked.output == "-" else asked.output, text)
+    output.put_or_print(asked.output, filled({"title": escape(os.path.basename(asked.graph)), "complete": escape(complete), "graph": picture,
+                                              "data": json.dumps(data, separators=(",", ":")).replace("</", "<\\/")}))
     if asked.json:
         words.as_json({"page": asked.output, "complete_to": search.complete, "ended": search.ended, **data})
     return 0

@@ -1,27 +1,34 @@
 """Gives the scenarios of an SDF3 file the form that the analyser reads: a graph and its times in each scenario."""
+from __future__ import annotations
+
+from typing import TYPE_CHECKING, Dict, Mapping, Optional
 from xml.etree import ElementTree
+from xml.etree.ElementTree import Element
 
-from sdf3companion.xmltree import Element
+from sdf3companion import xmltree
+
+if TYPE_CHECKING:
+    from sdf3companion.source import Source
 
 
-def placed(tag, like, **attributes):
+def placed(tag: str, like: Element, **attributes: Optional[str]) -> Element:
     """A new element that has the place of another."""
-    element = Element(tag, {name: value for name, value in attributes.items() if value is not None})
-    element.place = like.place
+    element = xmltree.Element(tag, {name: value for name, value in attributes.items() if value is not None})
+    element.place = xmltree.place_of(like)
     return element
 
 
-def either(element, *names):
+def either(element: Element, *names: str) -> Optional[str]:
     """The first attribute of some names that an element has."""
     return next((element.get(name) for name in names if element.get(name) is not None), None)
 
 
-def graphs_of(section):
+def graphs_of(section: Element) -> Dict[Optional[str], Element]:
     """The graphs of scenarios by name, under both spellings of their tag."""
     return {graph.get("name"): graph for tag in ("scenariograph", "scenarioGraph") for graph in section.findall(tag)}
 
 
-def properties_of(scenario, graph, default):
+def properties_of(scenario: Element, graph: Element, default: Optional[Element]) -> Element:
     """A scenario's own properties, and the default ones of actors and channels that have none of their own."""
     found = placed("sdfProperties", scenario)
     for kind in ("actor", "channel"):
@@ -34,7 +41,7 @@ def properties_of(scenario, graph, default):
     return found
 
 
-def scenario_of(source, scenario, drawn, default):
+def scenario_of(source: Source, scenario: Element, drawn: Mapping[Optional[str], Element], default: Optional[Element]) -> Element:
     """A scenario in the analyser's form."""
     graph = drawn.get(scenario.get("graph"))
     if graph is None:
@@ -46,7 +53,7 @@ def scenario_of(source, scenario, drawn, default):
     return copied(new)
 
 
-def copied(element):
+def copied(element: Element) -> Element:
     """A copy of a tree that keeps the places; scenarios share graphs, and each scales its own times."""
     new = placed(element.tag, element, **element.attrib)
     new.text, new.tail = element.text, element.tail
@@ -54,7 +61,7 @@ def copied(element):
     return new
 
 
-def automaton_of(automaton):
+def automaton_of(automaton: Element) -> Element:
     new = placed("fsm", automaton, initialState=either(automaton, "initialstate", "initialState"))
     for state in automaton.findall("state"):
         row = placed("state", state, name=state.get("name"), scenario=state.get("scenario"))
@@ -64,15 +71,15 @@ def automaton_of(automaton):
     return new
 
 
-def adapt(source, application):
+def adapt(source: Source, application: Element) -> bool:
     """Rewrites the scenario section of a file of SDF3; whether there was something to rewrite."""
     section, properties = application.find("fsmsadf"), application.find("fsmsadfProperties")
-    drawn = graphs_of(section) if section is not None else {}
-    if not drawn:
+    if section is None or not graphs_of(section):
         return False
+    drawn = graphs_of(section)
     listed = properties.find("scenarios") if properties is not None else None
     automaton = next((tree.find("fsm") for tree in (properties, section) if tree is not None and tree.find("fsm") is not None), None)
-    if listed is None or automaton is None:
+    if properties is None or listed is None or automaton is None:
         raise source.fault(section, "a file of scenarios needs fsmsadfProperties with scenarios, and an fsm")
     new = placed("fsmsadf", section)
     default = properties.find("defaultProperties")

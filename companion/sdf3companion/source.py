@@ -1,50 +1,63 @@
 """A file of another program: its tree, the changes that are made to it, and its root in the form that the analyser reads."""
-from sdf3companion import output, scenario_forms, xmltree
+from __future__ import annotations
+
+from typing import List, Sequence, Tuple
+from xml.etree.ElementTree import Element
+
+from sdf3companion import scenario_forms, xmltree
 from sdf3companion.faults import FORM, Fault
 
 KINDS = ("sdf", "csdf", "fsmsadf")
+Section = Tuple[Element, Element]
+"""A graph and its properties."""
 
 
 class Source:
     """A file that is adapted: its tree, and the changes that were made."""
 
-    def __init__(self, path):
-        self.path = path
-        reader = xmltree.parsed(output.read(path), path)
-        self.root, self.changes = reader.root, reader.notes
+    def __init__(self, path: str, root: Element, changes: Sequence[str] = ()) -> None:
+        self.path, self.root, self.changes = path, root, list(changes)
 
-    def fault(self, element, line, status=FORM):
+    @classmethod
+    def read(cls, path: str, data: bytes) -> "Source":
+        reader = xmltree.parsed(data, path)
+        return cls(path, reader.root, reader.notes)
+
+    def fault(self, element: Element, line: str, status: int = FORM) -> Fault:
         """The fault that something stands at an element that can't be kept."""
-        return Fault(status, f"{self.path}: line {element.place[0]}, column {element.place[1]}: {line}")
+        row, column = xmltree.place_of(element)
+        return Fault(status, f"{self.path}: line {row}, column {column}: {line}")
 
-    def changed(self, line):
+    def changed(self, line: str) -> None:
         """Notes a change, once."""
         if line not in self.changes:
             self.changes.append(line)
 
-    def application(self):
+    def application(self) -> Element:
         found = self.root.findall("applicationGraph")
         if len(found) != 1:
             raise self.fault(found[1] if found else self.root, f"there has to be one applicationGraph, and there are {len(found)}")
         return found[0]
 
-    def sections(self):
+    @property
+    def is_scenarios(self) -> bool:
+        return self.root.get("type") == "fsmsadf"
+
+    def sections(self) -> List[Section]:
         """Each graph with its properties: one, or one by scenario."""
-        application, kind = self.application(), self.root.get("type")
-        if kind == "fsmsadf":
-            holders, kind = application.findall("fsmsadf/scenario"), "sdf"
-        else:
-            holders = [application]
+        application = self.application()
+        holders = application.findall("fsmsadf/scenario") if self.is_scenarios else [application]
+        kind = "sdf" if self.is_scenarios else self.root.get("type") or ""
         return [(self.only(holder, kind), self.only(holder, f"{kind}Properties")) for holder in holders]
 
-    def only(self, holder, tag):
+    def only(self, holder: Element, tag: str) -> Element:
         found = holder.findall(tag)
         if len(found) != 1:
             raise self.fault(found[1] if found else holder, f"there has to be one {tag} in {holder.tag}, and there are {len(found)}")
         return found[0]
 
 
-def plain_names(source):
+def plain_names(source: Source) -> None:
     """Leaves prefixes of name spaces out of tags, and line ends out of attributes."""
     for element in source.root.iter():
         if ":" in element.tag:
@@ -54,7 +67,7 @@ def plain_names(source):
             element.set(name, value.translate({9: " ", 10: " ", 13: " "}))
 
 
-def name_kind(source):
+def name_kind(source: Source) -> None:
     """Gives the root the word of its kind."""
     root = source.root
     if root.tag != "sdf3":

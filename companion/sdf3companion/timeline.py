@@ -8,15 +8,13 @@ from collections.abc import Iterator
 from dataclasses import dataclass
 from fractions import Fraction
 from html import escape
-from typing import Any, Union
-from urllib.parse import unquote
+from typing import Any, Dict, List
 
-from sdf3companion.analyser import Rate, Schedule
+from sdf3companion.answers import Rate, Schedule, Time, exact, plain, shown
 from sdf3companion.ticks import decimal, ticks
 
-Time = Union[int, Fraction]
-Times = dict[str, list[Any]]
-"""Times by printed actor, a list by phase."""
+Times = Dict[str, List[Time]]
+"""Times by actor, a list by phase."""
 
 WIDTH, TOP, LANE, RIGHT = 900, 34, 22, 40
 """Pixels: of the time that is shown, above the rows, of a lane, and at the right."""
@@ -51,8 +49,7 @@ class Firing:
 
 
 def firing_time(times: Times, actor: str, number: int) -> Time:
-    time: Time = times[actor][number % len(times[actor])]
-    return time
+    return times[actor][number % len(times[actor])]
 
 
 def critical_firings(answer: Rate) -> list[tuple[str, int, Time]]:
@@ -138,18 +135,18 @@ class Drawing:
         """Draws a row, and gives how high it is."""
         lanes = max((box.lane for box in found), default=0) + 1
         height = max(6, LANE // lanes)
-        name, most = unquote(actor), int((self.left - 12) / LETTER)
-        shown = name if len(name) <= most else f"{name[:most - 1]}\N{HORIZONTAL ELLIPSIS}"
-        self.parts.append(f"<text class='t' x='{self.left - 6}' y='{y + 15}' text-anchor='end'>{escape(shown)}<title>{escape(name)}</title></text>")
+        most = int((self.left - 12) / LETTER)
+        label = actor if len(actor) <= most else f"{actor[:most - 1]}\N{HORIZONTAL ELLIPSIS}"
+        self.parts.append(f"<text class='t' x='{self.left - 6}' y='{y + 15}' text-anchor='end'>{escape(label)}<title>{escape(actor)}</title></text>")
         for box in found:
-            self.box(box, name, y + box.lane * height, height - 3)
+            self.box(box, y + box.lane * height, height - 3)
         return max(LANE + 6, height * lanes + 6)
 
-    def box(self, box: Firing, name: str, top: int, height: int) -> None:
+    def box(self, box: Firing, top: int, height: int) -> None:
         """Draws a box, and its number where there is room."""
         x, width = self.x(box.start), max(float(box.end - box.start) * self.scale, .6)
         self.parts.append(f"<rect class='{'c' if box.is_critical else 'f'}' x='{x:.1f}' y='{top}' width='{width:.1f}' height='{height}'>"
-                          f"<title>{escape(name)} {box.told()}: {box.start} to {box.end}</title></rect>")
+                          f"<title>{escape(box.actor)} {box.told()}: {shown(box.start)} to {shown(box.end)}</title></rect>")
         if len(box.numbers) == 1 and height > 12 and width > LETTER * len(box.told()) + 4:
             self.parts.append(f"<text class='t' x='{x + width / 2:.1f}' y='{top + height - 5}' text-anchor='middle' pointer-events='none'>{box.told()}</text>")
         self.middle.update(((box.actor, one), top + height / 2) for one in box.numbers if box.is_critical)
@@ -162,7 +159,7 @@ class Drawing:
             high, low = self.middle.get((actor, number)), self.middle.get((then, later))
             if high is not None and low is not None and (actor != then or float(begin - start) * self.scale >= 1):
                 self.parts.append(f"<path class='n' marker-end='url(#a)' d='M{self.x(start):.1f} {high:.1f}"
-                                  f"L{self.x(begin):.1f} {low:.1f}'><title>{escape(unquote(step.link))}</title></path>")
+                                  f"L{self.x(begin):.1f} {low:.1f}'><title>{escape(plain(step.link))}</title></path>")
 
     def grid(self, period: Time, bottom: int) -> list[str]:
         """Ticks of time, and a dashed line where each period begins, as far as there is room."""
@@ -182,7 +179,7 @@ def svg(answer: Rate, times: Times) -> str:
     """The time line of an answer of `throughput`."""
     rows = rows_of(answer, times, until(answer, times))
     end = max(box.end for found in rows.values() for box in found)
-    drawing = Drawing(end, [unquote(actor) for actor in rows])
+    drawing = Drawing(end, list(rows))
     y = TOP
     for actor, found in rows.items():
         y += drawing.row(actor, found, y)
@@ -216,7 +213,7 @@ class Threads:
     def events(self) -> Iterator[dict[str, Any]]:
         """Their names and their order."""
         for (actor, lane), thread in self.numbers.items():
-            name = unquote(actor) if lane == 0 else f"{unquote(actor)}, beside {lane}"
+            name = actor if lane == 0 else f"{actor}, beside {lane}"
             yield {"ph": "M", "pid": 1, "tid": thread, "name": "thread_name", "args": {"name": name}}
             yield {"ph": "M", "pid": 1, "tid": thread, "name": "thread_sort_index", "args": {"sort_index": thread}}
 
@@ -237,9 +234,9 @@ def trace(answer: Rate, times: Times) -> dict[str, Any]:
         for box in boxes(answer, times, actor, count_of(answer.schedule, actor, end), 0, MOST_TRACED):
             number, thread = box.numbers[0], threads.number(actor, box.lane)
             place[actor, number] = thread
-            slices.append({"ph": "X", "pid": 1, "tid": thread, "name": f"{unquote(actor)} {number}", "cat": "need cycle" if box.is_critical else "firing",
-                           "ts": moment(box.start), "dur": moment(box.end - box.start), **({"cname": "terrible"} if box.is_critical else {}),
-                           "args": {"firing": number, "start": str(box.start), "end": str(box.end)}})
+            slices.append({"ph": "X", "pid": 1, "tid": thread, "name": f"{actor} {number}", "cat": "need cycle" if box.is_critical else "firing",
+                           "ts": moment(box.start), "dur": moment(exact(box.end - box.start)), **({"cname": "terrible"} if box.is_critical else {}),
+                           "args": {"firing": number, "start": shown(box.start), "end": shown(box.end)}})
     return {"displayTimeUnit": "ns", "otherData": {"rate": f"{answer.rate.numerator}/{answer.rate.denominator}", "a time unit": "1 microsecond"},
             "traceEvents": [{"ph": "M", "pid": 1, "name": "process_name", "args": {"name": "schedule"}}, *threads.events(), *slices,
                             *needs_traced(answer, place)]}
@@ -250,6 +247,6 @@ def needs_traced(answer: Rate, place: dict[tuple[str, int], int]) -> Iterator[di
     firings = critical_firings(answer)
     for number, (before, after, step) in enumerate(zip(firings, firings[1:], answer.cycle.steps[1:]), 1):
         if before[:2] in place and after[:2] in place:
-            shared = {"pid": 1, "cat": "need", "name": unquote(step.link), "id": number}
+            shared = {"pid": 1, "cat": "need", "name": plain(step.link), "id": number}
             yield {"ph": "s", "tid": place[before[:2]], "ts": moment(before[2]), **shared}
             yield {"ph": "f", "bp": "e", "tid": place[after[:2]], "ts": moment(after[2]), **shared}

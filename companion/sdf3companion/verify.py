@@ -371,5 +371,14 @@ def main(words):
     return status
 
 
+def add_words(parser):
+    parser.add_argument("graph", metavar="GRAPH")
+    parser.add_argument("certificate", metavar="CERTIFICATE")
+
+
+def run(asked):
+    return main([asked.graph, asked.certificate])
+
+
 if __name__ == "__main__":
     sys.exit(main(sys.argv[1:]))

@@ -9,35 +9,41 @@ With --scheduler it asks the workers of a Dask cluster, on each of which the ana
 them: each answer comes with its certificate, `check` of the analyser on this machine decides whether the row counts, and a
 refusal, which has none, is asked again on this machine. A row that doesn't count has status 9 and is run again next time.
 
-Exit status 0 where all rows count, also refusals, and 1 where some don't.
+Exit status 0 where all rows count, also refusals, 1 where some don't, and 10 where a file can't be read.
 
   companion batch --no-overlap --output rates.csv --jobs 4 -- graphs/*.xml
   companion batch --scheduler tcp://head:8786 --output rates.csv -- graphs/*.xml
 """
+from __future__ import annotations
+
+import argparse
 import os
 from concurrent import futures
+from typing import Any, Dict, Iterator, List, Mapping, Tuple
 
 from sdf3companion import output, work, words
 from sdf3companion.analyser import Analyser
-from sdf3companion.faults import MISSING, NO, USAGE, Fault, needed
-from sdf3companion.judging import judged
+from sdf3companion.faults import MISSING, NO, SHELF, Fault, needed
+from sdf3companion.judging import Judged, Task, here, judged
 from sdf3companion.rows import Table, key_of
 
+Rows = Iterator[Tuple[str, Judged]]
 
-def local(analyser, tasks, asked):
+
+def local(analyser: Analyser, tasks: Mapping[str, Task], asked: argparse.Namespace) -> Rows:
     """Rows as they come, by threads that each wait for a run of the analyser."""
     with futures.ThreadPoolExecutor(asked.jobs) as pool:
-        waiting = {pool.submit(work.answer_of, analyser.program, *task, asked.seconds, False): path for path, task in tasks.items()}
+        waiting = {pool.submit(here, analyser, path, task, asked.seconds): path for path, task in tasks.items()}
         try:
             for done in futures.as_completed(waiting):
-                yield waiting[done], done.result()[:3]
+                yield waiting[done], done.result()
         except BaseException:
             pool.shutdown(cancel_futures=True)
             raise
 
 
-def spread(analyser, tasks, asked):
-    """Rows as they come from the workers of a cluster, each after this machine has judged it."""
+def cluster(address: str) -> Tuple[Any, Any]:
+    """The module of clusters, and a client of the scheduler at an address. Workers are sent the module `work` itself."""
     try:
         import cloudpickle
         import distributed
@@ -45,48 +51,56 @@ def spread(analyser, tasks, asked):
         raise needed("the module distributed", "python3-distributed") from None
     cloudpickle.register_pickle_by_value(work)
     try:
-        client = distributed.Client(asked.scheduler, timeout="10s")
+        return distributed, distributed.Client(address, timeout="10s")
     except (OSError, ValueError) as fault:
-        raise Fault(MISSING, f"there is no scheduler at {asked.scheduler}: {fault}") from fault
+        raise Fault(MISSING, f"there is no scheduler at {address}: {fault}") from fault
+
+
+def spread(analyser: Analyser, tasks: Mapping[str, Task], asked: argparse.Namespace) -> Rows:
+    """Rows as they come from the workers of a cluster, each after this machine has judged it."""
+    distributed, client = cluster(asked.scheduler)
     with client:
-        waiting = {client.submit(work.answer_of, None, *task, asked.seconds, pure=False): path for path, task in tasks.items()}
+        waiting = {client.submit(work.answer_of, None, *task, analyser.tunables, asked.seconds, pure=False): path for path, task in tasks.items()}
         for done, answer in distributed.as_completed(waiting, with_results=True, raise_errors=False):
             path = waiting[done]
-            yield path, judged(analyser.program, *tasks[path], answer if done.status == "finished" else None, asked.seconds)
+            yield path, judged(analyser, path, tasks[path], answer if done.status == "finished" else None, asked.seconds)
 
 
-def task_of(path, passed_on):
+def task_of(path: str, passed_on: List[str]) -> Task:
     """The file's bytes and the words of its command; a file of scenarios takes no others."""
+    output.refuse_standard(path, "a graph's name")
     data = output.read(path)
     is_scenario = b"fsmsadf" in data[:4096]
-    return data, ["scenario"] if is_scenario else ["throughput", *passed_on]
+    return Task(data, ["scenario"] if is_scenario else ["throughput", *passed_on])
 
 
-def add_words(parser):
-    parser.add_argument("--jobs", type=int, default=os.cpu_count(), metavar="N", help="how many runs at once on this machine; by default its cores")
+def add_words(parser: argparse.ArgumentParser) -> None:
+    parser.add_argument("--jobs", type=words.count, default=os.cpu_count() or 1, metavar="N", help="how many runs at once on this machine; by "
+                        "default its cores")
     parser.add_argument("--scheduler", metavar="ADDRESS", help="ask the workers of this Dask scheduler, as tcp://HOST:8786")
     parser.add_argument("--output", metavar="FILE", help="keep the rows here, and leave out those that stand in it")
-    parser.add_argument("--seconds", type=float, metavar="S", help="how long a graph may take")
+    parser.add_argument("--seconds", type=words.seconds, metavar="S", help="how long a graph may take")
     parser.add_argument("files", nargs="+", metavar="FILE", help="graph files, or files of scenarios")
 
 
-def sorted_out(asked, table):
+def sorted_out(asked: argparse.Namespace, table: Table) -> Tuple[Dict[str, Task], Dict[str, Fault]]:
     """What has to be run, each with its words, by file, and the files that can't be read, each with its fault."""
-    tasks, faults = {}, {}
+    tasks: Dict[str, Task] = {}
+    faults: Dict[str, Fault] = {}
     for path in dict.fromkeys(asked.files):
         try:
-            data, task_words = task_of(path, words.passed_on(asked))
+            task = task_of(path, words.passed_on(asked))
         except Fault as fault:
+            if fault.status != SHELF:
+                raise
             faults[path] = fault
         else:
-            if not table.has(path, key_of(data, task_words)):
-                tasks[path] = (data, task_words)
+            if not table.has(path, key_of(*task)):
+                tasks[path] = task
     return tasks, faults
 
 
-def run(asked):
-    if asked.jobs < 1:
-        raise Fault(USAGE, "--jobs is a number from 1")
+def run(asked: argparse.Namespace) -> int:
     analyser = Analyser(asked.program)
     table = Table(asked.output, asked.json)
     tasks, faults = sorted_out(asked, table)
@@ -98,4 +112,7 @@ def run(asked):
         table.add(path, key_of(*tasks[path]), status, rate, line)
         output.progress(f"{count} of {len(tasks)} rows")
     output.progress("")
-    return NO if table.refused else 0
+    table.end()
+    if table.refused:
+        return NO
+    return SHELF if faults else 0

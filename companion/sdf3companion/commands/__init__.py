@@ -1,0 +1,1 @@
+"""The subcommands that print, each a layer over the library."""
