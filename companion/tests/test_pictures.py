@@ -1,14 +1,21 @@
-"""Time lines, drawings and the page, which a browser without a screen opens."""
+"""Drawings and time lines. What a browser shows of a page is looked at in test_page."""
 import json
+import random
+import re
 import shutil
+import subprocess
 import xml.etree.ElementTree as ElementTree
+from fractions import Fraction
+from itertools import groupby
 
 import pytest
 
-from sdf3companion import graphs, timeline
+from sdf3companion import curve, draw, folding, graphs, packing, page, ticks, timeline, xmltree
 from sdf3companion.gantt import times_of
+from tests import drawn, large
 
 SVG = "{http://www.w3.org/2000/svg}"
+RED = "#bb2222"
 needs_graphviz = pytest.mark.skipif(shutil.which("dot") is None, reason="graphviz isn't installed")
 
 
@@ -20,10 +27,15 @@ def test_time_line_of_the_ring(run, example, tmp_path):
     out = tmp_path / "ring.svg"
     assert run("gantt", example("ring"), out) == (0, "", "")
     assert boxes(out.read_text()) == [("c", "x 0: 0 to 2"), ("c", "x 1: 5 to 7"), ("c", "y 0: 2 to 5"), ("f", "y 1: 7 to 10")]
-    assert run("gantt", example("ring"))[1] == out.read_text()
+    assert run("gantt", example("ring"))[1] == run("gantt", example("ring"), "-")[1] == out.read_text()
 
 
-def test_time_line_of_a_point(run, example, tmp_path):
+def test_time_line_has_ticks_and_numbers(run, example):
+    texts = [part.text for part in ElementTree.fromstring(run("gantt", example("ring"))[1]).iter(f"{SVG}text")]
+    assert [text for text in texts if text not in "xy"] == ["0", "1", "2", "3", "4", "5", "6", "7", "8", "9", "10", "0", "1", "0", "1"]
+
+
+def test_time_line_of_a_point(run, example):
     status, text, _ = run("gantt", example("chain"), "--no-overlap", "--point", "4", "--json")
     assert status == 0
     found = json.loads(text)
@@ -32,15 +44,65 @@ def test_time_line_of_a_point(run, example, tmp_path):
     assert run("gantt", example("chain"), "--point", "0")[0] == 2
 
 
+@pytest.mark.parametrize("words", [["gantt", "ring.png"], ["gantt", "ring.json"], ["gantt", "ring.svg", "--trace"], ["gantt", "ring", "--trace"],
+                                   ["page", "ring.svg"], ["page", "-", "--json"], ["draw", "ring.doc"], ["gantt", "-", "--trace", "--json"]])
+def test_endings_that_nothing_writes(run, example, tmp_path, words):
+    name = words[1] if words[1] == "-" else tmp_path / words[1]
+    status, text, error = run(words[0], example("ring"), name, *words[2:])
+    assert (status, text, error.count("\n")) == (2, "", 1)
+    assert not list(tmp_path.iterdir())
+
+
+def answer_of(analyser, path, *words):
+    graph = graphs.opened(analyser, path)
+    return analyser.throughput(graph, list(words)), times_of(graph)
+
+
 def test_firings_beside_each_other_stand_in_lanes(analyser, example):
-    graph = graphs.opened(analyser, example("chain"))
-    answer = analyser.throughput(graph, ["--buffers", "alpha=40,beta=20"])
-    found = timeline.rows_of(answer, times_of(graph), timeline.until(answer, times_of(graph)))
+    answer, times = answer_of(analyser, example("chain"), "--buffers", "alpha=40,beta=20")
+    found = timeline.rows_of(answer, times, timeline.until(answer, times))
     for row in found.values():
         for lane in {box.lane for box in row}:
             ends = [(box.start, box.end) for box in row if box.lane == lane]
             assert all(end <= start for (_, end), (start, _) in zip(ends, ends[1:]))
     assert any(box.lane > 0 for row in found.values() for box in row)
+
+
+def test_trace_events(run, example, tmp_path):
+    out = tmp_path / "chain.json"
+    assert run("gantt", example("chain"), out, "--trace", "--buffers", "alpha=40,beta=20") == (0, "", "")
+    document = json.loads(out.read_text())
+    events = document["traceEvents"]
+    names = {event["tid"]: event["args"]["name"] for event in events if event["name"] == "thread_name"}
+    assert {"a", "b", "c", "a, beside 1"} <= set(names.values())
+    slices = sorted((event for event in events if event["ph"] == "X"), key=lambda event: (event["tid"], event["ts"]))
+    for thread, row in groupby(slices, key=lambda event: event["tid"]):
+        found = list(row)
+        assert all(first["ts"] + first["dur"] <= then["ts"] for first, then in zip(found, found[1:]))
+        assert {event["name"].split(" ")[0] for event in found} == {names[thread].split(",")[0]}
+    assert {event["dur"] for event in slices if event["name"].startswith("b ")} == {2}
+    starts, ends = ([event for event in events if event["ph"] == kind] for kind in "sf")
+    assert len(starts) == len(ends) > 0
+    within = {(event["tid"], event["ts"]): event for event in slices}
+    assert all(within[event["tid"], event["ts"]]["cat"] == "need cycle" for event in starts)
+    assert {event["name"] for event in ends} <= {"alpha", "beta", "alpha/space", "beta/space"}
+
+
+def test_trace_of_the_ring(run, example):
+    events = json.loads(run("gantt", example("ring"), "--trace")[1])["traceEvents"]
+    assert [(event["name"], event["ts"], event["dur"]) for event in events if event["ph"] == "X"] == [
+        ("x 0", 0, 2), ("x 1", 5, 2), ("y 0", 2, 3), ("y 1", 7, 3)]
+    assert [(event["name"], event["ts"]) for event in events if event["ph"] == "f"] == [("xy", 2), ("yx", 5)]
+
+
+def texts_of(svg):
+    return [part.text for part in ElementTree.fromstring(svg).iter(f"{SVG}text")]
+
+
+def red_parts(svg):
+    """The names of the parts that are red."""
+    groups = [group for group in ElementTree.fromstring(svg).iter(f"{SVG}g") if group.get("class") in ("node", "edge")]
+    return {group.get("id") for group in groups if any(path.get("stroke") == RED for path in group.iter(f"{SVG}path"))}
 
 
 @needs_graphviz
@@ -49,76 +111,176 @@ def test_drawing(run, example, tmp_path):
     status, text, _ = run("draw", example("chain"), out, "--no-overlap", "--buffers", "alpha=4,beta=2", "--json")
     assert status == 0
     assert json.loads(text)["cycle"]["time"] == 7
-    drawn = out.read_text()
-    texts = [part.text for part in ElementTree.fromstring(drawn).iter(f"{SVG}text")]
-    assert {"a", "b", "c", "alpha", "[4]", "[2]", "space"} <= set(texts)
-    assert run("draw", example("chain"), tmp_path / "chain.png")[0] == 0
-    assert (tmp_path / "chain.png").read_bytes().startswith(b"\x89PNG")
-    assert run("draw", example("chain"), tmp_path / "chain.doc")[0] == 2
-
-
-@pytest.fixture(scope="module")
-def browser():
-    """A browser without a screen."""
-    webdriver = pytest.importorskip("selenium.webdriver", reason="python3-selenium isn't installed")
-    driver, program = shutil.which("chromedriver"), shutil.which("chromium")
-    if driver is None or program is None:
-        pytest.skip("chromium or chromium-driver isn't installed")
-    options = webdriver.ChromeOptions()
-    options.binary_location = program
-    for word in ("--headless", "--no-sandbox", "--disable-gpu", "--disable-dev-shm-usage"):
-        options.add_argument(word)
-    options.set_capability("goog:loggingPrefs", {"browser": "ALL"})
-    from selenium.common.exceptions import WebDriverException
-    from selenium.webdriver.chrome.service import Service
-    try:
-        opened = webdriver.Chrome(service=Service(driver), options=options)
-    except WebDriverException as fault:
-        pytest.skip(f"chromium is installed, but doesn't start here: {fault.msg}")
-    yield opened
-    opened.quit()
-
-
-def text_of(browser, name):
-    return browser.find_element("id", name).text
+    assert {"a", "b", "c", "alpha", "[4]", "[2]", "space"} <= set(texts_of(out.read_text()))
+    assert {"actor/a", "actor/b", "channel/alpha", "space/alpha"} <= red_parts(out.read_text())
+    for form, begin in (("png", b"\x89PNG"), ("pdf", b"%PDF")):
+        assert run("draw", example("chain"), tmp_path / f"chain.{form}", "--no-overlap") == (0, "", "")
+        assert (tmp_path / f"chain.{form}").read_bytes().startswith(begin)
 
 
 @needs_graphviz
-def test_page_in_a_browser(run, browser, example, tmp_path):
-    page = tmp_path / "page.html"
-    assert run("page", example("chain"), page, "--no-overlap")[0] == 0
-    browser.get(page.as_uri())
-    assert browser.get_log("browser") == []
-    assert text_of(browser, "chosen") == "Storage 10: rate 1/4"
-    marks = browser.find_elements("css selector", ".point")
-    assert len(marks) == 4
-    marks[0].click()
-    assert text_of(browser, "chosen") == "Storage 6: rate 1/7"
-    assert text_of(browser, "buffers").splitlines() == ["buffer capacity", "alpha 4", "beta 2"]
-    assert text_of(browser, "cycle").splitlines()[0] == "cycle 7 1 a 1"
-    assert "--buffers alpha=4,beta=2" in text_of(browser, "commands")
-    before = browser.find_element("id", "timeline").get_attribute("innerHTML")
-    marks[0].send_keys("\ue014")
-    assert text_of(browser, "chosen") == "Storage 8: rate 1/6"
-    assert browser.find_element("id", "timeline").get_attribute("innerHTML") != before
-    assert browser.switch_to.active_element.get_attribute("aria-checked") == "true"
-    marks[1].send_keys("\ue010")
-    assert text_of(browser, "chosen") == "Storage 10: rate 1/4"
-    assert browser.find_elements("css selector", "#graph .node.hot")
-    assert browser.get_log("browser") == []
+def test_drawing_of_an_unbalanced_walk(run, graph_file, tmp_path):
+    path = graph_file(large.text({"a": 1, "b": 2, "c": 3, "d": 1}, [("ab", "a", 2, "b", 1, 0), ("bc", "b", 1, "c", 1, 0), ("ac", "a", 1, "c", 1, 0),
+                                                                     ("cd", "c", 1, "d", 1, 0)]))
+    out = tmp_path / "walk.svg"
+    status, _, error = run("draw", path, out)
+    assert (status, error.startswith("sdf3analysis: inconsistent: walk ")) == (5, True)
+    assert red_parts(out.read_text()) == {"channel/ab", "channel/bc", "channel/ac"}
+    assert "inconsistent: walk" in " ".join(texts_of(out.read_text()))
 
 
 @needs_graphviz
-def test_page_needs_no_network(run, example, tmp_path):
-    page = tmp_path / "page.html"
-    assert run("page", example("ring"), page)[0] == 0
-    text = page.read_text().replace("http://www.w3.org/", "")
-    assert "http:" not in text and "https:" not in text and "{{" not in text
+def test_drawing_of_blocked_actors(run, graph_file, tmp_path):
+    path = graph_file(large.text({"in": 1, "FFT stage 1": 2, "out": 1}, [("left", "in", 2, "FFT stage 1", 1, 0), ("right", "FFT stage 1", 1, "out", 2, 0),
+                                                                         ("back & forth", "out", 1, "in", 1, 0)]))
+    out = tmp_path / "blocked.svg"
+    status, _, error = run("draw", path, out, "--no-overlap")
+    assert (status, error.startswith("sdf3analysis: deadlock: in 0 of 1 lacks back%20%26%20forth")) == (7, True)
+    assert {"actor/in", "actor/FFT%20stage%201", "actor/out", "channel/back%20%26%20forth"} <= red_parts(out.read_text())
+    assert {"FFT stage 1", "0 of 2 firings", "back & forth"} <= set(texts_of(out.read_text()))
 
 
 @needs_graphviz
-def test_page_without_a_point(run, example, tmp_path):
-    status, _, said = run("page", example("chain"), tmp_path / "page.html", "--no-overlap", "--seconds", "0")
-    assert status == 8
-    assert "limit of time" in said
-    assert not (tmp_path / "page.html").exists()
+def test_drawing_of_a_missing_way(run, example, graph_file, tmp_path):
+    out = tmp_path / "way.svg"
+    status, _, error = run("draw", example("chain"), out)
+    assert (status, error) == (6, "sdf3analysis: connection: no way from b to a\n")
+    assert {"actor/a", "actor/b"} <= red_parts(out.read_text())
+    assert {"no way", "sdf3analysis: connection: no way from b to a"} <= set(texts_of(out.read_text()))
+    apart = graph_file(large.text({"a": 1, "b": 2, "c": 3}, [("ab", "a", 1, "b", 1, 0), ("ba", "b", 1, "a", 1, 1), ("cc", "c", 1, "c", 1, 1)]))
+    assert run("draw", apart, out)[0] == 6
+    assert {"actor/a", "actor/c"} <= red_parts(out.read_text())
+
+
+@needs_graphviz
+def test_what_can_not_be_drawn_leaves_what_stands(run, graph_file, tmp_path):
+    out = tmp_path / "out.svg"
+    out.write_text("old")
+    assert run("draw", graph_file("<sdf3/>", "no.xml"), out)[0] == 3
+    assert out.read_text() == "old"
+
+
+@pytest.mark.parametrize("line, actors, channels, missing", [
+    ("sdf3analysis: limit: ratio above 100000 along +x -y%2C", set(), {"x", "y%2C"}, None),
+    ("sdf3analysis: deadlock: a 1 of 3 lacks x/space, b 0 of 2 lacks b/self", {"a", "b"}, set(), None),
+    ("sdf3analysis: connection: a has no input", {"a"}, set(), None),
+    ("sdf3analysis: connection: a and b are apart", {"a", "b"}, set(), ("a", "b")),
+    ("sdf3analysis: budget: 1 states without a repeat", set(), set(), None),
+])
+def test_what_a_refusal_says(line, actors, channels, missing):
+    marks = draw.of_refusal(line)
+    assert (marks.actors, marks.channels, marks.missing, marks.refusal) == (actors, channels, missing, line)
+
+
+def test_what_a_refusal_says_not():
+    assert draw.of_refusal("sdf3analysis: form: wrong kind") is None
+    assert draw.of_refusal("sdf3analysis: limit: actors above 128") is None
+
+
+def laid_out(text, between=0.5):
+    graph = graphs.Graph(xmltree.parsed(text.encode(), "graph").root)
+    source = draw.dot(graph, draw.Marks(), {}, between=between)
+    done = subprocess.run(["dot", "-Tjson0"], input=source, capture_output=True, text=True, check=True)
+    return graph, folding.Drawing(done.stdout)
+
+
+def box_places(folded):
+    """By actor the corners of its box in the folded drawing."""
+    places = {}
+    for line in folded.boxes():
+        name, x, y = re.fullmatch(r'"([^"]+)" \[.*pos="([-\d.]+),([-\d.]+)"\];', line).groups()
+        box = next(box for box in folded.drawing.boxes if box.name == name)
+        places[name] = (float(x) - box.width / 2, float(y) - box.height / 2, float(x) + box.width / 2, float(y) + box.height / 2)
+    return places
+
+
+def apart(one, other):
+    return one[2] <= other[0] or other[2] <= one[0] or one[3] <= other[1] or other[3] <= one[1]
+
+
+def check_folding(drawing, room):
+    """Boxes stay apart and in the room; the parts of a line follow each other, from the tail to the head, in rows beside each other at the
+    same height."""
+    folded = folding.Folded(drawing, room)
+    places = list(box_places(folded).values())
+    assert all(apart(one, other) for at, one in enumerate(places) for other in places[:at])
+    assert max(place[2] for place in places) <= max(room, 1.05 * max(box.width + 120 for box in drawing.boxes))
+    for line, parts in folded.parts:
+        assert parts[0].curve[0] == line.curve[0] and parts[0].is_first
+        assert parts[-1].curve[-1] == line.curve[-1] and parts[-1].is_last
+        for part, then in zip(parts, parts[1:]):
+            assert part.curve[-1] == then.curve[0]
+            assert abs(part.row - then.row) == 1
+            assert min(abs(part.curve[-1][0] - cut) for cut in folded.cuts) < 0.1
+    return len(folded.cuts) + 1
+
+
+@needs_graphviz
+def test_folded_drawings_of_drawn_graphs():
+    rows = []
+    for seed in range(12):
+        _, drawing = laid_out(drawn.Drawn(seed, back=0.5).text())
+        rows.append(check_folding(drawing, 180))
+    assert max(rows) > 1
+
+
+@needs_graphviz
+@pytest.mark.parametrize("window, most", [("wide", 20), ("medium", 34), ("narrow", 60)])
+def test_a_hundred_actors_fold_into_rows(window, most):
+    room, between = page.ROOMS[window]
+    graph, drawing = laid_out(large.hundred_actors(), between)
+    assert len(graph.actors) == 100
+    assert 100 * 80 < drawing.width()
+    assert 5 < check_folding(drawing, room) < most
+
+
+def test_lists_and_names_have_room():
+    assert [draw.listed(values) for values in ([3], [1, 2], [1, 1], [4] * 9 + [2])] == ["3", "1,2", "1,1", "9*4,2"]
+    assert draw.listed(list(range(10, 60))).endswith(",\N{HORIZONTAL ELLIPSIS} of 50")
+    assert len(draw.shortened("\N{GRINNING FACE}" * 128)) <= draw.LETTERS
+
+
+def unpacked(items):
+    return [one for item in items for one in (item[1:] * item[0] if isinstance(item, list) else [item])]
+
+
+def test_packed_lists_are_what_they_were():
+    draws = random.Random(1)
+    for _ in range(300):
+        items = [draws.choice([1, 1, 2, 3]) for _ in range(draws.randint(0, 40))] * draws.randint(1, 3)
+        assert unpacked(packing.packed(items)) == items
+    assert packing.packed([0] + [559] * 2375) == [0, [2375, 559]]
+    assert packing.packed([1, 2] * 500) == [[500, 1, 2]]
+
+
+def test_schedules_are_packed_as_they_are(analyser, example):
+    answer, times = answer_of(analyser, example("chain"), "--no-overlap", "--buffers", "alpha=7,beta=3")
+    found = packing.Packer(list(times), 1, 1000).document(answer)
+    assert [sums(unpacked(line)) for line in found["starts"]] == list(answer.schedule.starts.values())
+    cut = packing.Packer(list(times), 1, 1).document(answer)
+    assert len(cut["cycle"]["steps"]) <= 1 and cut["upto"] >= 0
+    assert all(sums(unpacked(line)) == whole[:len(unpacked(line))] for line, whole in zip(cut["starts"], answer.schedule.starts.values()))
+
+
+def sums(items):
+    return [sum(items[:at + 1]) for at in range(len(items))]
+
+
+def test_fractions_of_time_become_whole():
+    assert packing.unit_of([Fraction(1, 2), 3, Fraction(2, 3)]) == 6
+
+
+@pytest.mark.parametrize("low, high, most, found", [(0, 10, 5, [0, 2, 4, 6, 8, 10]), (0, 0.25, 5, [0, 0.05, 0.1, 0.15, 0.2, 0.25]), (6, 6, 1, [6]),
+                                                    (4753, 4821, 7, list(range(4760, 4821, 10)))])
+def test_ticks(low, high, most, found):
+    assert ticks.ticks(low, high, most) == pytest.approx(found)
+
+
+def test_curve_has_its_points():
+    class Reached:
+        def __init__(self, storage, rate):
+            self.storage, self.rate = storage, rate
+
+    svg = ElementTree.fromstring(curve.svg([Reached(6, Fraction(1, 7)), Reached(10, Fraction(1, 4))]))
+    assert [title.text for title in svg.iter(f"{SVG}title")] == ["storage 6, rate 1/7 (0.142857)", "storage 10, rate 1/4 (0.25)"]
+    assert {"6", "10", "0.1", "storage"} <= {text.text for text in svg.iter(f"{SVG}text")}
