@@ -31,7 +31,7 @@ from pathlib import Path
 
 sys.dont_write_bytecode = True
 sys.path.insert(0, os.path.dirname(os.path.abspath(__file__)))
-import lanes
+import lanes  # noqa: E402
 
 ROOT = Path(__file__).resolve().parent.parent
 SOURCES = ("src", "specs", "proofs")
