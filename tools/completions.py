@@ -19,13 +19,13 @@ def bash(program: str, commands: list[Command]) -> str:
     files = sorted({option.name for command in commands for option in command.options if is_of_files(option)})
     others = sorted({option.name for command in commands for option in command.options if option.value and not is_of_files(option)})
     names = " ".join(command.name for command in commands)
-    find = (f'for ((at = 1; at < COMP_CWORD; at++)); do\n        [[ ${{COMP_WORDS[at - 1]}} = {before} ]] && word=${{COMP_WORDS[at]}}\n    done'
+    find = (f'local at\n    for ((at = 1; at < COMP_CWORD; at++)); do\n        [[ ${{COMP_WORDS[at - 1]}} = {before} ]] && word=${{COMP_WORDS[at]}}\n    done'
             if before else "((COMP_CWORD > 1)) && word=${COMP_WORDS[1]}")
     arms = "".join(f"        {command.name}) options='{' '.join(option.name for option in command.options)}' ;;\n" for command in commands)
     wanted = f"$before = {before}" if before else "-z $word"
     return f"""# What bash completes of the words of {program}.
 _{program}() {{
-    local now=${{COMP_WORDS[COMP_CWORD]}} before=${{COMP_WORDS[COMP_CWORD - 1]}} word='' options='' at
+    local now=${{COMP_WORDS[COMP_CWORD]}} before=${{COMP_WORDS[COMP_CWORD - 1]}} word='' options=''
     COMPREPLY=()
     {find}
     if [[ {wanted} ]]; then
