@@ -3,36 +3,43 @@
 
     tools/pictures.py
 """
+from __future__ import annotations
+
 import os
+from collections.abc import Sequence
 
 ROOT = os.path.dirname(os.path.dirname(os.path.abspath(__file__)))
 FONT = "font-family='sans-serif' font-size='13'"
+Place = tuple[float, float]
+Layer = tuple[str, dict[str, set[str]]]
+"""A title, and by crate the crates of these layers that it stands on."""
 
 
 class Picture:
     """Boxes, lines and texts on a white ground."""
 
-    def __init__(self, width, height):
-        self.width, self.height, self.parts = width, height, []
+    def __init__(self, width: float, height: float) -> None:
+        self.width, self.height = width, height
+        self.parts: list[str] = []
 
-    def box(self, x, y, width, height, text, fill="#eef3fa"):
+    def box(self, x: float, y: float, width: float, height: float, text: str, fill: str = "#eef3fa") -> None:
         self.parts.append(f"<rect x='{x}' y='{y}' width='{width}' height='{height}' rx='4' fill='{fill}' stroke='#456'/>")
         self.text(x + width / 2, y + height / 2 + 4.5, text)
 
-    def text(self, x, y, text, anchor="middle", colour="#222"):
+    def text(self, x: float, y: float, text: str, anchor: str = "middle", colour: str = "#222") -> None:
         shown = text.replace("&", "&amp;").replace("<", "&lt;")
         self.parts.append(f"<text x='{x}' y='{y}' text-anchor='{anchor}' fill='{colour}' {FONT}>{shown}</text>")
 
-    def line(self, x, y, to_x, to_y, colour="#789", arrow=False, width=1.2):
+    def line(self, x: float, y: float, to_x: float, to_y: float, colour: str = "#789", arrow: bool = False, width: float = 1.2) -> None:
         end = " marker-end='url(#tip)'" if arrow else ""
         self.parts.append(f"<line x1='{x}' y1='{y}' x2='{to_x}' y2='{to_y}' stroke='{colour}' stroke-width='{width}'{end}/>")
 
-    def bend(self, places, colour="#789"):
+    def bend(self, places: Sequence[Place], colour: str = "#789") -> None:
         """A line through places, with an arrow at its end."""
         shown = " ".join(f"{x},{y}" for x, y in places)
         self.parts.append(f"<polyline points='{shown}' fill='none' stroke='{colour}' stroke-width='1.8' marker-end='url(#tip)'/>")
 
-    def save(self, name):
+    def save(self, name: str) -> None:
         folder = os.path.join(ROOT, "docs", "pictures")
         os.makedirs(folder, exist_ok=True)
         tip = ("<defs><marker id='tip' viewBox='0 0 8 8' refX='8' refY='4' markerWidth='8' markerHeight='8' orient='auto'>"
@@ -43,7 +50,7 @@ class Picture:
             file.write("\n".join(self.parts) + "\n</svg>\n")
 
 
-def ring():
+def ring() -> None:
     """The ring of x, of time 2, and y, of time 3: two periods of its schedule, and the need cycle through them."""
     picture, unit, left = Picture(560, 190), 44, 70
     rows = {"x": 40, "y": 100}
@@ -62,9 +69,9 @@ def ring():
     picture.save("ring.svg")
 
 
-def listed_layers():
+def listed_layers() -> list[Layer]:
     """The layers of crates.txt but those for tests and benchmarks: a title each, and by crate the crates that it stands on."""
-    layers = []
+    layers: list[tuple[str, dict[str, list[str]]]] = []
     with open(os.path.join(ROOT, "crates.txt"), encoding="utf-8") as lines:
         for line in lines:
             name, colon, libraries = line.partition(":")
@@ -77,7 +84,7 @@ def listed_layers():
     return [(title, {name: set(on) & listed for name, on in crates.items()}) for title, crates in layers]
 
 
-def crates():
+def crates() -> None:
     """The crates by layer: each stands on crates of its own layer, to its left, and on those of the layers below."""
     layers = listed_layers()
     step, margin, tall = 122, 104, 46
@@ -92,7 +99,7 @@ def crates():
     picture.save("crates.svg")
 
 
-def run():
+def run() -> None:
     """What the clause of the top call says of one run, as a tree."""
     picture = Picture(900, 330)
     picture.box(330, 10, 240, 34, "one run of analyse")
@@ -119,7 +126,8 @@ def run():
     picture.save("run.svg")
 
 
-def automaton(name, height, states, others, critical, below):
+def automaton(name: str, height: float, states: dict[str, tuple[float, float, str, bool]], others: Sequence[Sequence[Place]],
+              critical: Sequence[Sequence[Place]], below: str) -> None:
     """States with the times of a scenario's actors, the ways between them, and the cycle of the worst-case rate in red."""
     picture = Picture(640, height)
     for colour, ways in [("#789", others), ("#b33", critical)]:
@@ -133,7 +141,7 @@ def automaton(name, height, states, others, critical, below):
     picture.save(name)
 
 
-def packets():
+def packets() -> None:
     """The automaton of the receiver of packets."""
     automaton(
         "wlan_receiver.svg", 250,
@@ -145,7 +153,7 @@ def packets():
         "by state the times of antenna, vector core and scalar core; red: 1 + 6 + 6 = 13 for 3 symbols")
 
 
-def frames():
+def frames() -> None:
     """The automaton of frames of two kinds."""
     automaton(
         "video_modes.svg", 190,
@@ -155,7 +163,7 @@ def frames():
         "by state the times of the core and of the screen; red: the worst order, 28 ms for 3 frames")
 
 
-def player():
+def player() -> None:
     """The playback of an audio file: its actors, and its buffers with what fits."""
     picture = Picture(700, 150)
     actors = [("reader", "6"), ("decoder", "7, 5"), ("converter", "3"), ("player", "10")]
