@@ -3,17 +3,19 @@
 
     tools/pictures.py
 """
+from __future__ import annotations
+
 import os
 import sys
+from collections.abc import Sequence
 
 sys.dont_write_bytecode = True
 sys.path.insert(0, os.path.dirname(os.path.abspath(__file__)))
 import sources  # noqa: E402
 
-Place = tuple[float, float]
-
 ROOT = os.path.dirname(os.path.dirname(os.path.abspath(__file__)))
 FONT = "font-family='sans-serif' font-size='13'"
+Place = tuple[float, float]
 
 
 class Picture:
@@ -35,7 +37,7 @@ class Picture:
         end = " marker-end='url(#tip)'" if arrow else ""
         self.parts.append(f"<line x1='{x}' y1='{y}' x2='{to_x}' y2='{to_y}' stroke='{colour}' stroke-width='{width}'{end}/>")
 
-    def bend(self, places: list[Place], colour: str = "#789") -> None:
+    def bend(self, places: Sequence[Place], colour: str = "#789") -> None:
         """A line through places, with an arrow at its end."""
         shown = " ".join(f"{x},{y}" for x, y in places)
         self.parts.append(f"<polyline points='{shown}' fill='none' stroke='{colour}' stroke-width='1.8' marker-end='url(#tip)'/>")
@@ -133,8 +135,8 @@ def run() -> None:
     picture.save("run.svg")
 
 
-def automaton(name: str, height: float, states: dict[str, tuple[float, float, str, bool]], others: list[list[Place]], critical: list[list[Place]],
-              below: str) -> None:
+def automaton(name: str, height: float, states: dict[str, tuple[float, float, str, bool]], others: Sequence[Sequence[Place]],
+              critical: Sequence[Sequence[Place]], below: str) -> None:
     """States with the times of a scenario's actors, the ways between them, and the cycle of the worst-case rate in red."""
     picture = Picture(640, height)
     for colour, ways in [("#789", others), ("#b33", critical)]:

@@ -19,6 +19,8 @@ LONGEST = 8
 """How long what is repeated may be."""
 WORTH = 3
 """How many numbers a repetition has to save."""
+ENOUGH = 100
+"""A repetition that saves more numbers is taken without a look for a better one."""
 MOST = 2_000_000
 """How many numbers all points have at most; of a point that has more than its share, later firings are left out."""
 LEAST_SHARE = 2_000
@@ -28,11 +30,14 @@ def repeated(items: Sequence[int], at: int) -> tuple[int, int]:
     """How often what stands at a place is repeated, and how long it is, so that most is saved."""
     best, saved = (1, 1), 0
     for size in range(1, LONGEST + 1):
-        times, block = 1, items[at:at + size]
-        while items[at + times * size:at + (times + 1) * size] == block:
-            times += 1
+        end = at + size
+        while end < len(items) and items[end] == items[end - size]:
+            end += 1
+        times = (end - at) // size
         if (times - 1) * size > saved:
             best, saved = (times, size), (times - 1) * size
+        if saved > ENOUGH:
+            break
     return best
 
 
@@ -106,7 +111,7 @@ class Packer:
         first, last = cycle.steps[0], {cycle.steps[0].actor: cycle.steps[0].firing}
         kinds = []
         for step in cycle.steps[1:]:
-            kinds.append(self.steps.number((self.actors[step.actor], self.links.number(escaped_link(step.link)), step.firing - last.get(step.actor, 0))))
+            kinds.append(self.steps.number((self.actors[step.actor], self.links.number(step.link), step.firing - last.get(step.actor, 0))))
             last[step.actor] = step.firing
         steps = packed(kinds)
         is_cut = numbers_in(steps) > self.share
@@ -115,7 +120,7 @@ class Packer:
 
     def tables(self) -> dict[str, Any]:
         """What the documents of all points refer to."""
-        return {"actors": list(self.actors), "unit": self.unit, "links": list(self.links.rows), "steps": list(self.steps.rows)}
+        return {"actors": list(self.actors), "unit": self.unit, "links": [escaped_link(link) for link in self.links.rows], "steps": list(self.steps.rows)}
 
 
 def share_of(points: int) -> int:
