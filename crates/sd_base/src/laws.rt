@@ -2,6 +2,7 @@
 ghost use Rattle.std.specs.Prelude.{◌≡◌, ℕ, ◌+◌, ◌≤◌, ◌<◌, ◌⊎◌, ◌↔◌, Bool, List, length, sum, slice_index};
 ghost use Rattle.sd_base.specs.declared.limits.TheConstants.{FILE_BYTES, CERTIFICATE_BYTES, DEPTH, NAME_BYTES, ACTORS, CHANNELS, PORTS, PHASES, RATE, TOKENS, SIZE, TIME, RATIO, ROUND, STARTS, SCENARIOS, AUTOMATON_STATES, NODES, STAMPS, EDGES, ORDER_PAIRS, CERTIFICATE_NUMBER, NET_CHANNELS, NET_TOKENS, START, LEAST_STATES, STATES, USUAL_STATES, LEAST_DISTRIBUTIONS, DISTRIBUTIONS, USUAL_DISTRIBUTIONS, LEAST_ROUNDS, ROUNDS, STORAGE, CAPACITY};
 ghost use Rattle.sd_base.specs.declared.tables.GraphFile.{GraphFile};
+ghost use Rattle.sd_base.specs.declared.text.TheConstants.{SHORT_TEXT};
 ghost use Rattle.sd_base.specs.Tables.{KeepsWideRules, IsTimed};
 ghost use Rattle.sd_base.specs.FileNet.{net_of};
 ghost use Rattle.sd_base.specs.Net.{Channel, Net, channel_at, IsRepetitionOf};
@@ -103,4 +104,5 @@ pub fn limits_are_these_numbers()
     ensures rounds { ROUNDS ≡ 1000000 }
     ensures storage { STORAGE ≡ 1000000000 }
     ensures capacity { CAPACITY ≡ 1000000 }
+    ensures short_text { SHORT_TEXT ≡ 16 }
 {}

@@ -21,4 +21,4 @@ pub use rows::Rows;
 pub use tables::{
     ActorRow, ChannelRow, GraphFile, Kind, ScenarioFile, ScenarioRow, SharedRow, StateRow,
 };
-pub use text::Text;
+pub use text::{SHORT_TEXT, Text};

@@ -3,7 +3,7 @@
 //! Short texts take no memory of their own. A text of up to 16 bytes stands in its value, and the attribute of an element
 //! that has one stands in the element. Names and most values are as short, so a tag costs no allocation but its share of
 //! the vector that it stands in.
-ghost use Rattle.std.specs.Prelude.{◌≡◌, ◌↔◌, IfOk, IsTrue, length};
+ghost use Rattle.std.specs.Prelude.{◌≡◌, ◌↔◌, ◌≤◌, IfOk, MatchResult, IsTrue, length};
 ghost use Rattle.std.specs.String.{string_bytes};
 ghost use Rattle.std.specs.Str.{IsUtf8};
 
@@ -11,8 +11,8 @@ use arrayvec::ArrayString;
 use std::alloc::{AllocError, Global};
 use std::marker::Model;
 
-/// So many bytes stand in a text itself.
-const SHORT: usize = 16;
+/// Texts of up to so many bytes take no memory of their own.
+pub const SHORT_TEXT: usize = 16;
 
 /// A text in a table, as a name; contracts see its UTF-8 bytes. A short one takes no memory besides.
 #[derive(Debug, Drop)]
@@ -23,7 +23,7 @@ pub struct Text {
 /// Where the bytes of a text stand.
 #[derive(Debug, Drop)]
 enum Form {
-    Short(ArrayString<SHORT>),
+    Short(ArrayString<SHORT_TEXT>),
     Long(String),
 }
 
@@ -50,7 +50,7 @@ impl Text {
     pub fn of(alloc: Global, text: &str) -> Result<Text, AllocError>
         ensures { IfOk result (λ t. t ≡ text.now) }
     {
-        let form = if text.len() <= SHORT {
+        let form = if text.len() <= SHORT_TEXT {
             let mut short = ArrayString::new();
             short.push_str(text);
             Form::Short(short)
@@ -58,6 +58,22 @@ impl Text {
             Form::Long(String::from_str(alloc, text)?)
         };
         Ok(Text { form })
+    }
+
+    /// Gives the string back, without memory. A short text that was copied has none and comes back whole.
+    pub fn into_string(self) -> Result<String, Text>
+        ensures { MatchResult result (λ s. string_bytes s ≡ self) (λ t. (t ≡ self) × (length self ≤ SHORT_TEXT)) }
+    {
+        if let Form::Short(text) = &self.form {
+            // That it is within the bound is its type's invariant, which only its calls tell.
+            let _length = text.len();
+        }
+        match self {
+            Text {
+                form: Form::Long(text),
+            } => Ok(text),
+            short => Err(short),
+        }
     }
 
     pub fn as_str(&self) -> &str
