@@ -20,10 +20,19 @@ const FEW: usize = 8;
 
 /// The attributes of a tag so far. Where they are more than a few their names stand beside them, so that a name is
 /// looked for at the cost of the logarithm of their count.
-#[derive(Drop)]
 pub(crate) struct Attributes {
     rows: AttributeList,
     names: BTreeSet<String>,
+}
+
+// By hand, so that what drops one calls this, and does not drop each of its parts.
+impl Drop for Attributes {
+    fn drop(self) {
+        let Attributes {
+            rows: _rows,
+            names: _names,
+        } = self;
+    }
 }
 
 impl Model for Attributes {
@@ -111,7 +120,10 @@ impl Attributes {
     pub(crate) fn into_list(self) -> AttributeList
         ensures { result ≡ self }
     {
-        let Attributes { rows, names: _ } = self;
+        let Attributes {
+            rows,
+            names: _names,
+        } = self;
         rows
     }
 }

@@ -8,13 +8,13 @@ use std::marker::Model;
 use std::{mem, slice};
 
 /// The attributes of an element, in their order. One takes no memory of its own.
-#[derive(Debug, Drop)]
+#[derive(Drop)]
 pub struct AttributeList {
     form: Form,
 }
 
 /// Where attributes stand.
-#[derive(Debug, Drop)]
+#[derive(Drop)]
 enum Form {
     Nowhere,
     One(Attribute),

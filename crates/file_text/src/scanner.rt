@@ -29,7 +29,6 @@ pub(crate) enum Held {
 }
 
 /// The tag being read, or the declaration.
-#[derive(Drop)]
 pub(crate) struct Tag {
     pub(crate) held: Held,
     pub(crate) name: Vec<u8>,
@@ -39,14 +38,40 @@ pub(crate) struct Tag {
     pub(crate) value: Vec<u8>,
 }
 
+// By hand, so that what drops one calls this, and does not drop each of its parts.
+impl Drop for Tag {
+    fn drop(self) {
+        let Tag {
+            held: _held,
+            name: _name,
+            attributes: _attributes,
+            attribute: _attribute,
+            quote: _quote,
+            value: _value,
+        } = self;
+    }
+}
+
 /// Reads a text byte by byte.
-#[derive(Drop)]
 pub(crate) struct Scanner {
     pub(crate) due: Due,
     pub(crate) mode: Mode,
     pub(crate) frames: Vec<Frame>,
     pub(crate) root: Option<Element>,
     pub(crate) tag: Tag,
+}
+
+// By hand, so that what drops one calls this, and does not drop each of its parts.
+impl Drop for Scanner {
+    fn drop(self) {
+        let Scanner {
+            due: _due,
+            mode: _mode,
+            frames: _frames,
+            root: _root,
+            tag: _tag,
+        } = self;
+    }
 }
 
 impl Scanner {

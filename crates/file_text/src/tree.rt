@@ -5,14 +5,14 @@ use crate::AttributeList;
 use sd_base::Text;
 
 /// What a text spells: its one outermost element.
-#[derive(Debug, Drop)]
+#[derive(Drop)]
 pub struct Tree {
     pub root: Element,
 }
 
 /// An element, with the elements that stand in it, in document order. Characters between them are passed
 /// over.
-#[derive(Debug, Drop)]
+#[derive(Drop)]
 pub struct Element {
     pub name: Text,
     pub attributes: AttributeList,
@@ -20,8 +20,17 @@ pub struct Element {
 }
 
 /// An attribute, with each entity in its value read as its character.
-#[derive(Debug, Drop)]
 pub struct Attribute {
     pub name: Text,
     pub value: Text,
+}
+
+// By hand, so that what drops one calls this, and does not drop each of its parts.
+impl Drop for Attribute {
+    fn drop(self) {
+        let Attribute {
+            name: _name,
+            value: _value,
+        } = self;
+    }
 }
