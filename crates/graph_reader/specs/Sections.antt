@@ -321,13 +321,18 @@ timed t (Some a) = Err (Missing field.ExecutionTime a.name)
 unfoldable pub all_timed : Bool → GraphFile → Result GraphFile ReadError
 all_timed need_times t = if need_times then timed t (find (λ (a : ActorRow). length a.times == 0) t.actors) else Ok t
 
+-- the table of these actors and channels with these times and sizes
+abbrev pub timed_table : Kind → Bool → List Actor → List Channel → List TimeEntry → List SizeEntry → Result GraphFile ReadError
+timed_table kind need_times actors channels times sizes = do
+  fit ← even_phases times actors
+  all_timed need_times (table kind actors channels times sizes)
+
 -- the table of these actors and channels with what the properties give
 abbrev pub with_properties : Kind → List ℕ → Bool → List Actor → List Channel → Option Node → Result GraphFile ReadError
 with_properties kind of need_times actors channels properties = do
   times ← times_of kind of actors properties
   sizes ← sizes_of of channels properties
-  fit ← even_phases times actors
-  all_timed need_times (table kind actors channels times sizes)
+  timed_table kind need_times actors channels times sizes
 
 -- the root is named as it has to be
 unfoldable pub root_of : Node → Result Node ReadError

@@ -17,13 +17,12 @@ use sd_base::{Kind, Quantity, Rows, Text};
 use std::alloc::Global;
 
 /// Whether tokens come in or go out at a port.
-#[derive(Clone, Copy, Debug, PartialEq, Eq)]
+#[derive(Clone, Copy, PartialEq, Eq)]
 pub enum Direction {
     In,
     Out,
 }
 
-#[derive(Drop)]
 pub struct Port {
     pub name: Text,
     pub direction: Direction,
@@ -31,10 +30,30 @@ pub struct Port {
     pub rates: Rows<u64>,
 }
 
-#[derive(Drop)]
+// By hand, so that what drops one calls this, and does not drop each of its parts.
+impl Drop for Port {
+    fn drop(self) {
+        let Port {
+            name: _name,
+            direction: _direction,
+            rates: _rates,
+        } = self;
+    }
+}
+
 pub struct Actor {
     pub name: Text,
     pub ports: Register<Port>,
+}
+
+// By hand, so that what drops one calls this, and does not drop each of its parts.
+impl Drop for Actor {
+    fn drop(self) {
+        let Actor {
+            name: _name,
+            ports: _ports,
+        } = self;
+    }
 }
 
 impl Named for Port {

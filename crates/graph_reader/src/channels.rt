@@ -20,19 +20,40 @@ use sd_base::{Quantity, Rows, Text};
 use std::alloc::Global;
 
 /// Where a channel begins or ends: a port of the actor of this number, and the port's rates.
-#[derive(Drop)]
 pub struct End {
     pub actor: u32,
     pub port: Text,
     pub rates: Rows<u64>,
 }
 
-#[derive(Drop)]
+// By hand, so that what drops one calls this, and does not drop each of its parts.
+impl Drop for End {
+    fn drop(self) {
+        let End {
+            actor: _actor,
+            port: _port,
+            rates: _rates,
+        } = self;
+    }
+}
+
 pub struct Channel {
     pub name: Text,
     pub source: End,
     pub target: End,
     pub tokens: u64,
+}
+
+// By hand, so that what drops one calls this, and does not drop each of its parts.
+impl Drop for Channel {
+    fn drop(self) {
+        let Channel {
+            name: _name,
+            source: _source,
+            target: _target,
+            tokens: _tokens,
+        } = self;
+    }
 }
 
 impl Named for Channel {
@@ -44,7 +65,7 @@ impl Named for Channel {
 }
 
 /// Which end of a channel is read.
-#[derive(Clone, Copy, Debug)]
+#[derive(Clone, Copy)]
 struct Side {
     direction: Direction,
     actor: Field,

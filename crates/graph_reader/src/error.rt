@@ -13,8 +13,8 @@ use thiserror::Error;
 #[derive(Debug, Drop, Error)]
 pub enum ReadError {
     /// The bytes spell no tree.
-    #[error("{fault}")]
-    Text { fault: TextError },
+    #[error("{0}")]
+    Text(TextError),
     #[error("not a graph of this kind")]
     WrongKind,
     /// An element or attribute that has to be there isn't.
@@ -68,7 +68,7 @@ impl From<TextError> for ReadError {
     fn from(fault: TextError) -> ReadError {
         match fault {
             TextError::NoMemory => ReadError::NoMemory,
-            fault => ReadError::Text { fault },
+            fault => ReadError::Text(fault),
         }
     }
 }

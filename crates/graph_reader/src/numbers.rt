@@ -93,7 +93,7 @@ pub fn within(what: Quantity, limit: u64, n: u64) -> Result<u64, ReadError>
 
 /// What a number means: the refusal of one that isn't well formed names the field and what that is of, the refusal of one above
 /// the limit the quantity.
-#[derive(Clone, Copy, Debug)]
+#[derive(Clone, Copy)]
 pub struct Meaning<'a> {
     pub what: Field,
     pub of: &'a str,
@@ -127,7 +127,7 @@ pub fn positive(alloc: Global, text: &str, meaning: &Meaning<'_>) -> Result<u64,
 }
 
 /// So many times a number, in a list.
-#[derive(Clone, Copy, Debug)]
+#[derive(Clone, Copy)]
 pub struct Item {
     pub count: u64,
     pub value: u64,

@@ -21,14 +21,23 @@ use sd_base::{Kind, Quantity, Rows, Text};
 use std::alloc::Global;
 
 /// The times that are given for an actor, by phase; none, where none are given.
-#[derive(Debug, Drop)]
 pub struct TimeEntry {
     pub actor: Text,
     pub times: Rows<u64>,
 }
 
+// By hand, so that what drops one calls this, and does not drop each of its parts.
+impl Drop for TimeEntry {
+    fn drop(self) {
+        let TimeEntry {
+            actor: _actor,
+            times: _times,
+        } = self;
+    }
+}
+
 /// The size that is given for a channel.
-#[derive(Debug, Drop)]
+#[derive(Drop)]
 pub struct SizeEntry {
     pub channel: Text,
     pub size: u64,

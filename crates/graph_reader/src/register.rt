@@ -33,11 +33,20 @@ impl Named for ScenarioRow {
 }
 
 /// Rows in order, each of which has a name of its own. A name costs its length, however many rows there are.
-#[derive(Drop)]
 pub struct Register<R: Named> {
     rows: Vec<R>,
     /// The names in the order of the rows, so that a name has the number of its row.
     names: IndexSet<String>,
+}
+
+// By hand, so that what drops one calls this, and does not drop each of its parts.
+impl<R: Named + Drop> Drop for Register<R> {
+    fn drop(self) {
+        let Register {
+            rows: _rows,
+            names: _names,
+        } = self;
+    }
 }
 
 impl<R: Named> Model for Register<R> {
@@ -87,7 +96,10 @@ impl<R: Named> Register<R> {
     pub fn into_rows(self) -> Vec<R>
         ensures { result.items ≡ self }
     {
-        let Register { rows, .. } = self;
+        let Register {
+            rows,
+            names: _names,
+        } = self;
         rows
     }
 
@@ -120,15 +132,19 @@ impl<R: Named> Register<R> {
     }
 
     /// The same rows and a last one, which has a new name.
-    pub fn with(mut self, alloc: Global, row: R) -> Result<Register<R>, AllocError>
+    pub fn with(self, alloc: Global, row: R) -> Result<Register<R>, AllocError>
     where
         R: Drop,
         requires { is_among (R.name_of row) (map R.name_of self) ≡ false }
         ensures { IfOk result (λ r. r ≡ self ++ row ∷ []) }
     {
         let name = String::from_str(alloc, row.name().as_str())?;
-        self.names.insert(name)?;
-        self.rows.push(row)?;
-        Ok(self)
+        let Register {
+            mut rows,
+            mut names,
+        } = self;
+        names.insert(name)?;
+        rows.push(row)?;
+        Ok(Register { rows, names })
     }
 }

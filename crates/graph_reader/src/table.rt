@@ -5,7 +5,7 @@ ghost use Rattle.std.specs.Option.{option_copied, option_map};
 ghost use Rattle.std.specs.List.{find, list_all};
 ghost use Rattle.file_text.specs.Node.{tree_of};
 ghost use Rattle.graph_reader.specs.TreeSteps.{Gives};
-ghost use Rattle.graph_reader.specs.Sections.{times_at, size_at, lists_of, phases_in, fits_phases, is_even, even_phases, widened, actor_row, channel_row, table, all_timed, root_of, kind_in, section_of, properties_of, graph_in, table_of, with_properties};
+ghost use Rattle.graph_reader.specs.Sections.{times_at, size_at, lists_of, phases_in, fits_phases, is_even, even_phases, widened, actor_row, channel_row, table, all_timed, root_of, kind_in, section_of, properties_of, graph_in, table_of, timed_table, with_properties};
 ghost use Rattle.graph_reader.specs.inside.Lists.{AreShort, HasShortPorts, JoinActors};
 
 use crate::actors::{Actor, Port, read_actors};
@@ -271,14 +271,31 @@ fn with_properties(
 {
     let times = read_times(alloc, kind, of, actors, properties)?;
     let sizes = read_sizes(alloc, of, channels, properties)?;
-    even_phases(alloc, &times, actors.as_slice())?;
+    timed_table(alloc, kind, need_times, actors, channels, &times, &sizes)
+}
+
+/// The table of these actors and channels with these times and sizes.
+fn timed_table(
+    alloc: Global,
+    kind: Kind,
+    need_times: bool,
+    actors: &Register<Actor>,
+    channels: &Register<Channel>,
+    times: &Register<TimeEntry>,
+    sizes: &Register<SizeEntry>,
+) -> Result<GraphFile, ReadError>
+    requires short { All (λ a. AreShort (lists_of times.now a)) actors.now }
+    requires join { All (JoinActors (length actors.now)) channels.now }
+    ensures { Gives (λ t. t) result (timed_table kind need_times actors.now channels.now times.now sizes.now) }
+{
+    even_phases(alloc, times, actors.as_slice())?;
     let rows = table(
         alloc,
         kind,
         actors.as_slice(),
         channels.as_slice(),
-        &times,
-        &sizes,
+        times,
+        sizes,
     )?;
     all_timed(alloc, need_times, rows)
 }

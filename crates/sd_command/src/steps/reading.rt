@@ -33,7 +33,7 @@ pub(crate) fn refusal_of(alloc: Global, error: &ReadError) -> Result<Refusal, No
     ensures { IfOk result (λ refusal. (refusal ≡ reading_refusal error.now) × (error.now ≢ reading.NoMemory)) }
 {
     match error {
-        ReadError::Text { fault } => refusal_of_text(alloc, *fault),
+        ReadError::Text(fault) => refusal_of_text(alloc, *fault),
         ReadError::WrongKind => Ok(Refusal::WrongKind),
         ReadError::Missing { what, of } => Ok(Refusal::Missing {
             what: word(alloc, *what)?,

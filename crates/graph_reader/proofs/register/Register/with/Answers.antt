@@ -6,8 +6,8 @@ use Rattle.graph_reader.specs.Sections.{is_among}
 use Rattle.graph_reader.proofs.Registered.{key-among, named-more}
 use Rattle.graph_reader.proofs.register.Register.with.Goals as goal
 
-pub invariant_of-self : goal.invariant_of-self
-invariant_of-self g c =
+pub invariant_of-result : goal.invariant_of-result
+invariant_of-result g c =
     let keys = c.self.inside.names.keys in
     let rows = c.self.inside.rows.items in
     let name_of = g.R.Named.name_of in
