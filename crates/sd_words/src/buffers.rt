@@ -13,6 +13,18 @@ use sd_base::limits::CAPACITY;
 use sd_base::{Rows, Text};
 use std::alloc::{AllocError, Global};
 
+/// The names of the buffers so far.
+struct Names {
+    set: IndexSet<String>,
+}
+
+// By hand, so that what drops them calls this, and doesn't drop each part of a set.
+impl Drop for Names {
+    fn drop(self) {
+        let Names { set: _set } = self;
+    }
+}
+
 /// The buffers of a value of `--buffers`, or none where it isn't of its form. Cost: linear in its bytes.
 #[tactic(auto, unfolding(crate::specs::Buffers::buffers_of))]
 pub(crate) fn buffers_of(
@@ -22,7 +34,9 @@ pub(crate) fn buffers_of(
     ensures { IfOk result (λ buffers. buffers ≡ buffers_of value.now) }
 {
     let parts = parts_of(alloc, value)?;
-    let mut names = IndexSet::new(alloc);
+    let mut names = Names {
+        set: IndexSet::new(alloc),
+    };
     let mut buffers = Vec::new(alloc);
     for part in &parts {
         let Some(buffer) = buffer_of(alloc, part)? else {
@@ -37,12 +51,12 @@ pub(crate) fn buffers_of(
 }
 
 // Whether a name is none of those so far, among which it then is.
-fn is_new(alloc: Global, names: &mut IndexSet<String>, name: &str) -> Result<bool, AllocError>
-    ensures new { IfOk result (λ new. new ≡ not (list_any (λ k. bytes_eq name.now (string_bytes k)) names.old.keys)) }
-    ensures more { IfOk result (λ new. new ≡ true → map string_bytes names.new.keys ≡ map string_bytes names.old.keys ++ name.now ∷ []) }
+fn is_new(alloc: Global, names: &mut Names, name: &str) -> Result<bool, AllocError>
+    ensures new { IfOk result (λ new. new ≡ not (list_any (λ k. bytes_eq name.now (string_bytes k)) names.old.set.keys)) }
+    ensures more { IfOk result (λ new. new ≡ true → map string_bytes names.new.set.keys ≡ map string_bytes names.old.set.keys ++ name.now ∷ []) }
 {
     let copy = String::from_str(alloc, name)?;
-    Ok(names.insert(copy)?)
+    Ok(names.set.insert(copy)?)
 }
 
 // The parts of a value between commas.

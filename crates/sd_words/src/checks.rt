@@ -29,7 +29,7 @@ fn read_good(
 {
     match read(alloc, form, text)? {
         Some(value) => Ok(Some(value)),
-        None => Err(WordsError::from(UsageCause::BadValue { option })),
+        None => Err(WordsError::from(UsageCause::BadValue(option))),
     }
 }
 
@@ -45,8 +45,8 @@ fn judge(
     ensures read { IfOk result (λ value. value ≡ read_as (standing algo option) (option_map (λ v. v.now) text.entry)) }
 {
     match (standing_of(algo, option), text) {
-        (Standing::Required(_), None) => Err(WordsError::from(UsageCause::Missing { option })),
-        (Standing::Foreign, Some(_)) => Err(WordsError::from(UsageCause::NotFor { option, algo })),
+        (Standing::Required(_), None) => Err(WordsError::from(UsageCause::Missing(option))),
+        (Standing::Foreign, Some(_)) => Err(WordsError::from(UsageCause::NotFor(option, algo))),
         (Standing::Required(form) | Standing::Allowed(form), Some(text)) => {
             read_good(alloc, option, form, text)
         }
@@ -60,7 +60,7 @@ fn check_names(given: &Given<'_>, option: OptionName, other: OptionName) -> Resu
     ensures { result ≡ named_apart option other (values_given given.now) }
 {
     match (given.value(option), given.value(other)) {
-        (Some(name), Some(taken)) if name == taken => Err(UsageCause::BadValue { option }),
+        (Some(name), Some(taken)) if name == taken => Err(UsageCause::BadValue(option)),
         _ => Ok(()),
     }
 }
@@ -123,9 +123,9 @@ pub(crate) fn algorithm_of(given: &Given<'_>) -> Result<Algorithm, UsageCause>
 {
     let option = OptionName::Algo;
     match given.value(option) {
-        None => Err(UsageCause::Missing { option }),
+        None => Err(UsageCause::Missing(option)),
         Some(word) => match Algorithm::named(word) {
-            None => Err(UsageCause::BadValue { option }),
+            None => Err(UsageCause::BadValue(option)),
             Some(algo) => Ok(algo),
         },
     }

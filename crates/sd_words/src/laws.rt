@@ -3,6 +3,7 @@
 ghost use Rattle.std.specs.Prelude.{◌≡◌, ◌↔◌, ℕ, List, Ok, Err};
 ghost use Rattle.sd_words.specs.declared.request.Request.{Request};
 ghost use Rattle.sd_words.specs.declared.request.UsageCause.{UsageCause};
+ghost use Rattle.sd_words.specs.declared.table.TheConstants.{LEAST_ACTORS, SEED, USUAL_ACTORS};
 ghost use Rattle.sd_words.specs.Spelling.{IsSpelling, Setting};
 ghost use Rattle.sd_words.specs.Reading.{settings_of};
 ghost use Rattle.sd_words.specs.Rules.{AreMisspelled, Asks, AskNothing};
@@ -20,4 +21,11 @@ pub fn answers_follow_the_rules()
     ensures within { (words : List (List ℕ)) (request : Request) → request_of words ≡ Ok request → IsWithinLimits request }
     ensures cause { (words : List (List ℕ)) (cause : UsageCause) → (request_of words ≡ Err cause) ↔ AskNothing words cause }
     ensures words { (words : List (List ℕ)) → (request_of words ≡ Err UsageCause.Words) ↔ AreMisspelled words }
+{}
+
+/// The numbers of words that no limit names, so that a digit that is wrong where one is written is wrong here too.
+pub fn numbers_of_words()
+    ensures seed { SEED ≡ 18446744073709551615 }
+    ensures least_actors { LEAST_ACTORS ≡ 2 }
+    ensures usual_actors { USUAL_ACTORS ≡ 8 }
 {}

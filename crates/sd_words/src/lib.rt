@@ -19,7 +19,7 @@ mod table;
 
 use clap::error::ErrorKind;
 use given::{Given, texts_of};
-pub use laws::{answers_follow_the_rules, words_are_read_as_spelled};
+pub use laws::{answers_follow_the_rules, numbers_of_words, words_are_read_as_spelled};
 pub use names::{Algorithm, OptionName};
 pub use request::{Request, UsageCause, WordsError};
 use sd_base::Text;
@@ -27,7 +27,7 @@ use spelling::test_spelling;
 use std::alloc::Global;
 
 /// Reads the words after the program's name: they are tested for their spelling, and then `clap` reads the values.
-/// Cost: linear in the bytes of at most the first 22 words, since no list of more than 21 is well spelled.
+/// Cost: linear in the bytes of at most the first 26 words, since no list of more than 25 is well spelled.
 #[tactic(auto, unfolding(crate::specs::Asked::request_of, crate::specs::Asked::request_from))]
 pub fn parse_words(alloc: Global, words: &[Text]) -> Result<Request, WordsError>
     ensures request { MatchResult result (λ r. request_of words.now ≡ Ok r) (λ e. Fails e (request_of words.now)) }

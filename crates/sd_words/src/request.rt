@@ -7,7 +7,7 @@ use std::alloc::{AllocError, AllocFailed};
 use thiserror::Error;
 
 /// What the words ask for. `graph` is the name of the graph file.
-#[derive(Debug, Drop)]
+#[derive(Drop)]
 pub enum Request {
     /// The repetition vector of the graph.
     Repetition {
@@ -92,24 +92,28 @@ pub enum Request {
 }
 
 /// Why the words ask for nothing: the first cause in the order in which they are tested.
-#[derive(Clone, Copy, Debug, PartialEq, Eq)]
+#[derive(Clone, Copy, Debug, PartialEq, Eq, Error)]
 pub enum UsageCause {
     /// The words don't split into options with their values, or an option comes twice.
+    #[error("the words don't split into options")]
     Words,
-    /// An option that has to be there isn't.
-    Missing { option: OptionName },
-    /// An option is there that the algorithm doesn't have.
-    NotFor { option: OptionName, algo: Algorithm },
-    /// The value of an option isn't of its form, or not in its range; or a file that is put is to have the name of
+    /// This option has to be there and isn't.
+    #[error("an option is missing")]
+    Missing(OptionName),
+    /// This option is there, and the algorithm doesn't have it.
+    #[error("an option isn't the algorithm's")]
+    NotFor(OptionName, Algorithm),
+    /// The value of this option isn't of its form, or not in its range; or a file that is put is to have the name of
     /// one that is read.
-    BadValue { option: OptionName },
+    #[error("an option has a bad value")]
+    BadValue(OptionName),
 }
 
 /// Why there is no request.
 #[derive(Clone, Copy, Debug, PartialEq, Eq, Error)]
 pub enum WordsError {
-    #[error("the words ask for nothing")]
-    Usage { cause: UsageCause },
+    #[error("{0}")]
+    Usage(UsageCause),
     #[error("out of memory")]
     NoMemory,
 }
@@ -118,7 +122,7 @@ impl From<UsageCause> for WordsError {
     ghost from_gives = { λ cause e. e ≡ Usage cause };
 
     fn from(cause: UsageCause) -> WordsError {
-        WordsError::Usage { cause }
+        WordsError::Usage(cause)
     }
 }
 

@@ -121,7 +121,7 @@ impl<'a> Reader<'a> {
     }
 }
 
-/// Whether the words are well spelled. Then they have at most eleven options, and are at most 21.
+/// Whether the words are well spelled. Then they name each of the thirteen options once at most, and are at most 25.
 #[tactic(auto, unfolding(crate::specs::Reading::settings_of, crate::specs::Reading::finished))]
 pub(crate) fn test_spelling(alloc: Global, words: &[Text]) -> Result<(), WordsError>
     ensures { IsTested result (settings_of words.now) }

@@ -16,7 +16,7 @@ pub(crate) fn ask(alloc: Global, words: &[Text]) -> Result<Request, Stop>
 {
     match parse_words(alloc, words) {
         Ok(request) => Ok(request),
-        Err(WordsError::Usage { cause }) => Err(Stop::Refused(usage_refusal(alloc, cause)?)),
+        Err(WordsError::Usage(cause)) => Err(Stop::Refused(usage_refusal(alloc, cause)?)),
         Err(WordsError::NoMemory) => Err(Stop::OutOfMemory),
     }
 }
@@ -27,14 +27,14 @@ fn usage_refusal(alloc: Global, cause: UsageCause) -> Result<Refusal, NoMemory>
 {
     match cause {
         UsageCause::Words => Ok(Refusal::UsageWords),
-        UsageCause::Missing { option } => Ok(Refusal::UsageMissing {
+        UsageCause::Missing(option) => Ok(Refusal::UsageMissing {
             option: owned(alloc, option.word())?,
         }),
-        UsageCause::NotFor { option, algo } => Ok(Refusal::UsageNotFor {
+        UsageCause::NotFor(option, algo) => Ok(Refusal::UsageNotFor {
             option: owned(alloc, option.word())?,
             algo: owned(alloc, algo.word())?,
         }),
-        UsageCause::BadValue { option } => Ok(Refusal::UsageBadValue {
+        UsageCause::BadValue(option) => Ok(Refusal::UsageBadValue {
             option: owned(alloc, option.word())?,
         }),
     }

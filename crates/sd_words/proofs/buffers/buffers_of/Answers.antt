@@ -18,17 +18,17 @@ pub returns-then-not-branch : goal.returns-then-not-branch
 returns-then-not-branch c =
     let next = next-part (λ (p : Bor (List ℕ)). p.now) c.deref-part-items.result.now c.loop-part.part-index (record { ref_ptr = (0, 0); now = [] }) c.loop-part-test.true in
     let some = sym c.in_ok-buffer.ensures ∙ c.in-Some.is in
-    let old : not (list_any (λ k. bytes_eq c.in-Some.buffer.0 (string_bytes k)) c.loop-part.names.keys) ≡ false = search rules in
-    let among = not-false _ (ap not (sym (same_names string_bytes c.loop-part.names.keys c.loop-part.buffers.items c.in-Some.buffer.0 c.loop-part.invariant.names)) ∙ old) in
+    let old : not (list_any (λ k. bytes_eq c.in-Some.buffer.0 (string_bytes k)) c.loop-part.names.set.keys) ≡ false = search rules in
+    let among = not-false _ (ap not (sym (same_names string_bytes c.loop-part.names.set.keys c.loop-part.buffers.items c.in-Some.buffer.0 c.loop-part.invariant.names)) ∙ old) in
     sym (ap (with_parts c.loop-part.buffers.items) next ∙ part-taken _ _ _ c.in-Some.buffer some among) ∙ c.loop-part.invariant.read
 
 pub loop-part-preserved : goal.loop-part-preserved
 loop-part-preserved c =
     let next = next-part (λ (p : Bor (List ℕ)). p.now) c.deref-part-items.result.now c.loop-part.part-index (record { ref_ptr = (0, 0); now = [] }) c.loop-part-test.true in
     let some = sym c.in_ok-buffer.ensures ∙ c.in-Some.is in
-    let new : not (list_any (λ k. bytes_eq c.in-Some.buffer.0 (string_bytes k)) c.loop-part.names.keys) ≡ true = search rules in
-    let among = not-true _ (ap not (sym (same_names string_bytes c.loop-part.names.keys c.loop-part.buffers.items c.in-Some.buffer.0 c.loop-part.invariant.names)) ∙ new) in
-    let more : map string_bytes c.is_new.new.names.keys ≡ map string_bytes c.loop-part.names.keys ++ c.in-Some.buffer.0 ∷ [] = search rules in
+    let new : not (list_any (λ k. bytes_eq c.in-Some.buffer.0 (string_bytes k)) c.loop-part.names.set.keys) ≡ true = search rules in
+    let among = not-true _ (ap not (sym (same_names string_bytes c.loop-part.names.set.keys c.loop-part.buffers.items c.in-Some.buffer.0 c.loop-part.invariant.names)) ∙ new) in
+    let more : map string_bytes c.is_new.new.names.set.keys ≡ map string_bytes c.loop-part.names.set.keys ++ c.in-Some.buffer.0 ∷ [] = search rules in
     record {
       names = more ∙ (ap (λ ns. ns ++ c.in-Some.buffer.0 ∷ []) c.loop-part.invariant.names ∙ (sym (map-append _ c.loop-part.buffers.items (c.in-Some.buffer ∷ [])) ∙ ap (map (λ b. b.0)) (sym c.in_ok-push.ensures.items)));
       read = ap (λ bs. with_parts bs (drop (c.loop-part.part-index + 1) (map (λ (p : Bor (List ℕ)). p.now) c.deref-part-items.result.now))) c.in_ok-push.ensures.items ∙ (sym (ap (with_parts c.loop-part.buffers.items) next ∙ part-new _ _ _ c.in-Some.buffer some among) ∙ c.loop-part.invariant.read);
