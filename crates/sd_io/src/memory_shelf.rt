@@ -9,7 +9,7 @@ use sd_base::{NoMemory, Rows, Text};
 use std::alloc::Global;
 use std::mem;
 
-/// A shelf in memory that tells its files and fails on chosen calls.
+/// A shelf in memory that tells its files. A call fails where it was chosen to, and a take also where there is no file of the name.
 #[derive(Debug, Drop)]
 pub struct MemoryShelf {
     files: Rows<(Text, Rows<u8>)>,
@@ -21,7 +21,7 @@ pub struct MemoryShelf {
 
 impl MemoryShelf {
     /// A shelf with these files, whose calls are numbered from 1; the numbers in `failing` are those of
-    /// the calls that fail with a counted fault. A take of a name that isn't there counts none.
+    /// the calls that fail with a counted fault. A take of a name that isn't there fails too, and counts none.
     pub fn new(files: Rows<(Text, Rows<u8>)>, failing: Rows<u64>) -> Result<MemoryShelf, NoMemory>
         requires { NamesDiffer files }
         ensures { IfOk result (λ s. (s.files ≡ files) × (s.failing ≡ failing) × (s.calls ≡ 0) × (s.faults ≡ 0)) }

@@ -6,7 +6,7 @@ use crate::{Failed, Sink};
 use sd_base::{NoMemory, Rows};
 use std::alloc::Global;
 
-/// A sink in memory that tells its bytes, takes few at a time, and fails on chosen sends.
+/// A sink in memory that tells its bytes and takes few at a time. A send fails where it was chosen to, and where the room is full.
 #[derive(Debug, Drop)]
 pub struct MemorySink {
     bytes: Vec<u8>,
