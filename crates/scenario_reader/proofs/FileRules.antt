@@ -267,17 +267,32 @@ made scenarios shared states rows initial es fit is states_fit below rows_fit no
       once = λ q i j r s at to from. one-place (λ n. n) s.next i j r r (row-at q s at).next.apart to from refl;
     }
 
-file_in : (section : Node) → IfOk (files.file_in section) FileKeepsRules
-unfolding files.file_in
-file_in section =
-    then ScenariosFit _ (files.scenarios_of section) _ (scenarios_of section) (λ scenarios fit.
-    then (IsShared scenarios) _ (files.shared_of scenarios) _ (shared_of scenarios (names-of scenarios fit.fit)) (λ shared is.
+-- the states that are read, and in which of them paths begin, fit the scenarios
+record AutomatonFits (scenarios : List ScenarioRow) (shared : List SharedRow) (read : List StateRow × ℕ) : Type 0 where
+  states : List State
+  es : List Node
+  states_fit : StatesFit (length scenarios) es states
+  below : read.1 < length states
+  rows_fit : RowsFit (length scenarios) (length states) (length states) read.0
+  nodes : length states * shared_count shared ≤ 1024
+
+automaton_in : (scenarios : List ScenarioRow) (shared : List SharedRow) (section : Node) → IfOk (files.automaton_in scenarios shared section) (AutomatonFits scenarios shared)
+unfolding files.automaton_in
+automaton_in scenarios shared section =
     skip _ (TreeSteps.one field.Fsm file section) _ (λ fsm.
     then (StatesFit (length scenarios) (TreeSteps.children (word_of field.State) fsm)) _ (files.states_of scenarios fsm) _ (states_of scenarios fsm) (λ states states_fit.
     then (λ n. n < length states) _ (files.initial_of states fsm) _ (initial_of states fsm) (λ initial below.
     then (RowsFit (length scenarios) (length states) (length states)) _ (files.state_rows states fsm) _ (state_rows (length scenarios) states fsm states_fit) (λ rows rows_fit.
     then (λ m. (m ≡ length states * shared_count shared) × (length states * shared_count shared ≤ 1024)) _ (NumberTexts.within quantity.Nodes 1024 (length states * shared_count shared)) _ (within quantity.Nodes 1024 (length states * shared_count shared)) (λ count nodes.
-    made scenarios shared states rows initial (TreeSteps.children (word_of field.State) fsm) fit is states_fit below rows_fit nodes.1)))))))
+    record { states = states; es = TreeSteps.children (word_of field.State) fsm; states_fit = states_fit; below = below; rows_fit = rows_fit; nodes = nodes.1 })))))
+
+file_in : (section : Node) → IfOk (files.file_in section) FileKeepsRules
+unfolding files.file_in
+file_in section =
+    then ScenariosFit _ (files.scenarios_of section) _ (scenarios_of section) (λ scenarios fit.
+    then (IsShared scenarios) _ (files.shared_of scenarios) _ (shared_of scenarios (names-of scenarios fit.fit)) (λ shared is.
+    then (AutomatonFits scenarios shared) _ (files.automaton_in scenarios shared section) _ (automaton_in scenarios shared section) (λ read fits.
+    made scenarios shared fits.states read.0 read.1 fits.es fit is fits.states_fit fits.below fits.rows_fit fits.nodes)))
 
 file_of : (tree : Node) → IfOk (files.file_of tree) FileKeepsRules
 unfolding files.file_of

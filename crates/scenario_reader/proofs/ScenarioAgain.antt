@@ -1,5 +1,5 @@
 -- What a tree spells is read of it.
-use Rattle.std.proofs.Common.{◌≡◌, ◌≢◌, ℕ, ◌+◌, ◌*◌, ◌≤◌, true, false, ◌==◌, List, [], ◌∷◌, ◌++◌, length, map, Ok, refl, sym, ap, ◌∙◌, append_assoc, arith}
+use Rattle.std.proofs.Common.{◌≡◌, ◌≢◌, ℕ, ◌+◌, ◌*◌, ◌≤◌, true, false, ◌==◌, List, [], ◌∷◌, ◌++◌, length, map, Result, Ok, refl, sym, ap, ◌∙◌, append_assoc, arith}
 use Rattle.std.specs.Prelude.{codes}
 use Rattle.std.specs.List.{list_any}
 use Rattle.std.proofs.lemmas.Bool.{false_from_ne_true, eqb-true}
@@ -14,6 +14,7 @@ use Rattle.sd_base.specs.Scenarios.{shared_count}
 use Rattle.file_text.specs.Node.{Node}
 use Rattle.file_text.specs.Grammar.{Each}
 use Rattle.graph_reader.specs.declared.field.Field.TheVariants as field
+use Rattle.graph_reader.specs.declared.error.ReadError.{ReadError}
 use Rattle.graph_reader.specs.Field.{word_of}
 use Rattle.graph_reader.specs.TreeSteps
 use Rattle.graph_reader.specs.TreeSteps.{◌>>=◌, file}
@@ -139,6 +140,16 @@ state_rows states fsm rows are = rows_from states [] states (TreeSteps.children 
 
 -- ---- the file
 
+automaton_in : (tree : Node) (f : ScenarioFile) (is : IsScenarioFile tree f) → files.automaton_in f.scenarios f.shared is.section ≡ Ok (f.states, f.initial)
+unfolding files.automaton_in
+automaton_in tree f is =
+    let read : Result (List StateRow × ℕ) ReadError = Ok (f.states, f.initial) in
+    then-ok (TreeSteps.one field.Fsm file is.section) _ is.fsm read (one field.Fsm file is.section is.fsm is.one_fsm) (
+    then-ok (files.states_of f.scenarios is.fsm) _ is.states read (states_of f.scenarios is.fsm is.states is.are_states) (
+    then-ok (files.initial_of is.states is.fsm) _ f.initial read (initial_of is.states is.fsm f.initial is.initial) (
+    then-ok (files.state_rows is.states is.fsm) _ f.states read (state_rows is.states is.fsm f.states is.are_rows) (
+    then-ok (NumberTexts.within quantity.Nodes 1024 (length is.states * shared_count f.shared)) _ (length is.states * shared_count f.shared) read (within-again quantity.Nodes 1024 (length is.states * shared_count f.shared) is.nodes) refl))))
+
 pub file_of : (tree : Node) (f : ScenarioFile) → IsScenarioFile tree f → files.file_of tree ≡ Ok f
 unfolding files.file_of files.file_in
 file_of tree f is =
@@ -149,8 +160,4 @@ file_of tree f is =
     then-ok (TreeSteps.one field.Fsmsadf file is.graph) _ is.section (Ok f) (one field.Fsmsadf file is.graph is.section is.one_section) (
     then-ok (files.scenarios_of is.section) _ f.scenarios (Ok f) (scenarios_of is.section f.scenarios is.are_scenarios) (
     then-ok (files.shared_of f.scenarios) _ f.shared (Ok f) (shared_of f.scenarios f.shared is.are_shared) (
-    then-ok (TreeSteps.one field.Fsm file is.section) _ is.fsm (Ok f) (one field.Fsm file is.section is.fsm is.one_fsm) (
-    then-ok (files.states_of f.scenarios is.fsm) _ is.states (Ok f) (states_of f.scenarios is.fsm is.states is.are_states) (
-    then-ok (files.initial_of is.states is.fsm) _ f.initial (Ok f) (initial_of is.states is.fsm f.initial is.initial) (
-    then-ok (files.state_rows is.states is.fsm) _ f.states (Ok f) (state_rows is.states is.fsm f.states is.are_rows) (
-    then-ok (NumberTexts.within quantity.Nodes 1024 (length is.states * shared_count f.shared)) _ (length is.states * shared_count f.shared) (Ok f) (within-again quantity.Nodes 1024 (length is.states * shared_count f.shared) is.nodes) refl)))))))))))
+    then-ok (files.automaton_in f.scenarios f.shared is.section) _ (f.states, f.initial) (Ok f) (automaton_in tree f is) refl)))))))

@@ -10,6 +10,7 @@ use Rattle.sd_base.specs.declared.limits.Quantity.TheVariants as quantity
 use Rattle.sd_base.specs.declared.tables.Kind.TheVariants.{Sdf}
 use Rattle.sd_base.specs.declared.tables.ScenarioFile.{ScenarioFile}
 use Rattle.sd_base.specs.declared.tables.ScenarioRow.{ScenarioRow}
+use Rattle.sd_base.specs.declared.tables.SharedRow.{SharedRow}
 use Rattle.sd_base.specs.declared.tables.StateRow.{StateRow}
 use Rattle.sd_base.specs.Tables.{IsTimed}
 use Rattle.sd_base.specs.Scenarios.{shared_count}
@@ -193,17 +194,33 @@ record IsFileIn (section : Node) (f : ScenarioFile) : Type 0 where
   are_rows : AreRows states states (TreeSteps.children (word_of field.State) fsm) f.states
   nodes : length states * shared_count f.shared ≤ 1024
 
-file_in : (section : Node) → IfOk (files.file_in section) (IsFileIn section)
-unfolding files.file_in
-file_in section =
-    then (AreScenarios section) _ (files.scenarios_of section) _ (scenarios_of section) (λ scenarios are_scenarios.
-    then (AreShared scenarios) _ (files.shared_of scenarios) _ (shared_of scenarios) (λ shared are_shared.
+-- a section spells states, and in which of them paths begin
+record IsAutomatonIn (scenarios : List ScenarioRow) (shared : List SharedRow) (section : Node) (read : List StateRow × ℕ) : Type 0 where
+  fsm : Node
+  states : List State
+  one_fsm : TreeSteps.children (word_of field.Fsm) section ≡ fsm ∷ []
+  are_states : AreStates scenarios fsm states
+  initial : IsInitial states fsm read.1
+  are_rows : AreRows states states (TreeSteps.children (word_of field.State) fsm) read.0
+  nodes : length states * shared_count shared ≤ 1024
+
+automaton_in : (scenarios : List ScenarioRow) (shared : List SharedRow) (section : Node) → IfOk (files.automaton_in scenarios shared section) (IsAutomatonIn scenarios shared section)
+unfolding files.automaton_in
+automaton_in scenarios shared section =
     then (λ c. TreeSteps.children (word_of field.Fsm) section ≡ c ∷ []) _ (TreeSteps.one field.Fsm file section) _ (one field.Fsm file section) (λ fsm one_fsm.
     then (AreStates scenarios fsm) _ (files.states_of scenarios fsm) _ (states_of scenarios fsm) (λ states are_states.
     then (IsInitial states fsm) _ (files.initial_of states fsm) _ (initial_of states fsm) (λ initial is_initial.
     then (AreRows states states (TreeSteps.children (word_of field.State) fsm)) _ (files.state_rows states fsm) _ (state_rows scenarios states fsm are_states) (λ rows are_rows.
     then (λ m. (m ≡ length states * shared_count shared) × (length states * shared_count shared ≤ 1024)) _ (NumberTexts.within quantity.Nodes 1024 (length states * shared_count shared)) _ (within quantity.Nodes 1024 (length states * shared_count shared)) (λ count nodes.
-    record { fsm = fsm; states = states; are_scenarios = are_scenarios; are_shared = are_shared; one_fsm = one_fsm; are_states = are_states; initial = is_initial; are_rows = are_rows; nodes = nodes.1 })))))))
+    record { fsm = fsm; states = states; one_fsm = one_fsm; are_states = are_states; initial = is_initial; are_rows = are_rows; nodes = nodes.1 })))))
+
+file_in : (section : Node) → IfOk (files.file_in section) (IsFileIn section)
+unfolding files.file_in
+file_in section =
+    then (AreScenarios section) _ (files.scenarios_of section) _ (scenarios_of section) (λ scenarios are_scenarios.
+    then (AreShared scenarios) _ (files.shared_of scenarios) _ (shared_of scenarios) (λ shared are_shared.
+    then (IsAutomatonIn scenarios shared section) _ (files.automaton_in scenarios shared section) _ (automaton_in scenarios shared section) (λ read is.
+    record { fsm = is.fsm; states = is.states; are_scenarios = are_scenarios; are_shared = are_shared; one_fsm = is.one_fsm; are_states = is.are_states; initial = is.initial; are_rows = is.are_rows; nodes = is.nodes })))
 
 pub file_of : (tree : Node) → IfOk (files.file_of tree) (IsScenarioFile tree)
 unfolding files.file_of

@@ -118,16 +118,21 @@ state_rows states fsm = rows_from states [] states (TreeSteps.children (word_of 
 
 -- ---- the file
 
+automaton_in : (scenarios : List ScenarioRow) (shared : List SharedRow) (section : Node) → Rules (files.automaton_in scenarios shared section)
+unfolding files.automaton_in
+automaton_in scenarios shared section =
+    then (TreeSteps.one field.Fsm file section) _ (one field.Fsm file section) (λ fsm.
+    then (files.states_of scenarios fsm) _ (states_of scenarios fsm) (λ states.
+    then (files.initial_of states fsm) _ (initial_of states fsm) (λ initial.
+    then (files.state_rows states fsm) _ (state_rows states fsm) (λ rows.
+    then (NumberTexts.within quantity.Nodes 1024 (length states * shared_count shared)) _ (within quantity.Nodes 1024 (length states * shared_count shared)) (λ nodes. tt)))))
+
 file_in : (section : Node) → Rules (files.file_in section)
 unfolding files.file_in
 file_in section =
     then (files.scenarios_of section) _ (scenarios_of section) (λ scenarios.
     then (files.shared_of scenarios) _ (shared_of scenarios) (λ shared.
-    then (TreeSteps.one field.Fsm file section) _ (one field.Fsm file section) (λ fsm.
-    then (files.states_of scenarios fsm) _ (states_of scenarios fsm) (λ states.
-    then (files.initial_of states fsm) _ (initial_of states fsm) (λ initial.
-    then (files.state_rows states fsm) _ (state_rows states fsm) (λ rows.
-    then (NumberTexts.within quantity.Nodes 1024 (length states * shared_count shared)) _ (within quantity.Nodes 1024 (length states * shared_count shared)) (λ nodes. tt)))))))
+    then (files.automaton_in scenarios shared section) _ (automaton_in scenarios shared section) (λ read. tt)))
 
 -- each refusal of a tree is a broken rule
 pub rules : (tree : Node) → Rules (files.file_of tree)

@@ -159,17 +159,23 @@ state_rows states fsm = rows_from states [] states (children (word_of field.Stat
 
 -- ---- the file
 
--- the file that a section spells
-unfoldable pub file_in : Node → Result ScenarioFile ReadError
-file_in section = do
-  scenarios ← scenarios_of section
-  shared ← shared_of scenarios
+-- the states and where paths begin, of the section of scenarios with these shared channels
+unfoldable pub automaton_in : List ScenarioRow → List SharedRow → Node → Result (List StateRow × ℕ) ReadError
+automaton_in scenarios shared section = do
   fsm ← one field.Fsm file section
   states ← states_of scenarios fsm
   initial ← initial_of states fsm
   rows ← state_rows states fsm
   nodes ← within quantity.Nodes NODES (length states * shared_count shared)
-  Ok (record { scenarios = scenarios; shared = shared; states = rows; initial = initial })
+  Ok (rows, initial)
+
+-- the file that a section spells
+unfoldable pub file_in : Node → Result ScenarioFile ReadError
+file_in section = do
+  scenarios ← scenarios_of section
+  shared ← shared_of scenarios
+  automaton ← automaton_in scenarios shared section
+  Ok (record { scenarios = scenarios; shared = shared; states = automaton.0; initial = automaton.1 })
 
 -- the file of scenarios of a tree, or the first rule that the tree breaks
 unfoldable pub file_of : Node → Result ScenarioFile ReadError
