@@ -11,13 +11,24 @@ use Rattle.gen_graph.specs.declared.made.Drawn.{Drawn}
 abbrev pub modulus : ℕ
 modulus = 2147483648
 
+-- the factor of a linear congruence, and what it adds: those of ANSI C's example
+abbrev pub multiplier : ℕ
+multiplier = 1103515245
+
+abbrev pub increment : ℕ
+increment = 12345
+
+-- how many values the lower bits of a state have
+abbrev pub lower : ℕ
+lower = 65536
+
 -- the state after a state
 unfoldable pub next : ℕ → ℕ
-next x = (1103515245 * x + 12345) % modulus
+next x = (multiplier * x + increment) % modulus
 
 -- the number below n that a state gives, by its upper bits
 unfoldable pub number_below : ℕ → ℕ → ℕ
-number_below n x = (x / 65536) % n
+number_below n x = (x / lower) % n
 
 -- what is drawn for an actor after a state: a weight from 1 to 3 by the next state, a time from 1 to 9 by the one after it
 unfoldable pub drawn_after : ℕ → Drawn

@@ -6,7 +6,7 @@ ghost use Rattle.gen_graph.specs.inside.EndWords.{actor_word, port_word};
 use std::alloc::{AllocError, Global};
 
 /// At which end of a channel a port is.
-#[derive(Clone, Copy, Debug)]
+#[derive(Clone, Copy)]
 pub(crate) enum Direction {
     /// At its source: tokens go out.
     Out,

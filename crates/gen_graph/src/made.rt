@@ -1,6 +1,7 @@
 //! A chain of actors whose numbers are drawn by a linear congruence.
 
 ghost use Rattle.std.specs.Prelude.{◌≡◌, ◌≤◌, ◌<◌, ◌+◌, IfOk, length, [], ◌∷◌, All};
+ghost use Rattle.sd_base.specs.declared.limits.TheConstants.{ACTORS};
 ghost use Rattle.sd_base.specs.Numbers.{IsLcm};
 ghost use Rattle.sd_base.specs.Tables.{KeepsRules, IsTimed};
 ghost use Rattle.gen_graph.specs.MadeGraphs.{modulus, next, number_below, IsDrawn, drawn_after, drawn_for, made_actor, made_actors, common_multiple, made_channel, made_channels, chain_of, made_graph};
@@ -14,7 +15,7 @@ use std::alloc::Global;
 /// and times are drawn by the linear congruence of ANSI C's example of `rand`. Cost: linear in the actors.
 pub fn make(alloc: Global, seed: u64, actors: u32) -> Result<GraphFile, NoMemory>
     requires some { 2 ≤ actors }
-    requires few { actors ≤ 128 }
+    requires few { actors ≤ ACTORS }
     ensures made { IfOk result (λ g. g ≡ made_graph seed actors) }
     ensures keeps { IfOk result KeepsRules }
     ensures timed { IfOk result IsTimed }
@@ -26,7 +27,7 @@ pub fn make(alloc: Global, seed: u64, actors: u32) -> Result<GraphFile, NoMemory
 
 #[tactic(auto, unfolding(crate::specs::MadeGraphs::made_graph))]
 fn chain(alloc: Global, seed: u64, actors: u32) -> Result<GraphFile, NoMemory>
-    requires { actors ≤ 128 }
+    requires { actors ≤ ACTORS }
     ensures { IfOk result (λ g. g ≡ made_graph seed actors) }
 {
     let drawn = draw(alloc, seed % MODULUS, actors)?;
@@ -42,8 +43,17 @@ fn chain(alloc: Global, seed: u64, actors: u32) -> Result<GraphFile, NoMemory>
 /// States are below this.
 const MODULUS: u64 = 0x8000_0000;
 
+/// The next state is so many times the last one, and `INCREMENT`.
+const MULTIPLIER: u64 = 1_103_515_245;
+
+/// What is added for the next state.
+const INCREMENT: u64 = 12_345;
+
+/// How many values the lower bits of a state have, which are left out where a number is drawn.
+const LOWER: u64 = 65_536;
+
 /// What is drawn for an actor.
-#[derive(Clone, Copy, Debug)]
+#[derive(Clone, Copy)]
 pub(crate) struct Drawn {
     /// The actor fires in proportion to it.
     pub(crate) weight: u64,
@@ -57,7 +67,7 @@ fn next(state: u64) -> u64
     ensures value { result ≡ next state }
     ensures below { result < modulus }
 {
-    (1_103_515_245 * state + 12_345) % MODULUS
+    (MULTIPLIER * state + INCREMENT) % MODULUS
 }
 
 #[tactic(auto, unfolding(crate::specs::MadeGraphs::number_below))]
@@ -66,7 +76,7 @@ fn number_below(limit: u64, state: u64) -> u64
     ensures value { result ≡ number_below limit state }
     ensures below { result < limit }
 {
-    (state / 65_536) % limit
+    (state / LOWER) % limit
 }
 
 /// Draws for one actor, and leaves the state after it.
@@ -130,7 +140,7 @@ fn one_number(alloc: Global, number: u64) -> Result<Rows<u64>, NoMemory>
 }
 
 fn channel_rows(alloc: Global, drawn: &[Drawn]) -> Result<Rows<ChannelRow>, NoMemory>
-    requires few { length drawn.now ≤ 128 }
+    requires few { length drawn.now ≤ ACTORS }
     requires within { All IsDrawn drawn.now }
     ensures { IfOk result (λ rows. rows ≡ chain_of drawn.now) }
 {
@@ -143,7 +153,7 @@ fn channel_rows(alloc: Global, drawn: &[Drawn]) -> Result<Rows<ChannelRow>, NoMe
 /// The channels of a chain that begins with an actor of this weight.
 fn rows_behind(alloc: Global, first: u64, rest: &[Drawn]) -> Result<Rows<ChannelRow>, NoMemory>
     requires first { (1 ≤ first) × (first ≤ 3) }
-    requires few { length rest.now ≤ 127 }
+    requires few { length rest.now < ACTORS }
     requires within { All IsDrawn rest.now }
     ensures { IfOk result (λ rows. rows ≡ made_channels 0 first rest.now) }
 {
@@ -158,7 +168,7 @@ fn rows_behind(alloc: Global, first: u64, rest: &[Drawn]) -> Result<Rows<Channel
 
 #[tactic(auto, unfolding(crate::specs::MadeGraphs::made_channel))]
 fn channel_row(alloc: Global, i: usize, v: u64, w: u64) -> Result<ChannelRow, NoMemory>
-    requires index { i < 128 }
+    requires index { i < ACTORS }
     requires v { (1 ≤ v) × (v ≤ 3) }
     requires w { (1 ≤ w) × (w ≤ 3) }
     ensures { IfOk result (λ row. row ≡ made_channel i v w) }
