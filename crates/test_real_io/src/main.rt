@@ -44,19 +44,24 @@ fn main(rt: HostRuntime) -> Result<()> {
 
 /// Puts a large file, takes it again, and shows whether the bytes are the same.
 fn show_large<S: Shelf, K: Sink>(alloc: Global, shelf: &mut S, out: &mut K) -> Result<()> {
+    let bytes = large_bytes(alloc)?;
+    show_put(alloc, shelf, out, LARGE, bytes.as_slice())?;
+    send_all(out, b"take the large file: ")?;
+    let taken = shelf.take(alloc, LARGE, LARGE_BYTES)?;
+    if taken.as_slice() == bytes.as_slice() {
+        send_all(out, b"the same bytes\n")?;
+    } else {
+        send_all(out, b"other bytes\n")?;
+    }
+    show_take(alloc, shelf, out, LARGE, LARGE_BYTES - 1)
+}
+
+fn large_bytes(alloc: Global) -> Result<Vec<u8>> {
     let mut bytes = Vec::with_capacity(alloc, LARGE_BYTES)?;
     for i in 0..LARGE_BYTES {
         bytes.push((i % 251) as u8)?;
     }
-    show_put(alloc, shelf, out, LARGE, bytes.as_slice())?;
-    let answer: &[u8] = match shelf.take(alloc, LARGE, LARGE_BYTES) {
-        Ok(taken) if taken.as_slice() == bytes.as_slice() => b"the same bytes\n",
-        Ok(_) => b"other bytes\n",
-        Err(_) => b"failed\n",
-    };
-    send_all(out, b"take the large file: ")?;
-    send_all(out, answer)?;
-    show_take(alloc, shelf, out, LARGE, LARGE_BYTES - 1)
+    Ok(bytes)
 }
 
 /// A file and both streams where nothing can be written, and a file that doesn't end.
