@@ -59,7 +59,7 @@ fn run(alloc: Global, net: &SdfNet, wanted: u64) -> Result<Made, NoMemory> {
         net,
         wiring: &wiring,
     };
-    let mut engine = Engine::new(alloc, &wired, 1 << 32)?;
+    let mut engine = Engine::of_wired(alloc, &wired, 1 << 32)?;
     let mut made = Made {
         starts: 0,
         events: 0,

@@ -26,7 +26,7 @@ pub fn starts_until<F: Firing>(
     requires few { starts_by (F.net wired.now.net.now) event ≤ STARTS }
     ensures { IfOk result (λ rows. rows.items ≡ earliest (F.net wired.now.net.now) (event + 1)) }
 {
-    let mut engine = Engine::new(alloc, wired, STARTS)?;
+    let mut engine = Engine::of_wired(alloc, wired, STARTS)?;
     let mut rows = empty_rows(alloc, wired.net)?;
     next_event(&mut engine)?;
     add_starts(&engine, rows.as_mut_slice())?;

@@ -43,7 +43,7 @@ pub fn loop_by_events<F: Firing>(
     ensures found { IfOk result (IsFound (F.net wired.now.net.now) states) }
     ensures refused { IfErr result (IsRunRefusal (F.net wired.now.net.now) states) }
 {
-    let mut lead = Engine::new(alloc, wired, SEARCH_STARTS)?;
+    let mut lead = Engine::of_wired(alloc, wired, SEARCH_STARTS)?;
     let mut trace = Trace::new(alloc, wired.net)?;
     let pair = find_pair(alloc, &mut lead, &mut trace, states)?;
     if trace.ends_at(pair.later) {
@@ -94,7 +94,7 @@ fn repeated_loop<'a, F: Firing>(
     ensures found { IfOk result (IsFound (F.net wired.now.net.now) states) }
     ensures refused { IfErr result (IsRunRefusal (F.net wired.now.net.now) states) }
 {
-    let mut trail = Engine::new(alloc, wired, STARTS)?;
+    let mut trail = Engine::of_wired(alloc, wired, STARTS)?;
     let mut starts = empty_rows(alloc, wired.net)?;
     let end = first_repeat(lead, &mut trail, starts.as_mut_slice(), period, states)?;
     let entry = trail.moment();

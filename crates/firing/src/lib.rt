@@ -19,6 +19,7 @@ pub use enabled::{can_fire, lacks};
 pub use groups::Groups;
 pub use net::{Firing, know_laws};
 pub use phases::{PhaseRates, ones};
+pub use sd_base::Role;
 pub use sdf::SdfNet;
 pub use single::{is_single_phase, single_phase_copy};
 pub use sums::{Port, made_sum, need, port_phases, port_rate, taken_sum};

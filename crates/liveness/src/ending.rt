@@ -8,8 +8,7 @@ ghost use Rattle.firing.specs.Wiring.{IsLevel};
 ghost use Rattle.liveness.specs.RoundAnswers.{IsEnding, AreReachedCounts};
 
 use crate::note::NoNote;
-use crate::round::{is_whole, lacking_channels};
-use crate::run::run_out;
+use crate::round::run_to_end;
 use firing::{Firing, Port, Wired, know_laws, made_sum, port_phases, span_sum, taken_sum};
 use sd_base::{NoMemory, Rows};
 use std::alloc::Global;
@@ -42,21 +41,20 @@ pub fn finish_round<F: Firing>(
     know_laws(net);
     let mut tokens = tokens_after(alloc, net, counts)?;
     let mut counts = Vec::from_slice(alloc, counts)?;
-    run_out(
+    let end = run_to_end(
         alloc,
         wired,
         counts.as_mut_slice(),
         tokens.as_mut_slice(),
         &mut NoNote,
     )?;
-    if is_whole(net, counts.as_slice()) {
-        return Ok(Ending::Whole);
+    match end {
+        None => Ok(Ending::Whole),
+        Some(lacks) => Ok(Ending::Blocked {
+            counts: Rows::from_vec(counts),
+            lacks,
+        }),
     }
-    let lacks = lacking_channels(alloc, wired, counts.as_slice(), tokens.as_slice())?;
-    Ok(Ending::Blocked {
-        counts: Rows::from_vec(counts),
-        lacks,
-    })
 }
 
 /// The counts by actor with which a round begins: none has fired. They are reached in each net of so many actors.
@@ -67,9 +65,10 @@ pub fn no_counts<F: Firing>(alloc: Global, net: &F) -> Result<Rows<u64>, NoMemor
     Ok(Rows::from_vec(counts))
 }
 
-/// The counts by actor with which a round ends. They are reached in each live net of that round.
+/// The counts by actor with which a round ends: those of the repetition vector. They are reached in each live net of that round.
 pub fn whole_counts<F: Firing>(alloc: Global, net: &F) -> Result<Rows<u64>, NoMemory>
-    ensures { IfOk result (λ v. (other : Net) → Lawful other → other.round ≡ (F.net net.now).round → IsLive other → AreReachedCounts other v) }
+    ensures round { IfOk result (λ v. v ≡ (F.net net.now).round) }
+    ensures reached { IfOk result (λ v. (other : Net) → Lawful other → other.round ≡ (F.net net.now).round → IsLive other → AreReachedCounts other v) }
 {
     know_laws(net);
     let mut counts = Vec::with_capacity(alloc, net.actors() as usize)?;

@@ -2,6 +2,7 @@ ghost use Rattle.std.specs.Prelude.{◌≡◌, ◌≤◌, ◌<◌, ◌↔◌, �
 ghost use Rattle.sd_base.specs.Untimed.{IsLive, Closed};
 ghost use Rattle.firing.specs.Wiring.{IsLevel};
 
+use crate::note::Note;
 use crate::run::run_out;
 use firing::{Firing, Wired, Wiring, first_lack, initial_tokens};
 use sd_base::{NoMemory, Rows};
@@ -24,6 +25,7 @@ pub enum Round {
 
 ghost use Rattle.sd_base.specs.Untimed.{IsFirstLacking, NamesLacks};
 ghost use Rattle.liveness.specs.RoundAnswers.{IsRoundAnswer, is_live};
+ghost use Rattle.liveness.specs.inside.UntimedRuns.{IsHalt, IsNoted, IsWhole};
 
 /// Fires a round, or as much of it as can fire. Cost: linear in the actors and channels, and for each firing in
 /// the channels of its actor and of those that it makes tokens for.
@@ -48,30 +50,50 @@ pub fn fire_round<F: Firing>(alloc: Global, wired: &Wired<F>) -> Result<Round, N
     let mut counts = vec![in alloc; 0u64; net.actors() as usize]?;
     let mut tokens = initial_tokens(alloc, net)?;
     let mut order = Vec::new(alloc);
-    run_out(
+    let end = run_to_end(
         alloc,
         wired,
         counts.as_mut_slice(),
         tokens.as_mut_slice(),
         &mut order,
     )?;
-    if is_whole(net, counts.as_slice()) {
-        return Ok(Round::Live {
+    match end {
+        None => Ok(Round::Live {
             order: Rows::from_vec(order),
-        });
+        }),
+        Some(lacks) => Ok(Round::Blocked {
+            counts: Rows::from_vec(counts),
+            lacks,
+        }),
     }
-    let lacks = lacking_channels(alloc, wired, counts.as_slice(), tokens.as_slice())?;
-    Ok(Round::Blocked {
-        counts: Rows::from_vec(counts),
-        lacks,
-    })
+}
+
+/// Fires actors one after another until none can fire within its round. Names by actor the first channel on which it lacks
+/// tokens, if it is below its round, unless each has fired its round.
+pub(crate) fn run_to_end<F: Firing, N: Note>(
+    alloc: Global,
+    wired: &Wired<F>,
+    counts: &mut [u64],
+    tokens: &mut [u128],
+    note: &mut N,
+) -> Result<Option<Rows<Option<u32>>>, NoMemory>
+    requires { IsNoted (N.holds note.old) (F.net wired.now.net.now) counts.old tokens.old }
+    ensures run { IfOk result (λ _. IsNoted (N.holds note.new) (F.net wired.now.net.now) counts.new tokens.new) }
+    ensures closed { IfOk result (λ _. Closed (F.net wired.now.net.now) (slice_index counts.new)) }
+    ensures end { IfOk result (λ end. MatchOption end (IsWhole (F.net wired.now.net.now) counts.new) (IsHalt (F.net wired.now.net.now) counts.new)) }
+{
+    run_out(alloc, wired, counts, tokens, note)?;
+    if is_whole(wired.net, counts) {
+        return Ok(None);
+    }
+    let lacks = lacking_channels(alloc, wired, counts, tokens)?;
+    Ok(Some(lacks))
 }
 
 /// Whether each actor has fired its round.
-pub(crate) fn is_whole<F: Firing>(net: &F, counts: &[u64]) -> bool
+fn is_whole<F: Firing>(net: &F, counts: &[u64]) -> bool
     requires { length counts.now ≡ length (F.net net.now).times }
-    ensures { IsTrue result ↔ ((a : ℕ) → a < length (F.net net.now).times →
-        slice_index counts.now a ≡ slice_index (F.net net.now).round a) }
+    ensures { IsTrue result ↔ IsWhole (F.net net.now) counts.now }
 {
     for actor in 0..net.actors() {
         if counts[actor as usize] != net.round(actor) {
@@ -82,7 +104,7 @@ pub(crate) fn is_whole<F: Firing>(net: &F, counts: &[u64]) -> bool
 }
 
 /// By actor the first channel on which it lacks tokens, if it is below its round.
-pub(crate) fn lacking_channels<F: Firing>(
+fn lacking_channels<F: Firing>(
     alloc: Global,
     wired: &Wired<F>,
     counts: &[u64],

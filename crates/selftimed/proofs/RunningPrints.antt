@@ -8,7 +8,7 @@ use Rattle.std.proofs.lemmas.List.Folds.{sum_by-replicate}
 use Rattle.std.proofs.lemmas.List.Sums.{sum_by-append, sum_by-cons}
 use Rattle.selftimed.specs.declared.actors.ActorState.{ActorState}
 use Rattle.selftimed.specs.inside.Actors.{idle}
-use Rattle.selftimed.specs.EngineShapes.{remaining_now}
+use Rattle.selftimed.specs.inside.Standings.{remaining_now}
 use Rattle.selftimed.specs.Prints.{weight, print_of, running_print_of}
 use Rattle.selftimed.proofs.Printing.{mod-less, mod-sum, print-push}
 use Rattle.selftimed.proofs.Shaping.{remaining-more}

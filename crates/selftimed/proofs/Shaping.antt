@@ -8,7 +8,7 @@ use Rattle.sd_base.specs.Net.{Net}
 use Rattle.sd_base.specs.Schedules.{phases_at}
 use Rattle.selftimed.specs.declared.actors.ActorState.{ActorState}
 use Rattle.selftimed.specs.inside.Actors.{idle, started_in, running_in}
-use Rattle.selftimed.specs.EngineShapes.{phases_now, remaining_now, IsPast}
+use Rattle.selftimed.specs.inside.Standings.{phases_now, remaining_now, IsPast}
 
 -- ---- phases
 

@@ -1,5 +1,5 @@
 -- Starts of all actors, actor by actor.
-use Rattle.std.proofs.Common.{◌≡◌, ◌≢◌, ℕ, zero, suc, ◌+◌, ◌-◌, ◌≤◌, ◌<◌, ◌^◌, ◌⊎◌, true, false, List, [], ◌∷◌, ◌++◌, length, set, take, Some, inl, inr, ⊎_elim, subst, sym, refl, ap, ◌∙◌, arith}
+use Rattle.std.proofs.Common.{◌≡◌, ◌≢◌, ℕ, zero, suc, ◌+◌, ◌-◌, ◌≤◌, ◌<◌, ◌^◌, ◌⊎◌, Bool, true, false, List, [], ◌∷◌, ◌++◌, length, set, take, Some, inl, inr, ⊎_elim, subst, sym, refl, ap, ◌∙◌, arith}
 use Rattle.std.specs.Prelude.{slice_index, slice_index_or, if◌then◌else◌, ◌==◌, All, Contains}
 use Rattle.std.specs.List.{sum_by}
 use Rattle.std.proofs.lemmas.Bool.{cases_eq, false≢true}
@@ -14,9 +14,13 @@ use Rattle.firing.specs.Wiring.{LacksNow, IsLevel}
 use Rattle.firing.proofs.TokenMoves.{MoreBy, level-takes, level-needs}
 use Rattle.selftimed.specs.inside.Starts.{AddsEnds, Overfills}
 use Rattle.selftimed.specs.declared.actors.ActorState.{ActorState}
-use Rattle.selftimed.specs.inside.Actors.{idle, started_in, ended_in, running_in, touched_in, lacking_in, LacksAt, Stand, Counted, StartsOne, CanOverrun}
+use Rattle.selftimed.specs.inside.Actors.{idle, started_in, ended_in, running_in, touched_in, lacking_in, LacksAt, Stand, Counted, StartsOne, StartedAll, CanOverrun}
 use Rattle.selftimed.specs.inside.Agendas.{Entry, entry, Announces, IsFirst, Lists, IsAgenda}
 use Rattle.selftimed.proofs.Agendas.{HasFirsts, has-firsts, entries-found, has-number, number-found, announced-kept, announced-there, announced-all}
+
+is-false : (b : Bool) → (b ≡ true → ⊥) → b ≡ false
+is-false true never = absurd (never refl)
+is-false false never = refl
 
 -- ---- sums over actors
 
@@ -66,11 +70,40 @@ pub record StartsSoFar (net : Net) (moment : ℕ) (first now : List ActorState) 
 abbrev pub Noted : ℕ → List ℕ → List ℕ → List Entry → List Entry → Type 0
 Noted a old runs ends more = Announces a runs ends more ⊎ ((0 < length old) × (more ≡ ends))
 
+-- nothing has started yet
+pub starts-none : (net : Net) (moment : ℕ) (actors : List ActorState) (tokens : List ℕ) (all most : ℕ) (ends : List Entry) (touched : List ℕ) → Stand net actors tokens → Counted actors all most → IsAgenda net actors ends touched →
+    ((b : ℕ) → b < length net.times → touched_in actors b ≡ false → LacksAt net (ended_in actors) b (started_in actors b) (lacking_in actors b)) → StartsSoFar net moment actors actors tokens all most ends touched
+starts-none net moment actors tokens all most ends touched stand counted agenda lacks = record {
+  long = refl;
+  ended = λ b. refl;
+  more = λ b is off. omega arith;
+  adds = λ b is off. record { long = omega arith; kept = λ j below. refl; added = λ j below. absurd (omega arith) };
+  lacks = lacks;
+  started = λ b on. refl;
+  running = λ b on. refl;
+  stand = stand;
+  counted = counted;
+  agenda = agenda;
+}
+
+-- no actor is left to be looked at
+pub starts-done : (net : Net) (moment : ℕ) (first now : List ActorState) (tokens : List ℕ) (all most : ℕ) (ends : List Entry) (touched : List ℕ) → touched ≡ [] → StartsSoFar net moment first now tokens all most ends touched → StartedAll net moment first now
+starts-done net moment first now tokens all most ends touched none so_far = record {
+  ended = so_far.ended;
+  more = λ b is. so_far.more b is (calm b);
+  ends = λ b is. so_far.adds b is (calm b);
+  lacks = λ b is. so_far.lacks b is (calm b);
+  calm = λ b is. calm b;
+}
+  where
+    calm : (b : ℕ) → touched_in now b ≡ false
+    calm b = is-false (touched_in now b) (λ on. false≢true (rw none at (so_far.agenda.lists.listed b on)))
+
 module _ (net : Net) (moment : ℕ) (first now : List ActorState) (tokens : List ℕ) (all most a : ℕ) (ends : List Entry) (rest : List ℕ) (few : most ≤ 2 ^ 32) (so_far : StartsSoFar net moment first now tokens all most ends (rest ++ a ∷ [])) where
   pub actor : a < length net.times
   actor = All-contains (λ (b : ℕ). b < length net.times) (rest ++ a ∷ []) a so_far.agenda.lists.within (Contains-push rest a)
 
-  place : a < length now
+  pub place : a < length now
   place = rw so_far.stand.long actor
 
   -- there is room for the starts of the actor
@@ -79,6 +112,31 @@ module _ (net : Net) (moment : ℕ) (first now : List ActorState) (tokens : List
 
   within-rest : All (λ (b : ℕ). b < length net.times) rest
   within-rest = (All-pop (λ (b : ℕ). b < length net.times) (rest ++ a ∷ []) rest (Some a) refl so_far.agenda.lists.within).0
+
+  -- an actor that isn't to be looked at is passed over
+  pub starts-past : touched_in now a ≡ false → StartsSoFar net moment first now tokens all most ends rest
+  starts-past off = record {
+    long = so_far.long;
+    ended = so_far.ended;
+    more = so_far.more;
+    adds = so_far.adds;
+    lacks = so_far.lacks;
+    started = so_far.started;
+    running = so_far.running;
+    stand = so_far.stand;
+    counted = so_far.counted;
+    agenda = record {
+      firsts = so_far.agenda.firsts;
+      whole = so_far.agenda.whole;
+      lists = record {
+        within = within-rest;
+        listed = λ b is. ⊎_elim
+            (λ (has : Contains rest b). number-found rest b has)
+            (λ (e : a ≡ b). absurd (false≢true (sym off ∙ rw e is)))
+            (Contains-push_cases rest a b (has-number (rest ++ a ∷ []) b (so_far.agenda.lists.listed b is)));
+      };
+    };
+  }
 
   module _ (on : touched_in now a ≡ true) (left : List ℕ) (s : ActorState) (n : ℕ) (fits : n ≤ most - all) (one : StartsOne net a moment n tokens left (slice_index_or now a idle) s) (longer : length left ≡ length tokens) where
     here : slice_index_or (set now a s) a idle ≡ s

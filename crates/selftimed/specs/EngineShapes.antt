@@ -1,25 +1,17 @@
 -- The shape of an execution.
-use Rattle.std.specs.Prelude.{ℕ, ◌-◌, ◌%◌, ◌≤◌, ◌<◌, List, length, map, slice_index}
-use Rattle.std.specs.List.{range_with_len}
-use Rattle.sd_base.specs.Net.{Net}
-use Rattle.sd_base.specs.Schedules.{phases_at}
+use Rattle.std.specs.Prelude.{[], length, map, replicate}
+use Rattle.sd_base.specs.Net.{Channel, Net}
 use Rattle.sd_base.specs.SelfTimed
-use Rattle.selftimed.specs.declared.actors.ActorState.{ActorState}
 use Rattle.selftimed.specs.declared.shape.Shape.{Shape}
-use Rattle.selftimed.specs.inside.Actors.{started_in, running_in}
 
 -- the lists of a shape
 abbrev pub form : Shape → SelfTimed.Shape
 form s = record { tokens = s.tokens; phases = s.phases; remaining = s.remaining }
 
--- by actor the phase of its next firing
-abbrev pub phases_now : Net → List ActorState → List ℕ
-phases_now net actors = map (λ a. started_in actors a % phases_at net a) (range_with_len 0 (length net.times))
-
--- by actor the times from a moment to the ends of its running firings
-abbrev pub remaining_now : ℕ → List ActorState → List (List ℕ)
-remaining_now moment actors = map (λ (s : ActorState). map (λ e. e - moment) s.running) actors
-
--- no running firing ended before a moment
-abbrev pub IsPast : ℕ → List ActorState → Type 0
-IsPast moment actors = (a k : ℕ) → a < length actors → k < length (running_in actors a) → moment ≤ slice_index (running_in actors a) k
+-- what stands before the first event: the initial tokens, each actor in its first phase, and no firing that runs
+abbrev pub first_shape : Net → SelfTimed.Shape
+first_shape net = record {
+  tokens = map (λ (c : Channel). c.tokens) net.channels;
+  phases = replicate (length net.times) 0;
+  remaining = replicate (length net.times) [];
+}

@@ -1,6 +1,6 @@
 -- Where an engine can be set back, and what a step of it does.
-use Rattle.std.specs.Prelude.{◌≡◌, ℕ, ◌+◌, ◌≤◌, ◌<◌, ◌⊎◌, true, List, All, length, map, sum, ◌==◌}
-use Rattle.std.specs.List.{list_any}
+use Rattle.std.specs.Prelude.{◌≡◌, ℕ, ◌+◌, ◌≤◌, ◌<◌, ◌⊎◌, true, List, All, length, map, sum, ◌==◌, nat_eq}
+use Rattle.std.specs.List.{list_any, IsDistinct}
 use Rattle.sd_base.specs.Net.{Net}
 use Rattle.sd_base.specs.Connection.{ends_of}
 use Rattle.sd_base.specs.Schedules.{Schedule, Lacks, HasInputs, Earliest, count_of}
@@ -58,7 +58,9 @@ IsMove net most stage now Stepped after t = Steps net most stage now after t
 IsMove net most stage now Stuck after t = (after ≡ stage) × (t ≡ now) × IsStuck net stage now
 IsMove net most stage now Move.Spent after t = (after ≡ Stage.Spent) × IsSpent net most stage now
 
--- all actors of which firings start at a moment are listed, and no number that isn't one of an actor
+-- the actors of which firings start at a moment, each once
 pub record AreStarters (net : Net) (t : ℕ) (list : List ℕ) : Type 0 where
   pub actors : All (λ a. a < length net.times) list
+  pub start : All (λ a. count_of (earliest net t) a < count_of (earliest net (t + 1)) a) list
   pub listed : (a : ℕ) → a < length net.times → count_of (earliest net t) a < count_of (earliest net (t + 1)) a → list_any (λ (x : ℕ). x == a) list ≡ true
+  pub once : IsDistinct nat_eq list

@@ -8,3 +8,5 @@ pub mod Stands
 pub mod Plans
 pub mod PortRates
 pub mod Ports
+pub mod Standings
+pub mod Wirings

@@ -1,4 +1,4 @@
-ghost use Rattle.std.specs.Prelude.{◌≡◌, IfOk, OnOk, replicate};
+ghost use Rattle.std.specs.Prelude.{◌≡◌, OnOk, replicate};
 ghost use Rattle.selftimed.specs.inside.Actors.{fresh_one};
 
 use crate::running::Running;
@@ -14,15 +14,6 @@ pub(crate) struct ActorState {
     pub(crate) running: Running,
     pub(crate) touched: bool,
     pub(crate) lacking: u32,
-}
-
-/// Actors of which nothing has started, all to be looked at.
-pub(crate) fn new_actors(alloc: Global, count: u32) -> Result<Vec<ActorState>, NoMemory>
-    ensures { IfOk result (λ v. v.items ≡ replicate count fresh_one) }
-{
-    let mut actors = Vec::new(alloc);
-    refresh(alloc, &mut actors, count)?;
-    Ok(actors)
 }
 
 /// Makes of a list so many actors of which nothing has started, all to be looked at. It allocates nothing where there were as

@@ -7,7 +7,7 @@
 //! as soon as a firing ends: so an actor that waits for others isn't looked at when its own firing ends. Of up to 16 actors
 //! the calendar is a plain list that is looked through, which costs less than to keep a heap in order. In which order the
 //! listed actors start doesn't matter, since only an actor's own starts take tokens from the channels into it.
-ghost use Rattle.std.specs.Prelude.{◌≡◌, [], ◌∷◌, ◌++◌, true, nat_lt, if◌then◌else◌, IfOk, OnOk};
+ghost use Rattle.std.specs.Prelude.{◌≡◌, [], ◌∷◌, ◌++◌, true, nat_lt, if◌then◌else◌, OnOk};
 ghost use Rattle.std.specs.List.{range_with_len};
 ghost use Rattle.selftimed.specs.inside.Agendas.{Announces, IsSoonest, TakesDue};
 
@@ -17,7 +17,6 @@ use sd_base::NoMemory;
 use std::alloc::{AllocError, Global};
 
 /// What an execution looks at next: the ends to come, and the touched actors.
-#[derive(Drop)]
 pub(crate) struct Agenda {
     /// Of each actor that runs its first end.
     pub(crate) ends: Calendar,
@@ -27,19 +26,28 @@ pub(crate) struct Agenda {
     pub(crate) starters: Vec<u32>,
 }
 
+// By hand, so that what drops one calls this, and does not drop each of its parts.
+impl Drop for Agenda {
+    fn drop(self) {
+        let Agenda {
+            ends: _ends,
+            touched: _touched,
+            starters: _starters,
+        } = self;
+    }
+}
+
 impl Agenda {
-    /// No actor runs, and all are touched.
-    pub(crate) fn new(alloc: Global, actors: u32) -> Result<Agenda, NoMemory>
-        ensures ends { IfOk result (λ a. a.ends ≡ []) }
-        ensures touched { IfOk result (λ a. a.touched.items ≡ range_with_len 0 actors) }
+    /// That of no actors.
+    pub(crate) fn new(alloc: Global) -> Agenda
+        ensures ends { result.ends ≡ [] }
+        ensures touched { result.touched.items ≡ [] }
     {
-        let mut agenda = Agenda {
+        Agenda {
             ends: Calendar::new(alloc),
             touched: Vec::new(alloc),
             starters: Vec::new(alloc),
-        };
-        agenda.refill(actors)?;
-        Ok(agenda)
+        }
     }
 
     /// Makes it that of so many actors, of which none runs, and all are touched. It allocates nothing where there were as many.

@@ -1,7 +1,7 @@
 //! Where the actors of two executions of one net stand, compared without a shape of either.
 ghost use Rattle.std.specs.Prelude.{◌≡◌, ◌↔◌, ℕ, ◌-◌, ◌<◌, ◌≤◌, IsTrue, length, map, slice_index};
 ghost use Rattle.selftimed.specs.inside.Runs.{ends_of, left_of, AreRuns, NoneEnded};
-ghost use Rattle.selftimed.specs.EngineShapes.{phases_now, remaining_now, IsPast};
+ghost use Rattle.selftimed.specs.inside.Standings.{phases_now, remaining_now, IsPast};
 ghost use Rattle.selftimed.specs.Prints.{running_print_of};
 
 use crate::actors::ActorState;

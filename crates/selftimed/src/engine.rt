@@ -1,23 +1,24 @@
 //! Self-timed execution of a net, event by event.
 //!
-//! An engine borrows the net and its wiring, so two engines of one net share them. A wiring depends on the ends of the
-//! channels alone, so an engine that is set back keeps its own for each net with the same ends.
-ghost use Rattle.std.specs.Prelude.{◌≡◌, ◌↔◌, IsTrue, ◌+◌, ◌^◌, ◌<◌, ◌≤◌, length, IfOk, IfErr, OnErr, OnOk};
+//! An engine borrows the net, and makes its wiring or borrows it, so that engines of one net can share one. A wiring depends on
+//! the ends of the channels alone, so an engine that is set back keeps its own for each net with the same ends.
+ghost use Rattle.std.specs.Prelude.{◌≡◌, ◌↔◌, IsTrue, ◌+◌, ◌^◌, ◌<◌, ◌≤◌, ◌⊎◌, ℕ, length, IfOk, IfErr, OnErr, OnOk};
 ghost use Rattle.sd_base.specs.Schedules.{count_of};
 ghost use Rattle.sd_base.specs.SelfTimed.{earliest, shape_at, starts_by};
 ghost use Rattle.selftimed.specs.inside.Plans.{Plans};
 ghost use Rattle.selftimed.specs.inside.PortRates.{AreRates};
-ghost use Rattle.selftimed.specs.inside.Ports.{StillPorts};
+ghost use Rattle.selftimed.specs.inside.Ports.{ArePorts, StillPorts};
 ghost use Rattle.std.proofs.Props.{props};
-ghost use Rattle.selftimed.specs.EngineShapes.{form};
+ghost use Rattle.selftimed.specs.EngineShapes.{first_shape, form};
 ghost use Rattle.selftimed.specs.Prints.{print_of, running_print_of};
 ghost use Rattle.selftimed.specs.Moves.{AreAlike, AreStarters, IsMove, IsStuck, IsSpent};
 ghost use Rattle.firing.specs.Wiring.{IsWiringOf};
 ghost use Rattle.selftimed.specs.declared.engine.Stage.{Stage};
 ghost use Rattle.selftimed.specs.declared.engine.Move.{Move};
 ghost use Rattle.selftimed.specs.inside.Stands.{IsFresh, Stands};
+ghost use Rattle.selftimed.specs.inside.Wirings.{wiring_in};
 
-use crate::actors::{ActorState, new_actors, refresh};
+use crate::actors::{ActorState, refresh};
 use crate::agenda::Agenda;
 use crate::compare::{running_print, same_running, same_stands};
 use crate::event::Event;
@@ -27,6 +28,7 @@ use crate::shape::{
     Shape, phases_of, remaining_of, same_phases, same_remaining, same_tokens, tokens_of,
 };
 use crate::tokens::Tokens;
+use crate::wiring::EngineWiring;
 use firing::{Firing, Wired, Wiring};
 use sd_base::NoMemory;
 use std::alloc::Global;
@@ -57,7 +59,6 @@ pub enum Move {
 
 /// Self-timed execution of a net, event by event, of at most `most` starts (Ghamarian et al. 2006). What
 /// it is asked after it was spent, or memory ran out, has no meaning.
-#[derive(Drop)]
 pub struct Engine<'a, F: Firing> {
     /// The net that is executed.
     pub net: &'a F,
@@ -67,7 +68,7 @@ pub struct Engine<'a, F: Firing> {
     pub moment: u64,
     /// How many firings may start in all.
     pub most: u64,
-    wiring: &'a Wiring,
+    wiring: EngineWiring<'a>,
     ports: Ports,
     rates: Vec<Rates>,
     all: u64,
@@ -75,37 +76,100 @@ pub struct Engine<'a, F: Firing> {
     tokens: Tokens,
     agenda: Agenda,
     ghost few: { most ≤ 2 ^ 32 },
-    ghost wired: { IsWiringOf (F.net net.now) wiring.now },
+    ghost wired: { IsWiringOf (F.net net.now) (wiring_in wiring) },
     ghost rated: { AreRates (F.net net.now) rates.items },
     ghost ported: { StillPorts stage (F.net net.now) ports } by { Prim.hlevel props },
     ghost fresh: { stage ≡ Stage.Fresh → IsFresh (F.net net.now) most actors.items tokens all },
     ghost waits: { stage ≡ Stage.Fresh → Plans (F.net net.now) actors.items agenda },
-    ghost starters: { stage ≡ Stage.Running → AreStarters (F.net net.now) moment agenda.starters.items },
+    ghost starters: { stage ≡ Stage.Running → AreStarters (F.net net.now) moment agenda.starters.items } by { Prim.hlevel props },
     ghost goes: { stage ≡ Stage.Running → Plans (F.net net.now) actors.items agenda },
     ghost stands: { stage ≡ Stage.Running → Stands (F.net net.now) moment most actors.items tokens all },
 }
 
+// By hand, so that what drops one calls this, and does not drop each of its parts.
+impl<F: Firing> Drop for Engine<'_, F> {
+    fn drop(self) {
+        let Engine {
+            net: _net,
+            stage: _stage,
+            moment: _moment,
+            most: _most,
+            wiring: _wiring,
+            ports: _ports,
+            rates: _rates,
+            all: _all,
+            actors: _actors,
+            tokens: _tokens,
+            agenda: _agenda,
+        } = self;
+    }
+}
+
 impl<'a, F: Firing> Engine<'a, F> {
     /// An engine that stands before the first event. Cost: linear in the actors and channels of the net.
-    pub fn new(alloc: Global, wired: &Wired<'a, F>, most: u64) -> Result<Engine<'a, F>, NoMemory>
+    pub fn new(alloc: Global, net: &'a F, most: u64) -> Result<Engine<'a, F>, NoMemory>
+        requires { most ≤ 2 ^ 32 }
+        ensures net { IfOk result (λ e. e.net.now ≡ net.now) }
+        ensures stage { IfOk result (λ e. e.stage ≡ Stage.Fresh) }
+        ensures moment { IfOk result (λ e. e.moment ≡ 0) }
+        ensures most { IfOk result (λ e. e.most ≡ most) }
+    {
+        let wiring = Wiring::new(alloc, net)?;
+        Engine::with_wiring(alloc, net, EngineWiring::Made(wiring), most)
+    }
+
+    /// An engine over a net whose wiring is there already: engines of one net, or of nets whose channels have the same ends,
+    /// share one. Cost: as of `new`.
+    pub fn of_wired(
+        alloc: Global,
+        wired: &Wired<'a, F>,
+        most: u64,
+    ) -> Result<Engine<'a, F>, NoMemory>
         requires { most ≤ 2 ^ 32 }
         ensures net { IfOk result (λ e. e.net.now ≡ wired.now.net.now) }
         ensures stage { IfOk result (λ e. e.stage ≡ Stage.Fresh) }
         ensures moment { IfOk result (λ e. e.moment ≡ 0) }
         ensures most { IfOk result (λ e. e.most ≡ most) }
     {
-        let net = wired.net;
-        let actors = new_actors(alloc, net.actors())?;
-        let tokens = Tokens::new(alloc, net)?;
-        let agenda = Agenda::new(alloc, net.actors())?;
-        let ports = Ports::new(alloc, wired)?;
+        Engine::with_wiring(alloc, wired.net, EngineWiring::Lent(wired.wiring), most)
+    }
+
+    fn with_wiring(
+        alloc: Global,
+        net: &'a F,
+        wiring: EngineWiring<'a>,
+        most: u64,
+    ) -> Result<Engine<'a, F>, NoMemory>
+        requires most { most ≤ 2 ^ 32 }
+        requires wired { IsWiringOf (F.net net.now) (wiring_in wiring) }
+        ensures net { IfOk result (λ e. e.net.now ≡ net.now) }
+        ensures stage { IfOk result (λ e. e.stage ≡ Stage.Fresh) }
+        ensures moment { IfOk result (λ e. e.moment ≡ 0) }
+        ensures most { IfOk result (λ e. e.most ≡ most) }
+    {
         let rates = rates_of(alloc, net)?;
+        let mut ports = Ports::with_room(alloc, net.actors(), net.channels())?;
+        let mut actors = Vec::new(alloc);
+        let mut tokens = Tokens::new(alloc);
+        let mut agenda = Agenda::new(alloc);
+        let wired = Wired {
+            net,
+            wiring: wiring.get(),
+        };
+        begin_anew(
+            alloc,
+            &wired,
+            &mut actors,
+            &mut tokens,
+            &mut agenda,
+            &mut ports,
+        )?;
         Ok(Engine {
             net,
             stage: Stage::Fresh,
             moment: 0,
             most,
-            wiring: wired.wiring,
+            wiring,
             ports,
             rates,
             all: 0,
@@ -129,12 +193,16 @@ impl<'a, F: Firing> Engine<'a, F> {
         self.stage = Stage::OutOfMemory;
         let wired = Wired {
             net,
-            wiring: self.wiring,
+            wiring: self.wiring.get(),
         };
-        refresh(alloc, &mut self.actors, net.actors())?;
-        self.tokens.refill(net)?;
-        self.agenda.refill(net.actors())?;
-        self.ports.refill(&wired)?;
+        begin_anew(
+            alloc,
+            &wired,
+            &mut self.actors,
+            &mut self.tokens,
+            &mut self.agenda,
+            &mut self.ports,
+        )?;
         reset_rates(net, self.rates.as_mut_slice());
         self.net = net;
         self.moment = 0;
@@ -265,7 +333,7 @@ impl<'a, F: Firing> Engine<'a, F> {
         self.all
     }
 
-    /// The actors of which firings started at the last event.
+    /// The actors of which firings started at the last event, each once, in no order that matters.
     pub fn starters(&self) -> &[u32]
         requires { self.now.stage ≡ Stage.Running }
         ensures { AreStarters (F.net self.now.net.now) self.now.moment result.now }
@@ -290,10 +358,11 @@ impl<'a, F: Firing> Engine<'a, F> {
         running_print(self.moment, self.actors.as_slice())
     }
 
-    /// What stands after the starts of the last event.
+    /// What stands after the starts of the last event; before the first event, what stands then.
     pub fn shape(&self, alloc: Global) -> Result<Shape, NoMemory>
-        requires { self.now.stage ≡ Stage.Running }
-        ensures { IfOk result (λ shape. form shape ≡ shape_at (F.net self.now.net.now) self.now.moment) }
+        requires { (self.now.stage ≡ Stage.Fresh) ⊎ (self.now.stage ≡ Stage.Running) }
+        ensures fresh { IfOk result (λ shape. self.now.stage ≡ Stage.Fresh → form shape ≡ first_shape (F.net self.now.net.now)) }
+        ensures running { IfOk result (λ shape. self.now.stage ≡ Stage.Running → form shape ≡ shape_at (F.net self.now.net.now) self.now.moment) }
     {
         Ok(Shape {
             tokens: tokens_of(alloc, self.tokens.as_slice())?,
@@ -302,10 +371,11 @@ impl<'a, F: Firing> Engine<'a, F> {
         })
     }
 
-    /// Whether a shape is what stands after the starts of the last event.
+    /// Whether a shape is what `shape` gives.
     pub fn same_shape(&self, other: &Shape) -> bool
-        requires { self.now.stage ≡ Stage.Running }
-        ensures { IsTrue result ↔ (shape_at (F.net self.now.net.now) self.now.moment ≡ form other.now) }
+        requires { (self.now.stage ≡ Stage.Fresh) ⊎ (self.now.stage ≡ Stage.Running) }
+        ensures fresh { self.now.stage ≡ Stage.Fresh → (IsTrue result ↔ (first_shape (F.net self.now.net.now) ≡ form other.now)) }
+        ensures running { self.now.stage ≡ Stage.Running → (IsTrue result ↔ (shape_at (F.net self.now.net.now) self.now.moment ≡ form other.now)) }
     {
         if !same_tokens(self.tokens.as_slice(), other.tokens.as_slice()) {
             return false;
@@ -345,4 +415,25 @@ impl<'a, F: Firing> Engine<'a, F> {
             other.actors.as_slice(),
         )
     }
+}
+
+/// Makes the parts of an engine those of one of a net that stands before the first event, whatever they were.
+fn begin_anew<F: Firing>(
+    alloc: Global,
+    wired: &Wired<F>,
+    actors: &mut Vec<ActorState>,
+    tokens: &mut Tokens,
+    agenda: &mut Agenda,
+    ports: &mut Ports,
+) -> Result<(), NoMemory>
+    ensures fresh { OnOk result ((most : ℕ) → IsFresh (F.net wired.now.net.now) most actors.new.items tokens.new 0) }
+    ensures waits { OnOk result (Plans (F.net wired.now.net.now) actors.new.items agenda.new) }
+    ensures ported { OnOk result (ArePorts (F.net wired.now.net.now) ports.new) }
+{
+    let count = wired.net.actors();
+    refresh(alloc, actors, count)?;
+    tokens.refill(wired.net)?;
+    agenda.refill(count)?;
+    ports.refill(wired)?;
+    Ok(())
 }

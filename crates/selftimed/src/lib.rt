@@ -15,6 +15,7 @@ mod running;
 mod shape;
 mod starts;
 mod tokens;
+mod wiring;
 
 pub use engine::{Engine, Move, Stage};
 pub use shape::Shape;

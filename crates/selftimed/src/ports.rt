@@ -21,7 +21,6 @@ use std::alloc::Global;
 
 /// By actor its own channel, and the others into it and out of it. An actor of one phase may have an own channel: one
 /// from the actor to itself, from which a firing takes one token and on which it puts one.
-#[derive(Debug, Drop)]
 pub(crate) struct Ports {
     /// By actor its own channel.
     pub(crate) own: Vec<Option<u32>>,
@@ -31,22 +30,28 @@ pub(crate) struct Ports {
     pub(crate) outputs: ChannelRows,
 }
 
+// By hand, so that what drops one calls this, and does not drop each of its parts.
+impl Drop for Ports {
+    fn drop(self) {
+        let Ports {
+            own: _own,
+            inputs: _inputs,
+            outputs: _outputs,
+        } = self;
+    }
+}
+
 impl Ports {
-    /// The channels of each actor of a net. Cost: linear in the actors and channels.
-    pub(crate) fn new<F: Firing>(alloc: Global, wired: &Wired<F>) -> Result<Ports, NoMemory>
-        ensures { IfOk result (ArePorts (F.net wired.now.net.now)) }
-    {
-        let net = wired.net;
-        let mut ports = Ports {
-            own: Vec::with_capacity(alloc, net.actors() as usize)?,
-            inputs: ChannelRows::with_capacity(alloc, net.actors(), net.channels())?,
-            outputs: ChannelRows::with_capacity(alloc, net.actors(), net.channels())?,
-        };
-        ports.refill(wired)?;
-        Ok(ports)
+    /// Those of no actors, with room for those of so many actors and channels.
+    pub(crate) fn with_room(alloc: Global, actors: u32, channels: u32) -> Result<Ports, NoMemory> {
+        Ok(Ports {
+            own: Vec::with_capacity(alloc, actors as usize)?,
+            inputs: ChannelRows::with_room(alloc, actors, channels)?,
+            outputs: ChannelRows::with_room(alloc, actors, channels)?,
+        })
     }
 
-    /// Makes them those of another net. It allocates nothing where there were as many actors and channels.
+    /// Makes them those of a net. It allocates nothing where there is room for as many actors and channels. Cost: linear in these.
     pub(crate) fn refill<F: Firing>(&mut self, wired: &Wired<F>) -> Result<(), NoMemory>
         ensures { OnOk result (ArePorts (F.net wired.now.net.now) self.new) }
     {
@@ -93,16 +98,25 @@ fn is_own<F: Firing>(net: &F, channel: u32, actor: u32) -> bool
 }
 
 /// By actor a list of channels. All lie in one array, so that those of an actor are a slice of it.
-#[derive(Debug, Drop)]
 pub(crate) struct ChannelRows {
     /// By actor where its channels begin in `channels`; behind the last actor, where they end.
     starts: Vec<usize>,
     channels: Vec<u32>,
 }
 
+// By hand, so that what drops one calls this, and does not drop each of its parts.
+impl Drop for ChannelRows {
+    fn drop(self) {
+        let ChannelRows {
+            starts: _starts,
+            channels: _channels,
+        } = self;
+    }
+}
+
 impl ChannelRows {
     /// No rows, with room for those of so many actors and channels.
-    fn with_capacity(alloc: Global, actors: u32, channels: u32) -> Result<ChannelRows, NoMemory> {
+    fn with_room(alloc: Global, actors: u32, channels: u32) -> Result<ChannelRows, NoMemory> {
         Ok(ChannelRows {
             starts: Vec::with_capacity(alloc, actors as usize + 1)?,
             channels: Vec::with_capacity(alloc, channels as usize)?,

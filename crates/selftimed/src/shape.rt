@@ -1,7 +1,7 @@
 ghost use Rattle.std.specs.Prelude.{◌≡◌, ◌↔◌, ℕ, ◌-◌, ◌%◌, ◌<◌, ◌≤◌, ◌++◌, IfOk, IsTrue, OnOk, length, map, replicate, slice_index, take};
 ghost use Rattle.selftimed.specs.inside.Runs.{ends_of, NoneEnded};
 ghost use Rattle.sd_base.specs.Schedules.{phases_at};
-ghost use Rattle.selftimed.specs.EngineShapes.{phases_now, remaining_now, IsPast};
+ghost use Rattle.selftimed.specs.inside.Standings.{phases_now, remaining_now, IsPast};
 
 use crate::actors::ActorState;
 use crate::queue::Run;

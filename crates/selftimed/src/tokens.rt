@@ -35,16 +35,14 @@ impl Model for Tokens {
 }
 
 impl Tokens {
-    /// The tokens with which each channel starts.
-    pub(crate) fn new<F: Firing>(alloc: Global, net: &F) -> Result<Tokens, NoMemory>
-        ensures { IfOk result (λ tokens. tokens ≡ map (λ (c : Channel). c.tokens) (F.net net.now).channels) }
+    /// Those of no channels.
+    pub(crate) fn new(alloc: Global) -> Tokens
+        ensures { result ≡ [] }
     {
-        let mut tokens = Tokens {
+        Tokens {
             counts: Vec::new(alloc),
             print: 0,
-        };
-        tokens.refill(net)?;
-        Ok(tokens)
+        }
     }
 
     /// Makes them the tokens with which each channel starts. It allocates nothing where there were as many channels.

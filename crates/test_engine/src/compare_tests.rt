@@ -30,7 +30,7 @@ pub(crate) fn compare<F: Firing>(
         net,
         wiring: &wiring,
     };
-    let mut engine = Engine::new(alloc, &wired, 1_000_000)?;
+    let mut engine = Engine::of_wired(alloc, &wired, 1_000_000)?;
     compare_on(rt, alloc, &mut engine, &plain, last)
 }
 

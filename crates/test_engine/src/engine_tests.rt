@@ -42,7 +42,7 @@ pub(crate) fn follow<F: Firing>(
         net,
         wiring: &wiring,
     };
-    let mut engine = Engine::new(alloc, &wired, 1000)?;
+    let mut engine = Engine::of_wired(alloc, &wired, 1000)?;
     follow_on(rt, alloc, &mut engine, events)
 }
 
@@ -112,6 +112,23 @@ fn check_phases(rt: &impl Abort, phases: &[u32], wanted: &[u32]) {
     }
 }
 
+// By hand. Before the first event the one token of the ring lies on the channel back, and nothing has started; the first event
+// takes it. What stands first isn't what stands after it.
+#[test]
+fn an_engine_has_a_shape_before_its_first_event(rt: HostRuntime) -> Result<(), Fail> {
+    let net = ring_of_two(rt.alloc())?;
+    let mut engine = Engine::new(rt.alloc(), &net, 1000)?;
+    let first = engine.shape(rt.alloc())?;
+    assert_eq!(rt; first.tokens.as_slice(), [0, 1].as_slice());
+    assert_eq!(rt; first.phases.as_slice(), [0, 0].as_slice());
+    assert!(rt; first.remaining.as_slice().iter().all(|row| row.is_empty()));
+    assert_eq!(rt; first.remaining.len(), 2);
+    assert!(rt; engine.same_shape(&first));
+    assert_eq!(rt; engine.advance()?, Move::Stepped);
+    assert!(rt; !engine.same_shape(&first));
+    Ok(())
+}
+
 // By hand. In the ring x starts at 0 with the one token, ends at 2 and lets y start, which ends at 5 and lets x start. Three
 // tokens let three firings start at 0; they end at 7, and three more start.
 #[test]
@@ -175,12 +192,7 @@ fn moves(
     net: &SdfNet,
     wanted: &[Move],
 ) -> Result<(u64, Stage), Fail> {
-    let wiring = Wiring::new(alloc, net)?;
-    let wired = Wired {
-        net,
-        wiring: &wiring,
-    };
-    let mut engine = Engine::new(alloc, &wired, 1000)?;
+    let mut engine = Engine::new(alloc, net, 1000)?;
     move_on(rt, &mut engine, wanted)?;
     Ok((engine.moment(), engine.stage))
 }
@@ -213,12 +225,7 @@ fn what_cannot_start_is_stuck(rt: HostRuntime) -> Result<(), Fail> {
 fn is_spent_after(alloc: Global, net: &SdfNet, most: u64, steps: u32) -> Result<bool, Fail>
     requires { most ≤ 2 ^ 32 }
 {
-    let wiring = Wiring::new(alloc, net)?;
-    let wired = Wired {
-        net,
-        wiring: &wiring,
-    };
-    let mut engine = Engine::new(alloc, &wired, most)?;
+    let mut engine = Engine::new(alloc, net, most)?;
     Ok(goes_on(&mut engine, steps, Move::Stepped)? && goes_on(&mut engine, 3, Move::Spent)?)
 }
 

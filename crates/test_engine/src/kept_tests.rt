@@ -34,7 +34,7 @@ fn keep_all(
         net,
         wiring: &wiring,
     };
-    let mut engine = Engine::new(alloc, &wired, 1000)?;
+    let mut engine = Engine::of_wired(alloc, &wired, 1000)?;
     let mut seen = Vec::new(alloc);
     let before = keep_on(rt, alloc, &mut engine, &mut seen, states)?;
     Ok((seen, before))

@@ -1,6 +1,6 @@
 -- Where the actors stand in an execution.
-use Rattle.std.specs.Prelude.{◌≡◌, ℕ, ◌+◌, ◌-◌, ◌^◌, ◌≤◌, ◌<◌, ◌⊎◌, Bool, true, false, List, [], Option, All, length, drop, slice_index, slice_index_or, ◌==◌}
-use Rattle.std.specs.List.{list_any, sum_by}
+use Rattle.std.specs.Prelude.{◌≡◌, ℕ, ◌+◌, ◌-◌, ◌^◌, ◌≤◌, ◌<◌, ◌⊎◌, Bool, true, false, List, [], Option, All, length, drop, slice_index, slice_index_or, ◌==◌, nat_eq}
+use Rattle.std.specs.List.{list_any, sum_by, IsDistinct}
 use Rattle.sd_base.specs.Net.{Net, channel_at, phase_entry}
 use Rattle.sd_base.specs.Schedules.{Needs}
 use Rattle.sd_base.proofs.Moment.{Able}
@@ -122,7 +122,10 @@ pub record Counted (actors : List ActorState) (all most : ℕ) : Type 0 where
   pub total : all ≡ sum_by (λ (s : ActorState). s.started) actors
   pub within : all ≤ most
 
--- all actors of which firings have started since are listed, and no number that isn't one of an actor
+-- the actors of which firings have started since, each once, and none of them is to be looked at
 pub record HaveStarted (net : Net) (old new : List ActorState) (list : List ℕ) : Type 0 where
   pub actors : All (λ a. a < length net.times) list
+  pub start : All (λ a. started_in old a < started_in new a) list
+  pub calm : All (λ a. touched_in new a ≡ false) list
   pub listed : (a : ℕ) → a < length net.times → started_in old a < started_in new a → list_any (λ (x : ℕ). x == a) list ≡ true
+  pub once : IsDistinct nat_eq list

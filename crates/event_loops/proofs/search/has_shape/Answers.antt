@@ -12,6 +12,6 @@ returns-then-running_print-checkpoint g c = (
 
 pub returns : goal.returns
 returns g c = (
-  λ is. c.same_shape.ensures.0 is ∙ c.requires.checkpoint.shape,
-  λ same. c.same_shape.ensures.1 (same ∙ sym c.requires.checkpoint.shape),
+  λ is. (c.same_shape.ensures.running c.requires.running).0 is ∙ c.requires.checkpoint.shape,
+  λ same. (c.same_shape.ensures.running c.requires.running).1 (same ∙ sym c.requires.checkpoint.shape),
 )

@@ -1,7 +1,7 @@
 use Rattle.std.proofs.Common.{◌≡◌, ℕ, ◌+◌, ◌*◌, ◌%◌, ◌^◌, take, sym, refl, ◌∙◌, arith}
 use Rattle.std.proofs.lemmas.List.{get_or_default}
 use Rattle.selftimed.specs.inside.Actors.{idle}
-use Rattle.selftimed.specs.EngineShapes.{remaining_now}
+use Rattle.selftimed.specs.inside.Standings.{remaining_now}
 use Rattle.selftimed.specs.Prints.{weight, weighed_from, running_print_of}
 use Rattle.selftimed.proofs.Shaping.{past-at}
 use Rattle.selftimed.proofs.RunningPrints.{running-more}

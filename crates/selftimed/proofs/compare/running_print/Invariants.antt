@@ -1,5 +1,5 @@
 use Rattle.std.proofs.Common.{◌≡◌, take}
-use Rattle.selftimed.specs.EngineShapes.{remaining_now}
+use Rattle.selftimed.specs.inside.Standings.{remaining_now}
 use Rattle.selftimed.specs.Prints.{running_print_of}
 use Rattle.selftimed.proofs.compare.running_print.Given as goal
 

@@ -1,5 +1,5 @@
 use Rattle.std.proofs.Common.{◌≡◌, take}
-use Rattle.selftimed.specs.EngineShapes.{remaining_now}
+use Rattle.selftimed.specs.inside.Standings.{remaining_now}
 use Rattle.selftimed.proofs.shape.remaining_of.Given as goal
 
 abbrev pub invariant-loop-state : goal.invariant-loop-state

@@ -2,6 +2,6 @@ use Rattle.std.proofs.Common.{refl}
 use Rattle.selftimed.specs.Prints.{weighed_from}
 use Rattle.selftimed.proofs.tokens.Tokens.new.Goals as goal
 
-pub invariant_of-tokens : goal.invariant_of-tokens
+pub invariant_of-result : goal.invariant_of-result
 unfolding weighed_from
-invariant_of-tokens g c = rw c.new.ensures.items refl
+invariant_of-result c = rw c.new.ensures.items refl
