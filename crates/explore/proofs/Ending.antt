@@ -9,7 +9,9 @@ use Rattle.sd_base.specs.declared.limits.TheConstants.{STORAGE}
 use Rattle.sd_base.specs.Net.{Net}
 use Rattle.sd_base.specs.Lawful.{Lawful}
 use Rattle.sd_base.specs.Rates.{Rate}
+use Rattle.sd_base.proofs.Divisors.{same_fraction}
 use Rattle.sd_base.proofs.LoopRates.{one-rate}
+use Rattle.sd_base.proofs.Parts.{balanced}
 use Rattle.sd_base.proofs.Lists.{map-map}
 use Rattle.storage.specs.BoundedNets.{bound}
 use Rattle.storage.specs.CapacityOrder.{no_later}
@@ -17,8 +19,10 @@ use Rattle.storage.specs.Distributions.{AtMost, IsDistribution, storage_of}
 use Rattle.storage.specs.ParetoPoints.{IsFront, IsPareto, IsReachedPair, Reaches, no_pair}
 use Rattle.storage.specs.ClosedLists.{AgreesOn, Entry, HasEntry, IsClosed, IsFrontOver, entry_at, no_entry}
 use Rattle.storage.specs.Steps.{IsOnGrid}
-use Rattle.storage.proofs.Covers.{net-above, net-bounds}
+use Rattle.storage.proofs.Covers.{covered, net-above, net-bounds}
+use Rattle.storage.proofs.Easings.{eases-rates}
 use Rattle.storage.proofs.Fits.{within-lawful}
+use Rattle.storage.proofs.Roundings.{bound-eases, more-eases}
 use Rattle.storage.proofs.FileChannels.{plain-no_spaces}
 use Rattle.storage.proofs.FrontsFromMembers.{AreExact, front-over, less_on, no_less, pareto-listed}
 use Rattle.sd_base.proofs.Containing.{contains-here, contains-later, contains-none, contains-cases, contains-map, contains-unmap}
@@ -30,12 +34,12 @@ use Rattle.explore.specs.declared.exploration.Member.{Member}
 use Rattle.levels.specs.Visits.{led_by, visited, visits_of}
 use Rattle.levels.proofs.Visited.{has-entry}
 use Rattle.explore.specs.Reachable.{IsExplorable, IsReachable}
-use Rattle.explore.specs.Explorations.{IsExploration, ShowsChannel, capacities_of, pair_of}
+use Rattle.explore.specs.Explorations.{HasCover, IsExploration, ShowsChannel, capacities_of, pair_of}
 use Rattle.explore.specs.inside.Searches.{IsEnded, IsNoted, offer_for, offers_of}
 use Rattle.explore.proofs.Searching.{entry-visit, led-member, noted-at, noted-of, visited-members}
 use Rattle.explore.proofs.OfferFronts.{front-of_offers, pair_of as offer_pair}
 
-zero-test : (n : ℕ) → (((n == 0) ≡ true) × (n ≡ 0)) ⊎ (((n == 0) ≡ false) × (1 ≤ n))
+pub zero-test : (n : ℕ) → (((n == 0) ≡ true) × (n ≡ 0)) ⊎ (((n == 0) ≡ false) × (1 ≤ n))
 zero-test n =
     ⊎_elim
     (λ (h : (n == 0) ≡ true). inl (h, (Decides-eqb n 0).0 h))
@@ -101,6 +105,11 @@ same-covers (q ∷ ps) p o order is covered storage rate = at (contains-cases q 
         let no_more : p.rate.num * q.rate.den ≤ q.rate.num * p.rate.den = no_less p.rate.num p.rate.den o.rate.num o.rate.den q.rate.num q.rate.den o.rate.positive (omega arith) covers.rate in
         absurd (omega (arith, above.1, no_more))
     at (inr later) (inr under) rest = rest later under
+
+-- more room doesn't lower the rate
+more-room : (net : Net) → Lawful net → (ds es : List (Option ℕ)) (p q x y : ℕ) → AtMost ds es → Rate (bound net ds) p q → Rate (bound net es) x y → p * y ≤ x * q
+more-room net laws ds es p q x y most one other =
+    eases-rates (bound net ds) (bound net es) (bound-eases net ds es (more-eases 0 net.channels ds es most)) laws.some_actor ((balanced net laws).fires 0 laws.some_actor) p q x y one other
 
 module _ (net : Net) (laws : Lawful net) (can : IsExplorable net) (limits : Limits) (small : limits.total ≤ STORAGE) (members : List Member) (points : List Point) (ended : IsEnded net limits members points) where
   lawful-at : (ds : List (Option ℕ)) → (m : Member) → Contains members m → IsDistribution net.channels ds → storage_of net.channels ds ≤ limits.total → Lawful (bound net ds)
@@ -208,6 +217,26 @@ module _ (net : Net) (laws : Lawful net) (can : IsExplorable net) (limits : Limi
       (ended.visits.next (led_by e.0.capacities e.0.shown) (stepped net.channels m.capacities.capacities c) (entry-visit ended.entries e.0 e.1)
       (c, (e.2.shows c).1 shows, ap (λ (ds : List (Option ℕ)). stepped net.channels ds c) (sym same)) fits)
 
+  -- each distribution that reaches a point is a member
+  all-members : (p : Point) (ds : List (Option ℕ)) → Contains points p → Reaches net limits.total p.total p.rate.num p.rate.den ds → Contains (capacities_of members) ds
+  all-members p ds one reaches =
+      let has = pareto-listed net laws limits.total ended.entries closed exact (pair_of p) (pareto p one) ds reaches in
+      let n = noted has.0 has.1 in
+      let same : n.0.capacities.capacities ≡ ds = sym (ap (λ (x : Entry). x.capacities) n.2.is) ∙ has.2 in
+      subst (Contains (capacities_of members)) same (contains-map (λ (x : Member). x.capacities.capacities) members n.0 n.1)
+
+  -- each distribution with a rate above 0 has a member that is at most it, whose rate is as great and, since more room loses
+  -- nothing, no greater
+  covers-reached : (storage num den : ℕ) (ds : List (Option ℕ)) → Reaches net limits.total storage num den ds → HasCover members ds num den
+  covers-reached storage num den ds reaches =
+      let cover = covered net laws limits.total ended.entries closed storage num den ds reaches in
+      let n = noted cover.place cover.below in
+      let most : AtMost n.0.capacities.capacities ds = subst (λ (x : Entry). AtMost x.capacities ds) n.2.is cover.most in
+      let no_less : num * n.0.rate.den ≤ n.0.rate.num * den = subst (λ (x : Entry). num * x.den ≤ x.num * den) n.2.is cover.bounds in
+      let no_more : n.0.rate.num * den ≤ num * n.0.rate.den = more-room net laws n.0.capacities.capacities ds n.0.rate.num n.0.rate.den num den most n.2.member.rate reaches.rate in
+      let same = same_fraction n.0.rate.num n.0.rate.den num den n.2.member.rate.positive reaches.rate.positive n.2.member.rate.lowest reaches.rate.lowest (omega (arith, no_less, no_more)) in
+      record { member = n.0; among = n.1; most = most; num_is = same.0; den_is = same.1 }
+
   pub explored : IsExploration net limits members points
   explored = record {
     front = front;
@@ -217,6 +246,8 @@ module _ (net : Net) (laws : Lawful net) (can : IsExplorable net) (limits : Limi
     listed = λ p one.
         let at = reached-offer (offer_of p) (contains-map offer_of points p one) in
         subst (Contains (capacities_of members)) (ap (λ (o : Offer). o.capacities) at.2) (contains-map (λ (x : Member). x.capacities.capacities) members at.0 at.1);
+    all_listed = all-members;
+    covered = covers-reached;
     evaluated = λ m one. (noted-of net limits.states members ended.entries m ended.known.noted one).2.member;
     reachable = λ ds one. let m = contains-unmap (λ (x : Member). x.capacities.capacities) members ds one in subst (IsReachable net limits.total) m.2 (ended.candidates m.0 m.1).reachable;
     order = subst (AreInOrder net.channels) same-visits ended.visits.order;

@@ -14,3 +14,5 @@ pub mod Enough
 pub mod Turning
 pub mod Topping
 pub mod Halting
+pub mod Entering
+pub mod CountedPoints

@@ -12,7 +12,7 @@ use Rattle.critical.specs.CriticalCycles.{IsCriticalCycleOf}
 use Rattle.critical.specs.Spaces.{IsSpaceAt}
 use Rattle.storage.specs.BoundedNets.{bound}
 use Rattle.storage.specs.CapacityOrder.{no_later}
-use Rattle.storage.specs.Distributions.{storage_of}
+use Rattle.storage.specs.Distributions.{AtMost, storage_of}
 use Rattle.storage.specs.ParetoPoints.{IsFront, Pair, Reaches}
 use Rattle.storage.specs.ShownSpaces.{ShowsSpace}
 use Rattle.storage.specs.Steps.{IsCorner}
@@ -71,13 +71,24 @@ pub record BeginsAtCorner (net : Net) (limit : ℕ) (dss : List (List (Option �
   pub is_corner : IsCorner net.channels corner
   pub start : storage_of net.channels corner ≤ limit → Contains dss corner
 
--- the points are the front of all distributions within the limit, each with its least one, which is a member; the members
--- are reachable and in order, begin at the corner, lead on from each to those with a step more room on a channel that it
--- shows, and are no more than allowed
+-- a member that is at most the distribution on every channel, and has this rate
+pub record HasCover (members : List Member) (ds : List (Option ℕ)) (num den : ℕ) : Type 0 where
+  pub member : Member
+  pub among : Contains members member
+  pub most : AtMost member.capacities.capacities ds
+  pub num_is : member.rate.num ≡ num
+  pub den_is : member.rate.den ≡ den
+
+-- the points are the front of all distributions within the limit, each with its least one; each distribution that reaches a
+-- point is a member, and each with a rate above 0 has a member that is at most it and has its rate; the members are reachable
+-- and in order, begin at the corner, lead on from each to those with a step more room on a channel that it shows, and are no
+-- more than allowed
 pub record IsExploration (net : Net) (limits : Limits) (members : List Member) (points : List Point) : Type 0 where
   pub front : IsFront net limits.total (map pair_of points)
   pub reached : (p : Point) → Contains points p → IsPoint net limits p
   pub listed : (p : Point) → Contains points p → Contains (capacities_of members) p.capacities.capacities
+  pub all_listed : (p : Point) (ds : List (Option ℕ)) → Contains points p → Reaches net limits.total p.total p.rate.num p.rate.den ds → Contains (capacities_of members) ds
+  pub covered : (storage num den : ℕ) (ds : List (Option ℕ)) → Reaches net limits.total storage num den ds → HasCover members ds num den
   pub evaluated : (m : Member) → Contains members m → IsMember net limits.states m
   pub reachable : (ds : List (Option ℕ)) → Contains (capacities_of members) ds → IsReachable net limits.total ds
   pub order : AreInOrder net.channels (capacities_of members)

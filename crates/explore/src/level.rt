@@ -1,5 +1,6 @@
 ghost use Rattle.std.specs.Prelude.{◌≡◌, ◌+◌, ◌≤◌, [], All, IfOk, OnErr, map, reverse, vec_capacity, vec_len};
 ghost use Rattle.sd_base.specs.declared.limits.TheConstants.{LEAST_STATES, STATES};
+ghost use Rattle.fanout.specs.JobRuns.{EachEntered};
 ghost use Rattle.explore.specs.inside.Levels.{IsDone, IsEvaluation, IsFresh, IsVisitable, least_loops, most_loops, sum_of};
 ghost use Rattle.sd_base.specs.declared.numbers.Fraction.{Fraction as AFraction};
 ghost use Rattle.explore.specs.inside.Rated.{IsBestOf};
@@ -41,6 +42,7 @@ pub(crate) fn run_level<R: Threads + Sync, F: Firing + Sync, G: Gate + Sync, L: 
     requires few { exploring.now.limits.states ≤ STATES }
     ensures answers { IfOk result (λ v. (best : AFraction) × IsBestOf search.now.front best × All (λ a. IsEvaluation (F.net exploring.now.net.now) exploring.now.limits.states best a.capacities a.answer) v.items) }
     ensures order { IfOk result (λ v. map (λ a. a.capacities) v.items ≡ map (λ f. f.capacities) level.visits.items) }
+    ensures entered { IfOk result (λ v. EachEntered (G.entered gate.now level.total) v.items) }
     ensures least { IfOk result (λ v. steps.old.count + sum_of least_loops v.items ≤ steps.new.count) }
     ensures most { IfOk result (λ v. steps.new.count ≤ steps.old.count + sum_of most_loops v.items) }
     ensures err { OnErr result (steps.new ≡ steps.old) }

@@ -10,7 +10,7 @@ ghost use Rattle.storage.specs.ClosedLists.{Entry};
 ghost use Rattle.storage.specs.Distributions.{storage_of};
 ghost use Rattle.guide.specs.Evaluations.{IsEvaluated, IsRefused};
 ghost use Rattle.explore.specs.declared.exploration.Member.{Member as AMember};
-ghost use Rattle.explore.specs.Explorations.{IsRefusal, cycles_in};
+ghost use Rattle.explore.specs.Explorations.{IsRefusal, capacities_of, cycles_in};
 ghost use Rattle.explore.specs.Reachable.{IsExplorable, IsReachable};
 ghost use Rattle.explore.specs.inside.Levels.{least_loops, most_loops, sum_of};
 ghost use Rattle.sd_base.specs.declared.numbers.Fraction.{Fraction as AFraction};
@@ -43,6 +43,7 @@ pub(crate) fn take_in_all<F: Firing>(
     requires answers { (best : AFraction) × IsBest (F.net exploring.now.net.now) best total search.old.members.items × All (IsAnswerOf (F.net exploring.now.net.now) exploring.now.limits total best) answers.items }
     requires search { IsSearch (F.net exploring.now.net.now) exploring.now.limits (total + 1) (answered_of answers.items) search.old }
     ensures search { OnOk result (IsSearch (F.net exploring.now.net.now) exploring.now.limits (total + 1) [] search.new) }
+    ensures capacities { OnOk result (capacities_of search.new.members.items ≡ capacities_of search.old.members.items ++ answered_of answers.items) }
     ensures many { OnOk result (length search.new.members.items ≡ length search.old.members.items + length answers.items) }
     ensures least { OnOk result (cycles_in search.new.members.items ≡ cycles_in search.old.members.items + sum_of least_loops answers.items) }
     ensures most { OnOk result (cycles_in search.new.members.items ≡ cycles_in search.old.members.items + sum_of most_loops answers.items) }

@@ -3,12 +3,13 @@ ghost use Rattle.sd_base.specs.declared.limits.TheConstants.{DISTRIBUTIONS, LEAS
 ghost use Rattle.storage.specs.Distributions.{storage_of};
 ghost use Rattle.storage.specs.Steps.{IsCorner};
 ghost use Rattle.levels.specs.Frontiers.{channel_step};
-ghost use Rattle.explore.specs.Explorations.{CountsFew, IsExploration, IsRefusal, cycles_in};
+ghost use Rattle.levels.specs.Entrances.{EnterByLevels};
+ghost use Rattle.explore.specs.Explorations.{CountsFew, IsExploration, IsRefusal, capacities_of, cycles_in};
 ghost use Rattle.explore.specs.Extents.{Explores};
 ghost use Rattle.explore.specs.Reachable.{IsExplorable};
 ghost use Rattle.pareto_front.specs.declared.point.Point.{Point as APoint};
 ghost use Rattle.explore.specs.declared.extent.Extent.TheVariants.{Fastest};
-ghost use Rattle.explore.specs.inside.Searches.{HasTable, IsCandidate, IsEnded, IsFarEnough, IsPast, IsSearch, IsStanding, IsTopAmong, IsTurn};
+ghost use Rattle.explore.specs.inside.Searches.{EntersOn, HasTable, IsCandidate, IsEnded, IsFarEnough, IsPast, IsSearch, IsStanding, IsTopAmong, IsTurn};
 ghost use Rattle.explore.specs.inside.Levels.{WiresAll};
 ghost use Rattle.explore.specs.inside.Starts.{AreStarts};
 
@@ -61,7 +62,9 @@ pub fn explore<R: Threads + Sync, F: Firing + Sync, G: Gate + Sync, L: Ledger + 
     requires few { limits.distributions ≤ DISTRIBUTIONS }
     ensures explored { IfOk result (λ e. IsExploration (F.net net.now) limits e.members.items e.points.items) }
     ensures refused { IfErr result (IsRefusal (F.net net.now) limits) }
+    ensures entered { IfOk result (λ e. EnterByLevels (F.net net.now).channels (G.entered gate.now) (capacities_of e.members.items)) }
     ensures count { IfOk result (λ e. steps.new.count ≡ steps.old.count + cycles_in e.members.items) }
+    ensures least { IfOk result (λ e. steps.old.count + length e.points.items ≤ steps.new.count) }
     ensures most { CountsFew (F.net net.now) limits steps.old.count steps.new.count }
     ensures rises { steps.old.count ≤ steps.new.count }
     ensures share { steps.new.share ≡ steps.old.share }
@@ -89,7 +92,9 @@ pub fn explore_as_far<R: Threads + Sync, F: Firing + Sync, G: Gate + Sync, L: Le
     requires few { limits.distributions ≤ DISTRIBUTIONS }
     ensures explored { IfOk result (λ e. Explores extent (F.net net.now) limits e.members.items e.points.items) }
     ensures refused { IfErr result (IsRefusal (F.net net.now) limits) }
+    ensures entered { IfOk result (λ e. EnterByLevels (F.net net.now).channels (G.entered gate.now) (capacities_of e.members.items)) }
     ensures count { IfOk result (λ e. steps.new.count ≡ steps.old.count + cycles_in e.members.items) }
+    ensures least { IfOk result (λ e. steps.old.count + length e.points.items ≤ steps.new.count) }
     ensures most { CountsFew (F.net net.now) limits steps.old.count steps.new.count }
     ensures rises { steps.old.count ≤ steps.new.count }
     ensures share { steps.new.share ≡ steps.old.share }
@@ -141,6 +146,7 @@ fn take_turns<R: Threads + Sync, F: Firing + Sync, G: Gate + Sync, L: Ledger + S
     requires stands { IsStanding (F.net exploring.now.net.now) exploring.now.limits search.old }
     requires none { cycles_in search.old.members.items ≡ 0 }
     ensures far { OnOk result (IsFarEnough extent (F.net exploring.now.net.now) exploring.now.limits search.new) }
+    ensures entered { OnOk result (EntersOn (F.net exploring.now.net.now) (G.entered gate.now) search.old.members.items search.new.members.items) }
     ensures count { OnOk result (steps.new.count ≡ steps.old.count + cycles_in search.new.members.items) }
     ensures refused { IfErr result (IsRefusal (F.net exploring.now.net.now) exploring.now.limits) }
     ensures most { CountsFew (F.net exploring.now.net.now) exploring.now.limits steps.old.count steps.new.count }
@@ -211,6 +217,7 @@ fn take_turn<R: Threads + Sync, F: Firing + Sync, G: Gate + Sync, L: Ledger + Se
     requires few_states { exploring.now.limits.states ≤ STATES }
     requires turn { IsTurn (F.net exploring.now.net.now) exploring.now.limits level search.old }
     ensures past { OnOk result (IsPast (F.net exploring.now.net.now) exploring.now.limits level.total search.new) }
+    ensures entered { OnOk result (EntersOn (F.net exploring.now.net.now) (G.entered gate.now) search.old.members.items search.new.members.items) }
     ensures more { OnOk result (length search.old.members.items < length search.new.members.items) }
     ensures few { OnOk result (length search.new.members.items ≤ exploring.now.limits.distributions) }
     ensures count { OnOk result (steps.new.count + cycles_in search.old.members.items ≡ steps.old.count + cycles_in search.new.members.items) }

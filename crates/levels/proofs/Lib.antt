@@ -8,3 +8,4 @@ pub mod Children
 pub mod Spreading
 pub mod ComingTo
 pub mod Visited
+pub mod Entering

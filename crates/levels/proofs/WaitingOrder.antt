@@ -8,7 +8,7 @@ use Rattle.std.specs.declared.cmp.Ordering.TheVariants.{Less, Equal, Greater}
 use Rattle.std.specs.Ordering.{nat_cmp, ordering_then}
 use Rattle.storage.specs.CapacityOrder.{no_later}
 use Rattle.levels.specs.declared.found.Found.{Found}
-use Rattle.levels.specs.inside.WaitingOrder.{capacities_cmp}
+use Rattle.levels.specs.WaitingOrder.{capacities_cmp}
 use Rattle.levels.specs.Frontiers.{found_order}
 
 less-later : (ds es : List (Option ℕ)) → capacities_cmp ds es ≡ Less → no_later es ds ≡ false

@@ -11,7 +11,7 @@ use Rattle.levels.specs.declared.error.LevelsError.TheVariants.{Spent, NoMemory}
 use Rattle.levels.specs.declared.found.Found.{Found}
 use Rattle.levels.specs.declared.levels.Bounds.{Bounds}
 use Rattle.levels.specs.declared.levels.Levels.{Levels}
-use Rattle.levels.specs.inside.WaitingOrder.{waiting_cmp}
+use Rattle.levels.specs.WaitingOrder.{waiting_cmp}
 use Rattle.levels.specs.Visits.{IsLedTo, LeadsTo, Visit, visited}
 
 -- what a search knows of a channel

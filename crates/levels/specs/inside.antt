@@ -1,2 +1,2 @@
-pub mod WaitingOrder
+pub mod Heads
 pub mod Waiting

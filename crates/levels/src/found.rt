@@ -2,7 +2,8 @@ ghost use Rattle.std.specs.Prelude.{◌≡◌, IfOk};
 ghost use Rattle.std.specs.Cmp.{partial_equiv_from_equiv, po, eq_by_cmp_equiv};
 ghost use Rattle.std.specs.Ordering.{eq_by_cmp, as_partial_cmp};
 ghost use Rattle.std.proofs.Common.{refl};
-ghost use Rattle.levels.specs.inside.WaitingOrder.{capacities_cmp, head_of, waiting_cmp, waiting_total};
+ghost use Rattle.levels.specs.WaitingOrder.{capacities_cmp, waiting_cmp, waiting_total};
+ghost use Rattle.levels.specs.inside.Heads.{head_of};
 
 use sd_base::NoMemory;
 use std::alloc::Global;

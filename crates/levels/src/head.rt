@@ -1,6 +1,6 @@
 //! A number that tells most distributions apart in their order.
 ghost use Rattle.std.specs.Prelude.{◌≡◌};
-ghost use Rattle.levels.specs.inside.WaitingOrder.{code_of, first_code, head_of};
+ghost use Rattle.levels.specs.inside.Heads.{code_of, first_code, head_of};
 
 use std::cmp::min;
 

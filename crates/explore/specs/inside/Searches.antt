@@ -17,6 +17,7 @@ use Rattle.levels.specs.declared.found.Found.{Found}
 use Rattle.levels.specs.declared.found.Level.{Level}
 use Rattle.levels.specs.Visits.{AreVisits, visits_of}
 use Rattle.levels.specs.Frontiers.{IsFrontier, distributions_of}
+use Rattle.levels.specs.Entrances.{EnterByLevels}
 use Rattle.explore.specs.declared.exploration.Member.{Member}
 use Rattle.explore.specs.declared.search.Search.{Search}
 use Rattle.explore.specs.declared.level.Answered.{Answered}
@@ -26,7 +27,7 @@ use Rattle.explore.specs.Reachable.{IsReachable}
 use Rattle.explore.specs.declared.extent.Extent.{Extent}
 use Rattle.explore.specs.declared.extent.Extent.TheVariants.{Limit, Fastest}
 use Rattle.explore.specs.Ceilings.{BoundsAll}
-use Rattle.explore.specs.Explorations.{IsMember, ShowsChannel, shows_cycle}
+use Rattle.explore.specs.Explorations.{IsMember, ShowsChannel, capacities_of, shows_cycle}
 
 -- a distribution on the grid and within the limit that can be reached
 pub record IsCandidate (net : Net) (limit : ℕ) (ds : List (Option ℕ)) : Type 0 where
@@ -100,6 +101,10 @@ pub record IsTurn (net : Net) (limits : Limits) (level : Level (Option ℕ)) (s 
   pub visitable : All (IsVisitable net limits.states s.members.items) level.visits.items
   pub some : 1 ≤ length level.visits.items
 
+-- if the first members entered by levels, all do
+abbrev pub EntersOn : Net → (ℕ → ℕ → Type 0) → List Member → List Member → Type 0
+EntersOn net entered old new = EnterByLevels net.channels entered (capacities_of old) → EnterByLevels net.channels entered (capacities_of new)
+
 -- one of the points has a rate that no distribution passes
 abbrev pub IsTopAmong : Net → List Point → Type 0
 IsTopAmong net points = (p : Point) × Contains points p × BoundsAll net p.rate
@@ -137,5 +142,6 @@ pub record IsAnswerOf (net : Net) (limits : Limits) (total : ℕ) (best : Fracti
 pub record IsMemberAdded (a : Answered) (old new : List Member) : Type 0 where
   pub member : Member
   pub added : new ≡ old ++ member ∷ []
+  pub capacities : member.capacities ≡ a.capacities
   pub least : shows_cycle member.shown ≡ least_loops a.answer
   pub most : shows_cycle member.shown ≡ most_loops a.answer

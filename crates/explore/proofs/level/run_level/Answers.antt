@@ -28,7 +28,7 @@ drain-requires-clause-done g c =
     let R : Task g.row.F.Denot g.row.L.Denot → Task g.row.F.Denot g.row.L.Denot → Type 0 = λ x y. HasRun (g.F.Firing.net x.net.now) x.capacities x.states x.best x.steps y.capacities y.steps y.answer in
     let old = c.fill.new.tasks.items in
     let new = c.all.new.jobs in
-    let ran : EachRan R old new = subst (λ jobs. EachRan R jobs new) c.as_mut_slice.ensures.value c.all.ensures in
+    let ran : EachRan R old new = subst (λ jobs. EachRan R jobs new) c.as_mut_slice.ensures.value c.all.ensures.ran in
     let done : All Q new = all-ran R P Q (λ x y fresh run. done-from net (g.F.Firing.net x.net.now) x.wiring.now x.counts.now states x.states c.best_rate-best.result x.best x.capacities x.steps y.capacities y.steps y.answer fresh run) old new ran c.fill.ensures.fresh in
     let long : c.fill.new.tasks.len ≡ length old = search rules in
     let back : take c.fill.new.tasks.len (new ++ drop (length new) old) ≡ new = ap (λ n. take n (new ++ drop (length new) old)) long ∙ slice-back new old ran.many in
@@ -40,7 +40,7 @@ returns-clause-order g c =
     let R : Task g.row.F.Denot g.row.L.Denot → Task g.row.F.Denot g.row.L.Denot → Type 0 = λ x y. HasRun (g.F.Firing.net x.net.now) x.capacities x.states x.best x.steps y.capacities y.steps y.answer in
     let old = c.fill.new.tasks.items in
     let new = c.all.new.jobs in
-    let ran : EachRan R old new = subst (λ jobs. EachRan R jobs new) c.as_mut_slice.ensures.value c.all.ensures in
+    let ran : EachRan R old new = subst (λ jobs. EachRan R jobs new) c.as_mut_slice.ensures.value c.all.ensures.ran in
     let long : c.fill.new.tasks.len ≡ length old = search rules in
     let back : take c.fill.new.tasks.len (new ++ drop (length new) old) ≡ new = ap (λ n. take n (new ++ drop (length new) old)) long ∙ slice-back new old ran.many in
     c.drain.ensures.order ∙ (ap (λ ts. reverse (map f ts)) (c.reverse.ensures.items ∙ ap reverse back) ∙ (turned-back f new ∙ (map-same R f (λ x y run. run.same) old new ran ∙ c.fill.ensures.order)))

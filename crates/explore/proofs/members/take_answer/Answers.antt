@@ -1,4 +1,4 @@
-use Rattle.std.proofs.Common.{◌+◌, ◌∷◌, sym, ap}
+use Rattle.std.proofs.Common.{◌+◌, ◌∷◌, refl, sym, ap}
 use Rattle.std.proofs.lemmas.List.Elements.{Contains-append_right}
 use Rattle.levels.specs.Visits.{visited, visits_of}
 use Rattle.sd_base.proofs.Containing.{contains-here}
@@ -17,6 +17,7 @@ pub returns-in_ok-take_in-in-Ok-clause-member : goal.returns-in_ok-take_in-in-Ok
 returns-in_ok-take_in-in-Ok-clause-member g c = record {
   member = member_of c.args.answered.capacities c.in-Ok.rated;
   added = c.in_ok-take_in-in-Ok.ensures.members;
+  capacities = refl;
   least = sym (ap least_loops c.in-Ok.is);
   most = sym (ap most_loops c.in-Ok.is);
 }

@@ -1,14 +1,14 @@
-use Rattle.std.proofs.Common.{◌≡◌, ◌+◌, ◌∷◌, [], ℕ, List, Option, drop, length, map-id, subst, sym, ap, ◌∙◌, arith, rules}
+use Rattle.std.proofs.Common.{◌≡◌, ◌+◌, ◌++◌, ◌∷◌, [], ℕ, List, Option, drop, length, map-id, subst, sym, ap, ◌∙◌, arith, rules}
 use Rattle.std.proofs.lemmas.List.{drop_all, length_push}
 use Rattle.std.proofs.lemmas.Iterator.Consumers.{YieldsList-end, YieldsList-turn}
 use Rattle.std.proofs.lemmas.Iterator.Adapters.{YieldsList-from_vec}
 use Rattle.explore.specs.declared.level.Answered.{Answered}
 use Rattle.explore.specs.inside.Levels.{least_loops, most_loops, sum_of}
 use Rattle.explore.specs.inside.Searches.{IsAnswerOf, IsSearch, answered_of}
-use Rattle.explore.specs.Explorations.{cycles_in}
+use Rattle.explore.specs.Explorations.{capacities_of, cycles_in}
 use Rattle.explore.specs.inside.Rated.{IsBest}
 use Rattle.explore.proofs.Knowing.{best-more}
-use Rattle.explore.proofs.Levelled.{cycles-same, many-same, rest-more}
+use Rattle.explore.proofs.Levelled.{capacities-same, cycles-same, many-same, rest-more}
 use Rattle.explore.proofs.members.take_in_all.Goals as goal
 
 pub take_answer-requires-clause-answer : goal.take_answer-requires-clause-answer
@@ -43,6 +43,7 @@ loop-answered-preserved g c =
       cycles-same least_loops c.args.search.now.members.items c.loop-answered.search.members.items c.take_answer.new.search.members.items c.loop-answered.yielded c.in-Some.answered member member.least c.loop-answered.invariant.2,
       cycles-same most_loops c.args.search.now.members.items c.loop-answered.search.members.items c.take_answer.new.search.members.items c.loop-answered.yielded c.in-Some.answered member member.most c.loop-answered.invariant.3,
       λ best was. subst (IsBest (g.F.Firing.net c.args.exploring.now.net.now) best c.args.total) (sym member.added) (best-more (g.F.Firing.net c.args.exploring.now.net.now) best c.args.total c.loop-answered.search.members.items member.member (c.loop-answered.invariant.4 best was)),
+      capacities-same c.args.search.now.members.items c.loop-answered.search.members.items c.take_answer.new.search.members.items c.loop-answered.yielded c.in-Some.answered member c.loop-answered.invariant.5,
     )
 
 pub returns : goal.returns
@@ -53,6 +54,7 @@ returns g c =
     let none : answered_of (drop (length c.loop-answered.yielded) c.args.answers.items) ≡ [] = ap answered_of (drop_all (length c.loop-answered.yielded) c.args.answers.items (omega (arith, end.1))) in
     record {
       search = subst (λ (taken : List (List (Option ℕ))). IsSearch (g.F.Firing.net c.args.exploring.now.net.now) c.args.exploring.now.limits (c.args.total + 1) taken c.loop-answered.search) none c.loop-answered.invariant.0;
+      capacities = subst (λ (xs : List Answered). capacities_of c.loop-answered.search.members.items ≡ capacities_of c.args.search.now.members.items ++ answered_of xs) all c.loop-answered.invariant.5;
       many = omega (arith, end.1, c.loop-answered.invariant.1);
       least = subst (λ (xs : List Answered). cycles_in c.loop-answered.search.members.items ≡ cycles_in c.args.search.now.members.items + sum_of least_loops xs) all c.loop-answered.invariant.2;
       most = subst (λ (xs : List Answered). cycles_in c.loop-answered.search.members.items ≡ cycles_in c.args.search.now.members.items + sum_of most_loops xs) all c.loop-answered.invariant.3;

@@ -1,5 +1,5 @@
-use Rattle.std.proofs.Common.{◌≡◌, ◌+◌, drop, length}
-use Rattle.explore.specs.Explorations.{cycles_in}
+use Rattle.std.proofs.Common.{◌≡◌, ◌+◌, ◌++◌, drop, length}
+use Rattle.explore.specs.Explorations.{capacities_of, cycles_in}
 use Rattle.explore.specs.inside.Levels.{least_loops, most_loops, sum_of}
 use Rattle.sd_base.specs.declared.numbers.Fraction.{Fraction}
 use Rattle.explore.specs.inside.Rated.{IsBest}
@@ -13,3 +13,4 @@ invariant-loop-answered g l =
     × (cycles_in l.search.members.items ≡ cycles_in l.initial.search.members.items + sum_of least_loops l.yielded)
     × (cycles_in l.search.members.items ≡ cycles_in l.initial.search.members.items + sum_of most_loops l.yielded)
     × ((best : Fraction) → IsBest (g.F.Firing.net l.exploring.net.now) best l.total l.initial.search.members.items → IsBest (g.F.Firing.net l.exploring.net.now) best l.total l.search.members.items)
+    × (capacities_of l.search.members.items ≡ capacities_of l.initial.search.members.items ++ answered_of l.yielded)

@@ -1,10 +1,13 @@
-use Rattle.std.proofs.Common.{List, [], ap, subst, sym, arith}
+use Rattle.std.proofs.Common.{◌≡◌, List, [], length, ap, subst, sym, arith}
 use Rattle.pareto_front.specs.declared.point.Point.{Point}
-use Rattle.explore.specs.Explorations.{cycles_in}
+use Rattle.levels.specs.Entrances.{EnterByLevels}
+use Rattle.explore.specs.declared.exploration.Member.{Member}
+use Rattle.explore.specs.Explorations.{capacities_of, cycles_in}
 use Rattle.explore.specs.Extents.{Explores}
 use Rattle.storage.proofs.CornerLists.{corner-distribution}
 use Rattle.storage.proofs.Enlarging.{distribution-length}
 use Rattle.explore.proofs.Beginning.{ended-none}
+use Rattle.explore.proofs.CountedPoints.{far-points-few}
 use Rattle.explore.proofs.Ending.{explored}
 use Rattle.explore.proofs.Enough.{explores-far, explores-whole}
 use Rattle.explore.proofs.Searching.{corner-candidate}
@@ -37,3 +40,20 @@ returns-in_default-clause-explored g c =
     let net = g.F.Firing.net c.args.net.now in
     rw (c.new.ensures.items, c.new-in_default.ensures.items) (explores-whole c.args.extent net c.args.limits [] []
     (explored net c.know_laws.ensures c.requires.net c.args.limits c.requires.total [] [] (ended-none net c.args.limits c.in_ok-first.first.capacities c.in_ok-first.ensures c.in_default.ensures)))
+
+pub returns-clause-entered : goal.returns-clause-entered
+returns-clause-entered g c =
+    let net = g.F.Firing.net c.args.net.now in
+    let entered = g.G.Gate.entered c.args.gate.now in
+    let none : EnterByLevels net.channels entered (capacities_of c.in_ok-search.search.members.items) = subst (λ (ms : List Member). EnterByLevels net.channels entered (capacities_of ms)) (sym c.in_ok-search.ensures.members) tt in
+    c.in_ok-take_turns.ensures.entered none
+
+pub returns-clause-least : goal.returns-clause-least
+returns-clause-least g c =
+    let s = c.take_turns.new.search in
+    let few = far-points-few c.args.extent (g.F.Firing.net c.args.net.now) c.args.limits s c.in_ok-take_turns.ensures.far in
+    let same : length c.into_points.result.items ≡ length s.front = ap (λ (ps : List Point). length ps) c.into_points.ensures in
+    omega (arith, few, same, c.in_ok-take_turns.ensures.count, ap cycles_in c.in_ok-search.ensures.members)
+
+pub returns-in_default-clause-entered : goal.returns-in_default-clause-entered
+returns-in_default-clause-entered g c = subst (λ (ms : List Member). EnterByLevels (g.F.Firing.net c.args.net.now).channels (g.G.Gate.entered c.args.gate.now) (capacities_of ms)) (sym c.new.ensures.items) tt

@@ -5,6 +5,7 @@ use Rattle.sd_base.specs.Counter.{Tally}
 use Rattle.levels.specs.declared.found.Found.{Found}
 use Rattle.levels.specs.Frontiers.{distributions_of}
 use Rattle.explore.specs.inside.Searches.{IsSearch}
+use Rattle.explore.proofs.Entering.{turn-entered}
 use Rattle.explore.proofs.Searching.{counts-few, search-few}
 use Rattle.explore.proofs.Turning.{answered-level, answers-long, best-of, cycles-few, level-answers, sum-few}
 use Rattle.explore.proofs.search.take_turn.Goals as goal
@@ -54,3 +55,8 @@ pub returns-clause-few : goal.returns-clause-few
 returns-clause-few g c =
     let few = search-few (g.F.Firing.net c.args.exploring.now.net.now) c.requires.net c.args.exploring.now.limits (c.args.level.total + 1) [] c.take_in_all.new.search c.in_ok-take_in_all.ensures.search in
     omega (arith, few)
+
+pub returns-clause-entered : goal.returns-clause-entered
+returns-clause-entered g c =
+    turn-entered (g.F.Firing.net c.args.exploring.now.net.now) c.args.exploring.now.limits c.args.level c.args.search.now c.requires.turn (g.G.Gate.entered c.args.gate.now) c.in_ok-answers.answers.items c.take_in_all.new.search.members.items
+    c.in_ok-answers.ensures.order c.in_ok-answers.ensures.entered c.in_ok-take_in_all.ensures.capacities

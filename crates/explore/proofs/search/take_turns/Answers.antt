@@ -1,7 +1,8 @@
-use Rattle.std.proofs.Common.{◌≡◌, ◌+◌, List, [], ap, subst, arith}
+use Rattle.std.proofs.Common.{◌≡◌, ◌+◌, List, [], sym, ap, ◌∙◌, subst, arith}
 use Rattle.std.specs.Prelude.{Contains}
 use Rattle.pareto_front.specs.declared.point.Point.{Point}
-use Rattle.explore.specs.Explorations.{cycles_in}
+use Rattle.levels.specs.Entrances.{EnterByLevels}
+use Rattle.explore.specs.Explorations.{capacities_of, cycles_in}
 use Rattle.explore.specs.inside.Searches.{IsTopAmong}
 use Rattle.explore.proofs.Halting.{far-top}
 use Rattle.explore.proofs.Searching.{counts-few}
@@ -51,3 +52,26 @@ returns-then-last-clause-far g c =
     let both = c.in_ok-last.ensures c.if-last.true in
     far-top c.args.extent (g.F.Firing.net c.args.exploring.now.net.now) c.args.exploring.now.limits c.in-Some.level.total c.take_turn.new.search both.0 c.in_ok-take_turn.ensures.past
     (subst (IsTopAmong (g.F.Firing.net c.args.exploring.now.net.now)) c.points.ensures both.1)
+
+pub loop-level-preserved : goal.loop-level-preserved
+loop-level-preserved g c =
+    let net = g.F.Firing.net c.args.exploring.now.net.now in
+    let kept : cycles_in c.next_level.new.search.members.items ≡ cycles_in c.loop-level.search.members.items = ap (λ v. cycles_in v.items) c.next_level.ensures.members in (
+      (c.in-Some.level.total + 1, c.in_ok-take_turn.ensures.past.1),
+      omega (arith, c.loop-level.invariant.1, c.in_ok-take_turn.ensures.count, kept),
+      c.take_turn.ensures.share ∙ c.loop-level.invariant.2,
+      λ before.
+          c.in_ok-take_turn.ensures.entered
+          (subst (λ v. EnterByLevels net.channels (g.G.Gate.entered c.args.gate.now) (capacities_of v.items)) (sym c.next_level.ensures.members) (c.loop-level.invariant.3 before)),
+    )
+
+pub returns-then-last-clause-entered : goal.returns-then-last-clause-entered
+returns-then-last-clause-entered g c = λ before.
+    let net = g.F.Firing.net c.args.exploring.now.net.now in
+    c.in_ok-take_turn.ensures.entered
+    (subst (λ v. EnterByLevels net.channels (g.G.Gate.entered c.args.gate.now) (capacities_of v.items)) (sym c.next_level.ensures.members) (c.loop-level.invariant.3 before))
+
+pub returns-clause-entered : goal.returns-clause-entered
+returns-clause-entered g c = λ before.
+    let net = g.F.Firing.net c.args.exploring.now.net.now in
+    subst (λ v. EnterByLevels net.channels (g.G.Gate.entered c.args.gate.now) (capacities_of v.items)) (sym c.next_level.ensures.members) (c.loop-level.invariant.3 before)

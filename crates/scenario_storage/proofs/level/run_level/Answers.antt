@@ -25,7 +25,7 @@ drain-requires-clause-done g c =
     let R : Task → Task → Type 0 = λ x y. HasRun x.file.now x.limits x.best x.capacities y.capacities y.answer in
     let old : List Task = c.fill.new.tasks.items in
     let new : List Task = c.all.new.jobs in
-    let ran : EachRan R old new = subst (λ (jobs : List Task). EachRan R jobs new) c.as_mut_slice.ensures.value c.all.ensures in
+    let ran : EachRan R old new = subst (λ (jobs : List Task). EachRan R jobs new) c.as_mut_slice.ensures.value c.all.ensures.ran in
     let done : All Q new =
     all-ran R P Q (λ x y fresh run. done-from plan.file.now x.file.now plan.gammas.now x.gammas.now plan.limits x.limits c.args.best x.best x.capacities y.capacities y.answer fresh run) old new ran c.fill.ensures.fresh in
     let long : c.fill.new.tasks.len ≡ length old = search rules in
@@ -39,7 +39,7 @@ returns-clause-order g c =
     let R : Task → Task → Type 0 = λ x y. HasRun x.file.now x.limits x.best x.capacities y.capacities y.answer in
     let old : List Task = c.fill.new.tasks.items in
     let new : List Task = c.all.new.jobs in
-    let ran : EachRan R old new = subst (λ (jobs : List Task). EachRan R jobs new) c.as_mut_slice.ensures.value c.all.ensures in
+    let ran : EachRan R old new = subst (λ (jobs : List Task). EachRan R jobs new) c.as_mut_slice.ensures.value c.all.ensures.ran in
     let long : c.fill.new.tasks.len ≡ length old = search rules in
     let back : ◌≡◌ {A = List Task} (take c.fill.new.tasks.len (new ++ drop (length new) old)) new = ap (λ n. take n (new ++ drop (length new) old)) long ∙ slice-back new old ran.many in
     let whole : ◌≡◌ {A = List Task} c.reverse.new.self.items (reverse new) = ◌∙◌ {A = List Task} c.reverse.ensures.items (ap (λ (xs : List Task). reverse xs) back) in
