@@ -3,7 +3,7 @@
 
     bench/levels.py [PAIRS]        pairs of runs, 20 by default
 
-Where sources changed since the last build it builds, and so proves, the programs `sdf3analysis` and `bench_levels` first. A
+Where sources changed since the last build it builds, and so proves, the programs `sdf3analysis` and `bench` first. A
 pair is a run on one core, each in turn, and a run on all. A row is the least and the middle wall-clock time on one core and
 on all, and the middle of what the pairs gain. The sizes of the levels are read off a certificate; a job of theirs takes as
 long as the row says. The longer the jobs, the less threads cost beside them.
@@ -45,15 +45,15 @@ def sizes(path):
 def turns_in(path, microseconds):
     """How many turns of arithmetic take one core so long."""
     turns = 10_000_000
-    return round(turns * microseconds / 1e6 / min(seconds([path, str(turns), "1"], {core}) for core in CORES))
+    return round(turns * microseconds / 1e6 / min(seconds([path, "levels", str(turns), "1"], {core}) for core in CORES))
 
 
 def main():
     pairs = int(sys.argv[1]) if len(sys.argv) > 1 else 20
-    path, levels = program("sdf3analysis"), program("bench_levels")
+    path, levels = program("sdf3analysis"), program("bench")
     jobs = [str(size) for size in sizes(path)]
     cases = [("decoder, 8010", [path, *WORDS])]
-    cases += [(f"{most} microseconds", [levels, str(turns_in(levels, most)), *jobs]) for most in MICROSECONDS]
+    cases += [(f"{most} microseconds", [levels, "levels", str(turns_in(levels, most)), *jobs]) for most in MICROSECONDS]
     times = {name: [] for name, _ in cases}
     for number in range(pairs):
         for name, words in cases:

@@ -3,7 +3,7 @@
 
     bench/loops.py [WORD]           the graphs whose names have the word; all by default
 
-Where sources changed since the last build it builds, and so proves, the program `bench_loops` first; that needs the
+Where sources changed since the last build it builds, and so proves, the program `bench` first; that needs the
 command `rt` of the Rattle kit. A row is the millions of instructions of a run with at most 200,000 states, less those of a run
 that does all but search, and what the program answers. It needs valgrind.
 """
@@ -50,7 +50,7 @@ CASES = [
 
 
 def main():
-    path = program("bench_loops")
+    path = program("bench")
     wanted = sys.argv[1] if len(sys.argv) > 1 else ""
     print(f"{'graph':33} {'M instr.':>9}  answer")
     with tempfile.TemporaryDirectory() as folder:
@@ -58,10 +58,10 @@ def main():
         for name, graph, how in [case for case in CASES if wanted in case[0]]:
             with open(file, "w", encoding="utf-8") as out:
                 out.write(graph.text())
-            whole, rest = (instructions([path, file, how, states]) for states in ("200000", "0"))
+            whole, rest = (instructions([path, "loops", file, how, states]) for states in ("200000", "0"))
             if whole is None:
                 sys.exit("valgrind isn't there")
-            done = subprocess.run([path, file, how, "200000"], capture_output=True)
+            done = subprocess.run([path, "loops", file, how, "200000"], capture_output=True)
             line = (done.stdout or done.stderr).split(b"\n")[0].decode()
             print(f"{name:33} {whole - rest:9.2f}  {line}")
 

@@ -1,21 +1,28 @@
-//! Runs the engine of self-timed execution alone on a net for about as many starts as wanted, and prints how many
-//! starts and events there were: `bench_engine decoder STARTS`, `bench_engine converter STARTS` or
-//! `bench_engine ring ACTORS STARTS`.
-#![tactic(auto)]
-
-mod words;
-
+use anyhow::Result;
 use firing::{Firing, SdfNet, Wired, Wiring};
 use sd_base::NoMemory;
 use selftimed::{Engine, Move};
 use std::alloc::Global;
-use std::process::ExitCode;
-use std::{env, io};
 use test_nets::{TableError, decoder, sample_rate_converter, token_ring};
-use words::{Which, request_of};
 
 /// How many events an engine makes between two looks at the number of its starts.
 const EVENTS: u32 = 1000;
+
+/// A net to run.
+#[derive(Clone, Copy, Debug)]
+enum Which {
+    Decoder,
+    Converter,
+    /// A ring of so many actors with one token.
+    Ring(u32),
+}
+
+/// A net, and about how many starts are to be made.
+#[derive(Clone, Copy, Debug)]
+struct Request {
+    which: Which,
+    starts: u64,
+}
 
 /// How many starts and events an engine made.
 #[derive(Clone, Copy, Debug)]
@@ -24,24 +31,48 @@ struct Made {
     events: u64,
 }
 
-fn main(rt: HostRuntime) -> anyhow::Result<ExitCode> {
-    let mut words = Vec::new(rt.alloc());
-    for word in env::args(&rt)?.skip(1) {
-        words.push(word)?;
+impl Which {
+    fn name(self) -> &'static str {
+        match self {
+            Which::Decoder => "decoder",
+            Which::Converter => "converter",
+            Which::Ring(_) => "ring",
+        }
     }
-    let Some(request) = request_of(words.as_slice()) else {
-        println!(rt; "usage: bench_engine decoder|converter|ring ACTORS STARTS")?;
-        return Ok(ExitCode::from(2));
+}
+
+/// Runs an engine on a net for about as many starts as the words say, and tells how many starts and events there were.
+pub(crate) fn line_of(alloc: Global, words: &[String]) -> Result<Option<String>> {
+    let Some(request) = request_of(words) else {
+        return Ok(None);
     };
-    let net = net_of(rt.alloc(), request.which)?;
-    let made = run(rt.alloc(), &net, request.starts)?;
-    println!(rt;
-        "{}: {} starts, {} events",
-        request.which.name(),
-        made.starts,
-        made.events
-    )?;
-    Ok(ExitCode::from(0))
+    let net = net_of(alloc, request.which)?;
+    let made = run(alloc, &net, request.starts)?;
+    let name = request.which.name();
+    Ok(Some(format!(in alloc; "{name}: {} starts, {} events", made.starts, made.events)?))
+}
+
+/// What the words ask for.
+fn request_of(words: &[String]) -> Option<Request> {
+    let (which, starts) = match words {
+        [name, starts] => (plain_net(name.as_str())?, starts),
+        [name, actors, starts] if name.as_str() == "ring" => {
+            (Which::Ring(actors.as_str().parse().ok()?), starts)
+        }
+        _ => return None,
+    };
+    Some(Request {
+        which,
+        starts: starts.as_str().parse().ok()?,
+    })
+}
+
+fn plain_net(name: &str) -> Option<Which> {
+    match name {
+        "decoder" => Some(Which::Decoder),
+        "converter" => Some(Which::Converter),
+        _ => None,
+    }
 }
 
 fn net_of(alloc: Global, which: Which) -> Result<SdfNet, TableError> {

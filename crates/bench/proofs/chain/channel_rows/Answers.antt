@@ -3,7 +3,7 @@ use Rattle.std.proofs.lemmas.List.{length_push}
 use Rattle.std.proofs.lemmas.List.Elements.{All-append}
 use Rattle.sd_base.specs.declared.tables.ChannelRow.{ChannelRow}
 use Rattle.sd_base.specs.Tables.{ChannelKeepsRules}
-use Rattle.bench_balance.proofs.chain.channel_rows.Goals as goal
+use Rattle.bench.proofs.chain.channel_rows.Goals as goal
 
 single : {X : Type 0} (P : X → Type 0) (x : X) → P x → All P (x ∷ [])
 single P x h zero d lt = h

@@ -1,11 +1,6 @@
-//! Runs levels of jobs one level after another, the jobs of a level side by side. Each job is so many turns of
-//! arithmetic. `bench_levels TURNS SIZE...` prints how many jobs there were, and what they came to.
-#![tactic(auto)]
-
+use anyhow::Result;
 use fanout::{Job, OpenGate, all};
 use std::alloc::{AllocError, Global};
-use std::env;
-use std::process::ExitCode;
 use std::thread::Threads;
 
 /// Nothing but arithmetic on a number.
@@ -27,23 +22,32 @@ impl Job for Mixing {
     }
 }
 
-fn main(rt: HostRuntime) -> anyhow::Result<ExitCode> {
-    let mut numbers = Vec::new(rt.alloc());
-    for word in env::args(&rt)?.skip(1) {
-        numbers.push(word.as_str().parse::<u64>()?)?;
-    }
+/// Runs levels of jobs of so many turns one level after another, the jobs of a level side by side, and tells how many jobs
+/// there were, and what they came to.
+pub(crate) fn line_of<R: Threads + Sync>(
+    rt: &R,
+    alloc: Global,
+    words: &[String],
+) -> Result<Option<String>> {
+    let numbers = numbers_of(alloc, words)?;
     let [turns, sizes @ ..] = numbers.as_slice() else {
-        println!(rt; "usage: bench_levels TURNS SIZE...")?;
-        return Ok(ExitCode::from(2));
+        return Ok(None);
     };
     let mut jobs = 0u64;
     let mut number = 0;
     for size in sizes {
         jobs = jobs.saturating_add(*size);
-        number ^= run_level(&rt, rt.alloc(), *turns, *size)?;
+        number ^= run_level(rt, alloc, *turns, *size)?;
     }
-    println!(rt; "{jobs} jobs, {number}")?;
-    Ok(ExitCode::from(0))
+    Ok(Some(format!(in alloc; "{jobs} jobs, {number}")?))
+}
+
+fn numbers_of(alloc: Global, words: &[String]) -> Result<Vec<u64>> {
+    let mut numbers = Vec::new(alloc);
+    for word in words {
+        numbers.push(word.as_str().parse::<u64>()?)?;
+    }
+    Ok(numbers)
 }
 
 /// Runs a level of so many jobs, and tells what they came to.

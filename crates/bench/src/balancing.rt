@@ -1,17 +1,11 @@
-//! A run to measure: solves one graph as often as its third word says, and prints how many firings a round has.
-#![tactic(auto)]
-
-mod chain;
-
-ghost use Rattle.std.specs.Prelude.{◌≤◌, IfOk};
+ghost use Rattle.std.specs.Prelude.{◌≤◌};
 ghost use Rattle.sd_base.specs.Tables.{KeepsRules};
 
+use crate::chain::chain;
+use anyhow::Result;
 use balance::{BalanceError, repetition};
-use chain::chain;
 use sd_base::GraphFile;
 use std::alloc::Global;
-use std::env;
-use std::process::ExitCode;
 
 /// So many calls on a graph of so many actors and channels.
 #[derive(Drop)]
@@ -24,22 +18,23 @@ struct Plan {
     ghost few_channels: { channels ≤ 256 },
 }
 
-fn main(rt: HostRuntime) -> anyhow::Result<ExitCode> {
-    let Some(plan) = plan_of(env::args(&rt)?) else {
-        println!(rt; "usage: bench_balance ACTORS CHANNELS REPEATS")?;
-        return Ok(ExitCode::from(2));
+/// Solves one graph as often as the words say, and tells how many firings a round has.
+pub(crate) fn line_of(alloc: Global, words: &[String]) -> Result<Option<String>> {
+    let Some(plan) = plan_of(words) else {
+        return Ok(None);
     };
-    let firings = firings(rt.alloc(), &plan)?;
-    println!(rt; "{firings}")?;
-    Ok(ExitCode::from(0))
+    let firings = firings(alloc, &plan)?;
+    Ok(Some(format!(in alloc; "{firings}")?))
 }
 
-/// The plan of the words after the program's name: 1 to 128 actors, at most 256 channels.
-fn plan_of(words: env::Args) -> Option<Plan> {
-    let mut words = words.skip(1);
-    let actors = number(words.next()?)?;
-    let channels = number(words.next()?)?;
-    let repeats = number(words.next()?)?;
+/// The plan of these words: 1 to 128 actors, at most 256 channels.
+fn plan_of(words: &[String]) -> Option<Plan> {
+    let [actors, channels, repeats] = words else {
+        return None;
+    };
+    let actors = number(actors.as_str())?;
+    let channels = number(channels.as_str())?;
+    let repeats = number(repeats.as_str())?;
     if actors < 1 || actors > 128 || channels > 256 {
         return None;
     }
@@ -50,8 +45,8 @@ fn plan_of(words: env::Args) -> Option<Plan> {
     })
 }
 
-fn number(word: String) -> Option<u32> {
-    word.as_str().parse::<u32>().ok()
+fn number(word: &str) -> Option<u32> {
+    word.parse::<u32>().ok()
 }
 
 /// How many firings a round has, by the last call; 0 without a call.
