@@ -3,6 +3,7 @@ pub mod Evaluating
 pub mod Blocked
 pub mod Listing
 pub mod MoreRoom
-mod LoopTables
+pub mod LoopTables
+pub mod RatesExist
 mod Reached
 mod Elsewhere
