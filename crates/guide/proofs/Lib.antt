@@ -5,5 +5,7 @@ pub mod Listing
 pub mod MoreRoom
 pub mod LoopTables
 pub mod RatesExist
+mod Roomier
+pub mod BoundsBelow
 mod Reached
 mod Elsewhere

@@ -17,6 +17,7 @@ ghost use Rattle.storage.specs.BoundedNets.{bound};
 ghost use Rattle.storage.specs.Distributions.{AtMost, IsDistribution, capacity_at};
 ghost use Rattle.storage.specs.ShownSpaces.{ShowsSpace};
 ghost use Rattle.guide.specs.declared.rating.Evaluation.{Evaluation};
+ghost use Rattle.guide.specs.Covering.{CoversOn};
 ghost use Rattle.guide.specs.Evaluations.{IsEvaluable, IsEvaluated};
 ghost use Rattle.guide.specs.Guides.{IsDependency, IsInGuide};
 
@@ -58,4 +59,11 @@ pub fn distributions_have_rates()
     ensures rate { (net : Net) (ds : List (Option ℕ)) → Lawful net → IsEvaluable net ds → (p : ℕ) × (q : ℕ) × Rate (bound net ds) p q }
     ensures closes { (net : Net) (ds : List (Option ℕ)) → Lawful net → IsEvaluable net ds → IsLive (bound net ds) →
         (entry : ℕ) × (period : ℕ) × IsLoop (bound net ds) entry period }
+{}
+
+/// The rate of a distribution that was evaluated bounds that of each with no more room on the channels on which more room could
+/// raise it, whatever room it has elsewhere: need cycles hold with more room elsewhere, and rates rise with capacities.
+pub fn evaluations_bound_what_they_cover()
+    ensures { (net : Net) (ds es : List (Option ℕ)) (states : ℕ) (e : Evaluation) (x y : ℕ) → Lawful net → IsEvaluable net ds → IsEvaluable net es →
+        IsEvaluated net ds states e → CoversOn e.enlarge ds es → Rate (bound net es) x y → x * e.rate.den ≤ e.rate.num * y }
 {}
