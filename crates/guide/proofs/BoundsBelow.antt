@@ -1,14 +1,14 @@
 -- An evaluation bounds the rate of each distribution with no more room on the channels that it shows.
-use Rattle.std.proofs.Common.{◌≡◌, ℕ, ◌+◌, ◌*◌, ◌≤◌, ◌<◌, Option, List, length, sym, arith}
+use Rattle.std.proofs.Common.{ℕ, ◌*◌, ◌≤◌, Option, List, arith}
 use Rattle.std.specs.Prelude.{slice_index}
-use Rattle.sd_base.specs.Net.{Net, channel_at}
+use Rattle.sd_base.specs.Net.{Net}
 use Rattle.sd_base.specs.Lawful.{Lawful}
 use Rattle.sd_base.specs.Rates.{Rate}
 use Rattle.sd_base.specs.Schedules.{HasInputs}
 use Rattle.sd_base.specs.declared.numbers.Fraction.{Fraction}
 use Rattle.sd_base.proofs.Parts.{balanced}
 use Rattle.storage.specs.BoundedNets.{bound}
-use Rattle.storage.specs.Distributions.{AtMost, capacity_at}
+use Rattle.storage.specs.Distributions.{AtMost}
 use Rattle.storage.proofs.Easings.{eases-rates}
 use Rattle.storage.proofs.Fits.{same-channels}
 use Rattle.storage.proofs.FrontsFromMembers.{no_less}

@@ -1,5 +1,5 @@
 -- Each distribution that can be evaluated has a rate, and a live one a loop.
-use Rattle.std.proofs.Common.{◌≡◌, ℕ, suc, ◌+◌, ◌*◌, ◌/◌, ◌≤◌, ◌<◌, ◌⊎◌, Option, List, length, inl, inr, ⊎_elim, sym, arith}
+use Rattle.std.proofs.Common.{ℕ, suc, ◌/◌, ◌<◌, Option, List, ⊎_elim, sym, arith}
 use Rattle.std.proofs.Math.Nat.{mul-div_cancel'}
 use Rattle.sd_base.specs.Net.{Net}
 use Rattle.sd_base.specs.Lawful.{Lawful}

@@ -1,7 +1,6 @@
 -- The least distribution with no less room than either of two.
-use Rattle.std.proofs.Common.{◌≡◌, ℕ, zero, suc, ◌+◌, ◌≤◌, ◌<◌, max, Option, None, Some, List, [], ◌∷◌, length, ⊎_elim, refl, sym, ap, ◌∙◌, arith}
+use Rattle.std.proofs.Common.{◌≡◌, ℕ, zero, suc, max, Option, None, Some, List, [], ◌∷◌, refl, sym, ap, ◌∙◌, arith}
 use Rattle.std.proofs.lemmas.Bool.{true≢false}
-use Rattle.std.specs.Prelude.{slice_index_or}
 use Rattle.sd_base.specs.Net.{Channel}
 use Rattle.storage.specs.Distributions.{AtMost, CanHold, IsDistribution, capacity_at}
 use Rattle.guide.specs.Covering.{HasNoMore}

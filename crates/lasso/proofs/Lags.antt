@@ -1,6 +1,6 @@
 -- How far self-timed execution lets the actors of a strongly connected net come apart: by rounds, and so by firings and tokens.
-use Rattle.std.proofs.Common.{◌≡◌, ℕ, zero, suc, ◌+◌, ◌-◌, ◌*◌, ◌/◌, ◌%◌, ◌≤◌, ◌<◌, ◌⊎◌, List, [], ◌∷◌, length, inl, inr, ⊎_elim, refl, sym, subst, ◌∙◌, arith, mul-le-mul_left, mul-le-mul_right, div-add-mod', mod-lt}
-use Rattle.std.specs.Prelude.{slice_index, slice_index_or}
+use Rattle.std.proofs.Common.{◌≡◌, ℕ, zero, suc, ◌+◌, ◌*◌, ◌/◌, ◌%◌, ◌≤◌, ◌<◌, List, [], ◌∷◌, length, ⊎_elim, sym, subst, ◌∙◌, arith, mul-le-mul_left, mul-le-mul_right, div-add-mod', mod-lt}
+use Rattle.std.specs.Prelude.{slice_index}
 use Rattle.std.proofs.lemmas.Bool.{cases_lt}
 use Rattle.sd_base.specs.declared.limits.TheConstants.{NET_TOKENS, RATE, ROUND}
 use Rattle.sd_base.specs.Net.{Net, channel_at, total}
@@ -11,7 +11,6 @@ use Rattle.sd_base.specs.Connection.{IsPath, IsStronglyConnected, ends_of}
 use Rattle.sd_base.proofs.Connections.{IsChannel, channel-of}
 use Rattle.sd_base.proofs.Counts.{ended_at, ended-at-is, able-at}
 use Rattle.sd_base.proofs.Lists.{entry-le-sum}
-use Rattle.sd_base.proofs.Moment.{Able, Ended}
 use Rattle.sd_base.proofs.Parts.{regular, wired, balanced}
 use Rattle.sd_base.proofs.Rounds.{whole-round}
 use Rattle.sd_base.proofs.Sums.{total-le, total-times, total-bound, total-grows}
@@ -22,10 +21,13 @@ one-bound P rises zero each = (0, λ a below. absurd (omega arith))
 one-bound P rises (suc n) each = joined (one-bound P rises n (λ a below. each a (omega (arith, below)))) (each n (omega arith))
   where
     joined : (k : ℕ) × ((a : ℕ) → a < n → P a k) → (k : ℕ) × P n k → (k : ℕ) × ((a : ℕ) → a < suc n → P a k)
-    joined (x, before) (y, last) = (x + y, λ a below. ⊎_elim
-        (λ (less : a < n). rises a x (x + y) (omega arith) (before a less))
-        (λ (no_less : n ≤ a). let is : a ≡ n = omega (arith, no_less, below) in rw is (rises n y (x + y) (omega arith) last))
-        (cases_lt a n))
+    joined (x, before) (y, last) = (
+      x + y,
+      λ a below. ⊎_elim
+          (λ (less : a < n). rises a x (x + y) (omega arith) (before a less))
+          (λ (no_less : n ≤ a). let is : a ≡ n = omega (arith, no_less, below) in rw is (rises n y (x + y) (omega arith) last))
+          (cases_lt a n),
+    )
 
 some-factor : (n q size : ℕ) → n ≡ q * size → 1 ≤ n → 1 ≤ q
 some-factor n q size same some = ⊎_elim
@@ -141,11 +143,14 @@ module _ (net : Net) (laws : Lawful net) (fed : HasInputs net) where
   along-path (i ∷ path) a b (e, is, from, rest) = joined (channel-of net i e is) (along-path path e.1 b rest)
     where
       joined : IsChannel net i e → (most : ℕ) × ((t : ℕ) → started_rounds t b ≤ started_rounds t e.1 + most) → (most : ℕ) × ((t : ℕ) → started_rounds t b ≤ started_rounds t a + most)
-      joined channel (most, later) = (most + 1 + (channel_at net i).tokens, λ t.
-          let source : (channel_at net i).source ≡ a = channel.source ∙ sym from in
-          let one : started_rounds t e.1 ≤ ended_rounds t a + 1 + (channel_at net i).tokens = rw (← channel.target) (rw (← source) (along-channel t i channel.place)) in
-          let actor : a < length net.times = subst (λ (x : ℕ). x < length net.times) source (laws.sources i channel.place) in
-          omega (arith, one, later t, ended-few t a actor))
+      joined channel (most, later) = (
+        most + 1 + (channel_at net i).tokens,
+        λ t.
+            let source : (channel_at net i).source ≡ a = channel.source ∙ sym from in
+            let one : started_rounds t e.1 ≤ ended_rounds t a + 1 + (channel_at net i).tokens = rw (← channel.target) (rw (← source) (along-channel t i channel.place)) in
+            let actor : a < length net.times = subst (λ (x : ℕ). x < length net.times) source (laws.sources i channel.place) in
+            omega (arith, one, later t, ended-few t a actor),
+      )
 
   ahead-more : (a b x y : ℕ) → x ≤ y → IsAhead a b x → IsAhead a b y
   unfolding IsAhead

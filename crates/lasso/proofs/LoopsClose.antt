@@ -1,13 +1,13 @@
 -- Self-timed execution of a live net in which each actor leads to each comes to a loop: its shapes are small, so they can't all differ.
-use Rattle.std.proofs.Common.{◌≡◌, ℕ, suc, ◌+◌, ◌-◌, ◌*◌, ◌%◌, ◌≤◌, ◌<◌, ◌⊎◌, List, [], length, map, sum, inl, inr, ⊎_elim, sym, subst, arith, mod-lt}
-use Rattle.std.specs.Prelude.{slice_index, slice_index_or}
+use Rattle.std.proofs.Common.{◌≡◌, ℕ, suc, ◌+◌, ◌-◌, ◌*◌, ◌%◌, ◌≤◌, ◌<◌, ◌⊎◌, [], length, map, sum, inl, inr, ⊎_elim, sym, subst, arith, mod-lt}
+use Rattle.std.specs.Prelude.{slice_index}
 use Rattle.std.proofs.lemmas.Bool.{cases_lt}
 use Rattle.std.proofs.lemmas.List.{get_or-map, length-map}
 use Rattle.std.proofs.lemmas.List.FromFn.{length-map-range_with_len}
 use Rattle.sd_base.specs.declared.limits.TheConstants.{NET_TOKENS, RATE, ROUND, TIME}
-use Rattle.sd_base.specs.Net.{Net, channel_at, nowhere}
+use Rattle.sd_base.specs.Net.{Net, nowhere}
 use Rattle.sd_base.specs.Schedules.{HasInputs, count_of, end_of, phases_at, start_of, time_of}
-use Rattle.sd_base.specs.SelfTimed.{IsEvent, earliest, events_by, remaining_of, shape_at, shape_of, tokens_of}
+use Rattle.sd_base.specs.SelfTimed.{earliest, events_by, remaining_of, shape_at, shape_of, tokens_of}
 use Rattle.sd_base.specs.Lawful.{Lawful}
 use Rattle.sd_base.specs.Connection.{IsStronglyConnected}
 use Rattle.sd_base.specs.Rates.{IsLoop}
@@ -59,12 +59,11 @@ module _ (net : Net) (laws : Lawful net) (fed : HasInputs net) (strong : IsStron
   row-small t a actor =
       let s = earliest net (suc t) in
       let many : length (remaining_of net t (earliest net (suc t)) a) ≡ count_of (earliest net (suc t)) a - ended_at net t a =
-      length-map-range_with_len (λ (k : ℕ). end_of net (earliest net (suc t)) a k - t) (ended_at net t a) (count_of (earliest net (suc t)) a - ended_at net t a) in
-      (
+      length-map-range_with_len (λ (k : ℕ). end_of net (earliest net (suc t)) a k - t) (ended_at net t a) (count_of (earliest net (suc t)) a - ended_at net t a) in (
         range-digits base (λ k. end_of net (earliest net (suc t)) a k - t) (ended_at net t a) (count_of (earliest net (suc t)) a - ended_at net t a) (λ k after before.
-        let below : k < count_of (earliest net (suc t)) a = omega (arith, after, before) in
-        let soon : start_of (earliest net (suc t)) a k < suc t = (early_at net (regular net laws) fed (suc t)).before a k below in
-        omega (arith, soon, short-time a k actor)),
+            let below : k < count_of (earliest net (suc t)) a = omega (arith, after, before) in
+            let soon : start_of (earliest net (suc t)) a k < suc t = (early_at net (regular net laws) fed (suc t)).before a k below in
+            omega (arith, soon, short-time a k actor)),
         omega (arith, many, running net laws fed strong t a actor),
       )
 

@@ -1,9 +1,8 @@
 -- Numbers that tell the shapes of self-timed execution apart: few, where few tokens stand and few firings run.
-use Rattle.std.proofs.Common.{◌≡◌, ℕ, zero, suc, ◌+◌, ◌-◌, ◌*◌, ◌%◌, ◌≤◌, ◌<◌, List, [], ◌∷◌, length, map, refl, sym, ap, subst, ◌∙◌, arith, mul-le-mul_left, mod-lt}
-use Rattle.std.specs.Prelude.{slice_index, slice_index_or}
+use Rattle.std.proofs.Common.{◌≡◌, ℕ, zero, suc, ◌+◌, ◌*◌, ◌≤◌, ◌<◌, List, [], ◌∷◌, length, map, refl, arith, mul-le-mul_left}
+use Rattle.std.specs.Prelude.{slice_index_or}
 use Rattle.std.specs.List.{range_with_len}
 use Rattle.std.proofs.lemmas.List.{length-map}
-use Rattle.sd_base.specs.Net.{Channel, Net, channel_at, nowhere}
 use Rattle.sd_base.specs.SelfTimed.{Shape}
 use Rattle.lasso.proofs.Digits.{AreDigits, AreRows, code, code-small, numbers, one-digit, rows-digits, same-digits, same-rows}
 
