@@ -3,6 +3,9 @@ pub mod Evaluating
 pub mod Blocked
 pub mod Listing
 pub mod MoreRoom
-mod LoopTables
+pub mod LoopTables
+pub mod RatesExist
+mod Roomier
+pub mod BoundsBelow
 mod Reached
 mod Elsewhere

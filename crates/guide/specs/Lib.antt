@@ -1,2 +1,3 @@
 pub mod Guides
 pub mod Evaluations
+pub mod Covering

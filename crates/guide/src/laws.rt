@@ -17,7 +17,8 @@ ghost use Rattle.storage.specs.BoundedNets.{bound};
 ghost use Rattle.storage.specs.Distributions.{AtMost, IsDistribution, capacity_at};
 ghost use Rattle.storage.specs.ShownSpaces.{ShowsSpace};
 ghost use Rattle.guide.specs.declared.rating.Evaluation.{Evaluation};
-ghost use Rattle.guide.specs.Evaluations.{IsEvaluated};
+ghost use Rattle.guide.specs.Covering.{CoversOn};
+ghost use Rattle.guide.specs.Evaluations.{IsEvaluable, IsEvaluated};
 ghost use Rattle.guide.specs.Guides.{IsDependency, IsInGuide};
 
 /// The channels whose free space is on the critical cycle of a loop are storage dependencies; and so the channels on which
@@ -50,4 +51,19 @@ pub fn room_elsewhere_gains_nothing()
         Rate (bound net ds) p q → Rate (bound net es) x y → x * q ≤ p * y }
     ensures blocked { (net : Net) (ds es : List (Option ℕ)) (v : ℕ → ℕ) (x y : ℕ) → Lawful (bound net es) → Blocks (bound net ds) v →
         ((c : ℕ) → ShowsSpace net ds v c → capacity_at es c ≡ capacity_at ds c) → Rate (bound net es) x y → x ≡ 0 }
+{}
+
+/// A distribution that can be evaluated has a rate, whether its loop is found or not; and where it is live, a loop (Ghamarian et
+/// al. 2006).
+pub fn distributions_have_rates()
+    ensures rate { (net : Net) (ds : List (Option ℕ)) → Lawful net → IsEvaluable net ds → (p : ℕ) × (q : ℕ) × Rate (bound net ds) p q }
+    ensures closes { (net : Net) (ds : List (Option ℕ)) → Lawful net → IsEvaluable net ds → IsLive (bound net ds) →
+        (entry : ℕ) × (period : ℕ) × IsLoop (bound net ds) entry period }
+{}
+
+/// The rate of a distribution that was evaluated bounds that of each with no more room on the channels on which more room could
+/// raise it, whatever room it has elsewhere: need cycles hold with more room elsewhere, and rates rise with capacities.
+pub fn evaluations_bound_what_they_cover()
+    ensures { (net : Net) (ds es : List (Option ℕ)) (states : ℕ) (e : Evaluation) (x y : ℕ) → Lawful net → IsEvaluable net ds → IsEvaluable net es →
+        IsEvaluated net ds states e → CoversOn e.enlarge ds es → Rate (bound net es) x y → x * e.rate.den ≤ e.rate.num * y }
 {}

@@ -94,7 +94,7 @@ module _ (net : Net) (laws : Lawful net) (fed : HasInputs net) (live : IsLive ne
           (next-among m (t - m))
 
   -- each number is that of an event
-  numbered : (n : ℕ) → (t : ℕ) × IsEvent net t × (events_by net t ≡ n + 1)
+  pub numbered : (n : ℕ) → (t : ℕ) × IsEvent net t × (events_by net t ≡ n + 1)
   numbered zero = (0, inl refl, omega (arith, rank-first net))
   numbered (suc n) = step (numbered n)
     where
@@ -156,6 +156,10 @@ module _ (net : Net) (laws : Lawful net) (fed : HasInputs net) (live : IsLive ne
               let le : y ≤ t = rank-orders net laws fed y t other (omega arith) in
               let less : y < t = lt_of_le_of_ne le apart in
               omega (arith, rank-grows net laws fed y t less event)
+
+  pub loop-or-differ : (n : ℕ) → FirstDiffer net n ⊎ ((entry : ℕ) × (period : ℕ) × IsLoop net entry period × (events_by net (entry + period) ≤ n))
+  unfolding Differs
+  loop-or-differ n = differs n
 
   pub many-passes : (states : ℕ) → 1 ≤ states → IsTooManyStarts net states → PassesStarts net states
   unfolding Differs

@@ -5,6 +5,7 @@ ghost use Rattle.sd_base.specs.Net.{Net};
 ghost use Rattle.sd_base.specs.Schedules.{HasInputs};
 ghost use Rattle.sd_base.specs.SelfTimed.{events_by, starts_by};
 ghost use Rattle.sd_base.specs.Untimed.{IsLive};
+ghost use Rattle.sd_base.specs.Connection.{IsStronglyConnected};
 ghost use Rattle.sd_base.specs.Lawful.{Lawful};
 ghost use Rattle.sd_base.specs.Rates.{IsLoop};
 ghost use Rattle.firing.specs.declared.table.LoopTable.{LoopTable};
@@ -29,4 +30,10 @@ pub fn one_ending()
 pub fn starts_are_counted_to_the_first_repeat()
     ensures { (net : Net) (states : ℕ) → Lawful net → HasInputs net → IsLive net → 1 ≤ states →
         IsTooManyStarts net states ↔ PassesStarts net states }
+{}
+
+/// Self-timed execution of a live net in which each actor leads to each comes to a loop, so with enough shapes and starts
+/// `run_loop` finds it (Ghamarian et al. 2006).
+pub fn live_nets_have_loops()
+    ensures { (net : Net) → Lawful net → HasInputs net → IsStronglyConnected net → IsLive net → (entry : ℕ) × (period : ℕ) × IsLoop net entry period }
 {}
