@@ -2,15 +2,15 @@
 
 The analyser is asked with the greatest limit, where it ends by itself with the fastest point. If that takes more than a
 moment, it is asked with one limit after another, each further from the least storage, until the last point has the rate of
-`companion fastest`, which no buffers pass. Each point is printed as soon as it is final, since what `storage` prints within
+`sdf3companion fastest`, which no buffers pass. Each point is printed as soon as it is final, since what `storage` prints within
 a limit stands in every greater one. Standard error says up to which storage no point is missing. An interrupt, or a limit
 of time, keeps what was found.
 
 A line has the storage, the rate, and the buffers that reach it. Most graphs want --no-overlap. A graph that nothing holds
 back has no last point: give it --rate or --seconds.
 
-  companion tradeoff examples/h263_decoder.xml --no-overlap
-  companion tradeoff examples/modem.xml --no-overlap --rate 1/30
+  sdf3companion tradeoff examples/h263_decoder.xml --no-overlap
+  sdf3companion tradeoff examples/modem.xml --no-overlap --rate 1/30
 """
 from __future__ import annotations
 
