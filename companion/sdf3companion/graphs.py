@@ -194,11 +194,15 @@ class Graph:
             found[names[name]] = number
         return found
 
+    def picture(self) -> str:
+        """The graph as graphviz draws it, in SVG."""
+        from sdf3companion import draw
+        return draw.picture(draw.dot(self, None, {}), "svg").decode("utf-8")
+
     def _repr_svg_(self) -> Optional[str]:
         """The graph as a notebook shows it; nothing where graphviz isn't there."""
-        from sdf3companion import draw
         try:
-            return draw.picture(draw.dot(self, None, {}), "svg").decode("utf-8")
+            return self.picture()
         except Fault:
             return None
 
