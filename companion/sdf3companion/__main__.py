@@ -137,9 +137,6 @@ def ended(printed: output.Printed, command: str, arguments: Sequence[str]) -> in
         return told(fault, command)
     except Fault as fault:
         return told(fault, command)
-    except KeyboardInterrupt:
-        output.tell("interrupted")
-        return faults.INTERRUPTED
     except Exception as failure:
         return broken(failure)
 
@@ -149,9 +146,22 @@ def main(arguments: Sequence[str]) -> int:
     name = os.path.basename(command.partition(" ")[0]) if not command.startswith("python3 -m") else "sdf3companion"
     known = next((word for word in arguments[:1] if word in COMMANDS), None)
     output.speaker.name = f"{name} {known}" if known else name
-    signal.signal(signal.SIGINT, signal.default_int_handler)
-    signal.signal(signal.SIGTERM, signal.default_int_handler)
-    return ended(output.take_standard_output(), command, arguments)
+    try:
+        for number in (signal.SIGINT, signal.SIGTERM):
+            signal.signal(number, signal.default_int_handler)
+        status = ended(output.take_standard_output(), command, arguments)
+    except KeyboardInterrupt:
+        pass_over_interrupts()
+        output.tell("interrupted")
+        return faults.INTERRUPTED
+    pass_over_interrupts()
+    return status
+
+
+def pass_over_interrupts() -> None:
+    """From here on the end is near, and an interrupt would only take its words away."""
+    for number in (signal.SIGINT, signal.SIGTERM):
+        signal.signal(number, signal.SIG_IGN)
 
 
 def console() -> NoReturn:

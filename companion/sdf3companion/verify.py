@@ -31,6 +31,8 @@ MOST_START = 2**100
 MOST_POTENTIAL = 2**127 - 1
 MOST_CAPACITY = 1_000_000
 MOST_STORAGE = 1_000_000_000
+STANDARD = "-"
+"""What names standard input to other commands."""
 DIGITS = 50
 """So many letters of a number are enough to be above every limit."""
 NEVER = -inf
@@ -618,7 +620,7 @@ def main(words: List[str]) -> int:
     if len(words) != 2:
         print(__doc__, file=sys.stderr)
         return USAGE
-    status, line = told(*words)
+    status, line = told(*words) if STANDARD not in words else (USAGE, f"{STANDARD} isn't taken here: name a file")
     try:
         print(line if status == ACCEPTED else f"verify: {line}", file=sys.stdout if status == ACCEPTED else sys.stderr, flush=True)
     except OSError:

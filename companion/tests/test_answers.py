@@ -95,7 +95,7 @@ def test_fastest(run: Run, example: Example) -> None:
     assert run("fastest", example("chain")) == (0, "fastest unbounded\n", "")
     assert run("fastest", example("chain"), "--no-overlap") == (0, "fastest 1/4\npart b\nrounds 2\ncycle 2 1 b 0\nb 1 b/self\n", "")
     status, text, _ = run("fastest", example("chain"), "--no-overlap", "--buffers", "alpha=4,beta=2")
-    assert (status, text.splitlines()[:2]) == (0, ["fastest 1/7", "part a b c"])
+    assert (status, text.splitlines()[:2]) == (0, ["fastest 1/7", "part a, b, c"])
     status, text, said = run("fastest", example("chain"), "--buffers", "gamma=4")
     assert (status, text) == (3, "")
     assert said.startswith("sdf3companion fastest: unknown channel gamma\nsdf3companion fastest: a name is given as the file has it, or with %")

@@ -33,7 +33,7 @@ def run(asked: argparse.Namespace) -> int:
         print("fastest unbounded")
     else:
         print(f"fastest {words.fraction(best.rate)}")
-        print(f"part {' '.join(best.actors)}")
+        print(f"part {', '.join(best.actors)}")
         print(f"rounds {best.share}")
         print("\n".join(best.answer.cycle.lines()))
     return 0

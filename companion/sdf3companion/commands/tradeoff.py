@@ -21,6 +21,7 @@ from typing import Any, Callable, Dict, List
 
 from sdf3companion import output, words
 from sdf3companion.analyser import Point
+from sdf3companion.answers import buffers_for_people
 from sdf3companion.asking import asked_graph
 from sdf3companion.faults import NO, USAGE, Fault
 from sdf3companion.search import DISTRIBUTIONS, Search, Show
@@ -42,7 +43,7 @@ def printer(asked: argparse.Namespace) -> Show:
     def show(points: List[Point]) -> None:
         output.progress("")
         for point in points:
-            row([point.storage, words.fraction(point.rate), point.buffers])
+            row([point.storage, words.fraction(point.rate), point.buffers if asked.csv else buffers_for_people(point.capacities())])
         sys.stdout.flush()
 
     if asked.json:
