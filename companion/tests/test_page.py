@@ -275,9 +275,12 @@ def test_a_hundred_actors(browser: Any, made: Made) -> None:
     assert len(browser.find_elements("css selector", "#buffers div")) == 99
     columns = browser.execute_script("return new Set([...document.querySelectorAll('#buffers div')].map((row) => row.offsetLeft)).size;")
     assert columns >= 3
-    browser.find_element("id", "lines").send_keys("+++")
     assert looking.colours(browser)["red"] > 0
     looking.keep(browser, page, window, os.path.join(PICTURES, "hundred_actors.png"))
+    whole = part(browser)
+    browser.find_element("id", "lines").send_keys("+++")
+    near = part(browser)
+    assert near[1] - near[0] <= (whole[1] - whole[0]) / 4
 
 
 def test_a_thousand_points(browser: Any, made: Made) -> None:

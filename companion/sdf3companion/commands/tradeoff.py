@@ -6,7 +6,8 @@ moment, it is asked with one limit after another, each further from the least st
 a limit stands in every greater one. Standard error says up to which storage no point is missing. An interrupt, or a limit
 of time, keeps what was found.
 
-A line has the storage, the rate, and the buffers that reach it. Most graphs want --no-overlap. A graph that nothing holds
+A line has the storage, the rate, and the buffers that reach it, with names as they are; --csv has names as the analyser
+reads them. Most graphs want --no-overlap. A graph that nothing holds
 back has no last point: give it --rate or --seconds.
 
   sdf3companion tradeoff examples/h263_decoder.xml --no-overlap
