@@ -13,7 +13,7 @@ import sys
 from types import ModuleType
 from typing import Dict, NoReturn, Sequence
 
-from sdf3companion import draw, faults, gantt, hints, output, page, verify, words
+from sdf3companion import analyser, draw, faults, gantt, hints, output, page, verify, words
 from sdf3companion.commands import adapt, batch, fastest, referee, tradeoff, whatif
 from sdf3companion.faults import Fault
 
@@ -55,10 +55,20 @@ def called() -> str:
     return name if on_path is not None and os.path.realpath(on_path) == os.path.realpath(given) else given
 
 
+def version() -> str:
+    """The version of what these companions came with: a package, an archive or a clone."""
+    for path in (os.path.join(analyser.HERE, "PROVED"), os.path.join(analyser.ROOT, "PROVED"), os.path.join(analyser.ROOT, "VERSION")):
+        if os.path.isfile(path):
+            with open(path, encoding="utf-8") as file:
+                return file.readline().split()[-1]
+    return "unknown"
+
+
 def parser(command: str) -> Parser:
     """The reader of the words of all subcommands."""
     raw = argparse.RawDescriptionHelpFormatter
     whole = Parser(prog=command, description=(__doc__ or "").strip(), epilog=STATUSES, formatter_class=raw, allow_abbrev=False)
+    whole.add_argument("--version", action="version", version=f"sdf3companion {version()}", help="show the version and exit")
     listed = whole.add_subparsers(dest="name", metavar="NAME", title="commands", parser_class=Parser)
     for name, module in COMMANDS.items():
         first, _, rest = (module.__doc__ or "").strip().partition("\n")
@@ -77,9 +87,11 @@ def answered(command: str, arguments: Sequence[str]) -> int:
     whole = parser(command)
     if not arguments:
         raise Fault(faults.USAGE, "a command has to be named", more=[f"`{command} --help` has their names"])
-    asked = whole.parse_args(arguments)
+    asked, others = whole.parse_known_args(arguments)
     if asked.name is None:
         raise Fault(faults.USAGE, "a command has to be named", more=[f"`{command} --help` has their names"])
+    if others:
+        raise Fault(faults.USAGE, f"unrecognized arguments: {' '.join(others)}", more=[f"`{command} {asked.name} --help` has the words"])
     status = COMMANDS[asked.name].run(asked)
     assert isinstance(status, int), "each subcommand answers its exit status"
     return status
@@ -125,9 +137,6 @@ def ended(printed: output.Printed, command: str, arguments: Sequence[str]) -> in
         return told(fault, command)
     except Fault as fault:
         return told(fault, command)
-    except KeyboardInterrupt:
-        output.tell("interrupted")
-        return faults.INTERRUPTED
     except Exception as failure:
         return broken(failure)
 
@@ -137,9 +146,22 @@ def main(arguments: Sequence[str]) -> int:
     name = os.path.basename(command.partition(" ")[0]) if not command.startswith("python3 -m") else "sdf3companion"
     known = next((word for word in arguments[:1] if word in COMMANDS), None)
     output.speaker.name = f"{name} {known}" if known else name
-    signal.signal(signal.SIGINT, signal.default_int_handler)
-    signal.signal(signal.SIGTERM, signal.default_int_handler)
-    return ended(output.take_standard_output(), command, arguments)
+    try:
+        for number in (signal.SIGINT, signal.SIGTERM):
+            signal.signal(number, signal.default_int_handler)
+        status = ended(output.take_standard_output(), command, arguments)
+    except KeyboardInterrupt:
+        pass_over_interrupts()
+        output.tell("interrupted")
+        return faults.INTERRUPTED
+    pass_over_interrupts()
+    return status
+
+
+def pass_over_interrupts() -> None:
+    """From here on the end is near, and an interrupt would only take its words away."""
+    for number in (signal.SIGINT, signal.SIGTERM):
+        signal.signal(number, signal.SIG_IGN)
 
 
 def console() -> NoReturn:

@@ -36,7 +36,8 @@ Shown = TypeVar("Shown")
 def found(program: Optional[str]) -> str:
     """The analyser that was named, or else the first that is there."""
     named = program or os.environ.get("SDF3ANALYSIS")
-    for path in [named] if named else [BUILT, *HANDED_ON, shutil.which("sdf3analysis")]:
+    usual = [BUILT, *HANDED_ON, shutil.which("sdf3analysis") or ""]
+    for path in [named] if named else usual:
         if path and os.path.isfile(path) and os.access(path, os.X_OK):
             return os.path.abspath(path)
     if named:

@@ -6,7 +6,7 @@ from __future__ import annotations
 import re
 from dataclasses import dataclass, field
 from fractions import Fraction
-from typing import Any, Dict, List, Tuple, Union
+from typing import Any, Dict, List, Mapping, Tuple, Union
 from urllib.parse import unquote
 
 Time = Union[int, Fraction]
@@ -34,6 +34,12 @@ def plain_link(link: str) -> str:
 def escaped_link(link: str) -> str:
     """A link as the analyser prints it."""
     return "".join(letter if letter in "%/>" else escaped(letter) for letter in link)
+
+
+def buffers_for_people(capacities: Mapping[str, int]) -> str:
+    """Capacities with names as they are, but for the letters `%`, `,` and `=`, which stay spelled, so that companions can read them."""
+    letters = {ord(letter): escaped(letter) for letter in "%,="}
+    return ",".join(f"{name.translate(letters)}={number}" for name, number in capacities.items()) or "-"
 
 
 def exact(value: Time) -> Time:

@@ -51,8 +51,12 @@ class Throughput:
     times: Dict[str, List[Time]] = field(repr=False)
     certificate: bytes = field(default=b"", repr=False)
 
-    def _repr_svg_(self) -> str:
+    def picture(self) -> str:
+        """The schedule as a time line with the cycle in red, in SVG."""
         return timeline.svg(Rate(self.rate, self.schedule, self.cycle), self.times)
+
+    def _repr_svg_(self) -> str:
+        return self.picture()
 
 
 @dataclass
@@ -72,10 +76,13 @@ class TradeOff:
     points: List[Pareto]
     complete_to: Optional[int]
     ended: str
-    curve: str = field(repr=False)
 
-    def _repr_svg_(self) -> str:
-        return self.curve
+    def picture(self) -> str:
+        """The step curve in SVG; an empty text where there is no point."""
+        return curve.svg([(point.storage, point.rate) for point in self.points]) if self.points else ""
+
+    def _repr_svg_(self) -> Optional[str]:
+        return self.picture() or None
 
 
 @dataclass
@@ -170,7 +177,7 @@ def tradeoff(given: Given, *, no_overlap: bool = False, states: Optional[int] = 
     search = Search(analyser(program), drawn, Options(no_overlap, states).words(), seconds)
     search.explore(lambda new: None, rate)
     points = [Pareto(point.storage, point.rate, point.capacities(), point.schedule) for point in search.points]
-    return TradeOff(points, search.complete, search.ended or "", curve.svg([(point.storage, point.rate) for point in search.points]) if search.points else "")
+    return TradeOff(points, search.complete, search.ended or "")
 
 
 def fastest(given: Given, *, buffers: Optional[Mapping[str, int]] = None, no_overlap: bool = False, states: Optional[int] = None,

@@ -60,7 +60,7 @@ def bounds(analyser: Analyser, graph: Graph, buffers: Optional[str] = None, pass
 
 def slowest(found: Sequence[Bound]) -> Optional[Bound]:
     """The part that holds the graph back: of several the first; None where nothing does."""
-    return min(found, key=lambda bound: bound.rate, default=None)
+    return min(found, key=lambda bound: bound.rate) if found else None
 
 
 def fastest(analyser: Analyser, graph: Graph, buffers: Optional[str] = None, passed_on: Sequence[str] = (),

@@ -1,14 +1,14 @@
 """Draws a graph: its actors with their times, its channels with rates, tokens and buffers, what holds it back in red.
 
 An actor's box has its name and its time; a channel has its name, its tokens after a dot, its capacity in brackets where
---buffers gives one, and at its ends the rates that aren't 1. What holds the graph back is red, as by `companion fastest`:
+--buffers gives one, and at its ends the rates that aren't 1. What holds the graph back is red, as by `sdf3companion fastest`:
 actors and channels of the need cycle, and in dashes the free space of a channel. Of a graph that the analyser refuses the
 fault is red: the unbalanced walk, the actors that are blocked, with their firings, and what they lack, or the way that is
 missing, in dashes. The refusal stands below, and is told as ever. A drawing that is too wide is folded into rows: what ends
 at the right goes on at the left of the row below. graphviz draws, as SVG, PNG or PDF by the ending of the name; without a
 name SVG is printed.
 
-  companion draw examples/modem.xml modem.svg --no-overlap
+  sdf3companion draw examples/modem.xml modem.svg --no-overlap
 """
 from __future__ import annotations
 

@@ -8,9 +8,9 @@ With --point N it draws the N-th point of the trade-off, with its buffers. The p
 With --trace it writes trace events instead, as JSON, which ui.perfetto.dev and chrome://tracing open: a thread for each
 actor, a slice for each of up to 200,000 firings, an arrow for each need of the cycle. A time unit is a microsecond there.
 
-  companion gantt examples/ring.xml ring.svg
-  companion gantt examples/modem.xml modem.svg --no-overlap --point 4
-  companion gantt examples/ring.xml ring.json --trace
+  sdf3companion gantt examples/ring.xml ring.svg
+  sdf3companion gantt examples/modem.xml modem.svg --no-overlap --point 4
+  sdf3companion gantt examples/ring.xml ring.json --trace
 """
 from __future__ import annotations
 

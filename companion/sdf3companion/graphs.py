@@ -15,7 +15,7 @@ from typing import Any, Collection, Dict, Iterator, List, Mapping, Optional, Seq
 from xml.etree.ElementTree import Element
 
 from sdf3companion import units, xmltree
-from sdf3companion.answers import Time, escaped, exact
+from sdf3companion.answers import Time, escaped, exact, plain
 from sdf3companion.faults import FORM, Fault
 from sdf3companion.parts import strong_parts
 from sdf3companion.writing import Row, graph_text
@@ -183,22 +183,27 @@ class Graph:
         return Graph(part.root, label=self.label)
 
     def buffers(self, text: Optional[str]) -> Dict[str, int]:
-        """The capacities of a list NAME=NUMBER,.. by channel. A name stands as it is, or with `%` as the analyser prints it."""
-        names = {spelled: channel.name for channel in self.channels for spelled in (channel.name, escaped(channel.name))}
+        """The capacities of a list NAME=NUMBER,.. by channel. A name stands as it is, or with letters spelled by `%`."""
+        names = {channel.name for channel in self.channels}
         found: Dict[str, int] = {}
-        for name, number in pairs_of(text):
+        for spelled, number in pairs_of(text):
+            name = spelled if spelled in names else plain(spelled)
             if name not in names:
-                raise Fault(FORM, f"unknown channel {name}")
-            if names[name] in found:
+                raise Fault(FORM, f"unknown channel {spelled}")
+            if name in found:
                 raise Fault(FORM, f"channel {name} has two capacities")
-            found[names[name]] = number
+            found[name] = number
         return found
+
+    def picture(self) -> str:
+        """The graph as graphviz draws it, in SVG."""
+        from sdf3companion import draw
+        return draw.picture(draw.dot(self, None, {}), "svg").decode("utf-8")
 
     def _repr_svg_(self) -> Optional[str]:
         """The graph as a notebook shows it; nothing where graphviz isn't there."""
-        from sdf3companion import draw
         try:
-            return draw.picture(draw.dot(self, None, {}), "svg").decode("utf-8")
+            return self.picture()
         except Fault:
             return None
 

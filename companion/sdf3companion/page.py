@@ -2,10 +2,10 @@
 
 The page is one file that needs no network. A point is chosen in the curve or in a table, by mouse or by keys; the need cycle
 is red in the graph and in the time line, which is zoomed by the wheel or by keys, and the commands that give each answer
-stand below. The trade-off is explored as by `companion tradeoff`, until no memory buys more or the seconds are up; the
+stand below. The trade-off is explored as by `sdf3companion tradeoff`, until no memory buys more or the seconds are up; the
 schedules of its points are then asked for side by side. graphviz draws the graph.
 
-  companion page examples/modem.xml modem.html --no-overlap
+  sdf3companion page examples/modem.xml modem.html --no-overlap
 """
 from __future__ import annotations
 

@@ -6,6 +6,7 @@ import stat
 import tempfile
 from fractions import Fraction
 from typing import Dict, List, Optional, Tuple
+from xml.etree.ElementTree import Element
 
 from sdf3companion import output, xmltree
 from sdf3companion.adapting import adapted, buffer_sizes, constraint
@@ -78,10 +79,9 @@ def graph_of(analyser: Analyser, label: str, data: bytes, path: Optional[str] = 
 def worst_rate(analyser: Analyser, label: str, data: bytes, seconds: Optional[float] = None) -> WorstRate:
     """The worst rate of a file of scenarios, by its own times."""
     clock = Clock(seconds)
-    root = None
     try:
         text = asked_about(analyser, "scenario", data, clock.left())
-        root = xmltree.parsed(data, label).root
+        root: Element = xmltree.parsed(data, label).root
     except Fault as refusal:
         if refusal.status != FORM or not refusal.is_analysers:
             raise

@@ -71,7 +71,7 @@ class Search:
 
     def slowest(self) -> str:
         """The names of the part that holds the graph back."""
-        return " ".join(self.top.actors) if self.top else ""
+        return ", ".join(self.top.actors) if self.top else ""
 
     def explore(self, show: Show, wanted: Optional[Fraction] = None) -> int:
         """Shows the points of each level. Where it is cut off, what was found is kept, and after the first point that is no failure."""

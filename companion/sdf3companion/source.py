@@ -75,7 +75,8 @@ def name_kind(source: Source) -> None:
         raise source.fault(root, f"the root is {root.tag}, and has to be sdf3{hint}")
     application = source.application()
     named = (root.get("type") or "").lower()
-    kind = named if named in KINDS else next((kind for kind in KINDS if application.find(kind) is not None), None)
+    held: List[str] = [kind for kind in KINDS if application.find(kind) is not None]
+    kind = named if named in KINDS else held[0] if held else None
     if kind is None:
         raise source.fault(application, f"there is none of {', '.join(KINDS)} in applicationGraph")
     if kind != root.get("type"):

@@ -2,6 +2,8 @@
 import os
 import subprocess
 import sys
+from pathlib import Path
+from typing import Dict, Iterable, Optional, Protocol, Tuple, Union
 
 import pytest
 
@@ -13,34 +15,59 @@ EXAMPLES = os.path.join(ROOT, "examples")
 SECONDS = 600
 """How long a run may take before it counts as hung."""
 
+Ended = Tuple[int, str, str]
+"""An exit status, what was printed, and the errors."""
+Word = Union[str, Path, int]
+
+
+class Run(Protocol):
+    """Runs a companion from a directory of no importance."""
+
+    def __call__(self, *words: Word, environment: Optional[Dict[str, str]] = None, given: Optional[str] = None) -> Ended: ...
+
+
+class Example(Protocol):
+    """The path of an example by its name."""
+
+    def __call__(self, name: str) -> str: ...
+
+
+class GraphFile(Protocol):
+    """Puts a text as a graph file, and answers its path."""
+
+    def __call__(self, text: Union[str, bytes], name: str = "graph.xml") -> str: ...
+
+
+def own_environment(analyser: Analyser, more: Iterable[Tuple[str, str]] = ()) -> Dict[str, str]:
+    """What a companion is run with."""
+    return {**os.environ, "SDF3ANALYSIS": analyser.program, **dict(more)}
+
 
 @pytest.fixture(scope="session")
-def analyser():
+def analyser() -> Analyser:
     try:
         return Analyser()
     except faults.Fault as fault:
-        pytest.skip(fault.line)
+        pytest.fail(fault.line)
 
 
 @pytest.fixture(scope="session")
-def run(analyser):
-    """Runs a companion from a directory of no importance; answers its exit status, what it printed, and its errors."""
-    def runs(*words, environment=None):
-        done = subprocess.run([sys.executable, LAUNCHER, *map(str, words)], cwd="/", capture_output=True, text=True, timeout=SECONDS, check=False,
-                              env={**os.environ, "SDF3ANALYSIS": analyser.program, **(environment or {})})
+def run(analyser: Analyser) -> Run:
+    def runs(*words: Word, environment: Optional[Dict[str, str]] = None, given: Optional[str] = None) -> Ended:
+        done = subprocess.run([sys.executable, LAUNCHER, *map(str, words)], cwd="/", input=given or "", capture_output=True, text=True, timeout=SECONDS,
+                              check=False, env=own_environment(analyser, (environment or {}).items()))
         return done.returncode, done.stdout, done.stderr
     return runs
 
 
 @pytest.fixture(scope="session")
-def example():
+def example() -> Example:
     return lambda name: os.path.join(EXAMPLES, f"{name}.xml")
 
 
 @pytest.fixture
-def graph_file(tmp_path):
-    """Puts a text as a graph file."""
-    def put(text, name="graph.xml"):
+def graph_file(tmp_path: Path) -> GraphFile:
+    def put(text: Union[str, bytes], name: str = "graph.xml") -> str:
         path = tmp_path / name
         path.write_bytes(text if isinstance(text, bytes) else text.encode())
         return str(path)

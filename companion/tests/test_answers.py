@@ -4,14 +4,17 @@ import os
 import signal
 import subprocess
 import sys
+from pathlib import Path
+from typing import Dict, Tuple
 
 import pytest
 
-from sdf3companion import graphs, tradeoff
-from tests.conftest import LAUNCHER, SECONDS
-from sdf3companion.tradeoff import Search
+from sdf3companion import graphs, search
+from sdf3companion.analyser import Analyser
+from sdf3companion.search import Search
+from tests.conftest import LAUNCHER, SECONDS, Example, Run
 
-FRONTS = {
+FRONTS: Dict[str, Tuple[int, Dict[int, str]]] = {
     "two_filters": (1, {}),
     "h263_encoder": (2, {299: "1/1846402", 300: "1/1232530"}),
     "h263_decoder": (69, {4753: "1/2508452", 4754: "1/1354202", 4821: "1/1328184"}),
@@ -24,22 +27,22 @@ FRONTS = {
 CHAIN = ["6 1/7 alpha=4,beta=2", "8 1/6 alpha=5,beta=3", "9 1/5 alpha=6,beta=3", "10 1/4 alpha=7,beta=3"]
 
 
-def test_tradeoff_ends_by_itself(run, example):
+def test_tradeoff_ends_by_itself(run: Run, example: Example) -> None:
     status, text, said = run("tradeoff", example("chain"), "--no-overlap")
     assert (status, text.splitlines()) == (0, CHAIN)
-    assert said == "companion tradeoff: complete up to storage 10: 4 points; no memory buys more, since b can't be faster\n"
+    assert said == "sdf3companion tradeoff: complete up to storage 10: 4 points; no memory buys more, since b can't be faster\n"
 
 
-def test_tradeoff_up_to_a_rate(run, example):
+def test_tradeoff_up_to_a_rate(run: Run, example: Example) -> None:
     status, text, said = run("tradeoff", example("chain"), "--no-overlap", "--rate", "16/s@100Hz", "--csv")
     assert (status, text) == (0, 'storage,rate,buffers\n6,1/7,"alpha=4,beta=2"\n8,1/6,"alpha=5,beta=3"\n')
-    assert said.startswith("companion tradeoff: complete up to storage 8: 2 points; the wanted rate is reached")
+    assert said.startswith("sdf3companion tradeoff: complete up to storage 8: 2 points; the wanted rate is reached")
     status, text, said = run("tradeoff", example("chain"), "--no-overlap", "--rate", "1/3")
-    assert (status, text, said) == (1, "", "companion tradeoff: no memory reaches 1/3: b can't be faster than 1/4\n")
+    assert (status, text, said) == (1, "", "sdf3companion tradeoff: no memory reaches 1/3: b can't be faster than 1/4\n")
 
 
 @pytest.mark.parametrize("name", FRONTS)
-def test_tradeoff_of_the_examples(run, example, name):
+def test_tradeoff_of_the_examples(run: Run, example: Example, name: str) -> None:
     status, text, _ = run("tradeoff", example(name), "--no-overlap", "--json")
     found = json.loads(text)
     count, named = FRONTS[name]
@@ -50,17 +53,17 @@ def test_tradeoff_of_the_examples(run, example, name):
 
 
 @pytest.mark.parametrize("name", ["chain", "modem", "satellite_receiver"])
-def test_limits_that_rise_find_the_same_points(analyser, example, monkeypatch, name):
+def test_limits_that_rise_find_the_same_points(analyser: Analyser, example: Example, monkeypatch: pytest.MonkeyPatch, name: str) -> None:
     graph = graphs.opened(analyser, example(name))
     at_once, rising = (Search(analyser, graph, ["--no-overlap"]) for _ in range(2))
-    monkeypatch.setattr(tradeoff, "MOMENT", SECONDS)
+    monkeypatch.setattr(search, "MOMENT", SECONDS)
     assert len(list(at_once.levels())) == 1
-    monkeypatch.setattr(tradeoff, "MOMENT", 0)
+    monkeypatch.setattr(search, "MOMENT", 0)
     assert len(list(rising.levels())) > 1
     assert (rising.points, rising.complete, rising.ended) == (at_once.points, at_once.complete, at_once.ended)
 
 
-def test_tradeoff_without_an_end_keeps_what_it_found(run, example):
+def test_tradeoff_without_an_end_keeps_what_it_found(run: Run, example: Example) -> None:
     status, text, said = run("tradeoff", example("chain"), "--distributions", "20")
     assert (status, text.splitlines()[0]) == (8, "6 1/7 alpha=4,beta=2")
     assert "sdf3analysis: budget: more than 20 distributions" in said
@@ -69,30 +72,36 @@ def test_tradeoff_without_an_end_keeps_what_it_found(run, example):
     assert "limit of time" in said
 
 
-def test_an_interrupt_keeps_what_was_found(analyser, example):
+def test_an_interrupt_keeps_what_was_found(analyser: Analyser, example: Example) -> None:
     words = [sys.executable, LAUNCHER, "tradeoff", example("chain"), "--csv"]
     with subprocess.Popen(words, stdout=subprocess.PIPE, stderr=subprocess.PIPE, text=True, env={**os.environ, "SDF3ANALYSIS": analyser.program}) as run:
+        assert run.stdout is not None
         shown = [run.stdout.readline(), run.stdout.readline()]
         run.send_signal(signal.SIGINT)
         _, said = run.communicate(timeout=60)
     assert shown == ["storage,rate,buffers\n", '6,1/7,"alpha=4,beta=2"\n']
     assert run.returncode == 0
-    assert said.startswith("companion tradeoff: complete up to storage") and said.endswith("points; interrupted\n")
+    assert said.startswith("sdf3companion tradeoff: complete up to storage") and said.endswith("points; interrupted\n")
 
 
-def test_tradeoff_takes_no_buffers(run, example):
-    assert run("tradeoff", example("chain"), "--buffers", "alpha=4") == (2, "", "sdf3analysis: usage: --buffers is not for storage\n")
+def test_tradeoff_takes_no_buffers(run: Run, example: Example) -> None:
+    status, text, said = run("tradeoff", example("chain"), "--buffers", "alpha=4")
+    assert (status, text) == (2, "")
+    assert said.startswith("sdf3companion tradeoff: unrecognized arguments: --buffers alpha=4\nsdf3companion tradeoff: `")
+    assert said.endswith("sdf3companion tradeoff --help` has the words\n")
 
 
-def test_fastest(run, example):
+def test_fastest(run: Run, example: Example) -> None:
     assert run("fastest", example("chain")) == (0, "fastest unbounded\n", "")
     assert run("fastest", example("chain"), "--no-overlap") == (0, "fastest 1/4\npart b\nrounds 2\ncycle 2 1 b 0\nb 1 b/self\n", "")
     status, text, _ = run("fastest", example("chain"), "--no-overlap", "--buffers", "alpha=4,beta=2")
-    assert (status, text.splitlines()[:2]) == (0, ["fastest 1/7", "part a b c"])
-    assert run("fastest", example("chain"), "--buffers", "gamma=4") == (3, "", "companion fastest: unknown channel gamma\n")
+    assert (status, text.splitlines()[:2]) == (0, ["fastest 1/7", "part a, b, c"])
+    status, text, said = run("fastest", example("chain"), "--buffers", "gamma=4")
+    assert (status, text) == (3, "")
+    assert said.startswith("sdf3companion fastest: unknown channel gamma\nsdf3companion fastest: a name is given as the file has it, or with %")
 
 
-def test_what_if(run, example):
+def test_what_if(run: Run, example: Example) -> None:
     status, text, _ = run("whatif", example("chain"), "--no-overlap", "--buffers", "alpha=4,beta=2")
     assert status == 0
     assert text.splitlines() == ["now 1/7",
@@ -106,7 +115,7 @@ def test_what_if(run, example):
     assert run("whatif", example("ring"), "--factor", "0")[0] == 2
 
 
-def test_referee(run, analyser, example, tmp_path):
+def test_referee(run: Run, analyser: Analyser, example: Example, tmp_path: Path) -> None:
     kept = tmp_path / "certificate"
     status, text, _ = run("referee", example("ring"), "--claim", "1/5", "--certificate", kept)
     assert (status, text) == (0, "confirmed 1/5\naccepted throughput 1/5\n")
@@ -119,5 +128,7 @@ def test_referee(run, analyser, example, tmp_path):
                                                "cycle 5 1 x 0", "y 0 xy", "x 1 yx"])
     status, text, _ = run("referee", example("ring"), "--claim", "1/6")
     assert (status, text.splitlines()[3:]) == (1, ["the claim is too slow: this schedule is faster", "schedule 5 1", "x 0", "y 2"])
-    assert run("referee", example("chain"), "--claim", "1/5") == (6, "", "sdf3analysis: connection: no way from b to a\n")
+    status, text, said = run("referee", example("chain"), "--claim", "1/5")
+    assert (status, text) == (6, "")
+    assert said.startswith("sdf3analysis: connection: no way from b to a\nsdf3companion referee: try --buffers NAME=NUMBER,.. or --use-file")
     assert run("referee", example("ring"))[0] == 2

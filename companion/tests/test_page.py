@@ -9,13 +9,17 @@ import shutil
 import subprocess
 import sys
 import threading
+from fractions import Fraction
+from pathlib import Path
+from typing import Any, Dict, Iterator, List, Optional, Protocol
 
 import pytest
 
 from sdf3companion import page as pages
-from sdf3companion.analyser import ROOT
+from sdf3companion.analyser import ROOT, Analyser
+from sdf3companion.writing import Row, graph_text
 from tests import large, looking
-from tests.conftest import LAUNCHER
+from tests.conftest import LAUNCHER, Example, Run
 from tests.looking import Window
 
 PICTURES = os.path.join(ROOT, "docs", "pictures")
@@ -34,7 +38,8 @@ return Math.min(...sizes, ...rest);
 """The least height of a font, in pixels."""
 CONTRAST = """
 const light = (colour) => {
-  const [red, green, blue] = colour.match(/\\w\\w/g).map((part) => parseInt(part, 16) / 255).map((part) => (part <= 0.04045 ? part / 12.92 : ((part + 0.055) / 1.055) ** 2.4));
+  const shares = colour.match(/\\w\\w/g).map((part) => parseInt(part, 16) / 255);
+  const [red, green, blue] = shares.map((part) => (part <= 0.04045 ? part / 12.92 : ((part + 0.055) / 1.055) ** 2.4));
   return 0.2126 * red + 0.7152 * green + 0.0722 * blue;
 };
 const whole = (name) => colour(name).replace(/^#(\\w)(\\w)(\\w)$/, "#$1$1$2$2$3$3");
@@ -50,18 +55,25 @@ OVERFLOW = "return document.documentElement.scrollWidth - document.documentEleme
 
 
 @pytest.fixture(scope="module")
-def browser():
+def browser() -> Iterator[Any]:
     """A browser without a screen."""
     yield from looking.opened()
 
 
+class Made(Protocol):
+    """The page of a text, or of an example."""
+
+    def __call__(self, name: str, text: Optional[str] = None) -> Path: ...
+
+
 @pytest.fixture(scope="module")
-def made(analyser, tmp_path_factory):
+def made(analyser: Analyser, tmp_path_factory: pytest.TempPathFactory) -> Made:
     """Makes the page of a text, or of an example, once; the graph is named as who runs it in its own folder would."""
-    folder, found = tmp_path_factory.mktemp("pages"), {}
+    folder = tmp_path_factory.mktemp("pages")
+    found: Dict[str, Path] = {}
     os.symlink(os.path.join(ROOT, "examples"), folder / "examples")
 
-    def make(name, text=None):
+    def make(name: str, text: Optional[str] = None) -> Path:
         if name not in found:
             graph = f"{name}.xml" if text else f"examples/{name}.xml"
             if text:
@@ -75,24 +87,26 @@ def made(analyser, tmp_path_factory):
     return make
 
 
-def data_of(page):
-    return json.loads(re.search(r'<script type="application/json" id="data">(.*?)</script>', page.read_text(), re.DOTALL)[1])
+def data_of(page: Path) -> Any:
+    found = re.search(r'<script type="application/json" id="data">(.*?)</script>', page.read_text(), re.DOTALL)
+    return json.loads(found[1] if found else "")
 
 
-def text_of(browser, name):
-    return browser.find_element("id", name).text
+def text_of(browser: Any, name: str) -> str:
+    return str(browser.find_element("id", name).text)
 
 
-def chosen(browser):
+def chosen(browser: Any) -> str:
     return text_of(browser, "chosen")
 
 
-def part(browser):
+def part(browser: Any) -> List[float]:
     """The part of the time that is shown."""
-    return browser.execute_script("return [view.from, view.to];")
+    found: List[float] = browser.execute_script("return [view.from, view.to];")
+    return found
 
 
-def at_ease(browser, page):
+def at_ease(browser: Any, page: Path) -> None:
     """What a reader of any page sees: texts that can be read, and nothing that sticks out."""
     assert browser.execute_script(OVERFLOW) <= 0
     assert browser.execute_script(READABLE) >= 11
@@ -100,7 +114,7 @@ def at_ease(browser, page):
     assert browser.get_log("browser") == []
 
 
-def test_points_are_chosen_by_keys(browser, made):
+def test_points_are_chosen_by_keys(browser: Any, made: Made) -> None:
     Window().show(browser, made("chain"))
     slider = browser.find_element("id", "curve")
     assert chosen(browser) == "Storage 10: rate 1/4 (0.25)"
@@ -112,7 +126,7 @@ def test_points_are_chosen_by_keys(browser, made):
     assert browser.get_log("browser") == []
 
 
-def test_points_are_chosen_by_mouse(browser, made):
+def test_points_are_chosen_by_mouse(browser: Any, made: Made) -> None:
     Window().show(browser, made("chain"))
     rows = browser.find_elements("css selector", "#points tbody tr")
     assert [row.text for row in rows] == ["6 1/7 0.142857", "8 1/6 0.166667", "9 1/5 0.2", "10 1/4 0.25"]
@@ -129,7 +143,7 @@ def test_points_are_chosen_by_mouse(browser, made):
     assert commands[0].startswith("sdf3analysis --algo storage --graph examples/chain.xml --limit 6 ")
 
 
-def test_readers_of_screens_are_told(browser, made):
+def test_readers_of_screens_are_told(browser: Any, made: Made) -> None:
     Window().show(browser, made("chain"))
     slider = browser.find_element("id", "curve")
     assert (slider.aria_role, slider.accessible_name) == ("slider", "point of the trade-off")
@@ -144,7 +158,7 @@ def test_readers_of_screens_are_told(browser, made):
     assert headings == ["chain.xml", "The graph", "Storage and rate", "Storage 10: rate 1/4 (0.25)", "Time line", "Need cycle", "Commands"]
 
 
-def test_points_are_copied_as_csv(browser, made):
+def test_points_are_copied_as_csv(browser: Any, made: Made) -> None:
     Window().show(browser, made("chain"))
     browser.execute_cdp_cmd("Browser.grantPermissions", {"permissions": ["clipboardReadWrite", "clipboardSanitizedWrite"]})
     browser.find_element("id", "copy").click()
@@ -156,7 +170,7 @@ def test_points_are_copied_as_csv(browser, made):
     assert len(rows) == 5
 
 
-def test_the_time_line_is_zoomed(browser, made):
+def test_the_time_line_is_zoomed(browser: Any, made: Made) -> None:
     Window().show(browser, made("chain"))
     whole = part(browser)
     lines = browser.find_element("id", "lines")
@@ -186,7 +200,7 @@ def test_the_time_line_is_zoomed(browser, made):
     assert browser.get_log("browser") == []
 
 
-def test_the_time_line_tells_its_firings(browser, made):
+def test_the_time_line_tells_its_firings(browser: Any, made: Made) -> None:
     page = made("chain")
     Window().show(browser, page)
     point = data_of(page)["points"][-1]
@@ -198,18 +212,18 @@ def test_the_time_line_tells_its_firings(browser, made):
     assert browser.execute_script(f"return {where};", 0.5, 2) == "c"
 
 
-def test_names_and_fractions_as_they_are(browser, made):
+def test_names_and_fractions_as_they_are(browser: Any, made: Made) -> None:
     name = "FFT \N{GREEK SMALL LETTER OMEGA}"
-    Window().show(browser, made("names", large.text({name: 1.5, "a, b": 2}, [("x=y", name, 1, "a, b", 1, 0)])))
+    Window().show(browser, made("names", graph_text("sdf", {name: Fraction(3, 2), "a, b": 2}, [Row("x=y", name, 1, "a, b", 1, 0)])))
     assert text_of(browser, "buffers").split("\n")[0] == "x=y"
     assert browser.execute_script("return data.actors;") == [name, "a, b"]
     assert "x%3Dy=" in text_of(browser, "commands")
-    assert text_of(browser, "commands").startswith("companion adapt names.xml adapted.xml\n")
+    assert text_of(browser, "commands").startswith("sdf3companion adapt names.xml adapted.xml\n")
     assert browser.execute_script("return csv();").startswith("storage,rate,decimal,x=y\n")
     assert browser.execute_script("return toldAt(toX(0.5), HEAD + 10);").startswith(f"{name}, firing 0: 0 to 3/2")
 
 
-def test_the_decoder(browser, made):
+def test_the_decoder(browser: Any, made: Made) -> None:
     page, window = made("h263_decoder"), Window(1160, 1500)
     window.show(browser, page)
     at_ease(browser, page)
@@ -221,7 +235,7 @@ def test_the_decoder(browser, made):
     looking.keep(browser, page, window, os.path.join(PICTURES, "decoder_page.png"))
 
 
-def test_a_dark_window(browser, made):
+def test_a_dark_window(browser: Any, made: Made) -> None:
     page, window = made("modem"), Window(1160, 1500, "dark")
     window.show(browser, page)
     at_ease(browser, page)
@@ -230,7 +244,7 @@ def test_a_dark_window(browser, made):
     looking.keep(browser, page, window, os.path.join(PICTURES, "modem_dark.png"))
 
 
-def test_a_narrow_window(browser, made):
+def test_a_narrow_window(browser: Any, made: Made) -> None:
     page, window = made("modem"), Window(400, 1900)
     window.show(browser, page)
     at_ease(browser, page)
@@ -239,7 +253,7 @@ def test_a_narrow_window(browser, made):
     looking.keep(browser, page, window, os.path.join(PICTURES, "modem_narrow.png"))
 
 
-def test_a_window_that_changes(browser, made):
+def test_a_window_that_changes(browser: Any, made: Made) -> None:
     page = made("modem")
     Window(1160).show(browser, page)
     wide = browser.execute_script("return [canvas.clientWidth, at('curve').querySelector('.axis').getBBox().width];")
@@ -250,7 +264,7 @@ def test_a_window_that_changes(browser, made):
     at_ease(browser, page)
 
 
-def test_a_hundred_actors(browser, made):
+def test_a_hundred_actors(browser: Any, made: Made) -> None:
     page, window = made("hundred_actors", large.hundred_actors()), Window(1160, 1500)
     window.show(browser, page)
     at_ease(browser, page)
@@ -261,12 +275,15 @@ def test_a_hundred_actors(browser, made):
     assert len(browser.find_elements("css selector", "#buffers div")) == 99
     columns = browser.execute_script("return new Set([...document.querySelectorAll('#buffers div')].map((row) => row.offsetLeft)).size;")
     assert columns >= 3
-    browser.find_element("id", "lines").send_keys("+++")
     assert looking.colours(browser)["red"] > 0
     looking.keep(browser, page, window, os.path.join(PICTURES, "hundred_actors.png"))
+    whole = part(browser)
+    browser.find_element("id", "lines").send_keys("+++")
+    near = part(browser)
+    assert near[1] - near[0] <= (whole[1] - whole[0]) / 4
 
 
-def test_a_thousand_points(browser, made):
+def test_a_thousand_points(browser: Any, made: Made) -> None:
     page, window = made("thousand_points", large.thousand_points()), Window(1160, 1500)
     assert len(data_of(page)["points"]) == 1001
     assert page.stat().st_size < 2_000_000
@@ -277,7 +294,8 @@ def test_a_thousand_points(browser, made):
     assert chosen(browser).startswith("Storage 1000: rate 1/2000 ")
     slider.send_keys(PAGE_UP)
     assert chosen(browser).startswith("Storage 1010: rate 1/1990 ")
-    took = browser.execute_script("const begin = performance.now(); for (let n = 0; n < 50; n += 1) { choose(n * 20); draw(); } return performance.now() - begin;")
+    took = browser.execute_script("const begin = performance.now(); for (let n = 0; n < 50; n += 1) { choose(n * 20); draw(); } "
+                                  "return performance.now() - begin;")
     assert took < 50 * 200
     slider.send_keys(END)
     slider.send_keys(PAGE_DOWN * 30)
@@ -288,7 +306,7 @@ def test_a_thousand_points(browser, made):
     looking.keep(browser, page, window, os.path.join(PICTURES, "thousand_points.png"))
 
 
-def test_pictures_know_what_they_show(browser, made, tmp_path):
+def test_pictures_know_what_they_show(browser: Any, made: Made, tmp_path: Path) -> None:
     page, window, picture = made("chain"), Window(600, 400), str(tmp_path / "chain.png")
     window.show(browser, page)
     looking.keep(browser, page, window, picture)
@@ -302,20 +320,20 @@ def test_pictures_know_what_they_show(browser, made, tmp_path):
     assert looking.source_of(data) == looking.digest_of(page.read_text(), Window(601, 400))
 
 
-def test_page_needs_no_network(made):
+def test_page_needs_no_network(made: Made) -> None:
     text = made("chain").read_text().replace("http://www.w3.org/", "")
     assert "http:" not in text and "https:" not in text and "{{" not in text
     assert '<meta name="viewport"' in text
 
 
-def test_page_without_a_point(run, example, tmp_path):
+def test_page_without_a_point(run: Run, example: Example, tmp_path: Path) -> None:
     status, _, said = run("page", example("chain"), tmp_path / "page.html", "--no-overlap", "--seconds", "0")
     assert status == 8
     assert "limit of time" in said
     assert not (tmp_path / "page.html").exists()
 
 
-def test_page_on_standard_output(run, example):
+def test_page_on_standard_output(run: Run, example: Example) -> None:
     status, text, error = run("page", example("ring"), "-")
     assert (status, error) == (0, "")
     assert text.startswith("<!DOCTYPE html>")
@@ -324,26 +342,27 @@ def test_page_on_standard_output(run, example):
 class Slow:
     """An analyser whose answers come only where two are asked for at once."""
 
-    def __init__(self):
+    def __init__(self) -> None:
         self.both = threading.Barrier(2, timeout=20)
 
-    def throughput(self, graph, asked):
+    def throughput(self, graph: Any, asked: List[str]) -> str:
         self.both.wait()
         return asked[-1]
 
 
 class Named:
-    def __init__(self, number):
+    def __init__(self, number: int) -> None:
         self.number = number
 
-    def words(self):
+    def words(self) -> List[str]:
         return ["--buffers", f"a={self.number}"]
 
 
 @pytest.mark.skipif((os.cpu_count() or 1) < 2, reason="there is one core")
-def test_schedules_are_asked_for_side_by_side():
+def test_schedules_are_asked_for_side_by_side() -> None:
     class Asked:
         no_overlap, states = True, None
 
-    found = pages.schedules(Slow(), None, Asked(), [Named(number) for number in range(4)])
+    asked: Any = (Slow(), None, Asked(), [Named(number) for number in range(4)])
+    found: Any = pages.schedules(*asked)
     assert found == ["a=0", "a=1", "a=2", "a=3"]

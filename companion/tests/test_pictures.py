@@ -6,61 +6,65 @@ import shutil
 import subprocess
 import xml.etree.ElementTree as ElementTree
 from fractions import Fraction
-from itertools import groupby
+from pathlib import Path
+from typing import Any, Dict, Iterable, List, Optional, Set, Tuple
 
 import pytest
 
 from sdf3companion import curve, draw, folding, graphs, packing, page, ticks, timeline, xmltree
+from sdf3companion.analyser import Analyser
 from sdf3companion.answers import NeedCycle, Rate, Schedule, Step
 from sdf3companion.gantt import times_of
+from sdf3companion.writing import Row, graph_text
 from tests import drawn, large
+from tests.conftest import Example, GraphFile, Run
 
 SVG = "{http://www.w3.org/2000/svg}"
 RED = "#bb2222"
 needs_graphviz = pytest.mark.skipif(shutil.which("dot") is None, reason="graphviz isn't installed")
 
 
-def boxes(text):
-    return [(box.get("class"), box.find(f"{SVG}title").text) for box in ElementTree.fromstring(text).iter(f"{SVG}rect") if box.get("class")]
+def boxes(text: str) -> List[Tuple[Optional[str], Optional[str]]]:
+    return [(box.get("class"), box.findtext(f"{SVG}title")) for box in ElementTree.fromstring(text).iter(f"{SVG}rect") if box.get("class")]
 
 
-def test_time_line_of_the_ring(run, example, tmp_path):
+def test_time_line_of_the_ring(run: Run, example: Example, tmp_path: Path) -> None:
     out = tmp_path / "ring.svg"
     assert run("gantt", example("ring"), out) == (0, "", "")
     assert boxes(out.read_text()) == [("c", "x 0: 0 to 2"), ("c", "x 1: 5 to 7"), ("c", "y 0: 2 to 5"), ("f", "y 1: 7 to 10")]
     assert run("gantt", example("ring"))[1] == run("gantt", example("ring"), "-")[1] == out.read_text()
 
 
-def test_time_line_has_ticks_and_numbers(run, example):
-    texts = [part.text for part in ElementTree.fromstring(run("gantt", example("ring"))[1]).iter(f"{SVG}text")]
+def test_time_line_has_ticks_and_numbers(run: Run, example: Example) -> None:
+    texts = [part.text or "" for part in ElementTree.fromstring(run("gantt", example("ring"))[1]).iter(f"{SVG}text")]
     assert [text for text in texts if text not in "xy"] == ["0", "1", "2", "3", "4", "5", "6", "7", "8", "9", "10", "0", "1", "0", "1"]
 
 
-def test_time_line_of_a_point(run, example):
+def test_time_line_of_a_point(run: Run, example: Example) -> None:
     status, text, _ = run("gantt", example("chain"), "--no-overlap", "--point", "4", "--json")
     assert status == 0
     found = json.loads(text)
     assert (found["rate"], found["period"], len(found["firings"])) == ("1/4", 4, 6)
-    assert run("gantt", example("chain"), "--no-overlap", "--point", "5") == (1, "", "companion gantt: there are 4 points\n")
+    assert run("gantt", example("chain"), "--no-overlap", "--point", "5") == (1, "", "sdf3companion gantt: there are 4 points\n")
     assert run("gantt", example("chain"), "--point", "0")[0] == 2
 
 
 @pytest.mark.parametrize("words", [["gantt", "ring.png"], ["gantt", "ring.json"], ["gantt", "ring.svg", "--trace"], ["gantt", "ring", "--trace"],
                                    ["page", "ring.svg"], ["page", "-", "--json"], ["draw", "ring.doc"], ["gantt", "-", "--trace", "--json"]])
-def test_endings_that_nothing_writes(run, example, tmp_path, words):
-    name = words[1] if words[1] == "-" else tmp_path / words[1]
+def test_endings_that_nothing_writes(run: Run, example: Example, tmp_path: Path, words: List[str]) -> None:
+    name = words[1] if words[1] == "-" else str(tmp_path / words[1])
     status, text, error = run(words[0], example("ring"), name, *words[2:])
     assert (status, text) == (2, "")
     assert "Traceback" not in error
     assert not list(tmp_path.iterdir())
 
 
-def answer_of(analyser, path, *words):
+def answer_of(analyser: Analyser, path: str, *words: str) -> Tuple[Rate, timeline.Times]:
     graph = graphs.opened(analyser, path)
     return analyser.throughput(graph, list(words)), times_of(graph)
 
 
-def test_firings_beside_each_other_stand_in_lanes(analyser, example):
+def test_firings_beside_each_other_stand_in_lanes(analyser: Analyser, example: Example) -> None:
     answer, times = answer_of(analyser, example("chain"), "--buffers", "alpha=40,beta=20")
     found = timeline.rows_of(answer, times, timeline.until(answer, times))
     for row in found.values():
@@ -70,16 +74,16 @@ def test_firings_beside_each_other_stand_in_lanes(analyser, example):
     assert any(box.lane > 0 for row in found.values() for box in row)
 
 
-def test_trace_events(run, example, tmp_path):
+def test_trace_events(run: Run, example: Example, tmp_path: Path) -> None:
     out = tmp_path / "chain.json"
     assert run("gantt", example("chain"), out, "--trace", "--buffers", "alpha=40,beta=20") == (0, "", "")
     document = json.loads(out.read_text())
     events = document["traceEvents"]
     names = {event["tid"]: event["args"]["name"] for event in events if event["name"] == "thread_name"}
     assert {"a", "b", "c", "a, beside 1"} <= set(names.values())
-    slices = sorted((event for event in events if event["ph"] == "X"), key=lambda event: (event["tid"], event["ts"]))
-    for thread, row in groupby(slices, key=lambda event: event["tid"]):
-        found = list(row)
+    slices: List[Any] = sorted((event for event in events if event["ph"] == "X"), key=lambda event: (event["tid"], event["ts"]))
+    for thread in {event["tid"] for event in slices}:
+        found = [event for event in slices if event["tid"] == thread]
         assert all(first["ts"] + first["dur"] <= then["ts"] for first, then in zip(found, found[1:]))
         assert {event["name"].split(" ")[0] for event in found} == {names[thread].split(",")[0]}
     assert {event["dur"] for event in slices if event["name"].startswith("b ")} == {2}
@@ -90,25 +94,25 @@ def test_trace_events(run, example, tmp_path):
     assert {event["name"] for event in ends} <= {"alpha", "beta", "alpha/space", "beta/space"}
 
 
-def test_trace_of_the_ring(run, example):
+def test_trace_of_the_ring(run: Run, example: Example) -> None:
     events = json.loads(run("gantt", example("ring"), "--trace")[1])["traceEvents"]
     assert [(event["name"], event["ts"], event["dur"]) for event in events if event["ph"] == "X"] == [
         ("x 0", 0, 2), ("x 1", 5, 2), ("y 0", 2, 3), ("y 1", 7, 3)]
     assert [(event["name"], event["ts"]) for event in events if event["ph"] == "f"] == [("xy", 2), ("yx", 5)]
 
 
-def texts_of(svg):
+def texts_of(svg: str) -> Any:
     return [part.text for part in ElementTree.fromstring(svg).iter(f"{SVG}text")]
 
 
-def red_parts(svg):
+def red_parts(svg: str) -> Any:
     """The names of the parts that are red."""
     groups = [group for group in ElementTree.fromstring(svg).iter(f"{SVG}g") if group.get("class") in ("node", "edge")]
     return {group.get("id") for group in groups if any(path.get("stroke") == RED for path in group.iter(f"{SVG}path"))}
 
 
 @needs_graphviz
-def test_drawing(run, example, tmp_path):
+def test_drawing(run: Run, example: Example, tmp_path: Path) -> None:
     out = tmp_path / "chain.svg"
     status, text, _ = run("draw", example("chain"), out, "--no-overlap", "--buffers", "alpha=4,beta=2", "--json")
     assert status == 0
@@ -121,9 +125,9 @@ def test_drawing(run, example, tmp_path):
 
 
 @needs_graphviz
-def test_drawing_of_an_unbalanced_walk(run, graph_file, tmp_path):
-    path = graph_file(large.text({"a": 1, "b": 2, "c": 3, "d": 1}, [("ab", "a", 2, "b", 1, 0), ("bc", "b", 1, "c", 1, 0), ("ac", "a", 1, "c", 1, 0),
-                                                                     ("cd", "c", 1, "d", 1, 0)]))
+def test_drawing_of_an_unbalanced_walk(run: Run, graph_file: GraphFile, tmp_path: Path) -> None:
+    rows = [Row("ab", "a", 2, "b", 1), Row("bc", "b", 1, "c", 1), Row("ac", "a", 1, "c", 1), Row("cd", "c", 1, "d", 1)]
+    path = graph_file(graph_text("sdf", {"a": 1, "b": 2, "c": 3, "d": 1}, rows))
     out = tmp_path / "walk.svg"
     status, _, error = run("draw", path, out)
     assert (status, error.startswith("sdf3analysis: inconsistent: walk ")) == (5, True)
@@ -132,9 +136,9 @@ def test_drawing_of_an_unbalanced_walk(run, graph_file, tmp_path):
 
 
 @needs_graphviz
-def test_drawing_of_blocked_actors(run, graph_file, tmp_path):
-    path = graph_file(large.text({"in": 1, "FFT stage 1": 2, "out": 1}, [("left", "in", 2, "FFT stage 1", 1, 0), ("right", "FFT stage 1", 1, "out", 2, 0),
-                                                                         ("back & forth", "out", 1, "in", 1, 0)]))
+def test_drawing_of_blocked_actors(run: Run, graph_file: GraphFile, tmp_path: Path) -> None:
+    rows = [Row("left", "in", 2, "FFT stage 1", 1), Row("right", "FFT stage 1", 1, "out", 2), Row("back & forth", "out", 1, "in", 1)]
+    path = graph_file(graph_text("sdf", {"in": 1, "FFT stage 1": 2, "out": 1}, rows))
     out = tmp_path / "blocked.svg"
     status, _, error = run("draw", path, out, "--no-overlap")
     assert (status, error.startswith("sdf3analysis: deadlock: in 0 of 1 lacks back%20%26%20forth")) == (7, True)
@@ -143,19 +147,19 @@ def test_drawing_of_blocked_actors(run, graph_file, tmp_path):
 
 
 @needs_graphviz
-def test_drawing_of_a_missing_way(run, example, graph_file, tmp_path):
+def test_drawing_of_a_missing_way(run: Run, example: Example, graph_file: GraphFile, tmp_path: Path) -> None:
     out = tmp_path / "way.svg"
     status, _, error = run("draw", example("chain"), out)
     assert (status, error.splitlines()[0]) == (6, "sdf3analysis: connection: no way from b to a")
     assert {"actor/a", "actor/b"} <= red_parts(out.read_text())
     assert {"no way", "sdf3analysis: connection: no way from b to a"} <= set(texts_of(out.read_text()))
-    apart = graph_file(large.text({"a": 1, "b": 2, "c": 3}, [("ab", "a", 1, "b", 1, 0), ("ba", "b", 1, "a", 1, 1), ("cc", "c", 1, "c", 1, 1)]))
+    apart = graph_file(graph_text("sdf", {"a": 1, "b": 2, "c": 3}, [Row("ab", "a", 1, "b", 1, 0), Row("ba", "b", 1, "a", 1, 1), Row("cc", "c", 1, "c", 1, 1)]))
     assert run("draw", apart, out)[0] == 6
     assert {"actor/a", "actor/c"} <= red_parts(out.read_text())
 
 
 @needs_graphviz
-def test_what_can_not_be_drawn_leaves_what_stands(run, graph_file, tmp_path):
+def test_what_can_not_be_drawn_leaves_what_stands(run: Run, graph_file: GraphFile, tmp_path: Path) -> None:
     out = tmp_path / "out.svg"
     out.write_text("old")
     assert run("draw", graph_file("<sdf3/>", "no.xml"), out)[0] == 3
@@ -169,38 +173,38 @@ def test_what_can_not_be_drawn_leaves_what_stands(run, graph_file, tmp_path):
     ("sdf3analysis: connection: a and b are apart", {"a", "b"}, set(), ("a", "b")),
     ("sdf3analysis: budget: 1 states without a repeat", set(), set(), None),
 ])
-def test_what_a_refusal_says(line, actors, channels, missing):
+def test_what_a_refusal_says(line: str, actors: Set[str], channels: Set[str], missing: Optional[Tuple[str, str]]) -> None:
     marks = draw.of_refusal(line)
+    assert marks is not None
     assert (marks.actors, marks.channels, marks.missing, marks.refusal) == (actors, channels, missing, line)
 
 
-def test_what_a_refusal_says_not():
+def test_what_a_refusal_says_not() -> None:
     assert draw.of_refusal("sdf3analysis: form: wrong kind") is None
     assert draw.of_refusal("sdf3analysis: limit: actors above 128") is None
 
 
-def laid_out(text, between=0.5):
+def laid_out(text: str, between: float = 0.5) -> Any:
     graph = graphs.Graph(xmltree.parsed(text.encode(), "graph").root)
     source = draw.dot(graph, draw.Marks(), {}, between=between)
     done = subprocess.run(["dot", "-Tjson0"], input=source, capture_output=True, text=True, check=True)
     return graph, folding.Drawing(done.stdout)
 
 
-def box_places(folded):
+def box_places(folded: Any) -> Any:
     """By actor the corners of its box in the folded drawing."""
-    places = {}
-    for line in folded.boxes():
-        name, x, y = re.fullmatch(r'"([^"]+)" \[.*pos="([-\d.]+),([-\d.]+)"\];', line).groups()
+    places: Dict[str, Tuple[float, ...]] = {}
+    for name, x, y in (re.findall(r'"([^"]+)" \[.*pos="([-\d.]+),([-\d.]+)"\];', line)[0] for line in folded.boxes()):
         box = next(box for box in folded.drawing.boxes if box.name == name)
         places[name] = (float(x) - box.width / 2, float(y) - box.height / 2, float(x) + box.width / 2, float(y) + box.height / 2)
     return places
 
 
-def apart(one, other):
+def apart(one: Tuple[float, ...], other: Tuple[float, ...]) -> bool:
     return one[2] <= other[0] or other[2] <= one[0] or one[3] <= other[1] or other[3] <= one[1]
 
 
-def check_folding(drawing, room):
+def check_folding(drawing: folding.Drawing, room: float) -> Any:
     """Boxes stay apart and in the room; the parts of a line follow each other, from the tail to the head, in rows beside each other at the
     same height."""
     folded = folding.Folded(drawing, room)
@@ -218,7 +222,7 @@ def check_folding(drawing, room):
 
 
 @needs_graphviz
-def test_folded_drawings_of_drawn_graphs():
+def test_folded_drawings_of_drawn_graphs() -> None:
     rows = []
     for seed in range(12):
         _, drawing = laid_out(drawn.Drawn(seed, back=0.5).text())
@@ -228,7 +232,7 @@ def test_folded_drawings_of_drawn_graphs():
 
 @needs_graphviz
 @pytest.mark.parametrize("window, most", [("wide", 20), ("medium", 34), ("narrow", 60)])
-def test_a_hundred_actors_fold_into_rows(window, most):
+def test_a_hundred_actors_fold_into_rows(window: str, most: float) -> None:
     room, between = page.ROOMS[window]
     graph, drawing = laid_out(large.hundred_actors(), between)
     assert len(graph.actors) == 100
@@ -236,17 +240,17 @@ def test_a_hundred_actors_fold_into_rows(window, most):
     assert 5 < check_folding(drawing, room) < most
 
 
-def test_lists_and_names_have_room():
+def test_lists_and_names_have_room() -> None:
     assert [draw.listed(values) for values in ([3], [1, 2], [1, 1], [4] * 9 + [2])] == ["3", "1,2", "1,1", "9*4,2"]
     assert draw.listed(list(range(10, 60))).endswith(",\N{HORIZONTAL ELLIPSIS} of 50")
     assert len(draw.shortened("\N{GRINNING FACE}" * 128)) <= draw.LETTERS
 
 
-def unpacked(items):
+def unpacked(items: Iterable[Any]) -> Any:
     return [one for item in items for one in (item[1:] * item[0] if isinstance(item, list) else [item])]
 
 
-def test_packed_lists_are_what_they_were():
+def test_packed_lists_are_what_they_were() -> None:
     draws = random.Random(1)
     for _ in range(300):
         items = [draws.choice([1, 1, 2, 3]) for _ in range(draws.randint(0, 40))] * draws.randint(1, 3)
@@ -255,7 +259,7 @@ def test_packed_lists_are_what_they_were():
     assert packing.packed([1, 2] * 500) == [[500, 1, 2]]
 
 
-def test_schedules_are_packed_as_they_are(analyser, example):
+def test_schedules_are_packed_as_they_are(analyser: Analyser, example: Example) -> None:
     answer, times = answer_of(analyser, example("chain"), "--no-overlap", "--buffers", "alpha=7,beta=3")
     assert packing.unit_of(times.values(), [answer]) == 1
     found = packing.Packer(list(times), 1, 1000).document(answer)
@@ -265,11 +269,11 @@ def test_schedules_are_packed_as_they_are(analyser, example):
     assert all(sums(unpacked(line)) == whole[:len(unpacked(line))] for line, whole in zip(cut["starts"], answer.schedule.starts.values()))
 
 
-def sums(items):
+def sums(items: List[Any]) -> Any:
     return [sum(items[:at + 1]) for at in range(len(items))]
 
 
-def test_fractions_of_time_become_whole():
+def test_fractions_of_time_become_whole() -> None:
     schedule = Schedule(Fraction(7, 2), 1, {"a": [0, Fraction(2, 3)]})
     answer = Rate(Fraction(2, 7), schedule, NeedCycle(Fraction(7, 2), 1, [Step("a", 0), Step("a", 2, "a/self")]))
     assert packing.unit_of([[Fraction(1, 4)]], [answer]) == 12
@@ -279,11 +283,11 @@ def test_fractions_of_time_become_whole():
 
 @pytest.mark.parametrize("low, high, most, found", [(0, 10, 5, [0, 2, 4, 6, 8, 10]), (0, 0.25, 5, [0, 0.05, 0.1, 0.15, 0.2, 0.25]), (6, 6, 1, [6]),
                                                     (4753, 4821, 7, list(range(4760, 4821, 10)))])
-def test_ticks(low, high, most, found):
+def test_ticks(low: float, high: float, most: int, found: List[float]) -> None:
     assert ticks.ticks(low, high, most) == pytest.approx(found)
 
 
-def test_curve_has_its_points():
+def test_curve_has_its_points() -> None:
     svg = ElementTree.fromstring(curve.svg([(6, Fraction(1, 7)), (10, Fraction(1, 4))]))
     assert [title.text for title in svg.iter(f"{SVG}title")] == ["storage 6, rate 1/7 (0.142857)", "storage 10, rate 1/4 (0.25)"]
     assert {"6", "10", "0.1", "storage"} <= {text.text for text in svg.iter(f"{SVG}text")}

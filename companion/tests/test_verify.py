@@ -1,14 +1,17 @@
 """The second checker and the analyser's `check` say the same of each worked certificate."""
+from pathlib import Path
+from typing import Any, Iterator
+
 import pytest
 
 from sdf3companion import verify
-from tests.worked_cases import cases
+from tests.worked_cases import Case, cases
 
 GRAPH, CERTIFICATE = 3, 5
 WORDS = ["--algo", "check", "--graph", None, "--certificate", None]
 
 
-def judged():
+def judged() -> Iterator[Any]:
     """The cases in which `check` has both files and comes to a verdict on the certificate, each with its line."""
     for case, shown in cases():
         same = len(case.words) == len(WORDS) and all(want in (None, word) for want, word in zip(WORDS, case.words))
@@ -19,7 +22,7 @@ def judged():
 
 
 @pytest.mark.parametrize("case, line", judged())
-def test_the_verdict_is_that_of_check(case, line, tmp_path):
+def test_the_verdict_is_that_of_check(case: Case, line: str, tmp_path: Path) -> None:
     names = [case.words[GRAPH], case.words[CERTIFICATE]]
     for name in names:
         (tmp_path / name).write_text(str(case.files[name]), encoding="latin-1", newline="")
@@ -30,11 +33,11 @@ def test_the_verdict_is_that_of_check(case, line, tmp_path):
     assert said == line
 
 
-def test_there_are_many():
+def test_there_are_many() -> None:
     assert len(list(judged())) >= 250
 
 
-def test_a_number_of_any_length_is_too_large(tmp_path):
+def test_a_number_of_any_length_is_too_large(tmp_path: Path) -> None:
     certificate = tmp_path / "certificate"
     certificate.write_text(f"sdf3-certificate 2\nscenario\nrate 1/{'9' * 5000}\n", encoding="latin-1", newline="")
     with pytest.raises(verify.Refused) as refused:

@@ -13,7 +13,7 @@ The other companions take such a file as it is, and adapt it in memory; this one
 Standard output has the words by which other commands are given what the file says about itself: `--buffers ..` for its
 buffer sizes, `--rate ..` for its throughput constraint. Changes are told on standard error.
 
-  companion adapt published.xml graph.xml
+  sdf3companion adapt published.xml graph.xml
 """
 from __future__ import annotations
 

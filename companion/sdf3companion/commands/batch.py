@@ -11,8 +11,8 @@ refusal, which has none, is asked again on this machine. A row that doesn't coun
 
 Exit status 0 where all rows count, also refusals, 1 where some don't, and 10 where a file can't be read.
 
-  companion batch --no-overlap --output rates.csv --jobs 4 -- graphs/*.xml
-  companion batch --scheduler tcp://head:8786 --output rates.csv -- graphs/*.xml
+  sdf3companion batch --no-overlap --output rates.csv --jobs 4 -- graphs/*.xml
+  sdf3companion batch --scheduler tcp://head:8786 --output rates.csv -- graphs/*.xml
 """
 from __future__ import annotations
 

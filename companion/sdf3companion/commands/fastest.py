@@ -8,7 +8,7 @@ Printed are the rate in rounds of the whole graph, the actors of the part that h
 one of the whole, and its need cycle in firings of the part alone. `fastest unbounded` means that nothing holds the graph
 back: no actor waits for itself or for another. Most graphs want --no-overlap.
 
-  companion fastest examples/chain.xml --no-overlap
+  sdf3companion fastest examples/chain.xml --no-overlap
 """
 from __future__ import annotations
 
@@ -33,7 +33,7 @@ def run(asked: argparse.Namespace) -> int:
         print("fastest unbounded")
     else:
         print(f"fastest {words.fraction(best.rate)}")
-        print(f"part {' '.join(best.actors)}")
+        print(f"part {', '.join(best.actors)}")
         print(f"rounds {best.share}")
         print("\n".join(best.answer.cycle.lines()))
     return 0

@@ -7,8 +7,8 @@ digits is written `~0.142857`: it is confirmed where the true rate, rounded to t
 
 Exit status 0 confirms a claim and 1 refutes it.
 
-  companion referee examples/ring.xml --claim 1/5
-  companion referee examples/chain.xml --no-overlap --buffers alpha=4,beta=2 --claim ~0.1429 --certificate chain.certificate
+  sdf3companion referee examples/ring.xml --claim 1/5
+  sdf3companion referee examples/chain.xml --no-overlap --buffers alpha=4,beta=2 --claim ~0.1429 --certificate chain.certificate
 """
 from __future__ import annotations
 

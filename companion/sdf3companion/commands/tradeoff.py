@@ -2,15 +2,16 @@
 
 The analyser is asked with the greatest limit, where it ends by itself with the fastest point. If that takes more than a
 moment, it is asked with one limit after another, each further from the least storage, until the last point has the rate of
-`companion fastest`, which no buffers pass. Each point is printed as soon as it is final, since what `storage` prints within
+`sdf3companion fastest`, which no buffers pass. Each point is printed as soon as it is final, since what `storage` prints within
 a limit stands in every greater one. Standard error says up to which storage no point is missing. An interrupt, or a limit
 of time, keeps what was found.
 
-A line has the storage, the rate, and the buffers that reach it. Most graphs want --no-overlap. A graph that nothing holds
+A line has the storage, the rate, and the buffers that reach it, with names as they are; --csv has names as the analyser
+reads them. Most graphs want --no-overlap. A graph that nothing holds
 back has no last point: give it --rate or --seconds.
 
-  companion tradeoff examples/h263_decoder.xml --no-overlap
-  companion tradeoff examples/modem.xml --no-overlap --rate 1/30
+  sdf3companion tradeoff examples/h263_decoder.xml --no-overlap
+  sdf3companion tradeoff examples/modem.xml --no-overlap --rate 1/30
 """
 from __future__ import annotations
 
@@ -21,6 +22,7 @@ from typing import Any, Callable, Dict, List
 
 from sdf3companion import output, words
 from sdf3companion.analyser import Point
+from sdf3companion.answers import buffers_for_people
 from sdf3companion.asking import asked_graph
 from sdf3companion.faults import NO, USAGE, Fault
 from sdf3companion.search import DISTRIBUTIONS, Search, Show
@@ -42,7 +44,7 @@ def printer(asked: argparse.Namespace) -> Show:
     def show(points: List[Point]) -> None:
         output.progress("")
         for point in points:
-            row([point.storage, words.fraction(point.rate), point.buffers])
+            row([point.storage, words.fraction(point.rate), point.buffers if asked.csv else buffers_for_people(point.capacities())])
         sys.stdout.flush()
 
     if asked.json:

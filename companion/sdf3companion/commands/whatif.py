@@ -2,12 +2,12 @@
 
 Each actor's time in turn is divided by the factor, exactly (all others are multiplied where that keeps numbers whole), and
 each buffer that is given by --buffers is made one step larger, which is the least that may gain something: the greatest
-common divisor of its channel's rates. The rates are those of `companion fastest`, so a graph that nothing holds together
+common divisor of its channel's rates. The rates are those of `sdf3companion fastest`, so a graph that nothing holds together
 is answered too. A row has the actor or channel, what it has now and would have, the rate, and the gain; the largest gain
-comes first. Where nothing gains, several things hold the graph up at once: look at the need cycle, by `companion gantt`.
+comes first. Where nothing gains, several things hold the graph up at once: look at the need cycle, by `sdf3companion gantt`.
 
-  companion whatif examples/modem.xml --no-overlap
-  companion whatif examples/chain.xml --no-overlap --buffers alpha=4,beta=2
+  sdf3companion whatif examples/modem.xml --no-overlap
+  sdf3companion whatif examples/chain.xml --no-overlap --buffers alpha=4,beta=2
 """
 from __future__ import annotations
 
