@@ -14,6 +14,7 @@ use Rattle.storage.specs.StorageOrder.{stepped}
 use Rattle.storage.proofs.Climbs.{HasSteps, storage-le}
 use Rattle.storage.proofs.Covers.{covered-by}
 use Rattle.storage.proofs.FrontsFromMembers.{front-from, no_less, same-storage, positive-on}
+use Rattle.levels.specs.Entrances.{EnterByLevels}
 use Rattle.levels.specs.Visits.{led_by, visited, visits_of}
 use Rattle.levels.proofs.Visited.{has-entry}
 use Rattle.bounded_scenarios.specs.SharedChannels.{shared_channels}
@@ -21,6 +22,7 @@ use Rattle.bounded_scenarios.specs.StorageRates.{HasWorstRate}
 use Rattle.bounded_scenarios.specs.ScenarioGuides.{IsReachable}
 use Rattle.scenario_storage.specs.declared.point.ScenarioLimits.{ScenarioLimits}
 use Rattle.scenario_storage.specs.declared.point.ScenarioPoint.{ScenarioPoint}
+use Rattle.scenario_storage.specs.Entrances.{AreEntered}
 use Rattle.scenario_storage.specs.ScenarioPoints.{AreScenarioPoints, IsPoint, ReachesPoint, pair_of}
 use Rattle.scenario_storage.specs.inside.Points.{AreRising, IsBelow}
 use Rattle.scenario_storage.specs.inside.Searches.{Covers, HasTop, IsEnded, IsNoted}
@@ -222,4 +224,18 @@ module _ (file : ScenarioFile) (limits : ScenarioLimits) (can : IsSearchable fil
   points-are = record {
     front = front;
     reached = λ k d below. point-is (slice_index_or ps k d) (Contains-get_or ps k d below);
+  }
+
+  -- the distributions of the entries entered, if they did so by levels
+  pub are-entered : (entered : ℕ → ℕ → Type 0) → EnterByLevels (shared_channels file) entered (visited (visits_of ended.entries)) → AreEntered file limits entered ps
+  are-entered entered each = record {
+    entries = ended.entries;
+    storage = ended.storage;
+    within = ended.low;
+    closed = closed;
+    order = ended.visits.order;
+    each = each;
+    listed = λ p one.
+        let of = ended.known.among p one in
+        subst (HasEntry ended.entries) of.2.capacities (has-entry ended.entries of.0.capacities (entry-visited ended.entries of.0 of.1));
   }

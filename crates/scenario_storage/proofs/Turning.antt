@@ -1,8 +1,8 @@
 -- A level is taken off those that wait, and each of its answers is taken in.
-use Rattle.std.proofs.Common.{◌≡◌, ℕ, ◌+◌, ◌-◌, ◌≤◌, ◌<◌, ◌⊎◌, true, false, Option, None, Some, List, [], ◌∷◌, ◌++◌, drop, length, map, ⊎_elim, sym, ap, ◌∙◌, subst, arith, inl, inr}
+use Rattle.std.proofs.Common.{◌≡◌, ℕ, ◌+◌, ◌-◌, ◌≤◌, ◌<◌, ◌⊎◌, true, false, Option, None, Some, List, [], ◌∷◌, ◌++◌, append_assoc, drop, length, map, ⊎_elim, refl, sym, ap, ◌∙◌, subst, arith, inl, inr}
 use Rattle.std.specs.Prelude.{All, Contains, MatchOption, slice_index_or}
 use Rattle.std.proofs.lemmas.Bool.{true≢false}
-use Rattle.std.proofs.lemmas.List.{drop_more, length-append, length-map}
+use Rattle.std.proofs.lemmas.List.{append-nil, drop_more, length-append, length-map, map-append}
 use Rattle.std.proofs.lemmas.List.Elements.{All-contains, All-map, Contains-append_left, Contains-append_right, Contains-get_or}
 use Rattle.sd_base.specs.declared.numbers.Fraction.{Fraction}
 use Rattle.sd_base.specs.declared.tables.ScenarioFile.{ScenarioFile}
@@ -36,7 +36,7 @@ use Rattle.scenario_storage.specs.ScenarioPoints.{IsRefusal}
 use Rattle.scenario_storage.specs.inside.Errors.{error_of}
 use Rattle.scenario_storage.specs.inside.Levels.{IsRatingAnswer, IsRated, IsWithin}
 use Rattle.scenario_storage.specs.inside.Points.{IsBestOf}
-use Rattle.scenario_storage.specs.inside.Searches.{AreKnown, HasTop, IsAnswerOf, IsBest, IsCandidate, IsEnded, IsOffered, IsSearch, IsStanding, IsTurn, ShowsNone, answered_of, entry_of, taken_off}
+use Rattle.scenario_storage.specs.inside.Searches.{AreKnown, HasTop, IsAnswerOf, IsBest, IsCandidate, IsEndedWith, IsOffered, IsSearch, IsSearchOf, IsStanding, IsTurn, IsTurnAfter, ShowsNone, answered_of, entry_of, taken_off}
 use Rattle.scenario_storage.proofs.Knowing.{noted-more}
 use Rattle.scenario_storage.proofs.Searchable.{IsSearchable}
 use Rattle.scenario_storage.proofs.Stepping.{capped-place, entry-visited, guided-rises, led-candidate}
@@ -110,9 +110,15 @@ module _ (file : ScenarioFile) (limits : ScenarioLimits) (can : IsSearchable fil
       (omega (arith, waits.total, here), omega (arith, waits.above, here))
 
   pub turn-of : IsTurn file limits level new
+  unfolding turned
   turn-of = record {
     search = turned;
     totals = λ k d below. (total-of (slice_index_or level.visits.items k d) (Contains-get_or level.visits.items k d below)).0;
+    low = λ k d below.
+        let done : List (List (Option ℕ)) = visited (visits_of search.entries) in
+        let one = All-contains (λ (ds : List (Option ℕ)). storage_of (shared_channels file) ds < floor) (done ++ []) (slice_index_or done k d) search.frontier.spread.low
+        (Contains-append_left done [] (slice_index_or done k d) (Contains-get_or done k d below)) in
+        omega (arith, one, first level.visits.items off.some (λ f here. here));
     before = λ p one. let low = point-low file limits can floor [] old search p (subst (λ (ps : List ScenarioPoint). Contains ps p) same-points one) in omega
         (arith, low, first level.visits.items off.some (λ f here. here));
     within = level-within level.visits.items off.some (λ f here. here);
@@ -133,6 +139,10 @@ module _ (file : ScenarioFile) (limits : ScenarioLimits) (can : IsSearchable fil
           let here : f.total ≡ level.total = All-contains (λ (x : Found Unit). x.total ≡ level.total) level.visits.items f off.totals one in
           omega (arith, waits.within, here, search-limit file limits can floor [] old search)
 
+  pub turn-after : (all : List (List (Option ℕ))) → visited (visits_of search.entries) ++ [] ≡ all → IsTurnAfter file limits all level new
+  unfolding turned turn-of
+  turn-after all whole = (turn-of, sym (append-nil (visited (visits_of search.entries))) ∙ whole)
+
   -- more are taken off
   pub off-more : taken_off old < taken_off new
   unfolding turned
@@ -144,31 +154,38 @@ module _ (file : ScenarioFile) (limits : ScenarioLimits) (can : IsSearchable fil
 
 -- none waits any more
 pub ended-of : (file : ScenarioFile) (limits : ScenarioLimits) (can : IsSearchable file limits.total) (floor : ℕ) (s : Search) (search : IsSearch file limits floor [] s) →
-    AreVisits (shared_channels file) search.corner s.levels.bounds.total (visits_of search.entries) → IsEnded file limits s.points.items
-ended-of file limits can floor s search visits = record {
-  entries = search.entries;
-  known = search.known;
-  corner = search.corner;
-  is_corner = search.is_corner;
-  storage = limits.total;
-  low = omega (arith);
-  visits = subst (λ (n : ℕ). AreVisits (shared_channels file) search.corner n (visits_of search.entries)) (search-limit file limits can floor [] s search) visits;
-  rest = inl (omega (arith));
-}
+    AreVisits (shared_channels file) search.corner s.levels.bounds.total (visits_of search.entries) →
+    (all : List (List (Option ℕ))) → visited (visits_of search.entries) ++ [] ≡ all → IsEndedWith file limits all s.points.items
+ended-of file limits can floor s search visits all whole = (
+  record {
+    entries = search.entries;
+    known = search.known;
+    corner = search.corner;
+    is_corner = search.is_corner;
+    storage = limits.total;
+    low = omega (arith);
+    visits = subst (λ (n : ℕ). AreVisits (shared_channels file) search.corner n (visits_of search.entries)) (search-limit file limits can floor [] s search) visits;
+    rest = inl (omega (arith));
+  },
+  sym (append-nil (visited (visits_of search.entries))) ∙ whole,
+)
 
 -- or no rate is greater than one that was met
-pub topped-of : (file : ScenarioFile) (limits : ScenarioLimits) (can : IsSearchable file limits.total) (total : ℕ) (s : Search) → IsSearch file limits (total + 1) [] s →
-    total ≤ limits.total → s.topped ≡ true → IsEnded file limits s.points.items
-topped-of file limits can total s search low is = record {
-  entries = search.entries;
-  known = search.known;
-  corner = search.corner;
-  is_corner = search.is_corner;
-  storage = total;
-  low = low;
-  visits = frontier-up_to (shared_channels file) search.corner total (visits_of search.entries) s.levels search.frontier (omega (arith, low, search-limit file limits can (total + 1) [] s search));
-  rest = inr (search.top is);
-}
+pub topped-of : (file : ScenarioFile) (limits : ScenarioLimits) (can : IsSearchable file limits.total) (total : ℕ) (s : Search) (all : List (List (Option ℕ))) → IsSearchOf file limits (total + 1) all [] s →
+    total ≤ limits.total → s.topped ≡ true → IsEndedWith file limits all s.points.items
+topped-of file limits can total s all (search, whole) low is = (
+  record {
+    entries = search.entries;
+    known = search.known;
+    corner = search.corner;
+    is_corner = search.is_corner;
+    storage = total;
+    low = low;
+    visits = frontier-up_to (shared_channels file) search.corner total (visits_of search.entries) s.levels search.frontier (omega (arith, low, search-limit file limits can (total + 1) [] s search));
+    rest = inr (search.top is);
+  },
+  sym (append-nil (visited (visits_of search.entries))) ∙ whole,
+)
 
 -- what was rated is to be taken in
 module _ (file : ScenarioFile) (limits : ScenarioLimits) (can : IsSearchable file limits.total) (total : ℕ) (ds : List (Option ℕ)) (r : Rated) (best : Fraction)
@@ -222,6 +239,18 @@ module _ (file : ScenarioFile) (limits : ScenarioLimits) (can : IsSearchable fil
     frontier = subst (λ (vs : List Visit). IsFrontier (shared_channels file) search.corner (total + 1) vs rest new.levels) (sym visits-with) frontier;
     top = λ h. ⊎_elim top-before top-here (tops h);
   }
+
+  pub taken-in-of : (new : Search) (points : List ScenarioPoint) → new.points.items ≡ points → IsSame old.levels new.levels →
+      IsFrontier (shared_channels file) search.corner (total + 1) (visits_of search.entries ++ led_by ds r.enlarge ∷ []) rest new.levels →
+      AreKnown file limits.total (search.entries ++ entry_of ds r ∷ []) points → (new.topped ≡ true → (old.topped ≡ true) ⊎ ShowsNone r) →
+      (all : List (List (Option ℕ))) → visited (visits_of search.entries) ++ ds ∷ rest ≡ all → IsSearchOf file limits (total + 1) all rest new
+  unfolding taken-in
+  taken-in-of new points is same frontier known tops all whole =
+      let more : visited (visits_of (search.entries ++ entry_of ds r ∷ [])) ≡ visited (visits_of search.entries) ++ ds ∷ [] =
+      ap visited visits-with ∙ map-append (λ (v : Visit). v.capacities) (visits_of search.entries) (led_by ds r.enlarge ∷ []) in (
+        taken-in new points is same frontier known tops,
+        ap (λ (dss : List (List (Option ℕ))). dss ++ rest) more ∙ (append_assoc (visited (visits_of search.entries)) (ds ∷ []) rest ∙ whole),
+      )
 
   pub off-same : (levels : Levels Unit) → IsFrontier (shared_channels file) search.corner (total + 1) (visits_of search.entries ++ led_by ds r.enlarge ∷ []) rest levels →
       levels.found - length levels.waiting.keys ≡ taken_off old
@@ -297,10 +326,10 @@ IsNextFrontier old new found = (cs : List Channel) (start : List (Option ℕ)) (
 
 module _ (file : ScenarioFile) (limits : ScenarioLimits) (can : IsSearchable file limits.total) (floor : ℕ) (old new : Search)
     (search : IsSearch file limits floor [] old) (points : new.points ≡ old.points) (tops : new.topped ≡ old.topped) (same : IsSame old.levels new.levels) where
-  pub next-turn : (found : Option (Level Unit)) → IsNextLevel old new found → IsNextFrontier old new found →
-      MatchOption found (IsEnded file limits old.points.items) (λ (level : Level Unit). IsTurn file limits level new)
-  next-turn None off frontier = ended-of file limits can floor old search (frontier (shared_channels file) search.corner floor (visits_of search.entries) search.frontier)
-  next-turn (Some level) off frontier = turn-of file limits can floor old new search points tops level off same (frontier (shared_channels file) search.corner floor (visits_of search.entries) search.frontier)
+  pub next-turn : (found : Option (Level Unit)) → IsNextLevel old new found → IsNextFrontier old new found → (all : List (List (Option ℕ))) → visited (visits_of search.entries) ++ [] ≡ all →
+      MatchOption found (IsEndedWith file limits all old.points.items) (λ (level : Level Unit). IsTurnAfter file limits all level new)
+  next-turn None off frontier all whole = ended-of file limits can floor old search (frontier (shared_channels file) search.corner floor (visits_of search.entries) search.frontier) all whole
+  next-turn (Some level) off frontier all whole = turn-after file limits can floor old new search points tops level off same (frontier (shared_channels file) search.corner floor (visits_of search.entries) search.frontier) all whole
 
   pub next-more : (found : Option (Level Unit)) → IsNextLevel old new found → IsNextFrontier old new found → MatchOption found Unit (λ (level : Level Unit). taken_off old < taken_off new)
   next-more None off frontier = tt
@@ -309,21 +338,24 @@ module _ (file : ScenarioFile) (limits : ScenarioLimits) (can : IsSearchable fil
 -- the corner waits
 pub begun : (file : ScenarioFile) (limits : ScenarioLimits) (corner : List (Option ℕ)) (s : Search) → IsCorner (shared_channels file) corner → s.points.items ≡ [] →
     s.levels.bounds ≡ record { total = limits.total; distributions = limits.distributions } → IsFrontier (shared_channels file) corner 0 [] [] s.levels →
-    s.topped ≡ false → IsStanding file limits s
+    s.topped ≡ false → IsStanding file limits [] s
 begun file limits corner s is points bounds frontier none = (
   0,
-  record {
-    entries = [];
-    known = subst (AreKnown file limits.total []) (sym points) (record {
-      noted = λ e one. absurd (contains-none e one);
-      rising = λ i j d less below. absurd (omega (arith, below));
-      among = λ p one. absurd (contains-none p one);
-      covers = λ e one. absurd (contains-none e one);
-    });
-    corner = corner;
-    is_corner = is;
-    bounds = bounds;
-    frontier = frontier;
-    top = λ h. absurd (true≢false (sym h ∙ none));
-  },
+  (
+    record {
+      entries = [];
+      known = subst (AreKnown file limits.total []) (sym points) (record {
+        noted = λ e one. absurd (contains-none e one);
+        rising = λ i j d less below. absurd (omega (arith, below));
+        among = λ p one. absurd (contains-none p one);
+        covers = λ e one. absurd (contains-none e one);
+      });
+      corner = corner;
+      is_corner = is;
+      bounds = bounds;
+      frontier = frontier;
+      top = λ h. absurd (true≢false (sym h ∙ none));
+    },
+    refl,
+  ),
 )

@@ -1,2 +1,3 @@
 pub mod ScenarioPoints
+pub mod Entrances
 pub mod inside

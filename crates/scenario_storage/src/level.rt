@@ -1,5 +1,6 @@
 //! How the distributions of a level are evaluated.
 ghost use Rattle.std.specs.Prelude.{◌≡◌, ◌≤◌, [], All, IfOk, map, reverse, vec_capacity, vec_len};
+ghost use Rattle.fanout.specs.JobRuns.{EachEntered};
 ghost use Rattle.scenario_storage.specs.inside.Levels.{IsRatingAnswer, IsAnswered, IsFresh, IsPlan, IsWithin};
 
 use crate::plan::Plan;
@@ -30,6 +31,7 @@ pub(crate) fn run_level<R: Threads + Sync, G: Gate + Sync>(
     requires fits { All (λ f. IsWithin plan.now.file.now plan.now.limits.total f.capacities.capacities) level.visits.items }
     ensures answers { IfOk result (λ v. All (λ a. IsRatingAnswer plan.now.file.now plan.now.limits best a.capacities.capacities a.answer) v.items) }
     ensures order { IfOk result (λ v. map (λ a. a.capacities) v.items ≡ map (λ f. f.capacities) level.visits.items) }
+    ensures entered { IfOk result (λ v. EachEntered (G.entered gate.now level.total) v.items) }
 {
     let Level { total, visits } = level;
     let mut answers = Vec::with_capacity(plan.alloc, visits.len())?;

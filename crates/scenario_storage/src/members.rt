@@ -9,7 +9,7 @@ ghost use Rattle.bounded_scenarios.specs.ScenarioGuides.{IsReachable};
 ghost use Rattle.scenario_storage.specs.declared.point.ScenarioLimits.{ScenarioLimits as SomeLimits};
 ghost use Rattle.scenario_storage.specs.ScenarioPoints.{IsRefusal};
 ghost use Rattle.scenario_storage.specs.inside.Levels.{IsPlan, IsRateRefusal, IsRated};
-ghost use Rattle.scenario_storage.specs.inside.Searches.{AreKnown, IsAnswerOf, IsBest, IsOffered, IsPointWith, IsSearch, KeepsEarlier, ShowsNone, answered_of, entry_of, taken_off};
+ghost use Rattle.scenario_storage.specs.inside.Searches.{AreKnown, IsAnswerOf, IsBest, IsOffered, IsPointWith, IsSearch, IsSearchOf, KeepsEarlier, ShowsNone, answered_of, entry_of, taken_off};
 
 use crate::error::ScenarioStorageError;
 use crate::level::Answered;
@@ -31,7 +31,8 @@ pub(crate) fn take_in_all(
     requires plan { IsPlan plan.now.file.now plan.now.gammas.now plan.now.limits }
     requires answers { (best : AFraction) × IsBest best total search.old.points.items × All (IsAnswerOf plan.now.file.now plan.now.limits total best) answers.items }
     requires search { IsSearch plan.now.file.now plan.now.limits (total + 1) (answered_of answers.items) search.old }
-    ensures search { OnOk result (IsSearch plan.now.file.now plan.now.limits (total + 1) [] search.new) }
+    ensures search { OnOk result ((all : List (List (Option ℕ))) → IsSearchOf plan.now.file.now plan.now.limits (total + 1) all (answered_of answers.items) search.old →
+        IsSearchOf plan.now.file.now plan.now.limits (total + 1) all [] search.new) }
     ensures off { OnOk result (taken_off search.new ≡ taken_off search.old) }
     ensures refused { IfErr result (IsRefusal plan.now.file.now plan.now.limits) }
 {
@@ -51,8 +52,8 @@ fn take_answer(
     requires plan { IsPlan plan.now.file.now plan.now.gammas.now plan.now.limits }
     requires answer { (best : AFraction) × IsBest best total search.old.points.items × IsAnswerOf plan.now.file.now plan.now.limits total best answered }
     requires search { (rest : List (List (Option ℕ))) × IsSearch plan.now.file.now plan.now.limits (total + 1) (answered.capacities.capacities ∷ rest) search.old }
-    ensures search { OnOk result ((rest : List (List (Option ℕ))) → IsSearch plan.now.file.now plan.now.limits (total + 1) (answered.capacities.capacities ∷ rest) search.old →
-        IsSearch plan.now.file.now plan.now.limits (total + 1) rest search.new) }
+    ensures search { OnOk result ((rest all : List (List (Option ℕ))) → IsSearchOf plan.now.file.now plan.now.limits (total + 1) all (answered.capacities.capacities ∷ rest) search.old →
+        IsSearchOf plan.now.file.now plan.now.limits (total + 1) all rest search.new) }
     ensures keeps { OnOk result (KeepsEarlier total search.old.points.items search.new.points.items) }
     ensures off { OnOk result (taken_off search.new ≡ taken_off search.old) }
     ensures refused { IfErr result (IsRefusal plan.now.file.now plan.now.limits) }
@@ -89,8 +90,8 @@ fn take_in(
     requires rated { (best : AFraction) × IsBest best total search.old.points.items × IsRated plan.now.file.now plan.now.limits.total best capacities.capacities rated }
     requires total { storage_of (shared_channels plan.now.file.now) capacities.capacities ≡ total }
     requires search { (rest : List (List (Option ℕ))) × IsSearch plan.now.file.now plan.now.limits (total + 1) (capacities.capacities ∷ rest) search.old }
-    ensures search { OnOk result ((rest : List (List (Option ℕ))) → IsSearch plan.now.file.now plan.now.limits (total + 1) (capacities.capacities ∷ rest) search.old →
-        IsSearch plan.now.file.now plan.now.limits (total + 1) rest search.new) }
+    ensures search { OnOk result ((rest all : List (List (Option ℕ))) → IsSearchOf plan.now.file.now plan.now.limits (total + 1) all (capacities.capacities ∷ rest) search.old →
+        IsSearchOf plan.now.file.now plan.now.limits (total + 1) all rest search.new) }
     ensures keeps { OnOk result (KeepsEarlier total search.old.points.items search.new.points.items) }
     ensures off { OnOk result (taken_off search.new ≡ taken_off search.old) }
     ensures refused { IfErr result (IsRefusal plan.now.file.now plan.now.limits) }

@@ -1,4 +1,4 @@
-ghost use Rattle.std.specs.Prelude.{◌≡◌, ◌+◌, ◌≤◌, ◌<◌, ℕ, [], IfErr, IfOk, List, MatchOption, OnOk};
+ghost use Rattle.std.specs.Prelude.{◌≡◌, ◌+◌, ◌≤◌, ◌<◌, ◌++◌, ℕ, [], IfErr, IfOk, List, MatchOption, OnOk, Option};
 ghost use Rattle.sd_base.specs.declared.limits.TheConstants.{DISTRIBUTIONS, LEAST_DISTRIBUTIONS, STORAGE};
 ghost use Rattle.sd_base.specs.Scenarios.{FileKeepsRules};
 ghost use Rattle.sd_base.specs.Tables.{KeepsRules};
@@ -8,10 +8,13 @@ ghost use Rattle.storage.specs.Distributions.{storage_of};
 ghost use Rattle.storage.specs.Steps.{IsCorner};
 ghost use Rattle.bounded_scenarios.specs.Boundings.{CanBeBounded};
 ghost use Rattle.bounded_scenarios.specs.SharedChannels.{shared_channels};
+ghost use Rattle.levels.specs.Entrances.{EnterByLevels};
+ghost use Rattle.levels.specs.Frontiers.{distributions_of};
+ghost use Rattle.scenario_storage.specs.Entrances.{AreEntered};
 ghost use Rattle.scenario_storage.specs.ScenarioPoints.{AreScenarioPoints, IsRefusal};
 ghost use Rattle.scenario_storage.specs.inside.Levels.{AreRounds, HaveRounds, IsPlan};
 ghost use Rattle.scenario_storage.specs.inside.Points.{IsBestOf};
-ghost use Rattle.scenario_storage.specs.inside.Searches.{IsEnded, IsSearch, IsStanding, IsTurn, taken_off};
+ghost use Rattle.scenario_storage.specs.inside.Searches.{IsEndedWith, IsSearchOf, IsStanding, IsTurn, IsTurnAfter, taken_off};
 
 use crate::error::ScenarioStorageError;
 use crate::level::run_level;
@@ -55,6 +58,7 @@ pub fn scenario_points<R: Threads + Sync, G: Gate + Sync>(
     requires few { limits.distributions ≤ DISTRIBUTIONS }
     requires total { limits.total ≤ STORAGE }
     ensures points { IfOk result (λ v. AreScenarioPoints file.now limits v.items) }
+    ensures entered { IfOk result (λ v. AreEntered file.now limits (G.entered gate.now) v.items) }
     ensures refused { IfErr result (IsRefusal file.now limits) }
 {
     let gammas = gammas_of(alloc, file)?;
@@ -117,7 +121,7 @@ fn begin(plan: &Plan, corner: Distribution, total: u64) -> Result<Search, NoMemo
     requires some { 1 ≤ plan.now.limits.distributions }
     requires corner { IsCorner (shared_channels plan.now.file.now) corner.capacities }
     requires total { total ≡ storage_of (shared_channels plan.now.file.now) corner.capacities }
-    ensures { IfOk result (IsStanding plan.now.file.now plan.now.limits) }
+    ensures { IfOk result (IsStanding plan.now.file.now plan.now.limits []) }
 {
     let bounds = Bounds {
         total: plan.limits.total,
@@ -139,8 +143,8 @@ fn take_turns<R: Threads + Sync, G: Gate + Sync>(
     search: &mut Search,
 ) -> Result<(), ScenarioStorageError>
     requires plan { IsPlan plan.now.file.now plan.now.gammas.now plan.now.limits }
-    requires stands { IsStanding plan.now.file.now plan.now.limits search.old }
-    ensures ended { OnOk result (IsEnded plan.now.file.now plan.now.limits search.new.points.items) }
+    requires stands { IsStanding plan.now.file.now plan.now.limits [] search.old }
+    ensures ended { OnOk result ((all : List (List (Option ℕ))) × IsEndedWith plan.now.file.now plan.now.limits all search.new.points.items × EnterByLevels (shared_channels plan.now.file.now) (G.entered gate.now) all) }
     ensures refused { IfErr result (IsRefusal plan.now.file.now plan.now.limits) }
 {
     while let Some(level) = next_level(plan, search)? {
@@ -156,9 +160,9 @@ fn take_turns<R: Threads + Sync, G: Gate + Sync>(
 /// Takes the next level off those that wait, if one does.
 fn next_level(plan: &Plan, search: &mut Search) -> Result<Option<Level<()>>, NoMemory>
     requires plan { IsPlan plan.now.file.now plan.now.gammas.now plan.now.limits }
-    requires stands { IsStanding plan.now.file.now plan.now.limits search.old }
-    ensures level { IfOk result (λ found. MatchOption found (IsEnded plan.now.file.now plan.now.limits search.old.points.items)
-        (λ level. IsTurn plan.now.file.now plan.now.limits level search.new)) }
+    requires stands { (all : List (List (Option ℕ))) × IsStanding plan.now.file.now plan.now.limits all search.old }
+    ensures level { IfOk result (λ found. (all : List (List (Option ℕ))) → IsStanding plan.now.file.now plan.now.limits all search.old → MatchOption found (IsEndedWith plan.now.file.now plan.now.limits all search.old.points.items)
+        (λ level. IsTurnAfter plan.now.file.now plan.now.limits all level search.new)) }
     ensures points { search.new.points ≡ search.old.points }
     ensures off { IfOk result (λ found. MatchOption found Unit (λ _. taken_off search.old < taken_off search.new)) }
 {
@@ -176,7 +180,10 @@ fn take_turn<R: Threads + Sync, G: Gate + Sync>(
 ) -> Result<(), ScenarioStorageError>
     requires plan { IsPlan plan.now.file.now plan.now.gammas.now plan.now.limits }
     requires turn { IsTurn plan.now.file.now plan.now.limits level search.old }
-    ensures stands { OnOk result (IsSearch plan.now.file.now plan.now.limits (level.total + 1) [] search.new) }
+    ensures stands { OnOk result ((all : List (List (Option ℕ))) → IsTurnAfter plan.now.file.now plan.now.limits all level search.old →
+        IsSearchOf plan.now.file.now plan.now.limits (level.total + 1) (all ++ distributions_of level.visits.items) [] search.new) }
+    ensures entered { OnOk result ((all : List (List (Option ℕ))) → IsTurnAfter plan.now.file.now plan.now.limits all level search.old →
+        EnterByLevels (shared_channels plan.now.file.now) (G.entered gate.now) all → EnterByLevels (shared_channels plan.now.file.now) (G.entered gate.now) (all ++ distributions_of level.visits.items)) }
     ensures off { OnOk result (taken_off search.new ≡ taken_off search.old) }
     ensures refused { IfErr result (IsRefusal plan.now.file.now plan.now.limits) }
 {

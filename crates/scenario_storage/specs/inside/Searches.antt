@@ -1,5 +1,5 @@
 -- Where a search for points stands: the distributions that were rated, those that are being rated, and those that wait.
-use Rattle.std.specs.Prelude.{◌≡◌, ℕ, ◌+◌, ◌-◌, ◌*◌, ◌≤◌, ◌<◌, ◌⊎◌, true, All, Contains, Option, List, [], length, map}
+use Rattle.std.specs.Prelude.{◌≡◌, ℕ, ◌+◌, ◌-◌, ◌*◌, ◌≤◌, ◌<◌, ◌⊎◌, true, All, Contains, Option, List, [], ◌++◌, length, map}
 use Rattle.sd_base.specs.declared.numbers.Fraction.{Fraction}
 use Rattle.sd_base.specs.declared.tables.ScenarioFile.{ScenarioFile}
 use Rattle.storage.specs.Distributions.{IsDistribution, storage_of}
@@ -9,7 +9,7 @@ use Rattle.storage.specs.ClosedLists.{Entry}
 use Rattle.storage.specs.StorageOrder.{IsBefore}
 use Rattle.storage.specs.declared.distribution.Distribution.{Distribution}
 use Rattle.levels.specs.declared.found.Level.{Level}
-use Rattle.levels.specs.Visits.{AreVisits, visits_of}
+use Rattle.levels.specs.Visits.{AreVisits, visited, visits_of}
 use Rattle.levels.specs.Frontiers.{IsFrontier, distributions_of}
 use Rattle.bounded_scenarios.specs.SharedChannels.{shared_channels}
 use Rattle.bounded_scenarios.specs.StorageRates.{HasWorstRate}
@@ -88,17 +88,26 @@ pub record IsSearch (file : ScenarioFile) (limits : ScenarioLimits) (floor : ℕ
   pub frontier : IsFrontier (shared_channels file) corner floor (visits_of entries) taken s.levels
   pub top : s.topped ≡ true → HasTop file limits.total entries
 
--- where a search stands between two levels
-abbrev pub IsStanding : ScenarioFile → ScenarioLimits → Search → Type 0
-IsStanding file limits s = (floor : ℕ) × IsSearch file limits floor [] s
+-- the same, of which all distributions are these: those of its entries, and those that are taken off
+abbrev pub IsSearchOf : ScenarioFile → ScenarioLimits → ℕ → List (List (Option ℕ)) → List (List (Option ℕ)) → Search → Type 0
+IsSearchOf file limits floor all taken s = (search : IsSearch file limits floor taken s) × (visited (visits_of search.entries) ++ taken ≡ all)
+
+-- where a search stands between two levels, with the distributions of its entries
+abbrev pub IsStanding : ScenarioFile → ScenarioLimits → List (List (Option ℕ)) → Search → Type 0
+IsStanding file limits all s = (floor : ℕ) × IsSearchOf file limits floor all [] s
 
 -- a search is to take in this level, which was taken off those that waited
 pub record IsTurn (file : ScenarioFile) (limits : ScenarioLimits) (level : Level Unit) (s : Search) : Type 0 where
   pub search : IsSearch file limits (level.total + 1) (distributions_of level.visits.items) s
   pub totals : All (λ f. storage_of (shared_channels file) f.capacities.capacities ≡ level.total) level.visits.items
+  pub low : All (λ ds. storage_of (shared_channels file) ds < level.total) (visited (visits_of search.entries))
   pub before : (p : ScenarioPoint) → Contains s.points.items p → p.total < level.total
   pub candidates : All (λ f. IsCandidate file limits.total f.capacities.capacities) level.visits.items
   pub within : level.total ≤ limits.total
+
+-- the same after these distributions
+abbrev pub IsTurnAfter : ScenarioFile → ScenarioLimits → List (List (Option ℕ)) → Level Unit → Search → Type 0
+IsTurnAfter file limits all level s = (turn : IsTurn file limits level s) × (visited (visits_of turn.search.entries) ≡ all)
 
 -- the entries are all visits from the corner within a storage: the limit, or one after which no rate is greater
 pub record IsEnded (file : ScenarioFile) (limits : ScenarioLimits) (ps : List ScenarioPoint) : Type 0 where
@@ -110,6 +119,10 @@ pub record IsEnded (file : ScenarioFile) (limits : ScenarioLimits) (ps : List Sc
   pub low : storage ≤ limits.total
   pub visits : AreVisits (shared_channels file) corner storage (visits_of entries)
   pub rest : (limits.total ≤ storage) ⊎ HasTop file limits.total entries
+
+-- the same, with the distributions of the entries
+abbrev pub IsEndedWith : ScenarioFile → ScenarioLimits → List (List (Option ℕ)) → List ScenarioPoint → Type 0
+IsEndedWith file limits all ps = (ended : IsEnded file limits ps) × (visited (visits_of ended.entries) ≡ all)
 
 -- the distributions of answers
 abbrev pub answered_of : List Answered → List (List (Option ℕ))

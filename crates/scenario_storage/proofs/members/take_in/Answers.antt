@@ -4,7 +4,7 @@ use Rattle.levels.specs.Visits.{led_by, visits_of}
 use Rattle.levels.specs.Frontiers.{IsFrontier, IsSpent, Rises}
 use Rattle.bounded_scenarios.specs.SharedChannels.{shared_channels}
 use Rattle.scenario_storage.proofs.Searchable.{searchable}
-use Rattle.scenario_storage.proofs.Turning.{its-known, its-rises, its-within, off-same, offered, spent-refusal, taken-in}
+use Rattle.scenario_storage.proofs.Turning.{its-known, its-rises, its-within, off-same, offered, spent-refusal, taken-in-of}
 use Rattle.scenario_storage.proofs.members.take_in.Goals as goal
 
 pub lead_on-requires-clause-channels : goal.lead_on-requires-clause-channels
@@ -36,7 +36,8 @@ offer-requires c =
     )
 
 pub returns-clause-search : goal.returns-clause-search
-returns-clause-search c = λ rest s.
+returns-clause-search c = λ rest all of.
+    let s = of.0 in
     let plan = c.args.plan.now in
     let file = plan.file.now in
     let ds = c.args.capacities.capacities in
@@ -50,9 +51,9 @@ returns-clause-search c = λ rest s.
     let frontier : IsFrontier (shared_channels file) s.corner (c.args.total + 1) (visits_of s.entries ++ led_by ds r.enlarge ∷ []) rest c.lead_on.new.self =
     subst (λ (xs : List ℕ). IsFrontier (shared_channels file) s.corner (c.args.total + 1) (visits_of s.entries ++ led_by ds xs ∷ []) rest c.lead_on.new.self) own
     (c.in_ok-lead_on.ensures.frontier (shared_channels file) s.corner (visits_of s.entries) rest s.frontier (sym c.requires.total) rises) in
-    taken-in file plan.limits can c.args.total ds r best c.requires.rated.2 c.requires.total rest old s c.requires.rated.1 _ _ refl c.lead_on.ensures.same frontier
+    taken-in-of file plan.limits can c.args.total ds r best c.requires.rated.2 c.requires.total rest old s c.requires.rated.1 _ _ refl c.lead_on.ensures.same frontier
     (c.in_ok-offer.ensures.known file plan.limits.total s.entries best (offered file plan.limits can c.args.total ds r best c.requires.rated.2 c.requires.total rest old s c.requires.rated.1))
-    c.is_topped-search.ensures
+    c.is_topped-search.ensures all of.1
 
 pub returns-clause-off : goal.returns-clause-off
 returns-clause-off c =
