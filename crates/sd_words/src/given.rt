@@ -90,9 +90,15 @@ fn flag_value(found: Option<&str>) -> Option<&'static str>
 }
 
 /// What words give to the options.
-#[derive(Drop)]
 pub(crate) struct Given<'a> {
     matches: ArgMatches<'a>,
+}
+
+// By hand, so that what drops one calls this, and doesn't drop each part of what `clap` found.
+impl Drop for Given<'_> {
+    fn drop(self) {
+        let Given { matches: _matches } = self;
+    }
 }
 
 impl<'a> Given<'a> {
