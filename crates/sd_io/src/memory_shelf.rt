@@ -10,7 +10,7 @@ use std::alloc::Global;
 use std::mem;
 
 /// A shelf in memory that tells its files. A call fails where it was chosen to, and a take also where there is no file of the name.
-#[derive(Debug, Drop)]
+#[derive(Drop)]
 pub struct MemoryShelf {
     files: Rows<(Text, Rows<u8>)>,
     failing: Rows<u64>,

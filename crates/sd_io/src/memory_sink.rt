@@ -7,7 +7,7 @@ use sd_base::{NoMemory, Rows};
 use std::alloc::Global;
 
 /// A sink in memory that tells its bytes and takes few at a time. A send fails where it was chosen to, and where the room is full.
-#[derive(Debug, Drop)]
+#[derive(Drop)]
 pub struct MemorySink {
     bytes: Vec<u8>,
     room: usize,

@@ -28,7 +28,8 @@ use spelling::test_spelling;
 use std::alloc::Global;
 
 /// Reads the words after the program's name: they are tested for their spelling, and then `clap` reads the values.
-/// Cost: linear in the bytes of at most the first 26 words, since no list of more than 25 is well spelled.
+/// Cost: linear in the bytes of at most the first 27 words: no list of more than 25 is well spelled, and that an option comes
+/// twice is found at its value.
 #[tactic(auto, unfolding(crate::specs::Asked::request_of))]
 pub fn parse_words(alloc: Global, words: &[Text]) -> Result<Request, WordsError>
     ensures request { MatchResult result (λ r. request_of words.now ≡ Ok r) (λ e. Fails e (request_of words.now)) }
