@@ -9,8 +9,8 @@ use Rattle.sd_base.specs.Schedules.{LastNeed, time_of}
 use Rattle.sd_base.proofs.Rounds.{Whole, time-shift}
 use Rattle.critical.specs.Cycles.{IsStep, IsChain, last_of}
 use Rattle.critical.proofs.LaterCycles.{last-down}
-use Rattle.completion.specs.Ways.{firing_time, time_in}
-use Rattle.completion.specs.inside.Timetables.{IsTimetable, StartsAt, pass_of}
+use Rattle.completion.specs.Ways.{StartsAt, firing_time, time_in}
+use Rattle.completion.specs.inside.Timetables.{IsTimetable, pass_of}
 use Rattle.completion.specs.inside.Walks.{sum_before}
 use Rattle.completion.proofs.Chained.{step-fed, chain-starts}
 use Rattle.completion.proofs.Starts.{one-start}
@@ -43,7 +43,7 @@ first-reach net times q from [] all = all
 first-reach net times q from (step ∷ steps) all = all.0
 
 module _ (net : Net) (times : Timetable) (is : IsTimetable net times) where
-  whole : (q : ℕ) → Whole net (λ (a : ℕ). q * (times.table.rounds * slice_index net.round a))
+  pub whole : (q : ℕ) → Whole net (λ (a : ℕ). q * (times.table.rounds * slice_index net.round a))
   whole q = Rattle.sd_base.proofs.LoopPasses.whole-passes net is.laws is.inputs times.table.entry times.table.period times.table.rounds times.table.before times.table.starts is.loop q
 
   -- who starts late enough reaches back over so many passes
@@ -63,7 +63,7 @@ module _ (net : Net) (times : Timetable) (is : IsTimetable net times) where
       )
 
   -- a step so many passes before
-  step-sooner : (q : ℕ) (from : FiringNo) (step : CycleStep) → IsStep net from step → Reaches net times q from → Reaches net times q step.to → IsStep net (sooner times q from) (record { channel = step.channel; to = sooner times q step.to })
+  pub step-sooner : (q : ℕ) (from : FiringNo) (step : CycleStep) → IsStep net from step → Reaches net times q from → Reaches net times q step.to → IsStep net (sooner times q from) (record { channel = step.channel; to = sooner times q step.to })
   step-sooner q from step one here there = record {
     place = one.place;
     source = one.source;

@@ -7,8 +7,9 @@ use Rattle.completion.specs.declared.timetable.Start.{Start}
 use Rattle.completion.specs.declared.timetable.Timetable.{Timetable}
 use Rattle.sd_base.specs.Net.{Net}
 use Rattle.critical.specs.Cycles.{IsChain, last_of}
-use Rattle.completion.specs.Ways.{firing_time, one_in, sum_along, time_in}
-use Rattle.completion.specs.inside.Timetables.{IsStart, IsTimetable, StartsAt, before_of, end_at, firing_of, moment_of, pass_of}
+use Rattle.completion.proofs.TightSooner.{tight-both, tight-sooner}
+use Rattle.completion.specs.Ways.{AreFirstTight, StartsAt, firing_time, one_in, sum_along, time_in}
+use Rattle.completion.specs.inside.Timetables.{IsStart, IsTimetable, before_of, end_at, firing_of, moment_of, pass_of}
 use Rattle.completion.specs.inside.Walks.{FitsTimes, IsLap, IsWayTo, sum_before}
 use Rattle.critical.proofs.Chains.{chain-both, last-both}
 use Rattle.completion.proofs.Along.{along-both, before-both}
@@ -55,6 +56,13 @@ module _ (net : Net) (times : Timetable) (is : IsTimetable net times) (here kept
       (chain-sooner net times is (suc j * p) here lap chain (all (suc j) (omega arith)))
       (subst (λ (x : FiringNo). IsChain net x (laps_of j)) (sym (ends-sooner j)) (laps-chain j (λ i le. all i (omega arith))))
 
+  laps-tight : (j : ℕ) → ((i : ℕ) → i ≤ j → AreFirstTight net (sooner times (i * p) here) (sooner_steps times (i * p) lap)) → AreFirstTight net (sooner times (j * p) here) (laps_of j)
+  laps-tight zero all = tt
+  laps-tight (suc j) all =
+      tight-both net (sooner times (suc j * p) here) (sooner_steps times (suc j * p) lap) (laps_of j)
+      (all (suc j) (omega arith))
+      (subst (λ (x : FiringNo). AreFirstTight net x (laps_of j)) (sym (ends-sooner j)) (laps-tight j (λ i le. all i (omega arith))))
+
   laps-sum : (f : FiringNo → ℕ) → ((q : ℕ) (x : FiringNo) → Reaches net times q x → f (sooner times q x) ≡ f x) → (j : ℕ) → ((i : ℕ) → i ≤ j → AllReach net times (i * p) here lap) →
       sum_before f (sooner times (j * p) here) (laps_of j) ≡ j * sum_before f here lap
   laps-sum f same zero all = omega arith
@@ -72,6 +80,7 @@ pub record IsWayWithLaps (net : Net) (last new here : Start) (laps : ℕ) (lap w
   pub steps : List CycleStep
   pub chain : IsChain net (firing_of new) steps
   pub ends : last_of (firing_of new) steps ≡ firing_of last
+  pub tight : AreFirstTight net (firing_of new) steps
   pub counts : (a : ℕ) → sum_along (one_in a) (firing_of new) steps ≡ laps * sum_before (one_in a) (firing_of here) lap + sum_along (one_in a) (firing_of here) way
   pub times : (a : ℕ) → sum_along (time_in net a) (firing_of new) steps ≡ laps * sum_before (time_in net a) (firing_of here) lap + sum_along (time_in net a) (firing_of here) way
   pub all : sum_along (firing_time net) (firing_of new) steps ≡ laps * sum_before (firing_time net) (firing_of here) lap + sum_along (firing_time net) (firing_of here) way
@@ -96,6 +105,10 @@ module _ (net : Net) (times : Timetable) (is : IsTimetable net times) (last here
 
   reach-all : (i : ℕ) → i ≤ laps → AllReach net times (i * fits.passes) (firing_of here) turn.steps
   reach-all i le = all-reach net times is (i * fits.passes) (firing_of here) turn.steps turn.chain start.actor here.moment kept.moment starts-here
+      (subst (λ (x : FiringNo). StartsAt net x.actor x.number kept.moment) (sym turn.ends) starts-kept) (late i le)
+
+  tight-all : (i : ℕ) → i ≤ laps → AreFirstTight net (sooner times (i * fits.passes) (firing_of here)) (sooner_steps times (i * fits.passes) turn.steps)
+  tight-all i le = tight-sooner net times is (i * fits.passes) (firing_of here) turn.steps turn.chain turn.tight start.actor here.moment kept.moment starts-here
       (subst (λ (x : FiringNo). StartsAt net x.actor x.number kept.moment) (sym turn.ends) starts-kept) (late i le)
 
   -- a lap takes as long as its passes
@@ -143,6 +156,9 @@ module _ (net : Net) (times : Timetable) (is : IsTimetable net times) (last here
         steps = all ++ way.steps;
         chain = subst (λ (x : FiringNo). IsChain net x (all ++ way.steps)) (sym from) chained;
         ends = ap (λ (x : FiringNo). last_of x (all ++ way.steps)) from ∙ (last-both net (sooner times (laps * fits.passes) (firing_of here)) all way.steps ∙ (ap (λ (x : FiringNo). last_of x way.steps) back ∙ way.ends));
+        tight = subst (λ (x : FiringNo). AreFirstTight net x (all ++ way.steps)) (sym from) (tight-both net (sooner times (laps * fits.passes) (firing_of here)) all way.steps
+            (laps-tight net times is (firing_of here) (firing_of kept) fits.passes turn.steps turn.chain turn.ends fits.actor fits.apart laps tight-all)
+            (subst (λ (x : FiringNo). AreFirstTight net x way.steps) (sym back) way.tight));
         counts = λ a. sums (one_in a) (λ q x reaches. refl);
         times = λ a. sums (time_in net a) (part-sooner net times is a);
         all = sums (firing_time net) (time-sooner net times is);

@@ -4,6 +4,7 @@ pub mod Within
 pub mod Chained
 pub mod Timing
 pub mod Laps
+pub mod TightSooner
 pub mod LapsBack
 pub mod Needing
 pub mod Fits

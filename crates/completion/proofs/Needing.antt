@@ -17,9 +17,9 @@ use Rattle.sd_base.proofs.Parts.{regular}
 use Rattle.sd_base.proofs.Tight.{TightNeed, tight}
 use Rattle.sd_base.proofs.Wordings.{need-is_last}
 use Rattle.sd_base.proofs.Lists.{entry-le-sum}
-use Rattle.completion.specs.Ways.{InRounds}
-use Rattle.completion.specs.inside.Timetables.{IsStart, IsTimetable, StartsAt, end_at, moment_of}
-use Rattle.completion.specs.inside.Walks.{IsSlackOn, IsTightNeed}
+use Rattle.completion.specs.Ways.{IsFirstTight, StartsAt, InRounds}
+use Rattle.completion.specs.inside.Timetables.{IsStart, IsTimetable, end_at, firing_of, moment_of}
+use Rattle.completion.specs.inside.Walks.{IsFirstNeed, IsSlackOn, IsTightNeed, IsTightNeedOn}
 use Rattle.completion.proofs.Starts.{one-start}
 use Rattle.completion.proofs.Within.{need-within}
 use Rattle.completion.proofs.Timing.{moment-starts}
@@ -32,6 +32,40 @@ few-firings net laws n a few =
 
 pub starts : (net : Net) (times : Timetable) (is : IsTimetable net times) (x : Start) → IsStart net times x → StartsAt net x.actor x.number x.moment
 starts net times is x start = subst (λ (m : ℕ). StartsAt net x.actor x.number m) (sym start.moment) (moment-starts net times is x.actor x.number start.actor)
+
+-- a first tight need is one in self-timed execution
+pub first-tight : (net : Net) (times : Timetable) (is : IsTimetable net times) (later earlier : Start) → IsStart net times later → IsStart net times earlier → (f : IsFirstNeed net times later earlier) → IsFirstTight net f.need.channel (firing_of later) (firing_of earlier)
+first-tight net times is later earlier start start_earlier f = record {
+  tight = record {
+    place = f.need.place;
+    source = f.need.source;
+    target = f.need.target;
+    last = f.need.last;
+    moment = later.moment;
+    starts = starts net times is later start;
+    ends = record { start = earlier.moment; starts = starts net times is earlier start_earlier; takes = f.need.just };
+  };
+  first = λ j other below t.
+      let at : t.moment ≡ later.moment = one-start net is.laws is.inputs later.actor later.number t.moment later.moment t.starts (starts net times is later start) in
+      let actor : other.actor < length net.times = subst (λ (b : ℕ). b < length net.times) t.source (is.laws.sources j t.place) in
+      let from : t.ends.start ≡ moment_of times other.actor other.number = one-start net is.laws is.inputs other.actor other.number t.ends.start (moment_of times other.actor other.number) t.ends.starts (moment-starts net times is other.actor other.number actor) in
+      let here : moment_of times other.actor other.number + time_of net other.actor other.number ≡ later.moment = omega (arith, t.ends.takes, at, from) in
+      f.first j below t.target other.number t.last (subst (λ (b : ℕ). moment_of times b other.number + time_of net b other.number ≡ later.moment) (sym t.source) here);
+}
+
+-- a need on a listed channel that is tight is the first one, where all listed before it are slack
+pub need-first : (net : Net) (times : Timetable) (later earlier : Start) (inputs : List ℕ) → IsListed net Taken later.actor inputs → (p : ℕ) → p < length inputs → ((j : ℕ) → j < p → IsSlackOn net times later (slice_index inputs j)) →
+    (need : IsTightNeed net later earlier) → need.channel ≡ slice_index inputs p → IsFirstNeed net times later earlier
+need-first net times later earlier inputs listed p place slack need is = record {
+  need = need;
+  first = λ i below into.
+      let there = member-place inputs i (listed.all i (omega (arith, below, need.place)) into) in
+      let sooner : there.0 < p = ⊎_elim (λ (h : there.0 < p). h) (λ (h : p ≤ there.0). absurd (⊎_elim
+      (λ (more : p < there.0). let rise : slice_index inputs p < slice_index inputs there.0 = listed.rising p there.0 more there.1 in omega (arith, rise, there.2, below, is))
+      (λ (le : there.0 ≤ p). let same : there.0 ≡ p = omega arith in let e = ap (slice_index inputs) same in omega (arith, e, there.2, below, is))
+      (cases_lt p there.0))) (cases_lt there.0 p) in
+      subst (IsSlackOn net times later) there.2 (slack there.0 sooner);
+}
 
 module _ (net : Net) (times : Timetable) (is : IsTimetable net times) (later : Start) where
   -- a channel on which nothing is needed is slack
@@ -55,21 +89,24 @@ module _ (net : Net) (times : Timetable) (is : IsTimetable net times) (later : S
     needed-few = omega (arith, needed-within.1, few-firings net is.laws within.0 (channel_at net i).source within.1)
 
     pub needed-tight : (needed : Start) (source : ℕ) → source ≡ (channel_at net i).source → needed.actor ≡ source → needed.number ≡ firings - 1 → needed.moment ≡ moment_of times source (firings - 1) →
-        end_at net needed ≡ later.moment → IsStart net times needed × IsTightNeed net later needed
+        end_at net needed ≡ later.moment → IsStart net times needed × IsTightNeedOn net later i needed
     needed-tight needed source from actor number moment just =
         let at : (channel_at net i).source ≡ needed.actor = sym (actor ∙ from) in (
           record {
             actor = subst (λ (b : ℕ). b < length net.times) at (is.laws.sources i place);
             moment = moment ∙ (ap (λ (b : ℕ). moment_of times b (firings - 1)) (sym actor) ∙ ap (moment_of times needed.actor) (sym number));
           },
-          record {
-            channel = i;
-            place = place;
-            source = at;
-            target = into;
-            last = subst (LastNeed (channel_at net i) later.number) (sym number) is-last;
-            just = just;
-          },
+          (
+            record {
+              channel = i;
+              place = place;
+              source = at;
+              target = into;
+              last = subst (LastNeed (channel_at net i) later.number) (sym number) is-last;
+              just = just;
+            },
+            refl,
+          ),
         )
 
     pub needed-slack : (needed : Start) (source : ℕ) → source ≡ (channel_at net i).source → needed.actor ≡ source → needed.number ≡ firings - 1 → needed.moment ≡ moment_of times source (firings - 1) →

@@ -4,6 +4,7 @@ use Rattle.sd_base.specs.declared.limits.TheConstants.{ROUNDS}
 use Rattle.std.specs.Prelude.{slice_index, if◌then◌else◌, nat_lt}
 use Rattle.std.proofs.lemmas.Bool.{cases_lt, ltb-true, ltb-false}
 use Rattle.completion.specs.declared.timetable.Timetable.{Timetable}
+use Rattle.completion.specs.Ways.{StartsAt}
 use Rattle.sd_base.specs.Net.{Net}
 use Rattle.sd_base.specs.Schedules.{Schedule, count_of, end_of, start_of}
 use Rattle.sd_base.specs.SelfTimed.{earliest}
@@ -13,11 +14,11 @@ use Rattle.critical.specs.inside.Trails.{IsShortLoop}
 use Rattle.critical.proofs.Shortness.{short-loop}
 use Rattle.critical.proofs.Passes as shared
 use Rattle.critical.proofs.Passes.{up_to}
-use Rattle.completion.specs.inside.Timetables.{IsFull, IsTimetable, StartsAt, before_of, looped_moment, moment_of, pass_of}
+use Rattle.completion.specs.inside.Timetables.{IsFull, IsTimetable, before_of, looped_moment, moment_of, pass_of}
 use Rattle.completion.proofs.Starts.{early, start-is}
 
 module _ (net : Net) (times : Timetable) (is : IsTimetable net times) where
-  short : IsShortLoop net times.table
+  pub short : IsShortLoop net times.table
   short = short-loop net times.table is.laws is.inputs is.loop is.few
 
   pub rows-early : length times.early.items ≡ length net.times

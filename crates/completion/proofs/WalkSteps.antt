@@ -11,8 +11,8 @@ use Rattle.completion.specs.declared.walk.Walk.{Walk}
 use Rattle.sd_base.specs.Net.{Net}
 use Rattle.sd_base.proofs.Parts.{timed}
 use Rattle.critical.specs.Cycles.{IsStep, IsChain, last_of}
-use Rattle.completion.specs.Ways.{InRounds, firing_time, no_part, one_in, part_at, sum_along, time_in}
-use Rattle.completion.specs.inside.Timetables.{IsLastOf, IsStart, IsTimetable, StartsAt, end_at, firing_of, moment_of, pass_of}
+use Rattle.completion.specs.Ways.{IsFirstTight, StartsAt, InRounds, firing_time, no_part, one_in, part_at, sum_along, time_in}
+use Rattle.completion.specs.inside.Timetables.{IsLastOf, IsStart, IsTimetable, end_at, firing_of, moment_of, pass_of}
 use Rattle.completion.specs.inside.Walks.{FitsTimes, IsLap, IsTightNeed, IsWalkBack, IsWayTo, sum_before}
 use Rattle.completion.proofs.Along.{along-last, part-le}
 use Rattle.completion.proofs.Starts.{start-order}
@@ -43,6 +43,7 @@ module _ (net : Net) (times : Timetable) (is : IsTimetable net times) where
     steps = [];
     chain = tt;
     ends = refl;
+    tight = tt;
     time = omega arith;
     actors = actors;
     firings = λ a actor. ap (λ (p : Part). p.firings) (none a actor);
@@ -93,6 +94,7 @@ module _ (net : Net) (times : Timetable) (is : IsTimetable net times) where
     steps = [];
     chain = tt;
     ends = refl;
+    tight = tt;
     time = refl;
     counted = record {
       actors = length-set parts last.actor (more net parts (firing_of last)) ∙ actors;
@@ -107,7 +109,7 @@ module _ (net : Net) (times : Timetable) (is : IsTimetable net times) where
 
   -- ---- a step back
 
-  module _ (here needed : Start) (need : IsTightNeed net here needed) where
+  module _ (here needed : Start) (need : IsTightNeed net here needed) (first : IsFirstTight net need.channel (firing_of here) (firing_of needed)) where
     steps-on : IsStep net (firing_of needed) (record { channel = need.channel; to = firing_of here })
     steps-on = record { place = need.place; source = need.source; target = need.target; last = need.last }
 
@@ -118,6 +120,7 @@ module _ (net : Net) (times : Timetable) (is : IsTimetable net times) where
           steps = record { channel = need.channel; to = firing_of here } ∷ way.steps;
           chain = (steps-on, way.chain);
           ends = way.ends;
+          tight = (first, way.tight);
           time = omega (arith, way.time, need.just);
           counted = record {
             actors = length-set parts needed.actor (more net parts (firing_of needed)) ∙ way.counted.actors;
@@ -133,6 +136,7 @@ module _ (net : Net) (times : Timetable) (is : IsTimetable net times) where
           steps = record { channel = need.channel; to = firing_of here } ∷ turn.steps;
           chain = (steps-on, turn.chain);
           ends = turn.ends;
+          tight = (first, turn.tight);
           time = omega (arith, turn.time, need.just);
           actors = length-set lap needed.actor (more net lap (firing_of needed)) ∙ turn.actors;
           firings = λ a is_actor. omega (arith, (counted-more net lap (firing_of needed) place a).0, turn.firings a is_actor);
@@ -224,6 +228,7 @@ module _ (net : Net) (times : Timetable) (is : IsTimetable net times) where
         steps = with_laps.steps;
         chain = with_laps.chain;
         ends = with_laps.ends;
+        tight = with_laps.tight;
         time = with_laps.time;
         counted = record {
           actors = long ∙ w.way.counted.actors;

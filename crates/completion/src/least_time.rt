@@ -10,7 +10,7 @@ use crate::counts::{Part, firings_in};
 use crate::ends::last_to_end;
 use crate::timetable::{Timetable, end};
 use crate::walk::parts_of_way;
-use firing::{Firing, Wired};
+use firing::{Firing, Wired, Wiring};
 use lasso::{RunError, find_loop, starts_until};
 use sd_base::{Ledger, Rows, Steps};
 use std::alloc::Global;
@@ -39,6 +39,35 @@ pub struct Completion {
 /// some four passes. Memory: that of `find_loop`, the starts up to the entry, and two parts for each actor.
 pub fn complete<F: Firing, L: Ledger>(
     alloc: Global,
+    net: &F,
+    rounds: u64,
+    states: u64,
+    steps: &mut Steps<L>,
+) -> Result<Completion, RunError>
+    requires live { IsLive (F.net net.now) }
+    requires connected { IsConnected (F.net net.now) }
+    requires inputs { HasInputs (F.net net.now) }
+    requires some { LEAST_STATES ≤ states }
+    requires some_round { LEAST_ROUNDS ≤ rounds }
+    requires few_rounds { rounds ≤ ROUNDS }
+    ensures completed { IfOk result (IsCompletionOf (F.net net.now) rounds) }
+    ensures looped { IfOk result (λ _. HasLoopWithin (F.net net.now) states) }
+    ensures refused { IfErr result (IsRunRefusal (F.net net.now) states) }
+    ensures ticked { steps.new.count ≡ steps.old.count + 1 }
+    ensures kept { steps.new.share ≡ steps.old.share }
+{
+    steps.tick();
+    let wiring = Wiring::new(alloc, net)?;
+    let wired = Wired {
+        net,
+        wiring: &wiring,
+    };
+    completion_of(alloc, &wired, rounds, states)
+}
+
+/// The least time for some rounds of a net whose wiring is there already, as `complete` tells it.
+pub fn complete_wired<F: Firing, L: Ledger>(
+    alloc: Global,
     wired: &Wired<F>,
     rounds: u64,
     states: u64,
@@ -57,6 +86,25 @@ pub fn complete<F: Firing, L: Ledger>(
     ensures kept { steps.new.share ≡ steps.old.share }
 {
     steps.tick();
+    completion_of(alloc, wired, rounds, states)
+}
+
+fn completion_of<F: Firing>(
+    alloc: Global,
+    wired: &Wired<F>,
+    rounds: u64,
+    states: u64,
+) -> Result<Completion, RunError>
+    requires live { IsLive (F.net wired.now.net.now) }
+    requires connected { IsConnected (F.net wired.now.net.now) }
+    requires inputs { HasInputs (F.net wired.now.net.now) }
+    requires some { LEAST_STATES ≤ states }
+    requires some_round { LEAST_ROUNDS ≤ rounds }
+    requires few_rounds { rounds ≤ ROUNDS }
+    ensures completed { IfOk result (IsCompletionOf (F.net wired.now.net.now) rounds) }
+    ensures looped { IfOk result (λ _. HasLoopWithin (F.net wired.now.net.now) states) }
+    ensures refused { IfErr result (IsRunRefusal (F.net wired.now.net.now) states) }
+{
     let table = find_loop(alloc, wired, states)?;
     let early = starts_until(alloc, wired, table.entry)?;
     let times = Timetable { early, table };

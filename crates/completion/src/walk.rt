@@ -13,8 +13,8 @@ ghost use Rattle.sd_base.specs.Net.{Net, channel_at};
 ghost use Rattle.firing.specs.declared.sums.Port.TheVariants.{Taken};
 ghost use Rattle.firing.specs.Wiring.{IsListed};
 ghost use Rattle.completion.specs.Ways.{HasWay, InRounds, no_part, part_at};
-ghost use Rattle.completion.specs.inside.Timetables.{IsLastOf, IsStart, IsTimetable, end_at};
-ghost use Rattle.completion.specs.inside.Walks.{FitsTimes, IsSlackOn, IsTightNeed, IsWalkBack};
+ghost use Rattle.completion.specs.inside.Timetables.{EndsLast, IsLastOf, IsStart, IsTimetable, end_at};
+ghost use Rattle.completion.specs.inside.Walks.{FitsTimes, IsFirstNeed, IsSlackOn, IsTightNeedOn, IsWalkBack};
 
 use crate::counts::{Part, clear, count, count_laps, no_parts};
 use crate::timetable::{Start, Timetable, end, time_at};
@@ -50,7 +50,7 @@ pub(crate) fn parts_of_way<F: Firing>(
 ) -> Result<Vec<Part>, NoMemory>
     requires times { IsTimetable (F.net wired.now.net.now) times.now }
     requires few { rounds ≤ ROUNDS }
-    requires last { IsLastOf (F.net wired.now.net.now) times.now rounds last }
+    requires last { EndsLast (F.net wired.now.net.now) times.now rounds last }
     requires soon { last.moment ≤ 2 ^ 105 }
     ensures way { IfOk result (λ parts. HasWay (F.net wired.now.net.now) rounds (end_at (F.net wired.now.net.now) last) parts.items) }
     ensures few { IfOk result (λ parts. (a : ℕ) → a < length parts.items → (part_at parts.items a).firings ≤ 2 ^ 50) }
@@ -174,7 +174,7 @@ fn tight_need<F: Firing>(net: &F, times: &Timetable, inputs: &[u32], later: Star
     requires later { later.moment ≢ 0 }
     requires within { (n : ℕ) × (n ≤ ROUNDS) × InRounds (F.net net.now) n later.actor later.number }
     ensures start { IsStart (F.net net.now) times.now result }
-    ensures need { IsTightNeed (F.net net.now) later result }
+    ensures need { IsFirstNeed (F.net net.now) times.now later result }
 {
     for channel in inputs {
         if let Some(needed) = tight_on(net, times, *channel, later) {
@@ -192,7 +192,7 @@ fn tight_on<F: Firing>(net: &F, times: &Timetable, channel: u32, later: Start) -
     requires into { (channel_at (F.net net.now) channel).target ≡ later.actor }
     requires within { (n : ℕ) × (n ≤ ROUNDS) × InRounds (F.net net.now) n later.actor later.number }
     ensures { MatchOption result (IsSlackOn (F.net net.now) times.now later channel)
-        (λ needed. IsStart (F.net net.now) times.now needed × IsTightNeed (F.net net.now) later needed) }
+        (λ needed. IsStart (F.net net.now) times.now needed × IsTightNeedOn (F.net net.now) later channel needed) }
 {
     let firings = need(net, channel, later.number);
     if firings == 0 {

@@ -39,7 +39,6 @@ use std::mem;
 pub(crate) const SEARCH_STARTS: u64 = 4 * STARTS;
 
 /// A shape that the later ones are compared with.
-#[derive(Drop)]
 pub(crate) struct Checkpoint {
     pub(crate) shape: Shape,
     pub(crate) print: u64,
@@ -50,11 +49,34 @@ pub(crate) struct Checkpoint {
     pub(crate) stays_to: u64,
 }
 
+// By hand, so that what drops one calls this, and does not drop each of its parts.
+impl Drop for Checkpoint {
+    fn drop(self) {
+        let Checkpoint {
+            shape: _shape,
+            print: _print,
+            running_print: _running_print,
+            moment: _moment,
+            starts: _starts,
+            stays_to: _stays_to,
+        } = self;
+    }
+}
+
 /// The two shapes that later ones are compared with, the newer one first.
-#[derive(Drop)]
 pub(crate) struct Watch {
     pub(crate) last: Checkpoint,
     pub(crate) before: Checkpoint,
+}
+
+// By hand, so that what drops one calls this, and does not drop each of its parts.
+impl Drop for Watch {
+    fn drop(self) {
+        let Watch {
+            last: _last,
+            before: _before,
+        } = self;
+    }
 }
 
 /// Finds a shape and the first one after it that is equal, and leaves the events and starts on the way in a trace. Each later

@@ -7,7 +7,7 @@ use Rattle.sd_base.specs.Rates.{Rate}
 use Rattle.storage.specs.BoundedNets.{bound}
 use Rattle.storage.specs.Distributions.{IsDistribution}
 
--- no distribution has a greater rate
+-- no distribution has a greater rate, of those whose bounded nets keep the laws of nets
 abbrev pub BoundsAll : Net → Fraction → Type 0
 BoundsAll net rate = (ds : List (Option ℕ)) (p q : ℕ) → Lawful (bound net ds) → Rate (bound net ds) p q → p * rate.den ≤ rate.num * q
 

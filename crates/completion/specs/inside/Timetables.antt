@@ -11,12 +11,6 @@ use Rattle.sd_base.specs.Lawful.{Lawful}
 use Rattle.sd_base.specs.Rates.{IsLoopTable}
 use Rattle.completion.specs.Ways.{firing_time}
 
--- firing k of a starts at a moment
-pub record StartsAt (net : Net) (a k moment : ℕ) : Type 0 where
-  pub by : ℕ
-  pub there : k < count_of (earliest net by) a
-  pub at : start_of (earliest net by) a k ≡ moment
-
 -- how many firings of a have started by the entry
 abbrev pub before_of : Timetable → ℕ → ℕ
 before_of times a = count_of times.early.items a
@@ -66,7 +60,8 @@ pub record IsLastOf (net : Net) (times : Timetable) (n : ℕ) (x : Start) : Type
   pub start : IsStart net times x
   pub number : x.number + 1 ≡ n * slice_index net.round x.actor
 
--- of those of all actors the one that ends last
+-- of those of all actors the one that ends last, of several that do that of the least actor
 pub record EndsLast (net : Net) (times : Timetable) (n : ℕ) (x : Start) : Type 0 where
   pub last : IsLastOf net times n x
   pub latest : (y : Start) → IsLastOf net times n y → end_at net y ≤ end_at net x
+  pub least : (y : Start) → IsLastOf net times n y → end_at net y ≡ end_at net x → x.actor ≤ y.actor

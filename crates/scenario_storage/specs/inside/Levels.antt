@@ -47,7 +47,7 @@ BoundsRates file limit ds shown num den =
     (es : List (Option ℕ)) → IsDistribution (shared_channels file) es → storage_of (shared_channels file) es ≤ limit → AtMost ds (rounded (shared_channels file) es) →
     AgreesOn shown ds (rounded (shared_channels file) es) → (p q : ℕ) → HasWorstRate file es p q → 1 ≤ p → p * den ≤ num * q
 
--- a rate bounds those of all distributions within the limit
+-- a rate bounds those above 0 of all distributions within the limit
 abbrev pub BoundsAll : ScenarioFile → ℕ → ℕ → ℕ → Type 0
 BoundsAll file limit num den =
     (es : List (Option ℕ)) → IsDistribution (shared_channels file) es → storage_of (shared_channels file) es ≤ limit → (p q : ℕ) → HasWorstRate file es p q → 1 ≤ p → p * den ≤ num * q

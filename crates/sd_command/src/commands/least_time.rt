@@ -76,7 +76,7 @@ fn completed<F: Firing, L: Ledger>(
     ensures share { steps.new.share ≡ steps.old.share }
 {
     know_laws(wired.net);
-    match completion::complete(alloc, wired, wanted.rounds, wanted.states, steps) {
+    match completion::complete_wired(alloc, wired, wanted.rounds, wanted.states, steps) {
         Ok(completion) => Ok(completion),
         Err(error) => Err(Stop::Refused(run_refusal(alloc, error, wanted.states)?)),
     }

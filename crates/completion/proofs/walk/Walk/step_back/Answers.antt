@@ -6,6 +6,7 @@ use Rattle.completion.specs.inside.Timetables.{firing_of}
 use Rattle.completion.specs.inside.Walks.{IsLap, IsWayTo}
 use Rattle.completion.proofs.Counted.{counted-is, more}
 use Rattle.completion.proofs.WalkSteps.{way-within, way-few, way-soon, lap-few, lap-soon, way-more, lap-more, need-sooner, short-time}
+use Rattle.completion.proofs.Needing.{first-tight}
 use Rattle.completion.proofs.walk.Walk.step_back.Goals as goal
 
 pub tight_need-here-requires-clause-within : goal.tight_need-here-requires-clause-within
@@ -55,15 +56,15 @@ returns-clause-walk g c =
       here = c.tight_need-here.ensures.start;
       kept = c.requires.walk.kept;
       since = c.requires.walk.since;
-      way = subst (IsWayTo net walk.last needed) (sym (take_at c.count.new.parts _ walk.parts.len size ∙ is)) (way-more net c.args.times.now c.requires.times walk.here needed c.tight_need-here.ensures.need walk.last walk.parts.items c.tight_need-here.ensures.start.actor c.requires.walk.way);
-      lap = subst (IsLap net needed walk.kept) (sym (take_at c.count-2.new.parts _ walk.lap.len size_lap ∙ is_lap)) (lap-more net c.args.times.now c.requires.times walk.here needed c.tight_need-here.ensures.need walk.kept walk.lap.items c.tight_need-here.ensures.start.actor c.requires.walk.lap);
+      way = subst (IsWayTo net walk.last needed) (sym (take_at c.count.new.parts _ walk.parts.len size ∙ is)) (way-more net c.args.times.now c.requires.times walk.here needed c.tight_need-here.ensures.need.need (first-tight net c.args.times.now c.requires.times walk.here needed c.requires.walk.here c.tight_need-here.ensures.start c.tight_need-here.ensures.need) walk.last walk.parts.items c.tight_need-here.ensures.start.actor c.requires.walk.way);
+      lap = subst (IsLap net needed walk.kept) (sym (take_at c.count-2.new.parts _ walk.lap.len size_lap ∙ is_lap)) (lap-more net c.args.times.now c.requires.times walk.here needed c.tight_need-here.ensures.need.need (first-tight net c.args.times.now c.requires.times walk.here needed c.requires.walk.here c.tight_need-here.ensures.start c.tight_need-here.ensures.need) walk.kept walk.lap.items c.tight_need-here.ensures.start.actor c.requires.walk.lap);
     }
 
 pub returns-clause-back : goal.returns-clause-back
 returns-clause-back g c =
-    need-sooner (g.F.Firing.net c.args.wired.now.net.now) c.args.times.now c.requires.times c.args.self.now.here c.tight_need-here.result c.tight_need-here.ensures.need c.tight_need-here.ensures.start.actor
+    need-sooner (g.F.Firing.net c.args.wired.now.net.now) c.args.times.now c.requires.times c.args.self.now.here c.tight_need-here.result c.tight_need-here.ensures.need.need c.tight_need-here.ensures.start.actor
 
 pub returns-clause-order : goal.returns-clause-order
 returns-clause-order g c =
-    let sooner = need-sooner (g.F.Firing.net c.args.wired.now.net.now) c.args.times.now c.requires.times c.args.self.now.here c.tight_need-here.result c.tight_need-here.ensures.need c.tight_need-here.ensures.start.actor in
+    let sooner = need-sooner (g.F.Firing.net c.args.wired.now.net.now) c.args.times.now c.requires.times c.args.self.now.here c.tight_need-here.result c.tight_need-here.ensures.need.need c.tight_need-here.ensures.start.actor in
     omega (arith, sooner, c.requires.walk.lap.time)
