@@ -1,0 +1,14 @@
+pub mod Storages
+pub mod Places
+pub mod Going
+pub mod Inserting
+pub mod Rooting
+pub mod Splitting
+pub mod Surveying
+pub mod Rooms
+pub mod Kept
+pub mod LookedAt
+pub mod Mixing
+pub mod Gathering
+pub mod Forces
+pub mod Answering

@@ -1,0 +1,7 @@
+pub mod NodeOrder
+pub mod Ways
+pub mod Rooms
+pub mod Surveys
+pub mod Splits
+pub mod Taken
+pub mod Keeping
