@@ -3,7 +3,8 @@ ghost use Rattle.sd_base.specs.Schedules.{HasInputs};
 ghost use Rattle.sd_base.specs.Untimed.{IsLive};
 ghost use Rattle.lasso.specs.LoopAnswers.{IsFound};
 
-use firing::{Firing, LoopTable};
+use event_loops::loop_by_events;
+use firing::{Firing, LoopTable, Wired, Wiring};
 use lasso::{RunError, run_loop};
 use liveness::{Round, one_round};
 use sd_base::{Ledger, NoMemory, Steps};
@@ -48,6 +49,25 @@ pub(crate) fn run_net<F: Firing>(
     let answer = run_loop(alloc, net, states, &mut steps);
     let Runs = steps.finish();
     Ok(answer)
+}
+
+/// What the search by events alone answers of a net, which must go on for ever.
+pub(crate) fn run_by_events<F: Firing>(
+    rt: &impl Abort,
+    alloc: Global,
+    net: &F,
+    states: u64,
+) -> Result<Result<LoopTable, RunError>, Fail> {
+    assert!(rt; is_live(alloc, net)?);
+    assert!(rt; is_joined(net));
+    assert!(rt; is_fed(net));
+    assert!(rt; 1 <= states);
+    let wiring = Wiring::new(alloc, net)?;
+    let wired = Wired {
+        net,
+        wiring: &wiring,
+    };
+    Ok(loop_by_events(alloc, &wired, states))
 }
 
 /// Whether a round of a net can be completed.

@@ -48,14 +48,14 @@ fn compare_on<F: Firing>(
     for _event in 0..last + 2 {
         let step = engine.advance()?;
         let Some(event) = next else {
-            assert_eq!(rt; step, Move::Stuck);
+            assert!(rt; step == Move::Stuck);
             return Ok(false);
         };
         if event > last {
             return Ok(true);
         }
-        assert_eq!(rt; step, Move::Stepped);
-        assert_eq!(rt; engine.moment(), event);
+        assert!(rt; step == Move::Stepped);
+        assert!(rt; engine.moment() == event);
         compare_event(rt, alloc, engine, plain, event)?;
         next = plain.next_end(event);
     }
@@ -92,12 +92,18 @@ fn compare_shapes<F: Firing>(
     want: &Shape,
     now: u64,
 ) -> Result<(), Fail> {
-    assert_eq!(rt; engine.stage, Stage::Running);
+    assert!(rt; engine.stage == Stage::Running);
+    assert!(rt; engine.same_shape(want));
     let shape = engine.shape(alloc)?;
+    compare_lists(rt, &shape, want, now);
+    Ok(())
+}
+
+fn compare_lists(rt: &impl Abort, shape: &Shape, want: &Shape, now: u64) {
     assert_eq!(rt; shape.tokens.as_slice(), want.tokens.as_slice(), "at {now}");
     assert_eq!(rt; shape.phases.as_slice(), want.phases.as_slice(), "at {now}");
     let left = shape.remaining.as_slice();
-    assert_eq!(rt; left.len(), want.remaining.len());
+    assert!(rt; left.len() == want.remaining.len());
     for (actor, times) in want.remaining.as_slice().iter().enumerate() {
         assert_eq!(rt;
             left[actor].as_slice(),
@@ -105,8 +111,6 @@ fn compare_shapes<F: Firing>(
             "actor {actor} at {now}"
         );
     }
-    assert!(rt; engine.same_shape(want));
-    Ok(())
 }
 
 #[test]

@@ -2,7 +2,7 @@ ghost use Rattle.std.specs.Prelude.{◌^◌, ◌≤◌};
 
 use firing::{Firing, SdfNet, Wired, Wiring};
 use liveness::{Round, one_round};
-use selftimed::{Engine, Move, Stage};
+use selftimed::{Engine, Move, Shape, Stage};
 use std::alloc::Global;
 use std::process::Abort;
 use std::test::Fail;
@@ -56,7 +56,7 @@ fn follow_on<F: Firing>(
     for event in events {
         let step = engine.advance()?;
         assert_eq!(rt; step, Move::Stepped, "to {}", event.moment);
-        assert_eq!(rt; engine.moment(), event.moment);
+        assert!(rt; engine.moment() == event.moment);
         check_starts(rt, engine, event);
         check_shape(rt, alloc, engine, event)?;
     }
@@ -64,7 +64,7 @@ fn follow_on<F: Firing>(
 }
 
 fn check_starts<F: Firing>(rt: &impl Abort, engine: &Engine<'_, F>, event: &Event) {
-    assert_eq!(rt; event.started.len(), engine.net.actors() as usize);
+    assert!(rt; event.started.len() == engine.net.actors() as usize);
     for (actor, started) in event.started.iter().enumerate() {
         assert_eq!(rt;
             engine.started(actor as u32),
@@ -81,34 +81,29 @@ fn check_shape<F: Firing>(
     engine: &Engine<'_, F>,
     event: &Event,
 ) -> Result<(), Fail> {
-    assert_eq!(rt; engine.stage, Stage::Running);
+    assert!(rt; engine.stage == Stage::Running);
     let shape = engine.shape(alloc)?;
-    assert_eq!(rt;
-        shape.tokens.as_slice(),
-        event.tokens,
-        "at {}",
-        event.moment
-    );
-    check_phases(rt, shape.phases.as_slice(), event.phases);
-    let left = shape.remaining.as_slice();
-    assert_eq!(rt; left.len(), event.left.len());
-    for (actor, times) in event.left.iter().enumerate() {
-        assert_eq!(rt;
-            left[actor].as_slice(),
-            *times,
-            "actor {actor} at {}",
-            event.moment
-        );
-    }
+    check_lists(rt, &shape, event);
     assert!(rt; engine.same_shape(&shape));
     Ok(())
+}
+
+fn check_lists(rt: &impl Abort, shape: &Shape, event: &Event) {
+    let moment = event.moment;
+    assert_eq!(rt; shape.tokens.as_slice(), event.tokens, "at {moment}");
+    check_phases(rt, shape.phases.as_slice(), event.phases);
+    let left = shape.remaining.as_slice();
+    assert!(rt; left.len() == event.left.len());
+    for (actor, times) in event.left.iter().enumerate() {
+        assert_eq!(rt; left[actor].as_slice(), *times, "actor {actor} at {moment}");
+    }
 }
 
 fn check_phases(rt: &impl Abort, phases: &[u32], wanted: &[u32]) {
     if wanted.is_empty() {
         assert!(rt; phases.iter().all(|phase| *phase == 0));
     } else {
-        assert_eq!(rt; phases, wanted);
+        assert!(rt; phases == wanted);
     }
 }
 
@@ -200,7 +195,7 @@ fn moves(
 fn move_on(rt: &impl Abort, engine: &mut Engine<'_, SdfNet>, wanted: &[Move]) -> Result<(), Fail> {
     for want in wanted {
         let step = engine.advance()?;
-        assert_eq!(rt; step, *want);
+        assert!(rt; step == *want);
     }
     Ok(())
 }
@@ -217,7 +212,7 @@ fn what_cannot_start_is_stuck(rt: HostRuntime) -> Result<(), Fail> {
     let half = half_blocked(rt.alloc())?;
     let steps = [Move::Stepped, Move::Stepped, Move::Stuck, Move::Stuck];
     let (moment, _) = moves(&rt, rt.alloc(), &half, &steps)?;
-    assert_eq!(rt; moment, 1);
+    assert!(rt; moment == 1);
     Ok(())
 }
 
@@ -270,8 +265,8 @@ fn check_block(
     let Round::Blocked { counts, lacks } = one_round(alloc, net)? else {
         panic!(rt; "live");
     };
-    assert_eq!(rt; counts.as_slice(), want);
-    assert_eq!(rt; lacks.as_slice(), lacking);
+    assert!(rt; counts.as_slice() == want);
+    assert!(rt; lacks.as_slice() == lacking);
     Ok(())
 }
 
@@ -279,11 +274,11 @@ fn check_block(
 fn one_round_fires_each_actor_as_often_as_its_round(rt: HostRuntime) -> Result<(), Fail> {
     let alloc = rt.alloc();
     let order = order_of(&rt, alloc, &ring_of_two(alloc)?)?;
-    assert_eq!(rt; order.as_slice(), [0, 1].as_slice());
+    assert!(rt; order.as_slice() == [0, 1].as_slice());
     let order = order_of(&rt, alloc, &three_at_once(alloc)?)?;
-    assert_eq!(rt; order.as_slice(), [0].as_slice());
+    assert!(rt; order.as_slice() == [0].as_slice());
     let order = order_of(&rt, alloc, &multi_rate_ring(alloc)?)?;
-    assert_eq!(rt; order.as_slice(), [0, 1, 1].as_slice());
+    assert!(rt; order.as_slice() == [0, 1, 1].as_slice());
     Ok(())
 }
 

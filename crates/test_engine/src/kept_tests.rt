@@ -3,7 +3,7 @@ ghost use Rattle.selftimed.specs.declared.engine.Stage.{Stage};
 ghost use Rattle.selftimed.specs.declared.engine.Stage.TheVariants.{Running};
 ghost use Rattle.std.specs.Prelude.{◌≡◌};
 
-use crate::checks::run_net;
+use crate::checks::{run_by_events, run_net};
 use firing::{Firing, LoopTable, SdfNet, Wired, Wiring};
 use lasso::RunError;
 use sd_base::NoMemory;
@@ -50,8 +50,8 @@ fn keep_on(
 ) -> Result<Option<usize>, Fail> {
     for _event in 0..states {
         let step = engine.advance()?;
-        assert_eq!(rt; step, Move::Stepped);
-        assert_eq!(rt; engine.stage, Stage::Running);
+        assert!(rt; step == Move::Stepped);
+        assert!(rt; engine.stage == Stage::Running);
         let before = place_of(engine, seen.as_slice());
         seen.push(seen_at(alloc, engine)?)?;
         if before.is_some() {
@@ -95,18 +95,28 @@ fn counts_of(alloc: Global, engine: &Engine<'_, SdfNet>) -> Result<Vec<u64>, NoM
     Ok(counts)
 }
 
-/// Asserts that a table has the firings between two of these events.
-fn check_table(rt: &impl Abort, table: &LoopTable, seen: &[Seen], from: usize) {
+/// Asserts that a table has the firings between two of these events, as many as its rounds.
+fn check_table(rt: &impl Abort, net: &SdfNet, table: &LoopTable, seen: &[Seen], from: usize) {
     assert!(rt; from < seen.len());
     let entry = &seen[from];
     let end = &seen[seen.len() - 1];
-    assert_eq!(rt; table.entry, entry.moment);
+    assert!(rt; table.entry == entry.moment);
     assert!(rt; entry.moment <= end.moment);
-    assert_eq!(rt; table.period, end.moment - entry.moment);
-    assert_eq!(rt; table.before.as_slice(), entry.counts.as_slice());
-    assert_eq!(rt; table.starts.len(), entry.counts.len());
+    assert!(rt; table.period == end.moment - entry.moment);
+    assert!(rt; table.before.as_slice() == entry.counts.as_slice());
+    assert!(rt; table.starts.len() == entry.counts.len());
     for (actor, row) in table.starts.as_slice().iter().enumerate() {
         check_row(rt, row.as_slice(), &seen[from..], actor);
+    }
+    check_rounds(rt, net, table);
+}
+
+/// Asserts that each actor has the starts of a table's rounds.
+fn check_rounds(rt: &impl Abort, net: &SdfNet, table: &LoopTable) {
+    for actor in 0..net.actors() {
+        let firings = table.rounds.saturating_mul(net.round(actor));
+        let row = table.starts.as_slice().get(actor as usize);
+        assert!(rt; row.is_some_and(|row| row.len() as u64 == firings));
     }
 }
 
@@ -118,23 +128,37 @@ fn check_row(rt: &impl Abort, row: &[u64], seen: &[Seen], actor: usize) {
         let firings = seen[place].counts[actor].saturating_sub(seen[place - 1].counts[actor]);
         for _firing in 0..firings {
             assert!(rt; done < row.len());
-            assert_eq!(rt; row[done], seen[place].moment);
+            assert!(rt; row[done] == seen[place].moment);
             done += 1;
         }
     }
-    assert_eq!(rt; done, row.len());
+    assert!(rt; done == row.len());
 }
 
-/// Asserts that with each of 1 to 20 shapes allowed the loop is the one that keeping all shapes finds.
+/// Asserts that an answer is the loop that keeping all shapes finds, or that it finds none.
+fn check_answer(
+    rt: &impl Abort,
+    net: &SdfNet,
+    answer: &Result<LoopTable, RunError>,
+    seen: &[Seen],
+    before: Option<usize>,
+) {
+    match (answer, before) {
+        (Ok(table), Some(from)) => check_table(rt, net, table, seen, from),
+        (Err(RunError::StatesSpent), None) => {}
+        (_answer, _before) => panic!(rt; "they differ with {} shapes", seen.len()),
+    }
+}
+
+/// Asserts that with each of 1 to 20 shapes allowed the loop is the one that keeping all shapes finds, whether it is searched by
+/// needs first or by events alone.
 fn compare_to_20(rt: &impl Abort, alloc: Global, net: &SdfNet) -> Result<(), Fail> {
     for states in 1..21 {
-        let answer = run_net(rt, alloc, net, states)?;
         let (seen, before) = keep_all(rt, alloc, net, states)?;
-        match (answer, before) {
-            (Ok(table), Some(from)) => check_table(rt, &table, seen.as_slice(), from),
-            (Err(RunError::StatesSpent), None) => {}
-            (_answer, _before) => panic!(rt; "they differ with {states} shapes"),
-        }
+        let answer = run_net(rt, alloc, net, states)?;
+        check_answer(rt, net, &answer, seen.as_slice(), before);
+        let by_events = run_by_events(rt, alloc, net, states)?;
+        check_answer(rt, net, &by_events, seen.as_slice(), before);
     }
     Ok(())
 }

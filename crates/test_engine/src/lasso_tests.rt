@@ -15,7 +15,7 @@ fn check(
     wanted: (u64, u64, u64),
 ) -> Result<(), Fail> {
     let table = run_net(rt, alloc, net, 200_000)??;
-    assert_eq!(rt; (table.entry, table.period, table.rounds), wanted);
+    assert!(rt; (table.entry, table.period, table.rounds) == wanted);
     Ok(())
 }
 
@@ -40,10 +40,10 @@ fn loops_are_entered_where_shapes_come_again(rt: HostRuntime) -> Result<(), Fail
 fn a_table_has_the_firings_of_its_loop(rt: HostRuntime) -> Result<(), Fail> {
     let net = multi_rate_ring(rt.alloc())?;
     let table = run_net(&rt, rt.alloc(), &net, 20_000)??;
-    assert_eq!(rt; (table.entry, table.period, table.rounds), (24, 10, 1));
-    assert_eq!(rt; table.before.as_slice(), [6, 5].as_slice());
-    assert_eq!(rt; table.starts.len(), 2);
-    assert_eq!(rt; table.starts.as_slice()[0].as_slice(), [34].as_slice());
-    assert_eq!(rt; table.starts.as_slice()[1].as_slice(), [29, 34].as_slice());
+    assert!(rt; (table.entry, table.period, table.rounds) == (24, 10, 1));
+    assert!(rt; table.before.as_slice() == [6, 5].as_slice());
+    assert!(rt; table.starts.len() == 2);
+    assert!(rt; table.starts.as_slice()[0].as_slice() == [34].as_slice());
+    assert!(rt; table.starts.as_slice()[1].as_slice() == [29, 34].as_slice());
     Ok(())
 }

@@ -44,6 +44,6 @@ fn phases_run_as_in_the_plain_program(rt: HostRuntime) -> Result<(), Fail> {
     let Round::Live { order } = one_round(rt.alloc(), &net)? else {
         panic!(rt; "blocked");
     };
-    assert_eq!(rt; order.as_slice(), [0, 0, 1, 1, 1].as_slice());
+    assert!(rt; order.as_slice() == [0, 0, 1, 1, 1].as_slice());
     Ok(())
 }
