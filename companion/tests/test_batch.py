@@ -156,6 +156,7 @@ def wait_for_workers(address: str) -> None:
                 pytest.skip(f"no scheduler with two workers on the loopback within {STARTS} s")
 
 
+@pytest.mark.xdist_group("cluster")
 def test_answers_of_a_worker_that_lies_are_refused(run: Run, analyser: Analyser, files: List[str], cluster: str, tmp_path: Path) -> None:
     out = tmp_path / "rows.csv"
     words = ["batch", "--no-overlap", "--scheduler", cluster, "--output", str(out), "--", *files]
