@@ -123,9 +123,12 @@ def algorithms() -> list[Command]:
     """The algorithms with their options."""
     by_title = {section.title: section for section in sections()}
     said = {option.name: item.text for item in by_title["OPTIONS"].items for option in options_in(item.tag)}
-    return [Command(item.tag.partition(" ")[0], item.text, [Option(option.name, option.value, said[option.name])
-                                                             for option in options_in(item.tag)])
-            for item in by_title["ALGORITHMS"].items]
+
+    def command(item: Item) -> Command:
+        options = [Option(option.name, option.value, said[option.name]) for option in options_in(item.tag)]
+        return Command(item.tag.partition(" ")[0], item.text, options)
+
+    return [command(item) for item in by_title["ALGORITHMS"].items]
 
 
 @functools.cache

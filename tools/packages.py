@@ -251,7 +251,7 @@ def debian(packed: Packed) -> tuple[str, bytes]:
 
 def all_of(packed: Packed) -> dict[str, bytes]:
     """All files that are handed on, by name: the three packages, what was proved, and the checksums."""
-    found = dict([archive(packed), wheel(packed), debian(packed)])
+    found = {name: data for name, data in (archive(packed), wheel(packed), debian(packed))}
     found["PROVED"] = proved_text(packed).encode()
     found["SHA256SUMS"] = "".join(f"{archives.sha256(data)}  {name}\n" for name, data in sorted(found.items())).encode()
     return found

@@ -1,17 +1,19 @@
 """One run of the analyser: the one place that starts it. It needs nothing but the standard library and the analyser, so that a worker on
-another machine runs it as it is."""
+another machine runs it as it is: it is sent there whole, so that its classes are ordinary ones."""
 from __future__ import annotations
 
 import os
 import shutil
 import subprocess
 import tempfile
-from typing import List, NamedTuple, Optional, Sequence
+from dataclasses import dataclass
+from typing import List, Optional, Sequence
 
 MISSING, BUDGET = 14, 8
 
 
-class Ran(NamedTuple):
+@dataclass(frozen=True)
+class Ran:
     """How a run ended: its exit status, below 0 where a signal ended it, and what it wrote."""
 
     status: int
@@ -24,7 +26,8 @@ class Ran(NamedTuple):
         return self.err.strip().rpartition("\n")[2]
 
 
-class Answer(NamedTuple):
+@dataclass(frozen=True)
+class Answer:
     """What came of a graph that was sent: a status, the text that was printed or else the line of the refusal, and the certificate."""
 
     status: int

@@ -3,7 +3,7 @@ import os
 import subprocess
 import sys
 from pathlib import Path
-from typing import Dict, Iterable, Optional, Protocol, Tuple, Union
+from typing import Dict, Iterable, List, Optional, Protocol, Tuple, Union
 
 import pytest
 
@@ -41,6 +41,11 @@ class GraphFile(Protocol):
 def own_environment(analyser: Analyser, more: Iterable[Tuple[str, str]] = ()) -> Dict[str, str]:
     """What a companion is run with."""
     return {**os.environ, "SDF3ANALYSIS": analyser.program, **dict(more)}
+
+
+def pytest_collection_modifyitems(items: List[pytest.Item]) -> None:
+    """Tests that stay with one worker begin first, since they take longest one after another."""
+    items.sort(key=lambda item: item.get_closest_marker("xdist_group") is None)
 
 
 @pytest.fixture(scope="session")

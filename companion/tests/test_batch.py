@@ -7,6 +7,7 @@ import stat
 import subprocess
 import sys
 import time
+from dataclasses import replace
 from pathlib import Path
 from typing import Any, Dict, Iterator, List, Tuple
 
@@ -156,6 +157,7 @@ def wait_for_workers(address: str) -> None:
                 pytest.skip(f"no scheduler with two workers on the loopback within {STARTS} s")
 
 
+@pytest.mark.xdist_group("cluster")
 def test_answers_of_a_worker_that_lies_are_refused(run: Run, analyser: Analyser, files: List[str], cluster: str, tmp_path: Path) -> None:
     out = tmp_path / "rows.csv"
     words = ["batch", "--no-overlap", "--scheduler", cluster, "--output", str(out), "--", *files]
@@ -187,8 +189,8 @@ def test_an_answer_has_to_be_about_what_was_asked(analyser: Analyser, files: Lis
     rate = right.text.partition("\n")[0].removeprefix("rate ")
     assert judged(analyser, "g", alone, right) == (0, rate, "")
     assert judged(analyser, "g", free, other) == (0, other.text.partition("\n")[0].removeprefix("rate "), "")
-    changed = right._replace(certificate=right.certificate.replace(b"\nend", b"\n0\nend"))
-    for answer in (other, changed, right._replace(certificate=b""), None):
+    changed = replace(right, certificate=right.certificate.replace(b"\nend", b"\n0\nend"))
+    for answer in (other, changed, replace(right, certificate=b""), None):
         status, none, line = judged(analyser, "g", alone, answer)
         assert (status, none) == (9, None)
         assert line.startswith("refused: ")

@@ -13,8 +13,8 @@ from tests.conftest import Example, GraphFile
 from tests.drawn import Drawn
 
 PAGE = os.path.join(ROOT, "docs", "LIBRARY.md")
-LOOP = {"actors": {"a": [0, Fraction(3, 2)], "b": 4}, "channels": [{"from": "a", "to": "b", "made": [1, 2], "taken": 3, "name": "x, y"},
-                                                                  {"from": "b", "to": "a", "taken": [1, 0], "tokens": 1}]}
+LOOP = {"actors": {"a": [0, Fraction(3, 2)], "b": 4},
+        "channels": [{"from": "a", "to": "b", "made": [1, 2], "taken": 3, "name": "x, y"}, {"from": "b", "to": "a", "taken": [1, 0], "tokens": 1}]}
 
 
 def test_each_example_of_the_page(analyser: Analyser, monkeypatch: pytest.MonkeyPatch) -> None:

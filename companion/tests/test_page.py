@@ -25,7 +25,7 @@ from tests.looking import Window
 PICTURES = os.path.join(ROOT, "docs", "pictures")
 RIGHT, LEFT, UP, HOME, END, PAGE_UP, PAGE_DOWN = "\ue014", "\ue012", "\ue013", "\ue011", "\ue010", "\ue00e", "\ue00f"
 needs_graphviz = pytest.mark.skipif(shutil.which("dot") is None, reason="graphviz isn't installed")
-pytestmark = needs_graphviz
+pytestmark = [needs_graphviz, pytest.mark.xdist_group("browser")]
 
 READABLE = """
 const sizes = [...document.querySelectorAll(".drawing svg")].filter((svg) => svg.clientWidth > 0).flatMap((svg) => {

@@ -113,6 +113,9 @@ def run(asked: argparse.Namespace) -> int:
         output.progress(f"{count} of {len(tasks)} rows")
     output.progress("")
     table.end()
+    if faults:
+        output.tell(f"{len(faults)} of {len(set(asked.files))} files can't be read")
     if table.refused:
+        output.tell(f"{table.refused} of {len(tasks)} rows don't count")
         return NO
     return SHELF if faults else 0
