@@ -6,3 +6,4 @@ pub mod Adding
 pub mod Onward
 pub mod Pigeons
 pub mod Kept
+pub mod Computed

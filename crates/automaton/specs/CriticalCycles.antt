@@ -33,6 +33,10 @@ pub record Fit (graph : TimedGraph) (l w : ℕ) (p : ℕ → Option ℤ) : Type 
   pub steps : (k : ℕ) (e : Edge) (x y : ℤ) → IsReachedNode graph e.from → slice_get graph.edges k ≡ Some e → p e.from ≡ Some x → p e.to ≡ Some y
       → (x +ℤ pos (e.weight * l)) ≤ℤ (y +ℤ pos w)
 
+-- where potentials stand, they are no greater than others that fit the rate l/w
+abbrev pub AreLeast : TimedGraph → ℕ → ℕ → (ℕ → Option ℤ) → Type 0
+AreLeast graph l w p = (q : ℕ → Option ℤ) → Fit graph l w q → (v : ℕ) (x y : ℤ) → p v ≡ Some x → q v ≡ Some y → x ≤ℤ y
+
 -- a closed walk through reached nodes with as many edges for its weights as l for w
 pub record IsCritical (graph : TimedGraph) (l w : ℕ) (cycle : List ℕ) : Type 0 where
   pub node : ℕ

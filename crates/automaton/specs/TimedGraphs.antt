@@ -7,6 +7,7 @@ use Rattle.sd_base.specs.declared.tables.StateRow.{StateRow}
 use Rattle.automaton.specs.declared.graph.Edge.{Edge}
 use Rattle.automaton.specs.declared.graph.TimedGraph.{TimedGraph}
 use Rattle.sd_base.specs.Scenarios.{shared_count, LeadsOn}
+use Rattle.token_matrix.specs.EntryWays.{CarriesStamps}
 use Rattle.token_matrix.specs.Matrices.{IsMatrix}
 
 -- the edges into one node by the row of its token, from the nodes from `from` on
@@ -35,6 +36,12 @@ pub record AreMatrices (file : ScenarioFile) (matrices : List (List (List (Optio
   pub all : length matrices ≡ length file.scenarios
   pub each : (s : ℕ) (row : ScenarioRow) → slice_get file.scenarios s ≡ Some row →
       (gamma : List ℕ) × IsRepetitionOf row.graph gamma × IsMatrix file.shared row.graph gamma (slice_index_or matrices s [])
+
+-- so are those that are computed: of scenarios whose rounds carry stamps
+pub record AreComputed (file : ScenarioFile) (matrices : List (List (List (Option ℕ)))) : Type 0 where
+  pub all : length matrices ≡ length file.scenarios
+  pub each : (s : ℕ) (row : ScenarioRow) → slice_get file.scenarios s ≡ Some row →
+      (gamma : List ℕ) × CarriesStamps file.shared row.graph gamma × IsMatrix file.shared row.graph gamma (slice_index_or matrices s [])
 
 -- the graph is that of the file
 pub record IsTimedGraph (file : ScenarioFile) (graph : TimedGraph) : Type 0 where

@@ -24,3 +24,4 @@ pub mod ChildMarks
 pub mod BestRates
 pub mod LinkMaps
 pub mod EdgeWeights
+mod ToldLines

@@ -1,8 +1,8 @@
 -- The first fault of a certificate of a trade-off, from those of its parts.
 use Rattle.std.proofs.Common.{◌≡◌, ℕ, zero, suc, ◌+◌, ◌-◌, ◌≤◌, ◌<◌, ◌⊎◌, List, [], ◌∷◌, length, map, take, inl, inr, ⊎_elim, sym, refl, subst, ap, ap₂, ◌∙◌, arith}
 use Rattle.std.specs.Prelude.{sum, slice_index_or, ◌==◌, cond, Bool, true, false}
-use Rattle.std.proofs.Math.Seq.{take-suc, take-length}
-use Rattle.std.proofs.lemmas.Bool.{cases_lt, eqb-true}
+use Rattle.std.proofs.Math.Seq.{take-suc}
+use Rattle.std.proofs.lemmas.Bool.{cases_lt}
 use Rattle.std.specs.List.{sum_by}
 use Rattle.std.proofs.lemmas.List.Sums.{sum-map, sum_by-append}
 use Rattle.sd_base.specs.Net.{Net}
@@ -14,7 +14,7 @@ use Rattle.cert_text.specs.MemberLines.{cycle_at}
 use Rattle.cert_checker.specs.declared.verdict.Reason.{Reason}
 use Rattle.cert_checker.specs.Verdicts.{IsFirst, rank_of}
 use Rattle.cert_checker.specs.ShownChannels.{member_at, no_member}
-use Rattle.cert_checker.specs.StorageLines.{cycle_size, cycles_size, end_line, member_line, member_size, point_line, point_size, shown_size}
+use Rattle.cert_checker.specs.StorageLines.{cycle_size, end_line, member_line, member_size, point_line, point_size, shown_size}
 use Rattle.cert_checker.specs.StorageCertificates.{IsMemberRight, IsPointRight, no_point, point_at}
 use Rattle.cert_checker.specs.StorageFaults.{IsCycleFault, IsMemberFault, IsPointFault, IsShownFault, rate, cycle, counts, member, closure, shown, schedule, starts, point, reaches}
 use Rattle.cert_checker.specs.inside.FirstFaults.{IsFaultOfMembers, IsFaultOfPoints, at_member, at_point}
@@ -46,20 +46,6 @@ module _ {A : Type 0} (f : A → ℕ) (xs : List A) (d : A) where
       let on_j : sum (map f (take (suc i) xs)) ≤ sum (map f (take j xs)) = subst (λ (n : ℕ). sum (map f (take (suc i) xs)) ≤ sum (map f (take n xs))) e on in
       omega (arith, step, on_j)
 
--- the lines of the first cycles and of one more are lines of the cycles
-pub cycles-fit : (version : ℕ) (cs : List LinkCycle) (i : ℕ) (x : LinkCycle) → (version ≡ 1 → ⊥) → i < length cs → x ≡ slice_index_or cs i x → 1 + sum (map cycle_size (take i cs)) + cycle_size x ≤ cycles_size version cs
-cycles-fit version cs i x other below is = at (version == 1) refl
-  where
-    room : sum (map cycle_size (take i cs)) + cycle_size (slice_index_or cs i x) ≤ sum (map cycle_size (take (length cs) cs))
-    room = sizes-before cycle_size cs x i (length cs) below (omega arith)
-
-    at : (b : Bool) → (version == 1) ≡ b → 1 + sum (map cycle_size (take i cs)) + cycle_size x ≤ cond b 0 (1 + sum (map cycle_size cs))
-    at true same = absurd (other (eqb-true version 1 same))
-    at false same =
-        let all : sum (map cycle_size (take (length cs) cs)) ≡ sum (map cycle_size cs) = ap (λ (ys : List LinkCycle). sum (map cycle_size ys)) (take-length cs) in
-        let here : cycle_size x ≡ cycle_size (slice_index_or cs i x) = ap cycle_size is in
-        omega (arith, room, all, here)
-
 -- ---- faults stand within their parts
 
 cycle-place : (net : Net) (version : ℕ) (x : ℕ × ℕ) (links : LinkCycle) (place : ℕ) (reason : Reason) → IsCycleFault net version x links place reason → place ≤ cond (version == 1) (1 + cycle_size links) 1
@@ -88,21 +74,15 @@ point-place net c i place reason (point h il ir) = omega (arith, il)
 point-place net c i place reason (reaches (schedule h il ir)) = omega (arith, il)
 point-place net c i place reason (reaches (starts a below h il ir)) = omega (arith, il, below)
 
--- ---- the last line is past all others
+-- ---- each part stands behind those before it, and the last line behind them all
 
 module _ (version : ℕ) (c : StorageCertificate) where
-  pub members-fit : (i : ℕ) → i < length c.members → sum (map (member_size version c.cycles) (take i c.members)) + member_size version c.cycles (member_at c.members i) ≤ end_line version c
-  members-fit i below = omega (arith, sizes-before (member_size version c.cycles) c.members no_member i (length c.members) below (omega arith))
-
   pub member-inside : (i : ℕ) → i < length c.members → member_line version c i + member_size version c.cycles (member_at c.members i) ≤ end_line version c
   member-inside i below = omega (arith, sizes-before (member_size version c.cycles) c.members no_member i (length c.members) below (omega arith))
 
   pub point-inside : (i : ℕ) → i < length c.points → point_line version c i + point_size (point_at c.points i) ≤ end_line version c
   point-inside i below = omega (arith, sizes-before point_size c.points no_point i (length c.points) below (omega arith))
 
--- ---- members
-
-module _ (net : Net) (version : ℕ) (c : StorageCertificate) where
   pub next-member : (i j : ℕ) → i < j → j ≤ length c.members → member_line version c i + member_size version c.cycles (member_at c.members i) ≤ member_line version c j
   next-member i j less below = omega (arith, sizes-before (member_size version c.cycles) c.members no_member i j less below)
 
@@ -115,6 +95,9 @@ module _ (net : Net) (version : ℕ) (c : StorageCertificate) where
   pub point-more : (i : ℕ) → i < length c.points → point_line version c (i + 1) ≡ point_line version c i + point_size (point_at c.points i)
   point-more i below = let e : i + 1 ≡ suc i = omega arith in rw e (omega (arith, sizes-more point_size c.points no_point i below))
 
+-- ---- members
+
+module _ (net : Net) (version : ℕ) (c : StorageCertificate) where
   pub first-member : (i place : ℕ) (reason : Reason) → i < length c.members → ((j : ℕ) → j < i → IsMemberRight net c j) → IsFirst (IsMemberFault net version c i) place reason → IsFirst (IsFaultOfMembers net version c) (member_line version c i + place) reason
   first-member i place reason below right first = record { is = at_member i place below first.is refl; least = least }
     where
@@ -125,7 +108,7 @@ module _ (net : Net) (version : ℕ) (c : StorageCertificate) where
       least l r (at_member j at low fault il) = ⊎_elim
           (λ (less : j < i). absurd (no-member net version c j (right j less) at r fault))
           (λ (no_less : i ≤ j). ⊎_elim
-          (λ (more : i < j). inl (omega (arith, il, inside, next-member i j more (omega arith))))
+          (λ (more : i < j). inl (omega (arith, il, inside, next-member version c i j more (omega arith))))
           (λ (no_more : j ≤ i).
           let same : j ≡ i = omega (arith, no_less, no_more) in
           let fault_here : IsMemberFault net version c i at r = subst (λ (n : ℕ). IsMemberFault net version c n at r) same fault in
@@ -147,7 +130,7 @@ module _ (net : Net) (version : ℕ) (c : StorageCertificate) where
       least l r (at_point j at low fault il) = ⊎_elim
           (λ (less : j < i). absurd (no-point net c j (right j less) at r fault))
           (λ (no_less : i ≤ j). ⊎_elim
-          (λ (more : i < j). inl (omega (arith, il, inside, next-point i j more (omega arith))))
+          (λ (more : i < j). inl (omega (arith, il, inside, next-point version c i j more (omega arith))))
           (λ (no_more : j ≤ i).
           let same : j ≡ i = omega (arith, no_less, no_more) in
           let fault_here : IsPointFault net c i at r = subst (λ (n : ℕ). IsPointFault net c n at r) same fault in

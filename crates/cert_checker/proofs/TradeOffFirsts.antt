@@ -16,6 +16,17 @@ use Rattle.cert_checker.proofs.StorageFirsts.{member-place, next-member}
 use Rattle.cert_checker.proofs.RateFaults.{NotBefore, same}
 
 module _ (net : Net) (version : ℕ) (c : StorageCertificate) where
+  pub touched-first : (AreTouched net → ⊥) → IsFirst (IsTradeOffFault net version c) 2 reasons.Connection
+  touched-first none = record { is = touched none refl refl; least = least }
+    where
+      least : (l : ℕ) (r : Reason) → IsTradeOffFault net version c l r → NotBefore 2 reasons.Connection l r
+      least l r (touched h il ir) = same 2 l reasons.Connection r il ir
+      least l r (limit h il ir) = inl (omega (arith, il))
+      least l r (corner h il ir) = inl (omega (arith, il))
+      least l r (of_member i place low fault il) = inl (omega (arith, il))
+      least l r (covered h il ir) = inl (omega (arith, il))
+      least l r (of_point i place low fault il) = inl (omega (arith, il))
+
   pub limit-first : AreTouched net → STORAGE < c.limit → IsFirst (IsTradeOffFault net version c) 4 reasons.Limit
   limit-first is_touched over = record { is = limit over refl refl; least = least }
     where
@@ -47,7 +58,7 @@ module _ (net : Net) (version : ℕ) (c : StorageCertificate) where
           up l r (at_member i place below fault il) = of_member i place below fault il
 
           before : (l : ℕ) (r : Reason) → IsFaultOfMembers net version c l r → l < points_line version c
-          before l r (at_member i place below fault il) = omega (arith, il, member-place net version c i place r fault, next-member net version c i (length c.members) below (omega arith))
+          before l r (at_member i place below fault il) = omega (arith, il, member-place net version c i place r fault, next-member version c i (length c.members) below (omega arith))
 
           least : (l : ℕ) (r : Reason) → IsTradeOffFault net version c l r → NotBefore line reason l r
           least l r (touched h il ir) = absurd (h is_touched)

@@ -17,7 +17,7 @@ IsOfGraph (Rate c) = Unit {0}
 IsOfGraph (Storage c) = Unit {0}
 IsOfGraph (Scenario c) = ⊥
 
--- its lines have numbers of 64 bits
+-- its lines have numbers of 64 bits, as those of each certificate that is read from a file
 abbrev pub HasFewLines : ℕ → Certificate → Type 0
 HasFewLines version (Rate c) = Unit {0}
 HasFewLines version (Storage c) = end_line version c < 2 ^ 64

@@ -1,5 +1,5 @@
 -- The first fault of a certificate, and verdicts.
-use Rattle.std.specs.Prelude.{◌≡◌, ℕ, ◌≤◌, ◌<◌, ◌⊎◌}
+use Rattle.std.specs.Prelude.{◌≡◌, ℕ, ◌-◌, ◌^◌, ◌≤◌, ◌<◌, ◌⊎◌}
 use Rattle.cert_checker.specs.declared.verdict.Claim.{Claim}
 use Rattle.cert_checker.specs.declared.verdict.Reason.{Reason}
 use Rattle.cert_checker.specs.declared.verdict.Reason.TheVariants.{Connection, Buffers, Rate, Schedule, Cycle, Limit, Member, Blocked, Closure, Point, Node, Potential}
@@ -30,3 +30,12 @@ pub record IsFirst (F : ℕ → Reason → Type 0) (line : ℕ) (reason : Reason
 abbrev pub IsVerdict : (ℕ → Reason → Type 0) → (Claim → Type 0) → Verdict → Type 0
 IsVerdict F shown (Accepted claim) = ((l : ℕ) (r : Reason) → F l r → ⊥) × shown claim
 IsVerdict F shown (Rejected line reason) = IsFirst F line reason
+
+-- the number by which a line is told: its own, or the greatest of 64 bits where its own is greater
+abbrev pub IsToldAs : ℕ → ℕ → Type 0
+IsToldAs line number = (number ≡ line) ⊎ ((number ≡ 2 ^ 64 - 1) × (2 ^ 64 ≤ line))
+
+-- the same verdict, whose line may have a number of more than 64 bits
+abbrev pub IsToldVerdict : (ℕ → Reason → Type 0) → (Claim → Type 0) → Verdict → Type 0
+IsToldVerdict F shown (Accepted claim) = ((l : ℕ) (r : Reason) → F l r → ⊥) × shown claim
+IsToldVerdict F shown (Rejected number reason) = (line : ℕ) × IsFirst F line reason × IsToldAs line number

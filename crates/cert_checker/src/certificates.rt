@@ -7,7 +7,7 @@ ghost use Rattle.sd_base.specs.Tables.{IsTimed, KeepsRules};
 ghost use Rattle.cert_text.specs.Orderly.{IsOrderly};
 ghost use Rattle.cert_text.specs.Spellable.{IsSpellable};
 ghost use Rattle.cert_checker.specs.Certificates.{HasFewLines, IsCertificateClaim, IsCertificateFault, IsOfGraph};
-ghost use Rattle.cert_checker.specs.Verdicts.{IsVerdict};
+ghost use Rattle.cert_checker.specs.Verdicts.{IsToldVerdict, IsVerdict};
 
 use crate::rates::check_rate;
 use crate::trade_offs::check_storage;
@@ -33,8 +33,8 @@ pub fn check(
     requires kind { IsOfGraph certificate.now }
     requires spellable { IsSpellable certificate.now }
     requires orderly { IsOrderly certificate.now }
-    requires lines { HasFewLines version certificate.now }
-    ensures { IfOk result (IsVerdict (IsCertificateFault graph.now gamma.now version certificate.now) (IsCertificateClaim graph.now gamma.now certificate.now)) }
+    ensures told { IfOk result (IsToldVerdict (IsCertificateFault graph.now gamma.now version certificate.now) (IsCertificateClaim graph.now gamma.now certificate.now)) }
+    ensures exact { HasFewLines version certificate.now → IfOk result (IsVerdict (IsCertificateFault graph.now gamma.now version certificate.now) (IsCertificateClaim graph.now gamma.now certificate.now)) }
 {
     match certificate {
         Certificate::Rate(certificate) => check_rate(alloc, graph, gamma, certificate),

@@ -1,5 +1,6 @@
 //! Potentials of listed nodes.
 ghost use Rattle.std.specs.Prelude.{◌≡◌, ◌↔◌, ℕ, ◌+◌, ◌*◌, ◌<◌, ◌≤◌, ◌^◌, pos, ◌+ℤ◌, ◌≤ℤ◌, ℤ, Some, IsTrue, MatchOption, length, slice_get, slice_index_or};
+ghost use Rattle.sd_base.specs.declared.limits.TheConstants.{ROUND, TIME};
 ghost use Rattle.automaton.specs.declared.graph.Edge.{Edge};
 ghost use Rattle.automaton.specs.SoundGraphs.{IsSound};
 ghost use Rattle.cert_checker.specs.inside.Marks.{AreReached};
@@ -126,7 +127,7 @@ fn is_kept_to(
     node: u64,
     potential: i128,
 ) -> bool
-    requires light { edge.weight ≤ 100000000000000 }
+    requires light { edge.weight ≤ TIME * ROUND }
     ensures { IsTrue result ↔ IsKeptTo graph.now rate potentials.now node potential edge }
 {
     u64::from(edge.to) != node || is_kept(graph, rate, potentials, edge, potential)
@@ -140,7 +141,7 @@ fn is_kept(
     edge: Edge,
     potential: i128,
 ) -> bool
-    requires light { edge.weight ≤ 100000000000000 }
+    requires light { edge.weight ≤ TIME * ROUND }
     ensures { IsTrue result ↔ ((x : ℤ) → potential_of graph.now potentials.now edge.from ≡ Some x → (x +ℤ pos (edge.weight * rate.0)) ≤ℤ (potential +ℤ pos rate.1)) }
 {
     match potential_of(graph, potentials, u64::from(edge.from)) {
@@ -156,7 +157,7 @@ fn is_kept(
 
 /// Whether x and a gain is at most y and some slack.
 fn is_no_higher(x: i128, gain: u128, y: i128, slack: u64) -> bool
-    requires { gain ≤ 100000000000000 * 2 ^ 64 }
+    requires { gain ≤ TIME * ROUND * 2 ^ 64 }
     ensures { IsTrue result ↔ ((x +ℤ pos gain) ≤ℤ (y +ℤ pos slack)) }
 {
     let gain = gain as i128;

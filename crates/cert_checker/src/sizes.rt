@@ -1,7 +1,8 @@
 //! How many lines the parts of a trade-off have.
-ghost use Rattle.std.specs.Prelude.{◌≡◌, ◌+◌, ◌<◌, ◌≤◌, ◌^◌, map, sum, take};
+ghost use Rattle.std.specs.Prelude.{◌≡◌, ◌+◌, ◌≤◌, ◌^◌};
 ghost use Rattle.cert_text.specs.MemberLines.{cycle_at};
 ghost use Rattle.cert_checker.specs.StorageLines.{cycle_size, cycles_size, member_size, point_size, shown_size};
+ghost use Rattle.cert_checker.specs.inside.FirstFaults.{told};
 
 use cert_text::{LinkCycle, MemberLine, MemberShown, PointLine};
 
@@ -12,17 +13,16 @@ fn cycle_size(cycle: &LinkCycle) -> u64
     1 + cycle.steps.as_slice().len() as u64
 }
 
-/// The lines before that of the number of members.
+/// The lines before that of the number of members, as far as 64 bits hold their number.
 pub(crate) fn cycles_size(version: u32, cycles: &[LinkCycle]) -> u64
-    requires few { cycles_size version cycles.now < 2 ^ 64 }
-    ensures { result ≡ cycles_size version cycles.now }
+    ensures { result ≡ told (cycles_size version cycles.now) }
 {
     if version == 1 {
         return 0;
     }
-    let mut size = 1;
+    let mut size: u64 = 1;
     for cycle in cycles {
-        size += cycle_size(cycle);
+        size = size.saturating_add(cycle_size(cycle));
     }
     size
 }

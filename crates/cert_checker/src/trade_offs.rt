@@ -1,5 +1,5 @@
 //! Certificates of trade-offs between storage and rate.
-ghost use Rattle.std.specs.Prelude.{◌≡◌, ◌↔◌, ◌+◌, ◌≤◌, ◌<◌, ◌^◌, IfOk, IsTrue, length, sum};
+ghost use Rattle.std.specs.Prelude.{◌≡◌, ◌↔◌, ◌≤◌, ◌<◌, ◌^◌, IfOk, IsTrue, length, sum};
 ghost use Rattle.sd_base.specs.declared.limits.TheConstants.{ROUND, STORAGE};
 ghost use Rattle.sd_base.specs.Connection.{AreConnected, graph_ends};
 ghost use Rattle.sd_base.specs.FileNet.{net_of};
@@ -11,9 +11,9 @@ ghost use Rattle.cert_text.specs.Spellable.{IsStorageSpellable};
 ghost use Rattle.cert_checker.specs.StorageLines.{end_line, member_line, members_line, point_line, points_line};
 ghost use Rattle.cert_checker.specs.StorageCertificates.{BeginsAtCorner, IsFileNet, IsFrontClaim};
 ghost use Rattle.cert_checker.specs.StorageFaults.{IsStorageFault, IsTradeOffFault};
-ghost use Rattle.cert_checker.specs.Verdicts.{IsVerdict};
+ghost use Rattle.cert_checker.specs.Verdicts.{IsToldVerdict, IsVerdict};
 ghost use Rattle.cert_checker.specs.declared.verdict.Verdict.TheVariants.{Rejected};
-ghost use Rattle.cert_checker.specs.inside.FirstFaults.{AreMembersRight, ArePointsRight, IsFaultOfMembers, IsFaultOfPoints, Judges};
+ghost use Rattle.cert_checker.specs.inside.FirstFaults.{AreMembersRight, ArePointsRight, IsFaultOfMembers, IsFaultOfPoints, JudgesTold, told};
 
 use crate::fault::Fault;
 use crate::laws::trade_off_is_shown;
@@ -49,8 +49,8 @@ pub fn check_storage(
     requires small { sum gamma.now ≤ ROUND }
     requires spellable { IsStorageSpellable certificate.now }
     requires orderly { IsStorageOrderly certificate.now }
-    requires lines { end_line version certificate.now < 2 ^ 64 }
-    ensures { IfOk result (IsVerdict (IsStorageFault graph.now gamma.now version certificate.now) (IsFrontClaim (net_of graph.now gamma.now certificate.now.no_overlap) certificate.now)) }
+    ensures told { IfOk result (IsToldVerdict (IsStorageFault graph.now gamma.now version certificate.now) (IsFrontClaim (net_of graph.now gamma.now certificate.now.no_overlap) certificate.now)) }
+    ensures exact { end_line version certificate.now < 2 ^ 64 → IfOk result (IsVerdict (IsStorageFault graph.now gamma.now version certificate.now) (IsFrontClaim (net_of graph.now gamma.now certificate.now.no_overlap) certificate.now)) }
 {
     let net = CsdfNet::new(alloc, graph, gamma, certificate.no_overlap)?;
     check_trade_off(alloc, &net, certificate, version)
@@ -66,8 +66,7 @@ fn check_trade_off<F: Firing>(
     requires file { IsFileNet (F.net net.now) }
     requires spellable { IsStorageSpellable certificate.now }
     requires orderly { NameOnes (length certificate.now.cycles) certificate.now.members }
-    requires lines { end_line version certificate.now < 2 ^ 64 }
-    ensures { IfOk result (IsVerdict (IsTradeOffFault (F.net net.now) version certificate.now) (IsFrontClaim (F.net net.now) certificate.now)) }
+    ensures { IfOk result (IsToldVerdict (IsTradeOffFault (F.net net.now) version certificate.now) (IsFrontClaim (F.net net.now) certificate.now)) }
 {
     know_laws(net);
     trade_off_is_shown();
@@ -78,24 +77,31 @@ fn check_trade_off<F: Firing>(
         return Ok(rejected(4, Reason::Limit));
     }
     let corner = corner(alloc, net)?;
-    let line = 5 + cycles_size(version, certificate.cycles.as_slice());
+    let line = members_line(version, certificate);
     if !begins_at(net, &corner, certificate) {
         return Ok(rejected(line, Reason::Member));
     }
-    if let Some(fault) = members_fault(alloc, net, version, certificate, line + 1)? {
+    if let Some(fault) = members_fault(alloc, net, version, certificate, line.saturating_add(1))? {
         return Ok(rejected(fault.line, fault.reason));
     }
-    let line = line + 1 + members_size(version, certificate);
+    let line = points_line(version, certificate, line);
     if !are_below(alloc, net, certificate)? {
         return Ok(rejected(line, Reason::Point));
     }
-    if let Some(fault) = points_fault(alloc, net, version, certificate, line + 1)? {
+    if let Some(fault) = points_fault(alloc, net, version, certificate, line.saturating_add(1))? {
         return Ok(rejected(fault.line, fault.reason));
     }
     Ok(Verdict::Accepted(Claim::Points {
         number: certificate.points.len() as u64,
         limit: certificate.limit,
     }))
+}
+
+/// The line of the number of members.
+fn members_line(version: u32, certificate: &StorageCertificate) -> u64
+    ensures { result ≡ told (members_line version certificate.now) }
+{
+    cycles_size(version, certificate.cycles.as_slice()).saturating_add(5)
 }
 
 fn rejected(line: u64, reason: Reason) -> Verdict
@@ -127,38 +133,38 @@ fn members_fault<F: Firing>(
     requires file { IsFileNet (F.net net.now) }
     requires limit { certificate.now.limit ≤ STORAGE }
     requires orderly { NameOnes (length certificate.now.cycles) certificate.now.members }
-    requires lines { end_line version certificate.now < 2 ^ 64 }
-    requires first { first_line ≡ member_line version certificate.now 0 }
-    ensures { IfOk result (Judges (IsFaultOfMembers (F.net net.now) version certificate.now) (AreMembersRight (F.net net.now) certificate.now)) }
+    requires first { first_line ≡ told (member_line version certificate.now 0) }
+    ensures { IfOk result (JudgesTold (IsFaultOfMembers (F.net net.now) version certificate.now) (AreMembersRight (F.net net.now) certificate.now)) }
 {
     let listed = listed_of(alloc, net, certificate)?;
     let mut line = first_line;
     for number in 0..certificate.members.len() {
         if let Some(fault) = member_fault(alloc, net, version, certificate, &listed, number)? {
             return Ok(Some(Fault {
-                line: line + fault.line,
+                line: line.saturating_add(fault.line),
                 reason: fault.reason,
             }));
         }
-        line += member_size(
+        line = line.saturating_add(member_size(
             version,
             certificate.cycles.as_slice(),
             &certificate.members.as_slice()[number],
-        );
+        ));
     }
     Ok(None)
 }
 
-/// How many lines the members have.
-fn members_size(version: u32, certificate: &StorageCertificate) -> u64
-    requires lines { end_line version certificate.now < 2 ^ 64 }
-    ensures { members_line version certificate.now + 1 + result ≡ points_line version certificate.now }
+/// The line of the number of points, by that of the number of members.
+fn points_line(version: u32, certificate: &StorageCertificate, before: u64) -> u64
+    requires { before ≡ told (members_line version certificate.now) }
+    ensures { result ≡ told (points_line version certificate.now) }
 {
-    let mut size = 0;
+    let mut line = before.saturating_add(1);
     for member in certificate.members.as_slice() {
-        size += member_size(version, certificate.cycles.as_slice(), member);
+        let size = member_size(version, certificate.cycles.as_slice(), member);
+        line = line.saturating_add(size);
     }
-    size
+    line
 }
 
 /// The first fault of the points, of which the first one stands at a line.
@@ -173,19 +179,18 @@ fn points_fault<F: Firing>(
     requires limit { certificate.now.limit ≤ STORAGE }
     requires members { AreMembersRight (F.net net.now) certificate.now }
     requires spellable { IsStorageSpellable certificate.now }
-    requires lines { end_line version certificate.now < 2 ^ 64 }
-    requires first { first_line ≡ point_line version certificate.now 0 }
-    ensures { IfOk result (Judges (IsFaultOfPoints (F.net net.now) version certificate.now) (ArePointsRight (F.net net.now) certificate.now)) }
+    requires first { first_line ≡ told (point_line version certificate.now 0) }
+    ensures { IfOk result (JudgesTold (IsFaultOfPoints (F.net net.now) version certificate.now) (ArePointsRight (F.net net.now) certificate.now)) }
 {
     let mut line = first_line;
     for number in 0..certificate.points.len() {
         if let Some(fault) = point_fault(alloc, net, certificate, number)? {
             return Ok(Some(Fault {
-                line: line + fault.line,
+                line: line.saturating_add(fault.line),
                 reason: fault.reason,
             }));
         }
-        line += point_size(&certificate.points.as_slice()[number]);
+        line = line.saturating_add(point_size(&certificate.points.as_slice()[number]));
     }
     Ok(None)
 }

@@ -40,7 +40,8 @@ pub enum Claim {
     Worst(Fraction),
 }
 
-/// Whether a certificate is valid: its claim, or its first faulty line, from 1, with the reason.
+/// Whether a certificate is valid: its claim, or its first faulty line, from 1, with the reason. Past line 2^64 - 1, which no
+/// file has, that number stands for the line.
 #[derive(Clone, Copy, Debug, PartialEq, Eq)]
 pub enum Verdict {
     Accepted(Claim),

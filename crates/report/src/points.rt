@@ -6,6 +6,7 @@ use crate::answers::bytes_of;
 use crate::buffers::{Named, put_buffers};
 use crate::fractions::put_fraction;
 use crate::schedules::put_schedule;
+use firing::Firing;
 use pareto_front::Point;
 use periodic::Periodic;
 use sd_base::{Fraction, GraphFile, NoMemory, Rows};
@@ -14,10 +15,11 @@ use storage::Distribution;
 
 /// The text of the Pareto points of a net: a line `points N` with their number, then for each point a line `point TOTAL
 /// RATE` with its storage and its rate in lowest terms, a line `buffers LIST` with its distribution, and the lines of a
-/// schedule. Who makes the lines of points side by side puts `points_header` before those that `point_text` makes of
-/// each. Cost: linear in the channels of each point and the text.
-pub fn points_text(
+/// schedule. Of the net nothing is shown that the graph doesn't say. Who makes the lines of points side by side puts
+/// `points_header` before those that `point_text` makes of each. Cost: linear in the channels of each point and the text.
+pub fn points_text<F: Firing>(
     alloc: Global,
+    _net: &F,
     graph: &GraphFile,
     points: &[Point],
     schedules: &[Periodic],
@@ -42,7 +44,7 @@ pub fn points_header(alloc: Global, points: usize) -> Result<Rows<u8>, NoMemory>
 }
 
 #[tactic(auto, unfolding(crate::specs::StorageTexts::points_header))]
-fn header(alloc: Global, points: usize) -> Result<String, NoMemory>
+pub(crate) fn header(alloc: Global, points: usize) -> Result<String, NoMemory>
     ensures { IfOk result (λ t. string_bytes t ≡ points_header points) }
 {
     Ok(format!(in alloc; "points {points}\n")?)

@@ -48,7 +48,7 @@ impl Class {
 
 /// Why a command was refused, with the values that its line shows. Names are escaped already; `scenario`
 /// is the name of the scenario that is spoken of, where there is one.
-#[derive(Debug, Drop)]
+#[derive(Drop)]
 pub enum Refusal {
     /// The words aren't those of a command.
     UsageWords,

@@ -1,54 +1,48 @@
-ghost use Rattle.std.specs.Prelude.{◌≡◌, ◌≤◌, IfOk, length};
-ghost use Rattle.report.specs.ScenarioPointTexts.{scenario_point_text};
-ghost use Rattle.report.specs.StorageTexts.{shared_buffers_list};
-ghost use Rattle.report.specs.WorstTexts.{IsWorstIn};
+ghost use Rattle.std.specs.Prelude.{◌≡◌, ◌++◌, All, IfOk, OnOk};
+ghost use Rattle.std.specs.String.{string_bytes};
+ghost use Rattle.report.specs.ScenarioPointTexts.{CanBeTold, scenario_point_lines, scenario_points_lines};
 
 use crate::answers::bytes_of;
-use crate::points::{put_distribution, put_header};
+use crate::points::{header, put_distribution, put_header};
 use crate::worst_rates::{Nodes, put_shown};
-use automaton::TimedGraph;
-use scenario_rate::Worst;
-use sd_base::{NoMemory, Rows, SharedRow, StateRow};
-use std::alloc::Global;
-use storage::Distribution;
+use scenario_storage::ScenarioPoint;
+use sd_base::{NoMemory, Rows, ScenarioFile};
+use std::alloc::{AllocError, Global};
 
-/// A Pareto point of storage and worst rate, as its text shows it.
-#[derive(Clone, Copy)]
-pub struct WorstPoint<'a> {
-    /// The storage, in tokens.
-    pub total: u64,
-    /// By shared channel of the file its capacity in tokens, if it is bounded.
-    pub capacities: &'a Distribution,
-    /// The shared channels of the file and, behind them, the free spaces of those that are bounded.
-    pub shared: &'a [SharedRow],
-    /// The timed graph over these.
-    pub graph: &'a TimedGraph,
-    /// Its worst rate.
-    pub worst: &'a Worst,
+/// The text of the Pareto points of storage and worst rate of a file: a line `points N` with their number, then for each point
+/// a line `point TOTAL RATE` with its storage and its worst rate in lowest terms, a line `buffers LIST` with its distribution,
+/// and what shows the rate, as `worst_text` has it. Cost: for each point linear in the text, in the channels and in the nodes,
+/// times the shared channels.
+pub fn scenario_points_text(
+    alloc: Global,
+    file: &ScenarioFile,
+    points: &[ScenarioPoint],
+) -> Result<Rows<u8>, NoMemory>
+    requires { All (CanBeTold file.now) points.now }
+    ensures { IfOk result (λ t. t ≡ scenario_points_lines file.now points.now) }
+{
+    let mut text = header(alloc, points.len())?;
+    for point in points {
+        put_point(&mut text, file, point)?;
+    }
+    Ok(bytes_of(text))
 }
 
-/// The lines of one Pareto point of a file with these states and shared channels: `point TOTAL RATE` with its storage and
-/// its worst rate in lowest terms, `buffers LIST` with its distribution, and what shows the rate, as `worst_text` has it.
-/// Before the lines of all points comes `points_header`. Cost: linear in the text, in the channels and in the nodes, times
-/// the shared channels.
-#[tactic(auto, unfolding(crate::specs::ScenarioPointTexts::scenario_point_text, crate::specs::StorageTexts::shared_buffers_list))]
-pub fn scenario_point_text(
-    alloc: Global,
-    states: &[StateRow],
-    channels: &[SharedRow],
-    point: &WorstPoint,
-) -> Result<Rows<u8>, NoMemory>
-    requires channels { length point.now.capacities.now.capacities ≤ length channels.now }
-    requires worst { IsWorstIn states.now point.now.graph.now point.now.worst.now }
-    ensures { IfOk result (λ t. t ≡ scenario_point_text states.now channels.now point.now.total point.now.capacities.now.capacities point.now.shared.now point.now.graph.now point.now.worst.now) }
+/// Puts the lines of a point at the end of a text.
+#[tactic(auto, unfolding(crate::specs::ScenarioPointTexts::scenario_point_lines, crate::specs::StorageTexts::shared_buffers_list))]
+fn put_point(
+    text: &mut String,
+    file: &ScenarioFile,
+    point: &ScenarioPoint,
+) -> Result<(), AllocError>
+    requires { CanBeTold file.now point.now }
+    ensures { OnOk result (string_bytes text.new ≡ string_bytes text.old ++ scenario_point_lines file.now point.now) }
 {
     let nodes = Nodes {
-        states,
-        shared: point.shared,
+        states: file.states.as_slice(),
+        shared: point.shared.as_slice(),
     };
-    let mut text = String::new(alloc);
-    put_header(&mut text, point.total, point.worst.rate)?;
-    put_distribution(&mut text, channels, point.capacities)?;
-    put_shown(&mut text, &nodes, point.graph, point.worst)?;
-    Ok(bytes_of(text))
+    put_header(text, point.total, point.rate)?;
+    put_distribution(text, file.shared.as_slice(), &point.capacities)?;
+    put_shown(text, &nodes, &point.graph, &point.worst)
 }

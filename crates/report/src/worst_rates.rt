@@ -8,7 +8,7 @@ use crate::fractions::put_fraction;
 use automaton::{Edge, TimedGraph};
 use escapes::put_escaped;
 use scenario_rate::Worst;
-use sd_base::{Fraction, NoMemory, Rows, SharedRow, StateRow};
+use sd_base::{Fraction, NoMemory, Rows, ScenarioFile, SharedRow, StateRow};
 use std::alloc::{AllocError, Global};
 
 /// What the nodes of a timed graph are named by: its states, and the channels of its shared tokens.
@@ -18,7 +18,7 @@ pub(crate) struct Nodes<'a> {
     pub(crate) shared: &'a [SharedRow],
 }
 
-/// The text of a worst rate: a line `rate X`; `cycle W L` with the time and the rounds of a critical cycle and the node
+/// The text of the worst rate of a file of scenarios: a line `rate X`; `cycle W L` with the time and the rounds of a critical cycle and the node
 /// at which it begins, and per edge the node that it enters and its weight; `potentials N`, and per node that has one
 /// its potential. A node is its state, the channel of its token, and the token's number there; a channel whose name begins
 /// with U+0001 is the free space of the channel with the rest of the name, and shown as `NAME/space`. Cost: linear in the
@@ -26,15 +26,17 @@ pub(crate) struct Nodes<'a> {
 #[tactic(auto, unfolding(crate::specs::WorstTexts::worst_lines))]
 pub fn worst_text(
     alloc: Global,
-    states: &[StateRow],
-    shared: &[SharedRow],
+    file: &ScenarioFile,
     graph: &TimedGraph,
     worst: &Worst,
 ) -> Result<Rows<u8>, NoMemory>
-    requires { IsWorstIn states.now graph.now worst.now }
-    ensures { IfOk result (λ t. t ≡ worst_lines states.now shared.now graph.now worst.now) }
+    requires { IsWorstIn file.now.states graph.now worst.now }
+    ensures { IfOk result (λ t. t ≡ worst_lines file.now.states file.now.shared graph.now worst.now) }
 {
-    let nodes = Nodes { states, shared };
+    let nodes = Nodes {
+        states: file.states.as_slice(),
+        shared: file.shared.as_slice(),
+    };
     let mut text = String::new(alloc);
     put_rate(&mut text, worst.rate)?;
     put_shown(&mut text, &nodes, graph, worst)?;

@@ -16,3 +16,4 @@ pub mod Choosing
 pub mod Shortening
 pub mod Choice
 pub mod Tightness
+pub mod Products

@@ -2,15 +2,16 @@
 //! The score of such a walk is its weights times the rounds, and the time for each edge that it has fewer than k.
 
 ghost use Rattle.std.specs.Prelude.{◌≡◌, ◌*◌, ◌+◌, ◌≤◌, ◌<◌, IfOk, MatchBool, MatchOption, length, slice_get};
+ghost use Rattle.sd_base.specs.declared.limits.TheConstants.{NODES, ROUND, TIME};
 ghost use Rattle.automaton.specs.SoundGraphs.{IsSound, AreInside, node_count};
-ghost use Rattle.scenario_rate.specs.inside.Levels.{cell_at, IsBelow, IsAtLeast, IsBrought, IsAged, IsRaised, IsFirst, IsFirstCell, aged_of, AreSmall, AreSettled, edge_in, IsNoHigher, WasRaised};
+ghost use Rattle.scenario_rate.specs.inside.Levels.{HIGHEST, LONGEST, cell_at, IsBelow, IsAtLeast, IsBrought, IsAged, IsRaised, IsFirst, IsFirstCell, aged_of, AreSmall, AreSettled, edge_in, IsNoHigher, WasRaised};
 
 use automaton::{Edge, TimedGraph};
 use sd_base::{NoMemory, Rows};
 use std::alloc::Global;
 
 /// The best score at a node of a level, and the edge that raised it there, if one did.
-#[derive(Clone, Copy, Debug, PartialEq, Eq)]
+#[derive(Clone, Copy)]
 pub struct Cell {
     pub score: u128,
     pub edge: Option<u32>,
@@ -53,9 +54,9 @@ pub fn next_row(
     time: u64,
 ) -> Result<Vec<Option<Cell>>, NoMemory>
     requires inside { AreInside edges.now (length row.now) }
-    requires rounds { rounds ≤ 1024 }
-    requires time { time ≤ 102400000000000000 }
-    requires small { AreSmall 1000000000000000000000000 (cell_at row.now) }
+    requires rounds { rounds ≤ NODES }
+    requires time { time ≤ LONGEST }
+    requires small { AreSmall HIGHEST (cell_at row.now) }
     ensures raised { IfOk result (λ next. IsRaised edges.now (length edges.now) rounds time (cell_at row.now) (cell_at next.items)) }
     ensures size { IfOk result (λ next. length next.items ≡ length row.now) }
 {
@@ -75,7 +76,7 @@ pub fn next_row(
 
 /// A row whose scores are all a time more.
 fn aged(alloc: Global, row: &[Option<Cell>], time: u64) -> Result<Vec<Option<Cell>>, NoMemory>
-    requires { AreSmall 1000000000000000000000000 (cell_at row.now) }
+    requires { AreSmall HIGHEST (cell_at row.now) }
     ensures aged { IfOk result (λ next. IsAged time (cell_at row.now) (cell_at next.items)) }
     ensures size { IfOk result (λ next. length next.items ≡ length row.now) }
 {
@@ -87,7 +88,7 @@ fn aged(alloc: Global, row: &[Option<Cell>], time: u64) -> Result<Vec<Option<Cel
 }
 
 fn aged_cell(cell: Option<Cell>, time: u64) -> Option<Cell>
-    requires { MatchOption cell (Unit {0}) (λ c. c.score ≤ 1000000000000000000000000) }
+    requires { MatchOption cell (Unit {0}) (λ c. c.score ≤ HIGHEST) }
     ensures { result ≡ aged_of time cell }
 {
     match cell {
@@ -102,9 +103,9 @@ fn aged_cell(cell: Option<Cell>, time: u64) -> Option<Cell>
 /// Raises the end of an edge to what its start's cell gives, if that is more.
 fn raise(next: &mut Vec<Option<Cell>>, from: Option<Cell>, number: u32, edge: Edge, rounds: u64)
     requires end { edge.to < length next.old.items }
-    requires light { edge.weight ≤ 100000000000000 }
-    requires rounds { rounds ≤ 1024 }
-    requires small { MatchOption from (Unit {0}) (λ c. c.score ≤ 1000000000000000000000000) }
+    requires light { edge.weight ≤ TIME * ROUND }
+    requires rounds { rounds ≤ NODES }
+    requires small { MatchOption from (Unit {0}) (λ c. c.score ≤ HIGHEST) }
     ensures brought { IsBrought rounds number edge from next.old.items next.new.items }
     ensures size { length next.new.items ≡ length next.old.items }
 {

@@ -14,5 +14,5 @@ mod tight;
 mod trace;
 
 pub use answer::Worst;
-pub use laws::{files_are_sound, files_grow};
+pub use laws::{files_are_sound, files_grow, products_are_searched};
 pub use passes::worst;

@@ -2,11 +2,12 @@
 
 ghost use Rattle.std.specs.Prelude.{◌≡◌, ◌*◌, ◌+◌, ◌-◌, ◌≤◌, ◌<◌, ◌≤ℤ◌, ℕ, ℤ, IfOk, MatchOption, Option, Some, length, map};
 ghost use Rattle.sd_base.specs.declared.tables.ScenarioFile.{ScenarioFile};
+ghost use Rattle.sd_base.specs.declared.limits.TheConstants.{NODES};
 ghost use Rattle.automaton.specs.WorstRates.{IsWorst};
 ghost use Rattle.automaton.specs.TimedGraphs.{IsTimedGraph};
-ghost use Rattle.automaton.specs.CriticalCycles.{IsCritical, IsReachedNode, Fit, weights};
+ghost use Rattle.automaton.specs.CriticalCycles.{AreLeast, IsCritical, IsReachedNode, Fit, weights};
 ghost use Rattle.automaton.specs.SoundGraphs.{Grows, IsSound, AreInside, node_count};
-ghost use Rattle.scenario_rate.specs.inside.Levels.{cell_at, AreSmall};
+ghost use Rattle.scenario_rate.specs.inside.Levels.{HIGHEST, LONGEST, cell_at, AreSmall};
 ghost use Rattle.scenario_rate.specs.inside.Searches.{AreLevels, IsRaisedAt, AreNumbers, IsLastOf, potential_of};
 ghost use Rattle.scenario_rate.specs.ChosenCycles.{IsChosen};
 ghost use Rattle.scenario_rate.specs.Answers.{IsApart, potential_at};
@@ -24,14 +25,14 @@ use sd_base::{Fraction, NoMemory, Rows};
 use std::alloc::Global;
 
 /// A cycle and its rate.
-#[derive(Debug, Drop)]
+#[derive(Drop)]
 struct Best {
     rate: Fraction,
     cycle: Vec<u32>,
 }
 
 /// What a rate comes to.
-#[derive(Debug, Drop)]
+#[derive(Drop)]
 enum Turn {
     /// No cycle gains on it.
     Settled(Levels),
@@ -45,7 +46,8 @@ const FIRST_LEVELS: u32 = 16;
 /// The worst rate of a timed graph, which is that of each file whose timed graph it is: least of all rounds per time
 /// unit around cycles that the initial state reaches. From the rate of some cycle on, a search by levels (Bellman and
 /// Ford) finds a cycle that gains on it, or potentials. Cost: for each cycle that gains on the one before, at most
-/// nodes times edges, and memory of nodes squared; mostly some sixteen times the edges.
+/// nodes times edges, and memory of nodes squared; mostly some sixteen times the edges. What `product` gives by the
+/// matrices of `matrix_of` meets both conditions, by `products_are_searched`.
 pub fn worst(alloc: Global, graph: &TimedGraph) -> Result<Worst, NoMemory>
     requires sound { IsSound graph.now }
     requires grows { Grows graph.now }
@@ -55,8 +57,7 @@ pub fn worst(alloc: Global, graph: &TimedGraph) -> Result<Worst, NoMemory>
     ensures fit { IfOk result (λ r. Fit graph.now r.rate.num r.rate.den (potential_at r.potentials)) }
     ensures count { IfOk result (λ r. length r.potentials ≡ node_count graph.now) }
     ensures reached { IfOk result (λ r. (v : ℕ) → (x : ℤ) → potential_at r.potentials v ≡ Some x → IsReachedNode graph.now v) }
-    ensures least { IfOk result (λ r. (q : (ℕ → Option ℤ)) → Fit graph.now r.rate.num r.rate.den q → (v : ℕ) → (x : ℤ) → (y : ℤ)
-        → potential_at r.potentials v ≡ Some x → q v ≡ Some y → x ≤ℤ y) }
+    ensures least { IfOk result (λ r. AreLeast graph.now r.rate.num r.rate.den (potential_at r.potentials)) }
     ensures shows { IfOk result (λ r. (file : ScenarioFile) → IsTimedGraph file graph.now → IsWorst file r.rate.num r.rate.den) }
 {
     worst_is_shown();
@@ -90,8 +91,8 @@ fn first_cycle(alloc: Global, graph: &TimedGraph) -> Result<Best, NoMemory>
 /// where it doesn't, the next one has twice as many.
 fn search_at(alloc: Global, graph: &TimedGraph, rounds: u64, time: u64) -> Result<Turn, NoMemory>
     requires sound { IsSound graph.now }
-    requires rounds { rounds ≤ 1024 }
-    requires time { time ≤ 102400000000000000 }
+    requires rounds { rounds ≤ NODES }
+    requires time { time ≤ LONGEST }
     ensures { IfOk result (IsTurn graph.now rounds time) }
 {
     let nodes = graph.states * graph.tokens;
@@ -141,10 +142,10 @@ fn better_cycle(
 
 /// A cycle with its rate.
 fn best_of(edges: &[Edge], cycle: Vec<u32>) -> Best
-    requires inside { AreInside edges.now 1024 }
+    requires inside { AreInside edges.now NODES }
     requires numbers { AreNumbers edges.now cycle.items }
     requires some { 1 ≤ length cycle.items }
-    requires few { length cycle.items ≤ 1024 }
+    requires few { length cycle.items ≤ NODES }
     requires heavy { 1 ≤ weights edges.now cycle.items }
     ensures cycle { result.cycle.items ≡ cycle.items }
     ensures rate { result.rate.num * weights edges.now cycle.items ≡ length cycle.items * result.rate.den }
@@ -155,9 +156,9 @@ fn best_of(edges: &[Edge], cycle: Vec<u32>) -> Best
 
 /// The sum of the weights of edges.
 fn weight_of(edges: &[Edge], numbers: &[u32]) -> u64
-    requires inside { AreInside edges.now 1024 }
+    requires inside { AreInside edges.now NODES }
     requires numbers { AreNumbers edges.now numbers.now }
-    requires few { length numbers.now ≤ 1024 }
+    requires few { length numbers.now ≤ NODES }
     ensures { result ≡ weights edges.now numbers.now }
 {
     let mut sum = 0u64;
@@ -195,8 +196,8 @@ fn potentials(
     row: &[Option<Cell>],
     before: u128,
 ) -> Result<Vec<Option<i128>>, NoMemory>
-    requires small { AreSmall 1000000000000000000000000 (cell_at row.now) }
-    requires before { before ≤ 1000000000000000000000000 }
+    requires small { AreSmall HIGHEST (cell_at row.now) }
+    requires before { before ≤ HIGHEST }
     ensures { IfOk result (λ list. list.items ≡ map (potential_of before) row.now) }
 {
     let mut list = Vec::new(alloc);
@@ -207,8 +208,8 @@ fn potentials(
 }
 
 fn potential(cell: Option<Cell>, before: u128) -> Option<i128>
-    requires small { MatchOption cell (Unit {0}) (λ c. c.score ≤ 1000000000000000000000000) }
-    requires before { before ≤ 1000000000000000000000000 }
+    requires small { MatchOption cell (Unit {0}) (λ c. c.score ≤ HIGHEST) }
+    requires before { before ≤ HIGHEST }
     ensures { result ≡ potential_of before cell }
 {
     match cell {

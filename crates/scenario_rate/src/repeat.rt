@@ -8,7 +8,7 @@ use sd_base::NoMemory;
 use std::alloc::Global;
 
 /// A part of a walk: the edges from one place up to another.
-#[derive(Clone, Copy, Debug, PartialEq, Eq)]
+#[derive(Clone, Copy)]
 pub struct Part {
     pub start: usize,
     pub end: usize,

@@ -1,6 +1,8 @@
 //! A search by levels: either no edge raises a node any more, or the walks get as long as they may.
 
 ghost use Rattle.std.specs.Prelude.{◌≡◌, ◌*◌, ◌+◌, ◌≤◌, ◌<◌, ℕ, IfOk, length, slice_index_or, []};
+ghost use Rattle.sd_base.specs.declared.limits.TheConstants.{NODES};
+ghost use Rattle.scenario_rate.specs.inside.Levels.{LONGEST};
 ghost use Rattle.automaton.specs.SoundGraphs.{IsSound, node_count};
 ghost use Rattle.scenario_rate.specs.inside.Searches.{IsOutcome};
 
@@ -10,7 +12,7 @@ use sd_base::{NoMemory, Rows};
 use std::alloc::Global;
 
 /// The rows of a search at a rate of `rounds` per `time`, from level 0 on.
-#[derive(Debug, Drop)]
+#[derive(Drop)]
 pub struct Levels {
     pub rounds: u64,
     pub time: u64,
@@ -18,7 +20,7 @@ pub struct Levels {
 }
 
 /// What a search comes to.
-#[derive(Debug, Drop)]
+#[derive(Drop)]
 pub enum Outcome {
     /// No edge raises a node of the last row.
     Settled(Levels),
@@ -37,8 +39,8 @@ pub fn search(
     requires sound { IsSound graph.now }
     requires some { 1 ≤ most }
     requires most { most ≤ node_count graph.now }
-    requires rounds { rounds ≤ 1024 }
-    requires time { time ≤ 102400000000000000 }
+    requires rounds { rounds ≤ NODES }
+    requires time { time ≤ LONGEST }
     ensures { IfOk result (IsOutcome graph.now rounds time most) }
 {
     let mut node = 0u32;

@@ -1,7 +1,8 @@
 //! The edges on which the condition on potentials holds with equality.
-ghost use Rattle.std.specs.Prelude.{◌≡◌, ◌≤◌, ◌↔◌, IsTrue, IfOk, MatchOption, length};
+ghost use Rattle.std.specs.Prelude.{◌*◌, ◌≡◌, ◌≤◌, ◌↔◌, IsTrue, IfOk, MatchOption, length};
+ghost use Rattle.sd_base.specs.declared.limits.TheConstants.{NODES, ROUND, TIME};
 ghost use Rattle.automaton.specs.SoundGraphs.{AreInside};
-ghost use Rattle.scenario_rate.specs.inside.Levels.{cell_at, AreSmall};
+ghost use Rattle.scenario_rate.specs.inside.Levels.{HIGHEST, LONGEST, cell_at, AreSmall};
 ghost use Rattle.scenario_rate.specs.inside.Choosing.{IsEven, AreTight};
 
 use crate::levels::Cell;
@@ -18,9 +19,9 @@ pub fn tight_edges(
     time: u64,
 ) -> Result<Vec<u32>, NoMemory>
     requires inside { AreInside edges.now (length row.now) }
-    requires rounds { rounds ≤ 1024 }
-    requires time { time ≤ 102400000000000000 }
-    requires small { AreSmall 1000000000000000000000000 (cell_at row.now) }
+    requires rounds { rounds ≤ NODES }
+    requires time { time ≤ LONGEST }
+    requires small { AreSmall HIGHEST (cell_at row.now) }
     ensures { IfOk result (λ tight. AreTight edges.now row.now rounds time (length edges.now) tight.items) }
 {
     let mut tight = Vec::new(alloc);
@@ -41,11 +42,11 @@ pub fn tight_edges(
 
 /// Whether two cells are as far apart as an edge brings them.
 fn is_even(edge: Edge, from: Option<Cell>, to: Option<Cell>, rounds: u64, time: u64) -> bool
-    requires light { edge.weight ≤ 100000000000000 }
-    requires rounds { rounds ≤ 1024 }
-    requires time { time ≤ 102400000000000000 }
-    requires from { MatchOption from (Unit {0}) (λ c. c.score ≤ 1000000000000000000000000) }
-    requires to { MatchOption to (Unit {0}) (λ c. c.score ≤ 1000000000000000000000000) }
+    requires light { edge.weight ≤ TIME * ROUND }
+    requires rounds { rounds ≤ NODES }
+    requires time { time ≤ LONGEST }
+    requires from { MatchOption from (Unit {0}) (λ c. c.score ≤ HIGHEST) }
+    requires to { MatchOption to (Unit {0}) (λ c. c.score ≤ HIGHEST) }
     ensures { IsTrue result ↔ IsEven rounds time edge from to }
 {
     match from {

@@ -1,5 +1,5 @@
 -- What the Pareto points of the storage of shared channels and the worst rate come to.
-use Rattle.std.specs.Prelude.{◌≡◌, ℕ, ℤ, ◌≤ℤ◌, ◌*◌, ◌≤◌, ◌<◌, true, All, Option, Some, List, length, map}
+use Rattle.std.specs.Prelude.{◌≡◌, ℕ, ℤ, ◌*◌, ◌≤◌, ◌<◌, true, All, Option, Some, List, length, map}
 use Rattle.sd_base.specs.declared.limits.TheConstants.{EDGES}
 use Rattle.sd_base.specs.declared.numbers.Fraction.{Fraction}
 use Rattle.sd_base.specs.declared.tables.ScenarioFile.{ScenarioFile}
@@ -7,7 +7,7 @@ use Rattle.sd_base.specs.declared.tables.SharedRow.{SharedRow}
 use Rattle.sd_base.specs.Scenarios.{shared_count}
 use Rattle.automaton.specs.declared.graph.TimedGraph.{TimedGraph}
 use Rattle.automaton.specs.TimedGraphs.{AreMatrices, IsTimedGraph, edges_from}
-use Rattle.automaton.specs.CriticalCycles.{Fit, IsCritical, IsReachedNode}
+use Rattle.automaton.specs.CriticalCycles.{AreLeast, Fit, IsCritical, IsReachedNode}
 use Rattle.scenario_rate.specs.declared.answer.Worst.{Worst}
 use Rattle.scenario_rate.specs.Answers.{IsApart, potential_at}
 use Rattle.scenario_rate.specs.ChosenCycles.{IsChosen}
@@ -44,7 +44,7 @@ pub record IsShownBy (file : ScenarioFile) (ds : List (Option ℕ)) (rate : Frac
   pub fit : Fit graph rate.num rate.den (potential_at worst.potentials)
   pub count : length worst.potentials ≡ graph.states * graph.tokens
   pub there : (v : ℕ) (x : ℤ) → potential_at worst.potentials v ≡ Some x → IsReachedNode graph v
-  pub lowest : (q : ℕ → Option ℤ) → Fit graph rate.num rate.den q → (v : ℕ) (x y : ℤ) → potential_at worst.potentials v ≡ Some x → q v ≡ Some y → x ≤ℤ y
+  pub lowest : AreLeast graph rate.num rate.den (potential_at worst.potentials)
 
 -- a point's distribution is reachable, reaches its storage and its rate within the limit, and is the least that does; and the
 -- rate is shown

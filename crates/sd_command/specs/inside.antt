@@ -4,6 +4,5 @@ pub mod Groups
 pub mod Measuring
 pub mod PointTasks
 pub mod Steps
-pub mod ToldPoints
 pub mod Verdicts
 pub mod Wants

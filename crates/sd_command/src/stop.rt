@@ -2,7 +2,7 @@ use report::Refusal;
 use sd_base::NoMemory;
 
 /// Why a command ended without an answer.
-#[derive(Debug, Drop)]
+#[derive(Drop)]
 pub(crate) enum Stop {
     Refused(Refusal),
     OutOfMemory,

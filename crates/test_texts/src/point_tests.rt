@@ -8,6 +8,7 @@ use sd_base::{ActorRow, ChannelRow, Fraction, GraphFile, Kind, NoMemory, Rows, T
 use std::alloc::Global;
 use std::test::Fail;
 use storage::Distribution;
+use test_nets::ring_of_two;
 
 fn single(alloc: Global, number: u64) -> Result<Rows<u64>, NoMemory> {
     let mut rows = Rows::new(alloc);
@@ -122,7 +123,9 @@ fn points_are_shown_one_after_the_other(rt: HostRuntime) -> Result<(), Fail> {
         schedule(alloc, 5, &[0], &[2])?,
         schedule(alloc, 3, &[0], &[2])?,
     ];
-    let text = points_text(alloc, &graph, &points, &schedules)?;
+    // Of the net nothing is shown, so that any will do.
+    let net = ring_of_two(alloc)?;
+    let text = points_text(alloc, &net, &graph, &points, &schedules)?;
     assert_eq!(rt; text.as_slice(), TWO_POINTS.as_bytes());
     Ok(())
 }

@@ -2,14 +2,16 @@
 //! x sends to y along s, on which one token lies between rounds. State q0 runs this again and again.
 
 ghost use Rattle.std.specs.Prelude.{◌≡◌, ◌<◌, ◌≤◌, All, IfOk, true, length};
+ghost use Rattle.report.specs.ScenarioPointTexts.{CanBeTold};
 ghost use Rattle.report.specs.WorstTexts.{IsWorstIn, JoinsNodes};
 
 use automaton::{Edge, TimedGraph};
 use report::{
-    Refusal, WorstPoint, points_header, refusal_text, scenario_point_text, shared_buffers_text,
+    Refusal, escaped, refusal_text, scenario_points_text, shared_buffers_text, worst_text,
 };
 use scenario_rate::Worst;
-use sd_base::{Fraction, NoMemory, Rows, SharedRow, StateRow, Text};
+use scenario_storage::ScenarioPoint;
+use sd_base::{Fraction, NoMemory, Rows, ScenarioFile, SharedRow, StateRow, Text};
 use std::alloc::Global;
 use std::process::Abort;
 use std::test::Fail;
@@ -111,6 +113,16 @@ fn shared(alloc: Global, names: &[&str]) -> Result<Rows<SharedRow>, NoMemory> {
     Ok(rows)
 }
 
+/// The file with its states and shared channels. No text shows its scenarios, which are left out.
+fn file(alloc: Global) -> Result<ScenarioFile, NoMemory> {
+    Ok(ScenarioFile {
+        scenarios: Rows::new(alloc),
+        shared: shared(alloc, &CHANNELS)?,
+        states: states(alloc)?,
+        initial: 0,
+    })
+}
+
 /// Capacities by the channels of the file, that of s alone bounded, or none.
 fn capacities(alloc: Global, room: Option<u64>) -> Result<Distribution, NoMemory>
     ensures { IfOk result (λ d. length d.capacities ≡ 3) }
@@ -157,25 +169,28 @@ impl<'a> Bounded<'a> {
         })
     }
 
-    /// The lines of its point.
-    fn lines(&self, rt: &impl Abort, alloc: Global) -> Result<Rows<u8>, Fail>
-        requires { 1 ≤ self.now.period }
+    /// Its point.
+    fn point(
+        &self,
+        rt: &impl Abort,
+        alloc: Global,
+        file: &ScenarioFile,
+    ) -> Result<ScenarioPoint, Fail>
+        requires period { 1 ≤ self.now.period }
+        requires channels { length file.now.shared ≡ 3 }
+        ensures { IfOk result (CanBeTold file.now) }
     {
-        let states = states(alloc)?;
-        let channels = shared(alloc, &CHANNELS)?;
-        assert!(rt; channels.len() == 3);
-        let shared = shared(alloc, self.names)?;
         let graph = self.graph(alloc)?;
         let worst = self.worst(alloc)?;
-        assert!(rt; is_worst_in(states.as_slice(), &graph, &worst));
-        let point = WorstPoint {
+        assert!(rt; is_worst_in(file.states.as_slice(), &graph, &worst));
+        Ok(ScenarioPoint {
             total: self.room,
-            capacities: &capacities(alloc, Some(self.room))?,
-            shared: shared.as_slice(),
-            graph: &graph,
-            worst: &worst,
-        };
-        Ok(scenario_point_text(alloc, states.as_slice(), channels.as_slice(), &point)?)
+            rate: worst.rate,
+            capacities: capacities(alloc, Some(self.room))?,
+            shared: shared(alloc, self.names)?,
+            graph,
+            worst,
+        })
     }
 }
 
@@ -210,12 +225,42 @@ fn are_below(numbers: &[u32], bound: usize) -> bool
 }
 
 #[test]
-fn points_of_scenarios_are_shown_part_by_part(rt: HostRuntime) -> Result<(), Fail> {
+fn points_of_scenarios_are_shown_one_after_the_other(rt: HostRuntime) -> Result<(), Fail> {
     let alloc = rt.alloc();
-    let mut parts = points_header(alloc, 2)?.into_vec();
-    parts.extend_from_slice(ONE.lines(&rt, alloc)?.as_slice())?;
-    parts.extend_from_slice(TWO.lines(&rt, alloc)?.as_slice())?;
-    assert_eq!(rt; parts.as_slice(), BOTH.as_bytes());
+    let file = file(alloc)?;
+    assert!(rt; file.shared.len() == 3);
+    let points = [ONE.point(&rt, alloc, &file)?, TWO.point(&rt, alloc, &file)?];
+    let text = scenario_points_text(alloc, &file, &points)?;
+    assert_eq!(rt; text.as_slice(), BOTH.as_bytes());
+    Ok(())
+}
+
+/// The worst rate with room for one token.
+const WORST: &str = "rate 1/3
+cycle 3 1 q0 s 0
+q0 s 0 3
+potentials 3
+q0 o 0 0
+q0 p 0 0
+q0 s 0 0
+";
+
+#[test]
+fn a_worst_rate_is_shown(rt: HostRuntime) -> Result<(), Fail> {
+    let alloc = rt.alloc();
+    let file = file(alloc)?;
+    let graph = ONE.graph(alloc)?;
+    let worst = ONE.worst(alloc)?;
+    assert!(rt; is_worst_in(file.states.as_slice(), &graph, &worst));
+    let text = worst_text(alloc, &file, &graph, &worst)?;
+    assert_eq!(rt; text.as_slice(), WORST.as_bytes());
+    Ok(())
+}
+
+#[test]
+fn names_are_escaped(rt: HostRuntime) -> Result<(), Fail> {
+    let text = escaped(rt.alloc(), "my buf")?;
+    assert_eq!(rt; text.as_str(), "my%20buf");
     Ok(())
 }
 

@@ -14,10 +14,10 @@ use Rattle.token_matrix.proofs.EntryWays.{entry_way, way_entry}
 use Rattle.token_matrix.proofs.OfGraph.{covers, inside}
 
 module _ (shared : List SharedRow) (g : GraphFile) (gamma : List ℕ) (carries : CarriesStamps shared g gamma) (rows : List (List (Option ℕ))) (is : IsMatrix shared g gamma rows) where
-  laws : Lawful (net_of g gamma false)
+  pub laws : Lawful (net_of g gamma false)
   laws = net_of-lawful g gamma false carries.rules carries.timed carries.gives carries.small
 
-  takes-time : (a k : ℕ) → a < length (net_of g gamma false).times → 1 ≤ time_of (net_of g gamma false) a k
+  pub takes-time : (a k : ℕ) → a < length (net_of g gamma false).times → 1 ≤ time_of (net_of g gamma false) a k
   takes-time a k actor = (timed (net_of g gamma false) laws).some a k actor
 
   pub its-way : (p q : ℕ) → p < shared_count shared → q < shared_count shared → HasItsWay shared g gamma rows p q

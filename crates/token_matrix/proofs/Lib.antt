@@ -27,3 +27,4 @@ pub mod Bests
 pub mod RoundStarts
 pub mod StampsExist
 pub mod GraphWays
+pub mod SomeToken

@@ -10,6 +10,6 @@ mod matrix;
 mod round;
 
 pub use entries::Entry;
-pub use laws::{entries_are_longest_ways, matrices_are_one};
+pub use laws::{entries_are_longest_ways, matrices_are_one, matrices_have_a_row};
 pub use making::{MatrixError, first_token, matrix_of};
 pub use matrix::Matrix;

@@ -1,5 +1,5 @@
 -- What is right of a part of the lines, or its first fault.
-use Rattle.std.specs.Prelude.{◌≡◌, ℕ, ◌+◌, ◌<◌, Option, Some, None, length}
+use Rattle.std.specs.Prelude.{◌≡◌, ℕ, ◌+◌, ◌-◌, ◌^◌, ◌<◌, min, Option, Some, None, length}
 use Rattle.sd_base.specs.Net.{Net}
 use Rattle.cert_text.specs.declared.certificates.StorageCertificate.{StorageCertificate}
 use Rattle.cert_checker.specs.declared.fault.Fault.{Fault}
@@ -12,6 +12,15 @@ use Rattle.cert_checker.specs.StorageFaults.{IsMemberFault, IsPointFault}
 abbrev pub Judges : (ℕ → Reason → Type 0) → Type 0 → Option Fault → Type 0
 Judges F right None = right
 Judges F right (Some fault) = IsFirst F fault.line fault.reason
+
+-- the number of a line, as far as 64 bits hold it
+abbrev pub told : ℕ → ℕ
+told line = min line (2 ^ 64 - 1)
+
+-- the same, with the first fault's line as it is told
+abbrev pub JudgesTold : (ℕ → Reason → Type 0) → Type 0 → Option Fault → Type 0
+JudgesTold F right None = right
+JudgesTold F right (Some fault) = (line : ℕ) × IsFirst F line fault.reason × (fault.line ≡ told line)
 
 -- the faults of the members
 pub data IsFaultOfMembers (net : Net) (version : ℕ) (c : StorageCertificate) (line : ℕ) (reason : Reason) : Type 0 where

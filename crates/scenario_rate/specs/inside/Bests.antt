@@ -1,7 +1,9 @@
 -- What the passes keep of a cycle, and what they end with.
-use Rattle.std.specs.Prelude.{◌≡◌, ℕ, ◌*◌, ◌≤◌, ◌<◌, ℤ, ◌≤ℤ◌, length, Option, Some}
+use Rattle.std.specs.Prelude.{◌≡◌, ℕ, ◌*◌, ◌≤◌, ◌<◌, ℤ, length, Some}
+use Rattle.sd_base.specs.declared.limits.TheConstants.{NODES, ROUND, TIME}
+use Rattle.scenario_rate.specs.inside.Levels.{LONGEST}
 use Rattle.automaton.specs.declared.graph.TimedGraph.{TimedGraph}
-use Rattle.automaton.specs.CriticalCycles.{IsReachedNode, IsCritical, Fit}
+use Rattle.automaton.specs.CriticalCycles.{AreLeast, IsReachedNode, IsCritical, Fit}
 use Rattle.scenario_rate.specs.declared.passes.Best.{Best}
 use Rattle.scenario_rate.specs.declared.passes.Turn.{Turn}
 use Rattle.scenario_rate.specs.declared.passes.Turn.TheVariants.{Settled, Gains}
@@ -16,9 +18,9 @@ pub record IsBest (graph : TimedGraph) (best : Best) : Type 0 where
   pub critical : IsCritical graph best.rate.num best.rate.den best.cycle.items
   pub apart : IsApart graph.edges best.cycle.items
   pub some_round : 1 ≤ best.rate.num
-  pub few : best.rate.num ≤ 1024
-  pub short : best.rate.den ≤ 102400000000000000
-  pub slow : best.rate.den ≤ best.rate.num * 100000000000000
+  pub few : best.rate.num ≤ NODES
+  pub short : best.rate.den ≤ LONGEST
+  pub slow : best.rate.den ≤ best.rate.num * (TIME * ROUND)
 
 -- a critical cycle, and the least potentials that fit
 pub record ShowsWorst (graph : TimedGraph) (r : Worst) : Type 0 where
@@ -29,7 +31,7 @@ pub record ShowsWorst (graph : TimedGraph) (r : Worst) : Type 0 where
   pub fit : Fit graph r.rate.num r.rate.den (potential_at r.potentials)
   pub count : length r.potentials ≡ node_count graph
   pub reached : (v : ℕ) (x : ℤ) → potential_at r.potentials v ≡ Some x → IsReachedNode graph v
-  pub least : (q : ℕ → Option ℤ) → Fit graph r.rate.num r.rate.den q → (v : ℕ) (x y : ℤ) → potential_at r.potentials v ≡ Some x → q v ≡ Some y → x ≤ℤ y
+  pub least : AreLeast graph r.rate.num r.rate.den (potential_at r.potentials)
 
 -- what a rate comes to: levels that settle at it, or a cycle that gains on it
 abbrev pub IsTurn : TimedGraph → ℕ → ℕ → Turn → Type 0

@@ -1,9 +1,18 @@
 -- Levels of scores: the best of the walks of at most so many edges.
 use Rattle.std.specs.Prelude.{◌≡◌, ℕ, ◌+◌, ◌*◌, ◌≤◌, ◌<◌, ◌⊎◌, List, slice_get, slice_set, slice_index_or, Option, Some, None}
+use Rattle.sd_base.specs.declared.limits.TheConstants.{NODES, ROUND, TIME}
 use Rattle.automaton.specs.declared.graph.Edge.{Edge}
 use Rattle.automaton.specs.declared.graph.TimedGraph.{TimedGraph}
 use Rattle.automaton.specs.CriticalCycles.{IsStart}
 use Rattle.scenario_rate.specs.declared.levels.Cell.{Cell}
+
+-- the greatest time of a cycle on which no node stands twice
+abbrev pub LONGEST : ℕ
+LONGEST = NODES * (TIME * ROUND)
+
+-- no score comes near it: a level adds the time of a round times the rounds of a cycle at most, and there is no level past the nodes
+abbrev pub HIGHEST : ℕ
+HIGHEST = 1000000000000000000000000
 
 abbrev pub cell_at : List (Option Cell) → ℕ → Option Cell
 cell_at row v = slice_index_or row v None

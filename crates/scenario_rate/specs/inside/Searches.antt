@@ -1,5 +1,6 @@
 -- Searches by levels: the rows, the walks that they stand for, and where a walk comes back to a node.
 use Rattle.std.specs.Prelude.{◌≡◌, ◌≢◌, ℕ, ◌+◌, ◌*◌, ◌≤◌, ◌<◌, ℤ, pos, ◌-ℤ◌, List, [], length, slice_get, slice_index_or, Option, Some, None}
+use Rattle.sd_base.specs.declared.limits.TheConstants.{NODES}
 use Rattle.automaton.specs.declared.graph.Edge.{Edge}
 use Rattle.automaton.specs.declared.graph.TimedGraph.{TimedGraph}
 use Rattle.automaton.specs.CriticalCycles.{IsPath, IsStart, weights}
@@ -7,7 +8,7 @@ use Rattle.scenario_rate.specs.declared.levels.Cell.{Cell}
 use Rattle.scenario_rate.specs.declared.search.Outcome.{Outcome}
 use Rattle.scenario_rate.specs.declared.search.Outcome.TheVariants.{Settled, Raised}
 use Rattle.automaton.specs.SoundGraphs.{node_count}
-use Rattle.scenario_rate.specs.inside.Levels.{cell_at, IsFirst, IsRaised, AreSettled, AreSmall}
+use Rattle.scenario_rate.specs.inside.Levels.{HIGHEST, cell_at, IsFirst, IsRaised, AreSettled, AreSmall}
 
 -- a walk of at most k edges from a node of the initial state to v has this score at level k
 abbrev pub IsScored : TimedGraph → ℕ → ℕ → ℕ → List ℕ → ℕ → ℕ → Type 0
@@ -28,7 +29,7 @@ pub record IsLast (graph : TimedGraph) (l w : ℕ) (rows : List (List (Option Ce
   pub next : List (Option Cell)
   pub raised : IsRaised graph.edges (length graph.edges) l w (cell_at row) (cell_at next)
   pub settled : AreSettled (cell_at next)
-  pub small : AreSmall 1000000000000000000000000 (cell_at row)
+  pub small : AreSmall HIGHEST (cell_at row)
 
 -- an edge raised node v at level k
 abbrev pub IsRaisedAt : List (List (Option Cell)) → ℕ → ℕ → Type 0
@@ -56,7 +57,7 @@ node_after es ks v i = from_of es v (slice_get ks i)
 -- what a search at the rate l/w over so many levels comes to
 abbrev pub IsOutcome : TimedGraph → ℕ → ℕ → ℕ → Outcome → Type 0
 IsOutcome graph l w most (Settled levels) = (levels.rounds ≡ l) × (levels.time ≡ w) × AreLevels graph l w levels.rows.items
-    × ((k : ℕ) × (row : List (Option Cell)) × (k ≤ 1024) × IsLast graph l w levels.rows.items k row)
+    × ((k : ℕ) × (row : List (Option Cell)) × (k ≤ NODES) × IsLast graph l w levels.rows.items k row)
 IsOutcome graph l w most (Raised levels v) = (levels.rounds ≡ l) × (levels.time ≡ w) × AreLevels graph l w levels.rows.items
     × (length levels.rows.items ≡ most + 1) × (v < node_count graph) × IsRaisedAt levels.rows.items most v
 
@@ -82,4 +83,4 @@ DifferBelow es ks v n = (i j : ℕ) → i < j → j < n → node_after es ks v i
 
 -- the last row of a list of levels is settled
 abbrev pub IsLastOf : TimedGraph → ℕ → ℕ → List (List (Option Cell)) → Type 0
-IsLastOf graph l w rows = (k : ℕ) × (row : List (Option Cell)) × (k ≤ 1024) × IsLast graph l w rows k row
+IsLastOf graph l w rows = (k : ℕ) × (row : List (Option Cell)) × (k ≤ NODES) × IsLast graph l w rows k row

@@ -22,7 +22,7 @@ use Rattle.bounded_scenarios.proofs.Measurable.{measurable}
 use Rattle.scenario_storage.specs.declared.point.ScenarioPoint.{ScenarioPoint}
 use Rattle.scenario_storage.specs.ScenarioPoints.{AreScenarioPoints, IsPoint}
 use Rattle.scenario_storage.proofs.Searchable.{token-roles}
-use Rattle.sd_command.specs.inside.ToldPoints.{CanBeTold}
+use Rattle.report.specs.ScenarioPointTexts.{CanBeTold}
 use Rattle.sd_command.proofs.command_lemmas.WorstSizes.{path-edges}
 
 shared-many : (ss : List ScenarioRow) (p : ℕ) (rows : List SharedRow) → length (shared_channels_from ss p rows) ≡ length rows

@@ -1,6 +1,5 @@
 -- The command `scenario-storage`.
-use Rattle.std.specs.Prelude.{◌≡◌, ℕ, ◌+◌, ◌++◌, List, length, None}
-use Rattle.std.specs.List.{flat_map}
+use Rattle.std.specs.Prelude.{◌≡◌, ℕ, ◌+◌, List, None}
 use Rattle.sd_base.specs.declared.limits.Quantity.TheVariants as quantities
 use Rattle.sd_base.specs.declared.tables.ScenarioFile.{ScenarioFile}
 use Rattle.sd_base.specs.Limits.{greatest_of}
@@ -12,8 +11,8 @@ use Rattle.scenario_storage.specs.declared.point.ScenarioPoint.{ScenarioPoint}
 use Rattle.scenario_storage.specs.ScenarioPoints.{AreScenarioPoints, IsRefusal}
 use Rattle.report.specs.declared.refusal.Refusal.{Refusal}
 use Rattle.report.specs.declared.refusal.Refusal.TheVariants.{DistributionsSpent, EdgesAt}
-use Rattle.report.specs.ScenarioPointTexts.{scenario_point_text}
-use Rattle.report.specs.StorageTexts.{points_header, shared_buffers_list}
+use Rattle.report.specs.ScenarioPointTexts.{scenario_points_lines}
+use Rattle.report.specs.StorageTexts.{shared_buffers_list}
 use Rattle.sd_command.specs.declared.answer.Answer.{Answer}
 use Rattle.sd_command.specs.steps.Courses.{Analysis, Ending, After, ends_by}
 use Rattle.sd_command.specs.steps.ScenarioBounds.{bounding_all, fitting_nodes}
@@ -26,13 +25,6 @@ pub data IsSearchEnd (file : ScenarioFile) (limits : ScenarioLimits) (refusal : 
   edges : (at : Distribution) → IsRefusal file limits (errors.Edges at)
       → refusal ≡ EdgesAt (greatest_of quantities.Edges) (shared_buffers_list file.shared at.capacities) → IsSearchEnd file limits refusal
   distributions_spent : IsRefusal file limits errors.DistributionsSpent → refusal ≡ DistributionsSpent limits.distributions → IsSearchEnd file limits refusal
-
--- the lines of a point, and the text of points
-abbrev pub lines_of_point : ScenarioFile → ScenarioPoint → List ℕ
-lines_of_point file p = scenario_point_text file.states file.shared p.total p.capacities.capacities p.shared p.graph p.worst
-
-abbrev pub scenario_points_lines : ScenarioFile → List ScenarioPoint → List ℕ
-scenario_points_lines file points = points_header (length points) ++ flat_map (lines_of_point file) points
 
 -- the points, which are exactly the Pareto points of all distributions within the limit, are told; nothing is executed
 pub record IsSearchAnswer (file : ScenarioFile) (limits : ScenarioLimits) (answer : Answer) (n : ℕ) : Type 0 where

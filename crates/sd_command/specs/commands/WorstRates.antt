@@ -1,9 +1,9 @@
 -- The command `scenario`.
-use Rattle.std.specs.Prelude.{◌≡◌, ℕ, ℤ, ◌≤ℤ◌, List, Option, Some}
+use Rattle.std.specs.Prelude.{◌≡◌, ℕ, ℤ, List, Option, Some}
 use Rattle.sd_base.specs.declared.tables.ScenarioFile.{ScenarioFile}
 use Rattle.automaton.specs.declared.graph.TimedGraph.{TimedGraph}
 use Rattle.automaton.specs.TimedGraphs.{IsTimedGraph}
-use Rattle.automaton.specs.CriticalCycles.{IsCritical, IsReachedNode, Fit}
+use Rattle.automaton.specs.CriticalCycles.{AreLeast, IsCritical, IsReachedNode, Fit}
 use Rattle.automaton.specs.WorstRates.{IsWorst}
 use Rattle.scenario_rate.specs.declared.answer.Worst.{Worst}
 use Rattle.scenario_rate.specs.Answers.{potential_at}
@@ -29,7 +29,7 @@ pub record IsShown (file : ScenarioFile) (graph : TimedGraph) (worst : Worst) : 
   pub chosen : IsChosen graph worst.rate.num worst.rate.den (potential_at worst.potentials) worst.cycle
   pub fit : Fit graph worst.rate.num worst.rate.den (potential_at worst.potentials)
   pub reached : (v : ℕ) (x : ℤ) → potential_at worst.potentials v ≡ Some x → IsReachedNode graph v
-  pub least : (q : ℕ → Option ℤ) → Fit graph worst.rate.num worst.rate.den q → (v : ℕ) (x y : ℤ) → potential_at worst.potentials v ≡ Some x → q v ≡ Some y → x ≤ℤ y
+  pub least : AreLeast graph worst.rate.num worst.rate.den (potential_at worst.potentials)
 
 -- a certificate of a worst rate
 abbrev pub IsOfWorst : TimedGraph → Worst → Certificate → Type 0

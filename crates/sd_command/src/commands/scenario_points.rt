@@ -1,15 +1,15 @@
-ghost use Rattle.std.specs.Prelude.{◌≡◌, ℕ, ◌≤◌, All, IfOk, List, length};
+ghost use Rattle.std.specs.Prelude.{◌≡◌, ℕ, ◌≤◌, All, IfOk, List};
 ghost use Rattle.sd_base.specs.declared.limits.TheConstants.{DISTRIBUTIONS, LEAST_DISTRIBUTIONS, STORAGE};
 ghost use Rattle.sd_base.specs.Scenarios.{FileKeepsRules};
 ghost use Rattle.scenario_reader.specs.ScenarioNames.{FileHasWritableNames};
 ghost use Rattle.bounded_scenarios.specs.Boundings.{CanBeBounded};
+ghost use Rattle.report.specs.ScenarioPointTexts.{CanBeTold};
 ghost use Rattle.scenario_storage.specs.ScenarioPoints.{AreScenarioPoints};
 ghost use Rattle.sd_command.specs.steps.Courses.{deciding};
-ghost use Rattle.sd_command.specs.commands.ScenarioPoints.{IsSearchEnd, lines_of_point, points_in, scenario_points_lines, scenario_storage};
+ghost use Rattle.sd_command.specs.commands.ScenarioPoints.{IsSearchEnd, points_in, scenario_storage};
 ghost use Rattle.sd_command.specs.steps.Takings.{Files};
 ghost use Rattle.sd_command.specs.inside.Steps.{Does};
 ghost use Rattle.sd_command.specs.inside.Goings.{Goes};
-ghost use Rattle.sd_command.specs.inside.ToldPoints.{CanBeTold};
 
 use crate::answer::Answer;
 use crate::commands::parallel::Parallel;
@@ -18,10 +18,10 @@ use crate::steps::scenario_bounds::{bound_all, fit_nodes};
 use crate::stop::Stop;
 use bounded_scenarios::looped_tokens;
 use fanout::Gate;
-use report::{Refusal, WorstPoint, points_header, scenario_point_text, shared_buffers_text};
+use report::{Refusal, scenario_points_text, shared_buffers_text};
 use scenario_rate::files_are_sound;
 use scenario_storage::{ScenarioLimits, ScenarioPoint, ScenarioStorageError, scenario_points};
-use sd_base::{NoMemory, Quantity, Rows, ScenarioFile};
+use sd_base::{Quantity, ScenarioFile};
 use sd_io::Shelf;
 use std::alloc::Global;
 use std::thread::Threads;
@@ -66,7 +66,7 @@ fn points_in<R: Threads + Sync, G: Gate + Sync>(
     fit_nodes(alloc, file, tokens)?;
     let points = search(parallel, alloc, file, limits)?;
     Ok(Answer {
-        text: text_of(alloc, file, points.as_slice())?,
+        text: scenario_points_text(alloc, file, points.as_slice())?,
         put: None,
     })
 }
@@ -99,45 +99,4 @@ fn search<R: Threads + Sync, G: Gate + Sync>(
         }
         Err(ScenarioStorageError::NoMemory) => Err(Stop::OutOfMemory),
     }
-}
-
-// The text of points.
-fn text_of(
-    alloc: Global,
-    file: &ScenarioFile,
-    points: &[ScenarioPoint],
-) -> Result<Rows<u8>, NoMemory>
-    requires { All (CanBeTold file.now) points.now }
-    ensures { IfOk result (λ t. t ≡ scenario_points_lines file.now points.now) }
-{
-    let mut text = points_header(alloc, points.len())?.into_vec();
-    for point in points {
-        let lines = lines_of_point(alloc, file, point)?;
-        text.extend_from_slice(lines.as_slice())?;
-    }
-    Ok(Rows::from_vec(text))
-}
-
-// The lines of a point.
-fn lines_of_point(
-    alloc: Global,
-    file: &ScenarioFile,
-    point: &ScenarioPoint,
-) -> Result<Rows<u8>, NoMemory>
-    requires { CanBeTold file.now point.now }
-    ensures { IfOk result (λ t. t ≡ lines_of_point file.now point.now) }
-{
-    let shown = WorstPoint {
-        total: point.total,
-        capacities: &point.capacities,
-        shared: point.shared.as_slice(),
-        graph: &point.graph,
-        worst: &point.worst,
-    };
-    scenario_point_text(
-        alloc,
-        file.states.as_slice(),
-        file.shared.as_slice(),
-        &shown,
-    )
 }

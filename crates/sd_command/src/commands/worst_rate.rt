@@ -64,13 +64,7 @@ fn tell(
 {
     files_grow();
     let worst = worst(alloc, graph)?;
-    let text = worst_text(
-        alloc,
-        file.states.as_slice(),
-        file.shared.as_slice(),
-        graph,
-        &worst,
-    )?;
+    let text = worst_text(alloc, file, graph, &worst)?;
     let put = put_for(alloc, graph, certificate, &worst)?;
     Ok(Answer { text, put })
 }

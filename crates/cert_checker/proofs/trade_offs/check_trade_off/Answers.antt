@@ -1,17 +1,25 @@
-use Rattle.std.proofs.Common.{◌≡◌, ℕ, ◌+◌, ◌≤◌, List, Option, refl, subst, sym, ap, ◌∙◌, true≢false, arith}
+use Rattle.std.proofs.Common.{◌≤◌, Option, refl, subst, sym, ◌∙◌, true≢false}
 use Rattle.sd_base.specs.declared.limits.TheConstants.{STORAGE}
 use Rattle.storage.specs.TouchedActors.{AreTouched}
-use Rattle.cert_text.specs.declared.certificates.LinkCycle.{LinkCycle}
 use Rattle.cert_checker.specs.declared.fault.Fault.{Fault}
 use Rattle.cert_checker.specs.declared.verdict.Reason.TheVariants as reasons
 use Rattle.cert_checker.specs.declared.verdict.Verdict.{Verdict}
-use Rattle.cert_checker.specs.Verdicts.{IsFirst, IsVerdict}
-use Rattle.cert_checker.specs.StorageLines.{cycles_size, members_line, points_line}
+use Rattle.cert_checker.specs.Verdicts.{IsToldVerdict}
+use Rattle.cert_checker.specs.StorageLines.{members_line, points_line}
 use Rattle.cert_checker.specs.StorageCertificates.{AreBelow, BeginsAtCorner, IsFrontClaim, IsTradeOff}
 use Rattle.cert_checker.specs.StorageFaults.{IsTradeOffFault}
-use Rattle.cert_checker.specs.inside.FirstFaults.{AreMembersRight, ArePointsRight, IsFaultOfMembers, IsFaultOfPoints, Judges}
-use Rattle.cert_checker.proofs.TradeOffFirsts.{corner-first, limit-first, members-first, points-first, points-line-first}
+use Rattle.cert_checker.specs.inside.FirstFaults.{AreMembersRight, ArePointsRight, IsFaultOfMembers, IsFaultOfPoints, JudgesTold}
+use Rattle.cert_checker.proofs.TradeOffFirsts.{corner-first, limit-first, members-first, points-first, points-line-first, touched-first}
+use Rattle.cert_checker.proofs.ToldLines.{told-first}
 use Rattle.cert_checker.proofs.trade_offs.check_trade_off.Goals as goal
+
+pub returns-then-not-are_touched : goal.returns-then-not-are_touched
+returns-then-not-are_touched g c =
+    let net = g.F.Firing.net c.args.net.now in
+    let cert = c.args.certificate.now in
+    let version = c.args.version in
+    subst (λ (v : Verdict). IsToldVerdict (IsTradeOffFault net version cert) (IsFrontClaim net cert) v) (sym c.rejected.ensures)
+    (told-first (IsTradeOffFault net version cert) (IsFrontClaim net cert) 2 2 reasons.Connection (touched-first net version cert (λ all. true≢false (sym (c.are_touched.ensures.1 all) ∙ c.if-not-are_touched.true))) refl)
 
 pub returns-then-certificate-gt-STORAGE : goal.returns-then-certificate-gt-STORAGE
 returns-then-certificate-gt-STORAGE g c =
@@ -19,8 +27,8 @@ returns-then-certificate-gt-STORAGE g c =
     let cert = c.args.certificate.now in
     let version = c.args.version in
     let touched : AreTouched net = c.are_touched.ensures.0 c.if-not-are_touched.false in
-    subst (λ (v : Verdict). IsVerdict (IsTradeOffFault net version cert) (IsFrontClaim net cert) v) (sym c.rejected-then-certificate-gt-STORAGE.ensures)
-    (limit-first net version cert touched c.if-certificate-gt-STORAGE.true)
+    subst (λ (v : Verdict). IsToldVerdict (IsTradeOffFault net version cert) (IsFrontClaim net cert) v) (sym c.rejected-then-certificate-gt-STORAGE.ensures)
+    (told-first (IsTradeOffFault net version cert) (IsFrontClaim net cert) 4 4 reasons.Limit (limit-first net version cert touched c.if-certificate-gt-STORAGE.true) refl)
 
 pub returns-then-not-begins_at : goal.returns-then-not-begins_at
 returns-then-not-begins_at g c =
@@ -29,9 +37,8 @@ returns-then-not-begins_at g c =
     let version = c.args.version in
     let touched : AreTouched net = c.are_touched.ensures.0 c.if-not-are_touched.false in
     let small : cert.limit ≤ STORAGE = c.if-certificate-gt-STORAGE.false in
-    let line : 5 + c.cycles_size-line.result ≡ members_line version cert = ap (λ (n : ℕ). 5 + n) (c.cycles_size-line.ensures ∙ ap (λ (cs : List LinkCycle). cycles_size version cs) c.as_slice.ensures) in
-    subst (λ (v : Verdict). IsVerdict (IsTradeOffFault net version cert) (IsFrontClaim net cert) v) (sym c.rejected-then-not-begins_at.ensures)
-    (subst (λ (n : ℕ). IsFirst (IsTradeOffFault net version cert) n reasons.Member) (sym line) (corner-first net version cert touched small (λ b. true≢false (sym (c.begins_at.ensures.1 b) ∙ c.if-not-begins_at.true))))
+    subst (λ (v : Verdict). IsToldVerdict (IsTradeOffFault net version cert) (IsFrontClaim net cert) v) (sym c.rejected-then-not-begins_at.ensures)
+    (told-first (IsTradeOffFault net version cert) (IsFrontClaim net cert) (members_line version cert) c.members_line-line.result reasons.Member (corner-first net version cert touched small (λ b. true≢false (sym (c.begins_at.ensures.1 b) ∙ c.if-not-begins_at.true))) c.members_line-line.ensures)
 
 pub returns-in-Some : goal.returns-in-Some
 returns-in-Some g c =
@@ -40,10 +47,10 @@ returns-in-Some g c =
     let version = c.args.version in
     let touched : AreTouched net = c.are_touched.ensures.0 c.if-not-are_touched.false in
     let small : cert.limit ≤ STORAGE = c.if-certificate-gt-STORAGE.false in
-    let line : 5 + c.cycles_size-line.result ≡ members_line version cert = ap (λ (n : ℕ). 5 + n) (c.cycles_size-line.ensures ∙ ap (λ (cs : List LinkCycle). cycles_size version cs) c.as_slice.ensures) in
     let begins : BeginsAtCorner net cert = c.begins_at.ensures.0 c.if-not-begins_at.false in
-    subst (λ (v : Verdict). IsVerdict (IsTradeOffFault net version cert) (IsFrontClaim net cert) v) (sym c.rejected-in-Some.ensures)
-    (members-first net version cert touched small begins c.in-Some.fault.line c.in-Some.fault.reason (subst (λ (o : Option Fault). Judges (IsFaultOfMembers net version cert) (AreMembersRight net cert) o) c.in-Some.is c.in_ok-fault.ensures))
+    subst (λ (v : Verdict). IsToldVerdict (IsTradeOffFault net version cert) (IsFrontClaim net cert) v) (sym c.rejected-in-Some.ensures)
+    (let first = subst (λ (o : Option Fault). JudgesTold (IsFaultOfMembers net version cert) (AreMembersRight net cert) o) c.in-Some.is c.in_ok-fault.ensures in
+    told-first (IsTradeOffFault net version cert) (IsFrontClaim net cert) first.0 c.in-Some.fault.line c.in-Some.fault.reason (members-first net version cert touched small begins first.0 c.in-Some.fault.reason first.1) first.2)
 
 pub returns-then-not-branch : goal.returns-then-not-branch
 returns-then-not-branch g c =
@@ -52,12 +59,10 @@ returns-then-not-branch g c =
     let version = c.args.version in
     let touched : AreTouched net = c.are_touched.ensures.0 c.if-not-are_touched.false in
     let small : cert.limit ≤ STORAGE = c.if-certificate-gt-STORAGE.false in
-    let line : 5 + c.cycles_size-line.result ≡ members_line version cert = ap (λ (n : ℕ). 5 + n) (c.cycles_size-line.ensures ∙ ap (λ (cs : List LinkCycle). cycles_size version cs) c.as_slice.ensures) in
     let begins : BeginsAtCorner net cert = c.begins_at.ensures.0 c.if-not-begins_at.false in
-    let right : AreMembersRight net cert = subst (λ (o : Option Fault). Judges (IsFaultOfMembers net version cert) (AreMembersRight net cert) o) c.in_default.is c.in_ok-fault.ensures in
-    let at : 5 + c.cycles_size-line.result + 1 + c.members_size.result ≡ points_line version cert = omega (arith, line, c.members_size.ensures) in
-    subst (λ (v : Verdict). IsVerdict (IsTradeOffFault net version cert) (IsFrontClaim net cert) v) (sym c.rejected-then-not-branch.ensures)
-    (subst (λ (n : ℕ). IsFirst (IsTradeOffFault net version cert) n reasons.Point) (sym at) (points-line-first net version cert touched small begins right (λ b. true≢false (sym (c.in_ok-are_below.ensures.1 b) ∙ c.if-not-branch.true))))
+    let right : AreMembersRight net cert = subst (λ (o : Option Fault). JudgesTold (IsFaultOfMembers net version cert) (AreMembersRight net cert) o) c.in_default.is c.in_ok-fault.ensures in
+    subst (λ (v : Verdict). IsToldVerdict (IsTradeOffFault net version cert) (IsFrontClaim net cert) v) (sym c.rejected-then-not-branch.ensures)
+    (told-first (IsTradeOffFault net version cert) (IsFrontClaim net cert) (points_line version cert) c.points_line-line.result reasons.Point (points-line-first net version cert touched small begins right (λ b. true≢false (sym (c.in_ok-are_below.ensures.1 b) ∙ c.if-not-branch.true))) c.points_line-line.ensures)
 
 pub returns-in-Some-2 : goal.returns-in-Some-2
 returns-in-Some-2 g c =
@@ -66,12 +71,12 @@ returns-in-Some-2 g c =
     let version = c.args.version in
     let touched : AreTouched net = c.are_touched.ensures.0 c.if-not-are_touched.false in
     let small : cert.limit ≤ STORAGE = c.if-certificate-gt-STORAGE.false in
-    let line : 5 + c.cycles_size-line.result ≡ members_line version cert = ap (λ (n : ℕ). 5 + n) (c.cycles_size-line.ensures ∙ ap (λ (cs : List LinkCycle). cycles_size version cs) c.as_slice.ensures) in
     let begins : BeginsAtCorner net cert = c.begins_at.ensures.0 c.if-not-begins_at.false in
-    let right : AreMembersRight net cert = subst (λ (o : Option Fault). Judges (IsFaultOfMembers net version cert) (AreMembersRight net cert) o) c.in_default.is c.in_ok-fault.ensures in
+    let right : AreMembersRight net cert = subst (λ (o : Option Fault). JudgesTold (IsFaultOfMembers net version cert) (AreMembersRight net cert) o) c.in_default.is c.in_ok-fault.ensures in
     let below : AreBelow net cert = c.in_ok-are_below.ensures.0 c.if-not-branch.false in
-    subst (λ (v : Verdict). IsVerdict (IsTradeOffFault net version cert) (IsFrontClaim net cert) v) (sym c.rejected-in-Some-2.ensures)
-    (points-first net version cert touched small begins right below c.in-Some-2.fault.line c.in-Some-2.fault.reason (subst (λ (o : Option Fault). Judges (IsFaultOfPoints net version cert) (ArePointsRight net cert) o) c.in-Some-2.is c.in_ok-fault-2.ensures))
+    subst (λ (v : Verdict). IsToldVerdict (IsTradeOffFault net version cert) (IsFrontClaim net cert) v) (sym c.rejected-in-Some-2.ensures)
+    (let first = subst (λ (o : Option Fault). JudgesTold (IsFaultOfPoints net version cert) (ArePointsRight net cert) o) c.in-Some-2.is c.in_ok-fault-2.ensures in
+    told-first (IsTradeOffFault net version cert) (IsFrontClaim net cert) first.0 c.in-Some-2.fault.line c.in-Some-2.fault.reason (points-first net version cert touched small begins right below first.0 c.in-Some-2.fault.reason first.1) first.2)
 
 pub returns : goal.returns
 returns g c =
@@ -80,11 +85,10 @@ returns g c =
     let version = c.args.version in
     let touched : AreTouched net = c.are_touched.ensures.0 c.if-not-are_touched.false in
     let small : cert.limit ≤ STORAGE = c.if-certificate-gt-STORAGE.false in
-    let line : 5 + c.cycles_size-line.result ≡ members_line version cert = ap (λ (n : ℕ). 5 + n) (c.cycles_size-line.ensures ∙ ap (λ (cs : List LinkCycle). cycles_size version cs) c.as_slice.ensures) in
     let begins : BeginsAtCorner net cert = c.begins_at.ensures.0 c.if-not-begins_at.false in
-    let right : AreMembersRight net cert = subst (λ (o : Option Fault). Judges (IsFaultOfMembers net version cert) (AreMembersRight net cert) o) c.in_default.is c.in_ok-fault.ensures in
+    let right : AreMembersRight net cert = subst (λ (o : Option Fault). JudgesTold (IsFaultOfMembers net version cert) (AreMembersRight net cert) o) c.in_default.is c.in_ok-fault.ensures in
     let below : AreBelow net cert = c.in_ok-are_below.ensures.0 c.if-not-branch.false in
-    let points : ArePointsRight net cert = subst (λ (o : Option Fault). Judges (IsFaultOfPoints net version cert) (ArePointsRight net cert) o) c.in_default-2.is c.in_ok-fault-2.ensures in
+    let points : ArePointsRight net cert = subst (λ (o : Option Fault). JudgesTold (IsFaultOfPoints net version cert) (ArePointsRight net cert) o) c.in_default-2.is c.in_ok-fault-2.ensures in
     let is : IsTradeOff net cert = record { touched = touched; limit = small; corner = begins; members = right; below = below; points = points } in (
       c.trade_off_is_shown.ensures.faultless net version cert is,
       (c.len.ensures, refl, c.trade_off_is_shown.ensures.front net cert c.in_ok-corner.corner.capacities c.requires.file c.in_ok-corner.ensures is),

@@ -25,5 +25,5 @@ returns c = λ faults.
     (goes_on (balancing c.in_ok-graph.graph) _ c.in_ok-gamma.gamma _ 0 faults faults c.in_ok-gamma.ensures
     (verdict_goes (IsCertificateFault c.in_ok-graph.graph c.in_ok-gamma.gamma c.args.version c.args.certificate.now) (IsCertificateClaim c.in_ok-graph.graph c.in_ok-gamma.gamma c.args.certificate.now)
     c.in_ok-verdict.verdict c.judged.result faults
-    (subst (λ (v : List ℕ). IsVerdict (IsCertificateFault c.in_ok-graph.graph v c.args.version c.args.certificate.now) (IsCertificateClaim c.in_ok-graph.graph v c.args.certificate.now) c.in_ok-verdict.verdict) c.as_slice.ensures c.in_ok-verdict.ensures)
+    (subst (λ (v : List ℕ). IsVerdict (IsCertificateFault c.in_ok-graph.graph v c.args.version c.args.certificate.now) (IsCertificateClaim c.in_ok-graph.graph v c.args.certificate.now) c.in_ok-verdict.verdict) c.as_slice.ensures (c.in_ok-verdict.ensures.exact c.requires.lines))
     c.judged.ensures))

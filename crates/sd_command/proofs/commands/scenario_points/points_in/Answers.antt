@@ -6,11 +6,12 @@ use Rattle.sd_base.specs.Scenarios.{FileKeepsRules}
 use Rattle.bounded_scenarios.specs.Boundings.{looped_tokens}
 use Rattle.scenario_storage.specs.declared.point.ScenarioLimits.{ScenarioLimits}
 use Rattle.scenario_storage.specs.declared.point.ScenarioPoint.{ScenarioPoint}
+use Rattle.report.specs.ScenarioPointTexts.{scenario_points_lines}
 use Rattle.sd_command.specs.declared.answer.Answer.{Answer}
 use Rattle.sd_command.specs.declared.stop.Stop.{Stop}
 use Rattle.sd_command.specs.steps.Courses.{Ending, After, ends_by}
 use Rattle.sd_command.specs.steps.ScenarioBounds.{ArePassed, bounding_all, fitting_nodes}
-use Rattle.sd_command.specs.commands.ScenarioPoints.{points_in, scenario_points_lines, searching}
+use Rattle.sd_command.specs.commands.ScenarioPoints.{points_in, searching}
 use Rattle.sd_command.specs.inside.Steps.{Does}
 use Rattle.sd_command.specs.inside.Goings.{Goes}
 use Rattle.sd_command.proofs.command_lemmas.Boundable.{can-be-bounded, tokens-few}
@@ -91,7 +92,7 @@ returns g c = λ faults.
     (search_answers c.args.file.now c.args.limits faults _ (record {
       points = c.in_ok-points.points.items;
       are = c.in_ok-points.ensures.does;
-      text = c.in_ok-text_of.ensures ∙ ap (λ (ps : List ScenarioPoint). scenario_points_lines c.args.file.now ps) c.as_slice.ensures.value;
+      text = c.in_ok-scenario_points_text.ensures ∙ ap (λ (ps : List ScenarioPoint). scenario_points_lines c.args.file.now ps) c.as_slice.ensures.value;
       put = refl;
       none = refl;
     }))

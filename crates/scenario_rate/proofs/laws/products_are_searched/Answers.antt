@@ -1,0 +1,5 @@
+use Rattle.scenario_rate.proofs.Products.{searched}
+use Rattle.scenario_rate.proofs.laws.products_are_searched.Goals as goal
+
+pub returns : goal.returns
+returns c = searched
