@@ -43,7 +43,7 @@ const LOOKS_A_ROUND: u64 = 32;
 pub(crate) const LATEST: u64 = 1 << 60;
 
 /// Up to which moment the rows grow, and how fast they grew.
-#[derive(Clone, Copy, Debug)]
+#[derive(Clone, Copy)]
 struct Pace {
     /// In time units.
     until: u64,

@@ -12,7 +12,7 @@ use sd_base::NoMemory;
 use std::alloc::Global;
 
 /// What the next firing of a channel's target needs, where both ends have one phase.
-#[derive(Clone, Copy, Debug)]
+#[derive(Clone, Copy)]
 pub(crate) struct Feed {
     pub(crate) source: u32,
     /// The time of a firing of the source, in time units.
@@ -26,7 +26,7 @@ pub(crate) struct Feed {
 }
 
 /// What the next firing of an actor of one phase needs.
-#[derive(Debug, Drop)]
+#[derive(Drop)]
 pub(crate) struct NextFiring {
     /// To start so many time units after the one before it, where a channel keeps firings from overlapping; else 0.
     pub(crate) pause: u64,

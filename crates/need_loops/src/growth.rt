@@ -11,7 +11,6 @@ use sd_base::{NoMemory, Rows};
 use std::alloc::Global;
 
 /// Starts of self-timed execution, as far as needs have told them.
-#[derive(Drop)]
 pub(crate) struct Growth {
     /// By actor its starts, ascending.
     pub(crate) starts: Vec<Rows<u64>>,
@@ -19,6 +18,17 @@ pub(crate) struct Growth {
     pub(crate) firings: Vec<NextFiring>,
     /// By actor whether the rows may tell more of its starts.
     pub(crate) flags: Vec<bool>,
+}
+
+// By hand, so that what drops one calls this, and does not drop each of its parts.
+impl Drop for Growth {
+    fn drop(self) {
+        let Growth {
+            starts: _starts,
+            firings: _firings,
+            flags: _flags,
+        } = self;
+    }
 }
 
 impl Growth {

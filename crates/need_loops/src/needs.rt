@@ -12,7 +12,7 @@ use sd_base::{NoMemory, Rows};
 const SWEEPS: u32 = u32::MAX;
 
 /// How far rows of starts grow.
-#[derive(Clone, Copy, Debug)]
+#[derive(Clone, Copy)]
 pub(crate) struct Reach {
     /// Up to and with this moment, in time units.
     pub(crate) until: u64,

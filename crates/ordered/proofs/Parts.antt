@@ -34,6 +34,10 @@ module _ (net : Net) (laws : Lawful net) (phases : List ℕ) (places : List Plac
   time-is a p below phase =
       ap (λ (xs : List ℕ). slice_index xs p) (times-at a (rw times-long at below)) ∙ unrolled-at (slice_index phases a) (slice_index_or net.times a []) p (rw (phases-is a below) at phase)
 
+  pub place-below : (i : ℕ) → i < length (with_places net phases places).channels → i < length places
+  unfolding with_places
+  place-below i below = rw (length-map places (place_in net (slice_index phases))) at below
+
   -- a channel of the net, at its place
   pub channel-is : (i k : ℕ) (one : Place) → i < length (with_places net phases places).channels → one ≡ slice_index_or places i one → one ≡ Kept k →
       channel_at (with_places net phases places) i ≡ rephased (slice_index phases) (channel_at net k)

@@ -17,7 +17,6 @@ use sd_base::{NoMemory, Role};
 use std::alloc::Global;
 
 /// A net whose actors keep orders: each firing of an order starts when the one before it has ended.
-#[derive(Drop)]
 pub struct Ordered<'a, F: Firing> {
     net: &'a F,
     phases: Vec<u32>,
@@ -25,6 +24,17 @@ pub struct Ordered<'a, F: Firing> {
     ghost turns: { AreTurns (F.net net.now) phases.items },
     ghost over: { All (IsPlaceOf (F.net net.now)) places.items },
     ghost laws: { Lawful (with_places (F.net net.now) phases.items places.items) },
+}
+
+// By hand, so that what drops one calls this, and does not drop each of its parts.
+impl<F: Firing> Drop for Ordered<'_, F> {
+    fn drop(self) {
+        let Ordered {
+            net: _net,
+            phases: _phases,
+            places: _places,
+        } = self;
+    }
 }
 
 impl<'a, F: Firing> Firing for Ordered<'a, F> {

@@ -16,7 +16,7 @@ use sd_base::{NoMemory, Role};
 use std::alloc::Global;
 
 /// A channel that orders add to a net.
-#[derive(Debug, Drop)]
+#[derive(Drop)]
 pub(crate) struct NewChannel {
     pub(crate) source: u32,
     pub(crate) target: u32,
@@ -27,14 +27,14 @@ pub(crate) struct NewChannel {
 }
 
 /// A channel of an ordered net: one of the net, by its number, or a new one.
-#[derive(Debug, Drop)]
+#[derive(Drop)]
 pub(crate) enum Place {
     Kept(u32),
     New(NewChannel),
 }
 
 /// What stands together among the channels of an ordered net.
-#[derive(Clone, Copy, Debug)]
+#[derive(Clone, Copy)]
 pub(crate) enum Sort {
     /// The channels of the file.
     File,

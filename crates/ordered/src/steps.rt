@@ -13,7 +13,7 @@ use sd_base::{NoMemory, Role};
 use std::alloc::Global;
 
 /// A side of an entry in an order that is gone through again and again.
-#[derive(Clone, Copy, Debug)]
+#[derive(Clone, Copy)]
 pub(crate) enum Side {
     After,
     Before,
