@@ -25,7 +25,7 @@ class Fault(Exception):
     says why; `is_analysers` that the analyser wrote the line. `more` has lines of the companion's own that stand behind it."""
 
     def __init__(self, status: int, line: str, is_analysers: bool = False, more: Sequence[str] = ()) -> None:
-        super().__init__(line)
+        super().__init__("; ".join([line, *more]))
         self.status = status
         self.line = line
         self.is_analysers = is_analysers
