@@ -4,7 +4,7 @@ use sd_base::{Fraction, Rows};
 use storage::Distribution;
 
 /// What shows that more room elsewhere doesn't raise the rate of a distribution.
-#[derive(Debug, Drop)]
+#[derive(Drop)]
 pub enum Shown {
     /// A critical need cycle of the bounded net. It shows the channels whose free space is on it.
     Cycle(NeedCycle),
@@ -14,7 +14,7 @@ pub enum Shown {
 }
 
 /// A distribution that was evaluated, with the rate of its bounded net in rounds per time unit.
-#[derive(Debug, Drop)]
+#[derive(Drop)]
 pub struct Member {
     pub capacities: Distribution,
     pub rate: Fraction,
@@ -23,7 +23,7 @@ pub struct Member {
 
 /// What an exploration comes to: its members by rising storage and then lexicographically, and the Pareto points of all
 /// distributions within the limit by rising storage.
-#[derive(Debug, Drop)]
+#[derive(Drop)]
 pub struct Exploration {
     pub members: Vec<Member>,
     pub points: Vec<Point>,

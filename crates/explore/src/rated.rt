@@ -10,7 +10,7 @@ use sd_base::{Fraction, Rows};
 
 /// The rate of a distribution, the channels on which more room could raise it, what shows both, and the loop of its net where
 /// the rate is above the best one of less storage; else it is no point's.
-#[derive(Debug, Drop)]
+#[derive(Drop)]
 pub(crate) struct Rated {
     pub(crate) rate: Fraction,
     pub(crate) enlarge: Rows<u32>,

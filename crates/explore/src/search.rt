@@ -33,11 +33,39 @@ use storage::{Bounded, Distribution, corner, step};
 
 /// Where an exploration stands: the distributions that wait, each with the place of the member that led to it for a hint, the
 /// members so far, and the points among them.
-#[derive(Drop)]
 pub(crate) struct Search {
     pub(crate) levels: Levels<Option<usize>>,
     pub(crate) members: Vec<Member>,
     pub(crate) front: Front,
+}
+
+// By hand, so that what drops one calls this, and does not drop each of its parts.
+impl Drop for Search {
+    fn drop(self) {
+        let Search {
+            levels: _levels,
+            members: _members,
+            front: _front,
+        } = self;
+    }
+}
+
+impl Search {
+    /// The members and the points.
+    fn into_exploration(self) -> Exploration
+        ensures members { result.members ≡ self.members }
+        ensures points { result.points.items ≡ self.front }
+    {
+        let Search {
+            levels: _levels,
+            members,
+            front,
+        } = self;
+        Exploration {
+            members,
+            points: front.into_points(),
+        }
+    }
 }
 
 /// The Pareto points of all storage distributions within a limit, and the members that show it: the corner, and with each
@@ -118,15 +146,7 @@ pub fn explore_as_far<R: Threads + Sync, F: Firing + Sync, G: Gate + Sync, L: Le
     };
     let mut search = begin(&exploring, first, total)?;
     take_turns(rt, &exploring, extent, gate, &mut search, steps)?;
-    let Search {
-        levels: _,
-        members,
-        front,
-    } = search;
-    Ok(Exploration {
-        members,
-        points: front.into_points(),
-    })
+    Ok(search.into_exploration())
 }
 
 /// Takes level after level in, until none waits or no further one is wanted.

@@ -23,8 +23,15 @@ pub returns-clause-explored : goal.returns-clause-explored
 returns-clause-explored g c =
     let net = g.F.Firing.net c.args.net.now in
     let s = c.take_turns.new.search in
-    subst (λ (ps : List Point). Explores c.args.extent net c.args.limits s.members.items ps) (sym c.into_points.ensures)
-    (explores-far net c.know_laws.ensures c.requires.net c.args.limits c.requires.total c.args.extent s c.in_ok-take_turns.ensures.far)
+    let e = c.into_exploration.result in
+    subst (λ (ps : List Point). Explores c.args.extent net c.args.limits e.members.items ps) (sym c.into_exploration.ensures.points)
+    (subst (λ v. Explores c.args.extent net c.args.limits v.items s.front) (sym c.into_exploration.ensures.members) (explores-far net c.know_laws.ensures c.requires.net c.args.limits c.requires.total c.args.extent s c.in_ok-take_turns.ensures.far))
+
+pub returns-clause-count : goal.returns-clause-count
+returns-clause-count g c =
+    let none : cycles_in c.in_ok-search.search.members.items ≡ 0 = ap cycles_in c.in_ok-search.ensures.members in
+    let same : cycles_in c.into_exploration.result.members.items ≡ cycles_in c.take_turns.new.search.members.items = ap (λ v. cycles_in v.items) c.into_exploration.ensures.members in
+    omega (arith, c.in_ok-take_turns.ensures.count, none, same)
 
 pub total_within-requires : goal.total_within-requires
 total_within-requires g c =
@@ -46,13 +53,13 @@ returns-clause-entered g c =
     let net = g.F.Firing.net c.args.net.now in
     let entered = g.G.Gate.entered c.args.gate.now in
     let none : EnterByLevels net.channels entered (capacities_of c.in_ok-search.search.members.items) = subst (λ (ms : List Member). EnterByLevels net.channels entered (capacities_of ms)) (sym c.in_ok-search.ensures.members) tt in
-    c.in_ok-take_turns.ensures.entered none
+    subst (λ v. EnterByLevels net.channels entered (capacities_of v.items)) (sym c.into_exploration.ensures.members) (c.in_ok-take_turns.ensures.entered none)
 
 pub returns-clause-least : goal.returns-clause-least
 returns-clause-least g c =
     let s = c.take_turns.new.search in
     let few = far-points-few c.args.extent (g.F.Firing.net c.args.net.now) c.args.limits s c.in_ok-take_turns.ensures.far in
-    let same : length c.into_points.result.items ≡ length s.front = ap (λ (ps : List Point). length ps) c.into_points.ensures in
+    let same : length c.into_exploration.result.points.items ≡ length s.front = ap (λ (ps : List Point). length ps) c.into_exploration.ensures.points in
     omega (arith, few, same, c.in_ok-take_turns.ensures.count, ap cycles_in c.in_ok-search.ensures.members)
 
 pub returns-in_default-clause-entered : goal.returns-in_default-clause-entered
