@@ -18,7 +18,7 @@ abbrev pub Follow : List StateRow → ℕ → List ℕ → Type 0
 Follow states q [] = Unit {0}
 Follow states q (r ∷ rs) = IsSuccessor states q r × Follow states r rs
 
--- a path: the first state is the initial one, and each next one is a successor
+-- a path: it begins with the initial state, and each state leads on to the one after it
 abbrev pub IsStatePath : ScenarioFile → List ℕ → Type 0
 IsStatePath file [] = Unit {0}
 IsStatePath file (q ∷ qs) = (q ≡ file.initial) × Follow file.states q qs

@@ -10,7 +10,7 @@ pub struct Edge {
     pub weight: u64,
 }
 
-/// A timed graph: node `q * tokens + i` stands for shared token i when state q is about to run. Edges are numbered
+/// A timed graph: node `q * tokens + i` is shared token i just before a run of state q. Edges are numbered
 /// from 0 in the order of the states, their successors, rows and columns.
 #[derive(Debug, Drop)]
 pub struct TimedGraph {

@@ -92,7 +92,7 @@ pub record IsTreePath (ls : List Link) (a b : ℕ) (path : List WalkStep) : Type
   pub parted : IsParted back on
   pub path_is : path ≡ turned back ++ on
 
--- the channel, forward, then the tree's path from its target to its source: a closed walk whose ratio in lowest terms is
+-- along the channel, and back to where it begins through the tree: a closed walk whose ratio in lowest terms is
 -- num/den, and not 1
 pub record IsClosedOver (ls : List Link) (channel : ℕ) (walk : List WalkStep) (num den : ℕ) : Type 0 where
   pub link : Link

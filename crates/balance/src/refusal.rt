@@ -15,8 +15,8 @@ pub enum BalanceError {
         a: u32,
         b: u32,
     },
-    /// The ratio along the way to some actor, in lowest terms, has a part above its limit. Of several ways it is the one
-    /// with the fewest steps, and of these the one with the least list of channels.
+    /// The ratio along the way to some actor, in lowest terms, has a part above its limit. Of several ways the
+    /// shortest is told, and of equally short ones that with the least list of channels.
     #[error("a ratio passes its limit")]
     RatioTooLarge {
         path: Rows<WalkStep>,

@@ -22,7 +22,7 @@ RunsOn file ds row = (gamma : List ℕ) × IsRepetitionOf row.graph gamma × IsL
 abbrev pub AllRun : ScenarioFile → List (Option ℕ) → Type 0
 AllRun file ds = (s : ℕ) (row : ScenarioRow) → slice_get file.scenarios s ≡ Some row → RunsOn file ds row
 
--- the worst rate of a distribution is num/den: 0 where a scenario can't complete its round, else that of the bounded file
+-- the worst rate of a distribution is num/den: that of the bounded file, or 0 where some scenario's round comes to no end
 pub data HasWorstRate (file : ScenarioFile) (ds : List (Option ℕ)) : ℕ → ℕ → Type 0 where
   blocked : (s : ℕ) (row : ScenarioRow) → slice_get file.scenarios s ≡ Some row → ¬ RunsOn file ds row → HasWorstRate file ds 0 1
   runs : (l w : ℕ) → AllRun file ds → IsWorst (bounded_file file ds) l w → HasWorstRate file ds l w

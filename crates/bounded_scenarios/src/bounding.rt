@@ -13,8 +13,8 @@ use std::alloc::Global;
 use storage::Distribution;
 
 /// The file bounded by a distribution, by shared row: in each scenario's graph the free space of each shared channel with a
-/// capacity stands after the file's channels, in the order of the shared rows; those with tokens are shared rows after the
-/// file's. Cost: linear in the file, and for each scenario shared rows times channels.
+/// capacity stands after the file's channels, in the order of the shared rows; each of these with tokens is a shared row
+/// behind the file's. Cost: linear in the file, and for each scenario shared rows times channels.
 pub fn bounded_file(
     alloc: Global,
     file: &ScenarioFile,

@@ -1,5 +1,5 @@
-//! Scenario files whose shared channels have capacities, and the laws on which a search for the trade-off of storage against
-//! the worst rate rests.
+//! Scenario files whose shared channels have capacities, and the laws on which a search for what storage each worst rate
+//! costs rests.
 #![tactic(auto)]
 
 mod bounding;

@@ -62,7 +62,7 @@ pub record ListsNodes (graph : TimedGraph) (ps : List (ℕ × ℕ × ℤ)) : Typ
 abbrev pub potential_of : TimedGraph → List (ℕ × ℕ × ℤ) → ℕ → Option ℤ
 potential_of graph ps v = option_map (λ (p : ℕ × ℕ × ℤ). p.2) (find (λ (p : ℕ × ℕ × ℤ). (p.0 * graph.tokens + p.1) == v) ps)
 
--- a potential is 0 or more at a node of the initial state, and over each edge from a node that is listed no less than the rate asks
+-- a potential isn't negative where the initial state begins, and over each edge from a node that is listed no less than the rate asks
 pub record IsFitting (graph : TimedGraph) (rate : ℕ × ℕ) (ps : List (ℕ × ℕ × ℤ)) (v : ℕ) (y : ℤ) : Type 0 where
   pub start : IsStart graph v → pos 0 ≤ℤ y
   pub steps : (k : ℕ) (e : Edge) (x : ℤ) → slice_get graph.edges k ≡ Some e → e.to ≡ v → potential_of graph ps e.from ≡ Some x

@@ -15,8 +15,8 @@ use Rattle.cert_checker.specs.declared.verdict.Reason.{Reason}
 use Rattle.cert_checker.specs.RateCertificates.{IsJoined, IsRateFault}
 use Rattle.cert_maker.specs.RateCertificates.{IsRateCertificate}
 
--- by channel of a file a capacity as words give them, or none: it belongs to a channel that isn't a self-loop, covers its tokens
--- and is at most 1,000,000
+-- by channel of a file a capacity as words give them, or none: self-loops have none, and each is at least the tokens
+-- and at most 1,000,000
 abbrev pub AreGiven : List ChannelRow → List (Option ℕ) → Type 0
 AreGiven [] [] = Unit {0}
 AreGiven [] (d ∷ ds) = ⊥

@@ -6,7 +6,7 @@ ghost use Rattle.completion.specs.inside.Timetables.{EndsLast, IsLastOf, IsTimet
 use crate::timetable::{Start, Timetable, end};
 use firing::{Firing, know_laws};
 
-/// Of the first rounds the firing that ends last, of several that of the least actor.
+/// The firing of the first rounds with the latest end, that of the actor with the least number where several end then.
 pub(crate) fn last_to_end<F: Firing>(net: &F, times: &Timetable, rounds: u64) -> Start
     requires times { IsTimetable (F.net net.now) times.now }
     requires some { LEAST_ROUNDS ≤ rounds }

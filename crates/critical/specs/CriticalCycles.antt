@@ -14,8 +14,8 @@ use Rattle.critical.specs.Spaces.{no_step}
 abbrev pub pass_of : Net → ℕ → ℕ → ℕ
 pass_of net rounds a = rounds * slice_index net.round a
 
--- the need of a step is tight: the firing of the second pass that lies whole passes away from the step's firing has as its last
--- need on the channel the firing as many passes away from the needed one, and starts just when that one ends
+-- the need of a step is tight: moved by whole passes into the second one, the step's firing has for its last need on the channel
+-- the needed firing, moved as far, and starts just when that one ends
 pub record IsTight (net : Net) (entry period rounds : ℕ) (from : FiringNo) (step : CycleStep) : Type 0 where
   pub later : ℕ
   pub need : ℕ
@@ -40,8 +40,8 @@ abbrev pub firing_at : NeedCycle → ℕ → FiringNo
 firing_at cycle zero = cycle.first
 firing_at cycle (suc i) = (slice_index_or cycle.steps i no_step).to
 
--- a need cycle with the rounds per time of the loop, no two of whose firings but the first and last lie whole passes apart, at
--- the least numbers at which all its firings are at least 0, with tight needs alone
+-- a need cycle with the rounds per time of the loop, no two of whose firings but the first and last lie whole passes apart,
+-- numbered as low as leaves none below 0, with tight needs alone
 pub record IsCriticalCycleOf (net : Net) (table : LoopTable) (cycle : NeedCycle) : Type 0 where
   pub holds : HoldsOn net cycle
   pub rate : cycle.rounds * table.period ≡ table.rounds * cycle.time

@@ -25,8 +25,8 @@ pub struct CycleStep {
 }
 
 /// A need cycle. From `first` on, each step's firing needs the firing before it, as its last need on the
-/// step's channel; the last firing is `rounds` rounds after the first, of the same actor. `time` is the sum
-/// of the times of all firings but the last, in time units.
+/// step's channel; the last firing is `rounds` rounds after the first, of the same actor. `time` is how
+/// long all firings but the last take one after another, in time units.
 #[derive(Debug, Drop)]
 pub struct NeedCycle {
     pub time: u64,

@@ -12,9 +12,9 @@ use firing::{Firing, LoopTable, Wired, Wiring, know_laws};
 use sd_base::NoMemory;
 use std::alloc::Global;
 
-/// A critical need cycle of the loop (Ghamarian et al. 2006): found backwards from the last firing of actor 0
-/// in the second pass, by the first tight need in the order of the net's channels, until an actor comes again
-/// whole passes before; with the least numbers at which all its firings are at least 0. Cost: linear in the
+/// A critical need cycle of the loop (Ghamarian et al. 2006): the way back from actor 0's last firing
+/// of the second pass, each time along the net's first channel whose need is tight, up to where an actor comes again
+/// whole passes before; numbered as low as leaves no firing below 0. Cost: linear in the
 /// starts of a pass times the channels into an actor.
 pub fn cycle_of<F: Firing>(alloc: Global, net: &F, table: &LoopTable) -> Result<NeedCycle, NoMemory>
     requires inputs { HasInputs (F.net net.now) }

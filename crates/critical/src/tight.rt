@@ -10,7 +10,7 @@ use crate::cycle::{FiringNo, time_at};
 use crate::pass::{listed, pass_of, passes_on};
 use firing::{Firing, LoopTable, Port, know_laws, need, port_phases};
 
-/// A firing that another one needs on a channel, as the firing of the second pass that lies `passes` passes later.
+/// A firing that another one needs on a channel, as the one of the second pass, `passes` passes later.
 #[derive(Clone, Copy)]
 pub(crate) struct ReadNeed {
     pub(crate) channel: u32,

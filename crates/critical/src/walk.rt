@@ -13,7 +13,7 @@ use std::alloc::Global;
 /// For so many firings met there is room from the start, or for those of a pass where these are fewer.
 const FEW: usize = 256;
 
-/// A firing met on the way back, as the firing of the second pass that lies `passes` passes later.
+/// A firing met on the way back, as the one of the second pass, `passes` passes later.
 #[derive(Clone, Copy)]
 pub(crate) struct Met {
     pub(crate) firing: FiringNo,
@@ -31,7 +31,7 @@ pub(crate) struct Way {
     pub(crate) from: usize,
 }
 
-/// Walks back from the last firing of actor 0 in the second pass. Cost: linear in the starts of a pass
+/// Walks back from actor 0's last firing of the second pass. Cost: linear in the starts of a pass
 /// times the channels into an actor.
 pub(crate) fn walk_back<F: Firing>(
     alloc: Global,
@@ -64,7 +64,7 @@ pub(crate) fn walk_back<F: Firing>(
     unreachable!()
 }
 
-/// The last firing of actor 0 in the second pass.
+/// Actor 0's last firing of the second pass.
 fn first_met(table: &LoopTable) -> Met
     requires short { IsShort table.now }
     requires actor { 0 < length table.now.starts }

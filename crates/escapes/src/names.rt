@@ -5,8 +5,8 @@ ghost use Rattle.escapes.specs.EscapedNames.{escaped_byte, escaped_name, hex_dig
 use sd_base::{NoMemory, Text};
 use std::alloc::{AllocError, Global};
 
-/// A name as lines show it: each byte that isn't a letter, a digit, `_`, `-`, `.` or `:` is `%` and two
-/// upper-case hexadecimal digits. So a printed name holds no space, comma or line feed.
+/// A name as lines show it: letters, digits, `_`, `-`, `.` and `:` stand for themselves, and each
+/// other byte is `%` with its two hexadecimal digits in upper case. So a printed name holds no space, comma or line feed.
 pub fn escaped(alloc: Global, name: &str) -> Result<Text, NoMemory>
     ensures { IfOk result (λ t. t ≡ escaped_name name.now) }
 {

@@ -20,7 +20,7 @@ use sd_base::limits::STARTS;
 use selftimed::Engine;
 use std::alloc::Global;
 
-/// The loop of self-timed execution (Ghamarian et al. 2006), found without keeping its shapes but two (Brent 1980). The first
+/// The loop of self-timed execution (Ghamarian et al. 2006), found with two checkpoints in place of all shapes (Brent 1980). The first
 /// `states` shapes, of at most `STARTS` starts, decide whether there is one; the search for it may go on to four times as many
 /// starts.
 ///
@@ -30,7 +30,7 @@ use std::alloc::Global;
 /// Where it has more than `STARTS` of them, two more side by side, up to the first repeat and up to the entry. Where a
 /// refusal comes, an execution up to the last shape that is allowed if the print of its tokens is a new one, and else up to
 /// twice its moment, of at most `STARTS` starts more.
-/// Memory: three shapes, and at most `STARTS` starts and as many events, with a print each.
+/// Memory: two checkpoints and the present shape, and at most `STARTS` starts and as many events, with a print each.
 pub fn loop_by_events<F: Firing>(
     alloc: Global,
     wired: &Wired<F>,

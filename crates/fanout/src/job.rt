@@ -1,6 +1,6 @@
 ghost use Rattle.std.specs.Prelude.{◌≡◌};
 
-/// Work that keeps its own result, a want of memory included. Contracts see when it may run, and how work that has run
+/// Work that keeps what it comes to, also where memory lacks. Contracts see when it may run, and how work that has run
 /// stands to what it was.
 pub trait Job: Send {
     ghost ready: { Self → Type 0 };

@@ -19,8 +19,8 @@ struct Place {
     first: usize,
 }
 
-/// Runs all jobs, by halves of the list side by side until a part is one job or there are 32 parts; the jobs of a part
-/// run one after another. The gate is entered with each job before its run: a job may run only once its own number has
+/// Runs all jobs, by halves of the list side by side, down to parts of one job or to 32 parts, each of which runs its jobs
+/// in turn. The gate is entered with each job before its run: a job may run only once its own number has
 /// entered. Takes no memory of its own, and recurses at most five calls deep.
 pub fn all<R: Threads + Sync, J: Job, G: Gate + Sync>(rt: &R, level: u64, jobs: &mut [J], gate: &G)
     requires { AreReadyOnceEntered J.ready (G.entered gate.now level) jobs.old }

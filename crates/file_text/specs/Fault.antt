@@ -11,7 +11,7 @@ use Rattle.file_text.specs.Grammar.{Each, Item, IsQuoted, IsHead, AreAttributes,
 abbrev pub IsPrefix : List ℕ → Type 0
 IsPrefix t = (rest : List ℕ) × (e : Node) × IsLooseText e (t ++ rest)
 
--- the first n bytes are a prefix of some text of the grammar; one byte more isn't, or there is none and they are no text
+-- some text of the grammar begins with the first n bytes; none with one byte more, or there is none and they are no text
 pub record LeavesAt (bytes : List ℕ) (n : ℕ) : Type 0 where
   pub within : n ≤ length bytes
   pub viable : IsPrefix (take n bytes)

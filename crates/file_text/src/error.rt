@@ -15,8 +15,8 @@ pub enum Construct {
     Instruction,
     /// `&#`; its place is the `&`.
     Reference,
-    /// A declared encoding other than UTF-8; its place is the first byte of the value, which for an empty
-    /// value is its closing quote.
+    /// A declared encoding other than UTF-8; its place is where the value begins, which of an empty
+    /// one is where its quote closes.
     Encoding,
 }
 

@@ -58,7 +58,7 @@ impl NetChannel for CsdfChannel {
     }
 }
 
-/// The net of a cyclo-static graph: firing k of an actor with f phases uses phase k modulo f.
+/// The net of a cyclo-static graph: an actor's phases come in turn, firing by firing, and begin again after the last.
 #[derive(Debug, Drop)]
 pub struct CsdfNet {
     times: Vec<Rows<u64>>,

@@ -8,8 +8,8 @@ use sd_base::{Quantity, Text};
 use std::alloc::{AllocError, AllocFailed, Global};
 use thiserror::Error;
 
-/// Why a file has no table: the first rule that it breaks. `of` is the name of the actor, channel, scenario or state
-/// that is being read, or `file` where none is; names stand as the file has them.
+/// Why a file has no table: the first rule that it breaks. `of` names what is being read, an actor, a channel, a
+/// scenario or a state, or is `file` where none is; names stand as the file has them.
 #[derive(Debug, Drop, Error)]
 pub enum ReadError {
     /// The bytes spell no tree.

@@ -13,7 +13,7 @@ use firing::{Firing, Port, Wired, know_laws, made_sum, port_phases, span_sum, ta
 use sd_base::{NoMemory, Rows};
 use std::alloc::Global;
 
-/// What firing actors one after another, at most a round of each, comes to, without the order.
+/// What it comes to to fire one actor after another, none more often than in a round, without the order.
 #[derive(Debug, Drop)]
 pub enum Ending {
     /// Each actor can fire its round.

@@ -8,7 +8,7 @@ use firing::{Firing, Wired, Wiring, first_lack, initial_tokens};
 use sd_base::{NoMemory, Rows};
 use std::alloc::Global;
 
-/// What firing actors one after another, at most a round of each, comes to.
+/// What it comes to to fire one actor after another, none more often than in a round.
 #[derive(Debug, Drop)]
 pub enum Round {
     /// A round, with its firings in an order in which they can fire.

@@ -27,8 +27,8 @@ IsNoLater [] bs = Unit {0}
 IsNoLater (a ∷ as') [] = ⊥
 IsNoLater (a ∷ as') (b ∷ bs) = (a < b) ⊎ ((a ≡ b) × IsNoLater as' bs)
 
--- the cycle is a shortest closed walk of tight edges through the least node on any such walk, and of these it has the
--- least list of nodes
+-- the cycle leads along tight edges through the least node that any such cycle has; none through it is shorter, and none as
+-- short has a lesser list of nodes
 pub record IsChosen (graph : TimedGraph) (l w : ℕ) (p : ℕ → Option ℤ) (cycle : List ℕ) : Type 0 where
   pub node : ℕ
   pub closed : IsTightPath graph l w p node cycle node

@@ -1,5 +1,5 @@
 //! The critical cycle that is chosen: of tight edges, through the least node that such a cycle has, of the fewest
-//! edges, and of these the one with the least list of nodes.
+//! edges, and then with the least list of nodes.
 ghost use Rattle.std.specs.Prelude.{◌≡◌, ◌≤◌, ◌<◌, ◌↔◌, ℕ, List, IsTrue, IfOk, MatchOption, Some, length};
 ghost use Rattle.sd_base.specs.declared.limits.TheConstants.{NODES};
 ghost use Rattle.automaton.specs.SoundGraphs.{AreInside};

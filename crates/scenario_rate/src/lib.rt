@@ -1,4 +1,4 @@
-//! The exact worst rate of a timed graph, with a critical cycle and the least potentials that fit.
+//! The exact worst rate of a timed graph, with a cycle that shows it and the least of the potentials that fit it.
 #![tactic(auto)]
 
 mod answer;

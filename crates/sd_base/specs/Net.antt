@@ -39,8 +39,8 @@ unfoldable pub total : List ℕ → ℕ → ℕ
 total xs zero = 0
 total xs (suc n) = total xs n + phase_entry xs n
 
--- v balances channels over actors with these phases: each actor fires, by whole cycles of its phases, and on each
--- channel the source's firings make as many tokens as the target's take
+-- v balances channels over actors with these phases: each actor fires, by whole cycles of its phases, and what
+-- the source's firings make on a channel is what the target's take from it
 pub record Balances (phases : List ℕ) (channels : List Channel) (v : List ℕ) : Type 0 where
   pub actors : length v ≡ length phases
   pub fires : (a : ℕ) → a < length phases → 1 ≤ slice_index v a

@@ -13,7 +13,7 @@ pub record IsLoop (net : Net) (entry period : ℕ) : Type 0 where
   pub same : shape_at net entry ≡ shape_at net (entry + period)
   pub first : (t u : ℕ) → IsEvent net t → IsEvent net u → t < u → u < entry + period → shape_at net t ≢ shape_at net u
 
--- the firings round the loop: by actor how many have started up to and with the entry, and the starts after it up to and
+-- the firings round the loop: by actor how many have started when the entry's starts are done, and the starts after it up to and
 -- with the first repeat, which are those of whole rounds
 pub record IsLoopTable (net : Net) (entry period rounds : ℕ) (before : List ℕ) (starts : List (List ℕ)) : Type 0 where
   pub loop : IsLoop net entry period

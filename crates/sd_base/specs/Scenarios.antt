@@ -15,7 +15,7 @@ abbrev pub shared_count : List SharedRow → ℕ
 shared_count [] = 0
 shared_count (s ∷ ss) = s.tokens + shared_count ss
 
--- a graph's channels with tokens are exactly the shared rows, by name, each with as many tokens; no two have one name
+-- the shared rows are the channels with tokens of a graph, all of them, by name, each with as many tokens; no two have one name
 pub record Shares (shared : List SharedRow) (g : GraphFile) : Type 0 where
   pub rows : (s : ℕ) (row : SharedRow) → slice_get shared s ≡ Some row →
       (i : ℕ) × (c : ChannelRow) × (slice_get g.channels i ≡ Some c) × (c.name ≡ row.name) × (c.tokens ≡ row.tokens) × (1 ≤ row.tokens)

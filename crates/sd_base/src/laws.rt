@@ -45,7 +45,7 @@ pub fn each_firing_has_a_tight_need()
         × (end_of net (earliest net t) (channel_at net i).source m ≡ start_of (earliest net t) a k) }
 {}
 
-/// Firing actors one after another, at most a round of each, ends in counts that don't depend on the
+/// Where actors fire one after another, none more often than in a round, the counts at the end don't depend on the
 /// order. They are the least counts at which no actor can go on.
 pub fn ending_counts_are_one()
     ensures one { (net : Net) (v w : ℕ → ℕ) → Lawful net → IsEnd net v → IsEnd net w → (a : ℕ) → a < length net.times → v a ≡ w a }

@@ -34,7 +34,7 @@ pub enum Quantity {
     Ratio,
     /// Firings of a round.
     Round,
-    /// Starts of one execution, up to and with the first shape that comes again.
+    /// Starts of an execution until a shape comes again, with those at that moment.
     Starts,
     /// Scenarios of a file.
     Scenarios,
@@ -94,7 +94,7 @@ pub const RATIO: u64 = 100_000;
 /// The most firings of a round, over all actors.
 pub const ROUND: u64 = 100_000;
 
-/// The most starts of one execution, up to and with the first shape that comes again.
+/// The most starts of an execution until a shape comes again, with those at that moment.
 pub const STARTS: u64 = 4_000_000;
 
 /// The most scenarios of a file.

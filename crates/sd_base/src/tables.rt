@@ -5,7 +5,7 @@ use crate::{Rows, Text};
 pub enum Kind {
     /// Synchronous dataflow: each actor has one phase.
     Sdf,
-    /// Cyclo-static dataflow: firing k of an actor with f phases uses phase `k mod f`.
+    /// Cyclo-static dataflow: the phases of an actor come in turn, firing by firing.
     Csdf,
 }
 
@@ -17,8 +17,8 @@ pub struct GraphFile {
     pub channels: Rows<ChannelRow>,
 }
 
-/// An actor: its number of phases and, by phase, its execution times in time units. There are no
-/// times where the file gives none and none were needed.
+/// An actor: its number of phases and, by phase, its execution times in time units. A file that
+/// gives none, where none were asked for, leaves the times out.
 #[derive(Debug, Drop)]
 pub struct ActorRow {
     pub name: Text,

@@ -8,7 +8,7 @@ use Rattle.sd_base.specs.Lawful.{is_token_role, is_space_role}
 abbrev pub capacity_at : List (Option ℕ) → ℕ → Option ℕ
 capacity_at ds c = slice_index_or ds c None
 
--- each capacity belongs to a channel that isn't a self-loop, covers its tokens and is at most 2,000,000,000
+-- no self-loop has a capacity, and each is at least the channel's tokens and at most 2,000,000,000
 abbrev pub CanHold : List Channel → List (Option ℕ) → Type 0
 CanHold [] [] = Unit {0}
 CanHold [] (d ∷ ds) = ⊥

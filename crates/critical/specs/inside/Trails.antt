@@ -112,11 +112,11 @@ none_met = record { firing = record { actor = 0; number = 0 }; passes = 0; time 
 abbrev pub met_at : List Met → ℕ → Met
 met_at met i = slice_index_or met i none_met
 
--- the last firing of actor 0 in the second pass
+-- of the second pass, actor 0's last firing
 abbrev pub first_firing : LoopTable → FiringNo
 first_firing table = record { actor = 0; number = second_of table 0 + count_of table.starts 0 - 1 }
 
--- the way from the last firing of actor 0 in the second pass back to a firing that has been met before, whole passes away; all
+-- the way from actor 0's last firing of the second pass back to a firing that has been met before, whole passes away; all
 -- others differ
 pub record ComesAgain (net : Net) (table : LoopTable) (met : List Met) (from : ℕ) : Type 0 where
   pub first : (met_at met 0).firing ≡ first_firing table
