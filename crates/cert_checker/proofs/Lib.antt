@@ -25,3 +25,4 @@ pub mod BestRates
 pub mod LinkMaps
 pub mod EdgeWeights
 mod ToldLines
+mod Fitting
