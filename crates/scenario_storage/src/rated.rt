@@ -10,7 +10,7 @@ use std::alloc::{AllocError, AllocFailed};
 
 /// The worst rate of a distribution, the shared channels on which more room could raise it, and what shows the rate, where
 /// that is above the best one of less storage; else it is no point's.
-#[derive(Debug, Drop)]
+#[derive(Drop)]
 pub(crate) struct Rated {
     pub(crate) rate: Fraction,
     pub(crate) enlarge: Rows<u32>,
@@ -19,7 +19,7 @@ pub(crate) struct Rated {
 
 /// What shows the worst rate of a distribution: the shared rows and the timed graph of the bounded file, and the answer
 /// on that graph.
-#[derive(Debug, Drop)]
+#[derive(Drop)]
 pub(crate) struct Evidence {
     pub(crate) shared: Rows<SharedRow>,
     pub(crate) graph: TimedGraph,
@@ -27,7 +27,7 @@ pub(crate) struct Evidence {
 }
 
 /// Why a distribution has no rate here.
-#[derive(Clone, Copy, Debug, PartialEq, Eq)]
+#[derive(Clone, Copy, PartialEq, Eq)]
 pub(crate) enum RateError {
     /// Its timed graph has more edges than are allowed.
     Edges,

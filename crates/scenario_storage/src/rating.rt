@@ -18,7 +18,7 @@ use storage::Distribution;
 use token_matrix::{Matrix, MatrixError, matrix_of};
 
 /// What the scenarios of a bounded file come to.
-#[derive(Debug, Drop)]
+#[derive(Drop)]
 pub(crate) enum Measured {
     /// The first scenario that can't complete its round, with its ending counts.
     Blocked { scenario: usize, counts: Rows<u64> },

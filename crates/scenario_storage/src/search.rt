@@ -32,11 +32,35 @@ use storage::Distribution;
 
 /// Where the search stands: the distributions that wait, the points among those that were rated, and whether one of these has
 /// a rate that bounds those of all.
-#[derive(Drop)]
 pub(crate) struct Search {
     pub(crate) levels: Levels<()>,
     pub(crate) points: Vec<ScenarioPoint>,
     pub(crate) topped: bool,
+}
+
+// By hand, so that what drops one calls this, and does not drop each of its parts.
+impl Drop for Search {
+    fn drop(self) {
+        let Search {
+            levels: _levels,
+            points: _points,
+            topped: _,
+        } = self;
+    }
+}
+
+impl Search {
+    /// The points.
+    fn into_points(self) -> Vec<ScenarioPoint>
+        ensures { result ≡ self.points }
+    {
+        let Search {
+            levels: _levels,
+            points,
+            topped: _,
+        } = self;
+        points
+    }
 }
 
 /// The Pareto points of the storage of shared channels and the worst rate (Geilen 2010; Stuijk, Geilen and Basten 2008):
@@ -71,12 +95,7 @@ pub fn scenario_points<R: Threads + Sync, G: Gate + Sync>(
     let corner = corner_of(alloc, file)?;
     let mut search = begin(&plan, corner.capacities, corner.total)?;
     take_turns(rt, &plan, gate, &mut search)?;
-    let Search {
-        levels: _,
-        points,
-        topped: _,
-    } = search;
-    Ok(points)
+    Ok(search.into_points())
 }
 
 /// By scenario its repetition vector. Cost: that of `repetition` for each.
