@@ -10,10 +10,10 @@ use Rattle.cert_checker.specs.declared.verdict.Verdict.TheVariants.{Accepted, Re
 use Rattle.cert_checker.specs.Verdicts.{IsFirst, IsToldAs, IsToldVerdict, IsVerdict}
 use Rattle.cert_checker.specs.StorageLines.{end_line}
 use Rattle.cert_checker.specs.StorageFaults.{IsTradeOffFault, touched, limit, corner, of_member, covered, of_point}
-use Rattle.cert_checker.specs.inside.FirstFaults.{told}
+use Rattle.cert_checker.specs.inside.FirstFaults.{kept_number}
 use Rattle.cert_checker.proofs.StorageFirsts.{member-inside, member-place, point-inside, point-place}
 
-told-as : (line n : ℕ) → n ≡ told line → IsToldAs line n
+told-as : (line n : ℕ) → n ≡ kept_number line → IsToldAs line n
 told-as line n is = elim (cases_lt line (2 ^ 64)) [
   | inl below ↦ inl (omega (arith, is, below))
   | inr past ↦ inr (omega (arith, is, past), past)
@@ -21,7 +21,7 @@ told-as line n is = elim (cases_lt line (2 ^ 64)) [
 
 module _ (F : ℕ → Reason → Type 0) (shown : Claim → Type 0) where
   -- a fault by its line as it is told
-  pub told-first : (line n : ℕ) (reason : Reason) → IsFirst F line reason → n ≡ told line → IsToldVerdict F shown (Rejected n reason)
+  pub told-first : (line n : ℕ) (reason : Reason) → IsFirst F line reason → n ≡ kept_number line → IsToldVerdict F shown (Rejected n reason)
   told-first line n reason first is = (line, first, told-as line n is)
 
   pub told-verdict : (v : Verdict) → IsVerdict F shown v → IsToldVerdict F shown v

@@ -2,7 +2,7 @@
 ghost use Rattle.std.specs.Prelude.{◌≡◌, ◌+◌, ◌≤◌, ◌^◌};
 ghost use Rattle.cert_text.specs.MemberLines.{cycle_at};
 ghost use Rattle.cert_checker.specs.StorageLines.{cycle_size, cycles_size, member_size, point_size, shown_size};
-ghost use Rattle.cert_checker.specs.inside.FirstFaults.{told};
+ghost use Rattle.cert_checker.specs.inside.FirstFaults.{kept_number};
 
 use cert_text::{LinkCycle, MemberLine, MemberShown, PointLine};
 
@@ -15,7 +15,7 @@ fn cycle_size(cycle: &LinkCycle) -> u64
 
 /// The lines before that of the number of members, as far as 64 bits hold their number.
 pub(crate) fn cycles_size(version: u32, cycles: &[LinkCycle]) -> u64
-    ensures { result ≡ told (cycles_size version cycles.now) }
+    ensures { result ≡ kept_number (cycles_size version cycles.now) }
 {
     if version == 1 {
         return 0;

@@ -13,7 +13,7 @@ ghost use Rattle.cert_checker.specs.StorageCertificates.{BeginsAtCorner, IsFileN
 ghost use Rattle.cert_checker.specs.StorageFaults.{IsStorageFault, IsTradeOffFault};
 ghost use Rattle.cert_checker.specs.Verdicts.{IsToldVerdict, IsVerdict};
 ghost use Rattle.cert_checker.specs.declared.verdict.Verdict.TheVariants.{Rejected};
-ghost use Rattle.cert_checker.specs.inside.FirstFaults.{AreMembersRight, ArePointsRight, IsFaultOfMembers, IsFaultOfPoints, JudgesTold, told};
+ghost use Rattle.cert_checker.specs.inside.FirstFaults.{AreMembersRight, ArePointsRight, IsFaultOfMembers, IsFaultOfPoints, JudgesTold, kept_number};
 
 use crate::fault::Fault;
 use crate::laws::trade_off_is_shown;
@@ -99,7 +99,7 @@ fn check_trade_off<F: Firing>(
 
 /// The line of the number of members.
 fn members_line(version: u32, certificate: &StorageCertificate) -> u64
-    ensures { result ≡ told (members_line version certificate.now) }
+    ensures { result ≡ kept_number (members_line version certificate.now) }
 {
     cycles_size(version, certificate.cycles.as_slice()).saturating_add(5)
 }
@@ -133,7 +133,7 @@ fn members_fault<F: Firing>(
     requires file { IsFileNet (F.net net.now) }
     requires limit { certificate.now.limit ≤ STORAGE }
     requires orderly { NameOnes (length certificate.now.cycles) certificate.now.members }
-    requires first { first_line ≡ told (member_line version certificate.now 0) }
+    requires first { first_line ≡ kept_number (member_line version certificate.now 0) }
     ensures { IfOk result (JudgesTold (IsFaultOfMembers (F.net net.now) version certificate.now) (AreMembersRight (F.net net.now) certificate.now)) }
 {
     let listed = listed_of(alloc, net, certificate)?;
@@ -156,8 +156,8 @@ fn members_fault<F: Firing>(
 
 /// The line of the number of points, by that of the number of members.
 fn points_line(version: u32, certificate: &StorageCertificate, before: u64) -> u64
-    requires { before ≡ told (members_line version certificate.now) }
-    ensures { result ≡ told (points_line version certificate.now) }
+    requires { before ≡ kept_number (members_line version certificate.now) }
+    ensures { result ≡ kept_number (points_line version certificate.now) }
 {
     let mut line = before.saturating_add(1);
     for member in certificate.members.as_slice() {
@@ -179,7 +179,7 @@ fn points_fault<F: Firing>(
     requires limit { certificate.now.limit ≤ STORAGE }
     requires members { AreMembersRight (F.net net.now) certificate.now }
     requires spellable { IsStorageSpellable certificate.now }
-    requires first { first_line ≡ told (point_line version certificate.now 0) }
+    requires first { first_line ≡ kept_number (point_line version certificate.now 0) }
     ensures { IfOk result (JudgesTold (IsFaultOfPoints (F.net net.now) version certificate.now) (ArePointsRight (F.net net.now) certificate.now)) }
 {
     let mut line = first_line;

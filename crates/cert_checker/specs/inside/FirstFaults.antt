@@ -14,13 +14,13 @@ Judges F right None = right
 Judges F right (Some fault) = IsFirst F fault.line fault.reason
 
 -- the number of a line, as far as 64 bits hold it
-abbrev pub told : ℕ → ℕ
-told line = min line (2 ^ 64 - 1)
+abbrev pub kept_number : ℕ → ℕ
+kept_number line = min line (2 ^ 64 - 1)
 
 -- the same, with the first fault's line as it is told
 abbrev pub JudgesTold : (ℕ → Reason → Type 0) → Type 0 → Option Fault → Type 0
 JudgesTold F right None = right
-JudgesTold F right (Some fault) = (line : ℕ) × IsFirst F line fault.reason × (fault.line ≡ told line)
+JudgesTold F right (Some fault) = (line : ℕ) × IsFirst F line fault.reason × (fault.line ≡ kept_number line)
 
 -- the faults of the members
 pub data IsFaultOfMembers (net : Net) (version : ℕ) (c : StorageCertificate) (line : ℕ) (reason : Reason) : Type 0 where
