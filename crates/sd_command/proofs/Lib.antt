@@ -1,3 +1,2 @@
-pub mod step_lemmas
 pub mod command_lemmas
 mod Shown

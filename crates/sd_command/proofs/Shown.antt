@@ -1,35 +1,21 @@
--- From what was put and sent to how the run ended.
-use Rattle.std.proofs.Common.{◌≡◌, ℕ, ◌+◌, List, Bool, true, false, Option, Result, Ok, Err, refl, sym, subst, inl, inr}
+-- From what was put and sent to what the run shows.
+use Rattle.std.proofs.Common.{◌≡◌, ℕ, ◌+◌, List, Bool, Option, Result, Ok, Err, refl, sym, subst, inl, inr}
 use Rattle.report.specs.RefusalLines.{line_of, memory_line}
-use Rattle.sd_command.specs.declared.answer.Answer.{Answer}
-use Rattle.sd_command.specs.declared.status.Status.{Status}
-use Rattle.sd_command.specs.declared.status.Status.TheVariants as statuses
-use Rattle.sd_command.specs.declared.stop.Stop.{Stop}
-use Rattle.sd_command.specs.declared.stop.Stop.TheVariants as stop
-use Rattle.sd_command.specs.Statuses.{status_of}
-use Rattle.sd_command.specs.steps.Courses.{Ending, Answered, Counted}
-use Rattle.sd_command.specs.steps.Takings.{Files}
+use Rattle.sd_steps.specs.declared.answer.Answer.{Answer}
+use Rattle.sd_steps.specs.declared.status.Status.{Status}
+use Rattle.sd_steps.specs.declared.status.Status.TheVariants as statuses
+use Rattle.sd_steps.specs.declared.stop.Stop.{Stop}
+use Rattle.sd_steps.specs.declared.stop.Stop.TheVariants as stop
+use Rattle.sd_steps.specs.Statuses.{status_of}
+use Rattle.sd_steps.specs.Courses.{Ending, Answered, Counted}
+use Rattle.sd_steps.specs.Takings.{Files}
+use Rattle.sd_steps.specs.RunEndings.{Sending, GetsNothing, HasTaken, of_refusal, of_memory, Outside, Ends}
+use Rattle.sd_steps.specs.Deliveries.{Sends, SendsStop}
+use Rattle.sd_steps.proofs.Endings.{ends_told}
 use Rattle.sd_command.specs.Requests.{course_of}
-use Rattle.sd_command.specs.Runs.{Sending, GetsNothing, HasPut, HasTaken, HasLine, of_refusal, of_memory, Outside, Ends, done, told, out_fault, err_fault, Run, Shows}
+use Rattle.sd_command.specs.Runs.{Run, Shows}
 use Rattle.sd_command.specs.inside.Goings.{IsEnd, Goes}
-use Rattle.sd_command.specs.inside.Deliveries.{Sends, SendsStop}
-use Rattle.sd_command.proofs.step_lemmas.Goings.{same_shelf}
-
-module _ (o : Outside) (status : Status) where
-  -- the text of an answer was sent
-  pub ends_answered : (answer : Answer) (shown : List ℕ) → HasPut answer.put o.shelf → shown ≡ answer.text → Sends statuses.Done shown status o.out → GetsNothing o.err
-      → (cut : Bool) × Ends o status cut (Answered answer)
-  ends_answered answer shown put same sends nothing = by_sends (subst (λ (t : List ℕ). Sends statuses.Done t status o.out) same sends)
-    where
-      by_sends : Sends statuses.Done answer.text status o.out → (cut : Bool) × Ends o status cut (Answered answer)
-      by_sends (inl (is, whole)) = (false, done refl answer refl put is whole nothing)
-      by_sends (inr (is, part)) = (true, out_fault refl answer refl put is part nothing)
-
-  -- a line was sent
-  pub ends_told : (ending : Ending) (line : List ℕ) (whole : Status) → HasLine ending o.shelf line whole → Sends whole line status o.err → GetsNothing o.out
-      → (cut : Bool) × Ends o status cut ending
-  ends_told ending line whole has (inl (is, sent)) nothing = (false, told refl line (subst (λ (s : Status). HasLine ending o.shelf line s) (sym is) has) nothing sent)
-  ends_told ending line whole has (inr (is, part)) nothing = (false, err_fault refl line whole has is nothing part)
+use Rattle.sd_command.proofs.command_lemmas.Goings.{same_shelf}
 
 -- a shelf in the middle of a run, where nothing was put yet
 module _ (words : List (List ℕ)) (files middle : Files) (faults faults' faults'' : ℕ) (named_after : List ℕ → Option (List ℕ)) (out err : Sending) (status : Status)

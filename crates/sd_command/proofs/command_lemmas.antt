@@ -2,6 +2,8 @@ pub mod Analyses
 pub mod Boundable
 pub mod Bounds
 pub mod Certified
+pub mod CyclesOver
+pub mod Goings
 pub mod OrderedOver
 pub mod Orderless
 pub mod PointSchedules

@@ -2,8 +2,8 @@
 use Rattle.std.specs.Prelude.{ℕ, List, None}
 use Rattle.sd_words.specs.declared.request.Request.{Request}
 use Rattle.sd_words.specs.declared.request.Request.TheVariants as requests
-use Rattle.sd_command.specs.steps.Courses.{Ending, After}
-use Rattle.sd_command.specs.steps.Takings.{Files}
+use Rattle.sd_steps.specs.Courses.{Ending, After}
+use Rattle.sd_steps.specs.Takings.{Files}
 use Rattle.sd_command.specs.commands.Repetitions.{repetition}
 use Rattle.sd_command.specs.commands.Throughputs.{throughput}
 use Rattle.sd_command.specs.commands.InOrders.{ordered}
@@ -15,7 +15,7 @@ use Rattle.sd_command.specs.commands.ScenarioPoints.{scenario_storage}
 use Rattle.sd_command.specs.commands.Generations.{generate}
 use Rattle.sd_command.specs.commands.Checks.{check}
 use Rattle.sd_command.specs.commands.Conversions.{convert}
-use Rattle.sd_command.specs.steps.Askings.{asking}
+use Rattle.sd_steps.specs.Askings.{asking}
 
 -- the command of each request
 abbrev pub command_of : Request → Files → Ending → ℕ → Type 0

@@ -7,7 +7,6 @@ pub(crate) mod conversion;
 pub(crate) mod expansion;
 pub(crate) mod generation;
 pub(crate) mod in_order;
-pub(crate) mod judging;
 pub(crate) mod least_time;
 pub(crate) mod parallel;
 pub(crate) mod points;

@@ -1,23 +1,22 @@
 ghost use Rattle.std.specs.Prelude.{◌≡◌, ℕ, ◌-◌, ◌≤◌, List};
 ghost use Rattle.sd_words.specs.Asked.{IsWithinLimits};
-ghost use Rattle.sd_command.specs.steps.Takings.{Files};
+ghost use Rattle.sd_steps.specs.Takings.{Files};
 ghost use Rattle.sd_command.specs.Requests.{command_of, course_of};
 ghost use Rattle.sd_command.specs.inside.Goings.{Goes};
 ghost use Rattle.sd_command.specs.inside.Groups.{AsksForNoNet, AsksForNoPoints, AsksForNoRate};
 
-use crate::answer::Answer;
 use crate::commands::parallel::Parallel;
 use crate::commands::wanted::{Wanted, WantedPoints, WantedRate, WantedRounds};
 use crate::commands::{
     bounded_course, check, conversion, generation, repetition, scenario_points, trade_off,
     worst_rate,
 };
-use crate::steps::asking::ask;
-use crate::stop::Stop;
 use fanout::Gate;
 use scenario_storage::ScenarioLimits;
 use sd_base::{Ledger, Steps, Text};
 use sd_io::Shelf;
+use sd_steps::asking::ask;
+use sd_steps::{Answer, Stop};
 use sd_words::Request;
 use std::alloc::Global;
 use std::thread::Threads;

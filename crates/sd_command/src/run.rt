@@ -1,12 +1,12 @@
 ghost use Rattle.std.specs.Prelude.{◌≡◌, ◌≤◌, Bool};
 ghost use Rattle.sd_command.specs.Runs.{Run, Shows};
 
-use crate::delivering::{deliver, send_stop};
 use crate::requests::answer_of;
-use crate::status::Status;
 use fanout::Gate;
 use sd_base::{Ledger, Steps, Text};
 use sd_io::{Shelf, Sink};
+use sd_steps::Status;
+use sd_steps::delivering::{deliver, send_stop};
 use std::alloc::Global;
 use std::thread::Threads;
 

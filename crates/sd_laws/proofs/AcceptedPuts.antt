@@ -14,20 +14,21 @@ use Rattle.cert_checker.specs.declared.verdict.Reason.{Reason}
 use Rattle.cert_checker.specs.Certificates.{IsCertificateClaim, IsCertificateFault}
 use Rattle.cert_checker.specs.ScenarioCertificates.{IsScenarioFault, IsWorstClaim}
 use Rattle.cert_maker.specs.ValidTradeOffs.{TradeOffsAreValid}
-use Rattle.sd_command.specs.declared.answer.Answer.{Answer}
-use Rattle.sd_command.specs.declared.file_kind.FileKind.TheVariants as files
+use Rattle.sd_steps.specs.declared.answer.Answer.{Answer}
+use Rattle.sd_steps.specs.declared.file_kind.FileKind.TheVariants as files
 use Rattle.sd_laws.specs.AcceptedCertificates.{Accepts, Asks, PutsAreAccepted}
-use Rattle.sd_command.specs.steps.Balancings.{balancing}
-use Rattle.sd_command.specs.steps.CertificateReadings.{opening_certificate}
-use Rattle.sd_command.specs.steps.Certifyings.{text_of}
-use Rattle.sd_command.specs.commands.Checks.{checked, judging}
-use Rattle.sd_command.specs.steps.Courses.{Step, Ending, Answered, Refused, Ended, Failed, Lacking, After, ends_by, refused, failed, lacking, passed, IsCutOff}
+use Rattle.sd_steps.specs.Balancings.{balancing}
+use Rattle.sd_steps.specs.CertificateReadings.{opening_certificate}
+use Rattle.sd_steps.specs.Certifyings.{text_of}
+use Rattle.sd_command.specs.commands.Checks.{checked}
+use Rattle.sd_steps.specs.Judgings.{judging}
+use Rattle.sd_steps.specs.Courses.{Step, Ending, Answered, Refused, Ended, Failed, Lacking, After, ends_by, refused, failed, lacking, passed, IsCutOff}
 use Rattle.sd_laws.specs.PutCertificates.{PutsValidRate, PutsValidTradeOff, PutsValidWorst}
-use Rattle.sd_command.specs.steps.Readings.{reading_graph}
-use Rattle.sd_command.specs.steps.Askings.{asking}
+use Rattle.sd_steps.specs.Readings.{reading_graph}
+use Rattle.sd_steps.specs.Askings.{asking}
 use Rattle.sd_command.specs.Requests.{command_of, course_of}
-use Rattle.sd_command.specs.steps.ScenarioSteps.{reading_scenarios, timing}
-use Rattle.sd_command.specs.steps.Takings.{Files, taking}
+use Rattle.sd_steps.specs.ScenarioSteps.{reading_scenarios, timing}
+use Rattle.sd_steps.specs.Takings.{Files, taking}
 use Rattle.sd_laws.proofs.CertificatesDecide.{opening_certificate_determines}
 use Rattle.sd_laws.proofs.CommandsDecide.{Determines}
 use Rattle.sd_laws.proofs.OneWorst.{ScenarioLaws, reading_file_determines, timing_determines}

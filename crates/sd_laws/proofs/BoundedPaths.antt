@@ -12,14 +12,14 @@ use Rattle.storage.specs.BoundedNets.{bound}
 use Rattle.storage.specs.NamedBuffers.{Buffer}
 use Rattle.ordered.specs.declared.orders.Orders.{Orders}
 use Rattle.ordered.specs.OrderedNets.{ordered}
-use Rattle.sd_command.specs.declared.file_kind.FileKind.TheVariants.{Graph}
-use Rattle.sd_command.specs.steps.Balancings.{balancing}
+use Rattle.sd_steps.specs.declared.file_kind.FileKind.TheVariants.{Graph}
+use Rattle.sd_steps.specs.Balancings.{balancing}
 use Rattle.sd_command.specs.commands.BoundedCourses.{OnNet, on_file}
-use Rattle.sd_command.specs.steps.Bufferings.{GivesCapacities, buffering}
-use Rattle.sd_command.specs.steps.Courses.{Ending}
-use Rattle.sd_command.specs.steps.Orderings.{GivesOrders, NamedOrders}
-use Rattle.sd_command.specs.steps.Readings.{opening_graph}
-use Rattle.sd_command.specs.steps.Takings.{Files, IsTaken}
+use Rattle.sd_steps.specs.Bufferings.{GivesCapacities, buffering}
+use Rattle.sd_steps.specs.Courses.{Ending}
+use Rattle.sd_steps.specs.Orderings.{GivesOrders, NamedOrders}
+use Rattle.sd_steps.specs.Readings.{opening_graph}
+use Rattle.sd_steps.specs.Takings.{Files, IsTaken}
 use Rattle.sd_laws.proofs.CommandsDecide.{Decides, IsPast, after_decides, goes_past}
 use Rattle.sd_laws.proofs.OneOrder.{OrderLaws, lawful-ordered}
 use Rattle.sd_command.proofs.command_lemmas.Bounds.{AreSmall}

@@ -10,12 +10,12 @@ use Rattle.cert_checker.specs.declared.verdict.Reason.TheVariants as reasons
 use Rattle.cert_checker.specs.Verdicts.{IsFirst, rank_of}
 use Rattle.report.specs.declared.refusal.Refusal.{Refusal}
 use Rattle.report.specs.declared.refusal.Refusal.TheVariants.{Rejected}
-use Rattle.sd_command.specs.declared.file_kind.FileKind.{FileKind}
-use Rattle.sd_command.specs.declared.file_kind.FileKind.TheVariants as kinds
-use Rattle.sd_command.specs.steps.Takings.{Files, taking}
-use Rattle.sd_command.specs.steps.CertificateReadings.{certificate_refusal, opening_certificate, reading_certificate}
-use Rattle.sd_command.specs.steps.Certifyings.{certifying}
-use Rattle.sd_command.specs.commands.Checks.{IsRejected, judging, reason_word}
+use Rattle.sd_steps.specs.declared.file_kind.FileKind.{FileKind}
+use Rattle.sd_steps.specs.declared.file_kind.FileKind.TheVariants as kinds
+use Rattle.sd_steps.specs.Takings.{Files, taking}
+use Rattle.sd_steps.specs.CertificateReadings.{certificate_refusal, opening_certificate, reading_certificate}
+use Rattle.sd_steps.specs.Certifyings.{certifying}
+use Rattle.sd_steps.specs.Judgings.{IsRejected, judging, reason_word}
 use Rattle.sd_laws.proofs.CommandsDecide.{Determines, DecidesLast, through_determines}
 use Rattle.sd_laws.proofs.SharedSteps.{taking_determines}
 

@@ -9,25 +9,25 @@ use Rattle.storage.specs.BoundedNets.{bound}
 use Rattle.storage.specs.NamedBuffers.{Buffer}
 use Rattle.sd_words.specs.declared.request.Request.TheVariants as requests
 use Rattle.report.specs.AnswerTexts.{repetition_lines}
-use Rattle.sd_command.specs.declared.answer.Put.{Put}
-use Rattle.sd_command.specs.declared.file_kind.FileKind.TheVariants.{Graph, Output}
+use Rattle.sd_steps.specs.declared.answer.Put.{Put}
+use Rattle.sd_steps.specs.declared.file_kind.FileKind.TheVariants.{Graph, Output}
 use Rattle.sd_command.specs.declared.commands.wanted.WantedPoints.{WantedPoints}
 use Rattle.sd_command.specs.declared.commands.wanted.WantedRate.{WantedRate}
-use Rattle.sd_command.specs.steps.Takings.{Files, taking}
-use Rattle.sd_command.specs.steps.Readings.{opening_graph, reading_graph}
-use Rattle.sd_command.specs.steps.Balancings.{balancing}
-use Rattle.sd_command.specs.steps.Courses.{printing}
+use Rattle.sd_steps.specs.Takings.{Files, taking}
+use Rattle.sd_steps.specs.Readings.{opening_graph, reading_graph}
+use Rattle.sd_steps.specs.Balancings.{balancing}
+use Rattle.sd_steps.specs.Courses.{printing}
 use Rattle.sd_command.specs.commands.Repetitions.{repetition}
 use Rattle.sd_command.specs.commands.Throughputs.{rate_on, throughput}
 use Rattle.sd_command.specs.commands.InOrders.{ordered, ordered_rate_on}
 use Rattle.sd_command.specs.commands.LeastTimes.{complete, time_on}
 use Rattle.sd_command.specs.commands.Expansions.{expand, expanding, expansion_on, graph_put, telling_graph}
-use Rattle.sd_command.specs.steps.Orderings.{NamedOrders, ordering}
+use Rattle.sd_steps.specs.Orderings.{NamedOrders, ordering}
 use Rattle.sd_command.specs.declared.commands.wanted.WantedRounds.{WantedRounds}
 use Rattle.ordered.specs.OrderedNets.{ordered as ordered_net}
 use Rattle.report.specs.ExpansionTexts.{expanded_line}
 use Rattle.sd_command.specs.commands.TradeOffs.{storage}
-use Rattle.sd_command.specs.steps.Askings.{asking}
+use Rattle.sd_steps.specs.Askings.{asking}
 use Rattle.sd_command.specs.Requests.{command_of, course_of}
 use Rattle.sd_laws.proofs.CommandsDecide.{Decides, DecidesLast, after_decides, last_decides}
 use Rattle.sd_command.proofs.command_lemmas.Bounds.{AreSmall}
@@ -38,7 +38,7 @@ use Rattle.sd_laws.proofs.OneOrder.{OrderLaws, ordering_determines}
 use Rattle.sd_laws.proofs.OneRate.{rate_decides, time_decides}
 use Rattle.sd_laws.proofs.OneTradeOff.{points_decide}
 use Rattle.sd_laws.proofs.SummariesDecide.{generate_decides}
-use Rattle.sd_command.specs.steps.ScenarioSteps.{opening_scenarios, reading_scenarios, timing}
+use Rattle.sd_steps.specs.ScenarioSteps.{opening_scenarios, reading_scenarios, timing}
 use Rattle.sd_command.specs.commands.WorstRates.{scenario}
 use Rattle.scenario_storage.specs.declared.point.ScenarioLimits.{ScenarioLimits}
 use Rattle.sd_command.specs.commands.ScenarioPoints.{scenario_storage}
@@ -50,9 +50,10 @@ use Rattle.cert_text.specs.declared.certificates.ScenarioCertificate.{ScenarioCe
 use Rattle.cert_checker.specs.Certificates.{IsCertificateClaim, IsCertificateFault}
 use Rattle.cert_checker.specs.ScenarioCertificates.{IsWorstClaim, IsWorstFault}
 use Rattle.report.specs.ClaimTexts.{converted_line}
-use Rattle.sd_command.specs.steps.CertificateReadings.{opening_certificate}
-use Rattle.sd_command.specs.steps.Certifyings.{certifying}
-use Rattle.sd_command.specs.commands.Checks.{check, checked, graph_checked, judging, scenario_checked}
+use Rattle.sd_steps.specs.CertificateReadings.{opening_certificate}
+use Rattle.sd_steps.specs.Certifyings.{certifying}
+use Rattle.sd_command.specs.commands.Checks.{check, checked, graph_checked, scenario_checked}
+use Rattle.sd_steps.specs.Judgings.{judging}
 use Rattle.sd_command.specs.commands.Conversions.{convert, kind_of}
 use Rattle.sd_laws.proofs.CertificatesDecide.{certifying_determines, judging_decides, opening_certificate_determines}
 

@@ -1,9 +1,9 @@
 -- The words and files decide a command where they decide each of its steps.
 use Rattle.std.proofs.Common.{◌≡◌, ℕ, ◌⊎◌, inl, inr, List, sym, ap, subst, ◌∙◌}
 use Rattle.report.specs.declared.refusal.Refusal.{Refusal}
-use Rattle.sd_command.specs.declared.answer.Answer.{Answer}
-use Rattle.sd_command.specs.steps.ScenarioSteps.{naming, of_scenario}
-use Rattle.sd_command.specs.steps.Courses.{Step, through, Ending, Answered, Refused, Ended, Failed, Lacking, After, Analysis, ends_by, refused, failed, lacking, passed, IsCutOff}
+use Rattle.sd_steps.specs.declared.answer.Answer.{Answer}
+use Rattle.sd_steps.specs.ScenarioSteps.{naming, of_scenario}
+use Rattle.sd_steps.specs.Courses.{Step, through, Ending, Answered, Refused, Ended, Failed, Lacking, After, Analysis, ends_by, refused, failed, lacking, passed, IsCutOff}
 
 -- a step passes on one value, or has one refusal
 pub record Determines {A : Type 0} (step : Step A) : Type 0 where

@@ -11,14 +11,14 @@ use Rattle.sd_words.specs.Asked.{request_of}
 use Rattle.graph_reader.specs.Laws as files
 use Rattle.balance.specs.Repetition.{IsRound}
 use Rattle.report.specs.declared.refusal.Refusal.{Refusal}
-use Rattle.sd_command.specs.steps.Courses.{Ending, Refused, Ended}
-use Rattle.sd_command.specs.steps.Takings.{Files}
-use Rattle.sd_command.specs.steps.Nets.{testing}
+use Rattle.sd_steps.specs.Courses.{Ending, Refused, Ended}
+use Rattle.sd_steps.specs.Takings.{Files}
+use Rattle.sd_steps.specs.Nets.{testing}
 use Rattle.sd_command.specs.commands.Throughputs.{rate_on}
 use Rattle.sd_command.specs.Requests.{course_of}
 use Rattle.sd_laws.specs.Endings.{RateCertificatesFit, Repeats, ThroughputIsComplete}
 use Rattle.cert_text.specs.declared.certificates.Certificate.{Certificate}
-use Rattle.sd_command.specs.steps.Certifyings.{AreShort, IsTooLong}
+use Rattle.sd_steps.specs.Certifyings.{AreShort, IsTooLong}
 use Rattle.sd_command.specs.declared.commands.wanted.WantedRate.{WantedRate}
 use Rattle.sd_laws.proofs.BoundedPaths.{IsOnNet, lawful_on, on_the_net}
 use Rattle.sd_laws.proofs.CommandsDecide.{IsPast, goes_past}

@@ -5,17 +5,17 @@ use Rattle.cert_text.specs.declared.certificates.Certificate.TheVariants as cert
 use Rattle.sd_words.specs.declared.request.Request.TheVariants.{Check, Convert}
 use Rattle.sd_words.specs.Asked.{request_of}
 use Rattle.report.specs.declared.refusal.Refusal.{Refusal}
-use Rattle.sd_command.specs.declared.file_kind.FileKind.TheVariants as files
-use Rattle.sd_command.specs.steps.Balancings.{balancing}
-use Rattle.sd_command.specs.steps.CertificateReadings.{opening_certificate}
-use Rattle.sd_command.specs.steps.Certifyings.{certifying}
+use Rattle.sd_steps.specs.declared.file_kind.FileKind.TheVariants as files
+use Rattle.sd_steps.specs.Balancings.{balancing}
+use Rattle.sd_steps.specs.CertificateReadings.{opening_certificate}
+use Rattle.sd_steps.specs.Certifyings.{certifying}
 use Rattle.sd_command.specs.commands.Checks.{checked}
-use Rattle.sd_command.specs.steps.Courses.{Ended}
+use Rattle.sd_steps.specs.Courses.{Ended}
 use Rattle.sd_laws.specs.Endings.{CheckIsComplete, ConvertIsComplete}
-use Rattle.sd_command.specs.steps.Readings.{reading_graph}
+use Rattle.sd_steps.specs.Readings.{reading_graph}
 use Rattle.sd_command.specs.Requests.{course_of}
-use Rattle.sd_command.specs.steps.ScenarioSteps.{reading_scenarios, timing}
-use Rattle.sd_command.specs.steps.Takings.{Files, taking}
+use Rattle.sd_steps.specs.ScenarioSteps.{reading_scenarios, timing}
+use Rattle.sd_steps.specs.Takings.{Files, taking}
 use Rattle.sd_laws.proofs.CommandsDecide.{never_ends}
 use Rattle.sd_laws.proofs.Requested.{of_request}
 use Rattle.sd_laws.proofs.Ended.{else_is_done}

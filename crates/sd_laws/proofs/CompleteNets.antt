@@ -13,13 +13,13 @@ use Rattle.graph_reader.specs.Laws.{Gives}
 use Rattle.report.specs.declared.refusal.Refusal.{Refusal}
 use Rattle.std.specs.Prelude.{Some}
 use Rattle.sd_command.specs.declared.commands.wanted.WantedRounds.{WantedRounds}
-use Rattle.sd_command.specs.steps.Courses.{Ending, Ended, Refused}
+use Rattle.sd_steps.specs.Courses.{Ending, Ended, Refused}
 use Rattle.sd_laws.specs.Endings.{CompleteIsComplete, ExpandIsComplete, Repeats}
 use Rattle.sd_command.specs.commands.Expansions.{expanding, expansion_on}
 use Rattle.sd_command.specs.commands.LeastTimes.{time_on}
-use Rattle.sd_command.specs.steps.Nets.{testing}
+use Rattle.sd_steps.specs.Nets.{testing}
 use Rattle.sd_command.specs.Requests.{course_of}
-use Rattle.sd_command.specs.steps.Takings.{Files}
+use Rattle.sd_steps.specs.Takings.{Files}
 use Rattle.sd_laws.proofs.BoundedPaths.{IsOnNet, lawful_on, on_the_net}
 use Rattle.sd_laws.proofs.CommandsDecide.{IsPast, goes_past}
 use Rattle.sd_laws.proofs.Ended.{else_is_done}

@@ -15,17 +15,17 @@ use Rattle.ordered.specs.NamedOrders.{first_fault, lists_of}
 use Rattle.ordered.specs.OrderedNets.{ordered}
 use Rattle.report.specs.declared.refusal.Refusal.{Refusal}
 use Rattle.std.specs.Prelude.{Some}
-use Rattle.sd_command.specs.declared.answer.Answer.{Answer}
+use Rattle.sd_steps.specs.declared.answer.Answer.{Answer}
 use Rattle.sd_command.specs.declared.commands.wanted.WantedRate.{WantedRate}
-use Rattle.sd_command.specs.steps.Courses.{Answered, Ending, Ended, Refused}
+use Rattle.sd_steps.specs.Courses.{Answered, Ending, Ended, Refused}
 use Rattle.sd_laws.specs.Endings.{OrderedIsComplete, Repeats}
 use Rattle.sd_command.specs.commands.InOrders.{ordered_rate_on}
 use Rattle.sd_laws.specs.KeptOrders.{OrdersAreKept, ShowsRateInOrder}
-use Rattle.sd_command.specs.steps.Nets.{testing}
-use Rattle.sd_command.specs.steps.Orderings.{NamedOrders, ordering}
+use Rattle.sd_steps.specs.Nets.{testing}
+use Rattle.sd_steps.specs.Orderings.{NamedOrders, ordering}
 use Rattle.sd_command.specs.commands.Rates.{IsRateAnswer}
 use Rattle.sd_command.specs.Requests.{course_of}
-use Rattle.sd_command.specs.steps.Takings.{Files}
+use Rattle.sd_steps.specs.Takings.{Files}
 use Rattle.sd_laws.proofs.BoundedPaths.{IsOnNet, lawful_on, lawful_ordered_on, on_the_net}
 use Rattle.sd_laws.proofs.CommandsDecide.{IsPast, goes_past}
 use Rattle.sd_laws.proofs.Ended.{else_is_done}

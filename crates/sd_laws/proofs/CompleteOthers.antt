@@ -5,13 +5,13 @@ use Rattle.sd_words.specs.declared.request.Request.TheVariants.{Repetition, Scen
 use Rattle.sd_words.specs.Asked.{request_of}
 use Rattle.scenario_reader.specs.ScenarioFiles.{GivesFile}
 use Rattle.report.specs.declared.refusal.Refusal.{Refusal}
-use Rattle.sd_command.specs.steps.Balancings.{balancing}
-use Rattle.sd_command.specs.steps.Courses.{Ended}
+use Rattle.sd_steps.specs.Balancings.{balancing}
+use Rattle.sd_steps.specs.Courses.{Ended}
 use Rattle.sd_laws.specs.Endings.{RepetitionIsComplete, ScenarioIsComplete, WorstCertificatesFit}
-use Rattle.sd_command.specs.steps.Readings.{opening_graph}
+use Rattle.sd_steps.specs.Readings.{opening_graph}
 use Rattle.sd_command.specs.Requests.{course_of}
-use Rattle.sd_command.specs.steps.ScenarioSteps.{opening_scenarios, timing}
-use Rattle.sd_command.specs.steps.Takings.{Files}
+use Rattle.sd_steps.specs.ScenarioSteps.{opening_scenarios, timing}
+use Rattle.sd_steps.specs.Takings.{Files}
 use Rattle.sd_laws.proofs.CommandsDecide.{never_ends}
 use Rattle.sd_laws.proofs.Complete.{short-enough}
 use Rattle.sd_laws.proofs.Ended.{else_is_done}

@@ -7,12 +7,12 @@ use Rattle.scenario_reader.specs.ScenarioFiles.{GivesFile}
 use Rattle.bounded_scenarios.specs.Boundings.{looped_tokens}
 use Rattle.scenario_storage.specs.declared.point.ScenarioLimits.{ScenarioLimits}
 use Rattle.report.specs.declared.refusal.Refusal.{Refusal}
-use Rattle.sd_command.specs.steps.Courses.{Ended}
+use Rattle.sd_steps.specs.Courses.{Ended}
 use Rattle.sd_command.specs.Requests.{course_of}
-use Rattle.sd_command.specs.steps.ScenarioBounds.{bounding_all, fitting_nodes}
-use Rattle.sd_command.specs.steps.ScenarioSteps.{opening_scenarios}
+use Rattle.sd_steps.specs.ScenarioBounds.{bounding_all, fitting_nodes}
+use Rattle.sd_steps.specs.ScenarioSteps.{opening_scenarios}
 use Rattle.sd_command.specs.commands.ScenarioPoints.{IsSearchEnd, edges, distributions_spent}
-use Rattle.sd_command.specs.steps.Takings.{Files}
+use Rattle.sd_steps.specs.Takings.{Files}
 use Rattle.sd_laws.specs.Endings.{ScenarioStorageIsComplete, SearchSuffices}
 use Rattle.sd_laws.proofs.CommandsDecide.{never_ends}
 use Rattle.sd_laws.proofs.Ended.{else_is_done}

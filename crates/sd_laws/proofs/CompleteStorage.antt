@@ -14,11 +14,11 @@ use Rattle.sd_words.specs.Asked.{request_of}
 use Rattle.graph_reader.specs.Laws as files
 use Rattle.balance.specs.Repetition.{IsRound}
 use Rattle.report.specs.declared.refusal.Refusal.{Refusal}
-use Rattle.sd_command.specs.steps.Courses.{Ended}
-use Rattle.sd_command.specs.steps.Takings.{Files}
-use Rattle.sd_command.specs.steps.Readings.{opening_graph}
-use Rattle.sd_command.specs.steps.Balancings.{balancing}
-use Rattle.sd_command.specs.steps.Nets.{touching, completing}
+use Rattle.sd_steps.specs.Courses.{Ended}
+use Rattle.sd_steps.specs.Takings.{Files}
+use Rattle.sd_steps.specs.Readings.{opening_graph}
+use Rattle.sd_steps.specs.Balancings.{balancing}
+use Rattle.sd_steps.specs.Nets.{touching, completing}
 use Rattle.sd_command.specs.Requests.{course_of}
 use Rattle.sd_laws.specs.Endings.{PointCertificatesFit, StorageIsComplete, Suffice}
 use Rattle.sd_command.specs.commands.Points.{ArePointsTooLong, IsExplorationEnd}

@@ -2,12 +2,13 @@
 use Rattle.std.proofs.Common.{◌≡◌, ◌⊎◌, ℕ, Bool, List, sym, ap, subst, ◌∙◌, inl, inr}
 use Rattle.report.specs.declared.refusal.Refusal.{Refusal}
 use Rattle.sd_io.specs.Outside.{Rose}
-use Rattle.sd_command.specs.declared.status.Status.{Status}
-use Rattle.sd_command.specs.declared.status.Status.TheVariants as statuses
-use Rattle.sd_command.specs.Statuses.{status_of}
-use Rattle.sd_command.specs.steps.Courses.{Ending, Answered, Refused, Ended, Failed, Lacking, IsCutOff, IsRefusedBy}
+use Rattle.sd_steps.specs.declared.status.Status.{Status}
+use Rattle.sd_steps.specs.declared.status.Status.TheVariants as statuses
+use Rattle.sd_steps.specs.Statuses.{status_of}
+use Rattle.sd_steps.specs.Courses.{Ending, Answered, Refused, Ended, Failed, Lacking, IsCutOff, IsRefusedBy}
 use Rattle.sd_command.specs.Requests.{course_of}
-use Rattle.sd_command.specs.Runs.{Shelving, HasTaken, HasLine, of_refusal, of_putting, of_memory, Ends, done, told, out_fault, err_fault, Run}
+use Rattle.sd_steps.specs.RunEndings.{Shelving, HasTaken, HasLine, of_refusal, of_putting, of_memory, Ends, done, told, out_fault, err_fault}
+use Rattle.sd_command.specs.Runs.{Run}
 use Rattle.sd_laws.specs.Endings.{IsFaultless, DueIsOne, DueIsAnswered, ElseIsDone}
 
 -- a run without faults ends with the refusal of its command, is done with its answer, or lacks memory

@@ -6,8 +6,8 @@ use Rattle.sd_base.specs.declared.tables.ScenarioFile.{ScenarioFile}
 use Rattle.sd_base.specs.declared.tables.ScenarioRow.{ScenarioRow}
 use Rattle.sd_base.proofs.Truths.{one-some}
 use Rattle.report.specs.declared.refusal.Refusal.{Refusal}
-use Rattle.sd_command.specs.steps.Courses.{Step}
-use Rattle.sd_command.specs.steps.ScenarioSteps.{IsFirstWithout}
+use Rattle.sd_steps.specs.Courses.{Step}
+use Rattle.sd_steps.specs.ScenarioSteps.{IsFirstWithout}
 use Rattle.sd_laws.proofs.CommandsDecide.{Determines}
 
 module _ {A : Type 0} (one : ScenarioRow → Step A) (file : ScenarioFile) (each : (s : ℕ) (row : ScenarioRow) → slice_get file.scenarios s ≡ Some row → Determines (one row)) where

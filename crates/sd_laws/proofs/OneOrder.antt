@@ -24,8 +24,8 @@ use Rattle.ordered.specs.Orders.{AreOrders}
 use Rattle.report.specs.QuantityWords.{quantity_text}
 use Rattle.report.specs.declared.refusal.Refusal.{Refusal}
 use Rattle.report.specs.declared.refusal.Refusal.TheVariants.{Above, OrderCount, TwoProcessors, UnknownActor, UsageWords}
-use Rattle.sd_command.specs.steps.ActorNames.{actor_shown}
-use Rattle.sd_command.specs.steps.Orderings.{IsOrderRefusal, NamedOrders, count, elsewhere, ordering, pairs, unknown}
+use Rattle.sd_steps.specs.ActorNames.{actor_shown}
+use Rattle.sd_steps.specs.Orderings.{IsOrderRefusal, NamedOrders, count, elsewhere, ordering, pairs, unknown}
 use Rattle.sd_laws.proofs.CommandsDecide.{Determines}
 use Rattle.sd_command.proofs.command_lemmas.OrderedOver.{bound-can, ordered-room}
 

@@ -22,13 +22,14 @@ use Rattle.report.specs.declared.refusal.Refusal.TheVariants.{OneWay, NoInput, D
 use Rattle.sd_command.specs.declared.commands.wanted.WantedRate.{WantedRate}
 use Rattle.sd_command.specs.declared.commands.wanted.WantedRounds.{WantedRounds}
 use Rattle.sd_command.specs.commands.LeastTimes.{completion}
-use Rattle.sd_command.specs.steps.ActorNames.{actor_shown}
+use Rattle.sd_steps.specs.ActorNames.{actor_shown}
 use Rattle.report.specs.LackTexts.{lacks_list}
-use Rattle.sd_command.specs.steps.Courses.{Analysis, through}
-use Rattle.sd_command.specs.steps.Nets.{IsFed, joining, feeding, completing, on_live, testing}
-use Rattle.sd_command.specs.commands.Rates.{IsRunRefusal, states_spent, too_many_starts, execution}
+use Rattle.sd_steps.specs.Courses.{Analysis, through}
+use Rattle.sd_steps.specs.Nets.{IsFed, joining, feeding, completing, on_live, testing}
+use Rattle.sd_steps.specs.Findings.{IsRunRefusal, states_spent, too_many_starts}
+use Rattle.sd_command.specs.commands.Rates.{execution}
 use Rattle.sd_laws.specs.Endings.{Repeats}
-use Rattle.sd_command.proofs.step_lemmas.Joins.{fed-inputs}
+use Rattle.sd_steps.proofs.Joins.{fed-inputs}
 use Rattle.sd_laws.proofs.CommandsDecide.{Determines, Decides, DecidesLast, after_decides, last_decides, through_determines}
 
 -- what is known of nets: ending counts are one, no counts block a live net, and an execution has one ending

@@ -14,10 +14,10 @@ use Rattle.balance.specs.Repetition.{IsRound}
 use Rattle.bounded_scenarios.specs.Boundings.{looped_tokens}
 use Rattle.escapes.specs.EscapedNames.{escaped_name}
 use Rattle.scenario_storage.specs.declared.point.ScenarioLimits.{ScenarioLimits}
-use Rattle.sd_command.specs.steps.Balancings.{balancing}
-use Rattle.sd_command.specs.steps.Courses.{Step, through}
-use Rattle.sd_command.specs.steps.Nets.{completing, feeding}
-use Rattle.sd_command.specs.steps.ScenarioBounds.{bounding_all, bounding_graph, bounding_one, fitting, fitting_nodes}
+use Rattle.sd_steps.specs.Balancings.{balancing}
+use Rattle.sd_steps.specs.Courses.{Step, through}
+use Rattle.sd_steps.specs.Nets.{completing, feeding}
+use Rattle.sd_steps.specs.ScenarioBounds.{bounding_all, bounding_graph, bounding_one, fitting, fitting_nodes}
 use Rattle.sd_command.specs.commands.ScenarioPoints.{points_in, searching}
 use Rattle.sd_laws.proofs.CommandsDecide.{Determines, Decides, DecidesLast, after_decides, last_decides, through_determines, naming_determines}
 use Rattle.sd_laws.proofs.FirstWithouts.{one_first}

@@ -12,8 +12,8 @@ use Rattle.explore.proofs.Explorable.{reachable-fits}
 use Rattle.report.specs.declared.refusal.Refusal.{Refusal}
 use Rattle.report.specs.declared.refusal.Refusal.TheVariants.{NoInput}
 use Rattle.sd_command.specs.declared.commands.wanted.WantedPoints.{WantedPoints}
-use Rattle.sd_command.specs.steps.ActorNames.{actor_shown}
-use Rattle.sd_command.specs.steps.Nets.{touching, completing}
+use Rattle.sd_steps.specs.ActorNames.{actor_shown}
+use Rattle.sd_steps.specs.Nets.{touching, completing}
 use Rattle.sd_command.specs.commands.Points.{IsExplorationEnd, states_spent, too_many_starts, distributions_spent, exploration, points_of}
 use Rattle.sd_laws.specs.Endings.{Suffice}
 use Rattle.sd_laws.proofs.CommandsDecide.{Determines, Decides, DecidesLast, after_decides, last_decides}

@@ -16,19 +16,19 @@ use Rattle.token_matrix.specs.Matrices.{IsMatrix}
 use Rattle.automaton.specs.declared.graph.TimedGraph.{TimedGraph}
 use Rattle.balance.specs.Repetition.{IsRound}
 use Rattle.report.specs.declared.refusal.Refusal.{Refusal}
-use Rattle.sd_command.specs.steps.Readings.{reading_refusal}
-use Rattle.sd_command.specs.steps.Balancings.{balancing}
-use Rattle.sd_command.specs.steps.Nets.{feeding}
-use Rattle.sd_command.specs.steps.ScenarioSteps.{Entries, IsMade, IsUnmade, stamps, blocked, making_matrix, measuring_graph, measuring_one, AreMeasured, measuring, linking, timing, opening_scenarios, reading_scenarios}
-use Rattle.sd_command.specs.declared.file_kind.FileKind.TheVariants.{Graph}
-use Rattle.sd_command.specs.steps.Takings.{Files, taking}
+use Rattle.sd_steps.specs.Readings.{reading_refusal}
+use Rattle.sd_steps.specs.Balancings.{balancing}
+use Rattle.sd_steps.specs.Nets.{feeding}
+use Rattle.sd_steps.specs.ScenarioSteps.{Entries, IsMade, IsUnmade, stamps, blocked, making_matrix, measuring_graph, measuring_one, AreMeasured, measuring, linking, timing, opening_scenarios, reading_scenarios}
+use Rattle.sd_steps.specs.declared.file_kind.FileKind.TheVariants.{Graph}
+use Rattle.sd_steps.specs.Takings.{Files, taking}
 use Rattle.sd_command.specs.commands.WorstRates.{telling_worst, worst_of}
 use Rattle.sd_laws.proofs.CommandsDecide.{Determines, Decides, DecidesLast, after_decides, last_decides, through_determines, naming_determines}
 use Rattle.sd_laws.proofs.FirstWithouts.{one_first}
 use Rattle.sd_laws.proofs.OneRate.{feeding_determines, completing_determines}
 use Rattle.sd_laws.proofs.SharedSteps.{FileLaws, balancing_determines, taking_determines}
 use Rattle.escapes.specs.EscapedNames.{escaped_name}
-use Rattle.sd_command.specs.steps.Courses.{through}
+use Rattle.sd_steps.specs.Courses.{through}
 
 -- what is known of files of scenarios and of matrices
 pub record ScenarioLaws : Type 0 where
@@ -61,13 +61,13 @@ module _ (facts : FileLaws) (laws : ScenarioLaws) where
       let completing = completing_determines facts.nets (net_of graph gamma false) lawful graph in
       record { one = λ m n is also. laws.one_matrix shared graph gamma m n is.is also.is; refusal = one_unmade completing; never = never_made completing }
     where
-      one_unmade : Determines (Rattle.sd_command.specs.steps.Nets.completing graph (net_of graph gamma false)) → (r s : Refusal) → IsUnmade shared graph gamma r → IsUnmade shared graph gamma s → r ≡ s
+      one_unmade : Determines (Rattle.sd_steps.specs.Nets.completing graph (net_of graph gamma false)) → (r s : Refusal) → IsUnmade shared graph gamma r → IsUnmade shared graph gamma s → r ≡ s
       one_unmade d r s (stamps many p) (stamps also q) = p ∙ sym q
       one_unmade d r s (stamps many p) (blocked few is) = absurd (omega (arith, many, few))
       one_unmade d r s (blocked few is) (stamps many p) = absurd (omega (arith, many, few))
       one_unmade d r s (blocked few is) (blocked also is') = d.refusal r s is is'
 
-      never_made : Determines (Rattle.sd_command.specs.steps.Nets.completing graph (net_of graph gamma false)) → (r : Refusal) (m : Entries) → IsUnmade shared graph gamma r → IsMade shared graph gamma m → ⊥
+      never_made : Determines (Rattle.sd_steps.specs.Nets.completing graph (net_of graph gamma false)) → (r : Refusal) (m : Entries) → IsUnmade shared graph gamma r → IsMade shared graph gamma m → ⊥
       never_made d r m (stamps many p) made = let few = made.few in omega (arith, many, few)
       never_made d r m (blocked few is) made = d.never r tt is made.live
 

@@ -43,12 +43,12 @@ use Rattle.single_rate.proofs.Tables.{table-keeps, table-timed}
 use Rattle.sd_words.proofs.Within.{asked_within}
 use Rattle.sd_words.specs.declared.request.Request.TheVariants.{Expand}
 use Rattle.sd_words.specs.Asked.{request_of}
-use Rattle.sd_command.specs.declared.answer.Answer.{Answer}
-use Rattle.sd_command.specs.steps.Courses.{Answered}
+use Rattle.sd_steps.specs.declared.answer.Answer.{Answer}
+use Rattle.sd_steps.specs.Courses.{Answered}
 use Rattle.sd_command.specs.commands.Expansions.{IsExpansion, expanding, expansion_on, graph_put}
 use Rattle.sd_laws.specs.PutExpansions.{ExpansionsAreRead, PutsExpansion}
 use Rattle.sd_command.specs.Requests.{course_of}
-use Rattle.sd_command.specs.steps.Takings.{Files}
+use Rattle.sd_steps.specs.Takings.{Files}
 use Rattle.sd_laws.proofs.BoundedPaths.{lawful_on, on_the_net}
 use Rattle.sd_laws.proofs.CommandsDecide.{goes_past}
 use Rattle.sd_laws.proofs.Requested.{of_request}

@@ -8,8 +8,8 @@ use Rattle.sd_base.specs.FileNet.{net_of}
 use Rattle.gen_graph.specs.MadeGraphs.{made_graph}
 use Rattle.gen_graph.proofs.MadeTables.{made_keeps, made_timed}
 use Rattle.sd_words.specs.Asked.{AreMadeActors}
-use Rattle.sd_command.specs.steps.Balancings.{balancing}
-use Rattle.sd_command.specs.steps.Nets.{touching, completing}
+use Rattle.sd_steps.specs.Balancings.{balancing}
+use Rattle.sd_steps.specs.Nets.{touching, completing}
 use Rattle.sd_command.specs.commands.Generations.{generate, summary, summary_of, usual_limits}
 use Rattle.sd_laws.proofs.CommandsDecide.{Decides, DecidesLast, after_decides, last_decides}
 use Rattle.sd_laws.proofs.OneRate.{NetLaws, completing_determines}

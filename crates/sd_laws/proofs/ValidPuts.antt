@@ -20,20 +20,20 @@ use Rattle.cert_text.specs.declared.certificates.Certificate.{Certificate}
 use Rattle.cert_text.specs.Reading.{IsCertText}
 use Rattle.cert_maker.specs.ValidCertificates.{AreGiven}
 use Rattle.cert_maker.proofs.ValidRates.{rates-valid}
-use Rattle.sd_command.specs.declared.answer.Answer.{Answer}
-use Rattle.sd_command.specs.declared.file_kind.FileKind.TheVariants as kinds
-use Rattle.sd_command.specs.steps.Certifyings.{text_of}
-use Rattle.sd_command.specs.steps.Courses.{Answered}
-use Rattle.sd_command.specs.steps.Nets.{testing}
+use Rattle.sd_steps.specs.declared.answer.Answer.{Answer}
+use Rattle.sd_steps.specs.declared.file_kind.FileKind.TheVariants as kinds
+use Rattle.sd_steps.specs.Certifyings.{text_of}
+use Rattle.sd_steps.specs.Courses.{Answered}
+use Rattle.sd_steps.specs.Nets.{testing}
 use Rattle.sd_laws.specs.PutCertificates.{PutsValidRate, RatesPutAreValid}
 use Rattle.sd_command.specs.commands.Rates.{IsRateAnswer}
 use Rattle.sd_command.specs.Requests.{course_of}
-use Rattle.sd_command.specs.steps.Takings.{Files}
+use Rattle.sd_steps.specs.Takings.{Files}
 use Rattle.sd_command.specs.commands.Throughputs.{rate_on}
 use Rattle.sd_command.specs.declared.commands.wanted.WantedRate.{WantedRate}
 use Rattle.sd_laws.proofs.BoundedPaths.{lawful_on, on_the_net}
 use Rattle.sd_laws.proofs.CommandsDecide.{goes_past}
-use Rattle.sd_command.proofs.step_lemmas.Joins.{fed-inputs}
+use Rattle.sd_steps.proofs.Joins.{fed-inputs}
 use Rattle.sd_laws.proofs.Requested.{of_request}
 use Rattle.sd_laws.proofs.SharedSteps.{FileLaws}
 

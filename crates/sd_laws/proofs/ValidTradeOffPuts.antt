@@ -17,18 +17,18 @@ use Rattle.pareto_front.specs.declared.point.Point.{Point}
 use Rattle.cert_text.specs.declared.certificates.Certificate.{Certificate}
 use Rattle.cert_text.specs.Reading.{IsCertText}
 use Rattle.cert_maker.specs.ValidTradeOffs.{IsReachedBy, TradeOffsAreValid}
-use Rattle.sd_command.specs.declared.answer.Answer.{Answer}
-use Rattle.sd_command.specs.declared.file_kind.FileKind.TheVariants as kinds
+use Rattle.sd_steps.specs.declared.answer.Answer.{Answer}
+use Rattle.sd_steps.specs.declared.file_kind.FileKind.TheVariants as kinds
 use Rattle.sd_command.specs.declared.commands.wanted.WantedPoints.{WantedPoints}
-use Rattle.sd_command.specs.steps.Balancings.{balancing}
-use Rattle.sd_command.specs.steps.Certifyings.{text_of}
-use Rattle.sd_command.specs.steps.Courses.{Answered}
-use Rattle.sd_command.specs.steps.Nets.{completing, touching}
+use Rattle.sd_steps.specs.Balancings.{balancing}
+use Rattle.sd_steps.specs.Certifyings.{text_of}
+use Rattle.sd_steps.specs.Courses.{Answered}
+use Rattle.sd_steps.specs.Nets.{completing, touching}
 use Rattle.sd_command.specs.commands.Points.{IsPointSchedule, IsPointsAnswer}
 use Rattle.sd_laws.specs.PutCertificates.{PutsValidTradeOff, TradeOffsPutAreValid}
-use Rattle.sd_command.specs.steps.Readings.{opening_graph}
+use Rattle.sd_steps.specs.Readings.{opening_graph}
 use Rattle.sd_command.specs.Requests.{course_of}
-use Rattle.sd_command.specs.steps.Takings.{Files}
+use Rattle.sd_steps.specs.Takings.{Files}
 use Rattle.sd_laws.proofs.CommandsDecide.{goes_past}
 use Rattle.sd_laws.proofs.Requested.{of_request}
 use Rattle.sd_laws.proofs.SharedSteps.{FileLaws, lawful_net}

@@ -7,11 +7,11 @@ use Rattle.sd_words.specs.declared.request.Request.TheVariants.{Scenario}
 use Rattle.cert_text.specs.declared.certificates.Certificate.{Certificate}
 use Rattle.cert_text.specs.Reading.{IsCertText}
 use Rattle.cert_maker.proofs.ValidWorstRates.{worst-rates-valid}
-use Rattle.sd_command.specs.declared.file_kind.FileKind.TheVariants as kinds
-use Rattle.sd_command.specs.steps.Certifyings.{text_of}
-use Rattle.sd_command.specs.steps.Courses.{Answered}
+use Rattle.sd_steps.specs.declared.file_kind.FileKind.TheVariants as kinds
+use Rattle.sd_steps.specs.Certifyings.{text_of}
+use Rattle.sd_steps.specs.Courses.{Answered}
 use Rattle.sd_laws.specs.PutCertificates.{WorstRatesPutAreValid}
-use Rattle.sd_command.specs.steps.ScenarioSteps.{opening_scenarios, timing}
+use Rattle.sd_steps.specs.ScenarioSteps.{opening_scenarios, timing}
 use Rattle.sd_command.specs.commands.WorstRates.{IsWorstAnswer}
 use Rattle.sd_laws.proofs.CommandsDecide.{goes_past}
 use Rattle.sd_laws.proofs.Requested.{of_request}

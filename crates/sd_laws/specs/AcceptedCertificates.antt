@@ -9,13 +9,13 @@ use Rattle.cert_checker.specs.declared.verdict.Claim.{Claim}
 use Rattle.cert_checker.specs.declared.verdict.Reason.{Reason}
 use Rattle.cert_checker.specs.Certificates.{IsCertificateClaim, IsCertificateFault}
 use Rattle.cert_checker.specs.ScenarioCertificates.{IsScenarioFault, IsWorstClaim}
-use Rattle.sd_command.specs.declared.answer.Answer.{Answer}
-use Rattle.sd_command.specs.declared.answer.Put.{Put}
-use Rattle.sd_command.specs.commands.Checks.{IsAccepted}
-use Rattle.sd_command.specs.steps.Courses.{Answered, Ending, IsCutOff}
+use Rattle.sd_steps.specs.declared.answer.Answer.{Answer}
+use Rattle.sd_steps.specs.declared.answer.Put.{Put}
+use Rattle.sd_steps.specs.Judgings.{IsAccepted}
+use Rattle.sd_steps.specs.Courses.{Answered, Ending, IsCutOff}
 use Rattle.sd_laws.specs.PutCertificates.{PutsValidRate, PutsValidTradeOff, PutsValidWorst}
 use Rattle.sd_command.specs.Requests.{course_of}
-use Rattle.sd_command.specs.steps.Takings.{Files}
+use Rattle.sd_steps.specs.Takings.{Files}
 
 -- words ask for `check` of a file and of what an answer put, over files that tell: the file is the one that was there before, and
 -- the certificate has the bytes that were put

@@ -36,18 +36,18 @@ use Rattle.gen_graph.specs.MadeGraphs.{made_graph}
 use Rattle.balance.specs.Repetition.{IsRound}
 use Rattle.report.specs.declared.refusal.Refusal.{Refusal}
 use Rattle.sd_io.specs.Outside.{Rose}
-use Rattle.sd_command.specs.declared.status.Status.TheVariants as statuses
+use Rattle.sd_steps.specs.declared.status.Status.TheVariants as statuses
 use Rattle.sd_command.specs.declared.commands.wanted.WantedPoints.{WantedPoints}
 use Rattle.sd_command.specs.declared.commands.wanted.WantedRate.{WantedRate}
-use Rattle.sd_command.specs.Statuses.{status_of}
-use Rattle.sd_command.specs.steps.Certifyings.{AreShort}
-use Rattle.sd_command.specs.steps.Orderings.{NamedOrders}
+use Rattle.sd_steps.specs.Statuses.{status_of}
+use Rattle.sd_steps.specs.Certifyings.{AreShort}
+use Rattle.sd_steps.specs.Orderings.{NamedOrders}
 use Rattle.sd_command.specs.commands.Points.{ArePointsShown, IsOfPoints}
 use Rattle.sd_command.specs.commands.Rates.{IsOfRate, IsRateShown}
-use Rattle.sd_command.specs.steps.ScenarioSteps.{Entries, timing}
+use Rattle.sd_steps.specs.ScenarioSteps.{Entries, timing}
 use Rattle.sd_command.specs.commands.WorstRates.{IsOfWorst, IsShown}
-use Rattle.sd_command.specs.steps.Courses.{Ending, Refused, Ended, IsCutOff}
-use Rattle.sd_command.specs.steps.Takings.{Files}
+use Rattle.sd_steps.specs.Courses.{Ending, Refused, Ended, IsCutOff}
+use Rattle.sd_steps.specs.Takings.{Files}
 use Rattle.sd_command.specs.commands.Generations.{usual_limits}
 use Rattle.sd_command.specs.Requests.{course_of}
 use Rattle.sd_command.specs.Runs.{Run, Shows}

@@ -15,12 +15,12 @@ use Rattle.ordered.specs.Orders.{AreOrders}
 use Rattle.periodic.specs.declared.schedule.Periodic.{Periodic}
 use Rattle.critical.specs.declared.cycle.NeedCycle.{NeedCycle}
 use Rattle.report.specs.AnswerTexts.{rate_lines}
-use Rattle.sd_command.specs.declared.answer.Answer.{Answer}
-use Rattle.sd_command.specs.steps.Courses.{Answered}
-use Rattle.sd_command.specs.steps.Orderings.{NamedOrders}
+use Rattle.sd_steps.specs.declared.answer.Answer.{Answer}
+use Rattle.sd_steps.specs.Courses.{Answered}
+use Rattle.sd_steps.specs.Orderings.{NamedOrders}
 use Rattle.sd_command.specs.commands.Rates.{IsRateShown}
 use Rattle.sd_command.specs.Requests.{course_of}
-use Rattle.sd_command.specs.steps.Takings.{Files}
+use Rattle.sd_steps.specs.Takings.{Files}
 
 -- the rate that is shown by the net of a graph file, bounded by buffers, whose actors keep the orders, is the greatest of all
 -- schedules of the bounded net that keep them

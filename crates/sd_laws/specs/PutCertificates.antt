@@ -21,12 +21,12 @@ use Rattle.cert_checker.specs.declared.verdict.Reason.{Reason}
 use Rattle.cert_checker.specs.RateCertificates.{IsRateFault}
 use Rattle.cert_checker.specs.ScenarioCertificates.{IsScenarioFault}
 use Rattle.cert_checker.specs.StorageFaults.{IsStorageFault}
-use Rattle.sd_command.specs.declared.answer.Answer.{Answer}
-use Rattle.sd_command.specs.declared.file_kind.FileKind.TheVariants as kinds
-use Rattle.sd_command.specs.steps.Certifyings.{text_of}
-use Rattle.sd_command.specs.steps.Courses.{Answered}
-use Rattle.sd_command.specs.steps.ScenarioSteps.{timing}
-use Rattle.sd_command.specs.steps.Takings.{Files}
+use Rattle.sd_steps.specs.declared.answer.Answer.{Answer}
+use Rattle.sd_steps.specs.declared.file_kind.FileKind.TheVariants as kinds
+use Rattle.sd_steps.specs.Certifyings.{text_of}
+use Rattle.sd_steps.specs.Courses.{Answered}
+use Rattle.sd_steps.specs.ScenarioSteps.{timing}
+use Rattle.sd_steps.specs.Takings.{Files}
 use Rattle.sd_command.specs.Requests.{course_of}
 
 -- an answer puts under a name the text of a certificate of a rate, which is read again from it, and no line of which is faulty for

@@ -9,11 +9,11 @@ use Rattle.storage.specs.NamedBuffers.{Buffer, capacities_of}
 use Rattle.graph_reader.specs.Laws.{Gives}
 use Rattle.balance.specs.Repetition.{IsRound}
 use Rattle.gen_graph.specs.GraphTrees.{written}
-use Rattle.sd_command.specs.declared.answer.Answer.{Answer}
-use Rattle.sd_command.specs.steps.Courses.{Answered}
+use Rattle.sd_steps.specs.declared.answer.Answer.{Answer}
+use Rattle.sd_steps.specs.Courses.{Answered}
 use Rattle.sd_command.specs.commands.Expansions.{IsExpansion, graph_put}
 use Rattle.sd_command.specs.Requests.{course_of}
-use Rattle.sd_command.specs.steps.Takings.{Files}
+use Rattle.sd_steps.specs.Takings.{Files}
 
 -- an answer puts under the name of the output a graph file, which is read as the expansion of the net of a graph file, bounded by
 -- buffers, and as nothing else

@@ -7,25 +7,26 @@ use Rattle.lasso.specs.LoopAnswers.{IsFound}
 use Rattle.explore.specs.declared.exploration.Exploration.{Exploration}
 use Rattle.explore.specs.Explorations.{CountsFew}
 use Rattle.report.specs.declared.refusal.Refusal.{Refusal}
-use Rattle.sd_command.specs.declared.answer.Answer.{Answer}
-use Rattle.sd_command.specs.declared.answer.Put.{Put}
-use Rattle.sd_command.specs.declared.stop.Stop.{Stop}
-use Rattle.sd_command.specs.declared.stop.Stop.TheVariants as stop
+use Rattle.sd_steps.specs.declared.answer.Answer.{Answer}
+use Rattle.sd_steps.specs.declared.answer.Put.{Put}
+use Rattle.sd_steps.specs.declared.stop.Stop.{Stop}
+use Rattle.sd_steps.specs.declared.stop.Stop.TheVariants as stop
 use Rattle.sd_command.specs.declared.commands.wanted.WantedPoints.{WantedPoints}
 use Rattle.sd_command.specs.declared.commands.wanted.WantedRate.{WantedRate}
 use Rattle.sd_command.specs.declared.commands.wanted.WantedRounds.{WantedRounds}
 use Rattle.completion.specs.declared.least_time.Completion.{Completion}
 use Rattle.completion.specs.Completions.{HasLoopWithin, IsCompletionOf}
 use Rattle.sd_command.specs.commands.LeastTimes.{IsTimeAnswer, completion}
-use Rattle.sd_command.specs.steps.Courses.{deciding, Answered, Refused, Ended, Lacking, ends_by, printing}
-use Rattle.sd_command.specs.commands.Rates.{IsRateAnswer, IsRateTooLong, IsRunRefusal, execution}
+use Rattle.sd_steps.specs.Courses.{deciding, Answered, Refused, Ended, Lacking, ends_by, printing}
+use Rattle.sd_command.specs.commands.Rates.{IsRateAnswer, IsRateTooLong, execution}
+use Rattle.sd_steps.specs.Findings.{IsRunRefusal}
 use Rattle.sd_command.specs.commands.Points.{ArePointsTooLong, IsExplorationEnd, IsPointsAnswer, exploration}
 use Rattle.automaton.specs.declared.graph.TimedGraph.{TimedGraph}
 use Rattle.sd_command.specs.commands.WorstRates.{IsWorstAnswer, IsWorstTooLong, telling_worst}
 use Rattle.sd_base.specs.declared.tables.ScenarioFile.{ScenarioFile}
 use Rattle.scenario_storage.specs.declared.point.ScenarioLimits.{ScenarioLimits}
 use Rattle.sd_command.specs.commands.ScenarioPoints.{IsSearchAnswer, IsSearchEnd, searching}
-use Rattle.sd_command.specs.inside.Steps.{Does}
+use Rattle.sd_steps.specs.Steps.{Does}
 use Rattle.sd_command.specs.inside.Goings.{Goes}
 
 module _ (graph : GraphFile) (net : Net) (ds : List (Option ℕ)) (wanted : WantedRate) (n : ℕ) (one : n ≡ 1) (faults : ℕ) where

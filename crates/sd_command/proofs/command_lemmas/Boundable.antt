@@ -16,8 +16,8 @@ use Rattle.scenario_reader.specs.ScenarioNames.{FileHasWritableNames}
 use Rattle.bounded_scenarios.specs.BoundedFiles.{space_name}
 use Rattle.bounded_scenarios.specs.Boundings.{AreFileNames, CanBeBounded, RunsUnbounded, looped_tokens}
 use Rattle.bounded_scenarios.proofs.Counts.{looped-few}
-use Rattle.sd_command.specs.steps.ScenarioBounds.{ArePassed, fitting_nodes}
-use Rattle.sd_command.proofs.step_lemmas.Joins.{fed-inputs}
+use Rattle.sd_steps.specs.ScenarioBounds.{ArePassed, fitting_nodes}
+use Rattle.sd_steps.proofs.Joins.{fed-inputs}
 
 -- ---- the shared tokens that a distribution can come to
 

@@ -18,10 +18,10 @@ use Rattle.storage.proofs.SmallSpaces.{bounded-few_tokens}
 use Rattle.cert_maker.specs.Links.{HasNoOrders}
 use Rattle.cert_maker.proofs.Orderless.{bound-orderless}
 use Rattle.report.specs.LinkTexts.{IsNamed}
-use Rattle.sd_command.specs.steps.Bufferings.{GivesCapacities}
+use Rattle.sd_steps.specs.Bufferings.{GivesCapacities}
 use Rattle.sd_command.specs.inside.Wants.{IsBounded}
 use Rattle.sd_command.proofs.command_lemmas.Orderless.{net-orderless}
-use Rattle.sd_command.proofs.step_lemmas.Overs.{bound-over, net-over}
+use Rattle.sd_steps.proofs.Overs.{bound-over, net-over}
 
 -- the capacities are those that words may name
 abbrev pub AreSmall : List Buffer → Type 0

@@ -11,10 +11,9 @@ use Rattle.firing.specs.declared.table.LoopTable.{LoopTable}
 use Rattle.periodic.specs.declared.schedule.Periodic.{Periodic}
 use Rattle.periodic.specs.LoopSchedules.{IsScheduleOf}
 use Rattle.cert_text.specs.Spellable.{AreStarts}
-use Rattle.sd_command.specs.declared.file_kind.FileKind.TheVariants as kinds
-use Rattle.sd_command.specs.declared.stop.Stop.{Stop}
-use Rattle.sd_command.specs.declared.stop.Stop.TheVariants as stop
-use Rattle.sd_command.specs.steps.Certifyings.{Certifies, IsTooLong}
+use Rattle.sd_steps.specs.declared.stop.Stop.{Stop}
+use Rattle.sd_steps.specs.declared.stop.Stop.TheVariants as stop
+use Rattle.sd_steps.specs.Certifyings.{Certifies, IsTooLong}
 use Rattle.sd_base.specs.declared.tables.GraphFile.{GraphFile}
 use Rattle.sd_base.specs.declared.tables.ScenarioFile.{ScenarioFile}
 use Rattle.critical.specs.declared.cycle.NeedCycle.{NeedCycle}
@@ -28,8 +27,8 @@ use Rattle.explore.specs.Explorations.{cycles_in}
 use Rattle.sd_command.specs.declared.commands.wanted.WantedPoints.{WantedPoints}
 use Rattle.sd_command.specs.commands.Points.{ArePointsShown, ArePointsTooLong, IsOfPoints, IsPointsAnswer}
 use Rattle.sd_command.specs.commands.WorstRates.{IsOfWorst, IsShown, IsWorstAnswer, IsWorstTooLong}
-use Rattle.sd_command.specs.steps.Courses.{deciding}
-use Rattle.sd_command.specs.inside.Steps.{Does}
+use Rattle.sd_steps.specs.Courses.{deciding}
+use Rattle.sd_steps.specs.Steps.{Does}
 
 -- a schedule of a loop has a text
 pub starts-spelled : (net : Net) (table : LoopTable) (schedule : Periodic) → Lawful net → IsScheduleOf net table schedule → All AreStarts schedule.starts

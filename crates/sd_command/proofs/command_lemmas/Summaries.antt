@@ -16,13 +16,13 @@ use Rattle.explore.specs.declared.extent.Extent.TheVariants.{Fastest}
 use Rattle.explore.specs.Explorations.{CountsFew, cycles_in}
 use Rattle.explore.specs.Extents.{Explores}
 use Rattle.report.specs.SummaryTexts.{summary_lines}
-use Rattle.sd_command.specs.declared.answer.Answer.{Answer}
-use Rattle.sd_command.specs.declared.stop.Stop.{Stop}
-use Rattle.sd_command.specs.declared.stop.Stop.TheVariants as stop
-use Rattle.sd_command.specs.steps.Courses.{deciding, Answered, Ended, Lacking, ends_by}
+use Rattle.sd_steps.specs.declared.answer.Answer.{Answer}
+use Rattle.sd_steps.specs.declared.stop.Stop.{Stop}
+use Rattle.sd_steps.specs.declared.stop.Stop.TheVariants as stop
+use Rattle.sd_steps.specs.Courses.{deciding, Answered, Ended, Lacking, ends_by}
 use Rattle.sd_command.specs.commands.Points.{IsExplorationEnd}
 use Rattle.sd_command.specs.commands.Generations.{summary}
-use Rattle.sd_command.specs.inside.Steps.{Does}
+use Rattle.sd_steps.specs.Steps.{Does}
 use Rattle.sd_command.specs.inside.Goings.{Goes}
 
 module _ (seed : ℕ) (graph : GraphFile) (gamma : List ℕ) (net : Net) (limits : Limits) where

@@ -4,13 +4,13 @@ use Rattle.cert_checker.specs.declared.verdict.Claim.{Claim}
 use Rattle.cert_checker.specs.declared.verdict.Reason.{Reason}
 use Rattle.cert_checker.specs.declared.verdict.Verdict.{Verdict}
 use Rattle.cert_checker.specs.Verdicts.{IsVerdict}
-use Rattle.sd_command.specs.declared.answer.Answer.{Answer}
-use Rattle.sd_command.specs.declared.stop.Stop.{Stop}
-use Rattle.sd_command.specs.declared.stop.Stop.TheVariants as stop
-use Rattle.sd_command.specs.commands.Checks.{judging}
-use Rattle.sd_command.specs.steps.Courses.{Answered, Refused, Lacking, ends_by}
+use Rattle.sd_steps.specs.declared.answer.Answer.{Answer}
+use Rattle.sd_steps.specs.declared.stop.Stop.{Stop}
+use Rattle.sd_steps.specs.declared.stop.Stop.TheVariants as stop
+use Rattle.sd_steps.specs.Judgings.{judging}
+use Rattle.sd_steps.specs.Courses.{Answered, Refused, Lacking, ends_by}
 use Rattle.sd_command.specs.inside.Goings.{Goes}
-use Rattle.sd_command.specs.inside.Verdicts.{Tells}
+use Rattle.sd_steps.specs.Judgings.{Tells}
 
 module _ (faulty : ℕ → Reason → Type 0) (holds : Claim → Type 0) where
   -- a verdict that is told

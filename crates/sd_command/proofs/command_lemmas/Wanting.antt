@@ -3,12 +3,12 @@ use Rattle.std.proofs.Common.{◌≡◌, ◌-◌, ℕ, List, Result, Err, refl, 
 use Rattle.sd_base.specs.declared.tables.GraphFile.{GraphFile}
 use Rattle.sd_base.specs.Net.{Net}
 use Rattle.storage.specs.declared.distribution.Distribution.{Distribution}
-use Rattle.sd_command.specs.declared.answer.Answer.{Answer}
-use Rattle.sd_command.specs.declared.stop.Stop.{Stop}
-use Rattle.sd_command.specs.declared.stop.Stop.TheVariants as stop
+use Rattle.sd_steps.specs.declared.answer.Answer.{Answer}
+use Rattle.sd_steps.specs.declared.stop.Stop.{Stop}
+use Rattle.sd_steps.specs.declared.stop.Stop.TheVariants as stop
 use Rattle.sd_command.specs.declared.commands.wanted.Wanted.{Wanted}
 use Rattle.sd_command.specs.declared.commands.wanted.Wanted.TheVariants as wants
-use Rattle.sd_command.specs.steps.Courses.{Ending, Lacking, lacking}
+use Rattle.sd_steps.specs.Courses.{Ending, Lacking, lacking}
 use Rattle.sd_command.specs.inside.Goings.{Goes}
 use Rattle.sd_command.specs.inside.Wants.{on_net}
 

@@ -12,10 +12,10 @@ use Rattle.explore.specs.Explorations.{CountsFew, cycles_in}
 use Rattle.explore.specs.Extents.{Explores}
 use Rattle.gen_graph.specs.MadeGraphs.{made_graph}
 use Rattle.report.specs.SummaryTexts.{summary_lines}
-use Rattle.sd_command.specs.declared.answer.Answer.{Answer}
-use Rattle.sd_command.specs.steps.Courses.{Analysis, Ending, After, ends_by}
-use Rattle.sd_command.specs.steps.Balancings.{balancing}
-use Rattle.sd_command.specs.steps.Nets.{touching, completing}
+use Rattle.sd_steps.specs.declared.answer.Answer.{Answer}
+use Rattle.sd_steps.specs.Courses.{Analysis, Ending, After, ends_by}
+use Rattle.sd_steps.specs.Balancings.{balancing}
+use Rattle.sd_steps.specs.Nets.{touching, completing}
 use Rattle.sd_command.specs.commands.Points.{IsExplorationEnd}
 
 -- what an exploration up to a total may use where words give no more

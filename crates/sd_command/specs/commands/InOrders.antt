@@ -4,10 +4,10 @@ use Rattle.storage.specs.NamedBuffers.{Buffer}
 use Rattle.ordered.specs.OrderedNets.{ordered as ordered_net}
 use Rattle.sd_command.specs.declared.commands.wanted.WantedRate.{WantedRate}
 use Rattle.sd_command.specs.commands.BoundedCourses.{OnNet, on_file}
-use Rattle.sd_command.specs.steps.Courses.{Ending, After}
-use Rattle.sd_command.specs.steps.Orderings.{NamedOrders, ordering}
+use Rattle.sd_steps.specs.Courses.{Ending, After}
+use Rattle.sd_steps.specs.Orderings.{NamedOrders, ordering}
 use Rattle.sd_command.specs.commands.Throughputs.{rate_on}
-use Rattle.sd_command.specs.steps.Takings.{Files}
+use Rattle.sd_steps.specs.Takings.{Files}
 
 -- the rate of a bounded net whose named actors keep orders
 abbrev pub ordered_rate_on : NamedOrders → WantedRate → OnNet

@@ -14,8 +14,6 @@ use Rattle.storage.specs.BoundedNets.{bound}
 use Rattle.pareto_front.specs.declared.point.Point.{Point}
 use Rattle.explore.specs.declared.exploration.Member.{Member}
 use Rattle.explore.specs.Reachable.{IsReachable}
-use Rattle.explore.specs.declared.extent.Extent.{Extent}
-use Rattle.explore.specs.declared.extent.Extent.TheVariants.{Limit, Fastest}
 use Rattle.explore.specs.Explorations.{AreFound, CountsFew, cycles_in}
 use Rattle.explore.specs.Extents.{Explores}
 use Rattle.cert_text.specs.declared.certificates.Certificate.{Certificate}
@@ -26,11 +24,12 @@ use Rattle.report.specs.declared.refusal.Refusal.{Refusal}
 use Rattle.report.specs.declared.refusal.Refusal.TheVariants.{Above, DistributionsSpent, StatesSpent}
 use Rattle.report.specs.QuantityWords.{quantity_text}
 use Rattle.report.specs.StorageTexts.{buffers_list, points_lines}
-use Rattle.sd_command.specs.declared.answer.Answer.{Answer}
+use Rattle.sd_steps.specs.declared.answer.Answer.{Answer}
 use Rattle.sd_command.specs.declared.commands.wanted.WantedPoints.{WantedPoints}
-use Rattle.sd_command.specs.steps.Certifyings.{Certifies, IsTooLong}
-use Rattle.sd_command.specs.steps.Courses.{Analysis, Ending, After, ends_by}
-use Rattle.sd_command.specs.steps.Nets.{touching, completing}
+use Rattle.sd_steps.specs.Certifyings.{Certifies, IsTooLong}
+use Rattle.sd_steps.specs.Courses.{Analysis, Ending, After, ends_by}
+use Rattle.sd_steps.specs.Extents.{extent_for}
+use Rattle.sd_steps.specs.Nets.{touching, completing}
 
 -- an exploration passes the number of shapes or of starts, in the execution of a distribution that it comes to; or more
 -- distributions can be reached than it may find
@@ -46,12 +45,6 @@ pub data IsExplorationEnd (graph : GraphFile) (net : Net) (limits : Limits) (ref
 pub record IsPointSchedule (net : Net) (point : Point) (schedule : Periodic) : Type 0 where
   pub of_loop : IsScheduleOf (bound net point.capacities.capacities) point.table schedule
   pub reached : schedule.rounds * point.rate.den ≡ point.rate.num * schedule.period
-
--- how far a net is explored: up to the limit where a certificate has to list all members, else until a point has a rate that
--- none passes
-abbrev pub extent_for : Option (List ℕ) → Extent
-extent_for None = Fastest
-extent_for (Some name) = Limit
 
 -- the points of an exploration, which are exactly the Pareto points of all distributions within the limit, each with the first
 -- distribution that reaches it, and the schedule of its loop

@@ -1,11 +1,10 @@
 -- The rate of a net, with what shows it.
-use Rattle.std.specs.Prelude.{◌≡◌, ℕ, ◌*◌, ◌≤◌, List, Option, None}
+use Rattle.std.specs.Prelude.{◌≡◌, ℕ, ◌*◌, ◌≤◌, List, Option}
 use Rattle.sd_base.specs.declared.tables.GraphFile.{GraphFile}
-use Rattle.sd_base.specs.declared.limits.Quantity.TheVariants as quantities
 use Rattle.sd_base.specs.Net.{Net}
 use Rattle.sd_base.specs.Rates.{Rate}
 use Rattle.firing.specs.declared.table.LoopTable.{LoopTable}
-use Rattle.lasso.specs.LoopAnswers.{IsFound, IsStatesSpent, IsTooManyStarts}
+use Rattle.lasso.specs.LoopAnswers.{IsFound}
 use Rattle.periodic.specs.declared.schedule.Periodic.{Periodic}
 use Rattle.periodic.specs.LoopSchedules.{IsScheduleOf}
 use Rattle.critical.specs.declared.cycle.NeedCycle.{NeedCycle}
@@ -16,20 +15,12 @@ use Rattle.cert_text.specs.declared.certificates.Certificate.TheVariants as cert
 use Rattle.cert_text.specs.declared.certificates.RateCertificate.{RateCertificate}
 use Rattle.cert_maker.specs.RateCertificates.{IsRateCertificate}
 use Rattle.report.specs.declared.refusal.Refusal.{Refusal}
-use Rattle.report.specs.declared.refusal.Refusal.TheVariants.{Above, StatesSpent}
 use Rattle.report.specs.AnswerTexts.{rate_lines}
-use Rattle.sd_base.specs.Limits.{greatest_of}
-use Rattle.report.specs.QuantityWords.{quantity_text}
-use Rattle.sd_command.specs.declared.answer.Answer.{Answer}
+use Rattle.sd_steps.specs.declared.answer.Answer.{Answer}
 use Rattle.sd_command.specs.declared.commands.wanted.WantedRate.{WantedRate}
-use Rattle.sd_command.specs.steps.Certifyings.{Certifies, IsTooLong}
-use Rattle.sd_command.specs.steps.Courses.{Analysis}
-
--- an execution passes the number of shapes or of starts
-pub data IsRunRefusal (net : Net) (states : ℕ) (refusal : Refusal) : Type 0 where
-  states_spent : IsStatesSpent net states → refusal ≡ StatesSpent states None → IsRunRefusal net states refusal
-  too_many_starts : IsTooManyStarts net states
-      → refusal ≡ Above None (quantity_text quantities.Starts) (greatest_of quantities.Starts) → IsRunRefusal net states refusal
+use Rattle.sd_steps.specs.Certifyings.{Certifies, IsTooLong}
+use Rattle.sd_steps.specs.Courses.{Analysis}
+use Rattle.sd_steps.specs.Findings.{IsRunRefusal}
 
 -- a schedule and a need cycle show the rate of a net: the schedule is that of the loop of self-timed execution, holds on the
 -- net and reaches the rate; the need cycle is a critical one of the loop, holds on the net and bounds the rate

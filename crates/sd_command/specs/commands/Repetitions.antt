@@ -1,10 +1,10 @@
 -- The command `repetition`.
 use Rattle.std.specs.Prelude.{ℕ, false, List, None}
 use Rattle.report.specs.AnswerTexts.{repetition_lines}
-use Rattle.sd_command.specs.steps.Courses.{Ending, After, ends_by, printing}
-use Rattle.sd_command.specs.steps.Takings.{Files}
-use Rattle.sd_command.specs.steps.Readings.{opening_graph}
-use Rattle.sd_command.specs.steps.Balancings.{balancing}
+use Rattle.sd_steps.specs.Courses.{Ending, After, ends_by, printing}
+use Rattle.sd_steps.specs.Takings.{Files}
+use Rattle.sd_steps.specs.Readings.{opening_graph}
+use Rattle.sd_steps.specs.Balancings.{balancing}
 
 abbrev pub repetition : List ℕ → Files → Ending → ℕ → Type 0
 repetition name files =

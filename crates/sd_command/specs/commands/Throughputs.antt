@@ -3,10 +3,10 @@ use Rattle.std.specs.Prelude.{ℕ, List}
 use Rattle.storage.specs.NamedBuffers.{Buffer}
 use Rattle.sd_command.specs.declared.commands.wanted.WantedRate.{WantedRate}
 use Rattle.sd_command.specs.commands.BoundedCourses.{OnNet, on_file}
-use Rattle.sd_command.specs.steps.Courses.{Ending}
-use Rattle.sd_command.specs.steps.Nets.{on_live}
+use Rattle.sd_steps.specs.Courses.{Ending}
+use Rattle.sd_steps.specs.Nets.{on_live}
 use Rattle.sd_command.specs.commands.Rates.{execution}
-use Rattle.sd_command.specs.steps.Takings.{Files}
+use Rattle.sd_steps.specs.Takings.{Files}
 
 -- the rate of a bounded net
 abbrev pub rate_on : WantedRate → OnNet

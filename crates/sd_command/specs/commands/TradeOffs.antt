@@ -3,10 +3,10 @@ use Rattle.std.specs.Prelude.{ℕ, true, List}
 use Rattle.sd_base.specs.declared.tables.GraphFile.{GraphFile}
 use Rattle.sd_base.specs.FileNet.{net_of}
 use Rattle.sd_command.specs.declared.commands.wanted.WantedPoints.{WantedPoints}
-use Rattle.sd_command.specs.steps.Courses.{Ending, After}
-use Rattle.sd_command.specs.steps.Takings.{Files}
-use Rattle.sd_command.specs.steps.Readings.{opening_graph}
-use Rattle.sd_command.specs.steps.Balancings.{balancing}
+use Rattle.sd_steps.specs.Courses.{Ending, After}
+use Rattle.sd_steps.specs.Takings.{Files}
+use Rattle.sd_steps.specs.Readings.{opening_graph}
+use Rattle.sd_steps.specs.Balancings.{balancing}
 use Rattle.sd_command.specs.commands.Points.{points_of}
 
 -- the trade-off of a graph

@@ -14,11 +14,11 @@ use Rattle.cert_text.specs.declared.certificates.ScenarioCertificate.{ScenarioCe
 use Rattle.cert_maker.specs.WorstCertificates.{IsWorstCertificate}
 use Rattle.report.specs.declared.refusal.Refusal.{Refusal}
 use Rattle.report.specs.WorstTexts.{worst_lines}
-use Rattle.sd_command.specs.declared.answer.Answer.{Answer}
-use Rattle.sd_command.specs.steps.Certifyings.{Certifies, IsTooLong}
-use Rattle.sd_command.specs.steps.Courses.{Analysis, Ending, After, ends_by}
-use Rattle.sd_command.specs.steps.Takings.{Files}
-use Rattle.sd_command.specs.steps.ScenarioSteps.{opening_scenarios, timing}
+use Rattle.sd_steps.specs.declared.answer.Answer.{Answer}
+use Rattle.sd_steps.specs.Certifyings.{Certifies, IsTooLong}
+use Rattle.sd_steps.specs.Courses.{Analysis, Ending, After, ends_by}
+use Rattle.sd_steps.specs.Takings.{Files}
+use Rattle.sd_steps.specs.ScenarioSteps.{opening_scenarios, timing}
 
 -- a worst rate of a file is shown by its timed graph: by the chosen critical cycle, and by the least potentials that fit, which
 -- stand at the nodes that are reached

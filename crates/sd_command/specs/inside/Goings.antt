@@ -1,9 +1,9 @@
 -- What calls promise of commands.
 use Rattle.std.specs.Prelude.{◌≡◌, ℕ, Result, Ok, Err}
-use Rattle.sd_command.specs.declared.answer.Answer.{Answer}
-use Rattle.sd_command.specs.declared.stop.Stop.{Stop}
-use Rattle.sd_command.specs.declared.stop.Stop.TheVariants.{Refused, OutOfMemory}
-use Rattle.sd_command.specs.steps.Courses.{Ending, Answered, Lacking, Counted, IsRefusedBy}
+use Rattle.sd_steps.specs.declared.answer.Answer.{Answer}
+use Rattle.sd_steps.specs.declared.stop.Stop.{Stop}
+use Rattle.sd_steps.specs.declared.stop.Stop.TheVariants.{Refused, OutOfMemory}
+use Rattle.sd_steps.specs.Courses.{Ending, Answered, Lacking, Counted, IsRefusedBy}
 
 -- a call's result is this end of a command
 abbrev pub IsEnd : Result Answer Stop → Ending → Type 0

@@ -3,21 +3,19 @@ ghost use Rattle.cert_checker.specs.Certificates.{HasFewLines, IsOfGraph};
 ghost use Rattle.cert_text.specs.Orderly.{IsOrderly};
 ghost use Rattle.cert_text.specs.Spellable.{IsSpellable};
 ghost use Rattle.sd_command.specs.commands.Checks.{check, checked, graph_checked, scenario_checked};
-ghost use Rattle.sd_command.specs.steps.Takings.{Files};
+ghost use Rattle.sd_steps.specs.Takings.{Files};
 ghost use Rattle.sd_command.specs.inside.Goings.{Goes};
 
-use crate::answer::Answer;
-use crate::commands::judging::judged;
-use crate::file_kind::FileKind;
-use crate::steps::balancing::balanced;
-use crate::steps::opening::open_certificate;
-use crate::steps::reading::read;
-use crate::steps::scenario_steps::{read_file, timed};
-use crate::steps::taking::take;
-use crate::stop::Stop;
 use cert_checker::check_scenario;
 use cert_text::{Certificate, ScenarioCertificate};
 use sd_io::Shelf;
+use sd_steps::balancing::balanced;
+use sd_steps::judging::judged;
+use sd_steps::opening::open_certificate;
+use sd_steps::reading::read;
+use sd_steps::scenario_steps::{read_file, timed};
+use sd_steps::taking::take;
+use sd_steps::{Answer, FileKind, Stop};
 use std::alloc::Global;
 
 /// Whether a certificate is valid for a graph file, or for a file of scenarios. Nothing is executed.

@@ -2,17 +2,15 @@ ghost use Rattle.std.specs.Prelude.{◌≡◌, ℕ, ◌≤◌, List};
 ghost use Rattle.cert_text.specs.Orderly.{IsOrderly};
 ghost use Rattle.cert_text.specs.Spellable.{IsSpellable};
 ghost use Rattle.sd_command.specs.commands.Conversions.{convert, converted, kind_of};
-ghost use Rattle.sd_command.specs.steps.Takings.{Files};
+ghost use Rattle.sd_steps.specs.Takings.{Files};
 ghost use Rattle.sd_command.specs.inside.Goings.{Goes};
 
-use crate::answer::Answer;
-use crate::file_kind::FileKind;
-use crate::steps::certifying::certify;
-use crate::steps::opening::open_certificate;
-use crate::stop::Stop;
 use cert_text::Certificate;
 use report::{CertificateKind, converted_text};
 use sd_io::Shelf;
+use sd_steps::certifying::certify;
+use sd_steps::opening::open_certificate;
+use sd_steps::{Answer, FileKind, Stop};
 use std::alloc::Global;
 
 /// A certificate of either version in the version that is written, put under another name. It isn't asked to be valid.

@@ -2,19 +2,17 @@ ghost use Rattle.std.specs.Prelude.{◌≡◌, ℕ, ◌<◌, ◌≤◌, IfOk, le
 ghost use Rattle.sd_base.specs.declared.limits.TheConstants.{TOKENS};
 ghost use Rattle.sd_base.specs.Net.{channel_at};
 ghost use Rattle.sd_base.specs.Tables.{KeepsRules};
-ghost use Rattle.sd_command.specs.steps.Courses.{After, ends_by};
+ghost use Rattle.sd_steps.specs.Courses.{After, ends_by};
 ghost use Rattle.sd_command.specs.commands.Expansions.{expanding, graph_put, telling_graph};
-ghost use Rattle.sd_command.specs.inside.Steps.{Does};
+ghost use Rattle.sd_steps.specs.Steps.{Does};
 ghost use Rattle.sd_command.specs.inside.Goings.{Goes};
 
-use crate::answer::{Answer, Put};
-use crate::file_kind::FileKind;
-use crate::steps::reading::above;
-use crate::stop::Stop;
 use firing::{Firing, know_laws};
 use gen_graph::write_graph;
 use report::expand_text;
 use sd_base::{GraphFile, NoMemory, Text};
+use sd_steps::reading::above;
+use sd_steps::{Answer, FileKind, Put, Stop};
 use single_rate::{ExpandError, expansions_keep_schedules};
 use std::alloc::Global;
 

@@ -13,12 +13,8 @@ ghost use Rattle.sd_words.specs.Asked.{AreLimits, AreMadeActors};
 ghost use Rattle.sd_command.specs.commands.Generations.{generate, summary_of, summed, usual_limits};
 ghost use Rattle.sd_command.specs.inside.Goings.{Goes};
 
-use crate::answer::Answer;
 use crate::commands::parallel::Parallel;
 use crate::commands::points::explored;
-use crate::steps::balancing::balanced;
-use crate::steps::nets::{complete, touch};
-use crate::stop::Stop;
 use explore::Extent;
 use fanout::Gate;
 use firing::{Firing, SdfNet, Wired, Wiring};
@@ -27,6 +23,9 @@ use graph_reader::{ReadError, know_files, read_graph};
 use report::summary_text;
 use sd_base::limits::{USUAL_DISTRIBUTIONS, USUAL_STATES};
 use sd_base::{GraphFile, Ledger, Limits, NoMemory, Rows, Steps};
+use sd_steps::balancing::balanced;
+use sd_steps::nets::{complete, touch};
+use sd_steps::{Answer, Stop};
 use std::alloc::Global;
 use std::thread::Threads;
 
@@ -91,7 +90,7 @@ fn usual_limits(total: u64) -> Limits
 }
 
 /// A graph that was made from a number, with its repetition vector.
-#[derive(Debug, Drop)]
+#[derive(Drop)]
 struct Made {
     seed: u64,
     graph: GraphFile,

@@ -6,16 +6,15 @@ ghost use Rattle.sd_command.specs.commands.InOrders.{ordered_rate_on};
 ghost use Rattle.sd_command.specs.inside.Goings.{Goes};
 ghost use Rattle.sd_command.specs.inside.Wants.{IsBounded};
 
-use crate::answer::Answer;
 use crate::commands::bounded_graph::BoundedGraph;
 use crate::commands::rates::rate_of;
 use crate::commands::wanted::WantedRate;
-use crate::steps::ordering::in_orders;
-use crate::stop::Stop;
 use firing::{Firing, know_laws};
 use ordered::Ordered;
 use ordered::laws::{named_orders_fit, ordered_nets_are_lawful};
 use sd_base::{Ledger, Rows, Steps, Text};
+use sd_steps::ordering::in_orders;
+use sd_steps::{Answer, Stop};
 use std::alloc::Global;
 
 /// The rate of the bounded net of a graph whose named actors keep orders.

@@ -4,23 +4,22 @@ ghost use Rattle.sd_base.specs.Untimed.{IsLive};
 ghost use Rattle.completion.specs.Completions.{HasLoopWithin, IsCompletionOf};
 ghost use Rattle.report.specs.LinkTexts.{IsNamed};
 ghost use Rattle.sd_words.specs.Asked.{AreRounds, AreStates};
-ghost use Rattle.sd_command.specs.steps.Courses.{deciding};
+ghost use Rattle.sd_steps.specs.Courses.{deciding};
 ghost use Rattle.sd_command.specs.commands.LeastTimes.{completion, pair_of};
-ghost use Rattle.sd_command.specs.steps.Nets.{IsFed, on_live};
-ghost use Rattle.sd_command.specs.commands.Rates.{IsRunRefusal};
+ghost use Rattle.sd_steps.specs.Nets.{IsFed, on_live};
+ghost use Rattle.sd_steps.specs.Findings.{IsRunRefusal};
 ghost use Rattle.completion.specs.declared.least_time.Completion.{Completion as ACompletion};
-ghost use Rattle.sd_command.specs.inside.Steps.{Does};
+ghost use Rattle.sd_steps.specs.Steps.{Does};
 ghost use Rattle.sd_command.specs.inside.Goings.{Goes};
 
-use crate::answer::Answer;
-use crate::commands::rates::run_refusal;
 use crate::commands::wanted::WantedRounds;
-use crate::steps::nets::test;
-use crate::stop::Stop;
 use completion::{Completion, Part};
 use firing::{Firing, Wired, Wiring, know_laws};
 use report::complete_text;
 use sd_base::{GraphFile, Ledger, NoMemory, Steps};
+use sd_steps::finding::run_refusal;
+use sd_steps::nets::test;
+use sd_steps::{Answer, Stop};
 use std::alloc::Global;
 
 /// The least time for some rounds of a net, and what a way of needs of that time is made of. `graph` has the names of its

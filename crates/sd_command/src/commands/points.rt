@@ -15,28 +15,27 @@ ghost use Rattle.cert_text.specs.declared.certificates.Certificate.{Certificate 
 ghost use Rattle.cert_text.specs.Spellable.{AreStarts};
 ghost use Rattle.cert_maker.specs.Links.{HasNoOrders};
 ghost use Rattle.sd_words.specs.Asked.{AreLimits};
-ghost use Rattle.sd_command.specs.steps.Certifyings.{Certifies, IsTooLong};
-ghost use Rattle.sd_command.specs.commands.Points.{ArePointsTooLong, IsExplorationEnd, IsOfPoints, IsPointsAnswer, extent_for, points_of};
-ghost use Rattle.sd_command.specs.steps.Courses.{deciding};
-ghost use Rattle.sd_command.specs.inside.Steps.{Does};
+ghost use Rattle.sd_steps.specs.Certifyings.{Certifies, IsTooLong};
+ghost use Rattle.sd_command.specs.commands.Points.{ArePointsTooLong, IsExplorationEnd, IsOfPoints, IsPointsAnswer, points_of};
+ghost use Rattle.sd_steps.specs.Extents.{extent_for};
+ghost use Rattle.sd_steps.specs.Courses.{deciding};
+ghost use Rattle.sd_steps.specs.Steps.{Does};
 ghost use Rattle.sd_command.specs.inside.Goings.{Goes};
 
-use crate::answer::{Answer, Put};
 use crate::commands::parallel::Parallel;
 use crate::commands::shown_points::shown_points;
 use crate::commands::wanted::WantedPoints;
-use crate::file_kind::FileKind;
-use crate::steps::certifying::certify;
-use crate::steps::nets::{complete, touch};
-use crate::steps::reading::above;
-use crate::stop::Stop;
 use cert_maker::storage_certificate;
 use explore::{Exploration, ExploreError, Extent, explore_as_far};
 use fanout::Gate;
 use firing::{CsdfNet, Firing, SdfNet, Wired, Wiring, know_laws};
 use periodic::Periodic;
 use report::{Refusal, buffers_text};
-use sd_base::{GraphFile, Kind, Ledger, Limits, Quantity, Steps, Text};
+use sd_base::{GraphFile, Kind, Ledger, Limits, Quantity, Steps};
+use sd_steps::certifying::certify;
+use sd_steps::nets::{complete, touch};
+use sd_steps::reading::above;
+use sd_steps::{Answer, FileKind, Put, Stop, extent_for};
 use std::alloc::Global;
 use std::thread::Threads;
 
@@ -107,16 +106,6 @@ pub(crate) fn points_of<R: Threads + Sync, F: Firing + Sync, G: Gate + Sync, L: 
         steps,
     )?;
     shown(parallel.rt, alloc, net, graph, wanted, exploration)
-}
-
-// How far a net is explored: a certificate lists all members up to the limit.
-fn extent_for(certificate: &Option<Text>) -> Extent
-    ensures { result ≡ extent_for certificate.now }
-{
-    match certificate {
-        None => Extent::Fastest,
-        Some(_) => Extent::Limit,
-    }
 }
 
 /// The exploration of a net, or the refusal of one that passes a limit.

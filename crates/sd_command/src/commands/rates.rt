@@ -1,36 +1,34 @@
-ghost use Rattle.std.specs.Prelude.{◌≡◌, ℕ, ◌+◌, ◌-◌, ◌^◌, ◌<◌, ◌≤◌, All, IfOk, length};
+ghost use Rattle.std.specs.Prelude.{◌≡◌, ℕ, ◌+◌, ◌-◌, ◌^◌, ◌<◌, ◌≤◌, All, length};
 ghost use Rattle.std.specs.Option.{IsSome};
-ghost use Rattle.sd_base.specs.Net.{Net as ANet};
 ghost use Rattle.sd_base.specs.Untimed.{IsLive};
-ghost use Rattle.lasso.specs.LoopAnswers.{IsFound, IsRunRefusal as IsRunError};
+ghost use Rattle.lasso.specs.LoopAnswers.{IsFound};
 ghost use Rattle.report.specs.LinkTexts.{IsNamed};
 ghost use Rattle.cert_maker.specs.Links.{HasNoOrders};
 ghost use Rattle.sd_base.specs.Connection.{IsStronglyConnected};
 ghost use Rattle.sd_words.specs.Asked.{AreStates};
-ghost use Rattle.sd_command.specs.steps.Nets.{IsFed, on_live};
-ghost use Rattle.sd_command.specs.commands.Rates.{IsOfRate, IsRateAnswer, IsRateTooLong, IsRunRefusal, execution};
+ghost use Rattle.sd_steps.specs.Nets.{IsFed, on_live};
+ghost use Rattle.sd_command.specs.commands.Rates.{IsOfRate, IsRateAnswer, IsRateTooLong, execution};
+ghost use Rattle.sd_steps.specs.Findings.{finding};
 ghost use Rattle.critical.specs.declared.cycle.CycleStep.{CycleStep as AStep};
 ghost use Rattle.cert_text.specs.declared.certificates.Certificate.{Certificate as ACertificate};
 ghost use Rattle.cert_text.specs.Spellable.{AreStarts};
-ghost use Rattle.sd_command.specs.steps.Certifyings.{Certifies, IsTooLong};
-ghost use Rattle.sd_command.specs.steps.Courses.{deciding};
-ghost use Rattle.sd_command.specs.inside.Steps.{Does};
+ghost use Rattle.sd_steps.specs.Certifyings.{Certifies, IsTooLong};
+ghost use Rattle.sd_steps.specs.Courses.{deciding};
+ghost use Rattle.sd_steps.specs.Steps.{Does};
 ghost use Rattle.sd_command.specs.inside.Goings.{Goes};
 
-use crate::answer::{Answer, Put};
 use crate::commands::wanted::WantedRate;
-use crate::file_kind::FileKind;
-use crate::steps::certifying::certify;
-use crate::steps::nets::test;
-use crate::steps::reading::above;
-use crate::stop::Stop;
 use cert_maker::rate_certificate;
 use critical::{NeedCycle, critical_cycle};
 use firing::{Firing, LoopTable, Wired, Wiring, know_laws};
-use lasso::RunError;
+use lasso::find_loop;
 use periodic::{Periodic, from_loop};
-use report::{Refusal, rate_text};
-use sd_base::{GraphFile, Ledger, NoMemory, Quantity, Steps};
+use report::rate_text;
+use sd_base::{GraphFile, Ledger, Steps};
+use sd_steps::certifying::certify;
+use sd_steps::finding::found;
+use sd_steps::nets::test;
+use sd_steps::{Answer, FileKind, Put, Stop};
 use std::alloc::Global;
 use storage::Distribution;
 
@@ -74,27 +72,13 @@ fn counted_loop<F: Firing, L: Ledger>(
     requires fed { IsFed (F.net wired.now.net.now) }
     requires live { IsLive (F.net wired.now.net.now) }
     requires states { AreStates states }
-    ensures does { Does (deciding (IsFound (F.net wired.now.net.now) states) (IsRunRefusal (F.net wired.now.net.now) states)) result }
+    ensures does { Does (finding (F.net wired.now.net.now) states) result }
     ensures counts { steps.new.count ≡ steps.old.count + 1 }
     ensures share { steps.new.share ≡ steps.old.share }
 {
     know_laws(wired.net);
     steps.tick();
-    match lasso::find_loop(alloc, wired, states) {
-        Ok(table) => Ok(table),
-        Err(error) => Err(Stop::Refused(run_refusal(alloc, error, states)?)),
-    }
-}
-
-/// The refusal of an execution that passes a bound. Want of memory has none.
-pub(crate) fn run_refusal(alloc: Global, error: RunError, states: u64) -> Result<Refusal, NoMemory>
-    ensures { (net : ANet) → IsRunError net states error → IfOk result (IsRunRefusal net states) }
-{
-    match error {
-        RunError::StatesSpent => Ok(Refusal::StatesSpent { states, at: None }),
-        RunError::TooManyStarts => above(alloc, Quantity::Starts),
-        RunError::NoMemory => Err(NoMemory),
-    }
+    found(alloc, find_loop(alloc, wired, states), states)
 }
 
 // The answer by the loop of the net: its text, and its certificate where one is asked for.

@@ -1,14 +1,13 @@
 ghost use Rattle.std.specs.Prelude.{◌≡◌, ℕ, ◌≤◌, List};
-ghost use Rattle.sd_command.specs.steps.Takings.{Files};
+ghost use Rattle.sd_steps.specs.Takings.{Files};
 ghost use Rattle.sd_command.specs.commands.Repetitions.{repetition};
 ghost use Rattle.sd_command.specs.inside.Goings.{Goes};
 
-use crate::answer::Answer;
-use crate::steps::balancing::balanced;
-use crate::steps::opening::open_graph;
-use crate::stop::Stop;
 use report::repetition_text;
 use sd_io::Shelf;
+use sd_steps::balancing::balanced;
+use sd_steps::opening::open_graph;
+use sd_steps::{Answer, Stop};
 use std::alloc::Global;
 
 /// How often each actor of a graph file fires in a round.

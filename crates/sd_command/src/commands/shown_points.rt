@@ -22,14 +22,14 @@ use std::thread::Threads;
 use storage::Bounded;
 
 /// The schedules of points in their order, and their text.
-#[derive(Debug, Drop)]
+#[derive(Drop)]
 pub(crate) struct ShownPoints {
     pub(crate) schedules: Vec<Periodic>,
     pub(crate) text: Rows<u8>,
 }
 
 /// The schedule of the loop of a point, and the lines of the point.
-#[derive(Debug, Drop)]
+#[derive(Drop)]
 pub(crate) struct ShownPoint {
     pub(crate) schedule: Periodic,
     pub(crate) lines: Rows<u8>,

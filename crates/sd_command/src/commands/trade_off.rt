@@ -1,20 +1,19 @@
 ghost use Rattle.std.specs.Prelude.{◌≡◌, ℕ, ◌-◌, ◌≤◌, List};
 ghost use Rattle.sd_base.specs.Tables.{IsTimed, KeepsRules};
 ghost use Rattle.sd_words.specs.Asked.{AreLimits};
-ghost use Rattle.sd_command.specs.steps.Takings.{Files};
+ghost use Rattle.sd_steps.specs.Takings.{Files};
 ghost use Rattle.sd_command.specs.commands.TradeOffs.{storage, trade_off};
 ghost use Rattle.sd_command.specs.inside.Goings.{Goes};
 
-use crate::answer::Answer;
 use crate::commands::parallel::Parallel;
 use crate::commands::points::points_of_graph;
 use crate::commands::wanted::WantedPoints;
-use crate::steps::balancing::balanced;
-use crate::steps::opening::open_graph;
-use crate::stop::Stop;
 use fanout::Gate;
 use sd_base::{GraphFile, Ledger, Steps};
 use sd_io::Shelf;
+use sd_steps::balancing::balanced;
+use sd_steps::opening::open_graph;
+use sd_steps::{Answer, Stop};
 use std::alloc::Global;
 use std::thread::Threads;
 

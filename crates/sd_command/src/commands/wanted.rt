@@ -4,7 +4,7 @@ ghost use Rattle.sd_command.specs.inside.Wants.{no_overlap_of};
 use sd_base::{Limits, Rows, Text};
 
 /// What words ask of the net of a graph whose named channels have a capacity.
-#[derive(Debug, Drop)]
+#[derive(Drop)]
 pub(crate) enum Wanted {
     Rate(WantedRate),
     /// The rate by orders: by processor the names of the actors whose firings it runs one after another.
@@ -36,7 +36,7 @@ impl Wanted {
 
 /// What words ask for beside the rate of a graph: that no firings of an actor overlap, among how many shapes one has to come
 /// again, and a certificate under a name.
-#[derive(Debug, Drop)]
+#[derive(Drop)]
 pub struct WantedRate {
     pub no_overlap: bool,
     pub states: u64,
@@ -45,7 +45,7 @@ pub struct WantedRate {
 
 /// What words ask for beside the least time for rounds of a graph: that no firings of an actor overlap, among how many shapes
 /// one has to come again, and how many rounds.
-#[derive(Debug, Drop)]
+#[derive(Drop)]
 pub struct WantedRounds {
     pub no_overlap: bool,
     pub states: u64,
@@ -54,7 +54,7 @@ pub struct WantedRounds {
 
 /// What words ask for beside the points of a graph: how far they are explored, that no firings of an actor overlap, and a
 /// certificate under a name.
-#[derive(Debug, Drop)]
+#[derive(Drop)]
 pub struct WantedPoints {
     pub limits: Limits,
     pub no_overlap: bool,

@@ -4,25 +4,23 @@ ghost use Rattle.automaton.specs.TimedGraphs.{IsTimedGraph};
 ghost use Rattle.automaton.specs.SoundGraphs.{IsSound};
 ghost use Rattle.automaton.specs.CriticalCycles.{weights};
 ghost use Rattle.cert_text.specs.declared.certificates.Certificate.{Certificate as ACertificate};
-ghost use Rattle.sd_command.specs.steps.Certifyings.{Certifies, IsTooLong};
-ghost use Rattle.sd_command.specs.steps.Courses.{deciding, ends_by};
-ghost use Rattle.sd_command.specs.steps.Takings.{Files};
+ghost use Rattle.sd_steps.specs.Certifyings.{Certifies, IsTooLong};
+ghost use Rattle.sd_steps.specs.Courses.{deciding, ends_by};
+ghost use Rattle.sd_steps.specs.Takings.{Files};
 ghost use Rattle.sd_command.specs.commands.WorstRates.{IsOfWorst, scenario, telling_worst, worst_of};
-ghost use Rattle.sd_command.specs.inside.Steps.{Does};
+ghost use Rattle.sd_steps.specs.Steps.{Does};
 ghost use Rattle.sd_command.specs.inside.Goings.{Goes};
 
-use crate::answer::{Answer, Put};
-use crate::file_kind::FileKind;
-use crate::steps::certifying::certify;
-use crate::steps::opening::open_scenarios;
-use crate::steps::scenario_steps::timed;
-use crate::stop::Stop;
 use automaton::TimedGraph;
 use cert_maker::worst_certificate;
 use report::worst_text;
 use scenario_rate::{Worst, files_grow, worst};
 use sd_base::{ScenarioFile, Text};
 use sd_io::Shelf;
+use sd_steps::certifying::certify;
+use sd_steps::opening::open_scenarios;
+use sd_steps::scenario_steps::timed;
+use sd_steps::{Answer, FileKind, Put, Stop};
 use std::alloc::Global;
 
 /// The worst rate of a file of scenarios over all paths of its automaton, with what shows it.

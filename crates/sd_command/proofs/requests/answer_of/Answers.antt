@@ -1,7 +1,7 @@
 use Rattle.std.proofs.Common.{arith}
 use Rattle.std.proofs.lemmas.Result.{err_from_is_err_and}
-use Rattle.sd_command.specs.steps.Askings.{asking}
-use Rattle.sd_command.proofs.step_lemmas.Goings.{step_stops, goes_on}
+use Rattle.sd_steps.specs.Askings.{asking}
+use Rattle.sd_command.proofs.command_lemmas.Goings.{step_stops, goes_on}
 use Rattle.sd_command.proofs.requests.answer_of.Goals as goal
 
 pub returns-in_err-request-clause-goes : goal.returns-in_err-request-clause-goes

@@ -2,12 +2,12 @@ use Rattle.std.proofs.Common.{◌-◌, ℕ, List, subst, sym, arith}
 use Rattle.std.proofs.lemmas.Result.{err_from_is_err_and}
 use Rattle.sd_base.specs.FileNet.{net_of}
 use Rattle.storage.specs.BoundedNets.{bound}
-use Rattle.sd_command.specs.steps.Bufferings.{buffering}
-use Rattle.sd_command.specs.steps.Balancings.{balancing}
+use Rattle.sd_steps.specs.Bufferings.{buffering}
+use Rattle.sd_steps.specs.Balancings.{balancing}
 use Rattle.sd_command.specs.inside.Goings.{Goes}
 use Rattle.sd_command.specs.inside.Wants.{IsBounded, no_overlap_of, on_net}
 use Rattle.sd_command.proofs.command_lemmas.Bounds.{is-bounded}
-use Rattle.sd_command.proofs.step_lemmas.Goings.{step_stops, goes_on}
+use Rattle.sd_command.proofs.command_lemmas.Goings.{step_stops, goes_on}
 use Rattle.sd_command.proofs.commands.bounded_course.on_bounded.Goals as goal
 
 pub returns-in_err-distribution-clause-goes : goal.returns-in_err-distribution-clause-goes

@@ -10,7 +10,7 @@ use Rattle.storage.specs.BoundedNets.{bound}
 use Rattle.sd_command.specs.declared.commands.wanted.Wanted.{Wanted}
 use Rattle.sd_command.specs.commands.Expansions.{expansion_on}
 use Rattle.sd_command.specs.commands.InOrders.{ordered_rate_on}
-use Rattle.sd_command.specs.steps.Orderings.{NamedOrders}
+use Rattle.sd_steps.specs.Orderings.{NamedOrders}
 use Rattle.sd_command.specs.inside.Goings.{Goes}
 use Rattle.sd_command.specs.inside.Wants.{IsBounded, no_overlap_of}
 use Rattle.sd_command.proofs.command_lemmas.Wanting.{nothing-run}

@@ -1,10 +1,10 @@
 use Rattle.std.proofs.Common.{Ok, Err, refl}
 use Rattle.std.proofs.lemmas.Result.{err_from_is_err_and}
-use Rattle.sd_command.specs.declared.file_kind.FileKind.TheVariants.{Graph}
-use Rattle.sd_command.specs.steps.CertificateReadings.{opening_certificate}
+use Rattle.sd_steps.specs.declared.file_kind.FileKind.TheVariants.{Graph}
+use Rattle.sd_steps.specs.CertificateReadings.{opening_certificate}
 use Rattle.sd_command.specs.commands.Checks.{checked}
-use Rattle.sd_command.specs.steps.Takings.{Files, taking}
-use Rattle.sd_command.proofs.step_lemmas.Goings.{taking_stops, taken_on, takes_after, same_bytes}
+use Rattle.sd_steps.specs.Takings.{Files, taking}
+use Rattle.sd_command.proofs.command_lemmas.Goings.{taking_stops, taken_on, takes_after, same_bytes}
 use Rattle.sd_command.proofs.commands.check.answer.Goals as goal
 
 pub returns-in_err-bytes-clause-goes : goal.returns-in_err-bytes-clause-goes

@@ -2,10 +2,10 @@ use Rattle.std.proofs.Common.{ℕ, true, List, refl, subst}
 use Rattle.std.proofs.lemmas.Result.{err_from_is_err_and}
 use Rattle.cert_checker.specs.Certificates.{IsCertificateClaim, IsCertificateFault}
 use Rattle.cert_checker.specs.Verdicts.{IsVerdict}
-use Rattle.sd_command.specs.steps.Balancings.{balancing}
-use Rattle.sd_command.specs.steps.Readings.{reading_graph}
+use Rattle.sd_steps.specs.Balancings.{balancing}
+use Rattle.sd_steps.specs.Readings.{reading_graph}
 use Rattle.sd_command.proofs.command_lemmas.Verdicts.{verdict_goes}
-use Rattle.sd_command.proofs.step_lemmas.Goings.{step_stops, goes_on}
+use Rattle.sd_command.proofs.command_lemmas.Goings.{step_stops, goes_on}
 use Rattle.sd_command.proofs.commands.check.graph_checked.Goals as goal
 
 pub returns-in_err-graph : goal.returns-in_err-graph

@@ -2,9 +2,9 @@ use Rattle.std.proofs.Common.{◌∙◌, Some, ap, refl}
 use Rattle.std.proofs.lemmas.Result.{err_from_is_err_and}
 use Rattle.report.specs.declared.claims.CertificateKind.{CertificateKind}
 use Rattle.report.specs.ClaimTexts.{converted_line}
-use Rattle.sd_command.specs.declared.file_kind.FileKind.TheVariants.{Output}
-use Rattle.sd_command.specs.steps.Certifyings.{certifying}
-use Rattle.sd_command.proofs.step_lemmas.Goings.{step_stops, goes_on}
+use Rattle.sd_steps.specs.declared.file_kind.FileKind.TheVariants.{Output}
+use Rattle.sd_steps.specs.Certifyings.{certifying}
+use Rattle.sd_command.proofs.command_lemmas.Goings.{step_stops, goes_on}
 use Rattle.sd_command.proofs.command_lemmas.Analyses.{print_answers}
 use Rattle.sd_command.proofs.commands.conversion.converted.Goals as goal
 

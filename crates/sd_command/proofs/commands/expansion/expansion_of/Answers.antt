@@ -1,8 +1,8 @@
 use Rattle.std.proofs.Common.{Some, refl, ap}
 use Rattle.std.proofs.lemmas.Result.{err_from_is_err_and}
-use Rattle.sd_command.specs.declared.answer.Put.{Put}
+use Rattle.sd_steps.specs.declared.answer.Put.{Put}
 use Rattle.sd_command.specs.commands.Expansions.{expanding}
-use Rattle.sd_command.proofs.step_lemmas.Goings.{step_stops, goes_on}
+use Rattle.sd_command.proofs.command_lemmas.Goings.{step_stops, goes_on}
 use Rattle.sd_command.proofs.command_lemmas.Analyses.{print_answers}
 use Rattle.sd_command.proofs.commands.expansion.expansion_of.Goals as goal
 

@@ -3,11 +3,11 @@ use Rattle.std.proofs.lemmas.Result.{err_from_is_err_and}
 use Rattle.sd_base.specs.declared.tables.GraphFile.{GraphFile}
 use Rattle.sd_base.specs.declared.limits.Limits.{Limits}
 use Rattle.gen_graph.specs.MadeGraphs.{made_graph}
-use Rattle.sd_command.specs.declared.stop.Stop.TheVariants as stop
-use Rattle.sd_command.specs.steps.Balancings.{balancing}
+use Rattle.sd_steps.specs.declared.stop.Stop.TheVariants as stop
+use Rattle.sd_steps.specs.Balancings.{balancing}
 use Rattle.sd_command.specs.commands.Generations.{summed, usual_limits}
 use Rattle.sd_command.specs.inside.Goings.{Goes}
-use Rattle.sd_command.proofs.step_lemmas.Goings.{step_stops}
+use Rattle.sd_command.proofs.command_lemmas.Goings.{step_stops}
 use Rattle.sd_command.proofs.commands.generation.answer.Goals as goal
 
 pub returns-in_err-graph-clause-goes : goal.returns-in_err-graph-clause-goes

@@ -1,10 +1,10 @@
 use Rattle.std.proofs.Common.{◌≡◌, ℕ, List, arith, refl, subst}
 use Rattle.std.proofs.lemmas.Result.{err_from_is_err_and}
-use Rattle.sd_command.specs.declared.stop.Stop.TheVariants as stop
-use Rattle.sd_command.specs.steps.Nets.{touching, completing}
+use Rattle.sd_steps.specs.declared.stop.Stop.TheVariants as stop
+use Rattle.sd_steps.specs.Nets.{touching, completing}
 use Rattle.pareto_front.specs.declared.point.Point.{Point}
 use Rattle.explore.proofs.Explorable.{touched-explorable}
-use Rattle.sd_command.proofs.step_lemmas.Goings.{step_stops, goes_on}
+use Rattle.sd_command.proofs.command_lemmas.Goings.{step_stops, goes_on}
 use Rattle.sd_command.proofs.command_lemmas.Analyses.{few_from}
 use Rattle.sd_command.proofs.command_lemmas.Summaries.{summary_stops, summary_answers}
 use Rattle.report.specs.SummaryTexts.{summary_lines}

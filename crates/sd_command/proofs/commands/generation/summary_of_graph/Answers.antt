@@ -9,7 +9,7 @@ use Rattle.report.specs.LinkTexts.{IsNamed}
 use Rattle.sd_command.specs.commands.Generations.{summary_of}
 use Rattle.sd_command.specs.inside.Goings.{Goes}
 use Rattle.storage.proofs.FileConnections.{file-connected, file-few}
-use Rattle.sd_command.proofs.step_lemmas.Overs.{net-over}
+use Rattle.sd_steps.proofs.Overs.{net-over}
 use Rattle.sd_command.proofs.commands.generation.summary_of_graph.Goals as goal
 
 pub summary_of-requires-clause-named : goal.summary_of-requires-clause-named

@@ -1,7 +1,7 @@
 use Rattle.std.proofs.Common.{arith}
 use Rattle.std.proofs.lemmas.Result.{err_from_is_err_and}
-use Rattle.sd_command.specs.steps.Balancings.{balancing}
-use Rattle.sd_command.proofs.step_lemmas.Goings.{step_stops, goes_on}
+use Rattle.sd_steps.specs.Balancings.{balancing}
+use Rattle.sd_command.proofs.command_lemmas.Goings.{step_stops, goes_on}
 use Rattle.sd_command.proofs.commands.generation.summed.Goals as goal
 
 pub returns-in_err-gamma-clause-goes : goal.returns-in_err-gamma-clause-goes

@@ -14,11 +14,11 @@ use Rattle.ordered.specs.OrderedNets.{CanBeOrdered, ordered}
 use Rattle.ordered.specs.Orders.{AreOrders}
 use Rattle.report.specs.LinkTexts.{IsNamed}
 use Rattle.storage.specs.BoundedNets.{bound}
-use Rattle.sd_command.specs.steps.Orderings.{NamedOrders, ordering}
+use Rattle.sd_steps.specs.Orderings.{NamedOrders, ordering}
 use Rattle.sd_command.specs.commands.Throughputs.{rate_on}
 use Rattle.sd_command.specs.inside.Goings.{Goes}
 use Rattle.sd_command.proofs.command_lemmas.Bounds.{named-bounded}
-use Rattle.sd_command.proofs.step_lemmas.Goings.{step_stops, goes_on}
+use Rattle.sd_command.proofs.command_lemmas.Goings.{step_stops, goes_on}
 use Rattle.sd_command.proofs.command_lemmas.OrderedOver.{bound-can, ordered-over, ordered-room}
 use Rattle.sd_command.proofs.commands.in_order.rate_in_order.Goals as goal
 

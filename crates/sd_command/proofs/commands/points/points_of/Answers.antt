@@ -1,16 +1,16 @@
 use Rattle.std.proofs.Common.{◌≡◌, ℕ, ◌-◌, arith, subst}
 use Rattle.std.proofs.lemmas.Result.{err_from_is_err_and}
 use Rattle.report.specs.declared.refusal.Refusal.{Refusal}
-use Rattle.sd_command.specs.declared.answer.Answer.{Answer}
-use Rattle.sd_command.specs.steps.Courses.{deciding}
-use Rattle.sd_command.specs.steps.Nets.{touching, completing}
+use Rattle.sd_steps.specs.declared.answer.Answer.{Answer}
+use Rattle.sd_steps.specs.Courses.{deciding}
+use Rattle.sd_steps.specs.Nets.{touching, completing}
 use Rattle.sd_command.specs.commands.Points.{ArePointsTooLong, IsPointsAnswer}
-use Rattle.sd_command.specs.inside.Steps.{Does}
+use Rattle.sd_steps.specs.Steps.{Does}
 use Rattle.explore.specs.declared.exploration.Exploration.{Exploration}
 use Rattle.explore.specs.Explorations.{cycles_in}
 use Rattle.explore.specs.Extents.{Explores}
 use Rattle.explore.proofs.Explorable.{touched-explorable}
-use Rattle.sd_command.proofs.step_lemmas.Goings.{step_stops, goes_on}
+use Rattle.sd_command.proofs.command_lemmas.Goings.{step_stops, goes_on}
 use Rattle.sd_command.proofs.command_lemmas.Analyses.{exploration_stops, points_answer, few_from}
 use Rattle.sd_command.proofs.commands.points.points_of.Goals as goal
 

@@ -10,7 +10,7 @@ use Rattle.sd_command.specs.commands.Points.{points_of}
 use Rattle.sd_command.specs.inside.Goings.{Goes}
 use Rattle.storage.proofs.FileConnections.{file-connected, file-few}
 use Rattle.sd_command.proofs.command_lemmas.Orderless.{net-orderless}
-use Rattle.sd_command.proofs.step_lemmas.Overs.{net-over}
+use Rattle.sd_steps.proofs.Overs.{net-over}
 use Rattle.sd_command.proofs.commands.points.points_of_graph.Goals as goal
 
 pub points_of-requires-clause-named : goal.points_of-requires-clause-named

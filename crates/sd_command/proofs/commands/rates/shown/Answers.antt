@@ -1,7 +1,7 @@
 use Rattle.std.proofs.lemmas.Result.{err_from_is_err_and}
 use Rattle.sd_command.proofs.command_lemmas.Certified.{rate-stops, starts-spelled}
-use Rattle.sd_command.proofs.step_lemmas.Joins.{fed-inputs}
-use Rattle.sd_command.proofs.step_lemmas.Overs.{cycle-over}
+use Rattle.sd_steps.proofs.Joins.{fed-inputs}
+use Rattle.sd_command.proofs.command_lemmas.CyclesOver.{cycle-over}
 use Rattle.sd_command.proofs.command_lemmas.Reached.{rate-shown}
 use Rattle.sd_command.proofs.commands.rates.shown.Goals as goal
 

@@ -7,15 +7,15 @@ use Rattle.bounded_scenarios.specs.Boundings.{looped_tokens}
 use Rattle.scenario_storage.specs.declared.point.ScenarioLimits.{ScenarioLimits}
 use Rattle.scenario_storage.specs.declared.point.ScenarioPoint.{ScenarioPoint}
 use Rattle.report.specs.ScenarioPointTexts.{scenario_points_lines}
-use Rattle.sd_command.specs.declared.answer.Answer.{Answer}
-use Rattle.sd_command.specs.declared.stop.Stop.{Stop}
-use Rattle.sd_command.specs.steps.Courses.{Ending, After, ends_by}
-use Rattle.sd_command.specs.steps.ScenarioBounds.{ArePassed, bounding_all, fitting_nodes}
+use Rattle.sd_steps.specs.declared.answer.Answer.{Answer}
+use Rattle.sd_steps.specs.declared.stop.Stop.{Stop}
+use Rattle.sd_steps.specs.Courses.{Ending, After, ends_by}
+use Rattle.sd_steps.specs.ScenarioBounds.{ArePassed, bounding_all, fitting_nodes}
 use Rattle.sd_command.specs.commands.ScenarioPoints.{points_in, searching}
-use Rattle.sd_command.specs.inside.Steps.{Does}
+use Rattle.sd_steps.specs.Steps.{Does}
 use Rattle.sd_command.specs.inside.Goings.{Goes}
 use Rattle.sd_command.proofs.command_lemmas.Boundable.{can-be-bounded, tokens-few}
-use Rattle.sd_command.proofs.step_lemmas.Goings.{goes_on, step_stops}
+use Rattle.sd_command.proofs.command_lemmas.Goings.{goes_on, step_stops}
 use Rattle.sd_command.proofs.command_lemmas.Analyses.{search_answers, search_stops}
 use Rattle.sd_command.proofs.commands.scenario_points.points_in.Goals as goal
 

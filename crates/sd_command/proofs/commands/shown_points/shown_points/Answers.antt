@@ -37,7 +37,7 @@ shown_by-requires g c =
     let new : List T = c.all.new.jobs in
     let gives = c.into_iter-task-iterator.ensures.into_iter_gives in
     let went = tasks-went (λ (t : T). t.graph.now) (λ (t : T). g.F.Firing.net t.net.now) (λ (t : T). t.point.now) (λ (t : T). t.shown) c.args.graph.now net c.args.points.now c.in_ok-tasks.tasks.items c.as_mut_slice.result.now new c.in_ok-tasks.tasks.len
-    (search rules) c.as_mut_slice.ensures.value c.in_ok-tasks.ensures c.all.ensures in
+    (search rules) c.as_mut_slice.ensures.value c.in_ok-tasks.ensures c.all.ensures.ran in
     let turn = YieldsList-turn (YieldsList-from_vec new (gives.0 ∙ went.1) (gives.1 ∙ went.2)) c.loop-task.yielded c.loop-task.task-iterator c.loop-task.yielded_by c.next.result c.next.new.self c.in-Some.task c.in-Some.is c.next.ensures.steps in
     shows-something (λ (t : T). t.graph.now) (λ (t : T). g.F.Firing.net t.net.now) (λ (t : T). t.point.now) (λ (t : T). t.shown) c.args.graph.now net c.args.points.now new went.0 c.loop-task.yielded c.in-Some.task turn.0 turn.1
 
@@ -48,7 +48,7 @@ loop-task-preserved g c =
     let new : List T = c.all.new.jobs in
     let gives = c.into_iter-task-iterator.ensures.into_iter_gives in
     let went = tasks-went (λ (t : T). t.graph.now) (λ (t : T). g.F.Firing.net t.net.now) (λ (t : T). t.point.now) (λ (t : T). t.shown) c.args.graph.now net c.args.points.now c.in_ok-tasks.tasks.items c.as_mut_slice.result.now new c.in_ok-tasks.tasks.len
-    (search rules) c.as_mut_slice.ensures.value c.in_ok-tasks.ensures c.all.ensures in
+    (search rules) c.as_mut_slice.ensures.value c.in_ok-tasks.ensures c.all.ensures.ran in
     let turn = YieldsList-turn (YieldsList-from_vec new (gives.0 ∙ went.1) (gives.1 ∙ went.2)) c.loop-task.yielded c.loop-task.task-iterator c.loop-task.yielded_by c.next.result c.next.new.self c.in-Some.task c.in-Some.is c.next.ensures.steps in
     let points = c.args.points.now in
     let done : List T = c.loop-task.yielded in
@@ -72,7 +72,7 @@ returns g c =
     let new : List T = c.all.new.jobs in
     let gives = c.into_iter-task-iterator.ensures.into_iter_gives in
     let went = tasks-went (λ (t : T). t.graph.now) (λ (t : T). g.F.Firing.net t.net.now) (λ (t : T). t.point.now) (λ (t : T). t.shown) c.args.graph.now net points c.in_ok-tasks.tasks.items c.as_mut_slice.result.now new c.in_ok-tasks.tasks.len
-    (search rules) c.as_mut_slice.ensures.value c.in_ok-tasks.ensures c.all.ensures in
+    (search rules) c.as_mut_slice.ensures.value c.in_ok-tasks.ensures c.all.ensures.ran in
     let ended = YieldsList-end (YieldsList-from_vec new (gives.0 ∙ went.1) (gives.1 ∙ went.2)) c.loop-task.yielded c.loop-task.task-iterator c.loop-task.yielded_by c.next.result c.next.new.self c.in-None.is c.next.ensures.steps in
     let all : take (length c.loop-task.yielded) points ≡ points =
     all-taken (λ (t : T). t.graph.now) (λ (t : T). g.F.Firing.net t.net.now) (λ (t : T). t.point.now) (λ (t : T). t.shown) c.args.graph.now net points new went.0 (length c.loop-task.yielded) ended.1 in

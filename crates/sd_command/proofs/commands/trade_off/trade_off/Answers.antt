@@ -2,10 +2,10 @@ use Rattle.std.proofs.Common.{◌-◌, ℕ, List, subst, sym, arith}
 use Rattle.std.proofs.lemmas.Result.{err_from_is_err_and}
 use Rattle.sd_base.specs.FileNet.{net_of}
 use Rattle.balance.specs.Repetition.{IsRound}
-use Rattle.sd_command.specs.steps.Balancings.{balancing}
+use Rattle.sd_steps.specs.Balancings.{balancing}
 use Rattle.sd_command.specs.commands.Points.{points_of}
 use Rattle.sd_command.specs.inside.Goings.{Goes}
-use Rattle.sd_command.proofs.step_lemmas.Goings.{step_stops, goes_on}
+use Rattle.sd_command.proofs.command_lemmas.Goings.{step_stops, goes_on}
 use Rattle.sd_command.proofs.commands.trade_off.trade_off.Goals as goal
 
 pub returns-in_err-gamma-clause-goes : goal.returns-in_err-gamma-clause-goes

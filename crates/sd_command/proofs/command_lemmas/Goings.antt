@@ -1,0 +1,50 @@
+-- From what steps do to how a command goes.
+use Rattle.std.proofs.Common.{◌≡◌, ℕ, ◌-◌, Bool, List, Option, Result, Err, refl, ap, subst, ◌∙◌, inl, inr}
+use Rattle.sd_steps.specs.declared.answer.Answer.{Answer}
+use Rattle.sd_steps.specs.declared.stop.Stop.{Stop}
+use Rattle.sd_steps.specs.declared.stop.Stop.TheVariants as stop
+use Rattle.sd_steps.specs.Courses.{Step, Ending, Refused, Failed, Lacking, After, refused, failed, lacking, passed, Counted}
+use Rattle.sd_steps.specs.Takings.{Files}
+use Rattle.sd_steps.specs.Steps.{Does, Takes}
+use Rattle.sd_command.specs.inside.Goings.{Goes}
+
+module _ {A : Type 0} (step : Step A) (next : A → Ending → ℕ → Type 0) (n : ℕ) (none : n ≡ 0) where
+  -- a step stops
+  pub step_stops : (why : Stop) (faults : ℕ) → Does step (Err why) → Goes (After step next) (Err why) n faults faults
+  step_stops (stop.Refused refusal) faults is = record { ending = Refused refusal; is = refl; came = refused refusal is refl none; counted = refl }
+  step_stops stop.OutOfMemory faults is = record { ending = Lacking; is = refl; came = lacking refl none; counted = refl }
+
+  -- one that takes a file does
+  pub taking_stops : (why : Stop) (faults faults' : ℕ) → Takes step (Err why) faults faults' → Goes (After step next) (Err why) n faults faults'
+  taking_stops (stop.Refused refusal) faults faults' (inl (is, same)) = record { ending = Refused refusal; is = refl; came = refused refusal is refl none; counted = same }
+  taking_stops (stop.Refused refusal) faults faults' (inr (is, rose)) = record { ending = Failed refusal; is = refl; came = failed refusal is refl none; counted = rose }
+  taking_stops stop.OutOfMemory faults faults' same = record { ending = Lacking; is = refl; came = lacking refl none; counted = same }
+
+-- after a step that passes a value on, the command goes as what follows
+pub goes_on : {A : Type 0} (step : Step A) (next : A → Ending → ℕ → Type 0) (a : A) (result : Result Answer Stop) (n faults faults' : ℕ) → step.passes a
+    → Goes (next a) result n faults faults' → Goes (After step next) result n faults faults'
+goes_on step next a result n faults faults' is goes = record { ending = goes.ending; is = goes.is; came = passed a is goes.came; counted = goes.counted }
+
+-- the file that a step takes is there, and the command goes as what follows
+pub taken_on : {A : Type 0} (step : Step A) (next : A → Ending → ℕ → Type 0) (a : A) (result : Result Answer Stop) (n faults middle faults' : ℕ) → step.passes a × (middle ≡ faults)
+    → Goes (next a) result n middle faults' → Goes (After step next) result n faults faults'
+taken_on step next a result n faults middle faults' took goes =
+    record { ending = goes.ending; is = goes.is; came = passed a took.0 goes.came; counted = subst (λ (f : ℕ). Counted goes.ending f faults') took.1 goes.counted }
+
+-- a shelf whose files are as before
+pub same_shelf : (before after : Files) → after.tells ≡ before.tells → ((name : List ℕ) → after.named name ≡ before.named name) → after ≡ before
+same_shelf before after tells named =
+    let made : Bool → (List ℕ → Option (List ℕ)) → Files = λ t f. record { tells = t; named = f } in
+    let everywhere : after.named ≡ before.named = λ i. λ name. named name i in
+    ap (λ (t : Bool). made t after.named) tells ∙ ap (λ (f : List ℕ → Option (List ℕ)). made before.tells f) everywhere
+
+-- so a step on such files takes what it takes on those of before
+pub takes_after : {A : Type 0} (before after : Files) → after.tells ≡ before.tells → ((name : List ℕ) → after.named name ≡ before.named name) → (step : Files → Step A) (result : Result A Stop)
+    (faults faults' : ℕ) → Takes (step after) result faults faults' → Takes (step before) result faults faults'
+takes_after before after tells named step result faults faults' =
+    subst (λ (files : Files). Takes (step files) result faults faults') (same_shelf before after tells named)
+
+-- what a command does with bytes it does with the same bytes
+pub same_bytes : (command : List ℕ → Ending → ℕ → Type 0) (bytes shown : List ℕ) (result : Result Answer Stop) (n faults faults' : ℕ) → shown ≡ bytes
+    → Goes (command shown) result n faults faults' → Goes (command bytes) result n faults faults'
+same_bytes command bytes shown result n faults faults' same goes = subst (λ (b : List ℕ). Goes (command b) result n faults faults') same goes

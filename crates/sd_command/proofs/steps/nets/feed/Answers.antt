@@ -1,9 +1,0 @@
-use Rattle.balance.proofs.ChannelEnds.{are-actors}
-use Rattle.sd_command.proofs.step_lemmas.Joins.{with-inputs}
-use Rattle.sd_command.proofs.steps.nets.feed.Goals as goal
-
-pub no_input-requires-clause-ends : goal.no_input-requires-clause-ends
-no_input-requires-clause-ends g c = are-actors (g.F.Firing.net c.args.net.now) _ _ c.actors.ensures c.requires.ends c.know_laws.ensures
-
-pub returns-in-None : goal.returns-in-None
-returns-in-None g c = with-inputs (g.F.Firing.net c.args.net.now) _ _ c.actors.ensures c.requires.ends c.in-None.ensures

@@ -1,9 +1,0 @@
-use Rattle.balance.proofs.ChannelEnds.{are-actors}
-use Rattle.sd_command.proofs.step_lemmas.Joins.{strongly}
-use Rattle.sd_command.proofs.steps.nets.join.Goals as goal
-
-pub strongly_connected-requires-clause-ends : goal.strongly_connected-requires-clause-ends
-strongly_connected-requires-clause-ends g c = are-actors (g.F.Firing.net c.args.net.now) _ _ c.actors.ensures c.requires.ends c.know_laws.ensures
-
-pub returns-in-Ok : goal.returns-in-Ok
-returns-in-Ok g c = strongly (g.F.Firing.net c.args.net.now) _ _ c.actors.ensures c.requires.ends c.in-Ok.ensures.connected

@@ -1,0 +1,11 @@
+pub mod CertificateLines
+pub mod Endings
+pub mod Filed
+pub mod Joins
+pub mod Measured
+pub mod Overs
+pub mod Refusals
+pub mod ScenarioWalks
+pub mod Throughs
+pub mod TimedFiles
+pub mod WalkSteps

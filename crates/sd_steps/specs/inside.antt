@@ -1,0 +1,4 @@
+pub mod Filings
+pub mod Measuring
+pub mod Puts
+pub mod Stops
