@@ -1,4 +1,3 @@
 pub mod Goings
-pub mod Groups
 pub mod PointTasks
 pub mod Wants

@@ -7,5 +7,5 @@ mod run;
 
 // The types that laws of the top call speak of.
 pub use commands::wanted::{WantedPoints, WantedRate, WantedRounds};
-pub use run::analyse;
+pub use run::{analyse, exit_code};
 pub use sd_steps::{Answer, FileKind, Put, Status};

@@ -1,5 +1,6 @@
 ghost use Rattle.std.specs.Prelude.{◌≡◌, ◌≤◌, Bool};
-ghost use Rattle.sd_command.specs.Runs.{Run, Shows};
+ghost use Rattle.sd_steps.specs.RunEndings.{Outside};
+ghost use Rattle.sd_command.specs.Runs.{Run, Shows, ShowsBy};
 
 use crate::requests::answer_of;
 use fanout::Gate;
@@ -48,4 +49,29 @@ pub fn analyse<R: Threads + Sync, S: Shelf, K: Sink, G: Gate + Sync, L: Ledger +
         Ok(answer) => deliver(alloc, shelf, out, err, &answer),
         Err(stop) => send_stop(alloc, err, &stop),
     }
+}
+
+/// The exit status of the program for its words: it carries the command out as `analyse` does.
+pub fn exit_code<R: Threads + Sync, S: Shelf, K: Sink, G: Gate + Sync, L: Ledger + Send>(
+    rt: &R,
+    alloc: Global,
+    words: &[Text],
+    shelf: &mut S,
+    out: &mut K,
+    err: &mut K,
+    gate: &G,
+    steps: &mut Steps<L>,
+) -> u8
+    ensures shows { let outside : Outside = record {
+      shelf = record {
+        files = record { tells = S.tells shelf.old; named = S.file shelf.old };
+        named_after = S.file shelf.new;
+        faults = S.faults shelf.old;
+        faults_after = S.faults shelf.new;
+      };
+      out = record { sent = K.sent out.old; sent_after = K.sent out.new; faults = K.faults out.old; faults_after = K.faults out.new };
+      err = record { sent = K.sent err.old; sent_after = K.sent err.new; faults = K.faults err.old; faults_after = K.faults err.new };
+    } in ShowsBy result words.now outside steps.old.count steps.new.count }
+{
+    analyse(rt, alloc, words, shelf, out, err, gate, steps).code()
 }

@@ -132,9 +132,9 @@ module _ (laws : FileLaws) (scenarios : ScenarioLaws) (orders : OrderLaws) (shel
   ordered_decides name lists buffers wanted small =
       on_file_decides laws shelf tells name buffers wanted.no_overlap (ordered_rate_on lists wanted) (λ graph gamma distribution file.
       let ds : List (Option ℕ) = distribution.capacities in
-      after_decides (ordering graph gamma lists) _ (ordering_determines graph gamma lists) (λ given gives.
+      after_decides (ordering graph gamma lists) _ (ordering_determines graph gamma lists) (λ given gives r n m ending came also.
       rate_decides laws.nets (ordered_net (bound (net_of graph gamma wanted.no_overlap) ds) given.lists)
-      (lawful_ordered_on laws orders shelf name buffers wanted.no_overlap lists graph gamma distribution given small file gives) graph ds wanted))
+      (lawful_ordered_on laws orders shelf name buffers wanted.no_overlap lists graph gamma distribution given small file gives) graph ds wanted r n m ending came.1 also.1))
 
   complete_decides : (name : List ℕ) (buffers : List Buffer) (wanted : WantedRounds) → AreSmall buffers → Decides (complete name buffers wanted shelf)
   complete_decides name buffers wanted small =

@@ -56,7 +56,7 @@ module _ (laws : FileLaws) (orders : OrderLaws) (words : List (List ℕ)) (shelf
   unended r n ended =
       let on = on_orders (Ended r) n tt ended in
       let given = goes_past (ordering on.graph on.gamma lists) _ (Ended r) n tt on.came in
-      let live = goes_past (testing on.graph (net_from on.gamma on.graph on.distribution.capacities given.0.lists)) _ (Ended r) n tt given.2 in
+      let live = goes_past (testing on.graph (net_from on.gamma on.graph on.distribution.capacities given.0.lists)) _ (Ended r) n tt given.2.1 in
       live.2.1.long
 
   -- nor does anything refuse it after executions, where the net repeats a shape
@@ -67,7 +67,7 @@ module _ (laws : FileLaws) (orders : OrderLaws) (words : List (List ℕ)) (shelf
       let given = goes_past (ordering on.graph on.gamma lists) _ (Refused r) n late on.came in
       let ds : List (Option ℕ) = on.distribution.capacities in
       let net : Net = net_from on.gamma on.graph ds given.0.lists in
-      let live = goes_past (testing on.graph net) _ (Refused r) n late given.2 in
+      let live = goes_past (testing on.graph net) _ (Refused r) n late given.2.1 in
       let again = repeats on.file.bytes on.gamma on.graph (on.file.taken.told tells) on.file.given on.file.round in
       unrefused laws.nets net (lawful_ordered_on laws orders shelf name buffers no_overlap lists on.graph on.gamma on.distribution given.0 small on.file given.1) states live.1.2.1
       (subst (λ (ls : List (List ℕ)). Repeats (net_from on.gamma on.graph ds ls) states) (sym given.1.named)
@@ -79,7 +79,7 @@ module _ (laws : FileLaws) (orders : OrderLaws) (words : List (List ℕ)) (shelf
       let on = on_orders (Answered answer) n tt due in
       let given = goes_past (ordering on.graph on.gamma lists) _ (Answered answer) n tt on.came in
       let ds : List (Option ℕ) = on.distribution.capacities in
-      let live = goes_past (testing on.graph (net_from on.gamma on.graph ds given.0.lists)) _ (Answered answer) n tt given.2 in
+      let live = goes_past (testing on.graph (net_from on.gamma on.graph ds given.0.lists)) _ (Answered answer) n tt given.2.1 in
       let lawful = lawful_on laws shelf name buffers no_overlap on.graph on.gamma on.distribution small on.file in
       from_names on.graph on.gamma on.file.bytes (on.file.taken.told tells) on.file.given on.file.round given.1.whole ds given.0.lists on.file.capacities.named given.1.named lawful live.2.1
     where

@@ -3,7 +3,7 @@
 
 use fanout::OpenGate;
 use sd_base::{Ledger, Steps, Text};
-use sd_command::analyse;
+use sd_command::exit_code;
 use sd_io::{RealShelf, RealSink};
 use std::alloc::{AllocError, Global};
 use std::io::ErrorKind;
@@ -33,7 +33,7 @@ fn main(rt: HostRuntime) -> ExitCode {
     let mut out = RealSink::output(&rt);
     let mut err = RealSink::fault(&rt);
     let mut steps = Steps::new(Executions);
-    let status = analyse(
+    let code = exit_code(
         &rt,
         rt.alloc(),
         words.as_slice(),
@@ -44,7 +44,7 @@ fn main(rt: HostRuntime) -> ExitCode {
         &mut steps,
     );
     let Executions = steps.finish();
-    ExitCode::from(status.code())
+    ExitCode::from(code)
 }
 
 fn code_without_words(error: &io::Error) -> u8 {

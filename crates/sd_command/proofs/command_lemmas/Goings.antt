@@ -48,3 +48,12 @@ takes_after before after tells named step result faults faults' =
 pub same_bytes : (command : List ℕ → Ending → ℕ → Type 0) (bytes shown : List ℕ) (result : Result Answer Stop) (n faults faults' : ℕ) → shown ≡ bytes
     → Goes (command shown) result n faults faults' → Goes (command bytes) result n faults faults'
 same_bytes command bytes shown result n faults faults' same goes = subst (λ (b : List ℕ). Goes (command b) result n faults faults') same goes
+
+-- what a step takes by a name it takes by the same name
+pub same_name : {A : Type 0} (step : List ℕ → Step A) (name shown : List ℕ) (result : Result A Stop) (faults faults' : ℕ) → shown ≡ name → Takes (step shown) result faults faults' → Takes (step name) result faults faults'
+same_name step name shown result faults faults' same takes = subst (λ (n : List ℕ). Takes (step n) result faults faults') same takes
+
+-- what a command does with a value it does with the same value
+pub same_value : {A : Type 0} (command : A → Ending → ℕ → Type 0) (a shown : A) (result : Result Answer Stop) (n faults faults' : ℕ) → shown ≡ a
+    → Goes (command shown) result n faults faults' → Goes (command a) result n faults faults'
+same_value {A} command a shown result n faults faults' same goes = subst (λ (x : A). Goes (command x) result n faults faults') same goes

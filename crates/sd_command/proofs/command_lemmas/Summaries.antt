@@ -1,5 +1,5 @@
 -- How the command `generate` goes.
-use Rattle.std.proofs.Common.{◌≡◌, ◌≢◌, ℕ, true, List, None, Ok, Err, refl, sym, subst}
+use Rattle.std.proofs.Common.{◌≡◌, ◌≢◌, ◌≤◌, ℕ, true, List, length, None, Ok, Err, refl, sym, subst}
 use Rattle.sd_base.specs.declared.tables.Kind.TheVariants.{Sdf}
 use Rattle.sd_base.specs.declared.tables.GraphFile.{GraphFile}
 use Rattle.sd_base.specs.declared.limits.Limits.{Limits}
@@ -36,11 +36,11 @@ module _ (seed : ℕ) (graph : GraphFile) (gamma : List ℕ) (net : Net) (limits
 
     -- it answers with the summary of its points
     pub summary_answers : (answer : Answer) (members : List Member) (points : List Point) → n ≡ cycles_in members → Explores Fastest net limits members points
-        → answer.text ≡ summary_lines seed graph gamma points → answer.put ≡ None → Goes (ends_by (summary seed graph gamma net limits)) (Ok answer) n faults faults
-    summary_answers answer members points count explored shown none = record {
+        → answer.text ≡ summary_lines seed graph gamma points → answer.put ≡ None → length points ≤ cycles_in members → Goes (ends_by (summary seed graph gamma net limits)) (Ok answer) n faults faults
+    summary_answers answer members points count explored shown none many = record {
       ending = Answered answer;
       is = refl;
-      came = record { members = members; text = record { points = points; explored = explored; shown = shown }; put = none; counted = count };
+      came = record { members = members; text = record { points = points; explored = explored; shown = shown }; put = none; counted = count; many = subst (λ (k : ℕ). length points ≤ k) (sym count) many };
       counted = refl;
     }
 

@@ -1,5 +1,5 @@
 -- The command `generate`.
-use Rattle.std.specs.Prelude.{◌≡◌, ℕ, true, List, None}
+use Rattle.std.specs.Prelude.{◌≡◌, ◌≤◌, ℕ, true, List, length, None}
 use Rattle.sd_base.specs.declared.tables.GraphFile.{GraphFile}
 use Rattle.sd_base.specs.declared.limits.Limits.{Limits}
 use Rattle.sd_base.specs.declared.limits.TheConstants.{USUAL_DISTRIBUTIONS, USUAL_STATES}
@@ -28,12 +28,13 @@ pub record IsSummary (seed : ℕ) (graph : GraphFile) (gamma : List ℕ) (net : 
   pub explored : Explores Fastest net limits members points
   pub shown : text ≡ summary_lines seed graph gamma points
 
--- an execution was counted for each member whose net is live
+-- an execution was counted for each member whose net is live, and so one for each point at least
 pub record IsSummaryAnswer (seed : ℕ) (graph : GraphFile) (gamma : List ℕ) (net : Net) (limits : Limits) (answer : Answer) (n : ℕ) : Type 0 where
   pub members : List Member
   pub text : IsSummary seed graph gamma net limits members answer.text
   pub put : answer.put ≡ None
   pub counted : n ≡ cycles_in members
+  pub many : length text.points ≤ n
 
 -- one exploration, of which a summary is told
 abbrev pub summary : ℕ → GraphFile → List ℕ → Net → Limits → Analysis

@@ -1,5 +1,5 @@
 -- The trade-off between the storage and the rate of a net, with what shows it.
-use Rattle.std.specs.Prelude.{◌≡◌, ℕ, ◌*◌, ◌<◌, ◌⊎◌, List, length, Option, Some, None}
+use Rattle.std.specs.Prelude.{◌≡◌, ℕ, ◌*◌, ◌≤◌, ◌<◌, ◌⊎◌, List, length, Option, Some, None}
 use Rattle.std.specs.List.{AllZip}
 use Rattle.sd_base.specs.declared.tables.GraphFile.{GraphFile}
 use Rattle.sd_base.specs.declared.limits.Limits.{Limits}
@@ -57,7 +57,8 @@ abbrev pub IsOfPoints : Net → WantedPoints → List Member → List Point → 
 IsOfPoints net wanted members points schedules c =
     (s : StorageCertificate) × (c ≡ certificates.Storage s) × IsStorageCertificate net wanted.no_overlap wanted.limits.total members points schedules s
 
--- what shows the points is printed, and the certificate is made of it; an execution was counted for each member whose net is live
+-- what shows the points is printed, and the certificate is made of it; an execution was counted for each member whose net is live, and
+-- so one for each point at least
 pub record IsPointsAnswer (graph : GraphFile) (net : Net) (wanted : WantedPoints) (answer : Answer) (n : ℕ) : Type 0 where
   pub members : List Member
   pub points : List Point
@@ -66,6 +67,7 @@ pub record IsPointsAnswer (graph : GraphFile) (net : Net) (wanted : WantedPoints
   pub text : answer.text ≡ points_lines graph points schedules
   pub put : Certifies wanted.certificate (IsOfPoints net wanted members points schedules) answer.put
   pub counted : n ≡ cycles_in members
+  pub many : length points ≤ n
 
 -- the certificate of what shows the points is too long
 pub record ArePointsTooLong (net : Net) (wanted : WantedPoints) (refusal : Refusal) (n : ℕ) : Type 0 where

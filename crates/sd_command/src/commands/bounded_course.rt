@@ -1,4 +1,4 @@
-ghost use Rattle.std.specs.Prelude.{◌≡◌, ℕ, ◌-◌, ◌≤◌, All, List};
+ghost use Rattle.std.specs.Prelude.{◌≡◌, ℕ, ◌-◌, ◌≤◌, All};
 ghost use Rattle.sd_base.specs.declared.limits.TheConstants.{CAPACITY};
 ghost use Rattle.sd_base.specs.FileNet.{net_of};
 ghost use Rattle.sd_base.specs.Tables.{IsTimed, KeepsRules};
@@ -6,7 +6,7 @@ ghost use Rattle.storage.specs.BoundedNets.{bound};
 ghost use Rattle.storage.specs.NamedBuffers.{Buffer};
 ghost use Rattle.sd_command.specs.commands.BoundedCourses.{on_bounded, on_file};
 ghost use Rattle.sd_steps.specs.Takings.{Files};
-ghost use Rattle.sd_command.specs.inside.Goings.{Goes};
+ghost use Rattle.sd_command.specs.inside.Goings.{AnswersFrom, Goes};
 ghost use Rattle.sd_command.specs.inside.Wants.{IsBounded, IsWithin, no_overlap_of, on_net};
 
 use crate::commands::bounded_graph::BoundedGraph;
@@ -14,7 +14,7 @@ use crate::commands::expansion::expansion_of;
 use crate::commands::in_order::rate_in_order;
 use crate::commands::least_time::time_of;
 use crate::commands::rates::rate_of;
-use crate::commands::wanted::Wanted;
+use crate::commands::wanted::{OnBounded, Wanted};
 use firing::{CsdfNet, Firing, SdfNet};
 use sd_base::{GraphFile, Kind, Ledger, Steps, Text};
 use sd_io::Shelf;
@@ -29,23 +29,25 @@ use storage::Bounded;
 pub(crate) fn answer<S: Shelf, L: Ledger>(
     alloc: Global,
     shelf: &mut S,
-    name: &str,
-    buffers: &[(Text, u64)],
-    wanted: &Wanted,
+    asked: &OnBounded,
     steps: &mut Steps<L>,
 ) -> Result<Answer, Stop>
-    requires small { All (λ (b : Buffer). b.1 ≤ CAPACITY) buffers.now }
-    requires within { IsWithin wanted.now }
-    ensures goes { let files : Files = record { tells = S.tells shelf.old; named = S.file shelf.old } in
-        Goes (on_file name.now buffers.now (no_overlap_of wanted.now) (on_net wanted.now) files) result (steps.new.count - steps.old.count) (S.faults shelf.old) (S.faults shelf.new) }
-    ensures stays { (n : List ℕ) → S.file shelf.new n ≡ S.file shelf.old n }
-    ensures telling { S.tells shelf.new ≡ S.tells shelf.old }
-    ensures grows { S.faults shelf.old ≤ S.faults shelf.new }
+    requires small { All (λ (b : Buffer). b.1 ≤ CAPACITY) asked.now.buffers }
+    requires within { IsWithin asked.now.wanted }
+    ensures answers { let before : Files = record { tells = S.tells shelf.old; named = S.file shelf.old } in
+        let after : Files = record { tells = S.tells shelf.new; named = S.file shelf.new } in
+        AnswersFrom (on_file asked.now.graph asked.now.buffers (no_overlap_of asked.now.wanted) (on_net asked.now.wanted)) before after (S.faults shelf.old) (S.faults shelf.new) result (steps.new.count - steps.old.count) }
     ensures rises { steps.old.count ≤ steps.new.count }
     ensures share { steps.new.share ≡ steps.old.share }
 {
-    let graph = open_graph(alloc, shelf, name, true)?;
-    on_bounded(alloc, &graph, buffers, wanted, steps)
+    let graph = open_graph(alloc, shelf, asked.graph.as_str(), true)?;
+    on_bounded(
+        alloc,
+        &graph,
+        asked.buffers.as_slice(),
+        &asked.wanted,
+        steps,
+    )
 }
 
 // The same of a graph.

@@ -1,10 +1,10 @@
-ghost use Rattle.std.specs.Prelude.{◌≡◌, ℕ, ◌≤◌, List};
+ghost use Rattle.std.specs.Prelude.{ℕ};
 ghost use Rattle.cert_checker.specs.Certificates.{HasFewLines, IsOfGraph};
 ghost use Rattle.cert_text.specs.Orderly.{IsOrderly};
 ghost use Rattle.cert_text.specs.Spellable.{IsSpellable};
 ghost use Rattle.sd_command.specs.commands.Checks.{check, checked, graph_checked, scenario_checked};
 ghost use Rattle.sd_steps.specs.Takings.{Files};
-ghost use Rattle.sd_command.specs.inside.Goings.{Goes};
+ghost use Rattle.sd_command.specs.inside.Goings.{AnswersFrom, Goes};
 
 use cert_checker::check_scenario;
 use cert_text::{Certificate, ScenarioCertificate};
@@ -25,11 +25,9 @@ pub(crate) fn answer<S: Shelf>(
     graph: &str,
     certificate: &str,
 ) -> Result<Answer, Stop>
-    ensures goes { let files : Files = record { tells = S.tells shelf.old; named = S.file shelf.old } in
-        Goes (check graph.now certificate.now files) result 0 (S.faults shelf.old) (S.faults shelf.new) }
-    ensures stays { (n : List ℕ) → S.file shelf.new n ≡ S.file shelf.old n }
-    ensures telling { S.tells shelf.new ≡ S.tells shelf.old }
-    ensures grows { S.faults shelf.old ≤ S.faults shelf.new }
+    ensures answers { let before : Files = record { tells = S.tells shelf.old; named = S.file shelf.old } in
+        let after : Files = record { tells = S.tells shelf.new; named = S.file shelf.new } in
+        AnswersFrom (check graph.now certificate.now) before after (S.faults shelf.old) (S.faults shelf.new) result 0 }
 {
     let bytes = take(alloc, shelf, FileKind::Graph, graph)?;
     let read = open_certificate(alloc, shelf, certificate)?;

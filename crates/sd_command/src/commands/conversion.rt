@@ -1,9 +1,9 @@
-ghost use Rattle.std.specs.Prelude.{◌≡◌, ℕ, ◌≤◌, List};
+ghost use Rattle.std.specs.Prelude.{◌≡◌, ℕ};
 ghost use Rattle.cert_text.specs.Orderly.{IsOrderly};
 ghost use Rattle.cert_text.specs.Spellable.{IsSpellable};
 ghost use Rattle.sd_command.specs.commands.Conversions.{convert, converted, kind_of};
 ghost use Rattle.sd_steps.specs.Takings.{Files};
-ghost use Rattle.sd_command.specs.inside.Goings.{Goes};
+ghost use Rattle.sd_command.specs.inside.Goings.{AnswersFrom, Goes};
 
 use cert_text::Certificate;
 use report::{CertificateKind, converted_text};
@@ -20,11 +20,9 @@ pub(crate) fn answer<S: Shelf>(
     certificate: &str,
     output: &str,
 ) -> Result<Answer, Stop>
-    ensures goes { let files : Files = record { tells = S.tells shelf.old; named = S.file shelf.old } in
-        Goes (convert certificate.now output.now files) result 0 (S.faults shelf.old) (S.faults shelf.new) }
-    ensures stays { (n : List ℕ) → S.file shelf.new n ≡ S.file shelf.old n }
-    ensures telling { S.tells shelf.new ≡ S.tells shelf.old }
-    ensures grows { S.faults shelf.old ≤ S.faults shelf.new }
+    ensures answers { let before : Files = record { tells = S.tells shelf.old; named = S.file shelf.old } in
+        let after : Files = record { tells = S.tells shelf.new; named = S.file shelf.new } in
+        AnswersFrom (convert certificate.now output.now) before after (S.faults shelf.old) (S.faults shelf.new) result 0 }
 {
     let read = open_certificate(alloc, shelf, certificate)?;
     converted(alloc, output, &read.1)

@@ -11,7 +11,7 @@ use crate::commands::rates::rate_of;
 use crate::commands::wanted::WantedRate;
 use firing::{Firing, know_laws};
 use ordered::Ordered;
-use ordered::laws::{named_orders_fit, ordered_nets_are_lawful};
+use ordered::laws::{named_orders_fit, ordered_nets_are_lawful, ordered_nets_keep_orders};
 use sd_base::{Ledger, Rows, Steps, Text};
 use sd_steps::ordering::in_orders;
 use sd_steps::{Answer, Stop};
@@ -38,6 +38,7 @@ pub(crate) fn rate_in_order<F: Firing, L: Ledger>(
     know_laws(net);
     named_orders_fit();
     ordered_nets_are_lawful();
+    ordered_nets_keep_orders();
     let orders = in_orders(alloc, bounded.graph, bounded.gamma, lists)?;
     let ordered = Ordered::new(alloc, net, &orders)?;
     rate_of(

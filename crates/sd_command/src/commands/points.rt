@@ -123,6 +123,7 @@ pub(crate) fn explored<R: Threads + Sync, F: Firing + Sync, G: Gate + Sync, L: L
     requires limits { AreLimits limits }
     ensures does { Does (deciding (λ (e : AnExploration). Explores extent (F.net net.now) limits e.members.items e.points.items) (IsExplorationEnd graph.now (F.net net.now) limits)) result }
     ensures counts { IfOk result (λ e. steps.new.count ≡ steps.old.count + cycles_in e.members.items) }
+    ensures least { IfOk result (λ e. steps.old.count + length e.points.items ≤ steps.new.count) }
     ensures most { CountsFew (F.net net.now) limits steps.old.count steps.new.count }
     ensures rises { steps.old.count ≤ steps.new.count }
     ensures share { steps.new.share ≡ steps.old.share }
@@ -167,6 +168,7 @@ fn shown<R: Threads + Sync, F: Firing + Sync>(
     requires unordered { HasNoOrders (F.net net.now) }
     requires total { wanted.now.limits.total ≤ STORAGE }
     requires explored { Explores (extent_for wanted.now.certificate) (F.net net.now) wanted.now.limits exploration.members.items exploration.points.items }
+    requires many { length exploration.points.items ≤ cycles_in exploration.members.items }
     ensures { let n : ℕ = cycles_in exploration.members.items in
         Does (deciding (λ answer. IsPointsAnswer graph.now (F.net net.now) wanted.now answer n) (λ refusal. ArePointsTooLong (F.net net.now) wanted.now refusal n)) result }
 {

@@ -1,7 +1,6 @@
-ghost use Rattle.std.specs.Prelude.{◌≡◌, ℕ, ◌≤◌, List};
 ghost use Rattle.sd_steps.specs.Takings.{Files};
 ghost use Rattle.sd_command.specs.commands.Repetitions.{repetition};
-ghost use Rattle.sd_command.specs.inside.Goings.{Goes};
+ghost use Rattle.sd_command.specs.inside.Goings.{AnswersFrom};
 
 use report::repetition_text;
 use sd_io::Shelf;
@@ -12,11 +11,9 @@ use std::alloc::Global;
 
 /// How often each actor of a graph file fires in a round.
 pub(crate) fn answer<S: Shelf>(alloc: Global, shelf: &mut S, name: &str) -> Result<Answer, Stop>
-    ensures goes { let files : Files = record { tells = S.tells shelf.old; named = S.file shelf.old } in
-        Goes (repetition name.now files) result 0 (S.faults shelf.old) (S.faults shelf.new) }
-    ensures stays { (n : List ℕ) → S.file shelf.new n ≡ S.file shelf.old n }
-    ensures telling { S.tells shelf.new ≡ S.tells shelf.old }
-    ensures grows { S.faults shelf.old ≤ S.faults shelf.new }
+    ensures answers { let before : Files = record { tells = S.tells shelf.old; named = S.file shelf.old } in
+        let after : Files = record { tells = S.tells shelf.new; named = S.file shelf.new } in
+        AnswersFrom (repetition name.now) before after (S.faults shelf.old) (S.faults shelf.new) result 0 }
 {
     let graph = open_graph(alloc, shelf, name, false)?;
     let gamma = balanced(alloc, &graph)?;

@@ -1,4 +1,4 @@
-ghost use Rattle.std.specs.Prelude.{◌≡◌, ℕ, ◌≤◌, All, IfOk, List};
+ghost use Rattle.std.specs.Prelude.{◌≡◌, ℕ, ◌≤◌, All, IfOk};
 ghost use Rattle.sd_base.specs.declared.limits.TheConstants.{DISTRIBUTIONS, LEAST_DISTRIBUTIONS, STORAGE};
 ghost use Rattle.sd_base.specs.Scenarios.{FileKeepsRules};
 ghost use Rattle.scenario_reader.specs.ScenarioNames.{FileHasWritableNames};
@@ -9,7 +9,7 @@ ghost use Rattle.sd_steps.specs.Courses.{deciding};
 ghost use Rattle.sd_command.specs.commands.ScenarioPoints.{IsSearchEnd, points_in, scenario_storage};
 ghost use Rattle.sd_steps.specs.Takings.{Files};
 ghost use Rattle.sd_steps.specs.Steps.{Does};
-ghost use Rattle.sd_command.specs.inside.Goings.{Goes};
+ghost use Rattle.sd_command.specs.inside.Goings.{AnswersFrom, Goes};
 
 use crate::commands::parallel::Parallel;
 use bounded_scenarios::looped_tokens;
@@ -36,11 +36,9 @@ pub(crate) fn answer<R: Threads + Sync, S: Shelf, G: Gate + Sync>(
     requires total { limits.total ≤ STORAGE }
     requires some { LEAST_DISTRIBUTIONS ≤ limits.distributions }
     requires few { limits.distributions ≤ DISTRIBUTIONS }
-    ensures goes { let files : Files = record { tells = S.tells shelf.old; named = S.file shelf.old } in
-        Goes (scenario_storage name.now limits files) result 0 (S.faults shelf.old) (S.faults shelf.new) }
-    ensures stays { (n : List ℕ) → S.file shelf.new n ≡ S.file shelf.old n }
-    ensures telling { S.tells shelf.new ≡ S.tells shelf.old }
-    ensures grows { S.faults shelf.old ≤ S.faults shelf.new }
+    ensures answers { let before : Files = record { tells = S.tells shelf.old; named = S.file shelf.old } in
+        let after : Files = record { tells = S.tells shelf.new; named = S.file shelf.new } in
+        AnswersFrom (scenario_storage name.now limits) before after (S.faults shelf.old) (S.faults shelf.new) result 0 }
 {
     let file = open_scenarios(alloc, shelf, name)?;
     points_in(parallel, alloc, &file, limits)

@@ -1,9 +1,9 @@
-ghost use Rattle.std.specs.Prelude.{◌≡◌, ℕ, ◌-◌, ◌≤◌, List};
+ghost use Rattle.std.specs.Prelude.{◌≡◌, ℕ, ◌-◌, ◌≤◌};
 ghost use Rattle.sd_base.specs.Tables.{IsTimed, KeepsRules};
 ghost use Rattle.sd_words.specs.Asked.{AreLimits};
 ghost use Rattle.sd_steps.specs.Takings.{Files};
 ghost use Rattle.sd_command.specs.commands.TradeOffs.{storage, trade_off};
-ghost use Rattle.sd_command.specs.inside.Goings.{Goes};
+ghost use Rattle.sd_command.specs.inside.Goings.{AnswersFrom, Goes};
 
 use crate::commands::parallel::Parallel;
 use crate::commands::points::points_of_graph;
@@ -27,11 +27,9 @@ pub(crate) fn answer<R: Threads + Sync, S: Shelf, G: Gate + Sync, L: Ledger + Se
     steps: &mut Steps<L>,
 ) -> Result<Answer, Stop>
     requires limits { AreLimits wanted.now.limits }
-    ensures goes { let files : Files = record { tells = S.tells shelf.old; named = S.file shelf.old } in
-        Goes (storage name.now wanted.now files) result (steps.new.count - steps.old.count) (S.faults shelf.old) (S.faults shelf.new) }
-    ensures stays { (n : List ℕ) → S.file shelf.new n ≡ S.file shelf.old n }
-    ensures telling { S.tells shelf.new ≡ S.tells shelf.old }
-    ensures grows { S.faults shelf.old ≤ S.faults shelf.new }
+    ensures answers { let before : Files = record { tells = S.tells shelf.old; named = S.file shelf.old } in
+        let after : Files = record { tells = S.tells shelf.new; named = S.file shelf.new } in
+        AnswersFrom (storage name.now wanted.now) before after (S.faults shelf.old) (S.faults shelf.new) result (steps.new.count - steps.old.count) }
     ensures rises { steps.old.count ≤ steps.new.count }
     ensures share { steps.new.share ≡ steps.old.share }
 {

@@ -3,6 +3,15 @@ ghost use Rattle.sd_command.specs.inside.Wants.{no_overlap_of};
 
 use sd_base::{Limits, Rows, Text};
 
+/// What words ask of a graph file whose named channels have a capacity: the file's name, the channels by name with their capacities
+/// in tokens, and what is wanted of the net.
+#[derive(Drop)]
+pub(crate) struct OnBounded {
+    pub(crate) graph: Text,
+    pub(crate) buffers: Rows<(Text, u64)>,
+    pub(crate) wanted: Wanted,
+}
+
 /// What words ask of the net of a graph whose named channels have a capacity.
 #[derive(Drop)]
 pub(crate) enum Wanted {

@@ -1,4 +1,4 @@
-ghost use Rattle.std.specs.Prelude.{◌≡◌, ℕ, ◌^◌, ◌<◌, ◌≤◌, All, List, length};
+ghost use Rattle.std.specs.Prelude.{ℕ, ◌^◌, ◌<◌, ◌≤◌, All, length};
 ghost use Rattle.sd_base.specs.Scenarios.{FileKeepsRules};
 ghost use Rattle.automaton.specs.TimedGraphs.{IsTimedGraph};
 ghost use Rattle.automaton.specs.SoundGraphs.{IsSound};
@@ -9,7 +9,7 @@ ghost use Rattle.sd_steps.specs.Courses.{deciding, ends_by};
 ghost use Rattle.sd_steps.specs.Takings.{Files};
 ghost use Rattle.sd_command.specs.commands.WorstRates.{IsOfWorst, scenario, telling_worst, worst_of};
 ghost use Rattle.sd_steps.specs.Steps.{Does};
-ghost use Rattle.sd_command.specs.inside.Goings.{Goes};
+ghost use Rattle.sd_command.specs.inside.Goings.{AnswersFrom, Goes};
 
 use automaton::TimedGraph;
 use cert_maker::worst_certificate;
@@ -30,11 +30,9 @@ pub(crate) fn answer<S: Shelf>(
     name: &str,
     certificate: &Option<Text>,
 ) -> Result<Answer, Stop>
-    ensures goes { let files : Files = record { tells = S.tells shelf.old; named = S.file shelf.old } in
-        Goes (scenario name.now certificate.now files) result 0 (S.faults shelf.old) (S.faults shelf.new) }
-    ensures stays { (n : List ℕ) → S.file shelf.new n ≡ S.file shelf.old n }
-    ensures telling { S.tells shelf.new ≡ S.tells shelf.old }
-    ensures grows { S.faults shelf.old ≤ S.faults shelf.new }
+    ensures answers { let before : Files = record { tells = S.tells shelf.old; named = S.file shelf.old } in
+        let after : Files = record { tells = S.tells shelf.new; named = S.file shelf.new } in
+        AnswersFrom (scenario name.now certificate.now) before after (S.faults shelf.old) (S.faults shelf.new) result 0 }
 {
     let file = open_scenarios(alloc, shelf, name)?;
     worst_of(alloc, &file, certificate)

@@ -1,13 +1,23 @@
-use Rattle.std.proofs.Common.{arith}
+use Rattle.std.proofs.Common.{arith, refl}
 use Rattle.std.proofs.lemmas.Result.{err_from_is_err_and}
 use Rattle.sd_steps.specs.Askings.{asking}
 use Rattle.sd_command.proofs.command_lemmas.Goings.{step_stops, goes_on}
 use Rattle.sd_command.proofs.requests.answer_of.Goals as goal
 
-pub returns-in_err-request-clause-goes : goal.returns-in_err-request-clause-goes
-returns-in_err-request-clause-goes g c =
+pub returns-in_err-request-clause-answers : goal.returns-in_err-request-clause-answers
+returns-in_err-request-clause-answers g c =
     let p = err_from_is_err_and c.from_residual.result c.from_residual.ensures.1 in
-    rw (p.1, p.2) (step_stops (asking c.args.words.now) _ _ (omega arith) _ _ c.in_err-request.ensures.does)
+    rw (p.1, p.2) (record {
+      goes = step_stops (asking c.args.words.now) _ _ (omega arith) _ _ c.in_err-request.ensures.does;
+      stays = λ name. refl;
+      telling = refl;
+      grows = omega arith;
+    })
 
-pub returns-clause-goes : goal.returns-clause-goes
-returns-clause-goes g c = goes_on (asking c.args.words.now) _ _ _ _ _ _ c.in_ok-request.ensures.does c.command_answer.ensures.goes
+pub returns-clause-answers : goal.returns-clause-answers
+returns-clause-answers g c = record {
+  goes = goes_on (asking c.args.words.now) _ _ _ _ _ _ c.in_ok-request.ensures.does c.command_answer.ensures.answers.goes;
+  stays = c.command_answer.ensures.answers.stays;
+  telling = c.command_answer.ensures.answers.telling;
+  grows = c.command_answer.ensures.answers.grows;
+}

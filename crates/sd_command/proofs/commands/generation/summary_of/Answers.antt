@@ -45,4 +45,5 @@ returns-clause-goes g c = λ faults.
     (summary_answers c.args.made.now.seed c.args.made.now.graph c.args.made.now.gamma (g.F.Firing.net c.args.net.now) c.args.limits _ faults _ c.in_ok-exploration.exploration.members.items c.in_ok-exploration.exploration.points.items
     (omega (arith, c.in_ok-exploration.ensures.counts)) c.in_ok-exploration.ensures.does
     (subst (λ (ps : List Point). c.in_ok-summary_text.field-0 ≡ summary_lines c.args.made.now.seed c.args.made.now.graph c.args.made.now.gamma ps) c.as_slice-2.ensures.value
-    (subst (λ (v : List ℕ). c.in_ok-summary_text.field-0 ≡ summary_lines c.args.made.now.seed c.args.made.now.graph v c.as_slice-2.result.now) c.as_slice.ensures c.in_ok-summary_text.ensures)) refl))
+    (subst (λ (v : List ℕ). c.in_ok-summary_text.field-0 ≡ summary_lines c.args.made.now.seed c.args.made.now.graph v c.as_slice-2.result.now) c.as_slice.ensures c.in_ok-summary_text.ensures)) refl
+    (omega (arith, c.in_ok-exploration.ensures.counts, c.in_ok-exploration.ensures.least))))

@@ -1,4 +1,4 @@
-use Rattle.std.proofs.Common.{◌≡◌, ◌-◌, ◌≤◌, ℕ, Bool, List, Option, length, subst, sym, refl, arith}
+use Rattle.std.proofs.Common.{◌≡◌, ◌-◌, ◌≤◌, ℕ, Bool, List, Option, Result, length, subst, sym, refl, arith}
 use Rattle.std.specs.Option.{IsSome}
 use Rattle.std.proofs.lemmas.Bool.{false≢true}
 use Rattle.std.proofs.lemmas.Result.{err_from_is_err_and}
@@ -14,7 +14,11 @@ use Rattle.ordered.specs.OrderedNets.{CanBeOrdered, ordered}
 use Rattle.ordered.specs.Orders.{AreOrders}
 use Rattle.report.specs.LinkTexts.{IsNamed}
 use Rattle.storage.specs.BoundedNets.{bound}
+use Rattle.sd_steps.specs.declared.answer.Answer.{Answer}
+use Rattle.sd_steps.specs.declared.stop.Stop.{Stop}
+use Rattle.sd_steps.specs.Courses.{Ending}
 use Rattle.sd_steps.specs.Orderings.{NamedOrders, ordering}
+use Rattle.sd_command.specs.commands.InOrders.{AdmitsInOrder, in_order}
 use Rattle.sd_command.specs.commands.Throughputs.{rate_on}
 use Rattle.sd_command.specs.inside.Goings.{Goes}
 use Rattle.sd_command.proofs.command_lemmas.Bounds.{named-bounded}
@@ -72,8 +76,24 @@ rate_of-requires-clause-named g c =
 pub rate_of-requires-clause-unordered : goal.rate_of-requires-clause-unordered
 rate_of-requires-clause-unordered g c = λ some. absurd (false≢true (subst IsSome c.requires.bare some))
 
+-- what goes with the net with orders
+in-order : (net : Net) (orders : List (List ℕ)) (next : Net → Ending → ℕ → Type 0) (result : Result Answer Stop) (n faults : ℕ) → AdmitsInOrder net orders
+    → Goes (next (ordered net orders)) result n faults faults → Goes (in_order net orders next) result n faults faults
+in-order net orders next result n faults admits goes = record { ending = goes.ending; is = goes.is; came = (admits, goes.came); counted = goes.counted }
+
 pub returns-clause-goes : goal.returns-clause-goes
 returns-clause-goes g c = λ faults.
-    goes_on (ordering c.args.bounded.now.graph.now c.args.bounded.now.gamma.now c.args.lists.now) _ c.in_ok-orders.orders _ _ faults faults c.in_ok-orders.ensures
-    (subst (λ (net : Net). Goes (rate_on c.args.wanted.now c.args.bounded.now.graph.now c.args.bounded.now.gamma.now c.args.bounded.now.distribution.now net) c.rate_of.result (c.rate_of.new.steps.count - c.args.steps.now.count) faults faults)
-    c.in_ok-ordered.ensures.net (c.rate_of.ensures.goes faults))
+    let graph = c.args.bounded.now.graph.now in
+    let gamma = c.args.bounded.now.gamma.now in
+    let apart = c.args.wanted.now.no_overlap in
+    let distribution = c.args.bounded.now.distribution.now in
+    let net : Net = g.F.Firing.net c.args.net.now in
+    let orders = c.in_ok-orders.orders.lists in
+    let can = subst CanBeOrdered (sym c.requires.net) (bound-can graph gamma apart distribution.capacities) in
+    let are =
+    are-orders net graph gamma apart distribution.capacities c.args.lists.now orders c.requires.net c.in_ok-orders.ensures.named
+    (c.named_orders_fit.ensures.orders (bound (net_of graph gamma apart) distribution.capacities) graph.actors gamma c.args.lists.now (length-map graph.actors (λ (r : ActorRow). r.times)) refl c.in_ok-orders.ensures.whole) in
+    goes_on (ordering graph gamma c.args.lists.now) _ c.in_ok-orders.orders _ _ faults faults c.in_ok-orders.ensures
+    (in-order net orders (rate_on c.args.wanted.now graph gamma distribution) _ _ faults (λ s. c.ordered_nets_keep_orders.ensures net orders s c.know_laws.ensures can are)
+    (subst (λ (n : Net). Goes (rate_on c.args.wanted.now graph gamma distribution n) c.rate_of.result (c.rate_of.new.steps.count - c.args.steps.now.count) faults faults)
+    c.in_ok-ordered.ensures.net (c.rate_of.ensures.goes faults)))

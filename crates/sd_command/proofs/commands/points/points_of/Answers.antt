@@ -39,6 +39,9 @@ returns-in_err-exploration-clause-goes g c = λ faults.
 pub shown-requires-clause-explorable : goal.shown-requires-clause-explorable
 shown-requires-clause-explorable g c = λ κs outlive. touched-explorable (g.F.Firing.net c.args.net.now) c.requires.plain c.requires.connected c.in_ok-touch.ensures c.requires.few
 
+pub shown-requires-clause-many : goal.shown-requires-clause-many
+shown-requires-clause-many g c = λ κs outlive. omega (arith, c.in_ok-exploration.ensures.counts, c.in_ok-exploration.ensures.least)
+
 pub returns-clause-goes : goal.returns-clause-goes
 returns-clause-goes g c = λ faults.
     goes_on (touching c.args.graph.now (g.F.Firing.net c.args.net.now)) _ tt _ _ faults faults c.in_ok-touch.ensures

@@ -57,4 +57,5 @@ returns g c =
       text = c.in_ok-shown.ensures.text ∙ ap (λ (ps : List Point). points_lines c.args.graph.now ps schedules) c.as_slice.ensures.value;
       put = c.in_ok-put.ensures;
       counted = refl;
+      many = c.requires.many;
     }

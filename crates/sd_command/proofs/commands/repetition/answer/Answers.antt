@@ -6,19 +6,39 @@ use Rattle.sd_command.proofs.command_lemmas.Goings.{step_stops, goes_on, taking_
 use Rattle.sd_command.proofs.command_lemmas.Analyses.{print_answers}
 use Rattle.sd_command.proofs.commands.repetition.answer.Goals as goal
 
-pub returns-in_err-graph-clause-goes : goal.returns-in_err-graph-clause-goes
-returns-in_err-graph-clause-goes g c =
+pub returns-in_err-graph : goal.returns-in_err-graph
+returns-in_err-graph g c =
     let p = err_from_is_err_and c.from_residual.result c.from_residual.ensures.1 in
-    rw (p.1, p.2) (taking_stops _ _ _ refl _ _ _ c.in_err-graph.ensures.takes)
+    rw (p.1, p.2) (record {
+      answers = record {
+        goes = taking_stops _ _ _ refl _ _ _ c.in_err-graph.ensures.takes;
+        stays = c.in_err-graph.ensures.stays;
+        telling = c.in_err-graph.ensures.telling;
+        grows = c.in_err-graph.ensures.grows;
+      };
+    })
 
-pub returns-in_err-gamma-clause-goes : goal.returns-in_err-gamma-clause-goes
-returns-in_err-gamma-clause-goes g c =
+pub returns-in_err-gamma : goal.returns-in_err-gamma
+returns-in_err-gamma g c =
     let p = err_from_is_err_and c.from_residual-in_err-gamma.result c.from_residual-in_err-gamma.ensures.1 in
-    rw (p.1, p.2) (taken_on _ _ c.in_ok-graph.graph _ _ _ _ _ c.in_ok-graph.ensures.takes
-    (step_stops (balancing c.in_ok-graph.graph) _ 0 refl _ _ c.in_err-gamma.ensures))
+    rw (p.1, p.2) (record {
+      answers = record {
+        goes = taken_on _ _ c.in_ok-graph.graph _ _ _ _ _ c.in_ok-graph.ensures.takes (step_stops (balancing c.in_ok-graph.graph) _ 0 refl _ _ c.in_err-gamma.ensures);
+        stays = c.in_ok-graph.ensures.stays;
+        telling = c.in_ok-graph.ensures.telling;
+        grows = c.in_ok-graph.ensures.grows;
+      };
+    })
 
-pub returns-clause-goes : goal.returns-clause-goes
-returns-clause-goes g c =
-    taken_on _ _ c.in_ok-graph.graph _ _ _ _ _ c.in_ok-graph.ensures.takes
-    (goes_on (balancing c.in_ok-graph.graph) _ c.in_ok-gamma.gamma _ _ _ _ c.in_ok-gamma.ensures
-    (print_answers _ _ _ _ (c.in_ok-repetition_text.ensures ∙ ap (λ (v : List ℕ). repetition_lines c.in_ok-graph.graph v) c.as_slice.ensures) refl))
+pub returns : goal.returns
+returns g c = record {
+  answers = record {
+    goes =
+        taken_on _ _ c.in_ok-graph.graph _ _ _ _ _ c.in_ok-graph.ensures.takes
+        (goes_on (balancing c.in_ok-graph.graph) _ c.in_ok-gamma.gamma _ _ _ _ c.in_ok-gamma.ensures
+        (print_answers _ _ _ _ (c.in_ok-repetition_text.ensures ∙ ap (λ (v : List ℕ). repetition_lines c.in_ok-graph.graph v) c.as_slice.ensures) refl));
+    stays = c.in_ok-graph.ensures.stays;
+    telling = c.in_ok-graph.ensures.telling;
+    grows = c.in_ok-graph.ensures.grows;
+  };
+}

@@ -3,10 +3,24 @@ use Rattle.std.proofs.lemmas.Result.{err_from_is_err_and}
 use Rattle.sd_command.proofs.command_lemmas.Goings.{taking_stops, taken_on}
 use Rattle.sd_command.proofs.commands.worst_rate.answer.Goals as goal
 
-pub returns-in_err-file-clause-goes : goal.returns-in_err-file-clause-goes
-returns-in_err-file-clause-goes g c =
+pub returns-in_err-file : goal.returns-in_err-file
+returns-in_err-file g c =
     let p = err_from_is_err_and c.from_residual.result c.from_residual.ensures.1 in
-    rw (p.1, p.2) (taking_stops _ _ _ refl _ _ _ c.in_err-file.ensures.takes)
+    rw (p.1, p.2) (record {
+      answers = record {
+        goes = taking_stops _ _ _ refl _ _ _ c.in_err-file.ensures.takes;
+        stays = c.in_err-file.ensures.stays;
+        telling = c.in_err-file.ensures.telling;
+        grows = c.in_err-file.ensures.grows;
+      };
+    })
 
-pub returns-clause-goes : goal.returns-clause-goes
-returns-clause-goes g c = taken_on _ _ c.in_ok-file.file _ _ _ _ _ c.in_ok-file.ensures.takes (c.worst_of.ensures _)
+pub returns : goal.returns
+returns g c = record {
+  answers = record {
+    goes = taken_on _ _ c.in_ok-file.file _ _ _ _ _ c.in_ok-file.ensures.takes (c.worst_of.ensures _);
+    stays = c.in_ok-file.ensures.stays;
+    telling = c.in_ok-file.ensures.telling;
+    grows = c.in_ok-file.ensures.grows;
+  };
+}
