@@ -27,6 +27,8 @@ import tempfile
 import threading
 import time
 from collections import defaultdict
+from collections.abc import Collection, Iterable, Mapping, Sequence
+from typing import NamedTuple, Optional
 
 PAUSE = 0.2
 TICKS = os.sysconf("SC_CLK_TCK")
@@ -39,10 +41,23 @@ STAGES = {"Answers", "Code", "Given", "Goals", "Invariants", "Key", "Kinds", "La
 # What stands for the stage of a file of lemmas or of definitions.
 NO_STAGE = "(lemmas)"
 
+Work = tuple[str, str]
+"""A crate, and one of the kinds of what is done there."""
+StageOf = tuple[str, str, str]
+"""A crate, a function or a file of lemmas, and its stage."""
 
-def processes():
-    """Each process that runs now: its number, with its parent, the moment of its start and its ticks."""
-    found = {}
+
+class Process(NamedTuple):
+    """A process that runs: its parent, the moment of its start and what it has taken, both in ticks."""
+
+    parent: int
+    start: int
+    ticks: int
+
+
+def processes() -> dict[int, Process]:
+    """Each process that runs now, by its number."""
+    found: dict[int, Process] = {}
     for name in os.listdir("/proc"):
         if name.isdigit():
             try:
@@ -51,23 +66,24 @@ def processes():
                     fields = file.read().rpartition(")")[2].split()
             except OSError:
                 continue
-            found[int(name)] = int(fields[1]), int(fields[19]), int(fields[11]) + int(fields[12])
+            found[int(name)] = Process(int(fields[1]), int(fields[19]), int(fields[11]) + int(fields[12]))
     return found
 
 
-def below(root, found):
+def below(root: int, found: Mapping[int, Process]) -> list[int]:
     """The numbers of the processes below one."""
-    children = defaultdict(list)
-    for number, (parent, _, _) in found.items():
-        children[parent].append(number)
-    waiting, reached = [root], []
+    children: defaultdict[int, list[int]] = defaultdict(list)
+    for number, process in found.items():
+        children[process.parent].append(number)
+    waiting = [root]
+    reached: list[int] = []
     while waiting:
         reached += children[waiting[-1]]
         waiting += children[waiting.pop()]
     return reached
 
 
-def work_of(number):
+def work_of(number: int) -> Optional[Work]:
     """The crate that a process works on and what it does there, or None where its words don't say."""
     try:
         with open(f"/proc/{number}/cmdline", encoding="utf-8", errors="replace") as file:
@@ -89,18 +105,21 @@ def work_of(number):
 class Costs:
     """The ticks of each process that was seen, and the work that it belongs to."""
 
-    def __init__(self):
-        self.ticks, self.work, self.said = {}, {}, set()
+    def __init__(self) -> None:
+        # A process is known by its number and its start, since numbers come again.
+        self.ticks: dict[tuple[int, int], int] = {}
+        self.work: dict[tuple[int, int], Work] = {}
+        self.said: set[tuple[int, int]] = set()
 
-    def look(self, root):
+    def look(self, root: int) -> list[int]:
         """Adds what stands now, and answers the numbers of the processes below the root."""
         found = processes()
         reached = below(root, found)
         # A parent comes before its children, whose work is that of the parent where their own words don't say it.
         for number in reached:
-            parent, start, ticks = found[number]
-            process, above = (number, start), (parent, found[parent][1])
-            self.ticks[process] = ticks
+            parent = found[number].parent
+            process, above = (number, found[number].start), (parent, found[parent].start)
+            self.ticks[process] = found[number].ticks
             if process in self.said:
                 continue
             # A process has its parent's words until it has become the program that it is to be.
@@ -111,9 +130,9 @@ class Costs:
                 self.work[process] = own or self.work[above]
         return reached
 
-    def seconds(self):
+    def seconds(self) -> defaultdict[Work, float]:
         """The seconds of each crate and kind."""
-        sums = defaultdict(float)
+        sums: defaultdict[Work, float] = defaultdict(float)
         for process, ticks in self.ticks.items():
             if process in self.work:
                 sums[self.work[process]] += ticks / TICKS
@@ -123,25 +142,29 @@ class Costs:
 class Modules:
     """When each module of each proof was done."""
 
-    def __init__(self):
-        self.ends, self.crates = defaultdict(dict), {}
+    def __init__(self) -> None:
+        # What the proof is of that leaves its modules in a folder, by the folder's name; None where that isn't shown.
+        self.proved: dict[str, Optional[str]] = {}
+        # The moments of its modules, by the folder's name and what the proof is of.
+        self.ends: defaultdict[tuple[str, str], dict[str, float]] = defaultdict(dict)
 
-    def look(self, numbers):
+    def look(self, numbers: Collection[int]) -> None:
         for folder in os.scandir(tempfile.gettempdir()):
             named = DONE.match(folder.name)
             if not named or int(named[1]) not in numbers:
                 continue
-            if folder.name not in self.crates:
+            if folder.name not in self.proved:
                 work = work_of(int(named[1]))
                 if not work:
                     continue
                 crate, kind = work
-                self.crates[folder.name] = {"proof": crate, "tests": f"{crate}, with tests"}.get(kind)
-            if self.crates[folder.name]:
-                self.look_into(folder)
+                self.proved[folder.name] = {"proof": crate, "tests": f"{crate}, with tests"}.get(kind)
+            proved = self.proved[folder.name]
+            if proved:
+                self.look_into(folder, proved)
 
-    def look_into(self, folder):
-        ends = self.ends[folder.name]
+    def look_into(self, folder: os.DirEntry[str], proved: str) -> None:
+        ends = self.ends[folder.name, proved]
         try:
             for module in os.scandir(folder.path):
                 if module.name.endswith(".oantt") and module.name not in ends:
@@ -150,17 +173,18 @@ class Modules:
             # The proof has ended, or the module has just got its name.
             return
 
-    def seconds(self):
+    def seconds(self) -> dict[StageOf, float]:
         """The seconds of each stage of each function, and of each file of lemmas, with its crate: from the module that was done before."""
-        sums = defaultdict(float)
-        for folder, ends in self.ends.items():
-            names = sorted(ends, key=ends.get)
-            for before, name in zip(names, names[1:]):
-                sums[self.crates[folder], *owner(name)] += ends[name] - ends[before]
+        sums: defaultdict[StageOf, float] = defaultdict(float)
+        for (_, proved), ends in self.ends.items():
+            done = sorted((end, name) for name, end in ends.items())
+            for (begun, _), (end, name) in zip(done, done[1:]):
+                path, stage = owner(name)
+                sums[proved, path, stage] += end - begun
         return sums
 
 
-def owner(module):
+def owner(module: str) -> tuple[str, str]:
     """The function or the file of lemmas that a module belongs to, and its stage: `Rattle-CRATE-proofs.PATH.STAGE.oantt` to `PATH` and
     `STAGE`. What is written of a function, `Rattle-CRATE.proofs.PATH.Answers.oantt`, belongs to it, too."""
     path = re.sub(r"^Rattle-\w+[-.](proofs|specs)\.(contracts\.)?", "", module.removesuffix(".oantt")).split(".")
@@ -170,11 +194,11 @@ def owner(module):
     return "::".join(path), stage
 
 
-def minutes(seconds):
+def minutes(seconds: float) -> str:
     return f"{seconds / 60:.1f}"
 
 
-def table(seconds, edits, all_seconds, wall):
+def table(seconds: defaultdict[Work, float], edits: defaultdict[str, int], all_seconds: float, wall: float) -> list[str]:
     """The table of costs, the dearest crate first."""
     crates = sorted({crate for crate, _ in seconds}, key=lambda crate: -sum(seconds[crate, kind] for kind in KINDS))
     lines = ["| Crate | Proof, s | Tests, s | Edits | Base, s | Edits, s | Programs, s | All, s |", "|---|---|---|---|---|---|---|---|"]
@@ -189,32 +213,34 @@ def table(seconds, edits, all_seconds, wall):
     return [*lines, "", f"Processor minutes: {minutes(all_seconds)} ({shown}), in {minutes(wall)} minutes of the clock."]
 
 
-def slowest(seconds):
+def slowest(seconds: Mapping[StageOf, float]) -> list[str]:
     """The tables of the functions and files of lemmas that took longest, and of the stages."""
-    owners, stages = defaultdict(dict), defaultdict(float)
+    owners: defaultdict[tuple[str, str], dict[str, float]] = defaultdict(dict)
+    stages: defaultdict[str, float] = defaultdict(float)
     for (crate, path, stage), spent in seconds.items():
         owners[crate, path][stage] = spent
         stages[stage] += spent
     if not owners:
         return []
-    took = sorted(((sum(parts.values()), *names) for names, parts in owners.items()), reverse=True)[:MOST_OWNERS]
+    took = sorted(((sum(parts.values()), crate, path) for (crate, path), parts in owners.items()), reverse=True)[:MOST_OWNERS]
     rows = []
     for spent, crate, path in took:
-        dearest = max(owners[crate, path], key=owners[crate, path].get)
-        rows.append(f"| `{crate}` | `{path}` | {spent:.1f} | {dearest} {owners[crate, path][dearest]:.1f} |")
+        dearest, most = max(owners[crate, path].items(), key=lambda it: it[1])
+        rows.append(f"| `{crate}` | `{path}` | {spent:.1f} | {dearest} {most:.1f} |")
     shares = [f"| {stage} | {spent:.0f} |" for stage, spent in sorted(stages.items(), key=lambda it: -it[1]) if spent >= 0.5]
     return ["", "| Crate | Function or file of lemmas | Seconds of the clock | Of these its dearest stage |", "|---|---|---|---|", *rows,
             "", "| Stage | Seconds of the clock |", "|---|---|", *shares]
 
 
-def pass_on(stream, told):
+def pass_on(stream: Iterable[str], told: list[str]) -> None:
     for line in stream:
         told.append(line.rstrip("\n"))
         print(line, end="", flush=True)
 
 
-def profile(command):
-    begun, costs, modules, told = time.monotonic(), Costs(), Modules(), []
+def profile(command: Sequence[str]) -> int:
+    begun, costs, modules = time.monotonic(), Costs(), Modules()
+    told: list[str] = []
     child = subprocess.Popen(command, stdin=subprocess.DEVNULL, stdout=subprocess.PIPE, stderr=subprocess.STDOUT, text=True,
                              errors="replace")
     # What was seen is told where the run is ended early, too.
@@ -227,7 +253,7 @@ def profile(command):
         time.sleep(PAUSE)
     reading.join()
     usage = resource.getrusage(resource.RUSAGE_CHILDREN)
-    edits = defaultdict(int)
+    edits: defaultdict[str, int] = defaultdict(int)
     for line in told:
         tried = re.search(r"\bmust-fail (\w+)/\S+\.edit: ", line)
         if tried:
@@ -239,6 +265,9 @@ def profile(command):
 
 if __name__ == "__main__":
     given = sys.argv[1:]
+    if given and given[0] in ("-h", "--help"):
+        print((__doc__ or "").strip())
+        sys.exit(0)
     if given and given[0] != "--":
-        sys.exit(__doc__.strip())
+        sys.exit((__doc__ or "").strip())
     sys.exit(profile(given[1:] or ["rt", "ci"]))
