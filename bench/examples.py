@@ -1,17 +1,16 @@
-#!/usr/bin/env python3
-"""What each example costs: runs the program on the files of `examples/`, and prints one table.
+"""What each example costs on the machine at hand, as a table in Markdown.
 
-    bench/examples.py
-
-Where sources changed since the last build it builds, and so proves, the program first. For a graph a row has the least
-wall-clock time of five runs for its whole trade-off up to a limit, how many distributions that finds, the most memory of a run,
-and the time for its rate with the buffers of the fastest point; for scenarios the time and memory for the worst rate. The
-distributions that are found are the least number of `--distributions` with which the program ends.
+Runs the program on the files of `examples/`. For a graph a row has the least wall-clock time of five runs for its whole trade-off up
+to a limit, how many distributions that finds, the most memory of a run, and the time for its rate with the buffers of the fastest
+point; for scenarios the time and memory for the worst rate. The distributions that are found are the least number of
+`--distributions` with which the program ends.
 """
-import os
+import argparse
 import subprocess
+from typing import Optional
 
-from programs import ROOT, least_time, memory, program
+from programs import ANALYSER, UNKNOWN, example, measured, memory, program
+from tables import list_rows
 
 GRAPHS = [
     ("chain", 10),
@@ -24,58 +23,73 @@ GRAPHS = [
     ("satellite_receiver", 46),
     ("mp3_decoder", 17),
 ]
+"""The graphs, each with the limit of its trade-off."""
 SCENARIOS = ["video_modes", "wlan_receiver"]
 MOST = 1_000_000
 
 
-def path(name):
-    return os.path.join(ROOT, "examples", f"{name}.xml")
+def add_words(parser: argparse.ArgumentParser) -> None:
+    list_rows(parser, [*(f"{name} up to {limit:,}" for name, limit in GRAPHS), *SCENARIOS])
 
 
-def storage(main, name, limit, most):
-    return [main, "--algo", "storage", "--graph", path(name), "--no-overlap", "--limit", str(limit), "--distributions", str(most)]
+def path(name: str) -> str:
+    return example(f"{name}.xml")
 
 
-def found(main, name, limit):
+def storage(built: str, name: str, limit: int, most: int) -> list[str]:
+    """The words for a trade-off of at most so many distributions."""
+    return [built, "--algo", "storage", "--graph", path(name), "--no-overlap", "--limit", str(limit), "--distributions", str(most)]
+
+
+def ends(words: list[str]) -> bool:
+    return subprocess.run(words, capture_output=True).returncode == 0
+
+
+def distributions(built: str, name: str, limit: int) -> Optional[int]:
     """The least number of distributions with which an exploration ends; None where it ends for another cause."""
-    if subprocess.run(storage(main, name, limit, MOST), capture_output=True).returncode != 0:
+    if not ends(storage(built, name, limit, MOST)):
         return None
     low, high = 1, MOST
     while low < high:
         middle = (low + high) // 2
-        done = subprocess.run(storage(main, name, limit, middle), capture_output=True)
-        low, high = (low, middle) if done.returncode == 0 else (middle + 1, high)
+        low, high = (low, middle) if ends(storage(built, name, limit, middle)) else (middle + 1, high)
     return low
 
 
-def fastest(text):
+def fastest(text: bytes) -> tuple[int, Optional[str]]:
     """The number of points of a trade-off, and the buffers of the last one."""
     lines = text.decode().split("\n")
     buffers = [line.split(" ")[1] for line in lines if line.startswith("buffers ")]
     return int(lines[0].split(" ")[1]), buffers[-1] if buffers else None
 
 
-def shown(seconds):
-    return f"{seconds * 1e3:.1f}"
+def rate_time(built: str, name: str, buffers: Optional[str]) -> str:
+    """The milliseconds for the rate with these buffers, where there are some and there is a rate."""
+    if buffers is None:
+        return UNKNOWN
+    found = measured([built, "--algo", "throughput", "--graph", path(name), "--no-overlap", "--buffers", buffers])
+    return found.milliseconds if found.status == 0 else UNKNOWN
 
 
-def main():
-    built = program("sdf3analysis")
+def graph_row(built: str, name: str, limit: int) -> str:
+    found = measured(storage(built, name, limit, MOST))
+    points, buffers = fastest(found.ended.stdout)
+    took = rate_time(built, name, buffers)
+    number = distributions(built, name, limit)
+    shown = UNKNOWN if number is None else f"{number:,}"
+    return f"| {name} | {limit:,} | {points} | {shown} | {found.milliseconds} | {memory(found.words):.0f} | {took} |"
+
+
+def scenario_row(built: str, name: str) -> str:
+    found = measured([built, "--algo", "scenario", "--graph", path(name)])
+    return f"| {name} | | | | | {memory(found.words):.0f} | {found.milliseconds} |"
+
+
+def run(_: argparse.Namespace) -> None:
+    built = program(ANALYSER)
     print("| Example | Limit | Points | Found | Trade-off, ms | MB | Rate, ms |")
-    print("|---|---|---|---|---|---|---|")
+    print("|---|---|---|---|---|---|---|", flush=True)
     for name, limit in GRAPHS:
-        words = storage(built, name, limit, MOST)
-        seconds, done = least_time(words)
-        points, buffers = fastest(done.stdout)
-        took = "-"
-        if buffers is not None:
-            rate, ended = least_time([built, "--algo", "throughput", "--graph", path(name), "--no-overlap", "--buffers", buffers])
-            took = shown(rate) if ended.returncode == 0 else "-"
-        print(f"| {name} | {limit:,} | {points} | {found(built, name, limit):,} | {shown(seconds)} | {memory(words):.0f} | {took} |")
+        print(graph_row(built, name, limit), flush=True)
     for name in SCENARIOS:
-        words = [built, "--algo", "scenario", "--graph", path(name)]
-        seconds, _ = least_time(words)
-        print(f"| {name} | | | | | {memory(words):.0f} | {shown(seconds)} |")
-
-
-main()
+        print(scenario_row(built, name), flush=True)

@@ -1,37 +1,50 @@
-#!/usr/bin/env python3
-"""What cores gain on the decoder's trade-off, and what they gain on levels of the same sizes that are nothing but arithmetic.
+"""What cores gain on the decoder's trade-off, and on levels of the same sizes that are nothing but arithmetic.
 
-    bench/levels.py [PAIRS]        pairs of runs, 20 by default
-
-Where sources changed since the last build it builds, and so proves, the programs `sdf3analysis` and `bench` first. A
-pair is a run on one core, each in turn, and a run on all. A row is the least and the middle wall-clock time on one core and
-on all, and the middle of what the pairs gain. The sizes of the levels are read off a certificate; a job of theirs takes as
-long as the row says. The longer the jobs, the less threads cost beside them.
+A pair is a run on one core, each in turn, and a run on all. A row is the least and the middle wall-clock time on one core and on all,
+and the middle of what the pairs gain. The sizes of the levels are read off a certificate of the program; a job of theirs, which the
+program `bench` runs, takes as long as the row says. The longer the jobs, the less threads cost beside them.
 """
+import argparse
 import itertools
 import os
 import statistics
 import subprocess
-import sys
 import tempfile
 import time
+from collections.abc import Sequence
 
-from programs import ROOT, program
+from programs import ANALYSER, example, program
+from tables import Table, count, list_rows
 
-GRAPH = os.path.join(ROOT, "examples", "h263_decoder.xml")
-WORDS = ["--algo", "storage", "--graph", GRAPH, "--no-overlap", "--limit", "8010"]
+DECODER = "decoder, 8010"
+WORDS = ["--algo", "storage", "--graph", example("h263_decoder.xml"), "--no-overlap", "--limit", "8010"]
 MICROSECONDS = [150, 600, 2400]
-CORES = sorted(os.sched_getaffinity(0))
+"""How long a job of arithmetic takes, by row."""
+TURNS = 10_000_000
+"""The turns of arithmetic by which a core is measured."""
 
 
-def seconds(words, cores):
+def row_of(microseconds: int) -> str:
+    return f"{microseconds} microseconds"
+
+
+def add_words(parser: argparse.ArgumentParser) -> None:
+    parser.add_argument("pairs", metavar="PAIRS", nargs="?", type=count, default=20, help="pairs of runs, 20 by default")
+    list_rows(parser, [DECODER, *map(row_of, MICROSECONDS)])
+
+
+def cores() -> list[int]:
+    return sorted(os.sched_getaffinity(0))
+
+
+def seconds(words: Sequence[str], on: set[int]) -> float:
     """The wall-clock time of a run on these cores alone."""
-    start = time.perf_counter()
-    subprocess.run(words, stdout=subprocess.DEVNULL, check=True, preexec_fn=lambda: os.sched_setaffinity(0, cores))
-    return time.perf_counter() - start
+    begun = time.perf_counter()
+    subprocess.run(words, stdout=subprocess.DEVNULL, check=True, preexec_fn=lambda: os.sched_setaffinity(0, on))
+    return time.perf_counter() - begun
 
 
-def sizes(path):
+def sizes(path: str) -> list[int]:
     """How many members each level has. Its members have one storage, and channels there hold tokens of size 1."""
     with tempfile.TemporaryDirectory() as folder:
         name = os.path.join(folder, "certificate")
@@ -42,29 +55,29 @@ def sizes(path):
     return [len(list(level)) for _, level in itertools.groupby(totals)]
 
 
-def turns_in(path, microseconds):
+def turns_in(path: str, microseconds: int) -> int:
     """How many turns of arithmetic take one core so long."""
-    turns = 10_000_000
-    return round(turns * microseconds / 1e6 / min(seconds([path, "levels", str(turns), "1"], {core}) for core in CORES))
+    least = min(seconds([path, "levels", str(TURNS), "1"], {core}) for core in cores())
+    return round(TURNS * microseconds / 1e6 / least)
 
 
-def main():
-    pairs = int(sys.argv[1]) if len(sys.argv) > 1 else 20
-    path, levels = program("sdf3analysis"), program("bench")
+def run(asked: argparse.Namespace) -> None:
+    path, levels, every = program(ANALYSER), program("bench"), cores()
     jobs = [str(size) for size in sizes(path)]
-    cases = [("decoder, 8010", [path, *WORDS])]
-    cases += [(f"{most} microseconds", [levels, "levels", str(turns_in(levels, most)), *jobs]) for most in MICROSECONDS]
-    times = {name: [] for name, _ in cases}
-    for number in range(pairs):
-        for name, words in cases:
-            one = seconds(words, {CORES[number % len(CORES)]})
-            times[name].append((one, seconds(words, set(CORES))))
-    print(f"{len(jobs)} levels, {sum(map(int, jobs))} jobs, {len(CORES)} cores")
-    print(f"{'a job':18} {'one core, ms':>16} {'all, ms':>16} {'gain':>6}")
-    for name, found in times.items():
-        one, every = ([1e3 * pair[place] for pair in found] for place in (0, 1))
-        gain = statistics.median(a / b for a, b in found)
-        print(f"{name:18} {min(one):7.1f} {statistics.median(one):8.1f} {min(every):7.1f} {statistics.median(every):8.1f} {gain:6.2f}")
+    cases = {DECODER: [path, *WORDS]}
+    cases.update({row_of(most): [levels, "levels", str(turns_in(levels, most)), *jobs] for most in MICROSECONDS})
+    times: dict[str, list[tuple[float, float]]] = {name: [] for name in cases}
+    for number in range(asked.pairs):
+        for name, words in cases.items():
+            one = seconds(words, {every[number % len(every)]})
+            times[name].append((one, seconds(words, set(every))))
+    print(f"{len(jobs)} levels, {sum(map(int, jobs))} jobs, {len(every)} cores")
+    table = Table([("a job", -18), ("one core, ms", 16), ("all, ms", 16), ("gain", 6)])
+    for name, pairs in times.items():
+        gain = statistics.median(alone / beside for alone, beside in pairs)
+        table.row(name, *(shown([1e3 * pair[place] for pair in pairs]) for place in (0, 1)), f"{gain:.2f}")
 
 
-main()
+def shown(milliseconds: Sequence[float]) -> str:
+    """The least time and the middle one."""
+    return f"{min(milliseconds):7.1f} {statistics.median(milliseconds):8.1f}"

@@ -1,22 +1,29 @@
-#!/usr/bin/env python3
 """What the search by events costs alone, on graphs of which needs find the loop, too.
 
-    bench/loops.py [WORD]           the graphs whose names have the word; all by default
-
-Where sources changed since the last build it builds, and so proves, the program `bench` first; that needs the
-command `rt` of the Rattle kit. A row is the millions of instructions of a run with at most 200,000 states, less those of a run
-that does all but search, and what the program answers. It needs valgrind.
+A row is the millions of instructions of a run of the program `bench` with at most 200,000 states, less those of a run that does all
+but search, and what the program answers. It needs valgrind.
 """
-import os
+import argparse
 import subprocess
 import sys
 import tempfile
+from collections.abc import Callable
+from dataclasses import dataclass
 
+from graphs import Number
 from nets import PRIMES, Graph, converter, decoder, decoder_in_phases, million, ring, spent, treadmill
-from programs import instructions, program
+from programs import first_line, instructions, program, written
+from tables import Table, add_word
 
 
-def pair(time, rate, tokens, kind="sdf"):
+@dataclass(frozen=True)
+class Case:
+    name: str
+    make: Callable[[], Graph]
+    how: str
+
+
+def pair(time: Number, rate: Number, tokens: int, kind: str = "sdf") -> Graph:
     """Two actors of almost the same time, with so many tokens between."""
     graph = Graph({"x": time, "y": 1001}, kind)
     graph.channel("x", rate, 1, "y", 0)
@@ -24,7 +31,7 @@ def pair(time, rate, tokens, kind="sdf"):
     return graph
 
 
-def bounded_chain(actors):
+def bounded_chain(actors: int) -> Graph:
     """Actors of coprime times one after another, with room for two tokens between."""
     graph = Graph({f"s{i}": PRIMES[i % len(PRIMES)] for i in range(actors)})
     for i in range(actors - 1):
@@ -33,37 +40,34 @@ def bounded_chain(actors):
 
 
 CASES = [
-    ("decoder 2376, two phases", decoder_in_phases(2376, 2), "no-overlap"),
-    ("decoder 594, two phases", decoder_in_phases(594, 2), "no-overlap"),
-    ("1,000 twice and 1,001, 34 tokens", pair("1000,1000", "1,1", 34, "csdf"), "no-overlap"),
-    ("1,000 and 1,001, 66 tokens", pair(1000, 1, 66), "no-overlap"),
-    ("treadmill", treadmill(), "overlap"),
-    ("ring of 16, own channels", ring(16, 100_000, PRIMES), "no-overlap"),
-    ("ring of 128, own channels", ring(128, 100_000, PRIMES), "no-overlap"),
-    ("ring of 128, 60 tokens", ring(128, 60), "overlap"),
-    ("chain of 128 in buffers", bounded_chain(128), "no-overlap"),
-    ("converter", converter(), "no-overlap"),
-    ("decoder 2376", decoder(2376, 2), "no-overlap"),
-    ("a million at once", million(), "overlap"),
-    ("4,000,000 starts spent", spent(), "overlap"),
+    Case("decoder 2376, two phases", lambda: decoder_in_phases(2376, 2), "no-overlap"),
+    Case("decoder 594, two phases", lambda: decoder_in_phases(594, 2), "no-overlap"),
+    Case("1,000 twice and 1,001, 34 tokens", lambda: pair("1000,1000", "1,1", 34, "csdf"), "no-overlap"),
+    Case("1,000 and 1,001, 66 tokens", lambda: pair(1000, 1, 66), "no-overlap"),
+    Case("treadmill", treadmill, "overlap"),
+    Case("ring of 16, own channels", lambda: ring(16, 100_000, PRIMES), "no-overlap"),
+    Case("ring of 128, own channels", lambda: ring(128, 100_000, PRIMES), "no-overlap"),
+    Case("ring of 128, 60 tokens", lambda: ring(128, 60), "overlap"),
+    Case("chain of 128 in buffers", lambda: bounded_chain(128), "no-overlap"),
+    Case("converter", converter, "no-overlap"),
+    Case("decoder 2376", lambda: decoder(2376, 2), "no-overlap"),
+    Case("a million at once", million, "overlap"),
+    Case("4,000,000 starts spent", spent, "overlap"),
 ]
 
 
-def main():
+def add_words(parser: argparse.ArgumentParser) -> None:
+    add_word(parser, (case.name for case in CASES))
+
+
+def run(asked: argparse.Namespace) -> None:
     path = program("bench")
-    wanted = sys.argv[1] if len(sys.argv) > 1 else ""
-    print(f"{'graph':33} {'M instr.':>9}  answer")
+    table = Table([("graph", -33), ("M instr.", 9)], after="answer")
     with tempfile.TemporaryDirectory() as folder:
-        file = os.path.join(folder, "graph.xml")
-        for name, graph, how in [case for case in CASES if wanted in case[0]]:
-            with open(file, "w", encoding="utf-8") as out:
-                out.write(graph.text())
-            whole, rest = (instructions([path, "loops", file, how, states]) for states in ("200000", "0"))
-            if whole is None:
-                sys.exit("valgrind isn't there")
-            done = subprocess.run([path, "loops", file, how, "200000"], capture_output=True)
-            line = (done.stdout or done.stderr).split(b"\n")[0].decode()
-            print(f"{name:33} {whole - rest:9.2f}  {line}")
-
-
-main()
+        for case in [case for case in CASES if asked.word in case.name]:
+            file = written(folder, "graph.xml", case.make().text().encode())
+            whole, rest = (instructions([path, "loops", file, case.how, states]) for states in ("200000", "0"))
+            if whole is None or rest is None:
+                sys.exit("valgrind isn't there, or didn't count")
+            done = subprocess.run([path, "loops", file, case.how, "200000"], capture_output=True)
+            table.row(case.name, f"{whole - rest:.2f}", after=first_line(done))

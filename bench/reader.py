@@ -1,30 +1,41 @@
-#!/usr/bin/env python3
-"""How fast the program reads graph files: makes its own files, runs the built program on each, and prints a table.
+"""How fast the program reads graph files.
 
-    bench/reader.py [MIB]        the greatest file in MiB, 4 by default
-
-Where sources changed since the last build it builds, and so proves, the program first. A row is the least wall-clock time of
-five runs, the most memory of one, and the millions of instructions of one, where valgrind is there.
+Makes texts on which a reader can be slow, all of the greatest size but those that are named by what they hold. A row is the least
+wall-clock time of five runs, the most memory of one, and the millions of instructions of one, where valgrind is there.
 """
-import os
-import sys
+import argparse
 import tempfile
+from collections.abc import Callable
+from functools import partial
 
-from programs import instructions, least_time, memory, program
+from programs import ALWAYS, ANALYSER, measured, program, written
+from tables import Table, list_rows
 
-LIMIT = 4 * 1024 * 1024
+MIB = 1024 * 1024
+LIMIT = 4 * MIB
+"""The greatest length of a graph file, in bytes."""
 WIDE = "\U0001F600"
+BEGIN, END = "<sdf3 type='sdf'><applicationGraph><sdf>", "</sdf></applicationGraph></sdf3>"
 
 
-def sdf(inner):
-    return "<sdf3 type='sdf'><applicationGraph><sdf>" + inner + "</sdf></applicationGraph></sdf3>"
+def mebibytes(word: str) -> int:
+    """So many mebibytes, in bytes."""
+    number = float(word)
+    if not 0 < number < float("inf"):
+        raise argparse.ArgumentTypeError("a number above 0 is wanted")
+    return int(number * MIB)
 
 
-def channel(i):
+def add_words(parser: argparse.ArgumentParser) -> None:
+    parser.add_argument("size", metavar="MIB", nargs="?", type=mebibytes, default=LIMIT, help="the greatest file in MiB, 4 by default, and at most")
+    list_rows(parser, CASES)
+
+
+def channel(i: int) -> str:
     return f"<channel name='c{i}' srcActor='a' srcPort='o{i}' dstActor='b' dstPort='i{i}' initialTokens='0'/>\n"
 
 
-def filled(size, start, piece, end):
+def filled(size: int, start: str, piece: Callable[[int], str], end: str) -> str:
     """A text of at most this size: the start, pieces by number, the end."""
     parts, length, i = [start], len(start) + len(end), 0
     part = piece(i)
@@ -37,15 +48,19 @@ def filled(size, start, piece, end):
     return "".join(parts)
 
 
-def channels(size):
-    return filled(size, "<sdf3 type='sdf'><applicationGraph><sdf>", channel, "</sdf></applicationGraph></sdf3>")
+def channels(size: int) -> str:
+    return filled(size, BEGIN, channel, END)
 
 
-def attributes(count):
+def tags(size: int) -> str:
+    return filled(size, "<a>", lambda _: "<o a=''/>", "</a>")
+
+
+def attributes(count: int, _: int) -> str:
     return "<a " + " ".join(f"n{i}=''" for i in range(count)) + "/>"
 
 
-def chain(actors, names):
+def chain(actors: int, names: int, _: int) -> str:
     """A chain of actors with the longest names that are allowed, and passed-over elements of other names."""
     inner = []
     for i in range(actors):
@@ -55,62 +70,58 @@ def chain(actors, names):
     for i in range(actors - 1):
         inner.append(f"<channel name='c{i}' srcActor='{'a' * 120}{i}' srcPort='o' dstActor='{'a' * 120}{i + 1}' dstPort='i'/>")
     inner.extend(f"<other name='n{i}'/>" for i in range(names))
-    return sdf("".join(inner))
+    return BEGIN + "".join(inner) + END
 
 
-def cases(size):
-    yield "channels, a tenth", channels(size // 10)
-    yield "channels", channels(size)
-    yield "open tags", "<a>" * (size // 3)
-    yield "half-open tags", "<a " * (size // 3)
-    yield "small tags", filled(size, "<a>", lambda _: "<o a=''/>", "</a>")
-    yield "a comment", "<a><!--" + "x" * (size - 14) + "--></a>"
-    yield "a text", "<a>" + "x" * (size - 7) + "</a>"
-    yield "a value", "<a b='" + "x" * (size - 9) + "'/>"
-    yield "hyphens in a comment", "<a><!--" + "-" * (size - 14) + "--></a>"
-    yield "hyphens and letters in a comment", "<a><!--" + "-x" * (size // 2 - 7) + "--></a>"
-    yield "a comment that has no end", "<a><!--" + "-" * (size - 7)
-    yield "lines", "<a>" + "\n" * (size - 7) + "</a>"
-    yield "lines before the root", "\n" * (size - 4) + "<a/>"
-    yield "lines in a tag", "<a" + "\n" * (size - 4) + "/>"
-    yield "lines in an end tag", "<a></a" + "\n" * (size - 7) + ">"
-    yield "four-byte characters", "<a>" + WIDE * (size // 4 - 2) + "</a>"
-    yield "the same in a comment", "<a><!--" + WIDE * (size // 4 - 4) + "--></a>"
-    yield "the same in a value", "<a b='" + WIDE * (size // 4 - 3) + "'/>"
-    yield "the same in a name", "<" + WIDE * (size // 4 - 1) + "/>"
-    yield "letters and two-byte characters", "<a>" + "x\u00E9" * (size // 3 - 3) + "</a>"
-    yield "a name of an element", "<" + "x" * (size - 3) + "/>"
-    yield "a name of both its tags", "<" + "x" * (size // 2 - 3) + "></" + "x" * (size // 2 - 3) + ">"
-    yield "a name of an attribute", "<a " + "x" * (size - 8) + "=''/>"
-    yield "quotes in a value", "<a b='" + '"' * (size - 9) + "'/>"
-    yield "entities", "<a>" + "&amp;" * (size // 5 - 2) + "</a>"
-    yield "entities in a value", "<a b='" + "&amp;" * (size // 5 - 2) + "'/>"
-    yield "broken UTF-8 at the end", "<a>" + "x" * (size - 10)
-    yield "10,000 attributes", attributes(10_000)
-    yield "100,000 attributes", attributes(100_000)
-    yield "128 actors", chain(128, 0)
-    yield "128 actors, 3,000 other names", chain(128, 3_000)
-    yield "128 actors, 30,000 other names", chain(128, 30_000)
+CASES: dict[str, Callable[[int], str]] = {
+    "channels, a tenth": lambda size: channels(size // 10),
+    "channels": channels,
+    "open tags": lambda size: "<a>" * (size // 3),
+    "half-open tags": lambda size: "<a " * (size // 3),
+    "small tags": tags,
+    "a comment": lambda size: "<a><!--" + "x" * (size - 14) + "--></a>",
+    "a text": lambda size: "<a>" + "x" * (size - 7) + "</a>",
+    "a value": lambda size: "<a b='" + "x" * (size - 9) + "'/>",
+    "hyphens in a comment": lambda size: "<a><!--" + "-" * (size - 14) + "--></a>",
+    "hyphens and letters in a comment": lambda size: "<a><!--" + "-x" * (size // 2 - 7) + "--></a>",
+    "a comment that has no end": lambda size: "<a><!--" + "-" * (size - 7),
+    "lines": lambda size: "<a>" + "\n" * (size - 7) + "</a>",
+    "lines before the root": lambda size: "\n" * (size - 4) + "<a/>",
+    "lines in a tag": lambda size: "<a" + "\n" * (size - 4) + "/>",
+    "lines in an end tag": lambda size: "<a></a" + "\n" * (size - 7) + ">",
+    "four-byte characters": lambda size: "<a>" + WIDE * (size // 4 - 2) + "</a>",
+    "the same in a comment": lambda size: "<a><!--" + WIDE * (size // 4 - 4) + "--></a>",
+    "the same in a value": lambda size: "<a b='" + WIDE * (size // 4 - 3) + "'/>",
+    "the same in a name": lambda size: "<" + WIDE * (size // 4 - 1) + "/>",
+    "letters and two-byte characters": lambda size: "<a>" + "x\u00E9" * (size // 3 - 3) + "</a>",
+    "a name of an element": lambda size: "<" + "x" * (size - 3) + "/>",
+    "a name of both its tags": lambda size: "<" + "x" * (size // 2 - 3) + "></" + "x" * (size // 2 - 3) + ">",
+    "a name of an attribute": lambda size: "<a " + "x" * (size - 8) + "=''/>",
+    "quotes in a value": lambda size: "<a b='" + '"' * (size - 9) + "'/>",
+    "entities": lambda size: "<a>" + "&amp;" * (size // 5 - 2) + "</a>",
+    "entities in a value": lambda size: "<a b='" + "&amp;" * (size // 5 - 2) + "'/>",
+    "broken UTF-8 at the end": lambda size: "<a>" + "x" * (size - 10),
+    "10,000 attributes": partial(attributes, 10_000),
+    "100,000 attributes": partial(attributes, 100_000),
+    "128 actors": partial(chain, 128, 0),
+    "128 actors, 3,000 other names": partial(chain, 128, 3_000),
+    "128 actors, 30,000 other names": partial(chain, 128, 30_000),
+}
+"""The texts by their names, each made by the greatest size."""
 
 
-def main():
-    size = min(LIMIT, int(float(sys.argv[1]) * 1024 * 1024) if len(sys.argv) > 1 else LIMIT)
-    built = program("sdf3analysis")
-    print(f"{'file':32} {'bytes':>9} {'status':>6} {'ms':>8} {'MB/s':>8} {'MB':>6} {'M instr.':>8}")
+def data_of(name: str, size: int) -> bytes:
+    """The bytes of a text."""
+    data = CASES[name](size).encode()
+    return data + b"\xe2\x82\x41" if name.startswith("broken") else data
+
+
+def run(asked: argparse.Namespace) -> None:
+    built = program(ANALYSER)
+    table = Table([("file", -32), ("bytes", 9), ("status", 6), ("ms", 8), ("MB/s", 8), ("MB", 6), ("M instr.", 8)])
     with tempfile.TemporaryDirectory() as folder:
-        for name, text in cases(size):
-            data = text.encode()
-            if name.startswith("broken"):
-                data += b"\xe2\x82\x41"
-            path = os.path.join(folder, "graph.xml")
-            with open(path, "wb") as file:
-                file.write(data)
-            words = [built, "--algo", "repetition", "--graph", path]
-            seconds, done = least_time(words)
-            count = instructions(words)
-            shown = "-" if count is None else f"{count:.0f}"
-            print(f"{name:32} {len(data):9} {done.returncode:6} {seconds * 1e3:8.1f} {len(data) / seconds / 1e6:8.1f} "
-                  f"{memory(words):6.0f} {shown:>8}")
-
-
-main()
+        for name in CASES:
+            data = data_of(name, min(LIMIT, asked.size))
+            found = measured([built, "--algo", "repetition", "--graph", written(folder, "graph.xml", data)])
+            table.row(name, len(data), found.status, found.milliseconds, f"{len(data) / found.seconds / 1e6:.1f}", found.megabytes(),
+                      found.millions(ALWAYS))

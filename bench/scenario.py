@@ -1,35 +1,34 @@
-#!/usr/bin/env python3
-"""How long the worst rate of scenarios takes, and the trade-off of what they share, on files that could be slow in ways of their
-own: draws the files, runs the built program on each, and prints a table.
+"""What the worst rate of scenarios costs, and the trade-off of what they share.
 
-    bench/scenario.py
-
-Where sources changed since the last build it builds, and so proves, the program first. A row is the least wall-clock time of
-five runs, the most memory of one, and the millions of instructions of one, where valgrind is there.
+Draws files that could be slow in ways of their own. A row is the least wall-clock time of five runs of the program, the most memory of
+one, and the millions of instructions of one, where valgrind is there and a run takes no more than a second.
 """
-import os
+import argparse
 import tempfile
+from collections.abc import Callable, Mapping, Sequence
+from dataclasses import dataclass
+from functools import partial
+from typing import Optional
 
-from programs import ROOT, counted, least_time, memory, program
+import graphs
+from programs import ANALYSER, example, measured, program, written
+from tables import Table, list_rows
 
-
-def graph(times, channels):
-    """A graph of actors by their times, and channels: a name, source, tokens put, tokens taken, target, tokens that are there."""
-    ports = {actor: [] for actor in times}
-    lines = []
-    for name, source, put, taken, target, tokens in channels:
-        ports[source].append(f"<port name='o{name}' type='out' rate='{put}'/>")
-        ports[target].append(f"<port name='i{name}' type='in' rate='{taken}'/>")
-        lines.append(f"<channel name='{name}' srcActor='{source}' srcPort='o{name}' dstActor='{target}' dstPort='i{name}'"
-                     f" initialTokens='{tokens}'/>")
-    actors = [f"<actor name='{actor}'>{''.join(held)}</actor>" for actor, held in ports.items()]
-    properties = [f"<actorProperties actor='{actor}'><processor type='p' default='true'><executionTime time='{time}'/>"
-                  f"</processor></actorProperties>" for actor, time in times.items()]
-    return f"<sdf>{''.join(actors + lines)}</sdf><sdfProperties>{''.join(properties)}</sdfProperties>"
+States = Mapping[str, tuple[str, Sequence[str]]]
+"""By the name of a state the scenario that it runs, and the states that may follow it."""
 
 
-def file(scenarios, states, initial):
-    """A file of scenarios by name, and of states by name: the scenario that each runs, and the states that may follow it."""
+@dataclass(frozen=True)
+class Case:
+    """A row: its name, what makes the file's text, and the limit of the trade-off, or None for the worst rate."""
+
+    name: str
+    make: Callable[[], str]
+    limit: Optional[int] = None
+
+
+def file(scenarios: Mapping[str, str], states: States, initial: str) -> str:
+    """A file of scenarios by name, and of states."""
     drawn = [f"<scenario name='{name}'>{text}</scenario>" for name, text in scenarios.items()]
     drawn.append(f"<fsm initialState='{initial}'>")
     drawn += [f"<state name='{name}' scenario='{scenario}'>" + "".join(f"<next state='{other}'/>" for other in later) + "</state>"
@@ -37,73 +36,77 @@ def file(scenarios, states, initial):
     return "<sdf3 type='fsmsadf'><applicationGraph><fsmsadf>" + "".join(drawn) + "</fsm></fsmsadf></applicationGraph></sdf3>"
 
 
-def fan(firings, width, shared):
+def alone(tokens: int) -> str:
+    """A scenario of one firing over so many tokens."""
+    return graphs.scenario({"x": 3}, {"s": ("x", 1, 1, "x", tokens)})
+
+
+def fan(firings: int, width: int, shared: int) -> str:
     """An actor that fires so often before the one that it feeds through so many channels fires once."""
-    channels = [("s", "x", 1, 1, "x", shared - 1), ("t", "y", 1, 1, "y", 1)]
-    channels += [(f"c{number}", "x", 1, firings, "y", 0) for number in range(width)]
-    return file({"f": graph({"x": 3, "y": 2}, channels)}, {"q": ("f", ["q"])}, "q")
+    channels: dict[str, graphs.Channel] = {"s": ("x", 1, 1, "x", shared - 1), "t": ("y", 1, 1, "y", 1)}
+    channels.update({f"c{number}": ("x", 1, firings, "y", 0) for number in range(width)})
+    return file({"f": graphs.scenario({"x": 3, "y": 2}, channels)}, {"q": ("f", ["q"])}, "q")
 
 
-def falling(path, dense):
+def falling(path: int, dense: int) -> str:
     """States that lead down to the first one, and from there to states that may each follow each other."""
     states = {f"q{number}": ("f", [f"q{number - 1 if number else path}"]) for number in range(path)}
     rest = [f"q{number}" for number in range(path, path + dense)]
     states.update((name, ("f", rest)) for name in rest)
-    return file({"f": graph({"x": 3}, [("s", "x", 1, 1, "x", 1)])}, states, f"q{path - 1}")
+    return file({"f": alone(1)}, states, f"q{path - 1}")
 
 
-def kinds(number):
+def kinds(number: int) -> str:
     """So many kinds of frames that are read, decoded and shown over two shared buffers. A state for each; two may follow it."""
-    channels = [("r", "read", 1, 1, "read", 1), ("d", "decode", 1, 1, "decode", 1), ("w", "show", 1, 1, "show", 1),
-                ("bits", "read", 1, 1, "decode", 1), ("pictures", "decode", 1, 1, "show", 1)]
-    scenarios = {f"f{k}": graph({"read": 2 + k % 7, "decode": 3 + 5 * k % 11, "show": 8}, channels) for k in range(number)}
+    channels: dict[str, graphs.Channel] = {
+        "r": ("read", 1, 1, "read", 1), "d": ("decode", 1, 1, "decode", 1), "w": ("show", 1, 1, "show", 1),
+        "bits": ("read", 1, 1, "decode", 1), "pictures": ("decode", 1, 1, "show", 1)}
+    scenarios = {f"f{k}": graphs.scenario({"read": 2 + k % 7, "decode": 3 + 5 * k % 11, "show": 8}, channels) for k in range(number)}
     states = {f"q{k}": (f"f{k}", [f"q{later}" for later in sorted({(k + 1) % number, (3 * k + 2) % number})]) for k in range(number)}
     return file(scenarios, states, "q0")
 
 
-def idle(number, shared):
+def idle(number: int, shared: int) -> str:
     """So many scenarios that share so many tokens of one channel. There is one state, which runs the first of them."""
-    scenarios = {f"f{k}": graph({"x": 3}, [("s", "x", 1, 1, "x", shared)]) for k in range(number)}
-    return file(scenarios, {"q": ("f0", ["q"])}, "q")
+    return file({f"f{k}": alone(shared) for k in range(number)}, {"q": ("f0", ["q"])}, "q")
 
 
-def example(name):
-    with open(os.path.join(ROOT, "examples", name), encoding="utf-8") as text:
+def text_of(name: str) -> str:
+    """The text of an example."""
+    with open(example(name), encoding="utf-8") as text:
         return text.read()
 
 
-def cases():
-    yield "the modes of a video decoder", example("video_modes.xml"), None
-    yield "20,000 firings, 16 channels", fan(20_000, 16, 199), None
-    yield "a falling path of 64 to 64 states", falling(64, 64), None
-    yield "a falling path of 128 to 128", falling(128, 128), None
-    yield "a falling path of 192 to 64", falling(192, 64), None
-    yield "1,024 tokens, 64 scenarios, 1 is run", idle(64, 1_024), None
-    yield "the buffers of a video decoder, to 9", example("video_buffers.xml"), 9
+CASES = [
+    Case("the modes of a video decoder", partial(text_of, "video_modes.xml")),
+    Case("20,000 firings, 16 channels", partial(fan, 20_000, 16, 199)),
+    Case("a falling path of 64 to 64 states", partial(falling, 64, 64)),
+    Case("a falling path of 128 to 128", partial(falling, 128, 128)),
+    Case("a falling path of 192 to 64", partial(falling, 192, 64)),
+    Case("1,024 tokens, 64 scenarios, 1 is run", partial(idle, 64, 1_024)),
+    Case("the buffers of a video decoder, to 9", partial(text_of, "video_buffers.xml"), 9),
     # Three tokens have no capacity: 64 states times 13 + 3 are the 1,024 nodes that are allowed.
-    yield "64 kinds of frames, to 13", kinds(64), 13
+    Case("64 kinds of frames, to 13", partial(kinds, 64), 13),
+]
 
 
-def asked(path, limit):
+def add_words(parser: argparse.ArgumentParser) -> None:
+    list_rows(parser, (case.name for case in CASES))
+
+
+def asked_of(path: str, limit: Optional[int]) -> list[str]:
     """The words that ask for the worst rate, or for the trade-off up to a limit."""
     if limit is None:
         return ["--algo", "scenario", "--graph", path]
     return ["--algo", "scenario-storage", "--graph", path, "--limit", str(limit)]
 
 
-def main():
-    built = program("sdf3analysis")
-    print(f"{'scenarios':36} {'bytes':>9} {'ms':>8} {'MB':>6} {'M instr.':>8}")
+def run(_: argparse.Namespace) -> None:
+    built = program(ANALYSER)
+    table = Table([("scenarios", -36), ("bytes", 9), ("ms", 8), ("MB", 6), ("M instr.", 8)])
     with tempfile.TemporaryDirectory() as folder:
-        for name, text, limit in cases():
-            path = os.path.join(folder, "scenarios.xml")
-            with open(path, "w", encoding="utf-8") as out:
-                out.write(text)
-            words = [built, *asked(path, limit)]
-            seconds, done = least_time(words)
-            done.check_returncode()
-            print(f"{name:36} {len(text):9} {seconds * 1e3:8.1f} {memory(words):6.0f} {counted(words, seconds):>8}")
-
-
-if __name__ == "__main__":
-    main()
+        for case in CASES:
+            data = case.make().encode()
+            found = measured([built, *asked_of(written(folder, "scenarios.xml", data), case.limit)])
+            found.ended.check_returncode()
+            table.row(case.name, len(data), found.milliseconds, found.megabytes(), found.millions())
