@@ -62,18 +62,14 @@ def numbers(row: Iterable[int]) -> str:
     return " ".join(map(str, row))
 
 
-def graph(phases: int) -> str:
+def ring(phases: int) -> str:
     """Two actors in a ring of that many tokens, each of so many phases of time 1, in which it makes and takes one token."""
-    kind = "csdf" if phases > 1 else "sdf"
     rates = f"{phases}*1" if phases > 1 else "1"
     actors = "".join(f"<actor name='{name}'><port name='o' type='out' rate='{rates}'/><port name='i' type='in' rate='{rates}'/></actor>"
                      for name in "ab")
     channels = ("<channel name='c' srcActor='a' srcPort='o' dstActor='b' dstPort='i'/>"
                 f"<channel name='d' srcActor='b' srcPort='o' dstActor='a' dstPort='i' initialTokens='{max(phases, 2)}'/>")
-    times = "".join(f"<actorProperties actor='{name}'><processor type='p' default='true'><executionTime time='{rates}'/></processor>"
-                    "</actorProperties>" for name in "ab")
-    return (f"<sdf3 type='{kind}'><applicationGraph><{kind}>{actors}{channels}</{kind}><{kind}Properties>{times}</{kind}Properties>"
-            "</applicationGraph></sdf3>")
+    return graphs.wrapped("csdf" if phases > 1 else "sdf", actors + channels, {"a": rates, "b": rates})
 
 
 def rate(phases: int, rounds: int) -> str:
@@ -187,8 +183,8 @@ def too_long() -> str:
 
 
 CHECKED = [
-    Checked("a rate, 4096 phases, 10 rounds", partial(graph, PHASES), partial(rate, PHASES, 10)),
-    Checked("a rate, 1 phase, 200,000 rounds", partial(graph, 1), partial(rate, 1, 200_000)),
+    Checked("a rate, 4096 phases, 10 rounds", partial(ring, PHASES), partial(rate, PHASES, 10)),
+    Checked("a rate, 1 phase, 200,000 rounds", partial(ring, 1), partial(rate, 1, 200_000)),
     Checked("a cycle of 200,000 steps, 251 channels", twins, partial(around, 100_000)),
     Checked("a walk of 20,000 nodes, 62,500 edges", partial(dense, 250), partial(walk, 250, 20_000)),
     Checked("200 members that show 250 channels", partial(bundle, TWINS), partial(shows_all, 200)),
