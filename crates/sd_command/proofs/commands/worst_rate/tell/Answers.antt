@@ -15,7 +15,7 @@ worst_text-requires c =
     let es = c.args.graph.now.edges in
     let critical = c.in_ok-worst.ensures.critical in
     record {
-      states = rw c.as_slice.ensures c.requires.timed.states;
+      states = c.requires.timed.states;
       edges = λ k d below.
           let at : slice_get es k ≡ Some (get_or es k d) = slice_get-get_or es k d below in
           record { from = c.requires.sound.edges.from k (get_or es k d) at; to = c.requires.sound.edges.to k (get_or es k d) at };
@@ -67,7 +67,7 @@ returns c = λ faults.
         reached = shown.reached;
         least = shown.least;
       };
-      text = rw (c.as_slice.ensures, c.as_slice-2.ensures) at c.in_ok-text.ensures;
+      text = c.in_ok-text.ensures;
       put = c.in_ok-put.ensures;
       none = refl;
     })
