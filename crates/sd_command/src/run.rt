@@ -72,6 +72,10 @@ pub fn exit_code<R: Threads + Sync, S: Shelf, K: Sink, G: Gate + Sync, L: Ledger
       out = record { sent = K.sent out.old; sent_after = K.sent out.new; faults = K.faults out.old; faults_after = K.faults out.new };
       err = record { sent = K.sent err.old; sent_after = K.sent err.new; faults = K.faults err.old; faults_after = K.faults err.new };
     } in ShowsBy result words.now outside steps.old.count steps.new.count }
+    ensures shelf_grows { S.faults shelf.old ≤ S.faults shelf.new }
+    ensures out_grows { K.faults out.old ≤ K.faults out.new }
+    ensures err_grows { K.faults err.old ≤ K.faults err.new }
+    ensures steps_stay { steps.new.share ≡ steps.old.share }
 {
     analyse(rt, alloc, words, shelf, out, err, gate, steps).code()
 }

@@ -8,4 +8,8 @@ returns g c = record {
     cut = c.analyse.ensures.shows.0;
     shows = c.analyse.ensures.shows.1;
   };
+  shelf_grows = c.analyse.ensures.shelf_grows;
+  out_grows = c.analyse.ensures.out_grows;
+  err_grows = c.analyse.ensures.err_grows;
+  steps_stay = c.analyse.ensures.steps_stay;
 }
