@@ -84,7 +84,7 @@ def attributes_of(row: dict[str, Any]) -> dict[str, str]:
 class Drawing:
     """A drawing as graphviz laid it out."""
 
-    def __init__(self, text: str):
+    def __init__(self, text: str) -> None:
         rows = json.loads(text)
         self.boxes = [Box(row["name"], place(row["pos"]), 72 * float(row["width"]), 72 * float(row["height"]), attributes_of(row))
                       for row in rows.get("objects", [])]
@@ -217,7 +217,7 @@ def pieces(line: Line, where: list[float]) -> list[Piece]:
 class Folded:
     """A drawing in rows: its text in graphviz's language, with a place for everything."""
 
-    def __init__(self, drawing: Drawing, room: float):
+    def __init__(self, drawing: Drawing, room: float) -> None:
         self.drawing, self.cuts = drawing, cuts(drawing, room)
         self.parts = [(line, pieces(line, self.cuts)) for line in drawing.lines]
         self.left = [min((box.middle[0] - box.width / 2 for box in drawing.boxes), default=0.0), *self.cuts]

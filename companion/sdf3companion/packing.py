@@ -82,7 +82,7 @@ class Table:
 class Packer:
     """Packs answers of one graph, of whose points each has a share of the numbers."""
 
-    def __init__(self, actors: Sequence[str], unit: int, share: int):
+    def __init__(self, actors: Sequence[str], unit: int, share: int) -> None:
         self.actors = {name: number for number, name in enumerate(actors)}
         self.unit, self.share = unit, share
         self.steps, self.links = Table(), Table()

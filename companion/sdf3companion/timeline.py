@@ -120,7 +120,7 @@ def rows_of(answer: Rate, times: Times, end: Time) -> dict[str, list[Firing]]:
 class Drawing:
     """Collects the parts of the picture; times become pixels."""
 
-    def __init__(self, end: Time, names: list[str]):
+    def __init__(self, end: Time, names: list[str]) -> None:
         self.left = min(MOST_LEFT, max([LEAST_LEFT, *(int(LETTER * len(name)) + 12 for name in names)]))
         self.scale = WIDTH / float(end)
         self.end = float(end)
