@@ -12,8 +12,8 @@ use Rattle.storage.specs.Distributions.{IsPlain, storage_of}
 use Rattle.storage.specs.ParetoPoints.{no_pair}
 use Rattle.pareto_front.specs.declared.point.Point.{Point}
 use Rattle.explore.specs.declared.exploration.Member.{Member}
-use Rattle.explore.specs.declared.exploration.Shown.{Shown}
-use Rattle.explore.specs.declared.exploration.Shown.TheVariants.{Cycle, Blocked}
+use Rattle.evaluations.specs.declared.shown.Shown.{Shown}
+use Rattle.evaluations.specs.declared.shown.Shown.TheVariants.{Cycle, Blocked}
 use Rattle.explore.specs.Explorations.{IsExploration, ShowsRate, capacities_of, pair_of}
 use Rattle.explore.proofs.Explorable.{reachable-fits}
 use Rattle.sd_base.specs.declared.numbers.Fraction.{Fraction}

@@ -10,8 +10,8 @@ use Rattle.sd_base.proofs.Lists.{get-left}
 use Rattle.periodic.specs.declared.schedule.Periodic.{Periodic}
 use Rattle.storage.specs.BoundedNets.{bound}
 use Rattle.explore.specs.declared.exploration.Member.{Member}
-use Rattle.explore.specs.declared.exploration.Shown.{Shown}
-use Rattle.explore.specs.declared.exploration.Shown.TheVariants as shown
+use Rattle.evaluations.specs.declared.shown.Shown.{Shown}
+use Rattle.evaluations.specs.declared.shown.Shown.TheVariants as shown
 use Rattle.cert_text.specs.declared.certificates.LinkCycle.{LinkCycle}
 use Rattle.cert_text.specs.declared.certificates.MemberLine.{MemberLine}
 use Rattle.cert_text.specs.declared.certificates.MemberShown.{MemberShown}

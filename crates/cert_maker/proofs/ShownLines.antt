@@ -13,8 +13,8 @@ use Rattle.storage.specs.BoundedNets.{HasNoSpaces, bound}
 use Rattle.storage.specs.ShownSpaces.{ShowsSpace}
 use Rattle.storage.proofs.BoundedChannels.{IsBounded, space-bounded}
 use Rattle.storage.proofs.FrontsFromMembers.{positive-on}
-use Rattle.explore.specs.declared.exploration.Shown.{Shown}
-use Rattle.explore.specs.declared.exploration.Shown.TheVariants as shown
+use Rattle.evaluations.specs.declared.shown.Shown.{Shown}
+use Rattle.evaluations.specs.declared.shown.Shown.TheVariants as shown
 use Rattle.explore.specs.Explorations.{ShowsChannel, ShowsRate}
 use Rattle.cert_text.specs.declared.certificates.LinkCycle.{LinkCycle}
 use Rattle.cert_text.specs.declared.certificates.MemberShown.{MemberShown}

@@ -12,7 +12,7 @@ use Rattle.levels.specs.declared.found.Found.{Found}
 use Rattle.levels.specs.Frontiers.{IsFrontier}
 use Rattle.explore.specs.declared.search.Search.{Search}
 use Rattle.explore.specs.inside.Searches.{AreKnown, IsEnded, IsSearch}
-use Rattle.explore.specs.inside.Starts.{IsHinted}
+use Rattle.explore.specs.inside.Hints.{IsHinted}
 
 pub known-none : (net : Net) (states : ℕ) → AreKnown net states [] [] []
 known-none net states = record {

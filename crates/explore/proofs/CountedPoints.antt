@@ -15,13 +15,14 @@ use Rattle.storage.specs.ClosedLists.{Entry}
 use Rattle.pareto_front.specs.declared.point.Point.{Point}
 use Rattle.pareto_front.specs.Offers.{AreAbove, AreInOrder, Offer}
 use Rattle.pareto_front.specs.Points.{offer_of}
+use Rattle.evaluations.specs.declared.shown.Shown.{Shown}
+use Rattle.evaluations.specs.declared.shown.Shown.TheVariants.{Cycle, Blocked}
+use Rattle.evaluations.specs.ShownCycles.{shows_cycle}
 use Rattle.explore.specs.declared.exploration.Member.{Member}
-use Rattle.explore.specs.declared.exploration.Shown.{Shown}
-use Rattle.explore.specs.declared.exploration.Shown.TheVariants.{Cycle, Blocked}
 use Rattle.explore.specs.declared.extent.Extent.{Extent}
 use Rattle.explore.specs.declared.extent.Extent.TheVariants.{Limit, Fastest}
 use Rattle.explore.specs.declared.search.Search.{Search}
-use Rattle.explore.specs.Explorations.{IsMember, ShowsRate, cycles_in, shows_cycle}
+use Rattle.explore.specs.Explorations.{IsMember, ShowsRate, cycles_in}
 use Rattle.explore.specs.inside.Searches.{AreKnown, IsFarEnough, offers_of}
 use Rattle.explore.proofs.Ending.{zero-test}
 use Rattle.explore.proofs.Searching.{noted-of}

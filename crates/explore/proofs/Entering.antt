@@ -14,8 +14,8 @@ use Rattle.levels.specs.declared.found.Level.{Level}
 use Rattle.levels.specs.Entrances.{EnterByLevels}
 use Rattle.levels.specs.Frontiers.{distributions_of}
 use Rattle.levels.proofs.Entering.{level-entered}
+use Rattle.evaluations.specs.declared.evaluating.Answered.{Answered}
 use Rattle.explore.specs.declared.exploration.Member.{Member}
-use Rattle.explore.specs.declared.level.Answered.{Answered}
 use Rattle.explore.specs.declared.search.Search.{Search}
 use Rattle.explore.specs.Explorations.{capacities_of}
 use Rattle.explore.specs.inside.Searches.{EntersOn, IsTurn, answered_of}

@@ -17,17 +17,19 @@ use Rattle.pareto_front.specs.Points.{IsFrontOf, IsOffered, left_points, offer_o
 use Rattle.guide.specs.declared.rating.Evaluation.{Evaluation}
 use Rattle.guide.specs.declared.rating.Outcome.{Outcome}
 use Rattle.guide.specs.declared.rating.Outcome.TheVariants as outcomes
-use Rattle.guide.specs.Evaluations.{IsEvaluated, IsOutcome, loops_run}
+use Rattle.guide.specs.Evaluations.{IsEvaluated, IsOutcome}
+use Rattle.evaluations.specs.declared.rated.Rated.{Rated}
+use Rattle.evaluations.specs.declared.shown.Shown.{Shown}
+use Rattle.evaluations.specs.Rated.{IsRated, KeepsTable, shown_by}
+use Rattle.evaluations.specs.ShownCycles.{shows_cycle}
 use Rattle.explore.specs.declared.exploration.Member.{Member}
-use Rattle.explore.specs.declared.exploration.Shown.{Shown}
 use Rattle.storage.proofs.FrontsFromMembers.{no_less}
 use Rattle.std.proofs.lemmas.Bool.{cases_lt}
 use Rattle.std.proofs.lemmas.List.Elements.{Contains-append_left, Contains-push_cases}
 use Rattle.explore.proofs.Ending.{offer-there, covering-one}
-use Rattle.explore.specs.Explorations.{ShowsChannel, ShowsRate, cycles_in, shows_cycle}
+use Rattle.explore.specs.Explorations.{ShowsChannel, ShowsRate, cycles_in}
 use Rattle.explore.specs.inside.Searches.{AreKnown, AreNoted, HasTable, IsNoted, entry_of, offer_for, offers_at, offers_of}
-use Rattle.explore.specs.inside.Rated.{IsBest, IsRated, KeepsTable, evaluated_member, member_of, shown_by}
-use Rattle.explore.specs.declared.rated.Rated.{Rated}
+use Rattle.explore.specs.inside.Members.{IsBest, evaluated_member, member_of}
 use Rattle.critical.specs.Spaces.{IsSpaceAt}
 use Rattle.critical.proofs.Storage.{number-place}
 use Rattle.sd_base.proofs.Containing.{contains-here, contains-later, contains-none, contains-cases}
@@ -146,10 +148,6 @@ blocked-known net d e counts lacks points blocked states ms es is known =
 pub cycles-more : (ms : List Member) (m : Member) → cycles_in (ms ++ m ∷ []) ≡ cycles_in ms + shows_cycle m.shown
 cycles-more [] m = omega arith
 cycles-more (n ∷ ms) m = let later = cycles-more ms m in omega (arith, later)
-
-pub loops-shown : (outcome : Outcome) → shows_cycle (shown_by outcome) ≡ loops_run outcome
-loops-shown (outcomes.Live table cycle) = refl
-loops-shown (outcomes.Blocked counts lacks) = refl
 
 pub offers-some : (total : ℕ) (rate : Fraction) (ds : List (Option ℕ)) → (rate.num == 0) ≡ false → offers_at total rate ds ≡ record { storage = total; rate = rate; capacities = ds } ∷ []
 offers-some total rate ds some = rw some refl

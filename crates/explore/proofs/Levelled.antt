@@ -4,14 +4,15 @@ use Rattle.std.specs.Prelude.{slice_index_or}
 use Rattle.std.proofs.lemmas.List.{drop_more, length-append, map-append}
 use Rattle.lasso.specs.RunError.{RunError}
 use Rattle.storage.specs.declared.distribution.Distribution.{Distribution}
+use Rattle.evaluations.specs.declared.evaluating.Answered.{Answered}
+use Rattle.evaluations.specs.declared.rated.Rated.{Rated}
+use Rattle.evaluations.specs.Evaluating.{sum_of}
+use Rattle.evaluations.specs.ShownCycles.{shows_cycle}
+use Rattle.evaluations.proofs.Tasks.{sum-more}
 use Rattle.explore.specs.declared.exploration.Member.{Member}
-use Rattle.explore.specs.declared.level.Answered.{Answered}
-use Rattle.explore.specs.declared.rated.Rated.{Rated}
-use Rattle.explore.specs.Explorations.{capacities_of, cycles_in, shows_cycle}
-use Rattle.explore.specs.inside.Levels.{sum_of}
+use Rattle.explore.specs.Explorations.{capacities_of, cycles_in}
 use Rattle.explore.specs.inside.Searches.{IsMemberAdded, answered_of}
 use Rattle.explore.proofs.Knowing.{cycles-more}
-use Rattle.explore.proofs.Tasks.{sum-more}
 
 -- the distributions of the answers that are left begin with that of the next one
 pub rest-more : (answers : List Answered) (n : ℕ) (a : Answered) → n < length answers → a ≡ slice_index_or answers n a → answered_of (drop n answers) ≡ a.capacities.capacities ∷ answered_of (drop (n + 1) answers)

@@ -1,4 +1,3 @@
-pub mod Tasks
 pub mod Stepping
 pub mod Searching
 pub mod Reaching

@@ -8,12 +8,13 @@ use Rattle.sd_base.proofs.Lists.{get-left}
 use Rattle.liveness.specs.RoundAnswers.{AreReachedCounts}
 use Rattle.storage.specs.BoundedNets.{bound}
 use Rattle.storage.specs.Distributions.{AtMost}
+use Rattle.evaluations.specs.declared.shown.Shown.{Shown}
+use Rattle.evaluations.specs.declared.shown.Shown.TheVariants.{Cycle, Blocked}
+use Rattle.evaluations.specs.declared.starts.Starts.{Starts}
+use Rattle.evaluations.specs.Starts.{AreStarts, counts_at}
 use Rattle.explore.specs.declared.exploration.Member.{Member}
-use Rattle.explore.specs.declared.exploration.Shown.{Shown}
-use Rattle.explore.specs.declared.exploration.Shown.TheVariants.{Cycle, Blocked}
-use Rattle.explore.specs.declared.starts.Starts.{Starts}
 use Rattle.explore.specs.Explorations.{IsMember, ShowsRate}
-use Rattle.explore.specs.inside.Starts.{AreStarts, IsHinted, counts_at}
+use Rattle.explore.specs.inside.Hints.{IsHinted}
 use Rattle.explore.proofs.Reaching.{looped-live}
 
 blocked-reached : (net : Net) (counts : List ℕ) (lacks : List (Option ℕ)) → IsBlockedBy net counts lacks → AreReachedCounts net counts

@@ -24,23 +24,24 @@ use Rattle.levels.specs.Frontiers.{AreLedOn, IsFoundBy, IsFrontier, IsLevelTaken
 use Rattle.sd_base.proofs.Containing.{contains-map}
 use Rattle.levels.proofs.LedOn.{known-long}
 use Rattle.levels.proofs.Visited.{visits-more}
+use Rattle.evaluations.specs.declared.evaluating.Answered.{Answered}
+use Rattle.evaluations.specs.declared.rated.Rated.{Rated}
+use Rattle.evaluations.specs.declared.shown.Shown.{Shown}
+use Rattle.evaluations.specs.declared.shown.Shown.TheVariants.{Cycle, Blocked}
+use Rattle.evaluations.specs.Evaluating.{IsEvaluation, most_loops, sum_of}
+use Rattle.evaluations.specs.ShownCycles.{shows_cycle}
 use Rattle.explore.specs.declared.exploration.Member.{Member}
-use Rattle.explore.specs.declared.exploration.Shown.{Shown}
-use Rattle.explore.specs.declared.exploration.Shown.TheVariants.{Cycle, Blocked}
-use Rattle.explore.specs.declared.level.Answered.{Answered}
 use Rattle.explore.specs.declared.search.Search.{Search}
 use Rattle.explore.specs.Reachable.{IsExplorable}
-use Rattle.explore.specs.Explorations.{IsRefusal, cycles_in, shows_cycle}
+use Rattle.explore.specs.Explorations.{IsRefusal, cycles_in}
 use Rattle.explore.specs.inside.Errors.{error_of}
-use Rattle.explore.specs.inside.Levels.{IsEvaluation, IsVisitable, most_loops, sum_of}
 use Rattle.explore.specs.inside.Searches.{AreKnown, IsAnswerOf, IsCandidate, IsEnded, IsSearch, IsTurn, answered_of, entry_of}
-use Rattle.explore.specs.inside.Rated.{IsBest, IsBestOf, evaluated_member}
-use Rattle.explore.specs.declared.rated.Rated.{Rated}
+use Rattle.explore.specs.inside.Members.{IsBest, IsBestOf, evaluated_member}
 use Rattle.sd_base.specs.declared.numbers.Fraction.{Fraction}
 use Rattle.sd_base.proofs.Lists.{get-last, map-map, all-unmap}
 use Rattle.pareto_front.specs.Points.{offer_of}
 use Rattle.pareto_front.specs.Offers.{Offer}
-use Rattle.explore.specs.inside.Starts.{IsHinted}
+use Rattle.explore.specs.inside.Hints.{IsEvaluableFrom, IsHinted}
 use Rattle.explore.proofs.Ending.{offer-from}
 use Rattle.explore.proofs.Enough.{ended-whole}
 use Rattle.explore.proofs.Knowing.{member-noted, noted-more}
@@ -74,7 +75,7 @@ module _ (net : Net) (laws : Lawful net) (can : IsExplorable net) (limits : Limi
       let waits : Waits net.channels old.levels.bounds.total floor f = All-contains (Waits net.channels old.levels.bounds.total floor) old.levels.waiting.keys f search.frontier.spread.waits (waited f one) in
       let here : f.total ≡ level.total = All-contains (λ (x : Found (Option ℕ)). x.total ≡ level.total) level.visits.items f off.totals one in (omega (arith, waits.total, here), omega (arith, waits.within, here, search-limit net can limits floor [] old search))
 
-  visitable : (f : Found (Option ℕ)) → Contains level.visits.items f → IsVisitable net limits.states new.members.items f
+  visitable : (f : Found (Option ℕ)) → Contains level.visits.items f → IsEvaluableFrom net limits.states new.members.items f
   unfolding turned
   visitable f one = record {
     fits = candidate-evaluable net laws can limits.total f.capacities.capacities (omega (arith, small))

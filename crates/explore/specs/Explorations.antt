@@ -18,11 +18,12 @@ use Rattle.storage.specs.ShownSpaces.{ShowsSpace}
 use Rattle.storage.specs.Steps.{IsCorner}
 use Rattle.storage.specs.StorageOrder.{AreInOrder, stepped}
 use Rattle.pareto_front.specs.declared.point.Point.{Point}
+use Rattle.evaluations.specs.declared.shown.Shown.{Shown}
+use Rattle.evaluations.specs.declared.shown.Shown.TheVariants.{Cycle, Blocked}
+use Rattle.evaluations.specs.ShownCycles.{shows_cycle}
 use Rattle.explore.specs.declared.error.ExploreError.{ExploreError}
 use Rattle.explore.specs.declared.error.ExploreError.TheVariants.{StatesSpent, TooManyStarts, DistributionsSpent, NoMemory}
 use Rattle.explore.specs.declared.exploration.Member.{Member}
-use Rattle.explore.specs.declared.exploration.Shown.{Shown}
-use Rattle.explore.specs.declared.exploration.Shown.TheVariants.{Cycle, Blocked}
 use Rattle.explore.specs.Reachable.{IsReachable}
 
 -- what shows the rate of a distribution: a critical cycle of the loop of its bounded net, whose rounds by its time are the
@@ -97,10 +98,6 @@ pub record IsExploration (net : Net) (limits : Limits) (members : List Member) (
       storage_of net.channels (stepped net.channels m.capacities.capacities c) ≤ limits.total → Contains (capacities_of members) (stepped net.channels m.capacities.capacities c)
   pub led : (ds : List (Option ℕ)) → Contains (capacities_of members) ds → IsLedTo net members ds
   pub few : length members ≤ limits.distributions
-
-abbrev pub shows_cycle : Shown → ℕ
-shows_cycle (Cycle cycle) = 1
-shows_cycle (Blocked counts) = 0
 
 -- how many of the members show a cycle
 abbrev pub cycles_in : List Member → ℕ

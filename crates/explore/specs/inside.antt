@@ -1,5 +1,4 @@
 pub mod Errors
-pub mod Starts
-pub mod Rated
-pub mod Levels
+pub mod Hints
+pub mod Members
 pub mod Searches

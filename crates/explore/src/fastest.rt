@@ -7,9 +7,9 @@ ghost use Rattle.explore.specs.Ceilings.{BoundsAll};
 ghost use Rattle.explore.specs.inside.Searches.{HasTable, IsCandidate, IsTopAmong};
 
 use crate::ceiling::may_bound;
-use crate::exploring::Exploring;
 use critical::laws::cycles_bound_the_rate;
 use critical::{NeedCycle, cycle_without_spaces};
+use evaluations::Exploring;
 use firing::{Firing, Wired, know_laws};
 use pareto_front::Point;
 use sd_base::{Fraction, NoMemory};

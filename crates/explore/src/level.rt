@@ -1,31 +1,23 @@
-ghost use Rattle.std.specs.Prelude.{◌≡◌, ◌+◌, ◌≤◌, [], All, IfOk, OnErr, map, reverse, vec_capacity, vec_len};
+//! How the distributions of a level are evaluated.
+ghost use Rattle.std.specs.Prelude.{◌≡◌, ◌+◌, ◌≤◌, [], All, IfOk, OnErr, map, vec_capacity, vec_len};
 ghost use Rattle.sd_base.specs.declared.limits.TheConstants.{LEAST_STATES, STATES};
-ghost use Rattle.fanout.specs.JobRuns.{EachEntered};
-ghost use Rattle.explore.specs.inside.Levels.{IsDone, IsEvaluation, IsFresh, IsVisitable, least_loops, most_loops, sum_of};
 ghost use Rattle.sd_base.specs.declared.numbers.Fraction.{Fraction as AFraction};
-ghost use Rattle.explore.specs.inside.Rated.{IsBestOf};
-ghost use Rattle.explore.specs.inside.Starts.{AreStarts};
+ghost use Rattle.fanout.specs.JobRuns.{EachEntered};
+ghost use Rattle.evaluations.specs.Evaluating.{IsEvaluation, IsVisitable, least_loops, most_loops, sum_of};
+ghost use Rattle.evaluations.specs.Starts.{AreStarts};
+ghost use Rattle.explore.specs.inside.Hints.{IsEvaluableFrom};
+ghost use Rattle.explore.specs.inside.Members.{IsBestOf};
 
 use crate::exploration::Member;
-use crate::exploring::Exploring;
-use crate::rated::Rated;
+use crate::hints::led_to;
 use crate::search::Search;
-use crate::task::Task;
-use fanout::{Gate, all};
+use evaluations::{Answered, Exploring, Visit, evaluate_all};
+use fanout::Gate;
 use firing::Firing;
-use lasso::RunError;
 use levels::{Found, Level};
 use pareto_front::Point;
 use sd_base::{Fraction, Ledger, NoMemory, Steps};
 use std::thread::Threads;
-use storage::Distribution;
-
-/// A distribution, and what is kept of its evaluation.
-#[derive(Drop)]
-pub(crate) struct Answered {
-    pub(crate) capacities: Distribution,
-    pub(crate) answer: Result<Rated, RunError>,
-}
 
 /// Evaluates the distributions of a level side by side, and answers in their order.
 pub(crate) fn run_level<R: Threads + Sync, F: Firing + Sync, G: Gate + Sync, L: Ledger + Send>(
@@ -37,7 +29,7 @@ pub(crate) fn run_level<R: Threads + Sync, F: Firing + Sync, G: Gate + Sync, L: 
     steps: &mut Steps<L>,
 ) -> Result<Vec<Answered>, NoMemory>
     requires starts { AreStarts (F.net exploring.now.net.now) exploring.now.starts.now }
-    requires fits { All (IsVisitable (F.net exploring.now.net.now) exploring.now.limits.states search.now.members.items) level.visits.items }
+    requires fits { All (IsEvaluableFrom (F.net exploring.now.net.now) exploring.now.limits.states search.now.members.items) level.visits.items }
     requires some { LEAST_STATES ≤ exploring.now.limits.states }
     requires few { exploring.now.limits.states ≤ STATES }
     ensures answers { IfOk result (λ v. (best : AFraction) × IsBestOf search.now.front best × All (λ a. IsEvaluation (F.net exploring.now.net.now) exploring.now.limits.states best a.capacities a.answer) v.items) }
@@ -48,28 +40,14 @@ pub(crate) fn run_level<R: Threads + Sync, F: Firing + Sync, G: Gate + Sync, L: 
     ensures err { OnErr result (steps.new ≡ steps.old) }
     ensures share { steps.new.share ≡ steps.old.share }
 {
-    let Level { total, visits } = level;
-    let mut answers = Vec::with_capacity(exploring.alloc, visits.len())?;
-    let mut tasks = Vec::with_capacity(exploring.alloc, visits.len())?;
+    let Level {
+        total,
+        visits: taken,
+    } = level;
+    let mut visits = Vec::with_capacity(exploring.alloc, taken.len())?;
+    fill(exploring, search.members.as_slice(), taken, &mut visits);
     let best = best_rate(search.front.points());
-    fill(
-        exploring,
-        search.members.as_slice(),
-        best,
-        visits,
-        steps,
-        &mut tasks,
-    );
-    all(rt, total, tasks.as_mut_slice(), gate);
-    tasks.reverse();
-    drain(
-        exploring.net,
-        exploring.limits.states,
-        best,
-        tasks,
-        steps,
-        &mut answers,
-    );
+    let answers = evaluate_all(rt, exploring, total, best, visits, gate, steps)?;
     Ok(answers)
 }
 
@@ -83,76 +61,25 @@ fn best_rate(points: &[Point]) -> Fraction
     }
 }
 
-/// Makes a task of each distribution.
-fn fill<'a, F: Firing, L: Ledger>(
+/// Makes a visit of each distribution, with the counts that its hint gives.
+fn fill<'a, F: Firing>(
     exploring: &Exploring<'a, F>,
     members: &'a [Member],
-    best: Fraction,
-    visits: Vec<Found<Option<usize>>>,
-    steps: &mut Steps<L>,
-    tasks: &mut Vec<Task<'a, F, L>>,
+    taken: Vec<Found<Option<usize>>>,
+    visits: &mut Vec<Visit<'a>>,
 )
     requires starts { AreStarts (F.net exploring.now.net.now) exploring.now.starts.now }
-    requires fits { All (IsVisitable (F.net exploring.now.net.now) exploring.now.limits.states members.now) visits.items }
-    requires empty { tasks.old.items ≡ [] }
-    requires room { vec_len visits ≤ vec_capacity tasks.old }
-    ensures fresh { All (λ t. IsFresh (F.net exploring.now.net.now) (F.net t.net.now) t.wiring.now exploring.now.limits.states best t.capacities t.counts.now t.states t.best t.steps) tasks.new.items }
-    ensures order { map (λ t. t.capacities) tasks.new.items ≡ map (λ f. f.capacities) visits.items }
-    ensures many { vec_len tasks.new ≡ vec_len visits }
-    ensures counter { steps.new ≡ steps.old }
+    requires fits { All (IsEvaluableFrom (F.net exploring.now.net.now) exploring.now.limits.states members.now) taken.items }
+    requires empty { visits.old.items ≡ [] }
+    requires room { vec_len taken ≤ vec_capacity visits.old }
+    ensures fits { All (λ v. IsVisitable (F.net exploring.now.net.now) v.capacities v.counts.now) visits.new.items }
+    ensures order { map (λ v. v.capacities) visits.new.items ≡ map (λ f. f.capacities) taken.items }
 {
-    for found in visits {
-        let counts = exploring.starts.led_to(exploring.net, members, &found);
-        tasks.push_reserved(Task {
-            alloc: exploring.alloc,
-            net: exploring.net,
-            wiring: exploring.wiring,
+    for found in taken {
+        let counts = led_to(exploring.net, exploring.starts, members, &found);
+        visits.push_reserved(Visit {
             capacities: found.into_capacities(),
             counts,
-            states: exploring.limits.states,
-            best,
-            steps: steps.share(),
-            answer: None,
         });
     }
-}
-
-/// Takes the tasks apart, the last one first, and gives the counter its shares back.
-fn drain<F: Firing, L: Ledger>(
-    net: &F,
-    states: u64,
-    best: Fraction,
-    tasks: Vec<Task<'_, F, L>>,
-    steps: &mut Steps<L>,
-    answers: &mut Vec<Answered>,
-)
-    requires done { All (λ t. IsDone (F.net net.now) states best t.capacities t.steps t.answer) tasks.items }
-    requires empty { answers.old.items ≡ [] }
-    requires room { vec_len tasks ≤ vec_capacity answers.old }
-    ensures answers { All (λ a. IsEvaluation (F.net net.now) states best a.capacities a.answer) answers.new.items }
-    ensures order { map (λ a. a.capacities) answers.new.items ≡ reverse (map (λ t. t.capacities) tasks.entry.items) }
-    ensures least { steps.old.count + sum_of least_loops answers.new.items ≤ steps.new.count }
-    ensures most { steps.new.count ≤ steps.old.count + sum_of most_loops answers.new.items }
-    ensures share { steps.new.share ≡ steps.old.share }
-{
-    let mut tasks = tasks;
-    for _task in 0..tasks.len() {
-        let Task {
-            alloc: _,
-            net: _,
-            wiring: _,
-            capacities,
-            counts: _,
-            states: _,
-            best: _,
-            steps: share,
-            answer,
-        } = tasks.take_last();
-        steps.absorb(share);
-        match answer {
-            Some(answer) => answers.push_reserved(Answered { capacities, answer }),
-            None => unreachable!(),
-        }
-    }
-    tasks.destroy_empty();
 }

@@ -5,18 +5,16 @@
 mod ceiling;
 mod error;
 mod exploration;
-mod exploring;
 mod extent;
 mod fastest;
+mod hints;
 pub mod laws;
 mod level;
 mod members;
-mod rated;
 mod search;
-mod starts;
-mod task;
 
 pub use error::ExploreError;
-pub use exploration::{Exploration, Member, Shown};
+pub use evaluations::Shown;
+pub use exploration::{Exploration, Member};
 pub use extent::Extent;
 pub use search::{explore, explore_as_far};

@@ -4,32 +4,29 @@ ghost use Rattle.storage.specs.Distributions.{storage_of};
 ghost use Rattle.storage.specs.Steps.{IsCorner};
 ghost use Rattle.levels.specs.Frontiers.{channel_step};
 ghost use Rattle.levels.specs.Entrances.{EnterByLevels};
+ghost use Rattle.evaluations.specs.Starts.{AreStarts};
 ghost use Rattle.explore.specs.Explorations.{CountsFew, IsExploration, IsRefusal, capacities_of, cycles_in};
 ghost use Rattle.explore.specs.Extents.{Explores};
 ghost use Rattle.explore.specs.Reachable.{IsExplorable};
 ghost use Rattle.pareto_front.specs.declared.point.Point.{Point as APoint};
 ghost use Rattle.explore.specs.declared.extent.Extent.TheVariants.{Fastest};
 ghost use Rattle.explore.specs.inside.Searches.{EntersOn, HasTable, IsCandidate, IsEnded, IsFarEnough, IsPast, IsSearch, IsStanding, IsTopAmong, IsTurn};
-ghost use Rattle.explore.specs.inside.Levels.{WiresAll};
-ghost use Rattle.explore.specs.inside.Starts.{AreStarts};
 
 use crate::error::ExploreError;
 use crate::exploration::{Exploration, Member};
-use crate::exploring::Exploring;
 use crate::extent::Extent;
 use crate::fastest::reaches_fastest;
 use crate::level::run_level;
 use crate::members::take_in_all;
-use crate::starts::Starts;
+use evaluations::{Exploring, Starts, wiring_of};
 use fanout::Gate;
-use firing::{Firing, Wiring, know_laws};
-use guide::laws::distributions_share_a_wiring;
+use firing::{Firing, know_laws};
 use levels::{Bounds, ChannelStep, Level, Levels};
 use pareto_front::{Front, Point};
 use sd_base::{Ledger, Limits, NoMemory, Rows, Steps};
 use std::alloc::Global;
 use std::thread::Threads;
-use storage::{Bounded, Distribution, corner, step};
+use storage::{Distribution, corner, step};
 
 /// Where an exploration stands: the distributions that wait, each with the place of the member that led to it for a hint, the
 /// members so far, and the points among them.
@@ -135,7 +132,7 @@ pub fn explore_as_far<R: Threads + Sync, F: Firing + Sync, G: Gate + Sync, L: Le
             points: Vec::new(alloc),
         });
     };
-    let wiring = wiring_of(alloc, net, limits.total, &first)?;
+    let wiring = wiring_of(alloc, net, &first)?;
     let starts = Starts::of(alloc, net)?;
     let exploring = Exploring {
         alloc,
@@ -251,24 +248,6 @@ fn take_turn<R: Threads + Sync, F: Firing + Sync, G: Gate + Sync, L: Ledger + Se
     let answers = run_level(rt, exploring, search, level, gate, steps)?;
     take_in_all(exploring, total, answers, search)?;
     Ok(())
-}
-
-/// The channels by actor of the nets that distributions bound. Cost: that of `Wiring::new`.
-fn wiring_of<F: Firing>(
-    alloc: Global,
-    net: &F,
-    limit: u64,
-    capacities: &Distribution,
-) -> Result<Wiring, NoMemory>
-    requires net { IsExplorable (F.net net.now) }
-    requires small { limit ≤ STORAGE }
-    requires fits { IsCandidate (F.net net.now) limit capacities.now.capacities }
-    ensures { IfOk result (WiresAll (F.net net.now)) }
-{
-    know_laws(net);
-    distributions_share_a_wiring();
-    let bounded = Bounded::new(alloc, net, capacities)?;
-    Wiring::new(alloc, &bounded)
 }
 
 /// By channel the size of its tokens and its step. Cost: that of `step` for each channel.

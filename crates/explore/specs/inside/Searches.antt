@@ -18,16 +18,17 @@ use Rattle.levels.specs.declared.found.Level.{Level}
 use Rattle.levels.specs.Visits.{AreVisits, visits_of}
 use Rattle.levels.specs.Frontiers.{IsFrontier, distributions_of}
 use Rattle.levels.specs.Entrances.{EnterByLevels}
+use Rattle.evaluations.specs.declared.evaluating.Answered.{Answered}
+use Rattle.evaluations.specs.Evaluating.{IsEvaluation, least_loops, most_loops}
+use Rattle.evaluations.specs.ShownCycles.{shows_cycle}
 use Rattle.explore.specs.declared.exploration.Member.{Member}
 use Rattle.explore.specs.declared.search.Search.{Search}
-use Rattle.explore.specs.declared.level.Answered.{Answered}
-use Rattle.explore.specs.inside.Levels.{IsEvaluation, IsVisitable, least_loops, most_loops}
-use Rattle.explore.specs.inside.Starts.{IsHinted}
+use Rattle.explore.specs.inside.Hints.{IsEvaluableFrom, IsHinted}
 use Rattle.explore.specs.Reachable.{IsReachable}
 use Rattle.explore.specs.declared.extent.Extent.{Extent}
 use Rattle.explore.specs.declared.extent.Extent.TheVariants.{Limit, Fastest}
 use Rattle.explore.specs.Ceilings.{BoundsAll}
-use Rattle.explore.specs.Explorations.{IsMember, ShowsChannel, capacities_of, shows_cycle}
+use Rattle.explore.specs.Explorations.{IsMember, ShowsChannel, capacities_of}
 
 -- a distribution on the grid and within the limit that can be reached
 pub record IsCandidate (net : Net) (limit : ℕ) (ds : List (Option ℕ)) : Type 0 where
@@ -98,7 +99,7 @@ pub record IsTurn (net : Net) (limits : Limits) (level : Level (Option ℕ)) (s 
   pub totals : All (λ (f : Found (Option ℕ)). storage_of net.channels f.capacities.capacities ≡ level.total) level.visits.items
   pub within : level.total ≤ limits.total
   pub before : (m : Member) → Contains s.members.items m → storage_of net.channels m.capacities.capacities < level.total
-  pub visitable : All (IsVisitable net limits.states s.members.items) level.visits.items
+  pub visitable : All (IsEvaluableFrom net limits.states s.members.items) level.visits.items
   pub some : 1 ≤ length level.visits.items
 
 -- if the first members entered by levels, all do

@@ -2,8 +2,8 @@ use Rattle.std.proofs.Common.{◌+◌, ◌∷◌, refl, sym, ap}
 use Rattle.std.proofs.lemmas.List.Elements.{Contains-append_right}
 use Rattle.levels.specs.Visits.{visited, visits_of}
 use Rattle.sd_base.proofs.Containing.{contains-here}
-use Rattle.explore.specs.inside.Levels.{least_loops, most_loops}
-use Rattle.explore.specs.inside.Rated.{member_of}
+use Rattle.evaluations.specs.Evaluating.{least_loops, most_loops}
+use Rattle.explore.specs.inside.Members.{member_of}
 use Rattle.explore.proofs.Searching.{search-candidate}
 use Rattle.explore.proofs.members.take_answer.Goals as goal
 

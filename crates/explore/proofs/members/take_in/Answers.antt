@@ -3,7 +3,7 @@ use Rattle.std.proofs.lemmas.Result.{err_from_is_err_and}
 use Rattle.levels.specs.Visits.{led_by, visits_of}
 use Rattle.levels.specs.Frontiers.{AreLedOn, IsFrontier, IsSpent, Rises}
 use Rattle.explore.specs.declared.exploration.Member.{Member}
-use Rattle.explore.specs.inside.Rated.{evaluated_member}
+use Rattle.explore.specs.inside.Members.{evaluated_member}
 use Rattle.explore.proofs.Knowing.{same-member}
 use Rattle.explore.proofs.Turning.{shown-known, shown-rises, spent, taken-in, total-within}
 use Rattle.explore.proofs.members.take_in.Goals as goal

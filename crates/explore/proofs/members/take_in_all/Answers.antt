@@ -2,11 +2,11 @@ use Rattle.std.proofs.Common.{◌≡◌, ◌+◌, ◌++◌, ◌∷◌, [], ℕ, 
 use Rattle.std.proofs.lemmas.List.{drop_all, length_push}
 use Rattle.std.proofs.lemmas.Iterator.Consumers.{YieldsList-end, YieldsList-turn}
 use Rattle.std.proofs.lemmas.Iterator.Adapters.{YieldsList-from_vec}
-use Rattle.explore.specs.declared.level.Answered.{Answered}
-use Rattle.explore.specs.inside.Levels.{least_loops, most_loops, sum_of}
+use Rattle.evaluations.specs.declared.evaluating.Answered.{Answered}
+use Rattle.evaluations.specs.Evaluating.{least_loops, most_loops, sum_of}
 use Rattle.explore.specs.inside.Searches.{IsAnswerOf, IsSearch, answered_of}
 use Rattle.explore.specs.Explorations.{capacities_of, cycles_in}
-use Rattle.explore.specs.inside.Rated.{IsBest}
+use Rattle.explore.specs.inside.Members.{IsBest}
 use Rattle.explore.proofs.Knowing.{best-more}
 use Rattle.explore.proofs.Levelled.{capacities-same, cycles-same, many-same, rest-more}
 use Rattle.explore.proofs.members.take_in_all.Goals as goal

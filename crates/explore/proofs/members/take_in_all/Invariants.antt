@@ -1,8 +1,8 @@
 use Rattle.std.proofs.Common.{◌≡◌, ◌+◌, ◌++◌, drop, length}
-use Rattle.explore.specs.Explorations.{capacities_of, cycles_in}
-use Rattle.explore.specs.inside.Levels.{least_loops, most_loops, sum_of}
 use Rattle.sd_base.specs.declared.numbers.Fraction.{Fraction}
-use Rattle.explore.specs.inside.Rated.{IsBest}
+use Rattle.evaluations.specs.Evaluating.{least_loops, most_loops, sum_of}
+use Rattle.explore.specs.Explorations.{capacities_of, cycles_in}
+use Rattle.explore.specs.inside.Members.{IsBest}
 use Rattle.explore.specs.inside.Searches.{IsSearch, answered_of}
 use Rattle.explore.proofs.members.take_in_all.Given as goal
 

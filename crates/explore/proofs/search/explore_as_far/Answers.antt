@@ -11,6 +11,7 @@ use Rattle.explore.proofs.CountedPoints.{far-points-few}
 use Rattle.explore.proofs.Ending.{explored}
 use Rattle.explore.proofs.Enough.{explores-far, explores-whole}
 use Rattle.explore.proofs.Searching.{corner-candidate}
+use Rattle.explore.proofs.Stepping.{candidate-evaluable}
 use Rattle.explore.proofs.search.explore_as_far.Goals as goal
 
 pub take_turns-requires-clause-stands : goal.take_turns-requires-clause-stands
@@ -38,9 +39,11 @@ total_within-requires g c =
     let net = g.F.Firing.net c.args.net.now in
     distribution-length net.channels c.in_ok-first.first.capacities (corner-distribution net.channels c.in_ok-first.first.capacities c.requires.net.plain c.in_ok-first.ensures)
 
-pub wiring_of-requires-clause-fits : goal.wiring_of-requires-clause-fits
-wiring_of-requires-clause-fits g c =
-    corner-candidate (g.F.Firing.net c.args.net.now) c.args.limits.total c.in_ok-first.first.capacities c.requires.net c.in_ok-first.ensures (omega (arith, c.in-Some.ensures.0, c.in-Some.ensures.1))
+pub wiring_of-requires : goal.wiring_of-requires
+wiring_of-requires g c =
+    let net = g.F.Firing.net c.args.net.now in
+    candidate-evaluable net c.know_laws.ensures c.requires.net c.args.limits.total c.in_ok-first.first.capacities (omega (arith, c.requires.total))
+    (corner-candidate net c.args.limits.total c.in_ok-first.first.capacities c.requires.net c.in_ok-first.ensures (omega (arith, c.in-Some.ensures.0, c.in-Some.ensures.1)))
 
 pub returns-in_default-clause-explored : goal.returns-in_default-clause-explored
 returns-in_default-clause-explored g c =
