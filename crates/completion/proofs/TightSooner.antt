@@ -15,7 +15,7 @@ use Rattle.completion.specs.Ways.{AreFirstTight, IsFirstTight, IsTight, StartsAt
 use Rattle.completion.specs.inside.Timetables.{IsTimetable, before_of, moment_of, pass_of}
 use Rattle.completion.proofs.Chained.{chain-starts, step-fed}
 use Rattle.completion.proofs.Starts.{one-start, start-is}
-use Rattle.completion.proofs.Timing.{counts-at, late-number, moment-later, moment-starts, pass-is, short}
+use Rattle.completion.proofs.Timing.{counts-at, late-number, moment-later, moment-starts, pass-is}
 use Rattle.completion.proofs.Laps.{Reaches, sooner, sooner_steps, step-sooner, time-sooner, whole}
 
 module _ (net : Net) (times : Timetable) (is : IsTimetable net times) where
@@ -47,11 +47,11 @@ module _ (net : Net) (times : Timetable) (is : IsTimetable net times) where
     pub later-starts : StartsAt net x.actor (x.number + q * (times.table.rounds * slice_index net.round x.actor)) (s + q * times.table.period)
     later-starts =
         let k : ℕ = x.number in
-        let there : x.number < count_of (up_to net times.table (x.number + 1)) x.actor = shared.enough-passes net is.laws times.table (short net times is) x.actor x.number actor in
+        let there : x.number < count_of (up_to net times.table (x.number + 1)) x.actor = shared.enough-passes net is.laws is.inputs times.table is.loop x.actor x.number actor in
         let here : start_of (up_to net times.table (x.number + 1)) x.actor x.number ≡ s = start-is net is.laws is.inputs x.actor x.number s (times.table.entry + (x.number + 1) * times.table.period + 1) at there in
         let ends : times.table.entry < end_of net (up_to net times.table (x.number + 1)) x.actor x.number = omega (arith, here, late) in
         let on : start_of (up_to net times.table (q + (x.number + 1))) x.actor (x.number + q * (times.table.rounds * slice_index net.round x.actor)) ≡ start_of (up_to net times.table (x.number + 1)) x.actor x.number + q * times.table.period =
-        shared.pass-on net is.laws times.table (short net times is) q (x.number + 1) x.actor x.number there ends in
+        shared.pass-on net is.laws is.inputs times.table is.loop q (x.number + 1) x.actor x.number there ends in
         let more : x.number + q * pass_of times x.actor < count_of (up_to net times.table (q + (x.number + 1))) x.actor = omega (arith, counts-at net times is (q + (x.number + 1)) x.actor actor, counts-at net times is (x.number + 1) x.actor actor) in
         record {
           by = times.table.entry + (q + (x.number + 1)) * times.table.period + 1;

@@ -18,7 +18,7 @@ use Rattle.completion.specs.inside.Timetables.{IsFull, IsTimetable, before_of, l
 use Rattle.completion.proofs.Starts.{early, start-is}
 
 module _ (net : Net) (times : Timetable) (is : IsTimetable net times) where
-  pub short : IsShortLoop net times.table
+  short : IsShortLoop net times.table
   short = short-loop net times.table is.laws is.inputs is.loop is.few
 
   pub rows-early : length times.early.items ≡ length net.times
@@ -31,13 +31,13 @@ module _ (net : Net) (times : Timetable) (is : IsTimetable net times) where
   pass-is a actor = is.loop.whole a actor
 
   pub some-pass : (a : ℕ) → a < length net.times → 1 ≤ pass_of times a
-  some-pass a actor = rw (pass-is a actor) (shared.some-pass net is.laws times.table short a actor)
+  some-pass a actor = rw (pass-is a actor) (shared.some-pass net is.laws is.inputs times.table is.loop a actor)
 
   pub full : IsFull times
   full = record { rows = rows-early ∙ sym is.loop.rows; some = λ a row. some-pass a (omega (arith, is.loop.rows)) }
 
   pub counts-at : (q a : ℕ) → a < length net.times → count_of (up_to net times.table q) a ≡ before_of times a + q * pass_of times a
-  counts-at q a actor = rw (pass-is a actor) (omega (arith, shared.counts-at net is.laws times.table short q a, before-is a))
+  counts-at q a actor = rw (pass-is a actor) (omega (arith, shared.counts-at net is.laws is.inputs times.table is.loop q a, before-is a))
 
   -- what is in one pass, further on by passes
   pub pass-on : (p q a k : ℕ) → a < length net.times → before_of times a ≤ k → k < count_of (up_to net times.table q) a →
@@ -45,7 +45,7 @@ module _ (net : Net) (times : Timetable) (is : IsTimetable net times) where
   pass-on p q a k actor from there =
       let late : times.table.entry < end_of net (up_to net times.table q) a k = passes.ends-after net is.laws is.inputs times.table.entry times.table.period times.table.rounds times.table.before times.table.starts is.loop
       (times.table.entry + q * times.table.period + 1) a k (omega (arith, before-is a)) there in
-      rw (pass-is a actor) (shared.pass-on net is.laws times.table short p q a k there late)
+      rw (pass-is a actor) (shared.pass-on net is.laws is.inputs times.table is.loop p q a k there late)
 
   looped-starts : (a later : ℕ) → a < length net.times → StartsAt net a (before_of times a + later) (looped_moment times a later)
   looped-starts a later actor =
@@ -84,8 +84,8 @@ module _ (net : Net) (times : Timetable) (is : IsTimetable net times) where
   -- after the entry a pass takes a period
   pub moment-later : (a k p : ℕ) → a < length net.times → before_of times a ≤ k → moment_of times a (k + p * pass_of times a) ≡ moment_of times a k + p * times.table.period
   moment-later a k p actor from =
-      let many : k ≤ k * pass_of times a = rw (pass-is a actor) (shared.grows net is.laws times.table short a k actor) in
-      let there : k < count_of (up_to net times.table (k + 1)) a = shared.enough-passes net is.laws times.table short a k actor in
+      let many : k ≤ k * pass_of times a = rw (pass-is a actor) (shared.grows net is.laws is.inputs times.table is.loop a k actor) in
+      let there : k < count_of (up_to net times.table (k + 1)) a = shared.enough-passes net is.laws is.inputs times.table is.loop a k actor in
       let started : k + p * pass_of times a < count_of (up_to net times.table (p + (k + 1))) a = omega (arith, counts-at (p + (k + 1)) a actor, counts-at (k + 1) a actor) in
       let here : start_of (up_to net times.table (k + 1)) a k ≡ moment_of times a k = start-is net is.laws is.inputs a k (moment_of times a k) (times.table.entry + (k + 1) * times.table.period + 1) (moment-starts a k actor) there in
       let next : start_of (up_to net times.table (p + (k + 1))) a (k + p * pass_of times a) ≡ moment_of times a (k + p * pass_of times a) =
@@ -106,7 +106,7 @@ module _ (net : Net) (times : Timetable) (is : IsTimetable net times) where
   -- and the other way round
   pub late-moment : (q a k m : ℕ) → a < length net.times → StartsAt net a k m → before_of times a + q * pass_of times a ≤ k → times.table.entry + q * times.table.period < m
   late-moment q a k m actor at from =
-      let late : times.table.entry + q * times.table.period < start_of (earliest net at.by) a k = shared.starts-after net is.laws times.table short q at.by a k (omega (arith, counts-at q a actor)) at.there in
+      let late : times.table.entry + q * times.table.period < start_of (earliest net at.by) a k = shared.starts-after net is.laws is.inputs times.table is.loop q at.by a k (omega (arith, counts-at q a actor)) at.there in
       omega (arith, at.at)
 
   -- of n rounds few firings of an actor have started by then

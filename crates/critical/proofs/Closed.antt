@@ -6,7 +6,7 @@ use Rattle.critical.specs.declared.walk.Met.{Met}
 use Rattle.sd_base.specs.Net.{Net}
 use Rattle.critical.specs.CriticalCycles.{IsCriticalCycleOf}
 use Rattle.critical.specs.inside.Trails.{IsShortLoop, met_at, ComesAgain, raised_number, lowered_firing, IsLeastRounds, steps_of}
-use Rattle.critical.proofs.Turning.{closed, closed-is, closed-holds, closed-rate, closed-apart, closed-least, closed-turns, time-rises, passes-rise}
+use Rattle.critical.proofs.Turning.{closed, closed-is, closed-holds, closed-rate, closed-apart, closed-least, time-rises, passes-rise}
 use Rattle.critical.proofs.TightCycles.{cycle-tight}
 
 module _ (net : Net) (table : LoopTable) (loop : IsShortLoop net table) (met : List Met) (from rounds : ℕ) (again : ComesAgain net table met from)
@@ -26,13 +26,13 @@ module _ (net : Net) (table : LoopTable) (loop : IsShortLoop net table) (met : L
   closed-critical =
       let n : ℕ = length met - 1 in
       let holds = closed-holds net table loop (met_at met) n again.way rounds from before enough again.same in
-      let turns = closed-turns net table loop (met_at met) n again.way rounds from before enough again.same in
+      let rate = closed-rate net table loop (met_at met) n again.way rounds from before enough again.same in
       subst (IsCriticalCycleOf net table) (closed-is net table loop (met_at met) n again.way rounds from before enough again.same) (record {
         holds = holds;
-        rate = closed-rate net table loop (met_at met) n again.way rounds from before enough again.same;
+        rate = rate;
         apart = closed-apart net table loop (met_at met) n again.way rounds from before enough again.same again.apart;
         least = closed-least net table loop (met_at met) n again.way rounds from before enough again.same least.some.0 least.some.1 (omega (arith, least.some.2)) least.some.3;
-        tight = cycle-tight net table loop (closed net table loop (met_at met) n again.way rounds from before enough again.same) turns.0 holds turns.1 turns.2;
+        tight = cycle-tight net loop.laws loop.inputs table loop.loop (closed net table loop (met_at met) n again.way rounds from before enough again.same) holds rate;
       })
 
   pub times-in_order : (met_at met from).time ≤ (met_at met (length met - 1)).time

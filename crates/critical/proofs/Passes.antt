@@ -5,9 +5,10 @@ use Rattle.std.specs.Prelude.{slice_index}
 use Rattle.firing.specs.declared.table.LoopTable.{LoopTable}
 use Rattle.critical.specs.declared.cycle.FiringNo.{FiringNo}
 use Rattle.sd_base.specs.Net.{Net}
-use Rattle.sd_base.specs.Schedules.{time_of, Schedule, count_of, start_of, end_of, Earliest}
+use Rattle.sd_base.specs.Schedules.{time_of, Schedule, count_of, start_of, end_of, Earliest, HasInputs}
 use Rattle.sd_base.specs.SelfTimed.{earliest}
 use Rattle.sd_base.specs.Lawful.{Lawful}
+use Rattle.sd_base.specs.Rates.{IsLoopTable}
 use Rattle.sd_base.specs.Futures.{Repeats}
 use Rattle.sd_base.proofs.Parts.{regular}
 use Rattle.sd_base.proofs.Counts.{ended_at, ended-at-is}
@@ -15,60 +16,60 @@ use Rattle.sd_base.proofs.Rounds.{Whole}
 use Rattle.sd_base.proofs.Alike.{Alike, futures, since-then, since-whole, same-alike}
 use Rattle.sd_base.proofs.LoopPasses as passes
 use Rattle.critical.specs.CriticalCycles.{pass_of}
-use Rattle.critical.specs.inside.Trails.{IsShortLoop, IsSecond, second_of, listed_at}
+use Rattle.critical.specs.inside.Trails.{IsSecond, second_of, listed_at}
 
 -- the earliest schedule up to and with the end of pass q
 abbrev pub up_to : Net → LoopTable → ℕ → Schedule
 up_to net table q = earliest net (table.entry + q * table.period + 1)
 
-module _ (net : Net) (laws : Lawful net) (table : LoopTable) (loop : IsShortLoop net table) where
+module _ (net : Net) (laws : Lawful net) (inputs : HasInputs net) (table : LoopTable) (loop : IsLoopTable net table.entry table.period table.rounds table.before table.starts) where
   pub early : (t : ℕ) → Earliest net t (earliest net t)
-  early = passes.early net laws loop.inputs table.entry table.period table.rounds table.before table.starts loop.loop
+  early = passes.early net laws inputs table.entry table.period table.rounds table.before table.starts loop
 
   again : Repeats net table.entry (table.entry + table.period) (λ a. pass_of net table.rounds a)
-  again = passes.again net laws loop.inputs table.entry table.period table.rounds table.before table.starts loop.loop
+  again = passes.again net laws inputs table.entry table.period table.rounds table.before table.starts loop
 
   pub whole-passes : (n : ℕ) → Whole net (λ a. n * pass_of net table.rounds a)
-  whole-passes = passes.whole-passes net laws loop.inputs table.entry table.period table.rounds table.before table.starts loop.loop
+  whole-passes = passes.whole-passes net laws inputs table.entry table.period table.rounds table.before table.starts loop
 
   pub some-pass : (a : ℕ) → a < length net.times → 1 ≤ pass_of net table.rounds a
-  some-pass = passes.some-pass net laws loop.inputs table.entry table.period table.rounds table.before table.starts loop.loop
+  some-pass = passes.some-pass net laws inputs table.entry table.period table.rounds table.before table.starts loop
 
   pub time-passes : (n a k : ℕ) → a < length net.times → time_of net a (k + n * pass_of net table.rounds a) ≡ time_of net a k
-  time-passes = passes.time-passes net laws loop.inputs table.entry table.period table.rounds table.before table.starts loop.loop
+  time-passes = passes.time-passes net laws inputs table.entry table.period table.rounds table.before table.starts loop
 
   pub counts-at : (q a : ℕ) → count_of (up_to net table q) a ≡ count_of (earliest net (table.entry + 1)) a + q * pass_of net table.rounds a
-  counts-at = passes.counts-at net laws loop.inputs table.entry table.period table.rounds table.before table.starts loop.loop
+  counts-at = passes.counts-at net laws inputs table.entry table.period table.rounds table.before table.starts loop
 
   pub starts-after : (q t a k : ℕ) → count_of (up_to net table q) a ≤ k → k < count_of (earliest net t) a → table.entry + q * table.period < start_of (earliest net t) a k
-  starts-after = passes.starts-after net laws loop.inputs table.entry table.period table.rounds table.before table.starts loop.loop
+  starts-after = passes.starts-after net laws inputs table.entry table.period table.rounds table.before table.starts loop
 
   pub pass-on : (p q a k : ℕ) → k < count_of (up_to net table q) a → table.entry < end_of net (up_to net table q) a k →
       start_of (up_to net table (p + q)) a (k + p * pass_of net table.rounds a) ≡ start_of (up_to net table q) a k + p * table.period
-  pass-on = passes.pass-on net laws loop.inputs table.entry table.period table.rounds table.before table.starts loop.loop
+  pass-on = passes.pass-on net laws inputs table.entry table.period table.rounds table.before table.starts loop
 
   pub agree-at : (p q a k : ℕ) → k < count_of (up_to net table p) a → k < count_of (up_to net table q) a → start_of (up_to net table p) a k ≡ start_of (up_to net table q) a k
-  agree-at = passes.agree-at net laws loop.inputs table.entry table.period table.rounds table.before table.starts loop.loop
+  agree-at = passes.agree-at net laws inputs table.entry table.period table.rounds table.before table.starts loop
 
   pub enough-passes : (a k : ℕ) → a < length net.times → k < count_of (up_to net table (k + 1)) a
-  enough-passes = passes.enough-passes net laws loop.inputs table.entry table.period table.rounds table.before table.starts loop.loop
+  enough-passes = passes.enough-passes net laws inputs table.entry table.period table.rounds table.before table.starts loop
 
   pub grows : (a n : ℕ) → a < length net.times → n ≤ n * pass_of net table.rounds a
-  grows = passes.grows net laws loop.inputs table.entry table.period table.rounds table.before table.starts loop.loop
+  grows = passes.grows net laws inputs table.entry table.period table.rounds table.before table.starts loop
 
   -- ---- what has ended
 
   loop-passes : table.entry < table.entry + table.period
-  loop-passes = omega (arith, loop.loop.loop.passes)
+  loop-passes = omega (arith, loop.loop.passes)
 
   since : ℕ → ℕ
-  since = since-then net (regular net laws) loop.inputs table.entry (table.entry + table.period) loop-passes loop.loop.loop.same
+  since = since-then net (regular net laws) inputs table.entry (table.entry + table.period) loop-passes loop.loop.same
 
-  alike-at : (d : ℕ) → Alike net (regular net laws) loop.inputs since (ended_at net table.entry) (d + table.entry) (d + (table.entry + table.period))
+  alike-at : (d : ℕ) → Alike net (regular net laws) inputs since (ended_at net table.entry) (d + table.entry) (d + (table.entry + table.period))
   unfolding since
-  alike-at d = futures net (regular net laws) loop.inputs since (ended_at net table.entry) table.entry (table.entry + table.period)
-      (since-whole net (regular net laws) loop.inputs table.entry (table.entry + table.period) loop-passes loop.loop.loop.same)
-      (same-alike net (regular net laws) loop.inputs table.entry (table.entry + table.period) loop-passes loop.loop.loop.same) d
+  alike-at d = futures net (regular net laws) inputs since (ended_at net table.entry) table.entry (table.entry + table.period)
+      (since-whole net (regular net laws) inputs table.entry (table.entry + table.period) loop-passes loop.loop.same)
+      (same-alike net (regular net laws) inputs table.entry (table.entry + table.period) loop-passes loop.loop.same) d
 
   since-pass : (a : ℕ) → since a ≡ pass_of net table.rounds a
   since-pass a =
@@ -91,7 +92,7 @@ module _ (net : Net) (laws : Lawful net) (table : LoopTable) (loop : IsShortLoop
   runs-past q p a k there late = ⊎_elim
       (λ (h : k < ended_at net table.entry a + q * pass_of net table.rounds a). absurd (
       let early_one : k < ended_at net (q * table.period + table.entry) a = omega (arith, ended-passes q a) in
-      let is = ended-at-is net (regular net laws) loop.inputs (q * table.period + table.entry) a in
+      let is = ended-at-is net (regular net laws) inputs (q * table.period + table.entry) a in
       let e : suc (q * table.period + table.entry) ≡ table.entry + q * table.period + 1 = omega arith in
       let done : end_of net (earliest net (suc (q * table.period + table.entry))) a k ≤ q * table.period + table.entry = is.done k early_one in
       let within : k < count_of (earliest net (suc (q * table.period + table.entry))) a = omega (arith, is.within) in
@@ -106,7 +107,7 @@ module _ (net : Net) (laws : Lawful net) (table : LoopTable) (loop : IsShortLoop
   pub runs-on : (p a k : ℕ) → k < count_of (up_to net table p) a → ended_at net table.entry a ≤ k → table.entry < end_of net (up_to net table p) a k
   runs-on p a k there from =
       let e : suc table.entry ≡ table.entry + 0 * table.period + 1 = omega arith in
-      let is = ended-at-is net (regular net laws) loop.inputs table.entry a in
+      let is = ended-at-is net (regular net laws) inputs table.entry a in
       ⊎_elim
       (λ (now : k < count_of (up_to net table 0) a).
       let here : k < count_of (earliest net (suc table.entry)) a = subst (λ (t : ℕ). k < count_of (earliest net t) a) (sym e) now in
@@ -122,10 +123,10 @@ module _ (net : Net) (laws : Lawful net) (table : LoopTable) (loop : IsShortLoop
   -- ---- the second pass
 
   pub actors-same : length table.starts ≡ length net.times
-  actors-same = loop.loop.rows
+  actors-same = loop.rows
 
   pub listed-many : (a : ℕ) → a < length net.times → count_of table.starts a ≡ pass_of net table.rounds a
-  listed-many a actor = loop.loop.whole a actor
+  listed-many a actor = loop.whole a actor
 
   -- a firing of the second pass, by the earliest schedule
   pub record Second (x : FiringNo) : Type 0 where
@@ -135,7 +136,7 @@ module _ (net : Net) (laws : Lawful net) (table : LoopTable) (loop : IsShortLoop
     pub start : start_of (up_to net table 2) x.actor x.number ≡ listed_at table x + table.period
 
   pub second-from : (a : ℕ) → a < length net.times → count_of (up_to net table 1) a ≡ second_of table a
-  second-from a actor = omega (arith, counts-at 1 a, loop.loop.earlier a actor, loop.loop.whole a actor)
+  second-from a actor = omega (arith, counts-at 1 a, loop.earlier a actor, loop.whole a actor)
 
   pub second-is : (x : FiringNo) → IsSecond table x → Second x
   second-is x second =
@@ -143,16 +144,16 @@ module _ (net : Net) (laws : Lawful net) (table : LoopTable) (loop : IsShortLoop
       let k : ℕ = x.number - second_of table a in
       let actor : a < length net.times = omega (arith, second.actor, actors-same) in
       let many : count_of table.starts a ≡ pass_of net table.rounds a = listed-many a actor in
-      let earlier : slice_index table.before a ≡ count_of (earliest net (table.entry + 1)) a = loop.loop.earlier a actor in
+      let earlier : slice_index table.before a ≡ count_of (earliest net (table.entry + 1)) a = loop.earlier a actor in
       let listed : k < count_of table.starts a = omega (arith, second.from, second.below) in
       let first : table.entry + table.period + 1 ≡ table.entry + 1 * table.period + 1 = omega arith in
-      let moment : start_of table.starts a k ≡ start_of (up_to net table 1) a (slice_index table.before a + k) = rw first at (loop.loop.moments a k actor listed) in
+      let moment : start_of table.starts a k ≡ start_of (up_to net table 1) a (slice_index table.before a + k) = rw first at (loop.moments a k actor listed) in
       let there : slice_index table.before a + k < count_of (up_to net table 1) a = omega (arith, counts-at 1 a) in
       let zeroth : table.entry + 1 ≡ table.entry + 0 * table.period + 1 = omega arith in
       let late : table.entry + 0 * table.period < start_of (up_to net table 1) a (slice_index table.before a + k) =
       starts-after 0 (table.entry + 1 * table.period + 1) a (slice_index table.before a + k) (omega (arith, counts-at 0 a)) there in
       let on : start_of (up_to net table 2) a ((slice_index table.before a + k) + pass_of net table.rounds a) ≡ start_of (up_to net table 1) a (slice_index table.before a + k) + table.period =
-      passes.step-on net laws loop.inputs table.entry table.period table.rounds table.before table.starts loop.loop 1 a (slice_index table.before a + k) there (omega arith) in
+      passes.step-on net laws inputs table.entry table.period table.rounds table.before table.starts loop 1 a (slice_index table.before a + k) there (omega arith) in
       let place : (slice_index table.before a + k) + pass_of net table.rounds a ≡ x.number = omega (arith, second.from) in
       let here : start_of (up_to net table 2) a x.number ≡ start_of (up_to net table 1) a (slice_index table.before a + k) + table.period = rw place at on in
       record {

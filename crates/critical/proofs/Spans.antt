@@ -83,6 +83,19 @@ module _ (net : Net) (laws : Lawful net) (cycle : NeedCycle) (holds : HoldsOn ne
         let more : suc n * cycle.time ≡ n * cycle.time + cycle.time = omega arith in
         omega (arith, spans.apart, many-turns n spans.there)
 
+    -- so many turns after so many others take no less than their times
+    pub turns-apart : (m n : ℕ) → cycle.first.number + (n + m) * turn < count_of s cycle.first.actor →
+        Spans s cycle.first.actor (cycle.first.number + n * turn) (m * cycle.time) cycle.first.actor (cycle.first.number + (n + m) * turn)
+    turns-apart zero n there =
+        let e : n + 0 ≡ n = omega arith in
+        rw e (record { there = rw e at there; apart = omega arith })
+    turns-apart (suc m) n there =
+        let e : n + suc m ≡ suc (n + m) = omega arith in
+        let last = one-turn (n + m) (rw e at there) in
+        let before = turns-apart m n last.there in
+        let more : suc m * cycle.time ≡ m * cycle.time + cycle.time = omega arith in
+        rw e (record { there = before.there; apart = omega (arith, before.apart, last.apart) })
+
     some-turn : 1 ≤ turn
     unfolding turn
     some-turn = mul-le-mul holds.some_round ((balanced net laws).fires cycle.first.actor (first-actor net laws cycle.first cycle.steps holds.some_step holds.chain))

@@ -50,14 +50,14 @@ single-need c j taken tokens rate need at_taken at_tokens short one here some is
     }
 
 module _ (net : Net) (laws : Lawful net) (table : LoopTable) (loop : IsShortLoop net table) (later : FiringNo) (second : IsSecond table later) where
-  read : Second net laws table loop later
-  read = second-is net laws table loop later second
+  read : Second net laws loop.inputs table loop.loop later
+  read = second-is net laws loop.inputs table loop.loop later second
 
   -- a needed firing has started by the end of the second pass
   need-there : (i m : ℕ) → i < length net.channels → (channel_at net i).target ≡ later.actor → LastNeed (channel_at net i) later.number m → m < count_of (up_to net table 2) (channel_at net i).source
   need-there i m place into last =
       let there : later.number < count_of (up_to net table 2) (channel_at net i).target = rw into read.below in
-      ((early net laws table loop (table.entry + 2 * table.period + 1)).admissible.fed i later.number m place there last.needed).0
+      ((early net laws loop.inputs table loop.loop (table.entry + 2 * table.period + 1)).admissible.fed i later.number m place there last.needed).0
 
   -- it is read where it has been moved on far enough, and no further
   pub read-from : (i m : ℕ) → i < length net.channels → (channel_at net i).target ≡ later.actor → LastNeed (channel_at net i) later.number m → (passes : ℕ) →
@@ -69,13 +69,13 @@ module _ (net : Net) (laws : Lawful net) (table : LoopTable) (loop : IsShortLoop
       let b : ℕ = (channel_at net i).source in
       let actor : b < length net.times = laws.sources i place in
       let there : m < count_of (up_to net table 2) b = need-there i m place into last in
-      let many : count_of table.starts b ≡ pass_of net table.rounds b = listed-many net laws table loop b actor in
-      let past : m < second_of table b + count_of table.starts b = omega (arith, counts-at net laws table loop 2 b, counts-at net laws table loop 1 b, second-from net laws table loop b actor) in
+      let many : count_of table.starts b ≡ pass_of net table.rounds b = listed-many net laws loop.inputs table loop.loop b actor in
+      let past : m < second_of table b + count_of table.starts b = omega (arith, counts-at net laws loop.inputs table loop.loop 2 b, counts-at net laws loop.inputs table loop.loop 1 b, second-from net laws loop.inputs table loop.loop b actor) in
       record {
         channel = refl;
         source = refl;
         second = record {
-          actor = omega (arith, actor, actors-same net laws table loop);
+          actor = omega (arith, actor, actors-same net laws loop.inputs table loop.loop);
           from = reaches;
           below = ⊎_elim (λ (early_one : m < second_of table b). least early_one)
               (λ (h : second_of table b ≤ m). let nothing : passes * count_of table.starts b ≡ 0 * count_of table.starts b = ap (λ (x : ℕ). x * count_of table.starts b) (none h) in omega arith)
@@ -104,16 +104,16 @@ module _ (net : Net) (laws : Lawful net) (table : LoopTable) (loop : IsShortLoop
       let there : m < count_of (up_to net table 2) b = rw from.source at (need-there i m place into last) in
       let ends : end_of net (up_to net table 2) b m ≡ start_of (up_to net table 2) later.actor later.number =
       subst (λ (x : ℕ). end_of net (up_to net table 2) x m ≡ start_of (up_to net table 2) later.actor later.number) from.source just in
-      let z = second-is net laws table loop need.firing from.second in
-      let late : table.entry + 1 * table.period < start_of (up_to net table 2) later.actor later.number = starts-after net laws table loop 1 (table.entry + 2 * table.period + 1) later.actor later.number read.from read.below in
-      let many : count_of table.starts b ≡ pass_of net table.rounds b = listed-many net laws table loop b z.actor in
+      let z = second-is net laws loop.inputs table loop.loop need.firing from.second in
+      let late : table.entry + 1 * table.period < start_of (up_to net table 2) later.actor later.number = starts-after net laws loop.inputs table loop.loop 1 (table.entry + 2 * table.period + 1) later.actor later.number read.from read.below in
+      let many : count_of table.starts b ≡ pass_of net table.rounds b = listed-many net laws loop.inputs table loop.loop b z.actor in
       let place_of : m + need.passes * pass_of net table.rounds b ≡ need.firing.number = ap (λ (x : ℕ). m + need.passes * x) (sym many) ∙ from.read in
       let on : start_of (up_to net table (need.passes + 2)) b (m + need.passes * pass_of net table.rounds b) ≡ start_of (up_to net table 2) b m + need.passes * table.period =
-      pass-on net laws table loop need.passes 2 b m there (omega arith) in
-      let far : need.firing.number < count_of (up_to net table (need.passes + 2)) b = omega (arith, z.below, counts-at net laws table loop (need.passes + 2) b, counts-at net laws table loop 2 b) in
-      let same : start_of (up_to net table (need.passes + 2)) b need.firing.number ≡ start_of (up_to net table 2) b need.firing.number = agree-at net laws table loop (need.passes + 2) 2 b need.firing.number far z.below in
+      pass-on net laws loop.inputs table loop.loop need.passes 2 b m there (omega arith) in
+      let far : need.firing.number < count_of (up_to net table (need.passes + 2)) b = omega (arith, z.below, counts-at net laws loop.inputs table loop.loop (need.passes + 2) b, counts-at net laws loop.inputs table loop.loop 2 b) in
+      let same : start_of (up_to net table (need.passes + 2)) b need.firing.number ≡ start_of (up_to net table 2) b need.firing.number = agree-at net laws loop.inputs table loop.loop (need.passes + 2) 2 b need.firing.number far z.below in
       let here : start_of (up_to net table (need.passes + 2)) b need.firing.number ≡ start_of (up_to net table 2) b m + need.passes * table.period = rw place_of at on in
-      let time : time_of net b need.firing.number ≡ time_of net b m = rw place_of at (time-passes net laws table loop need.passes b m z.actor) in
+      let time : time_of net b need.firing.number ≡ time_of net b m = rw place_of at (time-passes net laws loop.inputs table loop.loop need.passes b m z.actor) in
       omega (arith, z.start, read.start)
 
   -- and back
@@ -122,17 +122,17 @@ module _ (net : Net) (laws : Lawful net) (table : LoopTable) (loop : IsShortLoop
   read-just i m need place into last from just =
       let b : ℕ = need.firing.actor in
       let there : m < count_of (up_to net table 2) b = rw from.source at (need-there i m place into last) in
-      let z = second-is net laws table loop need.firing from.second in
-      let late : table.entry + 1 * table.period < start_of (up_to net table 2) later.actor later.number = starts-after net laws table loop 1 (table.entry + 2 * table.period + 1) later.actor later.number read.from read.below in
-      let many : count_of table.starts b ≡ pass_of net table.rounds b = listed-many net laws table loop b z.actor in
+      let z = second-is net laws loop.inputs table loop.loop need.firing from.second in
+      let late : table.entry + 1 * table.period < start_of (up_to net table 2) later.actor later.number = starts-after net laws loop.inputs table loop.loop 1 (table.entry + 2 * table.period + 1) later.actor later.number read.from read.below in
+      let many : count_of table.starts b ≡ pass_of net table.rounds b = listed-many net laws loop.inputs table loop.loop b z.actor in
       let place_of : m + need.passes * pass_of net table.rounds b ≡ need.firing.number = ap (λ (x : ℕ). m + need.passes * x) (sym many) ∙ from.read in
-      let past : ended_at net table.entry b + need.passes * pass_of net table.rounds b ≤ need.firing.number = runs-past net laws table loop need.passes 2 b need.firing.number z.below (omega (arith, z.start, read.start)) in
-      let runs : table.entry < end_of net (up_to net table 2) b m = runs-on net laws table loop 2 b m there (omega arith) in
-      let on : start_of (up_to net table (need.passes + 2)) b (m + need.passes * pass_of net table.rounds b) ≡ start_of (up_to net table 2) b m + need.passes * table.period = pass-on net laws table loop need.passes 2 b m there runs in
-      let far : need.firing.number < count_of (up_to net table (need.passes + 2)) b = omega (arith, z.below, counts-at net laws table loop (need.passes + 2) b, counts-at net laws table loop 2 b) in
-      let same : start_of (up_to net table (need.passes + 2)) b need.firing.number ≡ start_of (up_to net table 2) b need.firing.number = agree-at net laws table loop (need.passes + 2) 2 b need.firing.number far z.below in
+      let past : ended_at net table.entry b + need.passes * pass_of net table.rounds b ≤ need.firing.number = runs-past net laws loop.inputs table loop.loop need.passes 2 b need.firing.number z.below (omega (arith, z.start, read.start)) in
+      let runs : table.entry < end_of net (up_to net table 2) b m = runs-on net laws loop.inputs table loop.loop 2 b m there (omega arith) in
+      let on : start_of (up_to net table (need.passes + 2)) b (m + need.passes * pass_of net table.rounds b) ≡ start_of (up_to net table 2) b m + need.passes * table.period = pass-on net laws loop.inputs table loop.loop need.passes 2 b m there runs in
+      let far : need.firing.number < count_of (up_to net table (need.passes + 2)) b = omega (arith, z.below, counts-at net laws loop.inputs table loop.loop (need.passes + 2) b, counts-at net laws loop.inputs table loop.loop 2 b) in
+      let same : start_of (up_to net table (need.passes + 2)) b need.firing.number ≡ start_of (up_to net table 2) b need.firing.number = agree-at net laws loop.inputs table loop.loop (need.passes + 2) 2 b need.firing.number far z.below in
       let here : start_of (up_to net table (need.passes + 2)) b need.firing.number ≡ start_of (up_to net table 2) b m + need.passes * table.period = rw place_of at on in
-      let time : time_of net b need.firing.number ≡ time_of net b m = rw place_of at (time-passes net laws table loop need.passes b m z.actor) in
+      let time : time_of net b need.firing.number ≡ time_of net b m = rw place_of at (time-passes net laws loop.inputs table loop.loop need.passes b m z.actor) in
       let ends : end_of net (up_to net table 2) b m ≡ start_of (up_to net table 2) later.actor later.number = omega (arith, z.start, read.start) in
       subst (λ (x : ℕ). end_of net (up_to net table 2) x m ≡ start_of (up_to net table 2) later.actor later.number) (sym from.source) ends
 
@@ -152,7 +152,7 @@ module _ (net : Net) (laws : Lawful net) (table : LoopTable) (loop : IsShortLoop
   -- not all channels into the actor are slack
   not-slack : ¬ ((i : ℕ) → i < length net.channels → (channel_at net i).target ≡ later.actor → IsSlackOn net table later i)
   not-slack all =
-      let late : table.entry + 1 * table.period < start_of (up_to net table 2) later.actor later.number = starts-after net laws table loop 1 (table.entry + 2 * table.period + 1) later.actor later.number read.from read.below in
+      let late : table.entry + 1 * table.period < start_of (up_to net table 2) later.actor later.number = starts-after net laws loop.inputs table loop.loop 1 (table.entry + 2 * table.period + 1) later.actor later.number read.from read.below in
       let found = tight net (regular net laws) loop.inputs (table.entry + 2 * table.period + 1) later.actor later.number read.below (omega arith) in
       let need : TightNeed net (up_to net table 2) later.actor later.number found.0 found.1 = found.2 in
       all found.0 need.place need.into found.1 need.last need.just

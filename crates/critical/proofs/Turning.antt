@@ -25,7 +25,7 @@ use Rattle.critical.proofs.Marking.{firing-same}
 
 module _ (net : Net) (table : LoopTable) (loop : IsShortLoop net table) where
   is-actor : (x : FiringNo) → IsSecond table x → x.actor < length net.times
-  is-actor x second = omega (arith, second.actor, actors-same net loop.laws table loop)
+  is-actor x second = omega (arith, second.actor, actors-same net loop.laws loop.inputs table loop.loop)
 
   pub some-round : (x : FiringNo) → IsSecond table x → 1 ≤ slice_index net.round x.actor
   some-round x second = (balanced net loop.laws).fires x.actor (is-actor x second)
@@ -95,9 +95,9 @@ module _ (net : Net) (table : LoopTable) (loop : IsShortLoop net table) where
           let b : ℕ = (at m).firing.actor in
           let left : ℕ = (at n).passes - (at m).passes in
           let actor : a < length net.times = is-actor (at (suc m)).firing leads.need.read.second in
-          let many : count_of table.starts a ≡ pass_of net table.rounds a = listed-many net loop.laws table loop a actor in
+          let many : count_of table.starts a ≡ pass_of net table.rounds a = listed-many net loop.laws loop.inputs table loop.loop a actor in
           let up : LastNeed (channel_at net i) ((at m).firing.number + left * pass_of net table.rounds b) (leads.need.number + left * pass_of net table.rounds a) =
-          last-up net (λ (c : ℕ). left * pass_of net table.rounds c) (whole-passes net loop.laws table loop left) i leads.need.place a b (at m).firing.number leads.need.number leads.need.read.source leads.need.target leads.need.last in
+          last-up net (λ (c : ℕ). left * pass_of net table.rounds c) (whole-passes net loop.laws loop.inputs table loop.loop left) i leads.need.place a b (at m).firing.number leads.need.number leads.need.read.source leads.need.target leads.need.last in
           let to : (at m).firing.number + left * pass_of net table.rounds b ≡ (forward_at m).number + rounds * slice_index net.round b = sym (raised-up m late (omega arith)) in
           let on : leads.need.number + leads.passes * pass_of net table.rounds a ≡ (at (suc m)).firing.number = ap (λ (x : ℕ). leads.need.number + leads.passes * x) (sym many) ∙ leads.need.read.read in
           let parts : left ≡ leads.passes + ((at n).passes - (at (suc m)).passes) = omega (arith, leads.on, passes-rise (suc m) n (omega arith) (omega arith)) in
@@ -116,7 +116,7 @@ module _ (net : Net) (table : LoopTable) (loop : IsShortLoop net table) where
           let a : ℕ = (at i).firing.actor in
           let actor : a < length net.times = is-actor (at i).firing (way.second i within) in
           let lower : time_of net a ((forward_at i).number + rounds * slice_index net.round a) ≡ time_of net a (forward_at i).number = time-shift net (λ (c : ℕ). rounds * slice_index net.round c) (rounds-whole net loop.laws rounds) a (forward_at i).number actor in
-          let higher : time_of net a ((at i).firing.number + ((at n).passes - (at i).passes) * pass_of net table.rounds a) ≡ time_of net a (at i).firing.number = time-passes net loop.laws table loop ((at n).passes - (at i).passes) a (at i).firing.number actor in
+          let higher : time_of net a ((at i).firing.number + ((at n).passes - (at i).passes) * pass_of net table.rounds a) ≡ time_of net a (at i).firing.number = time-passes net loop.laws loop.inputs table loop.loop ((at n).passes - (at i).passes) a (at i).firing.number actor in
           sym lower ∙ (ap (time_of net a) (raised-up i late within) ∙ higher)
 
       channel_to : ℕ → ℕ
@@ -234,8 +234,8 @@ module _ (net : Net) (table : LoopTable) (loop : IsShortLoop net table) where
               let a : ℕ = (at i).firing.actor in
               let v : ℕ = pass_of net table.rounds a in
               let actor : a < length net.times = is-actor (at i).firing (way.second i (omega arith)) in
-              let some : 1 ≤ v = some-pass net loop.laws table loop a actor in
-              let many : count_of table.starts a ≡ v = listed-many net loop.laws table loop a actor in
+              let some : 1 ≤ v = some-pass net loop.laws loop.inputs table loop.loop a actor in
+              let many : count_of table.starts a ≡ v = listed-many net loop.laws loop.inputs table loop.loop a actor in
               let there : (forward_at j).number + rounds * slice_index net.round a ≡ (at j).firing.number + ((at n).passes - (at j).passes) * v =
               subst (λ (b : ℕ). (forward_at j).number + rounds * slice_index net.round b ≡ (at j).firing.number + ((at n).passes - (at j).passes) * pass_of net table.rounds b) (sym actors) (raised-up j (omega arith) (omega arith)) in
               let here : (forward_at i).number + rounds * slice_index net.round a ≡ (at i).firing.number + ((at n).passes - (at i).passes) * v = raised-up i late (omega arith) in
@@ -291,8 +291,3 @@ module _ (net : Net) (table : LoopTable) (loop : IsShortLoop net table) where
         }
         unfolding closed turned forward_at steps_forward channel_to
         closed-is = refl
-
-        -- it turns so many passes round
-        pub closed-turns : (d : ℕ) × (closed.rounds ≡ d * table.rounds) × (closed.time ≡ d * table.period)
-        unfolding closed
-        closed-turns = (turned, refl, cycle-time)

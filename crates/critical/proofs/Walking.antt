@@ -89,8 +89,8 @@ module _ (net : Net) (table : LoopTable) (loop : IsShortLoop net table) where
   pub need-near : (later : FiringNo) (need : ReadNeed) → IsTightNeed net table later need → need.passes * table.rounds ≤ 8000000
   need-near later need is =
       let b : ℕ = need.firing.actor in
-      let actor : b < length net.times = omega (arith, is.read.second.actor, actors-same net loop.laws table loop) in
-      let many : count_of table.starts b ≡ pass_of net table.rounds b = listed-many net loop.laws table loop b actor in
+      let actor : b < length net.times = omega (arith, is.read.second.actor, actors-same net loop.laws loop.inputs table loop.loop) in
+      let many : count_of table.starts b ≡ pass_of net table.rounds b = listed-many net loop.laws loop.inputs table loop.loop b actor in
       let few : second_of table b ≤ 4000000 = loop.short.few b is.read.second.actor in
       let below : need.firing.number < second_of table b + count_of table.starts b = is.read.second.below in
       let fires : table.rounds * 1 ≤ table.rounds * slice_index net.round b = mul-le-mul_left table.rounds ((balanced net loop.laws).fires b actor) in
@@ -99,7 +99,7 @@ module _ (net : Net) (table : LoopTable) (loop : IsShortLoop net table) where
 
   pub short-time : (x : FiringNo) → IsSecond table x → time_of net x.actor x.number ≤ 1000000000
   short-time x second =
-      let actor : x.actor < length net.times = omega (arith, second.actor, actors-same net loop.laws table loop) in
+      let actor : x.actor < length net.times = omega (arith, second.actor, actors-same net loop.laws loop.inputs table loop.loop) in
       loop.laws.short_times x.actor _ actor (mod-lt x.number (loop.laws.some_phase x.actor actor))
 
   pub way-first : (here : Met) → IsSecond table here.firing → here.passes ≡ 0 → here.time ≡ 0 → IsTrail net table (met_then [] here) 0
