@@ -7,5 +7,6 @@ pub mod LoopTables
 pub mod RatesExist
 mod Roomier
 pub mod BoundsBelow
+mod ShownWithMoreRoom
 mod Reached
 mod Elsewhere

@@ -14,7 +14,7 @@ use Rattle.storage.specs.inside.Easing.{Eases}
 use Rattle.storage.proofs.Easings.{eases-fires, eases-live}
 use Rattle.storage.proofs.Roundings.{bound-eases, more-eases}
 
-more-room : (net : Net) (ds es : List (Option ℕ)) → AtMost ds es → Eases (bound net ds) (bound net es)
+pub more-room : (net : Net) (ds es : List (Option ℕ)) → AtMost ds es → Eases (bound net ds) (bound net es)
 more-room net ds es most = bound-eases net ds es (more-eases 0 net.channels ds es most)
 
 pub more-reached : (net : Net) (ds es : List (Option ℕ)) (counts : List ℕ) → AtMost ds es → AreReachedCounts (bound net ds) counts → AreReachedCounts (bound net es) counts

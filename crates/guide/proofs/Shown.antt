@@ -40,7 +40,8 @@ step-shows net entry period rounds from step c is tight role = record {
         subst (λ (a : ℕ). end_of net (earliest net (entry + 2 * period + 1)) (channel_at net step.channel).source tight.need ≡ start_of (earliest net (entry + 2 * period + 1)) a tight.later) (sym is.target)
         (subst (λ (a : ℕ). end_of net (earliest net (entry + 2 * period + 1)) a tight.need ≡ start_of (earliest net (entry + 2 * period + 1)) step.to.actor tight.later) (sym is.source) tight.just)
 
-chain-shows : (net : Net) (entry period rounds : ℕ) (from : FiringNo) (steps : List CycleStep) → IsChain net from steps → AreTight net entry period rounds from steps → (i c : ℕ) → i < length steps → IsSpaceAt net steps i c → IsDependency net entry period c
+-- the free spaces on a chain with tight needs alone are storage dependencies
+pub chain-shows : (net : Net) (entry period rounds : ℕ) (from : FiringNo) (steps : List CycleStep) → IsChain net from steps → AreTight net entry period rounds from steps → (i c : ℕ) → i < length steps → IsSpaceAt net steps i c → IsDependency net entry period c
 chain-shows net entry period rounds from [] chain tight i c below space = absurd (omega arith)
 chain-shows net entry period rounds from (step ∷ steps) chain tight zero c below space = step-shows net entry period rounds from step c chain.0 tight.0 space
 chain-shows net entry period rounds from (step ∷ steps) chain tight (suc i) c below space = chain-shows net entry period rounds step.to steps chain.1 tight.1 i c (omega arith) space

@@ -14,6 +14,7 @@ ghost use Rattle.firing.specs.Wiring.{IsWiringOf};
 ghost use Rattle.firing.specs.declared.wiring.Wiring.{Wiring as Wires};
 ghost use Rattle.liveness.specs.RoundAnswers.{AreReachedCounts};
 ghost use Rattle.storage.specs.BoundedNets.{bound};
+ghost use Rattle.storage.specs.ClosedLists.{AgreesOn};
 ghost use Rattle.storage.specs.Distributions.{AtMost, IsDistribution, capacity_at};
 ghost use Rattle.storage.specs.ShownSpaces.{ShowsSpace};
 ghost use Rattle.guide.specs.declared.rating.Evaluation.{Evaluation};
@@ -66,4 +67,13 @@ pub fn distributions_have_rates()
 pub fn evaluations_bound_what_they_cover()
     ensures { (net : Net) (ds es : List (Option ℕ)) (states : ℕ) (e : Evaluation) (x y : ℕ) → Lawful net → IsEvaluable net ds → IsEvaluable net es →
         IsEvaluated net ds states e → CoversOn e.enlarge ds es → Rate (bound net es) x y → x * e.rate.den ≤ e.rate.num * y }
+{}
+
+/// What an evaluation shows holds back, too, each distribution that has no less room anywhere and just as much on the channels
+/// that it shows: these have the same rate, and the channels are in its guide.
+pub fn evaluations_guide_what_they_tell()
+    ensures guide { (net : Net) (ds es : List (Option ℕ)) (states : ℕ) (e : Evaluation) (c : ℕ) → Lawful net → IsEvaluable net es → IsEvaluated net ds states e →
+        AtMost ds es → AgreesOn e.enlarge ds es → Contains e.enlarge c → IsInGuide net es c }
+    ensures rate { (net : Net) (ds es : List (Option ℕ)) (states : ℕ) (e : Evaluation) (x y : ℕ) → Lawful net → IsEvaluable net es → IsEvaluated net ds states e →
+        AtMost ds es → AgreesOn e.enlarge ds es → Rate (bound net es) x y → x * e.rate.den ≡ e.rate.num * y }
 {}

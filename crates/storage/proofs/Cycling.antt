@@ -36,7 +36,7 @@ module _ (net : Net) (ds es : List (Option ℕ)) (most : AtMost ds es) where
   space-stays i below same = let at : SpaceAt 0 net.channels ds (slice_index_or (spaces_from 0 net.channels ds) i nowhere) = spaces-tell 0 net.channels ds i below in let role : (slice_index_or (spaces_from 0 net.channels ds) i nowhere).role ≡ Space (0 + at.place) = ap (λ (c : Channel). c.role) at.is in let e : 0 + at.place ≡ at.place = omega arith in let kept : capacity_at ds at.place ≡ capacity_at es at.place = same at.place (role ∙ ap Space e) in let there = spaces-there 0 net.channels es at.place at.room at.below (sym kept ∙ at.has) in let roles : (slice_index_or (spaces_from 0 net.channels ds) i nowhere).role ≡ (slice_index_or (spaces_from 0 net.channels es) i nowhere).role =
       pairs-at SameRole (spaces_from 0 net.channels ds) (spaces_from 0 net.channels es) (same-roles 0 net.channels ds es most) i (omega (arith, long)) in let found : (slice_index_or (spaces_from 0 net.channels es) there.0 nowhere).role ≡ Space (0 + at.place) = ap (λ (c : Channel). c.role) there.2 in let place : there.0 ≡ i = spaces-one 0 net.channels es there.0 i there.1 (omega (arith, long)) (found ∙ (sym role ∙ roles)) in at.is ∙ (sym there.2 ∙ ap (λ (n : ℕ). slice_index_or (spaces_from 0 net.channels es) n nowhere) place)
 
-  channel-stays : (i : ℕ) → i < length (bound net ds).channels → ((c : ℕ) → (channel_at (bound net ds) i).role ≡ Space c → capacity_at ds c ≡ capacity_at es c) → channel_at (bound net ds) i ≡ channel_at (bound net es) i
+  pub channel-stays : (i : ℕ) → i < length (bound net ds).channels → ((c : ℕ) → (channel_at (bound net ds) i).role ≡ Space c → capacity_at ds c ≡ capacity_at es c) → channel_at (bound net ds) i ≡ channel_at (bound net es) i
   channel-stays i below same = ⊎_elim (λ (here : i < length net.channels). bound-front net ds i here ∙ sym (bound-front net es i here)) (λ (later : length net.channels ≤ i). let back : channel_at (bound net ds) i ≡ slice_index_or (spaces_from 0 net.channels ds) (i - length net.channels) nowhere = get_or-append_right net.channels (spaces_from 0 net.channels ds) (length net.channels) i nowhere refl later in let other : channel_at (bound net es) i ≡ slice_index_or (spaces_from 0 net.channels es) (i - length net.channels) nowhere = get_or-append_right net.channels (spaces_from 0 net.channels es) (length net.channels) i nowhere refl later in let stays : slice_index_or (spaces_from 0 net.channels ds) (i - length net.channels) nowhere ≡ slice_index_or (spaces_from 0 net.channels es) (i - length net.channels) nowhere =
       space-stays (i - length net.channels) (omega (arith, bound-long net ds)) (λ c role. same c (ap (λ (x : Channel). x.role) back ∙ role)) in back ∙ (stays ∙ sym other)) (cases_lt i (length net.channels))
 
