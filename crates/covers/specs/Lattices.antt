@@ -1,5 +1,5 @@
 -- The lattice of capacities: by bounded channel those that are looked at, and the storage that a vector of them needs.
-use Rattle.std.specs.Prelude.{◌≡◌, ℕ, ◌+◌, ◌*◌, ◌≤◌, ◌<◌, List, [], ◌∷◌, length, slice_index, slice_index_or}
+use Rattle.std.specs.Prelude.{◌≡◌, ℕ, ◌+◌, ◌*◌, ◌≤◌, ◌<◌, List, [], ◌∷◌, length, map, slice_index, slice_index_or}
 use Rattle.covers.specs.declared.lattice.Axis.{Axis}
 use Rattle.covers.specs.declared.lattice.Lattice.{Lattice}
 
@@ -11,6 +11,10 @@ IsOnAxis a k = (n : ℕ) × (k ≡ a.corner + n * a.step)
 pub record IsOnLattice (axes : List Axis) (ks : List ℕ) : Type 0 where
   pub long : length ks ≡ length axes
   pub each : (c : ℕ) (a : Axis) → c < length axes → IsOnAxis (slice_index_or axes c a) (slice_index ks c)
+
+-- by channel the least capacity
+abbrev pub corner_of : List Axis → List ℕ
+corner_of axes = map (λ (a : Axis). a.corner) axes
 
 -- the sum over the channels of the capacity times the size of a token
 abbrev pub storage_of : List Axis → List ℕ → ℕ

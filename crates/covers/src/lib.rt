@@ -20,3 +20,4 @@ mod ways;
 pub use bound::{Bound, Cap};
 pub use lattice::{Axis, Lattice};
 pub use search::{Level, Order, Search};
+pub use vectors::{capacity_at, set_capacity, storage_within};

@@ -7,6 +7,6 @@ pub mod LoopTables
 pub mod RatesExist
 mod Roomier
 pub mod BoundsBelow
-mod ShownWithMoreRoom
+pub mod ShownWithMoreRoom
 mod Reached
 mod Elsewhere

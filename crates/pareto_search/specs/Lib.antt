@@ -1,0 +1,2 @@
+pub mod TradeOffs
+pub mod inside

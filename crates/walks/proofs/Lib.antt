@@ -1,0 +1,7 @@
+pub mod Steps
+pub mod MoreTold
+pub mod FirstHolder
+pub mod Between
+pub mod Lacking
+pub mod MostLacking
+pub mod WalkEnds
