@@ -11,7 +11,7 @@ use Rattle.covers.specs.declared.bound.Bound.{Bound}
 use Rattle.covers.specs.declared.lattice.Lattice.{Lattice}
 use Rattle.covers.specs.declared.search.Search.{Search}
 use Rattle.covers.specs.Bounds.{IsAtMost, IsCovered}
-use Rattle.covers.specs.Lattices.{IsAmong, storage_of}
+use Rattle.covers.specs.Lattices.{storage_of}
 use Rattle.covers.specs.Searches.{IsSearched}
 use Rattle.covers.proofs.Forces.{covered-added, covered-reached}
 use Rattle.walks.specs.declared.telling.Telling.{Telling}

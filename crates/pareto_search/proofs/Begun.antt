@@ -1,23 +1,20 @@
 -- A search begins with nothing known.
 use Rattle.std.proofs.Common.{◌≡◌, ℕ, ◌*◌, ◌≤◌, Option, None, List, [], drop, length, take, sym, ap, subst, arith, mul-le-mul_right}
-use Rattle.std.specs.Prelude.{All, Contains, slice_get}
+use Rattle.std.specs.Prelude.{All, Contains}
 use Rattle.std.proofs.lemmas.List.Elements.{All-nil}
 use Rattle.sd_base.proofs.Containing.{contains-none, get-contains}
 use Rattle.sd_base.specs.declared.limits.Limits.{Limits}
 use Rattle.sd_base.specs.Net.{Net}
 use Rattle.pareto_front.specs.declared.point.Point.{Point}
-use Rattle.covers.specs.declared.bound.Bound.{Bound}
 use Rattle.covers.specs.declared.lattice.Lattice.{Lattice}
 use Rattle.covers.specs.declared.search.Order.TheVariants.{Storage}
 use Rattle.covers.specs.Bounds.{IsAtMost}
 use Rattle.covers.specs.Lattices.{storage_of}
 use Rattle.covers.specs.Searches.{IsSearched}
 use Rattle.walks.specs.declared.telling.Telling.{Telling}
-use Rattle.pareto_search.specs.declared.known.Looped.{Looped}
-use Rattle.pareto_search.specs.declared.searching.Due.{Due}
 use Rattle.pareto_search.specs.declared.searching.Searching.{Searching}
 use Rattle.pareto_search.specs.inside.Knowledge.{IsKnown, IsLooped, IsTold}
-use Rattle.pareto_search.specs.inside.Turns.{AreBoundsOf, AreRising, HasPoint, IsDue, IsPointed, IsSameRate, IsStanding}
+use Rattle.pareto_search.specs.inside.Turns.{AreBoundsOf, AreRising, IsDue, IsPointed, IsSameRate, IsStanding}
 
 module _ (net : Net) (limits : Limits) (corner : List (Option ℕ)) (lattice : Lattice) (s : Searching) (searched : IsSearched s.bounds) (order : s.bounds.order ≡ Storage) (lattice_is : s.bounds.lattice ≡ lattice) (bounds : s.bounds.bounds.items ≡ []) (best : s.bounds.best.num ≡ 0) (tellings : s.known.tellings.items ≡ []) (loops : s.known.loops.items ≡ []) (points : s.points.items ≡ []) (below : s.below.num ≡ 0) (due : s.due ≡ None) where
   none-told : (t : Telling) → Contains s.known.tellings.items t → ⊥

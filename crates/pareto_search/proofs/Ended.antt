@@ -1,5 +1,5 @@
 -- A search that is over has the front.
-use Rattle.std.proofs.Common.{◌≡◌, ℕ, zero, suc, ◌+◌, ◌*◌, ◌≤◌, ◌<◌, Option, List, [], ◌∷◌, length, map, take, sym, subst, arith}
+use Rattle.std.proofs.Common.{◌≡◌, ℕ, zero, suc, ◌*◌, ◌≤◌, ◌<◌, Option, List, [], ◌∷◌, length, map, take, sym, subst, arith}
 use Rattle.std.specs.Prelude.{All, Contains, slice_index_or}
 use Rattle.std.proofs.lemmas.List.Elements.{All-map, All-take, Contains-get_or, at_from_Contains}
 use Rattle.sd_base.proofs.Containing.{contains-map, contains-none, contains-unmap}
@@ -7,12 +7,12 @@ use Rattle.sd_base.specs.declared.limits.Limits.{Limits}
 use Rattle.sd_base.specs.Lawful.{Lawful}
 use Rattle.sd_base.specs.Net.{Net}
 use Rattle.storage.specs.Distributions.{AtMost, storage_of}
-use Rattle.storage.specs.ParetoPoints.{IsFront, IsReachedPair, Pair, Reaches, no_pair, rating_of}
+use Rattle.storage.specs.ParetoPoints.{IsReachedPair, Pair, no_pair, rating_of}
 use Rattle.storage.specs.Steps.{IsCorner, rounded}
 use Rattle.storage.proofs.Climbs.{storage-le}
 use Rattle.storage.proofs.Corners.{rounded-most}
 use Rattle.storage.proofs.Covers.{net-above}
-use Rattle.storage.proofs.FrontsFromMembers.{AreLowest, AreRising as AreRisingPairs, IsBelow, front-from}
+use Rattle.storage.proofs.FrontsFromMembers.{AreLowest, IsBelow, front-from}
 use Rattle.pareto_front.specs.declared.point.Point.{Point}
 use Rattle.covers.specs.declared.lattice.Lattice.{Lattice}
 use Rattle.explore.specs.Explorations.{pair_of}

@@ -1,13 +1,12 @@
 -- The search by the bounds of lesser rates leaves what is due, and what a telling holds back of the first vector that it leaves
 -- is that vector.
-use Rattle.std.proofs.Common.{◌≡◌, ℕ, ◌*◌, ◌≤◌, ◌<◌, Option, Some, List, length, take, ⊎_elim, sym, subst, arith}
+use Rattle.std.proofs.Common.{◌≡◌, ℕ, ◌≤◌, ◌<◌, Option, Some, List, length, take, ⊎_elim, sym, subst, arith}
 use Rattle.std.specs.Prelude.{All, Contains, slice_get, slice_index}
 use Rattle.std.proofs.lemmas.Bool.{cases_lt}
 use Rattle.std.proofs.lemmas.List.{take_all}
 use Rattle.std.proofs.lemmas.List.Elements.{All-contains, All-take}
 use Rattle.sd_base.proofs.Containing.{get-contains}
 use Rattle.sd_base.specs.declared.limits.Limits.{Limits}
-use Rattle.sd_base.specs.declared.numbers.Fraction.{Fraction}
 use Rattle.sd_base.specs.Net.{Net}
 use Rattle.covers.specs.declared.bound.Bound.{Bound}
 use Rattle.covers.specs.declared.lattice.Axis.{Axis}
@@ -25,7 +24,7 @@ use Rattle.pareto_search.specs.declared.searching.Searching.{Searching}
 use Rattle.pareto_search.specs.inside.Firsts.{IsFirstAt, IsLeft, IsSlower}
 use Rattle.pareto_search.specs.inside.Grounds.{IsGround}
 use Rattle.pareto_search.specs.inside.Knowledge.{IsAbove, IsTold}
-use Rattle.pareto_search.specs.inside.Turns.{IsBoundOf, IsDue, IsSettling}
+use Rattle.pareto_search.specs.inside.Turns.{IsDue, IsSettling}
 use Rattle.pareto_search.proofs.RateOrder.{above-from, above-never, above-on, above-or, most-on}
 use Rattle.pareto_search.proofs.SlowCovered.{told-rate, told-slow}
 use Rattle.pareto_search.proofs.SlowerBounds.{HasSlower}

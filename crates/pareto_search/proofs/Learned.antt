@@ -1,10 +1,10 @@
 -- What walks stopped at is new, and what it told is yet to be absorbed.
-use Rattle.std.proofs.Common.{◌≡◌, ℕ, ◌+◌, ◌≤◌, Option, None, Some, List, [], ◌∷◌, ◌++◌, drop, length, map, take, refl, sym, ap, ◌∙◌, subst, arith}
+use Rattle.std.proofs.Common.{◌≡◌, ℕ, ◌≤◌, Option, None, Some, List, ◌++◌, drop, length, map, take, sym, ap, ◌∙◌, subst, arith}
 use Rattle.std.specs.Prelude.{All, Contains, slice_index, slice_index_or}
-use Rattle.std.proofs.lemmas.List.{drop-append-le, drop_all, take-append-le, take_all}
-use Rattle.std.proofs.lemmas.List.Elements.{All-contains, All-map, All-weaker, Contains-append_left}
+use Rattle.std.proofs.lemmas.List.{drop-append-le, drop_all, take-append-le}
+use Rattle.std.proofs.lemmas.List.Elements.{All-contains, All-map, Contains-append_left}
 use Rattle.sd_base.proofs.Containing.{contains-unmap}
-use Rattle.sd_base.proofs.Lists.{all-unmap, map-map}
+use Rattle.sd_base.proofs.Lists.{all-unmap}
 use Rattle.sd_base.specs.declared.limits.Limits.{Limits}
 use Rattle.sd_base.specs.declared.numbers.Fraction.{Fraction}
 use Rattle.sd_base.specs.Net.{Net}
@@ -20,7 +20,7 @@ use Rattle.pareto_search.specs.declared.searching.Due.{Due}
 use Rattle.pareto_search.specs.declared.searching.Searching.{Searching}
 use Rattle.pareto_search.specs.declared.stops.Stop.{Stop}
 use Rattle.pareto_search.specs.inside.Knowledge.{IsKnown}
-use Rattle.pareto_search.specs.inside.Learning.{AreLearned, AreNew, IsNew, answered_of}
+use Rattle.pareto_search.specs.inside.Learning.{AreNew, IsNew, answered_of}
 use Rattle.pareto_search.specs.inside.Stops.{IsStop}
 use Rattle.pareto_search.specs.inside.Turns.{AreBoundsOf, AreStops, IsAbsorbed, IsDue, IsPointed, IsStanding}
 use Rattle.pareto_search.specs.inside.Vectors.{bounded_by, vector_of}

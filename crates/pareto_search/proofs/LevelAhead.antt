@@ -1,5 +1,5 @@
 -- What a level says of a search: the floor may rise to it, no telling covers its vectors, and what lies before it is settled.
-use Rattle.std.proofs.Common.{◌≡◌, ℕ, ◌≤◌, ◌<◌, Option, None, Some, List, [], ◌∷◌, drop, length, take, ⊎_elim, refl, sym, ap, ◌∙◌, subst, arith}
+use Rattle.std.proofs.Common.{◌≡◌, ℕ, ◌≤◌, ◌<◌, Option, None, Some, List, [], length, take, ⊎_elim, refl, sym, ◌∙◌, subst, arith}
 use Rattle.std.specs.Prelude.{All, Contains, slice_index, slice_index_or}
 use Rattle.std.proofs.lemmas.Bool.{cases_lt}
 use Rattle.std.proofs.lemmas.List.{drop_all, take_all}
@@ -7,7 +7,6 @@ use Rattle.std.proofs.lemmas.List.Elements.{All-contains, All-nil, Contains-get_
 use Rattle.sd_base.specs.declared.limits.Limits.{Limits}
 use Rattle.sd_base.specs.declared.numbers.Fraction.{Fraction}
 use Rattle.sd_base.specs.Net.{Net}
-use Rattle.covers.specs.declared.bound.Bound.{Bound}
 use Rattle.covers.specs.declared.lattice.Lattice.{Lattice}
 use Rattle.covers.specs.declared.search.Level.{Level}
 use Rattle.covers.specs.declared.search.Search.{Search}
@@ -18,7 +17,7 @@ use Rattle.covers.proofs.Forces.{covered-reached}
 use Rattle.walks.specs.declared.telling.Telling.{Telling}
 use Rattle.pareto_search.specs.declared.searching.Due.{Due}
 use Rattle.pareto_search.specs.declared.searching.Searching.{Searching}
-use Rattle.pareto_search.specs.inside.Turns.{AreBoundsOf, IsAbsorbed, IsClosed, IsDue, IsOver, IsPointed, IsSettling, IsStanding, IsUntil}
+use Rattle.pareto_search.specs.inside.Turns.{AreBoundsOf, IsClosed, IsDue, IsOver, IsPointed, IsSettling, IsStanding, IsUntil}
 use Rattle.pareto_search.proofs.Absorbed.{below-best}
 use Rattle.pareto_search.proofs.TellingBounds.{HasBound, bound-there}
 

@@ -1,6 +1,6 @@
 -- The vectors of a level are goals of walks, and where these stop is to be evaluated; so is where a walk towards one vector stops.
-use Rattle.std.proofs.Common.{◌≡◌, ℕ, ◌≤◌, ◌<◌, Option, List, [], ◌∷◌, length, map, sym, subst, arith}
-use Rattle.std.specs.Prelude.{All, Contains, slice_index, slice_index_or}
+use Rattle.std.proofs.Common.{◌≡◌, ℕ, ◌≤◌, ◌<◌, Option, List, [], ◌∷◌, length, sym, subst, arith}
+use Rattle.std.specs.Prelude.{All, Contains, slice_index_or}
 use Rattle.std.proofs.lemmas.List.Elements.{All-contains, All-cons, All-nil, Contains-get_or}
 use Rattle.sd_base.proofs.Containing.{contains-here, contains-none}
 use Rattle.sd_base.specs.declared.limits.Limits.{Limits}
@@ -16,7 +16,7 @@ use Rattle.pareto_search.specs.declared.stops.Stop.{Stop}
 use Rattle.pareto_search.specs.inside.Firsts.{IsStopWithin}
 use Rattle.pareto_search.specs.inside.Grounds.{IsGround}
 use Rattle.pareto_search.specs.inside.Knowledge.{IsTold}
-use Rattle.pareto_search.specs.inside.Stops.{AreLevel, IsGoal, IsStop, IsStopTowards}
+use Rattle.pareto_search.specs.inside.Stops.{AreLevel, IsGoal, IsStop}
 use Rattle.pareto_search.specs.inside.Turns.{AreStops, IsStanding}
 use Rattle.pareto_search.proofs.LevelAhead.{vector-among, vector-free, vector-needs}
 use Rattle.pareto_search.proofs.StopsApart.{ascending-apart}

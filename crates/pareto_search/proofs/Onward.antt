@@ -1,5 +1,5 @@
 -- What a search learns leaves what was told and covered, and what is due where nothing faster can be told.
-use Rattle.std.proofs.Common.{◌≡◌, ℕ, ◌≤◌, ◌⊎◌, Option, Some, List, [], ◌∷◌, ◌++◌, append_assoc, length, take, inl, inr, ⊎_elim, refl, sym, ap, ◌∙◌, subst}
+use Rattle.std.proofs.Common.{◌≡◌, ℕ, Option, List, [], ◌++◌, append_assoc, length, take, inl, inr, ⊎_elim, refl, sym, ap, ◌∙◌, subst}
 use Rattle.std.specs.Prelude.{Contains}
 use Rattle.std.proofs.lemmas.List.{append-nil}
 use Rattle.std.proofs.lemmas.List.Elements.{All-contains, All-take, Contains-append_left}
@@ -7,7 +7,6 @@ use Rattle.sd_base.specs.declared.limits.Limits.{Limits}
 use Rattle.sd_base.specs.declared.numbers.Fraction.{Fraction}
 use Rattle.sd_base.specs.Net.{Net}
 use Rattle.covers.specs.declared.lattice.Lattice.{Lattice}
-use Rattle.covers.specs.Lattices.{storage_of}
 use Rattle.walks.specs.declared.telling.Telling.{Telling}
 use Rattle.pareto_search.specs.declared.known.Known.{Known}
 use Rattle.pareto_search.specs.declared.searching.Due.{Due}

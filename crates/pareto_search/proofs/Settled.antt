@@ -1,5 +1,5 @@
 -- What is due becomes a point, and the search goes on past its storage.
-use Rattle.std.proofs.Common.{◌≡◌, ◌≢◌, ℕ, ◌+◌, ◌*◌, ◌≤◌, ◌<◌, ◌⊎◌, true, Option, None, Some, List, [], ◌∷◌, ◌++◌, drop, length, take, ⊎_elim, sym, ◌∙◌, subst, arith}
+use Rattle.std.proofs.Common.{◌≡◌, ◌≢◌, ℕ, ◌+◌, ◌*◌, ◌≤◌, ◌<◌, true, Option, None, Some, List, [], ◌∷◌, ◌++◌, length, take, ⊎_elim, sym, ◌∙◌, subst, arith}
 use Rattle.std.specs.Prelude.{All, Contains, slice_get, slice_index}
 use Rattle.std.specs.declared.cmp.Ordering.TheVariants.{Greater}
 use Rattle.std.specs.Ordering.{nat_cmp}
@@ -15,7 +15,7 @@ use Rattle.sd_base.specs.Rates.{Rate}
 use Rattle.lasso.specs.LoopAnswers.{IsFound}
 use Rattle.storage.specs.BoundedNets.{bound}
 use Rattle.storage.specs.CapacityOrder.{no_later}
-use Rattle.storage.specs.Distributions.{IsDistribution, storage_of}
+use Rattle.storage.specs.Distributions.{IsDistribution}
 use Rattle.storage.specs.ParetoPoints.{Reaches}
 use Rattle.storage.proofs.FrontsFromMembers.{no_less}
 use Rattle.pareto_front.specs.declared.point.Point.{Point}
@@ -26,7 +26,6 @@ use Rattle.covers.specs.Searches.{IsNotAfter}
 use Rattle.covers.proofs.Forces.{covered-reached}
 use Rattle.walks.specs.declared.telling.Telling.{Telling}
 use Rattle.explore.specs.Explorations.{IsPoint}
-use Rattle.pareto_search.specs.declared.known.Looped.{Looped}
 use Rattle.pareto_search.specs.declared.searching.Due.{Due}
 use Rattle.pareto_search.specs.declared.searching.Searching.{Searching}
 use Rattle.pareto_search.specs.inside.Firsts.{IsFirstAt}

@@ -1,5 +1,5 @@
 -- Vectors that bounds of what was told cover have no greater rates than these.
-use Rattle.std.proofs.Common.{◌≡◌, ℕ, ◌*◌, ◌≤◌, Option, List, sym, subst}
+use Rattle.std.proofs.Common.{ℕ, ◌*◌, ◌≤◌, Option, List, sym, subst}
 use Rattle.std.specs.Prelude.{All}
 use Rattle.std.proofs.lemmas.List.Elements.{All-contains}
 use Rattle.sd_base.specs.declared.limits.Limits.{Limits}

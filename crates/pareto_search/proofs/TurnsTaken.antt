@@ -5,7 +5,7 @@ use Rattle.sd_base.specs.Net.{Net}
 use Rattle.covers.specs.declared.lattice.Lattice.{Lattice}
 use Rattle.pareto_search.specs.declared.searching.Due.{Due}
 use Rattle.pareto_search.specs.declared.searching.Searching.{Searching}
-use Rattle.pareto_search.specs.inside.Turns.{IsStanding, IsTurned, one_due, weight}
+use Rattle.pareto_search.specs.inside.Turns.{IsStanding, IsTurned, one_due}
 
 due-few : (due : Option Due) → one_due due ≤ 1
 due-few None = omega arith

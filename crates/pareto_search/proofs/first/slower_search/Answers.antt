@@ -1,4 +1,4 @@
-use Rattle.std.proofs.Common.{◌≡◌, [], ap, ◌∙◌, subst}
+use Rattle.std.proofs.Common.{[], ap, ◌∙◌}
 use Rattle.pareto_search.proofs.SlowerBounds.{slower-begun}
 use Rattle.pareto_search.proofs.first.slower_search.Goals as goal
 

@@ -1,4 +1,4 @@
-use Rattle.std.proofs.Common.{◌≡◌, ap, ◌∙◌, refl, sym, arith}
+use Rattle.std.proofs.Common.{ap, ◌∙◌, refl, arith}
 use Rattle.std.proofs.lemmas.List.Elements.{at_from_Contains}
 use Rattle.pareto_search.specs.declared.known.Looped.{Looped}
 use Rattle.pareto_search.proofs.point.take_loop.Goals as goal

@@ -1,11 +1,10 @@
-use Rattle.std.proofs.Common.{◌≡◌, ℕ, ◌+◌, ◌≤◌, List, length, map, sym, ap, ◌∙◌, subst, arith, rules}
+use Rattle.std.proofs.Common.{◌≡◌, ℕ, ◌+◌, ◌≤◌, length, map, sym, ap, ◌∙◌, subst, arith, rules}
 use Rattle.std.specs.Prelude.{All}
 use Rattle.std.proofs.lemmas.Bool.{false≢true}
 use Rattle.std.proofs.lemmas.Result.{err_from_is_err_and}
 use Rattle.sd_base.specs.Counter.{Tally}
-use Rattle.walks.specs.declared.telling.Telling.{Telling}
 use Rattle.pareto_search.specs.declared.stops.Stop.{Stop}
-use Rattle.pareto_search.specs.inside.Knowledge.{IsTold, loops_in}
+use Rattle.pareto_search.specs.inside.Knowledge.{IsTold}
 use Rattle.pareto_search.specs.inside.Turns.{IsAbsorbed}
 use Rattle.pareto_search.specs.inside.Vectors.{bounded_by}
 use Rattle.pareto_search.proofs.FoundTellings.{known-counts}

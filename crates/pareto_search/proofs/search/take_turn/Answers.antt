@@ -1,4 +1,4 @@
-use Rattle.std.proofs.Common.{◌≡◌, Some, subst, arith}
+use Rattle.std.proofs.Common.{subst, arith}
 use Rattle.std.proofs.lemmas.Result.{err_from_is_err_and}
 use Rattle.covers.specs.Searches.{IsAnswer, IsLevel}
 use Rattle.pareto_search.specs.declared.searching.Searching.{Searching}

@@ -1,4 +1,4 @@
-use Rattle.std.proofs.Common.{ℕ, ◌≤◌, ◌<◌, List, subst, arith}
+use Rattle.std.proofs.Common.{ℕ, ◌<◌, List, subst, arith}
 use Rattle.covers.specs.Lattices.{IsAmong, storage_of}
 use Rattle.walks.specs.Walks.{HoldsWalk, StopsAt}
 use Rattle.walks.proofs.WalkEnds.{goal-covered}

@@ -1,4 +1,4 @@
-use Rattle.std.proofs.Common.{◌≡◌, inl, inr, ⊎_elim, sym, ap, ◌∙◌, subst, arith, rules}
+use Rattle.std.proofs.Common.{◌≡◌, inl, inr, ⊎_elim, ap, ◌∙◌, subst}
 use Rattle.sd_base.specs.declared.numbers.Fraction.{Fraction}
 use Rattle.covers.specs.Bounds.{IsAtMost}
 use Rattle.pareto_search.proofs.Absorbed.{absorbed-with, onward-with}
