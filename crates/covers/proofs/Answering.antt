@@ -11,6 +11,7 @@ use Rattle.std.proofs.lemmas.List.{length-map}
 use Rattle.std.proofs.lemmas.List.Elements.{All-cons, All-contains, All-map, All-nil, All-weaker, Contains-append_cases}
 use Rattle.std.proofs.Math.Nat.{mul-le-mul_right}
 use Rattle.sd_base.proofs.Containing.{contains-cases, contains-here, contains-map}
+use Rattle.covers.specs.declared.bound.Bound.{Bound}
 use Rattle.covers.specs.declared.lattice.Axis.{Axis}
 use Rattle.covers.specs.declared.lattice.Lattice.{Lattice}
 use Rattle.covers.specs.declared.node.Node.{Node}
@@ -18,16 +19,17 @@ use Rattle.covers.specs.declared.search.Level.{Level}
 use Rattle.covers.specs.declared.search.Order.TheVariants.{Storage, Lexicographic}
 use Rattle.covers.specs.declared.search.Search.{Search}
 use Rattle.covers.specs.Lattices.{IsAmong, storage_of}
-use Rattle.covers.specs.Bounds.{IsCovered}
+use Rattle.covers.specs.Bounds.{AreEnough, IsCovered}
 use Rattle.covers.specs.Nodes.{IsProper, LiesIn}
 use Rattle.covers.specs.Searches.{IsFirst, IsLevel, IsNotAfter, IsSame, IsSearched, IsSettled, IsUncovered}
 use Rattle.covers.specs.inside.NodeOrder.{IsBefore, vectors_cmp}
 use Rattle.covers.specs.inside.Keeping.{IsFound, IsGathered, IsKept, IsNextAt, IsRoot, Known, known, put_all}
-use Rattle.covers.proofs.Kept.{kept-beside, kept-known, kept-put, kept-trans, proper-same, same-known}
+use Rattle.covers.proofs.Dominated.{enough-none}
+use Rattle.covers.proofs.Kept.{enough-same, kept-beside, kept-known, kept-put, kept-trans, proper-same, same-known}
 use Rattle.covers.proofs.Storages.{storage-le}
 
 same-back : (s t : Search) → IsSame s t → IsSame t s
-same-back s t same = record { lattice = sym same.lattice; order = sym same.order; bounds = sym same.bounds; best = sym same.best }
+same-back s t same = record { lattice = sym same.lattice; order = sym same.order; bounds = sym same.bounds; acting = sym same.acting; best = sym same.best }
 
 -- each vector is covered or lies in the nodes
 abbrev pub IsIn : Known → List Node → Type 0
@@ -41,6 +43,7 @@ pub searched-kept : (s t : Search) → IsSame s t → IsKept (known s) s.open.ke
 searched-kept s t same kept old = record {
   all = subst (λ (k : Known). IsIn k t.open.keys) (sym (same-known s t same)) (in-kept (known s) s.open.keys t.open.keys kept old.all);
   proper = proper-same s t t.open.keys same (kept.proper old.proper);
+  acting = enough-same s t same old.acting;
 }
 
 over : (a b c : ℕ) → a < b → b ≤ c → c ≤ a → ⊥
@@ -224,11 +227,12 @@ earliest t n open' order all found first proper = (
       (all js u.among),
 )
 
--- all of the lattice in one open node
-pub searched-root : (s : Search) (root : Node) → s.open.keys ≡ root ∷ [] → IsRoot s.lattice root → IsSearched s
-searched-root s root keys is = record {
+-- all of the lattice in one open node, and no bounds
+pub searched-root : (s : Search) (root : Node) → s.open.keys ≡ root ∷ [] → s.bounds.items ≡ [] → s.acting.items ≡ [] → IsRoot s.lattice root → IsSearched s
+searched-root s root keys bounds acting is = record {
   all = λ ks i. inr (root, subst (λ (ns : List Node). Contains ns root) (sym keys) (contains-here root []), is.all ks i, none _ _ is.least);
   proper = subst (All (IsProper s.lattice s.order)) (sym keys) (All-cons (IsProper s.lattice s.order) root [] (record { on = is.on; flat = λ _. is.least }) (All-nil (IsProper s.lattice s.order)));
+  acting = subst (λ (bs : List Bound). AreEnough bs s.best s.acting.items) (sym bounds) (subst (AreEnough [] s.best) (sym acting) (enough-none s.best));
 }
   where
     none : (a b : ℕ) → a ≡ 0 → a ≤ b

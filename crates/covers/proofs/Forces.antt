@@ -11,7 +11,7 @@ use Rattle.covers.specs.declared.node.Node.{Node}
 use Rattle.covers.specs.declared.search.Order.{Order}
 use Rattle.covers.specs.declared.search.Search.{Search}
 use Rattle.covers.specs.Lattices.{IsAmong}
-use Rattle.covers.specs.Bounds.{IsAtMost, IsCovered}
+use Rattle.covers.specs.Bounds.{AreEnough, IsAtMost, IsCovered, IsInForce}
 use Rattle.covers.specs.Nodes.{IsProper, LiesIn}
 use Rattle.covers.specs.Searches.{IsSearched}
 
@@ -19,7 +19,7 @@ pub covered-added : (bounds : List Bound) (b : Bound) (best : Fraction) (ks : Li
 covered-added bounds b best ks c = (c.0, Contains-append_left bounds (b ∷ []) c.0 c.1, c.2, c.3)
 
 -- a/b is at most c/d, and that at most e/f
-rates-along : (a b c d e f : ℕ) → 1 ≤ d → a * d ≤ c * b → c * f ≤ e * d → a * f ≤ e * b
+pub rates-along : (a b c d e f : ℕ) → 1 ≤ d → a * d ≤ c * b → c * f ≤ e * d → a * f ≤ e * b
 rates-along a b c d e f some first second =
     ⊎_elim
     (λ (more : e * b < a * f).
@@ -28,16 +28,21 @@ rates-along a b c d e f some first second =
     (λ (less : a * f ≤ e * b). less)
     (cases_lt (e * b) (a * f))
 
-pub covered-reached : (bounds : List Bound) (best rate : Fraction) (ks : List ℕ) → IsAtMost best rate → IsCovered bounds best ks → IsCovered bounds rate ks
-covered-reached bounds best rate ks up c = (c.0, c.1, rates-along c.0.rate.num c.0.rate.den best.num best.den rate.num rate.den best.positive c.2 up, c.3)
+-- a bound in force stays so
+pub force-on : (best rate : Fraction) (b : Bound) → IsAtMost best rate → IsInForce best b → IsInForce rate b
+force-on best rate b up force = rates-along b.rate.num b.rate.den best.num best.den rate.num rate.den best.positive force up
 
--- where what is covered stays so, and the lattice and the open nodes stay, the search stays one
-pub searched-more : (s t : Search) → t.lattice ≡ s.lattice → t.order ≡ s.order → t.open.keys ≡ s.open.keys → ((ks : List ℕ) → IsCovered s.bounds.items s.best ks → IsCovered t.bounds.items t.best ks) → IsSearched s → IsSearched t
-searched-more s t lattice order open' more old = record {
+pub covered-reached : (bounds : List Bound) (best rate : Fraction) (ks : List ℕ) → IsAtMost best rate → IsCovered bounds best ks → IsCovered bounds rate ks
+covered-reached bounds best rate ks up c = (c.0, c.1, force-on best rate c.0 up c.2, c.3)
+
+-- where what is covered stays so, the lattice and the open nodes stay, and the bounds that act are enough, the search stays one
+pub searched-more : (s t : Search) → t.lattice ≡ s.lattice → t.order ≡ s.order → t.open.keys ≡ s.open.keys → ((ks : List ℕ) → IsCovered s.bounds.items s.best ks → IsCovered t.bounds.items t.best ks) → AreEnough t.bounds.items t.best t.acting.items → IsSearched s → IsSearched t
+searched-more s t lattice order open' more enough old = record {
   all = λ ks among.
       ⊎_elim
       (λ (h : IsCovered s.bounds.items s.best ks). inl (more ks h))
       (λ (h : LiesIn s.lattice s.open.keys ks). inr (subst (λ (ns : List Node). LiesIn t.lattice ns ks) (sym open') (subst (λ (l : Lattice). LiesIn l s.open.keys ks) (sym lattice) h)))
       (old.all ks (subst (λ (l : Lattice). IsAmong l ks) lattice among));
   proper = subst (All (IsProper t.lattice t.order)) (sym open') (subst (λ (l : Lattice). All (IsProper l t.order) s.open.keys) (sym lattice) (subst (λ (o : Order). All (IsProper s.lattice o) s.open.keys) (sym order) old.proper));
+  acting = enough;
 }

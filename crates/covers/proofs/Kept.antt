@@ -4,13 +4,14 @@ use Rattle.std.specs.Prelude.{All, Contains, slice_index}
 use Rattle.std.proofs.lemmas.List.Elements.{All-append, All-cons, All-contains, All-head, All-tail, Contains-append_cases, Contains-append_left, Contains-append_right}
 use Rattle.std.proofs.Math.Nat.{mul-le-mul_right}
 use Rattle.sd_base.proofs.Containing.{contains-cases, contains-here, contains-later}
+use Rattle.sd_base.specs.declared.numbers.Fraction.{Fraction}
 use Rattle.covers.specs.declared.lattice.Lattice.{Lattice}
 use Rattle.covers.specs.declared.bound.Bound.{Bound}
 use Rattle.covers.specs.declared.node.Node.{Node}
 use Rattle.covers.specs.declared.search.Search.{Search}
 use Rattle.covers.specs.declared.ways.Way.{Way}
 use Rattle.covers.specs.Lattices.{storage_of}
-use Rattle.covers.specs.Bounds.{Covers, IsCovered}
+use Rattle.covers.specs.Bounds.{AreEnough, Covers, IsCovered}
 use Rattle.covers.specs.Nodes.{IsProper, LiesIn, StandsFor}
 use Rattle.covers.specs.Searches.{IsSame}
 use Rattle.covers.specs.inside.Ways.{IsInside}
@@ -181,7 +182,7 @@ parted s t n b children keys proper within split covered = branched s t n childr
     level x y same = omega arith
 
 pub same-trans : (a b c : Search) → IsSame a b → IsSame b c → IsSame a c
-same-trans a b c x y = record { lattice = y.lattice ∙ x.lattice; order = y.order ∙ x.order; bounds = y.bounds ∙ x.bounds; best = y.best ∙ x.best }
+same-trans a b c x y = record { lattice = y.lattice ∙ x.lattice; order = y.order ∙ x.order; bounds = y.bounds ∙ x.bounds; acting = y.acting ∙ x.acting; best = y.best ∙ x.best }
 
 -- what was known before is known still
 pub kept-known : (s t : Search) (a b : List Node) → IsSame s t → IsKept (known t) a b → IsKept (known s) a b
@@ -190,3 +191,10 @@ kept-known s t a b same h = subst (λ (k : Known). IsKept k a b) (same-known s t
 -- nodes that are proper are so where only open nodes changed
 pub proper-same : (s t : Search) (ns : List Node) → IsSame s t → All (IsProper s.lattice s.order) ns → All (IsProper t.lattice t.order) ns
 proper-same s t ns same all = subst (λ (k : Known). All (IsProper k.lattice k.order) ns) (sym (same-known s t same)) all
+
+-- the bounds that act are enough still
+pub enough-same : (s t : Search) → IsSame s t → AreEnough s.bounds.items s.best s.acting.items → AreEnough t.bounds.items t.best t.acting.items
+enough-same s t same enough =
+    subst (λ (bs : List Bound). AreEnough bs t.best t.acting.items) (sym (ap (λ v. v.items) same.bounds))
+    (subst (λ (r : Fraction). AreEnough s.bounds.items r t.acting.items) (sym same.best)
+    (subst (AreEnough s.bounds.items s.best) (sym (ap (λ v. v.items) same.acting)) enough))

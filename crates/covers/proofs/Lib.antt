@@ -11,4 +11,5 @@ pub mod LookedAt
 pub mod Mixing
 pub mod Gathering
 pub mod Forces
+pub mod Dominated
 pub mod Answering

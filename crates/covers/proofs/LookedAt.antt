@@ -10,7 +10,7 @@ use Rattle.covers.specs.declared.search.Order.{Order}
 use Rattle.covers.specs.declared.search.Order.TheVariants.{Storage, Lexicographic}
 use Rattle.covers.specs.declared.survey.Toll.{Toll}
 use Rattle.covers.specs.Lattices.{storage_of}
-use Rattle.covers.specs.Bounds.{IsCovered}
+use Rattle.covers.specs.Bounds.{AreEnough, IsCovered}
 use Rattle.covers.specs.Nodes.{IsProper}
 use Rattle.covers.specs.inside.Ways.{IsInside}
 use Rattle.covers.specs.inside.Surveys.{AllCovered, AreTolls, IsLeast}
@@ -67,12 +67,12 @@ begins lattice bounds best n storage is = λ ks i. inr (along _ _ _ (level _ _ i
     level : (a b : ℕ) → a ≡ b → a ≤ b
     level a b same = omega arith
 
--- one that no bound holds
+-- one that no bound holds that acts
 pub found : (s : Search) (n : Node) (storage : ℕ) (tolls : List Toll) → IsProper s.lattice s.order n → storage ≡ storage_of s.lattice.axes n.lo.items → storage ≤ s.lattice.limit → (s.order ≡ Storage → storage ≤ n.least) →
-    AreTolls s.lattice s.bounds.items s.best n (length s.bounds.items) tolls → length tolls ≡ 0 → IsFound (known s) n
-found s n storage tolls proper is within raised tolls-are none = record {
+    AreEnough s.bounds.items s.best s.acting.items → AreTolls s.lattice s.bounds.items s.best n s.acting.items tolls → length tolls ≡ 0 → IsFound (known s) n
+found s n storage tolls proper is within raised enough tolls-are none = record {
   proper = proper;
   among = record { on = proper.on; within = subst (λ (x : ℕ). x ≤ s.lattice.limit) is within };
-  free = covers-nothing s.lattice s.bounds.items s.best n tolls tolls-are none;
+  free = covers-nothing s.lattice s.bounds.items s.best n s.acting.items tolls enough tolls-are none;
   needs = λ o. subst (λ (x : ℕ). x ≤ n.least) is (raised o);
 }

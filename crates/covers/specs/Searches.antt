@@ -7,14 +7,15 @@ use Rattle.std.specs.Cmp.Lexicographic.{slice_cmp}
 use Rattle.covers.specs.declared.search.Search.{Search}
 use Rattle.covers.specs.declared.search.Level.{Level}
 use Rattle.covers.specs.Lattices.{IsAmong, storage_of}
-use Rattle.covers.specs.Bounds.{IsCovered}
+use Rattle.covers.specs.Bounds.{AreEnough, IsCovered}
 use Rattle.covers.specs.Nodes.{IsProper, LiesIn}
 
 -- each vector of the lattice within the limit is covered by a bound in force, or lies in an open node whose least is at most
--- its storage
+-- its storage; and the bounds that act cover what all do
 pub record IsSearched (s : Search) : Type 0 where
   pub all : (ks : List ℕ) → IsAmong s.lattice ks → IsCovered s.bounds.items s.best ks ⊎ LiesIn s.lattice s.open.keys ks
   pub proper : All (IsProper s.lattice s.order) s.open.keys
+  pub acting : AreEnough s.bounds.items s.best s.acting.items
 
 -- each vector of the lattice within the limit is covered by a bound in force
 abbrev pub IsSettled : Search → Type 0
@@ -47,9 +48,10 @@ abbrev pub IsFirst : Search → Option (List ℕ) → Type 0
 IsFirst s None = IsSettled s
 IsFirst s (Some ks) = IsUncovered s ks × ((js : List ℕ) → IsUncovered s js → IsNotAfter ks js)
 
--- the lattice, the order, the bounds and the best rate stay
+-- the lattice, the order, the bounds, which of them act, and the best rate stay
 pub record IsSame (old new : Search) : Type 0 where
   pub lattice : new.lattice ≡ old.lattice
   pub order : new.order ≡ old.order
   pub bounds : new.bounds ≡ old.bounds
+  pub acting : new.acting ≡ old.acting
   pub best : new.best ≡ old.best

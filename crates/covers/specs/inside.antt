@@ -1,4 +1,5 @@
 pub mod NodeOrder
+pub mod Leaving
 pub mod Ways
 pub mod Rooms
 pub mod Surveys

@@ -6,6 +6,7 @@
 //! solvers (Marques-Silva and Sakallah, 1999).
 #![tactic(auto)]
 
+mod acting;
 mod bound;
 mod lattice;
 mod least;

@@ -2,6 +2,7 @@
 //! be covered by no bound in force.
 ghost use Rattle.std.specs.Prelude.{◌≡◌, ◌≢◌, ◌≤◌, ◌<◌, ◌∷◌, ◌++◌, [], ◌⊎◌, All, Contains, IfOk, IsPermutation, MatchOption, OnOk, Some, length, slice_index_or};
 ghost use Rattle.std.specs.BTreeSet.{insert_key};
+ghost use Rattle.covers.specs.Bounds.{AreEnough};
 ghost use Rattle.covers.specs.Lattices.{storage_of};
 ghost use Rattle.covers.specs.Nodes.{IsProper};
 ghost use Rattle.covers.specs.Searches.{IsSame};
@@ -31,6 +32,7 @@ impl Search {
         found: &mut Vec<Node>,
     ) -> Result<(), NoMemory>
         requires proper { All (IsProper self.old.lattice self.old.order) self.old.open.keys }
+        requires enough { AreEnough self.old.bounds.items self.old.best self.old.acting.items }
         requires total { total ≤ self.old.lattice.limit }
         ensures gathered { OnOk result (IsGathered self.old total most found.old.items found.new.items self.new) }
         ensures same { IsSame self.old self.new }
@@ -47,6 +49,7 @@ impl Search {
     /// Takes off the first open node of a least of at most `total` that begins with what no bound in force covers.
     pub(crate) fn next(&mut self, alloc: Global, total: u64) -> Result<Option<Node>, NoMemory>
         requires proper { All (IsProper self.old.lattice self.old.order) self.old.open.keys }
+        requires enough { AreEnough self.old.bounds.items self.old.best self.old.acting.items }
         requires total { total ≤ self.old.lattice.limit }
         ensures next { IfOk result (IsNext self.old total self.new) }
         ensures same { IsSame self.old self.new }
@@ -79,6 +82,7 @@ impl Search {
     fn look(&mut self, alloc: Global, node: Node) -> Result<Option<Node>, NoMemory>
         requires proper { IsProper self.old.lattice self.old.order node }
         requires least { node.least ≤ self.old.lattice.limit }
+        requires enough { AreEnough self.old.bounds.items self.old.best self.old.acting.items }
         ensures looked { IfOk result (IsLooked self.old node self.new) }
         ensures same { IsSame self.old self.new }
     {
@@ -94,6 +98,7 @@ impl Search {
             alloc,
             &self.lattice,
             self.bounds.as_slice(),
+            self.acting.as_slice(),
             &self.best,
             &node,
             storage,
@@ -131,7 +136,8 @@ impl Search {
         requires storage { storage ≡ storage_of self.old.lattice.axes node.lo.items }
         requires within { storage ≤ self.old.lattice.limit }
         requires raised { self.old.order ≡ Order.Storage → storage ≤ node.least }
-        requires tolls { AreTolls self.old.lattice self.old.bounds.items self.old.best node (length self.old.bounds.items) tolls.items }
+        requires enough { AreEnough self.old.bounds.items self.old.best self.old.acting.items }
+        requires tolls { AreTolls self.old.lattice self.old.bounds.items self.old.best node self.old.acting.items tolls.items }
         ensures looked { IfOk result (IsLooked self.old node self.new) }
         ensures same { IsSame self.old self.new }
     {

@@ -3,6 +3,7 @@ ghost use Rattle.covers.specs.Bounds.{IsAtMost};
 ghost use Rattle.covers.specs.Searches.{IsAnswer, IsFirst, IsSame, IsSearched};
 ghost use Rattle.covers.specs.inside.Keeping.{IsRoot};
 
+use crate::acting::acting_with;
 use crate::bound::Bound;
 use crate::lattice::Lattice;
 use crate::node::Node;
@@ -21,13 +22,15 @@ pub enum Order {
 }
 
 /// A search for the capacities of a lattice that no bound in force covers. A bound is in force where its rate is at most the
-/// best one that was reached. Open nodes share no vector, so there are never more of them than vectors of the lattice; each
-/// takes 16 bytes a channel. After want of memory a search is of no use.
+/// best one that was reached. One that another in force dominates, which covers all that it does, is left out: only the others
+/// act. Open nodes share no vector, so there are never more of them than vectors of the lattice; each takes 16 bytes a channel.
+/// After want of memory a search is of no use.
 #[derive(Drop)]
 pub struct Search {
     pub(crate) lattice: Lattice,
     pub(crate) order: Order,
     pub(crate) bounds: Vec<Bound>,
+    pub(crate) acting: Vec<usize>,
     pub(crate) best: Fraction,
     pub(crate) open: BTreeSet<Node>,
 }
@@ -55,12 +58,14 @@ impl Search {
             lattice,
             order,
             bounds: Vec::new(alloc),
+            acting: Vec::new(alloc),
             best: Fraction::new(0, 1),
             open,
         })
     }
 
-    /// Keeps a bound.
+    /// Keeps a bound. One whose rate was reached before leaves out those that it dominates. Cost: a pass over the bounds that act,
+    /// and at each one over the channels of both at most.
     pub fn add(&mut self, bound: Bound) -> Result<(), NoMemory>
         requires searched { IsSearched self.old }
         ensures searched { IsSearched self.new }
@@ -70,7 +75,15 @@ impl Search {
         ensures order { self.new.order ≡ self.old.order }
         ensures best { self.new.best ≡ self.old.best }
     {
+        let acting = acting_with(
+            *self.bounds.allocator(),
+            self.bounds.as_slice(),
+            &self.best,
+            self.acting.as_slice(),
+            &bound,
+        )?;
         self.bounds.push(bound)?;
+        self.acting = acting;
         Ok(())
     }
 
@@ -91,9 +104,9 @@ impl Search {
     }
 
     /// The capacities of the least storage that no bound in force covers: the lexicographically first ones, at most `most` but
-    /// at least one; none where all of the lattice is covered. Cost: a node that is looked at costs a pass over the bounds, and
-    /// at most as many are looked at as there are vectors between the corner and the limit, each with each storage; in the
-    /// field a small part of them.
+    /// at least one; none where all of the lattice is covered. Cost: a node that is looked at costs a pass over the bounds that
+    /// act, and at most as many are looked at as there are vectors between the corner and the limit, each with each storage; in
+    /// the field a small part of them.
     pub fn level(&mut self, alloc: Global, most: usize) -> Result<Option<Level>, NoMemory>
         requires searched { IsSearched self.old }
         requires by_storage { self.old.order ≡ Order.Storage }

@@ -1,5 +1,5 @@
 //! A node as the bounds in force see it that cover its least vector.
-ghost use Rattle.std.specs.Prelude.{◌≡◌, ◌≤◌, ◌↔◌, IfOk, IsTrue};
+ghost use Rattle.std.specs.Prelude.{◌≡◌, ◌≤◌, ◌<◌, ◌↔◌, All, IfOk, IsTrue, length};
 ghost use Rattle.covers.specs.Lattices.{storage_of};
 ghost use Rattle.covers.specs.inside.Surveys.{Holds, IsSurvey};
 
@@ -30,21 +30,24 @@ pub struct Toll {
     pub(crate) place: usize,
 }
 
-/// Looks at each bound. Cost: linear in the bounds, and in the channels of those that cover the node's least vector.
+/// Looks at each bound that acts. Cost: linear in these, and in the channels of those that cover the node's least vector.
 pub(crate) fn survey_node(
     alloc: Global,
     lattice: &Lattice,
     bounds: &[Bound],
+    acting: &[usize],
     best: &Fraction,
     node: &Node,
     storage: u64,
 ) -> Result<Survey, NoMemory>
     requires storage { storage ≡ storage_of lattice.now.axes node.now.lo.items }
     requires within { storage ≤ lattice.now.limit }
-    ensures { IfOk result (IsSurvey lattice.now bounds.now best.now node.now) }
+    requires below { All (λ place. place < length bounds.now) acting.now }
+    ensures { IfOk result (IsSurvey lattice.now bounds.now best.now node.now acting.now) }
 {
     let mut tolls = Vec::new(alloc);
-    for (place, bound) in bounds.iter().enumerate() {
+    for place in acting {
+        let bound = &bounds[*place];
         if holds(bound, best, node) {
             match ways_out(lattice, node, storage, bound) {
                 Ways::Nowhere => return Ok(Survey::Closed),
@@ -52,7 +55,7 @@ pub(crate) fn survey_node(
                 Ways::Several { number, cost } => tolls.push(Toll {
                     cost,
                     ways: number,
-                    place,
+                    place: *place,
                 })?,
             }
         }
@@ -64,5 +67,5 @@ pub(crate) fn survey_node(
 fn holds(bound: &Bound, best: &Fraction, node: &Node) -> bool
     ensures { IsTrue result ↔ Holds best.now node.now bound.now }
 {
-    bound.is_in_force(best) && bound.covers(node.lo.as_slice())
+    bound.covers(node.lo.as_slice()) && bound.is_in_force(best)
 }

@@ -41,15 +41,20 @@ pub record IsTollAt (lattice : Lattice) (bounds : List Bound) (best : Fraction) 
   pub holds : HoldsAt bounds best n t.place
   pub paid : (b : Bound) → All (IsToll lattice n t.cost) (slice_index_or bounds t.place b).caps
 
--- each is a toll, and if there is none, no bound before the place holds
-pub record AreTolls (lattice : Lattice) (bounds : List Bound) (best : Fraction) (n : Node) (before : ℕ) (tolls : List Toll) : Type 0 where
-  pub each : All (IsTollAt lattice bounds best n) tolls
-  pub none : length tolls ≡ 0 → (j : ℕ) (b : Bound) → j < before → Holds best n (slice_index_or bounds j b) → ⊥
+-- the bound at the place doesn't hold
+abbrev pub HoldsNot : List Bound → Fraction → Node → ℕ → Type 0
+HoldsNot bounds best n place = (b : Bound) → Holds best n (slice_index_or bounds place b) → ⊥
 
-abbrev pub IsSurvey : Lattice → List Bound → Fraction → Node → Survey → Type 0
-IsSurvey lattice bounds best n Closed = AllCovered lattice bounds best n
-IsSurvey lattice bounds best n (Narrow w) = IsNarrowing lattice bounds best n w
-IsSurvey lattice bounds best n (Tolls tolls) = AreTolls lattice bounds best n (length bounds) tolls.items
+-- each is a toll, and if there is none, no bound at a place that was looked at holds
+pub record AreTolls (lattice : Lattice) (bounds : List Bound) (best : Fraction) (n : Node) (looked : List ℕ) (tolls : List Toll) : Type 0 where
+  pub each : All (IsTollAt lattice bounds best n) tolls
+  pub none : length tolls ≡ 0 → All (HoldsNot bounds best n) looked
+
+-- what bounds at the places say of the node
+abbrev pub IsSurvey : Lattice → List Bound → Fraction → Node → List ℕ → Survey → Type 0
+IsSurvey lattice bounds best n places Closed = AllCovered lattice bounds best n
+IsSurvey lattice bounds best n places (Narrow w) = IsNarrowing lattice bounds best n w
+IsSurvey lattice bounds best n places (Tolls tolls) = AreTolls lattice bounds best n places tolls.items
 
 -- what no bound in force covers of the node needs at least this storage
 abbrev pub IsLeast : Lattice → List Bound → Fraction → Node → ℕ → Type 0

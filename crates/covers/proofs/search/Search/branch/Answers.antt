@@ -1,4 +1,4 @@
-use Rattle.std.proofs.Common.{List, refl, sym, subst}
+use Rattle.std.proofs.Common.{◌≡◌, List, length, refl, sym, ap, ◌∙◌, subst}
 use Rattle.std.specs.Prelude.{All}
 use Rattle.std.proofs.lemmas.List.Sorted.{All-permutation}
 use Rattle.covers.specs.declared.bound.Bound.{Bound}
@@ -7,9 +7,14 @@ use Rattle.covers.specs.declared.survey.Toll.{Toll}
 use Rattle.covers.specs.inside.Keeping.{IsBranched}
 use Rattle.covers.specs.inside.Surveys.{IsLeast, IsTollAt}
 use Rattle.covers.proofs.Kept.{closed}
-use Rattle.covers.proofs.LookedAt.{dear, raised-by}
+use Rattle.covers.proofs.LookedAt.{dear, found, raised-by}
 use Rattle.covers.proofs.search.Search.branch.Goals as goal
 use Rattle.covers.proofs.search.Search.branch.Goals.{then-rank-node+in_ok-raise, else-rank-node+in_ok-part}
+
+pub returns-in_default-clause-looked : goal.returns-in_default-clause-looked
+returns-in_default-clause-looked c =
+    let none : length c.args.tolls.items ≡ 0 = sym (ap length c.as_slice.ensures.value) ∙ c.in_default.ensures in
+    (refl, refl, found c.args.self.now c.args.node c.args.storage c.args.tolls.items c.requires.proper c.requires.storage c.requires.within c.requires.raised c.requires.enough c.requires.tolls none)
 
 pub least-requires-clause-tolls : goal.least-requires-clause-tolls
 least-requires-clause-tolls c =

@@ -5,7 +5,7 @@ use Rattle.covers.specs.Nodes.{IsProper}
 use Rattle.covers.specs.Searches.{IsSame}
 use Rattle.covers.specs.inside.Keeping.{IsGathered}
 use Rattle.covers.proofs.Answering.{levelled, row, searched-again, searched-kept, settled-past, some-found}
-use Rattle.covers.proofs.Kept.{proper-same, same-trans}
+use Rattle.covers.proofs.Kept.{enough-same, proper-same, same-trans}
 use Rattle.covers.proofs.search.Search.level.Goals as goal
 
 pub returns-in_default-clause-searched : goal.returns-in_default-clause-searched
@@ -23,6 +23,9 @@ gather-requires-clause-proper c =
     let next = rw c.in-Some.is at c.in_ok-first.ensures.next in
     proper-same c.args.self.now c.next.new.self c.next.new.self.open.keys c.in_ok-first.ensures.same
     (All-tail (IsProper c.args.self.now.lattice c.args.self.now.order) c.in-Some.first c.next.new.self.open.keys (next.kept.proper c.requires.searched.proper))
+
+pub gather-requires-clause-enough : goal.gather-requires-clause-enough
+gather-requires-clause-enough c = enough-same c.args.self.now c.next.new.self c.in_ok-first.ensures.same c.requires.searched.acting
 
 pub returns-clause-searched : goal.returns-clause-searched
 returns-clause-searched c =

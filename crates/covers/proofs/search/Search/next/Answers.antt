@@ -6,7 +6,7 @@ use Rattle.covers.specs.declared.search.Order.{Order}
 use Rattle.covers.specs.Nodes.{IsProper}
 use Rattle.covers.specs.Searches.{IsSame}
 use Rattle.covers.specs.inside.Keeping.{IsKept, known}
-use Rattle.covers.proofs.Kept.{kept-known, kept-trans, same-trans}
+use Rattle.covers.proofs.Kept.{enough-same, kept-known, kept-trans, same-trans}
 use Rattle.covers.proofs.search.Search.next.Goals as goal
 
 pub look-requires-clause-proper : goal.look-requires-clause-proper
@@ -16,6 +16,10 @@ look-requires-clause-proper c =
     let here : IsProper c.args.self.now.lattice c.args.self.now.order c.in-Some.node = All-head (IsProper c.args.self.now.lattice c.args.self.now.order) c.in-Some.node c.take.new.self.open.keys all in
     let same : IsSame c.args.self.now c.take.new.self = same-trans c.args.self.now c.loop-node.self c.take.new.self c.loop-node.invariant.same c.in-Some.ensures.same in
     subst (λ (l : Lattice). IsProper l c.take.new.self.order c.in-Some.node) (sym same.lattice) (subst (λ (o : Order). IsProper c.args.self.now.lattice o c.in-Some.node) (sym same.order) here)
+
+pub look-requires-clause-enough : goal.look-requires-clause-enough
+look-requires-clause-enough c =
+    enough-same c.args.self.now c.take.new.self (same-trans c.args.self.now c.loop-node.self c.take.new.self c.loop-node.invariant.same c.in-Some.ensures.same) c.requires.enough
 
 pub loop-node-preserved : goal.loop-node-preserved
 loop-node-preserved c =
