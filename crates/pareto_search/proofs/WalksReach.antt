@@ -1,7 +1,7 @@
 -- What a walk towards a vector within the limit comes to is reachable, and the vector of its distribution.
 use Rattle.std.proofs.Common.{◌≡◌, ℕ, ◌+◌, ◌≤◌, ◌<◌, Option, Some, List, length, sym, ap, ◌∙◌, subst, arith}
 use Rattle.std.specs.Prelude.{All, Contains, slice_index, slice_set}
-use Rattle.std.proofs.lemmas.List.Elements.{All-contains, Contains-get_or}
+use Rattle.std.proofs.lemmas.List.Elements.{All-contains, All-weaker, Contains-get_or}
 use Rattle.sd_base.specs.declared.limits.Limits.{Limits}
 use Rattle.sd_base.specs.Net.{Net, channel_at}
 use Rattle.sd_base.proofs.Lists.{get-there, some-within}
@@ -20,8 +20,8 @@ use Rattle.covers.proofs.Rooting.{corner-below, corner-on-lattice}
 use Rattle.covers.proofs.Storages.{storage-le as needed-le}
 use Rattle.walks.specs.declared.telling.Telling.{Telling}
 use Rattle.walks.specs.Tellings.{HoldsBack, IsUnder}
-use Rattle.walks.specs.Walks.{IsWalked, begin, step, step_at}
-use Rattle.walks.proofs.Between.{from-corner-below, from-corner-on}
+use Rattle.walks.specs.Walks.{AreOnLattice, IsWalked, begin, begin_at, step, step_at}
+use Rattle.walks.proofs.Between.{walked-below, walked-on}
 use Rattle.walks.proofs.Steps.{step-here}
 use Rattle.explore.specs.Reachable.{IsReachable, corner as at_corner, next as further}
 use Rattle.explore.specs.inside.Searches.{IsCandidate}
@@ -41,6 +41,10 @@ pub record IsReached (net : Net) (limits : Limits) (corner : List (Option ℕ)) 
 -- what has no more than a vector within the limit is within it
 pub under-among : (lattice : Lattice) (goal ks : List ℕ) → IsAmong lattice goal → IsOnLattice lattice.axes ks → IsUnder ks goal → IsAmong lattice ks
 under-among lattice goal ks among on under = record { on = on; within = omega (arith, needed-le lattice.axes ks goal among.on.long under, among.within) }
+
+-- what was told is of the lattice
+pub told-on : (net : Net) (limits : Limits) (corner : List (Option ℕ)) (lattice : Lattice) (tellings : List Telling) → All (IsTold net limits corner lattice) tellings → AreOnLattice lattice.axes tellings
+told-on net limits corner lattice tellings told = All-weaker (IsTold net limits corner lattice) (λ (t : Telling). IsOnLattice lattice.axes t.capacities) (λ t is. is.among.on) tellings told
 
 module _ (net : Net) (limits : Limits) (corner : List (Option ℕ)) (lattice : Lattice) (ground : IsGround net limits corner lattice) where
   corner-same : corner_of lattice.axes ≡ vector_of corner
@@ -116,10 +120,13 @@ module _ (net : Net) (limits : Limits) (corner : List (Option ℕ)) (lattice : L
 
   module _ (tellings : List Telling) (told : All (IsTold net limits corner lattice) tellings) (goal : List ℕ) (among : IsAmong lattice goal) where
     walked-among : (ks : List ℕ) → IsWalked lattice.axes tellings (corner_of lattice.axes) goal ks → IsAmong lattice ks
-    walked-among ks walked = under-among lattice goal ks among (from-corner-on lattice.axes tellings goal ks among.on walked) (from-corner-below lattice.axes tellings goal ks among.on walked)
+    walked-among ks walked =
+        let on : AreOnLattice lattice.axes tellings = told-on net limits corner lattice tellings told in
+        under-among lattice goal ks among (walked-on lattice.axes tellings goal on among.on ks walked) (walked-below lattice.axes tellings goal on among.on ks walked)
 
     pub walked-reached : (ks : List ℕ) → IsWalked lattice.axes tellings (corner_of lattice.axes) goal ks → IsReached net limits corner ks
     walked-reached _ begin = corner-reached goal among
+    walked-reached _ (begin_at t one under) = let is : IsTold net limits corner lattice t = All-contains (IsTold net limits corner lattice) tellings t told one in record { flat = is.flat; reachable = is.reachable }
     walked-reached _ (step ks t c walked one holds shown fits) =
         step-reached t (All-contains (IsTold net limits corner lattice) tellings t told one) c shown ks (walked-among ks walked) holds (walked-reached ks walked)
         (walked-among (slice_set ks c (slice_index ks c + step_at lattice.axes c)) (step ks t c walked one holds shown fits))

@@ -4,6 +4,7 @@ ghost use Rattle.covers.specs.declared.lattice.Lattice.{Lattice as ALattice};
 ghost use Rattle.covers.specs.Lattices.{storage_of};
 ghost use Rattle.covers.specs.Searches.{IsSearched};
 ghost use Rattle.explore.specs.Explorations.{CountsFew, IsRefusal};
+ghost use Rattle.walks.specs.Walks.{AreOnLattice};
 ghost use Rattle.walks.specs.declared.telling.Telling.{Telling as ATelling};
 ghost use Rattle.pareto_search.specs.declared.searching.Due.{Due as ADue};
 ghost use Rattle.pareto_search.specs.inside.Firsts.{IsFirstAt, IsLeft, IsLooked, IsSlower, IsStopWithin};
@@ -111,6 +112,7 @@ fn look<F: Firing>(
     slower: &mut Search,
     tellings: &[Telling],
 ) -> Result<Reach, NoMemory>
+    requires tellings { AreOnLattice base.now.lattice.now.axes tellings.now }
     requires left { IsLeft base.now.lattice.now tellings.now slower.old }
     ensures slower { OnOk result ((due : ADue) → IsSlower base.now.lattice.now due tellings.now slower.old → IsSlower base.now.lattice.now due tellings.now slower.new) }
     ensures looked { IfOk result (IsLooked base.now.lattice.now tellings.now slower.new) }

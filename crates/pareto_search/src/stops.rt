@@ -3,10 +3,10 @@ ghost use Rattle.std.specs.Prelude.{◌≡◌, ◌⊎◌, ◌<◌, ℕ, All, Con
 ghost use Rattle.sd_base.specs.declared.limits.Limits.{Limits};
 ghost use Rattle.sd_base.specs.Net.{Net};
 ghost use Rattle.covers.specs.Lattices.{IsAmong};
-ghost use Rattle.pareto_search.specs.inside.Firsts.{IsReach};
+ghost use Rattle.walks.specs.Walks.{AreOnLattice};
 ghost use Rattle.pareto_search.specs.inside.Grounds.{IsGround};
 ghost use Rattle.pareto_search.specs.inside.Knowledge.{IsTold};
-ghost use Rattle.pareto_search.specs.inside.Stops.{AreAscending, AreLevel, HasStop, IsGoal, IsMet, IsPlace, IsStop, IsStopTowards, IsTakenIn, against};
+ghost use Rattle.pareto_search.specs.inside.Stops.{AreAscending, AreLevel, HasStop, IsGoal, IsMet, IsPlace, IsReach, IsStop, IsStopTowards, IsTakenIn, against};
 
 use covers::{Lattice, storage_within};
 use sd_base::{NoMemory, Rows};
@@ -34,6 +34,7 @@ pub(crate) fn stops_of(
     goals: &[Rows<u64>],
 ) -> Result<Vec<Stop>, NoMemory>
     requires some { 0 < length goals.now }
+    requires tellings { AreOnLattice lattice.now.axes tellings.now }
     requires goals { All (IsGoal lattice.now tellings.now) goals.now }
     ensures some { IfOk result (λ v. 0 < vec_len v) }
     ensures each { IfOk result (λ v. (net : Net) (limits : Limits) (corner : List (Option ℕ)) → IsGround net limits corner lattice.now →
@@ -56,21 +57,13 @@ fn stop_towards(
     tellings: &[Telling],
     goal: &[u64],
 ) -> Result<Stop, NoMemory>
-    requires { IsGoal lattice.now tellings.now goal.now }
+    requires tellings { AreOnLattice lattice.now.axes tellings.now }
+    requires goal { IsGoal lattice.now tellings.now goal.now }
     ensures { IfOk result (IsStopTowards lattice.now tellings.now goal.now) }
 {
-    match walk(alloc, lattice, tellings, goal)? {
-        Walk::Stopped { capacities, by } => {
-            let Some(storage) = storage_within(lattice, capacities.as_slice()) else {
-                unreachable!()
-            };
-            Ok(Stop {
-                capacities,
-                by,
-                storage,
-            })
-        }
-        Walk::Held { place: _ } => unreachable!(),
+    match walk_to(alloc, lattice, tellings, goal)? {
+        Reach::Stopped(stop) => Ok(stop),
+        Reach::Held(_) => unreachable!(),
     }
 }
 
@@ -147,7 +140,8 @@ pub(crate) fn walk_to(
     tellings: &[Telling],
     goal: &[u64],
 ) -> Result<Reach, NoMemory>
-    requires { IsAmong lattice.now goal.now }
+    requires tellings { AreOnLattice lattice.now.axes tellings.now }
+    requires goal { IsAmong lattice.now goal.now }
     ensures { IfOk result (IsReach lattice.now tellings.now goal.now) }
 {
     match walk(alloc, lattice, tellings, goal)? {

@@ -1,6 +1,7 @@
 //! Lattices and tellings from literals.
 ghost use Rattle.std.specs.Prelude.{IsTrue};
 ghost use Rattle.covers.specs.Lattices.{IsOnAxis, IsOnLattice};
+ghost use Rattle.walks.specs.Walks.{AreOnLattice};
 
 use covers::{Axis, Lattice};
 use sd_base::{Fraction, NoMemory, Rows};
@@ -43,6 +44,15 @@ pub(crate) fn telling(
         rate: Fraction::new(0, 1),
         blocked: None,
     })
+}
+
+/// Whether each telling is of capacities of the lattice.
+pub(crate) fn are_on(lattice: &Lattice, tellings: &[Telling]) -> bool
+    ensures { IsTrue result → AreOnLattice lattice.now.axes tellings.now }
+{
+    tellings
+        .iter()
+        .all(|telling| is_on(lattice, telling.capacities.as_slice()))
 }
 
 /// Whether the capacities are on the lattice.

@@ -1,4 +1,4 @@
-use crate::fixtures::{is_on, lattice, telling};
+use crate::fixtures::{are_on, is_on, lattice, telling};
 use covers::Lattice;
 use sd_base::NoMemory;
 use std::alloc::Global;
@@ -34,6 +34,8 @@ fn walked(
     tellings: &[Telling],
     goal: &[u64],
 ) -> Result<String, NoMemory> {
+    let are_tellings = are_on(lattice, tellings);
+    assert!(rt; are_tellings);
     let is_goal = is_on(lattice, goal);
     assert!(rt; is_goal);
     let end = walk(alloc, lattice, tellings, goal)?;
@@ -57,9 +59,10 @@ fn first_tellings(alloc: Global, many: usize) -> Result<Vec<Telling>, NoMemory> 
     Ok(tellings)
 }
 
-// Towards (3, 6) two steps lack on each channel of (1, 2), so with the first telling the first one is enlarged. The second telling
-// is that of (2, 2). The third one, of (1, 4), holds back (2, 4), too, since it shows the second channel alone. At 6 on it the
-// goal has no more, so the fourth one ends the walk. The fifth one shows nothing, but it has 3 on the first channel.
+// Each walk towards (3, 6) begins at the last one of these. Two steps lack on each channel of (1, 2), so with the first telling
+// the first one is enlarged. The second telling shows the second channel alone, and so does the third one, of (1, 4), to which no
+// walk from the corner comes by the first two. At 6 on it the goal has no more, so the fourth one ends the walk; the fifth one,
+// of (3, 2), does, since it shows nothing.
 
 #[test]
 fn walks_by_what_was_told(rt: HostRuntime) -> Result<(), Fail> {
@@ -69,14 +72,46 @@ fn walks_by_what_was_told(rt: HostRuntime) -> Result<(), Fail> {
         (0usize, "1,2, at the corner"),
         (1, "2,2, by 0"),
         (2, "2,4, by 1"),
-        (3, "2,6, by 2"),
+        (3, "1,6, by 2"),
         (4, "held by 3"),
-        (5, "held by 3"),
+        (5, "held by 4"),
     ] {
         let tellings = first_tellings(alloc, many)?;
         let text = walked(&rt, alloc, &lattice, tellings.as_slice(), &[3, 6])?;
         assert_eq!(rt; text.as_str(), wanted);
     }
+    Ok(())
+}
+
+// The newest ones have more than these goals: (3, 2) than (2, 6), (2, 6) than (1, 8) too, and all but (1, 2) than (1, 2). So the
+// walks begin at (2, 6), at (1, 4), which lacks steps on the second channel, and at (1, 2).
+
+#[test]
+fn begins_at_the_newest_under_the_goal(rt: HostRuntime) -> Result<(), Fail> {
+    let alloc = rt.alloc();
+    let lattice = two(&rt, alloc)?;
+    let tellings = first_tellings(alloc, 5)?;
+    for (goal, wanted) in [
+        ([2u64, 6], "held by 3"),
+        ([1, 8], "1,6, by 2"),
+        ([1, 2], "held by 0"),
+    ] {
+        let text = walked(&rt, alloc, &lattice, tellings.as_slice(), &goal)?;
+        assert_eq!(rt; text.as_str(), wanted);
+    }
+    Ok(())
+}
+
+// Where each has more than the goal, a walk begins at the corner, which none holds back.
+
+#[test]
+fn begins_at_the_corner_below_all(rt: HostRuntime) -> Result<(), Fail> {
+    let alloc = rt.alloc();
+    let lattice = two(&rt, alloc)?;
+    let mut tellings = Vec::new(alloc);
+    tellings.push(telling(alloc, &[2, 2], &[1])?)?;
+    let text = walked(&rt, alloc, &lattice, tellings.as_slice(), &[1, 4])?;
+    assert_eq!(rt; text.as_str(), "1,2, at the corner");
     Ok(())
 }
 
@@ -100,8 +135,8 @@ fn enlarges_where_most_lacks(rt: HostRuntime) -> Result<(), Fail> {
     Ok(())
 }
 
-// The first one of no more capacities that has the same on what it shows; the last one shows nothing, so it holds back all from
-// (3, 2) on.
+// The last one of no more capacities that has the same on what it shows; the very last one shows nothing, so it holds back all
+// from (3, 2) on.
 
 #[test]
 fn finds_what_holds_back(rt: HostRuntime) -> Result<(), Fail> {
@@ -116,8 +151,8 @@ fn finds_what_holds_back(rt: HostRuntime) -> Result<(), Fail> {
         ([2, 4], Some(2)),
         ([1, 6], None),
         ([2, 6], Some(3)),
-        ([3, 6], Some(3)),
-        ([3, 2], Some(1)),
+        ([3, 6], Some(4)),
+        ([3, 2], Some(4)),
         ([3, 3], Some(4)),
     ] {
         assert_eq!(rt; held_by(tellings.as_slice(), &capacities), wanted);

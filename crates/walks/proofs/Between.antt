@@ -1,13 +1,14 @@
 -- What a walk comes to is on the lattice, between the corner and the goal.
 use Rattle.std.proofs.Common.{ℕ, zero, suc, ◌+◌, ◌≤◌, List, [], ◌∷◌, arith}
-use Rattle.std.specs.Prelude.{slice_index, slice_set}
+use Rattle.std.specs.Prelude.{Contains, slice_index, slice_set}
+use Rattle.std.proofs.lemmas.List.Elements.{All-contains}
 use Rattle.covers.specs.declared.lattice.Axis.{Axis}
 use Rattle.covers.specs.Lattices.{IsOnLattice, corner_of}
 use Rattle.covers.proofs.Places.{set-above}
 use Rattle.covers.proofs.Rooting.{corner-below, corner-on-lattice}
 use Rattle.walks.specs.declared.telling.Telling.{Telling}
 use Rattle.walks.specs.Tellings.{IsUnder}
-use Rattle.walks.specs.Walks.{IsWalked, begin, step, step_at, with_step}
+use Rattle.walks.specs.Walks.{AreOnLattice, IsWalked, begin, begin_at, step, step_at, with_step}
 use Rattle.walks.proofs.Steps.{step-on}
 
 pub under-along : (is js ks : List ℕ) → IsUnder is js → IsUnder js ks → IsUnder is ks
@@ -24,25 +25,23 @@ set-more (k ∷ ks) zero s (suc i) = omega arith
 set-more (k ∷ ks) (suc c) s zero = omega arith
 set-more (k ∷ ks) (suc c) s (suc i) = set-more ks c s i
 
-pub walked-above : (axes : List Axis) (tellings : List Telling) (corner goal ks : List ℕ) → IsWalked axes tellings corner goal ks → IsUnder corner ks
-walked-above axes tellings corner goal _ begin = λ c. omega arith
-walked-above axes tellings corner goal _ (step ks t c walked told holds shown fits) =
-    under-along corner ks (with_step axes ks c) (walked-above axes tellings corner goal ks walked) (set-more ks c (step_at axes c))
+-- ---- a walk on the lattice, where each telling is
 
-pub walked-below : (axes : List Axis) (tellings : List Telling) (corner goal ks : List ℕ) → IsUnder corner goal → IsWalked axes tellings corner goal ks → IsUnder ks goal
-walked-below axes tellings corner goal _ first begin = first
-walked-below axes tellings corner goal _ first (step ks t c walked told holds shown fits) =
-    set-above ks (λ i. slice_index goal i) c (slice_index ks c + step_at axes c) (walked-below axes tellings corner goal ks first walked) fits
+module _ (axes : List Axis) (tellings : List Telling) (goal : List ℕ) (told : AreOnLattice axes tellings) (last : IsOnLattice axes goal) where
+  told-on : (t : Telling) → Contains tellings t → IsOnLattice axes t.capacities
+  told-on t one = All-contains (λ (u : Telling). IsOnLattice axes u.capacities) tellings t told one
 
-pub walked-on : (axes : List Axis) (tellings : List Telling) (corner goal ks : List ℕ) → IsOnLattice axes corner → IsOnLattice axes goal → IsWalked axes tellings corner goal ks → IsOnLattice axes ks
-walked-on axes tellings corner goal _ first last begin = first
-walked-on axes tellings corner goal _ first last (step ks t c walked told holds shown fits) =
-    step-on axes goal ks c last (walked-on axes tellings corner goal ks first last walked) fits
+  pub walked-above : (ks : List ℕ) → IsWalked axes tellings (corner_of axes) goal ks → IsUnder (corner_of axes) ks
+  walked-above _ begin = λ c. omega arith
+  walked-above _ (begin_at t one under) = corner-below axes t.capacities (told-on t one)
+  walked-above _ (step ks t c walked one holds shown fits) = under-along (corner_of axes) ks (with_step axes ks c) (walked-above ks walked) (set-more ks c (step_at axes c))
 
--- so it is of a walk from the corner of the lattice
+  pub walked-below : (ks : List ℕ) → IsWalked axes tellings (corner_of axes) goal ks → IsUnder ks goal
+  walked-below _ begin = corner-below axes goal last
+  walked-below _ (begin_at t one under) = under
+  walked-below _ (step ks t c walked one holds shown fits) = set-above ks (λ i. slice_index goal i) c (slice_index ks c + step_at axes c) (walked-below ks walked) fits
 
-pub from-corner-on : (axes : List Axis) (tellings : List Telling) (goal ks : List ℕ) → IsOnLattice axes goal → IsWalked axes tellings (corner_of axes) goal ks → IsOnLattice axes ks
-from-corner-on axes tellings goal ks last walked = walked-on axes tellings (corner_of axes) goal ks (corner-on-lattice axes) last walked
-
-pub from-corner-below : (axes : List Axis) (tellings : List Telling) (goal ks : List ℕ) → IsOnLattice axes goal → IsWalked axes tellings (corner_of axes) goal ks → IsUnder ks goal
-from-corner-below axes tellings goal ks last walked = walked-below axes tellings (corner_of axes) goal ks (corner-below axes goal last) walked
+  pub walked-on : (ks : List ℕ) → IsWalked axes tellings (corner_of axes) goal ks → IsOnLattice axes ks
+  walked-on _ begin = corner-on-lattice axes
+  walked-on _ (begin_at t one under) = told-on t one
+  walked-on _ (step ks t c walked one holds shown fits) = step-on axes goal ks c last (walked-on ks walked) fits

@@ -1,6 +1,6 @@
 pub mod Steps
 pub mod MoreTold
-pub mod FirstHolder
+pub mod PlaceFound
 pub mod Between
 pub mod Lacking
 pub mod MostLacking

@@ -7,7 +7,7 @@ use Rattle.sd_base.proofs.Lists.{get-left}
 use Rattle.covers.specs.declared.lattice.Axis.{Axis}
 use Rattle.walks.specs.declared.telling.Telling.{Telling}
 use Rattle.walks.specs.Tellings.{HoldsBack, IsHeld, IsHeldAt}
-use Rattle.walks.specs.Walks.{IsWalked, begin, step}
+use Rattle.walks.specs.Walks.{IsWalked, begin, begin_at, step}
 
 pub held-more : (tellings more : List Telling) (ks : List ℕ) → IsHeld tellings ks → IsHeld (tellings ++ more) ks
 held-more tellings more ks held = (held.0, Contains-append_left tellings more held.0 held.1, held.2)
@@ -17,6 +17,7 @@ held-at-more tellings more ks place held = (held.0, get-left tellings more place
 
 pub walked-more : (axes : List Axis) (tellings more : List Telling) (corner goal ks : List ℕ) → IsWalked axes tellings corner goal ks → IsWalked axes (tellings ++ more) corner goal ks
 walked-more axes tellings more corner goal _ begin = begin
+walked-more axes tellings more corner goal _ (begin_at t told under) = begin_at t (Contains-append_left tellings more t told) under
 walked-more axes tellings more corner goal _ (step ks t c walked told holds shown fits) =
     step ks t c (walked-more axes tellings more corner goal ks walked) (Contains-append_left tellings more t told) holds shown fits
 

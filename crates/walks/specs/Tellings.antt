@@ -6,6 +6,10 @@ use Rattle.walks.specs.declared.telling.Telling.{Telling}
 abbrev pub IsUnder : List ℕ → List ℕ → Type 0
 IsUnder js ks = (c : ℕ) → slice_index js c ≤ slice_index ks c
 
+-- the telling at the place has no more than the capacities
+abbrev pub IsUnderAt : List Telling → List ℕ → ℕ → Type 0
+IsUnderAt tellings ks place = (t : Telling) × (slice_get tellings place ≡ Some t) × IsUnder t.capacities ks
+
 -- the capacities are no less than those that were evaluated, and the same on the channels that the telling shows
 pub record HoldsBack (t : Telling) (ks : List ℕ) : Type 0 where
   pub most : IsUnder t.capacities ks

@@ -1,11 +1,15 @@
--- Walks: from the corner towards a goal, and where they end.
+-- Walks: from what was told, or from the corner, towards a goal, and where they end.
 use Rattle.std.specs.Prelude.{◌≡◌, ℕ, ◌+◌, ◌≤◌, All, Contains, List, None, Option, Some, map, slice_get, slice_index, slice_index_or, slice_set}
 use Rattle.covers.specs.declared.lattice.Axis.{Axis}
 use Rattle.covers.specs.Lattices.{IsOnLattice, corner_of}
 use Rattle.walks.specs.declared.ends.Walk.{Walk}
 use Rattle.walks.specs.declared.ends.Walk.TheVariants.{Held, Stopped}
 use Rattle.walks.specs.declared.telling.Telling.{Telling}
-use Rattle.walks.specs.Tellings.{HoldsBack, IsHeld, IsUnder}
+use Rattle.walks.specs.Tellings.{HoldsBack, IsHeld, IsUnder, IsUnderAt}
+
+-- each telling is of capacities of the lattice
+abbrev pub AreOnLattice : List Axis → List Telling → Type 0
+AreOnLattice axes tellings = All (λ (t : Telling). IsOnLattice axes t.capacities) tellings
 
 -- the step of a channel; past the last one it is 1
 abbrev pub step_at : List Axis → ℕ → ℕ
@@ -15,17 +19,18 @@ step_at axes c = slice_index_or (map (λ (a : Axis). a.step) axes) c 1
 abbrev pub with_step : List Axis → List ℕ → ℕ → List ℕ
 with_step axes ks c = slice_set ks c (slice_index ks c + step_at axes c)
 
--- what walks come to: the corner, and from capacities that a telling holds back those with a step more on a channel that it
--- shows, where the goal has so much
+-- what walks come to: the corner, told capacities that have no more than the goal, and from capacities that a telling holds
+-- back those with a step more on a channel that it shows, where the goal has so much
 pub data IsWalked (axes : List Axis) (tellings : List Telling) (corner goal : List ℕ) : List ℕ → Type 0 where
   begin : IsWalked axes tellings corner goal corner
+  begin_at : (t : Telling) → Contains tellings t → IsUnder t.capacities goal → IsWalked axes tellings corner goal t.capacities
   step : (ks : List ℕ) (t : Telling) (c : ℕ) → IsWalked axes tellings corner goal ks → Contains tellings t → HoldsBack t ks → Contains t.enlarge c → slice_index ks c + step_at axes c ≤ slice_index goal c →
       IsWalked axes tellings corner goal (with_step axes ks c)
 
 -- the telling at the place has no more than the capacities; none where they are the corner
 abbrev pub IsBy : List Axis → List Telling → List ℕ → Option ℕ → Type 0
 IsBy axes tellings ks None = ks ≡ corner_of axes
-IsBy axes tellings ks (Some place) = (t : Telling) × (slice_get tellings place ≡ Some t) × IsUnder t.capacities ks
+IsBy axes tellings ks (Some place) = IsUnderAt tellings ks place
 
 -- a walk came to the capacities, and no telling holds them back
 pub record StopsAt (axes : List Axis) (tellings : List Telling) (goal ks : List ℕ) (by : Option ℕ) : Type 0 where

@@ -41,7 +41,7 @@ impl Telling {
 }
 
 /// Whether no number is above the one at its place of the others.
-fn is_under(lesser: &[u64], greater: &[u64]) -> bool
+pub(crate) fn is_under(lesser: &[u64], greater: &[u64]) -> bool
     ensures { IsTrue result ↔ IsUnder lesser.now greater.now }
 {
     for (place, number) in lesser.iter().enumerate() {

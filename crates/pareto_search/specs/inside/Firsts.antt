@@ -8,13 +8,11 @@ use Rattle.covers.specs.Bounds.{IsAtMost}
 use Rattle.covers.specs.Lattices.{IsAmong, storage_of}
 use Rattle.covers.specs.Searches.{IsNotAfter, IsSearched, IsSettled, IsUncovered}
 use Rattle.walks.specs.declared.telling.Telling.{Telling}
-use Rattle.walks.specs.Tellings.{IsUnder}
 use Rattle.pareto_search.specs.declared.searching.Due.{Due}
 use Rattle.pareto_search.specs.declared.stops.Stop.{Stop}
 use Rattle.pareto_search.specs.declared.stops.Reach.{Reach}
-use Rattle.pareto_search.specs.declared.stops.Reach.TheVariants.{Held, Stopped}
 use Rattle.pareto_search.specs.inside.Knowledge.{IsAbove}
-use Rattle.pareto_search.specs.inside.Stops.{IsStopTowards}
+use Rattle.pareto_search.specs.inside.Stops.{IsReach, IsStopTowards}
 use Rattle.pareto_search.specs.inside.Turns.{IsBoundOf}
 
 -- the search is one within the storage that is due, by vectors; it has the bounds of the tellings of lesser rates and no
@@ -35,12 +33,6 @@ pub record IsLeft (lattice : Lattice) (tellings : List Telling) (s : Search) : T
   pub slower : IsSlower lattice due tellings s
   pub within : due.total ≤ lattice.limit
   pub some : IsSettled s → ⊥
-
--- a walk towards the goal stopped, or the telling at the place has no more than the goal, and no less on the channels that it
--- shows
-abbrev pub IsReach : Lattice → List Telling → List ℕ → Reach → Type 0
-IsReach lattice tellings goal (Stopped stop) = IsStopTowards lattice tellings goal stop
-IsReach lattice tellings goal (Held place) = (t : Telling) × (slice_get tellings place ≡ Some t) × IsUnder t.capacities goal × All (λ (c : ℕ). slice_index goal c ≤ slice_index t.capacities c) t.enlarge
 
 -- a walk came so far towards the first vector that the search leaves
 pub record IsLooked (lattice : Lattice) (tellings : List Telling) (s : Search) (reach : Reach) : Type 0 where

@@ -12,6 +12,8 @@ use Rattle.walks.specs.declared.telling.Telling.{Telling}
 use Rattle.walks.specs.Tellings.{IsHeld, IsUnder}
 use Rattle.walks.specs.Walks.{IsBy, StopsAt}
 use Rattle.explore.specs.Reachable.{IsReachable}
+use Rattle.pareto_search.specs.declared.stops.Reach.{Reach}
+use Rattle.pareto_search.specs.declared.stops.Reach.TheVariants.{Held, Stopped}
 use Rattle.pareto_search.specs.declared.stops.Stop.{Stop}
 use Rattle.pareto_search.specs.inside.Vectors.{bounded_by, vector_of}
 
@@ -24,6 +26,12 @@ pub record IsGoal (lattice : Lattice) (tellings : List Telling) (ks : List ℕ) 
 pub record IsStopTowards (lattice : Lattice) (tellings : List Telling) (goal : List ℕ) (s : Stop) : Type 0 where
   pub stops : StopsAt lattice.axes tellings goal s.capacities s.by
   pub storage : s.storage ≡ storage_of lattice.axes s.capacities
+
+-- a walk towards the goal stopped, or the telling at the place has no more than the goal, and no less on the channels that it
+-- shows
+abbrev pub IsReach : Lattice → List Telling → List ℕ → Reach → Type 0
+IsReach lattice tellings goal (Stopped stop) = IsStopTowards lattice tellings goal stop
+IsReach lattice tellings goal (Held place) = (t : Telling) × (slice_get tellings place ≡ Some t) × IsUnder t.capacities goal × All (λ (c : ℕ). slice_index goal c ≤ slice_index t.capacities c) t.enlarge
 
 -- a walk towards one of the goals ended there, and no telling holds it back: a reachable distribution, of which nothing is
 -- known

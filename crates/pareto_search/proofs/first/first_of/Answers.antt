@@ -1,11 +1,13 @@
 use Rattle.std.proofs.Common.{◌≡◌, List, sym, ◌∙◌, subst, arith}
 use Rattle.std.proofs.lemmas.Result.{err_from_is_err_and}
+use Rattle.walks.specs.Walks.{AreOnLattice}
 use Rattle.walks.specs.declared.telling.Telling.{Telling}
 use Rattle.pareto_search.specs.declared.stops.Reach.TheVariants.{Held, Stopped}
 use Rattle.pareto_search.specs.inside.Firsts.{IsLeft, IsLooked, IsSlower}
 use Rattle.pareto_search.proofs.FirstFound.{among-back, due-runs, first-held, left, low-there}
 use Rattle.pareto_search.proofs.FoundTellings.{known-counts}
 use Rattle.pareto_search.proofs.RateOrder.{above-runs}
+use Rattle.pareto_search.proofs.WalksReach.{told-on}
 use Rattle.pareto_search.proofs.first.first_of.Goals as goal
 
 pub slower_search-requires : goal.slower_search-requires
@@ -15,6 +17,8 @@ slower_search-requires g c =
 
 pub look-requires : goal.look-requires
 look-requires g c = record {
+  tellings = subst (AreOnLattice c.args.base.now.lattice.now.axes) (sym c.as_slice-in-looks.ensures.value)
+      (told-on (g.F.Firing.net c.args.base.now.exploring.now.net.now) c.args.base.now.exploring.now.limits c.args.base.now.corner.now.capacities c.args.base.now.lattice.now c.looks.searching.known.tellings.items c.looks.invariant.settling.standing.known.told);
   left = subst (λ (ts : List Telling). IsLeft c.args.base.now.lattice.now ts c.looks.slower) (sym c.as_slice-in-looks.ensures.value)
       (left (g.F.Firing.net c.args.base.now.exploring.now.net.now) c.args.base.now.exploring.now.limits c.args.base.now.corner.now.capacities c.args.base.now.lattice.now c.requires.base.stands c.args.due c.looks.searching c.looks.invariant.settling c.looks.slower c.looks.invariant.slower);
 }

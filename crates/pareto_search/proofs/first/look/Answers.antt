@@ -3,7 +3,8 @@ use Rattle.std.proofs.lemmas.Result.{IfOk-weaker}
 use Rattle.covers.specs.Lattices.{IsAmong}
 use Rattle.covers.specs.Searches.{IsFirst, IsSettled}
 use Rattle.pareto_search.specs.declared.searching.Due.{Due}
-use Rattle.pareto_search.specs.inside.Firsts.{IsLooked, IsReach, IsSlower}
+use Rattle.pareto_search.specs.inside.Firsts.{IsLooked, IsSlower}
+use Rattle.pareto_search.specs.inside.Stops.{IsReach}
 use Rattle.pareto_search.proofs.SlowerBounds.{settled-before, slower-looked, within-back}
 use Rattle.pareto_search.proofs.first.look.Goals as goal
 
@@ -18,8 +19,8 @@ unreachable-requires g c =
     let settled : IsSettled c.first.new.self = rw c.in-None.is at c.in_ok-goal.ensures.first in
     c.requires.left.some (settled-before c.args.slower.now c.first.new.self c.in_ok-goal.ensures.same settled)
 
-pub walk_to-requires : goal.walk_to-requires
-walk_to-requires g c =
+pub walk_to-requires-clause-goal : goal.walk_to-requires-clause-goal
+walk_to-requires-clause-goal g c =
     let first : IsFirst c.first.new.self (Some c.in-Some.goal) = rw c.in-Some.is at c.in_ok-goal.ensures.first in
     subst (IsAmong c.args.base.now.lattice.now) (sym c.as_slice.ensures) (within-back c.args.base.now.lattice.now c.args.tellings.now c.args.slower.now c.first.new.self c.requires.left c.in_ok-goal.ensures.same c.in-Some.goal first.0.among)
 

@@ -1,15 +1,22 @@
 use Rattle.std.proofs.Common.{ℕ, ◌<◌, List, length, sym, subst, arith}
 use Rattle.std.specs.Prelude.{All}
 use Rattle.std.proofs.lemmas.Result.{err_from_is_err_and}
+use Rattle.walks.specs.Walks.{AreOnLattice}
 use Rattle.walks.specs.declared.telling.Telling.{Telling}
 use Rattle.pareto_search.specs.inside.Knowledge.{IsTold}
 use Rattle.pareto_search.specs.inside.Stops.{IsGoal, IsStop}
 use Rattle.pareto_search.proofs.FoundTellings.{known-counts}
 use Rattle.pareto_search.proofs.LevelStops.{level-goals, level-stops}
+use Rattle.pareto_search.proofs.WalksReach.{told-on}
 use Rattle.pareto_search.proofs.search.go_on.Goals as goal
 
 pub stops_of-requires-clause-some : goal.stops_of-requires-clause-some
 stops_of-requires-clause-some g c = subst (λ (vs : List (List ℕ)). 0 < length vs) (sym c.as_slice-2.ensures) c.requires.level.1.some
+
+pub stops_of-requires-clause-tellings : goal.stops_of-requires-clause-tellings
+stops_of-requires-clause-tellings g c =
+    subst (AreOnLattice c.args.base.now.lattice.now.axes) (sym c.as_slice.ensures.value)
+    (told-on (g.F.Firing.net c.args.base.now.exploring.now.net.now) c.args.base.now.exploring.now.limits c.args.base.now.corner.now.capacities c.args.base.now.lattice.now c.args.searching.now.known.tellings.items c.requires.standing.known.told)
 
 pub stops_of-requires-clause-goals : goal.stops_of-requires-clause-goals
 stops_of-requires-clause-goals g c =

@@ -8,7 +8,7 @@ use Rattle.walks.specs.Tellings.{IsHeld, IsHeldAt}
 use Rattle.walks.specs.Walks.{with_step}
 use Rattle.walks.specs.inside.Lacks.{LacksMost, LacksNone}
 use Rattle.walks.proofs.Steps.{lack-fits}
-use Rattle.walks.proofs.WalkEnds.{begun, gone-on, held-up, lacks-less, stopped}
+use Rattle.walks.proofs.WalkEnds.{begun, gone-on, held-up, lacks-less, place-within, stopped}
 use Rattle.walks.proofs.walking.walk.Goals as goal
 use Rattle.walks.proofs.walking.walk.Goals.{After-enlarge, After-as_slice-shown, In-Some, In-Some-most_lacking}
 
@@ -29,8 +29,11 @@ new c =
     with_items_is c.steps.capacities c.enlarge.new.capacities (omega (arith, c.enlarge.auto.capacities, c.as_mut_slice.ensures.len))
     ∙ (c.enlarge.ensures ∙ ap (λ (ks : List ℕ). with_step c.args.lattice.now.axes ks c.in-Some-most_lacking.channel) c.as_mut_slice.ensures.value)
 
+pub start-requires : goal.start-requires
+start-requires c = place-within c.args.tellings.now c.args.goal.now c.newest_under-by.result c.newest_under-by.ensures
+
 pub steps-init : goal.steps-init
-steps-init c = begun c.args.lattice.now.axes c.args.tellings.now c.args.goal.now c.in_ok-capacities.capacities.items c.in_ok-capacities.ensures
+steps-init c = begun c.args.lattice.now.axes c.args.tellings.now c.args.goal.now c.in_ok-capacities.capacities.items c.newest_under-by.result c.newest_under-by.ensures c.in_ok-capacities.ensures
 
 pub bounds-tellings-place : goal.bounds-tellings-place
 bounds-tellings-place c = slice_get_within c.args.tellings.now c.in-Some.place c.in-Some.ensures.0 c.in-Some.ensures.1
@@ -40,7 +43,7 @@ returns-in_default-most_lacking c =
     let at = held (goal.at.returns-in_default-most_lacking c).In-Some in (
       at.0,
       at.1,
-      held-up c.args.lattice.now.axes c.args.tellings.now c.args.goal.now c.steps.capacities.items c.as_slice-shown.result.now at.0 c.steps.by c.requires c.steps.invariant at.2 (shown (goal.at.returns-in_default-most_lacking c).After-as_slice-shown at.0 at.1)
+      held-up c.args.lattice.now.axes c.args.tellings.now c.args.goal.now c.steps.capacities.items c.as_slice-shown.result.now at.0 c.steps.by c.requires.tellings c.requires.goal c.steps.invariant at.2 (shown (goal.at.returns-in_default-most_lacking c).After-as_slice-shown at.0 at.1)
           (subst (λ (ks : List ℕ). LacksNone c.args.lattice.now.axes c.args.goal.now ks c.as_slice-shown.result.now) c.as_slice-in-Some.ensures.value c.in_default-most_lacking.ensures),
     )
 
@@ -57,10 +60,10 @@ steps-preserved c =
 
 pub steps-smaller : goal.steps-smaller
 steps-smaller c =
-    lacks-less c.args.lattice.now.axes c.args.tellings.now c.args.goal.now c.steps.capacities.items _ c.in-Some-most_lacking.channel c.requires c.steps.invariant.walked
+    lacks-less c.args.lattice.now.axes c.args.tellings.now c.args.goal.now c.steps.capacities.items _ c.in-Some-most_lacking.channel c.requires.tellings c.requires.goal c.steps.invariant.walked
     (lack-fits c.args.lattice.now.axes c.args.goal.now c.steps.capacities.items c.in-Some-most_lacking.channel (lacks (goal.at.steps-smaller c).In-Some-most_lacking).some) (new (goal.at.steps-smaller c).After-enlarge)
 
 pub returns : goal.returns
 returns c =
-    stopped c.args.lattice.now.axes c.args.tellings.now c.args.goal.now c.steps.capacities.items c.from_vec.result c.steps.by c.requires c.steps.invariant
+    stopped c.args.lattice.now.axes c.args.tellings.now c.args.goal.now c.steps.capacities.items c.from_vec.result c.steps.by c.requires.tellings c.requires.goal c.steps.invariant
     (subst (λ (ks : List ℕ). IsHeld c.args.tellings.now ks → ⊥) c.as_slice.ensures.value c.in_default.ensures) c.from_vec.ensures
