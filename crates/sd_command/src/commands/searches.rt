@@ -28,12 +28,7 @@ use std::alloc::Global;
 use std::thread::Threads;
 
 /// The points of a net, or the refusal of a search that passes a limit.
-pub(crate) fn points_within<
-    R: Threads + Sync,
-    F: Firing + Sync,
-    G: Gate + Sync,
-    L: Ledger + Send,
->(
+pub(crate) fn points_within<R: Threads + Sync, F: Firing + Sync, G: Gate + Sync, L: Ledger + Send>(
     parallel: &Parallel<'_, R, G>,
     alloc: Global,
     net: &F,
