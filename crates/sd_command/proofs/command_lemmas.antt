@@ -6,6 +6,7 @@ pub mod CyclesOver
 pub mod Goings
 pub mod OrderedOver
 pub mod Orderless
+pub mod PointAnswers
 pub mod PointSchedules
 pub mod PointTasks
 pub mod Reached

@@ -13,6 +13,7 @@ pub(crate) mod points;
 pub(crate) mod rates;
 pub(crate) mod repetition;
 pub(crate) mod scenario_points;
+pub(crate) mod searches;
 pub(crate) mod shown_points;
 pub(crate) mod trade_off;
 pub(crate) mod wanted;

@@ -21,7 +21,7 @@ use Rattle.sd_steps.specs.Balancings.{balancing}
 use Rattle.sd_steps.specs.Nets.{touching, completing}
 use Rattle.sd_command.specs.Requests.{course_of}
 use Rattle.sd_laws.specs.Endings.{PointCertificatesFit, StorageIsComplete, Suffice}
-use Rattle.sd_command.specs.commands.Points.{ArePointsTooLong, IsExplorationEnd}
+use Rattle.sd_command.specs.commands.Points.{ArePointsTooLong, IsPointsEnd}
 use Rattle.sd_command.specs.declared.commands.wanted.WantedPoints.{WantedPoints}
 use Rattle.sd_laws.proofs.CommandsDecide.{never_ends}
 use Rattle.storage.proofs.FileConnections.{file-connected, file-few}
@@ -47,9 +47,9 @@ module _ (laws : FileLaws) (words : List (List ℕ)) (shelf : Files) (tells : sh
       let can : IsExplorable net = touched-explorable net (file-plain graph gamma no_overlap) (file-connected graph gamma no_overlap round.balanced.connected) touched (file-few graph gamma no_overlap (laws.keeps opened.0 true graph opened.2)) in
       let fit = enough opened.0 gamma graph (opened.1.told tells) opened.2 round in
       ⊎_elim
-      (λ (spent : CountsFew net limits 0 n × IsExplorationEnd graph net limits r).
+      (λ (spent : CountsFew net limits 0 n × IsPointsEnd graph net limits r).
       unspent graph net laws.nets (lawful_net laws opened.0 graph gamma no_overlap opened.2 round) can limits (asked_within words (Storage name limits no_overlap certificate) asked).total fit.0 r spent.1)
-      (λ (long : ArePointsTooLong net wanted r n). short-enough certificate _ r (fit.1 long.members long.points long.schedules long.shown) long.long)
+      (λ (long : ArePointsTooLong net wanted r n). short-enough certificate _ r (fit.1 long.points long.schedules n long.shown) long.long)
       end))))
       (of_request words shelf (Storage name limits no_overlap certificate) asked (Ended r) n tt ended)
 

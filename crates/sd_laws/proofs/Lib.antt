@@ -17,6 +17,7 @@ mod ValidTradeOffPuts
 mod ValidWorstPuts
 mod AcceptedPuts
 mod CompleteGenerate
+mod FastestPoints
 mod CommandsDecide
 mod SharedSteps
 mod FirstWithouts

@@ -1,4 +1,4 @@
--- A net decides the step that tests its actors, and what ends an exploration.
+-- A net decides the step that tests its actors, and limits that are enough end no search for its points.
 use Rattle.std.proofs.Common.{ℕ, ◌≤◌, None, refl, sym, ap, ◌∙◌, arith}
 use Rattle.sd_base.specs.declared.tables.GraphFile.{GraphFile}
 use Rattle.sd_base.specs.declared.limits.Limits.{Limits}
@@ -14,7 +14,7 @@ use Rattle.report.specs.declared.refusal.Refusal.TheVariants.{NoInput}
 use Rattle.sd_command.specs.declared.commands.wanted.WantedPoints.{WantedPoints}
 use Rattle.sd_steps.specs.ActorNames.{actor_shown}
 use Rattle.sd_steps.specs.Nets.{touching, completing}
-use Rattle.sd_command.specs.commands.Points.{IsExplorationEnd, states_spent, too_many_starts, distributions_spent, exploration, points_of}
+use Rattle.sd_command.specs.commands.Points.{IsPointsEnd, states_spent, too_many_starts, distributions_spent, points_of, points_search}
 use Rattle.sd_laws.specs.Endings.{Suffice}
 use Rattle.sd_laws.proofs.CommandsDecide.{Determines, Decides, DecidesLast, after_decides, last_decides}
 use Rattle.sd_laws.proofs.OneRate.{NetLaws, completing_determines, one-least}
@@ -29,8 +29,8 @@ module _ (graph : GraphFile) (net : Net) where
     never = λ r a is touched. is.is.none (touched is.actor is.is.place);
   }
 
-  exploration_decides : (wanted : WantedPoints) → DecidesLast (exploration graph net wanted)
-  exploration_decides wanted = record {
+  search_decides : (wanted : WantedPoints) → DecidesLast (points_search graph net wanted)
+  search_decides wanted = record {
     one = λ r s n m is also. absurd is;
     no_answer = λ r answer n m is also. is;
     no_end = λ r s n m is also. is;
@@ -41,10 +41,10 @@ module _ (graph : GraphFile) (net : Net) where
     points_decide wanted =
         after_decides (touching graph net) _ touching_determines (λ a touched.
         after_decides (completing graph net) _ (completing_determines facts net laws graph) (λ b live.
-        last_decides (exploration graph net wanted) (exploration_decides wanted)))
+        last_decides (points_search graph net wanted) (search_decides wanted)))
 
-    -- where the limits are enough, no exploration is ended by them
-    pub unspent : IsExplorable net → (limits : Limits) → limits.total ≤ STORAGE → Suffice net limits → (r : Refusal) → IsExplorationEnd graph net limits r → ⊥
+    -- where the limits are enough, none is passed
+    pub unspent : IsExplorable net → (limits : Limits) → limits.total ≤ STORAGE → Suffice net limits → (r : Refusal) → IsPointsEnd graph net limits r → ⊥
     unspent can limits small enough r (states_spent ds reach live spent p) =
         let fits = reachable-fits net limits.total ds can.plain reach in
         let loop = enough.repeats ds reach live in

@@ -56,12 +56,12 @@ module _ (laws : FileLaws) (valid : TradeOffsAreValid) (words : List (List ℕ))
       let complete = goes_past (completing graph net) _ (Answered answer) n tt touch.2 in
       let told : IsPointsAnswer graph net wanted answer n = complete.2 in
       let made = told.put.1 in
-      let is : told.put.0 ≡ _ = made.1 in
+      let is : told.put.0 ≡ _ = made.is in
       record {
         bytes = opened.1.0;
         graph = graph;
         gamma = balance.0;
-        certificate = made.0;
+        certificate = made.listed;
         there = opened.1.1.told tells;
         fits = opened.1.1.fits;
         given = opened.1.2;
@@ -69,14 +69,14 @@ module _ (laws : FileLaws) (valid : TradeOffsAreValid) (words : List (List ℕ))
         file = told.put.2.2 ∙ ap Some (told.put.2.1.1 ∙ ap (λ (c : Certificate). record { kind = kinds.Certificate; name = put; bytes = text_of c }) is);
         short = subst (λ (c : Certificate). length (text_of c) ≤ greatest_of quantities.CertificateBytes) is told.put.2.1.0;
         read = subst (λ (c : Certificate). IsCertText (text_of c) 2 c) is told.put.2.1.2;
-        valid = valid graph balance.0 no_overlap limits told.members told.points told.schedules made.0
+        valid = valid graph balance.0 no_overlap limits made.members told.points told.schedules made.listed
             (record {
               laws = lawful_net laws opened.1.0 graph balance.0 no_overlap opened.1.2 balance.1;
               plain = file-plain graph balance.0 no_overlap;
               connected = file-connected graph balance.0 no_overlap balance.1.balanced.connected;
               few = file-few graph balance.0 no_overlap (laws.keeps opened.1.0 true graph opened.1.2);
             })
-            touch.1 (asked_within words (Storage name limits no_overlap (Some put)) asked).total told.shown.explored (all-reached net told.points told.schedules told.shown.reached) made.2 2;
+            touch.1 (asked_within words (Storage name limits no_overlap (Some put)) asked).total made.explored (all-reached net told.points told.schedules told.shown.reached) made.made 2;
       }
 
 pub trade_offs_put_are_valid : FileLaws → TradeOffsAreValid → TradeOffsPutAreValid

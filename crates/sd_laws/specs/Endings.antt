@@ -19,7 +19,6 @@ use Rattle.ordered.specs.OrderedNets.{ordered}
 use Rattle.periodic.specs.declared.schedule.Periodic.{Periodic}
 use Rattle.critical.specs.declared.cycle.NeedCycle.{NeedCycle}
 use Rattle.pareto_front.specs.declared.point.Point.{Point}
-use Rattle.explore.specs.declared.exploration.Member.{Member}
 use Rattle.explore.specs.Explorations.{AreFound}
 use Rattle.explore.specs.Reachable.{IsReachable}
 use Rattle.graph_reader.specs.Laws.{Gives}
@@ -123,16 +122,16 @@ ExpandIsComplete = (run : Run) (cut : Bool) (name output : List ℕ) (buffers : 
     → ((refusal : Refusal) (n : ℕ) → course_of run.words run.outside.shelf.files (Refused refusal) n → ⊥)
     → Shows run cut → (run.status ≡ statuses.Done) ⊎ (run.status ≡ statuses.Memory)
 
--- the limits are enough for an exploration: each distribution that it may come to, if its bounded net completes a round,
--- repeats a shape in time, and there are no more of them than it may find
+-- the limits are enough for a search for the points: each distribution that is reachable, if its bounded net completes a round,
+-- repeats a shape in time, and there are no more of them than are allowed
 pub record Suffice (net : Net) (limits : Limits) : Type 0 where
   pub repeats : (ds : List (Option ℕ)) → IsReachable net limits.total ds → IsLive (bound net ds) → Repeats (bound net ds) limits.states
   pub few : (dss : List (List (Option ℕ))) → AreFound net limits.total dss → length dss ≤ limits.distributions
 
 -- where a certificate of the points of a net is asked for, each one is short enough
 abbrev pub PointCertificatesFit : Net → WantedPoints → Type 0
-PointCertificatesFit net wanted = (members : List Member) (points : List Point) (schedules : List Periodic) → ArePointsShown net wanted members points schedules
-    → AreShort wanted.certificate (IsOfPoints net wanted members points schedules)
+PointCertificatesFit net wanted = (points : List Point) (schedules : List Periodic) (n : ℕ) → ArePointsShown net wanted.limits points schedules
+    → AreShort wanted.certificate (IsOfPoints net wanted points schedules n)
 
 -- such a run of `storage` is done, or ends for want of memory, where no refusal is due, the limits are enough, and the
 -- certificates are short enough

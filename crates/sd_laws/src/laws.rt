@@ -1,4 +1,5 @@
 ghost use Rattle.sd_laws.specs.AcceptedCertificates.{PutsAreAccepted};
+ghost use Rattle.sd_laws.specs.FastestPoints.{FastestPointsAreLast};
 ghost use Rattle.sd_laws.specs.KeptOrders.{OrdersAreKept};
 ghost use Rattle.sd_laws.specs.PutCertificates.{PutsAreValid};
 ghost use Rattle.sd_laws.specs.PutExpansions.{ExpansionsAreRead};
@@ -6,6 +7,7 @@ ghost use Rattle.sd_laws.specs.Endings.{CheckIsComplete, CompleteIsComplete, Con
 
 use balance::one_answer;
 use cert_maker::laws::storage_certificates_are_valid;
+use explore::laws::points_to_the_greatest_rate_are_all;
 use graph_reader::know_files;
 use lasso::one_ending;
 use ordered::laws::{
@@ -19,7 +21,7 @@ use token_matrix::matrices_are_one;
 
 /// The words and files decide how a run ends, but for faults and want of memory; and what is put beside a rate, a
 /// trade-off or a worst rate is valid, and accepted by `check`. The rate by orders is the greatest of the schedules that keep them.
-/// What `expand` puts is read as the expansion.
+/// What `expand` puts is read as the expansion. The points of a trade-off to the fastest one are those of every greater limit.
 pub fn know_endings()
     ensures one { DueIsOne }
     ensures due { DueIsAnswered }
@@ -39,6 +41,7 @@ pub fn know_endings()
     ensures ordered { OrderedIsComplete }
     ensures orders { OrdersAreKept }
     ensures complete { CompleteIsComplete }
+    ensures fastest { FastestPointsAreLast }
 {
     know_files();
     know_scenario_files();
@@ -48,6 +51,7 @@ pub fn know_endings()
     ending_counts_are_one();
     blocking_counts_bound_each_schedule();
     storage_certificates_are_valid();
+    points_to_the_greatest_rate_are_all();
     one_ending();
     ordered_nets_are_lawful();
     ordered_nets_have_the_greatest_rate();

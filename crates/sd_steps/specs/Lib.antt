@@ -7,7 +7,6 @@ pub mod CertificateReadings
 pub mod Certifyings
 pub mod Courses
 pub mod Deliveries
-pub mod Extents
 pub mod Findings
 pub mod Judgings
 pub mod Nets

@@ -11,7 +11,6 @@ pub mod buffering;
 mod certificate_reading;
 pub mod certifying;
 pub mod delivering;
-mod extents;
 mod file_kind;
 pub mod finding;
 pub mod judging;
@@ -26,7 +25,6 @@ mod stop;
 pub mod taking;
 
 pub use answer::{Answer, Put};
-pub use extents::extent_for;
 pub use file_kind::FileKind;
 pub use status::Status;
 pub use stop::Stop;

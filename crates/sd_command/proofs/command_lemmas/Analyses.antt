@@ -1,17 +1,15 @@
 -- From what the last part of a command does to how the command goes.
-use Rattle.std.proofs.Common.{◌≡◌, ℕ, ◌-◌, List, Option, Result, Ok, Err, refl, inl, inr, arith}
+use Rattle.std.proofs.Common.{◌≡◌, ℕ, ◌-◌, List, Option, Result, Ok, Err, refl, arith}
 use Rattle.sd_base.specs.declared.tables.GraphFile.{GraphFile}
 use Rattle.sd_base.specs.declared.limits.Limits.{Limits}
 use Rattle.sd_base.specs.Net.{Net}
 use Rattle.lasso.specs.LoopAnswers.{IsFound}
-use Rattle.explore.specs.declared.exploration.Exploration.{Exploration}
 use Rattle.explore.specs.Explorations.{CountsFew}
 use Rattle.report.specs.declared.refusal.Refusal.{Refusal}
 use Rattle.sd_steps.specs.declared.answer.Answer.{Answer}
 use Rattle.sd_steps.specs.declared.answer.Put.{Put}
 use Rattle.sd_steps.specs.declared.stop.Stop.{Stop}
 use Rattle.sd_steps.specs.declared.stop.Stop.TheVariants as stop
-use Rattle.sd_command.specs.declared.commands.wanted.WantedPoints.{WantedPoints}
 use Rattle.sd_command.specs.declared.commands.wanted.WantedRate.{WantedRate}
 use Rattle.sd_command.specs.declared.commands.wanted.WantedRounds.{WantedRounds}
 use Rattle.completion.specs.declared.least_time.Completion.{Completion}
@@ -20,7 +18,6 @@ use Rattle.sd_command.specs.commands.LeastTimes.{IsTimeAnswer, completion}
 use Rattle.sd_steps.specs.Courses.{deciding, Answered, Refused, Ended, Lacking, ends_by, printing}
 use Rattle.sd_command.specs.commands.Rates.{IsRateAnswer, IsRateTooLong, execution}
 use Rattle.sd_steps.specs.Findings.{IsRunRefusal}
-use Rattle.sd_command.specs.commands.Points.{ArePointsTooLong, IsExplorationEnd, IsPointsAnswer, exploration}
 use Rattle.automaton.specs.declared.graph.TimedGraph.{TimedGraph}
 use Rattle.sd_command.specs.commands.WorstRates.{IsWorstAnswer, IsWorstTooLong, telling_worst}
 use Rattle.sd_base.specs.declared.tables.ScenarioFile.{ScenarioFile}
@@ -53,22 +50,6 @@ module _ (graph : GraphFile) (net : Net) (wanted : WantedRounds) (n : ℕ) (one 
 
   pub time_lacks : Goes (ends_by (completion graph net wanted)) (Err stop.OutOfMemory) n faults faults
   time_lacks = record { ending = Lacking; is = refl; came = omega arith; counted = refl }
-
-module _ (graph : GraphFile) (net : Net) (wanted : WantedPoints) (n faults : ℕ) where
-  -- an exploration stops
-  pub exploration_stops : (shows : Exploration → Type 0) → CountsFew net wanted.limits 0 n → (why : Stop)
-      → Does (deciding shows (IsExplorationEnd graph net wanted.limits)) (Err why)
-      → Goes (ends_by (exploration graph net wanted)) (Err why) n faults faults
-  exploration_stops shows few (stop.Refused refusal) is = record { ending = Ended refusal; is = refl; came = inl (few, is); counted = refl }
-  exploration_stops shows few stop.OutOfMemory is = record { ending = Lacking; is = refl; came = few; counted = refl }
-
-  -- it answers with its points, or their certificate is too long
-  pub points_answer : CountsFew net wanted.limits 0 n → (result : Result Answer Stop)
-      → Does (deciding (λ (answer : Answer). IsPointsAnswer graph net wanted answer n) (λ (refusal : Refusal). ArePointsTooLong net wanted refusal n)) result
-      → Goes (ends_by (exploration graph net wanted)) result n faults faults
-  points_answer few (Ok answer) is = record { ending = Answered answer; is = refl; came = is; counted = refl }
-  points_answer few (Err (stop.Refused refusal)) is = record { ending = Ended refusal; is = refl; came = inr is; counted = refl }
-  points_answer few (Err stop.OutOfMemory) is = record { ending = Lacking; is = refl; came = few; counted = refl }
 
 -- counts from some number on are counts from 0 on
 pub few_from : (net : Net) (limits : Limits) (before after : ℕ) → CountsFew net limits before after → CountsFew net limits 0 (after - before)

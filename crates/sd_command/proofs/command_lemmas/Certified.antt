@@ -1,5 +1,5 @@
 -- From a certificate that is made to the file that an answer puts.
-use Rattle.std.proofs.Common.{◌≡◌, ℕ, ◌*◌, ◌<◌, ◌≤◌, List, [], All, length, Option, Err, refl, get_or, mul-le-mul, arith}
+use Rattle.std.proofs.Common.{◌≡◌, ℕ, ◌*◌, ◌<◌, ◌≤◌, List, [], All, length, Option, Some, Result, Ok, Err, refl, get_or, mul-le-mul, arith}
 use Rattle.std.specs.Prelude.{slice_index}
 use Rattle.std.proofs.lemmas.List.Elements.{All-from_get_or}
 use Rattle.sd_base.specs.declared.limits.TheConstants.{START}
@@ -10,10 +10,13 @@ use Rattle.sd_base.specs.Schedules.{count_of}
 use Rattle.firing.specs.declared.table.LoopTable.{LoopTable}
 use Rattle.periodic.specs.declared.schedule.Periodic.{Periodic}
 use Rattle.periodic.specs.LoopSchedules.{IsScheduleOf}
+use Rattle.cert_text.specs.declared.certificates.Certificate.{Certificate}
 use Rattle.cert_text.specs.Spellable.{AreStarts}
 use Rattle.sd_steps.specs.declared.stop.Stop.{Stop}
 use Rattle.sd_steps.specs.declared.stop.Stop.TheVariants as stop
-use Rattle.sd_steps.specs.Certifyings.{Certifies, IsTooLong}
+use Rattle.sd_steps.specs.declared.answer.Put.{Put}
+use Rattle.sd_steps.specs.declared.file_kind.FileKind.TheVariants as kinds
+use Rattle.sd_steps.specs.Certifyings.{Certifies, IsTooLong, certifying}
 use Rattle.sd_base.specs.declared.tables.GraphFile.{GraphFile}
 use Rattle.sd_base.specs.declared.tables.ScenarioFile.{ScenarioFile}
 use Rattle.critical.specs.declared.cycle.NeedCycle.{NeedCycle}
@@ -21,11 +24,6 @@ use Rattle.automaton.specs.declared.graph.TimedGraph.{TimedGraph}
 use Rattle.scenario_rate.specs.declared.answer.Worst.{Worst}
 use Rattle.sd_command.specs.declared.commands.wanted.WantedRate.{WantedRate}
 use Rattle.sd_command.specs.commands.Rates.{IsOfRate, IsRateAnswer, IsRateShown, IsRateTooLong}
-use Rattle.pareto_front.specs.declared.point.Point.{Point}
-use Rattle.explore.specs.declared.exploration.Member.{Member}
-use Rattle.explore.specs.Explorations.{cycles_in}
-use Rattle.sd_command.specs.declared.commands.wanted.WantedPoints.{WantedPoints}
-use Rattle.sd_command.specs.commands.Points.{ArePointsShown, ArePointsTooLong, IsOfPoints, IsPointsAnswer}
 use Rattle.sd_command.specs.commands.WorstRates.{IsOfWorst, IsShown, IsWorstAnswer, IsWorstTooLong}
 use Rattle.sd_steps.specs.Courses.{deciding}
 use Rattle.sd_steps.specs.Steps.{Does}
@@ -58,9 +56,9 @@ pub worst-stops : (file : ScenarioFile) (graph : TimedGraph) (certificate : Opti
 worst-stops file graph certificate worst shown (stop.Refused refusal) long = record { worst = worst; is = shown; long = long; none = refl }
 worst-stops file graph certificate worst shown stop.OutOfMemory nothing = tt
 
--- that of points too
-pub points-stops : (graph : GraphFile) (net : Net) (wanted : WantedPoints) (members : List Member) (points : List Point) (schedules : List Periodic) → ArePointsShown net wanted members points schedules → (why : Stop)
-    → Does (deciding (Certifies wanted.certificate (IsOfPoints net wanted members points schedules)) (IsTooLong wanted.certificate (IsOfPoints net wanted members points schedules))) (Err why)
-    → Does (deciding (λ answer. IsPointsAnswer graph net wanted answer (cycles_in members)) (λ refusal. ArePointsTooLong net wanted refusal (cycles_in members))) (Err why)
-points-stops graph net wanted members points schedules shown (stop.Refused refusal) long = record { members = members; points = points; schedules = schedules; shown = shown; long = long; counted = refl }
-points-stops graph net wanted members points schedules shown stop.OutOfMemory nothing = tt
+-- a certificate of what an answer shows is put, or is too long
+pub certificate-filed : (name : List ℕ) (shows : Certificate → Type 0) (c : Certificate) → shows c → (result : Result Put Stop) → Does (certifying kinds.Certificate name c) result
+    → Does (deciding (λ (put : Put). Certifies (Some name) shows (Some put)) (IsTooLong (Some name) shows)) result
+certificate-filed name shows c is (Ok put) passes = (c, is, (put, passes, refl))
+certificate-filed name shows c is (Err (stop.Refused refusal)) refuses = (c, is, refuses)
+certificate-filed name shows c is (Err stop.OutOfMemory) lacks = tt

@@ -13,6 +13,7 @@ use Rattle.sd_base.specs.Lawful.{Lawful, is_file_channel, is_token_role}
 use Rattle.sd_base.proofs.LoopRates.{one-rate}
 use Rattle.periodic.specs.declared.schedule.Periodic.{Periodic}
 use Rattle.periodic.specs.LoopSchedules.{IsScheduleOf}
+use Rattle.storage.specs.declared.distribution.Distribution.{Distribution}
 use Rattle.storage.specs.BoundedNets.{bound}
 use Rattle.storage.specs.Distributions.{CanHold, IsDistribution, storage_of}
 use Rattle.storage.proofs.FileChannels.{plain-no_spaces}
@@ -21,7 +22,10 @@ use Rattle.storage.proofs.Lawfulness.{bound-lawful}
 use Rattle.sd_base.proofs.Containing.{contains-here, contains-later}
 use Rattle.pareto_front.specs.declared.point.Point.{Point}
 use Rattle.explore.specs.Reachable.{IsExplorable}
-use Rattle.explore.specs.Explorations.{IsPoint}
+use Rattle.explore.specs.declared.error.ExploreError.{ExploreError}
+use Rattle.explore.specs.declared.error.ExploreError.TheVariants.{StatesSpent}
+use Rattle.explore.specs.Explorations.{IsPoint, IsRefusal}
+use Rattle.explore.proofs.Explorable.{reachable-fits}
 use Rattle.cert_text.specs.Spellable.{AreStarts}
 use Rattle.report.specs.LinkTexts.{IsRoleIn, IsNamed}
 use Rattle.sd_command.specs.commands.Points.{IsPointSchedule}
@@ -56,6 +60,13 @@ distribution-named g net laws named ds dist = ⊎_elim
     omega arith)
     (λ (none : length ds ≤ 0). omega arith)
     (cases_lt 0 (length ds))
+
+-- so is the one that a search names which isn't ended
+pub refused-named : (g : GraphFile) (net : Net) → Lawful net → IsNamed g net → IsExplorable net → (limits : Limits) (error : ExploreError) → IsRefusal net limits error
+    → (at : Distribution) → error ≡ StatesSpent at → length at.capacities ≤ length g.channels
+refused-named g net laws named can limits error refused at is =
+    let why : IsRefusal net limits (StatesSpent at) = subst (IsRefusal net limits) is refused in
+    distribution-named g net laws named at.capacities (reachable-fits net limits.total at.capacities can.plain why.0).0
 
 -- ---- points
 

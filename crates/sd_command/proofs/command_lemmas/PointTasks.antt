@@ -1,15 +1,22 @@
 -- Tasks of points, before and after their runs.
-use Rattle.std.proofs.Common.{◌≡◌, ℕ, zero, suc, ◌+◌, ◌<◌, List, [], ◌∷◌, ◌++◌, All, length, take, drop, get_or, length-append, Option, Some, None, Result, Ok, refl, sym, ap, subst, ◌∙◌, append_assoc, arith}
+use Rattle.std.proofs.Common.{◌≡◌, ℕ, zero, suc, ◌+◌, ◌<◌, ◌≤◌, List, [], ◌∷◌, ◌++◌, All, length, take, drop, get_or, length-append, Option, Some, None, Result, Ok, refl, sym, ap, subst, ◌∙◌, append_assoc, arith}
+use Rattle.std.specs.Prelude.{Contains}
 use Rattle.std.specs.List.{AllZip}
 use Rattle.std.proofs.lemmas.List.{append-nil, take_all, take_more}
+use Rattle.std.proofs.lemmas.List.Elements.{Contains-get_or}
 use Rattle.std.proofs.lemmas.Slice.Zip.{AllZip-long}
 use Rattle.sd_base.specs.declared.memory.NoMemory.{NoMemory}
 use Rattle.sd_base.specs.declared.tables.GraphFile.{GraphFile}
+use Rattle.sd_base.specs.declared.limits.Limits.{Limits}
+use Rattle.sd_base.specs.declared.limits.TheConstants.{STORAGE}
 use Rattle.sd_base.specs.Net.{Net}
 use Rattle.periodic.specs.declared.schedule.Periodic.{Periodic}
 use Rattle.pareto_front.specs.declared.point.Point.{Point}
+use Rattle.explore.specs.Reachable.{IsExplorable}
+use Rattle.pareto_search.specs.TradeOffs.{IsTradeOff}
 use Rattle.fanout.specs.JobRuns.{EachRan}
 use Rattle.fanout.proofs.TaskLists.{slice-back}
+use Rattle.report.specs.LinkTexts.{IsNamed}
 use Rattle.report.specs.ListTexts.{lines_of}
 use Rattle.report.specs.StorageTexts.{point_text, points_header, points_lines}
 use Rattle.sd_command.specs.declared.commands.shown_points.ShownPoint.{ShownPoint}
@@ -43,6 +50,20 @@ lines-push line Q [] [] r v all = append-nil (line r v)
 lines-push line Q [] (w ∷ vs) r v all = absurd all
 lines-push line Q (q ∷ rs) [] r v all = absurd all
 lines-push line Q (q ∷ rs) (w ∷ vs) r v all = ap (λ (l : List ℕ). line q w ++ l) (lines-push line Q rs vs r v all.1) ∙ sym (append_assoc (line q w) (lines_of line rs vs) (line r v))
+
+-- ---- points
+
+-- those of a trade-off can be shown
+pub points-showable : (graph : GraphFile) (net : Net) (limits : Limits) → IsNamed graph net → IsExplorable net → limits.total ≤ STORAGE → (ps qs : List Point) → qs ≡ ps → IsTradeOff net limits ps
+    → All (IsShowable graph net) qs
+points-showable graph net limits named can small ps qs same are k d below =
+    record {
+      named = named;
+      explorable = can;
+      limits = limits;
+      total = small;
+      found = are.reached (get_or qs k d) (subst (λ (xs : List Point). Contains xs (get_or qs k d)) same (Contains-get_or qs k d below));
+    }
 
 -- ---- tasks
 

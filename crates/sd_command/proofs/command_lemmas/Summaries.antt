@@ -10,39 +10,38 @@ use Rattle.graph_reader.specs.FirstFaults.{IsFirstFault}
 use Rattle.graph_reader.specs.Laws.{Gives, HasOneTable, ReadHasNoFault}
 use Rattle.gen_graph.specs.MadeGraphs.{made_graph}
 use Rattle.pareto_front.specs.declared.point.Point.{Point}
-use Rattle.explore.specs.declared.exploration.Exploration.{Exploration}
-use Rattle.explore.specs.declared.exploration.Member.{Member}
-use Rattle.explore.specs.declared.extent.Extent.TheVariants.{Fastest}
-use Rattle.explore.specs.Explorations.{CountsFew, cycles_in}
-use Rattle.explore.specs.Extents.{Explores}
+use Rattle.explore.specs.Explorations.{CountsFew, CountsLive}
+use Rattle.pareto_search.specs.TradeOffs.{IsTradeOff}
 use Rattle.report.specs.SummaryTexts.{summary_lines}
 use Rattle.sd_steps.specs.declared.answer.Answer.{Answer}
 use Rattle.sd_steps.specs.declared.stop.Stop.{Stop}
 use Rattle.sd_steps.specs.declared.stop.Stop.TheVariants as stop
 use Rattle.sd_steps.specs.Courses.{deciding, Answered, Ended, Lacking, ends_by}
-use Rattle.sd_command.specs.commands.Points.{IsExplorationEnd}
+use Rattle.sd_command.specs.commands.Points.{IsPointsEnd}
 use Rattle.sd_command.specs.commands.Generations.{summary}
 use Rattle.sd_steps.specs.Steps.{Does}
 use Rattle.sd_command.specs.inside.Goings.{Goes}
 
-module _ (seed : ℕ) (graph : GraphFile) (gamma : List ℕ) (net : Net) (limits : Limits) where
-  module _ (n faults : ℕ) where
-    -- an exploration stops
-    pub summary_stops : CountsFew net limits 0 n → (why : Stop)
-        → Does (deciding (λ (e : Exploration). Explores Fastest net limits e.members.items e.points.items) (IsExplorationEnd graph net limits)) (Err why)
-        → Goes (ends_by (summary seed graph gamma net limits)) (Err why) n faults faults
-    summary_stops few (stop.Refused refusal) is = record { ending = Ended refusal; is = refl; came = (few, is); counted = refl }
-    summary_stops few stop.OutOfMemory is = record { ending = Lacking; is = refl; came = few; counted = refl }
+module _ (seed : ℕ) (graph : GraphFile) (gamma : List ℕ) (net : Net) (limits : Limits) (n faults : ℕ) where
+  -- the search for the points stops
+  pub summary_stops : {A : Type 0} (passes : A → Type 0) → CountsFew net limits 0 n → (why : Stop) → Does (deciding passes (IsPointsEnd graph net limits)) (Err why)
+      → Goes (ends_by (summary seed graph gamma net limits)) (Err why) n faults faults
+  summary_stops passes few (stop.Refused refusal) is = record { ending = Ended refusal; is = refl; came = (few, is); counted = refl }
+  summary_stops passes few stop.OutOfMemory is = record { ending = Lacking; is = refl; came = few; counted = refl }
 
-    -- it answers with the summary of its points
-    pub summary_answers : (answer : Answer) (members : List Member) (points : List Point) → n ≡ cycles_in members → Explores Fastest net limits members points
-        → answer.text ≡ summary_lines seed graph gamma points → answer.put ≡ None → length points ≤ cycles_in members → Goes (ends_by (summary seed graph gamma net limits)) (Ok answer) n faults faults
-    summary_answers answer members points count explored shown none many = record {
-      ending = Answered answer;
-      is = refl;
-      came = record { members = members; text = record { points = points; explored = explored; shown = shown }; put = none; counted = count; many = subst (λ (k : ℕ). length points ≤ k) (sym count) many };
-      counted = refl;
-    }
+  -- memory lacks
+  pub summary_lacks : CountsFew net limits 0 n → Goes (ends_by (summary seed graph gamma net limits)) (Err stop.OutOfMemory) n faults faults
+  summary_lacks few = record { ending = Lacking; is = refl; came = few; counted = refl }
+
+  -- it answers with the summary of its points
+  pub summary_answers : (answer : Answer) (points : List Point) → IsTradeOff net limits points → answer.text ≡ summary_lines seed graph gamma points → answer.put ≡ None
+      → CountsLive net limits n → length points ≤ n → Goes (ends_by (summary seed graph gamma net limits)) (Ok answer) n faults faults
+  summary_answers answer points are shown none live many = record {
+    ending = Answered answer;
+    is = refl;
+    came = record { text = record { points = points; trade_off = are; shown = shown }; put = none; counted = live; many = many };
+    counted = refl;
+  }
 
 -- ---- the graph that is made
 

@@ -6,42 +6,40 @@ use Rattle.sd_base.specs.declared.limits.TheConstants.{USUAL_DISTRIBUTIONS, USUA
 use Rattle.sd_base.specs.Net.{Net}
 use Rattle.sd_base.specs.FileNet.{net_of}
 use Rattle.pareto_front.specs.declared.point.Point.{Point}
-use Rattle.explore.specs.declared.exploration.Member.{Member}
-use Rattle.explore.specs.declared.extent.Extent.TheVariants.{Fastest}
-use Rattle.explore.specs.Explorations.{CountsFew, cycles_in}
-use Rattle.explore.specs.Extents.{Explores}
+use Rattle.explore.specs.Explorations.{CountsFew, CountsLive}
+use Rattle.pareto_search.specs.TradeOffs.{IsTradeOff}
 use Rattle.gen_graph.specs.MadeGraphs.{made_graph}
 use Rattle.report.specs.SummaryTexts.{summary_lines}
 use Rattle.sd_steps.specs.declared.answer.Answer.{Answer}
 use Rattle.sd_steps.specs.Courses.{Analysis, Ending, After, ends_by}
 use Rattle.sd_steps.specs.Balancings.{balancing}
 use Rattle.sd_steps.specs.Nets.{touching, completing}
-use Rattle.sd_command.specs.commands.Points.{IsExplorationEnd}
+use Rattle.sd_command.specs.commands.Points.{IsPointsEnd}
 
--- what an exploration up to a total may use where words give no more
+-- what a search up to a total may use where words give no more
 abbrev pub usual_limits : ℕ → Limits
 usual_limits total = record { total = total; states = USUAL_STATES; distributions = USUAL_DISTRIBUTIONS }
 
--- the text lists the points of an exploration, which are exactly the Pareto points of all distributions within the limit
-pub record IsSummary (seed : ℕ) (graph : GraphFile) (gamma : List ℕ) (net : Net) (limits : Limits) (members : List Member) (text : List ℕ) : Type 0 where
+-- the text lists points, which are exactly the Pareto points of all distributions within the limit
+pub record IsSummary (seed : ℕ) (graph : GraphFile) (gamma : List ℕ) (net : Net) (limits : Limits) (text : List ℕ) : Type 0 where
   pub points : List Point
-  pub explored : Explores Fastest net limits members points
+  pub trade_off : IsTradeOff net limits points
   pub shown : text ≡ summary_lines seed graph gamma points
 
--- an execution was counted for each member whose net is live, and so one for each point at least
+-- it is printed; an execution was counted for each of some distributions that differ, are reachable and have live nets, of which there
+-- are no fewer than points
 pub record IsSummaryAnswer (seed : ℕ) (graph : GraphFile) (gamma : List ℕ) (net : Net) (limits : Limits) (answer : Answer) (n : ℕ) : Type 0 where
-  pub members : List Member
-  pub text : IsSummary seed graph gamma net limits members answer.text
+  pub text : IsSummary seed graph gamma net limits answer.text
   pub put : answer.put ≡ None
-  pub counted : n ≡ cycles_in members
+  pub counted : CountsLive net limits n
   pub many : length text.points ≤ n
 
--- one exploration, of which a summary is told
+-- one search for the points, of which a summary is told
 abbrev pub summary : ℕ → GraphFile → List ℕ → Net → Limits → Analysis
 summary seed graph gamma net limits = record {
   answered = λ answer n. IsSummaryAnswer seed graph gamma net limits answer n;
   refused = λ refusal n. ⊥;
-  ended = λ refusal n. CountsFew net limits 0 n × IsExplorationEnd graph net limits refusal;
+  ended = λ refusal n. CountsFew net limits 0 n × IsPointsEnd graph net limits refusal;
   counted = λ n. CountsFew net limits 0 n;
 }
 

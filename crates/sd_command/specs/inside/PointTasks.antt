@@ -13,7 +13,7 @@ use Rattle.report.specs.StorageTexts.{point_text}
 use Rattle.sd_command.specs.declared.commands.shown_points.ShownPoint.{ShownPoint}
 use Rattle.sd_command.specs.commands.Points.{IsPointSchedule}
 
--- a point of an exploration of a net, whose actors and channels the graph names
+-- a Pareto point of a net, whose actors and channels the graph names
 pub record IsShowable (graph : GraphFile) (net : Net) (point : Point) : Type 0 where
   pub named : IsNamed graph net
   pub explorable : IsExplorable net

@@ -14,8 +14,7 @@ ghost use Rattle.sd_command.specs.commands.Generations.{generate, summary_of, su
 ghost use Rattle.sd_command.specs.inside.Goings.{Goes};
 
 use crate::commands::parallel::Parallel;
-use crate::commands::points::explored;
-use explore::Extent;
+use crate::commands::searches::points_within;
 use fanout::Gate;
 use firing::{Firing, SdfNet, Wired, Wiring};
 use gen_graph::{make, write_graph};
@@ -29,7 +28,8 @@ use sd_steps::{Answer, Stop};
 use std::alloc::Global;
 use std::thread::Threads;
 
-/// The trade-off of the graph that is made from a number: the graph is written, read again, and explored.
+/// The trade-off of the graph that is made from a number: the graph is written, read again, and its points are
+/// searched.
 pub(crate) fn answer<R: Threads + Sync, G: Gate + Sync, L: Ledger + Send>(
     parallel: &Parallel<'_, R, G>,
     alloc: Global,
@@ -76,7 +76,7 @@ fn want_of_memory(error: &ReadError) -> NoMemory
     }
 }
 
-// What an exploration up to a total may use.
+// What a search up to a total may use.
 fn usual_limits(total: u64) -> Limits
     requires { total ≤ STORAGE }
     ensures value { result ≡ usual_limits total }
@@ -168,22 +168,14 @@ fn summary_of<R: Threads + Sync, F: Firing + Sync, G: Gate + Sync, L: Ledger + S
         wiring: &wiring,
     };
     complete(alloc, &wired, &made.graph)?;
-    let exploration = explored(
-        parallel,
-        alloc,
-        net,
-        &made.graph,
-        limits,
-        Extent::Fastest,
-        steps,
-    )?;
+    let points = points_within(parallel, alloc, net, &made.graph, limits, steps)?;
     Ok(Answer {
         text: summary_text(
             alloc,
             made.seed,
             &made.graph,
             made.gamma.as_slice(),
-            exploration.points.as_slice(),
+            points.as_slice(),
         )?,
         put: None,
     })

@@ -1,4 +1,4 @@
-ghost use Rattle.std.specs.Prelude.{◌≡◌, ℕ, ◌+◌, ◌-◌, ◌*◌, ◌≤◌, IfOk, All, length};
+ghost use Rattle.std.specs.Prelude.{◌≡◌, ℕ, ◌-◌, ◌*◌, ◌≤◌, All, None, Some, length};
 ghost use Rattle.sd_base.specs.declared.limits.TheConstants.{NET_CHANNELS, STORAGE};
 ghost use Rattle.sd_base.specs.Tables.{IsTimed, KeepsRules};
 ghost use Rattle.sd_base.specs.Connection.{IsConnected};
@@ -6,36 +6,32 @@ ghost use Rattle.sd_base.specs.FileNet.{net_of};
 ghost use Rattle.balance.specs.Repetition.{IsRound};
 ghost use Rattle.periodic.specs.declared.schedule.Periodic.{Periodic as APeriodic};
 ghost use Rattle.storage.specs.Distributions.{IsPlain};
-ghost use Rattle.explore.specs.declared.exploration.Exploration.{Exploration as AnExploration};
 ghost use Rattle.explore.specs.Reachable.{IsExplorable};
-ghost use Rattle.explore.specs.Explorations.{CountsFew, cycles_in};
-ghost use Rattle.explore.specs.Extents.{Explores};
+ghost use Rattle.explore.specs.Explorations.{IsExploration, cycles_in};
 ghost use Rattle.report.specs.LinkTexts.{IsNamed};
 ghost use Rattle.cert_text.specs.declared.certificates.Certificate.{Certificate as ACertificate};
 ghost use Rattle.cert_text.specs.Spellable.{AreStarts};
 ghost use Rattle.cert_maker.specs.Links.{HasNoOrders};
 ghost use Rattle.sd_words.specs.Asked.{AreLimits};
 ghost use Rattle.sd_steps.specs.Certifyings.{Certifies, IsTooLong};
-ghost use Rattle.sd_command.specs.commands.Points.{ArePointsTooLong, IsExplorationEnd, IsOfPoints, IsPointsAnswer, points_of};
-ghost use Rattle.sd_steps.specs.Extents.{extent_for};
-ghost use Rattle.sd_steps.specs.Courses.{deciding};
+ghost use Rattle.sd_steps.specs.Courses.{deciding, ends_by};
 ghost use Rattle.sd_steps.specs.Steps.{Does};
+ghost use Rattle.sd_command.specs.commands.Points.{IsOfPoints, points_of, points_search};
 ghost use Rattle.sd_command.specs.inside.Goings.{Goes};
 
 use crate::commands::parallel::Parallel;
-use crate::commands::shown_points::shown_points;
+use crate::commands::searches::{explored, points_within};
+use crate::commands::shown_points::{ShownPoints, shown_points};
 use crate::commands::wanted::WantedPoints;
 use cert_maker::storage_certificate;
-use explore::{Exploration, ExploreError, Extent, explore_as_far};
+use explore::Exploration;
 use fanout::Gate;
 use firing::{CsdfNet, Firing, SdfNet, Wired, Wiring, know_laws};
 use periodic::Periodic;
-use report::{Refusal, buffers_text};
-use sd_base::{GraphFile, Kind, Ledger, Limits, Quantity, Steps};
+use sd_base::{GraphFile, Kind, Ledger, Steps, Text};
 use sd_steps::certifying::certify;
 use sd_steps::nets::{complete, touch};
-use sd_steps::reading::above;
-use sd_steps::{Answer, FileKind, Put, Stop, extent_for};
+use sd_steps::{Answer, FileKind, Put, Stop};
 use std::alloc::Global;
 use std::thread::Threads;
 
@@ -96,120 +92,97 @@ pub(crate) fn points_of<R: Threads + Sync, F: Firing + Sync, G: Gate + Sync, L: 
         wiring: &wiring,
     };
     complete(alloc, &wired, graph)?;
-    let exploration = explored(
-        parallel,
-        alloc,
-        net,
-        graph,
-        wanted.limits,
-        extent_for(&wanted.certificate),
-        steps,
-    )?;
-    shown(parallel.rt, alloc, net, graph, wanted, exploration)
+    match &wanted.certificate {
+        None => without_certificate(parallel, alloc, net, graph, wanted, steps),
+        Some(name) => with_certificate(parallel, alloc, net, graph, wanted, name, steps),
+    }
 }
 
-/// The exploration of a net, or the refusal of one that passes a limit.
-pub(crate) fn explored<R: Threads + Sync, F: Firing + Sync, G: Gate + Sync, L: Ledger + Send>(
+// The points of a net, where no certificate of them is asked for.
+fn without_certificate<R: Threads + Sync, F: Firing + Sync, G: Gate + Sync, L: Ledger + Send>(
     parallel: &Parallel<'_, R, G>,
     alloc: Global,
     net: &F,
     graph: &GraphFile,
-    limits: Limits,
-    extent: Extent,
+    wanted: &WantedPoints,
     steps: &mut Steps<L>,
-) -> Result<Exploration, Stop>
+) -> Result<Answer, Stop>
     requires named { IsNamed graph.now (F.net net.now) }
     requires explorable { IsExplorable (F.net net.now) }
-    requires limits { AreLimits limits }
-    ensures does { Does (deciding (λ (e : AnExploration). Explores extent (F.net net.now) limits e.members.items e.points.items) (IsExplorationEnd graph.now (F.net net.now) limits)) result }
-    ensures counts { IfOk result (λ e. steps.new.count ≡ steps.old.count + cycles_in e.members.items) }
-    ensures least { IfOk result (λ e. steps.old.count + length e.points.items ≤ steps.new.count) }
-    ensures most { CountsFew (F.net net.now) limits steps.old.count steps.new.count }
+    requires limits { AreLimits wanted.now.limits }
+    requires asked { wanted.now.certificate ≡ None }
+    ensures goes { (faults : ℕ) → Goes (ends_by (points_search graph.now (F.net net.now) wanted.now)) result (steps.new.count - steps.old.count) faults faults }
     ensures rises { steps.old.count ≤ steps.new.count }
     ensures share { steps.new.share ≡ steps.old.share }
 {
-    know_laws(net);
-    match explore_as_far(
-        parallel.rt,
-        alloc,
-        net,
-        limits,
-        extent,
-        parallel.gate,
-        steps,
-    ) {
-        Ok(exploration) => Ok(exploration),
-        Err(ExploreError::StatesSpent { at }) => Err(Stop::Refused(Refusal::StatesSpent {
-            states: limits.states,
-            at: Some(buffers_text(alloc, graph, &at)?),
-        })),
-        Err(ExploreError::TooManyStarts { .. }) => {
-            Err(Stop::Refused(above(alloc, Quantity::Starts)?))
-        }
-        Err(ExploreError::DistributionsSpent) => Err(Stop::Refused(Refusal::DistributionsSpent {
-            number: limits.distributions,
-        })),
-        Err(ExploreError::NoMemory) => Err(Stop::OutOfMemory),
-    }
+    let points = points_within(parallel, alloc, net, graph, wanted.limits, steps)?;
+    let ShownPoints {
+        schedules: _schedules,
+        text,
+    } = shown_points(parallel.rt, alloc, net, graph, points.as_slice())?;
+    Ok(Answer { text, put: None })
 }
 
-// The points of an exploration as an answer: each with the schedule of its loop, and with their certificate where one is asked
-// for.
-fn shown<R: Threads + Sync, F: Firing + Sync>(
-    rt: &R,
+// The points of a net, with their certificate, which lists all members of an exploration.
+fn with_certificate<R: Threads + Sync, F: Firing + Sync, G: Gate + Sync, L: Ledger + Send>(
+    parallel: &Parallel<'_, R, G>,
     alloc: Global,
     net: &F,
     graph: &GraphFile,
     wanted: &WantedPoints,
-    exploration: Exploration,
+    name: &Text,
+    steps: &mut Steps<L>,
 ) -> Result<Answer, Stop>
     requires named { IsNamed graph.now (F.net net.now) }
     requires explorable { IsExplorable (F.net net.now) }
     requires unordered { HasNoOrders (F.net net.now) }
-    requires total { wanted.now.limits.total ≤ STORAGE }
-    requires explored { Explores (extent_for wanted.now.certificate) (F.net net.now) wanted.now.limits exploration.members.items exploration.points.items }
-    requires many { length exploration.points.items ≤ cycles_in exploration.members.items }
-    ensures { let n : ℕ = cycles_in exploration.members.items in
-        Does (deciding (λ answer. IsPointsAnswer graph.now (F.net net.now) wanted.now answer n) (λ refusal. ArePointsTooLong (F.net net.now) wanted.now refusal n)) result }
+    requires limits { AreLimits wanted.now.limits }
+    requires asked { wanted.now.certificate ≡ Some name.now }
+    ensures goes { (faults : ℕ) → Goes (ends_by (points_search graph.now (F.net net.now) wanted.now)) result (steps.new.count - steps.old.count) faults faults }
+    ensures rises { steps.old.count ≤ steps.new.count }
+    ensures share { steps.new.share ≡ steps.old.share }
 {
     know_laws(net);
-    let shown = shown_points(rt, alloc, net, graph, exploration.points.as_slice())?;
-    let put = put_for(alloc, net, wanted, exploration, shown.schedules)?;
+    let exploration = explored(parallel, alloc, net, graph, wanted.limits, steps)?;
+    let ShownPoints { schedules, text } = shown_points(
+        parallel.rt,
+        alloc,
+        net,
+        graph,
+        exploration.points.as_slice(),
+    )?;
+    let put = put_as(alloc, net, wanted, name, exploration, schedules)?;
     Ok(Answer {
-        text: shown.text,
-        put,
+        text,
+        put: Some(put),
     })
 }
 
-// The file of the certificate of an exploration with the schedules of its points, where one is asked for.
-fn put_for<F: Firing>(
+// The file of the certificate of an exploration with the schedules of its points.
+fn put_as<F: Firing>(
     alloc: Global,
     net: &F,
     wanted: &WantedPoints,
+    name: &Text,
     exploration: Exploration,
     schedules: Vec<Periodic>,
-) -> Result<Option<Put>, Stop>
+) -> Result<Put, Stop>
     requires explorable { IsExplorable (F.net net.now) }
     requires unordered { HasNoOrders (F.net net.now) }
     requires total { wanted.now.limits.total ≤ STORAGE }
-    requires explored { Explores (extent_for wanted.now.certificate) (F.net net.now) wanted.now.limits exploration.members.items exploration.points.items }
+    requires explored { IsExploration (F.net net.now) wanted.now.limits exploration.members.items exploration.points.items }
     requires many { length schedules.items ≡ length exploration.points.items }
     requires starts { All (λ (s : APeriodic). All AreStarts s.starts) schedules.items }
-    ensures { let shows : ACertificate → Type 0 = IsOfPoints (F.net net.now) wanted.now exploration.members.items exploration.points.items schedules.items in
-        Does (deciding (Certifies wanted.now.certificate shows) (IsTooLong wanted.now.certificate shows)) result }
+    ensures { let shows : ACertificate → Type 0 = IsOfPoints (F.net net.now) wanted.now exploration.points.items schedules.items (cycles_in exploration.members.items) in
+        Does (deciding (λ put. Certifies (Some name.now) shows (Some put)) (IsTooLong (Some name.now) shows)) result }
 {
-    match &wanted.certificate {
-        None => Ok(None),
-        Some(name) => {
-            let made = storage_certificate(
-                alloc,
-                net,
-                wanted.no_overlap,
-                wanted.limits,
-                exploration,
-                schedules,
-            )?;
-            Ok(Some(certify(alloc, FileKind::Certificate, name.as_str(), &made)?))
-        }
-    }
+    let made = storage_certificate(
+        alloc,
+        net,
+        wanted.no_overlap,
+        wanted.limits,
+        exploration,
+        schedules,
+    )?;
+    certify(alloc, FileKind::Certificate, name.as_str(), &made)
 }

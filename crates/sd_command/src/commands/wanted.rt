@@ -61,8 +61,8 @@ pub struct WantedRounds {
     pub rounds: u64,
 }
 
-/// What words ask for beside the points of a graph: how far they are explored, that no firings of an actor overlap, and a
-/// certificate under a name.
+/// What words ask for beside the points of a graph: within which limits they are searched, that no firings of an actor
+/// overlap, and a certificate under a name.
 #[derive(Drop)]
 pub struct WantedPoints {
     pub limits: Limits,

@@ -14,6 +14,7 @@ use Rattle.sd_laws.proofs.AcceptedPuts.{puts_are_accepted}
 use Rattle.sd_laws.proofs.CompleteCertificates.{check_is_complete, convert_is_complete}
 use Rattle.sd_laws.proofs.CompleteNets.{complete_is_complete, expand_is_complete}
 use Rattle.sd_laws.proofs.CompleteOrdered.{ordered_is_complete, orders_are_kept}
+use Rattle.sd_laws.proofs.FastestPoints.{fastest_points_are_last}
 use Rattle.sd_laws.proofs.OneOrder.{OrderLaws}
 use Rattle.sd_laws.proofs.ReadExpansions.{expansions_are_read}
 use Rattle.sd_laws.proofs.CompleteOthers.{repetition_is_complete, scenario_is_complete}
@@ -119,3 +120,6 @@ returns-clause-complete c = complete_is_complete (laws c)
 
 pub returns-clause-convert : goal.returns-clause-convert
 returns-clause-convert c = convert_is_complete
+
+pub returns-clause-fastest : goal.returns-clause-fastest
+returns-clause-fastest c = fastest_points_are_last c.points_to_the_greatest_rate_are_all.ensures
