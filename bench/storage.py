@@ -34,13 +34,14 @@ CASES = [
     ("converter, 60", "rate_converter.xml", ["--limit", "60"]),
     (CERTIFIED, "rate_converter.xml", ["--limit", "60", "--distributions", "1000000"]),
     ("woven, 169", WOVEN, ["--limit", "169"]),
-    ("20 of 28, 2", "drawn_20_28_2.xml", WITHOUT_END),
-    ("20 of 28, 3", "drawn_20_28_3.xml", WITHOUT_END),
-    ("24 of 34, 1", "drawn_24_34_1.xml", WITHOUT_END),
-    ("30 of 45, 1", "drawn_30_45_1.xml", WITHOUT_END),
-    ("40 of 60, 1", "drawn_40_60_1.xml", WITHOUT_END),
+    ("lte_receiver", "lte_receiver.xml", WITHOUT_END),
+    ("drawn 20-28-2", "drawn_20_28_2.xml", WITHOUT_END),
+    ("drawn 20-28-3", "drawn_20_28_3.xml", WITHOUT_END),
+    ("drawn 24-34-1", "drawn_24_34_1.xml", WITHOUT_END),
+    ("drawn 30-45-1", "drawn_30_45_1.xml", WITHOUT_END),
+    ("drawn 40-60-1", "drawn_40_60_1.xml", WITHOUT_END),
 ]
-"""The rows: a name, a file, and what is asked. The last ones have so many actors of so many channels, drawn from a state."""
+"""The rows: a name, a file, and what is asked. The last ones are drawn: so many actors, so many channels, and the state."""
 
 
 def woven(state: int, actors: int = 20, channels: int = 40) -> str:
