@@ -11,7 +11,7 @@ const MORE: u64 = 12;
 
 /// A net of 3 to 6 actors drawn from a seed, and the storage up to which it is searched. A channel leads from each actor to the
 /// next one, and up to three more lead from any actor to any. Rates are 1 to 3, times 1 to 9, sizes of tokens 1 and 2. Where the seed
-/// is even no firings of an actor overlap.
+/// is even, firings of an actor overlap only by a channel from it to itself.
 pub(crate) fn drawn_net(alloc: Global, seed: u64) -> Result<(SdfNet, u64), TableError> {
     let mut draws = Draws::new(seed);
     let actors = 3 + draws.draw(4) as u32;
