@@ -22,6 +22,7 @@ GRAPHS = [
     ("modem", 25),
     ("satellite_receiver", 46),
     ("mp3_decoder", 17),
+    ("lte_receiver", 118),
 ]
 """The graphs, each with the limit of its trade-off."""
 SCENARIOS = ["video_modes", "wlan_receiver"]

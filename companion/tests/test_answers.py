@@ -22,6 +22,7 @@ FRONTS: Dict[str, Tuple[int, Dict[int, str]]] = {
     "modem": (4, {21: "1/40", 22: "1/32", 23: "1/30", 24: "1/24"}),
     "satellite_receiver": (5, {38: "1/594", 39: "1/408", 41: "1/348", 43: "1/288", 45: "1/264"}),
     "mp3_decoder": (2, {14: "1/17", 16: "1/16"}),
+    "lte_receiver": (8, {100: "1/755", 102: "1/634", 104: "1/574", 106: "1/570", 110: "1/540", 112: "1/515", 114: "1/510", 118: "1/497"}),
 }
 """How many points the documents tell of an example, and rates by storage of those that they name."""
 CHAIN = ["6 1/7 alpha=4,beta=2", "8 1/6 alpha=5,beta=3", "9 1/5 alpha=6,beta=3", "10 1/4 alpha=7,beta=3"]
