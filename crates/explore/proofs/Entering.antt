@@ -1,13 +1,12 @@
 -- The members of a level more have entered.
-use Rattle.std.proofs.Common.{◌≡◌, ℕ, ◌<◌, Option, List, ◌++◌, length, map, sym, ap, subst, arith}
-use Rattle.std.specs.Prelude.{All, Contains, slice_index_or}
+use Rattle.std.proofs.Common.{◌≡◌, ℕ, ◌<◌, Option, List, ◌++◌, map, sym, subst, arith}
+use Rattle.std.specs.Prelude.{All, slice_index_or}
 use Rattle.std.proofs.lemmas.List.{length-map}
 use Rattle.std.proofs.lemmas.List.Elements.{All-contains, Contains-get_or}
 use Rattle.sd_base.specs.declared.limits.Limits.{Limits}
 use Rattle.sd_base.specs.Net.{Net}
 use Rattle.sd_base.proofs.Containing.{contains-unmap}
 use Rattle.storage.specs.Distributions.{storage_of}
-use Rattle.storage.specs.declared.distribution.Distribution.{Distribution}
 use Rattle.fanout.specs.JobRuns.{EachEntered}
 use Rattle.levels.specs.declared.found.Found.{Found}
 use Rattle.levels.specs.declared.found.Level.{Level}

@@ -1,4 +1,4 @@
-use Rattle.std.proofs.Common.{◌≡◌, ℕ, ◌*◌, ◌≤◌, List, map, sym, subst}
+use Rattle.std.proofs.Common.{◌*◌, ◌≤◌, map, sym, subst}
 use Rattle.std.proofs.lemmas.List.Elements.{at_from_Contains}
 use Rattle.sd_base.proofs.Containing.{contains-map}
 use Rattle.storage.specs.ParetoPoints.{Pair, no_pair}

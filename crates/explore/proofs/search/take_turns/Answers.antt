@@ -1,4 +1,4 @@
-use Rattle.std.proofs.Common.{◌≡◌, ◌+◌, List, [], sym, ap, ◌∙◌, subst, arith}
+use Rattle.std.proofs.Common.{◌≡◌, [], sym, ap, ◌∙◌, subst, arith}
 use Rattle.levels.specs.Entrances.{EnterByLevels}
 use Rattle.explore.specs.Explorations.{capacities_of, cycles_in}
 use Rattle.explore.proofs.Searching.{counts-few}
