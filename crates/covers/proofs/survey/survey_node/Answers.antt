@@ -1,4 +1,4 @@
-use Rattle.std.proofs.Common.{◌<◌, rules, ◌+◌, ℕ, List, length, sym, ap, ◌∙◌, subst, take, arith, refl}
+use Rattle.std.proofs.Common.{◌<◌, rules, ◌+◌, List, length, sym, ap, ◌∙◌, subst, take, arith, refl}
 use Rattle.std.specs.Prelude.{slice_index}
 use Rattle.covers.specs.declared.survey.Toll.{Toll}
 use Rattle.covers.specs.inside.Surveys.{AreTolls, Holds}
