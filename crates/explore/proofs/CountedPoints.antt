@@ -7,7 +7,6 @@ use Rattle.std.specs.Set.{is_member}
 use Rattle.std.proofs.lemmas.Bool.{ne_eqb}
 use Rattle.std.proofs.lemmas.List.{length-map}
 use Rattle.std.proofs.lemmas.Map.Made.{is_member-Decides, length-le_from_is_member}
-use Rattle.sd_base.specs.declared.limits.Limits.{Limits}
 use Rattle.sd_base.specs.declared.numbers.Fraction.{Fraction}
 use Rattle.sd_base.specs.Net.{Net}
 use Rattle.sd_base.proofs.Containing.{contains-here, contains-later, contains-map, contains-unmap}
@@ -19,11 +18,8 @@ use Rattle.evaluations.specs.declared.shown.Shown.{Shown}
 use Rattle.evaluations.specs.declared.shown.Shown.TheVariants.{Cycle, Blocked}
 use Rattle.evaluations.specs.ShownCycles.{shows_cycle}
 use Rattle.explore.specs.declared.exploration.Member.{Member}
-use Rattle.explore.specs.declared.extent.Extent.{Extent}
-use Rattle.explore.specs.declared.extent.Extent.TheVariants.{Limit, Fastest}
-use Rattle.explore.specs.declared.search.Search.{Search}
 use Rattle.explore.specs.Explorations.{IsMember, ShowsRate, cycles_in}
-use Rattle.explore.specs.inside.Searches.{AreKnown, IsFarEnough, offers_of}
+use Rattle.explore.specs.inside.Searches.{AreKnown, offers_of}
 use Rattle.explore.proofs.Ending.{zero-test}
 use Rattle.explore.proofs.Searching.{noted-of}
 
@@ -76,9 +72,3 @@ points-few net states ms es points known =
     let few = no-more (offers_of net ms) (map offer_of points) known.front.order known.front.among in
     let cycles = offers-few net states ms (λ m one. (noted-of net states ms es m known.noted one).2.member) in
     omega (arith, few, cycles, length-map points offer_of)
-
--- so it is of an exploration that is as far as is wanted
-pub far-points-few : (extent : Extent) (net : Net) (limits : Limits) (s : Search) → IsFarEnough extent net limits s → length s.front ≤ cycles_in s.members.items
-far-points-few Limit net limits s ended = points-few net limits.states s.members.items ended.entries s.front ended.known
-far-points-few Fastest net limits s (inl ended) = points-few net limits.states s.members.items ended.entries s.front ended.known
-far-points-few Fastest net limits s (inr (storage, past, top)) = points-few net limits.states s.members.items past.1.entries s.front past.1.known

@@ -8,10 +8,8 @@ pub mod OfferFronts
 pub mod Ending
 pub mod Beginning
 pub mod Explorable
-pub mod Ceilings
-pub mod Enough
+pub mod WholeFronts
 pub mod Turning
-pub mod Topping
-pub mod Halting
 pub mod Entering
 pub mod CountedPoints
+pub mod CountedLoops

@@ -43,9 +43,8 @@ use Rattle.pareto_front.specs.Points.{offer_of}
 use Rattle.pareto_front.specs.Offers.{Offer}
 use Rattle.explore.specs.inside.Hints.{IsEvaluableFrom, IsHinted}
 use Rattle.explore.proofs.Ending.{offer-from}
-use Rattle.explore.proofs.Enough.{ended-whole}
 use Rattle.explore.proofs.Knowing.{member-noted, noted-more}
-use Rattle.explore.proofs.Searching.{led-candidate, search-candidate, search-limit, visited-members}
+use Rattle.explore.proofs.Searching.{led-candidate, search-candidate, search-few, search-limit, visited-members}
 use Rattle.explore.proofs.Starting.{hinted-longer}
 use Rattle.explore.proofs.Stepping.{candidate-evaluable, child-above, shown-bounded}
 
@@ -70,10 +69,10 @@ module _ (net : Net) (laws : Lawful net) (can : IsExplorable net) (limits : Limi
   waited : (f : Found (Option ℕ)) → Contains level.visits.items f → Contains old.levels.waiting.keys f
   waited f one = subst (λ (fs : List (Found (Option ℕ))). Contains fs f) (sym off.parts) (Contains-append_left level.visits.items new.levels.waiting.keys f one)
 
-  total-of : (f : Found (Option ℕ)) → Contains level.visits.items f → (storage_of net.channels f.capacities.capacities ≡ level.total) × (level.total ≤ limits.total)
+  total-of : (f : Found (Option ℕ)) → Contains level.visits.items f → storage_of net.channels f.capacities.capacities ≡ level.total
   total-of f one =
       let waits : Waits net.channels old.levels.bounds.total floor f = All-contains (Waits net.channels old.levels.bounds.total floor) old.levels.waiting.keys f search.frontier.spread.waits (waited f one) in
-      let here : f.total ≡ level.total = All-contains (λ (x : Found (Option ℕ)). x.total ≡ level.total) level.visits.items f off.totals one in (omega (arith, waits.total, here), omega (arith, waits.within, here, search-limit net can limits floor [] old search))
+      let here : f.total ≡ level.total = All-contains (λ (x : Found (Option ℕ)). x.total ≡ level.total) level.visits.items f off.totals one in omega (arith, waits.total, here)
 
   visitable : (f : Found (Option ℕ)) → Contains level.visits.items f → IsEvaluableFrom net limits.states new.members.items f
   unfolding turned
@@ -87,8 +86,7 @@ module _ (net : Net) (laws : Lawful net) (can : IsExplorable net) (limits : Limi
   pub turn-of : IsTurn net limits level new
   turn-of = record {
     search = turned;
-    totals = λ k d below. (total-of (slice_index_or level.visits.items k d) (Contains-get_or level.visits.items k d below)).0;
-    within = first level.visits.items off.some (λ f one. (total-of f one).1);
+    totals = λ k d below. total-of (slice_index_or level.visits.items k d) (Contains-get_or level.visits.items k d below);
     before = λ m one. earlier m level.visits.items off.some (λ f here. here) (subst (λ (ms : List Member). Contains ms m) same-members one);
     visitable = λ k d below. visitable (slice_index_or level.visits.items k d) (Contains-get_or level.visits.items k d below);
     some = off.some;
@@ -105,10 +103,6 @@ module _ (net : Net) (laws : Lawful net) (can : IsExplorable net) (limits : Limi
           (subst (λ (xs : List (List (Option ℕ))). Contains xs m.capacities.capacities) (sym (visited-members net limits.states old.members.items search.entries search.known.noted))
           (contains-map (λ (x : Member). x.capacities.capacities) old.members.items m one))) in
           omega (arith, waits.above, here, low)
-
-      first : (fs : List (Found (Option ℕ))) → 1 ≤ length fs → ((f : Found (Option ℕ)) → Contains fs f → level.total ≤ limits.total) → level.total ≤ limits.total
-      first [] some holds = absurd (omega (arith, some))
-      first (f ∷ fs) some holds = holds f (0, omega arith, refl)
 
 -- the answers of a level are of its distributions
 pub level-answers : (net : Net) (limits : Limits) (total : ℕ) (best : Fraction) (answers : List Answered) (fs : List (Found (Option ℕ))) → map (λ (a : Answered). a.capacities) answers ≡ map (λ (f : Found (Option ℕ)). f.capacities) fs → All (λ (f : Found (Option ℕ)). storage_of net.channels f.capacities.capacities ≡ total) fs → All (λ (a : Answered). IsEvaluation net limits.states best a.capacities a.answer) answers → All (IsAnswerOf net limits total best) answers
@@ -214,12 +208,24 @@ module _ (net : Net) (laws : Lawful net) (can : IsExplorable net) (limits : Limi
     (let most : old.levels.bounds.distributions ≡ limits.distributions = ap (λ (b : Bounds). b.distributions) search.bounds in omega (arith, many.many, most)),
   )
 
+-- a search has ended where nothing waits any more
+ended : (net : Net) (can : IsExplorable net) (limits : Limits) (floor : ℕ) (s : Search) → (search : IsSearch net limits floor [] s) → AreVisits net.channels search.corner s.levels.bounds.total (visits_of search.entries) → IsEnded net limits s.members.items s.front
+ended net can limits floor s search visits = record {
+  entries = search.entries;
+  known = search.known;
+  corner = search.corner;
+  is_corner = search.is_corner;
+  visits = subst (λ (n : ℕ). AreVisits net.channels search.corner n (visits_of search.entries)) (search-limit net can limits floor [] s search) visits;
+  candidates = search.candidates;
+  few = (let few = search-few net can limits floor [] s search in omega (arith, few));
+}
+
 -- the next level, or the end
 pub next-turn : (net : Net) → Lawful net → IsExplorable net → (limits : Limits) → limits.total ≤ STORAGE → (floor : ℕ) (old new : Search) → IsSearch net limits floor [] old → new.members ≡ old.members → new.front ≡ old.front → IsSame old.levels new.levels → (found : Option (Level (Option ℕ)))
     → MatchOption found (old.levels.waiting.keys ≡ []) (λ (level : Level (Option ℕ)). IsLevelTaken level.total level.visits.items old.levels.waiting.keys new.levels.waiting.keys)
     → ((cs : List Channel) (start : List (Option ℕ)) (low : ℕ) (visits : List Visit) → IsFrontier cs start low visits [] old.levels → MatchOption found (AreVisits cs start old.levels.bounds.total visits) (λ (level : Level (Option ℕ)). IsFrontier cs start (level.total + 1) visits (distributions_of level.visits.items) new.levels))
     → MatchOption found (IsEnded net limits old.members.items old.front) (λ (level : Level (Option ℕ)). IsTurn net limits level new)
-next-turn net laws can limits small floor old new search members front same None none frontier = ended-whole net can limits floor old search (frontier net.channels search.corner floor (visits_of search.entries) search.frontier)
+next-turn net laws can limits small floor old new search members front same None none frontier = ended net can limits floor old search (frontier net.channels search.corner floor (visits_of search.entries) search.frontier)
 next-turn net laws can limits small floor old new search members front same (Some level) off frontier = turn-of net laws can limits small floor old new search members front level off same (frontier net.channels search.corner floor (visits_of search.entries) search.frontier)
 
 -- the rate of a point is that of a member of less storage

@@ -2,11 +2,8 @@
 //! equal storage, whose distributions are evaluated side by side.
 #![tactic(auto)]
 
-mod ceiling;
 mod error;
 mod exploration;
-mod extent;
-mod fastest;
 mod hints;
 pub mod laws;
 mod level;
@@ -16,5 +13,4 @@ mod search;
 pub use error::ExploreError;
 pub use evaluations::Shown;
 pub use exploration::{Exploration, Member};
-pub use extent::Extent;
-pub use search::{explore, explore_as_far};
+pub use search::explore;

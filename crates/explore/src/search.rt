@@ -1,28 +1,23 @@
-ghost use Rattle.std.specs.Prelude.{◌≡◌, ◌+◌, ◌≤◌, ◌<◌, ℕ, true, [], All, IfErr, IfOk, MatchOption, OnOk, length, map, take, Contains};
+ghost use Rattle.std.specs.Prelude.{◌≡◌, ◌+◌, ◌≤◌, ◌<◌, ℕ, [], IfErr, IfOk, MatchOption, OnOk, length, map};
 ghost use Rattle.sd_base.specs.declared.limits.TheConstants.{DISTRIBUTIONS, LEAST_DISTRIBUTIONS, LEAST_STATES, STATES, STORAGE};
 ghost use Rattle.storage.specs.Distributions.{storage_of};
 ghost use Rattle.storage.specs.Steps.{IsCorner};
 ghost use Rattle.levels.specs.Frontiers.{channel_step};
 ghost use Rattle.levels.specs.Entrances.{EnterByLevels};
 ghost use Rattle.evaluations.specs.Starts.{AreStarts};
-ghost use Rattle.explore.specs.Explorations.{CountsFew, IsExploration, IsRefusal, capacities_of, cycles_in};
-ghost use Rattle.explore.specs.Extents.{Explores};
+ghost use Rattle.explore.specs.Explorations.{CountsFew, CountsLive, IsExploration, IsRefusal, capacities_of, cycles_in};
 ghost use Rattle.explore.specs.Reachable.{IsExplorable};
-ghost use Rattle.pareto_front.specs.declared.point.Point.{Point as APoint};
-ghost use Rattle.explore.specs.declared.extent.Extent.TheVariants.{Fastest};
-ghost use Rattle.explore.specs.inside.Searches.{EntersOn, HasTable, IsCandidate, IsEnded, IsFarEnough, IsPast, IsSearch, IsStanding, IsTopAmong, IsTurn};
+ghost use Rattle.explore.specs.inside.Searches.{EntersOn, IsEnded, IsSearch, IsStanding, IsTurn};
 
 use crate::error::ExploreError;
 use crate::exploration::{Exploration, Member};
-use crate::extent::Extent;
-use crate::fastest::reaches_fastest;
 use crate::level::run_level;
 use crate::members::take_in_all;
 use evaluations::{Exploring, Starts, wiring_of};
 use fanout::Gate;
 use firing::{Firing, know_laws};
 use levels::{Bounds, ChannelStep, Level, Levels};
-use pareto_front::{Front, Point};
+use pareto_front::Front;
 use sd_base::{Ledger, Limits, NoMemory, Rows, Steps};
 use std::alloc::Global;
 use std::thread::Threads;
@@ -90,36 +85,7 @@ pub fn explore<R: Threads + Sync, F: Firing + Sync, G: Gate + Sync, L: Ledger + 
     ensures entered { IfOk result (λ e. EnterByLevels (F.net net.now).channels (G.entered gate.now) (capacities_of e.members.items)) }
     ensures count { IfOk result (λ e. steps.new.count ≡ steps.old.count + cycles_in e.members.items) }
     ensures least { IfOk result (λ e. steps.old.count + length e.points.items ≤ steps.new.count) }
-    ensures most { CountsFew (F.net net.now) limits steps.old.count steps.new.count }
-    ensures rises { steps.old.count ≤ steps.new.count }
-    ensures share { steps.new.share ≡ steps.old.share }
-{
-    explore_as_far(rt, alloc, net, limits, Extent::Limit, gate, steps)
-}
-
-/// The same as far as is wanted. With `Extent::Fastest` the points are those of the whole limit too, but the members end with
-/// the level that reaches the greatest rate of all distributions, where a need cycle on no free space is found that bounds
-/// it. Cost: then also a search through the loop of a point for each level with a new greatest rate.
-pub fn explore_as_far<R: Threads + Sync, F: Firing + Sync, G: Gate + Sync, L: Ledger + Send>(
-    rt: &R,
-    alloc: Global,
-    net: &F,
-    limits: Limits,
-    extent: Extent,
-    gate: &G,
-    steps: &mut Steps<L>,
-) -> Result<Exploration, ExploreError>
-    requires net { IsExplorable (F.net net.now) }
-    requires total { limits.total ≤ STORAGE }
-    requires some_states { LEAST_STATES ≤ limits.states }
-    requires few_states { limits.states ≤ STATES }
-    requires some { LEAST_DISTRIBUTIONS ≤ limits.distributions }
-    requires few { limits.distributions ≤ DISTRIBUTIONS }
-    ensures explored { IfOk result (λ e. Explores extent (F.net net.now) limits e.members.items e.points.items) }
-    ensures refused { IfErr result (IsRefusal (F.net net.now) limits) }
-    ensures entered { IfOk result (λ e. EnterByLevels (F.net net.now).channels (G.entered gate.now) (capacities_of e.members.items)) }
-    ensures count { IfOk result (λ e. steps.new.count ≡ steps.old.count + cycles_in e.members.items) }
-    ensures least { IfOk result (λ e. steps.old.count + length e.points.items ≤ steps.new.count) }
+    ensures live { IfOk result (λ _. (n : ℕ) → steps.new.count ≡ steps.old.count + n → CountsLive (F.net net.now) limits n) }
     ensures most { CountsFew (F.net net.now) limits steps.old.count steps.new.count }
     ensures rises { steps.old.count ≤ steps.new.count }
     ensures share { steps.new.share ≡ steps.old.share }
@@ -142,15 +108,14 @@ pub fn explore_as_far<R: Threads + Sync, F: Firing + Sync, G: Gate + Sync, L: Le
         limits,
     };
     let mut search = begin(&exploring, first, total)?;
-    take_turns(rt, &exploring, extent, gate, &mut search, steps)?;
+    take_turns(rt, &exploring, gate, &mut search, steps)?;
     Ok(search.into_exploration())
 }
 
-/// Takes level after level in, until none waits or no further one is wanted.
+/// Takes level after level in, until none waits.
 fn take_turns<R: Threads + Sync, F: Firing + Sync, G: Gate + Sync, L: Ledger + Send>(
     rt: &R,
     exploring: &Exploring<F>,
-    extent: Extent,
     gate: &G,
     search: &mut Search,
     steps: &mut Steps<L>,
@@ -162,7 +127,7 @@ fn take_turns<R: Threads + Sync, F: Firing + Sync, G: Gate + Sync, L: Ledger + S
     requires few_states { exploring.now.limits.states ≤ STATES }
     requires stands { IsStanding (F.net exploring.now.net.now) exploring.now.limits search.old }
     requires none { cycles_in search.old.members.items ≡ 0 }
-    ensures far { OnOk result (IsFarEnough extent (F.net exploring.now.net.now) exploring.now.limits search.new) }
+    ensures ended { OnOk result (IsEnded (F.net exploring.now.net.now) exploring.now.limits search.new.members.items search.new.front) }
     ensures entered { OnOk result (EntersOn (F.net exploring.now.net.now) (G.entered gate.now) search.old.members.items search.new.members.items) }
     ensures count { OnOk result (steps.new.count ≡ steps.old.count + cycles_in search.new.members.items) }
     ensures refused { IfErr result (IsRefusal (F.net exploring.now.net.now) exploring.now.limits) }
@@ -171,12 +136,7 @@ fn take_turns<R: Threads + Sync, F: Firing + Sync, G: Gate + Sync, L: Ledger + S
     ensures share { steps.new.share ≡ steps.old.share }
 {
     while let Some(level) = next_level(exploring, search)? {
-        let total = level.total;
         take_turn(rt, exploring, level, gate, search, steps)?;
-        let last = is_last(exploring, extent, total, search.front.points())?;
-        if last {
-            return Ok(());
-        }
     }
     Ok(())
 }
@@ -199,25 +159,6 @@ fn next_level<F: Firing>(
     Ok(found)
 }
 
-/// Whether no level after that of a storage is wanted.
-fn is_last<F: Firing>(
-    exploring: &Exploring<F>,
-    extent: Extent,
-    total: u64,
-    points: &[Point],
-) -> Result<bool, NoMemory>
-    requires net { IsExplorable (F.net exploring.now.net.now) }
-    requires small { exploring.now.limits.total ≤ STORAGE }
-    requires points { (p : APoint) → Contains points.now p → IsCandidate (F.net exploring.now.net.now) exploring.now.limits.total p.capacities.capacities }
-    requires tables { (states : ℕ) × ((p : APoint) → Contains points.now p → HasTable (F.net exploring.now.net.now) states p) }
-    ensures { IfOk result (λ last. last ≡ true → (extent ≡ Fastest) × IsTopAmong (F.net exploring.now.net.now) points.now) }
-{
-    match extent {
-        Extent::Limit => Ok(false),
-        Extent::Fastest => reaches_fastest(exploring, total, points),
-    }
-}
-
 /// Takes the distributions of a level in as members.
 fn take_turn<R: Threads + Sync, F: Firing + Sync, G: Gate + Sync, L: Ledger + Send>(
     rt: &R,
@@ -233,7 +174,7 @@ fn take_turn<R: Threads + Sync, F: Firing + Sync, G: Gate + Sync, L: Ledger + Se
     requires some_states { LEAST_STATES ≤ exploring.now.limits.states }
     requires few_states { exploring.now.limits.states ≤ STATES }
     requires turn { IsTurn (F.net exploring.now.net.now) exploring.now.limits level search.old }
-    ensures past { OnOk result (IsPast (F.net exploring.now.net.now) exploring.now.limits level.total search.new) }
+    ensures stands { OnOk result (IsStanding (F.net exploring.now.net.now) exploring.now.limits search.new) }
     ensures entered { OnOk result (EntersOn (F.net exploring.now.net.now) (G.entered gate.now) search.old.members.items search.new.members.items) }
     ensures more { OnOk result (length search.old.members.items < length search.new.members.items) }
     ensures few { OnOk result (length search.new.members.items ≤ exploring.now.limits.distributions) }

@@ -7,7 +7,7 @@ ghost use Rattle.explore.specs.Reachable.{IsExplorable};
 ghost use Rattle.test_explore.specs.Neighbours.{AreJoined, JoinsAt, NeighboursAreJoined};
 
 use explore::laws::touched_nets_are_explorable;
-use explore::{Exploration, ExploreError, Extent, explore, explore_as_far};
+use explore::{Exploration, ExploreError, explore};
 use fanout::Gate;
 use firing::{Firing, know_laws};
 use sd_base::limits::{
@@ -39,26 +39,6 @@ pub(crate) fn explored<R: Threads + Abort + Sync, F: Firing + Sync, G: Gate + Sy
     assert!(rt; is_explorable(net));
     let mut steps = Steps::new(Loops);
     let found = explore(rt, alloc, net, limits, gate, &mut steps);
-    let Loops = steps.finish();
-    found
-}
-
-/// Explores such a net until a point has a rate that none passes.
-pub(crate) fn explored_to_fastest<R: Threads + Abort + Sync, F: Firing + Sync, G: Gate + Sync>(
-    rt: &R,
-    alloc: Global,
-    net: &F,
-    limits: Limits,
-    gate: &G,
-) -> Result<Exploration, ExploreError> {
-    assert!(rt; limits.total <= STORAGE);
-    assert!(rt; LEAST_STATES <= limits.states && limits.states <= STATES);
-    assert!(rt;
-        LEAST_DISTRIBUTIONS <= limits.distributions && limits.distributions <= DISTRIBUTIONS
-    );
-    assert!(rt; is_explorable(net));
-    let mut steps = Steps::new(Loops);
-    let found = explore_as_far(rt, alloc, net, limits, Extent::Fastest, gate, &mut steps);
     let Loops = steps.finish();
     found
 }

@@ -1,5 +1,5 @@
 -- Where an exploration stands: its members, the distributions that are being evaluated, and those that wait.
-use Rattle.std.specs.Prelude.{◌≡◌, ℕ, ◌+◌, ◌≤◌, ◌<◌, ◌⊎◌, ◌↔◌, All, Contains, Option, List, [], ◌∷◌, ◌++◌, length, map, if◌then◌else◌, ◌==◌}
+use Rattle.std.specs.Prelude.{◌≡◌, ℕ, ◌+◌, ◌≤◌, ◌<◌, ◌↔◌, All, Contains, Option, List, [], ◌∷◌, ◌++◌, length, map, if◌then◌else◌, ◌==◌}
 use Rattle.sd_base.specs.declared.limits.Limits.{Limits}
 use Rattle.sd_base.specs.declared.numbers.Fraction.{Fraction}
 use Rattle.sd_base.specs.Net.{Net}
@@ -25,9 +25,6 @@ use Rattle.explore.specs.declared.exploration.Member.{Member}
 use Rattle.explore.specs.declared.search.Search.{Search}
 use Rattle.explore.specs.inside.Hints.{IsEvaluableFrom, IsHinted}
 use Rattle.explore.specs.Reachable.{IsReachable}
-use Rattle.explore.specs.declared.extent.Extent.{Extent}
-use Rattle.explore.specs.declared.extent.Extent.TheVariants.{Limit, Fastest}
-use Rattle.explore.specs.Ceilings.{BoundsAll}
 use Rattle.explore.specs.Explorations.{IsMember, ShowsChannel, capacities_of}
 
 -- a distribution on the grid and within the limit that can be reached
@@ -97,7 +94,6 @@ IsStanding net limits s = (floor : ℕ) × IsSearch net limits floor [] s
 pub record IsTurn (net : Net) (limits : Limits) (level : Level (Option ℕ)) (s : Search) : Type 0 where
   pub search : IsSearch net limits (level.total + 1) (distributions_of level.visits.items) s
   pub totals : All (λ (f : Found (Option ℕ)). storage_of net.channels f.capacities.capacities ≡ level.total) level.visits.items
-  pub within : level.total ≤ limits.total
   pub before : (m : Member) → Contains s.members.items m → storage_of net.channels m.capacities.capacities < level.total
   pub visitable : All (IsEvaluableFrom net limits.states s.members.items) level.visits.items
   pub some : 1 ≤ length level.visits.items
@@ -105,10 +101,6 @@ pub record IsTurn (net : Net) (limits : Limits) (level : Level (Option ℕ)) (s 
 -- if the first members entered by levels, all do
 abbrev pub EntersOn : Net → (ℕ → ℕ → Type 0) → List Member → List Member → Type 0
 EntersOn net entered old new = EnterByLevels net.channels entered (capacities_of old) → EnterByLevels net.channels entered (capacities_of new)
-
--- one of the points has a rate that no distribution passes
-abbrev pub IsTopAmong : Net → List Point → Type 0
-IsTopAmong net points = (p : Point) × Contains points p × BoundsAll net p.rate
 
 -- the members are all visits from the corner within the limit, and what they show is known
 pub record IsEnded (net : Net) (limits : Limits) (members : List Member) (points : List Point) : Type 0 where
@@ -119,16 +111,6 @@ pub record IsEnded (net : Net) (limits : Limits) (members : List Member) (points
   pub visits : AreVisits net.channels corner limits.total (visits_of entries)
   pub candidates : (m : Member) → Contains members m → IsCandidate net limits.total m.capacities.capacities
   pub few : length members ≤ limits.distributions
-
--- an exploration has come past this storage, which is within the limit
-abbrev pub IsPast : Net → Limits → ℕ → Search → Type 0
-IsPast net limits storage s = (storage ≤ limits.total) × IsSearch net limits (storage + 1) [] s
-
--- an exploration is as far as is wanted: it has ended; or, where that is enough, a point has a rate that none passes, and those
--- that wait need more storage than all levels that were taken in
-abbrev pub IsFarEnough : Extent → Net → Limits → Search → Type 0
-IsFarEnough Limit net limits s = IsEnded net limits s.members.items s.front
-IsFarEnough Fastest net limits s = IsEnded net limits s.members.items s.front ⊎ ((storage : ℕ) × IsPast net limits storage s × IsTopAmong net s.front)
 
 -- the distributions of answers
 abbrev pub answered_of : List Answered → List (List (Option ℕ))

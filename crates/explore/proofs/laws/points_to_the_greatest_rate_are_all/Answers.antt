@@ -3,7 +3,7 @@ use Rattle.std.proofs.lemmas.List.Elements.{at_from_Contains}
 use Rattle.sd_base.proofs.Containing.{contains-map}
 use Rattle.storage.specs.ParetoPoints.{Pair, no_pair}
 use Rattle.explore.specs.Explorations.{pair_of}
-use Rattle.explore.proofs.Enough.{front-up}
+use Rattle.explore.proofs.WholeFronts.{front-up}
 use Rattle.explore.proofs.laws.points_to_the_greatest_rate_are_all.Goals as goal
 
 pub returns : goal.returns

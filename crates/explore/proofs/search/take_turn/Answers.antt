@@ -45,8 +45,8 @@ returns-in_err-take_in_all-clause-most g c =
     counts-few (g.F.Firing.net c.args.exploring.now.net.now) c.requires.net c.args.exploring.now.limits (c.args.level.total + 1) (distributions_of c.args.level.visits.items) c.args.search.now c.requires.turn.search before c.run_level.new.steps.count
     (omega (arith, was, c.in_ok-answers.ensures.most, cycles-few s.members.items, sum-few answers, long, mapped)))
 
-pub returns-clause-past : goal.returns-clause-past
-returns-clause-past g c = (c.requires.turn.within, c.in_ok-take_in_all.ensures.search)
+pub returns-clause-stands : goal.returns-clause-stands
+returns-clause-stands g c = (c.args.level.total + 1, c.in_ok-take_in_all.ensures.search)
 
 pub returns-clause-more : goal.returns-clause-more
 returns-clause-more g c = omega (arith, c.in_ok-take_in_all.ensures.many, c.requires.turn.some, answers-long c.in_ok-answers.answers.items c.args.level.visits.items c.in_ok-answers.ensures.order)

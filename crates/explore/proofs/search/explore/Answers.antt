@@ -2,17 +2,16 @@ use Rattle.std.proofs.Common.{◌≡◌, List, [], length, ap, subst, sym, arith
 use Rattle.pareto_front.specs.declared.point.Point.{Point}
 use Rattle.levels.specs.Entrances.{EnterByLevels}
 use Rattle.explore.specs.declared.exploration.Member.{Member}
-use Rattle.explore.specs.Explorations.{capacities_of, cycles_in}
-use Rattle.explore.specs.Extents.{Explores}
+use Rattle.explore.specs.Explorations.{IsExploration, capacities_of, cycles_in}
 use Rattle.storage.proofs.CornerLists.{corner-distribution}
 use Rattle.storage.proofs.Enlarging.{distribution-length}
 use Rattle.explore.proofs.Beginning.{ended-none}
-use Rattle.explore.proofs.CountedPoints.{far-points-few}
+use Rattle.explore.proofs.CountedLoops.{counts-live}
+use Rattle.explore.proofs.CountedPoints.{points-few}
 use Rattle.explore.proofs.Ending.{explored}
-use Rattle.explore.proofs.Enough.{explores-far, explores-whole}
 use Rattle.explore.proofs.Searching.{corner-candidate}
 use Rattle.explore.proofs.Stepping.{candidate-evaluable}
-use Rattle.explore.proofs.search.explore_as_far.Goals as goal
+use Rattle.explore.proofs.search.explore.Goals as goal
 
 pub take_turns-requires-clause-stands : goal.take_turns-requires-clause-stands
 take_turns-requires-clause-stands g c = λ κs outlive. (0, c.in_ok-search.ensures.search)
@@ -25,8 +24,9 @@ returns-clause-explored g c =
     let net = g.F.Firing.net c.args.net.now in
     let s = c.take_turns.new.search in
     let e = c.into_exploration.result in
-    subst (λ (ps : List Point). Explores c.args.extent net c.args.limits e.members.items ps) (sym c.into_exploration.ensures.points)
-    (subst (λ v. Explores c.args.extent net c.args.limits v.items s.front) (sym c.into_exploration.ensures.members) (explores-far net c.know_laws.ensures c.requires.net c.args.limits c.requires.total c.args.extent s c.in_ok-take_turns.ensures.far))
+    subst (λ (ps : List Point). IsExploration net c.args.limits e.members.items ps) (sym c.into_exploration.ensures.points)
+    (subst (λ v. IsExploration net c.args.limits v.items s.front) (sym c.into_exploration.ensures.members)
+    (explored net c.know_laws.ensures c.requires.net c.args.limits c.requires.total s.members.items s.front c.in_ok-take_turns.ensures.ended))
 
 pub returns-clause-count : goal.returns-clause-count
 returns-clause-count g c =
@@ -48,8 +48,8 @@ wiring_of-requires g c =
 pub returns-in_default-clause-explored : goal.returns-in_default-clause-explored
 returns-in_default-clause-explored g c =
     let net = g.F.Firing.net c.args.net.now in
-    rw (c.new.ensures.items, c.new-in_default.ensures.items) (explores-whole c.args.extent net c.args.limits [] []
-    (explored net c.know_laws.ensures c.requires.net c.args.limits c.requires.total [] [] (ended-none net c.args.limits c.in_ok-first.first.capacities c.in_ok-first.ensures c.in_default.ensures)))
+    rw (c.new.ensures.items, c.new-in_default.ensures.items)
+    (explored net c.know_laws.ensures c.requires.net c.args.limits c.requires.total [] [] (ended-none net c.args.limits c.in_ok-first.first.capacities c.in_ok-first.ensures c.in_default.ensures))
 
 pub returns-clause-entered : goal.returns-clause-entered
 returns-clause-entered g c =
@@ -61,9 +61,25 @@ returns-clause-entered g c =
 pub returns-clause-least : goal.returns-clause-least
 returns-clause-least g c =
     let s = c.take_turns.new.search in
-    let few = far-points-few c.args.extent (g.F.Firing.net c.args.net.now) c.args.limits s c.in_ok-take_turns.ensures.far in
+    let ended = c.in_ok-take_turns.ensures.ended in
+    let few = points-few (g.F.Firing.net c.args.net.now) c.args.limits.states s.members.items ended.entries s.front ended.known in
     let same : length c.into_exploration.result.points.items ≡ length s.front = ap (λ (ps : List Point). length ps) c.into_exploration.ensures.points in
     omega (arith, few, same, c.in_ok-take_turns.ensures.count, ap cycles_in c.in_ok-search.ensures.members)
+
+pub returns-clause-live : goal.returns-clause-live
+returns-clause-live g c = λ n rose.
+    let net = g.F.Firing.net c.args.net.now in
+    let s = c.take_turns.new.search in
+    counts-live net c.know_laws.ensures c.args.limits s.members.items s.front
+    (explored net c.know_laws.ensures c.requires.net c.args.limits c.requires.total s.members.items s.front c.in_ok-take_turns.ensures.ended) n
+    (omega (arith, rose, c.in_ok-take_turns.ensures.count))
+
+pub returns-in_default-clause-live : goal.returns-in_default-clause-live
+returns-in_default-clause-live g c = λ n rose.
+    let net = g.F.Firing.net c.args.net.now in
+    counts-live net c.know_laws.ensures c.args.limits [] []
+    (explored net c.know_laws.ensures c.requires.net c.args.limits c.requires.total [] [] (ended-none net c.args.limits c.in_ok-first.first.capacities c.in_ok-first.ensures c.in_default.ensures)) n
+    (omega (arith, rose))
 
 pub returns-in_default-clause-entered : goal.returns-in_default-clause-entered
 returns-in_default-clause-entered g c = subst (λ (ms : List Member). EnterByLevels (g.F.Firing.net c.args.net.now).channels (g.G.Gate.entered c.args.gate.now) (capacities_of ms)) (sym c.new.ensures.items) tt
