@@ -1,5 +1,5 @@
 -- What an exploration of storage distributions comes to.
-use Rattle.std.specs.Prelude.{◌≡◌, ℕ, ◌+◌, ◌*◌, ◌≤◌, ◌<◌, ◌⊎◌, true, Option, List, [], ◌∷◌, length, map, slice_index, Contains}
+use Rattle.std.specs.Prelude.{◌≡◌, ℕ, ◌+◌, ◌*◌, ◌≤◌, ◌<◌, ◌⊎◌, true, Option, List, [], ◌∷◌, length, map, slice_index, All, Contains}
 use Rattle.sd_base.specs.declared.limits.Limits.{Limits}
 use Rattle.sd_base.specs.declared.numbers.Fraction.{Fraction}
 use Rattle.sd_base.specs.Net.{Net}
@@ -121,3 +121,8 @@ IsRefusal net limits NoMemory = Unit {0}
 abbrev pub CountsFew : Net → Limits → ℕ → ℕ → Type 0
 CountsFew net limits before after =
     (dss : List (List (Option ℕ))) × AreFound net limits.total dss × (after ≤ before + length dss) × (length dss ≤ limits.distributions)
+
+-- so many distributions that differ, are reachable within the limit and have live bounded nets, no more than allowed
+abbrev pub CountsLive : Net → Limits → ℕ → Type 0
+CountsLive net limits n =
+    (dss : List (List (Option ℕ))) × AreFound net limits.total dss × All (λ ds. IsLive (bound net ds)) dss × (n ≡ length dss) × (length dss ≤ limits.distributions)

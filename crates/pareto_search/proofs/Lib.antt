@@ -25,6 +25,7 @@ pub mod GoalStops
 pub mod StopsApart
 pub mod Sorting
 pub mod FoundTellings
+pub mod LiveTellings
 pub mod PointCounts
 pub mod KnownMore
 pub mod LearnedMore

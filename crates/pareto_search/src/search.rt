@@ -1,7 +1,7 @@
 //! The search: turn by turn towards the least storage that nothing known covers.
 ghost use Rattle.std.specs.Prelude.{◌≡◌, ◌+◌, ◌≤◌, ◌<◌, ◌↔◌, ℕ, IfErr, IfOk, IsTrue, OnOk, length, slice_index_or};
 ghost use Rattle.sd_base.specs.declared.limits.TheConstants.{DISTRIBUTIONS, LEAST_DISTRIBUTIONS, LEAST_STATES, STATES, STORAGE};
-ghost use Rattle.explore.specs.Explorations.{CountsFew, IsRefusal};
+ghost use Rattle.explore.specs.Explorations.{CountsFew, CountsLive, IsRefusal};
 ghost use Rattle.explore.specs.Reachable.{IsExplorable};
 ghost use Rattle.covers.specs.Searches.{IsLevel};
 ghost use Rattle.pareto_search.specs.TradeOffs.{IsTradeOff};
@@ -56,6 +56,7 @@ pub fn pareto_points<R: Threads + Sync, F: Firing + Sync, G: Gate + Sync, L: Led
     ensures points { IfOk result (λ v. IsTradeOff (F.net net.now) limits v.items) }
     ensures refused { IfErr result (IsRefusal (F.net net.now) limits) }
     ensures least { IfOk result (λ v. steps.old.count + length v.items ≤ steps.new.count) }
+    ensures live { IfOk result (λ _. (n : ℕ) → steps.new.count ≡ steps.old.count + n → CountsLive (F.net net.now) limits n) }
     ensures most { CountsFew (F.net net.now) limits steps.old.count steps.new.count }
     ensures rises { steps.old.count ≤ steps.new.count }
     ensures share { steps.new.share ≡ steps.old.share }
