@@ -13,7 +13,7 @@ use Rattle.explore.specs.declared.error.ExploreError.TheVariants.{DistributionsS
 use Rattle.explore.specs.Explorations.{AreFound, CountsFew, IsRefusal}
 use Rattle.explore.specs.Reachable.{IsReachable}
 use Rattle.pareto_search.specs.declared.known.Known.{Known}
-use Rattle.pareto_search.specs.inside.Knowledge.{IsKnown, IsTold, loops_in, ran}
+use Rattle.pareto_search.specs.inside.Knowledge.{IsKnown, IsTold, loops_in, ran, told_of}
 use Rattle.pareto_search.specs.inside.Learning.{AreApart, AreNew, IsNew}
 use Rattle.pareto_search.specs.inside.Vectors.{bounded_by, vector_of}
 use Rattle.pareto_search.proofs.Sorting.{apart-append, found-sorted}
@@ -33,10 +33,6 @@ loops-more [] t = omega arith
 loops-more (x ∷ ts) t = let later = loops-more ts t in omega (arith, later)
 
 -- ---- what was told
-
--- the distributions that were evaluated
-abbrev pub told_of : List (Option ℕ) → List Telling → List (List (Option ℕ))
-told_of corner ts = map (λ (t : Telling). bounded_by corner t.capacities) ts
 
 -- different vectors, each that of its distribution, give different distributions
 apart-bounded : {A : Type 0} (corner : List (Option ℕ)) (f : A → List ℕ) (xs : List A) → ((x : A) → Contains xs x → vector_of (bounded_by corner (f x)) ≡ f x)

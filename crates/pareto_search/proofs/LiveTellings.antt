@@ -18,10 +18,10 @@ use Rattle.explore.specs.Explorations.{CountsLive}
 use Rattle.explore.proofs.Reaching.{looped-live}
 use Rattle.pareto_search.specs.declared.known.Known.{Known}
 use Rattle.pareto_search.specs.inside.Grounds.{IsGround}
-use Rattle.pareto_search.specs.inside.Knowledge.{IsKnown, IsTold, counts_in, loops_in, ran}
+use Rattle.pareto_search.specs.inside.Knowledge.{IsKnown, IsTold, counts_in, loops_in, ran, told_of}
 use Rattle.pareto_search.specs.inside.Learning.{AreApart}
 use Rattle.pareto_search.specs.inside.Vectors.{bounded_by}
-use Rattle.pareto_search.proofs.FoundTellings.{loops-few, told-apart, told-reachable, told_of}
+use Rattle.pareto_search.proofs.FoundTellings.{loops-few, told-apart, told-reachable}
 use Rattle.pareto_search.proofs.Sorting.{IsSorted, sorted}
 
 -- a distribution before others, unless it is blocked
