@@ -3,7 +3,7 @@ use Rattle.std.proofs.Common.{◌≡◌, ℕ, ◌+◌, ◌≤◌, ◌<◌, ◌�
 use Rattle.std.specs.Prelude.{All, Contains, slice_index_or}
 use Rattle.std.proofs.lemmas.Bool.{cases_lt}
 use Rattle.std.proofs.lemmas.List.{append-nil, drop_more, take_more}
-use Rattle.std.proofs.lemmas.List.Elements.{All-contains, All-head, All-push, All-tail, All-take, All-weaker}
+use Rattle.std.proofs.lemmas.List.Elements.{All-contains, All-head, All-push, All-tail, All-weaker, Contains-append_left, Contains-push}
 use Rattle.sd_base.specs.declared.limits.Limits.{Limits}
 use Rattle.sd_base.specs.declared.numbers.Fraction.{Fraction}
 use Rattle.sd_base.specs.Net.{Net}
@@ -19,10 +19,19 @@ use Rattle.pareto_search.specs.declared.searching.Due.{Due}
 use Rattle.pareto_search.specs.declared.searching.Searching.{Searching}
 use Rattle.pareto_search.specs.inside.Grounds.{IsGround}
 use Rattle.pareto_search.specs.inside.Knowledge.{IsAbove, IsTold}
-use Rattle.pareto_search.specs.inside.Turns.{AreBoundsOf, HasFaster, IsAbsorbed, IsBoundOf, IsDue, IsDueWith, IsOnward, IsSameRate, greatest_of}
+use Rattle.pareto_search.specs.inside.Turns.{HasBound, HasFaster, IsAbsorbed, IsBoundOf, IsDue, IsDueWith, IsOnward, IsSameRate, IsValid, greatest_of}
 use Rattle.pareto_search.proofs.RateOrder.{above-from, above-most, above-never, most-on, most-same, same-on}
-use Rattle.pareto_search.proofs.SlowCovered.{told-slow}
-use Rattle.pareto_search.proofs.TellingBounds.{bounds-push}
+use Rattle.pareto_search.proofs.SlowCovered.{bound-valid, told-slow}
+
+-- with one bound more, those of what was told stay, and if it is valid, all are
+
+pub bounds-stay : (old new : List Bound) (b : Bound) → new ≡ old ++ b ∷ [] → (ts : List Telling) → All (HasBound old) ts → All (HasBound new) ts
+bounds-stay old new b items ts kept =
+    subst (λ (bs : List Bound). All (HasBound bs) ts) (sym items)
+    (All-weaker (HasBound old) (HasBound (old ++ b ∷ [])) (λ t has. (has.0, Contains-append_left old (b ∷ []) has.0 has.1, has.2)) ts kept)
+
+pub valid-more : (net : Net) (corner : List (Option ℕ)) (lattice : Lattice) (old new : List Bound) (b : Bound) → new ≡ old ++ b ∷ [] → All (IsValid net corner lattice) old → IsValid net corner lattice b → All (IsValid net corner lattice) new
+valid-more net corner lattice old new b items all one = subst (All (IsValid net corner lattice)) (sym items) (All-push (IsValid net corner lattice) old b all one)
 
 -- the best rate is the greatest, and none is below that of the last point
 
@@ -75,7 +84,7 @@ module _ (net : Net) (limits : Limits) (corner : List (Option ℕ)) (lattice : L
       ⊎_elim
       (λ (less : storage_of lattice.axes t.capacities < floor).
       absurd (above-never t.rate s.below above
-      (told-slow net limits corner lattice base (take many s.known.tellings.items) s.bounds.bounds.items (All-take (IsTold net limits corner lattice) many s.known.tellings.items is.known.told) is.kept s.below t told (is.settled t.capacities told.among less))))
+      (told-slow net limits corner lattice base s.bounds.bounds.items is.valid s.below t told (is.settled t.capacities told.among less))))
       (λ (no_less : floor ≤ storage_of lattice.axes t.capacities). omega (arith, no_less, low))
       (cases_lt (storage_of lattice.axes t.capacities) floor)
 
@@ -88,7 +97,10 @@ module _ (net : Net) (limits : Limits) (corner : List (Option ℕ)) (lattice : L
       searched = searched;
       by_storage = order ∙ is.by_storage;
       lattice_is = lattice_same ∙ is.lattice_is;
-      kept = subst (λ (xs : List Telling). AreBoundsOf xs bs.bounds.items) (sym taken) (subst (AreBoundsOf (take many s.known.tellings.items ++ t ∷ [])) (sym items) (bounds-push (take many s.known.tellings.items) s.bounds.bounds.items t b is.kept of));
+      kept = subst (All (HasBound bs.bounds.items)) (sym taken)
+          (All-push (HasBound bs.bounds.items) (take many s.known.tellings.items) t (bounds-stay s.bounds.bounds.items bs.bounds.items b items (take many s.known.tellings.items) is.kept)
+          (b, subst (λ (xs : List Bound). Contains xs b) (sym items) (Contains-push s.bounds.bounds.items b), of));
+      valid = valid-more net corner lattice s.bounds.bounds.items bs.bounds.items b items is.valid (bound-valid net limits corner lattice base t b told of);
       most = subst (All (λ (x : Telling). IsAtMost x.rate bs.best)) (sym taken)
           (All-push (λ (x : Telling). IsAtMost x.rate bs.best) (take many s.known.tellings.items) t
           (All-weaker (λ (x : Telling). IsAtMost x.rate s.bounds.best) (λ (x : Telling). IsAtMost x.rate bs.best) (λ x one. most-on x.rate s.bounds.best bs.best one risen) (take many s.known.tellings.items) is.most) reached);

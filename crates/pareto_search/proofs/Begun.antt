@@ -14,7 +14,7 @@ use Rattle.covers.specs.Searches.{IsSearched}
 use Rattle.walks.specs.declared.telling.Telling.{Telling}
 use Rattle.pareto_search.specs.declared.searching.Searching.{Searching}
 use Rattle.pareto_search.specs.inside.Knowledge.{IsKnown, IsLooped, IsTold}
-use Rattle.pareto_search.specs.inside.Turns.{AreBoundsOf, AreRising, IsDue, IsPointed, IsSameRate, IsStanding}
+use Rattle.pareto_search.specs.inside.Turns.{AreRising, HasBound, IsDue, IsPointed, IsSameRate, IsStanding, IsValid}
 
 module _ (net : Net) (limits : Limits) (corner : List (Option ℕ)) (lattice : Lattice) (s : Searching) (searched : IsSearched s.bounds) (order : s.bounds.order ≡ Storage) (lattice_is : s.bounds.lattice ≡ lattice) (bounds : s.bounds.bounds.items ≡ []) (best : s.bounds.best.num ≡ 0) (tellings : s.known.tellings.items ≡ []) (loops : s.known.loops.items ≡ []) (points : s.points.items ≡ []) (below : s.below.num ≡ 0) (due : s.due ≡ None) where
   none-told : (t : Telling) → Contains s.known.tellings.items t → ⊥
@@ -60,7 +60,8 @@ module _ (net : Net) (limits : Limits) (corner : List (Option ℕ)) (lattice : L
     searched = searched;
     by_storage = order;
     lattice_is = lattice_is;
-    kept = subst (λ (xs : List Telling). AreBoundsOf (take (length xs) xs) s.bounds.bounds.items) (sym tellings) (subst (AreBoundsOf []) (sym bounds) tt);
+    kept = subst (λ (xs : List Telling). All (HasBound s.bounds.bounds.items) (take (length xs) xs)) (sym tellings) (All-nil (HasBound s.bounds.bounds.items));
+    valid = subst (All (IsValid net corner lattice)) (sym bounds) (All-nil (IsValid net corner lattice));
     most = subst (λ (xs : List Telling). All (λ (t : Telling). IsAtMost t.rate s.bounds.best) (take (length xs) xs)) (sym tellings) (All-nil (λ (t : Telling). IsAtMost t.rate s.bounds.best));
     later = subst (λ (xs : List Telling). All (λ (t : Telling). storage_of lattice.axes t.capacities ≤ 0) (drop (length xs) xs)) (sym tellings) (All-nil (λ (t : Telling). storage_of lattice.axes t.capacities ≤ 0));
     known = known;

@@ -1,7 +1,7 @@
 -- A search that is over has the front.
-use Rattle.std.proofs.Common.{◌≡◌, ℕ, zero, suc, ◌*◌, ◌≤◌, ◌<◌, Option, List, [], ◌∷◌, length, map, take, sym, subst, arith}
+use Rattle.std.proofs.Common.{◌≡◌, ℕ, zero, suc, ◌*◌, ◌≤◌, ◌<◌, Option, List, [], ◌∷◌, length, map, sym, subst, arith}
 use Rattle.std.specs.Prelude.{All, Contains, slice_index_or}
-use Rattle.std.proofs.lemmas.List.Elements.{All-map, All-take, Contains-get_or, at_from_Contains}
+use Rattle.std.proofs.lemmas.List.Elements.{All-map, Contains-get_or, at_from_Contains}
 use Rattle.sd_base.proofs.Containing.{contains-map, contains-none, contains-unmap}
 use Rattle.sd_base.specs.declared.limits.Limits.{Limits}
 use Rattle.sd_base.specs.Lawful.{Lawful}
@@ -63,7 +63,7 @@ module _ (net : Net) (limits : Limits) (corner : List (Option ℕ)) (lattice : L
   all-below other reached =
       let v : HasVector net corner lattice other.storage other.num other.den reached.0 = reached-vector net limits corner lattice base other.storage other.num other.den reached.0 reached.1 in
       let no_more : other.num * s.below.den ≤ s.below.num * other.den
-      = covered-slow net limits corner lattice base (take (length s.known.tellings.items) s.known.tellings.items) s.bounds.bounds.items (All-take (IsTold net limits corner lattice) (length s.known.tellings.items) s.known.tellings.items over.standing.known.told) over.standing.kept s.below v.vector v.among
+      = covered-slow net limits corner lattice base s.bounds.bounds.items over.standing.valid s.below v.vector v.among
       (over.all v.vector v.among) other.num other.den v.rate in
       point-below s.points.items other (over.standing.pointed.all other.storage other.num other.den reached.0 reached.1 no_more)
 

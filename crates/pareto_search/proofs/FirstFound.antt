@@ -1,10 +1,10 @@
 -- The search by the bounds of lesser rates leaves what is due, and what a telling holds back of the first vector that it leaves
 -- is that vector.
-use Rattle.std.proofs.Common.{◌≡◌, ℕ, ◌≤◌, ◌<◌, Option, Some, List, length, take, ⊎_elim, sym, subst, arith}
+use Rattle.std.proofs.Common.{◌≡◌, ℕ, ◌≤◌, ◌<◌, Option, Some, List, length, ⊎_elim, sym, subst, arith}
 use Rattle.std.specs.Prelude.{All, Contains, slice_get, slice_index}
 use Rattle.std.proofs.lemmas.Bool.{cases_lt}
 use Rattle.std.proofs.lemmas.List.{take_all}
-use Rattle.std.proofs.lemmas.List.Elements.{All-contains, All-take}
+use Rattle.std.proofs.lemmas.List.Elements.{All-contains}
 use Rattle.sd_base.proofs.Containing.{get-contains}
 use Rattle.sd_base.specs.declared.limits.Limits.{Limits}
 use Rattle.sd_base.specs.Net.{Net}
@@ -24,11 +24,10 @@ use Rattle.pareto_search.specs.declared.searching.Searching.{Searching}
 use Rattle.pareto_search.specs.inside.Firsts.{IsFirstAt, IsLeft, IsSlower}
 use Rattle.pareto_search.specs.inside.Grounds.{IsGround}
 use Rattle.pareto_search.specs.inside.Knowledge.{IsAbove, IsTold}
-use Rattle.pareto_search.specs.inside.Turns.{IsDue, IsSettling}
+use Rattle.pareto_search.specs.inside.Turns.{HasBound, IsDue, IsSettling}
 use Rattle.pareto_search.proofs.RateOrder.{above-from, above-never, above-on, above-or, most-on}
 use Rattle.pareto_search.proofs.SlowCovered.{told-rate, told-slow}
 use Rattle.pareto_search.proofs.SlowerBounds.{HasSlower}
-use Rattle.pareto_search.proofs.TellingBounds.{HasBound}
 use Rattle.pareto_search.proofs.ToldBounds.{told-bounds}
 
 module _ (net : Net) (limits : Limits) (corner : List (Option ℕ)) (lattice : Lattice) (base : IsGround net limits corner lattice) (due : Due) (s : Searching) (is : IsSettling net limits corner lattice due s) where
@@ -114,7 +113,7 @@ module _ (net : Net) (limits : Limits) (corner : List (Option ℕ)) (lattice : L
           ⊎_elim
           (λ (less : storage_of lattice.axes t.capacities < due.total).
           absurd (above-never t.rate s.below (above-on s.below due.rate t.rate at-due.0.above no-less)
-          (told-slow net limits corner lattice base (take (length s.known.tellings.items) s.known.tellings.items) s.bounds.bounds.items (All-take (IsTold net limits corner lattice) (length s.known.tellings.items) s.known.tellings.items is.standing.known.told) is.standing.kept s.below t mine
+          (told-slow net limits corner lattice base s.bounds.bounds.items is.standing.valid s.below t mine
           (is.standing.settled t.capacities mine.among less))))
           (λ (no_less : due.total ≤ storage_of lattice.axes t.capacities). omega (arith, no_less, needs, low))
           (cases_lt (storage_of lattice.axes t.capacities) due.total)

@@ -13,7 +13,7 @@ use Rattle.explore.specs.declared.error.ExploreError.TheVariants.{DistributionsS
 use Rattle.explore.specs.Explorations.{AreFound, CountsFew, IsRefusal}
 use Rattle.explore.specs.Reachable.{IsReachable}
 use Rattle.pareto_search.specs.declared.known.Known.{Known}
-use Rattle.pareto_search.specs.inside.Knowledge.{IsKnown, IsTold, loops_in, ran}
+use Rattle.pareto_search.specs.inside.Knowledge.{IsKnown, IsTold, loops_in, ran, told_of}
 use Rattle.pareto_search.specs.inside.Learning.{AreApart, AreNew, IsNew}
 use Rattle.pareto_search.specs.inside.Vectors.{bounded_by, vector_of}
 use Rattle.pareto_search.proofs.Sorting.{apart-append, found-sorted}
@@ -33,10 +33,6 @@ loops-more [] t = omega arith
 loops-more (x ∷ ts) t = let later = loops-more ts t in omega (arith, later)
 
 -- ---- what was told
-
--- the distributions that were evaluated
-abbrev pub told_of : List (Option ℕ) → List Telling → List (List (Option ℕ))
-told_of corner ts = map (λ (t : Telling). bounded_by corner t.capacities) ts
 
 -- different vectors, each that of its distribution, give different distributions
 apart-bounded : {A : Type 0} (corner : List (Option ℕ)) (f : A → List ℕ) (xs : List A) → ((x : A) → Contains xs x → vector_of (bounded_by corner (f x)) ≡ f x)
@@ -58,9 +54,17 @@ module _ (net : Net) (limits : Limits) (corner : List (Option ℕ)) (lattice : L
     told : (t : Telling) → Contains k.tellings.items t → IsTold net limits corner lattice t
     told t one = All-contains (IsTold net limits corner lattice) k.tellings.items t known.told one
 
+    pub told-apart : AreApart (told_of corner k.tellings.items)
+    told-apart = apart-bounded corner (λ (t : Telling). t.capacities) k.tellings.items (λ t one. (told t one).flat) known.apart
+
+    pub told-reachable : (ds : List (Option ℕ)) → Contains (told_of corner k.tellings.items) ds → IsReachable net limits.total ds
+    told-reachable ds one =
+        let t = contains-unmap (λ (x : Telling). bounded_by corner x.capacities) k.tellings.items ds one in
+        subst (IsReachable net limits.total) t.2 (told t.0 t.1).reachable
+
     module _ (dss : List (List (Option ℕ))) (new : AreNew net limits corner lattice k.tellings.items dss) where
       both-apart : AreApart (told_of corner k.tellings.items ++ dss)
-      both-apart = apart-append (told_of corner k.tellings.items) dss (apart-bounded corner (λ (t : Telling). t.capacities) k.tellings.items (λ t one. (told t one).flat) known.apart) new.apart (λ ds es old one. between ds es old (new.each es one))
+      both-apart = apart-append (told_of corner k.tellings.items) dss told-apart new.apart (λ ds es old one. between ds es old (new.each es one))
         where
           between : (ds es : List (Option ℕ)) → Contains (told_of corner k.tellings.items) ds → IsNew net limits corner lattice k.tellings.items es → ds ≢ es
           between ds es old is same =
@@ -70,9 +74,7 @@ module _ (net : Net) (limits : Limits) (corner : List (Option ℕ)) (lattice : L
       both-reachable : (ds : List (Option ℕ)) → Contains (told_of corner k.tellings.items ++ dss) ds → IsReachable net limits.total ds
       both-reachable ds one =
           ⊎_elim
-          (λ (old : Contains (told_of corner k.tellings.items) ds).
-          let t = contains-unmap (λ (x : Telling). bounded_by corner x.capacities) k.tellings.items ds old in
-          subst (IsReachable net limits.total) t.2 (told t.0 t.1).reachable)
+          (λ (old : Contains (told_of corner k.tellings.items) ds). told-reachable ds old)
           (λ (there : Contains dss ds). (new.each ds there).reachable)
           (Contains-append_cases (told_of corner k.tellings.items) dss ds one)
 

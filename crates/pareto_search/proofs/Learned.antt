@@ -22,7 +22,7 @@ use Rattle.pareto_search.specs.declared.stops.Stop.{Stop}
 use Rattle.pareto_search.specs.inside.Knowledge.{IsKnown}
 use Rattle.pareto_search.specs.inside.Learning.{AreNew, IsNew, answered_of}
 use Rattle.pareto_search.specs.inside.Stops.{IsStop}
-use Rattle.pareto_search.specs.inside.Turns.{AreBoundsOf, AreStops, IsAbsorbed, IsDue, IsPointed, IsStanding}
+use Rattle.pareto_search.specs.inside.Turns.{AreStops, HasBound, IsAbsorbed, IsDue, IsPointed, IsStanding}
 use Rattle.pareto_search.specs.inside.Vectors.{bounded_by, vector_of}
 
 -- the distribution of a stop
@@ -117,7 +117,8 @@ module _ (net : Net) (limits : Limits) (corner : List (Option ℕ)) (lattice : L
     searched = is.searched;
     by_storage = is.by_storage;
     lattice_is = is.lattice_is;
-    kept = subst (λ (xs : List Telling). AreBoundsOf xs s.bounds.bounds.items) (sym old-same) is.kept;
+    kept = subst (All (HasBound s.bounds.bounds.items)) (sym old-same) is.kept;
+    valid = is.valid;
     most = subst (All (λ (t : Telling). IsAtMost t.rate s.bounds.best)) (sym old-same) is.most;
     later = subst (All (λ (t : Telling). storage_of lattice.axes t.capacities ≤ floor)) (sym new-same) low;
     known = known;

@@ -17,9 +17,8 @@ use Rattle.covers.proofs.Forces.{covered-reached}
 use Rattle.walks.specs.declared.telling.Telling.{Telling}
 use Rattle.pareto_search.specs.declared.searching.Due.{Due}
 use Rattle.pareto_search.specs.declared.searching.Searching.{Searching}
-use Rattle.pareto_search.specs.inside.Turns.{AreBoundsOf, IsClosed, IsDue, IsOver, IsPointed, IsSettling, IsStanding, IsUntil}
+use Rattle.pareto_search.specs.inside.Turns.{HasBound, IsClosed, IsDue, IsOver, IsPointed, IsSettling, IsStanding, IsUntil, IsValid}
 use Rattle.pareto_search.proofs.Absorbed.{below-best}
-use Rattle.pareto_search.proofs.TellingBounds.{HasBound, bound-there}
 
 -- a search whose open nodes were looked at
 pub standing-looked : (net : Net) (limits : Limits) (corner : List (Option ℕ)) (lattice : Lattice) (floor : ℕ) (s : Searching) (bs : Search) → IsSame s.bounds bs → IsSearched bs → IsStanding net limits corner lattice floor s → IsStanding net limits corner lattice floor (record { bounds = bs; known = s.known; points = s.points; below = s.below; due = s.due })
@@ -27,7 +26,8 @@ standing-looked net limits corner lattice floor s bs same searched is = record {
   searched = searched;
   by_storage = same.order ∙ is.by_storage;
   lattice_is = same.lattice ∙ is.lattice_is;
-  kept = subst (λ v. AreBoundsOf (take (length s.known.tellings.items) s.known.tellings.items) v.items) (sym same.bounds) is.kept;
+  kept = subst (λ v. All (HasBound v.items) (take (length s.known.tellings.items) s.known.tellings.items)) (sym same.bounds) is.kept;
+  valid = subst (λ v. All (IsValid net corner lattice) v.items) (sym same.bounds) is.valid;
   most = subst (λ (r : Fraction). All (λ (t : Telling). IsAtMost t.rate r) (take (length s.known.tellings.items) s.known.tellings.items)) (sym same.best) is.most;
   later = is.later;
   known = is.known;
@@ -50,8 +50,8 @@ module _ (net : Net) (limits : Limits) (corner : List (Option ℕ)) (lattice : L
   below-low : IsAtMost s.below s.bounds.best
   below-low = below-best lattice s.known.tellings.items s.below floor s.bounds.best s.due is.due
 
-  all-kept : AreBoundsOf s.known.tellings.items s.bounds.bounds.items
-  all-kept = subst (λ (xs : List Telling). AreBoundsOf xs s.bounds.bounds.items) (take_all (length s.known.tellings.items) s.known.tellings.items (omega arith)) is.kept
+  all-kept : All (HasBound s.bounds.bounds.items) s.known.tellings.items
+  all-kept = subst (All (HasBound s.bounds.bounds.items)) (take_all (length s.known.tellings.items) s.known.tellings.items (omega arith)) is.kept
 
   all-most : All (λ (t : Telling). IsAtMost t.rate s.bounds.best) s.known.tellings.items
   all-most = subst (All (λ (t : Telling). IsAtMost t.rate s.bounds.best)) (take_all (length s.known.tellings.items) s.known.tellings.items (omega arith)) is.most
@@ -92,7 +92,7 @@ module _ (net : Net) (limits : Limits) (corner : List (Option ℕ)) (lattice : L
 
     pub vector-free : (ks : List ℕ) → Contains level.vectors ks → (t : Telling) → Contains s.known.tellings.items t → All (λ (c : ℕ). slice_index ks c ≤ slice_index t.capacities c) t.enlarge → ⊥
     vector-free ks one t told covers =
-        let has : HasBound s.bounds.bounds.items t = bound-there s.known.tellings.items s.bounds.bounds.items t all-kept told in
+        let has : HasBound s.bounds.bounds.items t = All-contains (HasBound s.bounds.bounds.items) s.known.tellings.items t all-kept told in
         let slow : IsAtMost t.rate s.bounds.best = All-contains (λ (x : Telling). IsAtMost x.rate s.bounds.best) s.known.tellings.items t all-most told in
         (All-contains (IsUncovered s.bounds) level.vectors ks of.each one).free (has.0, has.1, subst (λ (r : Fraction). IsAtMost r s.bounds.best) (sym has.2.rate) slow, (has.2.covers ks).1 covers)
 
@@ -118,6 +118,7 @@ module _ (net : Net) (limits : Limits) (corner : List (Option ℕ)) (lattice : L
           by_storage = is.by_storage;
           lattice_is = is.lattice_is;
           kept = is.kept;
+          valid = is.valid;
           most = is.most;
           later = subst (All (λ (t : Telling). storage_of lattice.axes t.capacities ≤ level.storage)) (sym (drop_all (length s.known.tellings.items) s.known.tellings.items (omega arith))) (All-nil (λ (t : Telling). storage_of lattice.axes t.capacities ≤ level.storage));
           known = is.known;

@@ -8,9 +8,10 @@ pub mod ToldBounds
 pub mod WalksReach
 pub mod StartCounts
 pub mod RateOrder
-pub mod TellingBounds
 pub mod SlowCovered
 pub mod Absorbed
+pub mod Ceilings
+pub mod CeilingKept
 pub mod Onward
 pub mod Learned
 pub mod LevelAhead
@@ -25,6 +26,8 @@ pub mod GoalStops
 pub mod StopsApart
 pub mod Sorting
 pub mod FoundTellings
+pub mod LiveTellings
+pub mod LiveEntered
 pub mod PointCounts
 pub mod KnownMore
 pub mod LearnedMore
@@ -33,3 +36,4 @@ pub mod Visitable
 pub mod LevelStops
 pub mod TurnsTaken
 pub mod LearnedCounts
+pub mod LevelEntered

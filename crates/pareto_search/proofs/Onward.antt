@@ -1,8 +1,8 @@
 -- What a search learns leaves what was told and covered, and what is due where nothing faster can be told.
-use Rattle.std.proofs.Common.{◌≡◌, ℕ, Option, List, [], ◌++◌, append_assoc, length, take, inl, inr, ⊎_elim, refl, sym, ap, ◌∙◌, subst}
+use Rattle.std.proofs.Common.{◌≡◌, ℕ, Option, List, [], ◌++◌, append_assoc, length, inl, inr, ⊎_elim, refl, sym, ap, ◌∙◌, subst}
 use Rattle.std.specs.Prelude.{Contains}
 use Rattle.std.proofs.lemmas.List.{append-nil}
-use Rattle.std.proofs.lemmas.List.Elements.{All-contains, All-take, Contains-append_left}
+use Rattle.std.proofs.lemmas.List.Elements.{All-contains, Contains-append_left}
 use Rattle.sd_base.specs.declared.limits.Limits.{Limits}
 use Rattle.sd_base.specs.declared.numbers.Fraction.{Fraction}
 use Rattle.sd_base.specs.Net.{Net}
@@ -68,7 +68,7 @@ module _ (net : Net) (limits : Limits) (corner : List (Option ℕ)) (lattice : L
   none-faster has =
       let told : IsTold net limits corner lattice has.0 = All-contains (IsTold net limits corner lattice) t.known.tellings.items has.0 standing.known.told has.1 in
       above-never has.0.rate s.bounds.best has.3
-      (told-slow net limits corner lattice base (take (length s.known.tellings.items) s.known.tellings.items) s.bounds.bounds.items (All-take (IsTold net limits corner lattice) (length s.known.tellings.items) s.known.tellings.items is.standing.known.told) is.standing.kept s.bounds.best has.0 told
+      (told-slow net limits corner lattice base s.bounds.bounds.items is.standing.valid s.bounds.best has.0 told
       (is.closed has.0.capacities told.among has.2))
 
   pub settling-on : IsSettling net limits corner lattice due t

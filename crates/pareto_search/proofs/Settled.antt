@@ -6,7 +6,7 @@ use Rattle.std.specs.Ordering.{nat_cmp}
 use Rattle.std.specs.Cmp.Lexicographic.{slice_cmp}
 use Rattle.std.proofs.lemmas.Bool.{cases_lt}
 use Rattle.std.proofs.lemmas.List.{drop_all, take_all}
-use Rattle.std.proofs.lemmas.List.Elements.{All-contains, All-nil, All-push, All-take, Contains-append_left, Contains-push, Contains-push_cases}
+use Rattle.std.proofs.lemmas.List.Elements.{All-contains, All-nil, All-push, Contains-append_left, Contains-push, Contains-push_cases}
 use Rattle.sd_base.proofs.Containing.{contains-here, contains-later, get-contains}
 use Rattle.sd_base.specs.declared.limits.Limits.{Limits}
 use Rattle.sd_base.specs.declared.numbers.Fraction.{Fraction}
@@ -31,7 +31,7 @@ use Rattle.pareto_search.specs.declared.searching.Searching.{Searching}
 use Rattle.pareto_search.specs.inside.Firsts.{IsFirstAt}
 use Rattle.pareto_search.specs.inside.Grounds.{IsGround}
 use Rattle.pareto_search.specs.inside.Knowledge.{IsAbove, IsKnown, IsLooped, IsTold}
-use Rattle.pareto_search.specs.inside.Turns.{AreBoundsOf, AreRising, HasPoint, IsDue, IsPointed, IsPointOf, IsSettling, IsStanding}
+use Rattle.pareto_search.specs.inside.Turns.{AreRising, HasBound, HasPoint, IsDue, IsPointed, IsPointOf, IsSettling, IsStanding}
 use Rattle.pareto_search.specs.inside.Vectors.{bounded_by, vector_of}
 use Rattle.pareto_search.proofs.NoLater.{not-after-no-later}
 use Rattle.pareto_search.proofs.RateOrder.{above-from, above-most, above-never, above-on, above-runs, most-on}
@@ -63,7 +63,7 @@ module _ (net : Net) (limits : Limits) (corner : List (Option ℕ)) (lattice : L
   -- what needs less has no greater rate than the last point
   slow-below : (ks : List ℕ) → IsAmong lattice ks → needed lattice.axes ks < due.total → (x y : ℕ) → Rate (bound net (bounded_by corner ks)) x y → x * s.below.den ≤ s.below.num * y
   slow-below ks among less =
-      covered-slow net limits corner lattice base (take (length s.known.tellings.items) s.known.tellings.items) s.bounds.bounds.items (All-take (IsTold net limits corner lattice) (length s.known.tellings.items) s.known.tellings.items is.standing.known.told) is.standing.kept s.below ks among
+      covered-slow net limits corner lattice base s.bounds.bounds.items is.standing.valid s.below ks among
       (is.standing.settled ks among less)
 
   -- ---- the distribution
@@ -193,7 +193,8 @@ module _ (net : Net) (limits : Limits) (corner : List (Option ℕ)) (lattice : L
         searched = is.standing.searched;
         by_storage = is.standing.by_storage;
         lattice_is = is.standing.lattice_is;
-        kept = subst (λ (xs : List Telling). AreBoundsOf (take (length xs) xs) s.bounds.bounds.items) (sym tellings) is.standing.kept;
+        kept = subst (λ (xs : List Telling). All (HasBound s.bounds.bounds.items) (take (length xs) xs)) (sym tellings) is.standing.kept;
+        valid = is.standing.valid;
         most = subst (λ (xs : List Telling). All (λ (t : Telling). IsAtMost t.rate s.bounds.best) (take (length xs) xs)) (sym tellings) is.standing.most;
         later = subst (All (λ (t : Telling). needed lattice.axes t.capacities ≤ due.total + 1)) (sym (drop_all (length u.known.tellings.items) u.known.tellings.items (omega arith))) (All-nil (λ (t : Telling). needed lattice.axes t.capacities ≤ due.total + 1));
         known = known;

@@ -16,9 +16,8 @@ use Rattle.walks.specs.declared.telling.Telling.{Telling}
 use Rattle.pareto_search.specs.declared.searching.Due.{Due}
 use Rattle.pareto_search.specs.inside.Firsts.{IsLeft, IsSlower}
 use Rattle.pareto_search.specs.inside.Knowledge.{IsAbove}
-use Rattle.pareto_search.specs.inside.Turns.{IsBoundOf}
+use Rattle.pareto_search.specs.inside.Turns.{HasBound, IsBoundOf}
 use Rattle.pareto_search.proofs.RateOrder.{above-never, most-on}
-use Rattle.pareto_search.proofs.TellingBounds.{HasBound}
 
 -- the telling of a bound, of a lesser rate than another
 abbrev pub HasSlower : List Telling → Fraction → Bound → Type 0

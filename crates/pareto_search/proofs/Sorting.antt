@@ -15,7 +15,7 @@ use Rattle.pareto_search.specs.inside.Learning.{AreApart}
 
 -- ---- the order
 
-not-later : (ds es : List (Option ℕ)) → ds ≢ es → no_later ds es ≡ true → no_later es ds ≡ false
+pub not-later : (ds es : List (Option ℕ)) → ds ≢ es → no_later ds es ≡ true → no_later es ds ≡ false
 not-later ds es apart early = at (no_later es ds) refl
   where
     at : (b : Bool) → no_later es ds ≡ b → no_later es ds ≡ false

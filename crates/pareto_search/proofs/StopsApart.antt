@@ -12,7 +12,7 @@ use Rattle.pareto_search.specs.inside.Learning.{AreApart}
 use Rattle.pareto_search.specs.inside.Stops.{AreAscending, IsBefore}
 use Rattle.pareto_search.specs.inside.Vectors.{bounded_by, vector_of}
 
-not-before : (ks : List ℕ) → slice_cmp nat_cmp ks ks ≡ Less → ⊥
+pub not-before : (ks : List ℕ) → slice_cmp nat_cmp ks ks ≡ Less → ⊥
 not-before ks less =
     let clash : Less ≡ Greater = sym less ∙ (nat_list_cmp_total.antisymm ks ks ∙ ap ordering_reverse less) in
     cc

@@ -1,2 +1,3 @@
 pub mod TradeOffs
+pub mod Entrances
 pub mod inside

@@ -4,4 +4,5 @@ pub mod Knowledge
 pub mod Stops
 pub mod Learning
 pub mod Turns
+pub mod Ceilings
 pub mod Firsts

@@ -10,7 +10,7 @@ ghost use Rattle.pareto_search.specs.declared.searching.Due.{Due as ADue};
 ghost use Rattle.pareto_search.specs.inside.Firsts.{IsFirstAt, IsLeft, IsLooked, IsSlower, IsStopWithin};
 ghost use Rattle.pareto_search.specs.inside.Grounds.{IsBase};
 ghost use Rattle.pareto_search.specs.inside.Knowledge.{loops_in};
-ghost use Rattle.pareto_search.specs.inside.Turns.{IsSettling};
+ghost use Rattle.pareto_search.specs.inside.Turns.{EntersOn, IsSettling};
 
 use crate::evaluating::Ground;
 use crate::grid::copy_of;
@@ -43,6 +43,7 @@ pub(crate) fn first_of<R: Threads + Sync, F: Firing + Sync, G: Gate + Sync, L: L
     ensures settling { OnOk result (IsSettling (F.net base.now.exploring.now.net.now) base.now.exploring.now.limits base.now.corner.now.capacities base.now.lattice.now due searching.new) }
     ensures first { IfOk result (IsFirstAt base.now.lattice.now due searching.new.known.tellings.items) }
     ensures more { OnOk result (length searching.old.known.tellings.items ≤ length searching.new.known.tellings.items) }
+    ensures entered { OnOk result (EntersOn (F.net base.now.exploring.now.net.now) base.now.corner.now.capacities (G.entered gate.now) searching.old.known.tellings.items searching.new.known.tellings.items) }
     ensures count { OnOk result (steps.new.count + loops_in searching.old.known.tellings.items ≡ steps.old.count + loops_in searching.new.known.tellings.items) }
     ensures refused { IfErr result (IsRefusal (F.net base.now.exploring.now.net.now) base.now.exploring.now.limits) }
     ensures most { IfErr result (λ e. (before : ℕ) → steps.old.count ≡ before + loops_in searching.old.known.tellings.items → CountsFew (F.net base.now.exploring.now.net.now) base.now.exploring.now.limits before steps.new.count) }
@@ -146,6 +147,7 @@ fn learn_stop<R: Threads + Sync, F: Firing + Sync, G: Gate + Sync, L: Ledger + S
     ensures settling { OnOk result (IsSettling (F.net base.now.exploring.now.net.now) base.now.exploring.now.limits base.now.corner.now.capacities base.now.lattice.now due searching.new) }
     ensures slower { OnOk result (IsSlower base.now.lattice.now due searching.new.known.tellings.items slower.new) }
     ensures more { OnOk result (length searching.old.known.tellings.items < length searching.new.known.tellings.items) }
+    ensures entered { OnOk result (EntersOn (F.net base.now.exploring.now.net.now) base.now.corner.now.capacities (G.entered gate.now) searching.old.known.tellings.items searching.new.known.tellings.items) }
     ensures count { OnOk result (steps.new.count + loops_in searching.old.known.tellings.items ≡ steps.old.count + loops_in searching.new.known.tellings.items) }
     ensures refused { IfErr result (IsRefusal (F.net base.now.exploring.now.net.now) base.now.exploring.now.limits) }
     ensures most { IfErr result (λ e. (before : ℕ) → steps.old.count ≡ before + loops_in searching.old.known.tellings.items → CountsFew (F.net base.now.exploring.now.net.now) base.now.exploring.now.limits before steps.new.count) }

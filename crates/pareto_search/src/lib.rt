@@ -2,6 +2,7 @@
 //! nothing known covers is evaluated.
 #![tactic(auto)]
 
+mod ceiling;
 mod evaluating;
 mod first;
 mod grid;

@@ -1,15 +1,18 @@
 //! The search: turn by turn towards the least storage that nothing known covers.
-ghost use Rattle.std.specs.Prelude.{◌≡◌, ◌+◌, ◌≤◌, ◌<◌, ◌↔◌, ℕ, IfErr, IfOk, IsTrue, OnOk, length, slice_index_or};
+ghost use Rattle.std.specs.Prelude.{◌≡◌, ◌+◌, ◌≤◌, ◌<◌, ◌↔◌, [], ℕ, IfErr, IfOk, IsTrue, OnOk, length, slice_index_or};
 ghost use Rattle.sd_base.specs.declared.limits.TheConstants.{DISTRIBUTIONS, LEAST_DISTRIBUTIONS, LEAST_STATES, STATES, STORAGE};
-ghost use Rattle.explore.specs.Explorations.{CountsFew, IsRefusal};
+ghost use Rattle.explore.specs.Explorations.{CountsFew, CountsLive, IsRefusal};
 ghost use Rattle.explore.specs.Reachable.{IsExplorable};
 ghost use Rattle.covers.specs.Searches.{IsLevel};
+ghost use Rattle.pareto_search.specs.Entrances.{IsEvaluating};
 ghost use Rattle.pareto_search.specs.TradeOffs.{IsTradeOff};
 ghost use Rattle.pareto_search.specs.declared.stops.Stop.{Stop as AStop};
 ghost use Rattle.pareto_search.specs.inside.Grounds.{IsBase, IsGround};
 ghost use Rattle.pareto_search.specs.inside.Knowledge.{loops_in};
-ghost use Rattle.pareto_search.specs.inside.Turns.{AreStops, IsOnward, IsOver, IsSettling, IsStanding, IsTurned, IsUntil};
+ghost use Rattle.pareto_search.specs.inside.Stops.{AreLevel};
+ghost use Rattle.pareto_search.specs.inside.Turns.{AreStops, EntersOn, IsOnward, IsOver, IsSettling, IsStanding, IsTurned, IsUntil};
 
+use crate::ceiling::keep_ceiling;
 use crate::evaluating::{Ground, evaluate_stops};
 use crate::first::first_of;
 use crate::grid::{copy_of, lattice_of};
@@ -56,6 +59,8 @@ pub fn pareto_points<R: Threads + Sync, F: Firing + Sync, G: Gate + Sync, L: Led
     ensures points { IfOk result (λ v. IsTradeOff (F.net net.now) limits v.items) }
     ensures refused { IfErr result (IsRefusal (F.net net.now) limits) }
     ensures least { IfOk result (λ v. steps.old.count + length v.items ≤ steps.new.count) }
+    ensures live { IfOk result (λ _. (n : ℕ) → steps.new.count ≡ steps.old.count + n → CountsLive (F.net net.now) limits n) }
+    ensures entered { IfOk result (λ _. (n : ℕ) → steps.new.count ≡ steps.old.count + n → IsEvaluating (F.net net.now) limits (G.entered gate.now) n) }
     ensures most { CountsFew (F.net net.now) limits steps.old.count steps.new.count }
     ensures rises { steps.old.count ≤ steps.new.count }
     ensures share { steps.new.share ≡ steps.old.share }
@@ -88,7 +93,7 @@ pub fn pareto_points<R: Threads + Sync, F: Firing + Sync, G: Gate + Sync, L: Led
 /// Nothing is known.
 fn begin<F: Firing>(base: &Ground<F>) -> Result<Searching, NoMemory>
     ensures standing { IfOk result (IsStanding (F.net base.now.exploring.now.net.now) base.now.exploring.now.limits base.now.corner.now.capacities base.now.lattice.now 0) }
-    ensures none { IfOk result (λ s. loops_in s.known.tellings.items ≡ 0) }
+    ensures none { IfOk result (λ s. s.known.tellings.items ≡ []) }
 {
     let alloc = base.exploring.alloc;
     let lattice = copy_of(alloc, base.lattice, base.lattice.limit)?;
@@ -114,8 +119,9 @@ fn take_turns<R: Threads + Sync, F: Firing + Sync, G: Gate + Sync, L: Ledger + S
 ) -> Result<(), ExploreError>
     requires base { IsBase (F.net base.now.exploring.now.net.now) base.now.exploring.now.limits base.now.corner.now.capacities base.now.lattice.now base.now.exploring.now.starts.now }
     requires standing { (floor : ℕ) × IsStanding (F.net base.now.exploring.now.net.now) base.now.exploring.now.limits base.now.corner.now.capacities base.now.lattice.now floor searching.old }
-    requires none { loops_in searching.old.known.tellings.items ≡ 0 }
+    requires none { searching.old.known.tellings.items ≡ [] }
     ensures over { OnOk result (IsOver (F.net base.now.exploring.now.net.now) base.now.exploring.now.limits base.now.corner.now.capacities base.now.lattice.now searching.new) }
+    ensures entered { OnOk result (EntersOn (F.net base.now.exploring.now.net.now) base.now.corner.now.capacities (G.entered gate.now) searching.old.known.tellings.items searching.new.known.tellings.items) }
     ensures count { OnOk result (steps.new.count ≡ steps.old.count + loops_in searching.new.known.tellings.items) }
     ensures refused { IfErr result (IsRefusal (F.net base.now.exploring.now.net.now) base.now.exploring.now.limits) }
     ensures most { CountsFew (F.net base.now.exploring.now.net.now) base.now.exploring.now.limits steps.old.count steps.new.count }
@@ -138,6 +144,7 @@ fn take_turn<R: Threads + Sync, F: Firing + Sync, G: Gate + Sync, L: Ledger + Se
     requires base { IsBase (F.net base.now.exploring.now.net.now) base.now.exploring.now.limits base.now.corner.now.capacities base.now.lattice.now base.now.exploring.now.starts.now }
     requires standing { (floor : ℕ) × IsStanding (F.net base.now.exploring.now.net.now) base.now.exploring.now.limits base.now.corner.now.capacities base.now.lattice.now floor searching.old }
     ensures turned { IfOk result (IsTurned (F.net base.now.exploring.now.net.now) base.now.exploring.now.limits base.now.corner.now.capacities base.now.lattice.now searching.old searching.new) }
+    ensures entered { OnOk result (EntersOn (F.net base.now.exploring.now.net.now) base.now.corner.now.capacities (G.entered gate.now) searching.old.known.tellings.items searching.new.known.tellings.items) }
     ensures count { OnOk result (steps.new.count + loops_in searching.old.known.tellings.items ≡ steps.old.count + loops_in searching.new.known.tellings.items) }
     ensures refused { IfErr result (IsRefusal (F.net base.now.exploring.now.net.now) base.now.exploring.now.limits) }
     ensures most { IfErr result (λ e. (before : ℕ) → steps.old.count ≡ before + loops_in searching.old.known.tellings.items → CountsFew (F.net base.now.exploring.now.net.now) base.now.exploring.now.limits before steps.new.count) }
@@ -174,7 +181,7 @@ fn until(level: Option<Level>, due: Option<Due>) -> Option<Level>
     }
 }
 
-/// Evaluates towards the vectors of a level.
+/// Evaluates towards the vectors of a level. Where a greater rate than any before is due then, it is seen whether none is greater.
 fn go_on<R: Threads + Sync, F: Firing + Sync, G: Gate + Sync, L: Ledger + Send>(
     rt: &R,
     base: &Ground<F>,
@@ -188,6 +195,7 @@ fn go_on<R: Threads + Sync, F: Firing + Sync, G: Gate + Sync, L: Ledger + Send>(
     requires level { (most : ℕ) × IsLevel searching.old.bounds most level }
     ensures standing { OnOk result (IsStanding (F.net base.now.exploring.now.net.now) base.now.exploring.now.limits base.now.corner.now.capacities base.now.lattice.now level.storage searching.new) }
     ensures more { OnOk result (length searching.old.known.tellings.items < length searching.new.known.tellings.items) }
+    ensures entered { OnOk result (EntersOn (F.net base.now.exploring.now.net.now) base.now.corner.now.capacities (G.entered gate.now) searching.old.known.tellings.items searching.new.known.tellings.items) }
     ensures count { OnOk result (steps.new.count + loops_in searching.old.known.tellings.items ≡ steps.old.count + loops_in searching.new.known.tellings.items) }
     ensures refused { IfErr result (IsRefusal (F.net base.now.exploring.now.net.now) base.now.exploring.now.limits) }
     ensures most { IfErr result (λ e. (before : ℕ) → steps.old.count ≡ before + loops_in searching.old.known.tellings.items → CountsFew (F.net base.now.exploring.now.net.now) base.now.exploring.now.limits before steps.new.count) }
@@ -200,7 +208,10 @@ fn go_on<R: Threads + Sync, F: Firing + Sync, G: Gate + Sync, L: Ledger + Send>(
         searching.known.tellings.as_slice(),
         level.vectors.as_slice(),
     )?;
-    learn_from(rt, base, stops, level.storage, gate, searching, steps)
+    let earlier = searching.greatest();
+    learn_from(rt, base, stops, level.storage, gate, searching, steps)?;
+    keep_ceiling(base, earlier, searching)?;
+    Ok(())
 }
 
 /// Evaluates stops side by side, and keeps what they tell; a greater rate than any before is due at this storage.
@@ -216,9 +227,11 @@ pub(crate) fn learn_from<R: Threads + Sync, F: Firing + Sync, G: Gate + Sync, L:
     requires base { IsBase (F.net base.now.exploring.now.net.now) base.now.exploring.now.limits base.now.corner.now.capacities base.now.lattice.now base.now.exploring.now.starts.now }
     requires standing { IsStanding (F.net base.now.exploring.now.net.now) base.now.exploring.now.limits base.now.corner.now.capacities base.now.lattice.now total searching.old }
     requires stops { AreStops (F.net base.now.exploring.now.net.now) base.now.exploring.now.limits base.now.corner.now.capacities base.now.lattice.now searching.old.known.tellings.items total stops.items }
+    requires level { AreLevel stops.items }
     ensures standing { OnOk result (IsStanding (F.net base.now.exploring.now.net.now) base.now.exploring.now.limits base.now.corner.now.capacities base.now.lattice.now total searching.new) }
     ensures onward { OnOk result (IsOnward base.now.lattice.now total searching.old searching.new) }
     ensures more { OnOk result (length searching.old.known.tellings.items < length searching.new.known.tellings.items) }
+    ensures entered { OnOk result (EntersOn (F.net base.now.exploring.now.net.now) base.now.corner.now.capacities (G.entered gate.now) searching.old.known.tellings.items searching.new.known.tellings.items) }
     ensures count { OnOk result (steps.new.count + loops_in searching.old.known.tellings.items ≡ steps.old.count + loops_in searching.new.known.tellings.items) }
     ensures refused { IfErr result (IsRefusal (F.net base.now.exploring.now.net.now) base.now.exploring.now.limits) }
     ensures most { IfErr result (λ e. (before : ℕ) → steps.old.count ≡ before + loops_in searching.old.known.tellings.items → CountsFew (F.net base.now.exploring.now.net.now) base.now.exploring.now.limits before steps.new.count) }
@@ -276,6 +289,7 @@ fn settle<R: Threads + Sync, F: Firing + Sync, G: Gate + Sync, L: Ledger + Send>
     ensures standing { OnOk result (IsStanding (F.net base.now.exploring.now.net.now) base.now.exploring.now.limits base.now.corner.now.capacities base.now.lattice.now (due.total + 1) searching.new) }
     ensures none { OnOk result (searching.new.due ≡ None) }
     ensures more { OnOk result (length searching.old.known.tellings.items ≤ length searching.new.known.tellings.items) }
+    ensures entered { OnOk result (EntersOn (F.net base.now.exploring.now.net.now) base.now.corner.now.capacities (G.entered gate.now) searching.old.known.tellings.items searching.new.known.tellings.items) }
     ensures count { OnOk result (steps.new.count + loops_in searching.old.known.tellings.items ≡ steps.old.count + loops_in searching.new.known.tellings.items) }
     ensures refused { IfErr result (IsRefusal (F.net base.now.exploring.now.net.now) base.now.exploring.now.limits) }
     ensures most { IfErr result (λ e. (before : ℕ) → steps.old.count ≡ before + loops_in searching.old.known.tellings.items → CountsFew (F.net base.now.exploring.now.net.now) base.now.exploring.now.limits before steps.new.count) }

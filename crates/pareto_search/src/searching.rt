@@ -100,7 +100,7 @@ impl Searching {
     }
 
     /// The greatest rate so far.
-    fn greatest(&self) -> Fraction
+    pub(crate) fn greatest(&self) -> Fraction
         ensures { result ≡ greatest_of self.now.due self.now.below }
     {
         match self.due {

@@ -1,5 +1,5 @@
 -- What is known of a net: what evaluations told, and the loops of those that may be points.
-use Rattle.std.specs.Prelude.{◌≡◌, ◌≢◌, ℕ, ◌+◌, ◌*◌, ◌≤◌, ◌<◌, All, Contains, Option, None, Some, List, [], ◌∷◌, length, slice_get}
+use Rattle.std.specs.Prelude.{◌≡◌, ◌≢◌, ℕ, ◌+◌, ◌*◌, ◌≤◌, ◌<◌, All, Contains, Option, None, Some, List, [], ◌∷◌, length, map, slice_get}
 use Rattle.sd_base.specs.declared.limits.Limits.{Limits}
 use Rattle.sd_base.specs.declared.numbers.Fraction.{Fraction}
 use Rattle.sd_base.specs.Net.{Net}
@@ -55,6 +55,10 @@ pub record IsKnown (net : Net) (limits : Limits) (corner : List (Option ℕ)) (l
   pub loops : All (IsLooped net limits.states corner k.tellings.items) k.loops.items
   pub kept : (i : ℕ) (t : Telling) → slice_get k.tellings.items i ≡ Some t → IsAbove t.rate best → IsKept k.loops.items i
   pub few : length k.tellings.items ≤ limits.distributions
+
+-- the distributions that were evaluated
+abbrev pub told_of : List (Option ℕ) → List Telling → List (List (Option ℕ))
+told_of corner ts = map (λ (t : Telling). bounded_by corner t.capacities) ts
 
 -- how many of the tellings ran a loop
 abbrev pub ran : Option (List ℕ) → ℕ

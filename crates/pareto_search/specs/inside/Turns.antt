@@ -3,6 +3,7 @@ use Rattle.std.specs.Prelude.{◌≡◌, ℕ, ◌+◌, ◌-◌, ◌*◌, ◌≤�
 use Rattle.sd_base.specs.declared.limits.Limits.{Limits}
 use Rattle.sd_base.specs.declared.numbers.Fraction.{Fraction}
 use Rattle.sd_base.specs.Net.{Net}
+use Rattle.sd_base.specs.Rates.{Rate}
 use Rattle.lasso.specs.LoopAnswers.{IsFound}
 use Rattle.storage.specs.BoundedNets.{bound}
 use Rattle.storage.specs.ParetoPoints.{Reaches}
@@ -19,7 +20,8 @@ use Rattle.explore.specs.Explorations.{IsPoint}
 use Rattle.pareto_search.specs.declared.searching.Due.{Due}
 use Rattle.pareto_search.specs.declared.searching.Searching.{Searching}
 use Rattle.pareto_search.specs.declared.stops.Stop.{Stop}
-use Rattle.pareto_search.specs.inside.Knowledge.{IsAbove, IsKnown}
+use Rattle.pareto_search.specs.inside.Knowledge.{IsAbove, IsKnown, told_of}
+use Rattle.pareto_search.specs.Entrances.{EnterLevels}
 use Rattle.pareto_search.specs.inside.Learning.{AreApart}
 use Rattle.pareto_search.specs.inside.Stops.{IsStop}
 use Rattle.pareto_search.specs.inside.Vectors.{bounded_by}
@@ -29,11 +31,13 @@ pub record IsBoundOf (t : Telling) (b : Bound) : Type 0 where
   pub covers : (ks : List ℕ) → Covers b ks ↔ All (λ (c : ℕ). slice_index ks c ≤ slice_index t.capacities c) t.enlarge
   pub rate : b.rate ≡ t.rate
 
--- each telling has its bound
-abbrev pub AreBoundsOf : List Telling → List Bound → Type 0
-AreBoundsOf [] [] = Unit {0}
-AreBoundsOf (t ∷ ts) (b ∷ bs) = IsBoundOf t b × AreBoundsOf ts bs
-AreBoundsOf ts bs = ⊥
+-- one of the bounds is that of what was told
+abbrev pub HasBound : List Bound → Telling → Type 0
+HasBound bs t = (b : Bound) × Contains bs b × IsBoundOf t b
+
+-- what the bound covers has no greater rate
+abbrev pub IsValid : Net → List (Option ℕ) → Lattice → Bound → Type 0
+IsValid net corner lattice b = (ks : List ℕ) → IsAmong lattice ks → Covers b ks → (x y : ℕ) → Rate (bound net (bounded_by corner ks)) x y → x * b.rate.den ≤ b.rate.num * y
 
 -- both rates are equal
 abbrev pub IsSameRate : Fraction → Fraction → Type 0
@@ -82,13 +86,15 @@ abbrev pub IsDue : Lattice → List Telling → Fraction → ℕ → Fraction �
 IsDue lattice tellings below floor best None = IsSameRate best below
 IsDue lattice tellings below floor best (Some d) = IsDueAt lattice tellings below floor d × IsSameRate best d.rate
 
--- the bounds of so many tellings are kept, of which none has a greater rate than the best one; the others need no more storage
--- than the floor. What needs less than the floor is covered by a bound of no greater rate than that of the last point
+-- the bounds of so many tellings are kept, of which none has a greater rate than the best one, and maybe other bounds that are
+-- valid; the other tellings need no more storage than the floor. What needs less than the floor is covered by a bound of no
+-- greater rate than that of the last point
 pub record IsAbsorbed (net : Net) (limits : Limits) (corner : List (Option ℕ)) (lattice : Lattice) (floor many : ℕ) (s : Searching) : Type 0 where
   pub searched : IsSearched s.bounds
   pub by_storage : s.bounds.order ≡ Storage
   pub lattice_is : s.bounds.lattice ≡ lattice
-  pub kept : AreBoundsOf (take many s.known.tellings.items) s.bounds.bounds.items
+  pub kept : All (HasBound s.bounds.bounds.items) (take many s.known.tellings.items)
+  pub valid : All (IsValid net corner lattice) s.bounds.bounds.items
   pub most : All (λ (t : Telling). IsAtMost t.rate s.bounds.best) (take many s.known.tellings.items)
   pub later : All (λ (t : Telling). storage_of lattice.axes t.capacities ≤ floor) (drop many s.known.tellings.items)
   pub known : IsKnown net limits corner lattice s.below s.known
@@ -134,6 +140,10 @@ pub record IsOnward (lattice : Lattice) (floor : ℕ) (old new : Searching) : Ty
   pub best : IsAtMost old.bounds.best new.bounds.best
   pub covered : (ks : List ℕ) → IsCovered old.bounds.bounds.items old.bounds.best ks → IsCovered new.bounds.bounds.items new.bounds.best ks
   pub due : (new.due ≡ old.due) ⊎ HasFaster lattice floor new.known.tellings.items old.bounds.best
+
+-- where what was told before entered level by level, so did what is told now
+abbrev pub EntersOn : Net → List (Option ℕ) → (ℕ → ℕ → Type 0) → List Telling → List Telling → Type 0
+EntersOn net corner entered old new = EnterLevels net entered (told_of corner old) → EnterLevels net entered (told_of corner new)
 
 -- where walks stopped, each at other capacities, at one at least, which need no more than the floor
 pub record AreStops (net : Net) (limits : Limits) (corner : List (Option ℕ)) (lattice : Lattice) (tellings : List Telling) (floor : ℕ) (stops : List Stop) : Type 0 where

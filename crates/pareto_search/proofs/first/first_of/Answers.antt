@@ -59,10 +59,14 @@ looks-preserved g c = record {
   settling = c.in_ok-learn_stop-in-Stopped.ensures.settling;
   slower = c.in_ok-learn_stop-in-Stopped.ensures.slower;
   more = omega (arith, c.looks.invariant.more, c.in_ok-learn_stop-in-Stopped.ensures.more);
+  entered = λ before. c.in_ok-learn_stop-in-Stopped.ensures.entered (c.looks.invariant.entered before);
   count = omega (arith, c.looks.invariant.count, c.in_ok-learn_stop-in-Stopped.ensures.count);
   rises = omega (arith, c.looks.invariant.rises, c.learn_stop.ensures.rises);
   share = c.learn_stop.ensures.share ∙ c.looks.invariant.share;
 }
+
+pub returns-in-Held-clause-entered : goal.returns-in-Held-clause-entered
+returns-in-Held-clause-entered g c = c.looks.invariant.entered
 
 pub looks-smaller : goal.looks-smaller
 looks-smaller g c = omega (arith, c.in_ok-learn_stop-in-Stopped.ensures.more, c.in_ok-learn_stop-in-Stopped.ensures.settling.standing.known.few)

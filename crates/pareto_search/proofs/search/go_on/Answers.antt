@@ -43,3 +43,14 @@ learn_from-requires-clause-stops g c = λ κs outlive.
     = subst (λ (ts : List Telling). All (IsStop net limits corner lattice ts c.args.level.vectors) stops) c.as_slice.ensures.value
     (subst (λ (vs : List (List ℕ)). All (IsStop net limits corner lattice c.as_slice.result.now vs) stops) c.as_slice-2.ensures (c.in_ok-stops.ensures.each net limits corner c.requires.base.stands told)) in
     level-stops net limits corner lattice c.args.searching.now c.args.level c.requires.standing c.requires.level.0 c.requires.level.1 stops each c.in_ok-stops.ensures.level (omega (arith, c.in_ok-stops.ensures.some))
+
+pub returns-in_err-keep_ceiling-clause-most : goal.returns-in_err-keep_ceiling-clause-most
+returns-in_err-keep_ceiling-clause-most g c =
+    let p = err_from_is_err_and c.from_residual-in_err-keep_ceiling.result c.from_residual-in_err-keep_ceiling.ensures.1 in
+    let s = c.learn_from.new.searching in
+    rw p.1 (λ before was.
+    known-counts (g.F.Firing.net c.args.base.now.exploring.now.net.now) c.args.base.now.exploring.now.limits c.args.base.now.corner.now.capacities c.args.base.now.lattice.now s.below s.known c.in_ok-learn_from.ensures.standing.known before c.learn_from.new.steps.count
+    (omega (arith, was, c.in_ok-learn_from.ensures.count)))
+
+pub returns-clause-standing : goal.returns-clause-standing
+returns-clause-standing g c = c.in_ok-keep_ceiling.ensures.standing c.args.level.storage c.in_ok-learn_from.ensures.standing

@@ -1,15 +1,17 @@
-use Rattle.std.proofs.Common.{◌≡◌, ℕ, ◌+◌, ◌≤◌, length, map, sym, ap, ◌∙◌, subst, arith, rules}
-use Rattle.std.specs.Prelude.{All}
+use Rattle.std.proofs.Common.{◌≡◌, ℕ, ◌+◌, ◌≤◌, List, length, map, refl, sym, ap, ◌∙◌, subst, arith, rules}
+use Rattle.std.specs.Prelude.{All, slice_index_or}
 use Rattle.std.proofs.lemmas.Bool.{false≢true}
 use Rattle.std.proofs.lemmas.Result.{err_from_is_err_and}
 use Rattle.sd_base.specs.Counter.{Tally}
+use Rattle.pareto_search.specs.declared.known.Known.{Known}
 use Rattle.pareto_search.specs.declared.stops.Stop.{Stop}
 use Rattle.pareto_search.specs.inside.Knowledge.{IsTold}
-use Rattle.pareto_search.specs.inside.Turns.{IsAbsorbed}
+use Rattle.pareto_search.specs.inside.Turns.{EntersOn, IsAbsorbed}
 use Rattle.pareto_search.specs.inside.Vectors.{bounded_by}
 use Rattle.pareto_search.proofs.FoundTellings.{known-counts}
 use Rattle.pareto_search.proofs.Learned.{absorbed-told, answers-new, more-low}
 use Rattle.pareto_search.proofs.LearnedCounts.{AreAnswersOf, answers-many, more-many, stops-counts, stops-spent}
+use Rattle.pareto_search.proofs.LevelEntered.{stops-enter}
 use Rattle.pareto_search.proofs.Onward.{onward-on, onward-told}
 use Rattle.pareto_search.proofs.search.learn_from.Goals as goal
 
@@ -103,3 +105,15 @@ returns-in_err-absorb-clause-most g c =
     rw p.1 (λ before was.
     stops-counts (g.F.Firing.net c.args.base.now.exploring.now.net.now) c.args.base.now.exploring.now.limits corner c.args.base.now.lattice.now c.args.total c.args.searching.now c.requires.standing c.args.stops.items c.requires.stops before c.args.steps.now.count c.evaluate_stops.new.steps.count c.in_ok-answers.answers.items order
     room was c.in_ok-answers.ensures.most)
+
+pub returns-clause-entered : goal.returns-clause-entered
+returns-clause-entered g c =
+    let net = g.F.Firing.net c.args.base.now.exploring.now.net.now in
+    let entered = g.G.Gate.entered c.args.gate.now in
+    let corner = c.args.base.now.corner.now.capacities in
+    let old = c.args.searching.now.known.tellings.items in
+    let order : AreAnswersOf c.args.base.now.corner.now.capacities c.args.stops.items c.in_ok-answers.answers.items = c.in_ok-answers.ensures.order ∙ ap (map (λ (x : Stop). bounded_by corner x.capacities)) c.as_slice-3.ensures.value in
+    subst (λ (k : Known). EntersOn net corner entered old k.tellings.items) (sym c.absorb.ensures.known)
+    (stops-enter net c.args.base.now.exploring.now.limits corner c.args.base.now.lattice.now c.requires.base.stands old c.args.total c.args.stops.items c.requires.stops c.requires.level c.level_of-level.result
+    (λ s. subst (λ (xs : List Stop). c.level_of-level.result ≡ (slice_index_or xs 0 s).storage) c.as_slice.ensures.value (c.level_of-level.ensures s))
+    entered c.in_ok-answers.answers.items order c.in_ok-answers.ensures.entered c.args.searching.now.known c.learn_all.new.known refl c.in_ok-learn_all.ensures.learned)

@@ -12,3 +12,6 @@ returns-clause-most g c =
     let s = c.take_turn.new.searching in
     let over : IsOver net limits corner lattice s = subst (λ (more : Bool). IsTurned net limits corner lattice c.turns.searching s more) c.if-branch.false c.in_ok-take_turn.ensures.turned in
     known-counts net limits corner lattice s.below s.known over.standing.known c.args.steps.now.count c.take_turn.new.steps.count (omega (arith, c.turns.invariant.count, c.in_ok-take_turn.ensures.count))
+
+pub returns-clause-entered : goal.returns-clause-entered
+returns-clause-entered g c = λ before. c.in_ok-take_turn.ensures.entered (c.turns.invariant.entered before)
