@@ -5,7 +5,6 @@ use Rattle.sd_base.specs.declared.limits.Limits.{Limits}
 use Rattle.sd_base.specs.Net.{Net}
 use Rattle.lasso.specs.LoopAnswers.{IsFound}
 use Rattle.explore.specs.Explorations.{CountsFew}
-use Rattle.report.specs.declared.refusal.Refusal.{Refusal}
 use Rattle.sd_steps.specs.declared.answer.Answer.{Answer}
 use Rattle.sd_steps.specs.declared.answer.Put.{Put}
 use Rattle.sd_steps.specs.declared.stop.Stop.{Stop}

@@ -1,5 +1,5 @@
 -- From what steps do to how a command goes.
-use Rattle.std.proofs.Common.{◌≡◌, ℕ, ◌-◌, Bool, List, Option, Result, Err, refl, ap, subst, ◌∙◌, inl, inr}
+use Rattle.std.proofs.Common.{◌≡◌, ℕ, Bool, List, Option, Result, Err, refl, ap, subst, ◌∙◌, inl, inr}
 use Rattle.sd_steps.specs.declared.answer.Answer.{Answer}
 use Rattle.sd_steps.specs.declared.stop.Stop.{Stop}
 use Rattle.sd_steps.specs.declared.stop.Stop.TheVariants as stop

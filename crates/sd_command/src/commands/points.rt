@@ -21,7 +21,7 @@ ghost use Rattle.sd_command.specs.inside.Goings.{Goes};
 
 use crate::commands::parallel::Parallel;
 use crate::commands::searches::{explored, points_within};
-use crate::commands::shown_points::{ShownPoints, shown_points};
+use crate::commands::shown_points::shown_points;
 use crate::commands::wanted::WantedPoints;
 use cert_maker::storage_certificate;
 use explore::Exploration;
@@ -116,11 +116,11 @@ fn without_certificate<R: Threads + Sync, F: Firing + Sync, G: Gate + Sync, L: L
     ensures share { steps.new.share ≡ steps.old.share }
 {
     let points = points_within(parallel, alloc, net, graph, wanted.limits, steps)?;
-    let ShownPoints {
-        schedules: _schedules,
-        text,
-    } = shown_points(parallel.rt, alloc, net, graph, points.as_slice())?;
-    Ok(Answer { text, put: None })
+    let shown = shown_points(parallel.rt, alloc, net, graph, points.as_slice())?;
+    Ok(Answer {
+        text: shown.text,
+        put: None,
+    })
 }
 
 // The points of a net, with their certificate, which lists all members of an exploration.
@@ -144,16 +144,16 @@ fn with_certificate<R: Threads + Sync, F: Firing + Sync, G: Gate + Sync, L: Ledg
 {
     know_laws(net);
     let exploration = explored(parallel, alloc, net, graph, wanted.limits, steps)?;
-    let ShownPoints { schedules, text } = shown_points(
+    let shown = shown_points(
         parallel.rt,
         alloc,
         net,
         graph,
         exploration.points.as_slice(),
     )?;
-    let put = put_as(alloc, net, wanted, name, exploration, schedules)?;
+    let put = put_as(alloc, net, wanted, name, exploration, shown.schedules)?;
     Ok(Answer {
-        text,
+        text: shown.text,
         put: Some(put),
     })
 }

@@ -28,7 +28,7 @@ returns-in-None-clause-goes g c = λ faults.
     goes_on (touching c.args.graph.now (g.F.Firing.net c.args.net.now)) _ tt _ _ faults faults c.in_ok-touch.ensures
     (goes_on (completing c.args.graph.now (g.F.Firing.net c.args.net.now)) _ tt _ _ faults faults c.in_ok-complete.ensures (c.without_certificate.ensures.goes faults))
 
-pub returns-in-Some-clause-goes : goal.returns-in-Some-clause-goes
-returns-in-Some-clause-goes g c = λ faults.
+pub returns-clause-goes : goal.returns-clause-goes
+returns-clause-goes g c = λ faults.
     goes_on (touching c.args.graph.now (g.F.Firing.net c.args.net.now)) _ tt _ _ faults faults c.in_ok-touch.ensures
     (goes_on (completing c.args.graph.now (g.F.Firing.net c.args.net.now)) _ tt _ _ faults faults c.in_ok-complete.ensures (c.with_certificate.ensures.goes faults))

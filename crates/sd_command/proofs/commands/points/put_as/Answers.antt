@@ -1,4 +1,7 @@
-use Rattle.std.proofs.Common.{refl}
+use Rattle.std.proofs.Common.{ℕ, List, refl, subst}
+use Rattle.sd_steps.specs.declared.file_kind.FileKind.TheVariants as kinds
+use Rattle.sd_steps.specs.Certifyings.{certifying}
+use Rattle.sd_steps.specs.Steps.{Does}
 use Rattle.sd_command.proofs.command_lemmas.Certified.{certificate-filed}
 use Rattle.sd_command.proofs.commands.points.put_as.Goals as goal
 
@@ -12,4 +15,5 @@ returns g c =
       listed = made.0;
       is = made.1;
       made = made.2;
-    }) _ c.certify.ensures
+    }) c.certify.result
+    (subst (λ (n : List ℕ). Does (certifying kinds.Certificate n c.in_ok-made.made) c.certify.result) c.as_str.ensures c.certify.ensures)

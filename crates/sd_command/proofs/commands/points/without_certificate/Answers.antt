@@ -1,5 +1,5 @@
 use Rattle.std.specs.Global.{Vec}
-use Rattle.std.proofs.Common.{◌∙◌, List, Some, None, ap, refl, subst, sym, arith}
+use Rattle.std.proofs.Common.{◌∙◌, List, ap, refl, subst, arith}
 use Rattle.std.specs.List.{AllZip}
 use Rattle.std.proofs.lemmas.Result.{err_from_is_err_and}
 use Rattle.sd_base.specs.Net.{Net}
@@ -25,23 +25,23 @@ returns-in_err-points-clause-goes g c = λ faults.
     let p = err_from_is_err_and c.from_residual.result c.from_residual.ensures.1 in
     rw (p.1, p.2) (search-stops c.args.graph.now net c.args.wanted.now _ faults (λ (v : Vec Point). IsTradeOff net limits v.items) (few_from net limits _ _ c.in_err-points.ensures.most) _ c.in_err-points.ensures.does)
 
-pub returns-in_err-shown_points-clause-goes : goal.returns-in_err-shown_points-clause-goes
-returns-in_err-shown_points-clause-goes g c = λ faults.
+pub returns-in_err-shown-clause-goes : goal.returns-in_err-shown-clause-goes
+returns-in_err-shown-clause-goes g c = λ faults.
     let net : Net = g.F.Firing.net c.args.net.now in
-    let p = err_from_is_err_and c.from_residual-in_err-shown_points.result c.from_residual-in_err-shown_points.ensures.1 in
+    let p = err_from_is_err_and c.from_residual-in_err-shown.result c.from_residual-in_err-shown.ensures.1 in
     rw (p.1, p.2) (search-lacks c.args.graph.now net c.args.wanted.now _ faults (few_from net c.args.wanted.now.limits _ _ c.in_ok-points.ensures.most))
 
 pub returns-clause-goes : goal.returns-clause-goes
 returns-clause-goes g c = λ faults.
     let net : Net = g.F.Firing.net c.args.net.now in
     let points : List Point = c.in_ok-points.points.items in
-    let schedules : List Periodic = c.in_ok-shown_points.field-0.schedules.items in
+    let schedules : List Periodic = c.in_ok-shown.shown.schedules.items in
     let shown : ArePointsShown net c.args.wanted.now.limits points schedules = record {
       trade_off = c.in_ok-points.ensures.does;
-      reached = subst (λ (ps : List Point). AllZip (IsPointSchedule net) ps schedules) c.as_slice.ensures.value c.in_ok-shown_points.ensures.schedules;
+      reached = subst (λ (ps : List Point). AllZip (IsPointSchedule net) ps schedules) c.as_slice.ensures.value c.in_ok-shown.ensures.schedules;
     } in
     points-answer c.args.graph.now net c.args.wanted.now _ faults points schedules shown
     (c.in_ok-points.ensures.live _ (omega (arith, c.in_ok-points.ensures.rises)))
     (omega (arith, c.in_ok-points.ensures.least))
-    _ (c.in_ok-shown_points.ensures.text ∙ ap (λ (ps : List Point). points_lines c.args.graph.now ps schedules) c.as_slice.ensures.value)
+    _ (c.in_ok-shown.ensures.text ∙ ap (λ (ps : List Point). points_lines c.args.graph.now ps schedules) c.as_slice.ensures.value)
     (rw c.requires.asked refl)
