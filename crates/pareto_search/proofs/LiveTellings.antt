@@ -16,10 +16,10 @@ use Rattle.covers.specs.declared.lattice.Lattice.{Lattice}
 use Rattle.walks.specs.declared.telling.Telling.{Telling}
 use Rattle.explore.specs.Explorations.{CountsLive}
 use Rattle.explore.proofs.Reaching.{looped-live}
+use Rattle.pareto_search.specs.Entrances.{AreApart}
 use Rattle.pareto_search.specs.declared.known.Known.{Known}
 use Rattle.pareto_search.specs.inside.Grounds.{IsGround}
 use Rattle.pareto_search.specs.inside.Knowledge.{IsKnown, IsTold, counts_in, loops_in, ran, told_of}
-use Rattle.pareto_search.specs.inside.Learning.{AreApart}
 use Rattle.pareto_search.specs.inside.Vectors.{bounded_by}
 use Rattle.pareto_search.proofs.FoundTellings.{loops-few, told-apart, told-reachable}
 use Rattle.pareto_search.proofs.Sorting.{IsSorted, sorted}
