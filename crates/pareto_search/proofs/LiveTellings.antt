@@ -1,5 +1,5 @@
 -- The tellings that ran a loop are as many distributions that differ, are reachable and have live bounded nets.
-use Rattle.std.proofs.Common.{◌≡◌, ◌≢◌, ℕ, ◌+◌, ◌≤◌, Option, None, Some, List, [], ◌∷◌, length, ⊎_elim, refl, sym, ◌∙◌, subst, arith}
+use Rattle.std.proofs.Common.{◌≡◌, ◌≢◌, ℕ, ◌+◌, Option, None, Some, List, [], ◌∷◌, length, ⊎_elim, refl, sym, ◌∙◌, subst, arith}
 use Rattle.std.specs.Prelude.{All, Contains, slice_index_or}
 use Rattle.std.proofs.lemmas.List.Elements.{All-cons, All-contains, All-nil, Contains-get_or}
 use Rattle.std.proofs.lemmas.Option.{none-some}
