@@ -20,3 +20,6 @@ mod Walking
 mod Trails
 pub mod CycleTraces
 mod Unspacing
+mod Readings
+mod Ranks
+mod Searching

@@ -17,4 +17,4 @@ cycle_without_spaces-requires-clause-inputs g c =
 pub returns-in-Some : goal.returns-in-Some
 returns-in-Some g c = λ is.
     bounds-all c.cycles_bound_the_rate.ensures.rate (g.F.Firing.net c.args.exploring.now.net.now) c.args.point.now.capacities.capacities c.in-Some.cycle c.args.point.now.rate
-    (subst (λ (n : Net). IsUnspaced n c.in-Some.cycle) c.in_ok-bounded.ensures (rw c.in-Some.is at c.in_ok-found.ensures)) (c.is_bound.ensures is)
+    (subst (λ (n : Net). IsUnspaced n c.in-Some.cycle) c.in_ok-bounded.ensures (rw c.in-Some.is at c.in_ok-found.ensures.unspaced)) (c.is_bound.ensures is)
