@@ -22,4 +22,6 @@ pub mod CycleTraces
 mod Unspacing
 mod Readings
 mod Ranks
+mod Ways
 mod Searching
+mod SearchTurns

@@ -1,5 +1,5 @@
 use Rattle.std.proofs.Common.{sym, ◌∙◌}
-use Rattle.critical.proofs.Searching.{is-open, by-mark}
+use Rattle.critical.proofs.SearchTurns.{is-open, by-mark}
 use Rattle.critical.proofs.unspaced.Pass.is_open.Goals as goal
 
 pub returns-in-None : goal.returns-in-None

@@ -1,6 +1,6 @@
 use Rattle.std.proofs.Common.{subst, sym}
 use Rattle.critical.specs.inside.Searches.{IsNoSpace}
-use Rattle.critical.proofs.Searching.{left-space, left-slack, left-need}
+use Rattle.critical.proofs.SearchTurns.{left-space, left-slack, left-need}
 use Rattle.critical.proofs.unspaced.Pass.need_along.Goals as goal
 
 pub returns-then-is_space : goal.returns-then-is_space

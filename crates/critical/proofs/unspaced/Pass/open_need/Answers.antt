@@ -1,7 +1,7 @@
 use Rattle.std.proofs.Common.{ℕ, below_more, arith}
 use Rattle.std.specs.Prelude.{slice_index}
 use Rattle.critical.specs.inside.Searches.{HasLeftOn}
-use Rattle.critical.proofs.Searching.{left-all}
+use Rattle.critical.proofs.SearchTurns.{left-all}
 use Rattle.critical.proofs.unspaced.Pass.open_need.Goals as goal
 
 pub loop-channel-preserved : goal.loop-channel-preserved

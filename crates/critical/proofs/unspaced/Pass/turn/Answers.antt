@@ -1,7 +1,7 @@
 use Rattle.std.proofs.Common.{List, subst, sym, ◌∙◌, arith}
 use Rattle.critical.specs.declared.walk.Met.{Met}
 use Rattle.critical.specs.inside.Searches.{IsSearch}
-use Rattle.critical.proofs.Searching.{last-second, last-actor, last-near, last-soon, turns-popped, turns-pushed, round-pushed}
+use Rattle.critical.proofs.SearchTurns.{last-second, last-actor, last-near, last-soon, turns-popped, turns-pushed, round-pushed}
 use Rattle.critical.proofs.unspaced.Pass.turn.Goals as goal
 
 pub inputs_of-inputs-requires : goal.inputs_of-inputs-requires

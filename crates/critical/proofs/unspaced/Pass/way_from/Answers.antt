@@ -3,7 +3,7 @@ use Rattle.std.proofs.lemmas.List.{nil_from_length}
 use Rattle.critical.specs.declared.walk.Met.{Met}
 use Rattle.critical.specs.inside.Trails.{class_at, met_at, none_met}
 use Rattle.critical.specs.inside.Searches.{IsMarked, IsSearch, GoesOn}
-use Rattle.critical.proofs.Searching.{goes-none, search-first}
+use Rattle.critical.proofs.SearchTurns.{goes-none, search-first}
 use Rattle.critical.proofs.unspaced.Pass.way_from.Goals as goal
 
 pub returns-in-Some : goal.returns-in-Some

@@ -1,7 +1,7 @@
 use Rattle.std.proofs.Common.{ℕ, ◌+◌, ap, refl, arith}
 use Rattle.sd_base.specs.Schedules.{count_of}
 use Rattle.critical.specs.inside.Trails.{second_of}
-use Rattle.critical.proofs.Searching.{goes-none, goes-further, marked-more}
+use Rattle.critical.proofs.SearchTurns.{goes-none, goes-further, marked-more}
 use Rattle.critical.proofs.unspaced.Pass.way_from_actor.Goals as goal
 
 pub loop-behind-init : goal.loop-behind-init

@@ -1,6 +1,6 @@
 use Rattle.std.proofs.Common.{arith}
 use Rattle.critical.proofs.Passes.{actors-same}
-use Rattle.critical.proofs.Searching.{ranks-all, marked-actor}
+use Rattle.critical.proofs.SearchTurns.{ranks-all, marked-actor}
 use Rattle.critical.proofs.unspaced.Pass.way_round.Goals as goal
 
 pub loop-actor-init : goal.loop-actor-init
