@@ -43,4 +43,4 @@ cycle_without_spaces-requires-clause-inputs g c =
 pub returns-in-Some : goal.returns-in-Some
 returns-in-Some g c = λ is.
     bounds-all c.cycles_bound_the_rate.ensures.rate (g.F.Firing.net c.args.base.now.exploring.now.net.now) c.in_ok-capacities.capacities.capacities c.in-Some.cycle c.args.rate
-    (subst (λ (n : Net). IsUnspaced n c.in-Some.cycle) c.in_ok-bounded.ensures (rw c.in-Some.is at c.in_ok-cycle.ensures)) (c.is_bound.ensures is)
+    (subst (λ (n : Net). IsUnspaced n c.in-Some.cycle) c.in_ok-bounded.ensures (rw c.in-Some.is at c.in_ok-cycle.ensures.unspaced)) (c.is_bound.ensures is)
