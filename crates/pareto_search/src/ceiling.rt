@@ -23,8 +23,8 @@ use storage::Bounded;
 use walks::Telling;
 
 /// Where the greatest rate so far is above an earlier one, and a need cycle on no free space has it, no distribution of whatever
-/// storage has a greater rate: then a bound on no channel is kept, which covers all. That a cycle is found where no distribution
-/// has a greater rate isn't promised. Cost: that of `cycle_without_spaces`, and linear in the loops.
+/// storage has a greater rate: then a bound on no channel is kept, which covers all. That one has it where no distribution has a
+/// greater rate isn't promised. Cost: that of `cycle_without_spaces`, and linear in the loops.
 pub(crate) fn keep_ceiling<F: Firing>(
     base: &Ground<F>,
     earlier: Fraction,
