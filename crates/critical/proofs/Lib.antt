@@ -20,3 +20,8 @@ mod Walking
 mod Trails
 pub mod CycleTraces
 mod Unspacing
+mod Readings
+mod Ranks
+mod Ways
+mod Searching
+mod SearchTurns

@@ -1,23 +1,27 @@
--- A way that is tested, and that it stays in the second pass.
-use Rattle.std.proofs.Common.{◌≡◌, ℕ, ◌≤◌, ◌<◌, List, [], ◌∷◌, ◌++◌, length, ⊎_elim, sym, subst, arith}
-use Rattle.std.specs.Prelude.{All}
-use Rattle.std.proofs.lemmas.Bool.{cases_lt}
-use Rattle.std.proofs.lemmas.List.{get_or_append_left, get_or_push, length_push}
+-- The need cycle of a way that comes round on no free space goes along none.
+use Rattle.std.proofs.Common.{◌≡◌, ℕ, zero, suc, ◌+◌, ◌<◌, List, length, refl, ap, ◌∙◌, sym, arith}
+use Rattle.std.specs.Prelude.{slice_index_or}
 use Rattle.firing.specs.declared.table.LoopTable.{LoopTable}
-use Rattle.sd_base.specs.Net.{Net}
+use Rattle.sd_base.specs.Net.{Net, channel_at}
+use Rattle.critical.specs.declared.cycle.FiringNo.{FiringNo}
 use Rattle.critical.specs.declared.cycle.NeedCycle.{NeedCycle}
 use Rattle.critical.specs.declared.walk.Met.{Met}
-use Rattle.critical.specs.Cycles.{HoldsOn}
-use Rattle.critical.specs.Spaces.{AreSpaces}
+use Rattle.critical.specs.CriticalCycles.{IsCriticalCycleOf}
+use Rattle.critical.specs.Spaces.{no_step}
 use Rattle.critical.specs.Unspaced.{IsUnspaced}
-use Rattle.critical.specs.inside.Trails.{IsSecond}
+use Rattle.critical.specs.inside.Trails.{GoesAlong, met_at, steps_of}
+use Rattle.critical.specs.inside.Searches.{ComesRound}
 
-pub seconds-more : (table : LoopTable) (old new : List Met) (m : Met) → All (λ (x : Met). IsSecond table x.firing) old → IsSecond table m.firing → new ≡ old ++ m ∷ [] → All (λ (x : Met). IsSecond table x.firing) new
-seconds-more table old new m all is pushed = subst (λ (xs : List Met). All (λ (x : Met). IsSecond table x.firing) xs) (sym pushed) (λ k d below.
-    ⊎_elim
-    (λ (less : k < length old). subst (λ (x : Met). IsSecond table x.firing) (sym (get_or_append_left old (m ∷ []) d k less)) (all k d less))
-    (λ (past : length old ≤ k). subst (λ (x : Met). IsSecond table x.firing) (sym (get_or_push old m d k (omega (arith, length_push old m)))) is)
-    (cases_lt k (length old)))
+pub steps-along : (met : List Met) (from : ℕ) (at : ℕ → FiringNo) (d : ℕ) → from + d < length met → (i : ℕ) → i < length (steps_of at (λ (k : ℕ). (met_at met (k + 1)).channel) from d) →
+    (j : ℕ) × (from < j) × (j < length met) × ((slice_index_or (steps_of at (λ (k : ℕ). (met_at met (k + 1)).channel) from d) i no_step).channel ≡ (met_at met j).channel)
+steps-along met from at zero within i below = absurd (omega arith)
+steps-along met from at (suc d) within zero below = (from + d + 1, omega arith, omega arith, refl)
+steps-along met from at (suc d) within (suc i) below = steps-along met from at d (omega arith) i (omega arith)
 
-pub unspaced : (net : Net) (cycle : NeedCycle) (xs : List ℕ) → HoldsOn net cycle → AreSpaces net cycle.steps (length cycle.steps) xs → length xs ≡ 0 → IsUnspaced net cycle
-unspaced net cycle xs holds are none = record { holds = holds; none = λ i c below space. let has = are.all i c below space in absurd (omega (arith, has.1, none)) }
+pub round-unspaced : (net : Net) (table : LoopTable) (met : List Met) (from : ℕ) (cycle : NeedCycle) → ComesRound net table met from → IsCriticalCycleOf net table cycle → GoesAlong met from cycle.steps → IsUnspaced net cycle
+round-unspaced net table met from cycle round critical along = record {
+  holds = critical.holds;
+  none = λ i c below space.
+      let at = along i below in
+      round.unspaced at.0 at.1 at.2 c (ap (λ (k : ℕ). (channel_at net k).role) (sym at.3) ∙ space);
+}

@@ -12,7 +12,7 @@ use Rattle.sd_base.specs.Net.{Net}
 use Rattle.sd_base.specs.Schedules.{time_of, count_of}
 use Rattle.sd_base.proofs.Parts.{balanced}
 use Rattle.critical.specs.CriticalCycles.{pass_of}
-use Rattle.critical.specs.inside.Trails.{offset_of, IsShortLoop, IsSecond, IsTightNeed, Leads, IsTrail, none_met, met_at, ComesAgain, first_firing, second_of, class_at}
+use Rattle.critical.specs.inside.Trails.{offset_of, IsShortLoop, IsSecond, IsTightNeed, IsSlackBefore, AreFirst, Leads, IsTrail, none_met, met_at, ComesAgain, first_firing, second_of, class_at}
 use Rattle.critical.proofs.Agreements.{Agree, agree}
 use Rattle.critical.proofs.Marking.{class-below, class-one}
 use Rattle.critical.proofs.Passes.{actors-same, listed-many}
@@ -37,7 +37,7 @@ pub record AreMarks (table : LoopTable) (at : ℕ → Met) (n : ℕ) (marks : Li
 abbrev no_mark : Option ℕ
 no_mark = None
 
-read-none : (n c : ℕ) → slice_index_or (replicate n no_mark) c no_mark ≡ no_mark
+pub read-none : (n c : ℕ) → slice_index_or (replicate n no_mark) c no_mark ≡ no_mark
 read-none n c = ⊎_elim
     (λ (below : c < n). get_or-replicate n c no_mark no_mark below)
     (λ (past : n ≤ c). get_or_past (replicate n no_mark) c no_mark (omega (arith, length-replicate n no_mark)))
@@ -149,11 +149,22 @@ module _ (net : Net) (table : LoopTable) (loop : IsShortLoop net table) where
       let both : found.p ≡ found.p + suc found.d = same_Some found.p (found.p + suc found.d) (sym one ∙ (ap (λ (c : ℕ). slice_index_or marks c None) found.same ∙ other)) in
       omega arith
 
+  -- the first firing met stays the first one
+  pub first-again : (met new : List Met) (here : Met) → (met_then met here 0).firing ≡ first_firing table → new ≡ met ++ here ∷ [] → (met_at new 0).firing ≡ first_firing table
+  first-again met new here first pushed = ap (λ (xs : List Met). (met_at xs 0).firing) pushed ∙ (ap (λ (m : Met). m.firing) (then-last met here none_met 0 (omega arith)) ∙ first)
+
+  -- and each one met by a first need stays so
+  pub needs-again : (met new : List Met) (here : Met) (n : ℕ) → length met ≡ n → ((i : ℕ) → i < n → IsSlackBefore net table (met_then met here i).firing (met_then met here (suc i)).channel) →
+      new ≡ met ++ here ∷ [] → AreFirst net table new
+  needs-again met new here n long needs pushed = subst (AreFirst net table) (sym pushed) (λ i below.
+      let within : i < n = omega (arith, length_push met here) in
+      subst (λ (m : Met). IsSlackBefore net table m.firing (met_at (met ++ here ∷ []) (suc i)).channel) (sym (then-last met here none_met i (omega arith)))
+      (subst (λ (m : Met). IsSlackBefore net table (met_then met here i).firing m.channel) (sym (then-last met here none_met (suc i) (omega arith))) (needs i within)))
+
   -- a firing with a mark comes again
-  pub comes-again : (met new : List Met) (here : Met) (n from : ℕ) (marks : List (Option ℕ)) → length met ≡ n → n ≤ 4000000 → (met_then met here 0).firing ≡ first_firing table → IsTrail net table (met_then met here) n → AreMarks table (met_then met here) n marks →
+  pub comes-again : (met new : List Met) (here : Met) (n from : ℕ) (marks : List (Option ℕ)) → length met ≡ n → n ≤ 4000000 → IsTrail net table (met_then met here) n → AreMarks table (met_then met here) n marks →
       slice_index_or marks (class_at table here.firing) None ≡ Some from → new ≡ met ++ here ∷ [] → ComesAgain net table new from
-  comes-again met new here n from marks long few first way are mark pushed = subst (λ (xs : List Met). ComesAgain net table xs from) (sym pushed) (record {
-    first = ap (λ (m : Met). m.firing) (same 0 (omega arith)) ∙ first;
+  comes-again met new here n from marks long few way are mark pushed = subst (λ (xs : List Met). ComesAgain net table xs from) (sym pushed) (record {
     later = omega (arith, many, mine.0);
     few = omega (arith, many);
     way = rw last (way-along (met_then met here) (met_at (met ++ here ∷ [])) n way same);
@@ -221,6 +232,18 @@ module _ (net : Net) (table : LoopTable) (loop : IsShortLoop net table) where
 
       pub first-kept : (x : FiringNo) → (met_then met here 0).firing ≡ x → (met_then new next 0).firing ≡ x
       first-kept x is = ap (λ (m : Met). m.firing) (kept 0 (omega arith)) ∙ is
+
+      pub needs-next : ((i : ℕ) → i < n → IsSlackBefore net table (met_then met here i).firing (met_then met here (suc i)).channel) → IsSlackBefore net table here.firing next.channel →
+          (i : ℕ) → i < n + 1 → IsSlackBefore net table (met_then new next i).firing (met_then new next (suc i)).channel
+      needs-next needs first i less = ⊎_elim
+          (λ (old : i < n). subst (λ (m : Met). IsSlackBefore net table m.firing (met_then new next (suc i)).channel) (sym (kept i (omega arith)))
+          (subst (λ (m : Met). IsSlackBefore net table (met_then met here i).firing m.channel) (sym (kept (suc i) (omega arith))) (needs i old)))
+          (λ (late : n ≤ i).
+          let last : n ≡ i = omega arith in
+          subst (λ (k : ℕ). IsSlackBefore net table (met_then new next k).firing (met_then new next (suc k)).channel) last
+          (subst (λ (m : Met). IsSlackBefore net table m.firing (met_then new next (suc n)).channel) (sym (kept n (omega arith) ∙ then-here))
+          (subst (λ (m : Met). IsSlackBefore net table here.firing m.channel) (sym (get_or_past new (suc n) next (omega (arith, longer)))) first)))
+          (cases_lt i n)
 
       pub way-next : Leads net table here next → IsTrail net table (met_then new next) (n + 1)
       way-next leads = way-more (met_then met here) (met_then new next) n way kept

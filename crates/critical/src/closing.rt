@@ -1,7 +1,7 @@
 //! A need cycle from the way back to a firing that came again.
 ghost use Rattle.std.specs.Prelude.{◌≡◌, ◌+◌, ◌-◌, ◌*◌, ◌<◌, ◌≤◌, IfOk, length, slice_index};
 ghost use Rattle.critical.specs.CriticalCycles.{IsCriticalCycleOf};
-ghost use Rattle.critical.specs.inside.Trails.{IsShortLoop, IsSecond, ComesAgain, IsLeastRounds, met_at, raised_number, lowered_firing, steps_of};
+ghost use Rattle.critical.specs.inside.Trails.{IsShortLoop, IsSecond, ComesAgain, GoesAlong, IsLeastRounds, met_at, raised_number, lowered_firing, steps_of};
 
 use crate::cycle::{CycleStep, FiringNo, NeedCycle};
 use crate::steps::CycleSteps;
@@ -20,7 +20,8 @@ pub(crate) fn closed_cycle<F: Firing>(
 ) -> Result<NeedCycle, NoMemory>
     requires table { IsShortLoop (F.net net.now) table.now }
     requires again { ComesAgain (F.net net.now) table.now met.now from }
-    ensures { IfOk result (IsCriticalCycleOf (F.net net.now) table.now) }
+    ensures critical { IfOk result (IsCriticalCycleOf (F.net net.now) table.now) }
+    ensures along { IfOk result (λ cycle. GoesAlong met.now from cycle.steps) }
 {
     let start = met[from];
     let end = met[met.len() - 1];

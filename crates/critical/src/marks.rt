@@ -53,6 +53,14 @@ pub(crate) fn class_of(table: &LoopTable, offsets: &[usize], firing: FiringNo) -
     offsets[firing.actor as usize] + (firing.number - second_of(table, firing.actor)) as usize
 }
 
+/// The mark at a place.
+pub(crate) fn mark_at(marks: &[Option<u32>], class: usize) -> Option<u32>
+    requires { class < length marks.now }
+    ensures { result ≡ slice_index_or marks.now class None }
+{
+    marks[class]
+}
+
 /// The mark at a place; where there is none, puts the one given there.
 pub(crate) fn mark(marks: &mut [Option<u32>], class: usize, place: u32) -> Option<u32>
     requires { class < length marks.old }

@@ -1,22 +1,25 @@
-//! The search for a need cycle on no free space. Its steps follow the tight needs of the second pass round the loop; what
-//! it comes to is tested, so it may pass numbers by that would be too large.
-//! It may miss a cycle: a miss costs levels, never a point. None was seen in 2,500 drawn graphs.
-ghost use Rattle.std.specs.Prelude.{◌≡◌, ◌+◌, ◌*◌, ◌<◌, ◌≤◌, All, IfOk, IfSome, OnOk, length};
+//! The search for a need cycle on no free space: depth first back along the tight needs of the second pass round the loop, by
+//! which a cycle with the loop's rounds per time goes. A firing is left only after all that it needs so, so where no way comes
+//! round there is no such cycle.
+ghost use Rattle.std.specs.Prelude.{◌≡◌, ◌≢◌, ◌+◌, ◌-◌, ◌^◌, ◌<◌, ◌≤◌, ℕ, [], None, IfOk, IfSome, MatchBool, MatchOption, length};
 ghost use Rattle.sd_base.specs.declared.limits.TheConstants.{STARTS};
+ghost use Rattle.sd_base.specs.declared.role.Role.TheVariants.{Space};
 ghost use Rattle.sd_base.specs.Schedules.{HasInputs};
 ghost use Rattle.sd_base.specs.SelfTimed.{starts_by};
 ghost use Rattle.sd_base.specs.Rates.{IsLoopTable};
 ghost use Rattle.sd_base.specs.Net.{channel_at};
 ghost use Rattle.firing.specs.declared.sums.Port.TheVariants.{Taken};
 ghost use Rattle.firing.specs.Wiring.{IsListed};
-ghost use Rattle.critical.specs.declared.walk.Met.{Met as AMet};
-ghost use Rattle.critical.specs.Unspaced.{IsUnspaced};
-ghost use Rattle.critical.specs.inside.Trails.{IsSearchable, IsSecond, offset_of};
+ghost use Rattle.critical.specs.declared.cycle.FiringNo.{FiringNo as AFiring};
+ghost use Rattle.critical.specs.CriticalCycles.{IsCriticalCycleOf};
+ghost use Rattle.critical.specs.Unspaced.{IsUnspaced, HasNoUnspaced};
+ghost use Rattle.critical.specs.inside.Trails.{IsSearchable, IsSecond, IsTightNeed, Leads, class_at, met_at};
+ghost use Rattle.critical.specs.inside.Searches.{IsNoSpace, HasRanks, IsMarked, IsLeft, IsOpen, IsOpenNeed, HasLeftOn, HasLeftAll, IsSearch, TurnsTo, GoesOn, ComesRound};
 
-use crate::cycle::{CycleStep, FiringNo, NeedCycle, time_at};
-use crate::marks::{class_of, mark, no_marks, offsets, places_of};
+use crate::closing::closed_cycle;
+use crate::cycle::{FiringNo, NeedCycle, time_at};
+use crate::marks::{class_of, mark, mark_at, no_marks, offsets, places_of};
 use crate::pass::{pass_of, second_of};
-use crate::steps::CycleSteps;
 use crate::tight::{ReadNeed, tight_on};
 use crate::walk::{Met, Way};
 use firing::{Firing, LoopTable, Wired, know_laws};
@@ -32,9 +35,8 @@ struct Pass<'a, F: Firing> {
     offsets: &'a [usize],
 }
 
-/// A need cycle with tight needs alone that goes along no free space, so that no room speeds it up, if the search comes to one:
-/// depth first back through the firings of the second pass round the loop. Where the channels without free space hold the rate
-/// back, there is one. Cost: linear in the starts of a pass times the channels into an actor.
+/// A critical need cycle that goes along no free space, so that no room speeds it up; None where no need cycle on no free space
+/// has the loop's rounds per time. Cost: linear in the starts of a pass times the channels into an actor.
 pub fn cycle_without_spaces<F: Firing>(
     alloc: Global,
     wired: &Wired<F>,
@@ -43,7 +45,9 @@ pub fn cycle_without_spaces<F: Firing>(
     requires inputs { HasInputs (F.net wired.now.net.now) }
     requires table { IsLoopTable (F.net wired.now.net.now) table.now.entry table.now.period table.now.rounds table.now.before table.now.starts }
     requires few { starts_by (F.net wired.now.net.now) (table.now.entry + table.now.period) ≤ STARTS }
-    ensures { IfOk result (λ found. IfSome found (IsUnspaced (F.net wired.now.net.now))) }
+    ensures unspaced { IfOk result (λ found. IfSome found (IsUnspaced (F.net wired.now.net.now))) }
+    ensures critical { IfOk result (λ found. IfSome found (IsCriticalCycleOf (F.net wired.now.net.now) table.now)) }
+    ensures none { IfOk result (λ found. found ≡ None → HasNoUnspaced (F.net wired.now.net.now) table.now.period table.now.rounds) }
 {
     know_laws(wired.net);
     let offsets = offsets(alloc, table)?;
@@ -55,18 +59,20 @@ pub fn cycle_without_spaces<F: Firing>(
         offsets: begins,
     };
     match pass.way_round(alloc, marks.as_mut_slice())? {
-        Some(way) => pass.tested(alloc, way),
+        Some(way) => Ok(Some(pass.closed(alloc, &way)?)),
         None => Ok(None),
     }
 }
 
 impl<'a, F: Firing> Pass<'a, F> {
-    /// A way to a firing that stands on it.
+    /// A way that comes round.
     fn way_round(&self, alloc: Global, marks: &mut [Option<u32>]) -> Result<Option<Way>, NoMemory>
         requires pass { IsSearchable (F.net self.now.wired.now.net.now) self.now.table.now self.now.offsets.now }
-        requires marks { length marks.old ≡ offset_of self.now.table.now.starts (length self.now.table.now.starts) }
-        ensures { IfOk result (λ found. IfSome found (λ w. All (λ (m : AMet). IsSecond self.now.table.now m.firing) w.met.items)) }
+        requires marks { IsSearch (F.net self.now.wired.now.net.now) self.now.table.now [] marks.old }
+        ensures { IfOk result (λ found. MatchOption found (HasRanks (F.net self.now.wired.now.net.now) self.now.table.now)
+            (λ w. ComesRound (F.net self.now.wired.now.net.now) self.now.table.now w.met.items w.from)) }
     {
+        know_laws(self.wired.net);
         for actor in 0..self.wired.net.actors() {
             if let Some(way) = self.way_from_actor(alloc, actor, marks)? {
                 return Ok(Some(way));
@@ -84,9 +90,11 @@ impl<'a, F: Firing> Pass<'a, F> {
     ) -> Result<Option<Way>, NoMemory>
         requires pass { IsSearchable (F.net self.now.wired.now.net.now) self.now.table.now self.now.offsets.now }
         requires actor { actor < length self.now.table.now.starts }
-        requires marks { length marks.old ≡ offset_of self.now.table.now.starts (length self.now.table.now.starts) }
-        ensures way { IfOk result (λ found. IfSome found (λ w. All (λ (m : AMet). IsSecond self.now.table.now m.firing) w.met.items)) }
-        ensures marks { length marks.new ≡ length marks.old }
+        requires marks { IsSearch (F.net self.now.wired.now.net.now) self.now.table.now [] marks.old }
+        ensures { IfOk result (λ found. MatchOption found
+            (GoesOn (F.net self.now.wired.now.net.now) self.now.table.now marks.old marks.new
+            × ((x : AFiring) → IsSecond self.now.table.now x → x.actor ≡ actor → IsMarked marks.new (class_at self.now.table.now x)))
+            (λ w. ComesRound (F.net self.now.wired.now.net.now) self.now.table.now w.met.items w.from)) }
     {
         let second = second_of(self.table, actor);
         for behind in 0..pass_of(self.table, actor) {
@@ -111,12 +119,13 @@ impl<'a, F: Firing> Pass<'a, F> {
     ) -> Result<Option<Way>, NoMemory>
         requires pass { IsSearchable (F.net self.now.wired.now.net.now) self.now.table.now self.now.offsets.now }
         requires first { IsSecond self.now.table.now first }
-        requires marks { length marks.old ≡ offset_of self.now.table.now.starts (length self.now.table.now.starts) }
-        ensures way { IfOk result (λ found. IfSome found (λ w. All (λ (m : AMet). IsSecond self.now.table.now m.firing) w.met.items)) }
-        ensures marks { length marks.new ≡ length marks.old }
+        requires marks { IsSearch (F.net self.now.wired.now.net.now) self.now.table.now [] marks.old }
+        ensures { IfOk result (λ found. MatchOption found
+            (GoesOn (F.net self.now.wired.now.net.now) self.now.table.now marks.old marks.new × IsMarked marks.new (class_at self.now.table.now first))
+            (λ w. ComesRound (F.net self.now.wired.now.net.now) self.now.table.now w.met.items w.from)) }
     {
-        let turns = 2 * marks.len();
-        if mark(marks, class_of(self.table, self.offsets, first), 0).is_some() {
+        let before = mark(marks, class_of(self.table, self.offsets, first), 0);
+        if let Some(_place) = before {
             return Ok(None);
         }
         let mut met = Vec::new(alloc);
@@ -126,10 +135,7 @@ impl<'a, F: Firing> Pass<'a, F> {
             time: 0,
             channel: 0,
         })?;
-        for _turn in 0..turns {
-            let Some(last) = met.as_slice().last() else {
-                return Ok(None);
-            };
+        'turns: while let Some(last) = met.as_slice().last() {
             let here = *last;
             if let Some(from) = self.turn(here, &mut met, marks)? {
                 return Ok(Some(Way { met, from }));
@@ -147,32 +153,43 @@ impl<'a, F: Firing> Pass<'a, F> {
         marks: &mut [Option<u32>],
     ) -> Result<Option<usize>, NoMemory>
         requires pass { IsSearchable (F.net self.now.wired.now.net.now) self.now.table.now self.now.offsets.now }
-        requires here { IsSecond self.now.table.now here.firing }
-        requires met { All (λ (m : AMet). IsSecond self.now.table.now m.firing) met.old.items }
-        requires few { length met.old.items ≤ 2 * STARTS + 1 }
-        requires marks { length marks.old ≡ offset_of self.now.table.now.starts (length self.now.table.now.starts) }
-        ensures met { OnOk result (All (λ (m : AMet). IsSecond self.now.table.now m.firing) met.new.items) }
-        ensures few { OnOk result (length met.new.items ≤ length met.old.items + 1) }
-        ensures marks { length marks.new ≡ length marks.old }
+        requires some { 1 ≤ length met.old.items }
+        requires here { here ≡ met_at met.old.items (length met.old.items - 1) }
+        requires so_far { IsSearch (F.net self.now.wired.now.net.now) self.now.table.now met.old.items marks.old }
+        ensures { IfOk result (λ found. MatchOption found
+            (TurnsTo (F.net self.now.wired.now.net.now) self.now.table.now met.old.items marks.old met.new.items marks.new)
+            (ComesRound (F.net self.now.wired.now.net.now) self.now.table.now met.new.items)) }
     {
         let inputs = self.wired.inputs_of(here.firing.actor);
         let Some(need) = self.open_need(inputs, here.firing, met.as_slice(), marks) else {
             met.pop();
             return Ok(None);
         };
-        let class = class_of(self.table, self.offsets, need.firing);
+        let next = self.met_next(here, need);
+        let class = class_of(self.table, self.offsets, next.firing);
         let before = mark(marks, class, met.len() as u32);
-        met.push(Met {
-            firing: need.firing,
-            passes: here.passes.saturating_add(need.passes),
-            time: here
-                .time
-                .saturating_add(time_at(self.wired.net, need.firing)),
-            channel: need.channel,
-        })?;
+        met.push(next)?;
         match before {
             Some(place) => Ok(Some(place as usize)),
             None => Ok(None),
+        }
+    }
+
+    /// A tight need of a firing met, met next.
+    fn met_next(&self, here: Met, need: ReadNeed) -> Met
+        requires pass { IsSearchable (F.net self.now.wired.now.net.now) self.now.table.now self.now.offsets.now }
+        requires near { here.passes ≤ 2 ^ 62 }
+        requires soon { here.time ≤ 2 ^ 62 }
+        requires need { IsTightNeed (F.net self.now.wired.now.net.now) self.now.table.now here.firing need }
+        ensures leads { Leads (F.net self.now.wired.now.net.now) self.now.table.now here result }
+        ensures firing { result.firing ≡ need.firing }
+        ensures channel { result.channel ≡ need.channel }
+    {
+        Met {
+            firing: need.firing,
+            passes: here.passes + need.passes,
+            time: here.time + time_at(self.wired.net, need.firing),
+            channel: need.channel,
         }
     }
 
@@ -187,8 +204,9 @@ impl<'a, F: Firing> Pass<'a, F> {
         requires pass { IsSearchable (F.net self.now.wired.now.net.now) self.now.table.now self.now.offsets.now }
         requires second { IsSecond self.now.table.now later }
         requires listed { IsListed (F.net self.now.wired.now.net.now) Taken later.actor inputs.now }
-        requires marks { length marks.now ≡ offset_of self.now.table.now.starts (length self.now.table.now.starts) }
-        ensures { IfSome result (λ n. IsSecond self.now.table.now n.firing) }
+        requires so_far { IsSearch (F.net self.now.wired.now.net.now) self.now.table.now met.now marks.now }
+        ensures { MatchOption result (HasLeftAll (F.net self.now.wired.now.net.now) self.now.table.now met.now marks.now later)
+            (IsOpenNeed (F.net self.now.wired.now.net.now) self.now.table.now met.now marks.now later) }
     {
         for channel in inputs {
             if let Some(need) = self.need_along(*channel, later, met, marks) {
@@ -210,8 +228,9 @@ impl<'a, F: Firing> Pass<'a, F> {
         requires second { IsSecond self.now.table.now later }
         requires place { channel < length (F.net self.now.wired.now.net.now).channels }
         requires target { (channel_at (F.net self.now.wired.now.net.now) channel).target ≡ later.actor }
-        requires marks { length marks.now ≡ offset_of self.now.table.now.starts (length self.now.table.now.starts) }
-        ensures { IfSome result (λ n. IsSecond self.now.table.now n.firing) }
+        requires so_far { IsSearch (F.net self.now.wired.now.net.now) self.now.table.now met.now marks.now }
+        ensures { MatchOption result (HasLeftOn (F.net self.now.wired.now.net.now) self.now.table.now met.now marks.now later channel)
+            (IsOpenNeed (F.net self.now.wired.now.net.now) self.now.table.now met.now marks.now later) }
     {
         if is_space(self.wired.net, channel) {
             return None;
@@ -228,80 +247,33 @@ impl<'a, F: Firing> Pass<'a, F> {
     fn is_open(&self, firing: FiringNo, met: &[Met], marks: &[Option<u32>]) -> bool
         requires pass { IsSearchable (F.net self.now.wired.now.net.now) self.now.table.now self.now.offsets.now }
         requires second { IsSecond self.now.table.now firing }
-        requires marks { length marks.now ≡ offset_of self.now.table.now.starts (length self.now.table.now.starts) }
+        requires so_far { IsSearch (F.net self.now.wired.now.net.now) self.now.table.now met.now marks.now }
+        ensures { MatchBool result (IsOpen self.now.table.now met.now marks.now firing) (IsLeft self.now.table.now met.now marks.now firing) }
     {
-        match marks[class_of(self.table, self.offsets, firing)] {
+        let before = mark_at(marks, class_of(self.table, self.offsets, firing));
+        match before {
             None => true,
             Some(place) => stands_at(met, place as usize, firing),
         }
     }
 
-    /// The need cycle from the end of a way to its place `from`, if it is one and goes along no free space.
-    fn tested(&self, alloc: Global, way: Way) -> Result<Option<NeedCycle>, NoMemory>
+    /// The need cycle of a way that comes round.
+    fn closed(&self, alloc: Global, way: &Way) -> Result<NeedCycle, NoMemory>
         requires pass { IsSearchable (F.net self.now.wired.now.net.now) self.now.table.now self.now.offsets.now }
-        requires met { All (λ (m : AMet). IsSecond self.now.table.now m.firing) way.met.items }
-        ensures { IfOk result (λ found. IfSome found (IsUnspaced (F.net self.now.wired.now.net.now))) }
+        requires round { ComesRound (F.net self.now.wired.now.net.now) self.now.table.now way.now.met.items way.now.from }
+        ensures unspaced { IfOk result (IsUnspaced (F.net self.now.wired.now.net.now)) }
+        ensures critical { IfOk result (IsCriticalCycleOf (F.net self.now.wired.now.net.now) self.now.table.now) }
     {
-        if way.from >= way.met.len() {
-            return Ok(None);
-        }
-        let cycle = self.closed(alloc, way.met.as_slice(), way.from)?;
-        if !cycle.holds(self.wired.net) {
-            return Ok(None);
-        }
-        let spaces = cycle.storage_channels(alloc, self.wired.net)?;
-        let count = spaces.as_slice().len();
-        if count == 0 {
-            Ok(Some(cycle))
-        } else {
-            Ok(None)
-        }
-    }
-
-    /// The steps from the end of a way forward to its place `from`, with the numbers that they have as the end is read.
-    fn closed(&self, alloc: Global, met: &[Met], from: usize) -> Result<NeedCycle, NoMemory>
-        requires pass { IsSearchable (F.net self.now.wired.now.net.now) self.now.table.now self.now.offsets.now }
-        requires met { All (λ (m : AMet). IsSecond self.now.table.now m.firing) met.now }
-        requires from { from < length met.now }
-    {
-        let start = met[from];
-        let end = met[met.len() - 1];
-        let mut steps = CycleSteps::new(alloc);
-        for i in (from..met.len() - 1).rev() {
-            steps.push(CycleStep {
-                channel: met[i + 1].channel,
-                to: self.read_at(met[i], end.passes),
-            })?;
-        }
-        Ok(NeedCycle {
-            time: end.time.saturating_sub(start.time),
-            rounds: end
-                .passes
-                .saturating_sub(start.passes)
-                .saturating_mul(self.table.rounds),
-            first: end.firing,
-            steps,
-        })
-    }
-
-    /// A firing met, as one met after so many passes is read.
-    fn read_at(&self, met: Met, passes: u64) -> FiringNo
-        requires pass { IsSearchable (F.net self.now.wired.now.net.now) self.now.table.now self.now.offsets.now }
-        requires second { IsSecond self.now.table.now met.firing }
-    {
-        let later = passes
-            .saturating_sub(met.passes)
-            .saturating_mul(pass_of(self.table, met.firing.actor));
-        FiringNo {
-            actor: met.firing.actor,
-            number: met.firing.number.saturating_add(later),
-        }
+        let met = way.met.as_slice();
+        let cycle = closed_cycle(alloc, self.wired.net, self.table, met, way.from)?;
+        Ok(cycle)
     }
 }
 
 /// Whether a channel is a free space.
 fn is_space<F: Firing>(net: &F, channel: u32) -> bool
     requires { channel < length (F.net net.now).channels }
+    ensures { MatchBool result ((c : ℕ) × ((channel_at (F.net net.now) channel).role ≡ Space c)) (IsNoSpace (F.net net.now) channel) }
 {
     match net.role(channel) {
         Role::Space(_) => true,
@@ -310,6 +282,9 @@ fn is_space<F: Firing>(net: &F, channel: u32) -> bool
 }
 
 /// Whether a firing stands at a place of a way.
-fn stands_at(met: &[Met], place: usize, firing: FiringNo) -> bool {
+fn stands_at(met: &[Met], place: usize, firing: FiringNo) -> bool
+    ensures { MatchBool result ((place < length met.now) × ((met_at met.now place).firing ≡ firing))
+        (place < length met.now → (met_at met.now place).firing ≢ firing) }
+{
     place < met.len() && met[place].firing == firing
 }

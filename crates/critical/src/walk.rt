@@ -1,6 +1,6 @@
 //! The way back along tight needs, until a firing comes again whole passes before.
 ghost use Rattle.std.specs.Prelude.{◌≡◌, ◌+◌, ◌*◌, ◌<◌, ◌≤◌, ◌^◌, IfOk, length};
-ghost use Rattle.critical.specs.inside.Trails.{IsShort, IsShortLoop, IsSecond, Leads, ComesAgain, first_firing};
+ghost use Rattle.critical.specs.inside.Trails.{IsShort, IsShortLoop, IsSecond, IsSlackBefore, AreFirst, Leads, ComesAgain, first_firing, met_at};
 
 use crate::cycle::{FiringNo, time_at};
 use crate::marks::{class_of, mark, no_marks, offsets, places_of};
@@ -39,7 +39,9 @@ pub(crate) fn walk_back<F: Firing>(
     table: &LoopTable,
 ) -> Result<Way, NoMemory>
     requires { IsShortLoop (F.net wired.now.net.now) table.now }
-    ensures { IfOk result (λ w. ComesAgain (F.net wired.now.net.now) table.now w.met.items w.from) }
+    ensures first { IfOk result (λ w. (met_at w.met.items 0).firing ≡ first_firing table.now) }
+    ensures again { IfOk result (λ w. ComesAgain (F.net wired.now.net.now) table.now w.met.items w.from) }
+    ensures needs { IfOk result (λ w. AreFirst (F.net wired.now.net.now) table.now w.met.items) }
 {
     let offsets = offsets(alloc, table)?;
     let places = places_of(table, offsets.as_slice());
@@ -90,7 +92,8 @@ fn next_met<F: Firing>(wired: &Wired<F>, table: &LoopTable, here: Met) -> Met
     requires second { IsSecond table.now here.firing }
     requires near { here.passes ≤ 2 ^ 62 }
     requires soon { here.time ≤ 2 ^ 62 }
-    ensures { Leads (F.net wired.now.net.now) table.now here result }
+    ensures leads { Leads (F.net wired.now.net.now) table.now here result }
+    ensures first { IsSlackBefore (F.net wired.now.net.now) table.now here.firing result.channel }
 {
     let inputs = wired.inputs_of(here.firing.actor);
     let need = tight_need(wired.net, table, inputs, here.firing);

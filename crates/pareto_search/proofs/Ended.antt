@@ -19,7 +19,7 @@ use Rattle.explore.specs.Explorations.{pair_of}
 use Rattle.pareto_search.specs.declared.searching.Searching.{Searching}
 use Rattle.pareto_search.specs.TradeOffs.{IsTradeOff}
 use Rattle.pareto_search.specs.inside.Grounds.{IsGround}
-use Rattle.pareto_search.specs.inside.Knowledge.{IsAbove, IsTold}
+use Rattle.pareto_search.specs.inside.Knowledge.{IsAbove}
 use Rattle.pareto_search.specs.inside.Turns.{AreRising, HasPoint, IsOver}
 use Rattle.pareto_search.proofs.ReachedVectors.{HasVector, reached-vector}
 use Rattle.pareto_search.proofs.SlowCovered.{covered-slow}

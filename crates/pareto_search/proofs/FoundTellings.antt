@@ -12,9 +12,10 @@ use Rattle.walks.specs.declared.telling.Telling.{Telling}
 use Rattle.explore.specs.declared.error.ExploreError.TheVariants.{DistributionsSpent}
 use Rattle.explore.specs.Explorations.{AreFound, CountsFew, IsRefusal}
 use Rattle.explore.specs.Reachable.{IsReachable}
+use Rattle.pareto_search.specs.Entrances.{AreApart}
 use Rattle.pareto_search.specs.declared.known.Known.{Known}
 use Rattle.pareto_search.specs.inside.Knowledge.{IsKnown, IsTold, loops_in, ran, told_of}
-use Rattle.pareto_search.specs.inside.Learning.{AreApart, AreNew, IsNew}
+use Rattle.pareto_search.specs.inside.Learning.{AreNew, IsNew}
 use Rattle.pareto_search.specs.inside.Vectors.{bounded_by, vector_of}
 use Rattle.pareto_search.proofs.Sorting.{apart-append, found-sorted}
 

@@ -1,16 +1,15 @@
 -- Stops that were evaluated are one level more that entered.
-use Rattle.std.proofs.Common.{◌≡◌, ◌≢◌, ℕ, ◌<◌, ◌≤◌, false, Option, List, [], ◌∷◌, ◌++◌, length, map, inr, refl, sym, ap, ◌∙◌, subst, arith}
+use Rattle.std.proofs.Common.{◌≡◌, ◌≢◌, ℕ, ◌<◌, Option, List, [], ◌∷◌, ◌++◌, map, inr, refl, sym, ap, ◌∙◌, subst, arith}
 use Rattle.std.specs.Prelude.{All, Contains, slice_index_or}
 use Rattle.std.specs.declared.cmp.Ordering.TheVariants.{Less, Greater}
 use Rattle.std.specs.Ordering.{nat_cmp}
 use Rattle.std.specs.Cmp.Lexicographic.{slice_cmp}
 use Rattle.std.proofs.lemmas.List.{length-map, map-append}
-use Rattle.std.proofs.lemmas.List.Elements.{All-contains, All-head, All-map, All-nil, All-tail, Contains-get_or}
+use Rattle.std.proofs.lemmas.List.Elements.{All-head, All-map, All-nil, All-tail, Contains-get_or}
 use Rattle.sd_base.specs.declared.limits.Limits.{Limits}
 use Rattle.sd_base.specs.Net.{Channel, Net}
 use Rattle.sd_base.proofs.Containing.{contains-here, contains-later}
 use Rattle.sd_base.proofs.Lists.{get-there, map-map}
-use Rattle.storage.specs.CapacityOrder.{no_later}
 use Rattle.storage.specs.Distributions.{IsDistribution, storage_of}
 use Rattle.storage.specs.StorageOrder.{AreInOrder, IsBefore}
 use Rattle.fanout.specs.JobRuns.{EachEntered}

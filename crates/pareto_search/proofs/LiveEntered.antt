@@ -1,6 +1,6 @@
 -- What was told entered level by level, and as many of it are live as ran loops.
-use Rattle.std.proofs.Common.{◌≡◌, ℕ, ◌+◌, ◌⊎◌, Option, None, Some, List, [], ◌∷◌, length, inl, inr, refl, ap, ◌∙◌, subst, sym, arith}
-use Rattle.std.specs.Prelude.{All, Contains, slice_index}
+use Rattle.std.proofs.Common.{◌≡◌, ℕ, ◌+◌, ◌⊎◌, Option, List, [], ◌∷◌, inl, inr, refl, ap, subst, sym, arith}
+use Rattle.std.specs.Prelude.{Contains, slice_index}
 use Rattle.std.proofs.lemmas.List.{length-map}
 use Rattle.std.proofs.lemmas.List.Elements.{All-contains}
 use Rattle.sd_base.specs.declared.limits.Limits.{Limits}

@@ -1,5 +1,5 @@
 -- The tellings that ran a loop are as many distributions that differ, are reachable and have live bounded nets.
-use Rattle.std.proofs.Common.{◌≡◌, ◌≢◌, ℕ, ◌+◌, ◌≤◌, Option, None, Some, List, [], ◌∷◌, length, ⊎_elim, refl, sym, ◌∙◌, subst, arith}
+use Rattle.std.proofs.Common.{◌≡◌, ◌≢◌, ℕ, ◌+◌, Option, None, Some, List, [], ◌∷◌, length, ⊎_elim, refl, sym, ◌∙◌, subst, arith}
 use Rattle.std.specs.Prelude.{All, Contains, slice_index_or}
 use Rattle.std.proofs.lemmas.List.Elements.{All-cons, All-contains, All-nil, Contains-get_or}
 use Rattle.std.proofs.lemmas.Option.{none-some}
@@ -16,10 +16,10 @@ use Rattle.covers.specs.declared.lattice.Lattice.{Lattice}
 use Rattle.walks.specs.declared.telling.Telling.{Telling}
 use Rattle.explore.specs.Explorations.{CountsLive}
 use Rattle.explore.proofs.Reaching.{looped-live}
+use Rattle.pareto_search.specs.Entrances.{AreApart}
 use Rattle.pareto_search.specs.declared.known.Known.{Known}
 use Rattle.pareto_search.specs.inside.Grounds.{IsGround}
 use Rattle.pareto_search.specs.inside.Knowledge.{IsKnown, IsTold, counts_in, loops_in, ran, told_of}
-use Rattle.pareto_search.specs.inside.Learning.{AreApart}
 use Rattle.pareto_search.specs.inside.Vectors.{bounded_by}
 use Rattle.pareto_search.proofs.FoundTellings.{loops-few, told-apart, told-reachable}
 use Rattle.pareto_search.proofs.Sorting.{IsSorted, sorted}

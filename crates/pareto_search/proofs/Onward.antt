@@ -1,5 +1,5 @@
 -- What a search learns leaves what was told and covered, and what is due where nothing faster can be told.
-use Rattle.std.proofs.Common.{◌≡◌, ℕ, Option, List, [], ◌++◌, append_assoc, length, inl, inr, ⊎_elim, refl, sym, ap, ◌∙◌, subst}
+use Rattle.std.proofs.Common.{◌≡◌, ℕ, Option, List, [], ◌++◌, append_assoc, inl, inr, ⊎_elim, refl, sym, ap, ◌∙◌, subst}
 use Rattle.std.specs.Prelude.{Contains}
 use Rattle.std.proofs.lemmas.List.{append-nil}
 use Rattle.std.proofs.lemmas.List.Elements.{All-contains, Contains-append_left}

@@ -11,7 +11,7 @@ use Rattle.storage.specs.StorageOrder.{AreInOrder, IsBefore}
 use Rattle.storage.proofs.CapacityOrder.{no_later-antisym, no_later-total, no_later-trans}
 use Rattle.explore.specs.Explorations.{AreFound}
 use Rattle.explore.specs.Reachable.{IsReachable}
-use Rattle.pareto_search.specs.inside.Learning.{AreApart}
+use Rattle.pareto_search.specs.Entrances.{AreApart}
 
 -- ---- the order
 

@@ -1,5 +1,5 @@
 -- What a search evaluates, and with which numbers the gate is entered.
-use Rattle.std.specs.Prelude.{◌≡◌, ℕ, ◌+◌, ◌≤◌, ◌⊎◌, All, Contains, Option, List, [], ◌∷◌, ◌++◌, length}
+use Rattle.std.specs.Prelude.{◌≡◌, ◌≢◌, ℕ, ◌+◌, ◌≤◌, ◌⊎◌, All, Contains, Option, List, [], ◌∷◌, ◌++◌, length}
 use Rattle.sd_base.specs.declared.limits.Limits.{Limits}
 use Rattle.sd_base.specs.Net.{Net}
 use Rattle.sd_base.specs.Untimed.{IsLive}
@@ -8,7 +8,6 @@ use Rattle.storage.specs.Distributions.{storage_of}
 use Rattle.storage.specs.StorageOrder.{AreInOrder}
 use Rattle.levels.specs.Entrances.{EnterByLevels}
 use Rattle.explore.specs.Reachable.{IsReachable}
-use Rattle.pareto_search.specs.inside.Learning.{AreApart}
 
 -- distributions of one storage in lexicographic order, each entered with that storage for the level and its place among them
 pub record EntersLevel (net : Net) (entered : ℕ → ℕ → Type 0) (dss : List (List (Option ℕ))) : Type 0 where
@@ -21,6 +20,11 @@ pub record EntersLevel (net : Net) (entered : ℕ → ℕ → Type 0) (dss : Lis
 pub data EnterLevels (net : Net) (entered : ℕ → ℕ → Type 0) : List (List (Option ℕ)) → Type 0 where
   none : EnterLevels net entered []
   more : (before level : List (List (Option ℕ))) → EnterLevels net entered before → EntersLevel net entered level → EnterLevels net entered (before ++ level)
+
+-- none stands there twice
+abbrev pub AreApart : List (List (Option ℕ)) → Type 0
+AreApart [] = Unit {0}
+AreApart (ds ∷ rest) = ((es : List (Option ℕ)) → Contains rest es → ds ≢ es) × AreApart rest
 
 -- so many of the distributions have live bounded nets
 abbrev pub HaveLive : Net → List (List (Option ℕ)) → ℕ → Type 0

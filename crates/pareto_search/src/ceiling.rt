@@ -23,8 +23,8 @@ use storage::Bounded;
 use walks::Telling;
 
 /// Where the greatest rate so far is above an earlier one, and a need cycle on no free space has it, no distribution of whatever
-/// storage has a greater rate: then a bound on no channel is kept, which covers all. That a cycle is found where no distribution
-/// has a greater rate isn't promised. Cost: that of `cycle_without_spaces`, and linear in the loops.
+/// storage has a greater rate: then a bound on no channel is kept, which covers all. That one has it where no distribution has a
+/// greater rate isn't promised. Cost: that of `cycle_without_spaces`, and linear in the loops.
 pub(crate) fn keep_ceiling<F: Firing>(
     base: &Ground<F>,
     earlier: Fraction,
@@ -48,19 +48,15 @@ pub(crate) fn keep_ceiling<F: Firing>(
 }
 
 /// Whether the loop of what was told with this rate has a need cycle on no free space with it.
-fn is_greatest<F: Firing>(
-    base: &Ground<F>,
-    known: &Known,
-    rate: Fraction,
-) -> Result<bool, NoMemory>
+fn is_greatest<F: Firing>(base: &Ground<F>, known: &Known, rate: Fraction) -> Result<bool, NoMemory>
     requires stands { IsGround (F.net base.now.exploring.now.net.now) base.now.exploring.now.limits base.now.corner.now.capacities base.now.lattice.now }
     requires known { (best : AFraction) × IsKnown (F.net base.now.exploring.now.net.now) base.now.exploring.now.limits base.now.corner.now.capacities base.now.lattice.now best known.now }
     ensures { IfOk result (λ greatest. greatest ≡ true → BoundsAll (F.net base.now.exploring.now.net.now) rate) }
 {
-    match loop_of(known, rate) {
-        Some(looped) => has_cycle(base, &known.tellings[looped.place], &looped.table, rate),
-        None => Ok(false),
-    }
+    let Some(looped) = loop_of(known, rate) else {
+        return Ok(false);
+    };
+    has_cycle(base, &known.tellings[looped.place], &looped.table, rate)
 }
 
 /// The loop of what was told with this rate, if one is kept. Cost: linear in the loops.

@@ -1,61 +1,172 @@
-use crate::bounds::{bound, lattice};
-use covers::{Level, Order, Search};
+ghost use Rattle.std.specs.Prelude.{◌≡◌, OnOk};
+ghost use Rattle.covers.specs.Searches.{IsSearched};
+ghost use Rattle.covers.specs.declared.search.Order.TheVariants.{Lexicographic, Storage};
+
+use crate::bounds::{BoundRow, dead, lattice};
+use crate::texts::{first_text, level_text};
+use covers::{Order, Search};
 use sd_base::{Fraction, NoMemory};
 use std::alloc::Global;
+use std::process::Abort;
 use std::test::Fail;
 
-/// What is asked for: the storage, and the vectors one after the other, each with a comma after each capacity.
-fn shown(alloc: Global, level: Option<Level>) -> Result<String, NoMemory> {
-    let Some(level) = level else {
-        return Ok(String::from_str(alloc, "settled")?);
-    };
-    let mut text = format!(in alloc; "{}:", level.storage)?;
-    for vector in level.vectors.as_slice() {
-        text.push_str(" ")?;
-        for capacity in vector.as_slice() {
-            let part = format!(in alloc; "{},", capacity)?;
-            text.push_str(part.as_str())?;
-        }
-    }
-    Ok(text)
+/// What a search is told.
+#[derive(Clone, Copy)]
+enum Told<'a> {
+    Nothing,
+    Bound(BoundRow<'a>),
+    /// A rate that was reached.
+    Reached(Fraction),
 }
 
-// Two channels: the first from 1 in steps of 1, of size 1; the second from 2 in steps of 2, of size 3. So (1, 2) needs 7, and
-// each token of the first one 1 more, each two of the second one 6.
+/// What a search is told, and what it asks for then.
+#[derive(Clone, Copy)]
+struct Turn<'a> {
+    told: Told<'a>,
+    asked: &'a str,
+}
+
+/// A turn in which a search is told that channels with these capacities are dead.
+fn after_dead<'a>(caps: &'a [(u32, u64)], asked: &'a str) -> Turn<'a> {
+    Turn {
+        told: Told::Bound(dead(caps)),
+        asked,
+    }
+}
+
+/// Two channels: the first from 1 in steps of 1, of size 1; the second from 2 in steps of 2, of size 3. So (1, 2) needs 7, and
+/// each token of the first one 1 more, each two of the second one 6.
+const TWO: [(u64, u64, u64); 2] = [(1, 1, 1), (2, 2, 3)];
+
+fn tell(alloc: Global, search: &mut Search, told: &Told) -> Result<(), NoMemory>
+    requires searched { IsSearched search.old }
+    ensures searched { IsSearched search.new }
+    ensures order { search.new.order ≡ search.old.order }
+{
+    match told {
+        Told::Nothing => Ok(()),
+        Told::Bound(row) => search.add(row.bound(alloc)?),
+        Told::Reached(rate) => {
+            search.reach(*rate);
+            Ok(())
+        },
+    }
+}
+
+/// Asserts what a search asks for, up to so many vectors.
+fn check_level(
+    rt: &impl Abort,
+    alloc: Global,
+    search: &mut Search,
+    most: usize,
+    asked: &str,
+) -> Result<(), NoMemory>
+    requires searched { IsSearched search.old }
+    requires by_storage { search.old.order ≡ Storage }
+    ensures searched { OnOk result (IsSearched search.new) }
+    ensures order { search.new.order ≡ search.old.order }
+{
+    let level = search.level(alloc, most)?;
+    let text = level_text(alloc, &level)?;
+    assert_eq!(rt; text.as_str(), asked);
+    Ok(())
+}
+
+/// Asserts which vector a search asks for first.
+fn check_first(
+    rt: &impl Abort,
+    alloc: Global,
+    search: &mut Search,
+    asked: &str,
+) -> Result<(), NoMemory>
+    requires searched { IsSearched search.old }
+    requires by_vectors { search.old.order ≡ Lexicographic }
+    ensures searched { OnOk result (IsSearched search.new) }
+    ensures order { search.new.order ≡ search.old.order }
+{
+    let first = search.first(alloc)?;
+    let text = first_text(alloc, &first)?;
+    assert_eq!(rt; text.as_str(), asked);
+    Ok(())
+}
+
+/// Tells a search by storage what each turn says, and asserts what it then asks for.
+fn take_levels(
+    rt: &impl Abort,
+    alloc: Global,
+    search: &mut Search,
+    turns: &[Turn],
+) -> Result<(), NoMemory>
+    requires searched { IsSearched search.old }
+    requires by_storage { search.old.order ≡ Storage }
+{
+    for turn in turns {
+        tell(alloc, search, &turn.told)?;
+        check_level(rt, alloc, search, 8, turn.asked)?;
+    }
+    Ok(())
+}
+
+/// Tells a search by vectors what each turn says, and asserts what it then asks for.
+fn take_vectors(
+    rt: &impl Abort,
+    alloc: Global,
+    search: &mut Search,
+    turns: &[Turn],
+) -> Result<(), NoMemory>
+    requires searched { IsSearched search.old }
+    requires by_vectors { search.old.order ≡ Lexicographic }
+{
+    for turn in turns {
+        tell(alloc, search, &turn.told)?;
+        check_first(rt, alloc, search, turn.asked)?;
+    }
+    Ok(())
+}
 
 #[test]
 fn asks_for_the_least_uncovered(rt: HostRuntime) -> Result<(), Fail> {
+    let half = Fraction::new(1, 2);
+    let one = Fraction::new(1, 1);
+    let turns = [
+        // Nothing is known: the corner.
+        Turn {
+            told: Told::Nothing,
+            asked: "7: 1,2,",
+        },
+        // A dead corner: 8 for a token more on the first channel, 13 for two more on the second one.
+        after_dead(&[(0, 1), (1, 2)], "8: 2,2,"),
+        // The second channel with 2 is dead whatever the first has.
+        after_dead(&[(1, 2)], "13: 1,4,"),
+        // A bound of a rate that wasn't reached isn't in force.
+        Turn {
+            told: Told::Bound(BoundRow {
+                caps: &[(0, 1)],
+                rate: half,
+            }),
+            asked: "13: 1,4,",
+        },
+        Turn {
+            told: Told::Reached(half),
+            asked: "14: 2,4,",
+        },
+        // One that nothing holds back covers all.
+        Turn {
+            told: Told::Bound(BoundRow {
+                caps: &[],
+                rate: one,
+            }),
+            asked: "14: 2,4,",
+        },
+        Turn {
+            told: Told::Reached(one),
+            asked: "settled",
+        },
+    ];
     let alloc = rt.alloc();
-    let lattice = lattice(&rt, alloc, &[(1, 1, 1), (2, 2, 3)], 40)?;
+    let lattice = lattice(&rt, alloc, &TWO, 40)?;
     let mut search = Search::new(alloc, lattice, Order::Storage)?;
-
-    // Nothing is known: the corner.
-    let corner = shown(alloc, search.level(alloc, 8)?)?;
-    assert_eq!(rt; corner.as_str(), "7: 1,2,");
-
-    // A dead corner: 8 for a token more on the first channel, 13 for two more on the second one.
-    search.add(bound(alloc, &[(0, 1), (1, 2)], Fraction::new(0, 1))?)?;
-    let dead = shown(alloc, search.level(alloc, 8)?)?;
-    assert_eq!(rt; dead.as_str(), "8: 2,2,");
-
-    // The second channel with 2 is dead whatever the first has.
-    search.add(bound(alloc, &[(1, 2)], Fraction::new(0, 1))?)?;
-    let other = shown(alloc, search.level(alloc, 8)?)?;
-    assert_eq!(rt; other.as_str(), "13: 1,4,");
-
-    // A bound of a rate that wasn't reached isn't in force.
-    search.add(bound(alloc, &[(0, 1)], Fraction::new(1, 2))?)?;
-    let idle = shown(alloc, search.level(alloc, 8)?)?;
-    assert_eq!(rt; idle.as_str(), "13: 1,4,");
-    search.reach(Fraction::new(1, 2));
-    let live = shown(alloc, search.level(alloc, 8)?)?;
-    assert_eq!(rt; live.as_str(), "14: 2,4,");
-
-    // One that nothing holds back covers all.
-    search.add(bound(alloc, &[], Fraction::new(1, 1))?)?;
-    search.reach(Fraction::new(1, 1));
-    let whole = shown(alloc, search.level(alloc, 8)?)?;
-    assert_eq!(rt; whole.as_str(), "settled");
+    take_levels(&rt, alloc, &mut search, &turns)?;
     Ok(())
 }
 
@@ -64,13 +175,11 @@ fn asks_for_the_least_uncovered(rt: HostRuntime) -> Result<(), Fail> {
 #[test]
 fn asks_for_all_of_a_storage(rt: HostRuntime) -> Result<(), Fail> {
     let alloc = rt.alloc();
-    let lattice = lattice(&rt, alloc, &[(1, 1, 1), (2, 2, 3)], 40)?;
+    let lattice = lattice(&rt, alloc, &TWO, 40)?;
     let mut search = Search::new(alloc, lattice, Order::Storage)?;
-    search.add(bound(alloc, &[(0, 6), (1, 2)], Fraction::new(0, 1))?)?;
-    let both = shown(alloc, search.level(alloc, 8)?)?;
-    assert_eq!(rt; both.as_str(), "13: 1,4, 7,2,");
-    let one = shown(alloc, search.level(alloc, 1)?)?;
-    assert_eq!(rt; one.as_str(), "13: 1,4,");
+    search.add(dead(&[(0, 6), (1, 2)]).bound(alloc)?)?;
+    check_level(&rt, alloc, &mut search, 8, "13: 1,4, 7,2,")?;
+    check_level(&rt, alloc, &mut search, 1, "13: 1,4,")?;
     Ok(())
 }
 
@@ -79,17 +188,14 @@ fn asks_for_all_of_a_storage(rt: HostRuntime) -> Result<(), Fail> {
 
 #[test]
 fn asks_for_the_first_vector(rt: HostRuntime) -> Result<(), Fail> {
+    let turns = [
+        after_dead(&[(0, 6), (1, 2)], "1,4,"),
+        after_dead(&[(0, 2), (1, 4)], "1,6,"),
+        after_dead(&[(0, 1)], "3,4,"),
+    ];
     let alloc = rt.alloc();
-    let lattice = lattice(&rt, alloc, &[(1, 1, 1), (2, 2, 3)], 19)?;
+    let lattice = lattice(&rt, alloc, &TWO, 19)?;
     let mut search = Search::new(alloc, lattice, Order::Lexicographic)?;
-    search.add(bound(alloc, &[(0, 6), (1, 2)], Fraction::new(0, 1))?)?;
-    let first = search.first(alloc)?.ok_or("settled")?;
-    assert_eq!(rt; first.as_slice(), [1, 4].as_slice());
-    search.add(bound(alloc, &[(0, 2), (1, 4)], Fraction::new(0, 1))?)?;
-    let second = search.first(alloc)?.ok_or("settled")?;
-    assert_eq!(rt; second.as_slice(), [1, 6].as_slice());
-    search.add(bound(alloc, &[(0, 1)], Fraction::new(0, 1))?)?;
-    let third = search.first(alloc)?.ok_or("settled")?;
-    assert_eq!(rt; third.as_slice(), [3, 4].as_slice());
+    take_vectors(&rt, alloc, &mut search, &turns)?;
     Ok(())
 }

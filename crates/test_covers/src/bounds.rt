@@ -23,14 +23,33 @@ pub(crate) fn lattice(
     Ok(Lattice { axes: rows, limit })
 }
 
-/// A bound from channels and capacities.
-pub(crate) fn bound(alloc: Global, caps: &[(u32, u64)], rate: Fraction) -> Result<Bound, NoMemory> {
-    let mut rows = Rows::new(alloc);
-    for (channel, capacity) in caps {
-        rows.push(Cap {
-            channel: *channel,
-            capacity: *capacity,
-        })?;
+/// What a bound is made of: by channels its capacities, and its rate.
+#[derive(Clone, Copy)]
+pub(crate) struct BoundRow<'a> {
+    pub(crate) caps: &'a [(u32, u64)],
+    pub(crate) rate: Fraction,
+}
+
+impl BoundRow<'_> {
+    pub(crate) fn bound(&self, alloc: Global) -> Result<Bound, NoMemory> {
+        let mut rows = Rows::new(alloc);
+        for (channel, capacity) in self.caps {
+            rows.push(Cap {
+                channel: *channel,
+                capacity: *capacity,
+            })?;
+        }
+        Ok(Bound {
+            caps: rows,
+            rate: self.rate,
+        })
     }
-    Ok(Bound { caps: rows, rate })
+}
+
+/// A bound that holds vectors for dead.
+pub(crate) fn dead<'a>(caps: &'a [(u32, u64)]) -> BoundRow<'a> {
+    BoundRow {
+        caps,
+        rate: Fraction::new(0, 1),
+    }
 }

@@ -9,4 +9,6 @@ mod bounds;
 #[cfg(test)]
 mod plain;
 #[cfg(test)]
+mod texts;
+#[cfg(test)]
 mod whole_tests;

@@ -1,32 +1,46 @@
 //! What no bound in force covers, by a loop over all vectors of three channels.
+use crate::texts::push_vector;
 use covers::{Axis, Bound, Lattice};
 use sd_base::{Fraction, NoMemory};
 use std::alloc::Global;
 use std::cmp::Ordering;
 
-/// The vectors that need a storage from the least to the most, in lexicographic order, each with a comma after each capacity.
-pub(crate) fn uncovered(
-    alloc: Global,
-    lattice: &Lattice,
-    bounds: &[Bound],
-    best: &Fraction,
-    least: u64,
-    most: u64,
-) -> Result<String, NoMemory> {
-    let mut text = String::new(alloc);
-    for first in 0..=most {
-        for second in 0..=most {
-            for third in 0..=most {
-                let vector = [first, second, third];
-                let storage = storage_of(lattice, vector);
-                if least <= storage && storage <= most && !is_covered(bounds, best, vector) {
-                    let part = format!(in alloc; " {first},{second},{third},")?;
-                    text.push_str(part.as_str())?;
+/// A lattice, and what is known of it.
+#[derive(Clone, Copy)]
+pub(crate) struct Plain<'a> {
+    pub(crate) lattice: &'a Lattice,
+    pub(crate) bounds: &'a [Bound],
+    pub(crate) best: Fraction,
+}
+
+impl Plain<'_> {
+    /// Writes the uncovered vectors that need a storage from the least to the most, in lexicographic order.
+    pub(crate) fn push_uncovered(
+        &self,
+        alloc: Global,
+        text: &mut String,
+        least: u64,
+        most: u64,
+    ) -> Result<(), NoMemory> {
+        for first in 0..=most {
+            for second in 0..=most {
+                for third in 0..=most {
+                    let vector = [first, second, third];
+                    if self.is_asked(vector, least, most) {
+                        text.push_str(" ")?;
+                        push_vector(alloc, text, &vector)?;
+                    }
                 }
             }
         }
+        Ok(())
     }
-    Ok(text)
+
+    /// Whether a vector needs a storage from the least to the most and isn't covered.
+    fn is_asked(&self, vector: [u64; 3], least: u64, most: u64) -> bool {
+        let storage = storage_of(self.lattice, vector);
+        least <= storage && storage <= most && !is_covered(self.bounds, &self.best, vector)
+    }
 }
 
 /// The storage that a vector needs, if it is on the lattice; else the greatest number.

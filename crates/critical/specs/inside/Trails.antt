@@ -11,6 +11,7 @@ use Rattle.sd_base.specs.Schedules.{time_of, LastNeed, HasInputs, count_of, star
 use Rattle.sd_base.specs.SelfTimed.{earliest}
 use Rattle.sd_base.specs.Lawful.{Lawful}
 use Rattle.sd_base.specs.Rates.{IsLoopTable}
+use Rattle.critical.specs.Spaces.{no_step}
 
 -- how many entries the first n rows have
 abbrev pub offset_of : List (List ℕ) → ℕ → ℕ
@@ -90,13 +91,12 @@ pub record IsTightNeed (net : Net) (table : LoopTable) (later : FiringNo) (need 
   pub ends : EndsJust net table later need.channel number
   pub just : listed_at table need.firing + time_of net need.firing.actor need.firing.number ≡ listed_at table later + need.passes * table.period
 
--- the firing met next is the first tight need of one met
+-- the firing met next is a tight need of one met
 pub record Leads (net : Net) (table : LoopTable) (met next : Met) : Type 0 where
   pub passes : ℕ
   pub on : next.passes ≡ met.passes + passes
   pub time : next.time ≡ met.time + time_of net next.firing.actor next.firing.number
   pub need : IsTightNeed net table met.firing (record { channel = next.channel; firing = next.firing; passes = passes })
-  pub first : IsSlackBefore net table met.firing next.channel
 
 -- n needs back, with bounds on passes and times
 pub record IsTrail (net : Net) (table : LoopTable) (at : ℕ → Met) (n : ℕ) : Type 0 where
@@ -116,10 +116,12 @@ met_at met i = slice_index_or met i none_met
 abbrev pub first_firing : LoopTable → FiringNo
 first_firing table = record { actor = 0; number = second_of table 0 + count_of table.starts 0 - 1 }
 
--- the way from actor 0's last firing of the second pass back to a firing that has been met before, whole passes away; all
--- others differ
+-- each firing met next is the first tight need of the one before
+abbrev pub AreFirst : Net → LoopTable → List Met → Type 0
+AreFirst net table met = (i : ℕ) → suc i < length met → IsSlackBefore net table (met_at met i).firing (met_at met (suc i)).channel
+
+-- a way of tight needs back to a firing that has been met before, whole passes away; all others differ
 pub record ComesAgain (net : Net) (table : LoopTable) (met : List Met) (from : ℕ) : Type 0 where
-  pub first : (met_at met 0).firing ≡ first_firing table
   pub later : from + 1 < length met
   pub few : length met ≤ STARTS + 1
   pub way : IsTrail net table (met_at met) (length met - 1)
@@ -146,3 +148,8 @@ pub record IsLeastRounds (net : Net) (table : LoopTable) (met : List Met) (from 
 abbrev pub steps_of : (ℕ → FiringNo) → (ℕ → ℕ) → ℕ → ℕ → List CycleStep
 steps_of at channel p zero = []
 steps_of at channel p (suc d) = record { channel = channel (p + d); to = at (p + d) } ∷ steps_of at channel p d
+
+-- each step is along the channel of a firing met behind a place
+abbrev pub GoesAlong : List Met → ℕ → List CycleStep → Type 0
+GoesAlong met from steps =
+    (i : ℕ) → i < length steps → (j : ℕ) × (from < j) × (j < length met) × ((slice_index_or steps i no_step).channel ≡ (met_at met j).channel)

@@ -14,15 +14,11 @@ use Rattle.evaluations.specs.declared.starts.Starts.{Starts}
 use Rattle.evaluations.specs.Evaluating.{least_loops, most_loops, sum_of}
 use Rattle.walks.specs.declared.telling.Telling.{Telling}
 use Rattle.explore.specs.Reachable.{IsReachable}
+use Rattle.pareto_search.specs.Entrances.{AreApart}
 use Rattle.pareto_search.specs.declared.known.Known.{Known}
 use Rattle.pareto_search.specs.declared.known.Looped.{Looped}
 use Rattle.pareto_search.specs.inside.Knowledge.{loops_in, ran}
 use Rattle.pareto_search.specs.inside.Vectors.{bounded_by, vector_of}
-
--- none stands there twice
-abbrev pub AreApart : List (List (Option ℕ)) → Type 0
-AreApart [] = Unit {0}
-AreApart (ds ∷ rest) = ((es : List (Option ℕ)) → Contains rest es → ds ≢ es) × AreApart rest
 
 -- a reachable distribution whose vector is of the lattice, and of none of the tellings
 pub record IsNew (net : Net) (limits : Limits) (corner : List (Option ℕ)) (lattice : Lattice) (tellings : List Telling) (ds : List (Option ℕ)) : Type 0 where

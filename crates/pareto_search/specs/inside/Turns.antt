@@ -17,12 +17,11 @@ use Rattle.covers.specs.Lattices.{IsAmong, storage_of}
 use Rattle.covers.specs.Searches.{IsSearched}
 use Rattle.walks.specs.declared.telling.Telling.{Telling}
 use Rattle.explore.specs.Explorations.{IsPoint}
+use Rattle.pareto_search.specs.Entrances.{AreApart, EnterLevels}
 use Rattle.pareto_search.specs.declared.searching.Due.{Due}
 use Rattle.pareto_search.specs.declared.searching.Searching.{Searching}
 use Rattle.pareto_search.specs.declared.stops.Stop.{Stop}
 use Rattle.pareto_search.specs.inside.Knowledge.{IsAbove, IsKnown, told_of}
-use Rattle.pareto_search.specs.Entrances.{EnterLevels}
-use Rattle.pareto_search.specs.inside.Learning.{AreApart}
 use Rattle.pareto_search.specs.inside.Stops.{IsStop}
 use Rattle.pareto_search.specs.inside.Vectors.{bounded_by}
 

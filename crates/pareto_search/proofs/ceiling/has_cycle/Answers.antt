@@ -29,8 +29,10 @@ pub invariant_of-wired : goal.invariant_of-wired
 invariant_of-wired g c =
     let net = g.F.Firing.net c.args.base.now.exploring.now.net.now in
     let corner = c.args.base.now.corner.now.capacities in
-    record { wired = subst (λ (n : Net). IsWiringOf n c.args.base.now.exploring.now.wiring.now) (sym c.in_ok-bounded.ensures)
-        (c.args.base.now.exploring.now.wired c.in_ok-capacities.capacities.capacities (subst (IsEvaluable net) (sym (c.in_ok-capacities.ensures ∙ ap (bounded_by corner) c.as_slice.ensures)) (among-evaluable net c.args.base.now.exploring.now.limits corner c.args.base.now.lattice.now c.requires.stands c.args.telling.now.capacities c.requires.told.among)).distribution) }
+    record {
+      wired = subst (λ (n : Net). IsWiringOf n c.args.base.now.exploring.now.wiring.now) (sym c.in_ok-bounded.ensures)
+          (c.args.base.now.exploring.now.wired c.in_ok-capacities.capacities.capacities (subst (IsEvaluable net) (sym (c.in_ok-capacities.ensures ∙ ap (bounded_by corner) c.as_slice.ensures)) (among-evaluable net c.args.base.now.exploring.now.limits corner c.args.base.now.lattice.now c.requires.stands c.args.telling.now.capacities c.requires.told.among)).distribution);
+    }
 
 pub cycle_without_spaces-requires-clause-inputs : goal.cycle_without_spaces-requires-clause-inputs
 cycle_without_spaces-requires-clause-inputs g c =
@@ -41,4 +43,4 @@ cycle_without_spaces-requires-clause-inputs g c =
 pub returns-in-Some : goal.returns-in-Some
 returns-in-Some g c = λ is.
     bounds-all c.cycles_bound_the_rate.ensures.rate (g.F.Firing.net c.args.base.now.exploring.now.net.now) c.in_ok-capacities.capacities.capacities c.in-Some.cycle c.args.rate
-    (subst (λ (n : Net). IsUnspaced n c.in-Some.cycle) c.in_ok-bounded.ensures (rw c.in-Some.is at c.in_ok-cycle.ensures)) (c.is_bound.ensures is)
+    (subst (λ (n : Net). IsUnspaced n c.in-Some.cycle) c.in_ok-bounded.ensures (rw c.in-Some.is at c.in_ok-cycle.ensures.unspaced)) (c.is_bound.ensures is)

@@ -72,4 +72,4 @@ returns-clause-entered g c =
     let s = c.take_turns.new.searching in
     let base : IsGround net c.args.limits c.in_ok-corner.corner.capacities c.in_ok-lattice.lattice = record { laws = c.know_laws.ensures; explorable = c.requires.net; small = c.requires.total; is_corner = c.in_ok-corner.ensures; axes = c.in_ok-lattice.ensures.axes; limit = c.in_ok-lattice.ensures.limit } in
     λ n rises. evaluating-known net c.args.limits corner c.in_ok-lattice.lattice base s.below s.known c.in_ok-take_turns.ensures.over.standing.known entered
-        (c.in_ok-take_turns.ensures.entered (enters-none net entered corner c.in_ok-searching.searching.known.tellings.items c.in_ok-searching.ensures.none)) n (omega (arith, rises, c.in_ok-take_turns.ensures.count))
+    (c.in_ok-take_turns.ensures.entered (enters-none net entered corner c.in_ok-searching.searching.known.tellings.items c.in_ok-searching.ensures.none)) n (omega (arith, rises, c.in_ok-take_turns.ensures.count))
