@@ -38,9 +38,11 @@ const WIDTH: usize = 2;
 /// The Pareto points of all storage distributions within a limit, each with the lexicographically least distribution that
 /// reaches it and the loop of its net. What each evaluation shows bounds the rates of other distributions, and a branch and
 /// bound over these bounds asks for the least storage that none of them covers; walks lead there from the corner by steps that
-/// what is known calls for, so that what is evaluated is what an exploration may come to. A step is counted for each loop
-/// that is run. Cost: that of `evaluate` for each distribution that is evaluated, in the field a small part of those that an
-/// exploration visits, and of `level` of `covers` for each level; memory linear in the distributions that are evaluated and
+/// what is known calls for, so that what is evaluated is what an exploration may come to. What is evaluated side by side needs
+/// one storage, and the gate is entered with that storage for the level. The search ends with a point whose rate a need cycle on
+/// no free space has, where one is found. A step is counted for each loop that is run. Cost: that of `evaluate` for each
+/// distribution that is evaluated, in the field a small part of those that an exploration visits, of `level` of `covers` for
+/// each level, and of `cycle_without_spaces` for each greater rate; memory linear in the distributions that are evaluated and
 /// in the open nodes.
 pub fn pareto_points<R: Threads + Sync, F: Firing + Sync, G: Gate + Sync, L: Ledger + Send>(
     rt: &R,
@@ -181,7 +183,7 @@ fn until(level: Option<Level>, due: Option<Due>) -> Option<Level>
     }
 }
 
-/// Evaluates towards the vectors of a level. Where a greater rate than any before is due then, it is seen whether none is greater.
+/// Evaluates towards the vectors of a level. Where a greater rate than any before is due then, a ceiling with it is looked for.
 fn go_on<R: Threads + Sync, F: Firing + Sync, G: Gate + Sync, L: Ledger + Send>(
     rt: &R,
     base: &Ground<F>,
