@@ -13,6 +13,7 @@ use crate::evaluating::Ground;
 use crate::grid::distribution_of;
 use crate::known::{Known, Looped};
 use crate::searching::{Searching, is_above};
+use crate::unspaced::may_bound;
 use covers::Bound;
 use critical::laws::cycles_bound_the_rate;
 use critical::{NeedCycle, cycle_without_spaces};
@@ -38,6 +39,9 @@ pub(crate) fn keep_ceiling<F: Firing>(
 {
     let rate = searching.greatest();
     if !is_above(rate, earlier) {
+        return Ok(());
+    }
+    if !may_bound(base.exploring.net, rate) {
         return Ok(());
     }
     if is_greatest(base, &searching.known, rate)? {

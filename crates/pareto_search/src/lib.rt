@@ -12,5 +12,6 @@ mod point;
 mod search;
 mod searching;
 mod stops;
+mod unspaced;
 
 pub use search::pareto_points;
