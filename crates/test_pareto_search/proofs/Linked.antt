@@ -1,5 +1,5 @@
 -- Where each actor but the first one shares a channel with one before it, a channel begins or ends at each actor.
-use Rattle.std.proofs.Common.{◌≡◌, ℕ, zero, suc, ◌≤◌, ◌<◌, length, inl, inr, arith}
+use Rattle.std.proofs.Common.{ℕ, zero, suc, ◌≤◌, length, inl, inr, arith}
 use Rattle.sd_base.specs.Net.{Net}
 use Rattle.storage.specs.TouchedActors.{AreTouched, IsTouched}
 use Rattle.test_nets.specs.Ends.{AreLinkedBack, IsLinkedBack}
