@@ -48,7 +48,6 @@ impl Class {
 
 /// Why a command was refused, with the values that its line shows. Names are escaped already; `scenario`
 /// is the name of the scenario that is spoken of, where there is one.
-#[derive(Drop)]
 pub enum Refusal {
     /// The words aren't those of a command.
     UsageWords,
@@ -226,6 +225,68 @@ pub enum Refusal {
     ShelfCertificate,
     /// The output can't be put.
     ShelfOutput,
+}
+
+// By hand, so that what drops one calls this, and does not drop the texts of each cause.
+impl Drop for Refusal {
+    fn drop(self) {
+        match self {
+            Refusal::UsageWords
+            | Refusal::WrongKind
+            | Refusal::CertificateNumber
+            | Refusal::ShelfGraph
+            | Refusal::ShelfCertificate
+            | Refusal::ShelfOutput => {}
+            Refusal::Text { place: _number }
+            | Refusal::DocumentType { place: _number }
+            | Refusal::CdataSection { place: _number }
+            | Refusal::Instruction { place: _number }
+            | Refusal::CharReference { place: _number }
+            | Refusal::Encoding { place: _number }
+            | Refusal::CertificateLine { line: _number }
+            | Refusal::DistributionsSpent { number: _number } => {}
+            Refusal::UsageMissing { option: _name }
+            | Refusal::UsageBadValue { option: _name }
+            | Refusal::PhasesDiffer { actor: _name }
+            | Refusal::SharedDiffers { name: _name }
+            | Refusal::NoSuccessor { name: _name }
+            | Refusal::UnknownChannel { name: _name }
+            | Refusal::SelfLoopBuffer { name: _name }
+            | Refusal::BelowTokens { name: _name }
+            | Refusal::UnknownActor { name: _name }
+            | Refusal::TwoProcessors { name: _name } => {}
+            Refusal::OrderCount { name, found, gamma } => {}
+            Refusal::Rejected { line, reason } => {}
+            Refusal::EdgesAt { number, at } => {}
+            Refusal::StatesSpent { states, at } => {}
+            Refusal::UsageNotFor { option, algo } => {}
+            Refusal::Missing { what, of } => {}
+            Refusal::Unknown { what, name } => {}
+            Refusal::Twice { what, name } => {}
+            Refusal::BadWord { what, of } => {}
+            Refusal::BadNumber { what, of } => {}
+            Refusal::Above {
+                scenario,
+                quantity,
+                number,
+            } => {}
+            Refusal::Ratio {
+                scenario,
+                number,
+                path,
+            } => {}
+            Refusal::Inconsistent {
+                scenario,
+                walk,
+                num,
+                den,
+            } => {}
+            Refusal::Apart { scenario, a, b } => {}
+            Refusal::OneWay { from, to } => {}
+            Refusal::NoInput { scenario, actor } => {}
+            Refusal::Deadlock { scenario, list } => {}
+        }
+    }
 }
 
 impl Refusal {

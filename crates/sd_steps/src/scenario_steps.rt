@@ -80,53 +80,29 @@ pub(crate) fn stop_of(alloc: Global, scenario: &ScenarioRow, stop: Stop) -> Stop
     ensures { IsStopOf (escaped_name scenario.now.name) stop result }
 {
     match stop {
-        Stop::Refused(refusal) => match escaped(alloc, scenario.name.as_str()) {
-            Ok(name) => Stop::Refused(of_scenario(name, refusal)),
+        Stop::Refused(mut refusal) => match escaped(alloc, scenario.name.as_str()) {
+            Ok(name) => {
+                name_scenario(&mut refusal, name);
+                Stop::Refused(refusal)
+            }
             Err(_) => Stop::OutOfMemory,
         },
         Stop::OutOfMemory => Stop::OutOfMemory,
     }
 }
 
-/// A refusal of a graph, as that of the scenario of this printed name.
-fn of_scenario(name: Text, refusal: Refusal) -> Refusal
-    ensures { result ≡ of_scenario name refusal }
+/// A refusal of a graph becomes that of the scenario of this printed name.
+fn name_scenario(refusal: &mut Refusal, name: Text)
+    ensures { refusal.new ≡ of_scenario name refusal.old }
 {
     match refusal {
-        Refusal::Above {
-            quantity,
-            number,
-            ..
-        } => Refusal::Above {
-            scenario: Some(name),
-            quantity,
-            number,
-        },
-        Refusal::Ratio { number, path, .. } => Refusal::Ratio {
-            scenario: Some(name),
-            number,
-            path,
-        },
-        Refusal::Inconsistent { walk, num, den, .. } => Refusal::Inconsistent {
-            scenario: Some(name),
-            walk,
-            num,
-            den,
-        },
-        Refusal::Apart { a, b, .. } => Refusal::Apart {
-            scenario: Some(name),
-            a,
-            b,
-        },
-        Refusal::NoInput { actor, .. } => Refusal::NoInput {
-            scenario: Some(name),
-            actor,
-        },
-        Refusal::Deadlock { list, .. } => Refusal::Deadlock {
-            scenario: Some(name),
-            list,
-        },
-        refusal => refusal,
+        Refusal::Above { scenario, .. } => *scenario = Some(name),
+        Refusal::Ratio { scenario, .. } => *scenario = Some(name),
+        Refusal::Inconsistent { scenario, .. } => *scenario = Some(name),
+        Refusal::Apart { scenario, .. } => *scenario = Some(name),
+        Refusal::NoInput { scenario, .. } => *scenario = Some(name),
+        Refusal::Deadlock { scenario, .. } => *scenario = Some(name),
+        _ => {}
     }
 }
 
