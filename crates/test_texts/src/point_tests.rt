@@ -1,4 +1,6 @@
-ghost use Rattle.std.specs.Prelude.{◌≡◌, ◌≤◌, IfOk, length};
+ghost use Rattle.std.specs.Prelude.{◌≡◌, ◌≤◌, All, IfOk, length};
+ghost use Rattle.pareto_front.specs.declared.point.Point.{Point as APoint};
+ghost use Rattle.periodic.specs.declared.schedule.Periodic.{Periodic as ASchedule};
 
 use firing::LoopTable;
 use pareto_front::Point;
@@ -113,19 +115,42 @@ x 0
 y 2
 ";
 
-// The program puts the texts of points together itself, so no case calls `points_text`.
+/// The points of these two.
+fn two_points(alloc: Global) -> Result<Vec<Point>, NoMemory>
+    ensures many { IfOk result (λ points. length points.items ≡ 2) }
+    ensures channels { IfOk result (λ points. All (λ (p : APoint). length p.capacities.capacities ≤ 1) points.items) }
+{
+    let mut points = Vec::new(alloc);
+    points.push(point(alloc, 1, 5)?)?;
+    points.push(point(alloc, 2, 3)?)?;
+    Ok(points)
+}
+
+fn two_schedules(alloc: Global) -> Result<Vec<Periodic>, NoMemory>
+    ensures many { IfOk result (λ schedules. length schedules.items ≡ 2) }
+    ensures actors { IfOk result (λ schedules. All (λ (s : ASchedule). length s.starts ≡ 2) schedules.items) }
+{
+    let mut schedules = Vec::new(alloc);
+    schedules.push(schedule(alloc, 5, &[0], &[2])?)?;
+    schedules.push(schedule(alloc, 3, &[0], &[2])?)?;
+    Ok(schedules)
+}
+
+// The program puts the texts of points together itself, so no case calls `points_text`. Of the net nothing is shown, so that any
+// will do.
 #[test]
 fn points_are_shown_one_after_the_other(rt: HostRuntime) -> Result<(), Fail> {
-    let alloc = rt.alloc();
-    let graph = pair(alloc)?;
-    let points = [point(alloc, 1, 5)?, point(alloc, 2, 3)?];
-    let schedules = [
-        schedule(alloc, 5, &[0], &[2])?,
-        schedule(alloc, 3, &[0], &[2])?,
-    ];
-    // Of the net nothing is shown, so that any will do.
-    let net = ring_of_two(alloc)?;
-    let text = points_text(alloc, &net, &graph, &points, &schedules)?;
+    let graph = pair(rt.alloc())?;
+    let net = ring_of_two(rt.alloc())?;
+    let points = two_points(rt.alloc())?;
+    let schedules = two_schedules(rt.alloc())?;
+    let text = points_text(
+        rt.alloc(),
+        &net,
+        &graph,
+        points.as_slice(),
+        schedules.as_slice(),
+    )?;
     assert_eq!(rt; text.as_slice(), TWO_POINTS.as_bytes());
     Ok(())
 }
