@@ -11,8 +11,8 @@ use Rattle.cert_text.specs.declared.reading.fault.Fault.{Fault}
 use Rattle.cert_text.specs.declared.reading.fault.Fault.TheVariants.{Large}
 use Rattle.cert_text.specs.Reads.{◌>>=◌, GivesLine}
 use Rattle.cert_text.specs.Collected.{collected, one_more}
-use Rattle.cert_text.specs.Fields.{behind, number_in, ended, entries_of, each_by, limited}
-use Rattle.cert_text.specs.LineForms.{spaced_number_in, numbers_due, limited_long, capacity_in, capacity_limited, capacities_due, hyphen_or_number_in}
+use Rattle.cert_text.specs.Fields.{behind, number_in, worded_in, ended, entries_of, each_by, limited}
+use Rattle.cert_text.specs.LineForms.{numbers_due, limited_long, capacity_in, capacity_limited, capacities_due, hyphen_or_number_in}
 use Rattle.cert_text.specs.MemberLines.{capacity_text, member_line}
 use Rattle.cert_text.specs.NumberLines.{spaced, numbers_line}
 use Rattle.cert_text.proofs.Behind.{behind-sound, ended-sound, fine, ok-is}
@@ -106,7 +106,7 @@ collects-more {B = B} f g limit items more_items large more_large text left tota
 
 -- numbers
 pub numbers-start : (limit : ℕ) (line left items old_items : List ℕ) (large old_large : Bool) (n : ℕ) (value : Result ℕ Fault) → number_in line ≡ Ok (n, left) → collected old_items old_large ≡ Ok []
-    → collected items large ≡ one_more (collected old_items old_large) value → value ≡ limited limit n → Collects spaced_number_in (each_by (limited limit)) (limited limit) items large left (numbers_due limit line)
+    → collected items large ≡ one_more (collected old_items old_large) value → value ≡ limited limit n → Collects (worded_in (codes " ")) (each_by (limited limit)) (limited limit) items large left (numbers_due limit line)
 unfolding numbers_due each_by
 numbers-start limit line left items old_items large old_large n value read none pushed is = record {
   front = n ∷ [];
@@ -180,11 +180,15 @@ each-limited limit (n ∷ ns) xs e =
     let rest = each-limited limit ns b.0 b.1 in
     (ap (λ (k : ℕ). k ∷ ns) first.0 ∙ (ap (λ (ks : List ℕ). a.0 ∷ ks) rest.0 ∙ ok-is (a.0 ∷ b.0) xs b.2), (first.1, rest.1))
 
-spaced-sound : (text : List ℕ) (n : ℕ) (left : List ℕ) → spaced_number_in text ≡ Ok (n, left) → n < 10 ^ 64 → text ≡ spaced n ++ left
-unfolding spaced_number_in spaced
-spaced-sound text n left read small =
-    let a = bind-ok (behind (codes " ") text) (λ rest. number_in rest) (n, left) read in
-    behind-sound (codes " ") text a.0 a.1 ∙ ap (λ (l : List ℕ). 32 ∷ l) (number-sound a.0 n left a.2 small)
+pub worded-number-sound : (word text : List ℕ) (n : ℕ) (left : List ℕ) → worded_in word text ≡ Ok (n, left) → n < 10 ^ 64 → text ≡ word ++ (decimal n ++ left)
+unfolding worded_in
+worded-number-sound word text n left read small =
+    let a = bind-ok (behind word text) (λ rest. number_in rest) (n, left) read in
+    behind-sound word text a.0 a.1 ∙ ap (λ (l : List ℕ). word ++ l) (number-sound a.0 n left a.2 small)
+
+spaced-sound : (text : List ℕ) (n : ℕ) (left : List ℕ) → worded_in (codes " ") text ≡ Ok (n, left) → n < 10 ^ 64 → text ≡ spaced n ++ left
+unfolding spaced
+spaced-sound text n left read small = worded-number-sound (codes " ") text n left read small
 
 small-ones : (limit : ℕ) (ns : List ℕ) → limit < 10 ^ 64 → AllByRecursion (λ n. n ≤ limit) ns → AllByRecursion (λ n. n < 10 ^ 64) ns
 small-ones limit [] small all = tt
@@ -193,12 +197,12 @@ small-ones limit (n ∷ ns) small all = let low : n ≤ limit = all.0 in (omega 
 pub numbers-sound : (limit : ℕ) (line xs : List ℕ) → limit < 10 ^ 64 → numbers_due limit line ≡ Ok xs → (line ≡ numbers_line xs) × (0 < length xs) × All (λ n. n ≤ limit) xs
 unfolding numbers_due numbers_line
 numbers-sound limit line xs small read =
-    let a = bind-ok (number_in line) (λ first. entries_of spaced_number_in (length first.1) first.1 >>= λ others. each_by (limited limit) (first.0 ∷ others)) xs read in
-    let b = bind-ok (entries_of spaced_number_in (length a.0.1) a.0.1) (λ others. each_by (limited limit) (a.0.0 ∷ others)) xs a.2 in
+    let a = bind-ok (number_in line) (λ first. entries_of (worded_in (codes " ")) (length first.1) first.1 >>= λ others. each_by (limited limit) (first.0 ∷ others)) xs read in
+    let b = bind-ok (entries_of (worded_in (codes " ")) (length a.0.1) a.0.1) (λ others. each_by (limited limit) (a.0.0 ∷ others)) xs a.2 in
     let each = each-limited limit (a.0.0 ∷ b.0) xs b.2 in
     let low = small-ones limit (a.0.0 ∷ b.0) small each.1 in
     let first = number-sound line a.0.0 a.0.1 a.1 low.0 in
-    let rest = entries-sound spaced_number_in spaced (λ n. n < 10 ^ 64) spaced-sound (length a.0.1) a.0.1 b.0 b.1 low.1 in
+    let rest = entries-sound (worded_in (codes " ")) spaced (λ n. n < 10 ^ 64) spaced-sound (length a.0.1) a.0.1 b.0 b.1 low.1 in
     let whole : line ≡ numbers_line (a.0.0 ∷ b.0) = first ∙ ap (λ (l : List ℕ). decimal a.0.0 ++ l) rest in
     subst (λ (ys : List ℕ). (line ≡ numbers_line ys) × (0 < length ys) × All (λ n. n ≤ limit) ys) each.0 (whole, omega arith, All-from_recursion (λ n. n ≤ limit) (a.0.0 ∷ b.0) each.1)
 

@@ -9,9 +9,9 @@ use Rattle.std.proofs.lemmas.List.Elements.{recursion_from_All}
 use Rattle.std.proofs.lemmas.Slice.Eq.{bytes_eq-Decides}
 use Rattle.cert_text.specs.declared.reading.fault.Fault.{Fault}
 use Rattle.cert_text.specs.BufferLines.{buffer_text, buffers_line}
-use Rattle.cert_text.specs.Fields.{behind, number_in, is_other, limited, entries_of, each_by}
+use Rattle.cert_text.specs.Fields.{behind, number_in, worded_in, is_other, limited, entries_of, each_by}
 use Rattle.cert_text.specs.Limits.{IsBufferWithin, IsCapacityWithin}
-use Rattle.cert_text.specs.LineForms.{spaced_number_in, numbers_due, buffer_in, buffer_limited, rises, some_buffers_due, buffers_due, hyphen_or_number_in, capacity_in, capacity_limited, capacities_due, same}
+use Rattle.cert_text.specs.LineForms.{numbers_due, buffer_in, buffer_limited, rises, some_buffers_due, buffers_due, hyphen_or_number_in, capacity_in, capacity_limited, capacities_due, same}
 use Rattle.cert_text.specs.MemberLines.{capacity_text, member_line}
 use Rattle.cert_text.specs.NumberLines.{spaced, numbers_line}
 use Rattle.cert_text.specs.Spellable.{Rise}
@@ -71,8 +71,8 @@ each-within f P one (x ∷ xs) all = rw (one x all.0, each-within f P one xs all
 -- ---- numbers
 
 module _ (limit : ℕ) (small : limit < 10 ^ 64) where
-  spaced-read : (n : ℕ) (rest : List ℕ) → n ≤ limit → Stops rest → spaced_number_in (spaced n ++ rest) ≡ Ok (n, rest)
-  unfolding spaced_number_in spaced behind
+  spaced-read : (n : ℕ) (rest : List ℕ) → n ≤ limit → Stops rest → worded_in (codes " ") (spaced n ++ rest) ≡ Ok (n, rest)
+  unfolding worded_in spaced behind
   spaced-read n rest low h = number-stops n rest (omega arith) h
 
   spaced-starts : (n : ℕ) → Stops (spaced n)
@@ -90,9 +90,9 @@ module _ (limit : ℕ) (small : limit < 10 ^ 64) where
       let each = recursion_from_All (λ m. m ≤ limit) (n ∷ ns) all in
       let rest : List ℕ = flat_map spaced ns ++ 10 ∷ [] in
       let low : n ≤ limit = each.0 in
-      let first = number-stops n rest (omega (arith, low)) (entries-stop spaced_number_in spaced (λ m. m ≤ limit) spaced-read spaced-starts spaced-fed ns) in
-      let many = entries-many spaced_number_in spaced (λ m. m ≤ limit) spaced-read spaced-starts spaced-fed ns in
-      let others = entries-read spaced_number_in spaced (λ m. m ≤ limit) spaced-read spaced-starts spaced-fed ns (length rest) (omega (arith, many)) each.1 in
+      let first = number-stops n rest (omega (arith, low)) (entries-stop (worded_in (codes " ")) spaced (λ m. m ≤ limit) spaced-read spaced-starts spaced-fed ns) in
+      let many = entries-many (worded_in (codes " ")) spaced (λ m. m ≤ limit) spaced-read spaced-starts spaced-fed ns in
+      let others = entries-read (worded_in (codes " ")) spaced (λ m. m ≤ limit) spaced-read spaced-starts spaced-fed ns (length rest) (omega (arith, many)) each.1 in
       let values = each-within (limited limit) (λ m. m ≤ limit) (λ m h. rw (le-leb m limit h) refl) (n ∷ ns) each in
       rw (first, others, values) refl
 
@@ -102,7 +102,7 @@ module _ (limit : ℕ) (small : limit < 10 ^ 64) where
   numbers-close (n ∷ ns) some all =
       let each = recursion_from_All (λ m. m ≤ limit) (n ∷ ns) all in
       let low : n ≤ limit = each.0 in
-      closes-number n (omega (arith, low)) (flat_map spaced ns ++ 10 ∷ []) (entries-close spaced_number_in spaced (λ m. m ≤ limit) spaced-read spaced-starts spaced-fed ns each.1)
+      closes-number n (omega (arith, low)) (flat_map spaced ns ++ 10 ∷ []) (entries-close (worded_in (codes " ")) spaced (λ m. m ≤ limit) spaced-read spaced-starts spaced-fed ns each.1)
 
 -- ---- buffers
 

@@ -9,7 +9,7 @@ use Rattle.critical.specs.declared.cycle.FiringNo.{FiringNo}
 use Rattle.cert_text.specs.declared.certificates.LinkStep.{LinkStep}
 use Rattle.cert_text.specs.declared.reading.fault.Fault.{Fault}
 use Rattle.cert_text.specs.CycleLines.{step_line, link_text, cycle_header}
-use Rattle.cert_text.specs.Fields.{behind, is_digit}
+use Rattle.cert_text.specs.Fields.{behind, worded_in, is_digit}
 use Rattle.cert_text.specs.Limits.{IsShort, IsLong, IsPotential, IsRateWithin, IsFiringWithin, IsLinkWithin, IsStepWithin, IsNodeWithin, IsPotentialWithin}
 use Rattle.cert_text.specs.LineForms.{worded_due, version_due, overlap_due, rate_due, schedule_line_due, last_short_due, link_due, step_due, header_due, numbered_rate_due, point_line_due, node_due, nodes_line_due, last_lowered_due, last_raised_due, last_potential_due, potential_due}
 use Rattle.cert_text.specs.MemberLines.{numbered_rate_line, point_line, blocked_line}
@@ -74,7 +74,7 @@ module _ (word : List ℕ) (fed : no_feed word ≡ true) (n : ℕ) (small : IsLo
   worded-closes = closes-word word fed (decimal n ++ 10 ∷ []) (closes-long n small (10 ∷ []) closes-end)
 
   pub worded-read : worded_due word (word ++ (decimal n ++ 10 ∷ [])) ≡ Ok n
-  unfolding worded_due
+  unfolding worded_due worded_in
   worded-read = rw (behind-front word (decimal n ++ 10 ∷ []), long-front 10 refl n small, le-leb n 18446744073709551615 small) refl
 
 pub version-closes : (v : ℕ) → (v ≡ 1) ⊎ (v ≡ 2) → Closes (version_line v)
@@ -114,7 +114,7 @@ unfolding rate_line
 rate-closes r within = closes-word (codes "rate ") refl _ (fraction-closes r within (10 ∷ []) closes-end)
 
 pub rate-read : (r : ℕ × ℕ) → IsRateWithin r → rate_due (rate_line r) ≡ Ok r
-unfolding rate_due rate_line behind
+unfolding rate_due rate_line worded_in behind
 rate-read r within = rw (long-front 47 refl r.0 within.num, long-front 10 refl r.1 within.den, le-leb r.0 18446744073709551615 within.num, le-leb r.1 18446744073709551615 within.den) refl
 
 pub numbered-closes : (r : ℕ × ℕ) (i : ℕ) → IsRateWithin r → IsLong i → Closes (numbered_rate_line r i)
@@ -122,7 +122,7 @@ unfolding numbered_rate_line
 numbered-closes r i within small = closes-word (codes "rate ") refl _ (fraction-closes r within (codes " " ++ (decimal i ++ 10 ∷ [])) (worded-closes (codes " ") refl i small))
 
 pub numbered-read : (used all : ℕ) (r : ℕ × ℕ) (i : ℕ) → IsRateWithin r → IsLong i → i ≤ used → i < all → numbered_rate_due used all (numbered_rate_line r i) ≡ Ok (r, i)
-unfolding numbered_rate_due numbered_rate_line behind
+unfolding numbered_rate_due numbered_rate_line worded_in behind
 numbered-read used all r i within small some less = rw (long-front 47 refl r.0 within.num, long-front 32 refl r.1 within.den, long-front 10 refl i small, le-leb i used some, lt-ltb i all less, le-leb r.0 18446744073709551615 within.num, le-leb r.1 18446744073709551615 within.den) refl
 
 pub point-closes : (t : ℕ) (r : ℕ × ℕ) (i : ℕ) → IsLong t → IsRateWithin r → IsLong i → Closes (point_line t r i)
@@ -130,7 +130,7 @@ unfolding point_line
 point-closes t r i total within small = closes-word (codes "point ") refl _ (closes-long t total _ (closes-word (codes " ") refl _ (fraction-closes r within (codes " " ++ (decimal i ++ 10 ∷ [])) (worded-closes (codes " ") refl i small))))
 
 pub point-read : (t : ℕ) (r : ℕ × ℕ) (i : ℕ) → IsLong t → IsRateWithin r → IsLong i → point_line_due (point_line t r i) ≡ Ok (t, r, i)
-unfolding point_line_due point_line behind
+unfolding point_line_due point_line worded_in behind
 point-read t r i total within small = rw (long-front 32 refl t total, long-front 47 refl r.0 within.num, long-front 32 refl r.1 within.den, long-front 10 refl i small, le-leb t 18446744073709551615 total, le-leb r.0 18446744073709551615 within.num, le-leb r.1 18446744073709551615 within.den, le-leb i 18446744073709551615 small) refl
 
 -- ---- schedules
@@ -140,7 +140,7 @@ unfolding schedule_header
 schedule-closes p r period rounds = closes-word (codes "schedule ") refl _ (closes-long p period _ (worded-closes (codes " ") refl r rounds))
 
 pub schedule-read : (p r : ℕ) → IsLong p → IsLong r → schedule_line_due (schedule_header p r) ≡ Ok (p, r)
-unfolding schedule_line_due schedule_header behind
+unfolding schedule_line_due schedule_header worded_in behind
 schedule-read p r period rounds = rw (long-front 32 refl p period, long-front 10 refl r rounds, le-leb p 18446744073709551615 period, le-leb r 18446744073709551615 rounds) refl
 
 -- ---- cycles
@@ -155,7 +155,7 @@ header-closes time rounds f steps w h first n =
     closes-word (codes "cycle ") refl _ (closes-long time w _ (closes-word (codes " ") refl _ (closes-long rounds h _ (closes-word (codes " ") refl _ (firing-closes f first (decimal steps ++ 10 ∷ []) (closes-long steps n (10 ∷ []) closes-end))))))
 
 pub header-read : (time rounds : ℕ) (f : FiringNo) (steps : ℕ) → IsLong time → IsLong rounds → IsFiringWithin f → IsLong steps → header_due (cycle_header time rounds f steps) ≡ Ok (record { time = time; rounds = rounds; first = f; steps = steps })
-unfolding header_due cycle_header behind
+unfolding header_due cycle_header worded_in behind
 header-read time rounds f steps w h first n = rw (
   long-front 32 refl time w,
   long-front 32 refl rounds h,
@@ -192,7 +192,7 @@ unfolding step_line
 step-closes s within = firing-closes s.to within.to (link_text s.link ++ 10 ∷ []) (link-closes s.link within.link)
 
 pub step-read : (s : LinkStep) → IsStepWithin s → ((a b : ℕ) → s.link ≡ Order a b → ⊥) → step_due (step_line s) ≡ Ok s
-unfolding step_due step_line behind
+unfolding step_due step_line worded_in behind
 step-read s within text = rw (long-front 32 refl s.to.actor (omega (arith, within.to.actor)), long-front 32 refl s.to.number within.to.number, link-read s.link within.link text, le-leb s.to.actor 4294967295 within.to.actor, le-leb s.to.number 18446744073709551615 within.to.number) refl
 
 -- ---- nodes
@@ -202,7 +202,7 @@ unfolding node_line
 node-closes n within = closes-long n.0 (omega (arith, within.state)) _ (worded-closes (codes " ") refl n.1 (omega (arith, within.token)))
 
 pub node-read : (n : ℕ × ℕ) → IsNodeWithin n → node_due (node_line n) ≡ Ok n
-unfolding node_due node_line behind
+unfolding node_due node_line worded_in behind
 node-read n within = rw (long-front 32 refl n.0 (omega (arith, within.state)), long-front 10 refl n.1 (omega (arith, within.token)), le-leb n.0 4294967295 within.state, le-leb n.1 4294967295 within.token) refl
 
 pub nodes-closes : (time edges : ℕ) (n : ℕ × ℕ) → IsLong time → IsLong edges → IsNodeWithin n → Closes (nodes_header time edges n)
@@ -210,7 +210,7 @@ unfolding nodes_header
 nodes-closes time edges n w k within = closes-word (codes "cycle ") refl _ (closes-long time w _ (closes-word (codes " ") refl _ (closes-long edges k _ (closes-word (codes " ") refl _ (node-closes n within)))))
 
 pub nodes-read : (time edges : ℕ) (n : ℕ × ℕ) → IsLong time → IsLong edges → IsNodeWithin n → nodes_line_due (nodes_header time edges n) ≡ Ok (time, edges, n)
-unfolding nodes_line_due nodes_header node_line behind
+unfolding nodes_line_due nodes_header node_line worded_in behind
 nodes-read time edges n w k within = rw (
   long-front 32 refl time w,
   long-front 32 refl edges k,
@@ -244,5 +244,5 @@ unfolding potential_line
 potential-closes p within = closes-long p.0 (omega (arith, within.state)) _ (closes-word (codes " ") refl _ (closes-long p.1 (omega (arith, within.token)) _ (closes-word (codes " ") refl _ (size-closes p.2 within.potential))))
 
 pub potential-read : (p : ℕ × ℕ × ℤ) → IsPotentialWithin p → potential_due (potential_line p) ≡ Ok p
-unfolding potential_due potential_line behind
+unfolding potential_due potential_line worded_in behind
 potential-read p within = rw (long-front 32 refl p.0 (omega (arith, within.state)), long-front 32 refl p.1 (omega (arith, within.token)), size-read p.2 within.potential, le-leb p.0 4294967295 within.state, le-leb p.1 4294967295 within.token) refl

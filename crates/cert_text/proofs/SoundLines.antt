@@ -12,7 +12,7 @@ use Rattle.cert_text.specs.declared.reading.cycles.CycleHeader.{CycleHeader}
 use Rattle.cert_text.specs.declared.reading.fault.Fault.{Fault}
 use Rattle.cert_text.specs.declared.reading.fault.Fault.TheVariants.{Form}
 use Rattle.cert_text.specs.CycleLines.{step_line, link_text, cycle_header}
-use Rattle.cert_text.specs.Fields.{behind, number_in, limited, ended}
+use Rattle.cert_text.specs.Fields.{behind, number_in, worded_in, limited, ended}
 use Rattle.cert_text.specs.Limits.{IsShort, IsLong, IsPotential, IsRateWithin, IsFiringWithin, IsLinkWithin, IsStepWithin, IsNodeWithin, IsPotentialWithin}
 use Rattle.cert_text.specs.LineForms.{worded_due, version_due, overlap_due, rate_due, schedule_line_due, last_short_due, link_due, step_due, header_due, among, numbered_rate_due, point_line_due, node_due, nodes_line_due, below_zero, last_lowered_due, last_raised_due, last_potential_due, potential_due, limited_short, limited_long, same}
 use Rattle.cert_text.specs.MemberLines.{numbered_rate_line, point_line}
@@ -22,26 +22,27 @@ use Rattle.cert_text.specs.ScenarioLines.{node_line, nodes_header, potential_lin
 use Rattle.cert_text.specs.ScheduleLines.{schedule_header}
 use Rattle.cert_text.specs.Spellable.{HasText}
 use Rattle.cert_text.proofs.Behind.{behind-sound, ended-sound, fine, ok-is}
-use Rattle.cert_text.proofs.Entries.{bind-ok, limited-is}
+use Rattle.cert_text.proofs.Entries.{bind-ok, limited-is, worded-number-sound}
 use Rattle.cert_text.proofs.Numerals.{number-sound}
 
 -- ---- lines of words and numbers
 
--- a word or a number
+-- a number, or one behind a word
 pub data Piece : Type 0 where
-  Word : List ℕ → Piece
   Number : Piece
+  Worded : List ℕ → Piece
 
 abbrev pub fields : {B : Type 0} → List Piece → List ℕ → (List ℕ → Result B Fault) → Result B Fault
 fields [] text k = ended text >>= λ z. k []
-fields (Word w ∷ ps) text k = behind w text >>= λ a. fields ps a k
 fields (Number ∷ ps) text k = number_in text >>= λ n. fields ps n.1 (λ ns. k (n.0 ∷ ns))
+fields (Worded w ∷ ps) text k = worded_in w text >>= λ n. fields ps n.1 (λ ns. k (n.0 ∷ ns))
 
 abbrev pub spell : List Piece → List ℕ → List ℕ
 spell [] ns = 10 ∷ []
-spell (Word w ∷ ps) ns = w ++ spell ps ns
 spell (Number ∷ ps) [] = []
 spell (Number ∷ ps) (n ∷ ns) = decimal n ++ spell ps ns
+spell (Worded w ∷ ps) [] = []
+spell (Worded w ∷ ps) (n ∷ ns) = w ++ (decimal n ++ spell ps ns)
 
 abbrev pub AreSmall : List ℕ → Type 0
 AreSmall ns = AllByRecursion (λ n. n < 10 ^ 64) ns
@@ -49,25 +50,27 @@ AreSmall ns = AllByRecursion (λ n. n < 10 ^ 64) ns
 -- something of the numbers that stand in a line
 abbrev pub Numbers : List Piece → (List ℕ → Type 0) → Type 0
 Numbers [] K = K []
-Numbers (Word w ∷ ps) K = Numbers ps K
 Numbers (Number ∷ ps) K = (n : ℕ) × Numbers ps (λ ns. K (n ∷ ns))
+Numbers (Worded w ∷ ps) K = (n : ℕ) × Numbers ps (λ ns. K (n ∷ ns))
 
 numbers-map : (ps : List Piece) (K L : List ℕ → Type 0) → ((ns : List ℕ) → K ns → L ns) → Numbers ps K → Numbers ps L
 numbers-map [] K L f h = f [] h
-numbers-map (Word w ∷ ps) K L f h = numbers-map ps K L f h
 numbers-map (Number ∷ ps) K L f h = (h.0, numbers-map ps (λ ns. K (h.0 ∷ ns)) (λ ns. L (h.0 ∷ ns)) (λ ns k. f (h.0 ∷ ns) k) h.1)
+numbers-map (Worded w ∷ ps) K L f h = (h.0, numbers-map ps (λ ns. K (h.0 ∷ ns)) (λ ns. L (h.0 ∷ ns)) (λ ns k. f (h.0 ∷ ns) k) h.1)
 
 fields-sound : {B : Type 0} (ps : List Piece) (text : List ℕ) (k : List ℕ → Result B Fault) (x : B) → fields ps text k ≡ Ok x → Numbers ps (λ ns. (AreSmall ns → text ≡ spell ps ns) × (k ns ≡ Ok x))
 fields-sound [] text k x e = let a = bind-ok (ended text) (λ z. k []) x e in (λ s. ended-sound text a.0 a.1, a.2)
-fields-sound (Word w ∷ ps) text k x e =
-    let a = bind-ok (behind w text) (λ l. fields ps l k) x e in
-    numbers-map ps (λ ns. (AreSmall ns → a.0 ≡ spell ps ns) × (k ns ≡ Ok x)) (λ ns. (AreSmall ns → text ≡ spell (Word w ∷ ps) ns) × (k ns ≡ Ok x))
-    (λ ns h. (λ s. behind-sound w text a.0 a.1 ∙ ap (λ (l : List ℕ). w ++ l) (h.0 s), h.1)) (fields-sound ps a.0 k x a.2)
 fields-sound (Number ∷ ps) text k x e =
     let a = bind-ok (number_in text) (λ n. fields ps n.1 (λ ns. k (n.0 ∷ ns))) x e in (
       a.0.0,
       numbers-map ps (λ ns. (AreSmall ns → a.0.1 ≡ spell ps ns) × (k (a.0.0 ∷ ns) ≡ Ok x)) (λ ns. (AreSmall (a.0.0 ∷ ns) → text ≡ spell (Number ∷ ps) (a.0.0 ∷ ns)) × (k (a.0.0 ∷ ns) ≡ Ok x))
           (λ ns h. (λ s. number-sound text a.0.0 a.0.1 a.1 s.0 ∙ ap (λ (l : List ℕ). decimal a.0.0 ++ l) (h.0 s.1), h.1)) (fields-sound ps a.0.1 (λ ns. k (a.0.0 ∷ ns)) x a.2),
+    )
+fields-sound (Worded w ∷ ps) text k x e =
+    let a = bind-ok (worded_in w text) (λ n. fields ps n.1 (λ ns. k (n.0 ∷ ns))) x e in (
+      a.0.0,
+      numbers-map ps (λ ns. (AreSmall ns → a.0.1 ≡ spell ps ns) × (k (a.0.0 ∷ ns) ≡ Ok x)) (λ ns. (AreSmall (a.0.0 ∷ ns) → text ≡ spell (Worded w ∷ ps) (a.0.0 ∷ ns)) × (k (a.0.0 ∷ ns) ≡ Ok x))
+          (λ ns h. (λ s. worded-number-sound w text a.0.0 a.0.1 a.1 s.0 ∙ ap (λ (l : List ℕ). w ++ (decimal a.0.0 ++ l)) (h.0 s.1), h.1)) (fields-sound ps a.0.1 (λ ns. k (a.0.0 ∷ ns)) x a.2),
     )
 
 -- each number with its limit
@@ -123,7 +126,7 @@ long = 18446744073709551615
 pub worded-sound : (word line : List ℕ) (n : ℕ) → worded_due word line ≡ Ok n → (line ≡ word ++ (decimal n ++ 10 ∷ [])) × IsLong n
 unfolding worded_due
 worded-sound word line n read =
-    let h = fields-sound (Word word ∷ Number ∷ []) line (λ ns. limited_long (slice_index ns 0)) n read in
+    let h = fields-sound (Worded word ∷ []) line (λ ns. limited_long (slice_index ns 0)) n read in
     let is = limited-is long h.0 n h.1.1 in
     subst (λ (m : ℕ). (line ≡ word ++ (decimal m ++ 10 ∷ [])) × IsLong m) is.0 (h.1.0 (omega (arith, is.1), tt), is.1)
 
@@ -133,14 +136,14 @@ pair n m = (n, m)
 pub rate-sound : (line : List ℕ) (r : ℕ × ℕ) → rate_due line ≡ Ok r → (line ≡ rate_line r) × IsRateWithin r
 unfolding rate_due rate_line
 rate-sound line r read =
-    let h = form-sound (Word (codes "rate ") ∷ Number ∷ Word (codes "/") ∷ Number ∷ []) (long ∷ long ∷ []) line (λ ns. Ok (slice_index ns 0, slice_index ns 1)) r refl read in
+    let h = form-sound (Worded (codes "rate ") ∷ Worded (codes "/") ∷ []) (long ∷ long ∷ []) line (λ ns. Ok (slice_index ns 0, slice_index ns 1)) r refl read in
     let b = h.1.1 in
     subst (λ (q : ℕ × ℕ). (line ≡ rate_line q) × IsRateWithin q) (ok-is (pair h.0 h.1.0) r b.2) (b.1, record { num = b.0.0; den = b.0.1.0 })
 
 pub schedule-line-sound : (line : List ℕ) (s : ℕ × ℕ) → schedule_line_due line ≡ Ok s → (line ≡ schedule_header s.0 s.1) × (IsLong s.0 × IsLong s.1)
 unfolding schedule_line_due schedule_header
 schedule-line-sound line s read =
-    let h = form-sound (Word (codes "schedule ") ∷ Number ∷ Word (codes " ") ∷ Number ∷ []) (long ∷ long ∷ []) line (λ ns. Ok (slice_index ns 0, slice_index ns 1)) s refl read in
+    let h = form-sound (Worded (codes "schedule ") ∷ Worded (codes " ") ∷ []) (long ∷ long ∷ []) line (λ ns. Ok (slice_index ns 0, slice_index ns 1)) s refl read in
     let b = h.1.1 in
     subst (λ (q : ℕ × ℕ). (line ≡ schedule_header q.0 q.1) × (IsLong q.0 × IsLong q.1)) (ok-is (pair h.0 h.1.0) s b.2) (b.1, (b.0.0, b.0.1.0))
 
@@ -160,7 +163,7 @@ header_made ns = record { time = slice_index ns 0; rounds = slice_index ns 1; fi
 pub header-sound : (line : List ℕ) (c : CycleHeader) → header_due line ≡ Ok c → (line ≡ cycle_header c.time c.rounds c.first c.steps) × IsHeaderWithin c
 unfolding header_due cycle_header
 header-sound line c read =
-    let h = form-sound (Word (codes "cycle ") ∷ Number ∷ Word (codes " ") ∷ Number ∷ Word (codes " ") ∷ Number ∷ Word (codes " ") ∷ Number ∷ Word (codes " ") ∷ Number ∷ []) (long ∷ long ∷ short ∷ long ∷ long ∷ []) line (λ ns. Ok (header_made ns)) c refl read in
+    let h = form-sound (Worded (codes "cycle ") ∷ Worded (codes " ") ∷ Worded (codes " ") ∷ Worded (codes " ") ∷ Worded (codes " ") ∷ []) (long ∷ long ∷ short ∷ long ∷ long ∷ []) line (λ ns. Ok (header_made ns)) c refl read in
     let b = h.1.1.1.1.1 in
     subst (λ (q : CycleHeader). (line ≡ header_text q) × IsHeaderWithin q) (ok-is (header_made (h.0 ∷ h.1.0 ∷ h.1.1.0 ∷ h.1.1.1.0 ∷ h.1.1.1.1.0 ∷ [])) c b.2)
     (b.1, record { time = b.0.0; rounds = b.0.1.0; first = record { actor = b.0.1.1.0; number = b.0.1.1.1.0 }; steps = b.0.1.1.1.1.0 })
@@ -171,7 +174,7 @@ point_made ns = (slice_index ns 0, (slice_index ns 1, slice_index ns 2), slice_i
 pub point-line-sound : (line : List ℕ) (p : ℕ × (ℕ × ℕ) × ℕ) → point_line_due line ≡ Ok p → (line ≡ point_line p.0 p.1 p.2) × (IsLong p.0 × IsRateWithin p.1 × IsLong p.2)
 unfolding point_line_due point_line
 point-line-sound line p read =
-    let h = form-sound (Word (codes "point ") ∷ Number ∷ Word (codes " ") ∷ Number ∷ Word (codes "/") ∷ Number ∷ Word (codes " ") ∷ Number ∷ []) (long ∷ long ∷ long ∷ long ∷ []) line (λ ns. Ok (point_made ns)) p refl read in
+    let h = form-sound (Worded (codes "point ") ∷ Worded (codes " ") ∷ Worded (codes "/") ∷ Worded (codes " ") ∷ []) (long ∷ long ∷ long ∷ long ∷ []) line (λ ns. Ok (point_made ns)) p refl read in
     let b = h.1.1.1.1 in
     subst (λ (q : ℕ × (ℕ × ℕ) × ℕ). (line ≡ point_line q.0 q.1 q.2) × (IsLong q.0 × IsRateWithin q.1 × IsLong q.2)) (ok-is (point_made (h.0 ∷ h.1.0 ∷ h.1.1.0 ∷ h.1.1.1.0 ∷ [])) p b.2)
     (b.1, (b.0.0, record { num = b.0.1.0; den = b.0.1.1.0 }, b.0.1.1.1.0))
@@ -179,7 +182,7 @@ point-line-sound line p read =
 pub node-sound : (line : List ℕ) (n : ℕ × ℕ) → node_due line ≡ Ok n → (line ≡ node_line n) × IsNodeWithin n
 unfolding node_due node_line
 node-sound line n read =
-    let h = form-sound (Number ∷ Word (codes " ") ∷ Number ∷ []) (short ∷ short ∷ []) line (λ ns. Ok (slice_index ns 0, slice_index ns 1)) n refl read in
+    let h = form-sound (Number ∷ Worded (codes " ") ∷ []) (short ∷ short ∷ []) line (λ ns. Ok (slice_index ns 0, slice_index ns 1)) n refl read in
     let b = h.1.1 in
     subst (λ (q : ℕ × ℕ). (line ≡ node_line q) × IsNodeWithin q) (ok-is (pair h.0 h.1.0) n b.2) (b.1, record { state = b.0.0; token = b.0.1.0 })
 
@@ -189,7 +192,7 @@ nodes_made ns = (slice_index ns 0, slice_index ns 1, (slice_index ns 2, slice_in
 pub nodes-line-sound : (line : List ℕ) (n : ℕ × ℕ × (ℕ × ℕ)) → nodes_line_due line ≡ Ok n → (line ≡ nodes_header n.0 n.1 n.2) × (IsLong n.0 × IsLong n.1 × IsNodeWithin n.2)
 unfolding nodes_line_due nodes_header node_line
 nodes-line-sound line n read =
-    let h = form-sound (Word (codes "cycle ") ∷ Number ∷ Word (codes " ") ∷ Number ∷ Word (codes " ") ∷ Number ∷ Word (codes " ") ∷ Number ∷ []) (long ∷ long ∷ short ∷ short ∷ []) line (λ ns. Ok (nodes_made ns)) n refl read in
+    let h = form-sound (Worded (codes "cycle ") ∷ Worded (codes " ") ∷ Worded (codes " ") ∷ Worded (codes " ") ∷ []) (long ∷ long ∷ short ∷ short ∷ []) line (λ ns. Ok (nodes_made ns)) n refl read in
     let b = h.1.1.1.1 in
     subst (λ (q : ℕ × ℕ × (ℕ × ℕ)). (line ≡ nodes_header q.0 q.1 q.2) × (IsLong q.0 × IsLong q.1 × IsNodeWithin q.2)) (ok-is (nodes_made (h.0 ∷ h.1.0 ∷ h.1.1.0 ∷ h.1.1.1.0 ∷ [])) n b.2)
     (b.1, (b.0.0, b.0.1.0, record { state = b.0.1.1.0; token = b.0.1.1.1.0 }))
@@ -209,7 +212,7 @@ numbered_then used all ns = among used all (slice_index ns 2) >>= λ i. limits (
 pub numbered-sound : (used all : ℕ) (line : List ℕ) (r : (ℕ × ℕ) × ℕ) → IsLong all → numbered_rate_due used all line ≡ Ok r → (line ≡ numbered_rate_line r.0 r.1) × (IsRateWithin r.0 × (r.1 ≤ used) × (r.1 < all))
 unfolding numbered_rate_due numbered_rate_line
 numbered-sound used all line r many read =
-    let h = fields-sound (Word (codes "rate ") ∷ Number ∷ Word (codes "/") ∷ Number ∷ Word (codes " ") ∷ Number ∷ []) line (numbered_then used all) r read in
+    let h = fields-sound (Worded (codes "rate ") ∷ Worded (codes "/") ∷ Worded (codes " ") ∷ []) line (numbered_then used all) r read in
     let n : ℕ = h.0 in
     let d : ℕ = h.1.0 in
     let k : ℕ = h.1.1.0 in
@@ -287,9 +290,8 @@ step_made i k l = record { to = record { actor = i; number = k }; link = l }
 pub step-sound : (line : List ℕ) (s : LinkStep) → step_due line ≡ Ok s → (line ≡ step_line s) × (IsStepWithin s × HasText s)
 unfolding step_due step_line
 step-sound line s read =
-    let a = bind-ok (number_in line) (λ actor. behind (codes " ") actor.1 >>= λ x. number_in x >>= λ firing. behind (codes " ") firing.1 >>= λ y. link_due y >>= λ link. limited_short actor.0 >>= λ i. limited_long firing.0 >>= λ k. Ok (step_made i k link)) s read in
-    let b = bind-ok (behind (codes " ") a.0.1) (λ x. number_in x >>= λ firing. behind (codes " ") firing.1 >>= λ y. link_due y >>= λ link. limited_short a.0.0 >>= λ i. limited_long firing.0 >>= λ k. Ok (step_made i k link)) s a.2 in
-    let c = bind-ok (number_in b.0) (λ firing. behind (codes " ") firing.1 >>= λ y. link_due y >>= λ link. limited_short a.0.0 >>= λ i. limited_long firing.0 >>= λ k. Ok (step_made i k link)) s b.2 in
+    let a = bind-ok (number_in line) (λ actor. worded_in (codes " ") actor.1 >>= λ firing. behind (codes " ") firing.1 >>= λ y. link_due y >>= λ link. limited_short actor.0 >>= λ i. limited_long firing.0 >>= λ k. Ok (step_made i k link)) s read in
+    let c = bind-ok (worded_in (codes " ") a.0.1) (λ firing. behind (codes " ") firing.1 >>= λ y. link_due y >>= λ link. limited_short a.0.0 >>= λ i. limited_long firing.0 >>= λ k. Ok (step_made i k link)) s a.2 in
     let d = bind-ok (behind (codes " ") c.0.1) (λ y. link_due y >>= λ link. limited_short a.0.0 >>= λ i. limited_long c.0.0 >>= λ k. Ok (step_made i k link)) s c.2 in
     let l = bind-ok (link_due d.0) (λ link. limited_short a.0.0 >>= λ i. limited_long c.0.0 >>= λ k. Ok (step_made i k link)) s d.2 in
     let m = limits-sound (short ∷ long ∷ []) (a.0.0 ∷ c.0.0 ∷ []) (λ ns. Ok (step_made (slice_index ns 0) (slice_index ns 1) l.0)) s l.2 in
@@ -297,10 +299,9 @@ step-sound line s read =
     let high : c.0.0 ≤ long = m.0.1.0 in
     let link = link-sound d.0 l.0 l.1 in
     let first = number-sound line a.0.0 a.0.1 a.1 (omega (arith, low)) in
-    let second = behind-sound (codes " ") a.0.1 b.0 b.1 in
-    let third = number-sound b.0 c.0.0 c.0.1 c.1 (omega (arith, high)) in
-    let fourth = behind-sound (codes " ") c.0.1 d.0 d.1 in
-    let whole : line ≡ step_line (step_made a.0.0 c.0.0 l.0) = first ∙ ap (λ (t : List ℕ). decimal a.0.0 ++ t) (second ∙ ap (λ (t : List ℕ). 32 ∷ t) (third ∙ ap (λ (t : List ℕ). decimal c.0.0 ++ t) (fourth ∙ ap (λ (t : List ℕ). 32 ∷ t) link.spelled))) in
+    let second = worded-number-sound (codes " ") a.0.1 c.0.0 c.0.1 c.1 (omega (arith, high)) in
+    let third = behind-sound (codes " ") c.0.1 d.0 d.1 in
+    let whole : line ≡ step_line (step_made a.0.0 c.0.0 l.0) = first ∙ ap (λ (t : List ℕ). decimal a.0.0 ++ t) (second ∙ ap (λ (t : List ℕ). 32 ∷ decimal c.0.0 ++ t) (third ∙ ap (λ (t : List ℕ). 32 ∷ t) link.spelled)) in
     subst (λ (q : LinkStep). (line ≡ step_line q) × (IsStepWithin q × HasText q)) (ok-is (step_made a.0.0 c.0.0 l.0) s m.1)
     (whole, (record { to = record { actor = low; number = high }; link = link.within }, link.written))
 
@@ -336,9 +337,8 @@ potential_made s t p = (s, t, p)
 pub potential-sound : (line : List ℕ) (p : ℕ × ℕ × ℤ) → potential_due line ≡ Ok p → (line ≡ potential_line p) × IsPotentialWithin p
 unfolding potential_due potential_line
 potential-sound line p read =
-    let a = bind-ok (number_in line) (λ state. behind (codes " ") state.1 >>= λ x. number_in x >>= λ token. behind (codes " ") token.1 >>= λ y. last_potential_due y >>= λ size. limited_short state.0 >>= λ i. limited_short token.0 >>= λ k. Ok (potential_made i k size)) p read in
-    let b = bind-ok (behind (codes " ") a.0.1) (λ x. number_in x >>= λ token. behind (codes " ") token.1 >>= λ y. last_potential_due y >>= λ size. limited_short a.0.0 >>= λ i. limited_short token.0 >>= λ k. Ok (potential_made i k size)) p a.2 in
-    let c = bind-ok (number_in b.0) (λ token. behind (codes " ") token.1 >>= λ y. last_potential_due y >>= λ size. limited_short a.0.0 >>= λ i. limited_short token.0 >>= λ k. Ok (potential_made i k size)) p b.2 in
+    let a = bind-ok (number_in line) (λ state. worded_in (codes " ") state.1 >>= λ token. behind (codes " ") token.1 >>= λ y. last_potential_due y >>= λ size. limited_short state.0 >>= λ i. limited_short token.0 >>= λ k. Ok (potential_made i k size)) p read in
+    let c = bind-ok (worded_in (codes " ") a.0.1) (λ token. behind (codes " ") token.1 >>= λ y. last_potential_due y >>= λ size. limited_short a.0.0 >>= λ i. limited_short token.0 >>= λ k. Ok (potential_made i k size)) p a.2 in
     let d = bind-ok (behind (codes " ") c.0.1) (λ y. last_potential_due y >>= λ size. limited_short a.0.0 >>= λ i. limited_short c.0.0 >>= λ k. Ok (potential_made i k size)) p c.2 in
     let l = bind-ok (last_potential_due d.0) (λ size. limited_short a.0.0 >>= λ i. limited_short c.0.0 >>= λ k. Ok (potential_made i k size)) p d.2 in
     let m = limits-sound (short ∷ short ∷ []) (a.0.0 ∷ c.0.0 ∷ []) (λ ns. Ok (potential_made (slice_index ns 0) (slice_index ns 1) l.0)) p l.2 in
@@ -346,9 +346,8 @@ potential-sound line p read =
     let high : c.0.0 ≤ short = m.0.1.0 in
     let size = size-sound d.0 l.0 l.1 in
     let first = number-sound line a.0.0 a.0.1 a.1 (omega (arith, low)) in
-    let second = behind-sound (codes " ") a.0.1 b.0 b.1 in
-    let third = number-sound b.0 c.0.0 c.0.1 c.1 (omega (arith, high)) in
-    let fourth = behind-sound (codes " ") c.0.1 d.0 d.1 in
-    let whole : line ≡ potential_line (potential_made a.0.0 c.0.0 l.0) = first ∙ ap (λ (t : List ℕ). decimal a.0.0 ++ t) (second ∙ ap (λ (t : List ℕ). 32 ∷ t) (third ∙ ap (λ (t : List ℕ). decimal c.0.0 ++ t) (fourth ∙ ap (λ (t : List ℕ). 32 ∷ t) size.0))) in
+    let second = worded-number-sound (codes " ") a.0.1 c.0.0 c.0.1 c.1 (omega (arith, high)) in
+    let third = behind-sound (codes " ") c.0.1 d.0 d.1 in
+    let whole : line ≡ potential_line (potential_made a.0.0 c.0.0 l.0) = first ∙ ap (λ (t : List ℕ). decimal a.0.0 ++ t) (second ∙ ap (λ (t : List ℕ). 32 ∷ decimal c.0.0 ++ t) (third ∙ ap (λ (t : List ℕ). 32 ∷ t) size.0)) in
     subst (λ (q : ℕ × ℕ × ℤ). (line ≡ potential_line q) × IsPotentialWithin q) (ok-is (potential_made a.0.0 c.0.0 l.0) p m.1)
     (whole, record { state = low; token = high; potential = size.1 })

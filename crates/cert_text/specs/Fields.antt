@@ -29,6 +29,12 @@ number_value digits = fold (λ (n d : ℕ). n * 10 + (d - 48)) 0 digits
 unfoldable pub number_in : List ℕ → Result (ℕ × List ℕ) Fault
 number_in text = let n = position_or_len is_other text in if is_numeral (take n text) then Ok (number_value (take n text), drop n text) else Err Form
 
+-- and one behind a word
+unfoldable pub worded_in : List ℕ → List ℕ → Result (ℕ × List ℕ) Fault
+worded_in word text = do
+  a ← behind word text
+  number_in a
+
 -- that may not pass a limit
 abbrev pub limited : ℕ → ℕ → Result ℕ Fault
 limited limit n = if nat_le n limit then Ok n else Err Large

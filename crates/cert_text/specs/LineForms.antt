@@ -8,7 +8,7 @@ use Rattle.cert_text.specs.declared.reading.cycles.CycleHeader.{CycleHeader}
 use Rattle.cert_text.specs.declared.reading.fault.Fault.{Fault}
 use Rattle.cert_text.specs.declared.reading.fault.Fault.TheVariants.{Form}
 use Rattle.cert_text.specs.Reads.{◌>>=◌}
-use Rattle.cert_text.specs.Fields.{behind, number_in, limited, ended, entries_of, each_by}
+use Rattle.cert_text.specs.Fields.{behind, number_in, worded_in, limited, ended, entries_of, each_by}
 use Rattle.cert_text.specs.NumberLines.{overlap_line, version_line}
 use Rattle.cert_text.specs.BufferLines.{buffers_line}
 
@@ -26,8 +26,7 @@ same a b = bytes_eq a b
 -- a word and a number
 unfoldable pub worded_due : List ℕ → List ℕ → Result ℕ Fault
 worded_due start line = do
-  a ← behind start line
-  n ← number_in a
+  n ← worded_in start line
   z ← ended n.1
   limited_long n.0
 
@@ -40,25 +39,18 @@ overlap_due line = if same line (overlap_line true) then Ok true else if same li
 -- a rate
 unfoldable pub rate_due : List ℕ → Result (ℕ × ℕ) Fault
 rate_due line = do
-  a ← behind (codes "rate ") line
-  num ← number_in a
-  b ← behind (codes "/") num.1
-  den ← number_in b
+  num ← worded_in (codes "rate ") line
+  den ← worded_in (codes "/") num.1
   z ← ended den.1
   n ← limited_long num.0
   d ← limited_long den.0
   Ok (n, d)
 
 -- numbers up to a limit, at least one
-unfoldable pub spaced_number_in : List ℕ → Result (ℕ × List ℕ) Fault
-spaced_number_in text = do
-  a ← behind (codes " ") text
-  number_in a
-
 unfoldable pub numbers_due : ℕ → List ℕ → Result (List ℕ) Fault
 numbers_due limit line = do
   first ← number_in line
-  others ← entries_of spaced_number_in (length first.1) first.1
+  others ← entries_of (worded_in (codes " ")) (length first.1) first.1
   each_by (limited limit) (first.0 ∷ others)
 
 -- bounded channels and their capacities
@@ -94,10 +86,8 @@ buffers_due line = if same line (buffers_line []) then Ok [] else some_buffers_d
 -- the first line of a schedule: the period and the rounds
 unfoldable pub schedule_line_due : List ℕ → Result (ℕ × ℕ) Fault
 schedule_line_due line = do
-  a ← behind (codes "schedule ") line
-  period ← number_in a
-  b ← behind (codes " ") period.1
-  rounds ← number_in b
+  period ← worded_in (codes "schedule ") line
+  rounds ← worded_in (codes " ") period.1
   z ← ended rounds.1
   p ← limited_long period.0
   r ← limited_long rounds.0
@@ -123,34 +113,33 @@ link_due (b ∷ text) = if b == 116 then (do
 unfoldable pub step_due : List ℕ → Result LinkStep Fault
 step_due line = do
   actor ← number_in line
-  a ← behind (codes " ") actor.1
-  firing ← number_in a
+  firing ← worded_in (codes " ") actor.1
   b ← behind (codes " ") firing.1
   link ← link_due b
   i ← limited_short actor.0
   k ← limited_long firing.0
   Ok (record { to = record { actor = i; number = k }; link = link })
 
+-- the numbers of the first line of a cycle, each within its limit
+abbrev pub header_limited : ℕ → ℕ → ℕ → ℕ → ℕ → Result CycleHeader Fault
+header_limited time rounds actor firing steps = do
+  w ← limited_long time
+  h ← limited_long rounds
+  i ← limited_short actor
+  k ← limited_long firing
+  n ← limited_long steps
+  Ok (record { time = w; rounds = h; first = record { actor = i; number = k }; steps = n })
+
 -- the first line of a cycle: the time, the rounds, the first firing and the number of steps
 unfoldable pub header_due : List ℕ → Result CycleHeader Fault
 header_due line = do
-  a ← behind (codes "cycle ") line
-  time ← number_in a
-  b ← behind (codes " ") time.1
-  rounds ← number_in b
-  c ← behind (codes " ") rounds.1
-  actor ← number_in c
-  d ← behind (codes " ") actor.1
-  firing ← number_in d
-  e ← behind (codes " ") firing.1
-  steps ← number_in e
+  time ← worded_in (codes "cycle ") line
+  rounds ← worded_in (codes " ") time.1
+  actor ← worded_in (codes " ") rounds.1
+  firing ← worded_in (codes " ") actor.1
+  steps ← worded_in (codes " ") firing.1
   z ← ended steps.1
-  w ← limited_long time.0
-  h ← limited_long rounds.0
-  i ← limited_short actor.0
-  k ← limited_long firing.0
-  n ← limited_long steps.0
-  Ok (record { time = w; rounds = h; first = record { actor = i; number = k }; steps = n })
+  header_limited time.0 rounds.0 actor.0 firing.0 steps.0
 
 -- capacities, with a hyphen where a channel has none
 unfoldable pub hyphen_or_number_in : List ℕ → Result (Option ℕ × List ℕ) Fault
@@ -182,12 +171,9 @@ among used all i = if nat_le i used && nat_lt i all then Ok i else Err Form
 
 unfoldable pub numbered_rate_due : ℕ → ℕ → List ℕ → Result ((ℕ × ℕ) × ℕ) Fault
 numbered_rate_due used all line = do
-  a ← behind (codes "rate ") line
-  num ← number_in a
-  b ← behind (codes "/") num.1
-  den ← number_in b
-  c ← behind (codes " ") den.1
-  cycle ← number_in c
+  num ← worded_in (codes "rate ") line
+  den ← worded_in (codes "/") num.1
+  cycle ← worded_in (codes " ") den.1
   z ← ended cycle.1
   i ← among used all cycle.0
   n ← limited_long num.0
@@ -197,14 +183,10 @@ numbered_rate_due used all line = do
 -- the first line of a point: the storage, the rate and the number of its member
 unfoldable pub point_line_due : List ℕ → Result (ℕ × (ℕ × ℕ) × ℕ) Fault
 point_line_due line = do
-  a ← behind (codes "point ") line
-  total ← number_in a
-  b ← behind (codes " ") total.1
-  num ← number_in b
-  c ← behind (codes "/") num.1
-  den ← number_in c
-  d ← behind (codes " ") den.1
-  member ← number_in d
+  total ← worded_in (codes "point ") line
+  num ← worded_in (codes " ") total.1
+  den ← worded_in (codes "/") num.1
+  member ← worded_in (codes " ") den.1
   z ← ended member.1
   t ← limited_long total.0
   n ← limited_long num.0
@@ -216,8 +198,7 @@ point_line_due line = do
 unfoldable pub node_due : List ℕ → Result (ℕ × ℕ) Fault
 node_due line = do
   state ← number_in line
-  a ← behind (codes " ") state.1
-  token ← number_in a
+  token ← worded_in (codes " ") state.1
   z ← ended token.1
   s ← limited_short state.0
   t ← limited_short token.0
@@ -226,14 +207,10 @@ node_due line = do
 -- the first line of a cycle of nodes: the time, the number of edges and the first node
 unfoldable pub nodes_line_due : List ℕ → Result (ℕ × ℕ × (ℕ × ℕ)) Fault
 nodes_line_due line = do
-  a ← behind (codes "cycle ") line
-  time ← number_in a
-  b ← behind (codes " ") time.1
-  edges ← number_in b
-  c ← behind (codes " ") edges.1
-  state ← number_in c
-  d ← behind (codes " ") state.1
-  token ← number_in d
+  time ← worded_in (codes "cycle ") line
+  edges ← worded_in (codes " ") time.1
+  state ← worded_in (codes " ") edges.1
+  token ← worded_in (codes " ") state.1
   z ← ended token.1
   w ← limited_long time.0
   n ← limited_long edges.0
@@ -267,8 +244,7 @@ last_potential_due (b ∷ text) = if b == 45 then last_lowered_due text else las
 unfoldable pub potential_due : List ℕ → Result (ℕ × ℕ × ℤ) Fault
 potential_due line = do
   state ← number_in line
-  a ← behind (codes " ") state.1
-  token ← number_in a
+  token ← worded_in (codes " ") state.1
   b ← behind (codes " ") token.1
   potential ← last_potential_due b
   s ← limited_short state.0

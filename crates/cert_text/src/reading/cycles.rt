@@ -3,7 +3,9 @@ ghost use Rattle.std.specs.Fmt.{decimal};
 ghost use Rattle.sd_base.specs.declared.role.Role.TheVariants.{Order};
 ghost use Rattle.std.specs.List.{flat_map};
 ghost use Rattle.cert_text.specs.CycleLines.{cycle_header, cycle_lines, step_line, link_text};
-ghost use Rattle.cert_text.specs.LineForms.{header_due, last_short_due, link_due, step_due};
+ghost use Rattle.cert_text.specs.Digits.{IsNumeral};
+ghost use Rattle.cert_text.specs.Fields.{number_value};
+ghost use Rattle.cert_text.specs.LineForms.{header_due, header_limited, last_short_due, link_due, step_due};
 ghost use Rattle.cert_text.specs.Reads.{Gives, lines_of, next_by, times_by};
 ghost use Rattle.cert_text.specs.Sections.{cycle_from};
 ghost use Rattle.cert_text.specs.Spellable.{HasText, IsCycleText};
@@ -54,17 +56,31 @@ fn header_of(mut line: Line) -> Result<CycleHeader, Fault>
     ensures text { IfOk result (λ h. line.entry.rest.now ≡ cycle_header h.time h.rounds h.first h.steps) }
     ensures exact { result ≡ header_due line.entry.rest.now }
 {
-    line.word(b"cycle ")?;
-    let time = line.digits()?;
-    line.word(b" ")?;
-    let rounds = line.digits()?;
-    line.word(b" ")?;
-    let actor = line.digits()?;
-    line.word(b" ")?;
-    let number = line.digits()?;
-    line.word(b" ")?;
-    let steps = line.digits()?;
+    let time = line.worded(b"cycle ")?;
+    let rounds = line.worded(b" ")?;
+    let actor = line.worded(b" ")?;
+    let number = line.worded(b" ")?;
+    let steps = line.worded(b" ")?;
     line.end()?;
+    header_within(time, rounds, actor, number, steps)
+}
+
+/// What these digits spell of the first line of a cycle.
+fn header_within(
+    time: &[u8],
+    rounds: &[u8],
+    actor: &[u8],
+    number: &[u8],
+    steps: &[u8],
+) -> Result<CycleHeader, Fault>
+    requires time { IsNumeral time.now }
+    requires rounds { IsNumeral rounds.now }
+    requires actor { IsNumeral actor.now }
+    requires number { IsNumeral number.now }
+    requires steps { IsNumeral steps.now }
+    ensures text { IfOk result (λ h. (time.now ≡ decimal h.time) × (rounds.now ≡ decimal h.rounds) × (actor.now ≡ decimal h.first.actor) × (number.now ≡ decimal h.first.number) × (steps.now ≡ decimal h.steps)) }
+    ensures exact { result ≡ header_limited (number_value time.now) (number_value rounds.now) (number_value actor.now) (number_value number.now) (number_value steps.now) }
+{
     Ok(CycleHeader {
         time: long(time)?,
         rounds: long(rounds)?,
@@ -102,8 +118,7 @@ fn step_of(mut line: Line) -> Result<LinkStep, Fault>
     ensures exact { result ≡ step_due line.entry.rest.now }
 {
     let actor = line.digits()?;
-    line.word(b" ")?;
-    let number = line.digits()?;
+    let number = line.worded(b" ")?;
     line.word(b" ")?;
     let link = link_of(line)?;
     Ok(LinkStep {

@@ -2,8 +2,8 @@ ghost use Rattle.std.specs.Prelude.{◌≡◌, ◌++◌, ◌∷◌, [], ◌<◌,
 ghost use Rattle.std.specs.Fmt.{decimal};
 ghost use Rattle.cert_text.specs.declared.reading.fault.Fault.TheVariants.{Large};
 ghost use Rattle.cert_text.specs.Digits.{IsNumeral};
-ghost use Rattle.cert_text.specs.Fields.{behind, ended, limited, number_in, number_value};
-ghost use Rattle.cert_text.specs.LineForms.{limited_long, limited_short, same, spaced_number_in};
+ghost use Rattle.cert_text.specs.Fields.{behind, ended, limited, number_in, number_value, worded_in};
+ghost use Rattle.cert_text.specs.LineForms.{limited_long, limited_short, same};
 
 use crate::reading::digits::{digits_before, is_numeral, value_of};
 use crate::reading::fault::Fault;
@@ -44,13 +44,14 @@ impl<'a> Line<'a> {
         Ok(digits)
     }
 
-    /// Passes the digits of a number after a space.
-    #[tactic(auto, unfolding(crate::specs::LineForms::spaced_number_in))]
-    pub(crate) fn spaced(&mut self) -> Result<&'a [u8], Fault>
+    /// Passes a word, and the digits of the number behind it.
+    #[tactic(auto, unfolding(crate::specs::Fields::worded_in))]
+    pub(crate) fn worded(&mut self, word: &[u8]) -> Result<&'a [u8], Fault>
+        ensures text { IfOk result (λ d. self.old.rest.now ≡ word.now ++ (d.now ++ self.new.rest.now)) }
         ensures numeral { IfOk result (λ d. IsNumeral d.now × (length self.new.rest.now < length self.old.rest.now)) }
-        ensures exact { MatchResult result (λ d. spaced_number_in self.old.rest.now ≡ Ok (number_value d.now, self.new.rest.now)) (λ e. spaced_number_in self.old.rest.now ≡ Err e) }
+        ensures exact { MatchResult result (λ d. worded_in word.now self.old.rest.now ≡ Ok (number_value d.now, self.new.rest.now)) (λ e. worded_in word.now self.old.rest.now ≡ Err e) }
     {
-        self.word(b" ")?;
+        self.word(word)?;
         self.digits()
     }
 

@@ -202,12 +202,9 @@ fn numbered_rate_of(mut line: Line, used: usize, all: usize) -> Result<((u64, u6
     ensures among { IfOk result (λ r. (r.1 ≤ used) × (r.1 < all)) }
     ensures exact { result ≡ numbered_rate_due used all line.entry.rest.now }
 {
-    line.word(b"rate ")?;
-    let num = line.digits()?;
-    line.word(b"/")?;
-    let den = line.digits()?;
-    line.word(b" ")?;
-    let cycle = line.digits()?;
+    let num = line.worded(b"rate ")?;
+    let den = line.worded(b"/")?;
+    let cycle = line.worded(b" ")?;
     line.end()?;
     let cycle = number_among(cycle, used, all)?;
     Ok(((long(num)?, long(den)?), cycle))

@@ -52,10 +52,8 @@ pub(crate) fn rate_of(mut line: Line) -> Result<(u64, u64), Fault>
     ensures text { IfOk result (λ r. line.entry.rest.now ≡ rate_line r) }
     ensures exact { result ≡ rate_due line.entry.rest.now }
 {
-    line.word(b"rate ")?;
-    let num = line.digits()?;
-    line.word(b"/")?;
-    let den = line.digits()?;
+    let num = line.worded(b"rate ")?;
+    let den = line.worded(b"/")?;
     line.end()?;
     Ok((long(num)?, long(den)?))
 }
@@ -115,8 +113,7 @@ fn number_after(mut line: Line, word: &[u8]) -> Result<u64, Fault>
     ensures text { IfOk result (λ n. line.entry.rest.now ≡ word.now ++ (decimal n ++ 10 ∷ [])) }
     ensures exact { result ≡ worded_due word.now line.entry.rest.now }
 {
-    line.word(word)?;
-    let number = line.digits()?;
+    let number = line.worded(word)?;
     line.end()?;
     long(number)
 }
@@ -130,7 +127,7 @@ pub(crate) fn starts_of(alloc: Global, mut line: Line) -> Result<Rows<u128>, Fau
     let mut starts = Collected::with_room(alloc, line.spaces() + 1)?;
     starts.push(within(first, START))?;
     while line.rest.len() > 1 {
-        let next = line.spaced()?;
+        let next = line.worded(b" ")?;
         starts.push(within(next, START))?;
     }
     line.end()?;
@@ -146,7 +143,7 @@ pub(crate) fn counts_of(alloc: Global, mut line: Line) -> Result<Rows<u64>, Faul
     let mut counts = Collected::with_room(alloc, line.spaces() + 1)?;
     counts.push(long(first))?;
     while line.rest.len() > 1 {
-        let next = line.spaced()?;
+        let next = line.worded(b" ")?;
         counts.push(long(next))?;
     }
     line.end()?;

@@ -69,14 +69,10 @@ fn header_of(mut line: Line) -> Result<(u64, (u64, u64), u64), Fault>
     ensures text { IfOk result (λ h. line.entry.rest.now ≡ point_line h.0 h.1 h.2) }
     ensures exact { result ≡ point_line_due line.entry.rest.now }
 {
-    line.word(b"point ")?;
-    let total = line.digits()?;
-    line.word(b" ")?;
-    let num = line.digits()?;
-    line.word(b"/")?;
-    let den = line.digits()?;
-    line.word(b" ")?;
-    let member = line.digits()?;
+    let total = line.worded(b"point ")?;
+    let num = line.worded(b" ")?;
+    let den = line.worded(b"/")?;
+    let member = line.worded(b" ")?;
     line.end()?;
     Ok((long(total)?, (long(num)?, long(den)?), long(member)?))
 }

@@ -80,14 +80,10 @@ fn header_of(mut line: Line) -> Result<(u64, u64, (u32, u32)), Fault>
     ensures text { IfOk result (λ h. line.entry.rest.now ≡ nodes_header h.0 h.1 h.2) }
     ensures exact { result ≡ nodes_line_due line.entry.rest.now }
 {
-    line.word(b"cycle ")?;
-    let time = line.digits()?;
-    line.word(b" ")?;
-    let edges = line.digits()?;
-    line.word(b" ")?;
-    let state = line.digits()?;
-    line.word(b" ")?;
-    let token = line.digits()?;
+    let time = line.worded(b"cycle ")?;
+    let edges = line.worded(b" ")?;
+    let state = line.worded(b" ")?;
+    let token = line.worded(b" ")?;
     line.end()?;
     Ok((long(time)?, long(edges)?, (short(state)?, short(token)?)))
 }
@@ -106,8 +102,7 @@ fn node_of(mut line: Line) -> Result<(u32, u32), Fault>
     ensures exact { result ≡ node_due line.entry.rest.now }
 {
     let state = line.digits()?;
-    line.word(b" ")?;
-    let token = line.digits()?;
+    let token = line.worded(b" ")?;
     line.end()?;
     Ok((short(state)?, short(token)?))
 }
@@ -151,8 +146,7 @@ fn potential_of(mut line: Line) -> Result<(u32, u32, i128), Fault>
     ensures exact { result ≡ potential_due line.entry.rest.now }
 {
     let state = line.digits()?;
-    line.word(b" ")?;
-    let token = line.digits()?;
+    let token = line.worded(b" ")?;
     line.word(b" ")?;
     let potential = potential_at(line)?;
     Ok((short(state)?, short(token)?, potential))

@@ -44,10 +44,8 @@ fn header_of(mut line: Line) -> Result<(u64, u64), Fault>
     ensures text { IfOk result (λ h. line.entry.rest.now ≡ schedule_header h.0 h.1) }
     ensures exact { result ≡ schedule_line_due line.entry.rest.now }
 {
-    line.word(b"schedule ")?;
-    let period = line.digits()?;
-    line.word(b" ")?;
-    let rounds = line.digits()?;
+    let period = line.worded(b"schedule ")?;
+    let rounds = line.worded(b" ")?;
     line.end()?;
     Ok((long(period)?, long(rounds)?))
 }
