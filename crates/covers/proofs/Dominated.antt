@@ -3,7 +3,7 @@ use Rattle.std.proofs.Common.{◌≡◌, ℕ, ◌+◌, ◌≤◌, ◌<◌, ◌�
 use Rattle.std.specs.Prelude.{All, Contains, slice_index, slice_index_or}
 use Rattle.std.proofs.Math.Seq.{get_or-append_seam}
 use Rattle.std.proofs.lemmas.List.{get_or_append_left}
-use Rattle.std.proofs.lemmas.List.Elements.{All-cons, All-contains, All-more, All-push, All-weaker, Contains-append_left, Contains-get_or, Contains-push, Contains-push_cases}
+use Rattle.std.proofs.lemmas.List.Elements.{All-cons, All-contains, All-more, All-push, All-weaker, Contains-append_left, Contains-push, Contains-push_cases}
 use Rattle.sd_base.proofs.Containing.{contains-none}
 use Rattle.sd_base.specs.declared.numbers.Fraction.{Fraction}
 use Rattle.covers.specs.declared.bound.Bound.{Bound}
@@ -98,10 +98,6 @@ enough-added bounds best places left b enough are = record {
       stands-last bounds left b (λ (x : Bound). IsInForce rate x × Covers x ks) (subst (IsInForce rate) (sym same) c.2, subst (λ (x : Bound). Covers x ks) (sym same) c.3))
       (Contains-push_cases bounds b c.0 c.1);
 }
-
--- a bound is added beside all others
-pub enough-beside : (bounds : List Bound) (best : Fraction) (places : List ℕ) (b : Bound) → AreEnough bounds best places → AreEnough (bounds ++ b ∷ []) best (places ++ length bounds ∷ [])
-enough-beside bounds best places b enough = enough-added bounds best places places b enough (record { below = enough.below; each = λ i d under. inl (Contains-get_or places i d under) })
 
 -- ---- places that are left, one by one
 

@@ -22,7 +22,7 @@ pub enum Order {
 }
 
 /// A search for the capacities of a lattice that no bound in force covers. A bound is in force where its rate is at most the
-/// best one that was reached. One that another in force dominates, which covers all that it does, may be left out: only the others
+/// best one that was reached. One that another in force dominates, which covers all that it does, is left out: only the others
 /// act. Open nodes share no vector, so there are never more of them than vectors of the lattice; each takes 16 bytes a channel.
 /// After want of memory a search is of no use.
 #[derive(Drop)]
@@ -64,25 +64,9 @@ impl Search {
         })
     }
 
-    /// Keeps a bound. In a search by storage, one whose rate was reached before leaves out those that it dominates. Cost: there a
-    /// pass over the bounds that act, and at each one over the channels of both at most.
+    /// Keeps a bound. One whose rate was reached before leaves out those that it dominates. Cost: a pass over the bounds that act,
+    /// and at each one over the channels of both at most.
     pub fn add(&mut self, bound: Bound) -> Result<(), NoMemory>
-        requires searched { IsSearched self.old }
-        ensures searched { IsSearched self.new }
-        ensures added { OnOk result (self.new.bounds.items ≡ self.old.bounds.items ++ bound ∷ []) }
-        ensures failed { OnErr result (self.new.bounds.items ≡ self.old.bounds.items) }
-        ensures lattice { self.new.lattice ≡ self.old.lattice }
-        ensures order { self.new.order ≡ self.old.order }
-        ensures best { self.new.best ≡ self.old.best }
-    {
-        match self.order {
-            Order::Storage => self.add_leaving(bound),
-            Order::Lexicographic => self.add_beside(bound),
-        }
-    }
-
-    /// Keeps a bound, and leaves out what is dominated.
-    fn add_leaving(&mut self, bound: Bound) -> Result<(), NoMemory>
         requires searched { IsSearched self.old }
         ensures searched { IsSearched self.new }
         ensures added { OnOk result (self.new.bounds.items ≡ self.old.bounds.items ++ bound ∷ []) }
@@ -100,24 +84,6 @@ impl Search {
         )?;
         self.bounds.push(bound)?;
         self.acting = acting;
-        Ok(())
-    }
-
-    /// Keeps a bound beside all others: where few nodes are looked at for each bound, to tell what is dominated costs more than it
-    /// saves.
-    fn add_beside(&mut self, bound: Bound) -> Result<(), NoMemory>
-        requires searched { IsSearched self.old }
-        ensures searched { IsSearched self.new }
-        ensures added { OnOk result (self.new.bounds.items ≡ self.old.bounds.items ++ bound ∷ []) }
-        ensures failed { OnErr result (self.new.bounds.items ≡ self.old.bounds.items) }
-        ensures lattice { self.new.lattice ≡ self.old.lattice }
-        ensures order { self.new.order ≡ self.old.order }
-        ensures best { self.new.best ≡ self.old.best }
-    {
-        let place = self.bounds.len();
-        self.acting.reserve(1)?;
-        self.bounds.push(bound)?;
-        self.acting.push_reserved(place);
         Ok(())
     }
 

@@ -2,7 +2,7 @@ use Rattle.std.proofs.Common.{List, [], ◌∷◌, ◌++◌, refl, sym, ap, ◌�
 use Rattle.covers.specs.declared.bound.Bound.{Bound}
 use Rattle.covers.specs.Bounds.{AreEnough, IsCovered}
 use Rattle.covers.proofs.Forces.{covered-added, searched-more}
-use Rattle.covers.proofs.search.Search.add_leaving.Goals as goal
+use Rattle.covers.proofs.search.Search.add.Goals as goal
 
 pub returns-in_err-push-clause-searched : goal.returns-in_err-push-clause-searched
 returns-in_err-push-clause-searched c =
