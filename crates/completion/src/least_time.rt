@@ -30,7 +30,7 @@ pub struct Completion {
 /// The least time in which any admissible schedule completes `rounds` rounds, each firing of theirs ended. Self-timed
 /// execution completes them first, and what starts after the entry of its loop starts whole periods after the first
 /// pass (Ghamarian et al. 2006). A way of needs of just that time is followed backwards from the firing that ends
-/// last, of several that of the least actor, by the first tight need in the order of the net's channels; where the
+/// last, of several that of the least actor, by the tight need whose channel the net lists first; where the
 /// way comes again to a firing whole passes before, the lap between is counted as often as it fits after the entry,
 /// and isn't gone again. At most `states` shapes are looked at; `steps` counts the call as one execution.
 ///

@@ -26,8 +26,8 @@ pub fn ordered_nets_are_lawful()
         length (ordered net orders).channels ≤ length (with_role is_token_role net.channels) + (length net.times + (length (with_role is_space_role net.channels) + length (order_channels orders))) }
 {}
 
-/// So the rate of the ordered net is the greatest of all schedules that keep the orders, and the earliest of these
-/// keep it.
+/// So the ordered net's rate is that of the fastest schedules which keep the orders, and the earliest of these have
+/// it.
 pub fn ordered_nets_have_the_greatest_rate()
     ensures { (net : Net) (orders : List (List ℕ)) (p q : ℕ) → Lawful net → CanBeOrdered net → AreOrders net orders → Rate (ordered net orders) p q →
         HasRateInOrder net orders p q }
